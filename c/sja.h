@@ -4,8 +4,9 @@
  * its own. docs/C.md has a first program, what each call does, and what is proved of it.
  *
  * What a caller owes: a handle comes from sja_new, and isn't used after sja_free; one thread at a time is in a call of
- * a session; a pointer to a text or a plan has so many bytes behind it as the length says, and isn't null. A handle
- * that is null is answered with SJA_NO_HANDLE. Each number may be any.
+ * a session; a text has as many bytes as its size says and a plan as many as its length says, neither is null, and the
+ * two of sja_run_plan don't overlap; no call comes from a signal handler, nor from the child of a fork in a process
+ * with threads. A handle that is null is answered with SJA_NO_HANDLE. Each number may be any.
  */
 #ifndef SJA_H
 #define SJA_H
@@ -35,7 +36,7 @@ enum sja_status {
     SJA_NO_NODE = 8,      /* there is no such node */
     SJA_NO_BIT = 9,       /* the session's bits end before this one */
     SJA_PAST = 10,        /* the bit has run */
-    SJA_STEPS_USED = 11,  /* fewer steps of the node are left than the access is: a read is one, a write up to three */
+    SJA_STEPS_USED = 11,  /* the node has no room for the access: a step, before version 3 up to three for a write */
     SJA_TURNS_USED = 12,  /* as many turns were taken as a session has */
     SJA_STRIKES_USED = 13,/* as many strikes were taken as a session has */
     SJA_NO_PLAN = 14,     /* the bytes are no plan */
@@ -55,14 +56,16 @@ typedef struct sja_answer {
  * Where memory is refused *session is null. */
 sja_answer sja_make(sja **session);
 
-/* Begins a session to which nothing happened at a handle, in place of what stands there: by a version of the rules, of
- * at most so many bits, with so many nodes. */
+/* Begins a session to which nothing happened at a handle, in place of what stands there: by a version of the rules, 1
+ * to 3, of which 3 is the one for drivers of the real chip; of at most so many bits, 1 to 200,000, or to 2,000,000 in
+ * version 3; with 1 to 8 nodes. Memory for all bits is reserved here. */
 sja_answer sja_begin(sja *session, uint32_t version, uint32_t bits, uint32_t nodes);
 
 /* Reads an address of a node, counted from 0: any of the 256. The value is the byte. No bit runs. */
 sja_answer sja_read(sja *session, uint32_t node, uint32_t address);
 
-/* Writes a byte to an address of a node. No bit runs. */
+/* Writes a byte to an address of a node: any of the 256. What a register doesn't take, or not in this mode, is ignored,
+ * and the status is SJA_DONE all the same. No bit runs. */
 sja_answer sja_write(sja *session, uint32_t node, uint32_t address, uint32_t value);
 
 /* Runs so many bits, or as many as are left, or up to the first bit in which the interrupt line of a watched node
@@ -94,7 +97,7 @@ sja_answer sja_let_go(sja *session);
 sja_answer sja_run_plan(const char *plan, size_t length, char *text, size_t size);
 
 /* Makes a session to which nothing happened, by a version of the rules, of at most so many bits, with so many nodes,
- * and puts its handle into *session. Where there is none, *session is null. */
+ * within the limits of sja_begin, and puts its handle into *session. Where there is none, *session is null. */
 static inline sja_answer sja_new(uint32_t version, uint32_t bits, uint32_t nodes, sja **session)
 {
     sja_answer told = sja_make(session);

@@ -43,11 +43,11 @@ class Mutants:
     def plan(self, number):
         """The plan of this number, as bytes."""
         rng = random.Random(f"{self.seed} {number}")
-        kinds = [self.example, made, restarted, huge, huge_raw, nested, self.spliced]
-        kind = rng.choices(kinds, [320, 400, 60, 90, 5, 60, 65])[0]
+        kinds = [self.example, made, restarted, accessed, huge, huge_raw, nested, self.spliced]
+        kind = rng.choices(kinds, [320, 400, 60, 100, 90, 5, 60, 65])[0]
         text = kind(rng)
         most = max(MOST, len(text)) if text.startswith(RAW_LINE) else MOST
-        for _ in range(rng.choice([0, 0, 0, 0, 1, 2] if kind in (made, restarted) else [0, 1, 1, 1, 2, 2, 3, 5])):
+        for _ in range(rng.choice([0, 0, 0, 0, 1, 2] if kind in (made, restarted, accessed) else [0, 1, 1, 1, 2, 2, 3, 5])):
             text = rng.choice(MUTATIONS)(rng, text)[:most]
         data = text.encode("utf-8", "surrogatepass")
         if rng.random() < 0.08:
@@ -180,6 +180,40 @@ def starts(rng, version, times, waits):
     return steps
 
 
+def accessed(rng):
+    """A plan of version 3 whose drivers read and write any address, and any byte, in either mode."""
+    nodes = rng.choice([1, 2, 2, 3, 8])
+    most = rng.choice([10, 40, 40, 200, 600])
+    scripts = [accesses(rng, rng.randrange(most)) for _ in range(nodes)]
+    turns = []
+    for _ in range(rng.choice([2, 10, 40])):
+        turns.append(f"node {rng.randrange(nodes)} {rng.choice([1, 3, 10, 50])}")
+        turns.append(rng.choice(["rest", "bus 1", "bus 11", "bus 60", "bus 300"]))
+    turns += [f"node {it} 1000" for it in range(nodes)]
+    faults = [strike(rng, nodes) for _ in range(rng.choice([0, 0, 1, 2, 8]))]
+    return written(rng, 3, rng.choice([60, 2000, 30000, 200000]), turns, faults, scripts)
+
+
+def accesses(rng, count):
+    """So many accesses of a node, mostly behind a write that leaves reset mode, and some of them of a frame that is sent."""
+    steps = ["write 4 ff", "write 0 00"] * (rng.random() < 0.8)
+    while len(steps) < count:
+        if rng.random() < 0.1:
+            steps += [f"write {16 + it} {rng.randrange(256):02x}" for it in range(rng.choice([3, 5, 13]))]
+            steps.append(f"write 1 {rng.choice(['01', '02', '03', '04', '10', '12', '1f'])}")
+        else:
+            steps.append(access(rng))
+    return steps
+
+
+def access(rng):
+    """A read or a write of any address, mostly of a register that is there, and of any byte."""
+    address = rng.choice([rng.randrange(256), rng.randrange(32), rng.randrange(32), rng.choice([0, 1, 2, 3, 4])])
+    if rng.random() < 0.5:
+        return f"read {address}"
+    return f"write {address} {rng.choice(VALUES_WRITTEN) if rng.random() < 0.5 else f'{rng.randrange(256):02x}'}"
+
+
 def fits(text):
     """Whether a step of `step` is one that a plan may have."""
     return text.split()[-1] not in ("0024", "00000", "4", "0", "22", "256") or text.startswith("read 0")
@@ -216,7 +250,7 @@ def huge(rng):
 
 def huge_raw(rng):
     """A plan of version 3 with lists of as many items as they may have there, or one more, or of as many bytes."""
-    kind = rng.randrange(6)
+    kind = rng.randrange(7)
     nodes = rng.choice([1, 1, 2, 8])
     bits, turns, faults, scripts = 2000, ["rest"], [], [["start"]] * nodes
     if kind == 0:
@@ -234,6 +268,9 @@ def huge_raw(rng):
         bits = rng.choice([1_999_999, 2_000_000, 2_000_001])
         scripts = [["start", "load 080000ffffffffffffffff"] + ["command 01", "sent", "window", "read 3"] * 1000] * nodes
         turns = [f"node {it % nodes} 3" for it in range(400)] + ["bus 9999999"]
+    elif kind == 6:  # 100,000 accesses of two nodes
+        bits, scripts = 20_000, [accesses(rng, 50_000) for _ in range(2)]
+        turns = [it for _ in range(500) for it in ("node 0 100", "node 1 100", "bus 40")]
     parts = f"bits = {bits}\nturns = {listed(turns)}\nfaults = {listed(faults)}\n"
     text = RAW_LINE + parts + "".join(f"[[node]]\nsteps = {listed(it)}\n" for it in scripts)
     if kind == 5:

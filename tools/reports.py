@@ -97,10 +97,11 @@ class Activation:
         return self.released + self.unread
 
 
-def check_answer(step, answer):
-    """Whether a step may be answered so."""
+def check_answer(version, step, answer):
+    """Whether a step may be answered so: in version 3 no read and no write is refused."""
     name = step[0]
     if answer[0] == "refused":
+        check(version < 3 or name not in ("read", "write"), f"{step} is answered {answer}")
         check(len(answer) == 2 and answer[1] in MAY_REFUSE[name], f"{step} is answered {answer}")
         return
     may = MAY_ANSWER[name]
@@ -130,16 +131,24 @@ def most_activations(version):
     return 8 if version < 3 else 64
 
 
+def depends(version, step, active):
+    """Whether it isn't in the answer what a step did: in version 3 a write of MOD or CMR, or of the transmit buffer."""
+    return version >= 3 and step[0] == "write" and (int(step[1]) in (0, 1) or active and 16 <= int(step[1]) <= 28)
+
+
 def walk(version, steps, answers):
     """The activations of a driver, with what its steps were told; and each message that it asked to send, and whether
-    with self reception."""
+    with self reception. None where the answers don't say what was done."""
+    for step, answer in zip(steps, answers):
+        check_answer(version, step, answer)
     activations = []
     active = False
     released = 0
     asked = []
     buffer = bytearray(13)
     for step, answer in zip(steps, answers):
-        check_answer(step, answer)
+        if depends(version, step, active):
+            return None
         name = step[0]
         done = answer[0] != "refused"
         if answer == ["refused", "WrongState"]:
@@ -200,6 +209,17 @@ def check_told(activation):
     check(count == len(activation.released), f"{count} releases, {len(activation.released)} released")
 
 
+def read_activations(lines, version, walked):
+    """The activations of a node, beside what its steps were told, where that is known."""
+    count = 0
+    for activation in walked[0] if walked else (Activation() for _ in range(most_activations(version))):
+        if walked or lines.next_is("activation"):
+            count += 1
+            read_activation(lines, count, activation)
+            if walked:
+                check_told(activation)
+
+
 def check_senders(node, activation, asked, struck):
     """Each message is one that a driver asked to send, and those of one sender come in its order."""
     senders = [[m for m, itself in sent if itself or k != node] for k, sent in enumerate(asked)]
@@ -240,10 +260,10 @@ def judge(plan, text):
             check(words[:2] == ["step", str(i + 1)], f"{words} in the place of step {i + 1}")
             answers.append(words[2:])
         walks.append(walk(plan["version"], steps[:done], answers))
-        for a, activation in enumerate(walks[k][0]):
-            read_activation(lines, a + 1, activation)
-            check_told(activation)
+        read_activations(lines, plan["version"], walks[k])
     check(not lines.left, f"more lines: {lines.left[:1]}")
+    if None in walks:  # what they sent isn't known
+        return
     for k, (activations, _) in enumerate(walks):
         for activation in activations:
             check_senders(k, activation, [asked for _, asked in walks], bool(plan.get("faults")))

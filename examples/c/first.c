@@ -8,7 +8,7 @@ int main(void)
     static char report[10000];
     sja *bus;
 
-    if (sja_new(1, 1000, 2, &bus).status != SJA_DONE)
+    if (sja_new(3, 1000, 2, &bus).status != SJA_DONE)
         return 1;
     for (uint32_t node = 0; node < 2; node++) {
         for (uint32_t mask = 20; mask < 24; mask++)

@@ -3,15 +3,15 @@
 ghost use Rattle.std.specs.Prelude.{◌≡◌, ◌≤◌, IfOk, IfErr, OnOk, OnErr, List};
 ghost use Rattle.sja_calls.specs.Calls.{IsReadFault, IsWriteFault};
 ghost use Rattle.sja_driver.specs.Deeds.{Deed};
-ghost use Rattle.sja_session.specs.RawSessions.{Reads, Writes, MayWrite};
-ghost use Rattle.sja_session.specs.Sessions.{IsAt};
-ghost use Rattle.sja_session.specs.Stepping.{MayStep};
+ghost use Rattle.sja_driver_session.specs.DriverSessions.{StandsIn};
+ghost use Rattle.sja_driver_session.specs.Steps.{MayStepIn, MayWriteIn, ReadsIn, WritesIn};
 
 use super::call_fault::CallFault;
 use super::held::Held;
 use super::numbers::node_in;
 use super::state::State;
-use sja_session::{RawSession, StepFault};
+use sja_driver_session::DriverSession;
+use sja_session::StepFault;
 
 impl Held {
     ghost use Rattle.std.specs.Prelude.{◌≡◌, IfOk, IfErr, OnOk, OnErr};
@@ -51,10 +51,11 @@ impl Held {
 }
 
 /// Reads an address of a node.
-fn read_by(session: &mut RawSession, node: u32, address: u32) -> Result<u8, CallFault>
-    ensures reads { IfOk result (λ value. (deeds : List (List Deed)) → IsAt session.old.session deeds →
-        Reads session.old session.new node address value deeds) }
-    ensures may { OnOk result ((address ≤ 255) × MayStep session.old.session node) }
+fn read_by(session: &mut DriverSession, node: u32, address: u32) -> Result<u8, CallFault>
+    ensures reads { IfOk result (λ value. (deeds : List (List Deed)) → StandsIn session.old deeds →
+        (after : List (List Deed)) × ReadsIn session.old session.new node address value deeds after
+        × StandsIn session.new after) }
+    ensures may { OnOk result ((address ≤ 255) × MayStepIn session.old node) }
     ensures err { IfErr result (IsReadFault node address session.old) }
     ensures kept { OnErr result (session.new ≡ session.old) }
 {
@@ -73,9 +74,16 @@ fn read_by(session: &mut RawSession, node: u32, address: u32) -> Result<u8, Call
 }
 
 /// Writes a byte to an address of a node.
-fn write_by(session: &mut RawSession, node: u32, address: u32, value: u32) -> Result<(), CallFault>
-    ensures writes { OnOk result ((deeds : List (List Deed)) → IsAt session.old.session deeds →
-        MayWrite session.old node address value deeds × Writes session.old session.new node address value deeds) }
+fn write_by(
+    session: &mut DriverSession,
+    node: u32,
+    address: u32,
+    value: u32,
+) -> Result<(), CallFault>
+    ensures writes { OnOk result ((deeds : List (List Deed)) → StandsIn session.old deeds →
+        MayWriteIn session.old node address value deeds
+        × ((after : List (List Deed)) × WritesIn session.old session.new node address value deeds after
+        × StandsIn session.new after)) }
     ensures may { OnOk result ((address ≤ 255) × (value ≤ 255)) }
     ensures err { IfErr result (IsWriteFault node address value session.old) }
     ensures kept { OnErr result (session.new ≡ session.old) }

@@ -1,18 +1,18 @@
 //! The bits of a session of C, its interrupt lines and its strikes.
 
-ghost use Rattle.std.specs.Prelude.{◌≡◌, ◌<◌, length, IfOk, IfErr, OnOk, OnErr, List};
+ghost use Rattle.std.specs.Prelude.{◌≡◌, ◌<◌, IfOk, IfErr, OnOk, OnErr, List};
 ghost use Rattle.sja_calls.specs.Calls.{watches, RunsBy, IsRunFault, IsLookFault, IsStrikeFault};
 ghost use Rattle.sja_driver.specs.Deeds.{Deed};
-ghost use Rattle.sja_session.specs.Lines.{Looks};
-ghost use Rattle.sja_session.specs.Running.{MayRun};
-ghost use Rattle.sja_session.specs.Sessions.{IsAt};
-ghost use Rattle.sja_session.specs.Striking.{MayStrike, IsStruck};
+ghost use Rattle.sja_driver_session.specs.Bits.{LooksIn, MayRunIn, StrikesIn};
+ghost use Rattle.sja_driver_session.specs.DriverSessions.{StandsIn, node_count, session_of};
+ghost use Rattle.sja_session.specs.Striking.{MayStrike};
 
 use super::call_fault::CallFault;
 use super::held::Held;
 use super::numbers::{node_in, watched_by};
 use super::state::State;
-use sja_session::{RawSession, StrikeFault, Watched};
+use sja_driver_session::DriverSession;
+use sja_session::{StrikeFault, Watched};
 use std::alloc::Global;
 
 impl Held {
@@ -84,11 +84,10 @@ impl Held {
 }
 
 /// Runs bits, up to the rise of a watched line where one is watched.
-fn bits_by(session: &mut RawSession, count: u32, watch: u32) -> Result<Watched, CallFault>
-    ensures runs { IfOk result (λ w. (deeds : List (List Deed)) → IsAt session.old.session deeds →
+fn bits_by(session: &mut DriverSession, count: u32, watch: u32) -> Result<Watched, CallFault>
+    ensures runs { IfOk result (λ w. (deeds : List (List Deed)) → StandsIn session.old deeds →
         RunsBy (watches watch) session.old session.new count watch w.bits w.rose deeds) }
-    ensures may { OnOk result (MayRun session.old.session count) }
-    ensures still { session.new.kept ≡ session.old.kept }
+    ensures may { OnOk result (MayRunIn session.old count) }
     ensures err { IfErr result (IsRunFault count session.old) }
     ensures kept { OnErr result (session.new ≡ session.old) }
 {
@@ -105,11 +104,10 @@ fn bits_by(session: &mut RawSession, count: u32, watch: u32) -> Result<Watched, 
 }
 
 /// Looks at the interrupt line of a node.
-fn irq_by(session: &mut RawSession, node: u32) -> Result<bool, CallFault>
-    ensures looks { IfOk result (λ line. (deeds : List (List Deed)) → IsAt session.old.session deeds →
-        Looks session.old.session session.new.session node line deeds) }
-    ensures may { OnOk result (node < length session.old.session.plan.nodes) }
-    ensures still { session.new.kept ≡ session.old.kept }
+fn irq_by(session: &mut DriverSession, node: u32) -> Result<bool, CallFault>
+    ensures looks { IfOk result (λ line. (deeds : List (List Deed)) → StandsIn session.old deeds →
+        LooksIn session.old session.new node line deeds) }
+    ensures may { OnOk result (node < node_count session.old) }
     ensures err { IfErr result (IsLookFault node session.old) }
     ensures kept { OnErr result (session.new ≡ session.old) }
 {
@@ -123,11 +121,15 @@ fn irq_by(session: &mut RawSession, node: u32) -> Result<bool, CallFault>
 }
 
 /// Has a node see the other level in a bit.
-fn strike_by(alloc: Global, session: &mut RawSession, node: u32, bit: u32) -> Result<(), CallFault>
-    ensures struck { OnOk result ((deeds : List (List Deed)) → IsAt session.old.session deeds →
-        IsStruck session.old.session session.new.session node bit deeds) }
-    ensures may { OnOk result (MayStrike session.old.session node bit) }
-    ensures still { session.new.kept ≡ session.old.kept }
+fn strike_by(
+    alloc: Global,
+    session: &mut DriverSession,
+    node: u32,
+    bit: u32,
+) -> Result<(), CallFault>
+    ensures struck { OnOk result ((deeds : List (List Deed)) → StandsIn session.old deeds →
+        StrikesIn session.old session.new node bit deeds) }
+    ensures may { OnOk result (MayStrike (session_of session.old) node bit) }
     ensures err { IfErr result (IsStrikeFault node bit session.old) }
     ensures kept { OnErr result (session.new ≡ session.old) }
 {

@@ -1,14 +1,10 @@
 //! [`Held`]: a session that a program in C holds.
 
-ghost use Rattle.std.specs.Prelude.{IfOk, IfErr};
-ghost use Rattle.sja_calls.specs.Beginnings.{IsNewOf, told_room};
-ghost use Rattle.sja_session.specs.Beginning.{IsSessionFault};
-
 use super::call_fault::CallFault;
 use super::numbers::byte_of;
 use super::state::State;
-use sja_plan::{most_steps_told, most_turns};
-use sja_session::{RawSession, SessionFault, SessionRoom};
+use sja_driver_session::DriverSession;
+use sja_session::SessionFault;
 use std::alloc::Global;
 
 /// A session that a program in C holds (this project's own rule), with the allocator that its calls take memory from.
@@ -36,7 +32,7 @@ impl Held {
         let Ok(version) = u8::try_from(version) else {
             return Err(CallFault::Version);
         };
-        match begun(alloc, version, bits, byte_of(nodes)) {
+        match DriverSession::new(alloc, version, bits, byte_of(nodes)) {
             Ok(session) => Ok(Held {
                 alloc,
                 state: State::Going(session),
@@ -49,18 +45,6 @@ impl Held {
             Err(SessionFault::Memory) => Err(CallFault::Memory),
         }
     }
-}
-
-/// A session to which nothing happened, with room for as many steps and turns as a document of this version may have.
-fn begun(alloc: Global, version: u8, bits: u32, nodes: u8) -> Result<RawSession, SessionFault>
-    ensures new { IfOk result (λ r. IsNewOf r version bits nodes) }
-    ensures err { IfErr result (IsSessionFault version bits nodes (told_room version)) }
-{
-    let room = SessionRoom {
-        steps: most_steps_told(version) as u32,
-        turns: most_turns(version) as u32,
-    };
-    RawSession::with_room(alloc, version, bits, nodes, room)
 }
 
 impl Held {

@@ -1,14 +1,15 @@
 //! The numbers of a program in C.
 
-ghost use Rattle.std.specs.Prelude.{◌≡◌, ◌≤◌, ◌<◌, length, IfSome, IfNone};
+ghost use Rattle.std.specs.Prelude.{◌≡◌, ◌≤◌, ◌<◌, IfSome, IfNone};
 ghost use Rattle.sja_calls.specs.Calls.{watched_in};
+ghost use Rattle.sja_driver_session.specs.DriverSessions.{node_count};
 
-use sja_session::RawSession;
+use sja_driver_session::DriverSession;
 
 /// The node of a session with this number, counted from 0; none, where there is no such node.
-pub(crate) fn node_in(session: &RawSession, number: u32) -> Option<u8>
-    ensures some { IfSome result (λ node. (node ≡ number) × (number < length session.now.session.plan.nodes)) }
-    ensures none { IfNone result (length session.now.session.plan.nodes ≤ number) }
+pub(crate) fn node_in(session: &DriverSession, number: u32) -> Option<u8>
+    ensures some { IfSome result (λ node. (node ≡ number) × (number < node_count session.now)) }
+    ensures none { IfNone result (node_count session.now ≤ number) }
 {
     if number as usize >= session.session().nodes() {
         return None;

@@ -48,7 +48,7 @@ impl Held {
         ensures kept { OnErr result (text.new ≡ text.old) }
     {
         match &self.state {
-            State::Going(session) => match session.session().plan(self.alloc) {
+            State::Going(session) => match session.plan(self.alloc) {
                 Ok(plan) => put_plan(self.alloc, &plan, text),
                 Err(_) => Err(CallFault::Memory),
             },

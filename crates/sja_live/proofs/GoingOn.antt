@@ -4,13 +4,14 @@ use Rattle.std.specs.Prelude.{◌⊎◌, Option, Some, None, Ok, Err}
 use Rattle.std.proofs.lemmas.List.{append_assoc, append-nil}
 use Rattle.std.specs.Io.KnownBytes.{Appends}
 use Rattle.sja_driver.specs.Deeds.{Deed}
+use Rattle.sja_driver_session.specs.declared.driver_session.DriverSession.{DriverSession}
 use Rattle.sja_live.specs.AnswerTexts.{answer_text, opened_text, opening_text}
 use Rattle.sja_live.specs.Beginning.{IsNewOf}
 use Rattle.sja_live.specs.Calls.{IsLiveAt}
 use Rattle.sja_live.specs.Inside.Going.{AppendsReport, FirstSays, Goes, IsNextAnswer}
 use Rattle.sja_live.specs.Lines.{first_line, behind_line, LeadsOn}
 use Rattle.sja_live.specs.Lines.LeadsOn.{none, more}
-use Rattle.sja_live.proofs.Spelled.{begins_live, new_live}
+use Rattle.sja_live.proofs.NewSessions.{begins_live, new_live}
 use Rattle.sja_live.specs.Talking.{EndsTalk, HasTalked, IsTold, Replies, Speaks}
 use Rattle.sja_live.specs.Talking.Talks.{begin, go_on}
 use Rattle.sja_live.specs.declared.live_answer.LiveAnswer.{LiveAnswer}
@@ -19,7 +20,6 @@ use Rattle.sja_live.specs.declared.opening_fault.OpeningFault.{OpeningFault}
 use Rattle.sja_live.specs.declared.talked.Talked.TheVariants.{Reported, Unopened}
 use Rattle.sja_plan.specs.Words.{Text}
 use Rattle.sja_report.specs.ReportLines.{report_text}
-use Rattle.sja_session.specs.RawSessions.{RawValue}
 
 -- ---- one line more
 
@@ -28,7 +28,7 @@ leads_more : {text rest : Text} {lines : List Text} → LeadsOn text lines rest 
 leads_more none some = more some none
 leads_more (more not lead) some = more not (leads_more lead some)
 
-talk_more : (input rest : Text) (was now : RawValue) (deeds after : List (List Deed)) (said : Text)
+talk_more : (input rest : Text) (was now : DriverSession) (deeds after : List (List Deed)) (said : Text)
     (answer : LiveAnswer) → HasTalked input rest was deeds said → ¬ (rest ≡ []) →
     Replies was now deeds (first_line rest) answer after →
     HasTalked input (behind_line rest) now after (said ++ answer_text answer)
@@ -50,7 +50,7 @@ talk_more input rest was now deeds after said answer h some replies = record {
 -- ---- where the bytes are known or not
 
 -- a session was opened, and that was said
-pub talk_begins : (input left old new : Option Text) (opening : Opening) (s : RawValue) →
+pub talk_begins : (input left old new : Option Text) (opening : Opening) (s : DriverSession) →
     FirstSays input left (Ok opening) → IsNewOf s opening → Appends old new opened_text → Goes input left old new s
 talk_begins None left old new opening s said is wrote = tt
 talk_begins (Some input) left None new opening s said is wrote = tt
@@ -79,7 +79,7 @@ talk_begins (Some input) (Some left) (Some old) (Some new) opening s said is wro
     )
 
 -- a line was answered, and that was said
-pub talk_goes_on : (input rest left old mid new : Option Text) (was now : RawValue) (answer : LiveAnswer) →
+pub talk_goes_on : (input rest left old mid new : Option Text) (was now : DriverSession) (answer : LiveAnswer) →
     Goes input rest old mid was →
     ((deeds : List (List Deed)) → IsLiveAt was deeds → IsNextAnswer rest left was now deeds (Some answer)) →
     Appends mid new (answer_text answer) → Goes input left old new now
@@ -103,7 +103,7 @@ talk_goes_on (Some input) (Some rest) (Some left) (Some old) (Some mid) (Some ne
     )
 
 -- the talk ended, and the report was written
-pub talk_ends : (input rest left old mid new : Option Text) (was now : RawValue) →
+pub talk_ends : (input rest left old mid new : Option Text) (was now : DriverSession) →
     Goes input rest old mid was →
     ((deeds : List (List Deed)) → IsLiveAt was deeds → IsNextAnswer rest left was now deeds None) →
     ((deeds : List (List Deed)) → IsLiveAt now deeds → AppendsReport mid new now deeds) →
@@ -117,8 +117,8 @@ talk_ends (Some input) (Some rest) None (Some old) (Some mid) new was now g next
 talk_ends (Some input) (Some rest) (Some left) (Some old) (Some mid) new was now g next wrote =
     let said = g.0 in let deeds = g.1 in let at = g.2 in let h = g.3 in let is = g.4 in
     let n = next deeds at in
-    let then_at = subst (λ (s : RawValue). IsLiveAt s deeds) (sym n.0) at in
-    let report = subst (λ (s : RawValue). AppendsReport (Some mid) new s deeds) n.0 (wrote deeds then_at) in
+    let then_at = subst (λ (s : DriverSession). IsLiveAt s deeds) (sym n.0) at in
+    let report = subst (λ (s : DriverSession). AppendsReport (Some mid) new s deeds) n.0 (wrote deeds then_at) in
     by new said deeds h is n.1 n.2 report
   where
     by : (new : Option Text) (said : Text) (deeds : List (List Deed)) → HasTalked input rest was deeds said →

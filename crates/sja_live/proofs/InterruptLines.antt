@@ -5,9 +5,12 @@ use Rattle.std.specs.Prelude.{if◌then◌else◌}
 use Rattle.std.proofs.Math.Nat.{two-pow-succ}
 use Rattle.std.proofs.Math.Pow.{pow_mono}
 use Rattle.sja_driver.specs.Deeds.{Deed}
+use Rattle.sja_driver_session.proofs.Grown.{unwritten_same, unwritten_then}
+use Rattle.sja_driver_session.specs.Bits.{IsStillIn, line_in}
+use Rattle.sja_driver_session.specs.DriverSessions.{session_of}
+use Rattle.sja_driver_session.specs.declared.driver_session.DriverSession.{DriverSession}
 use Rattle.sja_live.specs.Answering.{lines_from}
-use Rattle.sja_live.specs.Calls.{IsLiveAt, IsStillNow, line_now}
-use Rattle.sja_session.specs.RawSessions.{RawValue}
+use Rattle.sja_live.specs.Calls.{IsLiveAt}
 use Rattle.sja_session.proofs.QuietBits.{line_still, still_same, still_then}
 
 -- ---- lines, one after another, from the last one on
@@ -51,14 +54,15 @@ few_of nodes place lines few less eight =
 
 -- ---- looks
 
-pub still_first : (s : RawValue) (deeds : List (List Deed)) → IsLiveAt s deeds → IsStillNow s s deeds
-still_first s deeds at = (still_same s.session deeds at.at, refl)
+pub still_first : (s : DriverSession) (deeds : List (List Deed)) → IsLiveAt s deeds → IsStillIn s s deeds
+still_first s deeds at = (still_same (session_of s) deeds at.at, refl, unwritten_same s)
 
-pub still_more : (was mid now : RawValue) (deeds : List (List Deed)) → IsStillNow was mid deeds →
-    IsStillNow mid now deeds → IsStillNow was now deeds
-still_more was mid now deeds first second = (still_then first.0 second.0, second.1 ∙ first.1)
+pub still_more : (was mid now : DriverSession) (deeds : List (List Deed)) → IsStillIn was mid deeds →
+    IsStillIn mid now deeds → IsStillIn was now deeds
+still_more was mid now deeds first second =
+    (still_then first.0 second.0, second.1 ∙ first.1, unwritten_then was mid now first.2 second.2)
 
 -- a line that was told behind looks is as it was before them
-pub told_of : (was now : RawValue) (deeds : List (List Deed)) (node : ℕ) (told : Bool) → IsStillNow was now deeds →
-    told ≡ line_now now deeds node → told ≡ line_now was deeds node
+pub told_of : (was now : DriverSession) (deeds : List (List Deed)) (node : ℕ) (told : Bool) → IsStillIn was now deeds →
+    told ≡ line_in now deeds node → told ≡ line_in was deeds node
 told_of was now deeds node told s is = is ∙ line_still s.0 node

@@ -1,4 +1,6 @@
+pub mod TurnTexts
 pub mod Spelled
+pub mod SpelledSteps
 pub mod WriteTexts
 pub mod Told
 pub mod Asked

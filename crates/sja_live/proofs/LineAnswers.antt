@@ -4,10 +4,12 @@ use Rattle.std.specs.Prelude.{Option, Some, None, Result, Ok, Err, String, strin
 use Rattle.std.specs.Global.{Global}
 use Rattle.std.proofs.lemmas.Str.{IsUtf8-nil}
 use Rattle.sja_driver.specs.Deeds.{Deed}
+use Rattle.sja_driver_session.specs.declared.driver_session.DriverSession.{DriverSession}
 use Rattle.sja_live.proofs.Asked.{live_after}
 use Rattle.sja_live.proofs.Named.{of_node}
 use Rattle.sja_live.specs.Answering.{IsAnswered}
-use Rattle.sja_live.specs.Calls.{IsLiveAt, node_count, version_of}
+use Rattle.sja_driver_session.specs.DriverSessions.{node_count, version_of}
+use Rattle.sja_live.specs.Calls.{IsLiveAt}
 use Rattle.sja_live.specs.Commands.{AsksFor}
 use Rattle.sja_live.specs.Inside.Going.{FirstIs, FirstSays, IsAnswerOf, IsNext, IsNextAnswer}
 use Rattle.sja_live.specs.Inside.Reading.{IsLine, TakesLine}
@@ -29,7 +31,6 @@ use Rattle.sja_live.specs.declared.opening_fault.OpeningFault.{OpeningFault}
 use Rattle.sja_live.specs.declared.opening_fault.OpeningFault.TheVariants.{Long as LongLine, Text as NoLineText}
 use Rattle.sja_live.specs.declared.opening_fault.OpeningFault.TheVariants.{Command as NoLive}
 use Rattle.sja_plan.specs.Words.{Text, words}
-use Rattle.sja_session.specs.RawSessions.{RawValue}
 
 -- ---- the first line
 
@@ -74,7 +75,7 @@ first_over before after t =
 
 -- ---- each further one
 
-next_by : (before after : Option Text) (line : Line) (was now : RawValue) (deeds : List (List Deed))
+next_by : (before after : Option Text) (line : Line) (was now : DriverSession) (deeds : List (List Deed))
     (next : Option LiveAnswer) → TakesLine before after line →
     ((input left : Text) → IsLine input left line → IsNext input left was now deeds next) →
     IsNextAnswer before after was now deeds next
@@ -82,25 +83,25 @@ next_by None after line was now deeds next t by = tt
 next_by (Some input) None line was now deeds next t by = absurd t
 next_by (Some input) (Some left) line was now deeds next t by = by input left t
 
-pub next_over : (before after : Option Text) (s : RawValue) (deeds : List (List Deed)) →
+pub next_over : (before after : Option Text) (s : DriverSession) (deeds : List (List Deed)) →
     TakesLine before after Over → IsNextAnswer before after s s deeds None
 next_over before after s deeds t =
     next_by before after Over s s deeds None t (λ input left is.
     (refl, inl is.0, is.1 ∙ sym (ap behind_line is.0)))
 
-pub next_long : (before after : Option Text) (s : RawValue) (deeds : List (List Deed)) → IsLiveAt s deeds →
+pub next_long : (before after : Option Text) (s : DriverSession) (deeds : List (List Deed)) → IsLiveAt s deeds →
     TakesLine before after Long → IsNextAnswer before after s s deeds (Some LongAnswer)
 next_long before after s deeds at t =
     next_by before after Long s s deeds (Some LongAnswer) t (λ input left is.
     (is.0, (deeds, long is.1 refl, at), is.2))
 
-pub next_no_text : (before after : Option Text) (s : RawValue) (deeds : List (List Deed)) → IsLiveAt s deeds →
+pub next_no_text : (before after : Option Text) (s : DriverSession) (deeds : List (List Deed)) → IsLiveAt s deeds →
     TakesLine before after NoText → IsNextAnswer before after s s deeds (Some (Mistaken TextFault))
 next_no_text before after s deeds at t =
     next_by before after NoText s s deeds (Some (Mistaken TextFault)) t (λ input left is.
     (is.0, (deeds, no_text is.1 is.2 refl, at), is.3))
 
-pub next_told : (before after : Option Text) (line : String Global) (was now : RawValue) (deeds : List (List Deed))
+pub next_told : (before after : Option Text) (line : String Global) (was now : DriverSession) (deeds : List (List Deed))
     (next : Option LiveAnswer) → TakesLine before after (LineOf line) →
     IsAnswerOf was now deeds (string_bytes line) next → IsNextAnswer before after was now deeds next
 next_told before after line was now deeds (Some answer) t a =
@@ -112,14 +113,14 @@ next_told before after line was now deeds None t a =
 
 -- ---- by the session's own version and nodes
 
-pub answers_end : (s : RawValue) (version nodes : ℕ) (deeds : List (List Deed)) (line : Text) →
+pub answers_end : (s : DriverSession) (version nodes : ℕ) (deeds : List (List Deed)) (line : Text) →
     version ≡ version_of s → nodes ≡ node_count s → IsReadable line → AsksFor version nodes line End →
     IsAnswerOf s s deeds line None
 answers_end s version nodes deeds line v n readable asks =
     let own = subst (λ k. AsksFor (version_of s) k line End) n (subst (λ k. AsksFor k nodes line End) v asks) in
     (refl, (readable, own))
 
-pub answers_done : (was now : RawValue) (version nodes : ℕ) (deeds : List (List Deed)) (line : Text)
+pub answers_done : (was now : DriverSession) (version nodes : ℕ) (deeds : List (List Deed)) (line : Text)
     (command : LiveCommand) (answer : LiveAnswer) → version ≡ version_of was → nodes ≡ node_count was →
     IsReadable line → AsksFor version nodes line command → IsAnswered was now command answer → IsLiveAt was deeds →
     IsAnswerOf was now deeds line (Some answer)
@@ -128,7 +129,8 @@ answers_done was now version nodes deeds line command answer v n readable asks a
     let own = subst (λ k. AsksFor (version_of was) k line command) n (subst (λ k. AsksFor k nodes line command) v asks)
     in (a.0, done readable own a.1, a.2)
 
-pub answers_mistake : (s : RawValue) (version nodes : ℕ) (deeds : List (List Deed)) (line : Text) (fault : LineFault) →
+pub answers_mistake : (s : DriverSession) (version nodes : ℕ) (deeds : List (List Deed)) (line : Text)
+    (fault : LineFault) →
     version ≡ version_of s → nodes ≡ node_count s → IsReadable line → AreMistaken version nodes (words line) fault →
     IsLiveAt s deeds → IsAnswerOf s s deeds line (Some (Mistaken fault))
 answers_mistake s version nodes deeds line fault v n readable wrong at =

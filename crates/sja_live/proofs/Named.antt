@@ -1,7 +1,8 @@
 -- The node that a line's words name is there, and texts say what they ask for.
 use Rattle.std.proofs.Common.{◌≡◌, ℕ, List, [], ◌∷◌, refl, subst, arith}
 use Rattle.hex.proofs.HexLemmas.{decode_of-ok}
-use Rattle.sja_live.specs.Calls.{node_count, version_of}
+use Rattle.sja_driver_session.specs.DriverSessions.{node_count, version_of}
+use Rattle.sja_driver_session.specs.declared.driver_session.DriverSession.{DriverSession}
 use Rattle.sja_live.specs.Commands.{AreCommandWords}
 use Rattle.sja_live.specs.Inside.OfNode.{IsOfNode}
 use Rattle.sja_live.specs.declared.live_command.LiveCommand.{LiveCommand}
@@ -13,7 +14,6 @@ use Rattle.sja_plan_text.specs.HasTexts.{HasStepText}
 use Rattle.sja_script.specs.declared.step.Step.{Step as StepOf}
 use Rattle.sja_script.specs.declared.step.Step.TheVariants.{Start, Stop, Window, Release, Read as ReadAt}
 use Rattle.sja_script.specs.declared.step.Step.TheVariants.{Write as WriteAt, Load, Command, Await, Sent, Interrupt}
-use Rattle.sja_session.specs.RawSessions.{RawValue}
 
 -- a step that words spell has a text
 spelled_step : (version : ℕ) (ws : List Text) (one : StepOf) → AreStepWords version ws one → HasStepText version one
@@ -29,7 +29,7 @@ spelled_step version ws (Load m) (a, e, k) = k.1
 spelled_step version ws (Command v) (a, e, k) = (decode_of-ok a (v ∷ []) k).3 0
 spelled_step version ws (Await n) (a, e, k) = (k.1, k.2)
 
-pub of_node : (s : RawValue) (version : ℕ) (ws : List Text) (c : LiveCommand) → version ≡ version_of s →
+pub of_node : (s : DriverSession) (version : ℕ) (ws : List Text) (c : LiveCommand) → version ≡ version_of s →
     AreCommandWords version (node_count s) ws c → ¬ (c ≡ End) → IsOfNode s c
 of_node s version ws (Step node one) v a other =
     (a.3.1, subst (λ n. HasStepText n one) v (spelled_step version a.1 one a.4))

@@ -1,12 +1,16 @@
 -- What `sja live` does for a command, and what it answers (this project's own rule): each command is a call of the
 -- session, and the answer is what the call gives, or why it is refused; a call that is refused changes nothing.
 use Rattle.std.specs.Prelude.{◌≡◌, ◌+◌, ◌*◌, ◌<◌, ℕ, zero, suc, Bool, true, false, if◌then◌else◌}
-use Rattle.std.specs.Prelude.{Some, None, List, [], ◌∷◌}
+use Rattle.std.specs.Prelude.{Some, None, List}
 use Rattle.std.specs.Global.{Global}
 use Rattle.std.specs.Prelude.{replicate, String, string_bytes}
-use Rattle.sja_driver.specs.Deeds.{Deed, deeds_at}
-use Rattle.sja_live.specs.Calls.{IsLiveAt, node_count, bits_of, plan_so_far, line_now}
-use Rattle.sja_live.specs.Calls.{StepWaits, RestsNow, WatchesNow, IsStillNow, StruckNow}
+use Rattle.sja_driver.specs.Deeds.{Deed}
+use Rattle.sja_driver_session.specs.Bits.{MayRunIn, LacksBusTurnIn, RestsIn, WatchesIn, IsStillIn, StrikesIn, line_in}
+use Rattle.sja_driver_session.specs.DriverSessions.{answer_of, bits_of, node_count, session_of, written}
+use Rattle.sja_driver_session.specs.Steps.{MayStepIn, IsStepFaultIn, MayWriteIn, IsWriteFaultIn}
+use Rattle.sja_driver_session.specs.Steps.{StepsIn, WaitsIn, ReadsIn, WritesIn}
+use Rattle.sja_driver_session.specs.declared.driver_session.DriverSession.{DriverSession}
+use Rattle.sja_live.specs.Calls.{IsLiveAt}
 use Rattle.sja_live.specs.declared.live_answer.LiveAnswer.{LiveAnswer}
 use Rattle.sja_live.specs.declared.live_answer.LiveAnswer.TheVariants.{Told, Waits, Ran, Rose, Spent, Lines}
 use Rattle.sja_live.specs.declared.live_answer.LiveAnswer.TheVariants.{Bits as Run, Nothing, PlanSoFar, NoBit, Full}
@@ -19,11 +23,6 @@ use Rattle.sja_plan_text.specs.Written.{IsPlanText, IsTooLong}
 use Rattle.sja_script.specs.declared.step.Step.{Step as StepOf}
 use Rattle.sja_script.specs.declared.step_answer.StepAnswer.{StepAnswer}
 use Rattle.sja_script.specs.declared.step_answer.StepAnswer.TheVariants.{Done, Value}
-use Rattle.sja_serial.specs.Serial.{with_deeds}
-use Rattle.sja_session.specs.Answering.{last_answer}
-use Rattle.sja_session.specs.RawSessions.{RawValue, DoesTyped, Reads, Writes, MayWrite, IsWriteFault}
-use Rattle.sja_session.specs.Running.{MayRun, LacksBusTurn}
-use Rattle.sja_session.specs.Stepping.{MayStep, IsStepFault}
 use Rattle.sja_session.specs.Striking.{MayStrike, IsStrikeFault}
 use Rattle.sja_session.specs.declared.step_fault.StepFault.{StepFault}
 use Rattle.sja_session.specs.declared.step_fault.StepFault.TheVariants.{NoNode, StepsUsed as AllSteps}
@@ -43,8 +42,8 @@ lines_from line node zero = 0
 lines_from line node (suc count) = (if line node then 1 else 0) + 2 * lines_from line (node + 1) count
 
 -- bit K of the byte is 1 where the interrupt line of node K is active, and no other bit is
-abbrev pub AreLines : RawValue → List (List Deed) → ℕ → Type 0
-AreLines s deeds byte = byte ≡ lines_from (line_now s deeds) 0 (node_count s)
+abbrev pub AreLines : DriverSession → List (List Deed) → ℕ → Type 0
+AreLines s deeds byte = byte ≡ lines_from (line_in s deeds) 0 (node_count s)
 
 -- ---- refusals
 
@@ -58,67 +57,66 @@ IsUsedUp AllTurns answer = answer ≡ Full TurnsUsed
 
 -- the session, which stands at these deeds, answers a command so, and stands at those after it. (A command names a node
 -- that is there.) What is done is what may be done, so that nothing is used up where something is done
-pub data Answers (was now : RawValue) (deeds : List (List Deed)) :
+pub data Answers (was now : DriverSession) (deeds : List (List Deed)) :
     LiveCommand → LiveAnswer → List (List Deed) → Type 0 where
-  step : {node : ℕ} {step : StepOf} {answer : StepAnswer} → MayStep was.session node →
-      (typed : DoesTyped was now node step answer deeds) →
-      Answers was now deeds (Step node step) (Told answer) (with_deeds deeds node (typed.does.deed ∷ []))
-  waits : {node : ℕ} {step : StepOf} → MayStep was.session node → StepWaits was now node step deeds →
+  step : {node : ℕ} {step : StepOf} {answer : StepAnswer} {after : List (List Deed)} → MayStepIn was node →
+      StepsIn was now node step answer deeds after → Answers was now deeds (Step node step) (Told answer) after
+  waits : {node : ℕ} {step : StepOf} → MayStepIn was node → WaitsIn was now node step deeds →
       Answers was now deeds (Step node step) Waits deeds
   no_step : {node : ℕ} {step : StepOf} {answer : LiveAnswer} (fault : StepFault) →
-      IsStepFault was.session node fault → IsUsedUp fault answer → now ≡ was →
+      IsStepFaultIn was node fault → IsUsedUp fault answer → now ≡ was →
       Answers was now deeds (Step node step) answer deeds
-  read : {node address value : ℕ} → MayStep was.session node → (reads : Reads was now node address value deeds) →
-      Answers was now deeds (Read node address) (Told (Value value)) (with_deeds deeds node (reads.does.deed ∷ []))
-  no_read : {node address : ℕ} {answer : LiveAnswer} (fault : StepFault) → IsStepFault was.session node fault →
+  read : {node address value : ℕ} {after : List (List Deed)} → MayStepIn was node →
+      ReadsIn was now node address value deeds after →
+      Answers was now deeds (Read node address) (Told (Value value)) after
+  no_read : {node address : ℕ} {answer : LiveAnswer} (fault : StepFault) → IsStepFaultIn was node fault →
       IsUsedUp fault answer → now ≡ was → Answers was now deeds (Read node address) answer deeds
-  write : {node address value : ℕ} → MayWrite was node address value deeds →
-      (writes : Writes was now node address value deeds) →
-      Answers was now deeds (Write node address value) (Told Done) writes.after
+  write : {node address value : ℕ} {after : List (List Deed)} → MayWriteIn was node address value deeds →
+      WritesIn was now node address value deeds after →
+      Answers was now deeds (Write node address value) (Told Done) after
   no_write : {node address value : ℕ} {answer : LiveAnswer} (fault : StepFault) →
-      IsWriteFault was node address value deeds fault → IsUsedUp fault answer → now ≡ was →
+      IsWriteFaultIn was node address value deeds fault → IsUsedUp fault answer → now ≡ was →
       Answers was now deeds (Write node address value) answer deeds
   -- a line rose in the last bit that was run
-  rose : {count run lines : ℕ} (mid : RawValue) (node : ℕ) → MayRun was.session count →
-      WatchesNow was mid count all_watched run (Some node) deeds →
-      IsStillNow mid now deeds → AreLines mid deeds lines → Answers was now deeds (RunBits count) (Rose run lines) deeds
+  rose : {count run lines : ℕ} (mid : DriverSession) (node : ℕ) → MayRunIn was count →
+      WatchesIn was mid count all_watched run (Some node) deeds →
+      IsStillIn mid now deeds → AreLines mid deeds lines → Answers was now deeds (RunBits count) (Rose run lines) deeds
   -- none did, and all bits were run
-  ran : {count : ℕ} → MayRun was.session count → WatchesNow was now count all_watched count None deeds →
+  ran : {count : ℕ} → MayRunIn was count → WatchesIn was now count all_watched count None deeds →
       Answers was now deeds (RunBits count) (Ran count) deeds
   -- none did, and fewer were left
-  spent : {count run : ℕ} → MayRun was.session count →
-      WatchesNow was now count all_watched run None deeds → run < count →
+  spent : {count run : ℕ} → MayRunIn was count →
+      WatchesIn was now count all_watched run None deeds → run < count →
       Answers was now deeds (RunBits count) (Spent run) deeds
-  no_turn : {count : ℕ} → LacksBusTurn was.session count → now ≡ was →
+  no_turn : {count : ℕ} → LacksBusTurnIn was count → now ≡ was →
       Answers was now deeds (RunBits count) (Full TurnsUsed) deeds
-  rested : {run : ℕ} → MayRun was.session 1 → RestsNow was now run true deeds →
-      Answers was now deeds Rest (Ran run) deeds
-  restless : {run : ℕ} → MayRun was.session 1 → RestsNow was now run false deeds →
+  rested : {run : ℕ} → MayRunIn was 1 → RestsIn was now run true deeds → Answers was now deeds Rest (Ran run) deeds
+  restless : {run : ℕ} → MayRunIn was 1 → RestsIn was now run false deeds →
       Answers was now deeds Rest (Spent run) deeds
-  no_rest : LacksBusTurn was.session 1 → now ≡ was → Answers was now deeds Rest (Full TurnsUsed) deeds
-  line : {lines : ℕ} → IsStillNow was now deeds → AreLines was deeds lines →
+  no_rest : LacksBusTurnIn was 1 → now ≡ was → Answers was now deeds Rest (Full TurnsUsed) deeds
+  line : {lines : ℕ} → IsStillIn was now deeds → AreLines was deeds lines →
       Answers was now deeds Line (Lines lines) deeds
-  strike : {node bit : ℕ} → MayStrike was.session node bit → StruckNow was now node bit deeds →
+  strike : {node bit : ℕ} → MayStrike (session_of was) node bit → StrikesIn was now node bit deeds →
       Answers was now deeds (Strike node bit) (Told Done) deeds
-  no_bit : {node bit : ℕ} → IsStrikeFault was.session node bit PastTheEnd → now ≡ was →
+  no_bit : {node bit : ℕ} → IsStrikeFault (session_of was) node bit PastTheEnd → now ≡ was →
       Answers was now deeds (Strike node bit) NoBit deeds
-  past : {node bit : ℕ} → IsStrikeFault was.session node bit Past → now ≡ was →
+  past : {node bit : ℕ} → IsStrikeFault (session_of was) node bit Past → now ≡ was →
       Answers was now deeds (Strike node bit) NoBit deeds
-  no_strike : {node bit : ℕ} → IsStrikeFault was.session node bit AllStrikes → now ≡ was →
+  no_strike : {node bit : ℕ} → IsStrikeFault (session_of was) node bit AllStrikes → now ≡ was →
       Answers was now deeds (Strike node bit) (Full StrikesUsed) deeds
   -- what the last step of a node answered that is done
-  answer : {node : ℕ} {answer : StepAnswer} → last_answer (deeds_at deeds node) ≡ Some answer → now ≡ was →
+  answer : {node : ℕ} {answer : StepAnswer} → answer_of was deeds node ≡ Some answer → now ≡ was →
       Answers was now deeds (Answer node) (Told answer) deeds
-  nothing : {node : ℕ} → last_answer (deeds_at deeds node) ≡ None → now ≡ was →
+  nothing : {node : ℕ} → answer_of was deeds node ≡ None → now ≡ was →
       Answers was now deeds (Answer node) Nothing deeds
   bits : now ≡ was → Answers was now deeds Bits (Run (bits_of was)) deeds
   -- the text of the plan so far, which is read as this plan; or it is too long
-  plan : {document : String Global} → IsPlanText (plan_so_far was) (string_bytes document) → now ≡ was →
+  plan : {document : String Global} → IsPlanText (written was) (string_bytes document) → now ≡ was →
       Answers was now deeds Plan (PlanSoFar document) deeds
-  no_plan : IsTooLong (plan_so_far was) → now ≡ was → Answers was now deeds Plan (Full Document) deeds
+  no_plan : IsTooLong (written was) → now ≡ was → Answers was now deeds Plan (Full Document) deeds
 
 -- a command is answered so, wherever the session stands
-abbrev pub IsAnswered : RawValue → RawValue → LiveCommand → LiveAnswer → Type 0
+abbrev pub IsAnswered : DriverSession → DriverSession → LiveCommand → LiveAnswer → Type 0
 IsAnswered was now command told =
     (deeds : List (List Deed)) → IsLiveAt was deeds →
     (after : List (List Deed)) × Answers was now deeds command told after × IsLiveAt now after

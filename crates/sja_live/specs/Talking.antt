@@ -2,10 +2,11 @@
 -- before the next one is read, and `end` or the end of the input ends the talk with the report.
 use Rattle.std.specs.Prelude.{◌≡◌, ◌⊎◌, ◌<◌, ◌≤◌, ◌++◌, Option, Some, None, List, [], ◌∷◌, length, replicate, IsUtf8}
 use Rattle.sja_driver.specs.Deeds.{Deed}
+use Rattle.sja_driver_session.specs.DriverSessions.{node_count, version_of}
+use Rattle.sja_driver_session.specs.declared.driver_session.DriverSession.{DriverSession}
 use Rattle.sja_live.specs.AnswerTexts.{answer_text, opened_text, opening_text}
 use Rattle.sja_live.specs.Answering.{Answers}
 use Rattle.sja_live.specs.Beginning.{IsNewOf}
-use Rattle.sja_live.specs.Calls.{node_count, version_of}
 use Rattle.sja_live.specs.Commands.{AsksFor}
 use Rattle.sja_live.specs.Ending.{IsLastLog}
 use Rattle.sja_live.specs.Lines.{most_line, first_line, behind_line, HasBegun, LeadsOn, IsReadable}
@@ -26,13 +27,12 @@ use Rattle.sja_live.specs.declared.talked.Talked.TheVariants.{Reported, Unopened
 use Rattle.sja_log.specs.Log.{RunValue}
 use Rattle.sja_plan.specs.Words.{Text, words}
 use Rattle.sja_report.specs.ReportLines.{report_text}
-use Rattle.sja_session.specs.RawSessions.{RawValue}
 
 -- ---- one line
 
 -- the session answers a line so: it asks for something that isn't the end, and that is done; or for nothing, or it
 -- can't be read, and then nothing is done
-pub data Replies (was now : RawValue) (deeds : List (List Deed)) (line : Text) :
+pub data Replies (was now : DriverSession) (deeds : List (List Deed)) (line : Text) :
     LiveAnswer → List (List Deed) → Type 0 where
   done : {command : LiveCommand} {answer : LiveAnswer} {after : List (List Deed)} → IsReadable line →
       AsksFor (version_of was) (node_count was) line command → Answers was now deeds command answer after →
@@ -46,26 +46,27 @@ pub data Replies (was now : RawValue) (deeds : List (List Deed)) (line : Text) :
 -- ---- lines one after another
 
 -- from where the session was, by these lines, it came here, and the answers are this text
-pub data Talks (first : RawValue) (begun : List (List Deed)) :
-    List Text → RawValue → List (List Deed) → Text → Type 0 where
+pub data Talks (first : DriverSession) (begun : List (List Deed)) :
+    List Text → DriverSession → List (List Deed) → Text → Type 0 where
   begin : Talks first begun [] first begun []
-  go_on : {lines : List Text} {was now : RawValue} {deeds after : List (List Deed)} {text line : Text}
+  go_on : {lines : List Text} {was now : DriverSession} {deeds after : List (List Deed)} {text line : Text}
       {answer : LiveAnswer} → Talks first begun lines was deeds text → Replies was now deeds line answer after →
       Talks first begun (lines ++ line ∷ []) now after (text ++ answer_text answer)
 
 -- the line ends the talk
-abbrev pub EndsTalk : RawValue → Text → Type 0
+abbrev pub EndsTalk : DriverSession → Text → Type 0
 EndsTalk s line = IsReadable line × AsksFor (version_of s) (node_count s) line End
 
 -- ---- the whole
 
 -- a session was opened by the first line, these lines were answered, and this is what was written so far
-pub record HasTalked (input rest : Text) (last : RawValue) (deeds : List (List Deed)) (output : Text) : Type 0 where
+pub record HasTalked (input rest : Text) (last : DriverSession) (deeds : List (List Deed)) (output : Text) :
+    Type 0 where
   pub some : ¬ (input ≡ [])
   pub readable : IsReadable (first_line input)
   pub opening : Opening
   pub opens : Opens (first_line input) opening
-  pub first : RawValue
+  pub first : DriverSession
   pub new : IsNewOf first opening
   pub lines : List Text
   pub lead : LeadsOn (behind_line input) lines rest
@@ -76,7 +77,7 @@ pub record HasTalked (input rest : Text) (last : RawValue) (deeds : List (List D
 -- the talk is over: the next line ends it, or there is none; and the report of the session's log was written. Of the
 -- input what stands behind that line is left
 pub record IsTalk (input output left : Text) : Type 0 where
-  pub last : RawValue
+  pub last : DriverSession
   pub deeds : List (List Deed)
   pub rest : Text
   pub said : Text
@@ -113,7 +114,7 @@ IsLeftUnanswered Write lines left = ⊥
 abbrev pub IsBrokenOff : TalkFault → Text → Text → Text → Type 0
 IsBrokenOff fault input output left =
     ((output ≡ []) × IsLeftUnanswered fault input left)
-    ⊎ ((last : RawValue) × (rest : Text) × (deeds : List (List Deed)) × HasTalked input rest last deeds output
+    ⊎ ((last : DriverSession) × (rest : Text) × (deeds : List (List Deed)) × HasTalked input rest last deeds output
     × IsLeftUnanswered fault rest left)
 
 -- ---- a reader and a writer whose bytes are known

@@ -2,7 +2,7 @@
 
 ghost use Rattle.std.specs.Prelude.{◌<◌, ◌≢◌};
 ghost use Rattle.sja_live.specs.Answering.{IsAnswered, IsUsedUp};
-ghost use Rattle.sja_live.specs.Calls.{node_count, version_of};
+ghost use Rattle.sja_driver_session.specs.DriverSessions.{node_count, version_of};
 ghost use Rattle.sja_live.specs.declared.live_command.LiveCommand.TheVariants.{Step as StepOf, Read, Write};
 ghost use Rattle.sja_plan_text.specs.HasTexts.{HasStepText};
 ghost use Rattle.sja_session.specs.declared.step_fault.StepFault.TheVariants.{NoNode};
@@ -10,11 +10,12 @@ ghost use Rattle.sja_session.specs.declared.step_fault.StepFault.TheVariants.{No
 use super::line_fault::LineFault;
 use super::live_answer::LiveAnswer;
 use super::used::Used;
+use sja_driver_session::DriverSession;
 use sja_script::{Step, StepAnswer};
-use sja_session::{Answered, RawSession, StepFault};
+use sja_session::{Answered, StepFault};
 
 /// What a step is answered.
-pub(crate) fn stepped(session: &mut RawSession, node: u8, step: Step) -> LiveAnswer
+pub(crate) fn stepped(session: &mut DriverSession, node: u8, step: Step) -> LiveAnswer
     requires there { node < node_count session.old }
     requires spelled { HasStepText (version_of session.old) step }
     ensures { IsAnswered session.old session.new (StepOf node step) result }
@@ -27,7 +28,7 @@ pub(crate) fn stepped(session: &mut RawSession, node: u8, step: Step) -> LiveAns
 }
 
 /// What a read is answered.
-pub(crate) fn was_read(session: &mut RawSession, node: u8, address: u8) -> LiveAnswer
+pub(crate) fn was_read(session: &mut DriverSession, node: u8, address: u8) -> LiveAnswer
     requires { node < node_count session.old }
     ensures { IsAnswered session.old session.new (Read node address) result }
 {
@@ -38,7 +39,12 @@ pub(crate) fn was_read(session: &mut RawSession, node: u8, address: u8) -> LiveA
 }
 
 /// What a write is answered.
-pub(crate) fn was_written(session: &mut RawSession, node: u8, address: u8, value: u8) -> LiveAnswer
+pub(crate) fn was_written(
+    session: &mut DriverSession,
+    node: u8,
+    address: u8,
+    value: u8,
+) -> LiveAnswer
     requires { node < node_count session.old }
     ensures { IsAnswered session.old session.new (Write node address value) result }
 {

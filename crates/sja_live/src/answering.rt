@@ -2,7 +2,8 @@
 
 ghost use Rattle.std.specs.Prelude.{◌≡◌, ◌<◌, ◌≤◌, IfOk, OnErr};
 ghost use Rattle.sja_live.specs.Answering.{IsAnswered};
-ghost use Rattle.sja_live.specs.Calls.{IsLive, node_count};
+ghost use Rattle.sja_driver_session.specs.DriverSessions.{node_count};
+ghost use Rattle.sja_live.specs.Calls.{IsLive};
 ghost use Rattle.sja_live.specs.Inside.OfNode.{IsOfNode};
 ghost use Rattle.sja_plan.specs.Words.{greatest};
 ghost use Rattle.sja_live.specs.declared.live_command.LiveCommand.TheVariants.{Strike, Answer, Plan, Bits, Line};
@@ -14,9 +15,10 @@ use super::live_answer::LiveAnswer;
 use super::live_command::LiveCommand;
 use super::used::Used;
 use can_frame::OutOfMemory;
+use sja_driver_session::DriverSession;
 use sja_plan_text::{PlanTextFault, plan_text};
 use sja_script::StepAnswer;
-use sja_session::{RawSession, StrikeFault};
+use sja_session::StrikeFault;
 use std::alloc::Global;
 
 /// Does what a command asks for, which isn't the end, and gives its answer. A node that it names is there.
@@ -24,7 +26,7 @@ use std::alloc::Global;
 /// Error: [`OutOfMemory`] where memory was refused; nothing changed.
 pub(crate) fn answered(
     alloc: Global,
-    session: &mut RawSession,
+    session: &mut DriverSession,
     command: LiveCommand,
 ) -> Result<LiveAnswer, OutOfMemory>
     requires live { IsLive session.old }
@@ -51,7 +53,7 @@ pub(crate) fn answered(
 
 /// What a look at the interrupt lines is answered.
 #[tactic(auto, using(crate::proofs::Asked::told_lines))]
-fn looked(session: &mut RawSession) -> LiveAnswer
+fn looked(session: &mut DriverSession) -> LiveAnswer
     ensures { IsAnswered session.old session.new Line result }
 {
     LiveAnswer::Lines(lines(session))
@@ -59,7 +61,7 @@ fn looked(session: &mut RawSession) -> LiveAnswer
 
 /// How many bits were run.
 #[tactic(auto, using(crate::proofs::Asked::told_bits))]
-fn bits_so_far(session: &RawSession) -> LiveAnswer
+fn bits_so_far(session: &DriverSession) -> LiveAnswer
     ensures { IsAnswered session.now session.now Bits result }
 {
     LiveAnswer::Bits(session.session().now())
@@ -71,7 +73,7 @@ fn bits_so_far(session: &RawSession) -> LiveAnswer
 #[tactic(auto, using(crate::proofs::Asked::strikes))]
 fn struck(
     alloc: Global,
-    session: &mut RawSession,
+    session: &mut DriverSession,
     node: u8,
     bit: u32,
 ) -> Result<LiveAnswer, OutOfMemory>
@@ -91,10 +93,10 @@ fn struck(
 }
 
 /// What the last step of a node answered.
-fn last_answer(session: &RawSession, node: u8) -> LiveAnswer
+fn last_answer(session: &DriverSession, node: u8) -> LiveAnswer
     ensures { IsAnswered session.now session.now (Answer node) result }
 {
-    match session.session().answer(node) {
+    match session.answer(node) {
         Some(answer) => LiveAnswer::Told(answer),
         None => LiveAnswer::Nothing,
     }
@@ -103,11 +105,11 @@ fn last_answer(session: &RawSession, node: u8) -> LiveAnswer
 /// The plan so far.
 ///
 /// Error: [`OutOfMemory`] where memory was refused.
-fn plan_answer(alloc: Global, session: &RawSession) -> Result<LiveAnswer, OutOfMemory>
+fn plan_answer(alloc: Global, session: &DriverSession) -> Result<LiveAnswer, OutOfMemory>
     requires { IsLive session.now }
     ensures { IfOk result (IsAnswered session.now session.now Plan) }
 {
-    let plan = session.session().plan(alloc)?;
+    let plan = session.plan(alloc)?;
     match plan_text(alloc, &plan) {
         Ok(document) => Ok(LiveAnswer::PlanSoFar(document)),
         Err(PlanTextFault::TooLong) => Ok(LiveAnswer::Full(Used::Document)),

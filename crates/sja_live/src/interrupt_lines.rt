@@ -3,15 +3,17 @@
 ghost use Rattle.std.specs.Prelude.{◌≡◌, ◌+◌, ◌*◌, ◌<◌, List, if◌then◌else◌};
 ghost use Rattle.sja_driver.specs.Deeds.{Deed};
 ghost use Rattle.sja_live.specs.Answering.{AreLines};
-ghost use Rattle.sja_live.specs.Calls.{IsLiveAt, IsStillNow, line_now, node_count};
+ghost use Rattle.sja_driver_session.specs.Bits.{IsStillIn, line_in};
+ghost use Rattle.sja_driver_session.specs.DriverSessions.{node_count};
+ghost use Rattle.sja_live.specs.Calls.{IsLiveAt};
 
-use sja_session::RawSession;
+use sja_driver_session::DriverSession;
 
 /// Which interrupt lines are active: bit K for node K. Nothing happens by it.
-pub(crate) fn lines(session: &mut RawSession) -> u8
+pub(crate) fn lines(session: &mut DriverSession) -> u8
     ensures lines { (deeds : List (List Deed)) → IsLiveAt session.old deeds → AreLines session.old deeds result }
     ensures still { (deeds : List (List Deed)) → IsLiveAt session.old deeds →
-        IsStillNow session.old session.new deeds }
+        IsStillIn session.old session.new deeds }
 {
     let nodes = session.session().nodes() as u8;
     let mut lines = 0u8;
@@ -23,11 +25,11 @@ pub(crate) fn lines(session: &mut RawSession) -> u8
 }
 
 /// Whether the interrupt line of a node is active; not, where there is no such node. Nothing happens by it.
-fn line_of(session: &mut RawSession, node: u8) -> bool
+fn line_of(session: &mut DriverSession, node: u8) -> bool
     ensures line { (deeds : List (List Deed)) → IsLiveAt session.old deeds → node < node_count session.old →
-        result ≡ line_now session.old deeds node }
+        result ≡ line_in session.old deeds node }
     ensures still { (deeds : List (List Deed)) → IsLiveAt session.old deeds →
-        IsStillNow session.old session.new deeds }
+        IsStillIn session.old session.new deeds }
 {
     match session.irq(node) {
         Some(line) => line,

@@ -2,9 +2,10 @@
 //!
 //! [`talk`] has a session over a reader and a writer: each line is a call, a typed step, an access by address and byte,
 //! bits, a look or a strike, and its answer is written before the next line is read. The plan that the session writes
-//! has typed steps, so that a run of it, by `sja run`, has the report with which the talk ends.
+//! has typed steps in versions 1 and 2, and in version 3 its accesses, so that a run of it, by `sja run`, has the
+//! report with which the talk ends.
 //!
-//! `specs/Calls.antt` says what each call does, `specs/Answering.antt` what each command is answered, and
+//! `specs/Calls.antt` says where its session stands, `specs/Answering.antt` what each command is answered, and
 //! `specs/Talking.antt` what a whole talk is. The tests stand in `crates/test_live`.
 #![tactic(auto)]
 

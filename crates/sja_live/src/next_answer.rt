@@ -20,7 +20,7 @@ use super::opening_words::opened;
 use super::talk_fault::TalkFault;
 use super::unasked::Unasked;
 use super::unopened::Unopened;
-use sja_session::RawSession;
+use sja_driver_session::DriverSession;
 use std::alloc::Global;
 use std::io::Read;
 
@@ -54,7 +54,7 @@ pub(crate) fn first_said<R: Read>(
 pub(crate) fn next_answer<R: Read>(
     alloc: Global,
     input: &mut R,
-    session: &mut RawSession,
+    session: &mut DriverSession,
 ) -> Result<Option<LiveAnswer>, TalkFault>
     requires { IsLive session.old }
     ensures live { OnOk result (IsLive session.new) }
@@ -76,7 +76,7 @@ pub(crate) fn next_answer<R: Read>(
 #[tactic(auto, using(crate::proofs::LineAnswers::line_answers))]
 fn answer_of(
     alloc: Global,
-    session: &mut RawSession,
+    session: &mut DriverSession,
     line: &str,
 ) -> Result<Option<LiveAnswer>, TalkFault>
     requires live { IsLive session.old }

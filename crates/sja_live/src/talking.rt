@@ -16,8 +16,8 @@ use super::next_answer::{first_said, next_answer};
 use super::opening_fault::OpeningFault;
 use super::talk_fault::TalkFault;
 use super::talked::Talked;
+use sja_driver_session::DriverSession;
 use sja_report::report;
-use sja_session::RawSession;
 use std::alloc::Global;
 use std::io::{Read, Write};
 
@@ -86,7 +86,7 @@ fn put_line<W: Write>(alloc: Global, out: &mut W, answer: &LiveAnswer) -> Result
 }
 
 /// Ends a session, and writes its report.
-fn put_report<W: Write>(alloc: Global, out: &mut W, session: RawSession) -> Result<(), TalkFault>
+fn put_report<W: Write>(alloc: Global, out: &mut W, session: DriverSession) -> Result<(), TalkFault>
     ensures told { OnOk result ((deeds : List (List Deed)) → IsLiveAt session deeds →
         AppendsReport (W.contents out.old) (W.contents out.new) session deeds) }
     ensures kept { IfErr result (λ f. f ≢ WriteFault → W.contents out.new ≡ W.contents out.old) }

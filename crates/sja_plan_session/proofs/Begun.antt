@@ -14,7 +14,7 @@ use Rattle.sja_session.specs.declared.session_room.SessionRoom.{SessionRoom}
 use Rattle.sja_plan_session.specs.History.{IsNew, typed_room}
 use Rattle.sja_plan_session.specs.History.Came.{begin}
 use Rattle.sja_plan_session.specs.Inside.Following.{Follows}
-use Rattle.sja_plan_session.specs.Keeping.{AreFewer, AreSteps, IsLastWithin, IsPlanSession}
+use Rattle.sja_plan_session.specs.Keeping.{AreFewer, AreSteps, AreWithin, IsPlanSession}
 use Rattle.sja_plan_session.specs.PlanSessions.{PlanSessionValue, most_bits, node_count, steps_of, done_of}
 use Rattle.sja_plan_session.specs.Rooms.{IsAccessRoom}
 use Rattle.sja_plan_session.proofs.Typed.{done_at}
@@ -77,7 +77,7 @@ module _ (s : PlanSessionValue) (bits nodes : ℕ) (room : SessionRoom) (strikes
         (subst (λ (l : List Turn). AreFewer [] (reverse l)) (sym new.turns)
         (record { most = omega arith; alike = λ same. tt }));
     few_turns = let e = ap (λ (l : List Turn). length l) new.turns in omega (arith, e);
-    last = subst (λ (l : List Turn). IsLastWithin s (reverse l)) (sym new.turns) tt;
+    within = subst (λ (l : List Turn). AreWithin s (reverse l)) (sym new.turns) tt;
     room = subst IsAccessRoom (sym new.reserved) within;
     names = subst (λ (l : List Turn). AreNamed (node_count s) (reverse l)) (sym new.turns) tt;
     room_steps = subst (λ (r : SessionRoom). All (λ n. r.steps ≤ n) sr) (sym new.reserved) fits_steps;

@@ -19,7 +19,7 @@ use Rattle.sja_session.proofs.Turned.{latest_of, few_turns, named_turns}
 use Rattle.sja_plan_session.specs.Accessing.{DoesStep, HasTurn, IsUnwritten, MayStep}
 use Rattle.sja_plan_session.specs.History.{Came, IsNew, typed_room}
 use Rattle.sja_plan_session.specs.History.Came.{step as stepped}
-use Rattle.sja_plan_session.specs.Keeping.{AreFewer, AreSteps, IsLastWithin, IsPlanSession}
+use Rattle.sja_plan_session.specs.Keeping.{AreFewer, AreSteps, AreWithin, IsPlanSession}
 use Rattle.sja_plan_session.specs.PlanSessions.{PlanSessionValue, bits_of, most_bits, node_count, steps_of, done_of}
 use Rattle.sja_plan_session.specs.Rooms.{IsAccessRoom}
 use Rattle.sja_plan_session.specs.Running.{WritesBits}
@@ -28,7 +28,7 @@ use Rattle.sja_plan_session.proofs.Bits.{BitsLed, version_led, bits_led, nodes_l
 use Rattle.sja_plan_session.proofs.Fewer.{fewer_both}
 use Rattle.sja_plan_session.proofs.OneMore.{more_same, more_other, more_long}
 use Rattle.sja_plan_session.proofs.Typed.{Led, Chain, chain_of, led_by, fewer_steps, done_at}
-use Rattle.sja_plan_session.proofs.Within.{last_same, last_bits, last_step}
+use Rattle.sja_plan_session.proofs.Within.{all_same, all_bits, all_step}
 
 -- ---- what no call changes
 
@@ -48,7 +48,7 @@ pub record Anew (was now : PlanSessionValue) (first : PlanSessionValue) (deeds :
   pub each : (node : ℕ) → node < node_count was → AreSteps now node
   pub fewer : AreFewer (reverse now.raw.session.turns) (reverse now.turns)
   pub few_turns : length now.turns ≤ was.room.turns
-  pub last : IsLastWithin now (reverse now.turns)
+  pub within : AreWithin now (reverse now.turns)
   pub names : AreNamed (node_count was) (reverse now.turns)
 
 pub go_on : (was now : PlanSessionValue) (sr dr : List ℕ) (tr : ℕ) (deeds : List (List Deed)) →
@@ -70,7 +70,7 @@ go_on was now sr dr tr deeds inv f a = record {
   each = λ node less. a.each node (let n = f.nodes in omega (arith, n, less));
   fewer = a.fewer;
   few_turns = subst (λ (r : SessionRoom). length now.turns ≤ r.turns) (sym f.room) a.few_turns;
-  last = a.last;
+  within = a.within;
   room = subst IsAccessRoom (sym f.room) inv.room;
   names = subst (λ n. AreNamed n (reverse now.turns)) (sym f.nodes) a.names;
   room_steps = subst (λ (r : SessionRoom). All (λ room. r.steps ≤ room) sr) (sym f.room) inv.room_steps;
@@ -107,6 +107,15 @@ module _ (was now : PlanSessionValue) (sr dr : List ℕ) (tr node : ℕ) (step :
       ap (λ (l : List (List Step)). length (slice_index_or l node [])) does.steps
       ∙ ap (λ (l : List Step). length l) (more_same was.steps node step (omega (arith, e, t)))
       ∙ length-append (steps_of was node) (step ∷ [])
+
+  more_steps : (m : ℕ) → length (steps_of was m) ≤ length (steps_of now m)
+  more_steps m = elim (cases_eq m node) [
+    | inl e ↦ let x = one_longer in
+        subst (λ k. length (steps_of was k) ≤ length (steps_of now k)) (sym e) (omega (arith, x))
+    | inr differ ↦
+        let x = ap (λ (l : List (List Step)). length (slice_index_or l m [])) does.steps
+        ∙ ap (λ (l : List Step). length l) (more_other was.steps node m step differ) in omega (arith, x)
+  ]
 
   one_told : length (done_of now node) ≡ length (done_of was node) + 1
   one_told =
@@ -159,7 +168,9 @@ module _ (was now : PlanSessionValue) (sr dr : List ℕ) (tr node : ℕ) (step :
         (fewer_steps (reverse was.turns) inv.fewer chain.does);
     few_turns = subst (λ (l : List Turn). length l ≤ was.room.turns) (sym does.turns)
         (few_turns was.room.turns (Node node 1) was.turns may.turn inv.few_turns);
-    last = subst (IsLastWithin now) (sym turns_are) (last_step was now node one_longer (reverse was.turns) inv.last);
+    within = subst (AreWithin now) (sym turns_are)
+        (all_step was now more_steps node one_longer (let e = led.run in omega (arith, e)) (reverse was.turns)
+        inv.within);
     names = subst (λ (l : List Turn). AreNamed (node_count was) (reverse l)) (sym does.turns)
         (named_turns (node_count was) (Node node 1) was.turns may.there inv.names);
   })
@@ -186,9 +197,9 @@ module _ (was now : PlanSessionValue) (sr dr : List ℕ) (tr : ℕ) (inv : IsPla
       }
 
   pub with_turns : AreFewer (reverse now.raw.session.turns) (reverse now.turns) →
-      length now.turns ≤ was.room.turns → IsLastWithin now (reverse now.turns) →
+      length now.turns ≤ was.room.turns → AreWithin now (reverse now.turns) →
       AreNamed (node_count was) (reverse now.turns) → IsPlanSession now sr dr tr
-  with_turns fewer few last names = go_on was now sr dr tr inv.deeds inv f (record {
+  with_turns fewer few within names = go_on was now sr dr tr inv.deeds inv f (record {
     came = came;
     at = at;
     steps = ap (λ (l : List (List Step)). length l) steps;
@@ -196,7 +207,7 @@ module _ (was now : PlanSessionValue) (sr dr : List ℕ) (tr : ℕ) (inv : IsPla
     each = each_same;
     fewer = fewer;
     few_turns = few;
-    last = last;
+    within = within;
     names = names;
   })
 
@@ -209,9 +220,9 @@ after_none was now sr dr tr inv at f came u turns bits =
     (subst (λ l. AreFewer (reverse l) (reverse now.turns)) (sym turns)
     (subst (λ l. AreFewer (reverse was.raw.session.turns) (reverse l)) (sym u.turns) inv.fewer))
     (subst (λ (l : List Turn). length l ≤ was.room.turns) (sym u.turns) inv.few_turns)
-    (subst (λ (l : List Turn). IsLastWithin now (reverse l)) (sym u.turns)
-    (last_same was now (omega (arith, bits)) (same_steps was now sr dr tr inv at f came u.steps u.done)
-    (reverse was.turns) inv.last))
+    (subst (λ (l : List Turn). AreWithin now (reverse l)) (sym u.turns)
+    (all_same was now (same_steps was now sr dr tr inv at f came u.steps u.done) (omega (arith, bits))
+    (reverse was.turns) inv.within))
     (subst (λ (l : List Turn). AreNamed (node_count was) (reverse l)) (sym u.turns) inv.names)
 
 -- ---- after bits
@@ -247,7 +258,9 @@ module _ (was now : PlanSessionValue) (sr dr : List ℕ) (tr : ℕ) (inv : IsPla
       (fewer_both t refl (reverse was.raw.session.turns) (reverse was.turns) inv.fewer)))
       (subst (λ (l : List Turn). length l ≤ was.room.turns) (sym w.turns)
       (few_turns was.room.turns t was.turns (has (omega arith)) inv.few_turns))
-      (subst (IsLastWithin now) (sym wrote) (last_bits was now (suc n) b.bits (reverse was.turns) inv.last))
+      (subst (AreWithin now) (sym wrote)
+      (all_bits was now (same_steps was now sr dr tr inv b.at f came w.steps w.done) (suc n) b.bits
+      (reverse was.turns) inv.within))
       (subst (λ (l : List Turn). AreNamed (node_count was) (reverse l)) (sym w.turns)
       (named_turns (node_count was) t was.turns tt inv.names))
 

@@ -12,3 +12,4 @@ pub mod NodeTurns
 pub mod BusTurns
 pub mod AllTurns
 pub mod Written
+pub mod Growing

@@ -173,5 +173,5 @@ fits_bits was sr dr tr inv now run deeds b =
     let few : (k : ℕ) → length (steps_of was k) ≤ 2000000 =
     few_steps was.steps 2000000 (λ k less.
     let a = (inv.each k (let n = inv.step_lists in omega (arith, n, less))).few in omega (arith, a, room)) in
-    let size = size_within was 2000000 (omega (arith, f, e, m, most)) few (reverse was.turns) inv.last in
+    let size = size_within was 2000000 (omega (arith, f, e, m, most)) few (reverse was.turns) inv.within in
     omega (arith, size, f, e, m, most)

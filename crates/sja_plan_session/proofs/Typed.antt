@@ -77,6 +77,7 @@ pub record Led (was now : SessionValue) (deeds after : List (List Deed)) (node c
   pub at : IsAt now after
   pub version : now.plan.version ≡ was.plan.version
   pub bits : now.plan.bits ≡ was.plan.bits
+  pub strikes : now.plan.strikes ≡ was.plan.strikes
   pub run : now.run.bits ≡ was.run.bits
   pub room : now.room ≡ was.room
   pub nodes : length now.plan.nodes ≡ length was.plan.nodes
@@ -88,6 +89,7 @@ no_led s deeds node at = record {
   at = at;
   version = refl;
   bits = refl;
+  strikes = refl;
   run = refl;
   room = refl;
   nodes = refl;
@@ -104,6 +106,7 @@ one_led was now node step answer deeds at there does =
       at = does.at;
       version = ap (λ (p : PlanValue). p.version) does.wrote;
       bits = ap (λ (p : PlanValue). p.bits) does.wrote;
+      strikes = ap (λ (p : PlanValue). p.strikes) does.wrote;
       run = does.bits;
       room = does.room;
       nodes = sym does.at.stands.deeds_count ∙ length-set deeds node more ∙ at.stands.deeds_count;
@@ -119,6 +122,7 @@ both_led was mid now deeds half after node first second both sum a b = record {
   at = b.at;
   version = b.version ∙ a.version;
   bits = b.bits ∙ a.bits;
+  strikes = b.strikes ∙ a.strikes;
   run = b.run ∙ a.run;
   room = b.room ∙ a.room;
   nodes = b.nodes ∙ a.nodes;

@@ -1,18 +1,20 @@
 -- The plan that a session of version 3 wrote is within the limits of one.
 use Rattle.std.proofs.Common.{◌≡◌, ℕ, ◌<◌, ◌≤◌, List, [], length, All, sym, subst, arith}
 use Rattle.std.proofs.lemmas.List.{get_or_default}
+use Rattle.std.proofs.lemmas.List.Elements.{All-from_get_or}
 use Rattle.sja_driver.specs.Deeds.{Deed}
 use Rattle.sja_log.specs.Log.{RunValue}
 use Rattle.sja_log.specs.declared.end.End.TheVariants.{Turns as TurnsDone}
-use Rattle.sja_plan.specs.Limits.{most_bits as most_bits_of, most_steps, most_strikes}
+use Rattle.sja_plan.specs.Limits.{most_bits as most_bits_of, most_steps, most_steps_told, most_strikes}
 use Rattle.sja_plan.specs.Plan.{PlanValue, IsInLimits, IsStrikeOn, NamesNode, times_in}
 use Rattle.sja_script.specs.declared.step.Step.{Step}
 use Rattle.sja_session.proofs.Turned.{all_turns_named}
 use Rattle.sja_session.specs.Sessions.{IsAt}
 use Rattle.sja_plan_session.specs.Ending.{IsLogIn, IsSessionRun}
 use Rattle.sja_plan_session.specs.History.{IsNew}
-use Rattle.sja_plan_session.specs.Keeping.{IsPlanSession}
+use Rattle.sja_plan_session.specs.Keeping.{IsPlanSession, IsWithinLimits}
 use Rattle.sja_plan_session.specs.PlanSessions.{PlanSessionValue, most_bits, node_count, written}
+use Rattle.sja_plan_session.proofs.Bits.{few_bits}
 
 pub written_limits : (s : PlanSessionValue) (sr dr : List ℕ) (tr : ℕ) → IsPlanSession s sr dr tr →
     IsInLimits s.raw.session.plan → IsInLimits (written s)
@@ -33,6 +35,17 @@ written_limits s sr dr tr inv limits =
       strike_count = subst (λ v. times_in s.raw.session.plan.strikes ≤ most_strikes v) inv.version limits.strike_count;
       strikes = subst (λ n. All (IsStrikeOn n) s.raw.session.plan.strikes) count limits.strikes;
     }
+
+-- and within those of a document
+pub within_limits : (s : PlanSessionValue) (sr dr : List ℕ) (tr : ℕ) → IsPlanSession s sr dr tr → IsWithinLimits s
+within_limits s sr dr tr inv = record {
+  version = inv.version;
+  bits = let f = few_bits s.raw.session inv.deeds inv.at in let b = inv.bits in omega (arith, f, b);
+  steps = All-from_get_or (λ (l : List Step). length l ≤ most_steps_told 3) s.steps [] (λ k less.
+      let n = inv.step_lists in let few = (inv.each k (omega (arith, n, less))).few in
+      let room = inv.room.0 in omega (arith, few, room));
+  turns = inv.within;
+}
 
 -- and where a log is that of the session, it is that of its run
 pub session_run : (s : PlanSessionValue) (sr dr : List ℕ) (tr : ℕ) → IsPlanSession s sr dr tr → (plan : PlanValue)

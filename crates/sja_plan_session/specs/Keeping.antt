@@ -1,6 +1,7 @@
 -- What holds of every session of version 3 (this project's own rule).
 use Rattle.std.specs.Prelude.{◌≡◌, ◌+◌, ◌*◌, ◌<◌, ◌≤◌, ℕ, true, List, [], ◌∷◌, length, reverse, All}
 use Rattle.sja_driver.specs.Deeds.{Deed}
+use Rattle.sja_plan.specs.Limits.{most_steps_told}
 use Rattle.sja_plan.specs.declared.turn.Turn.{Turn}
 use Rattle.sja_plan.specs.declared.turn.Turn.TheVariants.{Bus, Rest, Node}
 use Rattle.sja_session.specs.Sessions.{AreNamed, IsAt}
@@ -24,12 +25,12 @@ pub record AreFewer (typed turns : List Turn) : Type 0 where
   pub most : length typed ≤ length turns
   pub alike : length typed ≡ length turns → EndAlike typed turns
 
--- the latest turn, latest first, has no more bits than were run, and no more steps than are written of its node
-abbrev pub IsLastWithin : PlanSessionValue → List Turn → Type 0
-IsLastWithin s [] = Unit {0}
-IsLastWithin s (Bus n ∷ earlier) = n ≤ bits_of s
-IsLastWithin s (Node k n ∷ earlier) = n ≤ length (steps_of s k)
-IsLastWithin s (Rest ∷ earlier) = Unit {0}
+-- none of these turns has more bits than were run, nor more steps than are written of its node
+abbrev pub AreWithin : PlanSessionValue → List Turn → Type 0
+AreWithin s [] = Unit {0}
+AreWithin s (Bus n ∷ earlier) = (n ≤ bits_of s) × AreWithin s earlier
+AreWithin s (Node k n ∷ earlier) = (n ≤ length (steps_of s k)) × AreWithin s earlier
+AreWithin s (Rest ∷ earlier) = AreWithin s earlier
 
 -- each node has as many answers as steps, no more than there is room for, and at most three typed steps for each
 pub record AreSteps (s : PlanSessionValue) (node : ℕ) : Type 0 where
@@ -54,9 +55,17 @@ pub record IsPlanSession (s : PlanSessionValue) (steps_room done_room : List ℕ
   pub each : (node : ℕ) → node < node_count s → AreSteps s node
   pub fewer : AreFewer (reverse s.raw.session.turns) (reverse s.turns)
   pub few_turns : length s.turns ≤ s.room.turns
-  pub last : IsLastWithin s (reverse s.turns)
+  pub within : AreWithin s (reverse s.turns)
   pub room : IsAccessRoom s.room
   pub names : AreNamed (node_count s) (reverse s.turns)
   pub room_steps : All (λ room. s.room.steps ≤ room) steps_room
   pub room_done : All (λ room. s.room.steps ≤ room) done_room
   pub room_turns : s.room.turns + 1 ≤ turns_room
+
+-- so what it wrote is within the limits of a document of version 3: its bits, the steps of each node, and the bits or
+-- steps of each turn
+pub record IsWithinLimits (s : PlanSessionValue) : Type 0 where
+  pub version : s.raw.session.plan.version ≡ 3
+  pub bits : bits_of s ≤ 2000000
+  pub steps : All (λ steps. length steps ≤ most_steps_told 3) s.steps
+  pub turns : AreWithin s (reverse s.turns)

@@ -13,5 +13,6 @@ pub mod History
 pub mod Keeping
 pub mod Ending
 pub mod RawRuns
+pub mod PlanRuns
 -- ---- the machine
 pub mod Inside

@@ -10,13 +10,15 @@
 #![tactic(auto)]
 
 mod access;
+mod answers;
 mod copied_node;
 mod copies;
 mod finish;
-mod log_with;
+pub mod log_with;
 mod may;
 mod more;
 mod of_plan;
+mod plan_run;
 mod plan_session;
 mod plan_so_far;
 mod raw_run;
@@ -25,6 +27,7 @@ mod running;
 mod striking;
 mod turns;
 
+pub use plan_run::run_plan;
 pub use plan_session::PlanSession;
 pub use raw_run::run_raw;
 pub use raw_run_fault::RawRunFault;

@@ -13,7 +13,7 @@ use std::alloc::Global;
 /// A log as this one, with these steps done of each node in place of its own, and with this end.
 ///
 /// Error: [`OutOfMemory`] where memory was refused.
-pub(crate) fn log_with(
+pub fn log_with(
     alloc: Global,
     log: &RunLog,
     done: &[Vec<Done>],

@@ -11,7 +11,17 @@ use std::alloc::Global;
 
 impl PlanSession {
     ghost use Rattle.std.specs.Prelude.{◌≡◌, map, IfOk};
+    ghost use Rattle.sja_plan_session.specs.Keeping.{IsWithinLimits};
     ghost use Rattle.sja_plan_session.specs.PlanSessions.{written};
+
+    /// What the session wrote is within the limits of a document of version 3. It does nothing: a caller who needs a
+    /// limit calls it for its contract.
+    #[tactic(auto, using(crate::proofs::Written::within_limits))]
+    pub fn limits(&self)
+        ensures { IsWithinLimits self.now }
+    {
+        let _ = &self.room;
+    }
 
     /// The plan so far, of version 3: the steps that were done, the turns in which they were, and the strikes.
     ///

@@ -1,13 +1,12 @@
 -- Whatever becomes of a request, few bytes are read for it.
 use Rattle.std.proofs.Common.{◌≡◌, ◌<◌, ◌≤◌, ◌+◌, ◌⊎◌, ◌++◌, List, ℕ, [], Option, length, length-append, sym, subst}
-use Rattle.std.proofs.Common.{arith, inl, inr, false}
+use Rattle.std.proofs.Common.{arith, inl, inr, false, true}
 use Rattle.std.specs.Io.KnownBytes.{Consumes}
 use Rattle.std.proofs.KnownBytes.{Consumes-nil, Consumes-trans}
 use Rattle.sja_plan.specs.Plan.{PlanValue}
 use Rattle.sja_words.specs.Words.{Request, ParsesAs, encode, decode, filter, arbitrate, message, run, wave}
 use Rattle.sja_words.specs.Words.{trace, frames, picture, candump, check, sweep, struck_plan, files, live}
 use Rattle.sja_log.specs.declared.run_fault.RunFault.{RunFault}
-use Rattle.sja_threads.specs.Stopping.{IsFaultOf}
 use Rattle.sja_texts.specs.declared.command_refusal.CommandRefusal.{CommandRefusal}
 use Rattle.sja_texts.specs.declared.command_refusal.CommandRefusal.TheVariants as refusal
 use Rattle.sja_run.specs.Answer.{AsksForRun, IsPrinted, IsRefused, picture_or_drawing, request_left}
@@ -107,7 +106,7 @@ refused_threads before after refusal.OutOfMemory h = h
 refused_threads before after refusal.Read h = h
 refused_threads before after (refusal.Plan fault) h = h
 refused_threads before after (refusal.Run fault) h =
-    (h.0, h.1, h.2, h.3, subst (λ (f : RunFault). IsFaultOf h.1 f) (sym h.4) tt)
+    (h.0, h.1, h.2, h.3, subst (λ (f : RunFault). MayFault true h.1 f) (sym h.4) tt)
 refused_threads before after refusal.NotHexadecimal h = absurd h
 refused_threads before after refusal.NotALine h = absurd h
 refused_threads before after (refusal.Layout fault) h = absurd h

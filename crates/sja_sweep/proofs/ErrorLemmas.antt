@@ -14,6 +14,7 @@ use Rattle.sja_log.specs.Log.{NodeValue}
 use Rattle.sja_plan.specs.Plan.{PlanValue}
 use Rattle.sja_sweep.specs.Errors.{error_in, HasErrors, RanValue, IsRan}
 use Rattle.sja_sweep.specs.Inside.Reaching.{HaveErrors}
+use Rattle.sja_sweep.proofs.RunNodes.{nodes_many}
 use Rattle.sja_sweep.proofs.TriedLemmas.{zip_push}
 
 -- a replay has come through the journal up to an entry, and these are the errors of the bits so far
@@ -81,7 +82,7 @@ zip_length R (x ∷ xs) (y ∷ ys) all = ap (λ n. suc n) (zip_length R xs ys al
 
 pub as_many_nodes : (p q : PlanValue) (a b : RanValue) → IsRan p a → IsRan q b → length p.nodes ≡ length q.nodes →
     length a.log.nodes ≡ length b.log.nodes
-as_many_nodes p q a b ran other same = ran.run.run.count ∙ same ∙ sym other.run.run.count
+as_many_nodes p q a b ran other same = nodes_many p a.log ran.run ∙ same ∙ sym (nodes_many q b.log other.run)
 
 pub as_many_errors : (p q : PlanValue) (a b : RanValue) → IsRan p a → IsRan q b → length p.nodes ≡ length q.nodes →
     length a.errors ≡ length b.errors

@@ -5,6 +5,7 @@ pub mod Entries
 pub mod Gathers
 pub mod SpanLemmas
 pub mod TrialLemmas
+pub mod RunNodes
 pub mod ErrorLemmas
 pub mod TriedLemmas
 pub mod JobLemmas

@@ -4,7 +4,7 @@ use Rattle.std.specs.List.{AllZip}
 use Rattle.sja_plan.specs.Limits.{most_strikes}
 use Rattle.sja_plan.specs.Plan.{PlanValue, times_in}
 use Rattle.sja_log.specs.Log.{RunValue}
-use Rattle.sja_log.specs.Runs.{IsSerialRun}
+use Rattle.sja_plan_session.specs.PlanRuns.{IsPlanRun}
 use Rattle.sja_log.specs.declared.run_fault.RunFault.TheVariants.{Memory as NoMemory}
 use Rattle.sja_sweep.specs.declared.sweeping.Sweeping.{Sweeping}
 use Rattle.sja_sweep.specs.declared.trial.Trial.{Trial}
@@ -44,7 +44,7 @@ pub record IsSweep (plan : PlanValue) (s : Sweeping) (text rows : List ℕ) : Ty
 -- too many runs, and it isn't said that they are meant
 pub record IsRefused (plan : PlanValue) (s : Sweeping) (runs bits : ℕ) : Type 0 where
   pub planned : RunValue
-  pub as_planned : IsSerialRun plan planned
+  pub as_planned : IsPlanRun plan planned
   pub runs_are : runs ≡ length (strikes_tried plan s planned)
   pub bits_are : bits ≡ runs * plan.bits
   pub many : AreTooMany plan runs
@@ -59,7 +59,7 @@ pub record NamesNoNode (plan : PlanValue) (s : Sweeping) : Type 0 where
 -- the plan strikes so many bits that those of a run more are above the most of its version, and there is a run to make
 pub record HasNoRoom (plan : PlanValue) (s : Sweeping) : Type 0 where
   pub planned : RunValue
-  pub as_planned : IsSerialRun plan planned
+  pub as_planned : IsPlanRun plan planned
   pub some : 0 < length (strikes_tried plan s planned)
   pub full : most_strikes plan.version < times_in plan.strikes + strikes_a_run s.pairs
 

@@ -8,10 +8,10 @@ ghost use Rattle.sja_sweep.specs.Inside.Reaching.{ran_value, HaveErrors, IsTrial
 use super::sweep_fault::SweepFault;
 use can_node::Cause;
 use sja_link::Journal;
-use sja_log::{NodeRun, RunLog};
+use sja_log::{NodeRun, RunFault, RunLog};
 use sja_plan::Plan;
+use sja_plan_session::run_plan as run_in_one_thread;
 use sja_replay::{Happening, Replay};
-use sja_serial::run_serial;
 use std::alloc::{AllocError, Global};
 
 /// A run, and the errors in it.
@@ -28,7 +28,9 @@ pub(crate) fn run_plan(alloc: Global, plan: &Plan) -> Result<Ran, SweepFault>
     ensures ok { IfOk result (λ r. IsRan plan.now (ran_value r)) }
     ensures err { IfErr result IsTrialFault }
 {
-    let log = run_serial(alloc, plan)?;
+    let Ok(log) = run_in_one_thread(alloc, plan) else {
+        return Err(SweepFault::Run(RunFault::Memory));
+    };
     let errors = errors_of_nodes(alloc, log.nodes())?;
     Ok(Ran { log, errors })
 }

@@ -17,7 +17,7 @@ use std::thread::Threads;
 /// Runs a plan as it is, and then with what is tried: one strike more, or two, one run after the other. It tells what
 /// came of each trial, against the run of the plan as it is.
 ///
-/// The texts are those of just these runs: of their logs, each as [`run_serial`](sja_serial::run_serial) promises it,
+/// The texts are those of just these runs: of their logs, each as [`run_plan`](sja_plan_session::run_plan) promises it,
 /// and of the errors in each bit of each node.
 ///
 /// Errors: [`SweepFault::NoNode`] where a node is asked for that the plan doesn't have; [`SweepFault::TooMany`] where

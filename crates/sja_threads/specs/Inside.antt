@@ -1,6 +1,7 @@
 -- How the code keeps a run in threads: definitions of the private contracts alone.
 -- ---- a driver in its thread
 pub mod Steps
+pub mod Accesses
 -- ---- the beginning of a run
 pub mod Making
 pub mod Started

@@ -1,10 +1,12 @@
 -- ---- one driver
 pub mod Setting
+pub mod Accessing
 pub mod Working
 -- ---- a whole run
 pub mod Needed
 pub mod Stopping
 pub mod Linked
 pub mod Threads
+pub mod AccessRuns
 -- ---- how the code keeps a run: definitions of the private contracts alone
 pub mod Inside

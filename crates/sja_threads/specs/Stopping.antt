@@ -20,27 +20,36 @@ HasNoPlace b = places_down b ≡ 0
 abbrev pub any_orders : ℕ → Orders → Type 0
 any_orders node orders = Unit {0}
 
--- the bus of a run of this plan, without a fault so far, stopped with this one: it didn't take an item of a driver, or
--- a bit didn't come to its end; it isn't that the bits were spent
-pub record StopsFor (plan : PlanValue) (f : BusFault) : Type 0 where
+-- the bus of a run of this plan whose drivers may do so many typed steps, by node, without a fault so far, stopped with
+-- this one: it didn't take an item of a driver, or a bit didn't come to its end; it isn't that the bits were spent
+pub record StopsWith (counts : List ℕ) (plan : PlanValue) (f : BusFault) : Type 0 where
   pub was : BusValue
   pub now : BusValue
   pub links : List RingBus
   pub after : List RingBus
   pub script : was.script ≡ plan.strikes
-  pub steps : was.steps ≡ step_counts plan
+  pub steps : was.steps ≡ counts
   pub bits : was.run + was.left ≡ plan.bits
   pub nodes : length was.journals ≡ length plan.nodes
   pub right : was.fault ≡ None
   pub lawful : IsBusRun was.script was.run was.journals
-  pub why : IsTakenAndRefused BusLists plan.bits (step_counts plan) was.journals now.journals links after f
+  pub why : IsTakenAndRefused BusLists plan.bits counts was.journals now.journals links after f
       ⊎ StopsBit BusLists HasNoPlace any_orders was now links after f
   pub not_spent : f ≢ BitsSpent
 
--- what a run of this plan may answer for want of a log, once its gates are counted
+-- the same where each step is a typed one
+abbrev pub StopsFor : PlanValue → BusFault → Type 0
+StopsFor plan f = StopsWith (step_counts plan) plan f
+
+-- what a run of this plan whose drivers may do so many typed steps may answer for want of a log, once its gates are
+-- counted
+abbrev pub IsFaultWith : List ℕ → PlanValue → RunFault → Type 0
+IsFaultWith counts plan Memory = Unit {0}
+IsFaultWith counts plan GateCount = ⊥
+IsFaultWith counts plan (Bus f) = StopsWith counts plan f
+IsFaultWith counts plan Thread = Unit {0}
+IsFaultWith counts plan Unsettled = Unit {0}
+
+-- the same where each step is a typed one
 abbrev pub IsFaultOf : PlanValue → RunFault → Type 0
-IsFaultOf plan Memory = Unit {0}
-IsFaultOf plan GateCount = ⊥
-IsFaultOf plan (Bus f) = StopsFor plan f
-IsFaultOf plan Thread = Unit {0}
-IsFaultOf plan Unsettled = Unit {0}
+IsFaultOf plan fault = IsFaultWith (step_counts plan) plan fault

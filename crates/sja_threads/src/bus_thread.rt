@@ -32,7 +32,7 @@ impl BusThread {
     ghost use Rattle.sja_rings.specs.Ends.{link_of_bus};
     ghost use Rattle.sja_threads.specs.declared.round.Round.TheVariants.{Ran, Rests, Spent};
     ghost use Rattle.sja_threads.specs.Needed.{AllAtRest};
-    ghost use Rattle.sja_threads.specs.Stopping.{StopsFor};
+    ghost use Rattle.sja_threads.specs.Stopping.{StopsWith};
     ghost use Rattle.sja_threads.specs.Inside.Rounds.{IsUnderWay, GoesOn, EndsAs};
 
     /// Takes what the drivers gave.
@@ -43,7 +43,8 @@ impl BusThread {
         requires ids { Numbered link_of_bus self.old.links.items }
         ensures on { OnOk result ((plan : PlanValue) → IsUnderWay plan self.old → GoesOn plan self.old self.new) }
         ensures run { self.new.run ≡ self.old.run }
-        ensures fault { IfErr result (λ f. (plan : PlanValue) → IsUnderWay plan self.old → StopsFor plan f) }
+        ensures fault { IfErr result (λ f. (plan : PlanValue) → IsUnderWay plan self.old →
+            StopsWith self.old.bus.steps plan f) }
     {
         self.bus.gather(self.links.as_mut_slice())
     }
@@ -63,7 +64,7 @@ impl BusThread {
         ensures ran { result ≡ Ok Ran → self.new.run ≡ self.old.run + 1 }
         ensures rests { result ≡ Ok Rests → AllAtRest self.new.bus.journals }
         ensures spent { result ≡ Ok Spent → self.new.spent ≡ true }
-        ensures fault { IfErr result (StopsFor plan.now) }
+        ensures fault { IfErr result (StopsWith self.old.bus.steps plan.now) }
     {
         if self.bus.at_rest() {
             return Ok(Round::Rests);
@@ -91,7 +92,7 @@ impl BusThread {
         requires ports { length plan.now.nodes ≤ length board.old.ports.now }
         ensures on { OnOk result (GoesOn plan.now self.old self.new) }
         ensures ports { length board.new.ports.now ≡ length board.old.ports.now }
-        ensures fault { IfErr result (StopsFor plan.now) }
+        ensures fault { IfErr result (StopsWith self.old.bus.steps plan.now) }
     {
         self.gather()?;
         if !all_begun(&self.bus, ended) {
@@ -114,7 +115,7 @@ impl BusThread {
         requires way { IsUnderWay plan.now self.old }
         requires ports { length plan.now.nodes ≤ length ports.now }
         ensures on { OnOk result (GoesOn plan.now self.old self.new) }
-        ensures fault { IfErr result (StopsFor plan.now) }
+        ensures fault { IfErr result (StopsWith self.old.bus.steps plan.now) }
     {
         let parker = Parker::new();
         let mut board = LockBoard { rt, ports };
@@ -151,7 +152,7 @@ impl BusThread {
         requires way { IsUnderWay plan.now self.old }
         requires ports { length plan.now.nodes ≤ length ports.now }
         ensures ends { IfOk result (EndsAs plan.now self.old self.new) }
-        ensures fault { IfErr result (StopsFor plan.now) }
+        ensures fault { IfErr result (StopsWith self.old.bus.steps plan.now) }
     {
         let mut board = LockBoard { rt, ports };
         for _ in self.run..=plan.bits() {

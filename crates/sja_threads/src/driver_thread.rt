@@ -1,6 +1,6 @@
 //! [`DriverThread`]: a driver in a thread of its own, and the steps of its script, each tried as the gate lets it.
 
-ghost use Rattle.std.specs.Prelude.{◌≡◌, ◌≤◌, false, length};
+ghost use Rattle.std.specs.Prelude.{◌≡◌, ◌≤◌, false, length, None};
 ghost use Rattle.lemmas.specs.Related.{EachRelated};
 ghost use Rattle.sja_regs.specs.DriverSettings.{SettingsValue};
 ghost use Rattle.sja_driver.specs.Holding.{NumberedFrom};
@@ -55,7 +55,7 @@ impl<D: DriverEnd + Drop> DriverThread<D> {
 
     /// Tries a step, and says whether it is done. The port is held over the try, but not over a window's or a
     /// release's, which see none.
-    fn try_step(&mut self, rt: &impl Wait, port: &Mutex<Port>, step: &Step) -> bool
+    pub(crate) fn try_step(&mut self, rt: &impl Wait, port: &Mutex<Port>, step: &Step) -> bool
         requires { MayWork D.link self.old 1 }
         ensures { DoesSteps D.DriverEnd self.old self.new (step_if result step.now) }
     {
@@ -79,7 +79,7 @@ impl<D: DriverEnd + Drop> DriverThread<D> {
 
     /// Does a step of this number: the gate is asked before each try. It says whether the step is done; else the gate
     /// quit.
-    fn do_step<G: Gate>(
+    pub(crate) fn do_step<G: Gate>(
         &mut self,
         rt: &impl Wait,
         port: &Mutex<Port>,
@@ -142,11 +142,16 @@ impl<D: DriverEnd + Drop> DriverThread<D> {
         ensures same { EachRelated D.same self.links.items result.links.items }
         ensures worked { HasWorked D.stands self.set (node_of self.driver) steps.now self.links.items result }
         ensures done { G.QUITS ≡ false → length (done_in (log_of result.driver)) ≡ length steps.now }
+        ensures typed { result.accesses ≡ None }
     {
         self.do_steps(rt, port, steps, &gate);
         port.lock(rt).finish();
         let DriverThread { driver, links, .. } = self;
-        Worked { links, driver }
+        Worked {
+            links,
+            driver,
+            accesses: None,
+        }
     }
 }
 
@@ -178,6 +183,7 @@ pub fn work<D: DriverEnd + Drop, G: Gate>(
     ensures same { EachRelated D.same links.items result.links.items }
     ensures worked { (set : SettingsValue) × HasWorked D.stands set node steps.now links.items result }
     ensures done { G.QUITS ≡ false → length (done_in (log_of result.driver)) ≡ length steps.now }
+    ensures typed { result.accesses ≡ None }
 {
     let set = port.lock(rt).settings();
     let driver = LoggedDriver::new(node, log);

@@ -11,18 +11,25 @@
 //! link carried what it did, and when its bits were due, `IsThreadedRun` of `specs/Threads.antt`. No clause says that a
 //! wait ends, or how a port stands behind its lock.
 //!
-//! `run_threads` alone takes memory, none of it for a bit. The tests stand in `crates/test_runs`.
+//! [`run_accesses`] runs a plan whose drivers know addresses and bytes alone: each step is some steps of a typed
+//! driver, `HasAccessed` of `specs/Accessing.antt`, and the run is one of those ([`EndedRun`]).
+//!
+//! The runs alone take memory, none of it for a bit. The tests stand in `crates/test_runs`.
 #![tactic(auto)]
 
 mod bus_thread;
 mod driver_thread;
 mod drivers_and_ends;
+mod ended_run;
 mod gate;
 mod joined_run;
 mod laws;
 mod left_on_links;
+mod let_go;
 mod lock_board;
 mod pass;
+mod raw_answers;
+mod raw_thread;
 mod round;
 mod run;
 mod run_end;
@@ -33,9 +40,10 @@ mod waits;
 mod worked;
 
 pub use driver_thread::work;
+pub use ended_run::EndedRun;
 pub use gate::Gate;
 pub use laws::a_driver_in_reset_finds_reset_mode;
 pub use lock_board::LockBoard;
 pub use pass::Pass;
-pub use run::run_threads;
+pub use run::{run_accesses, run_threads};
 pub use worked::Worked;

@@ -2,7 +2,7 @@
 
 use sja_check::{hints, mistake};
 use sja_plan::{PlanFault, read_plan};
-use sja_serial::run_serial;
+use sja_plan_session::run_plan;
 use std::alloc::{AllocError, Global};
 use std::io;
 
@@ -13,7 +13,7 @@ use std::io;
 pub fn answer(alloc: Global, bytes: &[u8]) -> io::Result<String> {
     match read_plan(alloc, bytes) {
         Ok(plan) => {
-            let log = run_serial(alloc, &plan).map_err(|_| AllocError)?;
+            let log = run_plan(alloc, &plan).map_err(|_| AllocError)?;
             let (bits, end) = (log.bits(), log.end());
             let head = format!(in alloc; "bits {bits} end {end}\n")?;
             let text = hints(alloc, bytes, &plan, &log).map_err(|_| AllocError)?;

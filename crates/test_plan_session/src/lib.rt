@@ -4,6 +4,8 @@
 #[cfg(test)]
 mod accesses;
 #[cfg(test)]
+mod any_version;
+#[cfg(test)]
 mod first;
 #[cfg(test)]
 mod given;

@@ -1,5 +1,6 @@
 //! Drivers in threads of their own, and a bus whose ports stand behind their locks, over links of two rings.
 
+mod accesses;
 mod configured;
 mod gates;
 mod given;

@@ -8,7 +8,7 @@ use super::remedy::remedy_of;
 use super::source::Source;
 use super::undone::undone_hint;
 use sja_log::RunLog;
-use sja_plan::Plan;
+use sja_plan::{Plan, RAW_VERSION};
 use sja_script::{Done, Refusal, Step, StepAnswer};
 use std::alloc::{AllocError, Global};
 
@@ -30,8 +30,9 @@ pub(crate) fn node_hints(
     let Some(run) = log.nodes().get(node) else {
         return Ok(());
     };
-    if !steps.contains(&Step::Start) {
-        let words = format!(in alloc; "node {node} is never started: it has no step \"start\"")?;
+    if !has_start(plan.version(), steps) {
+        let steps = start_words(plan.version());
+        let words = format!(in alloc; "node {node} is never started: it has no step {steps}")?;
         found.push(placed(alloc, source.line_of_node(node), words.as_str())?)?;
     }
     refused_hints(alloc, source, plan, node, run.done(), found)?;
@@ -64,11 +65,40 @@ fn refused_hints(
                 String::new(alloc)
             };
             found.push(hint)?;
-        } else if let Some(Step::Start) = step {
-            started = true;
+        } else if let Some(step) = step {
+            started = started || can_start(plan.version(), step);
         }
     }
     Ok(())
+}
+
+/// Whether one of these steps can start the node.
+fn has_start(version: u8, steps: &[Step]) -> bool {
+    for step in steps {
+        if can_start(version, step) {
+            return true;
+        }
+    }
+    false
+}
+
+/// Whether a step can start a node: `start`, and in version 3 also a write of MOD with RM 0 (SJA1000 data sheet,
+/// 6.4.3).
+fn can_start(version: u8, step: &Step) -> bool {
+    match step {
+        Step::Start => true,
+        Step::Write(0, value) => version >= RAW_VERSION && *value % 2 == 0,
+        _ => false,
+    }
+}
+
+/// The steps that start a node.
+fn start_words(version: u8) -> &'static str {
+    if version < RAW_VERSION {
+        "\"start\""
+    } else {
+        "\"start\" or \"write 0 00\""
+    }
 }
 
 /// That a step was refused, and what to do.

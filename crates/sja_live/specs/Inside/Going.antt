@@ -2,6 +2,7 @@
 use Rattle.std.specs.Prelude.{◌≡◌, ◌⊎◌, ◌++◌, Option, Some, None, Result, Ok, Err, List, []}
 use Rattle.std.specs.Io.KnownBytes.{Appends}
 use Rattle.sja_driver.specs.Deeds.{Deed}
+use Rattle.sja_driver_session.specs.declared.driver_session.DriverSession.{DriverSession}
 use Rattle.sja_live.specs.Calls.{IsLiveAt}
 use Rattle.sja_live.specs.Ending.{IsLastLog}
 use Rattle.sja_live.specs.Lines.{first_line, behind_line, IsReadable}
@@ -13,7 +14,6 @@ use Rattle.sja_live.specs.declared.opening_fault.OpeningFault.{OpeningFault}
 use Rattle.sja_log.specs.Log.{RunValue}
 use Rattle.sja_plan.specs.Words.{Text}
 use Rattle.sja_report.specs.ReportLines.{report_text}
-use Rattle.sja_session.specs.RawSessions.{RawValue}
 
 -- ---- the first line
 
@@ -32,13 +32,13 @@ FirstSays None left said = Unit {0}
 -- ---- each further one
 
 -- the session answers a line so, or the line is its end
-abbrev pub IsAnswerOf : RawValue → RawValue → List (List Deed) → Text → Option LiveAnswer → Type 0
+abbrev pub IsAnswerOf : DriverSession → DriverSession → List (List Deed) → Text → Option LiveAnswer → Type 0
 IsAnswerOf was now deeds line (Some answer) =
     (after : List (List Deed)) × Replies was now deeds line answer after × IsLiveAt now after
 IsAnswerOf was now deeds line None = (now ≡ was) × EndsTalk was line
 
 -- the next line of the input is answered so; or it ends the talk, or there is none. What stands behind it is left
-abbrev pub IsNext : Text → Text → RawValue → RawValue → List (List Deed) → Option LiveAnswer → Type 0
+abbrev pub IsNext : Text → Text → DriverSession → DriverSession → List (List Deed) → Option LiveAnswer → Type 0
 IsNext input left was now deeds (Some answer) =
     ¬ (input ≡ []) × IsAnswerOf was now deeds (first_line input) (Some answer) × (left ≡ behind_line input)
 IsNext input left was now deeds None =
@@ -46,7 +46,7 @@ IsNext input left was now deeds None =
 
 -- where the bytes are known
 abbrev pub IsNextAnswer :
-    Option Text → Option Text → RawValue → RawValue → List (List Deed) → Option LiveAnswer → Type 0
+    Option Text → Option Text → DriverSession → DriverSession → List (List Deed) → Option LiveAnswer → Type 0
 IsNextAnswer (Some input) (Some left) was now deeds next = IsNext input left was now deeds next
 IsNextAnswer (Some input) None was now deeds next = ⊥
 IsNextAnswer None left was now deeds next = Unit {0}
@@ -54,14 +54,14 @@ IsNextAnswer None left was now deeds next = Unit {0}
 -- ---- the end
 
 -- the report of the session's log was written
-abbrev pub AppendsReport : Option Text → Option Text → RawValue → List (List Deed) → Type 0
+abbrev pub AppendsReport : Option Text → Option Text → DriverSession → List (List Deed) → Type 0
 AppendsReport old new session deeds =
     (log : RunValue) × IsLastLog session deeds log × Appends old new (report_text log)
 
 -- ---- on the way
 
 -- a session was opened, lines were answered, and it stands where they led; the writer has their answers more
-abbrev pub Goes : Option Text → Option Text → Option Text → Option Text → RawValue → Type 0
+abbrev pub Goes : Option Text → Option Text → Option Text → Option Text → DriverSession → Type 0
 Goes None rest old new s = Unit {0}
 Goes (Some input) rest None new s = Unit {0}
 Goes (Some input) None (Some old) new s = ⊥

@@ -1,6 +1,6 @@
 -- What a driver in a thread of its own has set, through a try of a step.
 use Rattle.std.proofs.Common.{◌≡◌, ◌++◌, ℕ, Bool, true, false, List, [], ◌∷◌, length, refl, sym, ap, ◌∙◌, subst}
-use Rattle.std.proofs.Common.{append-nil}
+use Rattle.std.proofs.Common.{append-nil, append_assoc}
 use Rattle.can_frame.specs.declared.seen.Seen.{Seen}
 use Rattle.sja_link.specs.declared.driver_end.DriverEnd.{Ghosts as Ends}
 use Rattle.sja_link.specs.DriverLedgers.{held_by, knows_bus_off}
@@ -19,8 +19,10 @@ use Rattle.sja_driver.specs.Deeds.{Deed, is_active}
 use Rattle.sja_driver.specs.Logs.{deeds_by}
 use Rattle.sja_driver.specs.Tries.{Tried, is_met}
 use Rattle.sja_driver.specs.Tries.Tried.{Unmet, Answered, Released, Ended}
-use Rattle.sja_threads.specs.Setting.{LeadToSettings}
+use Rattle.sja_threads.specs.Accessing.{LeadOn}
+use Rattle.sja_threads.specs.Setting.{LeadToSettings, IsDoneAt}
 use Rattle.sja_threads.specs.Setting.LeadToSettings.{step_done}
+use Rattle.sja_threads.specs.Accessing.LeadOn.{nothing_more, one_more}
 
 -- some registers with these settings
 abbrev pub registers_with : SettingsValue → Registers
@@ -66,15 +68,13 @@ module _ {E : Type 0} (e : Ends E) (a b : E) (p q : Registers) (which : Step) (w
   -- what was set before a try leads to what is set after it, by the deed that it was
   pub leads_try : (o : Tried) → (is_met o ≡ true → set_now ≡ settings_in q) → (is_met o ≡ false → set_now ≡ set) →
       Acts e.same e.stands e.dry e.full a b p q which was now o → (before : List Deed) →
-      is_active before ≡ is_out was → (first : SettingsValue) → LeadToSettings first before set →
-      LeadToSettings first (before ++ deeds_by p which o bits) set_now
-  leads_try Unmet met unmet acts before out first l =
-      subst (λ (s : SettingsValue). LeadToSettings first (before ++ []) s) (sym (unmet refl))
-      (subst (λ (x : List Deed). LeadToSettings first x set) (sym (append-nil before)) l)
-  leads_try (Answered answer) met unmet acts before out first l =
-      subst (λ (s : SettingsValue). LeadToSettings first (before ++ deeds_by p which (Answered answer) bits) s)
+      is_active (before ++ []) ≡ is_out was → LeadOn before set (deeds_by p which o bits) set_now
+  leads_try Unmet met unmet acts before out =
+      subst (λ (s : SettingsValue). LeadOn before set [] s) (sym (unmet refl)) nothing_more
+  leads_try (Answered answer) met unmet acts before out =
+      subst (λ (s : SettingsValue). LeadOn before set (deeds_by p which (Answered answer) bits) s)
       (sym (met refl ∙ ap settings_in acts.port))
-      (step_done before _ set p l has (record {
+      (one_more [] _ set p nothing_more has (record {
         window = held_of now;
         off = off_of now;
         tells = subst (λ (b : Bool). Tells which b p (seen_of (off_of now) (held_of now)) answer) (sym out)
@@ -83,29 +83,51 @@ module _ {E : Type 0} (e : Ends E) (a b : E) (p q : Registers) (which : Step) (w
         gave = refl;
         bits = none;
       }))
-  leads_try (Released m) met unmet acts before out first l =
-      subst (λ (s : SettingsValue). LeadToSettings first (before ++ deeds_by p which (Released m) bits) s)
+  leads_try (Released m) met unmet acts before out =
+      subst (λ (s : SettingsValue). LeadOn before set (deeds_by p which (Released m) bits) s)
       (sym (met refl ∙ ap settings_in acts.port))
-      (step_done before _ set p l has (record {
+      (one_more [] _ set p nothing_more has (record {
         window = m ∷ held_of now;
         off = off_of now;
-        tells = subst (λ (s : Step). Tells s (is_active before) p (seen_of (off_of now) (m ∷ held_of now))
+        tells = subst (λ (s : Step). Tells s (is_active (before ++ [])) p (seen_of (off_of now) (m ∷ held_of now))
             (ReleasedAnswer (length m))) (sym acts.kind) tt;
         sees = λ active. if_out was (Sees which (off_of now) (m ∷ held_of now) (ReleasedAnswer (length m))) acts.sees
             (sym out ∙ active);
         gave = refl;
         bits = none;
       }))
-  leads_try (Ended ledger) met unmet acts before out first l =
-      subst (λ (s : SettingsValue). LeadToSettings first (before ++ deeds_by p which (Ended ledger) bits) s)
+  leads_try (Ended ledger) met unmet acts before out =
+      subst (λ (s : SettingsValue). LeadOn before set (deeds_by p which (Ended ledger) bits) s)
       (sym (met refl ∙ ap settings_in acts.port))
-      (step_done before _ set p l has (record {
+      (one_more [] _ set p nothing_more has (record {
         window = held_by ledger;
         off = knows_bus_off ledger;
-        tells = subst (λ (s : Step). Tells s (is_active before) p (seen_of (knows_bus_off ledger) (held_by ledger))
-            DoneAnswer) (sym acts.kind) tt;
+        tells = subst (λ (s : Step). Tells s (is_active (before ++ [])) p (seen_of (knows_bus_off ledger)
+            (held_by ledger)) DoneAnswer) (sym acts.kind) tt;
         sees = λ active. if_out was (Sees which (knows_bus_off ledger) (held_by ledger) DoneAnswer) acts.sees
             (sym out ∙ active);
         gave = refl;
         bits = none;
       }))
+
+-- ---- one after the other
+
+-- more deeds, and then others
+pub lead_more : (before xs : List Deed) (from mid : SettingsValue) (ys : List Deed) (last : SettingsValue) →
+    LeadOn before from xs mid → LeadOn (before ++ xs) mid ys last → LeadOn before from (xs ++ ys) last
+lead_more before xs from mid ys last l nothing_more =
+    subst (λ (z : List Deed). LeadOn before from z mid) (sym (append-nil xs)) l
+lead_more before xs from mid ys last l (one_more deeds d s p q has done) =
+    subst (λ (z : List Deed). LeadOn before from z last) (append_assoc xs deeds (d ∷ []))
+    (one_more (xs ++ deeds) d s p (lead_more before xs from mid deeds s l q) has
+    (subst (λ (z : List Deed). IsDoneAt (is_active z) p d) (append_assoc before xs deeds) done))
+
+-- from the first deeds on
+pub lead_all : (first : SettingsValue) (before : List Deed) (mid : SettingsValue) (ys : List Deed)
+    (last : SettingsValue) → LeadToSettings first before mid → LeadOn before mid ys last →
+    LeadToSettings first (before ++ ys) last
+lead_all first before mid ys last l nothing_more =
+    subst (λ (z : List Deed). LeadToSettings first z mid) (sym (append-nil before)) l
+lead_all first before mid ys last l (one_more deeds d s p q has done) =
+    subst (λ (z : List Deed). LeadToSettings first z last) (append_assoc before deeds (d ∷ []))
+    (step_done (before ++ deeds) d s p (lead_all first before mid deeds s l q) has done)

@@ -9,18 +9,18 @@ use Rattle.sja_regs.specs.declared.registers.Registers.{Registers}
 use Rattle.sja_regs.specs.DriverSettings.{SettingsValue, settings_in, HasSettings}
 use Rattle.sja_script.specs.declared.step.Step.{Step}
 use Rattle.sja_driver.specs.declared.work_log.WorkLog.{WorkLog}
-use Rattle.sja_driver.specs.Deeds.{Deed}
+use Rattle.sja_driver.specs.Deeds.{Deed, done_of, is_active}
 use Rattle.sja_driver.specs.Holding.{HoldsBy, Goes}
 use Rattle.sja_driver.specs.LoggedDrivers.{driver_of, log_of, StaysLawful, Steps}
-use Rattle.sja_driver.specs.Logs.{HasRoom, Traces, deeds_by}
+use Rattle.sja_driver.specs.Logs.{HasRoom, Traces, deeds_by, done_by, done_in}
 use Rattle.sja_driver.specs.Tries.{Tried, is_met, port_after}
 use Rattle.sja_driver.specs.Tries.Tried.{Unmet, Answered, Released, Ended}
 use Rattle.sja_driver.proofs.Step.Modes.{version_step}
 use Rattle.sja_script.specs.declared.step_answer.StepAnswer.TheVariants.{Done as DoneAnswer, Released as ReleasedAnswer}
 use Rattle.sja_threads.specs.declared.driver_thread.DriverThread.{DriverThread}
-use Rattle.sja_threads.specs.Setting.{LeadToSettings}
+use Rattle.sja_threads.specs.Accessing.LeadOn.{nothing_more}
 use Rattle.sja_threads.specs.Inside.Steps.{MayWork, DoesSteps, step_if}
-use Rattle.sja_threads.proofs.Driver.Settings.{leads_try}
+use Rattle.sja_threads.proofs.Driver.Settings.{leads_try, lead_more}
 
 -- one of these
 any_of : {A : Type 0} (xs : List A) → 64 ≤ length xs → A
@@ -48,6 +48,14 @@ steps_of p which (Answered answer) bits = refl
 steps_of p which (Released m) bits = refl
 steps_of p which (Ended ledger) bits = refl
 
+-- what a log has more after it
+done_of_try : (p : Registers) (which : Step) (o : Tried) (bits : ℕ) →
+    done_by o bits ≡ map done_of (deeds_by p which o bits)
+done_of_try p which Unmet bits = refl
+done_of_try p which (Answered answer) bits = refl
+done_of_try p which (Released m) bits = refl
+done_of_try p which (Ended ledger) bits = refl
+
 module _ {E : Type 0} (e : Ends E) where
   -- where fewer are asked for
   pub may_less : (t : DriverThread E) (k n : ℕ) → k ≤ n → MayWork e.link t n → MayWork e.link t k
@@ -55,7 +63,7 @@ module _ {E : Type 0} (e : Ends E) where
       record { lawful = m.lawful; room = room_less k n (log_of t.driver) less m.room; enough = m.enough; ids = m.ids }
 
   -- no step was done
-  pub does_none : ((x : E) → e.same x x) → (t : DriverThread E) → DoesSteps e t t []
+  unfoldable pub does_none : ((x : E) → e.same x x) → (t : DriverThread E) → DoesSteps e t t []
   does_none r t = record {
     deeds = [];
     are = refl;
@@ -68,8 +76,8 @@ module _ {E : Type 0} (e : Ends E) where
           subst (λ (x : List Deed). HoldsBy e.stands x (driver_of t.driver) (log_of t.driver) j t.links.items 0)
           (sym (append-nil deeds)) h;
     };
-    leads = λ first before w l.
-        subst (λ (x : List Deed). LeadToSettings first x t.set) (sym (append-nil before)) l;
+    leads = λ before w. nothing_more;
+    logged = sym (append-nil (done_in (log_of t.driver)));
     sames = each_refl e.same r t.links.items;
     node = refl;
     able = λ n m. may_less t n (0 + n) (omega arith) m;
@@ -78,13 +86,13 @@ module _ {E : Type 0} (e : Ends E) where
   module _ (trans : (a b c : E) → e.same a b → e.same b c → e.same a c) (a b c : DriverThread E) (steps : List Step)
       (p : DoesSteps e a b steps) where
     -- the later steps, in the version before the first ones
-    in_first : (more : List Step) (q : DoesSteps e b c more) → Goes e.stands a.set.version (driver_of b.driver)
+    pub in_first : (more : List Step) (q : DoesSteps e b c more) → Goes e.stands a.set.version (driver_of b.driver)
         (driver_of c.driver) (log_of b.driver) (log_of c.driver) b.links.items c.links.items 0 q.deeds
     in_first more q = subst (λ (n : ℕ). Goes e.stands n (driver_of b.driver) (driver_of c.driver) (log_of b.driver)
         (log_of c.driver) b.links.items c.links.items 0 q.deeds) p.version q.goes
 
     -- steps, and then more
-    does_more : (more : List Step) → DoesSteps e b c more → DoesSteps e a c (steps ++ more)
+    unfoldable pub does_more : (more : List Step) → DoesSteps e b c more → DoesSteps e a c (steps ++ more)
     does_more more q = let later = in_first more q in record {
       deeds = p.deeds ++ q.deeds;
       are = map-append (λ (d : Deed). d.step) p.deeds q.deeds
@@ -100,10 +108,13 @@ module _ {E : Type 0} (e : Ends E) where
             (append_assoc deeds p.deeds q.deeds)
             (later.holds (deeds ++ p.deeds) j (p.goes.traces deeds w) (p.goes.holds deeds j w h));
       };
-      leads = λ first before w l.
-          subst (λ (d : List Deed). LeadToSettings first d c.set) (append_assoc before p.deeds q.deeds)
-          (q.leads first (before ++ p.deeds) (subst (λ (n : ℕ). Traces n (driver_of b.driver) (log_of b.driver)
-          (before ++ p.deeds)) (sym p.version) (p.goes.traces before w)) (p.leads first before w l));
+      leads = λ before w.
+          lead_more before p.deeds a.set b.set q.deeds c.set (p.leads before w)
+          (q.leads (before ++ p.deeds) (subst (λ (n : ℕ). Traces n (driver_of b.driver) (log_of b.driver)
+          (before ++ p.deeds)) (sym p.version) (p.goes.traces before w)));
+      logged = q.logged ∙ ap (λ l. l ++ map done_of q.deeds) p.logged
+          ∙ append_assoc (done_in (log_of a.driver)) (map done_of p.deeds) (map done_of q.deeds)
+          ∙ ap (λ l. done_in (log_of a.driver) ++ l) (sym (map-append done_of p.deeds q.deeds));
       sames = each_trans e.same trans a.links.items b.links.items c.links.items p.sames q.sames;
       node = q.node ∙ p.node;
       able = λ n m.
@@ -135,10 +146,12 @@ module _ {E : Type 0} (e : Ends E) where
     version = version_is done refl;
     goes = subst (λ (n : ℕ). Goes e.stands n (driver_of a.driver) (driver_of b.driver) (log_of a.driver)
         (log_of b.driver) a.links.items b.links.items 0 (deeds_by p which steps.tried 0)) has.version steps.goes;
-    leads = λ first before w.
+    leads = λ before w.
         let end = any_of a.links.items enough in
         leads_try e _ _ p q which (driver_of a.driver) (driver_of b.driver) 0 a.set b.set refl has steps.tried
-        (λ k. met (steps.met ∙ k)) (λ k. unmet (steps.met ∙ k)) (steps.acts end end) before w.out first;
+        (λ k. met (steps.met ∙ k)) (λ k. unmet (steps.met ∙ k)) (steps.acts end end) before
+        (ap is_active (append-nil before) ∙ w.out);
+    logged = steps.logged ∙ ap (λ l. done_in (log_of a.driver) ++ l) (done_of_try p which steps.tried 0);
     sames = stays.same;
     node = stays.node;
     able = λ n may. record {

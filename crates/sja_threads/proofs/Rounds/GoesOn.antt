@@ -1,5 +1,5 @@
 -- The bus of a run in threads goes on from one round to the next.
-use Rattle.std.proofs.Common.{◌≡◌, ℕ, ◌+◌, ◌<◌, ◌≤◌, false, true, List, length, refl, sym, ap, ◌∙◌, subst, arith, inr}
+use Rattle.std.proofs.Common.{◌≡◌, ℕ, ◌+◌, ◌<◌, ◌≤◌, false, true, List, length, refl, sym, ap, ◌∙◌, subst, arith}
 use Rattle.std.specs.Prelude.{None, Result, Ok, Err, OnOk}
 use Rattle.std.proofs.lemmas.Slice.Zip.{AllZip-long}
 use Rattle.sja_link.specs.declared.entry.Entry.{Entry}
@@ -21,7 +21,7 @@ use Rattle.sja_wire.specs.OneBit.{MayHaveItems}
 use Rattle.sja_wire.specs.Wire.{journal_at}
 use Rattle.sja_threads.specs.declared.bus_thread.BusThread.{BusThread}
 use Rattle.sja_threads.specs.Needed.{IsBitDue, AllDue, AllAtRest}
-use Rattle.sja_threads.specs.Inside.Rounds.{TakesWithin, StayDue, IsUnderWay, GoesOn}
+use Rattle.sja_threads.specs.Inside.Rounds.{TakesWithin, IsUnderWay, GoesOn}
 use Rattle.sja_threads.proofs.Rounds.StaysDue.{AllGrow, due_stays, due_kept, due_more, due_now}
 use Rattle.sja_threads.proofs.Rounds.TakesWithin.{within_items, items_grow, within_bit, bit_grows}
 
@@ -59,7 +59,6 @@ module _ (was now : BusThread) (lent after : List RingBus) (these : lent ≡ was
       way = record {
         right = right;
         script = script ∙ w.script;
-        steps = room ∙ w.steps;
         all_bits = all;
         journals = nodes ∙ w.journals;
         count = AllZip-long SameBus was.links.items now.links.items sames ∙ w.count;
@@ -70,6 +69,7 @@ module _ (was now : BusThread) (lent after : List RingBus) (these : lent ≡ was
         run = run;
         spent = spent;
       };
+      steps = room;
       sames = sames;
     }
 
@@ -129,12 +129,13 @@ gathered was now lent after these those script room nodes sames bits same_run sa
 
 -- nothing was done
 pub stays_on : (plan : PlanValue) (t : BusThread) → IsUnderWay plan t → GoesOn plan t t
-stays_on plan t w = record { way = w; sames = each_refl SameBus bus_refl t.links.items }
+stays_on plan t w = record { way = w; steps = refl; sames = each_refl SameBus bus_refl t.links.items }
 
 -- it went on twice
 pub on_twice : (plan : PlanValue) (a b c : BusThread) → GoesOn plan a b → GoesOn plan b c → GoesOn plan a c
 on_twice plan a b c p q = record {
   way = q.way;
+  steps = q.steps ∙ p.steps;
   sames = each_trans SameBus bus_trans a.links.items b.links.items c.links.items p.sames q.sames;
 }
 
@@ -154,7 +155,6 @@ spent_now plan t w many laws busy =
       way = record {
         right = w.right;
         script = w.script;
-        steps = w.steps;
         all_bits = w.all_bits;
         journals = w.journals;
         count = w.count;
@@ -168,6 +168,7 @@ spent_now plan t w many laws busy =
           due_now plan.bits t.bus.journals busy.0 busy.1 (laws.wired.count busy.0 busy.1 ∙ same ∙ last) busy.2,
         );
       };
+      steps = refl;
       sames = each_refl SameBus bus_refl t.links.items;
     }
 

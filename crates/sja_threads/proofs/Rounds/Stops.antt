@@ -1,12 +1,12 @@
 -- Why the bus of a run in threads stops.
-use Rattle.std.proofs.Common.{◌≡◌, ◌≢◌, ℕ, ◌+◌, ◌*◌, ◌<◌, List, length, sym, ap, ◌∙◌, subst, arith, inl, inr}
+use Rattle.std.proofs.Common.{◌≡◌, ◌≢◌, ℕ, ◌+◌, ◌*◌, ◌<◌, List, refl, sym, ◌∙◌, subst, arith, inl, inr}
 use Rattle.std.specs.Prelude.{◌⊎◌, None, Result, Ok, Err, IfErr}
 use Rattle.sja_link.specs.declared.entry.Entry.{Entry}
 use Rattle.sja_link.specs.Lists.{Lists}
 use Rattle.sja_regs.specs.declared.orders.Orders.{Orders}
 use Rattle.sja_rings.specs.declared.ring_bus.RingBus.{RingBus}
 use Rattle.sja_rings.specs.Ends.{BusLists}
-use Rattle.sja_plan.specs.Plan.{PlanValue, step_counts}
+use Rattle.sja_plan.specs.Plan.{PlanValue}
 use Rattle.sja_wire.specs.declared.bus_fault.BusFault.{BusFault}
 use Rattle.sja_wire.specs.declared.bus_fault.BusFault.TheVariants.{BitsSpent, JournalFull}
 use Rattle.sja_bus.specs.Buses.{BusValue}
@@ -16,7 +16,7 @@ use Rattle.sja_bus.specs.Reasons.StopsBit.{spent, not_taken, not_aborted, broken
 use Rattle.sja_wire.specs.Links.{per_node}
 use Rattle.sja_wire.specs.Wire.{journal_at}
 use Rattle.sja_threads.specs.declared.bus_thread.BusThread.{BusThread}
-use Rattle.sja_threads.specs.Stopping.{HasNoPlace, any_orders, StopsFor}
+use Rattle.sja_threads.specs.Stopping.{HasNoPlace, any_orders, StopsWith}
 use Rattle.sja_threads.specs.Inside.Rounds.{IsUnderWay}
 
 -- an item that wasn't taken is no want of bits
@@ -45,15 +45,16 @@ bit_not_spent stands full orders_are before now links after f some (broken_off n
 
 module _ (plan : PlanValue) (t : BusThread) (now : BusValue) (links after : List RingBus) (f : BusFault)
     (w : IsUnderWay plan t) (laws : IsBusRun t.bus.script t.bus.run t.bus.journals) where
-  stops_for : IsTakenAndRefused BusLists plan.bits (step_counts plan) t.bus.journals now.journals links after f
-      ⊎ StopsBit BusLists HasNoPlace any_orders t.bus now links after f → f ≢ BitsSpent → StopsFor plan f
+  stops_for : IsTakenAndRefused BusLists plan.bits t.bus.steps t.bus.journals now.journals links after f
+      ⊎ StopsBit BusLists HasNoPlace any_orders t.bus now links after f → f ≢ BitsSpent →
+      StopsWith t.bus.steps plan f
   stops_for why unspent = record {
     was = t.bus;
     now = now;
     links = links;
     after = after;
     script = w.script;
-    steps = w.steps;
+    steps = refl;
     bits = w.all_bits;
     nodes = w.journals;
     right = w.right;
@@ -64,16 +65,15 @@ module _ (plan : PlanValue) (t : BusThread) (now : BusValue) (links after : List
 
   -- an item wasn't taken
   pub stops_taking : IsTakenAndRefused BusLists (t.bus.run + t.bus.left) t.bus.steps t.bus.journals now.journals links
-      after f → StopsFor plan f
+      after f → StopsWith t.bus.steps plan f
   stops_taking n = stops_for
-      (inl (subst (λ (steps : List ℕ). IsTakenAndRefused BusLists plan.bits steps t.bus.journals now.journals links
-      after f) w.steps
-      (subst (λ (bits : ℕ). IsTakenAndRefused BusLists bits t.bus.steps t.bus.journals now.journals links after f)
-      w.all_bits n)))
+      (inl (subst (λ (bits : ℕ). IsTakenAndRefused BusLists bits t.bus.steps t.bus.journals now.journals links after f)
+      w.all_bits n))
       (taken_not_spent BusLists (t.bus.run + t.bus.left) t.bus.steps t.bus.journals now.journals links after f n)
 
   -- a bit didn't come to its end, where bits were left
-  pub stops_bit : t.run < plan.bits → StopsBit BusLists HasNoPlace any_orders t.bus now links after f → StopsFor plan f
+  pub stops_bit : t.run < plan.bits → StopsBit BusLists HasNoPlace any_orders t.bus now links after f →
+      StopsWith t.bus.steps plan f
   stops_bit less b = stops_for (inr b)
       (bit_not_spent BusLists HasNoPlace any_orders t.bus now links after f
       (λ none. let all = w.all_bits in let run = w.run in omega (arith, all, none, run, less)) b)
@@ -83,7 +83,7 @@ pub stops_gather : (t : BusThread) (now : BusValue) (links after : List RingBus)
     (t.bus.fault ≡ None → IsBusRun t.bus.script t.bus.run t.bus.journals) →
     IfErr r (λ f. t.bus.fault ≡ None →
     IsTakenAndRefused BusLists (t.bus.run + t.bus.left) t.bus.steps t.bus.journals now.journals links after f) →
-    IfErr r (λ f. (plan : PlanValue) → IsUnderWay plan t → StopsFor plan f)
+    IfErr r (λ f. (plan : PlanValue) → IsUnderWay plan t → StopsWith t.bus.steps plan f)
 stops_gather t now links after (Ok a) laws why = tt
 stops_gather t now links after (Err f) laws why = λ plan w.
     stops_taking plan t now links after f w (laws w.right) (why w.right)

@@ -7,9 +7,8 @@ use Rattle.sja_link.specs.declared.entry.Entry.{Entry}
 use Rattle.sja_link.specs.Accounts.{account}
 use Rattle.sja_link.specs.Carried.{taken_of}
 use Rattle.sja_link.specs.Parts.{part}
-use Rattle.sja_rings.specs.declared.ring_bus.RingBus.{RingBus}
 use Rattle.sja_rings.specs.Ends.{BusLists}
-use Rattle.sja_plan.specs.Plan.{PlanValue, step_counts}
+use Rattle.sja_plan.specs.Plan.{PlanValue}
 use Rattle.sja_bus.specs.Buses.{BusValue, new_bus}
 use Rattle.sja_wire.specs.Wire.{journal_at}
 use Rattle.sja_log.proofs.NodeLog.NodeEnds.{any_of}
@@ -24,14 +23,13 @@ nothing_at (suc nodes) zero = refl
 nothing_at (suc nodes) (suc node) = nothing_at nodes node
 
 pub begins : {G : Type 0} (plan : PlanValue) (t : BusThread) (starts : List (ThreadStart G)) →
-    t.bus ≡ new_bus plan.strikes plan.bits (length plan.nodes) (step_counts plan) → length t.links.items ≡ 64 * length
-    plan.nodes →
+    (counts : List ℕ) → t.bus ≡ new_bus plan.strikes plan.bits (length plan.nodes) counts →
+    length t.links.items ≡ 64 * length plan.nodes →
     t.run ≡ 0 → t.spent ≡ false → length starts ≡ length plan.nodes →
     AreMade plan (length plan.nodes) starts t.links.items → IsUnderWay plan t
-begins {G} plan t starts is count run spent many made = record {
+begins {G} plan t starts counts is count run spent many made = record {
   right = ap (λ (b : BusValue). b.fault) is;
   script = ap (λ (b : BusValue). b.script) is;
-  steps = ap (λ (b : BusValue). b.steps) is;
   all_bits = let run = none_run in let left = ap (λ (b : BusValue). b.left) is in omega (arith, run, left);
   journals = ap (λ (b : BusValue). length b.journals) is ∙ length-replicate (length plan.nodes) [];
   count = count;

@@ -1,21 +1,28 @@
 -- What the drivers' threads begin with, and what they hand back.
 use Rattle.std.proofs.Common.{◌≡◌, ℕ, suc, ◌+◌, ◌<◌, Bool, List, [], ◌∷◌, ◌++◌, length, sym, ap, ◌∙◌, subst}
-use Rattle.std.proofs.Common.{arith}
+use Rattle.std.proofs.Common.{Option, Some, None, Vec, Global, false, refl, arith}
 use Rattle.std.specs.Prelude.{All, slice_index_or}
 use Rattle.sja_link.specs.declared.link_id.LinkId.{LinkId}
 use Rattle.lemmas.specs.Related.{EachRelated}
 use Rattle.sja_rings.specs.declared.ring_bus.RingBus.{RingBus}
 use Rattle.sja_rings.specs.declared.ring_driver.RingDriver.{RingDriver}
-use Rattle.sja_rings.specs.Ends.{link_of_driver}
+use Rattle.sja_rings.specs.Ends.{DriverLists, SameDriver, link_of_driver}
+use Rattle.sja_regs.specs.DriverSettings.{settings_in}
+use Rattle.sja_regs.specs.Registers.{at_power_on}
+use Rattle.sja_script.specs.declared.done.Done.{Done}
 use Rattle.sja_plan.specs.Plan.{PlanValue, steps_at}
 use Rattle.sja_driver.specs.Holding.{NumberedFrom}
-use Rattle.sja_driver.specs.Logs.{HasRoom}
+use Rattle.sja_driver.specs.LoggedDrivers.{log_of}
+use Rattle.sja_driver.specs.Logs.{HasRoom, done_in}
 use Rattle.sja_threads.specs.declared.thread_start.ThreadStart.{ThreadStart}
 use Rattle.sja_threads.specs.declared.thread_promise.ThreadPromise.{ThreadPromise}
 use Rattle.sja_threads.specs.declared.worked.Worked.{Worked}
 use Rattle.sja_threads.specs.Inside.Making.{IsMade, AreMade}
 use Rattle.sja_threads.specs.Inside.Promised.{IsFor, IsPromised}
-use Rattle.sja_threads.specs.Inside.Started.{IsThreadStart, HandsBack, Serves}
+use Rattle.sja_threads.specs.AccessRuns.{room_for}
+use Rattle.sja_threads.specs.Inside.Started.{IsThreadStart, HandsBack, HasAnswerRoom, Serves, is_raw}
+use Rattle.sja_threads.specs.Inside.Started.{IsOfScript, IsWorkedBy}
+use Rattle.sja_threads.specs.Working.{HasWorked}
 
 -- one more of each of two lists that are related place by place
 pub each_push : {A B : Type 0} (R : A → B → Type 0) (xs : List A) (ys : List B) (x : A) (y : B) → EachRelated R xs ys →
@@ -38,7 +45,9 @@ module _ {G : Type 0} (plan : PlanValue) where
   start_of node s buses few m = record {
     few = subst (λ (n : ℕ). n < length plan.nodes) (sym m.own) few;
     empty = m.empty;
-    room = subst (λ (n : ℕ). HasRoom (length (steps_at plan n)) s.log) (sym m.own) m.room;
+    room = subst (λ (n : ℕ). HasRoom (room_for (is_raw s.accesses) (length (steps_at plan n))) s.log) (sym m.own)
+        m.room;
+    answers = subst (λ (n : ℕ). HasAnswerRoom s.accesses (length (steps_at plan n))) (sym m.own) m.answers;
     enough = m.enough;
     ids = subst (λ (n : ℕ). NumberedFrom link_of_driver s.links.items 0 n) (sym m.own) numbered;
   }
@@ -65,14 +74,41 @@ module _ {G : Type 0} (plan : PlanValue) where
       subst (λ (l : List (ThreadStart G)). All (IsThreadStart plan) l) is starts in
       λ k d less. those (suc k) d (omega (arith, less))
 
+module _ {G : Type 0} (quits : Bool) (plan : PlanValue) (s : ThreadStart G) (w : Worked RingDriver) where
+  -- what a driver hands back that did the steps of the plan
+  pub serves_typed : s.accesses ≡ None → EachRelated SameDriver s.links.items w.links.items →
+      HasWorked DriverLists (settings_in (at_power_on plan.version)) s.node (steps_at plan s.node) s.links.items w →
+      (quits ≡ false → length (done_in (log_of w.driver)) ≡ length (steps_at plan s.node)) → Serves quits plan s w
+  serves_typed none sames worked done = record {
+    sames = sames;
+    typed = steps_at plan s.node;
+    worked = worked;
+    script = subst (λ (o : Option (Vec Done Global)). IsOfScript (is_raw o) quits (settings_in (at_power_on
+        plan.version)) (steps_at plan s.node) (steps_at plan s.node) worked.deeds w) (sym none) (refl, done);
+  }
+
+  -- or what it hands back that knows addresses and bytes alone
+  pub serves_raw : (answers : Vec Done Global) → s.accesses ≡ Some answers →
+      EachRelated SameDriver s.links.items w.links.items →
+      IsWorkedBy DriverLists quits (settings_in (at_power_on plan.version)) s.node (steps_at plan s.node) s.links.items
+      w → Serves quits plan s w
+  serves_raw answers some sames h = record {
+    sames = sames;
+    typed = h.typed;
+    worked = h.worked;
+    script = subst (λ (o : Option (Vec Done Global)). IsOfScript (is_raw o) quits (settings_in (at_power_on
+        plan.version)) (steps_at plan s.node) h.typed h.worked.deeds w) (sym some) (h.all, h.accessed);
+  }
+
 module _ {G : Type 0} (quits : Bool) (plan : PlanValue) where
   -- a promise that was kept is what the thread that began so hands back
   kept_is : (s : ThreadStart G) (p : ThreadPromise G) (w : Worked RingDriver) → IsFor plan s p →
       IsPromised quits p w → Serves quits plan s w
   kept_is s p w f k =
-      subst (λ (l : List RingDriver). HandsBack quits plan s.node l w) f.same_links
-      (subst (λ (n : ℕ). HandsBack quits plan n p.links.value.items w) f.same_node
-      (subst (λ (v : PlanValue). HandsBack quits v p.node p.links.value.items w) f.same_plan k))
+      subst (λ (b : Bool). HandsBack quits b plan s.node s.links.items w) f.same_raw
+      (subst (λ (l : List RingDriver). HandsBack quits p.raw plan s.node l w) f.same_links
+      (subst (λ (n : ℕ). HandsBack quits p.raw plan n p.links.value.items w) f.same_node
+      (subst (λ (v : PlanValue). HandsBack quits p.raw v p.node p.links.value.items w) f.same_plan k)))
 
   pub all_kept : (starts : List (ThreadStart G)) (ps : List (ThreadPromise G)) (ws : List (Worked RingDriver)) →
       EachRelated (IsFor plan) starts ps → EachRelated (IsPromised quits) ps ws →

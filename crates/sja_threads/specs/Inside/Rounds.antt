@@ -6,7 +6,7 @@ use Rattle.sja_link.specs.Parts.{part}
 use Rattle.sja_link.specs.Carried.{taken_of}
 use Rattle.lemmas.specs.Related.{EachRelated}
 use Rattle.sja_rings.specs.Ends.{BusLists, SameBus, link_of_bus}
-use Rattle.sja_plan.specs.Plan.{PlanValue, step_counts}
+use Rattle.sja_plan.specs.Plan.{PlanValue}
 use Rattle.sja_wire.specs.Links.{Kept, Numbered}
 use Rattle.sja_wire.specs.Wire.{journal_at}
 use Rattle.sja_log.specs.declared.end.End.{End}
@@ -21,13 +21,12 @@ TakesWithin j = (a : ℕ) → (a ≡ 0) ⊎ (64 < a) → taken_of (part j a) ≡
 abbrev pub StayDue : List (List Entry) → List (List Entry) → Type 0
 StayDue before after = (bits : ℕ) → IsBitDue bits before → IsBitDue bits after
 
--- the bus of a run of this plan without a fault, which has room for its steps, and its ends of all links, 64 of each
+-- the bus of a run of this plan without a fault, and its ends of all links, 64 of each
 -- node, which stand for the parts of the journals, whatever the drivers got and gave; each bit so far was due, and
 -- where the bits are spent one more was
 pub record IsUnderWay (plan : PlanValue) (t : BusThread) : Type 0 where
   pub right : t.bus.fault ≡ None
   pub script : t.bus.script ≡ plan.strikes
-  pub steps : t.bus.steps ≡ step_counts plan
   pub all_bits : t.bus.run + t.bus.left ≡ plan.bits
   pub journals : length t.bus.journals ≡ length plan.nodes
   pub count : length t.links.items ≡ 64 * length plan.nodes
@@ -39,9 +38,10 @@ pub record IsUnderWay (plan : PlanValue) (t : BusThread) : Type 0 where
   pub run : t.bus.run ≡ t.run
   pub spent : t.spent ≡ true → (t.run ≡ plan.bits) × IsBitDue plan.bits t.bus.journals
 
--- it went on with the same ends
+-- it went on with the same ends, and with room for as many steps
 pub record GoesOn (plan : PlanValue) (was now : BusThread) : Type 0 where
   pub way : IsUnderWay plan now
+  pub steps : now.bus.steps ≡ was.bus.steps
   pub sames : EachRelated SameBus was.links.items now.links.items
 
 -- it went on to the end of the run, which is this one

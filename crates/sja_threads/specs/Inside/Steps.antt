@@ -3,15 +3,14 @@ use Rattle.std.specs.Prelude.{◌≡◌, ◌≤◌, ◌+◌, ◌++◌, ℕ, Bool
 use Rattle.sja_link.specs.declared.driver_end.DriverEnd.{Ghosts as Ends}
 use Rattle.sja_link.specs.declared.link_id.LinkId.{LinkId}
 use Rattle.lemmas.specs.Related.{EachRelated}
-use Rattle.sja_regs.specs.DriverSettings.{SettingsValue}
 use Rattle.sja_script.specs.declared.step.Step.{Step}
 use Rattle.sja_driver.specs.AnyDrivers.{is_out}
-use Rattle.sja_driver.specs.Deeds.{Deed}
+use Rattle.sja_driver.specs.Deeds.{Deed, done_of}
 use Rattle.sja_driver.specs.Holding.{Goes, NumberedFrom}
 use Rattle.sja_driver.specs.LoggedDrivers.{node_of, driver_of, log_of, IsLawful}
-use Rattle.sja_driver.specs.Logs.{HasRoom, IsEmpty, Traces}
+use Rattle.sja_driver.specs.Logs.{HasRoom, IsEmpty, Traces, done_in}
 use Rattle.sja_threads.specs.declared.driver_thread.DriverThread.{DriverThread}
-use Rattle.sja_threads.specs.Setting.{LeadToSettings}
+use Rattle.sja_threads.specs.Accessing.{LeadOn}
 
 -- the step, if it is done
 abbrev pub step_if : Bool → Step → List Step
@@ -41,9 +40,9 @@ pub record DoesSteps {E : Type 0} (e : Ends E) (was now : DriverThread E) (steps
   pub version : now.set.version ≡ was.set.version
   pub goes : Goes e.stands was.set.version (driver_of was.driver) (driver_of now.driver) (log_of was.driver)
       (log_of now.driver) was.links.items now.links.items 0 deeds
-  pub leads : (first : SettingsValue) (before : List Deed) →
-      Traces was.set.version (driver_of was.driver) (log_of was.driver) before →
-      LeadToSettings first before was.set → LeadToSettings first (before ++ deeds) now.set
+  pub leads : (before : List Deed) → Traces was.set.version (driver_of was.driver) (log_of was.driver) before →
+      LeadOn before was.set deeds now.set
+  pub logged : done_in (log_of now.driver) ≡ done_in (log_of was.driver) ++ map done_of deeds
   pub sames : EachRelated e.same was.links.items now.links.items
   pub node : node_of now.driver ≡ node_of was.driver
   pub able : (n : ℕ) → MayWork e.link was (length steps + n) → MayWork e.link now n

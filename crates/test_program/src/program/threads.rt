@@ -63,6 +63,43 @@ fn three_report(alloc: Global) -> Result<String, Fail> {
     with_steps(alloc, "node 0 tec 0 rec 0 steps 10\n", 10, &tail)
 }
 
+/// In version 3 drivers read and write any address, in either mode: BTR0 is kept in reset mode, a write of MOD leaves
+/// that, and one of CMR sends what was written, or releases it. RBSA moves on by the three bytes of a message.
+const BY_BYTES: &str = "version = 3
+bits = 200
+turns = ['node 0 6', 'node 1 1', 'rest', 'node 0 3', 'node 1 7']
+[[node]]
+steps = ['write 6 14', 'write 0 00', 'write 16 00', 'write 17 00', 'write 18 00', 'write 1 01', 'sent', 'write 6 ff',
+    'read 6']
+[[node]]
+steps = ['write 0 00', 'await 1', 'read 29', 'read 18', 'read 200', 'write 1 04', 'read 29', 'read 30']
+";
+
+/// Its report after the end of its first line.
+const BY_BYTES_REPORT: &str = "node 0 tec 0 rec 0 steps 9
+step 1 ok
+step 2 ok
+step 3 ok
+step 4 ok
+step 5 ok
+step 6 ok
+step 7 ok
+step 8 ok
+step 9 14
+activation 1 stored 0 overrun 0 free 64
+node 1 tec 0 rec 0 steps 8
+step 1 ok
+step 2 ok
+step 3 01
+step 4 00
+step 5 00
+step 6 ok
+step 7 00
+step 8 03
+activation 1 stored 1 overrun 0 free 64
+released 00 00 00
+";
+
 /// A node that nobody acknowledges sends until the bits are spent.
 const ALONE: &str = "version = 1
 bits = 1000
@@ -140,6 +177,20 @@ fn a_plan_without_a_race_has_the_report_of_one_thread(rt: HostRuntime) -> Result
     let threads = str::from_utf8(&threads)?.strip_prefix("sja version 1 bits 160 end rest\n");
     let report = three_report(rt.alloc())?;
     assert!(rt; serial == Some(report.as_str()));
+    assert!(rt; threads == serial);
+    Ok(())
+}
+
+/// No access of a plan of version 3 is refused, in threads either.
+#[test]
+fn drivers_of_addresses_and_bytes_have_the_report_of_one_thread(
+    rt: HostRuntime,
+) -> Result<(), Fail> {
+    let serial = printed(&rt, rt.alloc(), &["sja", "run"], BY_BYTES)?;
+    let threads = printed(&rt, rt.alloc(), &["sja", "run", "--threads"], BY_BYTES)?;
+    let serial = str::from_utf8(&serial)?.strip_prefix("sja version 3 bits 64 end turns\n");
+    let threads = str::from_utf8(&threads)?.strip_prefix("sja version 3 bits 64 end rest\n");
+    assert!(rt; serial == Some(BY_BYTES_REPORT));
     assert!(rt; threads == serial);
     Ok(())
 }

@@ -1,18 +1,19 @@
 use Rattle.std.proofs.Common.{◌≡◌, ℕ, List, subst, arith}
 use Rattle.sja_driver.specs.Deeds.{Deed}
-use Rattle.sja_session.specs.RawSessions.{RawValue, IsWriteFault}
-use Rattle.sja_session.specs.Sessions.{IsAt}
+use Rattle.sja_driver_session.specs.DriverSessions.{StandsIn}
+use Rattle.sja_driver_session.specs.Steps.{IsWriteFaultIn}
+use Rattle.sja_driver_session.specs.declared.driver_session.DriverSession.{DriverSession}
 use Rattle.sja_session.specs.declared.step_fault.StepFault.{StepFault}
 use Rattle.sja_session.specs.declared.step_fault.StepFault.TheVariants.{NoNode, StepsUsed, TurnsUsed}
 use Rattle.sja_calls.proofs.accesses.write_by.Goals as goal
 
 -- why a write of a session isn't done
-abbrev Fails : RawValue → ℕ → ℕ → ℕ → StepFault → Type 0
+abbrev Fails : DriverSession → ℕ → ℕ → ℕ → StepFault → Type 0
 Fails r node address value fault =
-    (deeds : List (List Deed)) → IsAt r.session deeds → IsWriteFault r node address value deeds fault
+    (deeds : List (List Deed)) → StandsIn r deeds → IsWriteFaultIn r node address value deeds fault
 
 -- the same, by equal numbers
-same : (r : RawValue) (node node' address address' value value' : ℕ) (fault fault' : StepFault) → node ≡ node' →
+same : (r : DriverSession) (node node' address address' value value' : ℕ) (fault fault' : StepFault) → node ≡ node' →
     address ≡ address' → value ≡ value' → fault ≡ fault' → Fails r node address value fault →
     Fails r node' address' value' fault'
 same r node node' address address' value value' fault fault' nodes addresses values faults fails =

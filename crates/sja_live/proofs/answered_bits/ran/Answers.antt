@@ -7,21 +7,21 @@ pub returns-in-Some : goal.returns-in-Some
 returns-in-Some c =
     let watched = c.in-Ok.watched in
     told_rose c.args.session.now c.watch.new.self c.lines.new.session c.args.count watched.bits c.in-Some.field-0
-    c.lines.result _ watched.rose c.in-Ok.ensures.may c.in-Ok.ensures.watches refl c.in-Some.is c.watch.ensures.still
-    c.lines.ensures.lines c.lines.ensures.still
+    c.lines.result _ watched.rose c.in-Ok.ensures.may c.in-Ok.ensures.watches refl c.in-Some.is c.lines.ensures.lines
+    c.lines.ensures.still
 
 -- none did
 pub returns-in-None : goal.returns-in-None
 returns-in-None c =
     let watched = c.in-Ok.watched in
     told_spent c.args.session.now c.watch.new.self c.args.count watched.bits _ watched.rose c.in-Ok.ensures.may
-    c.in-Ok.ensures.watches refl c.in-None.is c.watch.ensures.still c.if-watched-count.true
+    c.in-Ok.ensures.watches refl c.in-None.is c.if-watched-count.true
 
 pub returns-in-None-2 : goal.returns-in-None-2
 returns-in-None-2 c =
     let watched = c.in-Ok.watched in
     told_ran c.args.session.now c.watch.new.self c.args.count watched.bits _ watched.rose c.in-Ok.ensures.may
-    c.in-Ok.ensures.watches refl c.in-None.is c.watch.ensures.still c.if-watched-count.false
+    c.in-Ok.ensures.watches refl c.in-None.is c.if-watched-count.false
 
 -- no turn is left
 pub returns-in-Err : goal.returns-in-Err

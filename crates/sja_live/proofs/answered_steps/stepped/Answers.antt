@@ -14,7 +14,7 @@ pub returns-in-Ok-Waits : goal.returns-in-Ok-Waits
 returns-in-Ok-Waits c =
     let was : c.step.result ≡ Ok HasToWait = cc in
     told_wait c.args.session.now c.step.new.self c.args.node c.args.step c.in-Ok-Waits.ensures.may
-    (c.step.ensures.waits was) (c.step.ensures.still was)
+    (c.step.ensures.waits was)
 
 pub returns-in-Err : goal.returns-in-Err
 returns-in-Err c =

@@ -1,5 +1,5 @@
 use Rattle.std.proofs.Common.{arith}
-use Rattle.sja_live.specs.Calls.{line_now}
+use Rattle.sja_driver_session.specs.Bits.{line_in}
 use Rattle.sja_live.proofs.InterruptLines.{one_more, all_told, more_few, few_of, still_more, told_of}
 use Rattle.sja_live.proofs.Told.{still_live}
 use Rattle.sja_session.proofs.QuietBits.{nodes_same}
@@ -15,7 +15,7 @@ loop-place-preserved c =
       still = λ deeds at. let s = inv.still deeds at in
           still_more _ _ _ deeds s (c.line_of-line.ensures.still deeds (still_live _ _ deeds at s));
       value = λ deeds at. let s = inv.still deeds at in let same = nodes_same at.at s.0.at in
-          one_more (line_now c.args.session.now deeds) _ _ _ _ _ less
+          one_more (line_in c.args.session.now deeds) _ _ _ _ _ less
           (told_of _ _ deeds _ _ s
           (c.line_of-line.ensures.line deeds (still_live _ _ deeds at s)
           (let n = inv.nodes in omega (arith, n, same, less))))
@@ -28,5 +28,5 @@ loop-place-preserved c =
 pub returns-clause-lines : goal.returns-clause-lines
 returns-clause-lines c = λ deeds at.
     let inv = c.loop-place.invariant in
-    all_told (line_now c.args.session.now deeds) _ _ _ _ c.loop-place-test.false c.loop-place.auto.place-end inv.nodes
+    all_told (line_in c.args.session.now deeds) _ _ _ _ c.loop-place-test.false c.loop-place.auto.place-end inv.nodes
     (inv.value deeds at)

@@ -1,6 +1,9 @@
-use Rattle.std.proofs.Common.{rules, ◌≡◌, length, map, vec_len, arith}
+use Rattle.std.proofs.Common.{rules, ◌≡◌, ℕ, List, length, map, vec_len, refl, ap, subst, arith}
 use Rattle.std.proofs.lemmas.List.{length-map}
 use Rattle.std.proofs.lemmas.Slice.Zip.{AllZip-long}
+use Rattle.sja_bus.specs.Buses.{BusValue}
+use Rattle.sja_threads.specs.AccessRuns.{rooms}
+use Rattle.sja_threads.specs.Stopping.{StopsWith}
 use Rattle.sja_threads.specs.Inside.Promised.{IsFor}
 use Rattle.sja_threads.proofs.End.ThreadedRun.{ending}
 use Rattle.sja_threads.proofs.Start.Begins.{begins}
@@ -17,7 +20,8 @@ pub rounds_beside_drivers-requires-clause-way : goal.rounds_beside_drivers-requi
 rounds_beside_drivers-requires-clause-way g c =
     let parts = c.args.parts in
     let r = c.requires.parts in
-    begins c.args.plan.now parts.bus parts.starts.items r.bus r.links r.run r.spent r.starts r.made
+    begins c.args.plan.now parts.bus parts.starts.items (rooms parts.raw c.args.plan.now) r.bus r.links r.run r.spent
+    r.starts r.made
 
 pub join_all-requires-clause-room : goal.join_all-requires-clause-room
 join_all-requires-clause-room g c =
@@ -34,8 +38,15 @@ join_all-requires-clause-room g c =
 pub returns-in-Ok-clause-ending : goal.returns-in-Ok-clause-ending
 returns-in-Ok-clause-ending g c =
     let plan = c.args.plan.now in
-    let starts = c.args.parts.starts.items in
+    let parts = c.args.parts in
+    let starts = parts.starts.items in
     let r = c.requires.parts in
-    ending g.G.Gate.QUITS plan starts c.args.parts.bus _ r.starts r.links r.made c.in-Ok.ensures.on
+    ending g.G.Gate.QUITS parts.raw plan starts parts.bus c.rounds_beside_drivers.new.self c.join_all.result.items _
+    refl refl refl r.starts r.links r.made r.alike c.in-Ok.ensures.on (ap (λ (b : BusValue). b.steps) r.bus)
     (all_kept g.G.Gate.QUITS plan starts (map (λ child. child.promise) c.in_ok-children.children.items)
     c.join_all.result.items c.in_ok-children.ensures.all c.join_all.ensures)
+
+pub returns-in-Err-clause-fault : goal.returns-in-Err-clause-fault
+returns-in-Err-clause-fault g c =
+    subst (λ (steps : List ℕ). StopsWith steps c.args.plan.now c.in-Err.stop)
+    (ap (λ (b : BusValue). b.steps) c.requires.parts.bus) c.in-Err.ensures.fault

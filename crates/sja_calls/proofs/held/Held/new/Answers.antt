@@ -2,9 +2,10 @@ use Rattle.std.proofs.Common.{◌≡◌, ℕ, subst, arith}
 use Rattle.sja_calls.specs.Beginnings.{IsNewOf}
 use Rattle.sja_calls.proofs.held.Held.new.Goals as goal
 
-pub returns-in-Ok-begun-clause-new : goal.returns-in-Ok-begun-clause-new
-returns-in-Ok-begun-clause-new c =
-    let new = c.in-Ok-begun.ensures.new in let few = new.may.2.1 in
+pub returns-in-Ok-new-clause-new : goal.returns-in-Ok-new-clause-new
+returns-in-Ok-new-clause-new c =
+    let may = c.in-Ok-new.ensures.limits in let few = may.2.1 in
     let count : c.byte_of.result ≡ c.args.nodes = c.byte_of.ensures.below (omega (arith, few)) in
-    subst (λ (n : ℕ). IsNewOf c.in-Ok-begun.session c.args.version c.args.bits n) count
-    (subst (λ (v : ℕ). IsNewOf c.in-Ok-begun.session v c.args.bits c.byte_of.result) c.in-Ok.ensures.1 new)
+    subst (λ (n : ℕ). IsNewOf c.in-Ok-new.session c.args.version c.args.bits n) count
+    (subst (λ (v : ℕ). IsNewOf c.in-Ok-new.session v c.args.bits c.byte_of.result) c.in-Ok.ensures.1
+    (may, c.in-Ok-new.ensures.new))

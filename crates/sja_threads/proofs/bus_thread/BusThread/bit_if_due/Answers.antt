@@ -2,7 +2,7 @@ use Rattle.std.proofs.Common.{rules, ◌≡◌, Err, refl, arith}
 use Rattle.std.specs.Vec.{with_items}
 use Rattle.std.proofs.lemmas.List.{with_items_is}
 use Rattle.lemmas.proofs.Results.{err_is}
-use Rattle.sja_threads.specs.Stopping.{StopsFor}
+use Rattle.sja_threads.specs.Stopping.{StopsWith}
 use Rattle.sja_threads.proofs.Rounds.GoesOn.{after_bit, stays_on, spent_now, all_rest}
 use Rattle.sja_threads.proofs.Rounds.Stops.{stops_bit}
 use Rattle.sja_threads.proofs.bus_thread.BusThread.bit_if_due.Goals as goal
@@ -37,6 +37,6 @@ returns-in_err-bit-clause-fault g c =
     let w = c.requires.way in
     let f = c.in_err-bit.field-0.0 in
     let is : c.from_residual.result ≡ Err f = search rules in
-    err_is (StopsFor c.args.plan.now) c.from_residual.result f is
+    err_is (StopsWith c.args.self.now.bus.steps c.args.plan.now) c.from_residual.result f is
     (stops_bit c.args.plan.now c.args.self.now c.bit.new.self c.as_mut_slice.result.now c.bit.new.links f w
     (c.at_rest.ensures.lawful w.right) (search rules) (c.in_err-bit.ensures.reason w.right))

@@ -1,6 +1,6 @@
-use Rattle.std.proofs.Common.{rules, ◌≡◌, Err}
+use Rattle.std.proofs.Common.{rules, ◌≡◌, ℕ, List, Err, IfErr, subst}
 use Rattle.lemmas.proofs.Results.{err_is}
-use Rattle.sja_threads.specs.Stopping.{StopsFor}
+use Rattle.sja_threads.specs.Stopping.{StopsWith}
 use Rattle.sja_threads.proofs.Rounds.GoesOn.{on_then}
 use Rattle.sja_threads.proofs.bus_thread.BusThread.round_beside.Goals as goal
 
@@ -8,7 +8,7 @@ pub returns-in_err-gather-clause-fault : goal.returns-in_err-gather-clause-fault
 returns-in_err-gather-clause-fault g c =
     let f = c.in_err-gather.field-0.0 in
     let is : c.from_residual.result ≡ Err f = search rules in
-    err_is (StopsFor c.args.plan.now) c.from_residual.result f is
+    err_is (StopsWith c.args.self.now.bus.steps c.args.plan.now) c.from_residual.result f is
     (c.in_err-gather.ensures.fault c.args.plan.now c.requires.way)
 
 pub returns-then-not-all_begun-clause-on : goal.returns-then-not-all_begun-clause-on
@@ -21,3 +21,8 @@ pub returns-clause-on : goal.returns-clause-on
 returns-clause-on g c =
     on_then c.args.plan.now c.args.self.now c.gather.new.self c.bit_if_due.new.self
     (c.in_ok-gather.ensures.on c.args.plan.now c.requires.way) c.bit_if_due.result c.bit_if_due.ensures.on
+
+pub returns-clause-fault : goal.returns-clause-fault
+returns-clause-fault g c =
+    subst (λ (steps : List ℕ). IfErr c.bit_if_due.result (StopsWith steps c.args.plan.now))
+    (c.in_ok-gather.ensures.on c.args.plan.now c.requires.way).steps c.bit_if_due.ensures.fault

@@ -1,7 +1,7 @@
-use Rattle.std.proofs.Common.{rules, ◌≡◌, Ok, Err, refl, ap, ◌∙◌, arith, inl, inr}
+use Rattle.std.proofs.Common.{rules, ◌≡◌, ℕ, List, Ok, Err, refl, ap, ◌∙◌, subst, arith, inl, inr}
 use Rattle.lemmas.proofs.Results.{err_is}
 use Rattle.sja_threads.specs.declared.round.Round.{Round}
-use Rattle.sja_threads.specs.Stopping.{StopsFor}
+use Rattle.sja_threads.specs.Stopping.{StopsWith}
 use Rattle.sja_threads.specs.Inside.Rounds.{GoesOn}
 use Rattle.sja_threads.proofs.Rounds.GoesOn.{stays_on, on_twice}
 use Rattle.sja_threads.proofs.bus_thread.BusThread.rounds_after_drivers.Given.{Over}
@@ -34,8 +34,17 @@ pub returns-in_err-gather-clause-fault : goal.returns-in_err-gather-clause-fault
 returns-in_err-gather-clause-fault g c =
     let f = c.in_err-gather.field-0.0 in
     let is : c.from_residual.result ≡ Err f = search rules in
-    err_is (StopsFor c.args.plan.now) c.from_residual.result f is
-    (c.in_err-gather.ensures.fault c.args.plan.now c.loop.invariant.on.way)
+    err_is (StopsWith c.args.self.now.bus.steps c.args.plan.now) c.from_residual.result f is
+    (subst (λ (steps : List ℕ). StopsWith steps c.args.plan.now f) c.loop.invariant.on.steps
+    (c.in_err-gather.ensures.fault c.args.plan.now c.loop.invariant.on.way))
+
+pub returns-in_err-bit_if_due-clause-fault : goal.returns-in_err-bit_if_due-clause-fault
+returns-in_err-bit_if_due-clause-fault g c =
+    let f = c.in_err-bit_if_due.field-0.0 in
+    let is : c.from_residual-in_err-bit_if_due.result ≡ Err f = search rules in
+    let took = taken g (goal.at.returns-in_err-bit_if_due-clause-fault g c).In_ok-gather in
+    err_is (StopsWith c.args.self.now.bus.steps c.args.plan.now) c.from_residual-in_err-bit_if_due.result f is
+    (subst (λ (steps : List ℕ). StopsWith steps c.args.plan.now f) took.steps c.in_err-bit_if_due.ensures.fault)
 
 pub bit_if_due-requires-clause-way : goal.bit_if_due-requires-clause-way
 bit_if_due-requires-clause-way g c = (taken g (goal.at.bit_if_due-requires-clause-way g c).In_ok-gather).way

@@ -1,4 +1,6 @@
-use Rattle.std.proofs.Common.{rules, arith}
+use Rattle.std.proofs.Common.{rules, ◌≡◌, ℕ, List, Err, subst, arith}
+use Rattle.lemmas.proofs.Results.{err_is}
+use Rattle.sja_threads.specs.Stopping.{StopsWith}
 use Rattle.sja_threads.specs.Inside.Rounds.{GoesOn}
 use Rattle.sja_threads.proofs.Rounds.GoesOn.{stays_on, on_twice}
 use Rattle.sja_threads.proofs.bus_thread.BusThread.rounds_beside_drivers.Given.{Over}
@@ -29,3 +31,11 @@ loop-preserved g c = record {
   on = one_more g (goal.at.loop-preserved g c).In_ok-round;
   ports = let was = c.loop.invariant.ports in let same = c.round_beside.ensures.ports in omega (arith, was, same);
 }
+
+pub returns-in_err-round-clause-fault : goal.returns-in_err-round-clause-fault
+returns-in_err-round-clause-fault g c =
+    let f = c.in_err-round.field-0.0 in
+    let is : c.from_residual.result ≡ Err f = search rules in
+    err_is (StopsWith c.args.self.now.bus.steps c.args.plan.now) c.from_residual.result f is
+    (subst (λ (steps : List ℕ). StopsWith steps c.args.plan.now f) c.loop.invariant.on.steps
+    c.in_err-round.ensures.fault)

@@ -1,0 +1,5 @@
+pub mod DriverSessions
+pub mod Steps
+pub mod Bits
+pub mod Beginning
+pub mod Ending

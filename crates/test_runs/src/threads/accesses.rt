@@ -1,0 +1,289 @@
+//! Whole runs in threads whose drivers know addresses and bytes alone.
+
+use super::gates::{HoldsOnce, Patience};
+use super::given::{are_answers, open_gates};
+use sja_log::{End, RunFault};
+use sja_plan::read_plan;
+use sja_raw_threads::{run_plan_threads, run_raw_threads};
+use sja_script::{Refusal, StepAnswer};
+use sja_threads::{EndedRun, Gate, run_accesses};
+use std::alloc::Global;
+use std::sync::Wait;
+use std::test::Fail;
+use std::thread::Threads;
+
+/// Node 0 writes its registers, its transmit buffer and the request of a frame of two bytes, awaits TI, and enters
+/// reset mode; node 1 awaits RI, reads the frame, and releases it.
+const PASSING: &str = "version = 3
+bits = 2000
+[[node]]
+steps = [
+    \"write 4 02\", \"write 0 00\", \"read 0\",
+    \"write 16 02\", \"write 17 24\", \"write 18 60\", \"write 19 11\", \"write 20 22\", \"write 1 01\",
+    \"interrupt\", \"read 3\", \"read 3\", \"write 0 01\", \"read 0\",
+]
+[[node]]
+steps = [
+    \"write 4 01\", \"write 0 00\", \"interrupt\", \"read 3\", \"read 29\",
+    \"read 16\", \"read 17\", \"read 18\", \"read 19\", \"read 20\", \"read 21\",
+    \"write 1 04\", \"read 29\", \"read 30\", \"read 3\",
+]
+";
+
+/// Bytes of registers that have no effect on the bus, and writes that do nothing: of a register that is only read, of
+/// CMR in reset mode, and of BTR0 out of it.
+const KEPT: &str = "version = 3
+bits = 100
+[[node]]
+steps = [
+    \"write 6 03\", \"write 7 1c\", \"write 8 1a\", \"write 31 c8\", \"write 2 ff\", \"write 1 01\",
+    \"read 6\", \"read 7\", \"read 8\", \"read 31\", \"read 2\",
+    \"write 0 00\", \"write 6 ff\", \"read 6\",
+]
+";
+
+/// Reset mode is left with LOM, then entered, and left with STM: a write of MOD is one to two typed steps.
+const MODES: &str = "version = 3
+bits = 100
+[[node]]
+steps = [\"write 0 02\", \"read 0\", \"write 0 04\", \"write 0 01\", \"read 0\", \"write 0 04\", \"read 0\"]
+";
+
+/// What an address reads as after power-on, in reset mode (SJA1000 data sheet, 6.4.2).
+fn at_power_on(address: usize) -> u8 {
+    match address {
+        0 => 0x01,
+        2 => 0x3c,
+        13 => 0x60,
+        20..=23 => 0xff,
+        31 => 0x80,
+        _ => 0,
+    }
+}
+
+/// The run of a plan.
+fn run<G: Gate, R: Threads + Wait + Sync>(
+    rt: &R,
+    alloc: Global,
+    text: &str,
+    gates: Vec<G>,
+) -> Result<EndedRun, Fail> {
+    let plan = read_plan(alloc, text.as_bytes())?;
+    match run_accesses(rt, alloc, &plan, gates) {
+        Ok(ended) => Ok(ended),
+        Err(_) => Err("no run")?,
+    }
+}
+
+/// Fails where these aren't the answers of this node's steps, or there were as many typed steps.
+fn answers(
+    ended: &EndedRun,
+    node: usize,
+    expected: &[StepAnswer],
+    typed: usize,
+) -> Result<(), Fail> {
+    let Some(done) = ended.accesses.get(node) else {
+        return Err("no such node")?;
+    };
+    are_answers(done.as_slice(), expected)?;
+    match ended.log.nodes().get(node) {
+        Some(run) if run.done().len() == typed => Ok(()),
+        _ => Err("another number of typed steps")?,
+    }
+}
+
+/// The answer of a write, or of a wait that passed.
+const DONE: StepAnswer = StepAnswer::Done;
+
+/// The answer of a read.
+fn value(byte: u8) -> StepAnswer {
+    StepAnswer::Value(byte)
+}
+
+/// What the driver that sends is answered.
+fn sent() -> [StepAnswer; 14] {
+    [
+        DONE,
+        DONE,
+        value(0),
+        DONE,
+        DONE,
+        DONE,
+        DONE,
+        DONE,
+        DONE,
+        DONE,
+        value(2),
+        value(0),
+        DONE,
+        value(1),
+    ]
+}
+
+/// What the driver that receives is answered.
+fn received() -> [StepAnswer; 15] {
+    [
+        DONE,
+        DONE,
+        DONE,
+        value(1),
+        value(1),
+        value(0x02),
+        value(0x24),
+        value(0x60),
+        value(0x11),
+        value(0x22),
+        value(0),
+        DONE,
+        value(0),
+        value(5),
+        value(0),
+    ]
+}
+
+#[test]
+fn a_frame_is_sent_and_read_by_bytes(rt: HostRuntime) -> Result<(), Fail> {
+    let gates = open_gates(rt.alloc(), 2)?;
+    let ended = run(&rt, rt.alloc(), PASSING, gates)?;
+    assert!(rt; ended.log.end() == End::Rest);
+    answers(&ended, 0, &sent(), 14)?;
+    answers(&ended, 1, &received(), 15)?;
+    Ok(())
+}
+
+#[test]
+fn kept_registers_are_read_back(rt: HostRuntime) -> Result<(), Fail> {
+    let gates = open_gates(rt.alloc(), 1)?;
+    let ended = run(&rt, rt.alloc(), KEPT, gates)?;
+    let expected = [
+        DONE,
+        DONE,
+        DONE,
+        DONE,
+        DONE,
+        DONE,
+        value(0x03),
+        value(0x1c),
+        value(0x1a),
+        value(0xc8),
+        value(0x3c),
+        DONE,
+        DONE,
+        value(0x03),
+    ];
+    answers(&ended, 0, &expected, 13)?;
+    Ok(())
+}
+
+/// Each gate holds each step once.
+#[test]
+fn a_write_of_the_mode_is_up_to_two_steps(rt: HostRuntime) -> Result<(), Fail> {
+    let mut gates = Vec::new(rt.alloc());
+    gates.push(HoldsOnce { last: 7 })?;
+    let ended = run(&rt, rt.alloc(), MODES, gates)?;
+    let expected = [DONE, value(2), DONE, DONE, value(3), DONE, value(4)];
+    answers(&ended, 0, &expected, 9)?;
+    Ok(())
+}
+
+#[test]
+fn each_address_reads_as_something(rt: HostRuntime) -> Result<(), Fail> {
+    let mut text = String::from_str(rt.alloc(), "version = 3\nbits = 10\n[[node]]\nsteps = [")?;
+    for address in 0..256 {
+        text.push_str(format!(in rt.alloc(); "\"read {address}\",")?.as_str())?;
+    }
+    text.push_str("]\n")?;
+    let gates = open_gates(rt.alloc(), 1)?;
+    let ended = run(&rt, rt.alloc(), text.as_str(), gates)?;
+    let Some(done) = ended.accesses.get(0) else {
+        return Err("no node")?;
+    };
+    assert!(rt; done.len() == 256);
+    for address in 0..done.len() {
+        assert!(rt;
+            done[address].answer == value(at_power_on(address)),
+            "address {address}"
+        );
+    }
+    Ok(())
+}
+
+/// It quits before the second try of the wait that is the third step.
+#[test]
+fn a_gate_that_quits_ends_the_script(rt: HostRuntime) -> Result<(), Fail> {
+    let mut gates = Vec::new(rt.alloc());
+    gates.push(Patience { tries: 2 })?;
+    gates.push(Patience { tries: 2 })?;
+    let text = "version = 3
+bits = 500
+[[node]]
+steps = [\"write 0 00\", \"read 0\", \"interrupt\", \"read 3\"]
+[[node]]
+steps = []
+";
+    let ended = run(&rt, rt.alloc(), text, gates)?;
+    answers(&ended, 0, &[DONE, value(0)], 2)?;
+    answers(&ended, 1, &[], 0)?;
+    Ok(())
+}
+
+#[test]
+fn there_is_a_gate_for_each_node(rt: HostRuntime) -> Result<(), Fail> {
+    let plan = read_plan(rt.alloc(), PASSING.as_bytes())?;
+    for count in [0, 1, 3] {
+        let gates = open_gates(rt.alloc(), count)?;
+        let run = run_accesses(&rt, rt.alloc(), &plan, gates);
+        assert!(rt; matches!(&run, Err(RunFault::GateCount)), "{count} gates");
+    }
+    Ok(())
+}
+
+/// The log has one answer for each step of the plan, and all else is that of the typed steps, which are fewer here.
+#[test]
+fn the_log_has_the_steps_of_the_plan(rt: HostRuntime) -> Result<(), Fail> {
+    let plan = read_plan(rt.alloc(), KEPT.as_bytes())?;
+    let typed = run(&rt, rt.alloc(), KEPT, open_gates(rt.alloc(), 1)?)?;
+    let Ok(log) = run_raw_threads(&rt, rt.alloc(), &plan, open_gates(rt.alloc(), 1)?) else {
+        return Err("no run")?;
+    };
+    assert!(rt; log.end() == typed.log.end());
+    assert!(rt; log.bits() == typed.log.bits());
+    let Some(node) = log.nodes().get(0) else {
+        return Err("no node")?;
+    };
+    assert!(rt; node.done().len() == 14);
+    are_answers(
+        node.done().get(6..11).unwrap_or(&[]),
+        &[
+            value(0x03),
+            value(0x1c),
+            value(0x1a),
+            value(0xc8),
+            value(0x3c),
+        ],
+    )
+}
+
+/// A read of BTR0 is refused by the typed driver, and by a driver of addresses and bytes it isn't.
+#[test]
+fn the_version_says_which_drivers_there_are(rt: HostRuntime) -> Result<(), Fail> {
+    for version in 1..4 {
+        let text = format!(in rt.alloc();
+            "version = {version}\nbits = 10\n[[node]]\nsteps = [\"read 6\"]\n"
+        )?;
+        let plan = read_plan(rt.alloc(), text.as_bytes())?;
+        let Ok(log) = run_plan_threads(&rt, rt.alloc(), &plan, open_gates(rt.alloc(), 1)?) else {
+            return Err("no run")?;
+        };
+        let expected = if version == 3 {
+            value(0)
+        } else {
+            StepAnswer::Refused(Refusal::NoRegister)
+        };
+        let Some(node) = log.nodes().get(0) else {
+            return Err("no node")?;
+        };
+        are_answers(node.done(), &[expected])?;
+    }
+    Ok(())
+}
