@@ -35,6 +35,7 @@ impl PlanSession {
     /// Errors, the first that holds, and nothing changed: [`StepFault::NoNode`] where there is no such node;
     /// [`StepFault::StepsUsed`] where there is room for no more of its steps; [`StepFault::TurnsUsed`] where there is
     /// room for no more turns, and the last one isn't of this node.
+    #[inline(always)]
     pub fn step(&mut self, node: u8, step: Step) -> Result<Answered, StepFault>
         ensures done { (answer : AnswerOfStep) → result ≡ Ok (Answer answer) → (deeds : List (List Deed)) →
             IsAt self.old.raw.session deeds →
@@ -93,6 +94,7 @@ impl PlanSession {
 
 /// Does a step of a node, up to three typed steps of which may be done, and writes nothing down. A read gives its
 /// value, a write is done, and each other step is the typed driver's.
+#[inline(always)]
 fn access(raw: &mut RawSession, node: u8, step: &Step) -> Answered
     requires stands { (deeds : List (List Deed)) × IsAt raw.old.session deeds }
     requires may { MayDo raw.old.session node 3 }
@@ -144,6 +146,7 @@ fn typed(raw: &mut RawSession, node: u8, step: &Step) -> Answered
 }
 
 /// The value that a read answered.
+#[inline(always)]
 fn value_in(answered: &Answered) -> u8
     requires { (value : ℕ) × (answered.now ≡ Answer (Value value)) }
     ensures { answered.now ≡ Answer (Value result) }

@@ -24,6 +24,7 @@ pub(crate) fn copied_step(step: &Step) -> Step
 }
 
 /// An equal answer.
+#[inline(always)]
 pub(crate) fn copied_answer(answer: &StepAnswer) -> StepAnswer
     ensures { result ≡ answer.now }
 {

@@ -16,6 +16,7 @@ impl PlanSession {
     /// Whether a step of this node may be tried.
     ///
     /// Errors: as [`step`](PlanSession::step) tells them.
+    #[inline(always)]
     pub(crate) fn may_step(&self, node: u8) -> Result<(), StepFault>
         ensures ok { OnOk result (MayStep self.now node) }
         ensures err { IfErr result (IsStepFault self.now node) }
@@ -57,6 +58,7 @@ impl PlanSession {
     }
 
     /// How many steps of a node are written, each with what it answered.
+    #[inline(always)]
     pub(crate) fn count(&self, node: usize) -> usize
         requires { node < node_count self.now }
         ensures steps { result ≡ length (steps_of self.now node) }
@@ -66,6 +68,7 @@ impl PlanSession {
     }
 
     /// Whether a turn is left for this one, or it goes on with the last one.
+    #[inline(always)]
     fn has_turn(&self, turn: Turn) -> bool
         ensures yes { result ≡ true → HasTurn self.now turn }
         ensures no { result ≡ false → LacksTurn self.now turn }

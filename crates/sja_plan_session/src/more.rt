@@ -6,6 +6,7 @@ ghost use Rattle.sja_plan_session.specs.Writing.{with_more};
 use sja_script::{Done, Step};
 
 /// Adds a step to those of a node, for which there is room.
+#[inline(always)]
 pub(crate) fn push_step(lists: &mut Vec<Vec<Step>>, node: usize, step: Step)
     requires there { node < length lists.old.items }
     requires room { length (slice_index_or (map (λ steps. steps.items) lists.old.items) node [])
@@ -19,6 +20,7 @@ pub(crate) fn push_step(lists: &mut Vec<Vec<Step>>, node: usize, step: Step)
 }
 
 /// Adds what a step answered to the answers of a node, for which there is room.
+#[inline(always)]
 pub(crate) fn push_done(lists: &mut Vec<Vec<Done>>, node: usize, done: Done)
     requires there { node < length lists.old.items }
     requires room { length (slice_index_or (map (λ done. done.items) lists.old.items) node [])

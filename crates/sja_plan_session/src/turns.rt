@@ -8,6 +8,7 @@ ghost use Rattle.sja_session.specs.Turning.{goes_on, enlarged, size_of, with_tur
 use sja_plan::Turn;
 
 /// Takes one turn more. It goes on with the last one where both are of one node, or both of the bus.
+#[inline(always)]
 pub(crate) fn push_turn(turns: &mut Vec<Turn>, turn: Turn)
     requires room { vec_len turns.old < vec_capacity turns.old }
     requires fits { FitsLast turns.old.items turn }

@@ -5,6 +5,7 @@ use Rattle.sja_regs.specs.declared.registers.Registers.{Registers}
 use Rattle.sja_regs.specs.Commands.{command_of}
 use Rattle.sja_regs.specs.Modes.{mode_of}
 use Rattle.sja_regs.specs.Registers.{is_forced}
+use Rattle.sja_regs.specs.Writing.{is_other_mode}
 use Rattle.sja_script.specs.declared.step.Step.{Step}
 use Rattle.sja_script.specs.declared.step.Step.TheVariants.{Write}
 use Rattle.sja_raw.specs.ModeWrites.{is_written, mode_steps}
@@ -21,3 +22,13 @@ write_steps p out address value =
 -- or a bus-off is asked for
 abbrev pub is_typed_write : Registers → ℕ → ℕ → Bool
 is_typed_write p address value = not (address == 1) && (not (address == 0) || is_written p (mode_of value))
+
+-- a write of MOD that enters reset mode, and is a stop alone
+abbrev pub is_stop : Registers → ℕ → Bool
+is_stop p value = not p.mode.rm && (mode_of value).rm
+
+-- a write of MOD that leaves reset mode with LOM, STM and AFM as they are, where no activation is to be closed first
+-- and no bus-off is asked for: it is a start alone
+abbrev pub is_start : Registers → Bool → ℕ → Bool
+is_start p out value =
+    p.mode.rm && not (mode_of value).rm && not (is_forced p) && not out && not (is_other_mode p.mode (mode_of value))

@@ -28,4 +28,4 @@ pub use kept_bytes::KeptBytes;
 pub use laws::no_command_is_refused;
 pub use raw_driver::RawDriver;
 pub use trying::is_reset;
-pub use write_steps::{WriteSteps, is_typed_write, steps_of_write};
+pub use write_steps::{WriteSteps, is_start, is_stop, is_typed_write, steps_of_write};

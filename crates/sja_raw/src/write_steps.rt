@@ -8,12 +8,12 @@ ghost use Rattle.sja_driver.specs.LoggedDrivers.{driver_of, IsLawful};
 ghost use Rattle.sja_raw.specs.CommandWrites.{command_steps};
 ghost use Rattle.sja_raw.specs.ModeWrites.{mode_steps};
 ghost use Rattle.sja_raw.specs.WriteLists.{ArePrompt, steps_in};
-ghost use Rattle.sja_raw.specs.Writes.{is_typed_write, write_steps};
-ghost use Rattle.sja_script.specs.declared.step.Step.TheVariants.{Write};
+ghost use Rattle.sja_raw.specs.Writes.{is_start, is_stop, is_typed_write, write_steps};
+ghost use Rattle.sja_script.specs.declared.step.Step.TheVariants.{Start, Stop, Write};
 
 use super::command_steps::written_command;
 use super::mode_write::{is_other_mode, is_written, reset_byte};
-use super::trying::{is_out, mode_in};
+use super::trying::{is_out, is_reset, mode_in};
 use sja_driver::LoggedDriver;
 use sja_regs::address::{CMR, MOD};
 use sja_regs::{Mode, Port};
@@ -55,6 +55,28 @@ pub fn is_typed_write(port: &Port, address: u8, value: u8) -> bool
         CMR => false,
         _ => true,
     }
+}
+
+/// Whether a write of MOD enters reset mode: it is a stop of the typed driver.
+pub fn is_stop(port: &Port, value: u8) -> bool
+    ensures is { result ≡ is_stop port.now value }
+    ensures alone { result ≡ true → (out : Bool) → write_steps port.now out 0 value ≡ Stop ∷ [] }
+{
+    !is_reset(port) && Mode::of(value).rm
+}
+
+/// Whether a write of MOD leaves reset mode, and LOM, STM and AFM as they are, where no activation is to be closed
+/// first and no bus-off is asked for: it is a start of the typed driver.
+pub fn is_start(typed: &LoggedDriver, port: &Port, value: u8) -> bool
+    requires { IsLawful typed.now }
+    ensures is { result ≡ is_start port.now (is_out (driver_of typed.now)) value }
+    ensures alone { result ≡ true → write_steps port.now (is_out (driver_of typed.now)) 0 value ≡ Start ∷ [] }
+{
+    let new = Mode::of(value);
+    if !is_reset(port) || new.rm || port.is_forced() || is_out(typed) {
+        return false;
+    }
+    !is_other_mode(mode_in(port), new)
 }
 
 /// Those of a write of MOD.

@@ -244,6 +244,10 @@ none_kept kept rm (suc (suc address)) value less = absurd (omega (arith, less))
 
 -- ---- what a write of CMR does
 
+-- nothing
+pub nothing_at_all : (byte : ℕ) (r : Bool) → byte ≡ 0 → r ≡ false → commands byte ++ releases r ≡ []
+nothing_at_all byte r nothing is = λ i. commands (nothing i) ++ releases (is i)
+
 -- a release alone
 pub release_alone : (byte : ℕ) (r : Bool) → byte ≡ 0 → r ≡ true → commands byte ++ releases r ≡ Release ∷ []
 release_alone byte r nothing is = λ i. commands (nothing i) ++ releases (is i)

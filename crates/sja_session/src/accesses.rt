@@ -13,7 +13,6 @@ impl RawSession {
     ghost use Rattle.sja_driver.specs.Deeds.{Deed};
     ghost use Rattle.sja_raw.specs.WriteLists.{ArePrompt, IsPrompt, steps_in};
     ghost use Rattle.sja_regs.specs.declared.registers.Registers.{Registers};
-    ghost use Rattle.sja_script.specs.declared.step.Step.TheVariants.{Command, Release};
     ghost use Rattle.sja_session.specs.RawSessions.{Reads, Writes, MayWrite, IsWriteFault, steps_of};
     ghost use Rattle.sja_session.specs.Sessions.{IsAt};
     ghost use Rattle.sja_session.specs.Stepping.{MayStep, IsStepFault};
@@ -23,6 +22,7 @@ impl RawSession {
     /// clears it but for RI; reading ALC or ECC allows the next capture (SJA1000 data sheet, 6.4.6 to 6.4.9).
     ///
     /// Errors: those of [`Session::step`](super::session::Session::step), and nothing changed.
+    #[inline(always)]
     pub fn read(&mut self, node: u8, address: u8) -> Result<u8, StepFault>
         ensures reads { IfOk result (λ value. (deeds : List (List Deed)) → IsAt self.old.session deeds →
             Reads self.old self.new node address value deeds) }
@@ -44,6 +44,7 @@ impl RawSession {
     /// Errors, the first that holds, and nothing changed: [`StepFault::NoNode`] where there is no such node;
     /// [`StepFault::StepsUsed`] where there is room for fewer steps of it than the write is; [`StepFault::TurnsUsed`]
     /// where it is a step, as many turns were taken as there is room for, and the last one isn't of this node.
+    #[inline(always)]
     pub fn write(&mut self, node: u8, address: u8, value: u8) -> Result<(), StepFault>
         ensures writes { OnOk result ((deeds : List (List Deed)) → IsAt self.old.session deeds →
             Writes self.old self.new node address value deeds) }
@@ -63,12 +64,12 @@ impl RawSession {
         if self.session.is_typed_write(place, address, value) {
             return self.write_one(node, address, value, Step::Write(address, value));
         }
-        self.write_short(node, address, value)
+        self.write_mode(node, address, value)
     }
 
     /// The same of MOD or CMR, where the write isn't the same one of the typed driver.
     #[inline(never)]
-    fn write_short(&mut self, node: u8, address: u8, value: u8) -> Result<(), StepFault>
+    pub(crate) fn write_short(&mut self, node: u8, address: u8, value: u8) -> Result<(), StepFault>
         requires there { node < length self.old.session.plan.nodes }
         requires short { address < 2 }
         ensures writes { OnOk result ((deeds : List (List Deed)) → IsAt self.old.session deeds →
@@ -83,75 +84,6 @@ impl RawSession {
             .session
             .steps_of_write(usize::from(node), address, value);
         self.write_each(node, address, value, steps)
-    }
-
-    /// The same of CMR.
-    #[inline(never)]
-    fn write_command(&mut self, node: u8, address: u8, value: u8) -> Result<(), StepFault>
-        requires command { address ≡ 1 }
-        requires there { node < length self.old.session.plan.nodes }
-        ensures writes { OnOk result ((deeds : List (List Deed)) → IsAt self.old.session deeds →
-            Writes self.old self.new node address value deeds) }
-        ensures may { OnOk result ((deeds : List (List Deed)) → IsAt self.old.session deeds →
-            MayWrite self.old node address value deeds) }
-        ensures err { IfErr result (λ fault. (deeds : List (List Deed)) → IsAt self.old.session deeds →
-            IsWriteFault self.old node address value deeds fault) }
-        ensures kept { OnErr result (self.new ≡ self.old) }
-    {
-        let written = self.session.written_command(usize::from(node), value);
-        if written.command == 0 {
-            if written.releases {
-                return self.write_alone(node, address, value, Step::Release);
-            }
-            return self.write_short(node, address, value);
-        }
-        if written.releases {
-            return self.write_both(node, address, value, written.command);
-        }
-        self.write_alone(node, address, value, Step::Command(written.command))
-    }
-
-    /// The same of CMR where the write is this one step. None of the kept registers stands there.
-    #[inline(always)]
-    fn write_alone(&mut self, node: u8, address: u8, value: u8, step: Step) -> Result<(), StepFault>
-        requires command { address ≡ 1 }
-        requires prompt { IsPrompt step }
-        requires one { (deeds : List (List Deed)) → IsAt self.old.session deeds → (p : Registers) →
-            steps_of self.old node address value deeds p ≡ step ∷ [] }
-        ensures writes { OnOk result ((deeds : List (List Deed)) → IsAt self.old.session deeds →
-            Writes self.old self.new node address value deeds) }
-        ensures may { OnOk result ((deeds : List (List Deed)) → IsAt self.old.session deeds →
-            MayWrite self.old node address value deeds) }
-        ensures err { IfErr result (λ fault. (deeds : List (List Deed)) → IsAt self.old.session deeds →
-            IsWriteFault self.old node address value deeds fault) }
-        ensures kept { OnErr result (self.new ≡ self.old) }
-    {
-        match self.session.step(node, step)? {
-            Answered::Answer(answer) => {
-                self.kept[usize::from(node)].answered(&answer);
-                Ok(())
-            }
-            Answered::Waits => unreachable!(),
-        }
-    }
-
-    /// The same of CMR where the write is this command and then a release.
-    fn write_both(&mut self, node: u8, address: u8, value: u8, command: u8) -> Result<(), StepFault>
-        requires command { address ≡ 1 }
-        requires both { (deeds : List (List Deed)) → IsAt self.old.session deeds → (p : Registers) →
-            steps_of self.old node address value deeds p ≡ Command command ∷ Release ∷ [] }
-        ensures writes { OnOk result ((deeds : List (List Deed)) → IsAt self.old.session deeds →
-            Writes self.old self.new node address value deeds) }
-        ensures may { OnOk result ((deeds : List (List Deed)) → IsAt self.old.session deeds →
-            MayWrite self.old node address value deeds) }
-        ensures err { IfErr result (λ fault. (deeds : List (List Deed)) → IsAt self.old.session deeds →
-            IsWriteFault self.old node address value deeds fault) }
-        ensures kept { OnErr result (self.new ≡ self.old) }
-    {
-        self.session.may_do(node, 2)?;
-        self.do_one(node, Step::Command(command));
-        self.do_one(node, Step::Release);
-        Ok(())
     }
 
     /// The same where the write is this one step.

@@ -19,6 +19,7 @@ mod answers;
 mod beginning;
 mod finish;
 mod interrupt_line;
+mod mode_and_command;
 mod of_plan;
 mod plan_so_far;
 mod prompt;

@@ -9,7 +9,8 @@ use super::session::Session;
 use super::step_fault::StepFault;
 use sja_plan::Turn;
 use sja_raw::{
-    WriteSteps, WrittenCommand, is_reset, is_typed_write, steps_of_write, written_command,
+    WriteSteps, WrittenCommand, is_reset, is_start, is_stop, is_typed_write, steps_of_write,
+    written_command,
 };
 use sja_script::{Step, StepAnswer};
 
@@ -21,7 +22,7 @@ impl Session {
     ghost use Rattle.sja_raw.specs.WriteLists.{ArePrompt, IsPrompt, steps_in};
     ghost use Rattle.sja_raw.specs.Writes.{write_steps};
     ghost use Rattle.sja_regs.specs.declared.registers.Registers.{Registers};
-    ghost use Rattle.sja_script.specs.declared.step.Step.TheVariants.{Write};
+    ghost use Rattle.sja_script.specs.declared.step.Step.TheVariants.{Start, Stop, Write};
     ghost use Rattle.sja_session.specs.Inside.Accessing.{Stands};
     ghost use Rattle.sja_session.specs.RawSessions.{IsAccessFault, MayDo};
     ghost use Rattle.sja_session.specs.Sessions.{IsAt};
@@ -45,6 +46,25 @@ impl Session {
         ensures short { result ≡ false → address < 2 }
     {
         is_typed_write(self.run.port(node), address, value)
+    }
+
+    /// Whether a write of a byte to MOD of a node is a stop of the typed driver.
+    pub(crate) fn is_stop(&self, node: usize, value: u8) -> bool
+        requires { node < length self.now.plan.nodes }
+        ensures { result ≡ true → (p : Registers) (out : Bool) →
+            write_steps (slice_index_or self.now.run.ports node p) out 0 value ≡ Stop ∷ [] }
+    {
+        is_stop(self.run.port(node), value)
+    }
+
+    /// Whether a write of a byte to MOD of a node is a start of the typed driver.
+    pub(crate) fn is_start(&self, node: usize, value: u8) -> bool
+        requires { node < length self.now.plan.nodes }
+        ensures { result ≡ true → (deeds : List (List Deed)) → IsAt self.now deeds → (p : Registers) →
+            write_steps (slice_index_or self.now.run.ports node p) (is_active (deeds_at deeds node)) 0 value
+            ≡ Start ∷ [] }
+    {
+        is_start(self.run.driver(node), self.run.port(node), value)
     }
 
     /// What a write of a byte to CMR of a node does.
@@ -112,6 +132,7 @@ impl RawSession {
     ghost use Rattle.sja_session.specs.Sessions.{IsAt};
 
     /// Does a step that never waits, where there is one. A release moves RBSA on.
+    #[inline(never)]
     pub(crate) fn do_if(&mut self, node: u8, step: Option<Step>)
         requires stands { Stands self.old.session }
         requires may { MayDo self.old.session node (length (listed step)) }
@@ -125,7 +146,7 @@ impl RawSession {
     }
 
     /// Does a step that never waits. A release moves RBSA on.
-    #[inline(never)]
+    #[inline(always)]
     pub(crate) fn do_one(&mut self, node: u8, step: Step)
         requires stands { Stands self.old.session }
         requires may { MayDo self.old.session node 1 }

@@ -73,6 +73,7 @@ impl Session {
     ghost use Rattle.sja_session.specs.Stepping.{HasTurn, LacksTurn};
 
     /// Whether a turn is left for this one, or it goes on with the last one.
+    #[inline(always)]
     pub(crate) fn has_turn(&self, turn: Turn) -> bool
         ensures yes { result ≡ true → HasTurn self.now turn }
         ensures no { result ≡ false → LacksTurn self.now turn }

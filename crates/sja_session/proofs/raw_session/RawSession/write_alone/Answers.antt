@@ -35,7 +35,7 @@ returns-clause-writes c = λ deeds at.
     let answer = c.in-Answer.answer in
     let does = c.step.ensures.done answer (search rules) deeds own in
     let inside : node < length b.kept.items = search rules in
-    let short : c.args.address < 2 = let a = c.requires.command in omega (arith, a) in
+    let short : c.args.address < 2 = c.requires.short in
     let after = with_deeds deeds node (does.deed ∷ []) in
     let moved = kept_moved b.kept.items c.from.result node c.index_mut.result.now c.answered.new.self answer
     (search rules) c.index_mut.ensures.value inside c.answered.ensures in

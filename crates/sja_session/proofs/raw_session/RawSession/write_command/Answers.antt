@@ -5,7 +5,7 @@ use Rattle.sja_script.specs.declared.step.Step.{Step}
 use Rattle.sja_script.specs.declared.step.Step.TheVariants.{Command, Release}
 use Rattle.sja_driver.specs.Deeds.{Deed, deeds_at, is_active}
 use Rattle.sja_session.specs.RawSessions.{RawValue, steps_of}
-use Rattle.sja_session.proofs.Accessing.{command_alone, command_both, command_so, release_alone}
+use Rattle.sja_session.proofs.Accessing.{command_alone, command_both, command_so, nothing_at_all, release_alone}
 use Rattle.sja_session.proofs.raw_session.RawSession.write_command.Goals.{After-written_command-written}
 use Rattle.sja_session.proofs.raw_session.RawSession.write_command.Goals as goal
 
@@ -18,6 +18,13 @@ so c deeds p steps e =
     subst (λ (r : RawValue). steps_of r c.args.node c.args.address c.args.value deeds p ≡ steps) c.self.view_is
     (command_so c.self.inside.session.run.ports c.from.result c.args.node c.args.address c.args.value w.result.command
     w.result.releases (is_active (deeds_at deeds c.args.node)) p steps c.from.ensures c.requires.command w.ensures e)
+
+-- nothing
+pub write_nothing-requires-clause-nothing : goal.write_nothing-requires-clause-nothing
+write_nothing-requires-clause-nothing c = λ deeds at p.
+    let w = c.written_command-written in
+    so (goal.at.write_nothing-requires-clause-nothing c).After-written_command-written deeds p []
+    (nothing_at_all w.result.command w.result.releases c.if-written-eq0.true c.if-written.false)
 
 -- a release alone
 pub write_alone-requires-clause-one : goal.write_alone-requires-clause-one
