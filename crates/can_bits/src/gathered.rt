@@ -88,6 +88,17 @@ impl Gathered {
         };
     }
 
+    /// Whether both are the same.
+    #[inline(always)]
+    pub(crate) fn is_same(&self, other: &Gathered) -> bool
+        ensures { IsTrue result ↔ (self.now ≡ other.now) }
+    {
+        self.place == other.place
+            && self.word == other.word
+            && self.register == other.register
+            && self.mark == other.mark
+    }
+
     /// Whether all levels have come.
     #[inline(always)]
     pub(crate) fn is_whole(&self) -> bool

@@ -22,3 +22,4 @@ pub mod Quiet
 pub mod QuietReceiver
 pub mod QuietTransmitter
 pub mod QuietPlaces
+pub mod Together

@@ -18,6 +18,7 @@ pub mod NextBit
 pub mod Events
 -- ---- a node that stands at a record, and what its calls do
 pub mod Stands
+pub mod Together
 pub mod NextField
 -- ---- frames that start together
 pub mod Contending

@@ -47,6 +47,7 @@ mod request;
 mod role;
 mod stage;
 mod state;
+mod together;
 mod transmit;
 
 pub use aborted::Aborted;

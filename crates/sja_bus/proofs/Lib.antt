@@ -4,4 +4,5 @@ pub mod Links
 pub mod AtPorts
 pub mod AllNodes
 pub mod Resting
+pub mod OneReader
 pub mod WholeBus

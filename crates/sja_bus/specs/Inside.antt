@@ -13,4 +13,5 @@ pub mod Ending
 pub mod Idling
 pub mod AtOnce
 pub mod RunningOn
+pub mod Together
 pub mod SerialBoards

@@ -8,7 +8,8 @@ ghost use Rattle.sja_bus.specs.declared.seat.Seat.{Seat as Seated};
 ghost use Rattle.sja_bus.specs.StrikesByBit.{IsAmong};
 ghost use Rattle.sja_bus.specs.Boards.{KeepsOthers};
 ghost use Rattle.sja_bus.specs.Inside.Refusing.{HaveRoom, AreFree};
-ghost use Rattle.sja_bus.specs.Inside.Rows.{AreReady, AreSeated, AreTold, IsBus};
+ghost use Rattle.sja_wire.specs.Wire.{wired};
+ghost use Rattle.sja_bus.specs.Inside.Rows.{AreReady, AreSeated, AreTold, IsBus, driven_by};
 ghost use Rattle.sja_bus.specs.Inside.RunningOn.{NoneAborts, RowsRun, RowsStop};
 
 use super::all_nodes::sample_all;
@@ -20,7 +21,9 @@ use super::ports::are_told;
 use super::seat::Seat;
 use super::struck_bits::StruckBits;
 use super::struck_nodes::StruckNodes;
+use super::together::run_together;
 use super::wire::level_of;
+use can_bits::Level;
 use sja_link::BusEnd;
 use sja_wire::BusFault;
 
@@ -186,16 +189,20 @@ fn untaken_bits<E: BusEnd, B: Board>(
         seats.old seats.new links.old links.new board.old board.new f) }
 {
     let (marks, mut level) = (struck.part(from, room_of(seats, most)), level_of(seats));
-    for run in 0..marks.len() as u32 {
+    let mut run = 0;
+    while run < marks.len() as u32 {
         if !goes_on(seats, marks[run as usize], to_rest) {
             return Ok(run);
         }
         match sample_all(seats, links, level, StruckNodes::none(), board) {
             Ok(end) => {
+                run += 1;
                 if end.told {
-                    return Ok(run + 1);
+                    return Ok(run);
                 }
-                level = end.level;
+                let together = run_together(seats, &marks[run as usize..]);
+                run += together;
+                level = level_after(seats, together, end.level);
             }
             Err(fault) => return Err(BrokenOff { after: run, fault }),
         }
@@ -214,6 +221,15 @@ fn goes_on(seats: &[Seat], struck: StruckNodes, to_rest: bool) -> bool
         return false;
     }
     !(to_rest && are_at_rest(seats))
+}
+
+/// The level that all drive next: this one, where no bit more was run together.
+#[inline(always)]
+fn level_after(seats: &[Seat], together: u32, level: Level) -> Level
+    requires { together ≡ 0 → level ≡ wired (driven_by seats.now) }
+    ensures { result ≡ wired (driven_by seats.now) }
+{
+    if together > 0 { level_of(seats) } else { level }
 }
 
 /// For how many bits that are entered alone each journal has room, at most so many.

@@ -32,6 +32,7 @@ mod serial_board;
 mod striking;
 mod struck_bits;
 mod struck_nodes;
+mod together;
 mod untold;
 mod verdict;
 mod wire;

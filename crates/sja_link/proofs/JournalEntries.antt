@@ -4,6 +4,7 @@ pub mod Openings
 pub mod ListCounts
 pub mod Decoding
 pub mod Filling
+pub mod Writing
 pub mod Counting
 pub mod Keeping
 pub mod Skipping

@@ -3,7 +3,8 @@
 ghost use Rattle.std.specs.Prelude.{◌≡◌, ◌≤◌, [], ◌∷◌, length};
 ghost use Rattle.std.specs.List.{list_all};
 ghost use Rattle.sja_link.specs.declared.entry.Entry.TheVariants.{Bit};
-ghost use Rattle.sja_link.specs.Inside.Codes.{bits_before, is_bit};
+ghost use Rattle.sja_link.specs.Inside.Codes.{bits_before, code_of, is_bit};
+ghost use Rattle.std.specs.Simd.Lanes.{zip2};
 
 use can_bits::Level;
 use std::mem::size_of;
@@ -45,10 +46,11 @@ pub(crate) enum Code {
 }
 
 impl Code {
-    ghost use Rattle.sja_link.specs.Inside.Codes.{decoded, is_bit, HasContents};
+    ghost use Rattle.sja_link.specs.Inside.Codes.{code_of, decoded, is_bit, HasContents};
 
     /// The code of a bit: the level driven, and the level seen.
     pub(crate) fn of_bit(driven: Level, seen: Level) -> Code
+        ensures code { result ≡ code_of driven seen }
         ensures bit { decoded (result ∷ []) [] [] [] [] ≡ Bit driven seen ∷ [] }
         ensures alone { HasContents result 0 0 0 0 }
     {
@@ -72,6 +74,18 @@ impl Code {
                 | Code::RecessiveSeenDominant
                 | Code::RecessiveAsDriven
         )
+    }
+}
+
+/// Writes the codes of bits, of each the level driven and the level seen. It does so for each of them alike, so that
+/// many can be written at once.
+pub(crate) fn write_bits(codes: &mut [Code], driven: &[Level], seen: &[Level])
+    requires driven { length driven.now ≡ length codes.old }
+    requires seen { length seen.now ≡ length codes.old }
+    ensures { codes.new ≡ zip2 code_of driven.now seen.now }
+{
+    for k in 0..codes.len() {
+        codes[k] = Code::of_bit(driven[k], seen[k]);
     }
 }
 

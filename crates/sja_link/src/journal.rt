@@ -5,11 +5,12 @@ ghost use Rattle.std.specs.Prelude.{length, replicate, true, false, IfOk, IfErr,
 ghost use Rattle.can_bits.specs.declared.level.Level.TheVariants.{Recessive};
 ghost use Rattle.sja_link.specs.declared.entry.Entry.TheVariants.{Bit, Up as Item};
 ghost use Rattle.sja_link.specs.declared.up.Up.TheVariants.{Start, Credit, Send};
+ghost use Rattle.std.specs.Simd.Lanes.{zip2};
 ghost use Rattle.sja_link.specs.Between.{between_bits};
 ghost use Rattle.sja_link.specs.Inside.Codes.{decoded, HasContents};
 
 use super::between_bits::BetweenBits;
-use super::code::Code;
+use super::code::{Code, write_bits};
 use super::entries::Entries;
 use super::entry::Entry;
 use super::full::Full;
@@ -150,6 +151,21 @@ impl Journal {
         let used = self.codes.len() + count as usize;
         // The room is reserved, so that no memory is asked for.
         let _ = self.codes.resize(used, Code::RecessiveAsDriven);
+    }
+
+    /// Adds bits, of each the level that the node drove and the one that it saw, where as many entries are free.
+    pub fn enter_bits_reserved(&mut self, driven: &[Level], seen: &[Level])
+        requires each { length driven.now ≡ length seen.now }
+        requires free { length seen.now ≤ self.old.room - length self.old.entries }
+        ensures room { self.new.room ≡ self.old.room }
+        ensures entries { self.new.entries ≡ self.old.entries ++ zip2 Bit driven.now seen.now }
+    {
+        let used = self.codes.len();
+        // The room is reserved, so that no memory is asked for.
+        let _ = self
+            .codes
+            .resize(used + seen.len(), Code::RecessiveAsDriven);
+        write_bits(&mut self.codes.as_mut_slice()[used..], driven, seen);
     }
 
     /// How many reserved entries are free.

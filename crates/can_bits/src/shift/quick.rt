@@ -30,6 +30,38 @@ impl Shift {
         }
     }
 
+    /// Whether both readers are the same, in the stuffed part, where all levels so far were right (this project's own
+    /// rule).
+    #[inline(always)]
+    pub fn is_same_inside(&self, other: &Shift) -> bool
+        ensures same { result ≡ true → self.now ≡ other.now }
+        ensures only { (l : List Bus) (level : Bus) → StandsFor self.now l → IsRightInside l level
+            → self.now ≡ other.now → result ≡ true }
+    {
+        self.is_inside()
+            && other.is_inside()
+            && self.count == other.count
+            && self.last == other.last
+            && self.run == other.run
+            && self.gathered.is_same(&other.gathered)
+    }
+
+    /// Whether the reader is in the stuffed part, where all levels so far were right.
+    #[inline(always)]
+    fn is_inside(&self) -> bool
+        ensures no_fault { result ≡ true → self.now.wrong ≡ None }
+        ensures in_part { result ≡ true → self.now.frame_part ≡ FramePart.Stuffed }
+        ensures only { (l : List Bus) (level : Bus) → StandsFor self.now l → IsRightInside l level → result ≡ true }
+    {
+        match self.wrong {
+            Some(_) => false,
+            None => match self.frame_part {
+                FramePart::Stuffed => true,
+                FramePart::FixedForm(_) => false,
+            },
+        }
+    }
+
     /// Whether the reader is in the stuffed part, past SOF, and this level is right there.
     #[inline(always)]
     fn is_right_inside(&self, level: Level) -> bool

@@ -86,10 +86,10 @@ after_wired n (s ∷ seats) drives =
 
 -- ---- a bit in which nobody is struck
 
-abbrev nobody : StruckNodes
+abbrev pub nobody : StruckNodes
 nobody = record { mask = 0 }
 
-not_among : (node : ℕ) → IsAmong node nobody → ⊥
+pub not_among : (node : ℕ) → IsAmong node nobody → ⊥
 not_among node hit = let z = bit_at-zero node in omega (arith, z, hit)
 
 seen_plain : (node : ℕ) → seen_by nobody Recessive node ≡ Recessive

@@ -2,6 +2,7 @@
 use Rattle.std.specs.Prelude.{◌≡◌, ℕ, suc, Bool, true, false, if◌then◌else◌, List, [], ◌∷◌, length}
 use Rattle.can_node.specs.declared.config.Config.{Config}
 use Rattle.can_node.specs.declared.request.Request.{Request}
+use Rattle.can_bits.specs.declared.level.Level.{Level}
 use Rattle.can_bits.specs.declared.level.Level.TheVariants.{Dominant, Recessive}
 use Rattle.sja_link.specs.declared.up.Up.TheVariants.{Start as StartUp, Credit as CreditUp}
 use Rattle.sja_link.specs.declared.up.Up.TheVariants.{Send as SendUp, Stop as StopUp}
@@ -46,6 +47,13 @@ decoded (Overrun ∷ codes) starts credits requests (m ∷ messages) =
     OverrunEntry m ∷ decoded codes starts credits requests messages
 decoded (Off ∷ codes) starts credits requests messages =
     OffEntry ∷ decoded codes starts credits requests messages
+
+-- the code of a bit: the level driven, and the level seen
+abbrev pub code_of : Level → Level → Code
+code_of Dominant Dominant = DominantAsDriven
+code_of Dominant Recessive = DominantSeenRecessive
+code_of Recessive Dominant = RecessiveSeenDominant
+code_of Recessive Recessive = RecessiveAsDriven
 
 -- whether a code is that of a bit
 abbrev pub is_bit : Code → Bool

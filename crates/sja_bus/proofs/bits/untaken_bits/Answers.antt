@@ -1,12 +1,21 @@
-use Rattle.std.proofs.Common.{◌≡◌, ℕ, ◌+◌, ◌-◌, ◌<◌, false, true, length, rules, arith, refl, sym, ap, ◌∙◌, subst}
+use Rattle.std.proofs.Common.{◌≡◌, ℕ, ◌+◌, ◌-◌, ◌<◌, false, true, List, length, rules, arith, refl, sym, ap, ◌∙◌, subst}
 use Rattle.std.specs.Prelude.{slice_index_or}
 use Rattle.lemmas.proofs.Related.{each_refl, each_trans}
+use Rattle.sja_wire.specs.Wire.{wired}
 use Rattle.sja_bus.specs.Reasons.{room_for}
 use Rattle.sja_bus.specs.Several.{WorksIf}
-use Rattle.sja_bus.specs.Inside.Rows.{IsBus}
+use Rattle.sja_script.specs.Striking.{Strikes}
+use Rattle.sja_bus.specs.declared.seat.Seat.{Seat}
+use Rattle.sja_bus.specs.declared.struck_nodes.StruckNodes.{StruckNodes}
+use Rattle.sja_bus.specs.StrikesByBit.{IsAmong}
+use Rattle.sja_bus.specs.Inside.Refusing.{AreFree}
+use Rattle.sja_bus.specs.Inside.Rows.{AreTold, IsBus, driven_by}
 use Rattle.sja_bus.specs.Inside.RunningOn.{moment_of, AnyBit, RowsRun}
 use Rattle.sja_bus.proofs.AllNodes.Many.{numbered_kept}
 use Rattle.sja_bus.proofs.AllNodes.RunningOn.{facts_of_bit, passes, none_still, some_work, none_yet, bits_on, stops_on}
+use Rattle.sja_bus.proofs.OneReader.QuietRows.{free_after, have_room_after, none_run, part_at, part_left}
+use Rattle.sja_bus.proofs.OneReader.QuietRows.{rooms_after, rows_on, told_after}
+use Rattle.sja_bus.proofs.Resting.Stretches.{nobody}
 use Rattle.sja_bus.proofs.bits.untaken_bits.Goals.{In-Ok}
 use Rattle.sja_bus.proofs.bits.untaken_bits.Goals as goal
 
@@ -59,6 +68,7 @@ loop-run-init g c =
     let P : ℕ → Type 0 = λ n. IsBus script n c.args.seats.now in record {
       level = c.level_of-level.ensures;
       board = refl;
+      within = omega arith;
       bus = subst P at c.requires.bus;
       told = c.requires.may.1;
       sames = each_refl E.same g.met.E.BusEnd.same_refl c.args.links.now;
@@ -105,23 +115,76 @@ returns-then-end-clause-rooms g c = λ n h. c.in-Ok.ensures.rooms n (c.loop-run.
 pub returns-then-end-clause-runs : goal.returns-then-end-clause-runs
 returns-then-end-clause-runs g c = runs_more g (goal.at.returns-then-end-clause-runs g c).In-Ok
 
+-- what is asked of a run of bits holds after the bit before it
+told_now : (g : _) (c : In-Ok g) → AreTold c.sample_all.new.seats
+told_now g c = λ k s few. (c.in-Ok.ensures.turns k s (let count = c.sample_all.auto.seats in
+    omega (arith, few, count))).told
+
+free_now : (g : _) (c : In-Ok g) → c.in-Ok.end.told ≡ false →
+    AreFree (length c.part-marks.result.now - (c.loop-run.run + 1)) c.sample_all.new.seats
+free_now g c untold =
+    let within : c.loop-run.run < length c.part-marks.result.now = search rules in
+    c.in-Ok.ensures.free untold (length c.part-marks.result.now - (c.loop-run.run + 1))
+    (λ k s here. let room = c.loop-run.invariant.free k s here in omega (arith, within, room))
+
+pub run_together-together-requires : goal.run_together-together-requires
+run_together-together-requires g c =
+    let at = (goal.at.run_together-together-requires g c).In-Ok in
+    let untold : c.in-Ok.end.told ≡ false = search rules in
+    let within : c.loop-run.run < length c.part-marks.result.now = search rules in
+    let left = part_left c.part-marks.result.now (c.loop-run.run + 1) (omega (arith, within)) in record {
+      ready = c.in-Ok.ensures.ready;
+      told = told_now g at;
+      free = λ k s here. let room = free_now g at untold k s here in omega (arith, room, left);
+    }
+
+pub level_after-level-requires : goal.level_after-level-requires
+level_after-level-requires g c = λ zero.
+    let P : List Seat → Type 0 = λ l. c.in-Ok.end.level ≡ wired (driven_by l) in
+    subst P (sym (none_run c.sample_all.new.seats c.run_together-together.new.seats c.run_together-together.result
+    c.run_together-together.ensures.rows zero)) c.in-Ok.ensures.level
+
 pub loop-run-preserved : goal.loop-run-preserved
 loop-run-preserved g c =
-    let E = g.E.BusEnd in let inv = c.loop-run.invariant in
-    let more = runs_more g (goal.at.loop-run-preserved g c).In-Ok in
-    let within : c.loop-run.run < length c.part-marks.result.now = search rules in
-    let untold : c.in-Ok.end.told ≡ false = search rules in record {
-      level = c.in-Ok.ensures.level;
-      board = c.in-Ok.ensures.untold untold ∙ inv.board;
-      bus = more.bus;
-      told = λ k s few. (c.in-Ok.ensures.turns k s (let count = c.sample_all.auto.seats in
-          omega (arith, few, count))).told;
+    let at = (goal.at.loop-run-preserved g c).In-Ok in
+    let E = g.E.BusEnd in let B = g.B.Board in let inv = c.loop-run.invariant in
+    let script = c.args.struck.now.script in let from = c.args.from in let run = c.loop-run.run in
+    let marks = c.part-marks.result.now in
+    let more = runs_more g at in
+    let within : run < length marks = search rules in
+    let untold : c.in-Ok.end.told ≡ false = search rules in
+    let one = c.sample_all.new.seats in let now = c.run_together-together.new.seats in
+    let n = c.run_together-together.result in let rows = c.run_together-together.ensures.rows in
+    let stay = rooms_after one n now rows in
+    let left = part_left marks (run + 1) (omega (arith, within)) in
+    let few = c.run_together-together.ensures.few in
+    let count = c.part-marks.ensures.count in let all = c.room_of.ensures.most in
+    let same = c.loop-run.auto.seats in let size = c.sample_all.auto.seats in
+    let still = c.in-Ok.ensures.untold untold ∙ inv.board in
+    let unstruck : (i node : ℕ) → i < n → node < 8 → Strikes script (from + ((run + 1) + i)) node → ⊥ =
+    λ i node low small strikes.
+    let P : StruckNodes → Type 0 = λ x. IsAmong node x in
+    c.run_together-together.ensures.none i node nobody low
+    (subst P (sym (part_at marks (run + 1) i nobody (omega (arith, low, few, left))))
+    ((c.part-marks.ensures.struck ((run + 1) + i) node nobody (omega (arith, low, few, left)) small).1 strikes)) in
+    let far = rows_on E B g.met.E.BusEnd.same_refl g.met.B.Board.kept_refl c.args.to_rest script from c.args.most
+    (length c.args.seats.now) c.args.seats.now c.args.links.now c.args.board.now c.requires.seated.few
+    c.sample_all.new.links c.sample_all.new.board still c.requires.may.0
+    (λ k low. facts g at k (omega (arith, low, same))) (run + 1) one n now
+    (omega (arith, within, few, left, count, all)) unstruck rows
+    (record { count = omega (arith, same, size); bus = more.bus; bits = more.bits }) in
+    let rest : length marks - (run + 1) - n ≡ length marks - (run + 1 + n) = omega arith in
+    let F : ℕ → Type 0 = λ m. AreFree m now in record {
+      level = c.level_after-level.ensures;
+      board = still;
+      within = omega (arith, within, few, left);
+      bus = far.bus;
+      told = told_after one n now rows (told_now g at);
       sames = each_trans E.same g.met.E.BusEnd.same_trans c.args.links.now c.loop-run.links c.sample_all.new.links
           inv.sames c.sample_all.ensures.sames;
-      rooms = λ n h. c.in-Ok.ensures.rooms n (inv.rooms n h);
-      free = c.in-Ok.ensures.free untold (length c.part-marks.result.now - (c.loop-run.run + 1))
-          (λ k s here. let room = inv.free k s here in omega (arith, within, room));
-      bits = more.bits;
+      rooms = λ r h. have_room_after one now n stay r (c.in-Ok.ensures.rooms r (inv.rooms r h));
+      free = subst F rest (free_after one now n (length marks - (run + 1)) stay (free_now g at untold));
+      bits = far.bits;
     }
 
 pub returns-in-Err-clause-breaks : goal.returns-in-Err-clause-breaks

@@ -12,6 +12,7 @@ abbrev pub invariant-loop-run : goal.invariant-loop-run
 invariant-loop-run g l = record {
   level : l.level ≡ wired (driven_by l.seats);
   board : l.board ≡ l.initial.board;
+  within : l.run ≤ length l.marks;
   bus : IsBus l.struck.script (l.from + l.run) l.seats;
   told : AreTold l.seats;
   sames : EachRelated g.E.BusEnd.same l.initial.links l.links;
@@ -22,3 +23,6 @@ invariant-loop-run g l = record {
       (moment_of l.struck.script steps l.from left l.initial.seats l.initial.links l.initial.board) l.run
       (moment_of l.struck.script steps (l.from + l.run) (left - l.run) l.seats l.links l.board);
 }
+
+abbrev pub decreases-loop-run : goal.decreases-loop-run
+decreases-loop-run g l = length l.marks - l.run

@@ -1,7 +1,8 @@
-use Rattle.std.proofs.Common.{arith}
+use Rattle.std.proofs.Common.{replicate, arith}
 use Rattle.std.specs.Prelude.{is_ok, vec_capacity}
 use Rattle.sja_link.specs.declared.code.Code.TheVariants.{RecessiveAsDriven}
-use Rattle.sja_link.proofs.JournalEntries.Filling.{filled_up, rest_fits, whole_rest, decoded_rest}
+use Rattle.sja_link.proofs.JournalEntries.Filling.{filled_up, rest_fits, rest_plain, rest_decoded, whole_plain}
+use Rattle.sja_link.proofs.JournalEntries.Filling.{decoded_plain}
 use Rattle.sja_link.proofs.journal.Journal.enter_rest_reserved.Goals as goal
 
 pub invariant_of-self : goal.invariant_of-self
@@ -13,7 +14,7 @@ invariant_of-self c =
     let is = filled_up RecessiveAsDriven f.codes.items c.resize.new.self.items (is_ok c.resize.result) c.len.result
     f.codes.len n (c.resize.ensures.succeeds fits) c.len.ensures f.codes.ok.0 c.resize.ensures.items in
     let capacity = c.resize.ensures.capacity in let room = c.self.invariant.1 in (
-      rw is (whole_rest n f.codes.items _ _ _ _ c.self.invariant.0),
+      rw is (whole_plain (replicate n RecessiveAsDriven) f.codes.items _ _ _ _ (rest_plain n) c.self.invariant.0),
       omega (arith, capacity, room),
       c.self.invariant.2,
       c.self.invariant.3,
@@ -29,4 +30,5 @@ returns-clause-entries c =
     (vec_capacity f.codes) free c.len.ensures f.codes.ok.0 f.codes.ok.1 c.self.invariant.1 in
     let is = filled_up RecessiveAsDriven f.codes.items c.resize.new.self.items (is_ok c.resize.result) c.len.result
     f.codes.len n (c.resize.ensures.succeeds fits) c.len.ensures f.codes.ok.0 c.resize.ensures.items in
-    rw (← c.self.view_is, is) (decoded_rest n f.codes.items _ _ _ _ c.self.invariant.0)
+    rw (← c.self.view_is, is)
+    (decoded_plain (replicate n RecessiveAsDriven) f.codes.items _ _ _ _ _ (rest_decoded n) c.self.invariant.0)

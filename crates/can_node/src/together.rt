@@ -1,0 +1,88 @@
+//! Nodes that read one frame together: one of them sends it, and the others read it.
+
+ghost use Rattle.std.specs.Prelude.{◌≡◌};
+
+use super::node::Node;
+use super::role::Role;
+use super::stage::Stage;
+use can_bits::{Level, Shift};
+
+impl Node {
+    ghost use Rattle.std.specs.Prelude.{◌≡◌, ◌≤◌, ◌⊎◌, true, false, List};
+    ghost use Rattle.std.specs.Prelude.{length, take, drop};
+    ghost use Rattle.can_bits.specs.declared.level.Level.{Level as Bus};
+    ghost use Rattle.can_bits.specs.Shifts.{StandsFor};
+    ghost use Rattle.can_bits.specs.Streaming.{IsRightInside};
+    ghost use Rattle.can_node.specs.Together.{is_sending, next_level_of, reader_of, reading_as, HasReadAs};
+    ghost use Rattle.can_node.specs.Together.{SendsBits};
+
+    /// Whether this node is in a frame, and sends it.
+    #[inline(always)]
+    pub fn is_sending(&self) -> bool
+        ensures { result ≡ is_sending self.now }
+    {
+        match self.stage {
+            Stage::InFrame => self.context.is_transmitter(),
+            _ => false,
+        }
+    }
+
+    /// The reader of the frame that is on the bus, or came last.
+    #[inline(always)]
+    pub fn reader(&self) -> Shift
+        ensures { result ≡ reader_of self.now }
+    {
+        self.shift
+    }
+
+    /// Whether this node receives the stuffed part of a frame, drives recessive, and has read just what this reader
+    /// has.
+    #[inline(always)]
+    pub fn has_read_as(&self, reader: &Shift) -> bool
+        ensures yes { result ≡ true → HasReadAs self.now reader.now }
+        ensures only { (l : List Bus) (level : Bus) → StandsFor (reader_of self.now) l → IsRightInside l level →
+            HasReadAs self.now reader.now → result ≡ true }
+    {
+        match self.stage {
+            Stage::InFrame => match self.context.role {
+                Role::Transmitter => false,
+                Role::Receiver => self.next.is_recessive() && self.shift.is_same_inside(reader),
+            },
+            _ => false,
+        }
+    }
+
+    /// Goes on where this reader is, which took for both what came since.
+    #[inline(always)]
+    pub fn follow(&mut self, reader: &Shift)
+        ensures { self.new ≡ reading_as self.old reader.now }
+    {
+        self.shift = *reader;
+    }
+
+    /// Sends the next bits of the stuffed part, past SOF, each of which is seen as it is driven: as many as there is
+    /// room for their levels, or up to the end of that part. Answers how many.
+    #[inline(never)]
+    pub fn send_inside(&mut self, levels: &mut [Level]) -> usize
+        ensures few { result ≤ length levels.old }
+        ensures count { length levels.new ≡ length levels.old }
+        ensures rest { drop result levels.new ≡ drop result levels.old }
+        ensures sends { SendsBits self.old (take result levels.new) self.new }
+        ensures longest { (result ≡ length levels.old) ⊎ (is_sending self.new ≡ false)
+            ⊎ ((l : List Bus) → StandsFor (reader_of self.new) l → ¬ IsRightInside l (next_level_of self.new)) }
+    {
+        if !self.is_sending() {
+            return 0;
+        }
+        let (mut shift, mut next) = (self.shift, self.next);
+        let mut count = 0;
+        while count < levels.len() && shift.take_inside(next) {
+            levels[count] = next;
+            next = shift.next_of(&self.body);
+            count += 1;
+        }
+        self.shift = shift;
+        self.next = next;
+        count
+    }
+}

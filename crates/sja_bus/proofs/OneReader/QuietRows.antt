@@ -1,0 +1,179 @@
+-- Bits of all nodes in which nothing happens, one after the other.
+use Rattle.std.proofs.Common.{◌≡◌, ℕ, suc, ◌+◌, ◌-◌, ◌*◌, ◌<◌, ◌≤◌, Bool, List, [], ◌∷◌}
+use Rattle.std.proofs.Common.{drop, length, take, refl, sym, ap, ◌∙◌, subst, arith, cond}
+use Rattle.std.specs.Prelude.{slice_index_or, ◌↔◌}
+use Rattle.std.specs.Int.{bit_at}
+use Rattle.std.proofs.lemmas.Bool.{ne_eqb}
+use Rattle.std.proofs.lemmas.List.{get_or-drop, length-append, length-drop, length-take-le, take_all}
+use Rattle.can_bits.specs.declared.level.Level.{Level}
+use Rattle.can_bits.specs.Digits.{opposite}
+use Rattle.sja_link.specs.declared.entry.Entry.{Entry}
+use Rattle.sja_link.specs.declared.entry.Entry.TheVariants.{Bit}
+use Rattle.sja_link.specs.declared.bus_end.BusEnd.{Ghosts as Ends}
+use Rattle.sja_link.specs.Lists.{Lists}
+use Rattle.sja_script.specs.declared.strike.Strike.{Strike}
+use Rattle.sja_script.specs.Striking.{Strikes}
+use Rattle.sja_regs.specs.declared.bus_turn.BusTurn.{BusTurn}
+use Rattle.sja_wire.specs.Wire.{wired}
+use Rattle.sja_bus.specs.declared.board.Board.{Ghosts as Ports}
+use Rattle.sja_bus.specs.declared.seat.Seat.{Seat}
+use Rattle.sja_bus.specs.StrikesByBit.{IsAmong}
+use Rattle.sja_bus.specs.Several.{AreBits, WorksIf}
+use Rattle.sja_bus.specs.Inside.Refusing.{AreFree, HaveRoom}
+use Rattle.sja_bus.specs.Inside.Rows.{AreReady, AreTold, EachSeat, GoesAll, IsBus, SeatTurns, driven_by}
+use Rattle.sja_bus.specs.Inside.Rows.{seen_by}
+use Rattle.sja_bus.specs.Inside.RunningOn.{AnyBit, NoneAborts, moment_of}
+use Rattle.sja_bus.specs.Inside.Together.{AreQuietRows, IsQuietRow}
+use Rattle.sja_bus.specs.Inside.Turning.{IsQuietBit}
+use Rattle.sja_bus.specs.Inside.Together.AreQuietRows.{no_row, one_more}
+use Rattle.sja_bus.proofs.AllNodes.RunningOn.{bits_on, passes, some_work}
+use Rattle.sja_bus.proofs.AtPorts.Turning.{quiet_turns}
+use Rattle.sja_bus.proofs.Links.Moving.{goes_quiet}
+use Rattle.sja_bus.proofs.Resting.Stretches.{nobody, not_among}
+use Rattle.lemmas.proofs.Related.{each_refl}
+
+-- ---- what stays, and what each bit takes
+
+-- as many seats, each with the room that it had; and each further entry was free
+pub record StayRooms (n : ℕ) (seats after : List Seat) : Type 0 where
+  pub count : length after ≡ length seats
+  pub rooms : EachSeat (λ m old new. new.journal.room ≡ old.journal.room) seats after
+  pub used : EachSeat (λ m old new. length new.journal.entries ≡ length old.journal.entries + n) seats after
+
+pub rooms_after : (seats : List Seat) (n : ℕ) (after : List Seat) → AreQuietRows seats n after →
+    StayRooms n seats after
+rooms_after seats _ _ no_row = record {
+  count = refl;
+  rooms = λ m s few. refl;
+  used = λ m s few. omega arith;
+}
+rooms_after seats _ _ (one_more mid after n rows row) =
+    let before = rooms_after seats n mid rows in let c = before.count in record {
+      count = row.count ∙ before.count;
+      rooms = λ m s few. row.rooms m s (omega (arith, few, c)) ∙ before.rooms m s few;
+      used = λ m s few.
+          let near : m < length mid = omega (arith, few, c) in let was = before.used m s few in
+          let old = slice_index_or mid m s in
+          let whole = ap (λ (l : List Entry). length l) (row.bits m s near).whole in
+          let more = length-append old.journal.entries (Bit old.drives (wired (driven_by mid)) ∷ []) in
+          omega (arith, was, whole, more);
+    }
+
+pub have_room_after : (seats after : List Seat) (n : ℕ) → StayRooms n seats after → (r : ℕ → ℕ) → HaveRoom r seats →
+    HaveRoom r after
+have_room_after seats after n stay r h k s few =
+    let c = stay.count in let near : k < length seats = omega (arith, few, c) in stay.rooms k s near ∙ h k s near
+
+pub free_after : (seats after : List Seat) (n m : ℕ) → StayRooms n seats after → AreFree m seats →
+    AreFree (m - n) after
+free_after seats after n m stay h k s few =
+    let c = stay.count in let near : k < length seats = omega (arith, few, c) in
+    let room = stay.rooms k s near in let used = stay.used k s near in let free = h k s near in
+    omega (arith, room, used, free)
+
+pub told_after : (seats : List Seat) (n : ℕ) (after : List Seat) → AreQuietRows seats n after → AreTold seats →
+    AreTold after
+told_after seats _ _ no_row told = told
+told_after seats _ _ (one_more mid after n rows row) told = λ k s few.
+    let c = row.count in (row.bits k s (omega (arith, few, c))).told
+
+-- none at all
+pub none_run : (seats after : List Seat) (n : ℕ) → AreQuietRows seats n after → n ≡ 0 → after ≡ seats
+none_run seats _ _ no_row none = refl
+none_run seats _ _ (one_more mid after n rows row) none = absurd (omega (arith, none))
+
+-- ---- the marks of the bits from one on
+
+pub part_left : {A : Type 0} (xs : List A) (k : ℕ) → k ≤ length xs →
+    length (take (length xs - k) (drop k xs)) ≡ length xs - k
+part_left xs k few = let rest = length-drop k xs in
+    length-take-le (length xs - k) (drop k xs) (omega (arith, rest))
+
+pub part_at : {A : Type 0} (xs : List A) (k i : ℕ) (d : A) → k + i < length xs →
+    slice_index_or (take (length xs - k) (drop k xs)) i d ≡ slice_index_or xs (k + i) d
+part_at xs k i d few =
+    let rest = length-drop k xs in
+    ap (λ l. slice_index_or l i d) (take_all (length xs - k) (drop k xs) (omega (arith, rest))) ∙ get_or-drop k xs i d
+
+-- ---- one of them
+
+-- nobody is struck, so each sees the level
+seen_all : (level : Level) (node : ℕ) → level ≡ seen_by nobody level node
+seen_all level node =
+    ap (λ b. cond b (opposite level) level) (sym (ne_eqb (bit_at 0 node) 1 (not_among node)))
+
+row_turns : (was_told : ℕ → BusTurn → Type 0) (was_kept : ℕ → Type 0) → ((m : ℕ) → was_kept m) →
+    (seats after : List Seat) → AreReady seats → IsQuietRow seats after →
+    EachSeat (SeatTurns was_told was_kept nobody (wired (driven_by seats))) seats after
+row_turns was_told was_kept kept seats after ready row m s few =
+    let level = wired (driven_by seats) in let old = slice_index_or seats m s in let new = slice_index_or after m s in
+    quiet_turns (was_told m) (was_kept m) (seen_by nobody level m) old new (kept m) (ready m s few).ready
+    (subst (λ y. IsQuietBit y old new) (seen_all level m) (row.bits m s few))
+
+row_goes : {E : Type 0} (same : E → E → Type 0) (stands : E → Lists → Type 0) → ((x : E) → same x x) →
+    (seats after : List Seat) (links : List E) → IsQuietRow seats after → GoesAll same stands seats after links links
+row_goes same stands r seats after links row = record {
+  sames = each_refl same r links;
+  kept = λ k s h few was.
+      let old = slice_index_or seats k s in let bit = Bit old.drives (wired (driven_by seats)) in
+      rw (row.bits k s few).whole
+      ((goes_quiet same stands r old.journal.entries bit links (64 * k) (λ l. refl)).kept h was);
+  grows = λ k s few.
+      let old = slice_index_or seats k s in
+      (Bit old.drives (wired (driven_by seats)) ∷ [], (row.bits k s few).whole);
+}
+
+-- ---- all of them
+
+-- the bus so many bits after this one, in none of which a port was told anything
+pub record IsAfter {E B : Type 0} (e : Ends E) (b : Ports B) (to_rest : Bool) (script : List Strike)
+    (from most nodes : ℕ) (begun : List Seat) (given : List E) (first : B) (links : List E) (board : B) (run : ℕ)
+    (seats : List Seat) : Type 0 where
+  pub count : length seats ≡ nodes
+  pub bus : IsBus script (from + run) seats
+  pub bits : (steps : List ℕ) (left : ℕ) → most ≤ left →
+      AreBits (AnyBit e b) (WorksIf to_rest) (moment_of script steps from left begun given first) run
+      (moment_of script steps (from + run) (left - run) seats links board)
+
+module _ {E B : Type 0} (e : Ends E) (b : Ports B) (same_refl : (x : E) → e.same x x)
+    (kept_refl : (x : B) (m : ℕ) → b.kept x x m) (to_rest : Bool) (script : List Strike) (from most nodes : ℕ)
+    (begun : List Seat) (given : List E) (first : B) (few : nodes ≤ 8) (links : List E) (board : B)
+    (still : board ≡ first)
+    (asked : NoneAborts (b.orders_are first) nodes) (facts : (k : ℕ) → k < nodes → b.facts board k) where
+  abbrev So_far : ℕ → List Seat → Type 0
+  So_far run seats = IsAfter e b to_rest script from most nodes begun given first links board run seats
+
+  row_on : (run : ℕ) (seats after : List Seat) → run < most →
+      ((node : ℕ) → node < 8 → Strikes script (from + run) node → ⊥) → IsQuietRow seats after → So_far run seats →
+      So_far (run + 1) after
+  row_on run seats after early unstruck row far =
+      let told = b.told board board in let kept = b.kept board board in let count = far.count in
+      let turns = row_turns told kept (λ m. kept_refl board m) seats after far.bus.ready row in
+      let at : (node : ℕ) → node < 8 → IsAmong node nobody ↔ Strikes script (from + run) node =
+      λ node low. (λ hit. absurd (not_among node hit), λ strikes. absurd (unstruck node low strikes)) in
+      let pass = passes b.orders_are told kept script (from + run) nodes nobody nobody (wired (driven_by seats)) first
+      board seats after few count row.count still asked not_among not_among at refl turns row.ready far.bus in
+      let next = pass.bus (from + (run + 1)) (omega arith) in record {
+        count = row.count ∙ count;
+        bus = next;
+        bits = λ steps left enough.
+            bits_on e b to_rest (moment_of script steps from left begun given first) script steps from run most left
+            nobody seats after links links board board early enough row.count pass.few pass.at pass.row
+            (each_refl e.same same_refl links) (refl, λ m far. kept_refl board m)
+            (row_goes e.same e.stands same_refl seats after links row) far.bus next
+            (λ k low. facts k (omega (arith, low, count)))
+            (λ yes. some_work seats far.bus.ready row.works) (far.bits steps left enough);
+      }
+
+  pub rows_on : (run : ℕ) (seats : List Seat) (n : ℕ) (after : List Seat) → run + n ≤ most →
+      ((i node : ℕ) → i < n → node < 8 → Strikes script (from + (run + i)) node → ⊥) → AreQuietRows seats n after →
+      So_far run seats → So_far (run + n) after
+  rows_on run seats _ _ within unstruck no_row far =
+      let P : ℕ → Type 0 = λ k. So_far k seats in let is : run ≡ run + 0 = omega arith in subst P is far
+  rows_on run seats _ _ within unstruck (one_more mid after n rows row) far =
+      let P : ℕ → Type 0 = λ k. So_far k after in let is : run + n + 1 ≡ run + suc n = omega arith in
+      let before = rows_on run seats n mid (omega (arith, within)) (λ i node low. unstruck i node (omega (arith, low)))
+      rows far in
+      let here : (node : ℕ) → node < 8 → Strikes script (from + (run + n)) node → ⊥ =
+      λ node. unstruck n node (omega arith) in
+      subst P is (row_on (run + n) mid after (omega (arith, within)) here row before)

@@ -1,0 +1,35 @@
+use Rattle.std.proofs.Common.{◌-◌, ◌<◌, ◌≤◌, length, rules, arith, sym, subst}
+use Rattle.std.proofs.lemmas.Bool.{eq-eqb, ne_eqb}
+use Rattle.sja_bus.specs.declared.seat.Seat.{Seat}
+use Rattle.sja_bus.specs.Inside.Together.{SeatGoesOn}
+use Rattle.sja_bus.proofs.AllNodes.Many.{done_all, done_none, done_one}
+use Rattle.sja_bus.proofs.together.all_go_on.Goals as goal
+
+pub loop-k-init : goal.loop-k-init
+loop-k-init c = record {
+  done = done_none (SeatGoesOn c.args.lead c.args.reader.now c.args.levels.now) c.args.seats.now;
+}
+
+pub go_on-requires-clause-free : goal.go_on-requires-clause-free
+go_on-requires-clause-free c =
+    let k = c.loop-k.k in let s = c.index-seats-k.result in let n = length c.args.levels.now in
+    let was : k < length c.args.seats.now = search rules in
+    let P : Seat → Type 0 = λ x. n ≤ x.journal.room - length x.journal.entries in
+    subst P (sym ((c.loop-k.invariant.done k s was).1 (omega arith))) (c.requires.free k s was)
+
+pub loop-k-preserved : goal.loop-k-preserved
+loop-k-preserved c =
+    let k = c.loop-k.k in let lead = c.args.lead in
+    let was : k < length c.args.seats.now = search rules in record {
+      done = done_one (SeatGoesOn lead c.args.reader.now c.args.levels.now) k c.args.seats.now c.loop-k.seats
+          c.index-seats-k.result c.go_on.new.self was c.loop-k.auto.seats (
+            λ same. c.go_on.ensures.sent (eq-eqb k lead same),
+            λ other. c.go_on.ensures.read (ne_eqb k lead other),
+          ) c.loop-k.invariant.done;
+    }
+
+pub returns : goal.returns
+returns c =
+    let all : length c.args.seats.now ≤ c.loop-k.k = search rules in
+    done_all (SeatGoesOn c.args.lead c.args.reader.now c.args.levels.now) c.loop-k.k c.args.seats.now c.loop-k.seats
+    all c.loop-k.invariant.done
