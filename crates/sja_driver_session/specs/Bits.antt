@@ -13,11 +13,12 @@ use Rattle.sja_driver_session.specs.declared.driver_session.DriverSession.TheVar
 
 -- ---- whether they may be run
 
--- so many bits may be run, and there is no turn for them
+-- so many bits may be run
 abbrev pub MayRunIn : DriverSession → ℕ → Type 0
 MayRunIn (Typed r) count = MayRunTyped r.session count
 MayRunIn (Accesses s) count = MayRun s count
 
+-- some are due, and there is no turn for them
 abbrev pub LacksBusTurnIn : DriverSession → ℕ → Type 0
 LacksBusTurnIn (Typed r) count = LacksTypedTurn r.session count
 LacksBusTurnIn (Accesses s) count = LacksBusTurn s count
@@ -41,7 +42,8 @@ abbrev pub RestsIn : DriverSession → DriverSession → ℕ → Bool → List (
 RestsIn was now run rests deeds =
     Rests (session_of was) (session_of now) run rests deeds × WritesBitsIn was now run
 
--- so many bits were run up to the first one in which the interrupt line of a watched node rose
+-- so many bits were run up to the first one in which the interrupt line of a watched node rose, or, where none rose, as
+-- many as were asked for or were left
 abbrev pub WatchesIn :
     DriverSession → DriverSession → ℕ → List Bool → ℕ → Option ℕ → List (List Deed) → Type 0
 WatchesIn was now count watched run rose deeds =

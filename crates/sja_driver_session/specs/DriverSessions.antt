@@ -49,7 +49,7 @@ abbrev pub answer_of : DriverSession → List (List Deed) → ℕ → Option Ste
 answer_of (Typed r) deeds node = last_answer (deeds_at deeds node)
 answer_of (Accesses s) deeds node = last_of (λ (x : Done). x.answer) (done_of s node)
 
--- both go by the same rules, and of its accesses nothing was written down
+-- both are typed, or both are of accesses, and then no step, answer or turn was written down
 abbrev pub IsUnwrittenIn : DriverSession → DriverSession → Type 0
 IsUnwrittenIn (Typed r) (Typed s) = Unit {0}
 IsUnwrittenIn (Accesses r) (Accesses s) = IsUnwritten r s

@@ -25,8 +25,8 @@ abbrev pub IsStepFaultIn : DriverSession → ℕ → StepFault → Type 0
 IsStepFaultIn (Typed r) node fault = IsTypedFault r.session node fault
 IsStepFaultIn (Accesses s) node fault = IsStepFault s node fault
 
--- a write may be done, and why it may not: in versions 1 and 2 it is as many steps as it is typed ones, in version 3 it
--- is one
+-- a write may be done, and why it may not: in versions 1 and 2 it is up to three steps of the plan, in version 3 it is
+-- one
 abbrev pub MayWriteIn : DriverSession → ℕ → ℕ → ℕ → List (List Deed) → Type 0
 MayWriteIn (Typed r) node address value deeds = MayWrite r node address value deeds
 MayWriteIn (Accesses s) node address value deeds = MayStep s node

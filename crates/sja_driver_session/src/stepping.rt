@@ -56,7 +56,8 @@ impl DriverSession {
     /// Writes a byte to an address of a node, counted from 0, now: any byte to any address, in either mode. No write is
     /// refused.
     ///
-    /// Errors: those of [`step`](DriverSession::step), where the write is as many steps as the plan has of it.
+    /// Errors: those of [`step`](DriverSession::step). In versions 1 and 2 `StepsUsed` comes where there is room for
+    /// fewer steps than the write is, and a write that is no step needs no turn.
     pub fn write(&mut self, node: u8, address: u8, value: u8) -> Result<(), StepFault>
         ensures writes { OnOk result ((deeds : List (List Deed)) → StandsIn self.old deeds →
             (after : List (List Deed)) × WritesIn self.old self.new node address value deeds after

@@ -6,8 +6,8 @@ use Rattle.sja_driver_session.specs.Ending.{AreAccounts, IsOwnLog, IsRunIn}
 use Rattle.sja_driver_session.specs.declared.driver_session.DriverSession.{DriverSession}
 use Rattle.sja_log.specs.Log.{RunValue}
 
--- the log has the session's own bits, journals and deeds, and is that of a run of the plan that it wrote: in versions 1
--- and 2 of one in one thread, in version 3 of the session's calls. Each driver's messages are accounted for in it
+-- the log has the session's own bits, journals and deeds, and is that of a run of the plan that it wrote, by the rules
+-- of its version. Each driver's messages are accounted for in it
 pub record IsLastLog (d : DriverSession) (deeds : List (List Deed)) (log : RunValue) : Type 0 where
   pub own : IsOwnLog d deeds log
   pub run : IsRunIn d (written d) log

@@ -27,22 +27,22 @@ none_at (suc nodes) (suc k) = none_at nodes k
 
 module _ (s : PlanSessionValue) (bits nodes : ℕ) (room : SessionRoom) (strikes : List Strike)
     (new : IsNew s bits nodes room strikes) where
-  nodes_are : node_count s ≡ nodes
+  pub nodes_are : node_count s ≡ nodes
   nodes_are = sym new.at.stands.deeds_count ∙ length-replicate nodes []
 
   bits_are : most_bits s ≡ bits
   bits_are = ap (λ (p : PlanValue). p.bits) new.wrote
 
-  at_first : IsAt s.raw.session (replicate (node_count s) [])
+  pub at_first : IsAt s.raw.session (replicate (node_count s) [])
   at_first = subst (λ n. IsAt s.raw.session (replicate n [])) (sym nodes_are) new.at
 
   typed_none : s.raw.session.turns ≡ []
   typed_none = ap (λ (p : PlanValue). p.turns) new.wrote
 
-  steps_none : (node : ℕ) → steps_of s node ≡ []
+  pub steps_none : (node : ℕ) → steps_of s node ≡ []
   steps_none node = ap (λ (l : List (List Step)). slice_index_or l node []) new.steps ∙ none_at nodes node
 
-  done_none : (node : ℕ) → done_of s node ≡ []
+  pub done_none : (node : ℕ) → done_of s node ≡ []
   done_none node = ap (λ (l : List (List Done)). slice_index_or l node []) new.done ∙ none_at nodes node
 
   each_first : (node : ℕ) → node < node_count s → AreSteps s node

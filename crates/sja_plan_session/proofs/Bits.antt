@@ -19,7 +19,7 @@ use Rattle.sja_session.proofs.QuietBits.{nodes_same}
 use Rattle.sja_session.proofs.Turned.{latest_of, bits_go_on}
 use Rattle.sja_plan_session.specs.Accessing.{HasTurn}
 use Rattle.sja_plan_session.specs.PlanSessions.{PlanSessionValue, bits_of, most_bits}
-use Rattle.sja_plan_session.specs.Running.{MayRun}
+use Rattle.sja_plan_session.specs.Running.{MayRun, with_bits}
 
 -- ---- bits and then more of them
 
@@ -33,12 +33,21 @@ turns_more : (turns : List Turn) (n m : ℕ) → with_turn (with_turn turns (Bus
 turns_more turns n m =
     ap (λ l. reverse (on_latest (Bus m) l)) (latest_of turns (Bus n)) ∙ ap reverse (latest_more (reverse turns) n m)
 
-one_more : (p : PlanValue) (n : ℕ) → with_bits_run (with_bits_run p n) 1 ≡ with_bits_run p (suc n)
-one_more p zero = refl
-one_more p (suc n) =
-    ap (λ (l : List Turn). record p { turns = l }) (turns_more p.turns (suc n) 1)
-    ∙ ap (λ m. record p { turns = with_turn p.turns (Bus m) })
-    (let e : suc n + 1 ≡ suc (suc n) = omega arith in e)
+pub bits_more : (p : PlanValue) (n m : ℕ) → with_bits_run (with_bits_run p n) m ≡ with_bits_run p (n + m)
+bits_more p zero m = ap (with_bits_run p) (let e : m ≡ 0 + m = omega arith in e)
+bits_more p (suc n) zero = ap (with_bits_run p) (let e : suc n ≡ suc n + 0 = omega arith in e)
+bits_more p (suc n) (suc m) =
+    let e : suc n + suc m ≡ suc (n + suc m) = omega arith in
+    ap (λ (l : List Turn). record p { turns = l })
+    (turns_more p.turns (suc n) (suc m) ∙ ap (λ k. with_turn p.turns (Bus k)) e)
+    ∙ ap (with_bits_run p) (sym e)
+
+pub told_more : (turns : List Turn) (n m : ℕ) → with_bits (with_bits turns n) m ≡ with_bits turns (n + m)
+told_more turns zero m = ap (with_bits turns) (let e : m ≡ 0 + m = omega arith in e)
+told_more turns (suc n) zero = ap (with_bits turns) (let e : suc n ≡ suc n + 0 = omega arith in e)
+told_more turns (suc n) (suc m) =
+    let e : suc n + suc m ≡ suc (n + suc m) = omega arith in
+    turns_more turns (suc n) (suc m) ∙ ap (λ k. with_turn turns (Bus k)) e ∙ ap (with_bits turns) (sym e)
 
 -- ---- where they led
 
@@ -89,8 +98,7 @@ then_bit {was} {mid} {now} {deeds} {run} b r =
       at = r.at;
       room = r.room ∙ b.room;
       bits = let x = b.bits in let y = last.bits in omega (arith, x, y);
-      wrote = r.wrote ∙ ap (λ p. with_bits_run p 1) b.wrote ∙ one_more (written was) run
-          ∙ ap (with_bits_run (written was)) (let e : suc run ≡ run + 1 = omega arith in e);
+      wrote = r.wrote ∙ ap (λ p. with_bits_run p 1) b.wrote ∙ bits_more (written was) run 1;
     }
 
 quiet_led : {watched : List Bool} {nodes : ℕ} {deeds : List (List Deed)} {was now : SessionValue} {n : ℕ} →

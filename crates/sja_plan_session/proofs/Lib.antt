@@ -13,3 +13,11 @@ pub mod BusTurns
 pub mod AllTurns
 pub mod Written
 pub mod Growing
+pub mod Replayed
+pub mod ReplayedSteps
+pub mod ReplayedBits
+pub mod Joined
+pub mod Covered
+pub mod Reached
+pub mod AsPlanned
+pub mod PlannedRun

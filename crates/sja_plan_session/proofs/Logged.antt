@@ -12,6 +12,20 @@ none_with : (nodes : List NodeValue) → nodes_with nodes [] ≡ nodes
 none_with [] = refl
 none_with (x ∷ nodes) = refl
 
+-- they are as many
+pub with_many : (nodes : List NodeValue) (done : List (List Done)) → length (nodes_with nodes done) ≡ length nodes
+with_many [] done = refl
+with_many (x ∷ nodes) [] = refl
+with_many (x ∷ nodes) (s ∷ done) = ap (λ n. suc n) (with_many nodes done)
+
+-- and have their journals
+pub journal_with : (nodes : List NodeValue) (done : List (List Done)) (k : ℕ) (d : NodeValue) →
+    (slice_index_or (nodes_with nodes done) k d).journal ≡ (slice_index_or nodes k d).journal
+journal_with [] done k d = refl
+journal_with (x ∷ nodes) [] k d = refl
+journal_with (x ∷ nodes) (s ∷ done) zero d = refl
+journal_with (x ∷ nodes) (s ∷ done) (suc k) d = journal_with nodes done k d
+
 -- the node at a place, with the steps that are there for it, or with its own
 abbrev pub node_for : List NodeValue → List (List Done) → ℕ → NodeValue → NodeValue
 node_for nodes done n d =

@@ -9,7 +9,7 @@ use Rattle.sja_session.specs.Turning.{on_latest, latest_size}
 use Rattle.sja_plan_session.specs.Keeping.{AreWithin}
 use Rattle.sja_plan_session.specs.PlanSessions.{PlanSessionValue, bits_of, steps_of}
 
-same_node : (j k : ℕ) → (j == k) ≡ true → j ≡ k
+pub same_node : (j k : ℕ) → (j == k) ≡ true → j ≡ k
 same_node j k goes = grind arith
 
 module _ (was now : PlanSessionValue) (steps : (k : ℕ) → length (steps_of was k) ≤ length (steps_of now k)) where

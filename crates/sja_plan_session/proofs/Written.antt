@@ -40,10 +40,12 @@ written_limits s sr dr tr inv limits =
 pub within_limits : (s : PlanSessionValue) (sr dr : List ℕ) (tr : ℕ) → IsPlanSession s sr dr tr → IsWithinLimits s
 within_limits s sr dr tr inv = record {
   version = inv.version;
-  bits = let f = few_bits s.raw.session inv.deeds inv.at in let b = inv.bits in omega (arith, f, b);
+  bits = inv.bits;
+  run = few_bits s.raw.session inv.deeds inv.at;
   steps = All-from_get_or (λ (l : List Step). length l ≤ most_steps_told 3) s.steps [] (λ k less.
       let n = inv.step_lists in let few = (inv.each k (omega (arith, n, less))).few in
       let room = inv.room.0 in omega (arith, few, room));
+  turn_count = let few = inv.few_turns in let room = inv.room.1 in omega (arith, few, room);
   turns = inv.within;
 }
 

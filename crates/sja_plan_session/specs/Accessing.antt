@@ -20,10 +20,11 @@ use Rattle.sja_plan_session.specs.Writing.{with_more}
 
 -- ---- whether it may be tried
 
--- a turn is left, or this one goes on with the last one; and no turn is left for it
+-- a turn is left, or this one goes on with the last one
 abbrev pub HasTurn : PlanSessionValue → Turn → Type 0
 HasTurn s t = (length s.turns < s.room.turns) ⊎ (goes_on_latest (reverse s.turns) t ≡ true)
 
+-- else: no turn is left for it
 abbrev pub LacksTurn : PlanSessionValue → Turn → Type 0
 LacksTurn s t = (s.room.turns ≤ length s.turns) × (goes_on_latest (reverse s.turns) t ≡ false)
 

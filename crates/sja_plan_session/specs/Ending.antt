@@ -14,8 +14,9 @@ use Rattle.sja_plan_session.specs.History.{Came, IsNew}
 use Rattle.sja_plan_session.specs.LogWith.{log_with}
 use Rattle.sja_plan_session.specs.PlanSessions.{PlanSessionValue, written}
 
--- the log of a session that stands at these deeds and ends so: it is that of the typed steps, which are a run in one
--- thread of the plan that has them, but that it has the steps of this plan with their answers in place of those
+-- the log of a session that stands at these deeds and ends so. `typed` is the log of its typed steps: a run in one
+-- thread of the plan of just these. This log is `typed`, with two things put in their place: of each node the answers
+-- of the plan's own steps, and the end
 pub record IsLogIn (s : PlanSessionValue) (deeds : List (List Deed)) (end : End) (log : RunValue) : Type 0 where
   pub typed : RunValue
   pub own : IsLogOf (written_typed s.raw.session) s.raw.session.run deeds TurnsDone typed

@@ -1,7 +1,7 @@
 -- What holds of every session of version 3 (this project's own rule).
 use Rattle.std.specs.Prelude.{◌≡◌, ◌+◌, ◌*◌, ◌<◌, ◌≤◌, ℕ, true, List, [], ◌∷◌, length, reverse, All}
 use Rattle.sja_driver.specs.Deeds.{Deed}
-use Rattle.sja_plan.specs.Limits.{most_steps_told}
+use Rattle.sja_plan.specs.Limits.{most_steps_told, most_turns}
 use Rattle.sja_plan.specs.declared.turn.Turn.{Turn}
 use Rattle.sja_plan.specs.declared.turn.Turn.TheVariants.{Bus, Rest, Node}
 use Rattle.sja_session.specs.Sessions.{AreNamed, IsAt}
@@ -62,10 +62,12 @@ pub record IsPlanSession (s : PlanSessionValue) (steps_room done_room : List ℕ
   pub room_done : All (λ room. s.room.steps ≤ room) done_room
   pub room_turns : s.room.turns + 1 ≤ turns_room
 
--- so what it wrote is within the limits of a document of version 3: its bits, the steps of each node, and the bits or
--- steps of each turn
+-- so what it wrote is within the limits of a document of version 3: its bits, of which no more have run, the steps of
+-- each node, the number of its turns, and the bits or steps of each. Of its strikes the typed session says it
 pub record IsWithinLimits (s : PlanSessionValue) : Type 0 where
   pub version : s.raw.session.plan.version ≡ 3
-  pub bits : bits_of s ≤ 2000000
+  pub bits : most_bits s ≤ 2000000
+  pub run : bits_of s ≤ most_bits s
   pub steps : All (λ steps. length steps ≤ most_steps_told 3) s.steps
+  pub turn_count : length s.turns ≤ most_turns 3
   pub turns : AreWithin s (reverse s.turns)

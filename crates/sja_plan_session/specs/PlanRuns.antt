@@ -1,13 +1,11 @@
 -- The run of a plan in one thread, by the rules of its version (this project's own rule).
-use Rattle.std.specs.Prelude.{◌<◌, ◌≤◌, List, length, All}
+use Rattle.std.specs.Prelude.{◌≡◌, ◌<◌, ◌≤◌, ◌⊎◌}
 use Rattle.sja_log.specs.Log.{RunValue}
 use Rattle.sja_log.specs.Runs.{IsSerialRun}
-use Rattle.sja_plan.specs.Limits.{most_steps_told}
 use Rattle.sja_plan.specs.Plan.{PlanValue}
-use Rattle.sja_script.specs.declared.step.Step.{Step}
-use Rattle.sja_plan_session.specs.RawRuns.{IsRawRun}
+use Rattle.sja_plan_session.specs.RawRuns.{IsRawRun, IsRawRunFault}
 use Rattle.sja_plan_session.specs.declared.raw_run_fault.RawRunFault.{RawRunFault}
-use Rattle.sja_plan_session.specs.declared.raw_run_fault.RawRunFault.TheVariants.{Steps, Memory}
+use Rattle.sja_plan_session.specs.declared.raw_run_fault.RawRunFault.TheVariants.{Memory}
 
 -- in version 3 its reads and writes are those of a driver that knows addresses and bytes alone, before it those of the
 -- typed driver
@@ -15,8 +13,6 @@ pub record IsPlanRun (plan : PlanValue) (log : RunValue) : Type 0 where
   pub typed : plan.version < 3 → IsSerialRun plan log
   pub raw : 3 ≤ plan.version → IsRawRun plan log
 
--- why there is none: in version 3 a node has more steps than a document may have; or memory was refused
+-- why there is none: in version 3 what a run of accesses tells, before it that memory was refused
 abbrev pub IsPlanRunFault : PlanValue → RawRunFault → Type 0
-IsPlanRunFault plan Steps =
-    (3 ≤ plan.version) × ¬ All (λ (steps : List Step). length steps ≤ most_steps_told 3) plan.nodes
-IsPlanRunFault plan Memory = Unit {0}
+IsPlanRunFault plan fault = ((3 ≤ plan.version) × IsRawRunFault plan fault) ⊎ ((plan.version < 3) × (fault ≡ Memory))

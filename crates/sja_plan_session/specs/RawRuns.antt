@@ -23,11 +23,10 @@ use Rattle.sja_plan_session.specs.Running.{Runs, RunsToRest}
 
 -- ---- what a plan needs
 
--- room for the steps of a plan: for as many of each node as the node with the most has, and for as many turns as a plan
--- may have, since its turns are taken one after another
+-- room for the steps of each node of a plan and for its turns, and for no more than a document of version 3 may have
 abbrev pub IsRoomFor : PlanValue → SessionRoom → Type 0
 IsRoomFor plan room =
-    All (λ steps. length steps ≤ room.steps) plan.nodes × IsAccessRoom room
+    All (λ steps. length steps ≤ room.steps) plan.nodes × (length plan.turns ≤ room.turns) × IsAccessRoom room
 
 -- ---- the steps of a node
 
@@ -76,8 +75,8 @@ pub data DoesTurns (plan : PlanValue) :
 
 -- ---- the whole
 
--- a run of a plan of version 3: a session with its strikes took its turns, one after another, and the log is the one
--- that it has where it ended
+-- a run of a plan of version 3: a session with its strikes took its turns, one after another, and this is its log where
+-- it ended
 pub record IsRawRun (plan : PlanValue) (log : RunValue) : Type 0 where
   pub first : PlanSessionValue
   pub room : SessionRoom

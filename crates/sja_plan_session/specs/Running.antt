@@ -12,10 +12,11 @@ use Rattle.sja_plan_session.specs.PlanSessions.{PlanSessionValue, bits_of, most_
 
 -- ---- whether they may be run
 
--- a bit is to be run: some are asked for, and some are left; and none is
+-- a bit is to be run: some are asked for, and some are left
 abbrev pub AreDue : PlanSessionValue → ℕ → Type 0
 AreDue s count = (1 ≤ count) × (bits_of s < most_bits s)
 
+-- else: none is asked for, or none is left
 abbrev pub AreNotDue : PlanSessionValue → ℕ → Type 0
 AreNotDue s count = (count < 1) ⊎ (most_bits s ≤ bits_of s)
 
@@ -52,7 +53,8 @@ pub record RunsToRest (was now : PlanSessionValue) (run : ℕ) (rests : Bool) (d
   pub rest : Rests was.raw.session now.raw.session run rests deeds
   pub writes : WritesBits was now run
 
--- so many bits were run up to the first one in which the interrupt line of a watched node rose
+-- so many bits were run up to the first one in which the interrupt line of a watched node rose, or, where none rose, as
+-- many as were asked for or were left
 pub record RunsToLine (was now : PlanSessionValue) (count : ℕ) (watched : List Bool) (run : ℕ) (rose : Option ℕ)
     (deeds : List (List Deed)) : Type 0 where
   pub watches : Watches was.raw.session now.raw.session count watched run rose deeds

@@ -5,7 +5,8 @@ use Rattle.sja_session.specs.Striking.{IsStruck}
 use Rattle.sja_plan_session.specs.Accessing.{IsUnwritten}
 use Rattle.sja_plan_session.specs.PlanSessions.{PlanSessionValue}
 
--- the strike was taken, and written down as one of the plan: the strikes of the plan are those of the typed session's
+-- the strike was taken, and the plan has it, since its strikes are those of the typed session; its steps, answers and
+-- turns stay
 pub record Strikes (was now : PlanSessionValue) (node bit : ℕ) (deeds : List (List Deed)) : Type 0 where
   pub struck : IsStruck was.raw.session now.raw.session node bit deeds
   pub kept : now.raw.kept ≡ was.raw.kept

@@ -13,10 +13,9 @@ ghost use Rattle.sja_plan_session.specs.Accessing.{Does, IsTyped};
 use super::copies::{copied_answer, copied_step};
 use super::more::{push_done, push_step};
 use super::plan_session::PlanSession;
-use super::turns::push_turn;
 use sja_plan::Turn;
 use sja_script::{Done, Step, StepAnswer};
-use sja_session::{Answered, RawSession, StepFault};
+use sja_session::{Answered, RawSession, StepFault, push_turn};
 
 impl PlanSession {
     ghost use Rattle.std.specs.Prelude.{◌≡◌, List, Ok, IfOk, IfErr, OnOk, OnErr};

@@ -16,9 +16,11 @@ impl PlanSession {
     ghost use Rattle.sja_session.specs.Sessions.{IsAt};
     ghost use Rattle.sja_plan_session.specs.Ending.{IsLogIn, IsSessionRun};
     ghost use Rattle.sja_plan_session.specs.PlanSessions.{written};
+    ghost use Rattle.sja_plan_session.specs.RawRuns.{IsRawRun};
 
     /// The plan that the session wrote, and its log, which has the steps of that plan with their answers; its bits,
-    /// journals and activations are those of the typed steps that they are, whose run is one in one thread.
+    /// journals and activations are those of the typed steps that they are, whose run is one in one thread. It is also
+    /// the log of a run of that plan, as [`run_raw`](super::run_raw) has it.
     ///
     /// Error: [`OutOfMemory`] where memory was refused.
     pub fn finish(self, alloc: Global) -> Result<(Plan, RunLog), OutOfMemory>
@@ -26,6 +28,7 @@ impl PlanSession {
         ensures own { IfOk result (λ both. (deeds : List (List Deed)) → IsAt self.raw.session deeds →
             IsLogIn self deeds TurnsDone both.1) }
         ensures run { IfOk result (λ both. IsSessionRun both.0 both.1) }
+        ensures raw_run { IfOk result (λ both. IsRawRun both.0 both.1) }
         ensures headline { IfOk result (λ both. (k : ℕ) (d : NodeValue) → k < length both.1.nodes →
             IsAccount (slice_index_or both.1.nodes k d)) }
     {

@@ -1,9 +1,8 @@
 //! Whether a session of version 3 may do a step, or run bits.
 
 use super::plan_session::PlanSession;
-use super::turns::goes_on_last;
 use sja_plan::Turn;
-use sja_session::{StepFault, TurnsUsed};
+use sja_session::{StepFault, TurnsUsed, goes_on_last};
 
 impl PlanSession {
     ghost use Rattle.std.specs.Prelude.{◌≡◌, ◌<◌, true, false, List, length, IfErr, OnOk, OnErr};

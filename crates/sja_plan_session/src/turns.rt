@@ -1,32 +1,12 @@
-//! The turns that a session takes, as its plan has them.
+//! The bits that a session runs, as its plan has them.
 
-ghost use Rattle.std.specs.Prelude.{◌≡◌, ◌+◌, ◌<◌, ◌^◌, reverse, vec_len, vec_capacity};
+ghost use Rattle.std.specs.Prelude.{◌≡◌, ◌<◌, vec_len, vec_capacity};
 ghost use Rattle.sja_plan.specs.declared.turn.Turn.TheVariants.{Bus};
 ghost use Rattle.sja_plan_session.specs.Running.{with_bits};
-ghost use Rattle.sja_session.specs.Turning.{goes_on, enlarged, size_of, with_turn, goes_on_latest, FitsLast};
+ghost use Rattle.sja_session.specs.Turning.{FitsLast};
 
 use sja_plan::Turn;
-
-/// Takes one turn more. It goes on with the last one where both are of one node, or both of the bus.
-#[inline(always)]
-pub(crate) fn push_turn(turns: &mut Vec<Turn>, turn: Turn)
-    requires room { vec_len turns.old < vec_capacity turns.old }
-    requires fits { FitsLast turns.old.items turn }
-    ensures turns { turns.new.items ≡ with_turn turns.old.items turn }
-    ensures capacity { vec_capacity turns.new ≡ vec_capacity turns.old }
-{
-    match turns.pop() {
-        None => turns.push_reserved(turn),
-        Some(last) => {
-            if goes_on(last, turn) {
-                turns.push_reserved(enlarged(last, size_of(turn)));
-            } else {
-                turns.push_reserved(last);
-                turns.push_reserved(turn);
-            }
-        }
-    }
-}
+use sja_session::push_turn;
 
 /// Takes so many bits more. No bits are no turn.
 pub(crate) fn push_bits(turns: &mut Vec<Turn>, run: u32)
@@ -37,49 +17,5 @@ pub(crate) fn push_bits(turns: &mut Vec<Turn>, run: u32)
 {
     if run > 0 {
         push_turn(turns, Turn::Bus(run));
-    }
-}
-
-/// Whether a turn goes on with the last of these.
-pub(crate) fn goes_on_last(turns: &[Turn], turn: Turn) -> bool
-    ensures { result ≡ goes_on_latest (reverse turns.now) turn }
-{
-    match turns.last() {
-        Some(last) => goes_on(*last, turn),
-        None => false,
-    }
-}
-
-/// Whether a turn goes on with an earlier one: both are of the bus, or both of one node.
-fn goes_on(earlier: Turn, later: Turn) -> bool
-    ensures { result ≡ goes_on earlier later }
-{
-    match (earlier, later) {
-        (Turn::Bus(_), Turn::Bus(_)) => true,
-        (Turn::Node(node, _), Turn::Node(other, _)) => node == other,
-        _ => false,
-    }
-}
-
-/// How many bits or steps a turn has.
-fn size_of(turn: Turn) -> u32
-    ensures { result ≡ size_of turn }
-{
-    match turn {
-        Turn::Bus(bits) => bits,
-        Turn::Node(_, steps) => steps,
-        Turn::Rest => 0,
-    }
-}
-
-/// The turn with so many bits or steps more.
-fn enlarged(turn: Turn, more: u32) -> Turn
-    requires { size_of turn + more < 2 ^ 32 }
-    ensures { result ≡ enlarged turn more }
-{
-    match turn {
-        Turn::Bus(bits) => Turn::Bus(bits + more),
-        Turn::Node(node, steps) => Turn::Node(node, steps + more),
-        Turn::Rest => Turn::Rest,
     }
 }

@@ -12,7 +12,7 @@ use Rattle.sja_script.specs.declared.step.Step.TheVariants.{Release, Command}
 abbrev pub command_byte : CommandBits → ℕ
 command_byte c = byte (c.tr ∷ c.at ∷ c.rrb ∷ c.cdo ∷ c.srr ∷ [])
 
--- a request can be made: with SRR alone not in version 1, in listen only mode not at all, and else where TBS is 1
+-- a request can be made where TBS is 1 and the mode isn't listen only; with SRR alone from version 2 on
 abbrev pub may_request : Registers → CommandBits → Bool
 may_request p c = (c.tr || not (is_first_version p)) && (not p.mode.lom && p.tbs)
 
@@ -32,9 +32,11 @@ doable p c =
 abbrev pub commands : ℕ → List Step
 commands value = if value == 0 then [] else Command value ∷ []
 
+-- a release, where RRB is set
 abbrev pub releases : Bool → List Step
 releases rrb = if rrb then Release ∷ [] else []
 
--- in reset mode every write is ignored: the reset values of the bits are "absent" (6.4.2)
+-- in reset mode every write is ignored (this project's own rule: of the data sheet the reset values of the bits alone
+-- speak of it, "absent" and "no action", 6.4.2). Out of it the command comes first, and then the release
 abbrev pub command_steps : Registers → CommandBits → List Step
 command_steps p c = if p.mode.rm then [] else commands (command_byte (doable p c)) ++ releases c.rrb

@@ -25,6 +25,6 @@ abbrev pub IsPromptIf : Option Step → Type 0
 IsPromptIf None = Unit {0}
 IsPromptIf (Some step) = IsPrompt step
 
--- each of these steps is one
+-- each of these steps is prompt
 abbrev pub ArePrompt : WriteSteps → Type 0
 ArePrompt w = IsPromptIf w.first × IsPromptIf w.second × IsPromptIf w.third

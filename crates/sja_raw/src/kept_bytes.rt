@@ -53,8 +53,8 @@ impl KeptBytes {
         }
     }
 
-    /// Takes what is written to an address, in reset mode (`reset`) or out of it. Out of it bits 0 to 2 of CDR alone
-    /// are taken, and of RBSA bits 0 to 5 in it.
+    /// Takes what is written to an address, in reset mode (`reset`) or out of it. In reset mode RBSA takes bits 0 to 5,
+    /// CDR all but 4 and 7, and the others the whole byte; out of it CDR takes bits 0 to 2, and nothing else is taken.
     pub fn write(&mut self, reset: bool, address: u8, value: u8)
         ensures { self.new ≡ kept_after self.old reset address value }
     {

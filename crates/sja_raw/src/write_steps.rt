@@ -19,14 +19,15 @@ use sja_regs::address::{CMR, MOD};
 use sja_regs::{Mode, Port};
 use sja_script::Step;
 
-/// The steps of a typed driver that a write is, in order, at most three (this project's own rule). None of them waits.
+/// The steps of a typed driver that a write is, at most three, in the order of the fields: an empty field is no step
+/// (this project's own rule). A write of one step has it in `third`. None of them waits.
 #[derive(Debug, PartialEq, Eq, Drop)]
 pub struct WriteSteps {
-    /// The first one, if any.
+    /// A step before the others: the stop of an activation that bus-off ended, or a command.
     pub first: Option<Step>,
-    /// The one after it.
+    /// A write of other bits of MOD in reset mode.
     pub second: Option<Step>,
-    /// The last one.
+    /// The last one, or the only one.
     pub third: Option<Step>,
 }
 

@@ -7,8 +7,9 @@ use Rattle.sja_script.specs.declared.done.Done.{Done}
 use Rattle.sja_threads.specs.AccessRuns.{IsAccessRun}
 use Rattle.sja_threads.specs.Threads.{IsThreadedRun}
 
--- the log is that of the typed steps that the steps of the plan were, of which it is a run in threads, but that it has
--- the steps of the plan with their answers in place of those
+-- the run of a plan, of any version, by accesses. `typed` is the log of a run in threads of the typed steps that the
+-- plan's steps were. This log is `typed`, with the answers of the plan's own steps in place of the typed ones; how many
+-- bits had run before each isn't counted. `quits` says whether some gate may quit
 pub record IsRawThreadedRun (plan : PlanValue) (log : RunValue) (quits : Bool) : Type 0 where
   pub typed : RunValue
   pub done : List (List Done)
@@ -19,10 +20,11 @@ pub record IsRawThreadedRun (plan : PlanValue) (log : RunValue) (quits : Bool) :
 abbrev pub is_raw_plan : PlanValue → Bool
 is_raw_plan plan = plan.version == 3
 
--- the run of a plan of any version, by whether its drivers know addresses and bytes alone
+-- the run of a plan, by accesses or by typed steps
 abbrev pub IsRunOfKind : Bool → PlanValue → RunValue → Bool → Type 0
 IsRunOfKind false plan log quits = IsThreadedRun plan log quits
 IsRunOfKind true plan log quits = IsRawThreadedRun plan log quits
 
+-- the run of a plan by the rules of its version
 abbrev pub IsPlanThreadedRun : PlanValue → RunValue → Bool → Type 0
 IsPlanThreadedRun plan log quits = IsRunOfKind (is_raw_plan plan) plan log quits

@@ -3,7 +3,7 @@ use Rattle.std.specs.Prelude.{Option, Some, None, List, [], ◌∷◌}
 use Rattle.sja_script.specs.declared.step_answer.StepAnswer.{StepAnswer}
 use Rattle.sja_driver.specs.Deeds.{Deed}
 
--- this of the last of a list, if there is one
+-- f of the last element of a list; none of an empty one
 abbrev pub last_of : {X Y : Type 0} → (X → Y) → List X → Option Y
 last_of f [] = None
 last_of f (x ∷ []) = Some (f x)

@@ -15,7 +15,8 @@ line_at s deeds node =
     is_line_active (slice_index_or s.run.ports node (at_power_on 1))
     (seen_now (is_active (deeds_at deeds node)) (journal_at s.run.bus.journals node) (deeds_at deeds node))
 
--- nothing happened: no deed was done, no bit was run, no port and no journal changed, and the plan is the same
+-- nothing happened that the bus, a port or the plan shows: no deed was done, no bit was run, no port and no journal
+-- changed, and the plan is the same. The driver may have taken in what its link showed, and no more
 pub record IsStill (was now : SessionValue) (deeds : List (List Deed)) : Type 0 where
   pub at : IsAt now deeds
   pub bus : now.run.bus ≡ was.run.bus

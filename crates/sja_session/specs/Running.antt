@@ -9,10 +9,11 @@ use Rattle.sja_session.specs.Writing.{with_bits_run}
 
 -- ---- whether they may be run
 
--- bits are due: some are asked for, and some are left; and none is
+-- bits are due: some are asked for, and some are left
 abbrev pub AreDue : SessionValue → ℕ → Type 0
 AreDue s count = (1 ≤ count) × (s.run.bits < s.plan.bits)
 
+-- else: none is asked for, or none is left
 abbrev pub AreNotDue : SessionValue → ℕ → Type 0
 AreNotDue s count = (count < 1) ⊎ (s.plan.bits ≤ s.run.bits)
 
@@ -27,7 +28,8 @@ LacksBusTurn s count = AreDue s count × LacksTurn s (Bus count)
 -- ---- what comes of it
 
 -- so many bits were run, of those that were asked for, and no step was done: all of them, or up to the last bit of the
--- plan
+-- plan. What each bit brought isn't said here, but that entries and deeds lead from power-on to the registers of each
+-- port (`IsAt`); that all nodes saw one level says the log
 pub record RunsBits (was now : SessionValue) (count run : ℕ) (deeds : List (List Deed)) : Type 0 where
   pub bits : TakesBits was.plan deeds (λ r. Unit {0}) was.run run now.run
   pub most : run ≤ count

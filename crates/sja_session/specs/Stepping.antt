@@ -23,10 +23,11 @@ use Rattle.sja_session.specs.Writing.{done_counts, with_step_done}
 
 -- ---- whether it may be tried
 
--- a turn is left, or this one goes on with the last one; and no turn is left for it
+-- a turn is left, or this one goes on with the last one
 abbrev pub HasTurn : SessionValue → Turn → Type 0
 HasTurn s t = (length s.turns < s.room.turns) ⊎ (goes_on_latest (reverse s.turns) t ≡ true)
 
+-- else: no turn is left for it
 abbrev pub LacksTurn : SessionValue → Turn → Type 0
 LacksTurn s t = (s.room.turns ≤ length s.turns) × (goes_on_latest (reverse s.turns) t ≡ false)
 
@@ -75,8 +76,8 @@ pub record DoesStep (was now : SessionValue) (node : ℕ) (step : Step) (answer 
   pub room : now.room ≡ was.room
   pub wrote : written now ≡ with_step_done (written was) node step
 
--- the step has to wait, and nothing happened: no deed was done, no bit was run, no port and no journal changed, and the
--- plan is the same
+-- the step has to wait, and nothing happened that the bus, a port or the plan shows: no deed was done, no bit was run,
+-- no port and no journal changed, and the plan is the same. The driver may have taken in what its link showed, no more
 pub record Waits (was now : SessionValue) (node : ℕ) (step : Step) (deeds : List (List Deed)) : Type 0 where
   pub why : HasToWait (slice_index_or was.run.ports node (at_power_on 1)) (journal_at was.run.bus.journals node)
       (deeds_at deeds node) step

@@ -7,6 +7,7 @@ use sja_script::StepAnswer;
 pub enum Answered {
     /// The step is done, and this is its answer. A step that its driver or its controller refuses is done too.
     Answer(StepAnswer),
-    /// The step has to wait, and nothing happened: too few messages have come, or the transmit buffer isn't released.
+    /// The step has to wait, and nothing happened: too few messages have come, the transmit buffer isn't released, or
+    /// the interrupt line isn't active.
     Waits,
 }

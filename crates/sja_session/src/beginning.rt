@@ -9,8 +9,7 @@ use super::session_room::SessionRoom;
 use sja_plan::{most_bits, most_steps, most_turns};
 use sja_script::MOST_NODES;
 
-/// The last version of a session's rules; the first one is 1 (this project's own rule). A plan's document can ask for
-/// the first two alone.
+/// The last version of a session's rules; the first one is 1 (this project's own rule).
 pub const LAST_VERSION: u8 = 3;
 
 /// Whether these are within the limits of a session.

@@ -12,7 +12,8 @@ impl Session {
     /// Whether the interrupt line of a node, counted from 0, is active: some bit of IR is 1, as a read of it would
     /// answer now (SJA1000 data sheet, 6.4.6). None where there is no such node.
     ///
-    /// It is no step: it clears nothing, no bit is run, and the plan stays as it is.
+    /// It is no step: it clears nothing, no bit is run, and the plan stays as it is. What has come for the driver is
+    /// taken in first, as a read does.
     pub fn irq(&mut self, node: u8) -> Option<bool>
         ensures line { IfSome result (λ line. (deeds : List (List Deed)) → IsAt self.old deeds →
             Looks self.old self.new node line deeds) }

@@ -48,5 +48,6 @@ pub use session_fault::SessionFault;
 pub use session_room::SessionRoom;
 pub use step_fault::StepFault;
 pub use strike_fault::StrikeFault;
+pub use turns::{goes_on_last, push_turn};
 pub use turns_used::TurnsUsed;
 pub use watched::Watched;

@@ -17,10 +17,10 @@ pub enum SessionFault {
     #[error("the number of nodes isn't one from 1 to 8")]
     NodeCount,
     /// Room is wanted for more steps of a node than a plan of this version has at most.
-    #[error("a plan of this version has fewer steps of a node")]
+    #[error("room for more steps of a node than a plan of this version may have")]
     StepRoom,
     /// Room is wanted for more turns than a plan of this version has at most.
-    #[error("a plan of this version has fewer turns")]
+    #[error("room for more turns than a plan of this version may have")]
     TurnRoom,
     /// Memory was refused.
     #[error("out of memory")]

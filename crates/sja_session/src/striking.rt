@@ -24,7 +24,7 @@ impl Session {
     ///
     /// Errors, the first that holds, and nothing changed: [`StrikeFault::NoNode`] where there is no such node;
     /// [`StrikeFault::NoBit`] where the session's bits end before this one; [`StrikeFault::Past`] where it has run;
-    /// [`StrikeFault::StrikesUsed`] where as many strikes were taken as a plan of its version has at most;
+    /// [`StrikeFault::StrikesUsed`] where the strikes so far strike as many bits as those of a plan of its version may;
     /// [`StrikeFault::Memory`] where memory was refused.
     pub fn strike(&mut self, alloc: Global, node: u8, bit: u32) -> Result<(), StrikeFault>
         ensures struck { OnOk result ((deeds : List (List Deed)) → IsAt self.old deeds →

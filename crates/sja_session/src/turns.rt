@@ -5,9 +5,11 @@ ghost use Rattle.sja_session.specs.Turning.{goes_on, enlarged, size_of, with_tur
 
 use sja_plan::Turn;
 
-/// Takes one turn more. It goes on with the last one where both are of one node, or both of the bus.
+/// Takes one turn more, as a plan that a session writes has it (this project's own rule). It goes on with the last one
+/// where both are of one node, or both of the bus. A place has to be reserved for it, and the bits or steps of both
+/// have to be fewer than 2^32.
 #[inline(always)]
-pub(crate) fn push_turn(turns: &mut Vec<Turn>, turn: Turn)
+pub fn push_turn(turns: &mut Vec<Turn>, turn: Turn)
     requires room { vec_len turns.old < vec_capacity turns.old }
     requires fits { FitsLast turns.old.items turn }
     ensures turns { turns.new.items ≡ with_turn turns.old.items turn }
@@ -26,8 +28,8 @@ pub(crate) fn push_turn(turns: &mut Vec<Turn>, turn: Turn)
     }
 }
 
-/// Whether a turn goes on with the last of these.
-pub(crate) fn goes_on_last(turns: &[Turn], turn: Turn) -> bool
+/// Whether a turn goes on with the last of these (this project's own rule), so that no further place is needed for it.
+pub fn goes_on_last(turns: &[Turn], turn: Turn) -> bool
     ensures { result ≡ goes_on_latest (reverse turns.now) turn }
 {
     match turns.last() {

@@ -1,5 +1,5 @@
 -- A run of a plan in one thread has as many nodes as the plan.
-use Rattle.std.proofs.Common.{◌≡◌, ◌<◌, ℕ, suc, List, [], ◌∷◌, ◌++◌, length, refl, sym, ap, ◌∙◌, inl, inr}
+use Rattle.std.proofs.Common.{◌≡◌, ◌<◌, ℕ, List, [], ◌∷◌, ◌++◌, length, refl, sym, ap, ◌∙◌, inl, inr}
 use Rattle.std.proofs.lemmas.Bool.{cases_lt}
 use Rattle.std.proofs.lemmas.List.{length-replicate, length-set}
 use Rattle.std.specs.Prelude.{replicate}
@@ -8,7 +8,6 @@ use Rattle.sja_log.specs.Log.{NodeValue, RunValue}
 use Rattle.sja_log.specs.declared.end.End.{End}
 use Rattle.sja_plan.specs.Plan.{PlanValue}
 use Rattle.sja_plan.specs.declared.turn.Turn.{Turn}
-use Rattle.sja_script.specs.declared.done.Done.{Done}
 use Rattle.sja_script.specs.declared.step.Step.{Step}
 use Rattle.sja_script.specs.declared.step_answer.StepAnswer.{StepAnswer}
 use Rattle.sja_session.specs.RawSessions.{DoesSteps as DoesTyped}
@@ -17,19 +16,13 @@ use Rattle.sja_session.specs.Sessions.{SessionValue, IsAt}
 use Rattle.sja_session.specs.Writing.{done_counts}
 use Rattle.sja_session.proofs.Written.{counts_many, length_fronts}
 use Rattle.sja_plan_session.specs.Accessing.{DoesStep}
-use Rattle.sja_plan_session.specs.LogWith.{nodes_with}
 use Rattle.sja_plan_session.specs.PlanRuns.{IsPlanRun}
 use Rattle.sja_plan_session.specs.PlanSessions.{PlanSessionValue}
 use Rattle.sja_plan_session.specs.RawRuns.{DoesSteps, DoesTurns, IsRawRun}
 use Rattle.sja_plan_session.specs.RawRuns.DoesSteps.{all, over, waits, more}
 use Rattle.sja_plan_session.specs.RawRuns.DoesTurns.{all_done, bus, bus_spent, rest, rest_spent, node}
+use Rattle.sja_plan_session.proofs.Logged.{with_many}
 use Rattle.sja_plan_session.proofs.Typed.{chain_of}
-
--- nodes with other steps done are as many
-with_many : (nodes : List NodeValue) (done : List (List Done)) → length (nodes_with nodes done) ≡ length nodes
-with_many [] done = refl
-with_many (n ∷ nodes) [] = refl
-with_many (n ∷ nodes) (steps ∷ done) = ap (λ m. suc m) (with_many nodes done)
 
 -- ---- a session of version 3 that takes the turns of a plan
 

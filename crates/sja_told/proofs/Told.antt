@@ -8,3 +8,4 @@ pub mod Runs
 pub mod AllRuns
 pub mod Lines
 pub mod StoredRuns
+pub mod AccessRuns

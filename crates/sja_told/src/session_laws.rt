@@ -1,0 +1,41 @@
+//! Laws of the logs of sessions of version 3. Each is the contract of a function that does nothing.
+
+ghost use Rattle.std.specs.Prelude.{◌≡◌, ◌<◌, ◌^◌, ◌++◌, ◌∷◌, ℕ, List, [], length, slice_index_or};
+ghost use Rattle.sja_link.specs.declared.entry.Entry.{Entry};
+ghost use Rattle.sja_link.specs.declared.entry.Entry.TheVariants.{Stored};
+ghost use Rattle.sja_link.specs.Places.{place_of};
+ghost use Rattle.sja_plan.specs.Plan.{PlanValue};
+ghost use Rattle.sja_log.specs.Log.{NodeValue, RunValue};
+ghost use Rattle.sja_plan_session.specs.Ending.{IsSessionRun};
+ghost use Rattle.sja_replay.specs.declared.happening.Happening.{Happening};
+ghost use Rattle.sja_replay.specs.Happened.{Happened};
+ghost use Rattle.sja_told.specs.Stored.{AllStored};
+ghost use Rattle.sja_told.specs.StoredLines.{IsToldStored};
+ghost use Rattle.sja_trace.specs.TraceText.{IsTrace};
+
+/// A law: the journal of each node of a session that reads and writes addresses has a happening for each bit that was
+/// run. The number of bits of a log is a `u32`.
+pub fn every_bit_of_a_session_is_told()
+    ensures { (plan : PlanValue) (log : RunValue) → IsSessionRun plan log → (k : ℕ) (d : NodeValue)
+        → k < length log.nodes → log.bits < 2 ^ 32 → (hs : List Happening)
+        → Happened [] (slice_index_or log.nodes k d).journal hs → length hs ≡ log.bits }
+{}
+
+/// A law: of each message that was stored in such a journal the bit before it has its frame, and tells that it was
+/// stored.
+pub fn every_stored_message_of_a_session_is_told()
+    ensures { (plan : PlanValue) (log : RunValue) → IsSessionRun plan log → (k : ℕ) (d : NodeValue)
+        → k < length log.nodes → log.bits < 2 ^ 32 → (hs : List Happening)
+        → Happened [] (slice_index_or log.nodes k d).journal hs
+        → AllStored (slice_index_or log.nodes k d).journal hs }
+{}
+
+/// A law: each message that a node of such a session stored has its line in the trace of its log, as
+/// [`every_stored_message_has_its_line`](super::every_stored_message_has_its_line) says it.
+pub fn every_stored_message_of_a_session_has_its_line()
+    ensures { (plan : PlanValue) (log : RunValue) (trace : List ℕ) → IsSessionRun plan log → IsTrace plan log trace
+        → log.bits < 2 ^ 32 → (k : ℕ) (d : NodeValue) → k < length log.nodes
+        → (before after : List Entry) (m : List ℕ)
+        → (slice_index_or log.nodes k d).journal ≡ before ++ Stored m ∷ after
+        → IsToldStored trace k (place_of before).bits m }
+{}
