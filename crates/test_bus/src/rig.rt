@@ -1,0 +1,115 @@
+//! [`Rig`]: a bus with its links, its ports and its drivers, in one thread.
+
+use super::hand::Hand;
+use super::places::{link_at, port_at};
+use super::wired::Wired;
+use can_frame::Message;
+use sja_bus::{NodeLog, serial_links};
+use sja_driver::CommandFault;
+use sja_link::{DequeLink, Down, DriverEnd, LinkId, ReleaseFault, Up};
+use sja_regs::RegFault;
+use sja_script::FaultScript;
+use std::alloc::Global;
+
+/// A bus with its links, its ports and its drivers, in one thread. There is no answer where a node isn't there, or the
+/// driver has no such call in its state.
+#[derive(Drop)]
+pub struct Rig {
+    pub bus: Wired<DequeLink>,
+    hands: Vec<Hand>,
+}
+
+impl Rig {
+    /// So many nodes after power-on, for so many bits, with these strikes.
+    pub fn new(
+        alloc: Global,
+        version: u8,
+        nodes: u8,
+        bits: u32,
+        strikes: FaultScript,
+    ) -> Option<Rig> {
+        let hands = hands_of(alloc, nodes)?;
+        let links = serial_links(alloc, nodes).ok()?;
+        let bus = Wired::new(alloc, version, nodes, bits, strikes, links)?;
+        Some(Rig { bus, hands })
+    }
+
+    /// Starts the controller of a node.
+    pub fn start(&mut self, node: u8) -> Option<()> {
+        let hand = self.hands.get_mut(usize::from(node))?;
+        let link = link_at(&mut self.bus.links, hand.link())?;
+        hand.start(link, port_at(&mut self.bus.board, node)?)
+    }
+
+    /// Stops it.
+    pub fn stop(&mut self, node: u8) -> Option<()> {
+        let hand = self.hands.get_mut(usize::from(node))?;
+        let link = link_at(&mut self.bus.links, hand.link())?;
+        hand.stop(link, port_at(&mut self.bus.board, node)?)
+    }
+
+    /// Reads a register of it: what it was answered.
+    pub fn read(&mut self, node: u8, addr: u8) -> Option<Result<u8, RegFault>> {
+        let hand = self.hands.get_mut(usize::from(node))?;
+        let link = link_at(&mut self.bus.links, hand.link())?;
+        hand.read(link, port_at(&mut self.bus.board, node)?, addr)
+    }
+
+    /// Writes a register of it: what it was answered.
+    pub fn write(&mut self, node: u8, addr: u8, value: u8) -> Option<Result<(), RegFault>> {
+        let hand = self.hands.get(usize::from(node))?;
+        Some(hand.write(port_at(&mut self.bus.board, node)?, addr, value))
+    }
+
+    /// Loads its transmit buffer.
+    pub fn load(&mut self, node: u8, message: &Message) -> Option<()> {
+        let hand = self.hands.get(usize::from(node))?;
+        hand.load(port_at(&mut self.bus.board, node)?, message)
+    }
+
+    /// Gives a command: what it was answered.
+    pub fn command(&mut self, node: u8, value: u8) -> Option<Result<(), CommandFault>> {
+        let hand = self.hands.get_mut(usize::from(node))?;
+        let link = link_at(&mut self.bus.links, hand.link())?;
+        hand.command(link, port_at(&mut self.bus.board, node)?, value)
+    }
+
+    /// Releases the first message: what it was answered.
+    pub fn release(&mut self, node: u8) -> Option<Result<u8, ReleaseFault>> {
+        let hand = self.hands.get_mut(usize::from(node))?;
+        let link = link_at(&mut self.bus.links, hand.link())?;
+        hand.release(link)
+    }
+
+    /// How many messages its driver got and didn't release.
+    pub fn unread(&self, node: u8) -> Option<usize> {
+        self.hands.get(usize::from(node)).map(|hand| hand.unread())
+    }
+
+    /// Gives an item on the link of this activation of a node, past its driver. Whether it was taken.
+    pub fn give(&mut self, node: u8, activation: u8, item: Up) -> Option<bool> {
+        let id = LinkId { node, activation };
+        Some(link_at(&mut self.bus.links, id)?.give(item).is_ok())
+    }
+
+    /// Gets the next item on that link, past its driver.
+    pub fn get(&mut self, node: u8, activation: u8) -> Option<Option<Down>> {
+        let id = LinkId { node, activation };
+        Some(link_at(&mut self.bus.links, id)?.get())
+    }
+
+    /// What stands of each node at the end, by node.
+    pub fn finish(self) -> Vec<NodeLog> {
+        let Rig { bus, hands: _ } = self;
+        bus.finish()
+    }
+}
+
+/// The drivers of so many nodes.
+fn hands_of(alloc: Global, nodes: u8) -> Option<Vec<Hand>> {
+    let mut hands = Vec::new(alloc);
+    for node in 0..nodes {
+        hands.push(Hand::new(node)).ok()?;
+    }
+    Some(hands)
+}

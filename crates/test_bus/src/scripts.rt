@@ -1,0 +1,46 @@
+//! Scripts of strikes.
+
+use super::told::Told;
+use super::words::{number, script_of, small};
+use sja_script::FaultScript;
+use std::alloc::Global;
+
+/// Does a call of a script.
+///
+/// `struck 0 40 0/3/4/3`, which of the first 40 bits strike node 0, of these strikes; `strikes 20 0 0/3/4/3`, whether
+/// bit 20 strikes it; `listed 0/3/4/3`, how many strikes a script has.
+pub fn of_script(alloc: Global, told: &mut Told, words: &[&str]) {
+    match words {
+        ["struck", node, bits, strikes @ ..] => {
+            match (small(node), number(bits), script_of(alloc, strikes)) {
+                (Some(node), Some(bits), Some(script)) => struck(told, &script, node, bits),
+                _ => told.unread(),
+            }
+        }
+        ["strikes", bit, node, strikes @ ..] => {
+            match (number(bit), small(node), script_of(alloc, strikes)) {
+                (Some(bit), Some(node), Some(script)) => told.said(script.strikes(bit, node)),
+                _ => told.unread(),
+            }
+        }
+        ["listed", strikes @ ..] => match script_of(alloc, strikes) {
+            Some(script) => told.length(script.as_slice().len()),
+            None => told.unread(),
+        },
+        _ => told.unread(),
+    }
+}
+
+/// Says which of the first so many bits strike a node.
+fn struck(told: &mut Told, script: &FaultScript, node: u8, bits: u32) {
+    let mut any = false;
+    for bit in 0..bits {
+        if script.strikes(bit, node) {
+            any = true;
+            told.number(bit);
+        }
+    }
+    if !any {
+        told.say("none");
+    }
+}
