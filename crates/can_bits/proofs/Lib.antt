@@ -26,3 +26,4 @@ pub mod DueLemmas
 pub mod PlaceLemmas
 pub mod PlaceLaws
 pub mod NextLevels
+pub mod PackedLevels

@@ -1,6 +1,8 @@
 -- Levels kept as one number.
 pub mod Numbers
 pub mod Marks
+pub mod Pushes
+pub mod Words
 pub mod Frames
 pub mod Bodies
 pub mod Registers

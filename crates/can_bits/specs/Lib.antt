@@ -21,3 +21,5 @@ pub mod Packing
 -- What a reader of one level at a time was given, and what its private fields stand for.
 pub mod Inside
 pub mod Shifts
+-- What a transmitter sends next.
+pub mod Sending

@@ -26,7 +26,8 @@ pub(crate) struct Gathered {
 }
 
 impl Gathered {
-    ghost use Rattle.std.specs.Prelude.{◌≡◌, ◌+◌, ◌*◌, ◌^◌, ◌<◌, ◌≤◌, ◌∷◌, ◌++◌, [], List, length, ◌↔◌, IsTrue};
+    ghost use Rattle.std.specs.Prelude.{◌≡◌, ◌≢◌, ◌+◌, ◌*◌, ◌%◌, ◌^◌, ◌<◌, ◌≤◌, ◌∷◌, ◌++◌, [], List, length};
+    ghost use Rattle.std.specs.Prelude.{◌↔◌, IsTrue};
     ghost use Rattle.can_bits.specs.declared.level.Level.{Level as Bus};
     ghost use Rattle.can_bits.specs.Check.{IsMultiple};
     ghost use Rattle.can_bits.specs.Digits.{value};
@@ -50,14 +51,28 @@ impl Gathered {
     /// Takes one level more.
     #[inline(always)]
     pub(crate) fn push(&mut self, level: Level)
-        ensures { (w : List Bus) → Gathers self.old w → length w < 118 → Gathers self.new (w ++ level ∷ []) }
+        ensures bit { (w : List Bus) → Gathers self.old w → length w < 118 → Gathers self.new (w ++ level ∷ []) }
+        ensures place { self.new.place ≡ (self.old.place + 1) % 256 }
     {
         self.word = 2 * (self.word % HIGHEST) + u128::from(level.digit());
         self.place = self.place.wrapping_add(1);
         self.divide(level);
         if self.place == self.mark {
-            self.move_mark();
+            self.mark = self.next_mark();
         }
+    }
+
+    /// Takes one level more, with which no mark is reached.
+    #[inline(always)]
+    pub(crate) fn push_before_mark(&mut self, level: Level)
+        requires { (self.old.place + 1) % 256 ≢ self.old.mark }
+        ensures bit { (w : List Bus) → Gathers self.old w → length w < 118 → Gathers self.new (w ++ level ∷ []) }
+        ensures place { self.new.place ≡ (self.old.place + 1) % 256 }
+        ensures mark { self.new.mark ≡ self.old.mark }
+    {
+        self.word = 2 * (self.word % HIGHEST) + u128::from(level.digit());
+        self.place = self.place.wrapping_add(1);
+        self.divide(level);
     }
 
     /// Runs the CRC register over a level.
@@ -72,20 +87,18 @@ impl Gathered {
         self.register = crc_step(self.register % 0x8000, level);
     }
 
-    /// Moves the mark to the next one, from the end of a standard frame's DLC on.
+    /// The next mark, from the end of a standard frame's DLC on.
     #[cold]
     #[inline(never)]
-    fn move_mark(&mut self)
-        ensures kept { self.new ≡ record self.old { mark = self.new.mark } }
-        ensures moved { (w : List Bus) → Packs self.old.word self.old.place w → 19 ≤ length w
-            → self.new.mark ≡ mark_of w }
+    fn next_mark(self) -> u8
+        ensures { (w : List Bus) → Packs self.word self.place w → 19 ≤ length w → result ≡ mark_of w }
     {
         let head = self.head_end();
-        self.mark = if self.place < head {
+        if self.place < head {
             head
         } else {
             self.level_count()
-        };
+        }
     }
 
     /// Whether both are the same.

@@ -8,6 +8,7 @@
 mod crc;
 mod frame_part;
 mod gathered;
+mod kept_frame;
 mod laws;
 mod layout;
 mod level;
@@ -24,6 +25,7 @@ mod shift_fault;
 mod stuffing;
 
 pub use crc::crc_of;
+pub use kept_frame::KeptFrame;
 pub use laws::{
     a_frame_has_one_sent_line, a_good_beginning_can_go_on, a_list_has_one_check_sequence,
     a_list_has_one_stuffing, a_place_code_counts_no_stuff_bits, a_stuffed_list_stuffs_one_list,

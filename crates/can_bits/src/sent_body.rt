@@ -9,6 +9,9 @@ use super::level::Level;
 use arrayvec::ArrayVec;
 use can_frame::Frame;
 
+/// How many binary digits a word has.
+const WORD: u8 = 128;
+
 /// The body that a transmitter of a frame sends, packed into one number, so that a node finds its next level at once.
 #[derive(Clone, Copy, Debug)]
 pub struct SentBody {
@@ -19,14 +22,16 @@ pub struct SentBody {
 }
 
 impl SentBody {
-    ghost use Rattle.std.specs.Prelude.{◌≡◌, ◌≤◌, ◌<◌, ◌+◌, ◌^◌, ◌++◌, [], List, length};
+    ghost use Rattle.std.specs.Prelude.{◌≡◌, ◌≤◌, ◌<◌, ◌+◌, ◌-◌, ◌/◌, ◌%◌, ◌^◌, ◌==◌, ◌++◌, [], ℕ, List, length};
+    ghost use Rattle.std.specs.Prelude.{Some, nat_le, if◌then◌else◌};
     ghost use Rattle.std.specs.List.{slice_get};
     ghost use Rattle.can_frame.specs.Frame.{FrameValue, IsFrame};
     ghost use Rattle.can_bits.specs.declared.level.Level.{Level as Bus};
     ghost use Rattle.can_bits.specs.declared.level.Level.TheVariants.{Dominant, Recessive};
-    ghost use Rattle.can_bits.specs.Digits.{bits};
+    ghost use Rattle.can_bits.specs.Digits.{bits, level_of};
     ghost use Rattle.can_bits.specs.Body.{head_bits, sent_body};
     ghost use Rattle.can_bits.specs.Packing.{Packs, IsSentBody};
+    ghost use Rattle.can_bits.specs.Sending.{AgreeFor, packed_level};
 
     /// No levels.
     pub fn empty() -> SentBody
@@ -80,16 +85,69 @@ impl SentBody {
         }
     }
 
+    /// How many levels there are; none where 128 binary digits don't have them, which the body of no frame is.
+    #[inline(always)]
+    pub(crate) fn len(&self) -> u8
+        ensures { result ≡ (if nat_le self.now.length 128 then self.now.length else 0) }
+    {
+        if self.length <= 128 { self.length } else { 0 }
+    }
+
     /// The level at a place of the body; none past it.
     #[inline(always)]
     pub fn level(&self, place: u8) -> Option<Level>
-        ensures { (f : FrameValue) → IsSentBody self.now f → result ≡ slice_get (sent_body f) place }
+        ensures of_frame { (f : FrameValue) → IsSentBody self.now f → result ≡ slice_get (sent_body f) place }
+        ensures packed { result ≡ packed_level self.now place }
     {
         if place < self.length {
             Some(Level::of((self.word >> ((self.length - 1 - place) % 128)) % 2 == 1))
         } else {
             None
         }
+    }
+
+    /// The levels from a place on as far as 64 binary digits have them, the next level the highest digit.
+    #[inline(always)]
+    pub(crate) fn digits_from(&self, place: u8) -> u64
+        ensures { (k : ℕ) → k < 64 → place + k < self.now.length → self.now.length ≤ 128
+            → packed_level self.now (place + k) ≡ Some (level_of (result / 2 ^ (63 - k) % 2 == 1)) }
+    {
+        if place < self.length {
+            let left = self.length - place;
+            ((self.word << ((128 - left % 128) % 128)) >> 64) as u64
+        } else {
+            0
+        }
+    }
+
+    /// At so many places, from the first one on, both bodies have the same levels; it may be at more.
+    pub(crate) fn agreement(&self, other: &SentBody) -> u8
+        ensures { AgreeFor result self.now other.now }
+    {
+        let most = self.length.min(other.length);
+        let apart = self.from_highest() ^ other.from_highest();
+        let places = most.min(apart.leading_zeros() as u8);
+        let short = self.length.max(other.length) <= WORD;
+        if short && self.front(places) == other.front(places) {
+            places
+        } else {
+            0
+        }
+    }
+
+    /// All levels, the first one the highest digit.
+    #[inline(always)]
+    fn from_highest(&self) -> u128 {
+        self.word << (WORD.saturating_sub(self.length) % WORD)
+    }
+
+    /// The number that the levels before a place write.
+    #[inline(always)]
+    fn front(&self, place: u8) -> u128
+        requires { place ≤ self.now.length }
+        ensures { self.now.length - place < 128 → result ≡ self.now.word / 2 ^ (self.now.length - place) }
+    {
+        self.word >> ((self.length - place) % WORD)
     }
 }
 

@@ -2,6 +2,7 @@
 
 use super::frame_part::FramePart;
 use super::gathered::Gathered;
+use super::kept_frame::KeptFrame;
 use super::level::Level;
 use super::line_fault::LineFault;
 use super::place::segment_after;
@@ -133,6 +134,17 @@ impl Shift {
     {
         if self.is_past(SIXTH_END_BIT + 1) {
             self.gathered.frame()
+        } else {
+            None
+        }
+    }
+
+    /// The same: the kept frame is given where it is of just these levels, and else one is built, and may be kept.
+    pub fn frame_or_kept(&self, kept: &mut Option<KeptFrame>) -> Option<Frame>
+        ensures { (l : List Bus) → StandsFor self.now l → IsReadable l → ShowsFrame l result }
+    {
+        if self.is_past(SIXTH_END_BIT + 1) {
+            self.gathered.frame_or_kept(kept)
         } else {
             None
         }

@@ -9,7 +9,7 @@ use crate::segment::Segment;
 use crate::shift_fault::ShiftFault;
 
 impl Shift {
-    ghost use Rattle.std.specs.Prelude.{◌≡◌, ◌≢◌, ◌⊎◌, ◌<◌, ◌==◌, length, ◌∷◌, ◌++◌, [], List, None, IfSome};
+    ghost use Rattle.std.specs.Prelude.{◌≡◌, ◌≢◌, ◌⊎◌, ◌<◌, ◌≤◌, ◌==◌, suc, length, ◌∷◌, ◌++◌, [], List, None, IfSome};
     ghost use Rattle.can_bits.specs.declared.level.Level.{Level as Bus};
     ghost use Rattle.can_bits.specs.Streaming.{BreaksWith};
     ghost use Rattle.can_bits.specs.Segments.{IsNext};
@@ -17,6 +17,7 @@ impl Shift {
     ghost use Rattle.can_bits.specs.Inside.FrameParts.{ReadsAt};
     ghost use Rattle.can_bits.specs.Shifts.{StandsFor, JudgesAt};
     ghost use Rattle.can_bits.specs.Inside.Gathering.{Gathers};
+    ghost use Rattle.can_bits.specs.Sending.{place_of};
     ghost use Rattle.can_bits.specs.Fields.{says_count};
 
     /// Takes a level of the stuffed part.
@@ -71,6 +72,7 @@ impl Shift {
         requires { self.old.frame_part ≡ FramePart.Stuffed }
         ensures kept { self.new.wrong ≡ self.old.wrong }
         ensures early { (self.new.frame_part ≡ FramePart.Stuffed) ⊎ (self.new.frame_part ≡ FramePart.FixedForm 0) }
+        ensures near { place_of self.new ≤ suc (place_of self.old) }
         ensures stands { (l : List Bus) → ReadsAt FramePart.Stuffed self.old l
             → (self.old.count ≡ 0 → level ≡ Level.Dominant)
             → (self.old.run ≡ 5 → level ≢ self.old.last) → ReadsAt self.new.frame_part self.new (l ++ level ∷ []) }
@@ -91,6 +93,7 @@ impl Shift {
         ensures bit { (w : List Bus) → Gathers self.old.gathered w → length w < 118 → self.old.run ≢ 5
             → Gathers self.new.gathered (w ++ level ∷ []) }
         ensures stuff_bit { self.old.run ≡ 5 → self.new.gathered ≡ self.old.gathered }
+        ensures near { place_of self.new ≤ suc (place_of self.old) }
     {
         if self.run != RUN {
             self.gathered.push(level);
@@ -98,8 +101,7 @@ impl Shift {
     }
 
     /// Ends the stuffed part, unless a stuff bit is due.
-    #[cold]
-    #[inline(never)]
+    #[inline(always)]
     fn end_part_unless_stuff(&mut self)
         requires { self.old.frame_part ≡ FramePart.Stuffed }
         ensures kept { self.new ≡ record self.old { frame_part = self.new.frame_part } }

@@ -5,10 +5,11 @@ use crate::frame_part::FramePart;
 use crate::level::Level;
 
 impl Shift {
-    ghost use Rattle.std.specs.Prelude.{◌≡◌, ◌≢◌, ◌↔◌, ◌∷◌, ◌++◌, [], List, IsTrue, None, true, false};
+    ghost use Rattle.std.specs.Prelude.{◌≡◌, ◌≢◌, ◌≤◌, ◌↔◌, ◌∷◌, ◌++◌, [], List, IsTrue, None, suc, true, false};
     ghost use Rattle.can_bits.specs.declared.level.Level.{Level as Bus};
     ghost use Rattle.can_bits.specs.Streaming.{IsReadable, IsRightInside, ShowsFrame, IsOver};
     ghost use Rattle.can_bits.specs.Acknowledging.{IsAckDue};
+    ghost use Rattle.can_bits.specs.Sending.{place_of};
     ghost use Rattle.can_bits.specs.Shifts.{StandsFor};
 
     /// Takes the next level where it is right and belongs to the stuffed part, past SOF. Answers whether it did: then
@@ -20,6 +21,7 @@ impl Shift {
         ensures takes { result ≡ true → (l : List Bus) → StandsFor self.old l → StandsFor self.new (l ++ level ∷ []) }
         ensures inside { result ≡ true → (l : List Bus) → StandsFor self.old l → IsReadable (l ++ level ∷ [])
             × ShowsFrame (l ++ level ∷ []) None × (¬ IsOver (l ++ level ∷ [])) × ¬ IsAckDue (l ++ level ∷ []) }
+        ensures near { place_of self.new ≤ suc (place_of self.old) }
         ensures same { result ≡ false → self.new ≡ self.old }
     {
         if self.is_right_inside(level) {
@@ -48,7 +50,7 @@ impl Shift {
 
     /// Whether the reader is in the stuffed part, where all levels so far were right.
     #[inline(always)]
-    fn is_inside(&self) -> bool
+    pub(super) fn is_inside(&self) -> bool
         ensures no_fault { result ≡ true → self.now.wrong ≡ None }
         ensures in_part { result ≡ true → self.now.frame_part ≡ FramePart.Stuffed }
         ensures only { (l : List Bus) (level : Bus) → StandsFor self.now l → IsRightInside l level → result ≡ true }

@@ -3,10 +3,15 @@
 use super::{RUN, Shift};
 use crate::frame_part::FramePart;
 use crate::level::Level;
+use crate::run::run_after;
 use crate::sent_body::SentBody;
 
+/// The highest of 64 binary digits.
+const HIGHEST: u64 = 1 << 63;
+
 impl Shift {
-    ghost use Rattle.std.specs.Prelude.{◌≡◌, ◌∷◌, ◌++◌, List, length};
+    ghost use Rattle.std.specs.Prelude.{◌≡◌, ◌≢◌, ◌≤◌, ◌<◌, ◌+◌, ◌∷◌, ◌++◌, List, length, take, drop, slice_range};
+    ghost use Rattle.std.specs.Prelude.{true, None};
     ghost use Rattle.can_bits.specs.declared.level.Level.{Level as Bus};
     ghost use Rattle.can_frame.specs.Frame.{FrameValue};
     ghost use Rattle.can_bits.specs.Streaming.{IsReadable};
@@ -15,16 +20,18 @@ impl Shift {
     ghost use Rattle.can_bits.specs.Line.{StuffedPart, tail};
     ghost use Rattle.can_bits.specs.Packing.{IsSentBody};
     ghost use Rattle.can_bits.specs.Places.{place_code, is_early_stuff};
+    ghost use Rattle.can_bits.specs.Sending.{AgreeFor, SendsAlong, next_level, place_of};
     ghost use Rattle.can_bits.specs.Shifts.{StandsFor};
 
     /// The next level of the line that a transmitter of this packed body sends, where the levels so far are a front of
     /// that line, but for the ACK slot (Bosch CAN 2.0 part A sections 3.1.1 and 5).
     #[inline(always)]
     pub fn next_of(&self, body: &SentBody) -> Level
-        ensures { (f : FrameValue) (l others c part before rest : List Bus) (x ack : Bus) → IsSentBody body.now f
-            → StandsFor self.now l
+        ensures of_frame { (f : FrameValue) (l others c part before rest : List Bus) (x ack : Bus)
+            → IsSentBody body.now f → StandsFor self.now l
             → StuffedPart f (sent_body f) c part → Crc (sent_body f) c → part ++ tail ack ≡ l ++ others
             → part ++ tail Bus.Recessive ≡ before ++ x ∷ rest → length before ≡ length l → result ≡ x }
+        ensures packed { result ≡ next_level self.now body.now }
     {
         match self.frame_part {
             FramePart::Stuffed => {
@@ -36,6 +43,64 @@ impl Shift {
             }
             FramePart::FixedForm(_) => Level::Recessive,
         }
+    }
+
+    /// For so many levels from the next one on transmitters of both bodies send the same, at this reader; it may be for
+    /// more. 0 says nothing.
+    pub fn agreement(&self, one: &SentBody, other: &SentBody) -> u8
+        ensures { 0 < result → AgreeFor (place_of self.now + result) one.now other.now }
+    {
+        self.gathered.agreement(one, other)
+    }
+
+    /// Whether the reader is in the stuffed part, past SOF, where all levels so far were right.
+    #[inline(always)]
+    fn is_past_sof(&self) -> bool
+        ensures no_fault { result ≡ true → self.now.wrong ≡ None }
+        ensures in_part { result ≡ true → self.now.frame_part ≡ FramePart.Stuffed }
+        ensures begun { result ≡ true → self.now.run ≢ 0 }
+        ensures most { result ≡ true → self.now.run ≤ 5 }
+    {
+        self.is_inside() && self.run > 0 && self.run <= RUN
+    }
+
+    /// Takes some of the levels that a transmitter of this body sends next, perhaps none, and writes them from a place
+    /// of the list on. Answers where the rest of the list begins. The others are left to
+    /// [`take_inside`](Shift::take_inside): those with which more is known of the length, and all past the body.
+    #[inline(always)]
+    pub fn send_along(&mut self, body: &SentBody, levels: &mut [Level], from: usize) -> usize
+        requires within { from ≤ length levels.old }
+        ensures more { from ≤ result }
+        ensures few { result ≤ length levels.old }
+        ensures count { length levels.new ≡ length levels.old }
+        ensures front { take from levels.new ≡ take from levels.old }
+        ensures rest { drop result levels.new ≡ drop result levels.old }
+        ensures sends { SendsAlong body.now self.old (slice_range levels.new from result) self.new }
+    {
+        let end = self.gathered.plain_end(body);
+        if !self.gathered.is_before(end) || !self.is_past_sof() {
+            return from;
+        }
+        let mut shift = *self;
+        let mut digits = shift.gathered.digits_of(body);
+        let mut place = from;
+        while shift.gathered.is_before(end) && place < levels.len() {
+            let level = if shift.run == RUN {
+                shift.last.opposite()
+            } else {
+                let level = Level::of(digits >> 63 == 1);
+                digits = 2 * (digits % HIGHEST);
+                shift.gathered.push_before_mark(level);
+                level
+            };
+            shift.run = run_after(shift.run, shift.last, level);
+            shift.last = level;
+            levels[place] = level;
+            place += 1;
+        }
+        shift.count = shift.count.wrapping_add(((place - from) % 256) as u8);
+        *self = shift;
+        place
     }
 
     /// The place code of the next level, where a transmitter of that format may lose arbitration there: 0 for the first
