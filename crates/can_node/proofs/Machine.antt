@@ -23,3 +23,5 @@ pub mod QuietReceiver
 pub mod QuietTransmitter
 pub mod QuietPlaces
 pub mod Together
+pub mod SendingAlike
+pub mod Following

@@ -1,12 +1,12 @@
--- Nodes that read one frame together: one of them sends it, and another one has read just what the sender has. So one
--- reader does for both while the frame's stuffed part goes on (this project's own rule).
-use Rattle.std.specs.Prelude.{◌≡◌, ◌&&◌, Bool, true, false, None, List, [], ◌∷◌, ◌++◌}
+-- Nodes that read one frame together: one of them sends it, and another one has read just what the sender has, and
+-- receives or sends what is the same so far. So one reader does for both while the frame's stuffed part goes on (this
+-- project's own rule).
+use Rattle.std.specs.Prelude.{◌≡◌, ◌+◌, ◌&&◌, ℕ, Bool, true, false, List, [], ◌∷◌, ◌++◌}
 use Rattle.can_bits.specs.declared.level.Level.{Level}
 use Rattle.can_bits.specs.declared.level.Level.TheVariants.{Recessive}
 use Rattle.can_bits.specs.declared.shift.Shift.{Shift}
-use Rattle.can_bits.specs.Acknowledging.{IsAckDue}
-use Rattle.can_bits.specs.Shifts.{StandsFor}
-use Rattle.can_bits.specs.Streaming.{IsReadable, IsOver, IsRightInside, ShowsFrame}
+use Rattle.can_bits.specs.declared.sent_body.SentBody.{SentBody}
+use Rattle.can_bits.specs.Sending.{AgreeFor, TakesInside, next_level, place_of}
 use Rattle.can_node.specs.declared.node.Node.{Node}
 use Rattle.can_node.specs.declared.role.Role.TheVariants.{Receiver}
 use Rattle.can_node.specs.declared.stage.Stage.{Stage}
@@ -24,6 +24,10 @@ reader_of node = node.shift
 abbrev pub next_level_of : Node → Level
 next_level_of node = node.next
 
+-- the packed body of its own frame, or of the last one
+abbrev pub body_of : Node → SentBody
+body_of node = node.body
+
 -- the same node with another reader
 abbrev pub reading_as : Node → Shift → Node
 reading_as node reader = record node { shift = reader }
@@ -37,6 +41,10 @@ is_in_frame _ = false
 abbrev pub is_sending : Node → Bool
 is_sending node = is_in_frame node.stage && is_transmitter node.context.role
 
+-- a node that sends, with another reader: it drives next what comes next of its own frame
+abbrev pub sending_as : Node → Shift → Node
+sending_as node reader = record node { shift = reader; next = next_level reader node.body }
+
 -- it receives a frame, drives recessive next, and has read just what this reader has
 pub record HasReadAs (node : Node) (reader : Shift) : Type 0 where
   pub in_frame : node.stage ≡ InFrame
@@ -44,15 +52,30 @@ pub record HasReadAs (node : Node) (reader : Shift) : Type 0 where
   pub drives : next_level_of node ≡ Recessive
   pub same : reader_of node ≡ reader
 
--- ---- the bits of the stuffed part
+-- it sends a frame too, has read just what the other sender has, drives the same, and the bodies of both frames have
+-- the same levels from SOF on to so many places past those that are gathered: so at least the next n bits are the same,
+-- since a stuff bit takes no place
+pub record SendsAlike (sender : Node) (n : ℕ) (node : Node) : Type 0 where
+  pub sends : is_sending node ≡ true
+  pub same : reader_of node ≡ reader_of sender
+  pub drives : next_level_of node ≡ next_level_of sender
+  pub agree : AgreeFor (place_of (reader_of sender) + n) (body_of sender) (body_of node)
 
--- a reader takes this level, wherever it may stand: it is right there, in the stuffed part past SOF. There is no frame
--- with it, the line isn't over, and no ACK is due
-pub record TakesInside (old : Shift) (x : Level) (new : Shift) : Type 0 where
-  pub right : (l : List Level) → StandsFor old l → IsRightInside l x
-  pub stands : (l : List Level) → StandsFor old l → StandsFor new (l ++ x ∷ [])
-  pub inside : (l : List Level) → StandsFor old l →
-      IsReadable (l ++ x ∷ []) × ShowsFrame (l ++ x ∷ []) None × (¬ IsOver (l ++ x ∷ [])) × ¬ IsAckDue (l ++ x ∷ [])
+-- for so many bits it goes on with a node that sends: it receives that frame, or sends one that is alike so far
+pub data GoesWith (sender : Node) (n : ℕ) (node : Node) : Type 0 where
+  receives : HasReadAs node (reader_of sender) → GoesWith sender n node
+  sends : SendsAlike sender n node → GoesWith sender n node
+
+-- the same node once another's reader has taken some bits for both, and it has that reader: a sender drives next what
+-- comes next of its own frame, any other what it drove
+abbrev pub gone_on : Bool → Node → Shift → Node
+gone_on true node reader = sending_as node reader
+gone_on false node reader = reading_as node reader
+
+abbrev pub following : Node → Shift → Node
+following node reader = gone_on (is_sending node) node reader
+
+-- ---- the bits of the stuffed part
 
 -- one bit of a node that sends: it sees what it drives, and nothing happens that it shows
 pub record SendsBit (old : Node) (x : Level) (new : Node) : Type 0 where

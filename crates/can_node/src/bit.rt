@@ -16,7 +16,7 @@ use super::receive::receive;
 use super::role::Role;
 use super::stage::Stage;
 use super::transmit::transmit;
-use can_bits::{Level, Shift};
+use can_bits::{KeptFrame, Level, Shift};
 
 impl Node {
     ghost use Rattle.std.specs.Prelude.{◌≡◌, [], None, IsTrue};
@@ -33,8 +33,18 @@ impl Node {
 
     /// Sees the level of the bus in this bit, as [`sample`](Node::sample) does, by the general way alone: for a bit
     /// that isn't quiet.
-    #[inline(never)]
     pub fn sample_fully(&mut self, level: Level) -> BitEvents
+        ensures samples { Samples self.old self.new level result }
+        ensures off { IsTrue result.went_off → InReset self.new }
+    {
+        let mut kept = None;
+        self.sample_fully_with(level, &mut kept)
+    }
+
+    /// The same, where several nodes see one level: a frame that one of them receives may be kept, and is given to the
+    /// others that have read the same levels.
+    #[inline(never)]
+    pub fn sample_fully_with(&mut self, level: Level, kept: &mut Option<KeptFrame>) -> BitEvents
         ensures samples { Samples self.old self.new level result }
         ensures off { IsTrue result.went_off → InReset self.new }
     {
@@ -43,7 +53,7 @@ impl Node {
         let held = self.context.held.is_some();
         let off = self.context.counters.off;
         let loses = lost.is_some();
-        let after = self.after_bit(driven, level, loses);
+        let after = self.after_bit(driven, level, loses, kept);
         self.context.step_bit(self.stage, driven, level, loses);
         let sent = after.is_sent();
         self.go_to(&after);
@@ -61,7 +71,13 @@ impl Node {
     }
 
     /// What a bit makes of the piece under way, by the node's stage; arbitration is lost in it or not.
-    fn after_bit(&mut self, driven: Level, seen: Level, lost: bool) -> AfterBit
+    fn after_bit(
+        &mut self,
+        driven: Level,
+        seen: Level,
+        lost: bool,
+        kept: &mut Option<KeptFrame>,
+    ) -> AfterBit
         ensures kept { self.new ≡ record self.old { shift = self.new.shift } }
         ensures turn { TurnsFrom
             (λ c place bits. At self.old.stage self.old.shift c (context_of self.old.context) place bits)
@@ -71,7 +87,7 @@ impl Node {
             Stage::InReset => AfterBit::InPiece(Stage::InReset),
             Stage::Integrating { left, run } => after_integration_bit(left, run, seen),
             Stage::BusIdle => self.after_idle_bit(driven, seen),
-            Stage::InFrame => self.after_frame_bit(driven, seen, lost),
+            Stage::InFrame => self.after_frame_bit(driven, seen, lost, kept),
             Stage::LastEofBit => after_last_eof_bit(seen),
             Stage::InFlag { bits, last } => self.after_flag_bit(bits, last, seen),
             Stage::InDelimiter {
@@ -123,13 +139,19 @@ impl Node {
     }
 
     /// A bit of a frame, after its SOF.
-    fn after_frame_bit(&mut self, driven: Level, seen: Level, lost: bool) -> AfterBit
+    fn after_frame_bit(
+        &mut self,
+        driven: Level,
+        seen: Level,
+        lost: bool,
+        kept: &mut Option<KeptFrame>,
+    ) -> AfterBit
         ensures kept { self.new ≡ record self.old { shift = self.new.shift } }
         ensures turn { TurnsFrom (λ c place bits. IsReading self.old.shift c (context_of self.old.context) place bits)
             self.old self.new.shift driven seen lost result }
     {
         match self.context.role {
-            Role::Receiver => receive(&mut self.shift, driven, seen),
+            Role::Receiver => receive(&mut self.shift, driven, seen, kept),
             Role::Transmitter => match &self.context.held {
                 Some(request) => {
                     transmit(

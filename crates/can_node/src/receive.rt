@@ -12,7 +12,7 @@ use super::cause::Cause;
 use super::ending::Ending;
 use super::fault_site::FaultSite;
 use super::stage::Stage;
-use can_bits::{Level, LineFault, Segment, Shift};
+use can_bits::{KeptFrame, Level, LineFault, Segment, Shift};
 
 /// The cause of a fault of a line.
 fn cause_of(fault: &LineFault) -> Cause
@@ -46,8 +46,14 @@ fn error(cause: Cause, segment: Segment) -> AfterBit
 
 /// A bit of a frame for its receiver: the frame goes on, or it is received with the sixth bit of EOF, or there is an
 /// error: a level with which no line goes on (stuff error or form error), the ACK delimiter after a wrong CRC sequence
-/// (CRC error), or an acknowledgement of its own that isn't seen (bit error).
-pub(crate) fn receive(shift: &mut Shift, driven: Level, seen: Level) -> AfterBit
+/// (CRC error), or an acknowledgement of its own that isn't seen (bit error). The frame is the kept one where that is
+/// of the same levels.
+pub(crate) fn receive(
+    shift: &mut Shift,
+    driven: Level,
+    seen: Level,
+    kept: &mut Option<KeptFrame>,
+) -> AfterBit
     ensures stands { (l : List Bus) → StandsFor shift.old l → StandsFor shift.new (l ++ seen ∷ []) }
     ensures turn { ReceivesBit shift.old driven seen result }
 {
@@ -58,7 +64,7 @@ pub(crate) fn receive(shift: &mut Shift, driven: Level, seen: Level) -> AfterBit
     }
     match shift.advance(seen) {
         Some(wrong) => error(cause_of(&wrong.fault), wrong.segment),
-        None => match shift.frame() {
+        None => match shift.frame_or_kept(kept) {
             Some(frame) => AfterBit::Ended(Ending::Received(frame)),
             None => AfterBit::InPiece(Stage::InFrame),
         },

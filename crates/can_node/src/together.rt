@@ -1,4 +1,4 @@
-//! Nodes that read one frame together: one of them sends it, and the others read it.
+//! Nodes that read one frame together: one of them sends it, and the others receive it or send what is the same so far.
 
 ghost use Rattle.std.specs.Prelude.{◌≡◌};
 
@@ -8,13 +8,14 @@ use super::stage::Stage;
 use can_bits::{Level, Shift};
 
 impl Node {
-    ghost use Rattle.std.specs.Prelude.{◌≡◌, ◌≤◌, ◌⊎◌, true, false, List};
+    ghost use Rattle.std.specs.Prelude.{◌≡◌, ◌<◌, ◌≤◌, ◌⊎◌, ℕ, true, false, List};
     ghost use Rattle.std.specs.Prelude.{length, take, drop};
     ghost use Rattle.can_bits.specs.declared.level.Level.{Level as Bus};
     ghost use Rattle.can_bits.specs.Shifts.{StandsFor};
     ghost use Rattle.can_bits.specs.Streaming.{IsRightInside};
     ghost use Rattle.can_node.specs.Together.{is_sending, next_level_of, reader_of, reading_as, HasReadAs};
-    ghost use Rattle.can_node.specs.Together.{SendsBits};
+    ghost use Rattle.can_node.specs.Together.{GoesWith, SendsAlike, SendsBits, following, sending_as};
+    ghost use Rattle.can_node.specs.declared.node.Node.{Node as Sender};
 
     /// Whether this node is in a frame, and sends it.
     #[inline(always)]
@@ -52,22 +53,48 @@ impl Node {
         }
     }
 
-    /// Goes on where this reader is, which took for both what came since.
+    /// For so many bits of the stuffed part this node goes on with one that sends, both having read just the same; it
+    /// may be for more. It is 255, and so more than any stuffed part has, where the node receives that frame and drives
+    /// recessive. Where it sends too, it is as far as both bodies are found to be the same. 0 says nothing.
+    pub fn goes_with(&self, sender: &Node) -> u8
+        ensures goes { 0 < result → GoesWith sender.now result self.now }
+        ensures receives { (l : List Bus) (level : Bus) → StandsFor (reader_of self.now) l → IsRightInside l level →
+            HasReadAs self.now (reader_of sender.now) → result ≡ 255 }
+    {
+        if self.has_read_as(&sender.shift) {
+            return u8::MAX;
+        }
+        let same = self.is_sending() && self.next == sender.next;
+        if same && self.shift.is_same_inside(&sender.shift) {
+            sender.shift.agreement(&sender.body, &self.body)
+        } else {
+            0
+        }
+    }
+
+    /// Goes on where this reader is, which took for both what came since: some bits, of which the node was a receiver,
+    /// or a sender that sent the same.
     #[inline(always)]
     pub fn follow(&mut self, reader: &Shift)
-        ensures { self.new ≡ reading_as self.old reader.now }
+        ensures { self.new ≡ following self.old reader.now }
     {
+        if self.is_sending() {
+            self.next = reader.next_of(&self.body);
+        }
         self.shift = *reader;
     }
 
     /// Sends the next bits of the stuffed part, past SOF, each of which is seen as it is driven: as many as there is
-    /// room for their levels, or up to the end of that part. Answers how many.
+    /// room for their levels, or up to the end of that part. Answers how many. Another sender that goes on with this
+    /// one for so many bits, where these are some, sends the same.
     #[inline(never)]
     pub fn send_inside(&mut self, levels: &mut [Level]) -> usize
         ensures few { result ≤ length levels.old }
         ensures count { length levels.new ≡ length levels.old }
         ensures rest { drop result levels.new ≡ drop result levels.old }
         ensures sends { SendsBits self.old (take result levels.new) self.new }
+        ensures alike { (n : ℕ) (other : Sender) → 0 < result → result ≤ n → SendsAlike self.old n other
+            → SendsBits other (take result levels.new) (sending_as other (reader_of self.new)) }
         ensures longest { (result ≡ length levels.old) ⊎ (is_sending self.new ≡ false)
             ⊎ ((l : List Bus) → StandsFor (reader_of self.new) l → ¬ IsRightInside l (next_level_of self.new)) }
     {
@@ -78,8 +105,8 @@ impl Node {
         let mut count = 0;
         while count < levels.len() && shift.take_inside(next) {
             levels[count] = next;
+            count = shift.send_along(&self.body, levels, count + 1);
             next = shift.next_of(&self.body);
-            count += 1;
         }
         self.shift = shift;
         self.next = next;

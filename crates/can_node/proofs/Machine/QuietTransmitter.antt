@@ -1,19 +1,14 @@
 -- The quick way of a bit of a frame for its transmitter.
 use Rattle.std.proofs.Common.{◌≡◌, ◌↔◌, IsTrue, Bool, true, false, Option, Some, None, is_some}
-use Rattle.std.proofs.Common.{List, [], ◌∷◌, ◌++◌, refl, ap, sym, subst, ◌∙◌, if◌then◌else◌, length}
+use Rattle.std.proofs.Common.{List, [], ◌∷◌, ◌++◌, refl, ap, sym, subst, ◌∙◌, if◌then◌else◌}
 use Rattle.can_bits.specs.declared.level.Level.{Level}
 use Rattle.can_bits.specs.declared.level.Level.TheVariants.{Dominant, Recessive}
 use Rattle.can_bits.specs.declared.shift.Shift.{Shift}
-use Rattle.can_bits.specs.declared.sent_body.SentBody.{SentBody}
-use Rattle.can_frame.specs.Frame.{FrameValue}
-use Rattle.can_bits.specs.Body.{sent_body}
-use Rattle.can_bits.specs.Check.{Crc}
-use Rattle.can_bits.specs.Line.{StuffedPart, tail}
-use Rattle.can_bits.specs.Packing.{IsSentBody}
 use Rattle.can_bits.specs.Acknowledging.{IsAckDue}
 use Rattle.can_bits.specs.Places.{is_early_stuff}
 use Rattle.can_bits.specs.Shifts.{StandsFor}
 use Rattle.can_bits.specs.Streaming.{IsReadable, IsRightInside, ShowsFrame, IsOver}
+use Rattle.can_bits.proofs.PackedLevels.{IsNextOf}
 use Rattle.can_node.specs.declared.role.Role.TheVariants.{Transmitter}
 use Rattle.can_node.specs.declared.request.Request.{Request}
 use Rattle.can_node.specs.declared.stage.Stage.{Stage}
@@ -52,19 +47,11 @@ none_wrong Recessive false false self_test strict = refl
 none_wrong Recessive true early true strict = refl
 none_wrong Recessive true early false strict = absurd (let wrong : false ≡ true = strict refl in cc)
 
--- the level is the next one of the line of a packed body
-abbrev pub NextOf : Shift → SentBody → Level → Type 0
-NextOf shift body x =
-    (f : FrameValue) (l others check part before rest : List Level) (y ack : Level) → IsSentBody body f →
-    StandsFor shift l →
-    StuffedPart f (sent_body f) check part → Crc (sent_body f) check → part ++ tail ack ≡ l ++ others →
-    part ++ tail Recessive ≡ before ++ y ∷ rest →
-    length before ≡ length l → x ≡ y
-
--- and it is what the transmitter drives
+-- the next level of the line is what the transmitter drives
 pub transmitter_goes : (old : Node) (shift : Shift) (next : Level) (c : ContextValue) (place : Place)
     (bits : List Bit) → old.context.role ≡ Transmitter →
-    HasBody old.context old.body → NextOf shift old.body next → IsReading shift c (context_of old.context) place bits →
+    HasBody old.context old.body → IsNextOf shift old.body next →
+    IsReading shift c (context_of old.context) place bits →
     Drives (context_of old.context) place bits next
 transmitter_goes old shift next c place bits transmitter body next_of reading =
     let h = transmitting_by shift c (context_of old.context) place bits transmitter reading in
@@ -123,7 +110,7 @@ pub transmits_right : (old : Node) (shift : Shift) (next seen : Level) (slot : B
     (slot ≡ true → old.context.self_test ≡ true) →
     ((l : List Level) → StandsFor old.shift l → StandsFor shift (l ++ seen ∷ [])) →
     ((l : List Level) → StandsFor old.shift l → IsOver (l ++ seen ∷ []) → ⊥) →
-    NextOf shift old.body next → IsQuiet old (record old { shift = shift; next = next }) seen
+    IsNextOf shift old.body next → IsQuiet old (record old { shift = shift; next = next }) seen
 transmits_right old shift next seen slot stage transmitter sees due strict stands unended next_of c place bits at kept
     body drives =
     transmits_quietly old shift next seen c place bits stage transmitter sees at kept drives stands
@@ -155,7 +142,7 @@ pub transmits_inside : (old : Node) (shift : Shift) (next seen : Level) → old.
     ((l : List Level) → StandsFor old.shift l →
     IsReadable (l ++ seen ∷ []) × ShowsFrame (l ++ seen ∷ []) None × (¬ IsOver (l ++ seen ∷ [])) × ¬ IsAckDue
     (l ++ seen ∷ [])) →
-    NextOf shift old.body next → IsQuiet old (record old { shift = shift; next = next }) seen
+    IsNextOf shift old.body next → IsQuiet old (record old { shift = shift; next = next }) seen
 transmits_inside old shift next seen stage transmitter sees right stands inside next_of =
     transmits_right old shift next seen false stage transmitter sees
     (λ l stood. (

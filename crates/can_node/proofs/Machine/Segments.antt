@@ -1,5 +1,5 @@
 -- The segment that a node shows of its next bit.
-use Rattle.std.proofs.Common.{◌≡◌, ◌≢◌, Bool, Option, Some, None, List, [], ◌∷◌, refl, subst, sym}
+use Rattle.std.proofs.Common.{◌≡◌, ◌≢◌, Bool, Some, None, List, [], refl, subst, sym}
 use Rattle.can_bits.specs.declared.level.Level.{Level}
 use Rattle.can_bits.specs.declared.segment.Segment.{Segment}
 use Rattle.can_bits.specs.declared.segment.Segment.TheVariants.{EndOfFrame}

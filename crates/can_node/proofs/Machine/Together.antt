@@ -3,6 +3,8 @@ use Rattle.std.proofs.Common.{◌≡◌, ◌&&◌, Bool, true, refl, ap, ◌∙�
 use Rattle.std.proofs.lemmas.Bool.{and_parts}
 use Rattle.can_bits.specs.declared.level.Level.{Level}
 use Rattle.can_bits.specs.declared.shift.Shift.{Shift}
+use Rattle.can_bits.specs.Sending.{TakesInside}
+use Rattle.can_bits.proofs.PackedLevels.{IsNextOf}
 use Rattle.can_node.specs.declared.node.Node.{Node}
 use Rattle.can_node.specs.declared.role.Role.{Role}
 use Rattle.can_node.specs.declared.role.Role.TheVariants.{Receiver, Transmitter}
@@ -11,11 +13,11 @@ use Rattle.can_node.specs.declared.stage.Stage.TheVariants.{InReset, Integrating
 use Rattle.can_node.specs.declared.stage.Stage.TheVariants.{InDelimiter, InInterframeSpace}
 use Rattle.can_node.specs.Context.{is_transmitter}
 use Rattle.can_node.specs.Stands.{Samples, ShowsSame, is_receiving, nothing}
-use Rattle.can_node.specs.Together.{SendsBit, TakesInside, is_in_frame, is_sending, next_level_of, reader_of}
+use Rattle.can_node.specs.Together.{SendsBit, is_in_frame, is_sending, next_level_of, reader_of}
 use Rattle.can_node.specs.Together.{reading_as}
 use Rattle.can_node.proofs.Machine.Quiet.{quietly}
 use Rattle.can_node.proofs.Machine.QuietReceiver.{receives_inside}
-use Rattle.can_node.proofs.Machine.QuietTransmitter.{NextOf, transmits_inside}
+use Rattle.can_node.proofs.Machine.QuietTransmitter.{transmits_inside}
 
 pub sending_by : (node : Node) → node.stage ≡ InFrame → node.context.role ≡ Transmitter → is_sending node ≡ true
 sending_by node stage transmitter =
@@ -45,7 +47,7 @@ sends_as node e =
 
 -- the sender's bit
 pub sends_one : (old : Node) (shift : Shift) (next : Level) → old.stage ≡ InFrame → old.context.role ≡ Transmitter →
-    TakesInside (reader_of old) (next_level_of old) shift → NextOf shift old.body next →
+    TakesInside (reader_of old) (next_level_of old) shift → IsNextOf shift old.body next →
     SendsBit old (next_level_of old) (record old { shift = shift; next = next })
 sends_one old shift next stage transmitter takes next_of = record {
   drives = refl;

@@ -25,24 +25,25 @@ returns-in-Some-clause-turn c context place bits stands h answers =
     let broke = subst J c.in-Some.is (c.advance-2.ensures.judged l stands (receiving_readable context place bits h)) in
     rw (c.error-in-Some.ensures, c.cause_of.ensures) (wrong_row context place bits x c.in-Some.wrong h answers broke)
 
-pub returns-in-Some-frame-clause-turn : goal.returns-in-Some-frame-clause-turn
-returns-in-Some-frame-clause-turn c context place bits stands h answers =
+pub returns-in-Some-frame_or_kept-clause-turn : goal.returns-in-Some-frame_or_kept-clause-turn
+returns-in-Some-frame_or_kept-clause-turn c context place bits stands h answers =
     let l : _ = seen_of (frame_bits place bits) in
     let x : Bit = record { driven = c.args.driven; seen = c.args.seen } in
     let kept = kept_if c.args.driven c.args.seen (sym c.is_lost.ensures ∙ c.if-is_lost.false) in
     let S : Option FrameValue → Type 0 = λ o. ShowsFrame (l ++ c.args.seen ∷ []) o in
     let on = readable_if l c.args.seen _ c.in-None.is
     (c.advance-2.ensures.judged l stands (receiving_readable context place bits h)) in
-    received_row context place bits x c.in-Some-frame.frame h answers kept on
-    (subst S c.in-Some-frame.is (c.frame.ensures (l ++ c.args.seen ∷ []) (c.advance-2.ensures.stands l stands) on))
+    received_row context place bits x c.in-Some-frame_or_kept.frame h answers kept on
+    (subst S c.in-Some-frame_or_kept.is
+    (c.frame_or_kept.ensures (l ++ c.args.seen ∷ []) (c.advance-2.ensures.stands l stands) on))
 
-pub returns-in-None-frame-clause-turn : goal.returns-in-None-frame-clause-turn
-returns-in-None-frame-clause-turn c context place bits stands h answers =
+pub returns-in-None-frame_or_kept-clause-turn : goal.returns-in-None-frame_or_kept-clause-turn
+returns-in-None-frame_or_kept-clause-turn c context place bits stands h answers =
     let x : Bit = record { driven = c.args.driven; seen = c.args.seen } in
     let l : _ = seen_of (frame_bits place bits) in
     let on = readable_if l c.args.seen _ c.in-None.is
     (c.advance-2.ensures.judged l stands (receiving_readable context place bits h)) in
     let S : Option FrameValue → Type 0 = λ o. ShowsFrame (l ++ c.args.seen ∷ []) o in
-    let shown = c.frame.ensures (l ++ c.args.seen ∷ []) (c.advance-2.ensures.stands l stands) on in
+    let shown = c.frame_or_kept.ensures (l ++ c.args.seen ∷ []) (c.advance-2.ensures.stands l stands) on in
     let kept = kept_if c.args.driven c.args.seen (sym c.is_lost.ensures ∙ c.if-is_lost.false) in
-    (refl, goes_on context place bits x h answers kept on (subst S c.in-None-frame.is shown))
+    (refl, goes_on context place bits x h answers kept on (subst S c.in-None-frame_or_kept.is shown))

@@ -32,7 +32,7 @@ returns-then-take_inside-2-clause-quiet c = λ stage goes.
     c.in-Transmitter.is seen
     (λ l stands. (c.take_inside-else-ne.ensures.exactly l stands).0 c.if-take_inside-2.true)
     (c.take_inside-else-ne.ensures.takes c.if-take_inside-2.true)
-    (c.take_inside-else-ne.ensures.inside c.if-take_inside-2.true) c.next_of-self.ensures)
+    (c.take_inside-else-ne.ensures.inside c.if-take_inside-2.true) c.next_of-self.ensures.of_frame)
 
 pub returns-else-take_inside-2-clause-quiet : goal.returns-else-take_inside-2-clause-quiet
 returns-else-take_inside-2-clause-quiet c = λ stage goes.

@@ -11,8 +11,8 @@ returns-in-Transmitter c = λ d place bits reading kept body.
     transmitting_drives c.args.self.now.shift d now place bits h.request c.next_of.result c.in-Transmitter.is reading
     h.held
     (λ l others check part before rest y ack stands is_part right seen driven count.
-    c.next_of.ensures h.request.frame l others check part before rest y ack (body h.request h.held).1 stands is_part
-    right seen driven count)
+    c.next_of.ensures.of_frame h.request.frame l others check part before rest y ack (body h.request h.held).1 stands
+    is_part right seen driven count)
 
 pub returns-in-Receiver : goal.returns-in-Receiver
 returns-in-Receiver c = λ d place bits reading kept body.

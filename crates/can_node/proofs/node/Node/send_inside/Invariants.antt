@@ -1,16 +1,19 @@
-use Rattle.std.proofs.Common.{◌≡◌, ◌≤◌, ◌-◌, length, take, drop}
+use Rattle.std.proofs.Common.{◌≡◌, ◌≤◌, ◌+◌, ◌-◌, ℕ, length, take, drop}
+use Rattle.can_bits.specs.Sending.{place_of}
 use Rattle.can_node.specs.declared.node.Node.{Node}
-use Rattle.can_node.specs.Together.{SendsBits}
+use Rattle.can_node.specs.Together.{SendsAlike}
+use Rattle.can_node.proofs.Machine.SendingAlike.{HasSentAlike}
 use Rattle.can_node.proofs.node.Node.send_inside.Given as goal
 
--- so many levels were sent
+-- so many levels were sent, and a node that goes on with this one sent them too
 abbrev pub invariant-loop-count : goal.invariant-loop-count
 invariant-loop-count l = record {
   few : l.count ≤ length l.levels;
   same : length l.levels ≡ length l.initial.levels;
   rest : drop l.count l.levels ≡ drop l.count l.initial.levels;
-  sent : (let now : Node = record l.self { shift = l.shift; next = l.next } in
-      SendsBits l.self (take l.count l.levels) now);
+  near : place_of l.shift ≤ place_of l.self.shift + l.count;
+  sent : ((n : ℕ) (other : Node) → l.count ≤ n → SendsAlike l.self n other →
+      HasSentAlike l.shift l.next l.count (take l.count l.levels) n other);
 }
 
 abbrev pub decreases-loop-count : goal.decreases-loop-count

@@ -17,4 +17,4 @@ returns-then-take_past-clause-quiet c = λ stage transmitter goes.
     quietly old _ old.next refl refl
     (transmits_right old c.take_past.new.self c.next_of-self.result old.next c.ack_is_due.result stage transmitter refl
     c.ack_is_due.ensures strict (c.take_past.ensures.takes taken)
-    (λ l stood. ((c.take_past.ensures.exactly l stood).0 taken).goes_on) c.next_of-self.ensures)
+    (λ l stood. ((c.take_past.ensures.exactly l stood).0 taken).goes_on) c.next_of-self.ensures.of_frame)

@@ -4,7 +4,7 @@ use Rattle.can_node.specs.declared.bit_events.BitEvents.{BitEvents}
 use Rattle.can_node.specs.Inside.Standing.{context_of}
 use Rattle.can_node.specs.Stands.{Samples}
 use Rattle.can_node.proofs.Machine.SampleSteps.{Counts, sampled}
-use Rattle.can_node.proofs.node.Node.sample_fully.Goals as goal
+use Rattle.can_node.proofs.node.Node.sample_fully_with.Goals as goal
 
 -- src/bit.rt
 pub returns-clause-samples : goal.returns-clause-samples
