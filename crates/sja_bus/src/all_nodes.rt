@@ -17,6 +17,7 @@ ghost use Rattle.sja_bus.specs.Inside.Refusing.{SeatStops};
 
 use super::bit_end::BitEnd;
 use super::board::Board;
+use super::row_frame::RowFrame;
 use super::seat::Seat;
 use super::struck_nodes::StruckNodes;
 use super::wire::{both, level_of, seen};
@@ -128,9 +129,10 @@ fn sample_from<E: BusEnd, B: Board>(
         seats.old links.old board.old →
         SeatBreaks E.stands E.full before seats.new given f) }
 {
+    let mut row = RowFrame::none();
     for k in first..seats.len() {
         let sees = seen(level, struck.has(k));
-        seats[k].sample(links, first_link(k), sees, board)?;
+        seats[k].sample(links, first_link(k), sees, board, &mut row)?;
     }
     Ok(())
 }

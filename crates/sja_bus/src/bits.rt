@@ -190,24 +190,20 @@ fn untaken_bits<E: BusEnd, B: Board>(
 {
     let (marks, mut level) = (struck.part(from, room_of(seats, most)), level_of(seats));
     let mut run = 0;
-    while run < marks.len() as u32 {
-        if !goes_on(seats, marks[run as usize], to_rest) {
+    while run < marks.len() as u32 && goes_on(seats, marks[run as usize], to_rest) {
+        let end = match sample_all(seats, links, level, StruckNodes::none(), board) {
+            Ok(end) => end,
+            Err(fault) => return Err(BrokenOff { after: run, fault }),
+        };
+        run += 1;
+        if end.told {
             return Ok(run);
         }
-        match sample_all(seats, links, level, StruckNodes::none(), board) {
-            Ok(end) => {
-                run += 1;
-                if end.told {
-                    return Ok(run);
-                }
-                let together = run_together(seats, &marks[run as usize..]);
-                run += together;
-                level = level_after(seats, together, end.level);
-            }
-            Err(fault) => return Err(BrokenOff { after: run, fault }),
-        }
+        let together = run_together(seats, &marks[run as usize..], run, to_rest);
+        run += together;
+        level = level_after(seats, together, end.level);
     }
-    Ok(marks.len() as u32)
+    Ok(run)
 }
 
 /// Whether these are no nodes, and some node works, where that is asked for.

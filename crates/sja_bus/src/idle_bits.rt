@@ -4,6 +4,7 @@ ghost use Rattle.std.specs.Prelude.{◌≡◌, ◌<◌, ℕ, true, false, length
 ghost use Rattle.can_node.specs.Stands.{ShowsRest};
 ghost use Rattle.sja_bus.specs.declared.seat.Seat.{Seat as Seated};
 ghost use Rattle.sja_bus.specs.Inside.Idling.{AreResting, IsOneAwake, all_after, IsFullBy};
+ghost use Rattle.sja_bus.specs.Inside.Refusing.{AreFree};
 ghost use Rattle.sja_bus.specs.Inside.Rows.{AreReady};
 
 use super::board::Board;
@@ -148,8 +149,18 @@ fn all_enter_idle_bits(seats: &mut [Seat], count: u32) -> Result<(), BusFault>
     Ok(())
 }
 
+/// The same, for which each journal has room.
+pub(crate) fn all_rest(seats: &mut [Seat], count: u32)
+    requires free { AreFree count seats.old }
+    ensures { seats.new ≡ all_after count seats.old }
+{
+    for k in 0..seats.len() {
+        seats[k].rest(count);
+    }
+}
+
 impl Seat {
-    ghost use Rattle.std.specs.Prelude.{◌≡◌, ◌≢◌, ◌+◌, ◌*◌, ◌≤◌, ◌⊎◌, None, Some, Ok, Err, length, OnOk, IfOk};
+    ghost use Rattle.std.specs.Prelude.{◌≡◌, ◌≢◌, ◌+◌, ◌*◌, ◌-◌, ◌≤◌, ◌⊎◌, None, Some, Ok, Err, length, OnOk, IfOk};
     ghost use Rattle.std.specs.Prelude.{IfErr, true, false};
     ghost use Rattle.lemmas.specs.Related.{EachRelated};
     ghost use Rattle.sja_wire.specs.declared.bus_fault.BusFault.{BusFault as Fault};
@@ -184,7 +195,15 @@ impl Seat {
             self.journal.enter_rest_reserved(free as u32);
             return Err(BusFault::JournalFull(self.number()));
         }
-        self.journal.enter_rest_reserved(count);
+        self.rest(count);
         Ok(())
+    }
+
+    /// The same, for which the journal has room.
+    fn rest(&mut self, count: u32)
+        requires { count ≤ self.old.journal.room - length self.old.journal.entries }
+        ensures { self.new ≡ after_bits count self.old }
+    {
+        self.journal.enter_rest_reserved(count);
     }
 }

@@ -3,6 +3,7 @@
 use super::activity::Activity;
 use super::bit_outcome::BitOutcome;
 use super::board::Board;
+use super::row_frame::RowFrame;
 use super::seat::Seat;
 use super::untold::Untold;
 use super::verdict::passing;
@@ -35,6 +36,7 @@ impl Seat {
         base: usize,
         seen: Level,
         board: &mut B,
+        row: &mut RowFrame,
     ) -> Result<(), BusFault>
         requires at { HasLinks E.link self.old links.old base }
         requires port { (link_of self.old.ledger).node < B.ports board.old }
@@ -53,7 +55,7 @@ impl Seat {
         if self.may_sample_quietly() && self.sample_quietly(seen) {
             return Ok(());
         }
-        let outcome = self.sample_fully(links, base, seen)?;
+        let outcome = self.sample_fully(links, base, seen, row)?;
         self.drives = self.node.drive();
         self.tell(board, outcome);
         Ok(())
@@ -100,6 +102,7 @@ impl Seat {
         links: &mut [E],
         base: usize,
         seen: Level,
+        row: &mut RowFrame,
     ) -> Result<BitOutcome, BusFault>
         requires at { HasLinks E.link self.old links.old base }
         ensures stays { KeepsLinks E.same self.old self.new links.old links.new }
@@ -119,7 +122,7 @@ impl Seat {
             return self.sample_in_reset(seen);
         };
         let here = base + self.ended as usize;
-        self.sample_running(&mut links[here], seen)
+        self.sample_running(&mut links[here], seen, row)
     }
 
     /// One bit of a node in reset: it looks at no level.
@@ -151,6 +154,7 @@ impl Seat {
         &mut self,
         end: &mut E,
         seen: Level,
+        row: &mut RowFrame,
     ) -> Result<BitOutcome, BusFault>
         requires running { (f : Filtering) × (self.old.activity ≡ Running f) }
         requires link { E.link end.old ≡ link_of self.old.ledger }
@@ -169,7 +173,7 @@ impl Seat {
             Brings self.old.journal.entries self.old.drives seen outcome self.new.journal.entries) }
         ensures broken { IfErr result (λ f. BreaksHere E.stands E.full end.old self.old self.new f) }
     {
-        let outcome = self.sample_and_judge(end, seen)?;
+        let outcome = self.sample_and_judge(end, seen, row)?;
         if !outcome.events.went_off {
             return Ok(outcome);
         }
@@ -182,6 +186,7 @@ impl Seat {
         &mut self,
         end: &mut E,
         seen: Level,
+        row: &mut RowFrame,
     ) -> Result<BitOutcome, BusFault>
         requires id { E.link end.old ≡ link_of self.old.ledger }
         requires runs { (f : Filtering) × (self.old.activity ≡ Running f) }
@@ -201,8 +206,8 @@ impl Seat {
         ensures broken { IfErr result (λ f. BreaksHere E.stands E.full end.old self.old self.new f) }
     {
         let driven = self.drives;
-        let events = self.node.sample_fully(seen);
-        match passing(&self.activity, &events.received) {
+        let events = self.node.sample_fully_with(seen, &mut row.frame);
+        match passing(&self.activity, &events.received, row) {
             None => {
                 self.enter_bit(driven, seen)?;
                 Ok(BitOutcome {

@@ -1,14 +1,16 @@
-//! Bits in which one node sends a frame and all others have read just what it has: one reader does for all.
+//! Bits that are run at once: in which one node sends a frame and all others have read just what it has, and receive it
+//! or send the same, so that one reader does for all; and in which every node is at rest.
 
-ghost use Rattle.std.specs.Prelude.{◌≡◌, ◌<◌, ◌≤◌, ℕ, true, length, slice_index_or, IfSome};
-ghost use Rattle.can_node.specs.Together.{reader_of};
+ghost use Rattle.std.specs.Prelude.{◌≡◌, ◌<◌, ◌≤◌, ℕ, Bool, true, length, slice_index_or, IfSome};
 ghost use Rattle.sja_bus.specs.declared.seat.Seat.{Seat as Seated};
 ghost use Rattle.sja_bus.specs.declared.struck_nodes.StruckNodes.{StruckNodes as Struck};
 ghost use Rattle.sja_bus.specs.StrikesByBit.{IsAmong};
 ghost use Rattle.sja_bus.specs.Inside.Refusing.{AreFree};
 ghost use Rattle.sja_bus.specs.Inside.Rows.{AreReady, AreTold, EachSeat};
-ghost use Rattle.sja_bus.specs.Inside.Together.{AreQuietRows, IsLed, OthersRead, SeatGoesOn};
+ghost use Rattle.sja_bus.specs.Inside.Together.{AreQuietRows, IsLed, OthersGo, SeatGoesOn};
 
+use super::idle_bits::{all_rest, are_at_rest};
+use super::lead::Lead;
 use super::seat::Seat;
 use super::struck_nodes::StruckNodes;
 use can_bits::{Level, Shift};
@@ -16,23 +18,29 @@ use can_bits::{Level, Shift};
 /// How many bits are run together at most: more than the stuffed part of a frame has.
 const MOST: usize = 160;
 
-/// At which bits it is looked whether a run of bits can begin: at each of so many. To look at each bit would cost more,
-/// where a node has lost the frame that the others are in.
-const EACH: usize = 4;
+/// At which bits it is looked whether a run of bits can begin: after the first one of a call, and then after each of so
+/// many. To look at each bit would cost more, where a node has lost the frame that the others are in.
+const EACH: u32 = 4;
 
-/// Runs bits of all nodes in which nothing happens, as long as one node sends the stuffed part of a frame that all
-/// others have read with it, and no node is struck. Answers how many.
+/// Runs bits of all nodes in which nothing happens, as long as no node is struck: where one node sends the stuffed part
+/// of a frame and all others go on with it, or every node is at rest and it isn't asked that some node works. `run`
+/// bits were run before these. Answers how many.
 #[inline(always)]
-pub(crate) fn run_together(seats: &mut [Seat], struck: &[StruckNodes]) -> u32
+pub(crate) fn run_together(
+    seats: &mut [Seat],
+    struck: &[StruckNodes],
+    run: u32,
+    to_rest: bool,
+) -> u32
     requires ready { AreReady seats.old }
     requires told { AreTold seats.old }
     requires free { AreFree (length struck.now) seats.old }
     ensures few { result ≤ length struck.now }
     ensures none { (i node : ℕ) (d : Struck) → i < result → IsAmong node (slice_index_or struck.now i d) → ⊥ }
-    ensures rows { AreQuietRows seats.old result seats.new }
+    ensures rows { AreQuietRows to_rest seats.old result seats.new }
 {
-    if struck.len() % EACH == 0 {
-        run_where_led(seats, struck)
+    if run % EACH == 1 {
+        run_at_once(seats, struck, to_rest)
     } else {
         0
     }
@@ -40,22 +48,43 @@ pub(crate) fn run_together(seats: &mut [Seat], struck: &[StruckNodes]) -> u32
 
 /// The same at whatever bit.
 #[inline(never)]
-fn run_where_led(seats: &mut [Seat], struck: &[StruckNodes]) -> u32
+fn run_at_once(seats: &mut [Seat], struck: &[StruckNodes], to_rest: bool) -> u32
     requires ready { AreReady seats.old }
     requires told { AreTold seats.old }
     requires free { AreFree (length struck.now) seats.old }
     ensures few { result ≤ length struck.now }
     ensures none { (i node : ℕ) (d : Struck) → i < result → IsAmong node (slice_index_or struck.now i d) → ⊥ }
-    ensures rows { AreQuietRows seats.old result seats.new }
+    ensures rows { AreQuietRows to_rest seats.old result seats.new }
 {
     match leader(seats) {
         Some(lead) => {
             let mut levels = [Level::Recessive; MOST];
-            let most = unstruck(struck);
+            let most = unstruck(struck).min(usize::from(lead.most));
             run_led(seats, lead, &mut levels[..most]) as u32
         }
-        None => 0,
+        None => run_idle(seats, struck, to_rest),
     }
+}
+
+/// Runs bits of all nodes as long as none is struck, where each is at rest and it isn't asked that some node works.
+/// Answers how many.
+fn run_idle(seats: &mut [Seat], struck: &[StruckNodes], to_rest: bool) -> u32
+    requires ready { AreReady seats.old }
+    requires told { AreTold seats.old }
+    requires free { AreFree (length struck.now) seats.old }
+    ensures few { result ≤ length struck.now }
+    ensures none { (i node : ℕ) (d : Struck) → i < result → IsAmong node (slice_index_or struck.now i d) → ⊥ }
+    ensures rows { AreQuietRows to_rest seats.old result seats.new }
+{
+    if to_rest {
+        return 0;
+    }
+    if !are_at_rest(seats) {
+        return 0;
+    }
+    let count = unstruck(struck) as u32;
+    all_rest(seats, count);
+    count
 }
 
 /// In how many of these bits, from the first one on and at most [`MOST`], no node is struck.
@@ -90,48 +119,58 @@ fn are_unstruck(struck: &[StruckNodes]) -> bool
     none
 }
 
-/// The node that sends a frame of which all others have read just what it has.
+/// A node that sends a frame with which all others go on, and for how many bits at most.
 #[inline(always)]
-fn leader(seats: &[Seat]) -> Option<usize>
-    ensures { IfSome result (λ lead. IsLed seats.now lead) }
+fn leader(seats: &[Seat]) -> Option<Lead>
+    ensures { IfSome result (λ lead. IsLed seats.now lead.node lead.most) }
 {
     for k in 0..seats.len() {
         if seats[k].node.is_sending() {
-            return if others_read(seats, k) { Some(k) } else { None };
+            let most = others_go(seats, k);
+            return if most > 0 {
+                Some(Lead { node: k, most })
+            } else {
+                None
+            };
         }
     }
     None
 }
 
-/// Whether all but this node have read just what it has, and the stuffed part of the frame goes on.
-fn others_read(seats: &[Seat], lead: usize) -> bool
+/// For how many bits at most all other nodes go on with this one.
+fn others_go(seats: &[Seat], lead: usize) -> u8
     requires { lead < length seats.now }
-    ensures { result ≡ true → (s : Seated) →
-        OthersRead seats.now lead (reader_of (slice_index_or seats.now lead s).node) }
+    ensures { 0 < result → (s : Seated) → OthersGo seats.now lead result (slice_index_or seats.now lead s).node }
 {
-    let reader = seats[lead].node.reader();
+    let mut most = u8::MAX;
     for k in 0..seats.len() {
-        if !seats[k].goes_with(k == lead, &reader) {
-            return false;
+        if k != lead {
+            most = most.min(seats[k].node.goes_with(&seats[lead].node));
+            if most == 0 {
+                return 0;
+            }
         }
     }
-    true
+    most
 }
 
 /// Runs bits of all nodes, as many as there is room for their levels or up to the end of the stuffed part. Answers how
 /// many.
-fn run_led(seats: &mut [Seat], lead: usize, levels: &mut [Level]) -> usize
-    requires led { IsLed seats.old lead }
+fn run_led(seats: &mut [Seat], lead: Lead, levels: &mut [Level]) -> usize
+    requires led { IsLed seats.old lead.node lead.most }
+    requires few { length levels.old ≤ lead.most }
     requires ready { AreReady seats.old }
     requires told { AreTold seats.old }
     requires most { length levels.old ≤ 160 }
     requires free { AreFree (length levels.old) seats.old }
     ensures few { result ≤ length levels.old }
-    ensures rows { AreQuietRows seats.old result seats.new }
+    ensures rows { (to_rest : Bool) → AreQuietRows to_rest seats.old result seats.new }
 {
-    let count = seats[lead].node.send_inside(levels);
-    let reader = seats[lead].node.reader();
-    all_go_on(seats, lead, &reader, &levels[..count]);
+    let count = seats[lead.node].node.send_inside(levels);
+    if count > 0 {
+        let reader = seats[lead.node].node.reader();
+        all_go_on(seats, lead.node, &reader, &levels[..count]);
+    }
     count
 }
 
@@ -149,29 +188,28 @@ fn all_go_on(seats: &mut [Seat], lead: usize, reader: &Shift, levels: &[Level])
 
 impl Seat {
     ghost use Rattle.std.specs.Prelude.{◌≡◌, ◌-◌, ◌≤◌, true, false, length};
-    ghost use Rattle.can_node.specs.Together.{HasReadAs};
+    ghost use Rattle.can_node.specs.Together.{following, is_sending, reader_of};
     ghost use Rattle.sja_bus.specs.Inside.Together.{HasSent, after_reading};
 
-    /// Whether this is the one that sends, or its node has read just what this reader has.
-    #[inline(always)]
-    fn goes_with(&self, sends: bool, reader: &Shift) -> bool
-        ensures { result ≡ true → sends ≡ false → HasReadAs self.now.node reader.now }
-    {
-        sends || self.node.has_read_as(reader)
-    }
-
-    /// The bits of the node in its journal: it sent these levels already, or it read them, drove recessive and goes on
-    /// where this reader is.
+    /// The bits of the node in its journal: it sent these levels already, or it goes on where this reader is, and sent
+    /// them too or read them and drove recessive.
     fn go_on(&mut self, sent: bool, reader: &Shift, levels: &[Level])
         requires most { length levels.now ≤ 160 }
         requires free { length levels.now ≤ self.old.journal.room - length self.old.journal.entries }
         ensures sent { sent ≡ true → HasSent levels.now self.old self.new }
-        ensures read { sent ≡ false → self.new ≡ after_reading reader.now levels.now self.old }
+        ensures sent_too { sent ≡ false → is_sending self.old.node ≡ true
+            → HasSent levels.now (record self.old { node = following self.old.node reader.now }) self.new }
+        ensures read { sent ≡ false → is_sending self.old.node ≡ false
+            → self.new ≡ after_reading reader.now levels.now self.old }
     {
-        if sent {
+        let sends = self.node.is_sending();
+        if !sent {
+            self.node.follow(reader);
+        }
+        if sent || sends {
             self.has_sent(levels);
         } else {
-            self.has_read(reader, levels);
+            self.has_read(levels);
         }
     }
 
@@ -184,15 +222,14 @@ impl Seat {
         self.drives = self.node.drive();
     }
 
-    /// The bits of a node that read these levels and drove recessive: it goes on where this reader is.
-    fn has_read(&mut self, reader: &Shift, levels: &[Level])
+    /// The bits of a node that read these levels already and drove recessive.
+    fn has_read(&mut self, levels: &[Level])
         requires most { length levels.now ≤ 160 }
         requires free { length levels.now ≤ self.old.journal.room - length self.old.journal.entries }
-        ensures { self.new ≡ after_reading reader.now levels.now self.old }
+        ensures { self.new ≡ after_reading (reader_of self.old.node) levels.now self.old }
     {
         let recessive = [Level::Recessive; MOST];
         self.journal
             .enter_bits_reserved(&recessive[..levels.len()], levels);
-        self.node.follow(reader);
     }
 }

@@ -14,6 +14,7 @@ ghost use Rattle.sja_link.specs.BusLedgers.{link_of, free_in};
 ghost use Rattle.sja_bus.specs.Inside.Taking.{IsGivenBack};
 
 use super::activity::Activity;
+use super::row_frame::RowFrame;
 use super::seat::Seat;
 use can_bits::Level;
 use can_frame::{Frame, Message};
@@ -78,8 +79,13 @@ impl Seat {
     }
 }
 
-/// The message of a received frame that passes the filter of the activation that runs.
-pub(crate) fn passing(activity: &Activity, received: &Option<Frame>) -> Option<Message>
+/// The message of a received frame that passes the filter of the activation that runs; built once for all receivers of
+/// a bit.
+pub(crate) fn passing(
+    activity: &Activity,
+    received: &Option<Frame>,
+    row: &mut RowFrame,
+) -> Option<Message>
     ensures { (f : Filtering) → activity.now ≡ Running f → IsPassing f received.now result }
 {
     let Some(frame) = received else {
@@ -89,7 +95,7 @@ pub(crate) fn passing(activity: &Activity, received: &Option<Frame>) -> Option<M
         return None;
     };
     if filter.passes(frame) {
-        Some(Message::of(frame))
+        Some(row.message_of(frame))
     } else {
         None
     }

@@ -10,7 +10,8 @@ use Rattle.can_node.specs.declared.stage.Stage.{Stage}
 use Rattle.can_node.specs.Context.{is_held}
 use Rattle.can_node.specs.NextBit.{now_in, open_bits, rests_in}
 use Rattle.can_node.specs.Stands.{DrivesNext, Samples, ShowsRest, is_receiving, nothing, phase_of_stage}
-use Rattle.can_node.specs.Together.{HasReadAs, SendsBit, TakesInside, is_sending, next_level_of}
+use Rattle.can_bits.specs.Sending.{TakesInside}
+use Rattle.can_node.specs.Together.{HasReadAs, SendsBit, is_sending, next_level_of}
 use Rattle.can_node.specs.Together.{reading_as}
 use Rattle.can_node.proofs.Machine.Shown.{phase_shown}
 use Rattle.can_node.proofs.Machine.Told.{drives_once}
@@ -55,7 +56,7 @@ grown f j xs x = ap (λ l. j ++ l) (map-append f xs (x ∷ [])) ∙ sym (append_
 
 -- the bit of the one that sends
 module _ (s : Seat) (mid new : Node) (next : Level) (xs : List Level) (x : Level) (bit : SendsBit mid x new) where
-  sender_drives : DrivesNext mid x
+  pub sender_drives : DrivesNext mid x
   sender_drives = let P : Level → Type 0 = λ y. DrivesNext mid y in subst P bit.drives (drives_kept mid)
 
   pub sender_quiet : s.untold ≡ Nothing →

@@ -1,11 +1,11 @@
--- What the code leaves of all nodes, of which one sent and the others read with it.
-use Rattle.std.proofs.Common.{◌≡◌, ℕ, zero, suc, ◌<◌, List, [], ◌∷◌, ◌++◌, length}
+-- What the code leaves of all nodes, of which one sent and the others went on with it.
+use Rattle.std.proofs.Common.{◌≡◌, ◌≢◌, ℕ, zero, suc, ◌<◌, Bool, List, [], ◌∷◌, ◌++◌, length}
 use Rattle.std.proofs.Common.{refl, sym, ap, ◌∙◌, subst, arith, inl, inr}
 use Rattle.std.proofs.Common.{◌≤◌, ◌-◌, take, replicate}
 use Rattle.std.specs.Prelude.{slice_index_or, slice_set}
 use Rattle.std.specs.Simd.Lanes.{zip2}
 use Rattle.std.proofs.lemmas.Bool.{cases_eq}
-use Rattle.std.proofs.lemmas.List.{length-set}
+use Rattle.std.proofs.lemmas.List.{length-set, set-get_or as set_same}
 use Rattle.std.proofs.lemmas.List.{get_or-set_same as set_here, get_or-set_other as set_there}
 use Rattle.std.proofs.lemmas.List.{get_or_default as or_same}
 use Rattle.can_bits.specs.declared.level.Level.{Level}
@@ -13,18 +13,19 @@ use Rattle.can_bits.specs.declared.level.Level.TheVariants.{Recessive}
 use Rattle.can_bits.specs.declared.shift.Shift.{Shift}
 use Rattle.can_node.specs.declared.node.Node.{Node}
 use Rattle.can_node.specs.Stands.{DrivesNext}
-use Rattle.can_node.specs.Together.{SendsBits, reader_of}
-use Rattle.can_node.specs.Together.{reading_as}
+use Rattle.can_node.specs.Together.{GoesWith, SendsAlike, SendsBits, reader_of, reading_as, sending_as}
+use Rattle.can_node.specs.Together.GoesWith.{receives, sends as sends_too}
+use Rattle.can_node.proofs.Machine.Following.{follows_sending, reads_only, sent_none}
 use Rattle.sja_link.specs.declared.entry.Entry.TheVariants.{Bit}
 use Rattle.sja_link.specs.Written.{Written}
 use Rattle.sja_bus.specs.declared.seat.Seat.{Seat}
 use Rattle.sja_bus.specs.Inside.Refusing.{AreFree}
 use Rattle.sja_bus.specs.Inside.Rows.{AreReady, AreTold, EachSeat}
-use Rattle.sja_bus.specs.Inside.Together.{AreQuietRows, IsLed, after_reading, after_sending}
-use Rattle.sja_bus.specs.Inside.Together.{HasSent, SeatGoesOn, all_after_sending, read_bits, sent_bits}
-use Rattle.sja_bus.proofs.Resting.QuietBits.{lists_same}
-use Rattle.sja_bus.proofs.OneReader.AllBut.{but_here, but_length, but_there}
-use Rattle.sja_bus.proofs.OneReader.LedRows.{rows_sent}
+use Rattle.sja_bus.specs.Inside.Together.{AreQuietRows, FollowsOn, IsLed, after_reading, after_sending}
+use Rattle.sja_bus.specs.Inside.Together.AreQuietRows.{no_row}
+use Rattle.sja_bus.specs.Inside.Together.{HasSent, SeatGoesOn, read_bits, sent_bits}
+use Rattle.sja_bus.proofs.OneReader.LedRows.{HasGone, rows_gone}
+use Rattle.sja_bus.proofs.OneReader.LedRows.HasGone.{by_reading, by_sending}
 
 zip_same : (xs : List Level) → zip2 (λ x y. Bit x y) xs xs ≡ sent_bits xs
 zip_same [] = refl
@@ -60,43 +61,72 @@ has_read old new reader xs n few others room entries =
     λ i. record { entries = is i; room = room i } in
     others ∙ ap (λ (w : Written). let s : Seat = record old { node = reading_as old.node reader; journal = w } in s) j
 
+-- a seat that goes on with the sender has gone on
+module _ (lead n m : ℕ) (sender new : Node) (xs : List Level) (sends : SendsBits sender xs new)
+    (alike : (other : Node) → SendsAlike sender n other → SendsBits other xs (sending_as other (reader_of new))) where
+  other_gone : (old after : Seat) → m ≢ lead → GoesWith sender n old.node → FollowsOn (reader_of new) xs old after →
+      HasGone lead sender xs m old after
+  other_gone old after other (receives read) on =
+      subst (λ t. HasGone lead sender xs m old t) (sym (on.1 (reads_only old.node (reader_of sender) read)))
+      (by_reading new other read sends)
+  other_gone old after other (sends_too same) on =
+      let has = on.0 same.sends in let is = follows_sending old.node (reader_of new) same.sends in
+      let next = after.drives in
+      let drives : DrivesNext (sending_as old.node (reader_of new)) next =
+      subst (λ (k : Node). DrivesNext k next) is has.drives in
+      let all : after ≡ after_sending (sending_as old.node (reader_of new)) next xs old =
+      has.is ∙ ap (λ (k : Node). after_sending k next xs old) is in
+      subst (λ t. HasGone lead sender xs m old t) (sym all)
+      (by_sending (sending_as old.node (reader_of new)) next (alike old.node same) drives)
+
 -- all of them
-pub led_rows : (seats after : List Seat) (lead : ℕ) (s : Seat) (new : Node) (xs : List Level) → IsLed seats lead →
-    AreReady seats → AreTold seats → SendsBits (slice_index_or seats lead s).node xs new →
-    length after ≡ length seats →
+pub led_rows : (to_rest : Bool) (seats after : List Seat) (lead n : ℕ) (s : Seat) (new : Node) (xs : List Level) →
+    IsLed seats lead n → AreReady seats → AreTold seats → SendsBits (slice_index_or seats lead s).node xs new →
+    ((other : Node) → SendsAlike (slice_index_or seats lead s).node n other →
+    SendsBits other xs (sending_as other (reader_of new))) → length after ≡ length seats →
     EachSeat (SeatGoesOn lead (reader_of new) xs)
     (slice_set seats lead (record (slice_index_or seats lead s) { node = new })) after →
-    AreQuietRows seats (length xs) after
-led_rows seats after lead s new xs led ready told sends count goes =
+    AreQuietRows to_rest seats (length xs) after
+led_rows to_rest seats after lead n s new xs led ready told sends alike count goes =
     let at = slice_index_or seats lead s in let few = led.few in
     let one : Seat = record at { node = new } in
     let mid = slice_set seats lead one in let size = length-set seats lead one in
-    let here : slice_index_or mid lead s ≡ one = set_here seats lead one s few in
-    let sent = (goes lead s (omega (arith, few, size))).0 refl in
-    let next = (slice_index_or after lead s).drives in
-    let D : Seat → Type 0 = λ t. DrivesNext t.node next in
-    let drives : DrivesNext new next = subst D here sent.drives in
-    let a = after_sending new next xs in let b = after_reading (reader_of new) xs in
-    let place : (m : ℕ) → m < length (all_after_sending lead new next xs seats) →
-    slice_index_or after m s ≡ slice_index_or (all_after_sending lead new next xs seats) m s =
-    λ m near. let within : m < length seats = let n = but_length a b lead seats in omega (arith, near, n) in
-    elim (cases_eq m lead) [
+    let gone : (m : ℕ) (t : Seat) → m < length seats →
+    HasGone lead at.node xs m (slice_index_or seats m t) (slice_index_or after m t) =
+    λ m t near. elim (cases_eq m lead) [
       | inl q ↦
-          let P : ℕ → Type 0 = λ i. slice_index_or after i s
-          ≡ slice_index_or (all_after_sending lead new next xs seats) i s in
-          subst P (sym q) (sent.is ∙ ap (λ (t : Seat). after_sending t.node next xs t) here
-          ∙ sym (but_here a b lead seats s s few))
+          let P : ℕ → Type 0 = λ i. HasGone lead at.node xs m (slice_index_or seats i t) (slice_index_or after i t) in
+          let here : slice_index_or mid lead t ≡ one = set_here seats lead one t few in
+          let has = (goes lead t (omega (arith, few, size))).0 refl in
+          let new_seat = slice_index_or after lead t in let next = new_seat.drives in
+          let drives : DrivesNext new next = subst (λ (k : Seat). DrivesNext k.node next) here has.drives in
+          let is : new_seat ≡ after_sending new next xs at =
+          has.is ∙ ap (λ (k : Seat). after_sending k.node next xs k) here in
+          subst P (sym q) (subst (λ (k : Seat). HasGone lead at.node xs m k new_seat) (or_same seats lead s t few)
+          (subst (λ (k : Seat). HasGone lead at.node xs m at k) (sym is) (by_sending new next sends drives)))
       | inr other ↦
-          (goes m s (omega (arith, within, size))).1 other
-          ∙ ap (λ (t : Seat). after_reading (reader_of new) xs t) (set_there seats lead m one s other)
-          ∙ sym (but_there a b lead m seats s s within other)
+          let on : FollowsOn (reader_of new) xs (slice_index_or seats m t) (slice_index_or after m t) =
+          subst (λ (k : Seat). FollowsOn (reader_of new) xs k (slice_index_or after m t))
+          (set_there seats lead m one t other) ((goes m t (omega (arith, near, size))).1 other) in
+          other_gone lead n m at.node new xs sends alike (slice_index_or seats m t) (slice_index_or after m t) other
+          (led.go s m t near other) on
     ] in
-    let is : after ≡ all_after_sending lead new next xs seats =
-    lists_same s (all_after_sending lead new next xs seats) after (count ∙ sym (but_length a b lead seats)) place in
-    let rows = rows_sent seats lead (reader_of at.node) few ready told (led.read s) at.node
-    (λ d. ap (λ (t : Seat). t.node) (or_same seats lead d s few)) refl xs new sends next drives in
-    let P : List Seat → Type 0 = λ l. AreQuietRows seats (length xs) l in
-    subst P (sym is) rows.0
+    (rows_gone to_rest seats lead at.node few ready told at.node xs new sends after count gone).0
+
+-- none, so nothing happened
+pub no_rows : (to_rest : Bool) (seats : List Seat) (lead : ℕ) (s : Seat) (new : Node) (levels : List Level)
+    (count : ℕ) →
+    lead < length seats → count ≤ 0 → SendsBits (slice_index_or seats lead s).node (take count levels) new →
+    AreQuietRows to_rest seats count (slice_set seats lead (record (slice_index_or seats lead s) { node = new }))
+no_rows to_rest seats lead s new levels count few none sends =
+    let at = slice_index_or seats lead s in let zero : count ≡ 0 = omega (arith, none) in
+    let is : new ≡ at.node =
+    sent_none at.node (take count levels) new sends (ap (λ (n : ℕ). take n levels) zero) in
+    let e : slice_set seats lead (record at { node = new }) ≡ seats =
+    ap (λ (k : Node). let t : Seat = record at { node = k } in slice_set seats lead t) is
+    ∙ set_same seats lead s in
+    subst (λ n. AreQuietRows to_rest seats n (slice_set seats lead (record at { node = new }))) (sym zero)
+    (subst (λ l. AreQuietRows to_rest seats 0 l) (sym e) no_row)
 
 -- the node of one changed, so their room didn't
 pub free_for_led : (seats : List Seat) (lead : ℕ) (s : Seat) (new : Node) (n m : ℕ) → lead < length seats → n ≤ m →

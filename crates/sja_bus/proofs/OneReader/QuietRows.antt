@@ -40,15 +40,15 @@ pub record StayRooms (n : ℕ) (seats after : List Seat) : Type 0 where
   pub rooms : EachSeat (λ m old new. new.journal.room ≡ old.journal.room) seats after
   pub used : EachSeat (λ m old new. length new.journal.entries ≡ length old.journal.entries + n) seats after
 
-pub rooms_after : (seats : List Seat) (n : ℕ) (after : List Seat) → AreQuietRows seats n after →
-    StayRooms n seats after
-rooms_after seats _ _ no_row = record {
+pub rooms_after : (to_rest : Bool) (seats : List Seat) (n : ℕ) (after : List Seat) →
+    AreQuietRows to_rest seats n after → StayRooms n seats after
+rooms_after to_rest seats _ _ no_row = record {
   count = refl;
   rooms = λ m s few. refl;
   used = λ m s few. omega arith;
 }
-rooms_after seats _ _ (one_more mid after n rows row) =
-    let before = rooms_after seats n mid rows in let c = before.count in record {
+rooms_after to_rest seats _ _ (one_more mid after n rows row) =
+    let before = rooms_after to_rest seats n mid rows in let c = before.count in record {
       count = row.count ∙ before.count;
       rooms = λ m s few. row.rooms m s (omega (arith, few, c)) ∙ before.rooms m s few;
       used = λ m s few.
@@ -71,16 +71,17 @@ free_after seats after n m stay h k s few =
     let room = stay.rooms k s near in let used = stay.used k s near in let free = h k s near in
     omega (arith, room, used, free)
 
-pub told_after : (seats : List Seat) (n : ℕ) (after : List Seat) → AreQuietRows seats n after → AreTold seats →
-    AreTold after
-told_after seats _ _ no_row told = told
-told_after seats _ _ (one_more mid after n rows row) told = λ k s few.
+pub told_after : (to_rest : Bool) (seats : List Seat) (n : ℕ) (after : List Seat) →
+    AreQuietRows to_rest seats n after → AreTold seats → AreTold after
+told_after to_rest seats _ _ no_row told = told
+told_after to_rest seats _ _ (one_more mid after n rows row) told = λ k s few.
     let c = row.count in (row.bits k s (omega (arith, few, c))).told
 
 -- none at all
-pub none_run : (seats after : List Seat) (n : ℕ) → AreQuietRows seats n after → n ≡ 0 → after ≡ seats
-none_run seats _ _ no_row none = refl
-none_run seats _ _ (one_more mid after n rows row) none = absurd (omega (arith, none))
+pub none_run : (to_rest : Bool) (seats after : List Seat) (n : ℕ) → AreQuietRows to_rest seats n after → n ≡ 0 →
+    after ≡ seats
+none_run to_rest seats _ _ no_row none = refl
+none_run to_rest seats _ _ (one_more mid after n rows row) none = absurd (omega (arith, none))
 
 -- ---- the marks of the bits from one on
 
@@ -102,17 +103,18 @@ seen_all : (level : Level) (node : ℕ) → level ≡ seen_by nobody level node
 seen_all level node =
     ap (λ b. cond b (opposite level) level) (sym (ne_eqb (bit_at 0 node) 1 (not_among node)))
 
-row_turns : (was_told : ℕ → BusTurn → Type 0) (was_kept : ℕ → Type 0) → ((m : ℕ) → was_kept m) →
-    (seats after : List Seat) → AreReady seats → IsQuietRow seats after →
+row_turns : (was_told : ℕ → BusTurn → Type 0) (was_kept : ℕ → Type 0) → ((m : ℕ) → was_kept m) → (to_rest : Bool)
+    (seats after : List Seat) → AreReady seats → IsQuietRow to_rest seats after →
     EachSeat (SeatTurns was_told was_kept nobody (wired (driven_by seats))) seats after
-row_turns was_told was_kept kept seats after ready row m s few =
+row_turns was_told was_kept kept to_rest seats after ready row m s few =
     let level = wired (driven_by seats) in let old = slice_index_or seats m s in let new = slice_index_or after m s in
     quiet_turns (was_told m) (was_kept m) (seen_by nobody level m) old new (kept m) (ready m s few).ready
     (subst (λ y. IsQuietBit y old new) (seen_all level m) (row.bits m s few))
 
 row_goes : {E : Type 0} (same : E → E → Type 0) (stands : E → Lists → Type 0) → ((x : E) → same x x) →
-    (seats after : List Seat) (links : List E) → IsQuietRow seats after → GoesAll same stands seats after links links
-row_goes same stands r seats after links row = record {
+    (to_rest : Bool) (seats after : List Seat) (links : List E) → IsQuietRow to_rest seats after →
+    GoesAll same stands seats after links links
+row_goes same stands r to_rest seats after links row = record {
   sames = each_refl same r links;
   kept = λ k s h few was.
       let old = slice_index_or seats k s in let bit = Bit old.drives (wired (driven_by seats)) in
@@ -144,11 +146,12 @@ module _ {E B : Type 0} (e : Ends E) (b : Ports B) (same_refl : (x : E) → e.sa
   So_far run seats = IsAfter e b to_rest script from most nodes begun given first links board run seats
 
   row_on : (run : ℕ) (seats after : List Seat) → run < most →
-      ((node : ℕ) → node < 8 → Strikes script (from + run) node → ⊥) → IsQuietRow seats after → So_far run seats →
+      ((node : ℕ) → node < 8 → Strikes script (from + run) node → ⊥) → IsQuietRow to_rest seats after →
+      So_far run seats →
       So_far (run + 1) after
   row_on run seats after early unstruck row far =
       let told = b.told board board in let kept = b.kept board board in let count = far.count in
-      let turns = row_turns told kept (λ m. kept_refl board m) seats after far.bus.ready row in
+      let turns = row_turns told kept (λ m. kept_refl board m) to_rest seats after far.bus.ready row in
       let at : (node : ℕ) → node < 8 → IsAmong node nobody ↔ Strikes script (from + run) node =
       λ node low. (λ hit. absurd (not_among node hit), λ strikes. absurd (unstruck node low strikes)) in
       let pass = passes b.orders_are told kept script (from + run) nodes nobody nobody (wired (driven_by seats)) first
@@ -160,13 +163,14 @@ module _ {E B : Type 0} (e : Ends E) (b : Ports B) (same_refl : (x : E) → e.sa
             bits_on e b to_rest (moment_of script steps from left begun given first) script steps from run most left
             nobody seats after links links board board early enough row.count pass.few pass.at pass.row
             (each_refl e.same same_refl links) (refl, λ m far. kept_refl board m)
-            (row_goes e.same e.stands same_refl seats after links row) far.bus next
+            (row_goes e.same e.stands same_refl to_rest seats after links row) far.bus next
             (λ k low. facts k (omega (arith, low, count)))
-            (λ yes. some_work seats far.bus.ready row.works) (far.bits steps left enough);
+            (λ yes. some_work seats far.bus.ready (row.works yes)) (far.bits steps left enough);
       }
 
   pub rows_on : (run : ℕ) (seats : List Seat) (n : ℕ) (after : List Seat) → run + n ≤ most →
-      ((i node : ℕ) → i < n → node < 8 → Strikes script (from + (run + i)) node → ⊥) → AreQuietRows seats n after →
+      ((i node : ℕ) → i < n → node < 8 → Strikes script (from + (run + i)) node → ⊥) →
+      AreQuietRows to_rest seats n after →
       So_far run seats → So_far (run + n) after
   rows_on run seats _ _ within unstruck no_row far =
       let P : ℕ → Type 0 = λ k. So_far k seats in let is : run ≡ run + 0 = omega arith in subst P is far

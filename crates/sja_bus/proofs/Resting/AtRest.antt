@@ -40,7 +40,7 @@ use Rattle.sja_wire.specs.OneBit.{MayHaveAbort, Opens}
 use Rattle.sja_bus.specs.Stretches.{recessive_bits}
 use Rattle.sja_bus.specs.Inside.Following.{Follows}
 use Rattle.sja_bus.specs.Inside.Seats.{IsSound, IsReady}
-use Rattle.sja_bus.specs.Inside.Turning.{OpensUntold, Turns}
+use Rattle.sja_bus.specs.Inside.Turning.{IsQuietBit, OpensUntold, Turns}
 use Rattle.sja_bus.specs.Inside.Idling.{IsResting, after_bits}
 use Rattle.sja_bus.proofs.AllNodes.NodeBit.{items_none}
 use Rattle.sja_bus.proofs.WholeBus.Lawfuls.{now_once}
@@ -170,20 +170,24 @@ ready_after n s ready rest = record {
   drives = ready.drives;
 }
 
--- each bit is one that its port is passed over in
+-- each bit is one in which nothing happens, and that its port is passed over in
+pub quiet_after : (n : ℕ) (s : Seat) → IsReady s → IsResting s →
+    IsQuietBit Recessive (after_bits n s) (after_bits (suc n) s)
+quiet_after n s ready rest = record {
+  untold = rest.none;
+  told = rest.none;
+  samples = samples_recessive s ready rest;
+  shows = same_shown s.node;
+  whole = sym (one_more n s.journal.entries)
+      ∙ ap (λ x. (s.journal.entries ++ recessive_bits n) ++ Bit x Recessive ∷ []) (sym rest.drives);
+}
+
 pub turns_after : (was_told : BusTurn → Type 0) (was_kept : Type 0) (n : ℕ) (s : Seat) → was_kept →
     IsReady s → IsResting s →
     Turns was_told was_kept Recessive (after_bits n s) (after_bits (suc n) s)
 turns_after was_told was_kept n s kept ready rest =
     quiet_turns was_told was_kept Recessive (after_bits n s) (after_bits (suc n) s) kept (ready_after n s ready rest)
-    (record {
-      untold = rest.none;
-      told = rest.none;
-      samples = samples_recessive s ready rest;
-      shows = same_shown s.node;
-      whole = sym (one_more n s.journal.entries) ∙ ap (λ x. (s.journal.entries ++ recessive_bits n) ++ Bit x Recessive
-          ∷ []) (sym rest.drives);
-    })
+    (quiet_after n s ready rest)
 
 -- nothing is taken before it, and no abort changes the node
 abbrev no_abort : (j : List Entry) → MayHaveAbort j j

@@ -37,16 +37,16 @@ use Rattle.sja_bus.proofs.Resting.AtRest.{after_none, ready_after, turns_after, 
 
 -- ---- all seats after so many bits
 
-after_count : (n : ℕ) (seats : List Seat) → length (all_after n seats) ≡ length seats
+pub after_count : (n : ℕ) (seats : List Seat) → length (all_after n seats) ≡ length seats
 after_count n seats = length-map seats (λ (s : Seat). after_bits n s)
 
-after_at : (n : ℕ) (seats : List Seat) (m : ℕ) (s : Seat) → m < length seats →
+pub after_at : (n : ℕ) (seats : List Seat) (m : ℕ) (s : Seat) → m < length seats →
     slice_index_or (all_after n seats) m s ≡ after_bits n (slice_index_or seats m s)
 after_at n [] m s few = absurd (omega arith)
 after_at n (x ∷ seats) zero s few = refl
 after_at n (x ∷ seats) (suc m) s few = after_at n seats m s (omega arith)
 
-after_nothing : (seats : List Seat) → all_after 0 seats ≡ seats
+pub after_nothing : (seats : List Seat) → all_after 0 seats ≡ seats
 after_nothing [] = refl
 after_nothing (s ∷ seats) = ap (λ x. x ∷ all_after 0 seats) (after_none s) ∙ ap (λ l. s ∷ l) (after_nothing seats)
 
@@ -77,7 +77,7 @@ room_after n room seats h k s few =
     let c = after_count n seats in let near : k < length seats = omega (arith, few, c) in
     ap (λ (x : Seat). x.journal.room) (after_at n seats k s near) ∙ h k s near
 
-after_wired : (n : ℕ) (seats : List Seat) → ((k : ℕ) (s : Seat) → k < length seats →
+pub after_wired : (n : ℕ) (seats : List Seat) → ((k : ℕ) (s : Seat) → k < length seats →
     (slice_index_or seats k s).drives ≡ Recessive) → Recessive ≡ wired (driven_by (all_after n seats))
 after_wired n [] drives = refl
 after_wired n (s ∷ seats) drives =

@@ -1,13 +1,13 @@
--- Bits of a bus in which nothing happens that a port is told, and those in which one node sends and the others have
--- read just what it has.
-use Rattle.std.specs.Prelude.{◌≡◌, ◌≢◌, ◌<◌, ℕ, zero, suc, false, List, [], ◌∷◌, ◌++◌, length, map}
+-- Bits of a bus in which nothing happens that a port is told, and those in which one node sends and the others go on
+-- with it.
+use Rattle.std.specs.Prelude.{◌≡◌, ◌≢◌, ◌<◌, ℕ, suc, Bool, true, false, List, ◌++◌, length, map}
 use Rattle.std.specs.Prelude.{slice_index_or}
 use Rattle.can_bits.specs.declared.level.Level.{Level}
 use Rattle.can_bits.specs.declared.level.Level.TheVariants.{Recessive}
 use Rattle.can_bits.specs.declared.shift.Shift.{Shift}
 use Rattle.can_node.specs.declared.node.Node.{Node}
 use Rattle.can_node.specs.Stands.{DrivesNext, ShowsRest}
-use Rattle.can_node.specs.Together.{HasReadAs, reader_of, reading_as}
+use Rattle.can_node.specs.Together.{GoesWith, following, is_sending, reading_as}
 use Rattle.sja_link.specs.declared.entry.Entry.{Entry}
 use Rattle.sja_link.specs.declared.entry.Entry.TheVariants.{Bit}
 use Rattle.sja_wire.specs.Wire.{wired}
@@ -17,31 +17,33 @@ use Rattle.sja_bus.specs.Inside.Turning.{IsQuietBit}
 
 -- ---- quiet bits of all seats
 
--- one bit of each, in which nothing happens: it sees the level that all drive together. Before it one isn't at rest
-pub record IsQuietRow (seats after : List Seat) : Type 0 where
+-- one bit of each, in which nothing happens: it sees the level that all drive together. Before it one isn't at rest,
+-- where that was asked for
+pub record IsQuietRow (to_rest : Bool) (seats after : List Seat) : Type 0 where
   pub count : length after ≡ length seats
   pub ready : AreReady after
   pub rooms : EachSeat (λ m old new. new.journal.room ≡ old.journal.room) seats after
   pub bits : EachSeat (λ m old new. IsQuietBit (wired (driven_by seats)) old new) seats after
-  pub works : (k : ℕ) × (k < length seats) × ((s : Seat) → ShowsRest (slice_index_or seats k s).node false)
+  pub works : to_rest ≡ true →
+      (k : ℕ) × (k < length seats) × ((s : Seat) → ShowsRest (slice_index_or seats k s).node false)
 
 -- so many, one after the other
-pub data AreQuietRows (seats : List Seat) : ℕ → List Seat → Type 0 where
-  no_row : AreQuietRows seats 0 seats
-  one_more : (mid after : List Seat) (n : ℕ) → AreQuietRows seats n mid → IsQuietRow mid after →
-      AreQuietRows seats (suc n) after
+pub data AreQuietRows (to_rest : Bool) (seats : List Seat) : ℕ → List Seat → Type 0 where
+  no_row : AreQuietRows to_rest seats 0 seats
+  one_more : (mid after : List Seat) (n : ℕ) → AreQuietRows to_rest seats n mid → IsQuietRow to_rest mid after →
+      AreQuietRows to_rest seats (suc n) after
 
--- ---- one sends, the others have read just what it has
+-- ---- one sends, the others go on with it
 
--- the others have read what this reader has
-abbrev pub OthersRead : List Seat → ℕ → Shift → Type 0
-OthersRead seats lead reader =
-    (k : ℕ) (s : Seat) → k < length seats → k ≢ lead → HasReadAs (slice_index_or seats k s).node reader
+-- for so many bits the others go on with this node
+abbrev pub OthersGo : List Seat → ℕ → ℕ → Node → Type 0
+OthersGo seats lead n sender =
+    (k : ℕ) (s : Seat) → k < length seats → k ≢ lead → GoesWith sender n (slice_index_or seats k s).node
 
--- the others have read just what the node of this seat has
-pub record IsLed (seats : List Seat) (lead : ℕ) : Type 0 where
+-- for so many bits the others go on with the node of this seat
+pub record IsLed (seats : List Seat) (lead n : ℕ) : Type 0 where
   pub few : lead < length seats
-  pub read : (s : Seat) → OthersRead seats lead (reader_of (slice_index_or seats lead s).node)
+  pub go : (s : Seat) → OthersGo seats lead n (slice_index_or seats lead s).node
 
 -- the entries of a node that sent these levels, and of one that read them and drove recessive
 abbrev pub sent_bits : List Level → List Entry
@@ -70,18 +72,13 @@ after_reading reader levels s = record s {
   journal = record s.journal { entries = s.journal.entries ++ read_bits levels };
 }
 
+-- a seat whose node goes on where this reader is: it sent these levels too, or read them
+abbrev pub FollowsOn : Shift → List Level → Seat → Seat → Type 0
+FollowsOn reader levels old new =
+    (is_sending old.node ≡ true → HasSent levels (record old { node = following old.node reader }) new)
+    × (is_sending old.node ≡ false → new ≡ after_reading reader levels old)
+
 -- that of each, where this one sent
 abbrev pub SeatGoesOn : ℕ → Shift → List Level → ℕ → Seat → Seat → Type 0
 SeatGoesOn lead reader levels m old new =
-    (m ≡ lead → HasSent levels old new) × (m ≢ lead → new ≡ after_reading reader levels old)
-
--- one function for the element at this place, and another one for all others
-abbrev pub map_but : {A B : Type 0} → (A → B) → (A → B) → ℕ → List A → List B
-map_but here there k [] = []
-map_but here there zero (x ∷ xs) = here x ∷ map there xs
-map_but here there (suc k) (x ∷ xs) = there x ∷ map_but here there k xs
-
--- all seats after that
-abbrev pub all_after_sending : ℕ → Node → Level → List Level → List Seat → List Seat
-all_after_sending lead node next levels seats =
-    map_but (after_sending node next levels) (after_reading (reader_of node) levels) lead seats
+    (m ≡ lead → HasSent levels old new) × (m ≢ lead → FollowsOn reader levels old new)

@@ -141,8 +141,8 @@ run_together-together-requires g c =
 pub level_after-level-requires : goal.level_after-level-requires
 level_after-level-requires g c = λ zero.
     let P : List Seat → Type 0 = λ l. c.in-Ok.end.level ≡ wired (driven_by l) in
-    subst P (sym (none_run c.sample_all.new.seats c.run_together-together.new.seats c.run_together-together.result
-    c.run_together-together.ensures.rows zero)) c.in-Ok.ensures.level
+    subst P (sym (none_run c.args.to_rest c.sample_all.new.seats c.run_together-together.new.seats
+    c.run_together-together.result c.run_together-together.ensures.rows zero)) c.in-Ok.ensures.level
 
 pub loop-run-preserved : goal.loop-run-preserved
 loop-run-preserved g c =
@@ -155,7 +155,7 @@ loop-run-preserved g c =
     let untold : c.in-Ok.end.told ≡ false = search rules in
     let one = c.sample_all.new.seats in let now = c.run_together-together.new.seats in
     let n = c.run_together-together.result in let rows = c.run_together-together.ensures.rows in
-    let stay = rooms_after one n now rows in
+    let stay = rooms_after c.args.to_rest one n now rows in
     let left = part_left marks (run + 1) (omega (arith, within)) in
     let few = c.run_together-together.ensures.few in
     let count = c.part-marks.ensures.count in let all = c.room_of.ensures.most in
@@ -179,7 +179,7 @@ loop-run-preserved g c =
       board = still;
       within = omega (arith, within, few, left);
       bus = far.bus;
-      told = told_after one n now rows (told_now g at);
+      told = told_after c.args.to_rest one n now rows (told_now g at);
       sames = each_trans E.same g.met.E.BusEnd.same_trans c.args.links.now c.loop-run.links c.sample_all.new.links
           inv.sames c.sample_all.ensures.sames;
       rooms = λ r h. have_room_after one now n stay r (c.in-Ok.ensures.rooms r (inv.rooms r h));

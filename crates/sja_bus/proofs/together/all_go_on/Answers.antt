@@ -24,7 +24,10 @@ loop-k-preserved c =
       done = done_one (SeatGoesOn lead c.args.reader.now c.args.levels.now) k c.args.seats.now c.loop-k.seats
           c.index-seats-k.result c.go_on.new.self was c.loop-k.auto.seats (
             λ same. c.go_on.ensures.sent (eq-eqb k lead same),
-            λ other. c.go_on.ensures.read (ne_eqb k lead other),
+            λ other. let not_it = ne_eqb k lead other in (
+              λ sends. c.go_on.ensures.sent_too not_it sends,
+              λ reads. c.go_on.ensures.read not_it reads,
+            ),
           ) c.loop-k.invariant.done;
     }
 

@@ -24,20 +24,20 @@ pub returns-in_ok-enter_bit-in-None-clause-mid : goal.returns-in_ok-enter_bit-in
 returns-in_ok-enter_bit-in-None-clause-mid g c =
     let was = c.args.self.now in let j = was.journal.entries in let x = c.args.self.now.drives in
     let seen = c.args.seen in
-    let new = c.sample_fully-events.new.self in
+    let new = c.sample_fully_with-events.new.self in
     let P : Activity → Type 0 = λ a. Reads was.node j was.ended a (free_in was.ledger) in
     let Q : Activity → Type 0 = λ a. Reads new (j ++ Bit x seen ∷ []) was.ended a (free_in was.ledger) in
     let reads = subst P c.requires.runs.1 c.requires.ready.sound.reads in
     let at = runs_at (Running c.requires.runs.0) was.node j was.ended (free_in was.ledger) refl reads in
     let o = c.enter_bit.ensures.others in
-    let follows = received_quiet was.node new j x seen c.sample_fully-events.result c.requires.runs.0 (suc was.ended)
-    c.requires.ready.drives c.sample_fully-events.ensures.samples at reads.active.1
+    let follows = received_quiet was.node new j x seen c.sample_fully_with-events.result c.requires.runs.0
+    (suc was.ended) c.requires.ready.drives c.sample_fully_with-events.ensures.samples at reads.active.1
     (c.in-None.ensures c.requires.runs.0 c.requires.runs.1) c.requires.ready.sound.follows in
     let swapped = reads_quiet new new j (Bit x seen) was.ended (Running c.requires.runs.0) (free_in was.ledger)
     (λ p. refl, refl, refl, refl) (λ r. r) (reads_swap was.node new j was.ended c.requires.runs.0
     (free_in was.ledger) reads) in
     record {
-      follows = follows_by c.enter_bit.new.self new (j ++ Bit x seen ∷ []) c.sample_fully-events.result.went_off
+      follows = follows_by c.enter_bit.new.self new (j ++ Bit x seen ∷ []) c.sample_fully_with-events.result.went_off
           (ap (λ (s : Seat). s.node) o) c.in_ok-enter_bit-in-None.ensures.ok.0 follows;
       reads = reads_by c.enter_bit.new.self new (j ++ Bit x seen ∷ []) was.ended was.activity (free_in was.ledger)
           (ap (λ (s : Seat). s.node) o) c.in_ok-enter_bit-in-None.ensures.ok.0
@@ -48,14 +48,14 @@ returns-in_ok-enter_bit-in-None-clause-mid g c =
 pub returns-in_ok-enter_bit-in-None-clause-samples : goal.returns-in_ok-enter_bit-in-None-clause-samples
 returns-in_ok-enter_bit-in-None-clause-samples g c =
     let was = c.args.self.now in
-    let P : Node → Type 0 = λ n. Samples was.node n c.args.seen c.sample_fully-events.result in
-    subst P (sym (ap (λ (s : Seat). s.node) c.enter_bit.ensures.others)) c.sample_fully-events.ensures.samples
+    let P : Node → Type 0 = λ n. Samples was.node n c.args.seen c.sample_fully_with-events.result in
+    subst P (sym (ap (λ (s : Seat). s.node) c.enter_bit.ensures.others)) c.sample_fully_with-events.ensures.samples
 
 pub returns-in_ok-enter_bit-in-None-clause-off : goal.returns-in_ok-enter_bit-in-None-clause-off
 returns-in_ok-enter_bit-in-None-clause-off g c = λ went.
     let P : Node → Type 0 = λ n. InReset n in
     subst P (sym (ap (λ (s : Seat). s.node) c.enter_bit.ensures.others))
-    (c.sample_fully-events.ensures.off (search rules))
+    (c.sample_fully_with-events.ensures.off (search rules))
 
 pub returns-in_ok-enter_bit-in-None-clause-moves : goal.returns-in_ok-enter_bit-in-None-clause-moves
 returns-in_ok-enter_bit-in-None-clause-moves g c =
@@ -73,17 +73,18 @@ pub returns-in_ok-overrun-in-Some-clause-mid : goal.returns-in_ok-overrun-in-Som
 returns-in_ok-overrun-in-Some-clause-mid g c =
     let was = c.args.self.now in let j = was.journal.entries in let x = c.args.self.now.drives in
     let seen = c.args.seen in
-    let new = c.sample_fully-events.new.self in
+    let new = c.sample_fully_with-events.new.self in
     let P : Activity → Type 0 = λ a. Reads was.node j was.ended a (free_in was.ledger) in
     let reads = subst P c.requires.runs.1 c.requires.ready.sound.reads in
     let at = runs_at (Running c.requires.runs.0) was.node j was.ended (free_in was.ledger) refl reads in
-    let follows = received_judged was.node new j c.judge.new.self.journal.entries x seen c.sample_fully-events.result
-    c.requires.runs.0 (suc was.ended) c.in-Some.message c.in_ok-overrun-in-Some.overrun c.requires.ready.drives
-    c.sample_fully-events.ensures.samples at reads.active.1
+    let events = c.sample_fully_with-events.result in
+    let follows = received_judged was.node new j c.judge.new.self.journal.entries x seen events c.requires.runs.0
+    (suc was.ended) c.in-Some.message c.in_ok-overrun-in-Some.overrun c.requires.ready.drives
+    c.sample_fully_with-events.ensures.samples at reads.active.1
     (c.in-Some.ensures c.requires.runs.0 c.requires.runs.1) c.in_ok-overrun-in-Some.ensures.judged
     c.requires.ready.sound.follows in
     record {
-      follows = follows_by c.judge.new.self new c.judge.new.self.journal.entries c.sample_fully-events.result.went_off
+      follows = follows_by c.judge.new.self new c.judge.new.self.journal.entries events.went_off
           c.judge.ensures.kept.0 refl follows;
       reads = c.in_ok-overrun-in-Some.ensures.reads;
     }
@@ -91,13 +92,13 @@ returns-in_ok-overrun-in-Some-clause-mid g c =
 pub returns-in_ok-overrun-in-Some-clause-samples : goal.returns-in_ok-overrun-in-Some-clause-samples
 returns-in_ok-overrun-in-Some-clause-samples g c =
     let was = c.args.self.now in
-    let P : Node → Type 0 = λ n. Samples was.node n c.args.seen c.sample_fully-events.result in
-    subst P (sym c.judge.ensures.kept.0) c.sample_fully-events.ensures.samples
+    let P : Node → Type 0 = λ n. Samples was.node n c.args.seen c.sample_fully_with-events.result in
+    subst P (sym c.judge.ensures.kept.0) c.sample_fully_with-events.ensures.samples
 
 pub returns-in_ok-overrun-in-Some-clause-off : goal.returns-in_ok-overrun-in-Some-clause-off
 returns-in_ok-overrun-in-Some-clause-off g c = λ went.
     let P : Node → Type 0 = λ n. InReset n in
-    subst P (sym c.judge.ensures.kept.0) (c.sample_fully-events.ensures.off (search rules))
+    subst P (sym c.judge.ensures.kept.0) (c.sample_fully_with-events.ensures.off (search rules))
 
 pub returns-in_ok-overrun-in-Some-clause-verdict : goal.returns-in_ok-overrun-in-Some-clause-verdict
 returns-in_ok-overrun-in-Some-clause-verdict g c =
@@ -108,13 +109,13 @@ returns-in_ok-overrun-in-Some-clause-verdict g c =
 pub returns-in_err-enter_bit-in-None-clause-broken : goal.returns-in_err-enter_bit-in-None-clause-broken
 returns-in_err-enter_bit-in-None-clause-broken g c =
     let E = g.E.BusEnd in let was = c.args.self.now in let j = was.journal.entries in let seen = c.args.seen in
-    let new = c.sample_fully-events.new.self in let events = c.sample_fully-events.result in
+    let new = c.sample_fully_with-events.new.self in let events = c.sample_fully_with-events.result in
     let filter = c.requires.runs.0 in let ready = c.requires.ready in
     let P : Activity → Type 0 = λ a. Reads was.node j was.ended a (free_in was.ledger) in
     let reads = subst P c.requires.runs.1 ready.sound.reads in
     let at = runs_at (Running filter) was.node j was.ended (free_in was.ledger) refl reads in
     let follows = received_quiet was.node new j was.drives seen events filter (suc was.ended) ready.drives
-    c.sample_fully-events.ensures.samples at reads.active.1
+    c.sample_fully_with-events.ensures.samples at reads.active.1
     (c.in-None.ensures filter c.requires.runs.1) ready.sound.follows in
     let f = c.in_err-enter_bit-in-None.field-0.0 in let full = c.in_err-enter_bit-in-None.ensures.full in
     let is : c.from_residual.result ≡ Err f = search rules in
@@ -129,7 +130,7 @@ returns-in_err-enter_bit-in-None-clause-broken g c =
 pub returns-in_err-overrun-in-Some-clause-broken : goal.returns-in_err-overrun-in-Some-clause-broken
 returns-in_err-overrun-in-Some-clause-broken g c =
     let E = g.E.BusEnd in let was = c.args.self.now in let j = was.journal.entries in let seen = c.args.seen in
-    let new = c.sample_fully-events.new.self in let events = c.sample_fully-events.result in
+    let new = c.sample_fully_with-events.new.self in let events = c.sample_fully_with-events.result in
     let filter = c.requires.runs.0 in let ready = c.requires.ready in let a = suc was.ended in
     let P : Activity → Type 0 = λ a. Reads was.node j was.ended a (free_in was.ledger) in
     let reads = subst P c.requires.runs.1 ready.sound.reads in
@@ -144,7 +145,7 @@ returns-in_err-overrun-in-Some-clause-broken g c =
     judged_short new was.journal.room j now was.drives seen a message events.went_off short
     (received_judged was.node new j (now ++ short.due ∷ short.later) was.drives seen events filter
     a message short.overrun
-    ready.drives c.sample_fully-events.ensures.samples at reads.active.1
+    ready.drives c.sample_fully_with-events.ensures.samples at reads.active.1
     (c.in-Some.ensures filter c.requires.runs.1) short.judged ready.sound.follows))
     c.in_err-overrun-in-Some.ensures.broken)
 
