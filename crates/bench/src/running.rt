@@ -11,7 +11,10 @@ pub fn run_bits(bus: &mut Bus, links: &mut [DequeLink], board: &mut SerialBoard,
     requires count { length links.old ≡ 64 * length bus.old.journals }
     requires ids { Numbered (λ l. l.link) links.old }
     requires ports { length bus.old.journals ≤ length board.old.ports.items }
-    ensures { length bus.new.journals ≡ length bus.old.journals }
+    ensures nodes { length bus.new.journals ≡ length bus.old.journals }
+    ensures links { length links.new ≡ length links.old }
+    ensures ids { Numbered (λ l. l.link) links.new }
+    ensures ports { length board.new.ports.items ≡ length board.old.ports.items }
 {
     match bus.bits(links, board, count, false) {
         Ok(run) => run == count,
@@ -29,7 +32,10 @@ pub fn run_bits_at_once(
     requires count { length links.old ≡ 64 * length bus.old.journals }
     requires ids { Numbered (λ l. l.link) links.old }
     requires ports { length bus.old.journals ≤ length board.old.ports.items }
-    ensures { length bus.new.journals ≡ length bus.old.journals }
+    ensures nodes { length bus.new.journals ≡ length bus.old.journals }
+    ensures links { length links.new ≡ length links.old }
+    ensures ids { Numbered (λ l. l.link) links.new }
+    ensures ports { length board.new.ports.items ≡ length board.old.ports.items }
 {
     let mut left = count;
     for _ in 0..count {

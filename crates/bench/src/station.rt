@@ -1,6 +1,7 @@
 //! [`Station`]: a bus in one thread with a driver out of reset for each node.
 
-ghost use Rattle.std.specs.Prelude.{◌≡◌, ◌≤◌, length, IfOk};
+ghost use Rattle.std.specs.Prelude.{◌≡◌, ◌≤◌, ◌*◌, length, IfOk};
+ghost use Rattle.sja_wire.specs.Links.{Numbered};
 
 use super::running::{run_bits, run_bits_at_once};
 use can_frame::{Message, OutOfMemory};
@@ -8,7 +9,7 @@ use sja_bus::{Bus, SerialBoard, are_links_of, serial_links};
 use sja_driver::{Active, Driver};
 use sja_link::{DequeLink, DriverEnd, first_link};
 use sja_plan::MOST_BITS;
-use sja_regs::letters;
+use sja_regs::{Port, letters};
 use sja_script::{FaultScript, MOST_NODES};
 use std::alloc::Global;
 
@@ -22,8 +23,9 @@ pub struct Station {
     links: Vec<DequeLink>,
     board: SerialBoard,
     drivers: Vec<Driver<Active>>,
-    nodes: u8,
-    ghost size: { length bus.journals ≡ nodes },
+    ghost count: { length links.items ≡ 64 * length bus.journals },
+    ghost ids: { Numbered (λ e. e.link) links.items },
+    ghost ports: { length bus.journals ≤ length board.ports.items },
 }
 
 impl Station {
@@ -43,50 +45,47 @@ impl Station {
             let driver = started(node, links.as_mut_slice(), &mut board)?;
             drivers.push(driver).ok()?;
         }
+        if !are_links_of(links.as_slice(), nodes) || board.ports.len() < usize::from(nodes) {
+            return None;
+        }
         Some(Station {
             bus,
             links,
             board,
             drivers,
-            nodes,
         })
     }
 
     /// Has the driver of this node load this message and request its transmission, where its transmit buffer is
     /// released.
     pub fn send(&mut self, node: usize, message: &Message) {
+        let place = first_link(node % MOST_NODES as usize);
         let Some(driver) = self.drivers.get_mut(node) else {
-            return;
-        };
-        let Some(link) = self.links.get_mut(first_link(node % MOST_NODES as usize)) else {
             return;
         };
         let Some(port) = self.board.ports.get_mut(node) else {
             return;
         };
-        if DriverEnd::id(link) == driver.link() && driver.load(port, message).is_ok() {
-            let _ = driver.command(link, port, TRANSMIT);
+        if place < self.links.len() {
+            ask(&mut self.links[place], driver, port, message);
         }
     }
 
     /// Has the driver of this node release the first message that it was shown. Whether there was one.
     pub fn release(&mut self, node: usize) -> bool {
+        let place = first_link(node % MOST_NODES as usize);
         let Some(driver) = self.drivers.get_mut(node) else {
             return false;
         };
-        let Some(link) = self.links.get_mut(first_link(node % MOST_NODES as usize)) else {
-            return false;
-        };
-        DriverEnd::id(link) == driver.link() && driver.release(link).is_ok()
+        if place < self.links.len() {
+            is_released(&mut self.links[place], driver)
+        } else {
+            false
+        }
     }
 
     /// So many bits, one after another, or those in which every node is at rest at once. Whether all were run.
     pub fn bits(&mut self, count: u32, at_once: bool) -> bool {
-        if !are_links_of(self.links.as_slice(), self.nodes)
-            || self.board.ports.len() < usize::from(self.nodes)
-        {
-            return false;
-        }
         let links = self.links.as_mut_slice();
         if at_once {
             run_bits_at_once(&mut self.bus, links, &mut self.board, count)
@@ -94,6 +93,24 @@ impl Station {
             run_bits(&mut self.bus, links, &mut self.board, count)
         }
     }
+}
+
+/// Has the driver load this message and request its transmission over this link, where that is its own and its transmit
+/// buffer is released.
+fn ask(link: &mut DequeLink, driver: &mut Driver<Active>, port: &mut Port, message: &Message)
+    ensures { link.new.link ≡ link.old.link }
+{
+    if DriverEnd::id(link) == driver.link() && driver.load(port, message).is_ok() {
+        let _ = driver.command(link, port, TRANSMIT);
+    }
+}
+
+/// Has the driver release the first message that it was shown, over this link, where that is its own. Whether there was
+/// one.
+fn is_released(link: &mut DequeLink, driver: &mut Driver<Active>) -> bool
+    ensures { link.new.link ≡ link.old.link }
+{
+    DriverEnd::id(link) == driver.link() && driver.release(link).is_ok()
 }
 
 /// A bus of so many nodes for so many bits, in none of which a node is struck.

@@ -33,4 +33,25 @@ loop-preserved c =
       numbered_kept (λ (x : Deques). x.link) same (λ x y h. h) between after e.sames
           (numbered_kept (λ (x : Deques). x.link) same (λ x y h. h) before between q.sames i.2),
       omega (arith, rested, nodes, ports, few),
+      ports ∙ i.4,
     )
+
+pub returns-in_default-clause-ids : goal.returns-in_default-clause-ids
+returns-in_default-clause-ids c =
+    let same : Deques → Deques → Type 0 = λ x y. y.link ≡ x.link in
+    numbered_kept (λ (x : Deques). x.link) same (λ x y h. h) c.loop.links c.quiet_bits.new.links
+    c.quiet_bits.ensures.sames c.loop.invariant.2
+
+pub returns-then-left-eq0-clause-ids : goal.returns-then-left-eq0-clause-ids
+returns-then-left-eq0-clause-ids c =
+    let same : Deques → Deques → Type 0 = λ x y. y.link ≡ x.link in
+    numbered_kept (λ (x : Deques). x.link) same (λ x y h. h) c.loop.links c.quiet_bits.new.links
+    c.quiet_bits.ensures.sames c.loop.invariant.2
+
+pub returns-then-is_err-clause-ids : goal.returns-then-is_err-clause-ids
+returns-then-is_err-clause-ids c =
+    let same : Deques → Deques → Type 0 = λ x y. y.link ≡ x.link in
+    numbered_kept (λ (x : Deques). x.link) same (λ x y h. h) c.quiet_bits.new.links c.bit.new.links
+    c.bit.ensures.keeps.sames
+    (numbered_kept (λ (x : Deques). x.link) same (λ x y h. h) c.loop.links c.quiet_bits.new.links
+    c.quiet_bits.ensures.sames c.loop.invariant.2)

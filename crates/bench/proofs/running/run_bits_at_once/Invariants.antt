@@ -8,3 +8,4 @@ invariant-loop l = (length l.bus.journals ≡ length l.initial.bus.journals)
     × (length l.links ≡ 64 * length l.bus.journals)
     × Numbered (λ e. e.link) l.links
     × (length l.bus.journals ≤ length l.board.ports.items)
+    × (length l.board.ports.items ≡ length l.initial.board.ports.items)
