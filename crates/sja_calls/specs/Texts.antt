@@ -6,8 +6,9 @@ use Rattle.sja_calls.specs.declared.state.State.{State}
 use Rattle.sja_calls.specs.declared.state.State.TheVariants.{Going, Ended, Lost}
 use Rattle.sja_driver.specs.Deeds.{Deed}
 use Rattle.sja_driver_session.specs.DriverSessions.{StandsIn, written}
-use Rattle.sja_driver_session.specs.Ending.{AreAccounts, IsOwnLog, IsRunIn}
+use Rattle.sja_driver_session.specs.Ending.{IsOwnLog, IsRunIn}
 use Rattle.sja_driver_session.specs.declared.driver_session.DriverSession.{DriverSession}
+use Rattle.sja_log.specs.Headline.{AreAccounts}
 use Rattle.sja_log.specs.Log.{RunValue}
 use Rattle.sja_plan.specs.Faults.{IsPlanOf, IsFirstFault}
 use Rattle.sja_plan.specs.Plan.{PlanValue}

@@ -122,11 +122,10 @@ pub rests_grown : (was now : DriverSession) (run : ℕ) (rests : Bool) (deeds : 
 rests_grown was now run rests deeds (r, w) = bits_grown was now run deeds (rests_led r) w
 
 pub watches_grown : (was now : DriverSession) (count : ℕ) (watched : List Bool) (run : ℕ) (rose : Option ℕ)
-    (deeds : List (List Deed)) → StandsIn was deeds → WatchesIn was now count watched run rose deeds →
+    (deeds : List (List Deed)) → WatchesIn was now count watched run rose deeds →
     Grown was now (with_bits_run (written was) run) deeds
-watches_grown was now count watched run rose deeds at (r, w) =
-    bits_grown was now run deeds
-    (watches_led (session_of was) (session_of now) count watched run rose deeds at r).0 w
+watches_grown was now count watched run rose deeds (r, w) =
+    bits_grown was now run deeds (watches_led (session_of was) (session_of now) count watched run rose deeds r).0 w
 
 -- ---- where nothing was done, and strikes
 

@@ -1,8 +1,7 @@
 -- The end of a session of any version: its plan and its log (this project's own rule).
-use Rattle.std.specs.Prelude.{◌<◌, ℕ, List, length, slice_index_or}
+use Rattle.std.specs.Prelude.{List}
 use Rattle.sja_driver.specs.Deeds.{Deed}
-use Rattle.sja_log.specs.Headline.{IsAccount}
-use Rattle.sja_log.specs.Log.{NodeValue, RunValue}
+use Rattle.sja_log.specs.Log.{RunValue}
 use Rattle.sja_log.specs.Runs.{IsSerialRun}
 use Rattle.sja_log.specs.declared.end.End.TheVariants.{Turns as TurnsDone}
 use Rattle.sja_plan.specs.Plan.{PlanValue}
@@ -25,10 +24,6 @@ IsOwnLog (Accesses s) deeds log = IsLogIn s deeds TurnsDone log
 abbrev pub IsRunIn : DriverSession → PlanValue → RunValue → Type 0
 IsRunIn (Typed r) plan log = IsSerialRun plan log
 IsRunIn (Accesses s) plan log = IsRawRun plan log × IsSessionRun plan log
-
--- each driver's messages are accounted for, as the theorem of a run in one thread says
-abbrev pub AreAccounts : RunValue → Type 0
-AreAccounts log = (k : ℕ) (d : NodeValue) → k < length log.nodes → IsAccount (slice_index_or log.nodes k d)
 
 -- in version 3 what it wrote is within the limits of a document; of versions 1 and 2 nothing is said here
 abbrev pub HasLimits : DriverSession → Type 0

@@ -10,7 +10,8 @@ impl DriverSession {
     ghost use Rattle.std.specs.Prelude.{◌≡◌, List, IfOk};
     ghost use Rattle.sja_driver.specs.Deeds.{Deed};
     ghost use Rattle.sja_driver_session.specs.DriverSessions.{StandsIn, written};
-    ghost use Rattle.sja_driver_session.specs.Ending.{AreAccounts, HasLimits, IsOwnLog, IsRunIn};
+    ghost use Rattle.sja_driver_session.specs.Ending.{HasLimits, IsOwnLog, IsRunIn};
+    ghost use Rattle.sja_log.specs.Headline.{AreAccounts};
 
     /// The plan that the session wrote so far.
     ///

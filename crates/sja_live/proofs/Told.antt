@@ -118,7 +118,7 @@ not_write was now node address value fault answer there f used e =
 watched_live : (was now : DriverSession) (run : ℕ) (rose_in : Option ℕ) (count : ℕ) (deeds : List (List Deed)) →
     IsLiveAt was deeds → WatchesIn was now count all_watched run rose_in deeds → IsLiveAt now deeds
 watched_live was now run rose_in count deeds at w =
-    live_bits was now deeds run at (watches_grown was now count all_watched run rose_in deeds at.at w)
+    live_bits was now deeds run at (watches_grown was now count all_watched run rose_in deeds w)
 
 -- all nodes were watched, and this came of it
 all_by : (was now : DriverSession) (count run : ℕ) (watched : List Bool) (rose_in told : Option ℕ) →

@@ -2,8 +2,9 @@
 use Rattle.std.specs.Prelude.{List}
 use Rattle.sja_driver.specs.Deeds.{Deed}
 use Rattle.sja_driver_session.specs.DriverSessions.{written}
-use Rattle.sja_driver_session.specs.Ending.{AreAccounts, IsOwnLog, IsRunIn}
+use Rattle.sja_driver_session.specs.Ending.{IsOwnLog, IsRunIn}
 use Rattle.sja_driver_session.specs.declared.driver_session.DriverSession.{DriverSession}
+use Rattle.sja_log.specs.Headline.{AreAccounts}
 use Rattle.sja_log.specs.Log.{RunValue}
 
 -- the log has the session's own bits, journals and deeds, and is that of a run of the plan that it wrote, by the rules

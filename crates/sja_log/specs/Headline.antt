@@ -13,7 +13,7 @@ use Rattle.sja_link.specs.Records.{record_of}
 use Rattle.sja_link.specs.Judged.{judged_in, kept}
 use Rattle.lemmas.specs.Picking.{Picks, EachAfter}
 use Rattle.sja_link.specs.Verdicts.{IsAccepted, IsOn, IsDue}
-use Rattle.sja_log.specs.Log.{ActivationValue, NodeValue}
+use Rattle.sja_log.specs.Log.{ActivationValue, NodeValue, RunValue}
 
 -- of activation a of a node with journal j, by these pieces of the node's record
 pub record Headline (found : List FinishedPiece) (j : List Entry) (a : ℕ) (act : ActivationValue) : Type 0 where
@@ -36,3 +36,9 @@ pub record IsAccount (node : NodeValue) : Type 0 where
   pub cut : IsCut (record_of node.journal) found
   pub headline : (others : List FinishedPiece) (a : ℕ) (d : ActivationValue) → IsCut (record_of node.journal) others →
       a < length node.activations → Headline others node.journal (a + 1) (slice_index_or node.activations a d)
+
+-- of a log: the headline holds of each activation of each of its nodes. What the driver of a node released in it,
+-- followed by what it left unread, is, in order and each once, the frames that its controller validly received and its
+-- filter passed, less those marked overrun
+abbrev pub AreAccounts : RunValue → Type 0
+AreAccounts log = (k : ℕ) (d : NodeValue) → k < length log.nodes → IsAccount (slice_index_or log.nodes k d)

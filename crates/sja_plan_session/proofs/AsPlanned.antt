@@ -13,7 +13,6 @@ use Rattle.sja_script.specs.declared.step.Step.{Step}
 use Rattle.sja_script.specs.declared.strike.Strike.{Strike}
 use Rattle.sja_session.specs.Sessions.{IsAt, SessionValue}
 use Rattle.sja_session.specs.declared.session_room.SessionRoom.{SessionRoom}
-use Rattle.sja_session.proofs.QuietBits.{watched_at}
 use Rattle.sja_session.proofs.Turned.{latest_of}
 use Rattle.sja_plan_session.specs.History.{Came, IsNew}
 use Rattle.sja_plan_session.specs.History.Came.{begin, step as stepped, waits as waited, bits as ran, rest as rested}
@@ -31,19 +30,6 @@ use Rattle.sja_plan_session.proofs.ReplayedSteps.{planned, step_replayed}
 use Rattle.sja_plan_session.proofs.Reached.{IsReached, reached_bits, reached_same, same_look, same_strike, same_wait}
 
 -- ---- all calls
-
--- where calls led the session stands
-at_came : {first s : PlanSessionValue} {deeds : List (List Deed)} →
-    IsAt first.raw.session (replicate (node_count first) []) → Came first s deeds → IsAt s.raw.session deeds
-at_came h begin = h
-at_came h (stepped node one answer came does) = does.at
-at_came h (waited node one came w) = w.waits.at
-at_came h (ran count run came r) = r.runs.at
-at_came h (rested run rests came r) = r.rest.at
-at_came {first} {s} {deeds} h (watched_on {was = was} count watched run rose came w) =
-    watched_at was.raw.session s.raw.session count watched run rose deeds (at_came h came) w.watches
-at_came h (struck_on node bit came s) = s.struck.at
-at_came h (looked came s) = s.still.at
 
 reached_first : (plan : PlanValue) (first : PlanSessionValue) (bits nodes : ℕ) (room : SessionRoom)
     (strikes : List Strike) → IsNew first bits nodes room strikes →
@@ -73,9 +59,6 @@ reached_first plan first bits nodes room strikes new = record {
 
 module _ (plan : PlanValue) (first : PlanSessionValue) (bits nodes : ℕ) (room : SessionRoom) (strikes : List Strike)
     (new : IsNew first bits nodes room strikes) where
-  at_start : IsAt first.raw.session (replicate (node_count first) [])
-  at_start = at_first first bits nodes room strikes new
-
   pub reached : (s : PlanSessionValue) (deeds : List (List Deed)) → Came first s deeds → Covers plan s deeds →
       IsReached plan first s deeds
   reached s deeds begin c = reached_first plan first bits nodes room strikes new
@@ -110,8 +93,7 @@ module _ (plan : PlanValue) (first : PlanSessionValue) (bits nodes : ℕ) (room 
       reached_bits run x (rests_as plan.strikes was.raw.session s.raw.session run rests deeds x.run x.at x.replays
       r.rest) b r.writes c.bits
   reached s deeds (watched_on {was = was} count watched run rose came w) c =
-      let b = (watches_led was.raw.session s.raw.session count watched run rose deeds (at_came at_start came)
-      w.watches).0 in
+      let b = (watches_led was.raw.session s.raw.session count watched run rose deeds w.watches).0 in
       let x = reached was deeds came (covers_bits run b w.writes c) in
       reached_bits run x (watches_as plan.strikes was.raw.session s.raw.session count watched run rose deeds x.run x.at
       x.replays w.watches) b w.writes c.bits

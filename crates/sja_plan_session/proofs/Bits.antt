@@ -12,8 +12,8 @@ use Rattle.sja_session.specs.Resting.{Rests}
 use Rattle.sja_session.specs.Running.{RunsBits}
 use Rattle.sja_session.specs.Sessions.{SessionValue, IsAt, written}
 use Rattle.sja_session.specs.Turning.{on_latest, with_turn}
-use Rattle.sja_session.specs.Watching.{Quiet, Watches}
-use Rattle.sja_session.specs.Watching.Quiet.{none, look, bit}
+use Rattle.sja_session.specs.Watching.{NoneRose, Watches}
+use Rattle.sja_session.specs.Watching.NoneRose.{none, bit}
 use Rattle.sja_session.specs.Writing.{with_bits_run}
 use Rattle.sja_session.proofs.QuietBits.{nodes_same}
 use Rattle.sja_session.proofs.Turned.{latest_of, bits_go_on}
@@ -58,9 +58,6 @@ pub record BitsLed (was now : SessionValue) (deeds : List (List Deed)) (run : �
   pub bits : now.run.bits ≡ was.run.bits + run
   pub wrote : written now ≡ with_bits_run (written was) run
 
-no_bits : (s : SessionValue) (deeds : List (List Deed)) → IsAt s deeds → BitsLed s s deeds 0
-no_bits s deeds at = record { at = at; room = refl; bits = omega arith; wrote = refl }
-
 pub still_led : {was now : SessionValue} {deeds : List (List Deed)} → IsStill was now deeds → BitsLed was now deeds 0
 still_led s = record { at = s.at; room = s.room; bits = let e = s.bits in omega (arith, e); wrote = s.wrote }
 
@@ -102,21 +99,20 @@ then_bit {was} {mid} {now} {deeds} {run} b r =
     }
 
 quiet_led : {watched : List Bool} {nodes : ℕ} {deeds : List (List Deed)} {was now : SessionValue} {n : ℕ} →
-    IsAt was deeds → Quiet watched nodes deeds was now n → BitsLed was now deeds n
-quiet_led {deeds = deeds} {was = was} at none = no_bits was deeds at
-quiet_led at (look q s) = then_still (quiet_led at q) s
-quiet_led at (bit q r f) = then_bit (quiet_led at q) r
+    NoneRose watched nodes deeds was now n → BitsLed was now deeds n
+quiet_led (none s) = still_led s
+quiet_led (bit q r f s) = then_still (then_bit (quiet_led q) r) s
 
 pub watches_led : (was now : SessionValue) (count : ℕ) (watched : List Bool) (run : ℕ) (rose : Option ℕ)
-    (deeds : List (List Deed)) → IsAt was deeds → Watches was now count watched run rose deeds →
+    (deeds : List (List Deed)) → Watches was now count watched run rose deeds →
     BitsLed was now deeds run × (run ≤ count)
-watches_led was now count watched run (Some node) deeds at w =
+watches_led was now count watched run (Some node) deeds w =
     let rose = w.0 in (
       subst (λ n. BitsLed was now deeds n) (sym rose.many)
-          (then_still (then_bit (quiet_led at rose.quiet) rose.bit) rose.still),
+          (then_still (then_bit (quiet_led rose.earlier) rose.bit) rose.still),
       w.1,
     )
-watches_led was now count watched run None deeds at w = (quiet_led at w.0, w.1)
+watches_led was now count watched run None deeds w = (quiet_led w.0, w.1)
 
 -- ---- what stays
 

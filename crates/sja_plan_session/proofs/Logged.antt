@@ -2,7 +2,7 @@
 use Rattle.std.proofs.Common.{◌≡◌, ℕ, zero, suc, ◌+◌, ◌<◌, List, [], ◌∷◌, ◌++◌, length, take, refl, sym, ap, ◌∙◌}
 use Rattle.std.proofs.Common.{add-one, subst, arith}
 use Rattle.std.specs.Prelude.{Result, Ok, Err, IfOk, slice_index_or}
-use Rattle.sja_log.specs.Headline.{IsAccount}
+use Rattle.sja_log.specs.Headline.{AreAccounts, IsAccount}
 use Rattle.sja_log.specs.Log.{NodeValue, RunValue}
 use Rattle.sja_log.specs.declared.end.End.{End}
 use Rattle.sja_script.specs.declared.done.Done.{Done}
@@ -59,9 +59,7 @@ account_with (x ∷ nodes) (s ∷ done) each (suc k) d less =
 
 pub log_account : {X : Type 0} (result : Result RunValue X) (log : RunValue) (done : List (List Done)) (end : End) →
     IfOk result (λ other. other ≡ log_with log done end) →
-    ((k : ℕ) (d : NodeValue) → k < length log.nodes → IsAccount (slice_index_or log.nodes k d)) →
-    IfOk result (λ other. (k : ℕ) (d : NodeValue) → k < length other.nodes → IsAccount (slice_index_or other.nodes k d))
+    AreAccounts log → IfOk result (λ other. AreAccounts other)
 log_account (Ok other) log done end is each =
-    subst (λ (l : RunValue). (k : ℕ) (d : NodeValue) → k < length l.nodes → IsAccount (slice_index_or l.nodes k d))
-    (sym is) (account_with log.nodes done each)
+    subst (λ (l : RunValue). AreAccounts l) (sym is) (account_with log.nodes done each)
 log_account (Err x) log done end is each = tt

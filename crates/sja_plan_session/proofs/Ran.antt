@@ -61,7 +61,7 @@ module _ (was : PlanSessionValue) (raw : RawValue) (turns : List Turn) (sr dr : 
   pub watch_kept : (watched : List Bool) (rose : Option ℕ) →
       Watches was.raw.session raw.session count watched run rose inv.deeds → IsPlanSession now sr dr tr_now
   watch_kept watched rose w =
-      let b = watches_led was.raw.session raw.session count watched run rose inv.deeds inv.at w in
+      let b = watches_led was.raw.session raw.session count watched run rose inv.deeds w in
       ran_kept b.0 (λ some. let m = b.1 in omega (arith, some, m))
       (watched_on count watched run rose inv.came
       (record { watches = w; writes = writes_bits was raw turns run t kept }))

@@ -14,8 +14,8 @@ use Rattle.sja_session.specs.Lines.{IsStill}
 use Rattle.sja_session.specs.Resting.{Rests}
 use Rattle.sja_session.specs.Running.{RunsBits}
 use Rattle.sja_session.specs.Sessions.{SessionValue, IsAt, written}
-use Rattle.sja_session.specs.Watching.{Quiet, Watches}
-use Rattle.sja_session.specs.Watching.Quiet.{none, look, bit}
+use Rattle.sja_session.specs.Watching.{NoneRose, Watches}
+use Rattle.sja_session.specs.Watching.NoneRose.{none, bit}
 use Rattle.sja_session.specs.Writing.{with_bits_run}
 use Rattle.sja_wire.specs.Wire.{journal_at}
 use Rattle.sja_plan_session.proofs.Replayed.{Replays, done_nodes, done_plan, stands_done, struck_with}
@@ -172,16 +172,17 @@ then_bit strikes was mid now deeds n r q one =
 
 quiet_as : (strikes : List Strike) {watched : List Bool} {nodes : ℕ} {deeds : List (List Deed)}
     {was now : SessionValue} {n : ℕ} (r : SerialValue) → IsAt was deeds → Replays strikes was deeds r →
-    Quiet watched nodes deeds was now n → QuietAs strikes was now deeds n r
-quiet_as strikes r h g none = record {
-  bits = record { run = r; replays = g; takes = no_bit r };
-  at = h;
-  same = refl;
-}
-quiet_as strikes {deeds = deeds} {was = was} {now = now} {n = n} r h g (look {mid = mid} q s) =
-    then_still strikes was mid now deeds n r (quiet_as strikes r h g q) s
-quiet_as strikes {deeds = deeds} {was = was} {now = now} r h g (bit {mid = mid} {n = m} q one f) =
-    then_bit strikes was mid now deeds m r (quiet_as strikes r h g q) one
+    NoneRose watched nodes deeds was now n → QuietAs strikes was now deeds n r
+quiet_as strikes {deeds = deeds} {was = was} {now = now} r h g (none s) =
+    let here : QuietAs strikes was was deeds 0 r = record {
+      bits = record { run = r; replays = g; takes = no_bit r };
+      at = h;
+      same = refl;
+    } in
+    then_still strikes was was now deeds 0 r here s
+quiet_as strikes {deeds = deeds} {was = was} {now = now} r h g (bit {before = b} {after = a} {n = m} q one f s) =
+    then_still strikes was a now deeds (m + 1) r
+    (then_bit strikes was b a deeds m r (quiet_as strikes r h g q) one) s
 
 pub watches_as : (strikes : List Strike) (was now : SessionValue) (count : ℕ) (watched : List Bool) (run : ℕ)
     (rose : Option ℕ) (deeds : List (List Deed)) (r : SerialValue) → IsAt was deeds → Replays strikes was deeds r →
@@ -190,6 +191,6 @@ watches_as strikes was now count watched run (Some node) deeds r h g w =
     let rose = w.0 in
     subst (λ n. BitsAs strikes was now deeds n r) (sym rose.many)
     (then_still strikes was rose.after now deeds (rose.others + 1) r
-    (then_bit strikes was rose.before rose.after deeds rose.others r (quiet_as strikes r h g rose.quiet) rose.bit)
+    (then_bit strikes was rose.before rose.after deeds rose.others r (quiet_as strikes r h g rose.earlier) rose.bit)
     rose.still).bits
 watches_as strikes was now count watched run None deeds r h g w = (quiet_as strikes r h g w.0).bits

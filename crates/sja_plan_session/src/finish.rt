@@ -8,10 +8,9 @@ use sja_plan::Plan;
 use std::alloc::Global;
 
 impl PlanSession {
-    ghost use Rattle.std.specs.Prelude.{◌≡◌, ◌<◌, ℕ, List, length, slice_index_or, IfOk};
+    ghost use Rattle.std.specs.Prelude.{◌≡◌, List, IfOk};
     ghost use Rattle.sja_driver.specs.Deeds.{Deed};
-    ghost use Rattle.sja_log.specs.Headline.{IsAccount};
-    ghost use Rattle.sja_log.specs.Log.{NodeValue};
+    ghost use Rattle.sja_log.specs.Headline.{AreAccounts};
     ghost use Rattle.sja_log.specs.declared.end.End.TheVariants.{Turns as TurnsDone};
     ghost use Rattle.sja_session.specs.Sessions.{IsAt};
     ghost use Rattle.sja_plan_session.specs.Ending.{IsLogIn, IsSessionRun};
@@ -29,8 +28,7 @@ impl PlanSession {
             IsLogIn self deeds TurnsDone both.1) }
         ensures run { IfOk result (λ both. IsSessionRun both.0 both.1) }
         ensures raw_run { IfOk result (λ both. IsRawRun both.0 both.1) }
-        ensures headline { IfOk result (λ both. (k : ℕ) (d : NodeValue) → k < length both.1.nodes →
-            IsAccount (slice_index_or both.1.nodes k d)) }
+        ensures headline { IfOk result (λ both. AreAccounts both.1) }
     {
         let plan = self.plan(alloc)?;
         Ok((plan, self.log(alloc, End::Turns)?))
@@ -42,8 +40,7 @@ impl PlanSession {
     pub(crate) fn log(self, alloc: Global, end: End) -> Result<RunLog, OutOfMemory>
         ensures own { IfOk result (λ log. (deeds : List (List Deed)) → IsAt self.raw.session deeds →
             IsLogIn self deeds end log) }
-        ensures headline { IfOk result (λ log. (k : ℕ) (d : NodeValue) → k < length log.nodes →
-            IsAccount (slice_index_or log.nodes k d)) }
+        ensures headline { IfOk result (λ log. AreAccounts log) }
     {
         let PlanSession {
             raw,

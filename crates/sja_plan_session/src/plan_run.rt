@@ -1,8 +1,7 @@
 //! [`run_plan`]: a whole run of a plan, in one thread, by the rules of its version.
 
-ghost use Rattle.std.specs.Prelude.{◌<◌, ℕ, length, slice_index_or, IfOk, IfErr};
-ghost use Rattle.sja_log.specs.Headline.{IsAccount};
-ghost use Rattle.sja_log.specs.Log.{NodeValue};
+ghost use Rattle.std.specs.Prelude.{IfOk, IfErr};
+ghost use Rattle.sja_log.specs.Headline.{AreAccounts};
 ghost use Rattle.sja_plan_session.specs.PlanRuns.{IsPlanRun, IsPlanRunFault};
 
 use super::raw_run::run_raw;
@@ -19,8 +18,7 @@ use std::alloc::Global;
 /// [`RawRunFault::Memory`] where memory was refused.
 pub fn run_plan(alloc: Global, plan: &Plan) -> Result<RunLog, RawRunFault>
     ensures run { IfOk result (λ log. IsPlanRun plan.now log) }
-    ensures headline { IfOk result (λ log. (k : ℕ) (d : NodeValue) → k < length log.nodes →
-        IsAccount (slice_index_or log.nodes k d)) }
+    ensures headline { IfOk result (λ log. AreAccounts log) }
     ensures err { IfErr result (IsPlanRunFault plan.now) }
 {
     if plan.version() >= RAW_VERSION {

@@ -1,8 +1,7 @@
 //! [`run_raw`]: a whole run of a plan of version 3, in one thread.
 
-ghost use Rattle.std.specs.Prelude.{◌≡◌, ◌<◌, ◌≤◌, ℕ, All, length, slice_index_or, IfOk, IfErr};
-ghost use Rattle.sja_log.specs.Headline.{IsAccount};
-ghost use Rattle.sja_log.specs.Log.{NodeValue};
+ghost use Rattle.std.specs.Prelude.{◌≡◌, ◌≤◌, ℕ, All, length, IfOk, IfErr};
+ghost use Rattle.sja_log.specs.Headline.{AreAccounts};
 ghost use Rattle.sja_plan_session.specs.RawRuns.{IsRawRun, IsRawRunFault};
 
 use super::copies::copied_step;
@@ -24,8 +23,7 @@ use std::alloc::Global;
 pub fn run_raw(alloc: Global, plan: &Plan) -> Result<RunLog, RawRunFault>
     requires { plan.now.version ≡ 3 }
     ensures run { IfOk result (λ log. IsRawRun plan.now log) }
-    ensures headline { IfOk result (λ log. (k : ℕ) (d : NodeValue) → k < length log.nodes →
-        IsAccount (slice_index_or log.nodes k d)) }
+    ensures headline { IfOk result (λ log. AreAccounts log) }
     ensures err { IfErr result (IsRawRunFault plan.now) }
 {
     let mut session = match PlanSession::of_plan(alloc, plan, room_for(plan)) {

@@ -1,6 +1,6 @@
 //! [`WriteSteps`]: the steps of a typed driver that a write is, as values.
 
-ghost use Rattle.std.specs.Prelude.{◌≡◌, None, Some, Bool, true, [], ◌∷◌};
+ghost use Rattle.std.specs.Prelude.{◌≡◌, ◌≢◌, None, Some, Bool, true, false, [], ◌∷◌};
 ghost use Rattle.sja_regs.specs.Commands.{command_of};
 ghost use Rattle.sja_regs.specs.Registers.{is_forced};
 ghost use Rattle.sja_driver.specs.AnyDrivers.{is_out};
@@ -8,7 +8,7 @@ ghost use Rattle.sja_driver.specs.LoggedDrivers.{driver_of, IsLawful};
 ghost use Rattle.sja_raw.specs.CommandWrites.{command_steps};
 ghost use Rattle.sja_raw.specs.ModeWrites.{mode_steps};
 ghost use Rattle.sja_raw.specs.WriteLists.{ArePrompt, steps_in};
-ghost use Rattle.sja_raw.specs.Writes.{is_start, is_stop, is_typed_write, write_steps};
+ghost use Rattle.sja_raw.specs.Writes.{write_steps};
 ghost use Rattle.sja_script.specs.declared.step.Step.TheVariants.{Start, Stop, Write};
 
 use super::command_steps::written_command;
@@ -45,11 +45,11 @@ pub fn steps_of_write(typed: &LoggedDriver, port: &Port, address: u8, value: u8)
     }
 }
 
-/// Whether a write is the same write of a typed driver: of each address but CMR, and of MOD where RM is written as it
-/// is or a bus-off is asked for.
+/// Whether a write is the same write of a typed driver, and nothing else: of each address but CMR, and of MOD where RM
+/// is written as it is or a bus-off is asked for.
 pub fn is_typed_write(port: &Port, address: u8, value: u8) -> bool
-    ensures is { result ≡ is_typed_write port.now address value }
     ensures alone { result ≡ true → (out : Bool) → write_steps port.now out address value ≡ Write address value ∷ [] }
+    ensures other { result ≡ false → (out : Bool) → write_steps port.now out address value ≢ Write address value ∷ [] }
 {
     match address {
         MOD => is_written(port, Mode::of(value)),
@@ -58,20 +58,20 @@ pub fn is_typed_write(port: &Port, address: u8, value: u8) -> bool
     }
 }
 
-/// Whether a write of MOD enters reset mode: it is a stop of the typed driver.
+/// Whether a write of MOD is a stop of the typed driver, and nothing else: it enters reset mode.
 pub fn is_stop(port: &Port, value: u8) -> bool
-    ensures is { result ≡ is_stop port.now value }
     ensures alone { result ≡ true → (out : Bool) → write_steps port.now out 0 value ≡ Stop ∷ [] }
+    ensures other { result ≡ false → (out : Bool) → write_steps port.now out 0 value ≢ Stop ∷ [] }
 {
     !is_reset(port) && Mode::of(value).rm
 }
 
-/// Whether a write of MOD leaves reset mode, and LOM, STM and AFM as they are, where no activation is to be closed
-/// first and no bus-off is asked for: it is a start of the typed driver.
+/// Whether a write of MOD is a start of the typed driver, and nothing else: it leaves reset mode, and LOM, STM and AFM
+/// as they are, where no activation is to be closed first and no bus-off is asked for.
 pub fn is_start(typed: &LoggedDriver, port: &Port, value: u8) -> bool
     requires { IsLawful typed.now }
-    ensures is { result ≡ is_start port.now (is_out (driver_of typed.now)) value }
     ensures alone { result ≡ true → write_steps port.now (is_out (driver_of typed.now)) 0 value ≡ Start ∷ [] }
+    ensures other { result ≡ false → write_steps port.now (is_out (driver_of typed.now)) 0 value ≢ Start ∷ [] }
 {
     let new = Mode::of(value);
     if !is_reset(port) || new.rm || port.is_forced() || is_out(typed) {

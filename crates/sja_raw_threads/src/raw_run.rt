@@ -1,8 +1,7 @@
 //! Whole runs of plans of version 3 with each driver in a thread of its own.
 
-ghost use Rattle.std.specs.Prelude.{◌≡◌, ◌≢◌, ◌<◌, ℕ, true, length, slice_index_or, vec_len, Err, IfOk, IfErr};
-ghost use Rattle.sja_log.specs.Headline.{IsAccount};
-ghost use Rattle.sja_log.specs.Log.{NodeValue};
+ghost use Rattle.std.specs.Prelude.{◌≡◌, ◌≢◌, true, length, vec_len, Err, IfOk, IfErr};
+ghost use Rattle.sja_log.specs.Headline.{AreAccounts};
 ghost use Rattle.sja_log.specs.declared.run_fault.RunFault.TheVariants.{GateCount};
 ghost use Rattle.sja_threads.specs.AccessRuns.{rooms};
 ghost use Rattle.sja_threads.specs.Stopping.{IsFaultWith};
@@ -30,8 +29,7 @@ pub fn run_raw_threads<G: Gate, R: Threads + Wait + Sync>(
     gates: Vec<G>,
 ) -> Result<RunLog, RunFault>
     ensures run { IfOk result (λ log. IsRawThreadedRun plan.now log G.QUITS) }
-    ensures headline { IfOk result (λ log. (k : ℕ) (d : NodeValue) → k < length log.nodes →
-        IsAccount (slice_index_or log.nodes k d)) }
+    ensures headline { IfOk result (λ log. AreAccounts log) }
     ensures gates { (vec_len gates ≢ length plan.now.nodes) → result ≡ Err GateCount }
     ensures only { result ≡ Err GateCount → vec_len gates ≢ length plan.now.nodes }
     ensures fault { (vec_len gates ≡ length plan.now.nodes) →
@@ -58,8 +56,7 @@ pub fn run_plan_threads<G: Gate, R: Threads + Wait + Sync>(
     gates: Vec<G>,
 ) -> Result<RunLog, RunFault>
     ensures run { IfOk result (λ log. IsPlanThreadedRun plan.now log G.QUITS) }
-    ensures headline { IfOk result (λ log. (k : ℕ) (d : NodeValue) → k < length log.nodes →
-        IsAccount (slice_index_or log.nodes k d)) }
+    ensures headline { IfOk result (λ log. AreAccounts log) }
     ensures gates { (vec_len gates ≢ length plan.now.nodes) → result ≡ Err GateCount }
     ensures only { result ≡ Err GateCount → vec_len gates ≢ length plan.now.nodes }
     ensures fault { (vec_len gates ≡ length plan.now.nodes) →

@@ -46,14 +46,12 @@ pub fn sja<T: Threads + Wait + Sync, F: Sources, S: AsStr, R: Read, O: Write, E:
     out: &mut Output<O>,
     err: &mut Output<E>,
 ) -> u8
-    ensures answered { (r : Request) → ParsesAs (map S.text words.now) r → AsksForOne r
-        → out.new.failed ≡ false → err.new.failed ≡ false
-        → Shows r (Some result) (R.remaining input.old) (R.remaining input.new)
+    ensures answered { (r : Request) → ParsesAs (map S.text words.now) r → AsksForOne r → out.new.failed ≡ false
+        → err.new.failed ≡ false → Shows r (Some result) (R.remaining input.old) (R.remaining input.new)
         (O.contents out.old.writer) (O.contents out.new.writer)
         (E.contents err.old.writer) (E.contents err.new.writer) }
     ensures of_files { (asked : PlanQuestion) (jobs : ℕ) (names : List (List ℕ))
-        → ParsesAs (map S.text words.now) (files asked jobs names)
-        → out.new.failed ≡ false → err.new.failed ≡ false
+        → ParsesAs (map S.text words.now) (files asked jobs names) → out.new.failed ≡ false → err.new.failed ≡ false
         → ShowsFiles (F.holds sources.now) asked names result (R.remaining input.old) (R.remaining input.new)
         (O.contents out.old.writer) (O.contents out.new.writer)
         (E.contents err.old.writer) (E.contents err.new.writer) }
@@ -61,9 +59,8 @@ pub fn sja<T: Threads + Wait + Sync, F: Sources, S: AsStr, R: Read, O: Write, E:
         → ShowsTalk result (R.remaining input.old) (R.remaining input.new)
         (O.contents out.old.writer) (O.contents out.new.writer)
         (E.contents err.old.writer) (E.contents err.new.writer) }
-    ensures unparsed { ((r : Request) → ¬ ParsesAs (map S.text words.now) r)
-        → out.new.failed ≡ false → err.new.failed ≡ false
-        → IsTurnedAway (Some result) (E.contents err.old.writer) (E.contents err.new.writer) }
+    ensures unparsed { ((r : Request) → ¬ ParsesAs (map S.text words.now) r) → out.new.failed ≡ false
+        → err.new.failed ≡ false → IsTurnedAway (Some result) (E.contents err.old.writer) (E.contents err.new.writer) }
     ensures untouched { ((r : Request) → ¬ ParsesAs (map S.text words.now) r) → out.new ≡ out.old }
     ensures one_writer { ((r : Request) → ParsesAs (map S.text words.now) r → AsksForOne r)
         → (out.new ≡ out.old) ⊎ (err.new ≡ err.old) }

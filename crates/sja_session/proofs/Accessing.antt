@@ -196,7 +196,7 @@ pub raw_watched : (was now : RawValue) (count : ℕ) (watched : List Bool) (r : 
 raw_watched was now count watched (Ok w) ran stays kept raw =
     let deeds = raw.stands.0 in let h = raw.stands.1 in
     raw_by was now deeds deeds h
-    (watched_at was.session now.session count watched w.bits w.rose deeds h (ran deeds h)) refl kept raw
+    (watched_at was.session now.session count watched w.bits w.rose deeds (ran deeds h)) refl kept raw
 raw_watched was now count watched (Err e) ran stays kept raw =
     let deeds = raw.stands.0 in
     raw_by was now deeds deeds raw.stands.1 (subst (λ (s : SessionValue). IsAt s deeds) (sym stays) raw.stands.1) refl

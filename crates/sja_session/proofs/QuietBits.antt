@@ -15,8 +15,8 @@ use Rattle.sja_session.specs.Running.{RunsBits, MayRun}
 use Rattle.sja_session.specs.declared.session_room.SessionRoom.{SessionRoom}
 use Rattle.sja_session.specs.Sessions.{SessionValue, IsAt}
 use Rattle.sja_session.specs.Turning.{goes_on_latest}
-use Rattle.sja_session.specs.Watching.{Quiet, Watches, risen, rises}
-use Rattle.sja_session.specs.Watching.Quiet.{none, look, bit}
+use Rattle.sja_session.specs.Watching.{NoneRose, Watches, risen, rises}
+use Rattle.sja_session.specs.Watching.NoneRose.{none, bit}
 use Rattle.sja_session.proofs.Turned.{bits_go_on}
 
 -- one bit, where one is left
@@ -67,10 +67,9 @@ may_still {was} {now} {deeds} s (inr has) =
 -- ---- bits
 
 pub quiet_at : {watched : List Bool} {nodes : ℕ} {deeds : List (List Deed)} {was now : SessionValue} {n : ℕ} →
-    IsAt was deeds → Quiet watched nodes deeds was now n → IsAt now deeds
-quiet_at h none = h
-quiet_at h (look q s) = s.at
-quiet_at h (bit q r f) = r.at
+    NoneRose watched nodes deeds was now n → IsAt now deeds
+quiet_at (none s) = s.at
+quiet_at (bit q r f s) = s.at
 
 -- lines, as they were told before and after a bit, rise where those of the session do
 pub rises_told : (watched before now : List Bool) (was then_ : SessionValue) (deeds : List (List Deed)) (k : ℕ) →
@@ -81,10 +80,10 @@ rises_told watched before now was then_ deeds k b n =
 
 -- the bits of the plan stay
 pub quiet_bits : {watched : List Bool} {nodes : ℕ} {deeds : List (List Deed)} {was now : SessionValue} {n : ℕ} →
-    Quiet watched nodes deeds was now n → now.plan.bits ≡ was.plan.bits
-quiet_bits none = refl
-quiet_bits (look q s) = ap (λ (p : PlanValue). p.bits) s.wrote ∙ quiet_bits q
-quiet_bits (bit q r f) = ap (λ (p : PlanValue). p.bits) r.wrote ∙ quiet_bits q
+    NoneRose watched nodes deeds was now n → now.plan.bits ≡ was.plan.bits
+quiet_bits (none s) = ap (λ (p : PlanValue). p.bits) s.wrote
+quiet_bits (bit q r f s) =
+    ap (λ (p : PlanValue). p.bits) s.wrote ∙ ap (λ (p : PlanValue). p.bits) r.wrote ∙ quiet_bits q
 
 -- as many nodes at the same deeds
 pub nodes_same : {was now : SessionValue} {deeds : List (List Deed)} → IsAt was deeds → IsAt now deeds →
@@ -111,6 +110,6 @@ risen_now watched before now k e = by (slice_index_or watched k false) (slice_in
 
 -- where a line was watched the session stands
 pub watched_at : (was now : SessionValue) (count : ℕ) (watched : List Bool) (run : ℕ) (rose : Option ℕ)
-    (deeds : List (List Deed)) → IsAt was deeds → Watches was now count watched run rose deeds → IsAt now deeds
-watched_at was now count watched run (Some node) deeds h w = w.0.still.at
-watched_at was now count watched run None deeds h w = quiet_at h w.0
+    (deeds : List (List Deed)) → Watches was now count watched run rose deeds → IsAt now deeds
+watched_at was now count watched run (Some node) deeds w = w.0.still.at
+watched_at was now count watched run None deeds w = quiet_at w.0

@@ -7,24 +7,27 @@ use Rattle.sja_session.specs.Lines.{IsStill, line_at}
 use Rattle.sja_session.specs.Running.{RunsBits}
 use Rattle.sja_session.specs.Sessions.{SessionValue}
 
+-- what wasn't so before a bit is so after it
+abbrev pub rise : Bool → Bool → Bool
+rise before now = not before && now
+
 -- of a place: it is watched, and was false and is true
 abbrev pub risen : List Bool → List Bool → List Bool → ℕ → Bool
 risen watched before now k =
-    slice_index_or watched k false && (not (slice_index_or before k false) && slice_index_or now k false)
+    slice_index_or watched k false && rise (slice_index_or before k false) (slice_index_or now k false)
 
 -- the line of a node is watched, and wasn't active before and is now
 abbrev pub rises : List Bool → SessionValue → SessionValue → List (List Deed) → ℕ → Bool
-rises watched was now deeds k = slice_index_or watched k false && (not (line_at was deeds k) && line_at now deeds k)
+rises watched was now deeds k = slice_index_or watched k false && rise (line_at was deeds k) (line_at now deeds k)
 
--- so many bits were run, one after the other, in none of which the line of a watched node rose, of so many nodes and
--- of the eight that there may be
-pub data Quiet (watched : List Bool) (nodes : ℕ) (deeds : List (List Deed)) :
+-- so many bits were run one after the other, and in none of them the line of a watched node rose, of so many nodes.
+-- Before the first of them and after each one the lines may have been looked at, which changes nothing
+pub data NoneRose (watched : List Bool) (nodes : ℕ) (deeds : List (List Deed)) :
     SessionValue → SessionValue → ℕ → Type 0 where
-  none : {s : SessionValue} → Quiet watched nodes deeds s s 0
-  look : {was mid now : SessionValue} {n : ℕ} → Quiet watched nodes deeds was mid n → IsStill mid now deeds →
-      Quiet watched nodes deeds was now n
-  bit : {was mid now : SessionValue} {n : ℕ} → Quiet watched nodes deeds was mid n → RunsBits mid now 1 1 deeds →
-      ((k : ℕ) → k < nodes → k < 8 → rises watched mid now deeds k ≡ false) → Quiet watched nodes deeds was now (n + 1)
+  none : {was now : SessionValue} → IsStill was now deeds → NoneRose watched nodes deeds was now 0
+  bit : {was before after now : SessionValue} {n : ℕ} → NoneRose watched nodes deeds was before n →
+      RunsBits before after 1 1 deeds → ((k : ℕ) → k < nodes → rises watched before after deeds k ≡ false) →
+      IsStill after now deeds → NoneRose watched nodes deeds was now (n + 1)
 
 -- in the last of so many bits, and in none before it, the line of a watched node rose: of this node, and of none before
 -- it
@@ -33,7 +36,7 @@ pub record RoseLast (was now : SessionValue) (run : ℕ) (watched : List Bool) (
   pub before : SessionValue
   pub after : SessionValue
   pub others : ℕ
-  pub quiet : Quiet watched (length was.plan.nodes) deeds was before others
+  pub earlier : NoneRose watched (length was.plan.nodes) deeds was before others
   pub bit : RunsBits before after 1 1 deeds
   pub still : IsStill after now deeds
   pub many : run ≡ others + 1
@@ -42,10 +45,10 @@ pub record RoseLast (was now : SessionValue) (run : ℕ) (watched : List Bool) (
   pub there : node < length was.plan.nodes
 
 -- what came of it: a line rose in the last bit, or none did in any, and all bits were run that were asked for, or as
--- many as were left
+-- many as were left. After the last bit the lines may have been looked at in either case
 abbrev pub Watches :
     SessionValue → SessionValue → ℕ → List Bool → ℕ → Option ℕ → List (List Deed) → Type 0
 Watches was now count watched run (Some node) deeds = RoseLast was now run watched node deeds × (run ≤ count)
 Watches was now count watched run None deeds =
-    Quiet watched (length was.plan.nodes) deeds was now run × (run ≤ count)
+    NoneRose watched (length was.plan.nodes) deeds was now run × (run ≤ count)
     × ((run ≡ count) ⊎ (was.plan.bits ≤ now.run.bits))

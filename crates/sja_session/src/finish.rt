@@ -7,11 +7,10 @@ use sja_plan::Plan;
 use std::alloc::Global;
 
 impl Session {
-    ghost use Rattle.std.specs.Prelude.{◌≡◌, ◌<◌, ℕ, List, length, slice_index_or, IfOk};
+    ghost use Rattle.std.specs.Prelude.{◌≡◌, List, IfOk};
     ghost use Rattle.sja_driver.specs.Deeds.{Deed};
     ghost use Rattle.sja_log.specs.declared.end.End.TheVariants.{Turns as TurnsDone};
-    ghost use Rattle.sja_log.specs.Headline.{IsAccount};
-    ghost use Rattle.sja_log.specs.Log.{NodeValue};
+    ghost use Rattle.sja_log.specs.Headline.{AreAccounts};
     ghost use Rattle.sja_log.specs.Runs.{IsSerialRun};
     ghost use Rattle.sja_serial.specs.Ending.{IsLogOf};
     ghost use Rattle.sja_session.specs.Sessions.{IsAt, written};
@@ -25,8 +24,7 @@ impl Session {
         ensures own { IfOk result (λ both. (deeds : List (List Deed)) → IsAt self deeds →
             IsLogOf both.0 self.run deeds TurnsDone both.1) }
         ensures run { IfOk result (λ both. IsSerialRun both.0 both.1) }
-        ensures headline { IfOk result (λ both. (k : ℕ) (d : NodeValue) → k < length both.1.nodes →
-            IsAccount (slice_index_or both.1.nodes k d)) }
+        ensures headline { IfOk result (λ both. AreAccounts both.1) }
     {
         let plan = self.plan(alloc)?;
         let log = self.run.finish(alloc, &plan, End::Turns)?;

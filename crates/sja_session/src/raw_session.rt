@@ -104,11 +104,10 @@ impl RawSession {
 }
 
 impl RawSession {
-    ghost use Rattle.std.specs.Prelude.{◌≡◌, ◌<◌, ℕ, List, Ok, length, slice_index_or, IfOk, IfErr, OnOk, OnErr};
+    ghost use Rattle.std.specs.Prelude.{◌≡◌, List, Ok, IfOk, IfErr, OnOk, OnErr};
     ghost use Rattle.sja_driver.specs.Deeds.{Deed};
     ghost use Rattle.sja_log.specs.declared.end.End.TheVariants.{Turns as TurnsDone};
-    ghost use Rattle.sja_log.specs.Headline.{IsAccount};
-    ghost use Rattle.sja_log.specs.Log.{NodeValue};
+    ghost use Rattle.sja_log.specs.Headline.{AreAccounts};
     ghost use Rattle.sja_log.specs.Runs.{IsSerialRun};
     ghost use Rattle.sja_script.specs.declared.step_answer.StepAnswer.{StepAnswer as AnswerOfStep};
     ghost use Rattle.sja_serial.specs.Ending.{IsLogOf};
@@ -160,8 +159,7 @@ impl RawSession {
         ensures own { IfOk result (λ both. (deeds : List (List Deed)) → IsAt self.session deeds →
             IsLogOf both.0 self.session.run deeds TurnsDone both.1) }
         ensures run { IfOk result (λ both. IsSerialRun both.0 both.1) }
-        ensures headline { IfOk result (λ both. (k : ℕ) (d : NodeValue) → k < length both.1.nodes →
-            IsAccount (slice_index_or both.1.nodes k d)) }
+        ensures headline { IfOk result (λ both. AreAccounts both.1) }
     {
         self.session.finish(alloc)
     }

@@ -1,8 +1,7 @@
 //! Whole runs with each driver in a thread of its own.
 
-ghost use Rattle.std.specs.Prelude.{◌≡◌, ◌≢◌, ◌<◌, ℕ, true, length, map, slice_index_or, vec_len, Err, IfOk, IfErr};
-ghost use Rattle.sja_log.specs.Headline.{IsAccount};
-ghost use Rattle.sja_log.specs.Log.{NodeValue};
+ghost use Rattle.std.specs.Prelude.{◌≡◌, ◌≢◌, true, length, map, vec_len, Err, IfOk, IfErr};
+ghost use Rattle.sja_log.specs.Headline.{AreAccounts};
 ghost use Rattle.sja_log.specs.declared.run_fault.RunFault.TheVariants.{GateCount};
 ghost use Rattle.sja_threads.specs.AccessRuns.{IsAccessRun, rooms};
 ghost use Rattle.sja_threads.specs.Stopping.{IsFaultOf, IsFaultWith};
@@ -52,8 +51,7 @@ pub fn run_threads<G: Gate, R: Threads + Wait + Sync>(
     gates: Vec<G>,
 ) -> Result<RunLog, RunFault>
     ensures run { IfOk result (λ log. IsThreadedRun plan.now log G.QUITS) }
-    ensures headline { IfOk result (λ log. (k : ℕ) (d : NodeValue) → k < length log.nodes →
-        IsAccount (slice_index_or log.nodes k d)) }
+    ensures headline { IfOk result (λ log. AreAccounts log) }
     ensures gates { (vec_len gates ≢ length plan.now.nodes) → result ≡ Err GateCount }
     ensures only { result ≡ Err GateCount → vec_len gates ≢ length plan.now.nodes }
     ensures fault { (vec_len gates ≡ length plan.now.nodes) → IfErr result (IsFaultOf plan.now) }
@@ -79,8 +77,7 @@ pub fn run_accesses<G: Gate, R: Threads + Wait + Sync>(
 ) -> Result<EndedRun, RunFault>
     ensures run { IfOk result (λ ended. IsAccessRun plan.now ended.log
         (map (λ answers. answers.items) ended.accesses.items) G.QUITS) }
-    ensures headline { IfOk result (λ ended. (k : ℕ) (d : NodeValue) → k < length ended.log.nodes →
-        IsAccount (slice_index_or ended.log.nodes k d)) }
+    ensures headline { IfOk result (λ ended. AreAccounts ended.log) }
     ensures gates { (vec_len gates ≢ length plan.now.nodes) → result ≡ Err GateCount }
     ensures only { result ≡ Err GateCount → vec_len gates ≢ length plan.now.nodes }
     ensures fault { (vec_len gates ≡ length plan.now.nodes) →

@@ -1,7 +1,7 @@
-use Rattle.std.proofs.Common.{◌<◌, ℕ, List, Vec, Global, length, map, slice_index_or, sym, ap, ◌∙◌, subst}
+use Rattle.std.proofs.Common.{List, Vec, Global, map, sym, ap, ◌∙◌, subst}
 use Rattle.sja_log.specs.declared.end.End.{End}
-use Rattle.sja_log.specs.Headline.{IsAccount}
-use Rattle.sja_log.specs.Log.{NodeValue, RunValue}
+use Rattle.sja_log.specs.Headline.{AreAccounts}
+use Rattle.sja_log.specs.Log.{RunValue}
 use Rattle.sja_plan_session.specs.LogWith.{log_with}
 use Rattle.sja_plan_session.proofs.Logged.{account_with}
 use Rattle.sja_script.specs.declared.done.Done.{Done}
@@ -22,5 +22,5 @@ returns-clause-run g c =
 pub returns-clause-headline : goal.returns-clause-headline
 returns-clause-headline g c =
     let done = map (λ (v : Vec Done Global). v.items) c.as_slice.result.now in
-    subst (λ (l : RunValue). (k : ℕ) (d : NodeValue) → k < length l.nodes → IsAccount (slice_index_or l.nodes k d))
-    (sym c.in_ok-log.ensures) (account_with c.in_ok-ended.ended.log.nodes done c.in_ok-ended.ensures.headline)
+    subst (λ (l : RunValue). AreAccounts l) (sym c.in_ok-log.ensures)
+    (account_with c.in_ok-ended.ended.log.nodes done c.in_ok-ended.ensures.headline)

@@ -10,7 +10,7 @@ push_bits-requires-clause-fits c =
     let inv = c.self.invariant in let w = c.in_ok-watched.watched in
     fits_bits _ _ _ _ inv c.watch.new.self.session w.bits inv.deeds
     (watches_led c.self.inside.raw.session c.watch.new.self.session c.args.count c.args.watched w.bits w.rose inv.deeds
-    inv.at (c.in_ok-watched.ensures.watches inv.deeds inv.at)).0
+    (c.in_ok-watched.ensures.watches inv.deeds inv.at)).0
 
 pub invariant_of-self-2 : goal.invariant_of-self-2
 invariant_of-self-2 c =

@@ -4,14 +4,14 @@ use Rattle.sja_driver.specs.Deeds.{Deed}
 use Rattle.sja_session.specs.Lines.{line_at}
 use Rattle.sja_session.specs.Running.{MayRun}
 use Rattle.sja_session.specs.Sessions.{IsAt}
-use Rattle.sja_session.specs.Watching.{Quiet}
+use Rattle.sja_session.specs.Watching.{NoneRose}
 use Rattle.sja_session.proofs.session.Session.watch.Given as goal
 
 -- so many bits were run in which no line rose, and the lines are told as they are now
 abbrev pub invariant-loop : goal.invariant-loop
 invariant-loop l = record {
   ran : (deeds : List (List Deed)) → IsAt l.fn.self deeds →
-      Quiet l.watched (length l.fn.self.plan.nodes) deeds l.fn.self l.self l.bits;
+      NoneRose l.watched (length l.fn.self.plan.nodes) deeds l.fn.self l.self l.bits;
   told : (deeds : List (List Deed)) → IsAt l.fn.self deeds → (k : ℕ) → k < length l.fn.self.plan.nodes → k < 8 →
       slice_index_or l.before k false ≡ line_at l.self deeds k;
   may : 1 ≤ l.count → MayRun l.self 1;
