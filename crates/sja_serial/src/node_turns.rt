@@ -1,13 +1,16 @@
 //! The steps of a node's driver, each with the taking of what it gave: one, or those of a turn.
 
 ghost use Rattle.std.specs.Prelude.{◌≡◌, true};
-ghost use Rattle.sja_serial.specs.Giving.{GivesNothing};
+ghost use Rattle.sja_driver.specs.LoggedDrivers.{log_of};
+ghost use Rattle.sja_driver.specs.Logs.{done_in};
+ghost use Rattle.sja_serial.specs.Giving.{GaveNothing, GivesNothing};
 
 use super::serial_run::SerialRun;
+use sja_driver::LoggedDriver;
 use sja_link::first_link;
 use sja_plan::Plan;
 use sja_regs::Command;
-use sja_script::Step;
+use sja_script::{Step, StepAnswer};
 
 impl SerialRun {
     ghost use Rattle.std.specs.Prelude.{◌≡◌, ◌<◌, List, true, false, length};
@@ -51,11 +54,11 @@ impl SerialRun {
             return false;
         }
         let step = &steps[next];
-        let quiet = gives_nothing(step);
         let links = self.links.as_mut_slice();
         let port = &mut self.board.ports[index];
-        let done = self.drivers[index].step(links, first_link(index), port, step, self.bits);
-        if quiet {
+        let driver = &mut self.drivers[index];
+        let done = driver.step(links, first_link(index), port, step, self.bits);
+        if gave_nothing(driver, step, done) {
             // Asked for what holds of every bus.
             let _ = self.bus.bits_run();
             return done;
@@ -67,7 +70,25 @@ impl SerialRun {
     }
 }
 
-/// Whether a step gives the bus nothing, whatever comes of it. Nothing is to be taken after such a step.
+/// Whether a step that this driver tried gave the bus nothing: none of its kind does, or it isn't done, or it was
+/// refused. Nothing is to be taken after it.
+#[inline(always)]
+fn gave_nothing(driver: &LoggedDriver, step: &Step, done: bool) -> bool
+    ensures { result ≡ true → GaveNothing step.now done (done_in (log_of driver.now)) }
+{
+    if gives_nothing(step) {
+        return true;
+    }
+    if !done {
+        return true;
+    }
+    match driver.log().done().last() {
+        Some(last) => matches!(last.answer, StepAnswer::Refused(_)),
+        None => false,
+    }
+}
+
+/// Whether a step gives the bus nothing, whatever comes of it.
 #[inline(always)]
 fn gives_nothing(step: &Step) -> bool
     ensures { result ≡ true → GivesNothing step.now }

@@ -1,11 +1,10 @@
 //! [`run_serial`]: a whole run in one thread.
 
-ghost use Rattle.std.specs.Prelude.{◌≡◌, ◌<◌, ℕ, List, [], length, replicate, slice_index_or, IfOk, IfErr};
+ghost use Rattle.std.specs.Prelude.{◌≡◌, List, [], length, replicate, IfOk, IfErr};
 ghost use Rattle.sja_bus.specs.Buses.{new_bus};
 ghost use Rattle.sja_driver.specs.Deeds.{Deed};
 ghost use Rattle.sja_plan.specs.Plan.{NamesNode, step_counts};
-ghost use Rattle.sja_log.specs.Headline.{IsAccount};
-ghost use Rattle.sja_log.specs.Log.{NodeValue};
+ghost use Rattle.sja_log.specs.Headline.{AreAccounts};
 ghost use Rattle.sja_log.specs.Runs.{IsSerialRun};
 ghost use Rattle.sja_log.specs.declared.run_fault.RunFault.TheVariants.{Memory};
 ghost use Rattle.sja_serial.specs.Ending.{TakesTurns, TakesOne};
@@ -29,8 +28,7 @@ use std::alloc::Global;
 /// Error: [`RunFault::Memory`] where memory was refused.
 pub fn run_serial(alloc: Global, plan: &Plan) -> Result<RunLog, RunFault>
     ensures run { IfOk result (λ log. IsSerialRun plan.now log) }
-    ensures headline { IfOk result (λ log. (k : ℕ) (d : NodeValue) → k < length log.nodes →
-        IsAccount (slice_index_or log.nodes k d)) }
+    ensures headline { IfOk result (λ log. AreAccounts log) }
     ensures memory { IfErr result (λ f. f ≡ Memory) }
 {
     let mut run = SerialRun::new(alloc, plan)?;

@@ -24,7 +24,7 @@ use Rattle.sja_driver.specs.declared.logged_driver.LoggedDriver.{LoggedDriver}
 use Rattle.sja_driver.specs.Deeds.{Deed, deeds_at}
 use Rattle.sja_driver.specs.LoggedDrivers.{node_of, log_of, StaysLawful, Steps}
 use Rattle.sja_driver.specs.Logs.{done_in}
-use Rattle.sja_serial.specs.Giving.{GivesNothing}
+use Rattle.sja_serial.specs.Giving.{GaveNothing}
 use Rattle.sja_serial.specs.Nodes.{IsNode}
 use Rattle.sja_serial.specs.Serial.{SerialValue, run_now, StandsAt}
 use Rattle.sja_serial.specs.Stepping.{DoesNext, DoesNothing}
@@ -118,14 +118,15 @@ module _ (plan : PlanValue) (bus : BusValue) (drivers : List LoggedDriver) (port
 
       -- the step gave nothing, and nothing was taken
       pub is_tried_quietly : one ≡ slice_index_or (steps_at plan i) (length (deeds_at deeds i)) one →
-          GivesNothing one → length given ≡ length slice →
+          GaveNothing one done (done_in (log_of now)) → length given ≡ length slice →
           IsTried plan run (run_now bus (slice_set drivers i now) (slice_set ports i q) given bits) i deeds done
       is_tried_quietly is quiet many =
           next_tried plan run (run_now bus (slice_set drivers i now) (slice_set ports i q) given bits) deeds i stood
           there given was now q no_link refl refl refl stood.right refl refl refl refl refl
           (λ node h less kept. kept) (λ node less. no_items (journal_at bus.journals node))
           (λ node less. as_untold (untold_at bus.untold node) (journal_at bus.journals node))
-          (all_dry plan run deeds i stood was now p q given one bits done node_at steps stays.others quiet)
+          (all_dry plan run deeds i stood was now p q given one bits done node_at steps stays.others
+          (quiet p steps.tried (done_in (log_of was)) bits steps.met steps.logged))
           (each_refl (λ (a b : Deques). b.link ≡ a.link) (λ x. refl) given) many stays.others stays.ids
           (stays.node ∙ ap node_of was_is ∙ stood.own i was there) p one done
           (λ x. get_or_default ports i x p (let c = stood.count.ports in omega (arith, c, there)) ∙ sym p_is) node_at

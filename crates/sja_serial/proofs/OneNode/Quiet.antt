@@ -1,4 +1,4 @@
--- A step that gives nothing: no link has anything for the bus after it.
+-- A step that gave nothing: no link has anything for the bus after it.
 use Rattle.std.proofs.Common.{◌≡◌, ◌≢◌, ℕ, suc, ◌+◌, ◌*◌, ◌<◌, Bool, List, [], ◌++◌, length, refl, sym, ap, ◌∙◌, subst}
 use Rattle.std.proofs.Common.{append-nil, arith, inl, inr}
 use Rattle.std.specs.Prelude.{min, slice_index_or}
@@ -21,7 +21,7 @@ use Rattle.sja_driver.specs.declared.logged_driver.LoggedDriver.{LoggedDriver}
 use Rattle.sja_driver.specs.Deeds.{Deed, deeds_at, given_in, deeds_of}
 use Rattle.sja_driver.specs.Holding.{place_after}
 use Rattle.sja_driver.specs.LoggedDrivers.{ended_of, Steps}
-use Rattle.sja_serial.specs.Giving.{GivesNothing}
+use Rattle.sja_driver.specs.Tries.{gave_by}
 use Rattle.sja_serial.specs.Nodes.{IsNode}
 use Rattle.sja_serial.specs.Serial.{SerialValue, StandsAt}
 use Rattle.sja_serial.proofs.OneNode.Trying.{alike, shows_none, takes_none}
@@ -42,7 +42,7 @@ module _ (plan : PlanValue) (r : SerialValue) (deeds : List (List Deed)) (i : �
     (64 * i))
     (st : Steps alike Lies shows_none takes_none was now r.links given (64 * i) p q one bits done)
     (others : (k : ℕ) (d : Deques) → k ≢ place_after (64 * i) (ended_of was) →
-    slice_index_or given k d ≡ slice_index_or r.links k d) (quiet : GivesNothing one) where
+    slice_index_or given k d ≡ slice_index_or r.links k d) (quiet : gave_by p one st.tried ≡ []) where
   -- the link that the step was tried at
   here : (d : Deques) → (slice_index_or given (place_after (64 * i) (ended_of was)) d).up ≡ []
   here d =
@@ -53,7 +53,7 @@ module _ (plan : PlanValue) (r : SerialValue) (deeds : List (List Deed)) (i : �
       let lies = node.linked.holds.kept a d less in
       let after = (st.acts d d).does.lists l lies in
       let up = (slice_index_or given (place_after (64 * i) (ended_of was)) d).up in
-      same_front l.taken up [] (sym after.1 ∙ ap (λ (g : List Up). l.given ++ g) (quiet p st.tried)
+      same_front l.taken up [] (sym after.1 ∙ ap (λ (g : List Up). l.given ++ g) quiet
       ∙ append-nil l.given ∙ lies.1 ∙ ap (λ (u : List Up). l.taken ++ u) (node.linked.taken a d less))
 
   -- and each other one

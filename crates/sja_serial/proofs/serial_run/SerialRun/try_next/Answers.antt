@@ -10,7 +10,7 @@ use Rattle.sja_serial.specs.Serial.{SerialValue, run_now, StandsAt, CannotStep}
 use Rattle.sja_serial.proofs.ManyBits.Borrowed.{run_is}
 use Rattle.sja_serial.proofs.OneNode.NextStep.{IsTried, steps_done, node_at, none_refused, is_tried, is_tried_quietly}
 use Rattle.sja_serial.proofs.AllNodes.Several.{does_none}
-use Rattle.sja_serial.proofs.serial_run.SerialRun.try_next.Goals.{After-done-next, In-Ok, Then-quiet}
+use Rattle.sja_serial.proofs.serial_run.SerialRun.try_next.Goals.{After-done-next, In-Ok, Then-gave_nothing}
 use Rattle.sja_serial.proofs.serial_run.SerialRun.try_next.Goals as goal
 
 -- ---- the node, and how many steps of its driver are done
@@ -58,7 +58,7 @@ step-done-requires c =
     let less = left at deeds h c.if-next-steps.false in
     let n = node_at c.args.plan.now b.bus b.drivers.items b.board.ports.items c.as_mut_slice-links.result.now
     b.links.items b.bits c.args.self.now c.as_mut_slice-links.ensures.value c.self.view_is deeds h c.from-index.result
-    (there at) c.index_mut.result.now c.index_mut-port.result.now c.index_mut.ensures.value
+    (there at) c.index_mut-driver.result.now c.index_mut-port.result.now c.index_mut-driver.ensures.value
     c.index_mut-port.ensures.value in
     record {
       lawful = n.traced.lawful;
@@ -73,7 +73,7 @@ unreachable-requires c =
     let deeds = c.requires.run.0 in let h = c.requires.run.1 in
     none_refused c.args.plan.now b.bus b.drivers.items b.board.ports.items c.as_mut_slice-links.result.now
     b.links.items b.bits c.args.self.now c.as_mut_slice-links.ensures.value c.self.view_is deeds h c.from-index.result
-    (there at) c.index_mut.result.now c.index_mut-port.result.now c.index_mut.ensures.value
+    (there at) c.index_mut-driver.result.now c.index_mut-port.result.now c.index_mut-driver.ensures.value
     c.index_mut-port.ensures.value c.gather.ensures.lawful (left at deeds h c.if-next-steps.false)
     c.step-done.new.self c.step-done.new.port c.step-done.new.links c.gather.new.links c.first_link.result
     c.index-steps-next.result c.step-done.result c.first_link.ensures c.step-done.ensures.steps
@@ -114,9 +114,10 @@ did c deeds h node there done less =
     let was : r ≡ c.args.self.now = run_is b.bus b.drivers.items b.board.ports.items slice b.links.items b.bits
     c.args.self.now c.as_mut_slice-links.ensures.value c.self.view_is in
     let t = is_tried plan b.bus b.drivers.items b.board.ports.items slice b.links.items b.bits c.args.self.now
-    c.as_mut_slice-links.ensures.value c.self.view_is deeds h i there c.index_mut.result.now
-    c.index_mut-port.result.now c.index_mut.ensures.value c.index_mut-port.ensures.value c.gather.ensures.lawful less
-    c.step-done.new.self c.step-done.new.port c.step-done.new.links c.gather.new.links c.first_link.result one
+    c.as_mut_slice-links.ensures.value c.self.view_is deeds h i there c.index_mut-driver.result.now
+    c.index_mut-port.result.now c.index_mut-driver.ensures.value c.index_mut-port.ensures.value
+    c.gather.ensures.lawful less c.step-done.new.self c.step-done.new.port c.step-done.new.links c.gather.new.links
+    c.first_link.result one
     c.step-done.result c.first_link.ensures c.step-done.ensures.steps c.step-done.ensures.stays c.gather.new.self is
     ok.right g.bits.0 g.script g.steps g.bits.1 g.nodes ok.kept ok.items ok.untold ok.dry g.sames
     (omega (arith, c.gather.auto.links, c.step-done.auto.links)) in
@@ -130,13 +131,13 @@ did c deeds h node there done less =
 -- ---- what a step did that gives nothing
 
 -- the run after it: nothing was taken
-abbrev still : Then-quiet → SerialValue
+abbrev still : Then-gave_nothing → SerialValue
 still c = let b = c.self.inside in let i = c.from-index.result in
     run_now b.bus (slice_set b.drivers.items i c.step-done.new.self)
     (slice_set b.board.ports.items i c.step-done.new.port) (with_items b.links c.step-done.new.links).items b.bits
 
 -- and with the links as a slice
-still_is : (c : Then-quiet) → (let b = c.self.inside in let i = c.from-index.result in
+still_is : (c : Then-gave_nothing) → (let b = c.self.inside in let i = c.from-index.result in
     run_now b.bus (slice_set b.drivers.items i c.step-done.new.self)
     (slice_set b.board.ports.items i c.step-done.new.port) c.step-done.new.links b.bits) ≡ still c
 still_is c = let b = c.self.inside in let i = c.from-index.result in
@@ -146,7 +147,7 @@ still_is c = let b = c.self.inside in let i = c.from-index.result in
     λ t. run_now b.bus (slice_set b.drivers.items i c.step-done.new.self)
     (slice_set b.board.ports.items i c.step-done.new.port) (sym l t) b.bits
 
-did_quietly : (c : Then-quiet) (laws : (let b = c.self.inside.bus in b.fault ≡ None →
+did_quietly : (c : Then-gave_nothing) (laws : (let b = c.self.inside.bus in b.fault ≡ None →
     IsBusRun b.script b.run b.journals)) (deeds : List (List Deed)) → StandsAt c.args.plan.now c.args.self.now deeds →
     c.from-index.result ≡ c.args.node → c.from-index.result < length c.args.plan.now.nodes →
     length c.done-next.result.now ≡ length (deeds_at deeds c.from-index.result) →
@@ -163,11 +164,11 @@ did_quietly c laws deeds h node there done less =
     let was : r ≡ c.args.self.now = run_is b.bus b.drivers.items b.board.ports.items slice b.links.items b.bits
     c.args.self.now c.as_mut_slice-links.ensures.value c.self.view_is in
     let t = is_tried_quietly plan b.bus b.drivers.items b.board.ports.items slice b.links.items b.bits c.args.self.now
-    c.as_mut_slice-links.ensures.value c.self.view_is deeds h i there c.index_mut.result.now
-    c.index_mut-port.result.now c.index_mut.ensures.value c.index_mut-port.ensures.value laws less
+    c.as_mut_slice-links.ensures.value c.self.view_is deeds h i there c.index_mut-driver.result.now
+    c.index_mut-port.result.now c.index_mut-driver.ensures.value c.index_mut-port.ensures.value laws less
     c.step-done.new.self c.step-done.new.port c.step-done.new.links c.step-done.new.links c.first_link.result one
     c.step-done.result c.first_link.ensures c.step-done.ensures.steps c.step-done.ensures.stays is
-    (c.gives_nothing-quiet.ensures c.if-quiet.true) (omega (arith, c.step-done.auto.links)) in
+    (c.gave_nothing.ensures c.if-gave_nothing.true) (omega (arith, c.step-done.auto.links)) in
     subst (λ (m : ℕ). IsTried plan c.args.self.now (still c) m deeds c.step-done.result) node
     (subst (λ (x : SerialValue). IsTried plan c.args.self.now x i deeds c.step-done.result) (still_is c)
     (subst (λ (x : SerialValue). IsTried plan x
@@ -175,17 +176,17 @@ did_quietly c laws deeds h node there done less =
     (slice_set b.board.ports.items i c.step-done.new.port) c.step-done.new.links b.bits) i deeds
     c.step-done.result) was t))
 
-pub returns-then-quiet-clause-done : goal.returns-then-quiet-clause-done
-returns-then-quiet-clause-done c = λ yes deeds h.
-    let at = (goal.at.returns-then-quiet-clause-done c).After-done-next in
-    (did_quietly (goal.at.returns-then-quiet-clause-done c).Then-quiet c.bits_run.ensures.lawful deeds h (node_is at)
-    (there at) (many_done at deeds h) (left at deeds h c.if-next-steps.false)).0 yes
+pub returns-then-gave_nothing-clause-done : goal.returns-then-gave_nothing-clause-done
+returns-then-gave_nothing-clause-done c = λ yes deeds h.
+    let at = (goal.at.returns-then-gave_nothing-clause-done c).After-done-next in
+    (did_quietly (goal.at.returns-then-gave_nothing-clause-done c).Then-gave_nothing c.bits_run.ensures.lawful deeds h
+    (node_is at) (there at) (many_done at deeds h) (left at deeds h c.if-next-steps.false)).0 yes
 
-pub returns-then-quiet-clause-waits : goal.returns-then-quiet-clause-waits
-returns-then-quiet-clause-waits c = λ no deeds h.
-    let at = (goal.at.returns-then-quiet-clause-waits c).After-done-next in
-    (did_quietly (goal.at.returns-then-quiet-clause-waits c).Then-quiet c.bits_run.ensures.lawful deeds h (node_is at)
-    (there at) (many_done at deeds h) (left at deeds h c.if-next-steps.false)).1 no
+pub returns-then-gave_nothing-clause-waits : goal.returns-then-gave_nothing-clause-waits
+returns-then-gave_nothing-clause-waits c = λ no deeds h.
+    let at = (goal.at.returns-then-gave_nothing-clause-waits c).After-done-next in
+    (did_quietly (goal.at.returns-then-gave_nothing-clause-waits c).Then-gave_nothing c.bits_run.ensures.lawful deeds h
+    (node_is at) (there at) (many_done at deeds h) (left at deeds h c.if-next-steps.false)).1 no
 
 -- ---- what it did otherwise
 
