@@ -13,35 +13,27 @@ use answer::answer;
 use std::alloc::Global;
 use std::io;
 use std::process::ExitCode;
-use test_rows::document;
+use test_rows::{Given, Rows, answer_rows};
+
+/// What drivers could have received.
+struct Candumps;
+
+impl Rows for Candumps {
+    /// The text of the row's document, each line of it behind `> `, and none for a row of another kind.
+    fn answered(&self, alloc: Global, given: &Given, row: &str) -> io::Result<String> {
+        let Some((kind, row)) = row.split_once(' ') else {
+            return Ok(String::new(alloc));
+        };
+        let bytes = given.document(alloc, row)?;
+        match kind {
+            "frames" => answer(alloc, bytes.as_slice(), false),
+            "errors" => answer(alloc, bytes.as_slice(), true),
+            _ => Ok(String::new(alloc)),
+        }
+    }
+}
 
 /// Answers the exit status: 0 for done, 1 where memory was refused or a read or a write failed.
 fn main(rt: HostRuntime) -> ExitCode {
-    ExitCode::from(if rows_are_told(&rt).is_ok() { 0 } else { 1 })
-}
-
-/// Prints each line of the input, and below a row its text.
-fn rows_are_told(rt: &HostRuntime) -> io::Result<()> {
-    let mut form = String::new(rt.alloc());
-    for line in rt.lines(rt.alloc()) {
-        let line = line?;
-        println!(rt; "{line}")?;
-        if let Some(next) = line.as_str().strip_prefix("-- ") {
-            form.clear();
-            form.push_str(next)?;
-        } else if let Some(row) = line.as_str().strip_prefix("frames ") {
-            let text = told(rt.alloc(), form.as_str(), row, false)?;
-            print!(rt; "{text}")?;
-        } else if let Some(row) = line.as_str().strip_prefix("errors ") {
-            let text = told(rt.alloc(), form.as_str(), row, true)?;
-            print!(rt; "{text}")?;
-        }
-    }
-    Ok(())
-}
-
-/// The text of the row's document, each line of it behind `> `.
-fn told(alloc: Global, form: &str, row: &str, errors: bool) -> io::Result<String> {
-    let bytes = document(alloc, form, row)?;
-    answer(alloc, bytes.as_slice(), errors)
+    answer_rows(&rt, "", &Candumps)
 }

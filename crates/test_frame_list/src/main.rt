@@ -12,32 +12,20 @@ use answer::answer;
 use std::alloc::Global;
 use std::io;
 use std::process::ExitCode;
-use test_rows::document;
+use test_rows::{Given, Rows, answer_rows};
+
+/// The frames of plans.
+struct FrameLists;
+
+impl Rows for FrameLists {
+    /// The frames of the row's document, each line of them behind `> `.
+    fn answered(&self, alloc: Global, given: &Given, row: &str) -> io::Result<String> {
+        let bytes = given.document(alloc, row)?;
+        answer(alloc, bytes.as_slice())
+    }
+}
 
 /// Answers the exit status: 0 for done, 1 where memory was refused or a read or a write failed.
 fn main(rt: HostRuntime) -> ExitCode {
-    ExitCode::from(if rows_are_told(&rt).is_ok() { 0 } else { 1 })
-}
-
-/// Prints each line of the input, and below a row its frames.
-fn rows_are_told(rt: &HostRuntime) -> io::Result<()> {
-    let mut form = String::new(rt.alloc());
-    for line in rt.lines(rt.alloc()) {
-        let line = line?;
-        println!(rt; "{line}")?;
-        if let Some(next) = line.as_str().strip_prefix("-- ") {
-            form.clear();
-            form.push_str(next)?;
-        } else if !line.as_str().starts_with("== ") {
-            let text = told(rt.alloc(), form.as_str(), line.as_str())?;
-            print!(rt; "{text}")?;
-        }
-    }
-    Ok(())
-}
-
-/// The frames of the row's document, each line of it behind `> `.
-fn told(alloc: Global, form: &str, row: &str) -> io::Result<String> {
-    let bytes = document(alloc, form, row)?;
-    answer(alloc, bytes.as_slice())
+    answer_rows(&rt, "", &FrameLists)
 }

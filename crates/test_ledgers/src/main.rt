@@ -20,36 +20,28 @@ use rings::Rings;
 use std::alloc::{AllocError, Global};
 use std::io;
 use std::process::ExitCode;
+use test_rows::{Given, Rows, answer_rows};
 use worlds::allowed;
+
+/// What calls of links and ledgers answer.
+struct Ledgers;
+
+impl Rows for Ledgers {
+    /// What the calls of a row answer, each behind a blank.
+    fn answered(&self, alloc: Global, _given: &Given, row: &str) -> io::Result<String> {
+        let (kind, calls) = row.split_once("; ").unwrap_or((row, ""));
+        match kind {
+            "queues" => Ok(told_of(alloc, Linked::new(alloc)?, calls)?),
+            "rings" => Ok(told_of(alloc, Rings::new(alloc)?, calls)?),
+            "world" => Ok(allowed(alloc, calls)?),
+            _ => Ok(String::from_str(alloc, " ?")?),
+        }
+    }
+}
 
 /// Answers the exit status: 0 for done, 1 where memory was refused or a read or a write failed.
 fn main(rt: HostRuntime) -> ExitCode {
-    ExitCode::from(if rows_are_told(&rt).is_ok() { 0 } else { 1 })
-}
-
-/// Prints each line of the input, and behind a row what it answers.
-fn rows_are_told(rt: &HostRuntime) -> io::Result<()> {
-    for line in rt.lines(rt.alloc()) {
-        let line = line?;
-        if line.as_str().starts_with("== ") {
-            println!(rt; "{line}")?;
-        } else {
-            let text = told(rt.alloc(), line.as_str())?;
-            println!(rt; "{line} ->{text}")?;
-        }
-    }
-    Ok(())
-}
-
-/// What the calls of a row answer, each behind a blank.
-fn told(alloc: Global, row: &str) -> Result<String, AllocError> {
-    let (kind, calls) = row.split_once("; ").unwrap_or((row, ""));
-    match kind {
-        "queues" => told_of(alloc, Linked::new(alloc)?, calls),
-        "rings" => told_of(alloc, Rings::new(alloc)?, calls),
-        "world" => allowed(alloc, calls),
-        _ => String::from_str(alloc, " ?"),
-    }
+    answer_rows(&rt, " ->", &Ledgers)
 }
 
 /// What the calls of a link answer.

@@ -1,25 +1,19 @@
 //! The picture of a document's run.
 
-use super::bits::Bits;
 use sja_picture::picture;
 use sja_plan::read_plan;
 use sja_serial::run_serial;
 use std::alloc::{AllocError, Global};
 use std::io;
+use test_rows::{Bits, marked};
 
 /// The picture of these bits of the run of the plan that these bytes are, each line behind `> `; one line `> no plan`
 /// where they are none.
 pub(crate) fn answer(alloc: Global, bytes: &[u8], bits: Bits) -> io::Result<String> {
     let Ok(plan) = read_plan(alloc, bytes) else {
-        return Ok(String::from_str(alloc, "> no plan\n")?);
+        return Ok(String::from_str(alloc, "\n> no plan")?);
     };
     let log = run_serial(alloc, &plan).map_err(|_| AllocError)?;
     let text = picture(alloc, &log, bits.first, bits.last).map_err(|_| AllocError)?;
-    let mut told = String::new(alloc);
-    for line in text.as_str().lines() {
-        told.push_str("> ")?;
-        told.push_str(line)?;
-        told.push('\n')?;
-    }
-    Ok(told)
+    Ok(marked(alloc, text.as_str())?)
 }

@@ -11,34 +11,20 @@ use answer::answer;
 use std::alloc::Global;
 use std::io;
 use std::process::ExitCode;
-use test_rows::document;
+use test_rows::{Given, Rows, answer_rows};
+
+/// What reading plans answers.
+struct Plans;
+
+impl Rows for Plans {
+    /// What reading the row's document answers.
+    fn answered(&self, alloc: Global, given: &Given, row: &str) -> io::Result<String> {
+        let bytes = given.document(alloc, row)?;
+        answer(alloc, bytes.as_slice())
+    }
+}
 
 /// Answers the exit status: 0 for done, 1 where memory was refused or a read or a write failed.
 fn main(rt: HostRuntime) -> ExitCode {
-    ExitCode::from(if rows_are_told(&rt).is_ok() { 0 } else { 1 })
-}
-
-/// Prints each line of the input, and behind a row what it answers.
-fn rows_are_told(rt: &HostRuntime) -> io::Result<()> {
-    let mut form = String::new(rt.alloc());
-    for line in rt.lines(rt.alloc()) {
-        let line = line?;
-        if let Some(next) = line.as_str().strip_prefix("-- ") {
-            form.clear();
-            form.push_str(next)?;
-            println!(rt; "{line}")?;
-        } else if line.as_str().starts_with("== ") {
-            println!(rt; "{line}")?;
-        } else {
-            let text = told(rt.alloc(), form.as_str(), line.as_str())?;
-            println!(rt; "{line} -> {text}")?;
-        }
-    }
-    Ok(())
-}
-
-/// What reading the row's document answers.
-fn told(alloc: Global, form: &str, row: &str) -> io::Result<String> {
-    let bytes = document(alloc, form, row)?;
-    answer(alloc, bytes.as_slice())
+    answer_rows(&rt, " -> ", &Plans)
 }

@@ -1,46 +1,18 @@
-//! Documents of plans that stand in rows of text, for the programs `test_plan`, `test_plan_text` and `test_check`.
+//! Programs of rows: each line of the input is printed, and with a row what it answers, which a [`Rows`] says.
 //!
-//! A row is put into a form, which the lines of `stdin` with `-- ` before them give. `docs/CARRY-ON.md` has an example.
+//! A line that begins with `== ` is the title of the rows below it. One that begins with `-- ` is their form, by which
+//! a row is made a plan's [`document`], and one that begins with `++ ` says which [`Bits`] of the plan's run are drawn.
+//! Each other line is a row. `docs/CARRY-ON.md` has an example.
 #![tactic(auto)]
 
-use percent_encoding::percent_decode_str;
-use std::alloc::{AllocError, Global};
+mod bits;
+mod documents;
+mod given;
+mod marks;
+mod rows;
 
-/// The document of a row: its form with the row in the place of each `@`.
-///
-/// `; ` ends a line of the document, `<3 TEXT>` is the text three times, and `%0a` is the byte 0a (hexadecimal).
-pub fn document(alloc: Global, form: &str, row: &str) -> Result<Vec<u8>, AllocError> {
-    let filled = form.replace(alloc, "@", row)?;
-    let lines = filled.as_str().replace(alloc, "; ", "\n")?;
-    let text = repeated(alloc, lines.as_str())?;
-    let mut bytes = Vec::new(alloc);
-    percent_decode_str(text.as_str()).append_to(&mut bytes)?;
-    Ok(bytes)
-}
-
-/// The text with each `<3 TEXT>` written out.
-fn repeated(alloc: Global, text: &str) -> Result<String, AllocError> {
-    let mut whole = String::new(alloc);
-    for (number, part) in text.split('<').enumerate() {
-        if number == 0 {
-            whole.push_str(part)?;
-        } else {
-            push_repeated(&mut whole, part)?;
-        }
-    }
-    Ok(whole)
-}
-
-/// Writes out what follows a `<`. What is no repeat is written as it is.
-fn push_repeated(whole: &mut String, part: &str) -> Result<(), AllocError> {
-    let Some((repeat, behind)) = part.split_once('>') else {
-        return whole.push_str(part);
-    };
-    let Some((count, item)) = repeat.split_once(' ') else {
-        return whole.push_str(part);
-    };
-    for _ in 0..count.parse::<u32>().unwrap_or(0) {
-        whole.push_str(item)?;
-    }
-    whole.push_str(behind)
-}
+pub use bits::Bits;
+pub use documents::document;
+pub use given::Given;
+pub use marks::marked;
+pub use rows::{Rows, answer_rows};

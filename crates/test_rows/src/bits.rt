@@ -2,22 +2,16 @@
 
 /// Which bits of a run are drawn.
 #[derive(Clone, Copy, Debug)]
-pub(crate) struct Bits {
-    pub(crate) first: u32,
+pub struct Bits {
+    /// The first one.
+    pub first: u32,
     /// The last one; none for the run's last.
-    pub(crate) last: Option<u32>,
+    pub last: Option<u32>,
 }
 
 impl Bits {
-    /// All bits of a run.
-    pub(crate) fn all() -> Bits {
-        Bits {
-            first: 0,
-            last: None,
-        }
-    }
-
-    /// The bits that a line names by the first and the last of them, or by the first alone. What is no number is 0.
+    /// The bits that a line names by the first and the last of them, or by the first alone. What is no number is 0, so
+    /// that no words name all bits.
     pub(crate) fn of(words: &str) -> Bits {
         match words.split_once(' ') {
             Some((first, last)) => Bits {
