@@ -31,6 +31,7 @@ impl Gathered {
     ghost use Rattle.can_bits.specs.declared.level.Level.{Level as Bus};
     ghost use Rattle.can_bits.specs.Check.{IsMultiple};
     ghost use Rattle.can_bits.specs.Digits.{value};
+    ghost use Rattle.can_bits.specs.Data.{data_place};
     ghost use Rattle.can_bits.specs.Fields.{says_count};
     ghost use Rattle.can_bits.specs.Reading.{SaysWhetherRight};
     ghost use Rattle.can_bits.specs.Packing.{Packs};
@@ -58,7 +59,7 @@ impl Gathered {
         self.place = self.place.wrapping_add(1);
         self.divide(level);
         if self.place == self.mark {
-            self.mark = self.next_mark();
+            self.move_mark();
         }
     }
 
@@ -87,17 +88,21 @@ impl Gathered {
         self.register = crc_step(self.register % 0x8000, level);
     }
 
-    /// The next mark, from the end of a standard frame's DLC on.
+    /// Moves the mark to the next one, from the end of a standard frame's DLC on; past the DLC it stays.
     #[cold]
     #[inline(never)]
-    fn next_mark(self) -> u8
-        ensures { (w : List Bus) → Packs self.word self.place w → 19 ≤ length w → result ≡ mark_of w }
+    fn move_mark(&mut self)
+        ensures kept { self.new ≡ record self.old { mark = self.new.mark } }
+        ensures moved { (w : List Bus) → Packs self.old.word self.old.place w → 19 ≤ length w
+            → length w ≤ data_place w → self.new.mark ≡ mark_of w }
+        ensures stays { (w : List Bus) → Packs self.old.word self.old.place w → data_place w < length w
+            → self.new.mark ≡ self.old.mark }
     {
         let head = self.head_end();
         if self.place < head {
-            head
-        } else {
-            self.level_count()
+            self.mark = head;
+        } else if self.place == head {
+            self.mark = self.level_count();
         }
     }
 

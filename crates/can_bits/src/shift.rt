@@ -139,12 +139,13 @@ impl Shift {
         }
     }
 
-    /// The same: the kept frame is given where it is of just these levels, and else one is built, and may be kept.
-    pub fn frame_or_kept(&self, kept: &mut Option<KeptFrame>) -> Option<Frame>
+    /// The same. Where there is room for a frame, the kept one is given if it is of just these levels, and one that is
+    /// built may be kept.
+    pub fn frame_or_kept(&self, room: Option<&mut KeptFrame>) -> Option<Frame>
         ensures { (l : List Bus) → StandsFor self.now l → IsReadable l → ShowsFrame l result }
     {
         if self.is_past(SIXTH_END_BIT + 1) {
-            self.gathered.frame_or_kept(kept)
+            self.gathered.frame_in(room)
         } else {
             None
         }

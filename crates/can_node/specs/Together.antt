@@ -21,8 +21,8 @@ abbrev pub reader_of : Node → Shift
 reader_of node = node.shift
 
 -- the level that it keeps to be driven in the next bit
-abbrev pub next_level_of : Node → Level
-next_level_of node = node.next
+abbrev pub kept_level : Node → Level
+kept_level node = node.next
 
 -- the packed body of its own frame, or of the last one
 abbrev pub body_of : Node → SentBody
@@ -49,7 +49,7 @@ sending_as node reader = record node { shift = reader; next = next_level reader 
 pub record HasReadAs (node : Node) (reader : Shift) : Type 0 where
   pub in_frame : node.stage ≡ InFrame
   pub receives : node.context.role ≡ Receiver
-  pub drives : next_level_of node ≡ Recessive
+  pub drives : kept_level node ≡ Recessive
   pub same : reader_of node ≡ reader
 
 -- it sends a frame too, has read just what the other sender has, drives the same, and the bodies of both frames have
@@ -58,7 +58,7 @@ pub record HasReadAs (node : Node) (reader : Shift) : Type 0 where
 pub record SendsAlike (sender : Node) (n : ℕ) (node : Node) : Type 0 where
   pub sends : is_sending node ≡ true
   pub same : reader_of node ≡ reader_of sender
-  pub drives : next_level_of node ≡ next_level_of sender
+  pub drives : kept_level node ≡ kept_level sender
   pub agree : AgreeFor (place_of (reader_of sender) + n) (body_of sender) (body_of node)
 
 -- for so many bits it goes on with a node that sends: it receives that frame, or sends one that is alike so far
@@ -79,7 +79,7 @@ following node reader = gone_on (is_sending node) node reader
 
 -- one bit of a node that sends: it sees what it drives, and nothing happens that it shows
 pub record SendsBit (old : Node) (x : Level) (new : Node) : Type 0 where
-  pub drives : next_level_of old ≡ x
+  pub drives : kept_level old ≡ x
   pub samples : Samples old new x (nothing (is_receiving old))
   pub shows : ShowsSame old new
   pub takes : TakesInside (reader_of old) x (reader_of new)

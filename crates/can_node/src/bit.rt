@@ -37,14 +37,13 @@ impl Node {
         ensures samples { Samples self.old self.new level result }
         ensures off { IsTrue result.went_off → InReset self.new }
     {
-        let mut kept = None;
-        self.sample_fully_with(level, &mut kept)
+        self.sample_fully_with(level, None)
     }
 
-    /// The same, where several nodes see one level: a frame that one of them receives may be kept, and is given to the
-    /// others that have read the same levels.
+    /// The same, where several nodes see one level and there is room for a frame: one that is received may be kept
+    /// there, and is given to the others that have read the same levels.
     #[inline(never)]
-    pub fn sample_fully_with(&mut self, level: Level, kept: &mut Option<KeptFrame>) -> BitEvents
+    pub fn sample_fully_with(&mut self, level: Level, room: Option<&mut KeptFrame>) -> BitEvents
         ensures samples { Samples self.old self.new level result }
         ensures off { IsTrue result.went_off → InReset self.new }
     {
@@ -53,7 +52,7 @@ impl Node {
         let held = self.context.held.is_some();
         let off = self.context.counters.off;
         let loses = lost.is_some();
-        let after = self.after_bit(driven, level, loses, kept);
+        let after = self.after_bit(driven, level, loses, room);
         self.context.step_bit(self.stage, driven, level, loses);
         let sent = after.is_sent();
         self.go_to(&after);
@@ -76,7 +75,7 @@ impl Node {
         driven: Level,
         seen: Level,
         lost: bool,
-        kept: &mut Option<KeptFrame>,
+        room: Option<&mut KeptFrame>,
     ) -> AfterBit
         ensures kept { self.new ≡ record self.old { shift = self.new.shift } }
         ensures turn { TurnsFrom
@@ -87,7 +86,7 @@ impl Node {
             Stage::InReset => AfterBit::InPiece(Stage::InReset),
             Stage::Integrating { left, run } => after_integration_bit(left, run, seen),
             Stage::BusIdle => self.after_idle_bit(driven, seen),
-            Stage::InFrame => self.after_frame_bit(driven, seen, lost, kept),
+            Stage::InFrame => self.after_frame_bit(driven, seen, lost, room),
             Stage::LastEofBit => after_last_eof_bit(seen),
             Stage::InFlag { bits, last } => self.after_flag_bit(bits, last, seen),
             Stage::InDelimiter {
@@ -144,14 +143,14 @@ impl Node {
         driven: Level,
         seen: Level,
         lost: bool,
-        kept: &mut Option<KeptFrame>,
+        room: Option<&mut KeptFrame>,
     ) -> AfterBit
         ensures kept { self.new ≡ record self.old { shift = self.new.shift } }
         ensures turn { TurnsFrom (λ c place bits. IsReading self.old.shift c (context_of self.old.context) place bits)
             self.old self.new.shift driven seen lost result }
     {
         match self.context.role {
-            Role::Receiver => receive(&mut self.shift, driven, seen, kept),
+            Role::Receiver => receive(&mut self.shift, driven, seen, room),
             Role::Transmitter => match &self.context.held {
                 Some(request) => {
                     transmit(

@@ -14,7 +14,7 @@ impl Node {
     ghost use Rattle.std.specs.Prelude.{◌≡◌, Some, true, false};
     ghost use Rattle.can_node.specs.declared.role.Role.TheVariants.{Transmitter, Receiver};
     ghost use Rattle.can_node.specs.declared.stage.Stage.TheVariants.{InFrame as StageInFrame};
-    ghost use Rattle.can_node.specs.Inside.Quiet.{TurnsQuietly};
+    ghost use Rattle.can_node.specs.Inside.Quiet.{TurnsQuietly, is_outside};
     ghost use Rattle.can_node.specs.Stands.{Samples, ShowsSame, nothing, is_receiving};
 
     /// Sees the level of the bus where the bit changes nothing that the node shows: no event, and the same error
@@ -114,7 +114,7 @@ impl Node {
         }
     }
 
-    /// A bit outside a frame, where the bus isn't idle.
+    /// A bit outside a frame, where the bus isn't idle: the level that the node drives is the same all along a piece.
     #[inline(never)]
     fn other_bit_quietly(&mut self, level: Level) -> bool
         ensures quiet { result ≡ true → Samples self.old self.new level (nothing (is_receiving self.old)) }
@@ -128,7 +128,6 @@ impl Node {
                     return false;
                 }
                 self.stage = stage;
-                self.next = self.next_level();
                 true
             }
             None => false,
@@ -137,7 +136,8 @@ impl Node {
 
     /// The stage to which a bit outside a frame leads, where its piece goes on and no counter may step.
     fn quiet_stage(&self, level: Level) -> Option<Stage>
-        ensures { (stage : Stage) → result ≡ Some stage → TurnsQuietly self.now level stage }
+        ensures turns { (stage : Stage) → result ≡ Some stage → TurnsQuietly self.now level stage }
+        ensures outside { (stage : Stage) → result ≡ Some stage → is_outside self.now.stage ≡ true }
     {
         match self.stage {
             Stage::InReset => Some(Stage::InReset),

@@ -52,7 +52,7 @@ pub(crate) fn receive(
     shift: &mut Shift,
     driven: Level,
     seen: Level,
-    kept: &mut Option<KeptFrame>,
+    room: Option<&mut KeptFrame>,
 ) -> AfterBit
     ensures stands { (l : List Bus) → StandsFor shift.old l → StandsFor shift.new (l ++ seen ∷ []) }
     ensures turn { ReceivesBit shift.old driven seen result }
@@ -64,7 +64,7 @@ pub(crate) fn receive(
     }
     match shift.advance(seen) {
         Some(wrong) => error(cause_of(&wrong.fault), wrong.segment),
-        None => match shift.frame_or_kept(kept) {
+        None => match shift.frame_or_kept(room) {
             Some(frame) => AfterBit::Ended(Ending::Received(frame)),
             None => AfterBit::InPiece(Stage::InFrame),
         },

@@ -13,7 +13,7 @@ impl Node {
     ghost use Rattle.can_bits.specs.declared.level.Level.{Level as Bus};
     ghost use Rattle.can_bits.specs.Shifts.{StandsFor};
     ghost use Rattle.can_bits.specs.Streaming.{IsRightInside};
-    ghost use Rattle.can_node.specs.Together.{is_sending, next_level_of, reader_of, reading_as, HasReadAs};
+    ghost use Rattle.can_node.specs.Together.{is_sending, kept_level, reader_of, reading_as, HasReadAs};
     ghost use Rattle.can_node.specs.Together.{GoesWith, SendsAlike, SendsBits, following, sending_as};
     ghost use Rattle.can_node.specs.declared.node.Node.{Node as Sender};
 
@@ -96,7 +96,7 @@ impl Node {
         ensures alike { (n : ℕ) (other : Sender) → 0 < result → result ≤ n → SendsAlike self.old n other
             → SendsBits other (take result levels.new) (sending_as other (reader_of self.new)) }
         ensures longest { (result ≡ length levels.old) ⊎ (is_sending self.new ≡ false)
-            ⊎ ((l : List Bus) → StandsFor (reader_of self.new) l → ¬ IsRightInside l (next_level_of self.new)) }
+            ⊎ ((l : List Bus) → StandsFor (reader_of self.new) l → ¬ IsRightInside l (kept_level self.new)) }
     {
         if !self.is_sending() {
             return 0;

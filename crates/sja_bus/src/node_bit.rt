@@ -206,7 +206,7 @@ impl Seat {
         ensures broken { IfErr result (λ f. BreaksHere E.stands E.full end.old self.old self.new f) }
     {
         let driven = self.drives;
-        let events = self.node.sample_fully_with(seen, &mut row.frame);
+        let events = self.node.sample_fully_with(seen, Some(&mut row.frame));
         match passing(&self.activity, &events.received, row) {
             None => {
                 self.enter_bit(driven, seen)?;

@@ -10,7 +10,7 @@ use can_frame::{Frame, Message};
 /// (this project's own rule).
 #[derive(Drop)]
 pub(crate) struct RowFrame {
-    pub(crate) frame: Option<KeptFrame>,
+    pub(crate) frame: KeptFrame,
     message: Option<KeptMessage>,
 }
 
@@ -29,7 +29,7 @@ impl RowFrame {
     /// Nothing was read in this bit so far.
     pub(crate) fn none() -> RowFrame {
         RowFrame {
-            frame: None,
+            frame: KeptFrame::none(),
             message: None,
         }
     }

@@ -31,7 +31,17 @@ mark_said w h =
 ext_stays : (w : List Level) (x : Level) → 19 ≤ length w → says_ext (w ++ x ∷ []) ≡ says_ext w
 ext_stays w x h = ap is_recessive (get_or_append_left w (x ∷ []) Dominant 13 (omega arith))
 
--- the mark stays until it has come
+-- past the DLC the mark stays
+pub mark_past : (w : List Level) (x : Level) → data_place (w ++ x ∷ []) < length (w ++ x ∷ []) →
+    mark_of (w ++ x ∷ []) ≡ mark_of w
+mark_past w x past =
+    let more = length_push w x in
+    let late : 19 ≤ length w = omega (arith, more, past, head_least (says_ext (w ++ x ∷ []))) in
+    let head : data_place (w ++ x ∷ []) ≡ data_place w = ap (λ e. dlc_place e + 4) (ext_stays w x late) in
+    let said : data_place w ≤ length w = omega (arith, more, past, head) in
+    mark_said (w ++ x ∷ []) (omega (arith, past)) ∙ says_count-more w (x ∷ []) said ∙ sym (mark_said w said)
+
+-- it stays until it has come
 pub mark_stays : (w : List Level) (x : Level) → length w + 1 ≢ mark_of w → mark_of (w ++ x ∷ []) ≡ mark_of w
 mark_stays w x other =
     let more = length_push w x in
@@ -46,9 +56,7 @@ mark_stays w x other =
                 let mark = mark_head w late before in
                 mark_head (w ++ x ∷ []) (omega (arith, more, late)) (omega (arith, more, head, before, other, mark))
                 ∙ head ∙ sym mark
-            | inr past ↦
-                mark_said (w ++ x ∷ []) (omega (arith, more, head, past)) ∙ says_count-more w (x ∷ []) past
-                ∙ sym (mark_said w past)
+            | inr past ↦ mark_past w x (omega (arith, more, head, past))
           ]
     ]
 

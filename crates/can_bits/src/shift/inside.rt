@@ -101,7 +101,8 @@ impl Shift {
     }
 
     /// Ends the stuffed part, unless a stuff bit is due.
-    #[inline(always)]
+    #[cold]
+    #[inline(never)]
     fn end_part_unless_stuff(&mut self)
         requires { self.old.frame_part ≡ FramePart.Stuffed }
         ensures kept { self.new ≡ record self.old { frame_part = self.new.frame_part } }

@@ -66,12 +66,12 @@ impl Shift {
 
     /// Takes some of the levels that a transmitter of this body sends next, perhaps none, and writes them from a place
     /// of the list on. Answers where the rest of the list begins. The others are left to
-    /// [`take_inside`](Shift::take_inside): those with which more is known of the length, and all past the body.
+    /// [`take_inside`](Shift::take_inside): those with which more is known of the length, and all past the body. None
+    /// is taken where the place is past the list.
     #[inline(always)]
     pub fn send_along(&mut self, body: &SentBody, levels: &mut [Level], from: usize) -> usize
-        requires within { from ≤ length levels.old }
         ensures more { from ≤ result }
-        ensures few { result ≤ length levels.old }
+        ensures few { from ≤ length levels.old → result ≤ length levels.old }
         ensures count { length levels.new ≡ length levels.old }
         ensures front { take from levels.new ≡ take from levels.old }
         ensures rest { drop result levels.new ≡ drop result levels.old }

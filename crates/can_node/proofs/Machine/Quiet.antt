@@ -11,13 +11,18 @@ use Rattle.can_node.specs.declared.request.Request.{Request}
 use Rattle.can_node.specs.declared.role.Role.TheVariants.{Receiver}
 use Rattle.can_node.specs.declared.outcome.Outcome.TheVariants.{Failed}
 use Rattle.can_node.specs.declared.stage.Stage.{Stage}
-use Rattle.can_node.specs.declared.stage.Stage.TheVariants.{BusIdle as StageBusIdle}
+use Rattle.can_node.specs.declared.stage.Stage.TheVariants.{InReset as StageInReset, Integrating as StageIntegrating}
+use Rattle.can_node.specs.declared.stage.Stage.TheVariants.{BusIdle as StageBusIdle, InFrame as StageInFrame}
+use Rattle.can_node.specs.declared.stage.Stage.TheVariants.{LastEofBit as StageLastEofBit, InFlag as StageInFlag}
+use Rattle.can_node.specs.declared.stage.Stage.TheVariants.{InDelimiter as StageInDelimiter}
+use Rattle.can_node.specs.declared.stage.Stage.TheVariants.{InInterframeSpace as StageInInterframeSpace}
 use Rattle.can_node.specs.declared.context.Context.{Context}
 use Rattle.can_node.specs.declared.node.Node.{Node}
 use Rattle.can_node.specs.Bits.{Bit}
 use Rattle.can_node.specs.Context.{ContextValue, is_transmitter, is_held}
 use Rattle.can_node.specs.Pieces.{Place, sent_at}
-use Rattle.can_node.specs.Pieces.Place.{AtIdle}
+use Rattle.can_node.specs.Pieces.Place.{AtReset, AtIntegration, AtIdle}
+use Rattle.can_node.specs.Pieces.Place.{AtLastEofBit, AtFlag, AtDelimiter, AtInterframeSpace}
 use Rattle.can_node.specs.Pieces.Piece.{IdleBit}
 use Rattle.can_node.specs.Record.{RecordEntry, bits_in}
 use Rattle.can_node.specs.Record.RecordEntry.{OneBit}
@@ -31,14 +36,14 @@ use Rattle.can_node.specs.NextBit.{now_in, open_bits}
 use Rattle.can_node.specs.Effects.{along, closed}
 use Rattle.can_node.specs.Inside.Standing.{context_of, HasBody, IsKept}
 use Rattle.can_node.specs.Inside.Stages.{At}
-use Rattle.can_node.specs.Inside.Quiet.{IsQuietTurn, TurnsQuietly}
+use Rattle.can_node.specs.Inside.Quiet.{IsQuietTurn, TurnsQuietly, is_outside}
 use Rattle.can_node.specs.Stands.{StandsAt, Leads, Samples, closed_by, nothing, is_receiving}
 use Rattle.can_node.proofs.OneCut.GoOn.{stays_end}
 use Rattle.can_node.proofs.Machine.Ats.{at_is}
 use Rattle.can_node.proofs.Machine.BitStands.{goes_stands, closes_stands}
 use Rattle.can_node.proofs.Machine.IdleTurns.{idle_still}
 use Rattle.can_node.proofs.Machine.Sampling.{bits_push}
-use Rattle.can_node.proofs.Machine.Shown.{DrivesBy, at_shown, kept_shown, next_shown}
+use Rattle.can_node.proofs.Machine.Shown.{at_shown, kept_shown, next_shown}
 use Rattle.can_node.proofs.Machine.Told.{told_all, drives_once}
 
 -- ---- what it tells
@@ -143,17 +148,41 @@ quietly old new seen same_context same_body quiet entries found h x drives =
 
 -- ---- outside a frame
 
--- the level that the node keeps is found by its fields
-pub goes_elsewhere : (old : Node) (stage : Stage) (next seen : Level) → TurnsQuietly old seen stage →
-    DrivesBy (record old { stage = stage; next = next }) next →
-    IsQuiet old (record old { stage = stage; next = next }) seen
-goes_elsewhere old stage next seen turns drives_by c place bits at kept body drives =
-    let turn = turns c place bits at kept drives in
-    record {
-      turn = turn;
-      next = drives_by c place (bits ++ record { driven = old.next; seen = seen } ∷ []) turn.at kept
-          body;
-    }
+-- what is driven at a place, where more bits don't change it
+same_at : (now : ContextValue) (s place : Place) (bits more : List Bit) (x : Level) → place ≡ s →
+    (Drives now s bits x → Drives now s more x) → Drives now place bits x → Drives now place more x
+same_at now s place bits more x e same h =
+    let P : Place → Type 0 = λ z. Drives now z bits x in
+    let Q : Place → Type 0 = λ z. Drives now z more x in
+    subst Q (sym e) (same (subst P e h))
+
+-- so it is wherever the node may stand
+outside_drives : (stage : Stage) (shift : Shift) (c now : ContextValue) (place : Place) (bits more : List Bit)
+    (x : Level) → is_outside stage ≡ true → At stage shift c now place bits → Drives now place bits x →
+    Drives now place more x
+outside_drives StageInReset shift c now place bits more x out at h =
+    same_at now AtReset place bits more x at.0 (λ d. d) h
+outside_drives (StageIntegrating left run) shift c now place bits more x out at h =
+    same_at now AtIntegration place bits more x at.0 (λ d. d) h
+outside_drives StageBusIdle shift c now place bits more x out at h = let wrong : false ≡ true = out in cc
+outside_drives StageInFrame shift c now place bits more x out at h = let wrong : false ≡ true = out in cc
+outside_drives StageLastEofBit shift c now place bits more x out at h =
+    same_at now AtLastEofBit place bits more x at.0 (λ d. d) h
+outside_drives (StageInFlag n last) shift c now place bits more x out at h =
+    same_at now AtFlag place bits more x at.0 (λ d. d) h
+outside_drives (StageInDelimiter dominant recessive) shift c now place bits more x out at h =
+    same_at now AtDelimiter place bits more x at.0 (λ d. d) h
+outside_drives (StageInInterframeSpace n) shift c now place bits more x out at h =
+    same_at now AtInterframeSpace place bits more x at.0 (λ d. d) h
+
+-- the node keeps the level that it drives
+pub goes_outside : (old : Node) (stage : Stage) (seen : Level) → TurnsQuietly old seen stage →
+    is_outside old.stage ≡ true → IsQuiet old (record old { stage = stage }) seen
+goes_outside old stage seen turns outside c place bits at kept body drives = record {
+  turn = turns c place bits at kept drives;
+  next = outside_drives old.stage old.shift c (context_of old.context) place bits
+      (bits ++ record { driven = old.next; seen = seen } ∷ []) old.next outside at drives;
+}
 
 -- ---- an idle bit
 

@@ -8,7 +8,7 @@ use Rattle.can_bits.specs.Sending.{SendsAlong, TakesInside, next_level, place_of
 use Rattle.can_bits.specs.Sending.SendsAlong.{nothing, one_more as one_level}
 use Rattle.can_bits.proofs.PackedLevels.{alike_along, near_along, next_alike, next_level_is}
 use Rattle.can_node.specs.declared.node.Node.{Node}
-use Rattle.can_node.specs.Together.{SendsAlike, SendsBit, SendsBits, body_of, is_sending, next_level_of, reader_of}
+use Rattle.can_node.specs.Together.{SendsAlike, SendsBit, SendsBits, body_of, is_sending, kept_level, reader_of}
 use Rattle.can_node.specs.Together.{sending_as}
 use Rattle.can_node.specs.Together.SendsBits.{no_bit, one_more}
 use Rattle.can_node.proofs.Machine.Together.{sends_as, sends_in_frame, sends_one}
@@ -40,7 +40,7 @@ pub record HasSentAlike (shift : Shift) (next : Level) (count : ℕ) (sent : Lis
   pub anew : 0 < count → driven ≡ next_level shift (body_of other)
 
 pub none_sent : (sender : Node) (n : ℕ) (other : Node) → SendsAlike sender n other →
-    HasSentAlike (reader_of sender) (next_level_of sender) 0 [] n other
+    HasSentAlike (reader_of sender) (kept_level sender) 0 [] n other
 none_sent sender n other h =
     let Bits : Shift → Type 0 = λ s. SendsBits other [] (record other { shift = s; next = other.next }) in
     record {

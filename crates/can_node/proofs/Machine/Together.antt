@@ -13,7 +13,7 @@ use Rattle.can_node.specs.declared.stage.Stage.TheVariants.{InReset, Integrating
 use Rattle.can_node.specs.declared.stage.Stage.TheVariants.{InDelimiter, InInterframeSpace}
 use Rattle.can_node.specs.Context.{is_transmitter}
 use Rattle.can_node.specs.Stands.{Samples, ShowsSame, is_receiving, nothing}
-use Rattle.can_node.specs.Together.{SendsBit, is_in_frame, is_sending, next_level_of, reader_of}
+use Rattle.can_node.specs.Together.{SendsBit, is_in_frame, is_sending, kept_level, reader_of}
 use Rattle.can_node.specs.Together.{reading_as}
 use Rattle.can_node.proofs.Machine.Quiet.{quietly}
 use Rattle.can_node.proofs.Machine.QuietReceiver.{receives_inside}
@@ -47,8 +47,8 @@ sends_as node e =
 
 -- the sender's bit
 pub sends_one : (old : Node) (shift : Shift) (next : Level) → old.stage ≡ InFrame → old.context.role ≡ Transmitter →
-    TakesInside (reader_of old) (next_level_of old) shift → IsNextOf shift old.body next →
-    SendsBit old (next_level_of old) (record old { shift = shift; next = next })
+    TakesInside (reader_of old) (kept_level old) shift → IsNextOf shift old.body next →
+    SendsBit old (kept_level old) (record old { shift = shift; next = next })
 sends_one old shift next stage transmitter takes next_of = record {
   drives = refl;
   samples = quietly old (record old { shift = shift; next = next }) old.next refl refl

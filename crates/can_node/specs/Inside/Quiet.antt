@@ -1,8 +1,10 @@
 -- A bit in which nothing happens that a node shows.
-use Rattle.std.specs.Prelude.{◌≡◌, Option, Some, None, List, [], ◌∷◌, ◌++◌}
+use Rattle.std.specs.Prelude.{◌≡◌, Bool, true, false, Option, Some, None, List, [], ◌∷◌, ◌++◌}
 use Rattle.can_bits.specs.declared.level.Level.{Level}
 use Rattle.can_bits.specs.declared.shift.Shift.{Shift}
 use Rattle.can_node.specs.declared.stage.Stage.{Stage}
+use Rattle.can_node.specs.declared.stage.Stage.TheVariants.{InReset, Integrating, BusIdle, InFrame, LastEofBit}
+use Rattle.can_node.specs.declared.stage.Stage.TheVariants.{InFlag, InDelimiter, InInterframeSpace}
 use Rattle.can_node.specs.declared.after_bit.AfterBit.{AfterBit}
 use Rattle.can_node.specs.declared.after_bit.AfterBit.TheVariants.{InPiece, Ended}
 use Rattle.can_node.specs.declared.node.Node.{Node}
@@ -30,6 +32,18 @@ TurnsQuietly node seen stage =
     At node.stage node.shift c (context_of node.context) place bits →
     IsKept place c (context_of node.context) → Drives (context_of node.context) place bits node.next →
     IsQuietTurn stage node.shift c (context_of node.context) place bits (record { driven = node.next; seen = seen })
+
+-- outside a frame, where the bus isn't idle: what a node drives there is the same all along a piece (Bosch CAN 2.0
+-- part A sections 3.1.3 to 3.1.5)
+abbrev pub is_outside : Stage → Bool
+is_outside InReset = true
+is_outside (Integrating left run) = true
+is_outside BusIdle = false
+is_outside InFrame = false
+is_outside LastEofBit = true
+is_outside (InFlag bits last) = true
+is_outside (InDelimiter dominant recessive) = true
+is_outside (InInterframeSpace bits) = true
 
 -- the stage of a piece that goes on
 abbrev pub stage_in : AfterBit → Option Stage

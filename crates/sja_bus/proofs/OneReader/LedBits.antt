@@ -11,7 +11,7 @@ use Rattle.can_node.specs.Context.{is_held}
 use Rattle.can_node.specs.NextBit.{now_in, open_bits, rests_in}
 use Rattle.can_node.specs.Stands.{DrivesNext, Samples, ShowsRest, is_receiving, nothing, phase_of_stage}
 use Rattle.can_bits.specs.Sending.{TakesInside}
-use Rattle.can_node.specs.Together.{HasReadAs, SendsBit, is_sending, next_level_of}
+use Rattle.can_node.specs.Together.{HasReadAs, SendsBit, is_sending, kept_level}
 use Rattle.can_node.specs.Together.{reading_as}
 use Rattle.can_node.proofs.Machine.Shown.{phase_shown}
 use Rattle.can_node.proofs.Machine.Told.{drives_once}
@@ -30,7 +30,7 @@ use Rattle.sja_bus.proofs.Journal.Quiet.{quiet_sound}
 -- ---- what a node drives
 
 -- the level that it keeps
-pub drives_kept : (node : Node) → DrivesNext node (next_level_of node)
+pub drives_kept : (node : Node) → DrivesNext node (kept_level node)
 drives_kept node entries found h = h.next
 
 -- a seat knows that level

@@ -8,7 +8,7 @@ use Rattle.can_bits.specs.declared.level.Level.TheVariants.{Recessive}
 use Rattle.can_bits.specs.declared.shift.Shift.{Shift}
 use Rattle.can_node.specs.declared.node.Node.{Node}
 use Rattle.can_node.specs.Stands.{DrivesNext, ShowsRest}
-use Rattle.can_node.specs.Together.{HasReadAs, SendsBits, next_level_of, reader_of, reading_as}
+use Rattle.can_node.specs.Together.{HasReadAs, SendsBits, kept_level, reader_of, reading_as}
 use Rattle.can_node.specs.Together.SendsBits.{no_bit, one_more as one_bit_more}
 use Rattle.can_node.proofs.Machine.Following.{sent_last, sent_none}
 use Rattle.sja_wire.specs.Wire.{wired}
@@ -63,7 +63,7 @@ one_back lead sender xs x m old _ at none (by_sending node next bits drives) =
 one_back lead sender xs x m old _ at none (by_reading node other read bits) =
     let back = sent_last sender (xs ++ x ∷ []) node xs x bits refl in
     let first = reader_of sender in let mid = reader_of back.mid in let new = reader_of node in
-    let kept = kept_is old old.node (next_level_of old.node) at.ready refl (drives_kept old.node) in
+    let kept = kept_is old old.node (kept_level old.node) at.ready refl (drives_kept old.node) in
     let still = sym kept ∙ read.drives in (
       after_reading mid xs old,
       record {

@@ -9,7 +9,7 @@ use Rattle.can_bits.proofs.shift.Shift.frame_or_kept.Goals as goal
 pub returns-then-is_past : goal.returns-then-is_past
 returns-then-is_past c l h right =
     let nine = c.is_past.ensures.yes l h c.if-is_past.true in
-    let shown = c.frame_or_kept.ensures nine.frame (nine.body ++ nine.check) nine.body nine.check nine.gathers
+    let shown = c.frame_in.ensures nine.frame (nine.body ++ nine.check) nine.body nine.check nine.gathers
     (record { frame = nine.is_part.frame; body = nine.is_part.body; check = nine.is_part.check; whole = refl }) in
     let P : Option FrameValue → Type 0 = λ o. ShowsFrame l o in
     subst P (sym shown) (past_shows 9 1 l nine (omega arith) refl)

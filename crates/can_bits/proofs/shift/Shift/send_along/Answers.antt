@@ -37,7 +37,7 @@ loop-level-init c =
       grown = omega arith;
       shows = λ k small _ within. c.digits_of-digits.ensures k small within room;
       more = omega arith;
-      few = c.requires.within;
+      few = λ within. within;
       front = refl;
       rest = refl;
     }
@@ -98,7 +98,7 @@ loop-level-preserved c =
       grown = omega (arith, grown, later);
       shows = h.shows;
       more = omega (arith, order);
-      few = omega (arith, room, length-set l.levels l.place x);
+      few = λ within. omega (arith, room, length-set l.levels l.place x);
       front = take-set-le c.args.from l.levels l.place x inv.more ∙ inv.front;
       rest = rest_more l.levels c.args.levels.now l.place x inv.rest;
     }

@@ -19,7 +19,7 @@ invariant-loop-level l = record {
   grown : place_of l.fn.self ≤ place_of l.shift;
   shows : Shows l.fn.body (place_of l.shift) l.digits (place_of l.fn.self + 64);
   more : l.from ≤ l.place;
-  few : l.place ≤ length l.levels;
+  few : l.from ≤ length l.levels → l.place ≤ length l.levels;
   front : take l.from l.levels ≡ take l.from l.fn.levels;
   rest : drop l.place l.levels ≡ drop l.place l.fn.levels;
 }

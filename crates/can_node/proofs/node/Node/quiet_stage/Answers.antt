@@ -6,8 +6,8 @@ use Rattle.can_node.proofs.Machine.QuietPlaces.{delimits_quietly, interframes_qu
 use Rattle.can_node.proofs.node.Node.quiet_stage.Goals as goal
 
 -- src/quiet.rt
-pub returns-else-run-eq10 : goal.returns-else-run-eq10
-returns-else-run-eq10 c = λ to goes d place bits at kept drives.
+pub returns-else-run-eq10-clause-turns : goal.returns-else-run-eq10-clause-turns
+returns-else-run-eq10-clause-turns c = λ to goes d place bits at kept drives.
     let old = c.args.self.now in
     let now = context_of old.context in
     integrates_quietly c.in-Integrating.left c.in-Integrating.run' old.stage to c.after_integration_bit.result old.shift
@@ -17,8 +17,8 @@ returns-else-run-eq10 c = λ to goes d place bits at kept drives.
     c.args.level c.after_integration_bit.result
     c.in-Integrating.is at drives c.after_integration_bit.ensures)
 
-pub returns-else-self : goal.returns-else-self
-returns-else-self c = λ to goes d place bits at kept drives.
+pub returns-else-self-clause-turns : goal.returns-else-self-clause-turns
+returns-else-self-clause-turns c = λ to goes d place bits at kept drives.
     let old = c.args.self.now in
     let now = context_of old.context in
     flags_quietly c.in-InFlag.bits c.in-InFlag.last old.stage to c.after_flag_bit.result old.shift d now place bits
@@ -28,8 +28,8 @@ returns-else-self c = λ to goes d place bits at kept drives.
     c.after_flag_bit.result
     c.in-InFlag.is at kept drives c.after_flag_bit.ensures)
 
-pub returns-else-may_count : goal.returns-else-may_count
-returns-else-may_count c = λ to goes d place bits at kept drives.
+pub returns-else-may_count-clause-turns : goal.returns-else-may_count-clause-turns
+returns-else-may_count-clause-turns c = λ to goes d place bits at kept drives.
     let old = c.args.self.now in
     let now = context_of old.context in
     delimits_quietly c.in-InDelimiter.dominant c.in-InDelimiter.recessive old.stage to c.after_delimiter_bit.result
@@ -39,8 +39,8 @@ returns-else-may_count c = λ to goes d place bits at kept drives.
     c.args.level c.after_delimiter_bit.result
     c.in-InDelimiter.is at drives c.after_delimiter_bit.ensures)
 
-pub returns-in-InInterframeSpace : goal.returns-in-InInterframeSpace
-returns-in-InInterframeSpace c = λ to goes d place bits at kept drives.
+pub returns-in-InInterframeSpace-clause-turns : goal.returns-in-InInterframeSpace-clause-turns
+returns-in-InInterframeSpace-clause-turns c = λ to goes d place bits at kept drives.
     let old = c.args.self.now in
     let now = context_of old.context in
     interframes_quietly c.in-InInterframeSpace.bits old.stage to c.after_interframe_bit.result old.shift d now place

@@ -47,7 +47,7 @@ loop-count-preserved c =
     take-range levels (l.count + 1) end along.more
     ∙ ap (λ q. q ++ xs) (along.front ∙ take_more_set l.levels l.count l.next few) in
     let size : length levels ≡ length l.levels = along.count ∙ length-set l.levels l.count l.next in
-    let more = along.more in let room = along.few in
+    let more = along.more in let room = along.few (omega (arith, few, length-set l.levels l.count l.next)) in
     let within : end ≤ length levels = omega (arith, room, along.count) in
     let many : l.count + 1 + length xs ≡ end =
     omega (arith, more, length_range levels (l.count + 1) end more within) in
