@@ -1,4 +1,4 @@
-//! Buses row by row: each line of the input is calls of a bus and of its drivers, and what they answer is printed
+//! BusCalls row by row: each line of the input is calls of a bus and of its drivers, and what they answer is printed
 //! behind it.
 //!
 //! A line that begins with `== ` is a title of the rows below it. In a row `; ` stands between calls, and bytes are
@@ -25,35 +25,27 @@ mod wired;
 mod words;
 
 use bench::Bench;
-use std::alloc::{AllocError, Global};
+use std::alloc::Global;
 use std::io;
 use std::process::ExitCode;
+use test_rows::{Given, Rows, answer_rows};
+
+/// What calls of a bus and of its drivers answer.
+struct BusCalls;
+
+impl Rows for BusCalls {
+    /// What the calls of a row answer, each answer behind a blank.
+    fn answered(&self, alloc: Global, _given: &Given, row: &str) -> io::Result<String> {
+        let mut bench = Bench::new(alloc);
+        for call in row.split("; ") {
+            let words = call.split(' ').collect::<Vec<&str>>(alloc)?;
+            bench.does(words.as_slice());
+        }
+        Ok(bench.told()?)
+    }
+}
 
 /// Answers the exit status: 0 for done, 1 where memory was refused or a read or a write failed.
 fn main(rt: HostRuntime) -> ExitCode {
-    ExitCode::from(if rows_are_told(&rt).is_ok() { 0 } else { 1 })
-}
-
-/// Prints each line of the input, and behind a row what it answers.
-fn rows_are_told(rt: &HostRuntime) -> io::Result<()> {
-    for line in rt.lines(rt.alloc()) {
-        let line = line?;
-        if line.as_str().starts_with("== ") {
-            println!(rt; "{line}")?;
-        } else {
-            let text = answered(rt.alloc(), line.as_str())?;
-            println!(rt; "{line} ->{text}")?;
-        }
-    }
-    Ok(())
-}
-
-/// What the calls of a row answer, each answer behind a blank.
-fn answered(alloc: Global, row: &str) -> Result<String, AllocError> {
-    let mut bench = Bench::new(alloc);
-    for call in row.split("; ") {
-        let words = call.split(' ').collect::<Vec<&str>>(alloc)?;
-        bench.does(words.as_slice());
-    }
-    bench.told()
+    answer_rows(&rt, " ->", &BusCalls)
 }

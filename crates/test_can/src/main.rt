@@ -33,34 +33,26 @@ mod wire;
 mod words;
 
 use bench::Bench;
-use std::alloc::{AllocError, Global};
+use std::alloc::Global;
 use std::io;
 use std::process::ExitCode;
+use test_rows::{Given, Rows, answer_rows};
+
+/// What calls of the crates below the controller answer.
+struct Calls;
+
+impl Rows for Calls {
+    /// What the calls of a row answer, each answer behind a blank.
+    fn answered(&self, alloc: Global, _given: &Given, row: &str) -> io::Result<String> {
+        let mut bench = Bench::new(alloc);
+        for call in row.split("; ") {
+            bench.does(call);
+        }
+        Ok(bench.told()?)
+    }
+}
 
 /// Answers the exit status: 0 for done, 1 where memory was refused or a read or a write failed.
 fn main(rt: HostRuntime) -> ExitCode {
-    ExitCode::from(if rows_are_told(&rt).is_ok() { 0 } else { 1 })
-}
-
-/// Prints each line of the input, and behind a row what it answers.
-fn rows_are_told(rt: &HostRuntime) -> io::Result<()> {
-    for line in rt.lines(rt.alloc()) {
-        let line = line?;
-        if line.as_str().starts_with("== ") {
-            println!(rt; "{line}")?;
-        } else {
-            let text = answered(rt.alloc(), line.as_str())?;
-            println!(rt; "{line} ->{text}")?;
-        }
-    }
-    Ok(())
-}
-
-/// What the calls of a row answer, each answer behind a blank.
-fn answered(alloc: Global, row: &str) -> Result<String, AllocError> {
-    let mut bench = Bench::new(alloc);
-    for call in row.split("; ") {
-        bench.does(call);
-    }
-    bench.told()
+    answer_rows(&rt, " ->", &Calls)
 }
