@@ -4,7 +4,7 @@ use Rattle.std.proofs.Common.{take, drop, get_or, arith, add-one}
 use Rattle.std.proofs.Common.{refl, sym, ap, ◌∙◌, append-nil, append_assoc}
 use Rattle.std.proofs.Math.ListN.{drop_of_length-le}
 use Rattle.lemmas.specs.Gathering.{gathered}
-use Rattle.sja_trace.proofs.Lines.{rest_is}
+use Rattle.sja_report.proofs.Written.{rest_is}
 use Rattle.sja_frames.specs.declared.frame_bit.FrameBit.{FrameBit}
 use Rattle.sja_frames.specs.FieldTexts.{last_number}
 

@@ -1,12 +1,13 @@
 -- Texts of several words and lines.
 use Rattle.std.proofs.Common.{◌≡◌, ℕ, ◌+◌, ◌<◌, ◌≤◌, zero, suc, List, [], ◌∷◌, ◌++◌, length, map, drop, get_or}
-use Rattle.std.proofs.Common.{refl, sym, ap, ◌∙◌, arith, append_assoc, drop-cons}
+use Rattle.std.proofs.Common.{refl, sym, ap, ◌∙◌, arith, append_assoc}
 use Rattle.std.specs.Prelude.{slice_index_or}
 use Rattle.lemmas.proofs.Gathered.{gathered_append}
 use Rattle.sja_report.specs.ReportLines.{words_text, line_text, lines_text, numbered}
 use Rattle.sja_report.specs.Spacing.{all_spaced}
 use Rattle.sja_report.specs.Inside.Tallies.{TallyValue, no_tally, tally_value}
 use Rattle.sja_report.specs.declared.tally.Tally.{Tally}
+use Rattle.sja_report.proofs.Written.{rest_is}
 
 -- words behind the first one are those behind spaces, and a line feed
 pub words_spaced : (words : List (List ℕ)) → words_text words ≡ all_spaced words ++ 10 ∷ []
@@ -60,9 +61,6 @@ pub numbered_more : {A : Type 0} (f : ℕ → A → List (List (List ℕ))) (xs 
     new ++ lines_text (numbered f (n + 1) (drop (i + 1) xs)) ≡ whole
 numbered_more f xs i n x old new whole less is wrote so_far =
     let rest = numbered f (n + 1) (drop (i + 1) xs) in
-    let one : suc i ≡ i + 1 = omega arith in
-    let next : drop i xs ≡ x ∷ drop (i + 1) xs =
-    drop-cons xs i x less ∙ ap (λ y. y ∷ drop (suc i) xs) (sym is) ∙ ap (λ (k : ℕ). x ∷ drop k xs) one in
     ap (λ t. t ++ lines_text rest) wrote ∙ append_assoc old (lines_text (f n x)) (lines_text rest)
     ∙ ap (λ t. old ++ t) (sym (lines_both (f n x) rest))
-    ∙ ap (λ l. old ++ lines_text (numbered f n l)) (sym next) ∙ so_far
+    ∙ ap (λ l. old ++ lines_text (numbered f n l)) (sym (rest_is xs i x less is)) ∙ so_far

@@ -14,7 +14,7 @@ use Rattle.sja_picture.proofs.Runs.{run_next, full_is}
 use Rattle.sja_replay.specs.declared.happening.Happening.{Happening}
 use Rattle.sja_report.specs.ReportLines.{numbered}
 use Rattle.sja_trace.specs.Telling.{at_hand}
-use Rattle.sja_trace.proofs.Texts.{three_texts}
+use Rattle.sja_report.proofs.Written.{three_texts}
 use Rattle.sja_trace.specs.TraceText.{driven_in}
 use Rattle.sja_trace.specs.declared.teller.Teller.{Teller}
 use Rattle.sja_svg.specs.declared.lane.Lane.{Lane}

@@ -13,7 +13,7 @@ use Rattle.sja_replay.specs.declared.happening.Happening.{Happening}
 use Rattle.sja_report.specs.ReportLines.{numbered}
 use Rattle.sja_trace.specs.declared.teller.Teller.{Teller}
 use Rattle.sja_trace.specs.Inside.Coming.{driven_now}
-use Rattle.sja_trace.proofs.Texts.{three_texts}
+use Rattle.sja_report.proofs.Written.{three_texts}
 use Rattle.sja_wire.specs.Wire.{wired}
 use Rattle.sja_svg.specs.declared.lane.Lane.{Lane}
 use Rattle.sja_svg.specs.declared.sheet.Sheet.{Sheet}

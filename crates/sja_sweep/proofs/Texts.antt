@@ -1,17 +1,9 @@
--- Texts that are written one after another.
+-- What was written of the elements of a list, and of one more.
 use Rattle.std.proofs.Common.{◌≡◌, ℕ, ◌+◌, ◌<◌, List, [], ◌∷◌, ◌++◌, length, map, take, get_or}
 use Rattle.std.proofs.Common.{sym, ap, ◌∙◌, append_assoc, arith}
 use Rattle.std.proofs.lemmas.List.{map-append, take_more}
 use Rattle.lemmas.specs.Gathering.{gathered, total}
 use Rattle.lemmas.proofs.Gathered.{gathered_push, total_push}
-
-pub two_texts : (old one two a b : List ℕ) → one ≡ old ++ a → two ≡ one ++ b → two ≡ old ++ (a ++ b)
-two_texts old one two a b e f = f ∙ ap (λ t. t ++ b) e ∙ append_assoc old a b
-
-pub four_texts : (old t1 t2 t3 t4 a b c d : List ℕ) → t1 ≡ old ++ a → t2 ≡ t1 ++ b → t3 ≡ t2 ++ c → t4 ≡ t3 ++ d →
-    t4 ≡ old ++ (((a ++ b) ++ c) ++ d)
-four_texts old t1 t2 t3 t4 a b c d p q r s =
-    two_texts old t3 t4 ((a ++ b) ++ c) d (two_texts old t2 t3 (a ++ b) c (two_texts old t1 t2 a b p q) r) s
 
 -- one element more of a list, as it's seen
 pub seen_more : {A B : Type 0} (g : A → B) (xs : List A) (i : ℕ) (x : A) → i < length xs → x ≡ get_or xs i x →

@@ -1,9 +1,6 @@
-pub mod Texts
 pub mod Sayings
 pub mod Lines
 pub mod StepOrders
-pub mod BusLevels
-pub mod Parts
 pub mod Telling
 pub mod NodeStories
 pub mod UpTo

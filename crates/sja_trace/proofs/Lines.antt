@@ -1,39 +1,18 @@
 -- Lines that are written one after another.
 use Rattle.std.proofs.Common.{◌≡◌, ℕ, ◌+◌, ◌<◌, ◌≤◌, Bool, List, [], ◌∷◌, ◌++◌, length}
 use Rattle.std.proofs.Common.{drop, get_or, refl, sym, ap, ap₂, ◌∙◌, append-nil, append_assoc}
-use Rattle.std.proofs.lemmas.List.{drop_more}
 use Rattle.std.proofs.Math.ListN.{drop_of_length-le}
 use Rattle.std.specs.Prelude.{Option, None}
 use Rattle.can_bits.specs.declared.level.Level.{Level}
 use Rattle.can_node.specs.declared.counters.Counters.{Counters}
 use Rattle.sja_replay.specs.declared.happening.Happening.{Happening}
 use Rattle.sja_replay.specs.declared.short_bit.ShortBit.{ShortBit}
-use Rattle.sja_report.specs.ReportLines.{numbered}
+use Rattle.sja_report.proofs.Written.{rest_is}
 use Rattle.sja_script.specs.declared.done.Done.{Done}
 use Rattle.sja_script.specs.declared.step.Step.{Step}
 use Rattle.sja_trace.specs.TraceText.{joined, bit_line, step_line, is_due, line_where, steps_due}
 use Rattle.sja_trace.specs.Inside.Hands.{hand_line}
 use Rattle.sja_trace.specs.Inside.Saying.{is_any, line_if}
-
--- the elements from a place on
-pub rest_is : {A : Type 0} (xs : List A) (i : ℕ) (x : A) → i < length xs → x ≡ get_or xs i x →
-    drop i xs ≡ x ∷ drop (i + 1) xs
-rest_is xs i x less is = drop_more xs i x less ∙ ap (λ y. y ∷ drop (i + 1) xs) (sym is)
-
--- what was written, and the texts of the rest: one element more
-pub numbered_next : {A : Type 0} (f : ℕ → A → List ℕ) (xs : List A) (i n : ℕ) (x : A) (old new whole : List ℕ) →
-    i < length xs → x ≡ get_or xs i x →
-    new ≡ old ++ f n x → old ++ numbered f n (drop i xs) ≡ whole → new ++ numbered f (n + 1) (drop (i + 1) xs) ≡ whole
-numbered_next f xs i n x old new whole less is wrote so_far =
-    let rest = numbered f (n + 1) (drop (i + 1) xs) in
-    ap (λ t. t ++ rest) wrote ∙ append_assoc old (f n x) rest
-    ∙ ap (λ l. old ++ numbered f n l) (sym (rest_is xs i x less is)) ∙ so_far
-
--- none left
-pub numbered_end : {A : Type 0} (f : ℕ → A → List ℕ) (xs : List A) (i n : ℕ) (text whole : List ℕ) → length xs ≤ i →
-    text ++ numbered f n (drop i xs) ≡ whole → text ≡ whole
-numbered_end f xs i n text whole past so_far =
-    sym (append-nil text) ∙ ap (λ l. text ++ numbered f n l) (sym (drop_of_length-le xs past)) ∙ so_far
 
 -- ---- steps
 

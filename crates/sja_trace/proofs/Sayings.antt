@@ -5,7 +5,7 @@ use Rattle.sja_trace.specs.Events.{said_if}
 use Rattle.sja_trace.specs.TraceText.{behind, joined}
 use Rattle.sja_trace.specs.declared.told.Told.{Told}
 use Rattle.sja_trace.specs.Inside.Saying.{separator, said_after, is_any, Tells}
-use Rattle.sja_trace.proofs.Texts.{two_texts}
+use Rattle.sja_report.proofs.Written.{two_texts}
 
 -- events behind others
 behind_both : (es fs : List (List ℕ)) → behind (es ++ fs) ≡ behind es ++ behind fs

@@ -21,7 +21,7 @@ use std::alloc::{AllocError, Global};
 use std::fmt::Write;
 
 /// The lines of the steps before this bit, in which the bus had this level, and then its own.
-#[tactic(auto, using(crate::proofs::Texts::two_texts))]
+#[tactic(auto, using(sja_report::proofs::Written::two_texts))]
 pub(crate) fn put_node(
     alloc: Global,
     text: &mut String,

@@ -1,8 +1,5 @@
-pub mod Texts
 pub mod PastBits
 pub mod NextSignals
-pub mod BusLevels
-pub mod Parts
 pub mod ViewsIn
 pub mod Reading
 pub mod Going

@@ -28,7 +28,7 @@ use Rattle.sja_wave.specs.Inside.Changes.{node_changes, driven_before, driven_no
 use Rattle.sja_wave.specs.Inside.Changes.{all_changes}
 use Rattle.sja_wave.specs.Inside.Cursors.{cursor_at}
 use Rattle.sja_wave.specs.Inside.Probes.{Shows}
-use Rattle.sja_wave.proofs.Texts.{two_texts}
+use Rattle.sja_report.proofs.Written.{two_texts}
 
 -- ---- the levels that all drive
 

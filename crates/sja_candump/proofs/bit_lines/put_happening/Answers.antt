@@ -1,4 +1,4 @@
-use Rattle.sja_trace.proofs.Texts.{three_texts}
+use Rattle.sja_report.proofs.Written.{three_texts}
 use Rattle.sja_candump.proofs.bit_lines.put_happening.Goals as goal
 
 pub returns : goal.returns

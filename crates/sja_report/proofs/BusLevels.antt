@@ -4,7 +4,7 @@ use Rattle.std.proofs.Math.ListN.{drop_of_length-le}
 use Rattle.can_bits.specs.declared.level.Level.{Level}
 use Rattle.can_bits.specs.declared.level.Level.TheVariants.{Dominant, Recessive}
 use Rattle.sja_wire.specs.Wire.{wired}
-use Rattle.sja_wave.proofs.Texts.{rest_is}
+use Rattle.sja_report.proofs.Written.{rest_is}
 
 -- the bus has what it had and one node more drives
 with_one : (bus level : Level) (rest : List Level) →
