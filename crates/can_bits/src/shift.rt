@@ -132,11 +132,7 @@ impl Shift {
     pub fn frame(&self) -> Option<Frame>
         ensures { (l : List Bus) → StandsFor self.now l → IsReadable l → ShowsFrame l result }
     {
-        if self.is_past(SIXTH_END_BIT + 1) {
-            self.gathered.frame()
-        } else {
-            None
-        }
+        self.frame_or_kept(None)
     }
 
     /// The same. Where there is room for a frame, the kept one is given if it is of just these levels, and one that is
