@@ -116,26 +116,7 @@ fn all_steps(alloc: Global, steps: &[Step]) -> Result<Vec<Step>, PlanFault>
 {
     let mut list = Vec::new(alloc);
     for step in steps {
-        list.push(equal_step(step))?;
+        list.push(step.copy())?;
     }
     Ok(list)
-}
-
-/// An equal step.
-fn equal_step(step: &Step) -> Step
-    ensures { result ≡ step.now }
-{
-    match step {
-        Step::Start => Step::Start,
-        Step::Stop => Step::Stop,
-        Step::Window => Step::Window,
-        Step::Release => Step::Release,
-        Step::Read(address) => Step::Read(*address),
-        Step::Write(address, value) => Step::Write(*address, *value),
-        Step::Load(message) => Step::Load(message.copy()),
-        Step::Command(value) => Step::Command(*value),
-        Step::Await(count) => Step::Await(*count),
-        Step::Sent => Step::Sent,
-        Step::Interrupt => Step::Interrupt,
-    }
 }

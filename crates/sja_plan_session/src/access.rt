@@ -10,7 +10,6 @@ ghost use Rattle.sja_session.specs.Stepping.{MayStep as MayTyped, Waits};
 ghost use Rattle.sja_session.specs.declared.answered.Answered.TheVariants.{Answer, Waits as HasToWait};
 ghost use Rattle.sja_plan_session.specs.Accessing.{Does, IsTyped};
 
-use super::copies::{copied_answer, copied_step};
 use super::more::{push_done, push_step};
 use super::plan_session::PlanSession;
 use sja_plan::Turn;
@@ -49,7 +48,7 @@ impl PlanSession {
         let bits = self.raw.session().now();
         match access(&mut self.raw, node, &step) {
             Answered::Answer(answer) => {
-                let told = copied_answer(&answer);
+                let told = answer.copy();
                 let place = usize::from(node);
                 push_step(&mut self.steps, place, step);
                 push_done(&mut self.done, place, Done { answer, bits });
@@ -138,7 +137,7 @@ fn typed(raw: &mut RawSession, node: u8, step: &Step) -> Answered
         Waits raw.old.session raw.new.session node step.now deeds }
     ensures kept { result ≡ HasToWait → raw.new.kept ≡ raw.old.kept }
 {
-    match raw.step(node, copied_step(step)) {
+    match raw.step(node, step.copy()) {
         Ok(answered) => answered,
         Err(_) => unreachable!(),
     }

@@ -1,6 +1,5 @@
 //! What the steps of a session of version 3 answered.
 
-use super::copies::copied_answer;
 use super::plan_session::PlanSession;
 use sja_script::{Done, StepAnswer};
 
@@ -20,7 +19,7 @@ impl PlanSession {
             return None;
         }
         match self.done_at(place).last() {
-            Some(last) => Some(copied_answer(&last.answer)),
+            Some(last) => Some(last.answer.copy()),
             None => None,
         }
     }

@@ -12,7 +12,6 @@
 mod access;
 mod answers;
 mod copied_node;
-mod copies;
 mod finish;
 pub mod log_with;
 mod may;

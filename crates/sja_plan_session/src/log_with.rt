@@ -4,7 +4,6 @@ ghost use Rattle.std.specs.Prelude.{◌≡◌, map, slice_index_or, IfOk};
 ghost use Rattle.sja_plan_session.specs.LogWith.{log_with};
 
 use super::copied_node::{copied_activations, copied_journal};
-use super::copies::copied_answer;
 use can_frame::OutOfMemory;
 use sja_log::{End, NodeRun, RunLog};
 use sja_script::Done;
@@ -59,7 +58,7 @@ fn copied_done(alloc: Global, done: &[Done]) -> Result<Vec<Done>, OutOfMemory>
 {
     let mut list = Vec::with_capacity(alloc, done.len())?;
     for one in done {
-        let answer = copied_answer(&one.answer);
+        let answer = one.answer.copy();
         list.push_reserved(Done {
             answer,
             bits: one.bits,

@@ -2,11 +2,11 @@
 
 ghost use Rattle.std.specs.Prelude.{◌≡◌, IfOk};
 
-use super::copies::copied_step;
 use super::plan_session::PlanSession;
 use can_frame::OutOfMemory;
-use sja_plan::{Plan, Turn};
-use sja_script::{Step, Strike};
+use sja_plan::Plan;
+use sja_script::Step;
+use sja_session::{copied_strikes, copied_turns};
 use std::alloc::Global;
 
 impl PlanSession {
@@ -59,33 +59,7 @@ fn copied_steps(alloc: Global, steps: &[Step]) -> Result<Vec<Step>, OutOfMemory>
 {
     let mut list = Vec::with_capacity(alloc, steps.len())?;
     for step in steps {
-        list.push_reserved(copied_step(step));
-    }
-    Ok(list)
-}
-
-/// The same turns.
-///
-/// Error: [`OutOfMemory`] where memory was refused.
-fn copied_turns(alloc: Global, turns: &[Turn]) -> Result<Vec<Turn>, OutOfMemory>
-    ensures { IfOk result (λ list. list.items ≡ turns.now) }
-{
-    let mut list = Vec::with_capacity(alloc, turns.len())?;
-    for turn in turns {
-        list.push_reserved(*turn);
-    }
-    Ok(list)
-}
-
-/// The same strikes.
-///
-/// Error: [`OutOfMemory`] where memory was refused.
-fn copied_strikes(alloc: Global, strikes: &[Strike]) -> Result<Vec<Strike>, OutOfMemory>
-    ensures { IfOk result (λ list. list.items ≡ strikes.now) }
-{
-    let mut list = Vec::with_capacity(alloc, strikes.len())?;
-    for strike in strikes {
-        list.push_reserved(*strike);
+        list.push_reserved(step.copy());
     }
     Ok(list)
 }

@@ -4,7 +4,6 @@ ghost use Rattle.std.specs.Prelude.{◌≡◌, ◌≤◌, ℕ, All, length, IfOk
 ghost use Rattle.sja_log.specs.Headline.{AreAccounts};
 ghost use Rattle.sja_plan_session.specs.RawRuns.{IsRawRun, IsRawRunFault};
 
-use super::copies::copied_step;
 use super::plan_session::PlanSession;
 use super::raw_run_fault::RawRunFault;
 use sja_log::{End, RunLog};
@@ -121,7 +120,7 @@ impl PlanSession {
             if next >= steps.len() {
                 return;
             }
-            match self.step(node, copied_step(&steps[next])) {
+            match self.step(node, steps[next].copy()) {
                 Ok(Answered::Answer(_)) => {}
                 Ok(Answered::Waits) => return,
                 Err(_) => unreachable!(),

@@ -28,3 +28,26 @@ pub enum Step {
     /// Waits until the interrupt line of the controller is active (SJA1000 data sheet, 6.4.6).
     Interrupt,
 }
+
+impl Step {
+    ghost use Rattle.std.specs.Prelude.{◌≡◌};
+
+    /// An equal step.
+    pub fn copy(&self) -> Step
+        ensures { result ≡ self.now }
+    {
+        match self {
+            Step::Start => Step::Start,
+            Step::Stop => Step::Stop,
+            Step::Window => Step::Window,
+            Step::Release => Step::Release,
+            Step::Read(address) => Step::Read(*address),
+            Step::Write(address, value) => Step::Write(*address, *value),
+            Step::Load(message) => Step::Load(message.copy()),
+            Step::Command(value) => Step::Command(*value),
+            Step::Await(count) => Step::Await(*count),
+            Step::Sent => Step::Sent,
+            Step::Interrupt => Step::Interrupt,
+        }
+    }
+}

@@ -19,3 +19,22 @@ pub enum StepAnswer {
     /// It was refused.
     Refused(Refusal),
 }
+
+impl StepAnswer {
+    ghost use Rattle.std.specs.Prelude.{◌≡◌};
+
+    /// An equal answer.
+    #[inline(always)]
+    pub fn copy(&self) -> StepAnswer
+        ensures { result ≡ self.now }
+    {
+        match self {
+            StepAnswer::Done => StepAnswer::Done,
+            StepAnswer::NoMessage => StepAnswer::NoMessage,
+            StepAnswer::Shown(message) => StepAnswer::Shown(message.copy()),
+            StepAnswer::Released(bytes) => StepAnswer::Released(*bytes),
+            StepAnswer::Value(value) => StepAnswer::Value(*value),
+            StepAnswer::Refused(refusal) => StepAnswer::Refused(*refusal),
+        }
+    }
+}

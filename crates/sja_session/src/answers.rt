@@ -38,22 +38,7 @@ pub(crate) fn last_answer(run: &SerialRun, node: usize) -> Option<StepAnswer>
         result ≡ last_of (λ (x : Done). x.answer) (done_in (log_of (slice_index_or run.now.drivers node d))) }
 {
     match run.driver(node).log().done().last() {
-        Some(last) => Some(copied_answer(&last.answer)),
+        Some(last) => Some(last.answer.copy()),
         None => None,
-    }
-}
-
-/// An equal answer.
-#[inline(always)]
-fn copied_answer(answer: &StepAnswer) -> StepAnswer
-    ensures { result ≡ answer.now }
-{
-    match answer {
-        StepAnswer::Done => StepAnswer::Done,
-        StepAnswer::NoMessage => StepAnswer::NoMessage,
-        StepAnswer::Shown(message) => StepAnswer::Shown(message.copy()),
-        StepAnswer::Released(bytes) => StepAnswer::Released(*bytes),
-        StepAnswer::Value(value) => StepAnswer::Value(*value),
-        StepAnswer::Refused(refusal) => StepAnswer::Refused(*refusal),
     }
 }

@@ -41,6 +41,7 @@ mod watching;
 
 pub use answered::Answered;
 pub use beginning::LAST_VERSION;
+pub use plan_so_far::{copied_strikes, copied_turns};
 pub use raw_session::RawSession;
 pub use rested::Rested;
 pub use session::Session;

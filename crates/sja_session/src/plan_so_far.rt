@@ -52,34 +52,15 @@ fn first_steps(alloc: Global, steps: &[Step], count: usize) -> Result<Vec<Step>,
     let most = count.min(steps.len());
     let mut list = Vec::with_capacity(alloc, most)?;
     for step in &steps[..most] {
-        list.push_reserved(copied_step(step));
+        list.push_reserved(step.copy());
     }
     Ok(list)
-}
-
-/// An equal step.
-fn copied_step(step: &Step) -> Step
-    ensures { result ≡ step.now }
-{
-    match step {
-        Step::Start => Step::Start,
-        Step::Stop => Step::Stop,
-        Step::Window => Step::Window,
-        Step::Release => Step::Release,
-        Step::Read(address) => Step::Read(*address),
-        Step::Write(address, value) => Step::Write(*address, *value),
-        Step::Load(message) => Step::Load(message.copy()),
-        Step::Command(value) => Step::Command(*value),
-        Step::Await(count) => Step::Await(*count),
-        Step::Sent => Step::Sent,
-        Step::Interrupt => Step::Interrupt,
-    }
 }
 
 /// The same turns.
 ///
 /// Error: [`OutOfMemory`] where memory was refused.
-fn copied_turns(alloc: Global, turns: &[Turn]) -> Result<Vec<Turn>, OutOfMemory>
+pub fn copied_turns(alloc: Global, turns: &[Turn]) -> Result<Vec<Turn>, OutOfMemory>
     ensures { IfOk result (λ list. list.items ≡ turns.now) }
 {
     let mut list = Vec::with_capacity(alloc, turns.len())?;
@@ -92,7 +73,7 @@ fn copied_turns(alloc: Global, turns: &[Turn]) -> Result<Vec<Turn>, OutOfMemory>
 /// The same strikes.
 ///
 /// Error: [`OutOfMemory`] where memory was refused.
-pub(crate) fn copied_strikes(alloc: Global, strikes: &[Strike]) -> Result<Vec<Strike>, OutOfMemory>
+pub fn copied_strikes(alloc: Global, strikes: &[Strike]) -> Result<Vec<Strike>, OutOfMemory>
     ensures { IfOk result (λ list. list.items ≡ strikes.now) }
 {
     let mut list = Vec::with_capacity(alloc, strikes.len())?;

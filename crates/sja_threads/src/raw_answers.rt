@@ -13,7 +13,7 @@ pub(crate) fn told(kept: &KeptBytes, step: &Step, typed: &StepAnswer) -> StepAns
 {
     match step {
         Step::Read(address) => StepAnswer::Value(kept.read_by(*address, typed)),
-        _ => copied(typed),
+        _ => typed.copy(),
     }
 }
 
@@ -23,18 +23,4 @@ pub(crate) fn last_answer(done: &[Done]) -> &StepAnswer
     ensures { (before : List DoneStep) → (d : DoneStep) → done.now ≡ before ++ d ∷ [] → result.now ≡ d.answer }
 {
     &done[done.len() - 1].answer
-}
-
-/// An equal answer.
-fn copied(answer: &StepAnswer) -> StepAnswer
-    ensures { result ≡ answer.now }
-{
-    match answer {
-        StepAnswer::Done => StepAnswer::Done,
-        StepAnswer::NoMessage => StepAnswer::NoMessage,
-        StepAnswer::Shown(message) => StepAnswer::Shown(message.copy()),
-        StepAnswer::Released(bytes) => StepAnswer::Released(*bytes),
-        StepAnswer::Value(value) => StepAnswer::Value(*value),
-        StepAnswer::Refused(refusal) => StepAnswer::Refused(*refusal),
-    }
 }

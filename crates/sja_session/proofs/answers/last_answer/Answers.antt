@@ -14,7 +14,7 @@ returns-in-Some c = λ d.
     let log : c.done.result.now ≡ done_in (log_of (slice_index_or drivers c.args.node d)) =
     c.done.ensures ∙ ap done_in c.log.ensures ∙ ap (λ x. done_in (log_of x))
     (c.driver.ensures ∙ get_or_default drivers c.args.node c.driver.result.now d c.requires) in
-    ap (λ a. Some a) c.copied_answer.ensures
+    ap (λ a. Some a) c.copy.ensures
     ∙ sym (last_got (λ (x : Done). x.answer) c.done.result.now (length c.done.result.now - 1) c.in-Some.last.now refl
     (sym c.in-Some.ensures.value))
     ∙ ap (λ l. last_of (λ (x : Done). x.answer) l) log

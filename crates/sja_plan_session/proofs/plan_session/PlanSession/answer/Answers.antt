@@ -8,7 +8,7 @@ use Rattle.sja_plan_session.proofs.plan_session.PlanSession.answer.Goals as goal
 
 pub returns-in-Some : goal.returns-in-Some
 returns-in-Some c =
-    ap (λ a. Some a) c.copied_answer.ensures
+    ap (λ a. Some a) c.copy.ensures
     ∙ sym (last_got (λ (x : Done). x.answer) c.done_at.result.now (length c.done_at.result.now - 1) c.in-Some.last.now
     refl (sym c.in-Some.ensures.value))
     ∙ ap (λ l. last_of (λ (x : Done). x.answer) l)

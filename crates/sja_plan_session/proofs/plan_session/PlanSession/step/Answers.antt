@@ -41,7 +41,7 @@ returns-in-Answer-clause-done c = λ answer e deeds at.
     let now : PlanSessionValue = session_of was c.access.new.raw
     (map (λ (l : Vec Step Global). l.items) c.push_step.new.lists.items)
     (map (λ (l : Vec Done Global). l.items) c.push_done.new.lists.items) c.push_turn.new.turns.items in
-    let same = answer_told e c.copied_answer-told.ensures in
+    let same = answer_told e c.copy-told.ensures in
     let did = did_step was c.access.new.raw _ _ _ c.args.node c.from-place.result c.now-bits.result c.args.step
     c.in-Answer.answer deeds (search rules) (search rules) c.push_step.ensures.lists c.push_done.ensures.lists
     c.push_turn.ensures.turns h in (

@@ -16,21 +16,21 @@ pub returns-in-Ok-Waits-clause-does : goal.returns-in-Ok-Waits-clause-does
 returns-in-Ok-Waits-clause-does c =
     let plan = c.args.plan.now in let more = c.loop-test.true in
     ends_waits plan c.args.node c.args.count c.loop.counter c.args.self.now c.loop.self c.step.new.self
-    c.copied_step.result (omega (arith, more))
+    c.copy.result (omega (arith, more))
     (is_next plan c.args.node c.from-place.result c.count-next.result c.loop.self c.steps-steps.result.now
-    c.index-steps-next.result c.copied_step.result c.from-place.ensures c.steps-steps.ensures.value
-    c.count-next.ensures.done c.if-next-steps.false c.index-steps-next.is c.copied_step.ensures) c.loop.invariant
+    c.index-steps-next.result c.copy.result c.from-place.ensures c.steps-steps.ensures.value
+    c.count-next.ensures.done c.if-next-steps.false c.index-steps-next.is c.copy.ensures) c.loop.invariant
     (c.step.ensures.waits (c.in-Ok-Waits.is ∙ ap Ok c.in-Ok-Waits.field-0-is))
 
 -- the next one is done
 pub loop-preserved : goal.loop-preserved
 loop-preserved c =
     let plan = c.args.plan.now in let h = c.stands.ensures in
-    stepped_one plan c.args.node c.loop.counter c.args.self.now c.loop.self c.step.new.self c.copied_step.result
+    stepped_one plan c.args.node c.loop.counter c.args.self.now c.loop.self c.step.new.self c.copy.result
     c.in-Ok-Answer.field-0-0 h.0 h.1 c.requires.there c.loop.invariant
     (is_next plan c.args.node c.from-place.result c.count-next.result c.loop.self c.steps-steps.result.now
-    c.index-steps-next.result c.copied_step.result c.from-place.ensures c.steps-steps.ensures.value
-    c.count-next.ensures.done c.if-next-steps.false c.index-steps-next.is c.copied_step.ensures)
+    c.index-steps-next.result c.copy.result c.from-place.ensures c.steps-steps.ensures.value
+    c.count-next.ensures.done c.if-next-steps.false c.index-steps-next.is c.copy.ensures)
     (c.step.ensures.done c.in-Ok-Answer.field-0-0 (c.in-Ok-Answer.is ∙ ap Ok c.in-Ok-Answer.field-0-is))
 
 -- all are done
