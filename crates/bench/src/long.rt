@@ -5,7 +5,7 @@ use std::alloc::{AllocError, Global};
 /// So many items, by turns of these, with a comma behind each.
 pub fn list(alloc: Global, items: &[&str], count: u32) -> Result<String, AllocError> {
     let mut text = String::new(alloc);
-    for (item, _) in items.iter().cycle().zip(0..count) {
+    for item in items.iter().cycle().take(count as usize) {
         text.push_str(item)?;
         text.push_str(",")?;
     }

@@ -25,9 +25,21 @@ const WAITING: u32 = 11;
 /// How many frames pass in one session.
 const FRAMES: u32 = 1_300;
 
-/// The transmit buffer of an extended data frame with eight data bytes, from address 16 on.
-const FRAME: [u8; 13] = [
-    0x88, 0x91, 0xa2, 0xb3, 0xc0, 0x11, 0x22, 0x33, 0x44, 0x55, 0x66, 0x77, 0x88,
+/// The transmit buffer of an extended data frame with eight data bytes: addresses, and what is written there.
+const FRAME: [(u8, u8); 13] = [
+    (16, 0x88),
+    (17, 0x91),
+    (18, 0xa2),
+    (19, 0xb3),
+    (20, 0xc0),
+    (21, 0x11),
+    (22, 0x22),
+    (23, 0x33),
+    (24, 0x44),
+    (25, 0x55),
+    (26, 0x66),
+    (27, 0x77),
+    (28, 0x88),
 ];
 
 /// Has SR of the second of two nodes read so many times.
@@ -42,10 +54,15 @@ pub fn reads_told(alloc: Global, count: u32) -> Option<String> {
 
 /// The sum of what so many reads of SR answer.
 fn sum_of_reads(alloc: Global, count: u32) -> Option<u64> {
-    let mut session = RawSession::new(alloc, 3, 100, 2).ok()?;
+    let mut session = session_of(alloc, 100)?;
+    sum_in(&mut session, count)
+}
+
+/// The same, in this session.
+fn sum_in(session: &mut RawSession, count: u32) -> Option<u64> {
     let mut sum = 0u64;
     for _ in 0..count {
-        sum = sum.wrapping_add(u64::from(session.read(1, 2).ok()?));
+        sum = sum.wrapping_add(u64::from(read(session, 1, 2)?));
     }
     Some(sum)
 }
@@ -63,11 +80,16 @@ pub fn writes_told(alloc: Global, count: u32) -> Option<String> {
 
 /// How many of so many writes were done, out of reset mode.
 fn writes_of(alloc: Global, count: u32) -> Option<u64> {
-    let mut session = RawSession::new(alloc, 3, 100, 2).ok()?;
-    session.write(1, 0, 0x00).ok()?;
+    let mut session = session_of(alloc, 100)?;
+    writes_in(&mut session, count)
+}
+
+/// The same, in this session.
+fn writes_in(session: &mut RawSession, count: u32) -> Option<u64> {
+    write(session, 1, 0, 0x00)?;
     let mut done = 0u64;
     for access in 0..count {
-        if write_next(&mut session, access % 16).is_some() {
+        if write_next(session, access % 16).is_some() {
             done = done.wrapping_add(1);
         }
     }
@@ -77,13 +99,13 @@ fn writes_of(alloc: Global, count: u32) -> Option<u64> {
 /// Does one of these 16 writes.
 fn write_next(session: &mut RawSession, access: u32) -> Option<()> {
     match access {
-        0 => session.write(1, 0, 0x00).ok(),
-        1 => session.write(1, 4, 0xff).ok(),
-        2 => session.write(1, 1, 0x08).ok(),
+        0 => write(session, 1, 0, 0x00),
+        1 => write(session, 1, 4, 0xff),
+        2 => write(session, 1, 1, 0x08),
         _ => {
             let place = access.checked_sub(3)?;
-            let value = FRAME.get(place as usize)?;
-            session.write(1, 16 + place as u8, *value).ok()
+            let (address, value) = *FRAME.get(place as usize)?;
+            write(session, 1, address, value)
         }
     }
 }
@@ -100,11 +122,16 @@ pub fn commands_told(alloc: Global, count: u32) -> Option<String> {
 
 /// How many of so many commands were done, out of reset mode.
 fn commands_of(alloc: Global, count: u32) -> Option<u64> {
-    let mut session = RawSession::new(alloc, 3, COMMANDS, 2).ok()?;
-    session.write(1, 0, 0x00).ok()?;
+    let mut session = session_of(alloc, COMMANDS)?;
+    commands_in(&mut session, count)
+}
+
+/// The same, in this session.
+fn commands_in(session: &mut RawSession, count: u32) -> Option<u64> {
+    write(session, 1, 0, 0x00)?;
     let mut done = 0u64;
     for access in 0..count {
-        if command_next(&mut session, access % 8).is_some() {
+        if command_next(session, access % 8).is_some() {
             done = done.wrapping_add(1);
         }
     }
@@ -114,9 +141,9 @@ fn commands_of(alloc: Global, count: u32) -> Option<u64> {
 /// Does one of these eight commands. The bit after AT is that in which the request is given up.
 fn command_next(session: &mut RawSession, access: u32) -> Option<()> {
     let value = *COMMANDED.get(access as usize)?;
-    session.write(1, 1, value).ok()?;
+    write(session, 1, 1, value)?;
     if value == 0x02 {
-        session.bits(1).ok()?;
+        run(session, 1)?;
     }
     Some(())
 }
@@ -136,26 +163,66 @@ pub fn frames_told(alloc: Global, count: u32) -> Option<String> {
 /// How many frames the second driver found and released in a session of so many frames.
 fn released_of(alloc: Global, frames: u32) -> Option<u64> {
     let bits = frames.checked_mul(BITS)?.checked_add(WAITING)?;
-    let mut session = RawSession::new(alloc, 3, bits, 2).ok()?;
-    session.write(0, 0, 0x00).ok()?;
-    session.write(1, 0, 0x00).ok()?;
-    session.bits(WAITING).ok()?;
+    let mut session = session_of(alloc, bits)?;
+    released_in(&mut session, frames)
+}
+
+/// The same, in this session.
+fn released_in(session: &mut RawSession, frames: u32) -> Option<u64> {
+    write(session, 0, 0, 0x00)?;
+    write(session, 1, 0, 0x00)?;
+    run(session, WAITING)?;
     let mut released = 0u64;
     for _ in 0..frames {
-        ask(&mut session)?;
-        session.bits(BITS).ok()?;
-        if session.read(1, 2).ok()? & 0x01 != 0 {
-            session.write(1, 1, 0x04).ok()?;
+        if is_released(session)? {
             released = released.wrapping_add(1);
         }
     }
     Some(released)
 }
 
+/// Lets the bits of a frame pass, and says whether the second driver found it; then it released it.
+fn is_released(session: &mut RawSession) -> Option<bool> {
+    ask(session)?;
+    run(session, BITS)?;
+    if read(session, 1, 2)? & 0x01 == 0 {
+        return Some(false);
+    }
+    write(session, 1, 1, 0x04)?;
+    Some(true)
+}
+
 /// Has the first driver write the transmit buffer and request its transmission.
 fn ask(session: &mut RawSession) -> Option<()> {
-    for place in 0..FRAME.len() {
-        session.write(0, 16 + place as u8, FRAME[place]).ok()?;
+    for (address, value) in FRAME {
+        write(session, 0, address, value)?;
     }
-    session.write(0, 1, 0x01).ok()
+    write(session, 0, 1, 0x01)
+}
+
+/// A session of version 3 with two nodes and so many bits. What a session promises stays out of the proofs of what is
+/// measured, here and in the three calls below.
+fn session_of(alloc: Global, bits: u32) -> Option<RawSession> {
+    RawSession::new(alloc, 3, bits, 2).ok()
+}
+
+/// What a read of an address of a node answers.
+#[inline(always)]
+fn read(session: &mut RawSession, node: u8, address: u8) -> Option<u8> {
+    session.read(node, address).ok()
+}
+
+/// A write of a byte to an address of a node.
+#[inline(always)]
+fn write(session: &mut RawSession, node: u8, address: u8, value: u8) -> Option<()> {
+    session.write(node, address, value).ok()
+}
+
+/// So many bits.
+#[inline(always)]
+fn run(session: &mut RawSession, count: u32) -> Option<()> {
+    match session.bits(count) {
+        Ok(_) => Some(()),
+        Err(_) => None,
+    }
 }
