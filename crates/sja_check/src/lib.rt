@@ -5,7 +5,7 @@
 //! steps, turns and strikes that didn't come. `specs/Lines.antt` says how long the words are at most.
 //!
 //! What is wrong with a plan is decided by `sja_plan`; here it is only put into words. The tests are rows that the
-//! program `test_check` reads.
+//! program `test_plan` reads.
 #![tactic(auto)]
 
 mod document;

@@ -13,7 +13,7 @@
 //! The texts of the other commands, and of each refusal, are those of `sja_texts`. What is left to threads, to be done
 //! file by file ([`Sources`]), or to a talk by `sja_live`, is [`Left`]; [`sja`] does that too.
 //!
-//! Its tests stand in `crates/test_program/src/program`.
+//! Its tests stand in `crates/test_program`.
 #![tactic(auto)]
 
 mod answer;

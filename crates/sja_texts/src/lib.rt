@@ -4,7 +4,7 @@
 //! texts of their arguments. A [`CommandRefusal`] says why a request has no answer, and shows as the text that the
 //! program writes of it.
 //!
-//! Their tests stand in `crates/test_program/src/program`.
+//! Their tests stand in `crates/test_program`.
 #![tactic(auto)]
 
 mod arbitrate;

@@ -3,7 +3,7 @@
 //! [`parse`] takes the words, the program's name first, and answers a [`Task`]. The crate `clap` does the parsing;
 //! none of its types is seen from above.
 //!
-//! Its tests stand with those of the program, in `crates/test_program/src/program`.
+//! Its tests stand with those of the program, in `crates/test_program`.
 #![tactic(auto)]
 
 mod command;

@@ -1,4 +1,4 @@
-//! Plans of version 3, row by row, run by the program: each line of the input is made a plan's document, and what the
+//! Plans, row by row, run by the program: each line of the input is made a plan's document, and what the
 //! program answers over it is printed below it.
 //!
 //! A line that begins with `== ` is the title of the rows below it, and one that begins with `$ ` the words of the

@@ -18,18 +18,6 @@ pub const ZEROS_SENT: &str = "00000100000100000100000100000100000100001111111111
 /// The same as it is received: level 41 is dominant.
 pub const ZEROS_RECEIVED: &str = "00000100000100000100000100000100000100001011111111";
 
-/// The received line without its last level.
-pub const ZEROS_CUT: &str = "0000010000010000010000010000010000010000101111111";
-
-/// The received line with a level too many.
-pub const ZEROS_LONG: &str = "000001000001000001000001000001000001000010111111111";
-
-/// The received line with a dominant CRC delimiter, level 40.
-pub const ZEROS_NO_DELIMITER: &str = "00000100000100000100000100000100000100000011111111";
-
-/// The received line with the last bit of its CRC sequence, level 39, recessive.
-pub const ZEROS_WRONG_CRC: &str = "00000100000100000100000100000100000100011011111111";
-
 /// The received line with the last bit of its EOF, level 49, dominant.
 pub const ZEROS_DOMINANT_END: &str = "00000100000100000100000100000100000100001011111110";
 
@@ -45,7 +33,3 @@ pub const TWO_BYTES_RECEIVED: &str =
 
 /// The message of the extended remote frame with identifier 1FFFFFFF (hexadecimal) and DLC 3.
 pub const REMOTE_ONES: [u8; 5] = [0xc3, 0xff, 0xff, 0xff, 0xfc];
-
-/// Its line as it is sent.
-pub const REMOTE_ONES_SENT: &str =
-    "01111101111101111101111101111101111101100001111001000111110111111111111";

@@ -1,50 +1,45 @@
-//! What reading a plan answers, as text.
+//! What a row answers.
 
-use sja_plan::{MOST_BYTES, Plan, PlanFault, read_plan};
+use super::asked::Asked;
+use super::kind::Kind;
+use super::reading::reading;
+use super::run_text::RunText;
+use super::said::said;
+use super::writing::writing;
+use sja_log::RunLog;
+use sja_plan::{Plan, PlanFault, read_plan};
+use sja_serial::run_serial;
 use std::alloc::{AllocError, Global};
-use std::{fmt, io};
+use std::io;
+use test_rows::{Given, marked};
 
-/// How many items of a list are written out. Of a longer one their number is.
-const MOST_ITEMS: usize = 4;
-
-/// What reading these bytes answers, behind their number where it is the greatest or more.
-///
-/// Errors: memory was refused, to the reader too.
-pub fn answer(alloc: Global, bytes: &[u8]) -> io::Result<String> {
-    let mut text = String::new(alloc);
-    if bytes.len() >= MOST_BYTES {
-        text.push_str(format!(in alloc; "{} bytes, ", bytes.len())?.as_str())?;
+/// What a row answers where this is made of it.
+pub(crate) fn answer(alloc: Global, kind: Kind, given: &Given, row: &str) -> io::Result<String> {
+    match kind {
+        Kind::Plan => reading(alloc, given.document(alloc, row)?.as_slice()),
+        Kind::PlanText => writing(alloc, given.document(alloc, row)?.as_slice()),
+        Kind::Check => said(alloc, given.document(alloc, row)?.as_slice()),
+        Kind::Run(text) => {
+            let (asked, rest) = Asked::by(given.bits(), row);
+            let bytes = given.document(alloc, rest)?;
+            Ok(of_run(alloc, text, bytes.as_slice(), asked)?)
+        }
     }
-    match read_plan(alloc, bytes) {
-        Ok(plan) => push_plan(alloc, &mut text, &plan)?,
-        Err(PlanFault::Memory) => return Err(AllocError.into()),
-        Err(fault) => text.push_str(format!(in alloc; "{fault:?}")?.as_str())?,
-    }
-    Ok(text)
 }
 
-/// Writes a plan: its version, its bits, of each node its steps, its turns and its strikes.
-fn push_plan(alloc: Global, text: &mut String, plan: &Plan) -> Result<(), AllocError> {
-    let (version, bits) = (plan.version(), plan.bits());
-    text.push_str(format!(in alloc; "version {version} bits {bits}")?.as_str())?;
-    for node in 0..plan.nodes() {
-        push_list(alloc, text, "steps", plan.steps(node))?;
-    }
-    push_list(alloc, text, "turns", plan.turns())?;
-    push_list(alloc, text, "strikes", plan.strikes())
-}
-
-/// Writes a list with its name.
-fn push_list<T: fmt::Debug>(
-    alloc: Global,
-    text: &mut String,
-    name: &str,
-    items: &[T],
-) -> Result<(), AllocError> {
-    let list = if items.len() > MOST_ITEMS {
-        format!(in alloc; " {name} {}", items.len())?
-    } else {
-        format!(in alloc; " {name} {items:?}")?
+/// A text of the run of the plan that these bytes are, each line behind `> `; one line `> no plan` where they are none.
+fn of_run(alloc: Global, text: RunText, bytes: &[u8], asked: Asked) -> Result<String, AllocError> {
+    let plan = match read_plan(alloc, bytes) {
+        Ok(plan) => plan,
+        Err(PlanFault::Memory) => return Err(AllocError),
+        Err(_) => return String::from_str(alloc, "\n> no plan"),
     };
-    text.push_str(list.as_str())
+    let log = run(alloc, &plan)?;
+    let lines = text.of(alloc, &plan, &log, asked)?;
+    marked(alloc, lines.as_str())
+}
+
+/// The log of a plan's run.
+fn run(alloc: Global, plan: &Plan) -> Result<RunLog, AllocError> {
+    run_serial(alloc, plan).or(Err(AllocError))
 }

@@ -1,30 +1,59 @@
-//! Plans row by row: each line of the input is made a document, and what reading it answers is printed behind it.
+//! Plans row by row: each line of the input is made a plan's document, and what is made of it is printed behind the row
+//! or below it.
 //!
-//! A line that begins with `== ` is the title of the rows below it, and one that begins with `-- ` their form.
-//! `test_rows` says what document a row is, and [`answer`] how the answer is written. The answers that are wanted stand
-//! in the file `stdout`, and are written by hand from the format of plans.
+//! A line that begins with `## ` names what is made of the rows below it, a [`Kind`]: what reading the document answers
+//! (`plan`) or writing the plan of it (`plan_text`), what is said of its mistake or of its run (`check`), or a text of
+//! its run (`trace`, `frames`, `picture`, `drawing`, `candump`). One that begins with `== ` is the title of the rows
+//! below it, one that begins with `-- ` their form, and one that begins with `++ ` says which bits of their runs are
+//! drawn; `test_rows` says what document a row is. A row of `candump` begins with `frames ` or, where error frames are
+//! asked for too, with `errors `.
+//!
+//! The answers that are wanted stand in the file `stdout`. They are written by hand from the format of plans, the
+//! layout of documents and what a user should read, and the texts of runs are worked by hand from the standard, the
+//! data sheet, the formats and the report of each plan.
 #![tactic(auto)]
 
 mod answer;
+mod asked;
+mod kind;
+mod reading;
+mod run_text;
+mod said;
+mod writing;
 
 use answer::answer;
+use kind::Kind;
 use std::alloc::Global;
+use std::cell::Cell;
 use std::io;
 use std::process::ExitCode;
 use test_rows::{Given, Rows, answer_rows};
 
-/// What reading plans answers.
-struct Plans;
+/// What is made of plans.
+#[derive(Drop)]
+struct Plans {
+    kind: Cell<Option<Kind>>,
+}
 
 impl Rows for Plans {
-    /// What reading the row's document answers.
+    /// What is made of the row's document. Nothing where the row names what is made of those below it, or where no row
+    /// above it did.
     fn answered(&self, alloc: Global, given: &Given, row: &str) -> io::Result<String> {
-        let bytes = given.document(alloc, row)?;
-        answer(alloc, bytes.as_slice())
+        if let Some(word) = row.strip_prefix("## ") {
+            self.kind.set(Kind::named(word));
+            return Ok(String::new(alloc));
+        }
+        match self.kind.get() {
+            Some(kind) => answer(alloc, kind, given, row),
+            None => Ok(String::new(alloc)),
+        }
     }
 }
 
 /// Answers the exit status: 0 for done, 1 where memory was refused or a read or a write failed.
 fn main(rt: HostRuntime) -> ExitCode {
-    answer_rows(&rt, " -> ", &Plans)
+    let plans = Plans {
+        kind: Cell::new(None),
+    };
+    answer_rows(&rt, "", &plans)
 }

@@ -1,35 +1,29 @@
 //! A session of version 3 from the first access to the report.
 
-use sja_plan_session::{PlanSession, run_raw};
-use sja_regs::address::{BUFFER, BUFFER_END, CMR, IER, IR, MOD, SR};
+use super::calls::{bits, ended, read, run_of, session_of, step, write};
+use sja_plan_session::PlanSession;
+use sja_regs::address::{BUFFER, CMR, IER, IR, MOD, SR};
 use sja_report::report;
 use sja_script::Step;
 use sja_session::Answered;
 use std::alloc::Global;
 use std::test::Fail;
 
-/// Writes each byte to its address.
-fn write_all(session: &mut PlanSession, node: u8, writes: &[(u8, u8)]) -> Result<(), Fail> {
-    for (address, value) in writes {
-        session.write(node, *address, *value)?;
-    }
-    Ok(())
-}
-
-/// What an address reads as.
-fn read(session: &mut PlanSession, node: u8, address: u8) -> Result<u8, Fail> {
-    Ok(session.read(node, address)?)
-}
-
 /// Node 0 sends the message 02 24 60 11 22 by addresses alone.
 fn send(session: &mut PlanSession) -> Result<(), Fail> {
-    write_all(session, 0, &[(MOD, 0x00)])?;
-    session.bits(11)?;
-    for (address, byte) in (BUFFER..=BUFFER_END).zip([0x02u8, 0x24, 0x60, 0x11, 0x22]) {
-        session.write(0, address, byte)?;
+    write(session, 0, MOD, 0x00)?;
+    bits(session, 11)?;
+    let message = [
+        (BUFFER, 0x02u8),
+        (17, 0x24),
+        (18, 0x60),
+        (19, 0x11),
+        (20, 0x22),
+    ];
+    for (address, byte) in message {
+        write(session, 0, address, byte)?;
     }
-    session.write(0, CMR, 0x01)?;
-    Ok(())
+    write(session, 0, CMR, 0x01)
 }
 
 /// Runs bits until the line of node 1 rises; whether it did.
@@ -38,24 +32,44 @@ fn line_rises(session: &mut PlanSession) -> Result<bool, Fail> {
     Ok(watched.rose == Some(1))
 }
 
-/// Whether node 0 has to wait until its buffer is released.
-fn waits(session: &mut PlanSession) -> Result<bool, Fail> {
-    Ok(session.step(0, Step::Sent)? == Answered::Waits)
+/// Runs bits until all are at rest.
+fn rest(session: &mut PlanSession) -> Result<(), Fail> {
+    session.rest()?;
+    Ok(())
 }
 
-/// Runs bits until all are at rest, and reads the status of node 0.
+/// Node 1 enables its receive interrupt, and node 0 sends.
+fn begun(alloc: Global) -> Result<PlanSession, Fail> {
+    let mut session = session_of(alloc, 1000, 2)?;
+    write(&mut session, 1, IER, 0x01)?;
+    write(&mut session, 1, MOD, 0x00)?;
+    send(&mut session)?;
+    Ok(session)
+}
+
+/// What node 1 reads of the message: IR, SR, and the second byte of the receive buffer.
+fn received(session: &mut PlanSession) -> Result<[u8; 3], Fail> {
+    let interrupt = read(session, 1, IR)?;
+    let status = read(session, 1, SR)?;
+    Ok([interrupt, status, read(session, 1, 17)?])
+}
+
+/// Node 1 releases the message; IR after it.
+fn released(session: &mut PlanSession) -> Result<u8, Fail> {
+    write(session, 1, CMR, 0x04)?;
+    read(session, 1, IR)
+}
+
+/// The status of node 0 once all are at rest.
 fn status_at_rest(session: &mut PlanSession) -> Result<u8, Fail> {
-    session.rest()?;
-    Ok(session.read(0, SR)?)
+    rest(session)?;
+    read(session, 0, SR)
 }
 
 /// The report of the session, and that of a run of the plan that it wrote.
 fn both_reports(alloc: Global, session: PlanSession) -> Result<(String, String), Fail> {
-    let (plan, log) = session.finish(alloc)?;
-    if plan.version() != 3 {
-        return Err(Fail::from("no plan of version 3"));
-    }
-    let again = run_raw(alloc, &plan)?;
+    let (plan, log) = ended(alloc, session)?;
+    let again = run_of(alloc, &plan)?;
     Ok((report(alloc, &log)?, report(alloc, &again)?))
 }
 
@@ -64,21 +78,21 @@ fn both_reports(alloc: Global, session: PlanSession) -> Result<(String, String),
 #[test]
 fn a_message_goes_by_accesses(rt: HostRuntime) -> Result<(), Fail> {
     let alloc = rt.alloc();
-    let mut session = PlanSession::new(alloc, 1000, 2)?;
-    write_all(&mut session, 1, &[(IER, 0x01), (MOD, 0x00)])?;
-    send(&mut session)?;
+    let mut session = begun(alloc)?;
     assert!(rt; line_rises(&mut session)?);
-    assert!(rt; read(&mut session, 1, IR)? == 0x01);
-    assert!(rt; read(&mut session, 1, SR)? == 0x1d);
-    assert!(rt; read(&mut session, 1, 17)? == 0x24);
-    write_all(&mut session, 1, &[(CMR, 0x04)])?;
-    assert!(rt; read(&mut session, 1, IR)? == 0x00);
-    assert!(rt; waits(&mut session)?);
+    assert!(rt; received(&mut session)? == [0x01, 0x1d, 0x24]);
+    assert!(rt; released(&mut session)? == 0x00);
+    assert!(rt; step(&mut session, 0, Step::Sent)? == Answered::Waits);
     assert!(rt; status_at_rest(&mut session)? == 0x0c);
     let (told, again) = both_reports(alloc, session)?;
-    assert!(rt; told.as_str() == REPORT);
-    assert!(rt; again.as_str() == REPORT);
+    assert!(rt; is_wanted(told.as_str()));
+    assert!(rt; is_wanted(again.as_str()));
     Ok(())
+}
+
+/// Whether this is what has to come out.
+fn is_wanted(report: &str) -> bool {
+    report == REPORT
 }
 
 /// What comes out.

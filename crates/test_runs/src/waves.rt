@@ -1,4 +1,3 @@
 //! Waves of logs that are written by hand.
 
 mod few_bits;
-mod numbers;

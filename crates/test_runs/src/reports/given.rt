@@ -1,11 +1,9 @@
-//! Parts of logs: messages, entries of journals, steps done, activations.
+//! Parts of logs: messages, entries of journals, activations.
 
 use can_bits::Level;
 use can_frame::Message;
-use can_node::Request;
 use sja_link::{Entry, Journal, Up};
 use sja_log::ActivationLog;
-use sja_script::{Done, StepAnswer};
 use std::alloc::Global;
 use std::test::Fail;
 use test_frames::nodes::PLAIN;
@@ -18,15 +16,6 @@ pub fn message(identifier: u8) -> Result<Message, Fail> {
 /// A start whose filter passes all.
 pub fn start() -> Entry {
     Entry::Up(Up::Start(PLAIN))
-}
-
-/// A request for the frame of a message.
-pub fn send(message: &Message) -> Entry {
-    Entry::Up(Up::Send(Request {
-        frame: message.frame(),
-        single_shot: false,
-        self_receive: false,
-    }))
 }
 
 /// So many recessive bits, and then this entry.
@@ -58,12 +47,6 @@ pub fn several(alloc: Global, message: &Message, count: usize) -> Result<Vec<Mes
         messages.push(message.copy())?;
     }
     Ok(messages)
-}
-
-/// A step that answered so, after so many bits.
-pub fn answered(done: &mut Vec<Done>, bits: u32, answer: StepAnswer) -> Result<(), Fail> {
-    done.push(Done { answer, bits })?;
-    Ok(())
 }
 
 /// An activation of which these messages were released and these left unread on the link.

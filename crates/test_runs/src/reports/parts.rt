@@ -1,4 +1,4 @@
-//! Nodes with several activations: what belongs to which, unread and overrun messages, and runs that ended otherwise.
+//! Nodes with several activations: what belongs to which, and messages unread and overrun; what a log gives back.
 
 use super::given::{activation, enter, message, one, quiet, several, start, two};
 use can_frame::Message;
@@ -8,16 +8,26 @@ use sja_report::report;
 use std::alloc::Global;
 use std::test::Fail;
 
-/// The report of a run of one node without steps.
+/// The log of a run of one node without steps.
+fn log_of(
+    alloc: Global,
+    end: End,
+    journal: Journal,
+    activations: Vec<ActivationLog>,
+) -> Result<RunLog, Fail> {
+    let node = NodeRun::of(journal, 127, 255, Vec::new(alloc), activations);
+    Ok(RunLog::of(2, 171, end, one(alloc, node)?))
+}
+
+/// The report of such a run.
 fn told(
     alloc: Global,
     end: End,
     journal: Journal,
     activations: Vec<ActivationLog>,
 ) -> Result<String, Fail> {
-    let node = NodeRun::of(journal, 127, 255, Vec::new(alloc), activations);
-    let nodes = one(alloc, node)?;
-    Ok(report(alloc, &RunLog::of(2, 171, end, nodes))?)
+    let log = log_of(alloc, end, journal, activations)?;
+    Ok(report(alloc, &log)?)
 }
 
 /// A message of 13 bytes, 0x88 to 0xf3.
@@ -25,44 +35,6 @@ fn long_message() -> Result<Message, Fail> {
     Ok(Message::from_bytes(&[
         0x88, 0xfe, 0xfd, 0xfc, 0xf8, 0xfa, 0xf9, 0xf8, 0xf7, 0xf6, 0xf5, 0xf4, 0xf3,
     ])?)
-}
-
-const STOPPED_WITH_UNREAD: &str = "sja version 2 bits 171 end rest
-node 0 tec 127 rec 255 steps 0
-activation 1 stored 3 overrun 0 free 58
-released 00 00 20
-unread 00 00 40
-unread 00 00 60
-activation 2 stored 0 overrun 0 free 64
-";
-
-/// Three messages are stored, one is released, and a second activation begins.
-fn stopped(alloc: Global) -> Result<Journal, Fail> {
-    let mut journal = Journal::new(alloc, 200, 1_000)?;
-    enter(&mut journal, 0, start());
-    enter(&mut journal, 60, Entry::Stored(message(1)?));
-    enter(&mut journal, 50, Entry::Stored(message(2)?));
-    enter(&mut journal, 50, Entry::Stored(message(3)?));
-    enter(&mut journal, 0, Entry::Up(Up::Credit(3)));
-    enter(&mut journal, 3, Entry::Up(Up::Stop));
-    enter(&mut journal, 0, start());
-    Ok(journal)
-}
-
-/// What was left unread stays in the activation that ended, and the next one begins with 64 free bytes.
-#[test]
-fn what_was_left_unread_stays_in_its_activation(rt: HostRuntime) -> Result<(), Fail> {
-    let alloc = rt.alloc();
-    let unread = two(alloc, message(2)?, message(3)?)?;
-    let first = activation(one(alloc, message(1)?)?, unread);
-    let text = told(
-        alloc,
-        End::Rest,
-        stopped(alloc)?,
-        two(alloc, first, quiet(alloc))?,
-    )?;
-    assert!(rt; text.as_str() == STOPPED_WITH_UNREAD);
-    Ok(())
 }
 
 const OVERRUN: &str = "sja version 2 bits 171 end bits
@@ -97,20 +69,34 @@ fn overrun(alloc: Global, long: &Message) -> Result<Journal, Fail> {
     Ok(journal)
 }
 
+/// The first activation left its message unread.
+fn first(alloc: Global, long: &Message) -> Result<ActivationLog, Fail> {
+    Ok(activation(Vec::new(alloc), several(alloc, long, 1)?))
+}
+
+/// The second released one and left four.
+fn second(alloc: Global, long: &Message) -> Result<ActivationLog, Fail> {
+    let released = several(alloc, long, 1)?;
+    Ok(activation(released, several(alloc, long, 4)?))
+}
+
+/// Both activations.
+fn both(alloc: Global, long: &Message) -> Result<Vec<ActivationLog>, Fail> {
+    let first = first(alloc, long)?;
+    two(alloc, first, second(alloc, long)?)
+}
+
+/// The report of both.
+fn overrun_told(alloc: Global) -> Result<String, Fail> {
+    let long = long_message()?;
+    let activations = both(alloc, &long)?;
+    told(alloc, End::Bits, overrun(alloc, &long)?, activations)
+}
+
 /// Overrun messages come last, and take no bytes.
 #[test]
 fn overrun_messages_are_told_after_the_unread_ones(rt: HostRuntime) -> Result<(), Fail> {
-    let alloc = rt.alloc();
-    let long = long_message()?;
-    let first = activation(Vec::new(alloc), several(alloc, &long, 1)?);
-    let released = several(alloc, &long, 1)?;
-    let second = activation(released, several(alloc, &long, 4)?);
-    let text = told(
-        alloc,
-        End::Bits,
-        overrun(alloc, &long)?,
-        two(alloc, first, second)?,
-    )?;
+    let text = overrun_told(rt.alloc())?;
     assert!(rt; text.as_str() == OVERRUN);
     Ok(())
 }
@@ -144,23 +130,34 @@ fn an_activation_gives_back_its_parts(rt: HostRuntime) -> Result<(), Fail> {
     Ok(())
 }
 
-/// So do a node and a run.
-#[test]
-fn a_log_gives_back_its_parts(rt: HostRuntime) -> Result<(), Fail> {
-    let alloc = rt.alloc();
+/// A node that started after three bits, and in whose activation nothing came.
+fn started(alloc: Global) -> Result<NodeRun, Fail> {
     let mut journal = Journal::new(alloc, 20, 1_000)?;
     enter(&mut journal, 3, start());
-    let node = NodeRun::of(journal, 1, 2, Vec::new(alloc), one(alloc, quiet(alloc))?);
-    assert!(rt;
-        node.txerr() == 1
-            && node.rxerr() == 2
-            && node.done().is_empty()
-            && node.activations().len() == 1
-    );
+    let activations = one(alloc, quiet(alloc))?;
+    Ok(NodeRun::of(journal, 1, 2, Vec::new(alloc), activations))
+}
+
+/// So does a node.
+#[test]
+fn a_node_gives_back_its_parts(rt: HostRuntime) -> Result<(), Fail> {
+    let node = started(rt.alloc())?;
+    assert!(rt; node.txerr() == 1);
+    assert!(rt; node.rxerr() == 2);
+    assert!(rt; node.done().is_empty());
+    assert!(rt; node.activations().len() == 1);
     assert!(rt; node.journal().between_bits().next() == Some(start()));
-    let run = RunLog::of(1, 3, End::Rest, one(alloc, node)?);
-    assert!(rt;
-        run.version() == 1 && run.bits() == 3 && run.end() == End::Rest && run.nodes().len() == 1
-    );
+    Ok(())
+}
+
+/// So does a run.
+#[test]
+fn a_log_gives_back_its_parts(rt: HostRuntime) -> Result<(), Fail> {
+    let nodes = one(rt.alloc(), started(rt.alloc())?)?;
+    let run = RunLog::of(1, 3, End::Rest, nodes);
+    assert!(rt; run.version() == 1);
+    assert!(rt; run.bits() == 3);
+    assert!(rt; run.end() == End::Rest);
+    assert!(rt; run.nodes().len() == 1);
     Ok(())
 }

@@ -3,9 +3,8 @@
 use super::gates::{HoldsOnce, Patience};
 use super::given::{are_answers, open_gates};
 use sja_log::{End, RunFault};
-use sja_plan::read_plan;
-use sja_raw_threads::{run_plan_threads, run_raw_threads};
-use sja_script::{Refusal, StepAnswer};
+use sja_plan::{Plan, read_plan};
+use sja_script::StepAnswer;
 use sja_threads::{EndedRun, Gate, run_accesses};
 use std::alloc::Global;
 use std::sync::Wait;
@@ -32,7 +31,7 @@ steps = [
 
 /// Bytes of registers that have no effect on the bus, and writes that do nothing: of a register that is only read, of
 /// CMR in reset mode, and of BTR0 out of it.
-const KEPT: &str = "version = 3
+pub const KEPT: &str = "version = 3
 bits = 100
 [[node]]
 steps = [
@@ -49,27 +48,25 @@ bits = 100
 steps = [\"write 0 02\", \"read 0\", \"write 0 04\", \"write 0 01\", \"read 0\", \"write 0 04\", \"read 0\"]
 ";
 
-/// What an address reads as after power-on, in reset mode (SJA1000 data sheet, 6.4.2).
-fn at_power_on(address: usize) -> u8 {
-    match address {
-        0 => 0x01,
-        2 => 0x3c,
-        13 => 0x60,
-        20..=23 => 0xff,
-        31 => 0x80,
-        _ => 0,
-    }
+/// The run of a plan in which drivers know addresses and bytes alone, or why there is none.
+fn run_of<G: Gate, R: Threads + Wait + Sync>(
+    rt: &R,
+    alloc: Global,
+    plan: &Plan,
+    gates: Vec<G>,
+) -> Result<EndedRun, RunFault> {
+    run_accesses(rt, alloc, plan, gates)
 }
 
 /// The run of a plan.
-fn run<G: Gate, R: Threads + Wait + Sync>(
+pub fn run<G: Gate, R: Threads + Wait + Sync>(
     rt: &R,
     alloc: Global,
     text: &str,
     gates: Vec<G>,
 ) -> Result<EndedRun, Fail> {
     let plan = read_plan(alloc, text.as_bytes())?;
-    match run_accesses(rt, alloc, &plan, gates) {
+    match run_of(rt, alloc, &plan, gates) {
         Ok(ended) => Ok(ended),
         Err(_) => Err("no run")?,
     }
@@ -96,7 +93,7 @@ fn answers(
 const DONE: StepAnswer = StepAnswer::Done;
 
 /// The answer of a read.
-fn value(byte: u8) -> StepAnswer {
+pub fn value(byte: u8) -> StepAnswer {
     StepAnswer::Value(byte)
 }
 
@@ -151,11 +148,9 @@ fn a_frame_is_sent_and_read_by_bytes(rt: HostRuntime) -> Result<(), Fail> {
     Ok(())
 }
 
-#[test]
-fn kept_registers_are_read_back(rt: HostRuntime) -> Result<(), Fail> {
-    let gates = open_gates(rt.alloc(), 1)?;
-    let ended = run(&rt, rt.alloc(), KEPT, gates)?;
-    let expected = [
+/// What the driver that reads its registers is answered.
+fn kept() -> [StepAnswer; 14] {
+    [
         DONE,
         DONE,
         DONE,
@@ -170,8 +165,14 @@ fn kept_registers_are_read_back(rt: HostRuntime) -> Result<(), Fail> {
         DONE,
         DONE,
         value(0x03),
-    ];
-    answers(&ended, 0, &expected, 13)?;
+    ]
+}
+
+#[test]
+fn kept_registers_are_read_back(rt: HostRuntime) -> Result<(), Fail> {
+    let gates = open_gates(rt.alloc(), 1)?;
+    let ended = run(&rt, rt.alloc(), KEPT, gates)?;
+    answers(&ended, 0, &kept(), 13)?;
     Ok(())
 }
 
@@ -183,28 +184,6 @@ fn a_write_of_the_mode_is_up_to_two_steps(rt: HostRuntime) -> Result<(), Fail> {
     let ended = run(&rt, rt.alloc(), MODES, gates)?;
     let expected = [DONE, value(2), DONE, DONE, value(3), DONE, value(4)];
     answers(&ended, 0, &expected, 9)?;
-    Ok(())
-}
-
-#[test]
-fn each_address_reads_as_something(rt: HostRuntime) -> Result<(), Fail> {
-    let mut text = String::from_str(rt.alloc(), "version = 3\nbits = 10\n[[node]]\nsteps = [")?;
-    for address in 0..256 {
-        text.push_str(format!(in rt.alloc(); "\"read {address}\",")?.as_str())?;
-    }
-    text.push_str("]\n")?;
-    let gates = open_gates(rt.alloc(), 1)?;
-    let ended = run(&rt, rt.alloc(), text.as_str(), gates)?;
-    let Some(done) = ended.accesses.get(0) else {
-        return Err("no node")?;
-    };
-    assert!(rt; done.len() == 256);
-    for address in 0..done.len() {
-        assert!(rt;
-            done[address].answer == value(at_power_on(address)),
-            "address {address}"
-        );
-    }
     Ok(())
 }
 
@@ -227,63 +206,17 @@ steps = []
     Ok(())
 }
 
+/// Whether a run of two nodes with so many gates is refused.
+fn is_refused<R: Threads + Wait + Sync>(rt: &R, alloc: Global, gates: usize) -> Result<bool, Fail> {
+    let plan = read_plan(alloc, PASSING.as_bytes())?;
+    let run = run_of(rt, alloc, &plan, open_gates(alloc, gates)?);
+    Ok(matches!(&run, Err(RunFault::GateCount)))
+}
+
 #[test]
 fn there_is_a_gate_for_each_node(rt: HostRuntime) -> Result<(), Fail> {
-    let plan = read_plan(rt.alloc(), PASSING.as_bytes())?;
-    for count in [0, 1, 3] {
-        let gates = open_gates(rt.alloc(), count)?;
-        let run = run_accesses(&rt, rt.alloc(), &plan, gates);
-        assert!(rt; matches!(&run, Err(RunFault::GateCount)), "{count} gates");
-    }
-    Ok(())
-}
-
-/// The log has one answer for each step of the plan, and all else is that of the typed steps, which are fewer here.
-#[test]
-fn the_log_has_the_steps_of_the_plan(rt: HostRuntime) -> Result<(), Fail> {
-    let plan = read_plan(rt.alloc(), KEPT.as_bytes())?;
-    let typed = run(&rt, rt.alloc(), KEPT, open_gates(rt.alloc(), 1)?)?;
-    let Ok(log) = run_raw_threads(&rt, rt.alloc(), &plan, open_gates(rt.alloc(), 1)?) else {
-        return Err("no run")?;
-    };
-    assert!(rt; log.end() == typed.log.end());
-    assert!(rt; log.bits() == typed.log.bits());
-    let Some(node) = log.nodes().get(0) else {
-        return Err("no node")?;
-    };
-    assert!(rt; node.done().len() == 14);
-    are_answers(
-        node.done().get(6..11).unwrap_or(&[]),
-        &[
-            value(0x03),
-            value(0x1c),
-            value(0x1a),
-            value(0xc8),
-            value(0x3c),
-        ],
-    )
-}
-
-/// A read of BTR0 is refused by the typed driver, and by a driver of addresses and bytes it isn't.
-#[test]
-fn the_version_says_which_drivers_there_are(rt: HostRuntime) -> Result<(), Fail> {
-    for version in 1..4 {
-        let text = format!(in rt.alloc();
-            "version = {version}\nbits = 10\n[[node]]\nsteps = [\"read 6\"]\n"
-        )?;
-        let plan = read_plan(rt.alloc(), text.as_bytes())?;
-        let Ok(log) = run_plan_threads(&rt, rt.alloc(), &plan, open_gates(rt.alloc(), 1)?) else {
-            return Err("no run")?;
-        };
-        let expected = if version == 3 {
-            value(0)
-        } else {
-            StepAnswer::Refused(Refusal::NoRegister)
-        };
-        let Some(node) = log.nodes().get(0) else {
-            return Err("no node")?;
-        };
-        are_answers(node.done(), &[expected])?;
-    }
+    assert!(rt; is_refused(&rt, rt.alloc(), 0)?);
+    assert!(rt; is_refused(&rt, rt.alloc(), 1)?);
+    assert!(rt; is_refused(&rt, rt.alloc(), 3)?);
     Ok(())
 }

@@ -3,8 +3,8 @@
 use super::gates::{Meeting, Open};
 use sja_driver::WorkLog;
 use sja_link::LinkId;
-use sja_log::RunLog;
-use sja_plan::read_plan;
+use sja_log::{End, RunFault, RunLog};
+use sja_plan::{Plan, read_plan};
 use sja_regs::Port;
 use sja_rings::{RingBus, RingDriver, ring_pair};
 use sja_script::{Done, Refusal, Step, StepAnswer};
@@ -75,17 +75,12 @@ pub fn are_answers(done: &[Done], expected: &[StepAnswer]) -> Result<(), Fail> {
     Ok(())
 }
 
-/// Fails where it wasn't just the wait of [`WAITS`] that was refused, since the port is closed.
-pub fn gave_up(worked: &Worked<RingDriver>) -> Result<(), Fail> {
-    answers(
-        worked,
-        &[
-            StepAnswer::Done,
-            StepAnswer::Refused(Refusal::Closed),
-            StepAnswer::Done,
-        ],
-    )
-}
+/// What is answered where just the wait of [`WAITS`] is refused, since the port is closed.
+pub const GAVE_UP: [StepAnswer; 3] = [
+    StepAnswer::Done,
+    StepAnswer::Refused(Refusal::Closed),
+    StepAnswer::Done,
+];
 
 /// So many gates that let every step go.
 pub fn open_gates(alloc: Global, nodes: usize) -> Result<Vec<Open>, Fail> {
@@ -96,6 +91,26 @@ pub fn open_gates(alloc: Global, nodes: usize) -> Result<Vec<Open>, Fail> {
     Ok(gates)
 }
 
+/// The marks of two gates: the step that each was asked for last.
+fn marks(alloc: Global) -> Result<(Arc<AtomicU64>, Arc<AtomicU64>), Fail> {
+    let one = Arc::new(alloc, AtomicU64::new(0))?;
+    Ok((one, Arc::new(alloc, AtomicU64::new(0))?))
+}
+
+/// A gate with this mark of its own, beside the other one.
+fn gate_of(
+    own: &Arc<AtomicU64>,
+    other: &Arc<AtomicU64>,
+    held: [(u32, u64); 3],
+) -> Result<Meeting, Fail> {
+    let own = Arc::try_clone(own)?;
+    Ok(Meeting {
+        own,
+        other: Arc::try_clone(other)?,
+        held,
+    })
+}
+
 /// The gates of two drivers: which steps of the first are held, and which of the second,
 /// each up to a step of the other.
 pub fn two_gates(
@@ -103,20 +118,21 @@ pub fn two_gates(
     first: [(u32, u64); 3],
     second: [(u32, u64); 3],
 ) -> Result<Vec<Meeting>, Fail> {
-    let one = Arc::new(alloc, AtomicU64::new(0))?;
-    let other = Arc::new(alloc, AtomicU64::new(0))?;
+    let (one, other) = marks(alloc)?;
     let mut gates = Vec::new(alloc);
-    gates.push(Meeting {
-        own: Arc::try_clone(&one)?,
-        other: Arc::try_clone(&other)?,
-        held: first,
-    })?;
-    gates.push(Meeting {
-        own: other,
-        other: one,
-        held: second,
-    })?;
+    gates.push(gate_of(&one, &other, first)?)?;
+    gates.push(gate_of(&other, &one, second)?)?;
     Ok(gates)
+}
+
+/// The log of a plan's run, or why there is none.
+pub fn run_of<G: Gate, R: Threads + Wait + Sync>(
+    rt: &R,
+    alloc: Global,
+    plan: &Plan,
+    gates: Vec<G>,
+) -> Result<RunLog, RunFault> {
+    run_threads(rt, alloc, plan, gates)
 }
 
 /// The log of a plan's run.
@@ -127,7 +143,7 @@ pub fn run<G: Gate, R: Threads + Wait + Sync>(
     gates: Vec<G>,
 ) -> Result<RunLog, Fail> {
     let plan = read_plan(alloc, text.as_bytes())?;
-    match run_threads(rt, alloc, &plan, gates) {
+    match run_of(rt, alloc, &plan, gates) {
         Ok(log) => Ok(log),
         Err(_) => Err("no run")?,
     }
@@ -146,4 +162,44 @@ pub fn counts(log: &RunLog, node: usize) -> Result<(usize, usize, usize), Fail> 
         activation.released().len(),
         activation.unread().len(),
     ))
+}
+
+/// Fails where these aren't the counts of each node.
+pub fn are_counts(log: &RunLog, expected: &[(usize, usize, usize)]) -> Result<(), Fail> {
+    for node in 0..expected.len() {
+        if counts(log, node)? != expected[node] {
+            return Err("other counts")?;
+        }
+    }
+    Ok(())
+}
+
+/// The log of a plan's run. It fails where the run doesn't end so, or a node has other counts.
+pub fn ended<G: Gate, R: Threads + Wait + Sync>(
+    rt: &R,
+    alloc: Global,
+    text: &str,
+    gates: Vec<G>,
+    end: End,
+    expected: &[(usize, usize, usize)],
+) -> Result<RunLog, Fail> {
+    let log = run(rt, alloc, text, gates)?;
+    if log.end() != end {
+        return Err("another end")?;
+    }
+    are_counts(&log, expected)?;
+    Ok(log)
+}
+
+/// How many bits such a run has.
+pub fn bits_of<G: Gate, R: Threads + Wait + Sync>(
+    rt: &R,
+    alloc: Global,
+    text: &str,
+    gates: Vec<G>,
+    end: End,
+    expected: &[(usize, usize, usize)],
+) -> Result<u32, Fail> {
+    let log = ended(rt, alloc, text, gates, end, expected)?;
+    Ok(log.bits())
 }

@@ -1,6 +1,6 @@
 //! Drivers that wait for each other.
 
-use super::given::{counts, run, two_gates};
+use super::given::{bits_of, ended, two_gates};
 use sja_log::{End, RunLog};
 use sja_report::report;
 use std::alloc::Global;
@@ -18,43 +18,60 @@ steps = [\"start\", \"load 002440\", \"command 01\", \"sent\", \"await 1\", \"re
 /// No step of a driver is held.
 const NONE: [(u32, u64); 3] = [(0, 0); 3];
 
-/// Adds a text so often.
-fn repeat(text: &mut String, part: &str, times: u32) -> Result<(), Fail> {
-    for _ in 0..times {
-        text.push_str(part)?;
-    }
-    Ok(())
-}
-
 /// Node 0 sends 22 messages of 3 bytes, of which 21 have room; node 1 waits for 21 and releases them.
-fn one_too_many(alloc: Global) -> Result<String, Fail> {
-    let mut text = String::new(alloc);
-    text.push_str("version = 1\nbits = 2000\n[[node]]\nsteps = ['start'")?;
-    repeat(&mut text, ", 'load 000000', 'command 01', 'sent'", 22)?;
-    text.push_str("]\n[[node]]\nsteps = ['start', 'await 21'")?;
-    repeat(&mut text, ", 'release'", 21)?;
-    text.push_str(", 'read 29']\n")?;
-    Ok(text)
-}
+const ONE_TOO_MANY: &str = "version = 1
+bits = 2000
+[[node]]
+steps = [
+    'start',
+    'load 000000', 'command 01', 'sent', 'load 000000', 'command 01', 'sent', 'load 000000', 'command 01', 'sent',
+    'load 000000', 'command 01', 'sent', 'load 000000', 'command 01', 'sent', 'load 000000', 'command 01', 'sent',
+    'load 000000', 'command 01', 'sent', 'load 000000', 'command 01', 'sent', 'load 000000', 'command 01', 'sent',
+    'load 000000', 'command 01', 'sent', 'load 000000', 'command 01', 'sent', 'load 000000', 'command 01', 'sent',
+    'load 000000', 'command 01', 'sent', 'load 000000', 'command 01', 'sent', 'load 000000', 'command 01', 'sent',
+    'load 000000', 'command 01', 'sent', 'load 000000', 'command 01', 'sent', 'load 000000', 'command 01', 'sent',
+    'load 000000', 'command 01', 'sent', 'load 000000', 'command 01', 'sent', 'load 000000', 'command 01', 'sent',
+    'load 000000', 'command 01', 'sent',
+]
+[[node]]
+steps = [
+    'start', 'await 21',
+    'release', 'release', 'release', 'release', 'release', 'release', 'release', 'release', 'release', 'release',
+    'release', 'release', 'release', 'release', 'release', 'release', 'release', 'release', 'release', 'release',
+    'release',
+    'read 29',
+]
+";
 
 /// Node 0 sends four times as many messages as have room: each time four of 13 bytes, and one of 12. Node 1 waits for
 /// five each time, and releases them.
-fn four_times_full(alloc: Global) -> Result<String, Fail> {
-    let mut text = String::new(alloc);
-    text.push_str("version = 1\nbits = 5000\n[[node]]\nsteps = ['start'")?;
-    for _ in 0..4 {
-        let long = ", 'load 88000000000000000000000000', 'command 01', 'sent'";
-        repeat(&mut text, long, 4)?;
-        text.push_str(", 'load 870000000000000000000000', 'command 01', 'sent'")?;
-    }
-    text.push_str("]\n[[node]]\nsteps = ['start'")?;
-    for _ in 0..4 {
-        text.push_str(", 'await 5'")?;
-        repeat(&mut text, ", 'release'", 5)?;
-    }
-    text.push_str("]\n")?;
-    Ok(text)
-}
+const FOUR_TIMES_FULL: &str = "version = 1
+bits = 5000
+[[node]]
+steps = [
+    'start',
+    'load 88000000000000000000000000', 'command 01', 'sent', 'load 88000000000000000000000000', 'command 01', 'sent',
+    'load 88000000000000000000000000', 'command 01', 'sent', 'load 88000000000000000000000000', 'command 01', 'sent',
+    'load 870000000000000000000000', 'command 01', 'sent',
+    'load 88000000000000000000000000', 'command 01', 'sent', 'load 88000000000000000000000000', 'command 01', 'sent',
+    'load 88000000000000000000000000', 'command 01', 'sent', 'load 88000000000000000000000000', 'command 01', 'sent',
+    'load 870000000000000000000000', 'command 01', 'sent',
+    'load 88000000000000000000000000', 'command 01', 'sent', 'load 88000000000000000000000000', 'command 01', 'sent',
+    'load 88000000000000000000000000', 'command 01', 'sent', 'load 88000000000000000000000000', 'command 01', 'sent',
+    'load 870000000000000000000000', 'command 01', 'sent',
+    'load 88000000000000000000000000', 'command 01', 'sent', 'load 88000000000000000000000000', 'command 01', 'sent',
+    'load 88000000000000000000000000', 'command 01', 'sent', 'load 88000000000000000000000000', 'command 01', 'sent',
+    'load 870000000000000000000000', 'command 01', 'sent',
+]
+[[node]]
+steps = [
+    'start',
+    'await 5', 'release', 'release', 'release', 'release', 'release',
+    'await 5', 'release', 'release', 'release', 'release', 'release',
+    'await 5', 'release', 'release', 'release', 'release', 'release',
+    'await 5', 'release', 'release', 'release', 'release', 'release',
+]
+";
 
 /// Whether the report of a run has this line.
 fn tells(alloc: Global, log: &RunLog, line: &str) -> Result<bool, Fail> {
@@ -70,13 +87,10 @@ fn tells(alloc: Global, log: &RunLog, line: &str) -> Result<bool, Fail> {
 /// Each driver's gate holds its first step until the other's was asked about its own. So both threads run at once.
 #[test]
 fn two_gates_meet(rt: HostRuntime) -> Result<(), Fail> {
-    let mut first = NONE;
-    first[0] = (1, 1);
-    let gates = two_gates(rt.alloc(), first, first)?;
-    let log = run(&rt, rt.alloc(), EXCHANGING, gates)?;
-    assert!(rt; log.end() == End::Rest);
-    assert!(rt; counts(&log, 0)? == (6, 1, 0));
-    assert!(rt; counts(&log, 1)? == (6, 1, 0));
+    let held = [(1, 1), (0, 0), (0, 0)];
+    let gates = two_gates(rt.alloc(), held, held)?;
+    let counts = [(6, 1, 0), (6, 1, 0)];
+    let _ = bits_of(&rt, rt.alloc(), EXCHANGING, gates, End::Rest, &counts)?;
     Ok(())
 }
 
@@ -85,15 +99,10 @@ fn two_gates_meet(rt: HostRuntime) -> Result<(), Fail> {
 /// A frame and its intermission take 53 bits.
 #[test]
 fn credits_come_back(rt: HostRuntime) -> Result<(), Fail> {
-    let plan = one_too_many(rt.alloc())?;
-    let mut first = NONE;
-    first[0] = (65, 24);
-    let gates = two_gates(rt.alloc(), first, NONE)?;
-    let log = run(&rt, rt.alloc(), plan.as_str(), gates)?;
-    assert!(rt; log.end() == End::Rest);
+    let gates = two_gates(rt.alloc(), [(65, 24), (0, 0), (0, 0)], NONE)?;
+    let counts = [(67, 0, 0), (24, 21, 1)];
+    let log = ended(&rt, rt.alloc(), ONE_TOO_MANY, gates, End::Rest, &counts)?;
     assert!(rt; log.bits() == 11 + 22 * 53);
-    assert!(rt; counts(&log, 0)? == (67, 0, 0));
-    assert!(rt; counts(&log, 1)? == (24, 21, 1));
     let line = "activation 1 stored 22 overrun 0 free 61";
     assert!(rt; tells(rt.alloc(), &log, line)?);
     Ok(())
@@ -103,13 +112,10 @@ fn credits_come_back(rt: HostRuntime) -> Result<(), Fail> {
 /// 147 levels, and the last one of each five has 137.
 #[test]
 fn a_full_buffer_is_emptied_again_and_again(rt: HostRuntime) -> Result<(), Fail> {
-    let plan = four_times_full(rt.alloc())?;
     let gates = two_gates(rt.alloc(), [(17, 8), (32, 14), (47, 20)], NONE)?;
-    let log = run(&rt, rt.alloc(), plan.as_str(), gates)?;
-    assert!(rt; log.end() == End::Rest);
+    let counts = [(61, 0, 0), (25, 20, 0)];
+    let log = ended(&rt, rt.alloc(), FOUR_TIMES_FULL, gates, End::Rest, &counts)?;
     assert!(rt; log.bits() == 11 + 4 * (4 * 150 + 140));
-    assert!(rt; counts(&log, 0)? == (61, 0, 0));
-    assert!(rt; counts(&log, 1)? == (25, 20, 0));
     let line = "activation 1 stored 20 overrun 0 free 64";
     assert!(rt; tells(rt.alloc(), &log, line)?);
     Ok(())

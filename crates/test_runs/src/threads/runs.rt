@@ -1,11 +1,13 @@
 //! Whole runs in threads.
 
 use super::gates::Patience;
-use super::given::{counts, open_gates, run};
+use super::given::{bits_of, ended, open_gates, run_of};
 use sja_log::{End, RunFault};
 use sja_plan::read_plan;
-use sja_threads::run_threads;
+use std::alloc::Global;
+use std::sync::Wait;
 use std::test::Fail;
+use std::thread::Threads;
 
 /// Node 0 sends a frame of two bytes, and node 1 awaits and releases it.
 const PASSING: &str = "version = 1
@@ -50,13 +52,19 @@ steps = []
 steps = [\"start\"]
 ";
 
+/// Two gates that quit at the 1000th try of a step.
+fn patient_gates(alloc: Global) -> Result<Vec<Patience>, Fail> {
+    let mut gates = Vec::new(alloc);
+    gates.push(Patience { tries: 1_000 })?;
+    gates.push(Patience { tries: 1_000 })?;
+    Ok(gates)
+}
+
 #[test]
 fn a_frame_is_released_in_the_other_thread(rt: HostRuntime) -> Result<(), Fail> {
     let gates = open_gates(rt.alloc(), 2)?;
-    let log = run(&rt, rt.alloc(), PASSING, gates)?;
-    assert!(rt; log.end() == End::Rest);
-    assert!(rt; counts(&log, 0)? == (5, 0, 0));
-    assert!(rt; counts(&log, 1)? == (5, 1, 0));
+    let counts = [(5, 0, 0), (5, 1, 0)];
+    let _ = bits_of(&rt, rt.alloc(), PASSING, gates, End::Rest, &counts)?;
     Ok(())
 }
 
@@ -64,10 +72,8 @@ fn a_frame_is_released_in_the_other_thread(rt: HostRuntime) -> Result<(), Fail> 
 #[test]
 fn a_lone_sender_spends_its_bits(rt: HostRuntime) -> Result<(), Fail> {
     let gates = open_gates(rt.alloc(), 1)?;
-    let log = run(&rt, rt.alloc(), ALONE, gates)?;
-    assert!(rt; log.end() == End::Bits);
+    let log = ended(&rt, rt.alloc(), ALONE, gates, End::Bits, &[(5, 0, 0)])?;
     assert!(rt; log.bits() == 1000);
-    assert!(rt; counts(&log, 0)? == (5, 0, 0));
     for node in log.nodes() {
         assert!(rt; (node.txerr(), node.rxerr()) == (128, 0));
     }
@@ -77,14 +83,9 @@ fn a_lone_sender_spends_its_bits(rt: HostRuntime) -> Result<(), Fail> {
 /// A started node is at rest after eleven bits. The driver of node 0 gives up its second step.
 #[test]
 fn a_run_whose_gates_quit_ends_at_rest(rt: HostRuntime) -> Result<(), Fail> {
-    let mut gates = Vec::new(rt.alloc());
-    gates.push(Patience { tries: 1_000 })?;
-    gates.push(Patience { tries: 1_000 })?;
-    let log = run(&rt, rt.alloc(), WAITING, gates)?;
-    assert!(rt; log.end() == End::Rest);
-    assert!(rt; log.bits() == 11);
-    assert!(rt; counts(&log, 0)? == (1, 0, 0));
-    assert!(rt; counts(&log, 1)? == (1, 0, 0));
+    let gates = patient_gates(rt.alloc())?;
+    let counts = [(1, 0, 0), (1, 0, 0)];
+    assert!(rt; bits_of(&rt, rt.alloc(), WAITING, gates, End::Rest, &counts)? == 11);
     Ok(())
 }
 
@@ -93,10 +94,8 @@ fn a_run_whose_gates_quit_ends_at_rest(rt: HostRuntime) -> Result<(), Fail> {
 fn a_wait_with_all_bits_spent_at_rest_is_left_to_the_gate(rt: HostRuntime) -> Result<(), Fail> {
     let mut gates = Vec::new(rt.alloc());
     gates.push(Patience { tries: 1_000 })?;
-    let log = run(&rt, rt.alloc(), WAITING_ALONE, gates)?;
-    assert!(rt; log.end() == End::Rest);
-    assert!(rt; log.bits() == 11);
-    assert!(rt; counts(&log, 0)? == (1, 0, 0));
+    let counts = [(1, 0, 0)];
+    assert!(rt; bits_of(&rt, rt.alloc(), WAITING_ALONE, gates, End::Rest, &counts)? == 11);
     Ok(())
 }
 
@@ -104,21 +103,22 @@ fn a_wait_with_all_bits_spent_at_rest_is_left_to_the_gate(rt: HostRuntime) -> Re
 #[test]
 fn a_driver_that_has_ended_is_not_waited_for(rt: HostRuntime) -> Result<(), Fail> {
     let gates = open_gates(rt.alloc(), 3)?;
-    let log = run(&rt, rt.alloc(), ENDED, gates)?;
-    assert!(rt; log.end() == End::Rest);
-    assert!(rt; counts(&log, 0)? == (4, 0, 0));
-    assert!(rt; counts(&log, 1)? == (0, 0, 0));
-    assert!(rt; counts(&log, 2)? == (1, 0, 1));
+    let counts = [(4, 0, 0), (0, 0, 0), (1, 0, 1)];
+    let _ = bits_of(&rt, rt.alloc(), ENDED, gates, End::Rest, &counts)?;
     Ok(())
+}
+
+/// Whether a run of two nodes with so many gates is refused.
+fn is_refused<R: Threads + Wait + Sync>(rt: &R, alloc: Global, gates: usize) -> Result<bool, Fail> {
+    let plan = read_plan(alloc, PASSING.as_bytes())?;
+    let run = run_of(rt, alloc, &plan, open_gates(alloc, gates)?);
+    Ok(matches!(&run, Err(RunFault::GateCount)))
 }
 
 #[test]
 fn there_is_a_gate_for_each_node(rt: HostRuntime) -> Result<(), Fail> {
-    let plan = read_plan(rt.alloc(), PASSING.as_bytes())?;
-    for count in [0, 1, 3] {
-        let gates = open_gates(rt.alloc(), count)?;
-        let run = run_threads(&rt, rt.alloc(), &plan, gates);
-        assert!(rt; matches!(&run, Err(RunFault::GateCount)), "{count} gates");
-    }
+    assert!(rt; is_refused(&rt, rt.alloc(), 0)?);
+    assert!(rt; is_refused(&rt, rt.alloc(), 1)?);
+    assert!(rt; is_refused(&rt, rt.alloc(), 3)?);
     Ok(())
 }

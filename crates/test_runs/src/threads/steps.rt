@@ -1,66 +1,74 @@
 //! A driver whose links nobody is at the other end of.
 
 use super::gates::{HoldsOnce, Open, Patience};
-use super::given::{WAITS, answers, drive, gave_up, pairs};
+use super::given::{GAVE_UP, WAITS, answers, drive, pairs};
 use sja_regs::Port;
 use sja_script::{Step, StepAnswer};
-use std::sync::Mutex;
+use sja_threads::Gate;
+use std::alloc::Global;
+use std::sync::{Mutex, Wait};
 use std::test::Fail;
+
+/// A driver starts, looks at its window, and stops.
+const LOOKS: [Step; 3] = [Step::Start, Step::Window, Step::Stop];
+
+/// Which activation the driver of these steps is in at the end. It fails where a step was answered otherwise, the port
+/// isn't marked as ended, or a link is missing.
+fn activation_of<G: Gate>(
+    rt: &impl Wait,
+    alloc: Global,
+    port: &Mutex<Port>,
+    steps: &[Step],
+    gate: G,
+    expected: &[StepAnswer],
+) -> Result<u8, Fail> {
+    let (_ends, links) = pairs(alloc)?;
+    let worked = drive(rt, alloc, links, port, steps, gate)?;
+    if !port.lock(rt).orders().ended || worked.links.len() != 64 {
+        return Err("not ended, or another number of links")?;
+    }
+    answers(&worked, expected)?;
+    Ok(worked.driver.activation())
+}
 
 #[test]
 fn a_gate_that_quits_ends_the_script(rt: HostRuntime) -> Result<(), Fail> {
-    let (_ends, links) = pairs(rt.alloc())?;
     let port = Mutex::new(Port::new(1));
     let gate = Patience { tries: 1_000 };
-    let worked = drive(&rt, rt.alloc(), links, &port, &WAITS, gate)?;
-    answers(&worked, &[StepAnswer::Done])?;
-    assert!(rt; port.lock(&rt).orders().ended);
-    assert!(rt; worked.driver.activation() == 1);
-    assert!(rt; worked.links.len() == 64);
+    let expected = [StepAnswer::Done];
+    assert!(rt; activation_of(&rt, rt.alloc(), &port, &WAITS, gate, &expected)? == 1);
     Ok(())
 }
 
 #[test]
 fn a_step_that_is_held_is_tried_again(rt: HostRuntime) -> Result<(), Fail> {
-    let (_ends, links) = pairs(rt.alloc())?;
     let port = Mutex::new(Port::new(1));
-    let steps = [Step::Start, Step::Window, Step::Stop];
-    let worked = drive(&rt, rt.alloc(), links, &port, &steps, HoldsOnce { last: 3 })?;
-    answers(
-        &worked,
-        &[StepAnswer::Done, StepAnswer::NoMessage, StepAnswer::Done],
-    )?;
-    assert!(rt; port.lock(&rt).orders().ended);
+    let gate = HoldsOnce { last: 3 };
+    let expected = [StepAnswer::Done, StepAnswer::NoMessage, StepAnswer::Done];
+    let _ = activation_of(&rt, rt.alloc(), &port, &LOOKS, gate, &expected)?;
     Ok(())
 }
 
 #[test]
 fn steps_are_counted_from_1(rt: HostRuntime) -> Result<(), Fail> {
-    let (_ends, links) = pairs(rt.alloc())?;
     let port = Mutex::new(Port::new(1));
-    let steps = [Step::Start, Step::Window, Step::Stop];
-    let worked = drive(&rt, rt.alloc(), links, &port, &steps, HoldsOnce { last: 2 })?;
-    answers(&worked, &[StepAnswer::Done, StepAnswer::NoMessage])?;
-    assert!(rt; worked.driver.activation() == 1);
+    let gate = HoldsOnce { last: 2 };
+    let expected = [StepAnswer::Done, StepAnswer::NoMessage];
+    assert!(rt; activation_of(&rt, rt.alloc(), &port, &LOOKS, gate, &expected)? == 1);
     Ok(())
 }
 
 #[test]
 fn a_wait_at_a_closed_port_is_given_up(rt: HostRuntime) -> Result<(), Fail> {
-    let (_ends, links) = pairs(rt.alloc())?;
     let port = Mutex::new(Port::new(1));
     port.lock(&rt).close();
-    let worked = drive(&rt, rt.alloc(), links, &port, &WAITS, Open)?;
-    gave_up(&worked)
+    let _ = activation_of(&rt, rt.alloc(), &port, &WAITS, Open, &GAVE_UP)?;
+    Ok(())
 }
 
 #[test]
 fn a_script_without_steps_only_ends(rt: HostRuntime) -> Result<(), Fail> {
-    let (_ends, links) = pairs(rt.alloc())?;
     let port = Mutex::new(Port::new(1));
-    let worked = drive(&rt, rt.alloc(), links, &port, &[], Open)?;
-    answers(&worked, &[])?;
-    assert!(rt; port.lock(&rt).orders().ended);
-    assert!(rt; worked.driver.activation() == 0);
+    assert!(rt; activation_of(&rt, rt.alloc(), &port, &[], Open, &[])? == 0);
     Ok(())
 }

@@ -1,64 +1,41 @@
 //! Turns of nodes.
 
-use sja_log::End;
+use sja_log::{End, RunLog};
 use sja_plan::{Plan, read_plan};
-use sja_regs::address::{IER, TXERR};
-use sja_script::Step;
 use sja_serial::SerialRun;
 use std::alloc::Global;
 use std::test::Fail;
 
-/// Two nodes: one starts, asks, waits until its frame is sent and starts once more, and one awaits a message.
-const WAITING: &str = "version = 1
-bits = 200
+/// A plan of version 3 with one node, which enables the error warning interrupt, asks for a bus-off with its start,
+/// waits for the interrupt line and stops.
+const ENABLED: &str = "version = 3
+bits = 100
 [[node]]
-steps = [\"start\", \"load 000000\", \"command 01\", \"sent\", \"stop\", \"start\"]
-[[node]]
-steps = [\"start\", \"stop\", \"start\", \"await 1\", \"window\"]
+steps = ['write 4 04', 'write 15 ff', 'start', 'interrupt', 'stop']
 ";
 
-/// The turns are taken where there is memory: no step meets a full link, and the bus refuses no item.
-#[test]
-fn turns_of_two_nodes_are_taken(rt: HostRuntime) -> Result<(), Fail> {
-    let plan = read_plan(rt.alloc(), WAITING.as_bytes())?;
-    assert!(rt; plan.nodes() == 2);
-    let mut run = SerialRun::new(rt.alloc(), &plan)?;
-    run.node_turn(&plan, 0, 1);
-    run.node_turn(&plan, 1, 3);
-    run.node_turn(&plan, 0, 9);
-    run.node_turn(&plan, 1, 9);
-    Ok(())
-}
+/// The same plan with no interrupt enabled.
+const NOT_ENABLED: &str = "version = 3
+bits = 100
+[[node]]
+steps = ['write 4 00', 'write 15 ff', 'start', 'interrupt', 'stop']
+";
 
-/// A plan of version 3 with one node, which enables these interrupts, asks for a bus-off with its start, waits for the
-/// interrupt line and stops.
-fn waiting_for_the_line(alloc: Global, enabled: u8) -> Result<Plan, Fail> {
-    let steps = [
-        Step::Write(IER, enabled),
-        Step::Write(TXERR, 0xff),
-        Step::Start,
-        Step::Interrupt,
-        Step::Stop,
-    ];
-    let mut plan = Plan::blank(alloc, 3, 100, 1, 5)?;
-    for (place, step) in steps.into_iter().enumerate() {
-        if plan.nodes() > 0 && place < plan.steps(0).len() {
-            plan.set_step(0, place, step);
-        }
-    }
-    Ok(plan)
-}
-
-/// How many steps of such a plan are done after two turns that have more steps than it has.
-fn steps_done(alloc: Global, enabled: u8) -> Result<usize, Fail> {
-    let plan = waiting_for_the_line(alloc, enabled)?;
+/// The log after two turns of the node that have more steps than it has.
+fn two_turns(alloc: Global, plan: &Plan) -> Result<RunLog, Fail> {
     if plan.nodes() != 1 {
         return Err("another number of nodes")?;
     }
-    let mut run = SerialRun::new(alloc, &plan)?;
-    run.node_turn(&plan, 0, 9);
-    run.node_turn(&plan, 0, 9);
-    let log = run.finish(alloc, &plan, End::Turns)?;
+    let mut run = SerialRun::new(alloc, plan)?;
+    run.node_turn(plan, 0, 9);
+    run.node_turn(plan, 0, 9);
+    Ok(run.finish(alloc, plan, End::Turns)?)
+}
+
+/// How many steps of such a plan are done.
+fn steps_done(alloc: Global, text: &str) -> Result<usize, Fail> {
+    let plan = read_plan(alloc, text.as_bytes())?;
+    let log = two_turns(alloc, &plan)?;
     match log.nodes().get(0) {
         Some(node) => Ok(node.done().len()),
         None => Err("no node")?,
@@ -69,7 +46,7 @@ fn steps_done(alloc: Global, enabled: u8) -> Result<usize, Fail> {
 /// behind it isn't tried.
 #[test]
 fn a_line_that_is_not_active_ends_the_turn(rt: HostRuntime) -> Result<(), Fail> {
-    assert!(rt; steps_done(rt.alloc(), 0x04)? == 5);
-    assert!(rt; steps_done(rt.alloc(), 0x00)? == 3);
+    assert!(rt; steps_done(rt.alloc(), ENABLED)? == 5);
+    assert!(rt; steps_done(rt.alloc(), NOT_ENABLED)? == 3);
     Ok(())
 }

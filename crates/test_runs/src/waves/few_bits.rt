@@ -1,4 +1,4 @@
-//! A run of five bits and one of none, whole.
+//! A run of five bits, whole.
 
 use Level::{Dominant, Recessive};
 use can_bits::Level;
@@ -9,7 +9,7 @@ use sja_wave::wave;
 use std::alloc::Global;
 use std::test::Fail;
 use test_frames::nodes::PLAIN;
-use test_frames::runs::{DECLARED, FIRST_VALUES};
+use test_frames::runs::DECLARED;
 
 /// The wave of the two journals below after the declarations of the bus and of node 0.
 ///
@@ -120,20 +120,5 @@ fn five_bits_of_two_nodes_are_shown(rt: HostRuntime) -> Result<(), Fail> {
     let text = wave(alloc, &RunLog::of(1, 5, End::Bits, nodes))?;
     let after = text.strip_prefix(DECLARED);
     assert!(rt; after == Some(FIVE_BITS), "{text}");
-    Ok(())
-}
-
-/// What stands in its journals is there at once. Of no bit it's told in which phase the node is.
-#[test]
-fn a_run_without_bits_has_its_first_values(rt: HostRuntime) -> Result<(), Fail> {
-    let alloc = rt.alloc();
-    let mut journal = Journal::new(alloc, 10, 1_000)?;
-    let _ = journal.enter(Entry::Up(Up::Start(PLAIN)));
-    let mut nodes = Vec::new(alloc);
-    nodes.push(node(alloc, journal))?;
-    let text = wave(alloc, &RunLog::of(1, 0, End::Turns, nodes))?;
-    let after = text.strip_prefix(DECLARED);
-    let phase = after.and_then(|text| text.strip_prefix(FIRST_VALUES));
-    assert!(rt; phase == Some("r0 p0\n$end\n"), "{text}");
     Ok(())
 }

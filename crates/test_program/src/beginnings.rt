@@ -1,0 +1,89 @@
+//! What the program answers to each beginning of a word, or of its input.
+
+use super::answer::{put_status, shown};
+use super::fed::{Behind, Fed};
+use super::groups::Groups;
+use super::tried::{Outcome, tried};
+use std::alloc::Global;
+use std::fmt::Write;
+use std::sync::Wait;
+use std::thread::Threads;
+use std::{io, str};
+
+/// The answers to the words with each beginning of the last one, by how many bytes it has.
+pub(crate) fn of_word<T: Threads + Wait + Sync>(
+    rt: &T,
+    alloc: Global,
+    mut words: Vec<String>,
+    document: &[u8],
+) -> io::Result<String> {
+    let last = words.pop().unwrap_or(String::new(alloc));
+    let mut groups = Groups::new(alloc);
+    for count in 0..=last.len() {
+        let beginning = last.as_bytes().get(..count).unwrap_or(b"");
+        let beginning = str::from_utf8(beginning).unwrap_or("");
+        words.push(String::from_str(alloc, beginning)?)?;
+        let tried = tried(rt, alloc, &words, &mut Fed::whole(document));
+        groups.add(count, judged(alloc, &tried)?)?;
+        words.pop();
+    }
+    groups.told()
+}
+
+/// The answers over each beginning of the input, by how many bytes it has.
+pub(crate) fn of_input<T: Threads + Wait + Sync>(
+    rt: &T,
+    alloc: Global,
+    words: &[String],
+    document: &[u8],
+) -> io::Result<String> {
+    let mut groups = Groups::new(alloc);
+    for count in 0..=document.len() {
+        let beginning = document.get(..count).unwrap_or(b"");
+        let tried = tried(rt, alloc, words, &mut Fed::whole(beginning));
+        groups.add(count, judged(alloc, &tried)?)?;
+    }
+    groups.told()
+}
+
+/// The same where a read behind the beginning is interrupted, with how many reads are made.
+pub(crate) fn interrupted<T: Threads + Wait + Sync>(
+    rt: &T,
+    alloc: Global,
+    words: &[String],
+    document: &[u8],
+) -> io::Result<String> {
+    let mut groups = Groups::new(alloc);
+    for count in 0..=document.len() {
+        let beginning = document.get(..count).unwrap_or(b"");
+        let mut input = Fed::new(beginning, usize::MAX, Behind::Interrupted);
+        let tried = tried(rt, alloc, words, &mut input);
+        let mut text = shown(alloc, &tried, &input)?;
+        write!(text, "\nin {} reads", input.reads)?;
+        groups.add(count, text)?;
+    }
+    groups.told()
+}
+
+/// The status, and whether one line is written, or told as an error, and nothing else.
+fn judged(alloc: Global, tried: &Outcome) -> io::Result<String> {
+    let mut text = String::from_str(alloc, " -> ")?;
+    put_status(&mut text, tried)?;
+    let kind = match tried.status {
+        Some(0) if tried.told.is_empty() => kind_of(&tried.written),
+        Some(1) if tried.written.is_empty() => kind_of(&tried.told),
+        _ => "neither",
+    };
+    text.push_str(kind)?;
+    Ok(text)
+}
+
+/// Whether a text is one line, or another one that isn't empty.
+fn kind_of(text: &[u8]) -> &'static str {
+    let text = str::from_utf8(text).unwrap_or("");
+    match text.split_once('\n') {
+        Some((_, behind)) if behind.is_empty() => ", one line",
+        _ if text.is_empty() => ", nothing",
+        _ => ", a text",
+    }
+}
