@@ -13,6 +13,7 @@ impl RawSession {
     ghost use Rattle.sja_driver.specs.Deeds.{Deed};
     ghost use Rattle.sja_raw.specs.WriteLists.{ArePrompt, IsPrompt, steps_in};
     ghost use Rattle.sja_regs.specs.declared.registers.Registers.{Registers};
+    ghost use Rattle.sja_session.specs.Inside.Accessing.{AnswersWrite};
     ghost use Rattle.sja_session.specs.RawSessions.{Reads, Writes, MayWrite, IsWriteFault, steps_of};
     ghost use Rattle.sja_session.specs.Sessions.{IsAt};
     ghost use Rattle.sja_session.specs.Stepping.{MayStep, IsStepFault};
@@ -72,13 +73,7 @@ impl RawSession {
     pub(crate) fn write_short(&mut self, node: u8, address: u8, value: u8) -> Result<(), StepFault>
         requires there { node < length self.old.session.plan.nodes }
         requires short { address < 2 }
-        ensures writes { OnOk result ((deeds : List (List Deed)) → IsAt self.old.session deeds →
-            Writes self.old self.new node address value deeds) }
-        ensures may { OnOk result ((deeds : List (List Deed)) → IsAt self.old.session deeds →
-            MayWrite self.old node address value deeds) }
-        ensures err { IfErr result (λ fault. (deeds : List (List Deed)) → IsAt self.old.session deeds →
-            IsWriteFault self.old node address value deeds fault) }
-        ensures kept { OnErr result (self.new ≡ self.old) }
+        ensures { AnswersWrite self.old self.new node address value result }
     {
         let steps = self
             .session
@@ -92,13 +87,7 @@ impl RawSession {
         requires prompt { IsPrompt step }
         requires one { (deeds : List (List Deed)) → IsAt self.old.session deeds → (p : Registers) →
             steps_of self.old node address value deeds p ≡ step ∷ [] }
-        ensures writes { OnOk result ((deeds : List (List Deed)) → IsAt self.old.session deeds →
-            Writes self.old self.new node address value deeds) }
-        ensures may { OnOk result ((deeds : List (List Deed)) → IsAt self.old.session deeds →
-            MayWrite self.old node address value deeds) }
-        ensures err { IfErr result (λ fault. (deeds : List (List Deed)) → IsAt self.old.session deeds →
-            IsWriteFault self.old node address value deeds fault) }
-        ensures kept { OnErr result (self.new ≡ self.old) }
+        ensures { AnswersWrite self.old self.new node address value result }
     {
         let place = usize::from(node);
         if place >= self.kept.len() {
@@ -128,13 +117,7 @@ impl RawSession {
         requires prompt { ArePrompt steps }
         requires are { (deeds : List (List Deed)) → IsAt self.old.session deeds → (p : Registers) →
             steps_of self.old node address value deeds p ≡ steps_in steps }
-        ensures writes { OnOk result ((deeds : List (List Deed)) → IsAt self.old.session deeds →
-            Writes self.old self.new node address value deeds) }
-        ensures may { OnOk result ((deeds : List (List Deed)) → IsAt self.old.session deeds →
-            MayWrite self.old node address value deeds) }
-        ensures err { IfErr result (λ fault. (deeds : List (List Deed)) → IsAt self.old.session deeds →
-            IsWriteFault self.old node address value deeds fault) }
-        ensures kept { OnErr result (self.new ≡ self.old) }
+        ensures { AnswersWrite self.old self.new node address value result }
     {
         self.session.may_do(node, count_of(&steps))?;
         let WriteSteps {

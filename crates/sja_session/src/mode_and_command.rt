@@ -6,12 +6,13 @@ use super::step_fault::StepFault;
 use sja_script::Step;
 
 impl RawSession {
-    ghost use Rattle.std.specs.Prelude.{◌≡◌, ◌<◌, List, [], ◌∷◌, length, IfErr, OnOk, OnErr};
+    ghost use Rattle.std.specs.Prelude.{◌≡◌, ◌<◌, List, [], ◌∷◌, length};
     ghost use Rattle.sja_driver.specs.Deeds.{Deed};
     ghost use Rattle.sja_raw.specs.WriteLists.{IsPrompt};
     ghost use Rattle.sja_regs.specs.declared.registers.Registers.{Registers};
     ghost use Rattle.sja_script.specs.declared.step.Step.TheVariants.{Command, Release};
-    ghost use Rattle.sja_session.specs.RawSessions.{Writes, MayWrite, IsWriteFault, steps_of};
+    ghost use Rattle.sja_session.specs.Inside.Accessing.{AnswersWrite};
+    ghost use Rattle.sja_session.specs.RawSessions.{steps_of};
     ghost use Rattle.sja_session.specs.Sessions.{IsAt};
 
     /// Writes a byte to MOD, where the write isn't the same one of the typed driver.
@@ -19,13 +20,7 @@ impl RawSession {
     pub(crate) fn write_mode(&mut self, node: u8, address: u8, value: u8) -> Result<(), StepFault>
         requires mode { address ≡ 0 }
         requires there { node < length self.old.session.plan.nodes }
-        ensures writes { OnOk result ((deeds : List (List Deed)) → IsAt self.old.session deeds →
-            Writes self.old self.new node address value deeds) }
-        ensures may { OnOk result ((deeds : List (List Deed)) → IsAt self.old.session deeds →
-            MayWrite self.old node address value deeds) }
-        ensures err { IfErr result (λ fault. (deeds : List (List Deed)) → IsAt self.old.session deeds →
-            IsWriteFault self.old node address value deeds fault) }
-        ensures kept { OnErr result (self.new ≡ self.old) }
+        ensures { AnswersWrite self.old self.new node address value result }
     {
         let place = usize::from(node);
         if self.session.is_stop(place, value) {
@@ -47,13 +42,7 @@ impl RawSession {
     ) -> Result<(), StepFault>
         requires command { address ≡ 1 }
         requires there { node < length self.old.session.plan.nodes }
-        ensures writes { OnOk result ((deeds : List (List Deed)) → IsAt self.old.session deeds →
-            Writes self.old self.new node address value deeds) }
-        ensures may { OnOk result ((deeds : List (List Deed)) → IsAt self.old.session deeds →
-            MayWrite self.old node address value deeds) }
-        ensures err { IfErr result (λ fault. (deeds : List (List Deed)) → IsAt self.old.session deeds →
-            IsWriteFault self.old node address value deeds fault) }
-        ensures kept { OnErr result (self.new ≡ self.old) }
+        ensures { AnswersWrite self.old self.new node address value result }
     {
         let written = self.session.written_command(usize::from(node), value);
         if written.command == 0 {
@@ -75,13 +64,7 @@ impl RawSession {
         requires prompt { IsPrompt step }
         requires one { (deeds : List (List Deed)) → IsAt self.old.session deeds → (p : Registers) →
             steps_of self.old node address value deeds p ≡ step ∷ [] }
-        ensures writes { OnOk result ((deeds : List (List Deed)) → IsAt self.old.session deeds →
-            Writes self.old self.new node address value deeds) }
-        ensures may { OnOk result ((deeds : List (List Deed)) → IsAt self.old.session deeds →
-            MayWrite self.old node address value deeds) }
-        ensures err { IfErr result (λ fault. (deeds : List (List Deed)) → IsAt self.old.session deeds →
-            IsWriteFault self.old node address value deeds fault) }
-        ensures kept { OnErr result (self.new ≡ self.old) }
+        ensures { AnswersWrite self.old self.new node address value result }
     {
         match self.session.step(node, step)? {
             Answered::Answer(answer) => {
@@ -98,13 +81,7 @@ impl RawSession {
         requires short { address < 2 }
         requires nothing { (deeds : List (List Deed)) → IsAt self.old.session deeds → (p : Registers) →
             steps_of self.old node address value deeds p ≡ [] }
-        ensures writes { OnOk result ((deeds : List (List Deed)) → IsAt self.old.session deeds →
-            Writes self.old self.new node address value deeds) }
-        ensures may { OnOk result ((deeds : List (List Deed)) → IsAt self.old.session deeds →
-            MayWrite self.old node address value deeds) }
-        ensures err { IfErr result (λ fault. (deeds : List (List Deed)) → IsAt self.old.session deeds →
-            IsWriteFault self.old node address value deeds fault) }
-        ensures kept { OnErr result (self.new ≡ self.old) }
+        ensures { AnswersWrite self.old self.new node address value result }
     {
         self.session.may_do(node, 0)?;
         Ok(())
@@ -115,13 +92,7 @@ impl RawSession {
         requires command { address ≡ 1 }
         requires both { (deeds : List (List Deed)) → IsAt self.old.session deeds → (p : Registers) →
             steps_of self.old node address value deeds p ≡ Command command ∷ Release ∷ [] }
-        ensures writes { OnOk result ((deeds : List (List Deed)) → IsAt self.old.session deeds →
-            Writes self.old self.new node address value deeds) }
-        ensures may { OnOk result ((deeds : List (List Deed)) → IsAt self.old.session deeds →
-            MayWrite self.old node address value deeds) }
-        ensures err { IfErr result (λ fault. (deeds : List (List Deed)) → IsAt self.old.session deeds →
-            IsWriteFault self.old node address value deeds fault) }
-        ensures kept { OnErr result (self.new ≡ self.old) }
+        ensures { AnswersWrite self.old self.new node address value result }
     {
         self.session.may_do(node, 2)?;
         self.do_one(node, Step::Command(command));

@@ -1,9 +1,11 @@
--- Steps of a node that are done one after the other, and what is left for more (this project's own rule).
-use Rattle.std.specs.Prelude.{◌≡◌, ◌+◌, ℕ, List, length, slice_set}
+-- Steps of a node that are done one after the other, what is left for more, and what a write answers (this project's
+-- own rule).
+use Rattle.std.specs.Prelude.{◌≡◌, ◌+◌, ℕ, List, Result, ⊤, IfErr, OnOk, OnErr, length, slice_set}
 use Rattle.sja_script.specs.declared.step.Step.{Step}
 use Rattle.sja_script.specs.declared.step_answer.StepAnswer.{StepAnswer}
 use Rattle.sja_driver.specs.Deeds.{Deed}
-use Rattle.sja_session.specs.RawSessions.{RawValue, DoesSteps, MayDo, kept_in, moved_by}
+use Rattle.sja_session.specs.declared.step_fault.StepFault.{StepFault}
+use Rattle.sja_session.specs.RawSessions.{RawValue, DoesSteps, MayDo, MayWrite, IsWriteFault, Writes, kept_in, moved_by}
 use Rattle.sja_session.specs.Sessions.{SessionValue, IsAt}
 
 -- a session stands somewhere
@@ -23,3 +25,12 @@ pub record Does (was now : RawValue) (node : ℕ) (steps : List Step) (deeds : L
 pub record IsRaw (r : RawValue) : Type 0 where
   pub stands : Stands r.session
   pub kept : length r.kept ≡ length r.session.plan.nodes
+
+-- a write was done, and might be, by what the node's driver did before it; or this is why not, and nothing changed
+abbrev pub AnswersWrite : RawValue → RawValue → ℕ → ℕ → ℕ → Result ⊤ StepFault → Type 0
+AnswersWrite was now node address value result =
+    OnOk result ((deeds : List (List Deed)) → IsAt was.session deeds → Writes was now node address value deeds)
+    × OnOk result ((deeds : List (List Deed)) → IsAt was.session deeds → MayWrite was node address value deeds)
+    × IfErr result (λ fault. (deeds : List (List Deed)) → IsAt was.session deeds →
+    IsWriteFault was node address value deeds fault)
+    × OnErr result (now ≡ was)
