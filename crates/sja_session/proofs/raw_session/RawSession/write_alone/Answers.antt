@@ -20,8 +20,8 @@ invariant_of-self-in-Answer c =
     (length-set b.kept.items c.from.result c.answered.new.self)
 
 -- it is that step, and none of the kept registers stands there
-pub returns-clause-writes : goal.returns-clause-writes
-returns-clause-writes c = λ deeds at.
+pub returns : goal.returns
+returns c = ((λ deeds at.
     let b = c.self.inside in let node = c.args.node in
     let was : RawValue = record { session = b.session; kept = b.kept.items } in
     let now : RawValue = record {
@@ -47,4 +47,4 @@ returns-clause-writes c = λ deeds at.
       kept = λ p. moved ∙ ap (λ k. slice_set b.kept.items node (moved_by k (answer ∷ [])))
           (sym (none_kept (kept_in was node) (slice_index_or b.session.run.ports node p).mode.rm c.args.address
           c.args.value short));
-    })
+    })), search rules, search rules, search rules)

@@ -1,4 +1,4 @@
-use Rattle.std.proofs.Common.{◌≡◌, ◌<◌, List, [], ◌∷◌, length, sym, ap, ◌∙◌, subst, arith}
+use Rattle.std.proofs.Common.{rules, ◌≡◌, ◌<◌, List, [], ◌∷◌, length, sym, ap, ◌∙◌, subst, arith}
 use Rattle.std.proofs.lemmas.List.{length-set}
 use Rattle.std.specs.Prelude.{slice_index_or, slice_set}
 use Rattle.sja_script.specs.declared.step.Step.{Step}
@@ -28,9 +28,9 @@ do_one-requires-2-clause-may c =
     let at = (goal.at.do_one-requires-2-clause-may c).After-do_one in let raw = raw_of at in
     (first at raw.stands.0 raw.stands.1).goes_on 1 (may_both at)
 
-pub returns-clause-writes : goal.returns-clause-writes
-returns-clause-writes c = λ deeds h.
-    let at = (goal.at.returns-clause-writes c).After-do_one in
+pub returns : goal.returns
+returns c = ((λ deeds h.
+    let at = (goal.at.returns c).After-do_one in
     let before = c.args.self.now in let node = c.args.node in let raw = raw_of at in
     let there = (may_both at).there in
     let inside : node < length before.kept = let k = raw.kept in omega (arith, k, there) in
@@ -47,4 +47,4 @@ returns-clause-writes c = λ deeds h.
       kept = λ p. whole.kept ∙ ap (λ k. slice_set before.kept node (moved_by k whole.answers))
           (sym (none_kept (kept_in before node) (slice_index_or before.session.run.ports node p).mode.rm
           c.args.address c.args.value short));
-    }
+    }), search rules, search rules, search rules)

@@ -1,4 +1,4 @@
-use Rattle.std.proofs.Common.{◌≡◌, ◌+◌, ◌<◌, ◌++◌, List, length, sym, ap, ◌∙◌, subst, arith}
+use Rattle.std.proofs.Common.{rules, ◌≡◌, ◌+◌, ◌<◌, ◌++◌, List, length, sym, ap, ◌∙◌, subst, arith}
 use Rattle.std.proofs.lemmas.List.{length-append, length-set}
 use Rattle.std.specs.Prelude.{slice_index_or, slice_set}
 use Rattle.sja_raw.specs.WriteLists.{listed}
@@ -57,9 +57,9 @@ do_if-requires-3-clause-may c =
     (subst (MayDo c.do_if.new.self.session c.args.node) e
     (d.goes_on (length (two at) + length (three at)) (may_all at)))
 
-pub returns-clause-writes : goal.returns-clause-writes
-returns-clause-writes c = λ deeds h.
-    let at = (goal.at.returns-clause-writes c).After-do_if in
+pub returns : goal.returns
+returns c = ((λ deeds h.
+    let at = (goal.at.returns c).After-do_if in
     let before = was at in let node = c.args.node in let raw = raw_of at in
     let there = (may_all at).there in
     let inside : node < length before.kept = let k = raw.kept in omega (arith, k, there) in
@@ -82,4 +82,4 @@ returns-clause-writes c = λ deeds h.
       kept = λ p. whole.kept ∙ ap (λ k. slice_set before.kept node (moved_by k whole.answers))
           (sym (none_kept (kept_in before node) (slice_index_or before.session.run.ports node p).mode.rm
           c.args.address c.args.value c.requires.short));
-    }
+    }), search rules, search rules, search rules)

@@ -1,4 +1,4 @@
-use Rattle.std.proofs.Common.{List, [], sym, ap, ◌∙◌, subst}
+use Rattle.std.proofs.Common.{rules, List, [], sym, ap, ◌∙◌, subst}
 use Rattle.std.proofs.lemmas.List.{set-get_or}
 use Rattle.std.specs.Prelude.{slice_index_or, slice_set}
 use Rattle.sja_raw.specs.Kept.{at_power_on}
@@ -8,8 +8,8 @@ use Rattle.sja_session.specs.RawSessions.DoesSteps.{none}
 use Rattle.sja_session.proofs.Accessing.{none_kept}
 use Rattle.sja_session.proofs.raw_session.RawSession.write_nothing.Goals as goal
 
-pub returns-clause-writes : goal.returns-clause-writes
-returns-clause-writes c = λ deeds at.
+pub returns : goal.returns
+returns c = ((λ deeds at.
     let was = c.args.self.now in let node = c.args.node in record {
       answers = [];
       after = deeds;
@@ -19,4 +19,4 @@ returns-clause-writes c = λ deeds at.
           ∙ ap (λ k. slice_set was.kept node k)
           (sym (none_kept (kept_in was node) (slice_index_or was.session.run.ports node p).mode.rm
           c.args.address c.args.value c.requires.short));
-    }
+    }), search rules, search rules, search rules)

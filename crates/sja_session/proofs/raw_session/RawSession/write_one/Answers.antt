@@ -22,8 +22,8 @@ invariant_of-self-in-Answer c =
     (length-set b.kept.items c.from-place.result c.answered.new.self)
 
 -- it is that step, and the kept register that stands there was written
-pub returns-clause-writes : goal.returns-clause-writes
-returns-clause-writes c = λ deeds at.
+pub returns : goal.returns
+returns c = ((λ deeds at.
     let b = c.self.inside in let node = c.args.node in
     let was : RawValue = record { session = b.session; kept = b.kept.items } in
     let now : RawValue = record {
@@ -53,4 +53,4 @@ returns-clause-writes c = λ deeds at.
           (c.is_reset-reset.ensures p ∙ ap (λ m. (slice_index_or b.session.run.ports m p).mode.rm) place) in
           let moved = c.answered.ensures ∙ ap (λ k. moved_by_answer k answer) start in
           λ t. slice_set b.kept.items (place t) (moved t);
-    })
+    })), search rules, search rules, search rules)
