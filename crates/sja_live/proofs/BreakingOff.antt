@@ -83,6 +83,8 @@ talk_unopened input left old new opening said same =
     by (Some input) None said = absurd said
     by (Some input) (Some left) said = inr said.3
 
+pub ruleset unopened = (talk_silent, talk_unopened)
+
 -- ---- a session that was opened
 
 -- the next line wasn't read, or not answered
@@ -130,5 +132,3 @@ talk_unanswered input rest left old mid new was now next fault g answers memory 
     by (Some input) (Some rest) (Some left) (Some old) (Some mid) g answers =
         let behind = behind_next rest left was now g.1 next (answers g.1 g.2) in
         (g.0, g.4, inr (was, rest, g.1, g.3, inr behind))
-
-pub ruleset breaks = (talk_silent, talk_unopened, talk_breaks, talk_stops, talk_unanswered)

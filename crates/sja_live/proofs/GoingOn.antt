@@ -11,7 +11,7 @@ use Rattle.sja_live.specs.Calls.{IsLiveAt}
 use Rattle.sja_live.specs.Inside.Going.{AppendsReport, FirstSays, Goes, IsNextAnswer}
 use Rattle.sja_live.specs.Lines.{first_line, behind_line, LeadsOn}
 use Rattle.sja_live.specs.Lines.LeadsOn.{none, more}
-use Rattle.sja_live.proofs.NewSessions.{begins_live, new_live}
+use Rattle.sja_live.proofs.NewSessions.{new_live}
 use Rattle.sja_live.specs.Talking.{EndsTalk, HasTalked, IsTold, Replies, Speaks}
 use Rattle.sja_live.specs.Talking.Talks.{begin, go_on}
 use Rattle.sja_live.specs.declared.live_answer.LiveAnswer.{LiveAnswer}
@@ -153,6 +153,3 @@ talk_refused (Some input) None (Some old) new fault said wrote = absurd said
 talk_refused (Some input) (Some left) (Some old) None fault said wrote = absurd wrote
 talk_refused (Some input) (Some left) (Some old) (Some new) fault said wrote =
     (opening_text fault, wrote, record { fault = fault; is = said.0; told = refl; behind = said.1 })
-
--- a talk from its first line to its end
-pub ruleset talks = (begins_live, talk_begins, talk_goes_on, talk_ends, talk_refused)

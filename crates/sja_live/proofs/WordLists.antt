@@ -11,6 +11,11 @@ texts ws = map (λ (w : Bor Text). w.now) ws
 abbrev pub text_at : List (Bor Text) → ℕ → Bor Text → Text
 text_at ws k d = (get_or ws k d).now
 
+pub one_word : (ws : List (Bor Text)) (d : Bor Text) → 1 ≤ length ws → length ws < 2 → texts ws ≡ text_at ws 0 d ∷ []
+one_word [] d many few = absurd (omega (arith, many))
+one_word (a ∷ []) d many few = refl
+one_word (a ∷ b ∷ ws) d many few = absurd (omega (arith, few))
+
 pub two_words : (ws : List (Bor Text)) (d : Bor Text) → 2 ≤ length ws → length ws < 3 →
     texts ws ≡ text_at ws 0 d ∷ text_at ws 1 d ∷ []
 two_words [] d many few = absurd (omega (arith, many))

@@ -1,15 +1,18 @@
 //! The line of an answer.
 
-ghost use Rattle.std.specs.Prelude.{◌≡◌, ◌++◌, [], ◌∷◌, string_bytes, IfOk, OnOk};
+ghost use Rattle.std.specs.Prelude.{◌≡◌, ◌++◌, [], ◌∷◌, codes, decimal, string_bytes, OnOk};
 ghost use Rattle.hex.specs.Hex.{encode_lower};
-ghost use Rattle.sja_live.specs.AnswerTexts.{answer_text, told_words};
+ghost use Rattle.sja_live.specs.AnswerTexts.{answer_text, fault_word, told_words, used_word};
 ghost use Rattle.sja_report.specs.ReportLines.{line_text, words_text};
 ghost use Rattle.sja_report.specs.ReportWords.{byte_word};
+ghost use Rattle.sja_script.specs.Refusals.{refusal_name};
 
+use super::line_fault::LineFault;
 use super::live_answer::LiveAnswer;
+use super::used::Used;
 use hex::encode;
 use sja_report::put_answer as put_spaced;
-use sja_script::StepAnswer;
+use sja_script::{Refusal, StepAnswer};
 use std::alloc::{AllocError, Global};
 use std::fmt::Write;
 
@@ -26,25 +29,22 @@ pub(crate) fn put_answer(
     match answer {
         LiveAnswer::Told(answer) => put_told(alloc, text, answer),
         LiveAnswer::Waits => text.push_str("wait\n"),
-        LiveAnswer::Ran(bits) => writeln!(text, "ran {bits}"),
+        LiveAnswer::Ran(bits) => put_number(text, "ran ", *bits, "\n"),
         LiveAnswer::Rose(bits, lines) => {
-            write!(text, "ran {bits} line")?;
+            put_number(text, "ran ", *bits, " line")?;
             put_byte(text, *lines)
         }
-        LiveAnswer::Spent(bits) => writeln!(text, "ran {bits} spent"),
+        LiveAnswer::Spent(bits) => put_number(text, "ran ", *bits, " spent\n"),
         LiveAnswer::Lines(lines) => {
             text.push_str("line")?;
             put_byte(text, *lines)
         }
-        LiveAnswer::Bits(bits) => writeln!(text, "bits {bits}"),
+        LiveAnswer::Bits(bits) => put_number(text, "bits ", *bits, "\n"),
         LiveAnswer::Nothing => text.push_str("nothing\n"),
-        LiveAnswer::PlanSoFar(document) => {
-            text.push_str(document.as_str())?;
-            text.push_str(".\n")
-        }
-        LiveAnswer::Mistaken(fault) => writeln!(text, "no {fault}"),
+        LiveAnswer::PlanSoFar(document) => put_two(text, document.as_str(), ".\n"),
+        LiveAnswer::Mistaken(fault) => put_fault(text, *fault),
         LiveAnswer::NoBit => text.push_str("no BIT\n"),
-        LiveAnswer::Full(used) => writeln!(text, "full {used}"),
+        LiveAnswer::Full(used) => put_used(text, *used),
         LiveAnswer::Long => text.push_str("long\n"),
     }
 }
@@ -58,26 +58,75 @@ fn put_told(alloc: Global, text: &mut String, answer: &StepAnswer) -> Result<(),
     match answer {
         StepAnswer::Done => text.push_str("ok\n"),
         StepAnswer::NoMessage => text.push_str("none\n"),
-        StepAnswer::Shown(message) => {
-            let digits = digits(alloc, message.bytes())?;
-            writeln!(text, "message {digits}")
-        }
-        StepAnswer::Released(bytes) => writeln!(text, "released {bytes}"),
+        StepAnswer::Shown(message) => put_message(alloc, text, message.bytes()),
+        StepAnswer::Released(bytes) => put_number(text, "released ", u32::from(*bytes), "\n"),
         StepAnswer::Value(value) => {
             text.push_str("value")?;
             put_byte(text, *value)
         }
-        StepAnswer::Refused(refusal) => writeln!(text, "refused {refusal}"),
+        StepAnswer::Refused(refusal) => put_refusal(text, *refusal),
     }
 }
 
-/// The hexadecimal digits of bytes, in lower case.
+/// Writes the line of a message, as hexadecimal digits in lower case.
 ///
 /// Error: memory was refused.
-fn digits(alloc: Global, bytes: &[u8]) -> Result<String, AllocError>
-    ensures { IfOk result (λ text. string_bytes text ≡ encode_lower bytes.now) }
+fn put_message(alloc: Global, text: &mut String, bytes: &[u8]) -> Result<(), AllocError>
+    ensures { OnOk result (string_bytes text.new
+        ≡ string_bytes text.old ++ line_text (codes "message" ∷ encode_lower bytes.now ∷ [])) }
 {
-    encode(alloc, bytes)
+    let digits = encode(alloc, bytes)?;
+    writeln!(text, "message {digits}")
+}
+
+/// Writes the line of a refusal.
+///
+/// Error: memory was refused.
+fn put_refusal(text: &mut String, refusal: Refusal) -> Result<(), AllocError>
+    ensures { OnOk result (string_bytes text.new
+        ≡ string_bytes text.old ++ line_text (codes "refused" ∷ refusal_name refusal ∷ [])) }
+{
+    writeln!(text, "refused {refusal}")
+}
+
+/// Writes the line of a mistake.
+///
+/// Error: memory was refused.
+fn put_fault(text: &mut String, fault: LineFault) -> Result<(), AllocError>
+    ensures { OnOk result (string_bytes text.new
+        ≡ string_bytes text.old ++ line_text (codes "no" ∷ fault_word fault ∷ [])) }
+{
+    writeln!(text, "no {fault}")
+}
+
+/// Writes the line of what is used up.
+///
+/// Error: memory was refused.
+fn put_used(text: &mut String, used: Used) -> Result<(), AllocError>
+    ensures { OnOk result (string_bytes text.new
+        ≡ string_bytes text.old ++ line_text (codes "full" ∷ used_word used ∷ [])) }
+{
+    writeln!(text, "full {used}")
+}
+
+/// Writes a number, with what stands before it and behind it.
+///
+/// Error: memory was refused.
+fn put_number(text: &mut String, before: &str, number: u32, behind: &str) -> Result<(), AllocError>
+    ensures { OnOk result (string_bytes text.new
+        ≡ string_bytes text.old ++ (before.now ++ (decimal number ++ behind.now))) }
+{
+    write!(text, "{before}{number}{behind}")
+}
+
+/// Writes two texts, one behind the other.
+///
+/// Error: memory was refused.
+fn put_two(text: &mut String, first: &str, second: &str) -> Result<(), AllocError>
+    ensures { OnOk result (string_bytes text.new ≡ string_bytes text.old ++ (first.now ++ second.now)) }
+{
+    text.push_str(first)?;
+    text.push_str(second)
 }
 
 /// Writes a byte behind a space, and ends the line.

@@ -1,13 +1,15 @@
 //! A talk: lines of a reader, each answered before the next one is read.
 
-ghost use Rattle.std.specs.Prelude.{◌≡◌, ◌≢◌, List, IfOk, IfErr, OnOk};
+ghost use Rattle.std.specs.Prelude.{◌≡◌, ◌≢◌, List, Option, IfOk, IfErr, OnOk};
 ghost use Rattle.std.specs.Io.KnownBytes.{Appends};
 ghost use Rattle.sja_driver.specs.Deeds.{Deed};
 ghost use Rattle.sja_live.specs.AnswerTexts.{answer_text, opening_text};
-ghost use Rattle.sja_live.specs.Calls.{IsLiveAt};
-ghost use Rattle.sja_live.specs.Inside.Going.{AppendsReport};
+ghost use Rattle.sja_live.specs.Calls.{IsLive, IsLiveAt};
+ghost use Rattle.sja_live.specs.Inside.Going.{AppendsReport, IsBegun, IsOver};
 ghost use Rattle.sja_live.specs.Talking.{IsTold, IsBrokenOff, Speaks};
 ghost use Rattle.sja_live.specs.declared.talk_fault.TalkFault.TheVariants.{Memory as MemoryFault, Write as WriteFault};
+ghost use Rattle.sja_live.specs.declared.talked.Talked.TheVariants.{Reported};
+ghost use Rattle.sja_plan.specs.Words.{Text};
 
 use super::answer_text::put_answer;
 use super::beginning::session_of;
@@ -27,7 +29,7 @@ use std::io::{Read, Write};
 ///
 /// Errors: [`TalkFault::Memory`], [`TalkFault::Read`] and [`TalkFault::Write`], where memory was refused, or a read or
 /// a write failed. What was answered before stays written.
-#[tactic(auto, using(crate::proofs::GoingOn::talks, crate::proofs::BreakingOff::breaks))]
+#[tactic(auto, using(crate::proofs::GoingOn::talk_refused, crate::proofs::BreakingOff::unopened))]
 pub fn talk<R: Read, W: Write>(
     alloc: Global,
     input: &mut R,
@@ -46,14 +48,55 @@ pub fn talk<R: Read, W: Write>(
             return Ok(Talked::Unopened);
         }
     };
-    let Ok(mut session) = session_of(alloc, opening) else {
+    let Ok(session) = session_of(alloc, opening) else {
         return Err(TalkFault::Memory);
     };
+    talk_on(alloc, input, out, session)?;
+    Ok(Talked::Reported)
+}
+
+/// Goes on with a talk whose first line opened this session, to its report.
+///
+/// Errors: those of [`talk`].
+fn talk_on<R: Read, W: Write>(
+    alloc: Global,
+    input: &mut R,
+    out: &mut W,
+    mut session: DriverSession,
+) -> Result<(), TalkFault>
+    requires { IsLive session }
+    ensures told { OnOk result ((before : Option Text) → IsBegun before (R.remaining input.old) session →
+        Speaks before (R.remaining input.new) (W.contents out.old) (W.contents out.new) (IsTold Reported)) }
+    ensures broken { IfErr result (λ fault. fault ≢ WriteFault → (before : Option Text) →
+        IsBegun before (R.remaining input.old) session →
+        Speaks before (R.remaining input.new) (W.contents out.old) (W.contents out.new) (IsBrokenOff fault)) }
+{
+    match answer_lines(alloc, input, out, &mut session) {
+        Ok(()) => put_report(alloc, out, session),
+        Err(fault) => Err(fault),
+    }
+}
+
+/// Says that the session is open, and answers the lines behind the first one, up to the one that ends the talk.
+///
+/// Errors: those of [`talk`].
+fn answer_lines<R: Read, W: Write>(
+    alloc: Global,
+    input: &mut R,
+    out: &mut W,
+    session: &mut DriverSession,
+) -> Result<(), TalkFault>
+    requires { IsLive session.old }
+    ensures over { OnOk result ((before : Option Text) → IsBegun before (R.remaining input.old) session.old →
+        IsOver before (R.remaining input.new) (W.contents out.old) (W.contents out.new) session.new) }
+    ensures broken { IfErr result (λ fault. fault ≢ WriteFault → (before : Option Text) →
+        IsBegun before (R.remaining input.old) session.old →
+        Speaks before (R.remaining input.new) (W.contents out.old) (W.contents out.new) (IsBrokenOff fault)) }
+{
     put(out, "ok\n")?;
     for _ in 0..u64::MAX {
-        let Some(answer) = next_answer(alloc, input, &mut session)? else {
-            put_report(alloc, out, session)?;
-            return Ok(Talked::Reported);
+        let Some(answer) = next_answer(alloc, input, session)? else {
+            return Ok(());
         };
         put_line(alloc, out, &answer)?;
     }

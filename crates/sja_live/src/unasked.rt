@@ -4,7 +4,7 @@ use super::line_fault::LineFault;
 use std::alloc::AllocError;
 
 /// Why no command comes of a line.
-#[derive(Clone, Copy, Debug, PartialEq, Eq)]
+#[derive(Clone, Copy)]
 pub(crate) enum Unasked {
     /// It asks for nothing.
     Mistaken(LineFault),

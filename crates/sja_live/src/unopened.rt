@@ -4,7 +4,7 @@ use super::opening_fault::OpeningFault;
 use std::alloc::AllocError;
 
 /// Why no session is opened by a line.
-#[derive(Clone, Copy, Debug, PartialEq, Eq)]
+#[derive(Clone, Copy)]
 pub(crate) enum Unopened {
     /// It is no opening.
     Fault(OpeningFault),

@@ -66,6 +66,18 @@ impl<W: Write> Output<W> {
         self.put(text);
         if self.failed { 1 } else { 2 }
     }
+
+    /// Writes the text that answers, and gives the exit status: 0, or 1 where a write failed.
+    pub(crate) fn print(&mut self, text: &[u8]) -> u8
+        ensures status { self.new.failed ≡ false → result ≡ 0 }
+        ensures failed { self.new.failed ≡ true → result ≡ 1 }
+        ensures written { self.new.failed ≡ false → (self.old.failed ≡ false)
+            × Appends (W.contents self.old.writer) (W.contents self.new.writer) text.now }
+    {
+        self.put(text);
+        if self.failed { 1 } else { 0 }
+    }
+
     /// Writes the line that stands before what is said of the file with this name, where there are several.
     pub(crate) fn put_name(&mut self, several: bool, name: &str)
         ensures { self.new.failed ≡ false → (self.old.failed ≡ false)

@@ -1,7 +1,7 @@
 //! [`PlanCheck`]: what `check` says of a plan.
 
 /// What `check` says of the plan on the input (this project's own rule).
-#[derive(Debug, Drop)]
+#[derive(Drop)]
 pub(crate) enum PlanCheck {
     /// It is a plan: a line for each thing that its run left out.
     Hints(Vec<u8>),

@@ -79,7 +79,6 @@ pub fn sja<T: Threads + Wait + Sync, F: Sources, S: AsStr, R: Read, O: Write, E:
 }
 
 /// Does what is left to threads, and gives the exit status.
-#[tactic(auto, using(crate::proofs::FewBytes::few_left_printed, crate::proofs::FewBytes::few_left_refused))]
 fn reply_threads<T: Threads + Wait + Sync, R: Read, O: Write, E: Write>(
     rt: &T,
     alloc: Global,
@@ -98,16 +97,12 @@ fn reply_threads<T: Threads + Wait + Sync, R: Read, O: Write, E: Write>(
     ensures few { ReadsFew (R.remaining input.old) (R.remaining input.new) }
 {
     match printed_threads(rt, alloc, threaded, input) {
-        Ok(text) => {
-            out.put(text.as_slice());
-            if out.failed { 1 } else { 0 }
-        }
+        Ok(text) => out.print(text.as_slice()),
         Err(refusal) => err.refuse(refusal),
     }
 }
 
 /// The text that answers what is left to threads.
-#[tactic(auto, using(crate::proofs::Requests::left_printed, crate::proofs::Requests::left_refused))]
 fn printed_threads<T: Threads + Wait + Sync, R: Read>(
     rt: &T,
     alloc: Global,

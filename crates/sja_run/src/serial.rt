@@ -95,7 +95,6 @@ fn left_of<'a>(task: Task<'a>) -> Result<Left<'a>, Task<'a>>
 }
 
 /// Does the task, which isn't left to another call, and gives the exit status.
-#[tactic(auto, using(crate::proofs::FewBytes::few_printed, crate::proofs::FewBytes::few_turned_down))]
 fn reply<R: Read, O: Write, E: Write>(
     alloc: Global,
     task: Task<'_>,
@@ -118,10 +117,7 @@ fn reply<R: Read, O: Write, E: Write>(
         return reply_check(alloc, input, out, err);
     }
     match printed(alloc, task, input) {
-        Ok(text) => {
-            out.put(text.as_slice());
-            if out.failed { 1 } else { 0 }
-        }
+        Ok(text) => out.print(text.as_slice()),
         Err(refusal) => err.refuse(refusal),
     }
 }
@@ -152,10 +148,7 @@ fn reply_check<R: Read, O: Write, E: Write>(
     ensures few { ReadsFew (R.remaining input.old) (R.remaining input.new) }
 {
     match checked(alloc, input) {
-        Ok(PlanCheck::Hints(text)) => {
-            out.put(text.as_slice());
-            if out.failed { 1 } else { 0 }
-        }
+        Ok(PlanCheck::Hints(text)) => out.print(text.as_slice()),
         Ok(PlanCheck::Mistake(text)) => {
             err.put(text.as_slice());
             1

@@ -8,7 +8,7 @@ ghost use Rattle.sja_sweep.specs.Inside.Asking.{nodes_asked, IsAsked};
 use super::sweeping::Sweeping;
 
 /// The nodes and bits that a sweep strikes.
-#[derive(Clone, Copy, Debug)]
+#[derive(Clone, Copy)]
 pub(crate) struct Asked {
     /// The first node.
     pub(crate) from: u16,

@@ -4,6 +4,7 @@ ghost use Rattle.std.specs.Prelude.{◌≡◌, ◌+◌, ◌*◌, ◌^◌, ◌<�
 ghost use Rattle.sja_plan.specs.Limits.{most_strikes};
 ghost use Rattle.sja_plan.specs.Plan.{times_in};
 ghost use Rattle.sja_sweep.specs.declared.sweep_fault.SweepFault.TheVariants.{NoNode, TooMany, StrikeCount};
+ghost use Rattle.sja_sweep.specs.Errors.{IsRan, RanValue};
 ghost use Rattle.sja_sweep.specs.Targets.{strikes_a_run};
 ghost use Rattle.sja_sweep.specs.Sweeps.{IsSweepFault, AreTooMany};
 ghost use Rattle.sja_sweep.specs.Inside.Reaching.{ran_value, NamesNodeBelow, NamesNodePast};
@@ -35,13 +36,31 @@ pub(crate) fn begin(alloc: Global, plan: &Plan, sweeping: &Sweeping) -> Result<B
 {
     check_node(sweeping, plan.nodes())?;
     let planned = run_plan(alloc, plan)?;
-    let bits = planned.log.bits();
+    match list_trials(alloc, plan, sweeping, planned.log.bits()) {
+        Ok(trials) => Ok(Begun { planned, trials }),
+        Err(fault) => Err(fault),
+    }
+}
+
+/// Lists what is to be tried of a plan whose run as it is has so many bits.
+fn list_trials(
+    alloc: Global,
+    plan: &Plan,
+    sweeping: &Sweeping,
+    bits: u32,
+) -> Result<Vec<Trial>, SweepFault>
+    requires { NamesNodeBelow sweeping.now (length plan.now.nodes) }
+    ensures ok { IfOk result (λ trials. (planned : RanValue) → IsRan plan.now planned → planned.log.bits ≡ bits →
+        IsBegun plan.now sweeping.now planned trials.items) }
+    ensures err { IfErr result (λ fault. (planned : RanValue) → IsRan plan.now planned → planned.log.bits ≡ bits →
+        IsSweepFault plan.now sweeping.now fault) }
+{
     let asked = asked_of(sweeping, plan.nodes(), bits);
     let runs = run_count(sweeping, plan.nodes(), bits, asked);
     check_runs(sweeping, plan, runs)?;
     check_room(sweeping, plan, runs)?;
     let trials = trials_of(alloc, sweeping, plan.nodes(), bits, asked)?;
-    Ok(Begun { planned, trials })
+    Ok(trials)
 }
 
 /// Looks whether the node that a sweep names is there, of so many.

@@ -9,7 +9,7 @@ use sja_link::{Entry, Journal};
 use std::alloc::{AllocError, Global};
 
 /// What a journal says between its bits.
-#[derive(Debug, Drop)]
+#[derive(Drop)]
 pub(crate) struct Between {
     /// The messages that were overrun, in order.
     pub(crate) overrun: Vec<Message>,

@@ -6,7 +6,7 @@ ghost use Rattle.sja_sweep.specs.FirstErrors.{error_at, is_new, first_bit, error
 use can_node::Cause;
 
 /// An error that a node found (Bosch CAN 2.0 part A, section 6.1).
-#[derive(Clone, Copy, Debug, PartialEq, Eq)]
+#[derive(Clone, Copy)]
 pub(crate) struct FirstError {
     /// The node that found it, counted from 0.
     pub(crate) node: usize,

@@ -15,7 +15,7 @@ use sja_replay::{Happening, Replay};
 use std::alloc::{AllocError, Global};
 
 /// A run, and the errors in it.
-#[derive(Debug, Drop)]
+#[derive(Drop)]
 pub(crate) struct Ran {
     /// Its log.
     pub(crate) log: RunLog,

@@ -10,7 +10,7 @@ use super::told::Told;
 use super::trial::Trial;
 
 /// Successive bits of one node, or of two, with one outcome.
-#[derive(Clone, Copy, Debug)]
+#[derive(Clone, Copy)]
 pub(crate) struct Span<'a> {
     /// What is struck in the first run.
     pub(crate) first: Trial,

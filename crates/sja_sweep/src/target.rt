@@ -1,7 +1,7 @@
 //! [`Target`]: a node and a bit to strike.
 
 /// A node and a bit to strike, both counted from 0.
-#[derive(Clone, Copy, Debug, PartialEq, Eq)]
+#[derive(Clone, Copy)]
 pub(crate) struct Target {
     /// The node.
     pub(crate) node: u8,

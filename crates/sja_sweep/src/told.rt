@@ -13,7 +13,7 @@ use sja_log::NodeRun;
 use std::alloc::{AllocError, Global};
 
 /// What came of one trial. It keeps words alone of the run.
-#[derive(Debug, Drop)]
+#[derive(Drop)]
 pub(crate) struct Told {
     /// What was struck.
     pub(crate) trial: Trial,
@@ -53,10 +53,10 @@ pub(crate) fn told_of(
 fn put_words(text: &mut String, items: &str, nodes: &[NodeRun]) -> Result<(), AllocError>
     ensures { OnOk result (string_bytes text.new ≡ string_bytes text.old ++ outcome_words items.now nodes.now) }
 {
-    if items.is_empty() {
-        text.push_str("; as without it")?;
+    text.push_str(if items.is_empty() {
+        "; as without it"
     } else {
-        text.push_str(items)?;
-    }
+        items
+    })?;
     put_counters(text, nodes)
 }

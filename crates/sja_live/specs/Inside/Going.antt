@@ -3,6 +3,7 @@ use Rattle.std.specs.Prelude.{◌≡◌, ◌⊎◌, ◌++◌, Option, Some, None
 use Rattle.std.specs.Io.KnownBytes.{Appends}
 use Rattle.sja_driver.specs.Deeds.{Deed}
 use Rattle.sja_driver_session.specs.declared.driver_session.DriverSession.{DriverSession}
+use Rattle.sja_live.specs.Beginning.{IsNewOf}
 use Rattle.sja_live.specs.Calls.{IsLiveAt}
 use Rattle.sja_live.specs.Ending.{IsLastLog}
 use Rattle.sja_live.specs.Lines.{first_line, behind_line, IsReadable}
@@ -69,3 +70,16 @@ Goes (Some input) (Some rest) (Some old) None s = ⊥
 Goes (Some input) (Some rest) (Some old) (Some new) s =
     (said : Text) × (deeds : List (List Deed)) × IsLiveAt s deeds × HasTalked input rest s deeds said
     × (new ≡ old ++ said)
+
+-- the first line opened this session, and what stands behind it is left
+pub record IsBegun (input left : Option Text) (s : DriverSession) : Type 0 where
+  pub opening : Opening
+  pub said : FirstSays input left (Ok opening)
+  pub new : IsNewOf s opening
+
+-- lines were answered, and the next one, behind which this is left, ends the talk, or there is none
+pub record IsOver (input left old new : Option Text) (now : DriverSession) : Type 0 where
+  pub last : DriverSession
+  pub rest : Option Text
+  pub goes : Goes input rest old new last
+  pub ends : (deeds : List (List Deed)) → IsLiveAt last deeds → IsNextAnswer rest left last now deeds None

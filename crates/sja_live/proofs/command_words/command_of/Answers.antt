@@ -3,7 +3,7 @@ use Rattle.std.specs.Prelude.{IfOk, IfErr}
 use Rattle.sja_live.specs.Commands.{AreCommandWords}
 use Rattle.sja_live.specs.Inside.Reading.{IsUnasked}
 use Rattle.sja_plan.specs.Words.{Text}
-use Rattle.sja_live.proofs.WordLists.{two_words, three_words, four_words, step_words, text_at}
+use Rattle.sja_live.proofs.WordLists.{one_word, two_words, three_words, four_words, step_words, text_at}
 use Rattle.sja_live.proofs.command_words.command_of.Goals as goal
 
 -- no word
@@ -22,10 +22,30 @@ returns-then-eq-clause-err c =
     subst (λ (l : List Text). IfErr c.step_of_node.result (IsUnasked c.args.version c.args.nodes l))
     (sym (step_words c.args.words.now none c.if-words-ge2.true name)) c.step_of_node.ensures.err
 
+pub returns-in-len1-clause-ok : goal.returns-in-len1-clause-ok
+returns-in-len1-clause-ok c =
+    subst (λ (l : List Text). IfOk c.of_one_word.result (λ x. AreCommandWords c.args.version c.args.nodes l x))
+    (sym (one_word c.args.words.now none c.in-len1.len_at_least c.in-len1.len_below)) c.of_one_word.ensures.ok
+
+pub returns-in-len1-clause-err : goal.returns-in-len1-clause-err
+returns-in-len1-clause-err c =
+    subst (λ (l : List Text). IfErr c.of_one_word.result (IsUnasked c.args.version c.args.nodes l))
+    (sym (one_word c.args.words.now none c.in-len1.len_at_least c.in-len1.len_below)) c.of_one_word.ensures.err
+
+pub returns-in-len2-clause-ok : goal.returns-in-len2-clause-ok
+returns-in-len2-clause-ok c =
+    subst (λ (l : List Text). IfOk c.of_two_words.result (λ x. AreCommandWords c.args.version c.args.nodes l x))
+    (sym (two_words c.args.words.now none c.in-len2.len_at_least c.in-len2.len_below)) c.of_two_words.ensures.ok
+
 pub returns-in-len2-clause-err : goal.returns-in-len2-clause-err
 returns-in-len2-clause-err c =
     subst (λ (l : List Text). IfErr c.of_two_words.result (IsUnasked c.args.version c.args.nodes l))
     (sym (two_words c.args.words.now none c.in-len2.len_at_least c.in-len2.len_below)) c.of_two_words.ensures.err
+
+pub returns-in-len3-clause-ok : goal.returns-in-len3-clause-ok
+returns-in-len3-clause-ok c =
+    subst (λ (l : List Text). IfOk c.of_three_words.result (λ x. AreCommandWords c.args.version c.args.nodes l x))
+    (sym (three_words c.args.words.now none c.in-len3.len_at_least c.in-len3.len_below)) c.of_three_words.ensures.ok
 
 pub returns-in-len3-clause-err : goal.returns-in-len3-clause-err
 returns-in-len3-clause-err c =

@@ -1,4 +1,7 @@
-use Rattle.std.proofs.Common.{arith}
+use Rattle.std.proofs.Common.{◌≡◌, arith, rules}
+use Rattle.std.specs.Prelude.{Err}
+use Rattle.lemmas.proofs.Results.{err_is}
+use Rattle.sja_live.proofs.BreakingOff.{line_begun, line_stopped}
 use Rattle.sja_live.proofs.LineBytes.{readable_line, takes_end, takes_line, within_more}
 use Rattle.sja_live.proofs.next_line.next_line.Goals as goal
 
@@ -30,3 +33,15 @@ loop-preserved g c =
       room = omega arith;
       count = omega arith;
     }
+
+-- a read failed behind some bytes
+pub returns-in_err-byte-clause-broken : goal.returns-in_err-byte-clause-broken
+returns-in_err-byte-clause-broken g c =
+    let f = c.in_err-byte.field-0.0 in
+    let is : c.from_residual-in_err-byte.result ≡ Err f = search rules in
+    err_is _ c.from_residual-in_err-byte.result f is (line_begun _ _ _ _ _ f c.loop.invariant.within
+    c.in_err-byte.ensures.err c.in_err-byte.ensures.kept)
+
+-- no more is read
+pub returns-clause-broken : goal.returns-clause-broken
+returns-clause-broken g c = line_stopped _ _ _ _ c.loop.invariant.within

@@ -16,3 +16,17 @@ returns-in_default-clause-ok g c =
     let asks : request_of c.args.task ≡ request_for false c.text_asked.result =
     cc (c.text_asked.ensures, c.in_default.of_run-is) in
     ok_then c.written.result (λ text has. once_printed _ c.text_asked.result _ _ _ asks has) c.written.ensures.ok
+
+-- what asks about no plan
+pub returns-in-Encode-clause-ok : goal.returns-in-Encode-clause-ok
+returns-in-Encode-clause-ok g c = rw c.in-Encode.is c.encoded.ensures.ok
+
+pub returns-in-Encode-clause-err : goal.returns-in-Encode-clause-err
+returns-in-Encode-clause-err g c = rw c.in-Encode.is c.encoded.ensures.err
+
+-- a sweep
+pub returns-in-Sweep-clause-ok : goal.returns-in-Sweep-clause-ok
+returns-in-Sweep-clause-ok g c = rw c.in-Sweep.is c.told_sweep.ensures.ok
+
+pub returns-in-Sweep-clause-err : goal.returns-in-Sweep-clause-err
+returns-in-Sweep-clause-err g c = rw c.in-Sweep.is c.told_sweep.ensures.err

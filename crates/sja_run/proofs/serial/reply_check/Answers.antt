@@ -11,6 +11,6 @@ returns-in-Ok-Mistake-clause-answered g c = λ wrote told.
     let mistake : HasMistake (g.R.Read.remaining c.args.input.now) (g.R.Read.remaining c.checked.new.input) text =
     search rules in
     let written = subst (λ bytes. Appends (g.E.Write.contents c.args.err.now.writer)
-    (g.E.Write.contents c.put-in-Ok-Mistake.new.self.writer) bytes) c.as_slice-in-Ok-Mistake.ensures.value
-    (c.put-in-Ok-Mistake.ensures.written told).1 in
+    (g.E.Write.contents c.put.new.self.writer) bytes) c.as_slice-in-Ok-Mistake.ensures.value
+    (c.put.ensures.written told).1 in
     inr (inr (text, refl, mistake, refl, Keeps-refl _, written))

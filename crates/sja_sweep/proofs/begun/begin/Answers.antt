@@ -1,30 +1,15 @@
-use Rattle.std.proofs.Common.{◌≡◌, ◌*◌, ◌<◌, ◌≤◌, ℕ, false, List, length, All, sym, ap, ap₂, ◌∙◌, subst, arith}
-use Rattle.sja_sweep.specs.declared.trial.Trial.{Trial}
-use Rattle.sja_sweep.specs.Targets.{trials_of}
-use Rattle.sja_sweep.specs.Inside.Reaching.{IsThere, NamesNodeBelow}
-use Rattle.sja_sweep.proofs.TrialLemmas.{all_there_if}
+use Rattle.std.proofs.Common.{sym, subst}
+use Rattle.sja_sweep.specs.Inside.Reaching.{NamesNodeBelow, ran_value}
 use Rattle.sja_sweep.proofs.begun.begin.Goals as goal
 
-pub returns-clause-ok : goal.returns-clause-ok
-returns-clause-ok c =
-    let plan = c.args.plan.now in
-    let s = c.args.sweeping.now in
-    let bits = c.in_ok-planned.planned.log.bits in
-    let asked = subst (λ (n : ℕ). NamesNodeBelow s n) c.nodes.ensures.value c.in_ok-check_node.ensures.ok in
-    let trials : c.in_ok-trials.trials.items ≡ trials_of s (length plan.nodes) bits =
-    c.in_ok-trials.ensures ∙ ap₂ (λ n b. trials_of s n b) c.nodes-4.ensures.value c.bits-bits.ensures in
-    let count : c.run_count-runs.result ≡ length (trials_of s (length plan.nodes) bits) =
-    c.run_count-runs.ensures.is
-    ∙ ap₂ (λ n b. length (trials_of s n b)) c.nodes-3.ensures.value c.bits-bits.ensures in
-    record {
-      as_planned = c.in_ok-planned.ensures.ok;
-      trials_are = trials;
-      there = subst (λ (l : List Trial). All (IsThere plan) l) (sym trials)
-          (all_there_if plan s bits asked
-          (λ some. c.in_ok-check_room.ensures.ok (omega (arith, some, count))));
-      few = subst (λ (n : ℕ). s.meant ≡ false → (n ≤ 20000) × (n * plan.bits ≤ 2000000000))
-          (count ∙ ap (λ (l : List Trial). length l) (sym trials)) c.in_ok-check_runs.ensures.ok;
-      room = λ some. c.in_ok-check_room.ensures.ok
-          (omega (arith, some, count, ap (λ (l : List Trial). length l) trials));
-      node = asked;
-    }
+pub list_trials-requires : goal.list_trials-requires
+list_trials-requires c =
+    subst (NamesNodeBelow c.args.sweeping.now) c.nodes.ensures.value c.in_ok-check_node.ensures.ok
+
+pub returns-in-Ok-clause-ok : goal.returns-in-Ok-clause-ok
+returns-in-Ok-clause-ok c =
+    c.in-Ok.ensures.ok (ran_value c.in_ok-planned.planned) c.in_ok-planned.ensures.ok (sym c.bits.ensures)
+
+pub returns-in-Err-clause-err : goal.returns-in-Err-clause-err
+returns-in-Err-clause-err c =
+    c.in-Err.ensures.err (ran_value c.in_ok-planned.planned) c.in_ok-planned.ensures.ok (sym c.bits.ensures)

@@ -1,0 +1,13 @@
+use Rattle.std.specs.Prelude.{Option}
+use Rattle.sja_live.specs.Calls.{IsLive}
+use Rattle.sja_live.specs.Inside.Going.{Goes, IsBegun}
+use Rattle.sja_live.proofs.talking.answer_lines.Given as goal
+use Rattle.sja_plan.specs.Words.{Text}
+
+-- the lines so far were answered
+abbrev pub invariant-loop : goal.invariant-loop
+invariant-loop g l = record {
+  goes : (before : Option Text) → IsBegun before (g.R.Read.remaining l.fn.input) l.fn.session →
+      Goes before (g.R.Read.remaining l.input) (g.W.Write.contents l.fn.out) (g.W.Write.contents l.out) l.session;
+  live : IsLive l.session;
+}
