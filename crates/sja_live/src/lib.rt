@@ -6,7 +6,7 @@
 //! report with which the talk ends.
 //!
 //! `specs/Calls.antt` says where its session stands, `specs/Answering.antt` what each command is answered, and
-//! `specs/Talking.antt` what a whole talk is. The tests stand in `crates/test_live`.
+//! `specs/Talking.antt` what a whole talk is. Its talks are rows of `crates/test_program`.
 #![tactic(auto)]
 
 mod answer_text;

@@ -24,7 +24,8 @@ use std::thread::Threads;
 ///   behind it is interrupted;
 /// - `each write` and `writes N N`: where writers take so many bytes, or writes;
 /// - `then WORDS`: what these words answer over what the first ones write, of its report the last node;
-/// - `last line`, `last node`, `lines FRONT`, `changes CODE`, `levels` and `values CODE`: a part of what is written.
+/// - `last line`, `last node`, `lines FRONT`, `talk`, `changes CODE`, `levels` and `values CODE`: a part of what is
+///   written.
 ///
 /// Where ` < each` stands behind the words, the numbers that are given fill the document's `@` one after another.
 pub(crate) fn answered<T: Threads + Wait + Sync>(

@@ -19,6 +19,7 @@ mod groups;
 mod narrow;
 mod parts;
 mod shelf;
+mod talks;
 mod tried;
 mod waves;
 mod ways;

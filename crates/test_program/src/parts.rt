@@ -2,6 +2,7 @@
 
 use super::answer::{head, put_lines};
 use super::fed::Fed;
+use super::talks::talk_of;
 use super::tried::tried;
 use super::waves::{changes_of, levels_of, values_of};
 use std::alloc::Global;
@@ -32,6 +33,7 @@ fn part_of(alloc: Global, text: &str, kind: &str, more: &str) -> io::Result<Stri
     match kind {
         "last" => last_of(alloc, text, more),
         "lines" => lines_of(alloc, text, more),
+        "talk" => talk_of(alloc, text),
         "changes" => Ok(format!(in alloc; "{}\n", changes_of(text, more))?),
         "levels" => Ok(format!(in alloc; "{}\n", levels_of(text))?),
         _ => values_of(alloc, text, more),

@@ -5,33 +5,51 @@
 use can_frame::OutOfMemory;
 use sja_bus::{Bus, SerialBoard, serial_links};
 use sja_script::{FaultScript, Strike};
+use std::alloc::Global;
+
+/// A bus of three nodes.
+fn bus_of_three(alloc: Global) -> Result<Bus, OutOfMemory> {
+    let steps = Vec::from_array(alloc, [10, 20, 30])?;
+    Bus::new(alloc, 100, steps, FaultScript::of(Vec::new(alloc)))
+}
+
+/// Whether it is at rest and has three nodes, where memory isn't refused.
+fn is_bus_of_three(alloc: Global) -> bool {
+    match bus_of_three(alloc) {
+        Ok(bus) => bus.at_rest() && bus.finish().len() == 3,
+        Err(refused) => refused == OutOfMemory,
+    }
+}
 
 #[test]
 fn refused_memory_gives_no_bus(rt: HostRuntime) {
-    let script = FaultScript::of(Vec::new(rt.alloc()));
-    let Ok(steps) = Vec::from_array(rt.alloc(), [10, 20, 30]) else {
-        return;
-    };
-    match Bus::new(rt.alloc(), 100, steps, script) {
-        Ok(bus) => assert!(rt; bus.at_rest() && bus.finish().len() == 3),
-        Err(refused) => assert!(rt; refused == OutOfMemory),
+    assert!(rt; is_bus_of_three(rt.alloc()));
+}
+
+/// Whether three nodes have 64 links each, where memory isn't refused.
+fn are_links_of_three(alloc: Global) -> bool {
+    match serial_links(alloc, 3) {
+        Ok(links) => links.len() == 192,
+        Err(refused) => refused == OutOfMemory,
     }
 }
 
 #[test]
 fn refused_memory_gives_no_links(rt: HostRuntime) {
-    match serial_links(rt.alloc(), 3) {
-        Ok(links) => assert!(rt; links.len() == 192),
-        Err(refused) => assert!(rt; refused == OutOfMemory),
+    assert!(rt; are_links_of_three(rt.alloc()));
+}
+
+/// Whether a board of three nodes has three ports, where memory isn't refused.
+fn are_ports_of_three(alloc: Global) -> bool {
+    match SerialBoard::new(alloc, 3, 1) {
+        Ok(board) => board.ports.len() == 3,
+        Err(refused) => refused == OutOfMemory,
     }
 }
 
 #[test]
 fn refused_memory_gives_no_board(rt: HostRuntime) {
-    match SerialBoard::new(rt.alloc(), 3, 1) {
-        Ok(board) => assert!(rt; board.ports.len() == 3),
-        Err(refused) => assert!(rt; refused == OutOfMemory),
-    }
+    assert!(rt; are_ports_of_three(rt.alloc()));
 }
 
 #[test]

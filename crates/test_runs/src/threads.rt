@@ -1,7 +1,6 @@
 //! Drivers in threads of their own, and a bus whose ports stand behind their locks, over links of two rings.
 
 mod accesses;
-mod addresses;
 mod configured;
 mod gates;
 mod given;
@@ -9,6 +8,5 @@ mod interrupts;
 mod meeting;
 mod part;
 mod passing;
-mod raw_runs;
 mod runs;
 mod steps;

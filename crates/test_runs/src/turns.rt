@@ -1,4 +1,3 @@
 //! Runs in one thread, turn by turn.
 
 mod bits;
-mod nodes;

@@ -1,6 +1,7 @@
 //! The first program of `docs/SESSIONS.md`.
 
 use can_frame::Message;
+use sja_log::RunLog;
 use sja_report::report;
 use sja_script::Step;
 use sja_session::Session;
@@ -22,23 +23,56 @@ activation 1 stored 1 overrun 0 free 64
 released 02 24 60 11 22
 ";
 
-/// The report of a session in which node 0 sends a message, and node 1 releases it.
-fn first(alloc: Global) -> Result<String, Fail> {
-    let mut session = Session::new(alloc, 1, 1000, 2)?;
-    session.step(1, Step::Start)?;
-    session.step(0, Step::Start)?;
-    session.step(0, Step::Load(Message::from_bytes(&TWO_BYTES)?))?;
-    session.step(0, Step::Command(1))?;
+/// A session of two nodes.
+fn session_of(alloc: Global) -> Result<Session, Fail> {
+    Ok(Session::new(alloc, 1, 1000, 2)?)
+}
+
+/// Does a step.
+fn step(session: &mut Session, node: u8, step: Step) -> Result<(), Fail> {
+    session.step(node, step)?;
+    Ok(())
+}
+
+/// Loads the message that node 0 sends.
+fn load(session: &mut Session) -> Result<(), Fail> {
+    step(session, 0, Step::Load(Message::from_bytes(&TWO_BYTES)?))
+}
+
+/// Runs a hundred bits.
+fn run(session: &mut Session) -> Result<(), Fail> {
     session.bits(100)?;
-    session.step(1, Step::Release)?;
+    Ok(())
+}
+
+/// Node 0 sends a message, and node 1 releases it.
+fn first(session: &mut Session) -> Result<(), Fail> {
+    step(session, 1, Step::Start)?;
+    step(session, 0, Step::Start)?;
+    load(session)?;
+    step(session, 0, Step::Command(1))?;
+    run(session)?;
+    step(session, 1, Step::Release)
+}
+
+/// The log of what was done.
+fn log_of(alloc: Global, session: Session) -> Result<RunLog, Fail> {
     let (_plan, log) = session.finish(alloc)?;
-    Ok(report(alloc, &log)?)
+    Ok(log)
+}
+
+/// Whether this is the report of a run.
+fn is_reported(alloc: Global, log: &RunLog, wanted: &str) -> Result<bool, Fail> {
+    let text = report(alloc, log)?;
+    Ok(text.as_str() == wanted)
 }
 
 /// The program gives this report.
 #[test]
 fn the_first_program_gives_its_report(rt: HostRuntime) -> Result<(), Fail> {
-    let text = first(rt.alloc())?;
-    assert!(rt; text.as_str() == REPORT);
+    let mut session = session_of(rt.alloc())?;
+    first(&mut session)?;
+    let log = log_of(rt.alloc(), session)?;
+    assert!(rt; is_reported(rt.alloc(), &log, REPORT)?);
     Ok(())
 }

@@ -33,13 +33,6 @@ pub fn one<T: Drop>(alloc: Global, first: T) -> Result<Vec<T>, Fail> {
     Ok(list)
 }
 
-/// A list of these two.
-pub fn two<T: Drop>(alloc: Global, first: T, second: T) -> Result<Vec<T>, Fail> {
-    let mut list = one(alloc, first)?;
-    list.push(second)?;
-    Ok(list)
-}
-
 /// Several of this message.
 pub fn several(alloc: Global, message: &Message, count: usize) -> Result<Vec<Message>, Fail> {
     let mut messages = Vec::new(alloc);

@@ -1,6 +1,6 @@
 //! Nodes with several activations: what belongs to which, and messages unread and overrun; what a log gives back.
 
-use super::given::{activation, enter, message, one, quiet, several, start, two};
+use super::given::{activation, enter, message, one, quiet, several, start};
 use can_frame::Message;
 use sja_link::{Entry, Journal, Up};
 use sja_log::{ActivationLog, End, NodeRun, RunLog};
@@ -55,18 +55,35 @@ overrun 00 00 e0
 /// A credit of 10 is none that a driver gives, and is counted as it is.
 fn overrun(alloc: Global, long: &Message) -> Result<Journal, Fail> {
     let mut journal = Journal::new(alloc, 200, 1_000)?;
-    enter(&mut journal, 0, start());
-    enter(&mut journal, 9, Entry::Stored(long.copy()));
-    enter(&mut journal, 1, start());
-    for _ in 0..4 {
-        enter(&mut journal, 9, Entry::Stored(long.copy()));
-    }
-    enter(&mut journal, 9, Entry::Overrun(long.copy()));
-    enter(&mut journal, 2, Entry::Up(Up::Credit(10)));
-    enter(&mut journal, 9, Entry::Stored(long.copy()));
-    enter(&mut journal, 9, Entry::Overrun(message(7)?));
-    enter(&mut journal, 0, Entry::Off);
+    let entries = &mut journal;
+    enter(entries, 0, start());
+    store(entries, long, 1);
+    enter(entries, 1, start());
+    store(entries, long, 4);
+    lose(entries, long);
+    enter(entries, 2, Entry::Up(Up::Credit(10)));
+    store(entries, long, 1);
+    lose_short(entries)?;
+    enter(entries, 0, Entry::Off);
     Ok(journal)
+}
+
+/// So many messages are stored, each behind nine bits.
+fn store(journal: &mut Journal, message: &Message, count: usize) {
+    for _ in 0..count {
+        enter(journal, 9, Entry::Stored(message.copy()));
+    }
+}
+
+/// A message is lost behind nine bits.
+fn lose(journal: &mut Journal, message: &Message) {
+    enter(journal, 9, Entry::Overrun(message.copy()));
+}
+
+/// So is the short one.
+fn lose_short(journal: &mut Journal) -> Result<(), Fail> {
+    lose(journal, &message(7)?);
+    Ok(())
 }
 
 /// The first activation left its message unread.
@@ -82,8 +99,10 @@ fn second(alloc: Global, long: &Message) -> Result<ActivationLog, Fail> {
 
 /// Both activations.
 fn both(alloc: Global, long: &Message) -> Result<Vec<ActivationLog>, Fail> {
-    let first = first(alloc, long)?;
-    two(alloc, first, second(alloc, long)?)
+    let mut list = Vec::new(alloc);
+    list.push(first(alloc, long)?)?;
+    list.push(second(alloc, long)?)?;
+    Ok(list)
 }
 
 /// The report of both.
@@ -107,26 +126,45 @@ activation 1 stored 0 overrun 0 free 64
 released 00 00 00
 ";
 
+/// A journal in which a message is stored without a start.
+fn unstarted(alloc: Global) -> Result<Journal, Fail> {
+    let message = message(1)?;
+    let mut journal = Journal::new(alloc, 200, 1_000)?;
+    enter(&mut journal, 40, Entry::Stored(message));
+    Ok(journal)
+}
+
+/// Its report, of an activation of which one message was released.
+fn not_begun(alloc: Global) -> Result<String, Fail> {
+    let released = several(alloc, &Message::default(), 1)?;
+    let activations = one(alloc, activation(released, Vec::new(alloc)))?;
+    told(alloc, End::Turns, unstarted(alloc)?, activations)
+}
+
 /// An activation whose start the journal hasn't is told as one without entries.
 #[test]
 fn an_activation_without_a_start_has_nothing_stored(rt: HostRuntime) -> Result<(), Fail> {
-    let alloc = rt.alloc();
-    let mut journal = Journal::new(alloc, 200, 1_000)?;
-    enter(&mut journal, 40, Entry::Stored(message(1)?));
-    let released = several(alloc, &Message::default(), 1)?;
-    let activations = one(alloc, activation(released, Vec::new(alloc)))?;
-    let text = told(alloc, End::Turns, journal, activations)?;
+    let text = not_begun(rt.alloc())?;
     assert!(rt; text.as_str() == NOT_BEGUN);
     Ok(())
+}
+
+/// An activation of which two messages were released and one was left unread.
+fn two_and_one(alloc: Global) -> Result<ActivationLog, Fail> {
+    let released = several(alloc, &Message::default(), 2)?;
+    Ok(ActivationLog::of(released, several(alloc, &message(5)?, 1)?))
+}
+
+/// How many messages were released, and how many left unread.
+fn numbers(log: &ActivationLog) -> (usize, usize) {
+    (log.released().len(), log.unread().len())
 }
 
 /// An activation gives back what it was made of.
 #[test]
 fn an_activation_gives_back_its_parts(rt: HostRuntime) -> Result<(), Fail> {
-    let alloc = rt.alloc();
-    let unread = one(alloc, message(5)?)?;
-    let log = ActivationLog::of(several(alloc, &Message::default(), 2)?, unread);
-    assert!(rt; log.released().len() == 2 && log.unread().len() == 1);
+    let log = two_and_one(rt.alloc())?;
+    assert!(rt; numbers(&log) == (2, 1));
     Ok(())
 }
 
@@ -138,16 +176,29 @@ fn started(alloc: Global) -> Result<NodeRun, Fail> {
     Ok(NodeRun::of(journal, 1, 2, Vec::new(alloc), activations))
 }
 
+/// Its error counters, and how many steps and activations it has.
+fn numbers_of(node: &NodeRun) -> (u8, u8, usize, usize) {
+    let (steps, activations) = (node.done().len(), node.activations().len());
+    (node.txerr(), node.rxerr(), steps, activations)
+}
+
+/// Whether a start is the first entry before a bit.
+fn begins_with_start(journal: &Journal) -> bool {
+    journal.between_bits().next() == Some(start())
+}
+
 /// So does a node.
 #[test]
 fn a_node_gives_back_its_parts(rt: HostRuntime) -> Result<(), Fail> {
     let node = started(rt.alloc())?;
-    assert!(rt; node.txerr() == 1);
-    assert!(rt; node.rxerr() == 2);
-    assert!(rt; node.done().is_empty());
-    assert!(rt; node.activations().len() == 1);
-    assert!(rt; node.journal().between_bits().next() == Some(start()));
+    assert!(rt; numbers_of(&node) == (1, 2, 0, 1));
+    assert!(rt; begins_with_start(node.journal()));
     Ok(())
+}
+
+/// Whether the log has these parts.
+fn are_parts(run: &RunLog) -> bool {
+    run.version() == 1 && run.bits() == 3 && run.end() == End::Rest && run.nodes().len() == 1
 }
 
 /// So does a run.
@@ -155,9 +206,6 @@ fn a_node_gives_back_its_parts(rt: HostRuntime) -> Result<(), Fail> {
 fn a_log_gives_back_its_parts(rt: HostRuntime) -> Result<(), Fail> {
     let nodes = one(rt.alloc(), started(rt.alloc())?)?;
     let run = RunLog::of(1, 3, End::Rest, nodes);
-    assert!(rt; run.version() == 1);
-    assert!(rt; run.bits() == 3);
-    assert!(rt; run.end() == End::Rest);
-    assert!(rt; run.nodes().len() == 1);
+    assert!(rt; are_parts(&run));
     Ok(())
 }

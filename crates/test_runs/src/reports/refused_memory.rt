@@ -2,10 +2,10 @@
 //!
 //! Each part answers well with and without memory, so that each allocation can be made to fail under it.
 
-use super::given::start;
+use super::given::{enter, quiet, start};
 use can_frame::{Message, OutOfMemory};
 use sja_link::{Entry, Journal};
-use sja_log::{ActivationLog, End, NodeRun, RunLog};
+use sja_log::{End, NodeRun, RunLog};
 use sja_report::report;
 use std::alloc::Global;
 
@@ -15,25 +15,41 @@ activation 1 stored 0 overrun 1 free 64
 overrun 00 00 00
 ";
 
-/// The log of a node that lost one message.
-fn one_lost(alloc: Global) -> Result<RunLog, OutOfMemory> {
+/// The journal of a node that lost one message.
+fn journal(alloc: Global) -> Result<Journal, OutOfMemory> {
     let mut journal = Journal::new(alloc, 20, 1_000)?;
-    let _ = journal.enter(start());
-    let _ = journal.enter(Entry::Overrun(Message::default()));
+    enter(&mut journal, 0, start());
+    enter(&mut journal, 0, Entry::Overrun(Message::default()));
+    Ok(journal)
+}
+
+/// That node.
+fn node(alloc: Global) -> Result<NodeRun, OutOfMemory> {
     let mut activations = Vec::with_capacity(alloc, 1)?;
-    activations.push_reserved(ActivationLog::of(Vec::new(alloc), Vec::new(alloc)));
+    activations.push_reserved(quiet(alloc));
+    let journal = journal(alloc)?;
+    Ok(NodeRun::of(journal, 0, 0, Vec::new(alloc), activations))
+}
+
+/// The log of its run.
+fn one_lost(alloc: Global) -> Result<RunLog, OutOfMemory> {
     let mut nodes = Vec::with_capacity(alloc, 1)?;
-    nodes.push_reserved(NodeRun::of(journal, 0, 0, Vec::new(alloc), activations));
+    nodes.push_reserved(node(alloc)?);
     Ok(RunLog::of(1, 20, End::Turns, nodes))
+}
+
+/// Whether the report of a log is whole, where memory isn't refused.
+fn is_whole(alloc: Global, log: &RunLog) -> bool {
+    match report(alloc, log) {
+        Ok(text) => text.as_str() == WHOLE,
+        Err(refused) => refused == OutOfMemory,
+    }
 }
 
 #[test]
 fn refused_memory_gives_the_report_or_is_told(rt: HostRuntime) {
     match one_lost(rt.alloc()) {
-        Ok(log) => match report(rt.alloc(), &log) {
-            Ok(text) => assert!(rt; text.as_str() == WHOLE),
-            Err(refused) => assert!(rt; refused == OutOfMemory),
-        },
+        Ok(log) => assert!(rt; is_whole(rt.alloc(), &log)),
         Err(refused) => assert!(rt; refused == OutOfMemory),
     }
 }

@@ -4,7 +4,7 @@ ghost use Rattle.std.specs.Prelude.{◌≡◌, ◌≤◌, length, IfOk};
 
 use super::told::Told;
 use super::worker::Worker;
-use can_frame::OutOfMemory;
+use can_frame::{Message, OutOfMemory};
 use sja_bus::{Bus, BusFault, NodeLog, SerialBoard, are_links_of};
 use sja_link::{Entry, LinkId, Up};
 use sja_plan::{Plan, Turn};
@@ -167,19 +167,34 @@ fn pairs_of(alloc: Global, node: u8, ends: &mut Vec<RingBus>) -> Result<Vec<Ring
 }
 
 /// The messages of an activation that found no room.
-fn overrun_of(
-    alloc: Global,
-    log: &NodeLog,
-    activation: u8,
-) -> Result<Vec<can_frame::Message>, Fail> {
+fn overrun_of(alloc: Global, log: &NodeLog, activation: u8) -> Result<Vec<Message>, Fail> {
     let mut overrun = Vec::new(alloc);
     let mut begun = 0u8;
     for entry in log.journal.entries() {
-        match entry {
-            Entry::Up(Up::Start(_)) => begun = begun.saturating_add(1),
-            Entry::Overrun(message) if begun == activation => overrun.push(message)?,
-            _ => {}
+        let lost = lost_by(entry, &mut begun);
+        if begun == activation {
+            push(&mut overrun, lost)?;
         }
     }
     Ok(overrun)
+}
+
+/// The message that an entry says is lost; a start counts as one more activation that has begun.
+fn lost_by(entry: Entry, begun: &mut u8) -> Option<Message> {
+    match entry {
+        Entry::Up(Up::Start(_)) => {
+            *begun = begun.saturating_add(1);
+            None
+        }
+        Entry::Overrun(message) => Some(message),
+        _ => None,
+    }
+}
+
+/// Adds a message where there is one.
+fn push(messages: &mut Vec<Message>, message: Option<Message>) -> Result<(), Fail> {
+    if let Some(message) = message {
+        messages.push(message)?;
+    }
+    Ok(())
 }

@@ -4,7 +4,6 @@ use super::gates::{HoldsOnce, Patience};
 use super::given::{are_answers, open_gates};
 use sja_log::{End, RunFault};
 use sja_plan::{Plan, read_plan};
-use sja_script::StepAnswer;
 use sja_threads::{EndedRun, Gate, run_accesses};
 use std::alloc::Global;
 use std::sync::Wait;
@@ -31,7 +30,7 @@ steps = [
 
 /// Bytes of registers that have no effect on the bus, and writes that do nothing: of a register that is only read, of
 /// CMR in reset mode, and of BTR0 out of it.
-pub const KEPT: &str = "version = 3
+const KEPT: &str = "version = 3
 bits = 100
 [[node]]
 steps = [
@@ -59,7 +58,7 @@ fn run_of<G: Gate, R: Threads + Wait + Sync>(
 }
 
 /// The run of a plan.
-pub fn run<G: Gate, R: Threads + Wait + Sync>(
+fn run<G: Gate, R: Threads + Wait + Sync>(
     rt: &R,
     alloc: Global,
     text: &str,
@@ -72,108 +71,48 @@ pub fn run<G: Gate, R: Threads + Wait + Sync>(
     }
 }
 
-/// Fails where these aren't the answers of this node's steps, or there were as many typed steps.
+/// Fails where these aren't the answers of this node's steps, in the words of a report with `, ` between two, or there
+/// were not so many typed steps.
 fn answers(
+    alloc: Global,
     ended: &EndedRun,
     node: usize,
-    expected: &[StepAnswer],
+    expected: &str,
     typed: usize,
 ) -> Result<(), Fail> {
     let Some(done) = ended.accesses.get(node) else {
         return Err("no such node")?;
     };
-    are_answers(done.as_slice(), expected)?;
+    are_answers(alloc, done.as_slice(), expected)?;
     match ended.log.nodes().get(node) {
         Some(run) if run.done().len() == typed => Ok(()),
         _ => Err("another number of typed steps")?,
     }
 }
 
-/// The answer of a write, or of a wait that passed.
-const DONE: StepAnswer = StepAnswer::Done;
-
-/// The answer of a read.
-pub fn value(byte: u8) -> StepAnswer {
-    StepAnswer::Value(byte)
-}
-
 /// What the driver that sends is answered.
-fn sent() -> [StepAnswer; 14] {
-    [
-        DONE,
-        DONE,
-        value(0),
-        DONE,
-        DONE,
-        DONE,
-        DONE,
-        DONE,
-        DONE,
-        DONE,
-        value(2),
-        value(0),
-        DONE,
-        value(1),
-    ]
-}
+const SENT: &str = "ok, ok, 00, ok, ok, ok, ok, ok, ok, ok, 02, 00, ok, 01";
 
 /// What the driver that receives is answered.
-fn received() -> [StepAnswer; 15] {
-    [
-        DONE,
-        DONE,
-        DONE,
-        value(1),
-        value(1),
-        value(0x02),
-        value(0x24),
-        value(0x60),
-        value(0x11),
-        value(0x22),
-        value(0),
-        DONE,
-        value(0),
-        value(5),
-        value(0),
-    ]
-}
+const RECEIVED: &str = "ok, ok, ok, 01, 01, 02, 24, 60, 11, 22, 00, ok, 00, 05, 00";
 
 #[test]
 fn a_frame_is_sent_and_read_by_bytes(rt: HostRuntime) -> Result<(), Fail> {
     let gates = open_gates(rt.alloc(), 2)?;
     let ended = run(&rt, rt.alloc(), PASSING, gates)?;
     assert!(rt; ended.log.end() == End::Rest);
-    answers(&ended, 0, &sent(), 14)?;
-    answers(&ended, 1, &received(), 15)?;
-    Ok(())
+    answers(rt.alloc(), &ended, 0, SENT, 14)?;
+    answers(rt.alloc(), &ended, 1, RECEIVED, 15)
 }
 
 /// What the driver that reads its registers is answered.
-fn kept() -> [StepAnswer; 14] {
-    [
-        DONE,
-        DONE,
-        DONE,
-        DONE,
-        DONE,
-        DONE,
-        value(0x03),
-        value(0x1c),
-        value(0x1a),
-        value(0xc8),
-        value(0x3c),
-        DONE,
-        DONE,
-        value(0x03),
-    ]
-}
+const READ_BACK: &str = "ok, ok, ok, ok, ok, ok, 03, 1c, 1a, c8, 3c, ok, ok, 03";
 
 #[test]
 fn kept_registers_are_read_back(rt: HostRuntime) -> Result<(), Fail> {
     let gates = open_gates(rt.alloc(), 1)?;
     let ended = run(&rt, rt.alloc(), KEPT, gates)?;
-    answers(&ended, 0, &kept(), 13)?;
-    Ok(())
+    answers(rt.alloc(), &ended, 0, READ_BACK, 13)
 }
 
 /// Each gate holds each step once.
@@ -182,9 +121,7 @@ fn a_write_of_the_mode_is_up_to_two_steps(rt: HostRuntime) -> Result<(), Fail> {
     let mut gates = Vec::new(rt.alloc());
     gates.push(HoldsOnce { last: 7 })?;
     let ended = run(&rt, rt.alloc(), MODES, gates)?;
-    let expected = [DONE, value(2), DONE, DONE, value(3), DONE, value(4)];
-    answers(&ended, 0, &expected, 9)?;
-    Ok(())
+    answers(rt.alloc(), &ended, 0, "ok, 02, ok, ok, 03, ok, 04", 9)
 }
 
 /// It quits before the second try of the wait that is the third step.
@@ -201,9 +138,8 @@ steps = [\"write 0 00\", \"read 0\", \"interrupt\", \"read 3\"]
 steps = []
 ";
     let ended = run(&rt, rt.alloc(), text, gates)?;
-    answers(&ended, 0, &[DONE, value(0)], 2)?;
-    answers(&ended, 1, &[], 0)?;
-    Ok(())
+    answers(rt.alloc(), &ended, 0, "ok, 00", 2)?;
+    answers(rt.alloc(), &ended, 1, "", 0)
 }
 
 /// Whether a run of two nodes with so many gates is refused.

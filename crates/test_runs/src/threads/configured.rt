@@ -1,11 +1,9 @@
 //! A run of controllers that their drivers have configured by writes, in version 2.
 
-use super::given::{are_answers, counts, run, two_gates};
-use can_frame::Message;
+use super::given::{are_answers, ended, two_gates};
 use sja_log::{End, RunLog};
-use sja_script::StepAnswer;
+use std::alloc::Global;
 use std::test::Fail;
-use test_frames::TWO_BYTES;
 
 /// Node 0 sets a single filter that passes only the frame with identifier 123 (hexadecimal) and the data 11 22, and
 /// receives until it has one message. Node 1 sets self test, and sends the frame with identifier 089 and then that one.
@@ -36,85 +34,39 @@ const FIRST: [(u32, u64); 3] = [(25, 13), (0, 0), (0, 0)];
 
 const SECOND: [(u32, u64); 3] = [(10, 23), (0, 0), (0, 0)];
 
+/// What the driver of the receiver is answered. After power-on MOD is 01 and ACR0 00. In reset mode SR is 3c: TBS, TCS,
+/// RS and TS are 1. MOD's bit 0 is 0 out of reset mode, and at 16 stands the first byte of the message then.
+const RECEIVER: &str = "01, 3c, 00, ok, ok, ok, ok, ok, ok, ok, ok, ok, 09, 3c, 24, \
+    ok, ok, 08, 02, 02 24 60 11 22, 5, ok, 09, 24, 3c";
+
+/// What that of the sender is: every wait passes, the last one with nobody to acknowledge.
+const SENDER: &str = "ok, 05, ok, ok, ok, ok, ok, ok, ok, ok, ok, ok, 04";
+
 /// Fails where the driver of this node was answered otherwise.
-fn answered(log: &RunLog, node: usize, expected: &[StepAnswer]) -> Result<(), Fail> {
+fn answered(alloc: Global, log: &RunLog, node: usize, expected: &str) -> Result<(), Fail> {
     match log.nodes().get(node) {
-        Some(run) => are_answers(run.done(), expected),
+        Some(run) => are_answers(alloc, run.done(), expected),
         None => Err("no such node")?,
     }
 }
 
-/// After power-on MOD is 01 and ACR0 00. In reset mode SR is 3c: TBS, TCS, RS and TS are 1. MOD's bit 0 is 0 out of
-/// reset mode, and at 16 stands the first byte of the message then.
-fn answers_of_the_receiver(log: &RunLog) -> Result<(), Fail> {
-    answered(
-        log,
-        0,
-        &[
-            StepAnswer::Value(0x01),
-            StepAnswer::Value(0x3c),
-            StepAnswer::Value(0x00),
-            StepAnswer::Done,
-            StepAnswer::Done,
-            StepAnswer::Done,
-            StepAnswer::Done,
-            StepAnswer::Done,
-            StepAnswer::Done,
-            StepAnswer::Done,
-            StepAnswer::Done,
-            StepAnswer::Done,
-            StepAnswer::Value(0x09),
-            StepAnswer::Value(0x3c),
-            StepAnswer::Value(0x24),
-            StepAnswer::Done,
-            StepAnswer::Done,
-            StepAnswer::Value(0x08),
-            StepAnswer::Value(0x02),
-            StepAnswer::Shown(Message::from_bytes(&TWO_BYTES)?),
-            StepAnswer::Released(5),
-            StepAnswer::Done,
-            StepAnswer::Value(0x09),
-            StepAnswer::Value(0x24),
-            StepAnswer::Value(0x3c),
-        ],
-    )
-}
-
-/// Every wait passes, the last one with nobody to acknowledge.
-fn answers_of_the_sender(log: &RunLog) -> Result<(), Fail> {
-    answered(
-        log,
-        1,
-        &[
-            StepAnswer::Done,
-            StepAnswer::Value(0x05),
-            StepAnswer::Done,
-            StepAnswer::Done,
-            StepAnswer::Done,
-            StepAnswer::Done,
-            StepAnswer::Done,
-            StepAnswer::Done,
-            StepAnswer::Done,
-            StepAnswer::Done,
-            StepAnswer::Done,
-            StepAnswer::Done,
-            StepAnswer::Value(0x04),
-        ],
-    )
+/// Fails where an error counter of a node isn't 0.
+fn are_clean(log: &RunLog) -> Result<(), Fail> {
+    for node in log.nodes() {
+        if node.txerr() != 0 || node.rxerr() != 0 {
+            return Err("an error was counted")?;
+        }
+    }
+    Ok(())
 }
 
 /// A message that the filter should have stopped would have come first, and been released or left unread.
 #[test]
 fn what_a_driver_writes_decides_what_is_stored(rt: HostRuntime) -> Result<(), Fail> {
     let gates = two_gates(rt.alloc(), FIRST, SECOND)?;
-    let log = run(&rt, rt.alloc(), CONFIGURED, gates)?;
-    assert!(rt; log.end() == End::Rest);
-    answers_of_the_receiver(&log)?;
-    answers_of_the_sender(&log)?;
-    assert!(rt; counts(&log, 0)? == (25, 1, 0));
-    assert!(rt; counts(&log, 1)? == (13, 0, 0));
-    for node in log.nodes() {
-        assert!(rt; (node.txerr(), node.rxerr()) == (0, 0));
-    }
-    Ok(())
+    let counts = [(25, 1, 0), (13, 0, 0)];
+    let log = ended(&rt, rt.alloc(), CONFIGURED, gates, End::Rest, &counts)?;
+    answered(rt.alloc(), &log, 0, RECEIVER)?;
+    answered(rt.alloc(), &log, 1, SENDER)?;
+    are_clean(&log)
 }

@@ -6,8 +6,9 @@ use sja_link::LinkId;
 use sja_log::{End, RunFault, RunLog};
 use sja_plan::{Plan, read_plan};
 use sja_regs::Port;
+use sja_report::put_answer;
 use sja_rings::{RingBus, RingDriver, ring_pair};
-use sja_script::{Done, Refusal, Step, StepAnswer};
+use sja_script::{Done, Step};
 use sja_threads::{Gate, Worked, run_threads, work};
 use std::alloc::Global;
 use std::sync::atomic::AtomicU64;
@@ -27,17 +28,23 @@ pub fn pairs(alloc: Global) -> Result<(Vec<RingBus>, Vec<RingDriver>), Fail> {
     let mut ends = Vec::with_capacity(alloc, 64)?;
     let mut links = Vec::with_capacity(alloc, 64)?;
     for activation in 1..=64 {
-        let (bus, driver) = ring_pair(
-            alloc,
-            LinkId {
-                node: 0,
-                activation,
-            },
-        )?;
-        ends.push(bus)?;
-        links.push(driver)?;
+        push_pair(alloc, activation, &mut ends, &mut links)?;
     }
     Ok((ends, links))
+}
+
+/// Adds the ends of a link of node 0.
+fn push_pair(
+    alloc: Global,
+    activation: u8,
+    ends: &mut Vec<RingBus>,
+    links: &mut Vec<RingDriver>,
+) -> Result<(), Fail> {
+    let node = 0;
+    let (bus, driver) = ring_pair(alloc, LinkId { node, activation })?;
+    ends.push(bus)?;
+    links.push(driver)?;
+    Ok(())
 }
 
 /// The part of node 0's driver at these ends, with a log of its own.
@@ -56,31 +63,32 @@ pub fn drive<G: Gate>(
     Ok(work(rt, 0, links, port, steps, gate, log))
 }
 
-/// Fails where these aren't the answers of the steps that were done.
-pub fn answers(worked: &Worked<RingDriver>, expected: &[StepAnswer]) -> Result<(), Fail> {
-    are_answers(worked.driver.log().done(), expected)
+/// Fails where these aren't the answers of the steps that were done, in the words of a report with `, ` between two.
+pub fn answers(alloc: Global, worked: &Worked<RingDriver>, expected: &str) -> Result<(), Fail> {
+    are_answers(alloc, worked.driver.log().done(), expected)
 }
 
 /// Fails where these aren't the answers of these steps.
-pub fn are_answers(done: &[Done], expected: &[StepAnswer]) -> Result<(), Fail> {
-    if done.len() != expected.len() {
-        return Err("another number of steps")?;
+pub fn are_answers(alloc: Global, done: &[Done], expected: &str) -> Result<(), Fail> {
+    let mut text = String::new(alloc);
+    for step in done {
+        put_step(&mut text, step)?;
     }
-    for place in 0..done.len() {
-        match expected.get(place) {
-            Some(answer) if done[place].answer == *answer => {}
-            _ => return Err("another answer")?,
-        }
+    if text.as_str().strip_prefix(", ").unwrap_or("") != expected {
+        return Err("another answer")?;
     }
     Ok(())
 }
 
+/// Adds what a step answers.
+fn put_step(text: &mut String, step: &Done) -> Result<(), Fail> {
+    text.push(',')?;
+    put_answer(text, &step.answer)?;
+    Ok(())
+}
+
 /// What is answered where just the wait of [`WAITS`] is refused, since the port is closed.
-pub const GAVE_UP: [StepAnswer; 3] = [
-    StepAnswer::Done,
-    StepAnswer::Refused(Refusal::Closed),
-    StepAnswer::Done,
-];
+pub const GAVE_UP: &str = "ok, refused Closed, ok";
 
 /// So many gates that let every step go.
 pub fn open_gates(alloc: Global, nodes: usize) -> Result<Vec<Open>, Fail> {

@@ -5,7 +5,7 @@ use super::part::Part;
 use super::passing::{HANDED, released};
 use can_frame::Message;
 use sja_regs::address::{IER, IR};
-use sja_script::{Step, StepAnswer};
+use sja_script::Step;
 use std::test::Fail;
 
 /// A driver that waits looks again until a message has come.
@@ -18,22 +18,16 @@ fn a_message_raises_the_line(rt: HostRuntime) -> Result<(), Fail> {
         Step::Release,
         Step::Stop,
     ];
-    let expected = [
-        StepAnswer::Done,
-        StepAnswer::Done,
-        StepAnswer::Done,
-        StepAnswer::Released(3),
-        StepAnswer::Done,
-    ];
+    let expected = "ok, ok, ok, 3, ok";
     let part = Part::HandOver(Message::from_bytes(&HANDED)?);
-    assert!(rt; released(&rt, rt.alloc(), &steps, part, &expected)? == 1);
+    assert!(rt; released(&rt, rt.alloc(), &steps, part, expected)? == 1);
     Ok(())
 }
 
 #[test]
 fn a_wait_for_the_line_is_given_up_with_the_bits(rt: HostRuntime) -> Result<(), Fail> {
     let steps = [Step::Start, Step::Interrupt, Step::Stop];
-    assert!(rt; released(&rt, rt.alloc(), &steps, Part::Shut, &GAVE_UP)? == 0);
+    assert!(rt; released(&rt, rt.alloc(), &steps, Part::Shut, GAVE_UP)? == 0);
     Ok(())
 }
 
@@ -47,13 +41,7 @@ fn a_bit_raises_the_line(rt: HostRuntime) -> Result<(), Fail> {
         Step::Read(IR),
         Step::Stop,
     ];
-    let expected = [
-        StepAnswer::Done,
-        StepAnswer::Done,
-        StepAnswer::Done,
-        StepAnswer::Value(0x04),
-        StepAnswer::Done,
-    ];
-    assert!(rt; released(&rt, rt.alloc(), &steps, Part::Warn, &expected)? == 0);
+    let expected = "ok, ok, ok, 04, ok";
+    assert!(rt; released(&rt, rt.alloc(), &steps, Part::Warn, expected)? == 0);
     Ok(())
 }

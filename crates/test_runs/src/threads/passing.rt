@@ -6,7 +6,7 @@ use super::part::Part;
 use can_frame::Message;
 use sja_regs::Port;
 use sja_rings::RingDriver;
-use sja_script::{Step, StepAnswer};
+use sja_script::Step;
 use sja_threads::Worked;
 use std::alloc::Global;
 use std::sync::{Mutex, Wait};
@@ -43,14 +43,14 @@ pub fn released<R: Threads + Wait + Sync>(
     alloc: Global,
     steps: &[Step],
     part: Part,
-    expected: &[StepAnswer],
+    expected: &str,
 ) -> Result<usize, Fail> {
     let ports = [Mutex::new(Port::new(1))];
     let (worked, passed) = both(rt, alloc, &ports, steps, part)?;
     if !passed || !ports[0].lock(rt).orders().ended {
         return Err("another item came, or the driver hasn't ended")?;
     }
-    answers(&worked, expected)?;
+    answers(alloc, &worked, expected)?;
     Ok(worked.driver.log().released().len())
 }
 
@@ -63,20 +63,14 @@ fn a_message_goes_from_thread_to_thread(rt: HostRuntime) -> Result<(), Fail> {
         Step::Release,
         Step::Stop,
     ];
-    let expected = [
-        StepAnswer::Done,
-        StepAnswer::Done,
-        StepAnswer::Shown(Message::from_bytes(&HANDED)?),
-        StepAnswer::Released(3),
-        StepAnswer::Done,
-    ];
+    let expected = "ok, ok, 00 24 40, 3, ok";
     let part = Part::HandOver(Message::from_bytes(&HANDED)?);
-    assert!(rt; released(&rt, rt.alloc(), &steps, part, &expected)? == 1);
+    assert!(rt; released(&rt, rt.alloc(), &steps, part, expected)? == 1);
     Ok(())
 }
 
 #[test]
 fn a_wait_is_given_up_once_the_board_closes_the_port(rt: HostRuntime) -> Result<(), Fail> {
-    assert!(rt; released(&rt, rt.alloc(), &WAITS, Part::Shut, &GAVE_UP)? == 0);
+    assert!(rt; released(&rt, rt.alloc(), &WAITS, Part::Shut, GAVE_UP)? == 0);
     Ok(())
 }

@@ -1,7 +1,8 @@
-//! Whole runs in threads.
+//! Whole runs in threads whose gates quit, or are too few or too many. Whole runs with open gates stand in the rows of
+//! `test_program`.
 
 use super::gates::Patience;
-use super::given::{bits_of, ended, open_gates, run_of};
+use super::given::{bits_of, open_gates, run_of};
 use sja_log::{End, RunFault};
 use sja_plan::read_plan;
 use std::alloc::Global;
@@ -16,13 +17,6 @@ bits = 2000
 steps = [\"start\", \"load 0224601122\", \"command 01\", \"sent\", \"stop\"]
 [[node]]
 steps = [\"start\", \"await 1\", \"window\", \"release\", \"stop\"]
-";
-
-/// Node 0 sends to nobody.
-const ALONE: &str = "version = 1
-bits = 1000
-[[node]]
-steps = [\"start\", \"load 000000\", \"command 01\", \"sent\", \"stop\"]
 ";
 
 /// Node 0 waits for a message that never comes, and node 1 only starts.
@@ -41,43 +35,12 @@ bits = 11
 steps = [\"start\", \"await 1\"]
 ";
 
-/// Node 0 sends to node 1, whose driver has no step; and node 2 has started.
-const ENDED: &str = "version = 1
-bits = 2000
-[[node]]
-steps = [\"start\", \"load 0224601122\", \"command 01\", \"sent\"]
-[[node]]
-steps = []
-[[node]]
-steps = [\"start\"]
-";
-
 /// Two gates that quit at the 1000th try of a step.
 fn patient_gates(alloc: Global) -> Result<Vec<Patience>, Fail> {
     let mut gates = Vec::new(alloc);
     gates.push(Patience { tries: 1_000 })?;
     gates.push(Patience { tries: 1_000 })?;
     Ok(gates)
-}
-
-#[test]
-fn a_frame_is_released_in_the_other_thread(rt: HostRuntime) -> Result<(), Fail> {
-    let gates = open_gates(rt.alloc(), 2)?;
-    let counts = [(5, 0, 0), (5, 1, 0)];
-    let _ = bits_of(&rt, rt.alloc(), PASSING, gates, End::Rest, &counts)?;
-    Ok(())
-}
-
-/// It is error passive after 16 frames that nobody acknowledged, and counts no further.
-#[test]
-fn a_lone_sender_spends_its_bits(rt: HostRuntime) -> Result<(), Fail> {
-    let gates = open_gates(rt.alloc(), 1)?;
-    let log = ended(&rt, rt.alloc(), ALONE, gates, End::Bits, &[(5, 0, 0)])?;
-    assert!(rt; log.bits() == 1000);
-    for node in log.nodes() {
-        assert!(rt; (node.txerr(), node.rxerr()) == (128, 0));
-    }
-    Ok(())
 }
 
 /// A started node is at rest after eleven bits. The driver of node 0 gives up its second step.
@@ -96,15 +59,6 @@ fn a_wait_with_all_bits_spent_at_rest_is_left_to_the_gate(rt: HostRuntime) -> Re
     gates.push(Patience { tries: 1_000 })?;
     let counts = [(1, 0, 0)];
     assert!(rt; bits_of(&rt, rt.alloc(), WAITING_ALONE, gates, End::Rest, &counts)? == 11);
-    Ok(())
-}
-
-/// Node 1's driver has ended before the first bit, which waits for it no longer. Its controller stays in reset.
-#[test]
-fn a_driver_that_has_ended_is_not_waited_for(rt: HostRuntime) -> Result<(), Fail> {
-    let gates = open_gates(rt.alloc(), 3)?;
-    let counts = [(4, 0, 0), (0, 0, 0), (1, 0, 1)];
-    let _ = bits_of(&rt, rt.alloc(), ENDED, gates, End::Rest, &counts)?;
     Ok(())
 }
 

@@ -3,7 +3,7 @@
 use super::gates::{HoldsOnce, Open, Patience};
 use super::given::{GAVE_UP, WAITS, answers, drive, pairs};
 use sja_regs::Port;
-use sja_script::{Step, StepAnswer};
+use sja_script::Step;
 use sja_threads::Gate;
 use std::alloc::Global;
 use std::sync::{Mutex, Wait};
@@ -20,14 +20,14 @@ fn activation_of<G: Gate>(
     port: &Mutex<Port>,
     steps: &[Step],
     gate: G,
-    expected: &[StepAnswer],
+    expected: &str,
 ) -> Result<u8, Fail> {
     let (_ends, links) = pairs(alloc)?;
     let worked = drive(rt, alloc, links, port, steps, gate)?;
     if !port.lock(rt).orders().ended || worked.links.len() != 64 {
         return Err("not ended, or another number of links")?;
     }
-    answers(&worked, expected)?;
+    answers(alloc, &worked, expected)?;
     Ok(worked.driver.activation())
 }
 
@@ -35,8 +35,7 @@ fn activation_of<G: Gate>(
 fn a_gate_that_quits_ends_the_script(rt: HostRuntime) -> Result<(), Fail> {
     let port = Mutex::new(Port::new(1));
     let gate = Patience { tries: 1_000 };
-    let expected = [StepAnswer::Done];
-    assert!(rt; activation_of(&rt, rt.alloc(), &port, &WAITS, gate, &expected)? == 1);
+    assert!(rt; activation_of(&rt, rt.alloc(), &port, &WAITS, gate, "ok")? == 1);
     Ok(())
 }
 
@@ -44,8 +43,7 @@ fn a_gate_that_quits_ends_the_script(rt: HostRuntime) -> Result<(), Fail> {
 fn a_step_that_is_held_is_tried_again(rt: HostRuntime) -> Result<(), Fail> {
     let port = Mutex::new(Port::new(1));
     let gate = HoldsOnce { last: 3 };
-    let expected = [StepAnswer::Done, StepAnswer::NoMessage, StepAnswer::Done];
-    let _ = activation_of(&rt, rt.alloc(), &port, &LOOKS, gate, &expected)?;
+    let _ = activation_of(&rt, rt.alloc(), &port, &LOOKS, gate, "ok, none, ok")?;
     Ok(())
 }
 
@@ -53,8 +51,7 @@ fn a_step_that_is_held_is_tried_again(rt: HostRuntime) -> Result<(), Fail> {
 fn steps_are_counted_from_1(rt: HostRuntime) -> Result<(), Fail> {
     let port = Mutex::new(Port::new(1));
     let gate = HoldsOnce { last: 2 };
-    let expected = [StepAnswer::Done, StepAnswer::NoMessage];
-    assert!(rt; activation_of(&rt, rt.alloc(), &port, &LOOKS, gate, &expected)? == 1);
+    assert!(rt; activation_of(&rt, rt.alloc(), &port, &LOOKS, gate, "ok, none")? == 1);
     Ok(())
 }
 
@@ -62,13 +59,13 @@ fn steps_are_counted_from_1(rt: HostRuntime) -> Result<(), Fail> {
 fn a_wait_at_a_closed_port_is_given_up(rt: HostRuntime) -> Result<(), Fail> {
     let port = Mutex::new(Port::new(1));
     port.lock(&rt).close();
-    let _ = activation_of(&rt, rt.alloc(), &port, &WAITS, Open, &GAVE_UP)?;
+    let _ = activation_of(&rt, rt.alloc(), &port, &WAITS, Open, GAVE_UP)?;
     Ok(())
 }
 
 #[test]
 fn a_script_without_steps_only_ends(rt: HostRuntime) -> Result<(), Fail> {
     let port = Mutex::new(Port::new(1));
-    assert!(rt; activation_of(&rt, rt.alloc(), &port, &[], Open, &[])? == 0);
+    assert!(rt; activation_of(&rt, rt.alloc(), &port, &[], Open, "")? == 0);
     Ok(())
 }

@@ -2,7 +2,7 @@
 
 use Level::{Dominant, Recessive};
 use can_bits::Level;
-use can_frame::Message;
+use can_frame::{Message, OutOfMemory};
 use sja_link::{Entry, Journal, Up};
 use sja_log::{End, NodeRun, RunLog};
 use sja_wave::wave;
@@ -80,45 +80,55 @@ fn node(alloc: Global, journal: Journal) -> NodeRun {
     NodeRun::of(journal, 0, 0, Vec::new(alloc), Vec::new(alloc))
 }
 
-/// It is active from the first bit on, and is struck in the last two, after which it goes bus-off.
-fn struck(alloc: Global) -> Result<NodeRun, Fail> {
+/// A journal of these entries, each by its word; a bit by what the node drives and what it sees, `d` dominant and `r`
+/// recessive.
+fn journal(alloc: Global, words: &str) -> Result<Journal, OutOfMemory> {
     let mut journal = Journal::new(alloc, 10, 1_000)?;
-    let _ = journal.enter(Entry::Up(Up::Start(PLAIN)));
-    let _ = journal.enter(Entry::Bit(Dominant, Dominant));
-    let _ = journal.enter(Entry::Bit(Recessive, Dominant));
-    let _ = journal.enter(Entry::Stored(Message::default()));
-    let _ = journal.enter(Entry::Bit(Recessive, Recessive));
-    let _ = journal.enter(Entry::Bit(Recessive, Dominant));
-    let _ = journal.enter(Entry::Abort);
-    let _ = journal.enter(Entry::Bit(Recessive, Dominant));
-    let _ = journal.enter(Entry::Off);
-    Ok(node(alloc, journal))
+    for word in words.split(' ') {
+        let _ = journal.enter(entry(word));
+    }
+    Ok(journal)
 }
 
-/// It starts before bit 1, and stops after the last one.
-fn stopped(alloc: Global) -> Result<NodeRun, Fail> {
-    let mut journal = Journal::new(alloc, 10, 1_000)?;
-    let _ = journal.enter(Entry::Bit(Recessive, Dominant));
-    let _ = journal.enter(Entry::Up(Up::Start(PLAIN)));
-    let _ = journal.enter(Entry::Bit(Dominant, Dominant));
-    let _ = journal.enter(Entry::Bit(Recessive, Recessive));
-    let _ = journal.enter(Entry::Overrun(Message::default()));
-    let _ = journal.enter(Entry::Up(Up::Credit(3)));
-    let _ = journal.enter(Entry::Bit(Recessive, Recessive));
-    let _ = journal.enter(Entry::Bit(Recessive, Recessive));
-    let _ = journal.enter(Entry::Stored(Message::default()));
-    let _ = journal.enter(Entry::Up(Up::Stop));
-    Ok(node(alloc, journal))
+/// The entry that a word is.
+fn entry(word: &str) -> Entry {
+    match word {
+        "start" => Entry::Up(Up::Start(PLAIN)),
+        "stop" => Entry::Up(Up::Stop),
+        "credit" => Entry::Up(Up::Credit(3)),
+        "stored" => Entry::Stored(Message::default()),
+        "overrun" => Entry::Overrun(Message::default()),
+        "abort" => Entry::Abort,
+        "off" => Entry::Off,
+        bit => Entry::Bit(level(bit.starts_with('d')), level(bit.ends_with('d'))),
+    }
+}
+
+/// Dominant, or recessive.
+fn level(is_dominant: bool) -> Level {
+    if is_dominant { Dominant } else { Recessive }
+}
+
+/// Node 0 is active from the first bit on, and is struck in the last two, after which it goes bus-off.
+const STRUCK: &str = "start dd rd stored rr rd abort rd off";
+
+/// Node 1 starts before bit 1, and stops after the last one.
+const STOPPED: &str = "rd start dd rr overrun credit rr rr stored stop";
+
+/// The wave of both.
+fn shown(alloc: Global) -> Result<String, Fail> {
+    let mut nodes = Vec::new(alloc);
+    nodes.push(node(alloc, journal(alloc, STRUCK)?))?;
+    nodes.push(node(alloc, journal(alloc, STOPPED)?))?;
+    Ok(wave(alloc, &RunLog::of(1, 5, End::Bits, nodes))?)
 }
 
 #[test]
 fn five_bits_of_two_nodes_are_shown(rt: HostRuntime) -> Result<(), Fail> {
-    let alloc = rt.alloc();
-    let mut nodes = Vec::new(alloc);
-    nodes.push(struck(alloc)?)?;
-    nodes.push(stopped(alloc)?)?;
-    let text = wave(alloc, &RunLog::of(1, 5, End::Bits, nodes))?;
-    let after = text.strip_prefix(DECLARED);
-    assert!(rt; after == Some(FIVE_BITS), "{text}");
+    let text = shown(rt.alloc())?;
+    assert!(rt;
+        text.as_str().strip_prefix(DECLARED) == Some(FIVE_BITS),
+        "{text}"
+    );
     Ok(())
 }

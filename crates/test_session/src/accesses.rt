@@ -1,6 +1,8 @@
 //! A session of version 3 from the first access to the report.
 
 use super::calls::{bits, ended, read, run_of, session_of, step, write};
+use sja_log::RunLog;
+use sja_plan::Plan;
 use sja_plan_session::PlanSession;
 use sja_regs::address::{BUFFER, CMR, IER, IR, MOD, SR};
 use sja_report::report;
@@ -39,12 +41,10 @@ fn rest(session: &mut PlanSession) -> Result<(), Fail> {
 }
 
 /// Node 1 enables its receive interrupt, and node 0 sends.
-fn begun(alloc: Global) -> Result<PlanSession, Fail> {
-    let mut session = session_of(alloc, 1000, 2)?;
-    write(&mut session, 1, IER, 0x01)?;
-    write(&mut session, 1, MOD, 0x00)?;
-    send(&mut session)?;
-    Ok(session)
+fn begin(session: &mut PlanSession) -> Result<(), Fail> {
+    write(session, 1, IER, 0x01)?;
+    write(session, 1, MOD, 0x00)?;
+    send(session)
 }
 
 /// What node 1 reads of the message: IR, SR, and the second byte of the receive buffer.
@@ -66,33 +66,40 @@ fn status_at_rest(session: &mut PlanSession) -> Result<u8, Fail> {
     read(session, 0, SR)
 }
 
-/// The report of the session, and that of a run of the plan that it wrote.
-fn both_reports(alloc: Global, session: PlanSession) -> Result<(String, String), Fail> {
-    let (plan, log) = ended(alloc, session)?;
-    let again = run_of(alloc, &plan)?;
-    Ok((report(alloc, &log)?, report(alloc, &again)?))
+/// Whether node 1 is told, reads the message and releases it, and node 0, which waits meanwhile, has sent it.
+fn goes(session: &mut PlanSession) -> Result<bool, Fail> {
+    Ok(
+        line_rises(session)?
+            && received(session)? == [0x01, 0x1d, 0x24]
+            && released(session)? == 0x00
+            && step(session, 0, Step::Sent)? == Answered::Waits
+            && status_at_rest(session)? == 0x0c,
+    )
+}
+
+/// Whether a log has the report that has to come out.
+fn is_wanted(alloc: Global, log: &RunLog) -> Result<bool, Fail> {
+    let text = report(alloc, log)?;
+    Ok(text.as_str() == REPORT)
+}
+
+/// Whether a run of this plan has.
+fn runs_as_wanted(alloc: Global, plan: &Plan) -> Result<bool, Fail> {
+    let log = run_of(alloc, plan)?;
+    is_wanted(alloc, &log)
 }
 
 /// Node 0 sends a message by addresses alone, node 1 is told by its interrupt line. The report has a line for each
 /// access: a write is `ok`, a read its value.
 #[test]
 fn a_message_goes_by_accesses(rt: HostRuntime) -> Result<(), Fail> {
-    let alloc = rt.alloc();
-    let mut session = begun(alloc)?;
-    assert!(rt; line_rises(&mut session)?);
-    assert!(rt; received(&mut session)? == [0x01, 0x1d, 0x24]);
-    assert!(rt; released(&mut session)? == 0x00);
-    assert!(rt; step(&mut session, 0, Step::Sent)? == Answered::Waits);
-    assert!(rt; status_at_rest(&mut session)? == 0x0c);
-    let (told, again) = both_reports(alloc, session)?;
-    assert!(rt; is_wanted(told.as_str()));
-    assert!(rt; is_wanted(again.as_str()));
+    let mut session = session_of(rt.alloc(), 1000, 2)?;
+    begin(&mut session)?;
+    assert!(rt; goes(&mut session)?);
+    let (plan, log) = ended(rt.alloc(), session)?;
+    assert!(rt; is_wanted(rt.alloc(), &log)?);
+    assert!(rt; runs_as_wanted(rt.alloc(), &plan)?);
     Ok(())
-}
-
-/// Whether this is what has to come out.
-fn is_wanted(report: &str) -> bool {
-    report == REPORT
 }
 
 /// What comes out.

@@ -35,9 +35,14 @@ pub(crate) fn step(session: &mut PlanSession, node: u8, step: Step) -> Result<An
     Ok(session.step(node, step)?)
 }
 
-/// The answer of a node's last step.
-pub(crate) fn answer(session: &PlanSession, node: u8) -> Option<StepAnswer> {
-    session.answer(node)
+/// Whether this is the answer of a node's last step.
+pub(crate) fn has(session: &PlanSession, node: u8, wanted: StepAnswer) -> bool {
+    session.answer(node) == Some(wanted)
+}
+
+/// Whether no step of a node has an answer.
+pub(crate) fn has_none(session: &PlanSession, node: u8) -> bool {
+    session.answer(node).is_none()
 }
 
 /// Runs so many bits.
