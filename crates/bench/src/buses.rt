@@ -40,21 +40,31 @@ pub fn told(alloc: Global, count: u32, traffic: Traffic) -> Option<String> {
 /// How many messages were released in a run of so many frames, the last ones after it.
 fn released_of(alloc: Global, frames: u32, traffic: Traffic) -> Option<u64> {
     let bits = frames.checked_mul(BITS)?.checked_add(WAITING)?;
-    let mut station = Station::new(alloc, traffic.nodes, bits)?;
     let messages = messages_of(alloc, traffic)?;
+    let mut station = Station::new(alloc, traffic.nodes, bits)?;
+    released_in(&mut station, messages.as_slice(), frames, traffic)
+}
+
+/// The same, on this bus with these messages.
+fn released_in(
+    station: &mut Station,
+    messages: &[Message],
+    frames: u32,
+    traffic: Traffic,
+) -> Option<u64> {
     if !station.bits(WAITING, traffic.at_once) {
         return None;
     }
     let mut released = 0u64;
     for _ in 0..frames {
-        ask(&mut station, messages.as_slice());
+        ask(station, messages);
         if !station.bits(BITS, traffic.at_once) {
             return None;
         }
-        released = released.wrapping_add(release_each(&mut station, traffic.nodes));
+        released = released.wrapping_add(release_each(station, traffic.nodes));
     }
     for _ in 0..MOST_HELD {
-        released = released.wrapping_add(release_each(&mut station, traffic.nodes));
+        released = released.wrapping_add(release_each(station, traffic.nodes));
     }
     Some(released)
 }

@@ -115,31 +115,40 @@ const IDLE_STRETCH: Traffic = Traffic {
 impl Figure {
     /// The figure of this name.
     pub fn named(name: &str) -> Option<Figure> {
-        match name {
-            "shift" => Some(Figure::Shift),
-            "line" => Some(Figure::Line),
-            "node" => Some(Figure::Node),
-            "idle" => Some(Figure::Idle),
-            "hearing" => Some(Figure::Hearing),
-            "sending" => Some(Figure::Sending),
-            "faults" => Some(Figure::Faults),
-            "contending" => Some(Figure::Contending),
-            "stream" => Some(Figure::Stream),
-            "bus-stream" => Some(Figure::BusStream),
-            "bus-contending" => Some(Figure::BusContending),
-            "bus-idle" => Some(Figure::BusIdle),
-            "bus-idle-stretch" => Some(Figure::BusIdleStretch),
-            "plan" => Some(Figure::Plan),
-            "comments" => Some(Figure::Comments),
-            "numbers" => Some(Figure::Numbers),
-            "words" => Some(Figure::Words),
-            "tables" => Some(Figure::Tables),
-            "session-read" => Some(Figure::SessionRead),
-            "session-write" => Some(Figure::SessionWrite),
-            "session-command" => Some(Figure::SessionCommand),
-            "session-stream" => Some(Figure::SessionStream),
-            "talk" => Some(Figure::Talk),
-            _ => None,
+        for figure in FIGURES {
+            if figure.name() == name {
+                return Some(figure);
+            }
+        }
+        None
+    }
+
+    /// Its name.
+    fn name(self) -> &'static str {
+        match self {
+            Figure::Shift => "shift",
+            Figure::Line => "line",
+            Figure::Node => "node",
+            Figure::Idle => "idle",
+            Figure::Hearing => "hearing",
+            Figure::Sending => "sending",
+            Figure::Faults => "faults",
+            Figure::Contending => "contending",
+            Figure::Stream => "stream",
+            Figure::BusStream => "bus-stream",
+            Figure::BusContending => "bus-contending",
+            Figure::BusIdle => "bus-idle",
+            Figure::BusIdleStretch => "bus-idle-stretch",
+            Figure::Plan => "plan",
+            Figure::Comments => "comments",
+            Figure::Numbers => "numbers",
+            Figure::Words => "words",
+            Figure::Tables => "tables",
+            Figure::SessionRead => "session-read",
+            Figure::SessionWrite => "session-write",
+            Figure::SessionCommand => "session-command",
+            Figure::SessionStream => "session-stream",
+            Figure::Talk => "talk",
         }
     }
 

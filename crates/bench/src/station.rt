@@ -35,19 +35,13 @@ impl Station {
         if nodes == 0 || nodes > MOST_NODES || bits == 0 || bits > MOST_BITS {
             return None;
         }
-        let Ok(bus) = plain_bus(alloc, nodes, bits) else {
-            return None;
-        };
-        let mut links = serial_links(alloc, nodes).ok()?;
-        let mut board = SerialBoard::new(alloc, nodes, 1).ok()?;
-        let mut drivers = Vec::with_capacity(alloc, usize::from(nodes)).ok()?;
-        for node in 0..nodes {
-            let driver = started(node, links.as_mut_slice(), &mut board)?;
-            drivers.push(driver).ok()?;
-        }
+        let (links, board, drivers) = ends_of(alloc, nodes)?;
         if !are_links_of(links.as_slice(), nodes) || board.ports.len() < usize::from(nodes) {
             return None;
         }
+        let Ok(bus) = plain_bus(alloc, nodes, bits) else {
+            return None;
+        };
         Some(Station {
             bus,
             links,
@@ -121,6 +115,31 @@ fn plain_bus(alloc: Global, nodes: u8, bits: u32) -> Result<Bus, OutOfMemory>
 {
     let steps = Vec::from_elem(alloc, 1_000, usize::from(nodes))?;
     Bus::new(alloc, bits, steps, FaultScript::of(Vec::new(alloc)))
+}
+
+/// The links and the ports of so many nodes, and their drivers.
+type Ends = (Vec<DequeLink>, SerialBoard, Vec<Driver<Active>>);
+
+/// The links and the ports of so many nodes, and a driver of each, started on its first link.
+fn ends_of(alloc: Global, nodes: u8) -> Option<Ends> {
+    let mut links = serial_links(alloc, nodes).ok()?;
+    let mut board = SerialBoard::new(alloc, nodes, 1).ok()?;
+    let drivers = drivers_of(alloc, nodes, links.as_mut_slice(), &mut board)?;
+    Some((links, board, drivers))
+}
+
+/// The drivers of so many nodes, each started on its first link.
+fn drivers_of(
+    alloc: Global,
+    nodes: u8,
+    links: &mut [DequeLink],
+    board: &mut SerialBoard,
+) -> Option<Vec<Driver<Active>>> {
+    let mut drivers = Vec::with_capacity(alloc, usize::from(nodes)).ok()?;
+    for node in 0..nodes {
+        drivers.push(started(node, links, board)?).ok()?;
+    }
+    Some(drivers)
 }
 
 /// The driver of this node, started on its first link.

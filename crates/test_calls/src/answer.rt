@@ -51,54 +51,127 @@ pub enum Answer {
 
 impl fmt::Display for Answer {
     fn fmt<W: fmt::Write>(&self, f: &mut fmt::Formatter<W>) -> fmt::Result {
-        match self {
-            Answer::Done => write!(f, "ok"),
-            Answer::Step(answer) => write!(f, "{}", Told(answer)),
-            Answer::OtherLast(answer) => write!(f, "{} and another last", Told(answer)),
-            Answer::Waits => write!(f, "waits"),
-            Answer::Nothing => write!(f, "none"),
-            Answer::Said(true) => write!(f, "yes"),
-            Answer::Said(false) => write!(f, "no"),
-            Answer::Count(count) => write!(f, "{count}"),
-            Answer::Byte(value) => write!(f, "{value:02x}"),
-            Answer::Rested(rested) => write_rested(f, *rested),
-            Answer::Watched(watched) => write_watched(f, *watched),
-            Answer::Times(count, value) => write!(f, "{count} times {value:02x}"),
-            Answer::Rose(rose) => write_rose(f, *rose),
-            Answer::Kept(kept) => write_kept(f, *kept),
-            Answer::Room(room) => write!(f, "{} steps {} turns", room.steps, room.turns),
-            Answer::NoSession(fault) => write!(f, "{fault:?}"),
-            Answer::NoStep(fault) => write!(f, "{fault:?}"),
-            Answer::NoStrike(fault) => write!(f, "{fault:?}"),
-            Answer::NoTurn(fault) => write!(f, "{fault:?}"),
-            Answer::Unread => write!(f, "?"),
+        match self.word() {
+            Some(word) => f.write_str(word),
+            None => write_answer(f, self),
         }
     }
 }
 
+impl Answer {
+    /// The word for it, where it is one.
+    fn word(&self) -> Option<&'static str> {
+        match self {
+            Answer::Done => Some("ok"),
+            Answer::Waits => Some("waits"),
+            Answer::Nothing => Some("none"),
+            Answer::Said(true) => Some("yes"),
+            Answer::Said(false) => Some("no"),
+            Answer::Unread => Some("?"),
+            _ => None,
+        }
+    }
+}
+
+/// Writes an answer of more than a word.
+fn write_answer<W: fmt::Write>(f: &mut fmt::Formatter<W>, answer: &Answer) -> fmt::Result {
+    match answer {
+        Answer::Step(answer) => fmt::Display::fmt(&Told(answer), f),
+        Answer::OtherLast(answer) => write_other(f, answer),
+        Answer::Rested(rested) => write_rested(f, *rested),
+        Answer::Watched(watched) => write_watched(f, *watched),
+        Answer::Rose(rose) => write_rose(f, *rose),
+        Answer::Kept(kept) => write_kept(f, *kept),
+        Answer::Room(room) => write_room(f, *room),
+        _ => write_number(f, answer),
+    }
+}
+
+/// Writes a number.
+fn write_number<W: fmt::Write>(f: &mut fmt::Formatter<W>, answer: &Answer) -> fmt::Result {
+    match answer {
+        Answer::Count(count) => fmt::Display::fmt(count, f),
+        Answer::Byte(value) => write_byte(f, *value),
+        Answer::Times(count, value) => write_times(f, *count, *value),
+        _ => write_fault(f, answer),
+    }
+}
+
+/// Writes why something isn't done.
+fn write_fault<W: fmt::Write>(f: &mut fmt::Formatter<W>, answer: &Answer) -> fmt::Result {
+    match answer {
+        Answer::NoSession(fault) => fmt::Debug::fmt(fault, f),
+        Answer::NoStep(fault) => fmt::Debug::fmt(fault, f),
+        Answer::NoStrike(fault) => fmt::Debug::fmt(fault, f),
+        Answer::NoTurn(fault) => fmt::Debug::fmt(fault, f),
+        _ => Ok(()),
+    }
+}
+
+/// Writes a byte.
+fn write_byte<W: fmt::Write>(f: &mut fmt::Formatter<W>, value: u8) -> fmt::Result {
+    write!(f, "{value:02x}")
+}
+
+/// Writes an answer that isn't the one that the session tells as the node's last.
+fn write_other<W: fmt::Write>(f: &mut fmt::Formatter<W>, answer: &StepAnswer) -> fmt::Result {
+    fmt::Display::fmt(&Told(answer), f)?;
+    f.write_str(" and another last")
+}
+
+/// Writes how many reads have one value.
+fn write_times<W: fmt::Write>(f: &mut fmt::Formatter<W>, count: u32, value: u8) -> fmt::Result {
+    fmt::Display::fmt(&count, f)?;
+    write_named(f, " times ", value)
+}
+
+/// Writes room for steps and turns.
+fn write_room<W: fmt::Write>(f: &mut fmt::Formatter<W>, room: SessionRoom) -> fmt::Result {
+    fmt::Display::fmt(&room.steps, f)?;
+    f.write_str(" steps ")?;
+    fmt::Display::fmt(&room.turns, f)?;
+    f.write_str(" turns")
+}
+
 /// Writes bits until all are at rest.
 fn write_rested<W: fmt::Write>(f: &mut fmt::Formatter<W>, rested: Rested) -> fmt::Result {
-    let rest = if rested.at_rest { "rest" } else { "no rest" };
-    write!(f, "{} to {rest}", rested.bits)
+    fmt::Display::fmt(&rested.bits, f)?;
+    f.write_str(if rested.at_rest {
+        " to rest"
+    } else {
+        " to no rest"
+    })
 }
 
 /// Writes bits until a line rises.
 fn write_watched<W: fmt::Write>(f: &mut fmt::Formatter<W>, watched: Watched) -> fmt::Result {
-    write!(f, "{} ", watched.bits)?;
+    fmt::Display::fmt(&watched.bits, f)?;
+    f.write_str(" ")?;
     write_rose(f, watched.rose)
 }
 
 /// Writes whose line rose.
 fn write_rose<W: fmt::Write>(f: &mut fmt::Formatter<W>, rose: Option<u8>) -> fmt::Result {
     match rose {
-        Some(node) => write!(f, "rose {node}"),
-        None => write!(f, "none rose"),
+        Some(node) => {
+            f.write_str("rose ")?;
+            fmt::Display::fmt(&node, f)
+        }
+        None => f.write_str("none rose"),
     }
 }
 
 /// Writes the registers that are kept for a driver.
 fn write_kept<W: fmt::Write>(f: &mut fmt::Formatter<W>, kept: KeptBytes) -> fmt::Result {
-    let (btr0, btr1, ocr) = (kept.btr0, kept.btr1, kept.ocr);
-    write!(f, "btr0 {btr0:02x} btr1 {btr1:02x} ocr {ocr:02x}")?;
-    write!(f, " rbsa {:02x} cdr {:02x}", kept.rbsa, kept.cdr)
+    write_named(f, "btr0 ", kept.btr0)?;
+    write_named(f, " btr1 ", kept.btr1)?;
+    write_named(f, " ocr ", kept.ocr)?;
+    write_named(f, " rbsa ", kept.rbsa)?;
+    write_named(f, " cdr ", kept.cdr)
+}
+
+/// Writes a byte behind its name.
+fn write_named<W: fmt::Write>(f: &mut fmt::Formatter<W>, name: &str, value: u8) -> fmt::Result {
+    f.write_str(name)?;
+    write_byte(f, value)
 }

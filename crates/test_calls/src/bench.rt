@@ -1,4 +1,4 @@
-//! [`Bench`]: the session of a row, and what its calls have answered.
+//! [`Bench`]: the session of a row.
 
 use super::answer::Answer;
 use super::calls::{byte_by_byte, called, node_of, number};
@@ -7,139 +7,160 @@ use super::held::Held;
 use super::struck::alike;
 use sja_session::{SessionFault, SessionRoom};
 use std::alloc::{AllocError, Global};
-use std::{fmt, io};
+use std::fmt;
 
-/// A session, if one was made, and what was answered.
+/// A session, if one was made.
 #[derive(Drop)]
 pub struct Bench {
     alloc: Global,
     held: Option<Held>,
-    text: String,
 }
 
 impl Bench {
     /// Without a session.
     pub fn new(alloc: Global) -> Bench {
-        Bench {
-            alloc,
-            held: None,
-            text: String::new(alloc),
-        }
+        Bench { alloc, held: None }
     }
 
-    /// What was answered, each answer behind a blank.
-    pub fn told(self) -> String {
-        self.text
-    }
-
-    /// Does a call, and writes what it answers.
+    /// Does a call, and writes what it answers, each answer behind a blank.
     ///
     /// `new 1 1000 2`, a session of this version with so many bits and nodes, and `raw 1 1000 2`, one of drivers that
     /// know addresses and bytes alone, `new 1 1000 2 3 4` with room for so many steps and turns; `most 3`, the most
     /// room; `alike 0 11 76`, of [`alike`]; `plan`, what the plan so far has; those that end a session, of [`ended`];
     /// and those of `calls`.
-    pub fn does(&mut self, words: &[&str]) -> io::Result<()> {
-        match words {
-            ["new", words @ ..] => self.begins(words, false),
-            ["raw", words @ ..] => self.begins(words, true),
-            ["most", version] => {
-                let room = node_of(version).map(|version| Answer::Room(SessionRoom::most(version)));
-                self.says(room)
-            }
-            ["alike", node, from, to] => {
-                let same = alike(self.alloc, node, from, to)?;
-                self.says(same.map(Answer::Count))
-            }
-            ["plan"] => self.plans(),
-            ["end", words @ ..] => self.ends(words),
-            ["read" | "write", ..] => self.passes_bytes(words),
-            _ => {
-                let answer = match &mut self.held {
-                    Some(held) => called(self.alloc, held, words),
-                    None => None,
-                };
-                self.says(answer)
-            }
+    pub fn does(&mut self, text: &mut String, words: &[&str]) -> Result<(), AllocError> {
+        let [name, rest @ ..] = words else {
+            return text.push_str(" ?");
+        };
+        match *name {
+            "new" | "raw" => self.begins(text, rest, *name == "raw"),
+            "most" => say_asked(self.alloc, text, most(rest)),
+            "alike" => say_alike(self.alloc, text, rest),
+            "plan" => self.plans(text),
+            "end" => self.ends(text, rest),
+            "read" | "write" => self.passes_bytes(text, words),
+            _ => self.calls(text, words),
         }
     }
 
-    /// Writes an answer; none is of a row that isn't written as rows are.
-    fn says(&mut self, answer: Option<Answer>) -> io::Result<()> {
-        say(self.alloc, &mut self.text, answer.unwrap_or(Answer::Unread))
-    }
-
     /// Makes a session.
-    fn begins(&mut self, words: &[&str], raw: bool) -> io::Result<()> {
-        match made(self.alloc, words, raw) {
-            Some(Ok(held)) => {
+    fn begins(&mut self, text: &mut String, words: &[&str], raw: bool) -> Result<(), AllocError> {
+        let Some(asked) = asked_of(words) else {
+            return text.push_str(" ?");
+        };
+        match held_of(self.alloc, asked, raw) {
+            Ok(held) => {
                 self.held = Some(held);
                 Ok(())
             }
-            Some(Err(fault)) => self.says(Some(Answer::NoSession(fault))),
-            None => self.says(None),
+            Err(fault) => say(self.alloc, text, Answer::NoSession(fault)),
+        }
+    }
+
+    /// Does a call of the session.
+    fn calls(&mut self, text: &mut String, words: &[&str]) -> Result<(), AllocError> {
+        match &mut self.held {
+            Some(held) => say_asked(self.alloc, text, called(self.alloc, held, words)),
+            None => text.push_str(" ?"),
         }
     }
 
     /// Reads or writes bytes at addresses, one after the other.
-    fn passes_bytes(&mut self, words: &[&str]) -> io::Result<()> {
+    fn passes_bytes(&mut self, text: &mut String, words: &[&str]) -> Result<(), AllocError> {
         match &mut self.held {
-            Some(held) => byte_by_byte(self.alloc, &mut self.text, held, words),
-            None => self.says(None),
+            Some(held) => byte_by_byte(self.alloc, text, held, words),
+            None => text.push_str(" ?"),
         }
     }
 
     /// Writes what the plan so far has.
-    fn plans(&mut self) -> io::Result<()> {
+    fn plans(&mut self, text: &mut String) -> Result<(), AllocError> {
         match &self.held {
-            Some(held) => {
-                let plan = held.plan(self.alloc).map_err(|_| AllocError)?;
-                push_plan(self.alloc, &mut self.text, &plan)
-            }
-            None => self.says(None),
+            Some(held) => push_plan_of(self.alloc, text, held),
+            None => text.push_str(" ?"),
         }
     }
 
     /// Ends the session.
-    fn ends(&mut self, words: &[&str]) -> io::Result<()> {
+    fn ends(&mut self, text: &mut String, words: &[&str]) -> Result<(), AllocError> {
         match self.held.take() {
-            Some(held) => ended(self.alloc, &mut self.text, held, words),
-            None => self.says(None),
+            Some(held) => ended(self.alloc, text, held, words),
+            None => text.push_str(" ?"),
         }
     }
 }
 
 /// Writes an answer behind a blank.
-pub fn say<D: fmt::Display + Drop>(alloc: Global, text: &mut String, answer: D) -> io::Result<()> {
+pub fn say<D: fmt::Display + Drop>(
+    alloc: Global,
+    text: &mut String,
+    answer: D,
+) -> Result<(), AllocError> {
     let said = format!(in alloc; " {answer}")?;
-    text.push_str(said.as_str())?;
-    Ok(())
+    text.push_str(said.as_str())
 }
 
-/// The session of these words; none where they say none.
-fn made(alloc: Global, words: &[&str], raw: bool) -> Option<Result<Held, SessionFault>> {
+/// Writes an answer behind a blank; none is of a row that isn't written as rows are.
+pub fn say_asked(
+    alloc: Global,
+    text: &mut String,
+    answer: Option<Answer>,
+) -> Result<(), AllocError> {
+    match answer {
+        Some(answer) => say(alloc, text, answer),
+        None => text.push_str(" ?"),
+    }
+}
+
+/// The most room of a version.
+fn most(rest: &[&str]) -> Option<Answer> {
+    let [version] = rest else {
+        return None;
+    };
+    Some(Answer::Room(SessionRoom::most(node_of(version)?)))
+}
+
+/// Writes what [`alike`] answers.
+fn say_alike(alloc: Global, text: &mut String, rest: &[&str]) -> Result<(), AllocError> {
+    match alike(alloc, rest)? {
+        Some(count) => say(alloc, text, Answer::Count(count)),
+        None => text.push_str(" ?"),
+    }
+}
+
+/// Writes what the plan of a session so far has.
+fn push_plan_of(alloc: Global, text: &mut String, held: &Held) -> Result<(), AllocError> {
+    let plan = held.plan(alloc).map_err(|_| AllocError)?;
+    push_plan(alloc, text, &plan)
+}
+
+/// What is asked of a session: its version, its bits and its nodes, and room where some is asked for.
+type Asked = (u8, u32, u8, Option<SessionRoom>);
+
+/// What these words ask; none where they say none.
+fn asked_of(words: &[&str]) -> Option<Asked> {
+    let [version, bits, nodes, room @ ..] = words else {
+        return None;
+    };
+    let room = room_of(room)?;
+    Some((node_of(version)?, number(bits)?, node_of(nodes)?, room))
+}
+
+/// The room of these words, where they are some; none where they say none.
+fn room_of(words: &[&str]) -> Option<Option<SessionRoom>> {
     match words {
-        [version, bits, nodes] => {
-            let asked = (node_of(version)?, number(bits)?, node_of(nodes)?);
-            Some(held_of(alloc, asked, None, raw))
-        }
-        [version, bits, nodes, steps, turns] => {
-            let asked = (node_of(version)?, number(bits)?, node_of(nodes)?);
-            let (steps, turns) = (number(steps)?, number(turns)?);
-            let room = SessionRoom { steps, turns };
-            Some(held_of(alloc, asked, Some(room), raw))
-        }
+        [] => Some(None),
+        [steps, turns] => Some(Some(SessionRoom {
+            steps: number(steps)?,
+            turns: number(turns)?,
+        })),
         _ => None,
     }
 }
 
-/// The session of this version, with so many bits and nodes, and with this room where some is asked for.
-fn held_of(
-    alloc: Global,
-    asked: (u8, u32, u8),
-    room: Option<SessionRoom>,
-    raw: bool,
-) -> Result<Held, SessionFault> {
-    let (version, bits, nodes) = asked;
+/// The session that is asked for.
+fn held_of(alloc: Global, asked: Asked, raw: bool) -> Result<Held, SessionFault> {
+    let (version, bits, nodes, room) = asked;
     if raw {
         Held::raw(alloc, version, bits, nodes, room)
     } else {

@@ -1,13 +1,12 @@
 //! Calls of a session in words.
 
 use super::answer::Answer;
-use super::bench::say;
+use super::bench::say_asked;
 use super::held::Held;
 use super::many::many;
 use sja_script::Step;
 use sja_session::Answered;
-use std::alloc::Global;
-use std::io;
+use std::alloc::{AllocError, Global};
 use test_words::{address, byte, step_of};
 
 /// The number that a word of decimal digits is.
@@ -26,22 +25,18 @@ pub fn node_of(word: &str) -> Option<u8> {
 /// alone, `now`, `room`, `irq 0`, `answer 0`, `kept 0`, `strike 1 51`, `mask 1 IR 02` a read and of it these bits, a
 /// step behind its node as `0 read SR`, and those of `many`.
 pub fn called(alloc: Global, held: &mut Held, words: &[&str]) -> Option<Answer> {
-    if let Some(answer) = many(alloc, held, words) {
-        return Some(answer);
-    }
-    match words {
-        ["watch", count, nodes @ ..] => watched(held, count, nodes),
-        ["rises", count, nodes @ ..] => match watched(held, count, nodes)? {
-            Answer::Watched(watched) => Some(Answer::Rose(watched.rose)),
-            answer => Some(answer),
-        },
-        ["mask", node, addr, mask] => masked(held, node, addr, mask),
-        [name] => of_session(held, name),
-        ["bits", count] => runs(held, count),
-        ["strike", node, bit] => struck(alloc, held, node, bit),
-        [name @ ("irq" | "answer" | "kept"), node] => of_node(held, name, node),
-        [node, step @ ..] => stepped(held, node, step),
-        [] => None,
+    let [name, rest @ ..] = words else {
+        return None;
+    };
+    match *name {
+        "reads" | "starts" | "strikes" => many(alloc, held, name, rest),
+        "watch" | "rises" => watched(held, name, rest),
+        "irq" | "answer" | "kept" => of_node(held, name, rest),
+        "strike" => struck(alloc, held, rest),
+        _ if rest.is_empty() => of_session(held, name),
+        "mask" => masked(held, rest),
+        "bits" => runs(held, rest),
+        node => stepped(held, node, rest),
     }
 }
 
@@ -59,7 +54,10 @@ fn of_session(held: &mut Held, name: &str) -> Option<Answer> {
 }
 
 /// What a call of a node answers.
-fn of_node(held: &mut Held, name: &str, node: &str) -> Option<Answer> {
+fn of_node(held: &mut Held, name: &str, rest: &[&str]) -> Option<Answer> {
+    let [node] = rest else {
+        return None;
+    };
     let node = node_of(node)?;
     match name {
         "irq" => Some(match held.irq(node) {
@@ -75,7 +73,10 @@ fn of_node(held: &mut Held, name: &str, node: &str) -> Option<Answer> {
 }
 
 /// Runs bits.
-fn runs(held: &mut Held, count: &str) -> Option<Answer> {
+fn runs(held: &mut Held, rest: &[&str]) -> Option<Answer> {
+    let [count] = rest else {
+        return None;
+    };
     Some(match held.bits(number(count)?) {
         Ok(bits) => Answer::Count(bits),
         Err(fault) => Answer::NoTurn(fault),
@@ -83,19 +84,32 @@ fn runs(held: &mut Held, count: &str) -> Option<Answer> {
 }
 
 /// Runs bits until the line of one of these nodes rises.
-fn watched(held: &mut Held, count: &str, nodes: &[&str]) -> Option<Answer> {
-    let mut watched = [false; 8];
-    for node in nodes {
-        *watched.get_mut(usize::from(node_of(node)?))? = true;
+fn watched(held: &mut Held, name: &str, rest: &[&str]) -> Option<Answer> {
+    let [count, nodes @ ..] = rest else {
+        return None;
+    };
+    match held.watch(number(count)?, flags_of(nodes)?) {
+        Ok(watched) if name == "rises" => Some(Answer::Rose(watched.rose)),
+        Ok(watched) => Some(Answer::Watched(watched)),
+        Err(fault) => Some(Answer::NoTurn(fault)),
     }
-    Some(match held.watch(number(count)?, watched) {
-        Ok(watched) => Answer::Watched(watched),
-        Err(fault) => Answer::NoTurn(fault),
-    })
+}
+
+/// The nodes of these words, by node.
+fn flags_of(nodes: &[&str]) -> Option<[bool; 8]> {
+    let mut flags = [false; 8];
+    for node in nodes {
+        let flag = flags.get_mut(usize::from(node_of(node)?))?;
+        *flag = true;
+    }
+    Some(flags)
 }
 
 /// Strikes a bit.
-fn struck(alloc: Global, held: &mut Held, node: &str, bit: &str) -> Option<Answer> {
+fn struck(alloc: Global, held: &mut Held, rest: &[&str]) -> Option<Answer> {
+    let [node, bit] = rest else {
+        return None;
+    };
     Some(match held.strike(alloc, node_of(node)?, number(bit)?) {
         Ok(()) => Answer::Done,
         Err(fault) => Answer::NoStrike(fault),
@@ -126,21 +140,38 @@ pub fn byte_by_byte(
     text: &mut String,
     held: &mut Held,
     words: &[&str],
-) -> io::Result<()> {
+) -> Result<(), AllocError> {
     match words {
-        ["read", node, addresses @ ..] => {
-            for word in addresses {
-                let answer = read(held, node, word).unwrap_or(Answer::Unread);
-                say(alloc, text, answer)?;
-            }
-        }
-        [_, node, words @ ..] => {
-            for pair in words.chunks(2) {
-                let answer = written(held, node, pair).unwrap_or(Answer::Unread);
-                say(alloc, text, answer)?;
-            }
-        }
-        _ => say(alloc, text, Answer::Unread)?,
+        ["read", node, addresses @ ..] => reads(alloc, text, held, node, addresses),
+        [_, node, words @ ..] => writes(alloc, text, held, node, words),
+        _ => text.push_str(" ?"),
+    }
+}
+
+/// Reads addresses of a node, one after the other.
+fn reads(
+    alloc: Global,
+    text: &mut String,
+    held: &mut Held,
+    node: &str,
+    addresses: &[&str],
+) -> Result<(), AllocError> {
+    for word in addresses {
+        say_asked(alloc, text, read(held, node, word))?;
+    }
+    Ok(())
+}
+
+/// Writes values behind their addresses, one after the other.
+fn writes(
+    alloc: Global,
+    text: &mut String,
+    held: &mut Held,
+    node: &str,
+    words: &[&str],
+) -> Result<(), AllocError> {
+    for pair in words.chunks(2) {
+        say_asked(alloc, text, written(held, node, pair))?;
     }
     Ok(())
 }
@@ -154,12 +185,15 @@ fn read(held: &mut Held, node: &str, word: &str) -> Option<Answer> {
 }
 
 /// What an address of a node reads as, and of that these bits alone.
-fn masked(held: &mut Held, node: &str, addr: &str, mask: &str) -> Option<Answer> {
+fn masked(held: &mut Held, rest: &[&str]) -> Option<Answer> {
+    let [node, addr, mask] = rest else {
+        return None;
+    };
     let mask = byte(mask)?;
-    match read(held, node, addr)? {
-        Answer::Byte(value) => Some(Answer::Byte(value & mask)),
-        answer => Some(answer),
-    }
+    Some(match held.read(node_of(node)?, address(addr)?)? {
+        Ok(value) => Answer::Byte(value & mask),
+        Err(fault) => Answer::NoStep(fault),
+    })
 }
 
 /// What a write of a value behind its address answers.

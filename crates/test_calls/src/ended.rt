@@ -9,7 +9,6 @@ use sja_report::report;
 use sja_script::Step;
 use sja_serial::run_serial;
 use std::alloc::{AllocError, Global};
-use std::io;
 
 /// Ends a session, and writes `again` where the report of its log is that of a run of its plan too, but for `end
 /// counts`.
@@ -18,12 +17,28 @@ use std::io;
 /// or how many of its steps wait for the interrupt line where it has none; `end line` the first line of the report, and
 /// whether there is a document; `end has released 02` whether the report has these words; and `end counts` how many
 /// bits and steps of node 0 the plan, the log and the log of the run of the plan have.
-pub fn ended(alloc: Global, text: &mut String, held: Held, words: &[&str]) -> io::Result<()> {
+pub fn ended(
+    alloc: Global,
+    text: &mut String,
+    held: Held,
+    words: &[&str],
+) -> Result<(), AllocError> {
     let (plan, log) = held.finish(alloc).map_err(|_| AllocError)?;
-    let again = run_serial(alloc, &plan).map_err(|_| AllocError)?;
+    push_run(alloc, text, &plan, &log, words)
+}
+
+/// Runs the plan, and writes what is asked of both runs.
+fn push_run(
+    alloc: Global,
+    text: &mut String,
+    plan: &Plan,
+    log: &RunLog,
+    words: &[&str],
+) -> Result<(), AllocError> {
+    let again = run_serial(alloc, plan).map_err(|_| AllocError)?;
     match words {
-        ["counts"] => push_counts(alloc, text, &plan, [&log, &again]),
-        _ => push_end(alloc, text, &plan, [&log, &again], words),
+        ["counts"] => push_counts(alloc, text, plan, [log, &again]),
+        _ => push_end(alloc, text, plan, [log, &again], words),
     }
 }
 
@@ -34,36 +49,59 @@ fn push_end(
     plan: &Plan,
     logs: [&RunLog; 2],
     words: &[&str],
-) -> io::Result<()> {
+) -> Result<(), AllocError> {
     let [log, again] = logs;
     let own = report(alloc, log).map_err(|_| AllocError)?;
-    let other = report(alloc, again).map_err(|_| AllocError)?;
-    let same = own.as_str() == other.as_str();
-    say(alloc, text, if same { "again" } else { "not again" })?;
-    match words {
-        [] => {
-            push_lines(text, "> ", own.as_str())?;
-            push_document(alloc, text, plan)
-        }
-        ["line"] => {
-            let line = own.as_str().lines().next().unwrap_or("");
-            say(alloc, text, line)?;
-            say(
-                alloc,
-                text,
-                if has_texts(plan) {
-                    "document"
-                } else {
-                    "no document"
-                },
-            )
-        }
-        ["has", words @ ..] => {
-            let has = has_words(alloc, own.as_str(), words)?;
-            say(alloc, text, if has { "has" } else { "lacks" })
-        }
-        _ => say(alloc, text, "?"),
+    if is_report_of(alloc, again, own.as_str())? {
+        text.push_str(" again")?;
+    } else {
+        text.push_str(" not again")?;
     }
+    push_asked(alloc, text, plan, own.as_str(), words)
+}
+
+/// Whether this is the report of a log.
+pub fn is_report_of(alloc: Global, log: &RunLog, wanted: &str) -> Result<bool, AllocError> {
+    let own = report(alloc, log).map_err(|_| AllocError)?;
+    Ok(own.as_str() == wanted)
+}
+
+/// Writes what is asked of a report and of the plan.
+fn push_asked(
+    alloc: Global,
+    text: &mut String,
+    plan: &Plan,
+    own: &str,
+    words: &[&str],
+) -> Result<(), AllocError> {
+    match words {
+        [] => push_whole(alloc, text, plan, own),
+        ["line"] => push_line(alloc, text, plan, own),
+        ["has", words @ ..] => push_has(alloc, text, own, words),
+        _ => text.push_str(" ?"),
+    }
+}
+
+/// Writes a report and the document of the plan.
+fn push_whole(alloc: Global, text: &mut String, plan: &Plan, own: &str) -> Result<(), AllocError> {
+    push_lines(text, "\n> ", own)?;
+    push_document(alloc, text, plan)
+}
+
+/// Writes the first line of a report, and whether there is a document.
+fn push_line(alloc: Global, text: &mut String, plan: &Plan, own: &str) -> Result<(), AllocError> {
+    say(alloc, text, own.lines().next().unwrap_or(""))?;
+    text.push_str(if has_texts(plan) {
+        " document"
+    } else {
+        " no document"
+    })
+}
+
+/// Writes whether a report has these words.
+fn push_has(alloc: Global, text: &mut String, own: &str, words: &[&str]) -> Result<(), AllocError> {
+    let has = has_words(alloc, own, words)?;
+    text.push_str(if has { " has" } else { " lacks" })
 }
 
 /// Whether a text has these words, with a blank between two.
@@ -78,10 +116,9 @@ fn has_words(alloc: Global, text: &str, words: &[&str]) -> Result<bool, AllocErr
     Ok(text.contains(wanted.as_str()))
 }
 
-/// Writes the lines of a text, each on a line of its own behind this mark.
-fn push_lines(text: &mut String, mark: &str, lines: &str) -> io::Result<()> {
+/// Writes the lines of a text, each behind this mark.
+fn push_lines(text: &mut String, mark: &str, lines: &str) -> Result<(), AllocError> {
     for line in lines.lines() {
-        text.push('\n')?;
         text.push_str(mark)?;
         text.push_str(line)?;
     }
@@ -89,14 +126,13 @@ fn push_lines(text: &mut String, mark: &str, lines: &str) -> io::Result<()> {
 }
 
 /// Writes the document of a plan.
-fn push_document(alloc: Global, text: &mut String, plan: &Plan) -> io::Result<()> {
+fn push_document(alloc: Global, text: &mut String, plan: &Plan) -> Result<(), AllocError> {
     if !has_texts(plan) {
-        let waits = waits(plan);
-        let none = format!(in alloc; "no document, {waits} waits for the line")?;
-        return push_lines(text, "| ", none.as_str());
+        push_number(alloc, text, "\n| no document, ", waits(plan))?;
+        return text.push_str(" waits for the line");
     }
     let document = plan_text(alloc, plan).map_err(|_| AllocError)?;
-    push_lines(text, "| ", document.as_str())
+    push_lines(text, "\n| ", document.as_str())
 }
 
 /// How many steps of a plan wait for the interrupt line.
@@ -118,17 +154,38 @@ fn push_counts(
     text: &mut String,
     plan: &Plan,
     logs: [&RunLog; 2],
-) -> io::Result<()> {
-    let (bits, steps) = (plan.bits(), steps_of(plan, 0));
-    say(alloc, text, format_args!("plan {bits} bits {steps} steps"))?;
+) -> Result<(), AllocError> {
+    push_count(alloc, text, " plan ", plan.bits(), steps_of(plan, 0))?;
     for log in logs {
-        let (bits, steps) = (
-            log.bits(),
-            log.nodes().first().map_or(0, |node| node.done().len()),
-        );
-        say(alloc, text, format_args!("log {bits} bits {steps} steps"))?;
+        let steps = log.nodes().first().map_or(0, |node| node.done().len());
+        push_count(alloc, text, " log ", log.bits(), steps)?;
     }
     Ok(())
+}
+
+/// Writes so many bits and steps.
+fn push_count(
+    alloc: Global,
+    text: &mut String,
+    name: &str,
+    bits: u32,
+    steps: usize,
+) -> Result<(), AllocError> {
+    push_number(alloc, text, name, bits as usize)?;
+    push_number(alloc, text, " bits ", steps)?;
+    text.push_str(" steps")
+}
+
+/// Writes a number behind its name.
+fn push_number(
+    alloc: Global,
+    text: &mut String,
+    name: &str,
+    number: usize,
+) -> Result<(), AllocError> {
+    text.push_str(name)?;
+    let said = format!(in alloc; "{number}")?;
+    text.push_str(said.as_str())
 }
 
 /// How many steps a node of a plan has.
@@ -141,16 +198,14 @@ fn steps_of(plan: &Plan, node: usize) -> usize {
 }
 
 /// Writes what a plan has: its version, its bits, how many turns and strikes, and how many steps of each node.
-pub fn push_plan(alloc: Global, text: &mut String, plan: &Plan) -> io::Result<()> {
-    let (version, bits) = (plan.version(), plan.bits());
-    let (turns, strikes) = (plan.turns().len(), plan.strikes().len());
-    let head = format!(in alloc;
-        " version {version} bits {bits} turns {turns} strikes {strikes} steps"
-    )?;
-    text.push_str(head.as_str())?;
+pub fn push_plan(alloc: Global, text: &mut String, plan: &Plan) -> Result<(), AllocError> {
+    push_number(alloc, text, " version ", usize::from(plan.version()))?;
+    push_number(alloc, text, " bits ", plan.bits() as usize)?;
+    push_number(alloc, text, " turns ", plan.turns().len())?;
+    push_number(alloc, text, " strikes ", plan.strikes().len())?;
+    text.push_str(" steps")?;
     for node in 0..plan.nodes() {
-        let steps = format!(in alloc; " {}", steps_of(plan, node))?;
-        text.push_str(steps.as_str())?;
+        push_number(alloc, text, " ", steps_of(plan, node))?;
     }
     Ok(())
 }

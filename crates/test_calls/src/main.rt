@@ -16,7 +16,7 @@ mod many;
 mod struck;
 
 use bench::Bench;
-use std::alloc::Global;
+use std::alloc::{AllocError, Global};
 use std::io;
 use std::process::ExitCode;
 use test_rows::{Given, Rows, answer_rows};
@@ -27,13 +27,35 @@ struct Sessions;
 impl Rows for Sessions {
     /// What the calls of a row answer, each behind a blank.
     fn answered(&self, alloc: Global, _given: &Given, row: &str) -> io::Result<String> {
-        let mut bench = Bench::new(alloc);
-        for call in row.split("; ") {
-            let words = call.split(' ').collect::<Vec<&str>>(alloc)?;
-            bench.does(words.as_slice())?;
-        }
-        Ok(bench.told())
+        let mut text = String::new(alloc);
+        push_answers(alloc, &mut text, row)?;
+        Ok(text)
     }
+}
+
+/// Writes what the calls of a row answer, each behind a blank.
+fn push_answers(alloc: Global, text: &mut String, row: &str) -> Result<(), AllocError> {
+    let mut bench = Bench::new(alloc);
+    does_each(alloc, text, &mut bench, row)
+}
+
+/// Does the calls of a row.
+fn does_each(
+    alloc: Global,
+    text: &mut String,
+    bench: &mut Bench,
+    row: &str,
+) -> Result<(), AllocError> {
+    for call in row.split("; ") {
+        does(alloc, text, bench, call)?;
+    }
+    Ok(())
+}
+
+/// Does a call.
+fn does(alloc: Global, text: &mut String, bench: &mut Bench, call: &str) -> Result<(), AllocError> {
+    let words = call.split(' ').collect::<Vec<&str>>(alloc)?;
+    bench.does(text, words.as_slice())
 }
 
 /// Answers the exit status: 0 for done, 1 where memory was refused or a read or a write failed.

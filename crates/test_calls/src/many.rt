@@ -20,35 +20,57 @@ enum Bit {
 /// `reads 0 1000`, so many reads of SR by node 0 with one value; `reads 0 1000 before`, each with a bit before it, and
 /// `reads 0 1000 after`, behind it; `starts 1 8`, so many starts of node 1, each with a stop behind it; and
 /// `strikes 600 1000`, so many strikes of node 0 in one bit after the other from bit 600 on.
-pub fn many(alloc: Global, held: &mut Held, words: &[&str]) -> Option<Answer> {
-    match words {
-        ["reads", node, count] => reads(held, node, count, Bit::Never),
-        ["reads", node, count, "before"] => reads(held, node, count, Bit::Before),
-        ["reads", node, count, "after"] => reads(held, node, count, Bit::After),
-        ["starts", node, count] => starts(held, node, count),
-        ["strikes", from, count] => strikes(alloc, held, from, count),
+pub fn many(alloc: Global, held: &mut Held, name: &str, rest: &[&str]) -> Option<Answer> {
+    let [first, second, when @ ..] = rest else {
+        return None;
+    };
+    let (first, second) = (number(first)?, number(second)?);
+    match name {
+        "reads" => reads(held, u8::try_from(first).ok()?, second, bit_of(when)?),
+        "starts" => starts(held, u8::try_from(first).ok()?, second),
+        _ => strikes(alloc, held, first, second),
+    }
+}
+
+/// When a bit is run, as these words say.
+fn bit_of(when: &[&str]) -> Option<Bit> {
+    match when {
+        [] => Some(Bit::Never),
+        ["before"] => Some(Bit::Before),
+        ["after"] => Some(Bit::After),
         _ => None,
     }
 }
 
 /// So many reads of SR; how many were done, as the first one answers, before one wasn't.
-fn reads(held: &mut Held, node: &str, count: &str, bit: Bit) -> Option<Answer> {
-    let node = node.parse::<u8>().ok()?;
+fn reads(held: &mut Held, node: u8, count: u32, bit: Bit) -> Option<Answer> {
     let (mut done, mut first) = (0u32, None);
-    for _ in 0..number(count)? {
-        if bit == Bit::Before && held.bits(1) != Ok(1) {
+    for _ in 0..count {
+        let value = read_behind(held, node, bit);
+        if value.is_none() || (first.is_some() && first != value) {
             break;
         }
-        let value = read_one(held, node);
-        if value.is_none() || *first.get_or_insert(value) != value {
-            break;
-        }
-        if bit == Bit::After && held.bits(1) != Ok(1) {
+        first = value;
+        if !is_run(held, bit, Bit::After) {
             break;
         }
         done = done.saturating_add(1);
     }
-    Some(Answer::Times(done, first??))
+    Some(Answer::Times(done, first?))
+}
+
+/// What SR reads as, behind a bit where one is to be run before; nothing where it or the read isn't done.
+fn read_behind(held: &mut Held, node: u8, bit: Bit) -> Option<u8> {
+    if is_run(held, bit, Bit::Before) {
+        read_one(held, node)
+    } else {
+        None
+    }
+}
+
+/// Whether the bit that is to be run now, if one is, was run.
+fn is_run(held: &mut Held, bit: Bit, now: Bit) -> bool {
+    bit != now || held.bits(1) == Ok(1)
 }
 
 /// What SR reads as; nothing where the read isn't done.
@@ -63,10 +85,9 @@ fn read_one(held: &mut Held, node: u8) -> Option<u8> {
 }
 
 /// So many starts, each with a stop behind it; how many were done before one wasn't.
-fn starts(held: &mut Held, node: &str, count: &str) -> Option<Answer> {
-    let node = node.parse::<u8>().ok()?;
+fn starts(held: &mut Held, node: u8, count: u32) -> Option<Answer> {
     let mut done = 0u32;
-    for _ in 0..number(count)? {
+    for _ in 0..count {
         if !is_done(&step(held, node, Step::Start)) || !is_done(&step(held, node, Step::Stop)) {
             break;
         }
@@ -81,10 +102,9 @@ pub fn is_done(answer: &Answer) -> bool {
 }
 
 /// So many strikes of node 0, one bit after the other; how many were taken before one wasn't.
-fn strikes(alloc: Global, held: &mut Held, from: &str, count: &str) -> Option<Answer> {
-    let from = number(from)?;
+fn strikes(alloc: Global, held: &mut Held, from: u32, count: u32) -> Option<Answer> {
     let mut done = 0u32;
-    for bit in 0..number(count)? {
+    for bit in 0..count {
         if held.strike(alloc, 0, from.saturating_add(bit)).is_err() {
             break;
         }

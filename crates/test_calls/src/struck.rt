@@ -1,9 +1,10 @@
 //! Strikes on the way, and the same before the first bit.
 
-use super::calls::{number, step};
+use super::calls::{node_of, number, step};
+use super::ended::is_report_of;
 use super::held::Held;
-use can_frame::OutOfMemory;
-use sja_plan::read_plan;
+use sja_log::RunLog;
+use sja_plan::{Plan, read_plan};
 use sja_plan_text::{has_texts, plan_text};
 use sja_report::report;
 use sja_script::Step;
@@ -13,33 +14,69 @@ use test_words::message_of;
 
 /// `alike 0 11 76`: of how many bits, from 11 to 75, a strike of node 0 just before the bit has the same report and
 /// writes the same plan as one before the first bit, and a run of the plan's document has that report too.
-pub fn alike(alloc: Global, node: &str, from: &str, to: &str) -> Result<Option<u32>, AllocError> {
-    let (Ok(node), Some(from), Some(to)) = (node.parse::<u8>(), number(from), number(to)) else {
-        return Ok(None);
+pub fn alike(alloc: Global, rest: &[&str]) -> Result<Option<u32>, AllocError> {
+    match asked_of(rest) {
+        Some((node, from, to)) => Ok(Some(alike_in(alloc, node, from, to)?)),
+        None => Ok(None),
+    }
+}
+
+/// The node and the bits of these words.
+fn asked_of(rest: &[&str]) -> Option<(u8, u32, u32)> {
+    let [node, from, to] = rest else {
+        return None;
     };
+    Some((node_of(node)?, number(from)?, number(to)?))
+}
+
+/// Of how many of these bits a strike of a node is the same.
+fn alike_in(alloc: Global, node: u8, from: u32, to: u32) -> Result<u32, AllocError> {
     let mut count = 0u32;
     for bit in from..to {
         if are_same(alloc, node, bit)? {
             count = count.saturating_add(1);
         }
     }
-    Ok(Some(count))
+    Ok(count)
 }
 
 /// Whether all three reports of a strike in this bit are the same, and both plans.
 fn are_same(alloc: Global, node: u8, bit: u32) -> Result<bool, AllocError> {
-    let Some((late, document)) = struck(alloc, bit, node, bit)? else {
-        return Ok(false);
-    };
-    let Some((early, other)) = struck(alloc, 0, node, bit)? else {
-        return Ok(false);
-    };
-    let Ok(plan) = read_plan(alloc, document.as_bytes()) else {
-        return Ok(false);
-    };
-    let log = run_serial(alloc, &plan).map_err(|_| AllocError)?;
-    let run = told(report(alloc, &log))?;
-    Ok(late == early && document == other && late == run)
+    match struck(alloc, bit, node, bit)? {
+        Some((late, document)) => {
+            let both = (late.as_str(), document.as_str());
+            Ok(has_same_early(alloc, node, bit, both)? && runs_again(alloc, both)?)
+        }
+        None => Ok(false),
+    }
+}
+
+/// Whether a strike in this bit that is made before the first bit has this report and this document.
+fn has_same_early(
+    alloc: Global,
+    node: u8,
+    bit: u32,
+    late: (&str, &str),
+) -> Result<bool, AllocError> {
+    match struck(alloc, 0, node, bit)? {
+        Some((early, document)) => Ok((early.as_str(), document.as_str()) == late),
+        None => Ok(false),
+    }
+}
+
+/// Whether a run of this document has this report.
+fn runs_again(alloc: Global, wanted: (&str, &str)) -> Result<bool, AllocError> {
+    let (wanted, document) = wanted;
+    match read_plan(alloc, document.as_bytes()) {
+        Ok(plan) => is_report_of_run(alloc, &plan, wanted),
+        Err(_) => Ok(false),
+    }
+}
+
+/// Whether this is the report of a run of a plan.
+fn is_report_of_run(alloc: Global, plan: &Plan, wanted: &str) -> Result<bool, AllocError> {
+    let log = run_serial(alloc, plan).map_err(|_| AllocError)?;
+    is_report_of(alloc, &log, wanted)
 }
 
 /// The report of a session that is struck after so many bits, once it is at rest and node 1 has released what it has,
@@ -50,26 +87,55 @@ fn struck(
     node: u8,
     bit: u32,
 ) -> Result<Option<(String, String)>, AllocError> {
-    let Ok(mut held) = Held::typed(alloc, 1, 1000, 2, None) else {
-        return Ok(None);
-    };
-    if !is_begun(&mut held, after)
-        || held.strike(alloc, node, bit).is_err()
-        || held.rest().is_err()
-    {
-        return Ok(None);
+    match Held::typed(alloc, 1, 1000, 2, None) {
+        Ok(held) => texts_of(alloc, held, after, node, bit),
+        Err(_) => Ok(None),
     }
-    for _ in 0..2 {
-        if held.step(1, Step::Release).is_err() {
-            return Ok(None);
-        }
+}
+
+/// The same over a session without a bit.
+fn texts_of(
+    alloc: Global,
+    mut held: Held,
+    after: u32,
+    node: u8,
+    bit: u32,
+) -> Result<Option<(String, String)>, AllocError> {
+    if is_struck(alloc, &mut held, after, node, bit) {
+        finished(alloc, held)
+    } else {
+        Ok(None)
     }
+}
+
+/// Whether a session is struck after so many bits, comes to rest, and node 1 releases what it has then.
+fn is_struck(alloc: Global, held: &mut Held, after: u32, node: u8, bit: u32) -> bool {
+    is_begun(held, after)
+        && held.strike(alloc, node, bit).is_ok()
+        && held.rest().is_ok()
+        && releases(held)
+        && releases(held)
+}
+
+/// Whether node 1 tries a release.
+fn releases(held: &mut Held) -> bool {
+    held.step(1, Step::Release).is_ok()
+}
+
+/// The report of a session at its end, and the document of its plan; none where it has none.
+fn finished(alloc: Global, held: Held) -> Result<Option<(String, String)>, AllocError> {
     let (plan, log) = held.finish(alloc).map_err(|_| AllocError)?;
-    if !has_texts(&plan) {
+    texts(alloc, &plan, &log)
+}
+
+/// The report of a log, and the document of a plan; none where it has none.
+fn texts(alloc: Global, plan: &Plan, log: &RunLog) -> Result<Option<(String, String)>, AllocError> {
+    if !has_texts(plan) {
         return Ok(None);
     }
-    let document = plan_text(alloc, &plan).map_err(|_| AllocError)?;
-    Ok(Some((told(report(alloc, &log))?, document)))
+    let document = plan_text(alloc, plan).map_err(|_| AllocError)?;
+    let report = report(alloc, log).map_err(|_| AllocError)?;
+    Ok(Some((report, document)))
 }
 
 /// Has node 0 send the message 02 24 60 11 22 to node 1, and runs so many bits; whether all was done.
@@ -89,9 +155,4 @@ fn is_begun(held: &mut Held, bits: u32) -> bool {
         }
     }
     held.bits(bits) == Ok(bits)
-}
-
-/// A report, where memory wasn't refused.
-fn told(text: Result<String, OutOfMemory>) -> Result<String, AllocError> {
-    text.map_err(|_| AllocError)
 }

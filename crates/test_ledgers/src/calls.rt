@@ -1,8 +1,9 @@
 //! Calls of a link and of its ledgers in words.
 
+use super::answers::{of_bus, of_driver, push_said, push_taken};
 use super::link::Link;
-use super::words::{down_of, message_of, push_down, push_message, push_up, up_of};
-use sja_link::{BadCredit, Busy, Down, Up, Verdict};
+use super::words::{down_of, message_of, push_down, push_up, up_of};
+use sja_link::{Busy, Down, Verdict};
 use std::alloc::{AllocError, Global};
 
 /// Does a call, and writes what it answers.
@@ -18,22 +19,39 @@ pub fn does<L: Link>(
     link: &mut L,
     words: &[&str],
 ) -> Result<(), AllocError> {
-    match words {
-        ["put", words @ ..] => puts(text, link, words),
-        ["give", words @ ..] => gives(text, link, words),
-        ["judge", words @ ..] => judges(text, link, words),
-        ["passes", count] => passes(alloc, text, link, count),
-        ["returns", after] => {
-            if let Ok(after) = after.parse::<u32>() {
-                link.returns(after);
-            }
+    let [name, rest @ ..] = words else {
+        return text.push_str(" ?");
+    };
+    match *name {
+        "put" => puts(text, link, rest),
+        "give" => gives(text, link, rest),
+        "judge" => judges(text, link, rest),
+        "passes" => passes(alloc, text, link, rest),
+        "returns" => returns(text, link, rest),
+        "take" | "takes" => takes(alloc, text, link, name),
+        "get" | "gets" => gets(alloc, text, link, name),
+        "collect" | "off" | "free" => of_bus(alloc, text, link, name),
+        "settle" => Ok(()),
+        _ => of_driver(alloc, text, link, name),
+    }
+}
+
+/// The link gives an item back once it took so many.
+fn returns<L: Link>(text: &mut String, link: &mut L, rest: &[&str]) -> Result<(), AllocError> {
+    match count_of(rest) {
+        Some(after) => {
+            link.returns(after);
             Ok(())
         }
-        ["take" | "takes" | "get" | "gets"] => carries(alloc, text, link, words),
-        ["collect" | "off" | "free"] => of_bus(alloc, text, link, words),
-        ["settle"] => Ok(()),
-        [name] => of_driver(alloc, text, link, name),
-        _ => text.push_str(" ?"),
+        None => text.push_str(" ?"),
+    }
+}
+
+/// The number of one word.
+fn count_of(rest: &[&str]) -> Option<u32> {
+    match rest {
+        [count] => count.parse::<u32>().ok(),
+        _ => None,
     }
 }
 
@@ -89,43 +107,42 @@ fn give<L: Link>(link: &mut L, word: &str) -> Option<&'static str> {
     Some(" ok")
 }
 
-/// Takes or gets one item, or all that are shown, up to the first time that none is.
-fn carries<L: Link>(
+/// Takes one item, or all that are shown, up to the first time that none is.
+fn takes<L: Link>(
     alloc: Global,
     text: &mut String,
     link: &mut L,
-    words: &[&str],
+    name: &str,
 ) -> Result<(), AllocError> {
-    match words {
-        ["take"] => push_taken(alloc, text, link.take()),
-        ["get"] => push_got(alloc, text, link.get()),
-        ["takes"] => {
-            for _ in 0..100 {
-                match link.take() {
-                    Some(item) => push_up(alloc, text, &item)?,
-                    None => break,
-                }
-            }
-            Ok(())
-        }
-        _ => {
-            for _ in 0..100 {
-                match link.get() {
-                    Some(item) => push_down(alloc, text, &item)?,
-                    None => break,
-                }
-            }
-            Ok(())
+    if name == "take" {
+        return push_taken(alloc, text, link.take());
+    }
+    for _ in 0..100 {
+        match link.take() {
+            Some(item) => push_up(alloc, text, &item)?,
+            None => break,
         }
     }
+    Ok(())
 }
 
-/// Writes what was taken.
-fn push_taken(alloc: Global, text: &mut String, item: Option<Up>) -> Result<(), AllocError> {
-    match item {
-        Some(item) => push_up(alloc, text, &item),
-        None => text.push_str(" none"),
+/// Gets one item, or all that are shown, up to the first time that none is.
+fn gets<L: Link>(
+    alloc: Global,
+    text: &mut String,
+    link: &mut L,
+    name: &str,
+) -> Result<(), AllocError> {
+    if name == "get" {
+        return push_got(alloc, text, link.get());
     }
+    for _ in 0..100 {
+        match link.get() {
+            Some(item) => push_down(alloc, text, &item)?,
+            None => break,
+        }
+    }
+    Ok(())
 }
 
 /// Writes what was got.
@@ -141,16 +158,23 @@ fn passes<L: Link>(
     alloc: Global,
     text: &mut String,
     link: &mut L,
-    count: &str,
+    rest: &[&str],
 ) -> Result<(), AllocError> {
     let mut done = 0u32;
-    for _ in 0..count.parse::<u32>().unwrap_or(0) {
-        let put = put(link, "3") == Some(" ok") && put(link, "4") == Some(" ok");
-        if put && link.get().is_some() && link.get().is_some() {
+    for _ in 0..count_of(rest).unwrap_or(0) {
+        if is_passed(link) {
             done = done.saturating_add(1);
         }
     }
-    text.push_str(format!(in alloc; " {done}")?.as_str())
+    push_said(alloc, text, done)
+}
+
+/// Whether two messages are put and got.
+fn is_passed<L: Link>(link: &mut L) -> bool {
+    put(link, "3") == Some(" ok")
+        && put(link, "4") == Some(" ok")
+        && link.get().is_some()
+        && link.get().is_some()
 }
 
 /// What is judged of messages of these lengths.
@@ -174,78 +198,4 @@ fn judged<L: Link>(link: &mut L, word: &str) -> Option<&'static str> {
         };
     }
     Some(said)
-}
-
-/// What the bus's ledger answers.
-fn of_bus<L: Link>(
-    alloc: Global,
-    text: &mut String,
-    link: &mut L,
-    words: &[&str],
-) -> Result<(), AllocError> {
-    match words {
-        ["collect"] => match link.collect() {
-            Some(Ok(item)) => push_taken(alloc, text, item),
-            Some(Err(BadCredit(bytes))) => {
-                text.push_str(format!(in alloc; " bad {bytes}")?.as_str())
-            }
-            None => text.push_str(" ?"),
-        },
-        ["off"] => match link.off() {
-            Some(Ok(())) => text.push_str(" ok"),
-            Some(Err(Busy)) => text.push_str(" busy"),
-            None => text.push_str(" ?"),
-        },
-        _ => text.push_str(format!(in alloc; " {}", link.free())?.as_str()),
-    }
-}
-
-/// What the driver's ledger answers.
-fn of_driver<L: Link>(
-    alloc: Global,
-    text: &mut String,
-    link: &mut L,
-    name: &str,
-) -> Result<(), AllocError> {
-    match name {
-        "look" => match link.look() {
-            Some(Ok(())) => text.push_str(" ok"),
-            Some(Err(stopped)) => text.push_str(format!(in alloc; " {stopped:?}")?.as_str()),
-            None => text.push_str(" ?"),
-        },
-        "window" => match link.window() {
-            Some(Ok(Some(message))) => push_message(alloc, text, &message),
-            Some(Ok(None)) => text.push_str(" none"),
-            Some(Err(stopped)) => text.push_str(format!(in alloc; " {stopped:?}")?.as_str()),
-            None => text.push_str(" ?"),
-        },
-        "release" => match link.release() {
-            Some(Ok(bytes)) => text.push_str(format!(in alloc; " {bytes}")?.as_str()),
-            Some(Err(fault)) => text.push_str(format!(in alloc; " {fault:?}")?.as_str()),
-            None => text.push_str(" ?"),
-        },
-        "unread" => push_unread(alloc, text, link),
-        "seen" => push_seen(alloc, text, link),
-        _ => text.push_str(" ?"),
-    }
-}
-
-/// Writes the messages that aren't released, in brackets.
-fn push_unread<L: Link>(alloc: Global, text: &mut String, link: &L) -> Result<(), AllocError> {
-    text.push_str(" (")?;
-    for message in link.unread() {
-        push_message(alloc, text, message)?;
-    }
-    text.push_str(" )")
-}
-
-/// Writes what a read of the registers sees: the first message, and how many there are.
-fn push_seen<L: Link>(alloc: Global, text: &mut String, link: &L) -> Result<(), AllocError> {
-    let seen = link.seen();
-    text.push_str(" first")?;
-    match &seen.first {
-        Some(message) => push_message(alloc, text, message)?,
-        None => text.push_str(" none")?,
-    }
-    text.push_str(format!(in alloc; " of {}", seen.count)?.as_str())
 }

@@ -6,6 +6,7 @@
 //! [`worlds`] say what each call is. The answers that are wanted stand in the file `stdout`, and are worked by hand.
 #![tactic(auto)]
 
+mod answers;
 mod calls;
 mod link;
 mod linked;
@@ -45,14 +46,47 @@ fn main(rt: HostRuntime) -> ExitCode {
 }
 
 /// What the calls of a link answer.
-fn told_of<L: Link + Drop>(alloc: Global, mut link: L, calls: &str) -> Result<String, AllocError> {
+fn told_of<L: Link + Drop>(alloc: Global, link: L, calls: &str) -> Result<String, AllocError> {
     let mut text = String::new(alloc);
-    for call in calls.split("; ") {
-        let words = call.split(' ').collect::<Vec<&str>>(alloc)?;
-        does(alloc, &mut text, &mut link, words.as_slice())?;
-    }
-    if calls.ends_with("settle") {
-        link.settle(alloc, &mut text)?;
-    }
+    push_told(alloc, &mut text, link, calls)?;
     Ok(text)
+}
+
+/// Writes what the calls of a link answer.
+fn push_told<L: Link + Drop>(
+    alloc: Global,
+    text: &mut String,
+    mut link: L,
+    calls: &str,
+) -> Result<(), AllocError> {
+    let done = does_each(alloc, text, &mut link, calls);
+    if done.is_ok() && calls.ends_with("settle") {
+        link.settle(alloc, text)
+    } else {
+        done
+    }
+}
+
+/// Does the calls of a link.
+fn does_each<L: Link>(
+    alloc: Global,
+    text: &mut String,
+    link: &mut L,
+    calls: &str,
+) -> Result<(), AllocError> {
+    for call in calls.split("; ") {
+        does_call(alloc, text, link, call)?;
+    }
+    Ok(())
+}
+
+/// Does a call.
+fn does_call<L: Link>(
+    alloc: Global,
+    text: &mut String,
+    link: &mut L,
+    call: &str,
+) -> Result<(), AllocError> {
+    let words = call.split(' ').collect::<Vec<&str>>(alloc)?;
+    does(alloc, text, link, words.as_slice())
 }
