@@ -29,22 +29,27 @@ do_one-requires-2-clause-may c =
     (first at raw.stands.0 raw.stands.1).goes_on 1 (may_both at)
 
 pub returns : goal.returns
-returns c = ((λ deeds h.
-    let at = (goal.at.returns c).After-do_one in
-    let before = c.args.self.now in let node = c.args.node in let raw = raw_of at in
-    let there = (may_both at).there in
-    let inside : node < length before.kept = let k = raw.kept in omega (arith, k, there) in
-    let short : c.args.address < 2 = let a = c.requires.command in omega (arith, a) in
-    let d = first at deeds h in
-    let whole = does_both before c.do_one.new.self c.do_one-2.new.self node (Command c.args.command ∷ [])
-    (Release ∷ []) deeds d (c.do_one-2.ensures d.after d.at) inside in
-    record {
-      answers = whole.answers;
-      after = whole.after;
-      does = λ p. subst (λ (l : List Step).
-          DoesSteps node before.session deeds l whole.answers c.do_one-2.new.self.session whole.after)
-          (sym (c.requires.both deeds h p)) whole.does;
-      kept = λ p. whole.kept ∙ ap (λ k. slice_set before.kept node (moved_by k whole.answers))
-          (sym (none_kept (kept_in before node) (slice_index_or before.session.run.ports node p).mode.rm
-          c.args.address c.args.value short));
-    }), search rules, search rules, search rules)
+returns c = (
+  (λ deeds h.
+      let at = (goal.at.returns c).After-do_one in
+      let before = c.args.self.now in let node = c.args.node in let raw = raw_of at in
+      let there = (may_both at).there in
+      let inside : node < length before.kept = let k = raw.kept in omega (arith, k, there) in
+      let short : c.args.address < 2 = let a = c.requires.command in omega (arith, a) in
+      let d = first at deeds h in
+      let whole = does_both before c.do_one.new.self c.do_one-2.new.self node (Command c.args.command ∷ [])
+      (Release ∷ []) deeds d (c.do_one-2.ensures d.after d.at) inside in
+      record {
+        answers = whole.answers;
+        after = whole.after;
+        does = λ p. subst (λ (l : List Step).
+            DoesSteps node before.session deeds l whole.answers c.do_one-2.new.self.session whole.after)
+            (sym (c.requires.both deeds h p)) whole.does;
+        kept = λ p. whole.kept ∙ ap (λ k. slice_set before.kept node (moved_by k whole.answers))
+            (sym (none_kept (kept_in before node) (slice_index_or before.session.run.ports node p).mode.rm
+            c.args.address c.args.value short));
+      }),
+  search rules,
+  search rules,
+  search rules,
+)

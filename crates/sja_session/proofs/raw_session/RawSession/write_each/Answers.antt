@@ -58,28 +58,34 @@ do_if-requires-3-clause-may c =
     (d.goes_on (length (two at) + length (three at)) (may_all at)))
 
 pub returns : goal.returns
-returns c = ((λ deeds h.
-    let at = (goal.at.returns c).After-do_if in
-    let before = was at in let node = c.args.node in let raw = raw_of at in
-    let there = (may_all at).there in
-    let inside : node < length before.kept = let k = raw.kept in omega (arith, k, there) in
-    let d = first at deeds h in
-    let d2 = c.do_if-2.ensures d.after d.at in
-    let d3 = c.do_if-3.ensures d2.after d2.at in
-    let second_in : node < length c.do_if.new.self.kept =
-    let k = ap (λ l. length l) d.kept in
-    let n = length-set before.kept node (moved_by (kept_in before node) d.answers) in
-    omega (arith, inside, k, n) in
-    let whole = does_both before c.do_if.new.self c.do_if-3.new.self node (one at) (two at ++ three at) deeds d
-    (does_both c.do_if.new.self c.do_if-2.new.self c.do_if-3.new.self node (two at) (three at) d.after d2 d3 second_in)
-    inside in
-    record {
-      answers = whole.answers;
-      after = whole.after;
-      does = λ p. subst (λ (l : List Step).
-          DoesSteps node before.session deeds l whole.answers c.do_if-3.new.self.session whole.after)
-          (sym (c.requires.are deeds h p)) whole.does;
-      kept = λ p. whole.kept ∙ ap (λ k. slice_set before.kept node (moved_by k whole.answers))
-          (sym (none_kept (kept_in before node) (slice_index_or before.session.run.ports node p).mode.rm
-          c.args.address c.args.value c.requires.short));
-    }), search rules, search rules, search rules)
+returns c = (
+  (λ deeds h.
+      let at = (goal.at.returns c).After-do_if in
+      let before = was at in let node = c.args.node in let raw = raw_of at in
+      let there = (may_all at).there in
+      let inside : node < length before.kept = let k = raw.kept in omega (arith, k, there) in
+      let d = first at deeds h in
+      let d2 = c.do_if-2.ensures d.after d.at in
+      let d3 = c.do_if-3.ensures d2.after d2.at in
+      let second_in : node < length c.do_if.new.self.kept =
+      let k = ap (λ l. length l) d.kept in
+      let n = length-set before.kept node (moved_by (kept_in before node) d.answers) in
+      omega (arith, inside, k, n) in
+      let mid = c.do_if.new.self in let last = c.do_if-3.new.self in
+      let others = does_both mid c.do_if-2.new.self last node (two at) (three at) d.after d2 d3 second_in in
+      let whole = does_both before mid last node (one at) (two at ++ three at) deeds d others
+      inside in
+      record {
+        answers = whole.answers;
+        after = whole.after;
+        does = λ p. subst (λ (l : List Step).
+            DoesSteps node before.session deeds l whole.answers c.do_if-3.new.self.session whole.after)
+            (sym (c.requires.are deeds h p)) whole.does;
+        kept = λ p. whole.kept ∙ ap (λ k. slice_set before.kept node (moved_by k whole.answers))
+            (sym (none_kept (kept_in before node) (slice_index_or before.session.run.ports node p).mode.rm
+            c.args.address c.args.value c.requires.short));
+      }),
+  search rules,
+  search rules,
+  search rules,
+)

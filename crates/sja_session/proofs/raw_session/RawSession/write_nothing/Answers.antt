@@ -9,14 +9,19 @@ use Rattle.sja_session.proofs.Accessing.{none_kept}
 use Rattle.sja_session.proofs.raw_session.RawSession.write_nothing.Goals as goal
 
 pub returns : goal.returns
-returns c = ((λ deeds at.
-    let was = c.args.self.now in let node = c.args.node in record {
-      answers = [];
-      after = deeds;
-      does = λ p. subst (λ (l : List Step). DoesSteps node was.session deeds l [] was.session deeds)
-          (sym (c.requires.nothing deeds at p)) none;
-      kept = λ p. sym (set-get_or was.kept node at_power_on)
-          ∙ ap (λ k. slice_set was.kept node k)
-          (sym (none_kept (kept_in was node) (slice_index_or was.session.run.ports node p).mode.rm
-          c.args.address c.args.value c.requires.short));
-    }), search rules, search rules, search rules)
+returns c = (
+  (λ deeds at.
+      let was = c.args.self.now in let node = c.args.node in record {
+        answers = [];
+        after = deeds;
+        does = λ p. subst (λ (l : List Step). DoesSteps node was.session deeds l [] was.session deeds)
+            (sym (c.requires.nothing deeds at p)) none;
+        kept = λ p. sym (set-get_or was.kept node at_power_on)
+            ∙ ap (λ k. slice_set was.kept node k)
+            (sym (none_kept (kept_in was node) (slice_index_or was.session.run.ports node p).mode.rm
+            c.args.address c.args.value c.requires.short));
+      }),
+  search rules,
+  search rules,
+  search rules,
+)

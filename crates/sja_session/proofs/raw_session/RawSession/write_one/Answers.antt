@@ -23,34 +23,39 @@ invariant_of-self-in-Answer c =
 
 -- it is that step, and the kept register that stands there was written
 pub returns : goal.returns
-returns c = ((λ deeds at.
-    let b = c.self.inside in let node = c.args.node in
-    let was : RawValue = record { session = b.session; kept = b.kept.items } in
-    let now : RawValue = record {
-      session = c.step.new.self;
-      kept = slice_set b.kept.items c.from-place.result c.answered.new.self;
-    } in
-    let own = subst (λ (r : RawValue). IsAt r.session deeds) (sym c.self.view_is) at in
-    let one = λ (p : Registers).
-    subst (λ (r : RawValue). steps_of r node c.args.address c.args.value deeds p ≡ c.args.step ∷ [])
-    (sym c.self.view_is) (c.requires.one deeds at p) in
-    let answer = c.in-Answer.answer in
-    let does = c.step.ensures.done answer (search rules) deeds own in
-    let place : c.from-place.result ≡ node = search rules in
-    let inside : node < length b.kept.items = search rules in
-    let active = is_active (deeds_at deeds node) in
-    let after = with_deeds deeds node (does.deed ∷ []) in
-    subst (λ (r : RawValue). Writes r now node c.args.address c.args.value deeds) c.self.view_is (record {
-      answers = answer ∷ [];
-      after = after;
-      does = λ p. let port = slice_index_or b.session.run.ports node p in subst (λ (l : List Step).
-          DoesSteps node b.session deeds l (answer ∷ []) c.step.new.self after)
-          (sym (one p)) (more does none);
-      kept = λ p. let rm = (slice_index_or b.session.run.ports node p).mode.rm in
-          let start = kept_start b.kept.items c.from-place.result node c.index_mut-kept.result.now c.write.new.self
-          c.is_reset-reset.result rm c.args.address c.args.value
-          place c.index_mut-kept.ensures.value inside c.write.ensures
-          (c.is_reset-reset.ensures p ∙ ap (λ m. (slice_index_or b.session.run.ports m p).mode.rm) place) in
-          let moved = c.answered.ensures ∙ ap (λ k. moved_by_answer k answer) start in
-          λ t. slice_set b.kept.items (place t) (moved t);
-    })), search rules, search rules, search rules)
+returns c = (
+  (λ deeds at.
+      let b = c.self.inside in let node = c.args.node in
+      let was : RawValue = record { session = b.session; kept = b.kept.items } in
+      let now : RawValue = record {
+        session = c.step.new.self;
+        kept = slice_set b.kept.items c.from-place.result c.answered.new.self;
+      } in
+      let own = subst (λ (r : RawValue). IsAt r.session deeds) (sym c.self.view_is) at in
+      let one = λ (p : Registers).
+      subst (λ (r : RawValue). steps_of r node c.args.address c.args.value deeds p ≡ c.args.step ∷ [])
+      (sym c.self.view_is) (c.requires.one deeds at p) in
+      let answer = c.in-Answer.answer in
+      let does = c.step.ensures.done answer (search rules) deeds own in
+      let place : c.from-place.result ≡ node = search rules in
+      let inside : node < length b.kept.items = search rules in
+      let active = is_active (deeds_at deeds node) in
+      let after = with_deeds deeds node (does.deed ∷ []) in
+      subst (λ (r : RawValue). Writes r now node c.args.address c.args.value deeds) c.self.view_is (record {
+        answers = answer ∷ [];
+        after = after;
+        does = λ p. let port = slice_index_or b.session.run.ports node p in subst (λ (l : List Step).
+            DoesSteps node b.session deeds l (answer ∷ []) c.step.new.self after)
+            (sym (one p)) (more does none);
+        kept = λ p. let rm = (slice_index_or b.session.run.ports node p).mode.rm in
+            let start = kept_start b.kept.items c.from-place.result node c.index_mut-kept.result.now c.write.new.self
+            c.is_reset-reset.result rm c.args.address c.args.value
+            place c.index_mut-kept.ensures.value inside c.write.ensures
+            (c.is_reset-reset.ensures p ∙ ap (λ m. (slice_index_or b.session.run.ports m p).mode.rm) place) in
+            let moved = c.answered.ensures ∙ ap (λ k. moved_by_answer k answer) start in
+            λ t. slice_set b.kept.items (place t) (moved t);
+      })),
+  search rules,
+  search rules,
+  search rules,
+)
