@@ -2,6 +2,8 @@
 """Drives a bus of two nodes by `sja live`: node 0 sends a frame, and node 1 answers its interrupt line.
 
     checks/live_client.py [PROGRAM]        PROGRAM stands for ./sja
+
+The program has to be the proved one: where there is none, ./sja opens no session, and says why on standard error.
 """
 import subprocess
 import sys
@@ -15,10 +17,14 @@ class Bus:
     def __init__(self, program, bits, nodes):
         pipe = subprocess.PIPE
         self.sja = subprocess.Popen([program, "live"], stdin=pipe, stdout=pipe, text=True, bufsize=1)
-        assert self.ask(f"live 3 {bits} {nodes}") == ["ok"]
+        if self.ask(f"live 3 {bits} {nodes}") != ["ok"]:
+            sys.exit(f"{program} live opens no session")
 
     def ask(self, line):
-        self.sja.stdin.write(line + "\n")
+        try:
+            self.sja.stdin.write(line + "\n")
+        except BrokenPipeError:
+            return []
         return self.sja.stdout.readline().split()
 
     def read(self, node, address):
