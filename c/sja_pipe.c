@@ -69,36 +69,58 @@ static void ignore_broken_pipes(void)
     }
 }
 
-/* Starts the program with one word, its input and output at pipes, and no place for what it says of errors. Its number,
- * or -1. */
+/* A pipe whose two ends are 3 or above, so that none is in the place of an input or output that the program has closed.
+ * Neither goes to another process. Whether it was made. */
+static int far_pipe(int ends[2])
+{
+    int near[2], made;
+
+    if (pipe(near) != 0)
+        return 0;
+    ends[0] = fcntl(near[0], F_DUPFD_CLOEXEC, 3);
+    ends[1] = fcntl(near[1], F_DUPFD_CLOEXEC, 3);
+    close(near[0]);
+    close(near[1]);
+    made = ends[0] >= 0 && ends[1] >= 0;
+    for (int i = 0; i < 2 && !made; i++)
+        if (ends[i] >= 0)
+            close(ends[i]);
+    return made;
+}
+
+/* Becomes a program with one word, at these two ends of pipes. What it says of errors goes nowhere: that is put in its
+ * place first, since it may have been opened in the place of one of the others. */
+static void become(const char *program, const char *word, int input, int output)
+{
+    int none = open("/dev/null", O_WRONLY);
+
+    dup2(none, 2);
+    dup2(input, 0);
+    dup2(output, 1);
+    if (none > 2)
+        close(none);
+    execlp(program, "sja", word, (char *)NULL);
+    _exit(127);
+}
+
+/* Starts the program with one word, its input and output at pipes. Its number, or -1. */
 static pid_t start(const char *word, int *to, int *from)
 {
+    const char *named = getenv("SJA");
     int in[2], out[2];
     pid_t process;
-    const char *program = getenv("SJA");
 
     ignore_broken_pipes();
-    if (pipe(in) != 0)
+    if (!far_pipe(in))
         return -1;
-    if (pipe(out) != 0) {
+    if (!far_pipe(out)) {
         close(in[0]);
         close(in[1]);
         return -1;
     }
-    fcntl(in[1], F_SETFD, FD_CLOEXEC);
-    fcntl(out[0], F_SETFD, FD_CLOEXEC);
     process = fork();
-    if (process == 0) {
-        int none = open("/dev/null", O_WRONLY);
-
-        dup2(in[0], 0);
-        dup2(out[1], 1);
-        dup2(none, 2);
-        close(in[0]);
-        close(out[1]);
-        execlp(program != NULL ? program : "sja", "sja", word, (char *)NULL);
-        _exit(127);
-    }
+    if (process == 0)
+        become(named != NULL ? named : "sja", word, in[0], out[1]);
     close(in[0]);
     close(out[1]);
     if (process < 0) {
