@@ -7,10 +7,13 @@
 
 A session is one of a shared object made of the library, where there is one, and else a process `sja live` of its own.
 The environment variable SJA_LIBRARY names the shared object (checks/c_library makes one), or nothing for a process;
-without it the libsja.so beside this file is taken, where there is one. SJA names the program. Each call that isn't done
-raises SjaError, with its status. Standard library only."""
+without it the libsja.so beside this file is taken, where there is one. SJA names the program, which has to be the
+proved one, or a `./sja` that has it. Each call that isn't done raises SjaError, with its status. Standard library
+only."""
 
+import contextlib
 import ctypes
+import operator
 import os
 import subprocess
 
@@ -24,8 +27,13 @@ LINES = {"no VERSION": "NO_VERSION", "no BITS": "NO_BITS", "no NODES": "NO_NODES
          "full TURNS": "TURNS_USED", "full STRIKES": "STRIKES_USED", "full PLAN": "NO_DOCUMENT"}
 
 
+# The greatest number that a call of c/sja.h takes.
+GREATEST = 2**32 - 1
+
+
 class SjaError(Exception):
-    """A call that isn't done. `status` is its name in enum sja_status, without SJA_."""
+    """A call that isn't done. `status` is its name in enum sja_status, without SJA_; or NO_NUMBER, where `run` is given
+    a number that isn't one from 0 to 2^32-1. NO_HANDLE says that the session was closed."""
 
     def __init__(self, status):
         super().__init__(status)
@@ -88,18 +96,29 @@ class _Process:
     """A session in a process of its own."""
 
     def __init__(self, program, version, bits, nodes):
-        self.process = subprocess.Popen([program, "live"], stdin=subprocess.PIPE, stdout=subprocess.PIPE)
         self.bits, self.nodes, self.texts = bits, nodes, {}
-        self._ask(f"live {version} {bits} {nodes}", "ok")
+        pipe = subprocess.PIPE
+        try:
+            self.process = subprocess.Popen([program, "live"], stdin=pipe, stdout=pipe)
+        except OSError:
+            raise SjaError("BROKEN") from None
+        try:
+            self._ask(f"live {version} {bits} {nodes}", "ok")
+        except BaseException:
+            self.close()
+            raise
 
-    def _ask(self, line, *words):
-        """Says a line. The number behind the first of these words that the answer begins with, and the whole of it."""
+    def _say(self, line):
         try:
             self.process.stdin.write(f"{line}\n".encode())
             self.process.stdin.flush()
-            heard = self.process.stdout.readline().decode().rstrip("\n")
         except OSError:
             raise SjaError("BROKEN") from None
+
+    def _ask(self, line, *words):
+        """Says a line. What is answered, which begins with one of these words."""
+        self._say(line)
+        heard = self.process.stdout.readline().decode().rstrip("\n")
         for word in words:
             if heard == word or heard.startswith(f"{word} "):
                 return heard
@@ -154,32 +173,47 @@ class _Process:
         return int(self._ask("bits", "bits").split()[1])
 
     def _plan_now(self):
-        self.process.stdin.write(b"plan\n")
-        self.process.stdin.flush()
+        """The status of the plan so far, and its text."""
+        self._say("plan")
         lines = []
         for line in self.process.stdout:
             if line == b".\n":
-                return b"".join(lines).decode()
+                return "DONE", b"".join(lines).decode()
             if line == b"full PLAN\n" and not lines:
-                return None
+                return "NO_DOCUMENT", ""
             lines.append(line)
-        raise SjaError("BROKEN")
+        return "BROKEN", ""
+
+    def _end(self):
+        """Ends the session. Its plan and its report are kept, each with its status."""
+        self.texts = {"plan": ("BROKEN", ""), "report": ("BROKEN", "")}
+        self.texts["plan"] = self._plan_now()
+        self._say("end")
+        report = self.process.stdout.read().decode()
+        self.texts["report"] = ("DONE" if report else "NO_MEMORY", report)
 
     def text(self, name):
         if not self.texts and name == "report":
-            self.texts["plan"] = self._plan_now()
-            self.process.stdin.write(b"end\n")
-            self.process.stdin.flush()
-            self.texts["report"] = self.process.stdout.read().decode()
-        text = self.texts[name] if self.texts else self._plan_now()
-        if text is None:
-            raise SjaError("NO_DOCUMENT")
+            self._end()
+        status, text = self.texts[name] if self.texts else self._plan_now()
+        if status != "DONE":
+            raise SjaError(status)
         return text
 
     def close(self):
-        self.process.stdin.close()
+        with contextlib.suppress(OSError):
+            self.process.stdin.close()
         self.process.stdout.close()
         self.process.wait()
+
+
+def _is_number(number):
+    return 0 <= operator.index(number) <= GREATEST
+
+
+def _taken(number):
+    """A number as a call takes it. One that it can't take becomes the greatest, which is past each limit."""
+    return operator.index(number) if _is_number(number) else GREATEST
 
 
 class Session:
@@ -187,45 +221,57 @@ class Session:
 
     def __init__(self, version, bits, nodes):
         library = os.environ.get("SJA_LIBRARY", BESIDE if os.path.exists(BESIDE) else "")
-        if library:
-            self._session = _Library(library, version, bits, nodes)
-        else:
-            self._session = _Process(os.environ.get("SJA", "sja"), version, bits, nodes)
+        made = _Library if library else _Process
+        self._session = made(library or os.environ.get("SJA", "sja"), *map(_taken, (version, bits, nodes)))
+
+    def _open(self):
+        if self._session is None:
+            raise SjaError("NO_HANDLE")
+        return self._session
+
+    def _call(self, name, *numbers):
+        return self._open().call(name, *map(_taken, numbers))
 
     def read(self, node, address):
         """Reads an address of a node."""
-        return self._session.call("read", node, address)
+        return self._call("read", node, address)
 
     def write(self, node, address, value):
         """Writes a byte to an address of a node."""
-        self._session.call("write", node, address, value)
+        self._call("write", node, address, value)
 
     def run(self, count, watch=0):
         """Runs bits, up to the first in which the line of a watched node rises. How many were run."""
-        return self._session.call("bits", count, watch)
+        if not (_is_number(count) and _is_number(watch)):
+            self.now()
+            raise SjaError("NO_NUMBER")
+        return self._call("bits", count, watch)
 
     def irq(self, node):
         """Whether the interrupt line of a node is active."""
-        return bool(self._session.call("irq", node))
+        return bool(self._call("irq", node))
 
     def strike(self, node, bit):
         """Has a node see the other level in a bit that hasn't run."""
-        self._session.call("strike", node, bit)
+        self._call("strike", node, bit)
 
     def now(self):
         """How many bits were run."""
-        return self._session.call("now")
+        return self._call("now")
 
     def report(self):
         """Ends the session. Its report."""
-        return self._session.text("report")
+        return self._open().text("report")
 
     def plan(self):
         """The plan that the session wrote so far."""
-        return self._session.text("plan")
+        return self._open().text("plan")
 
     def close(self):
-        self._session.close()
+        """Lets go of the session. It can be called again."""
+        if self._session is not None:
+            self._session.close()
+            self._session = None
 
     def __enter__(self):
         return self

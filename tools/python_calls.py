@@ -1,0 +1,101 @@
+"""What the calls of `python/sja.py` answer to numbers in range and out of it, after the end and after `close`: each has
+to be the answer that stands beside it, over the library and over a process alike, which the variables of
+`python/sja.py` choose. Says which isn't; the status is 1 then. `checks/c_library` runs it over both."""
+
+import os
+import sys
+
+sys.dont_write_bytecode = True
+sys.path.insert(0, f"{os.path.dirname(os.path.dirname(os.path.abspath(__file__)))}/python")
+from sja import Session, SjaError  # noqa: E402
+
+PAST = 2**32
+
+
+def answer(call):
+    """What a call gives, or the name of what it raises."""
+    try:
+        return call()
+    except SjaError as error:
+        return error.status
+    except TypeError:
+        return "TypeError"
+
+
+def openings():
+    """Openings that are refused: each leaves no process behind."""
+    for wanted, numbers in [
+        ("NO_VERSION", (4, 10, 1)), ("NO_VERSION", (-1, 10, 1)), ("NO_VERSION", (PAST + 3, 10, 1)),
+        ("NO_BITS", (3, 0, 1)), ("NO_BITS", (3, -1, 1)), ("NO_BITS", (3, PAST + 10, 1)), ("NO_BITS", (2, 200001, 1)),
+        ("NO_NODES", (3, 10, 0)), ("NO_NODES", (3, 10, 9)), ("NO_NODES", (3, 10, PAST + 1)), ("NO_NODES", (3, 10, -1)),
+        ("TypeError", (3, 10, 1.0)),
+    ]:
+        yield f"Session{numbers}", lambda numbers=numbers: Session(*numbers), wanted
+        yield f"a process of Session{numbers}", has_process, False
+
+
+def has_process():
+    """Whether this program has another one that it has to wait for."""
+    try:
+        os.waitpid(-1, os.WNOHANG)
+    except ChildProcessError:
+        return False
+    return True
+
+
+def calls(bus):
+    """Calls of a session of two nodes and 1,000 bits, one after another."""
+    for wanted, name, numbers in [
+        (None, "write", (0, 4, 0x12)), ("NO_BYTE", "write", (0, 4, PAST + 1)), ("NO_BYTE", "write", (0, 4, 256)),
+        ("NO_BYTE", "write", (0, 4, -1)), (0x12, "read", (0, 4)), ("NO_ADDRESS", "read", (0, PAST + 4)),
+        ("NO_ADDRESS", "read", (0, -1)), ("NO_ADDRESS", "write", (9, 256, 256)), ("NO_BYTE", "write", (9, 4, 256)),
+        ("NO_NODE", "read", (PAST, 2)), ("NO_NODE", "read", (-1, 2)), ("NO_NODE", "read", (2, 2)),
+        ("NO_NODE", "irq", (2,)), ("NO_NODE", "irq", (-1,)), ("NO_NODE", "irq", (PAST,)), (False, "irq", (0,)),
+        ("NO_BIT", "strike", (0, 1000)), ("NO_BIT", "strike", (0, PAST)), ("NO_BIT", "strike", (0, -1)),
+        ("NO_NODE", "strike", (PAST + 1, 5)), (None, "strike", (1, 999)), ("TypeError", "read", (0, 2.0)),
+        ("TypeError", "run", (1.0,)), (0, "run", (0,)), ("NO_NUMBER", "run", (-1,)), ("NO_NUMBER", "run", (PAST,)),
+        ("NO_NUMBER", "run", (5, -1)), ("NO_NUMBER", "run", (5, PAST)), (0, "now", ()), (5, "run", (5, 256)),
+        ("PAST", "strike", (0, 4)), (5, "now", ()), (995, "run", (PAST - 1,)), (1000, "now", ()), (0, "run", (1, 1)),
+    ]:
+        yield f"{name}{numbers}", lambda name=name, numbers=numbers: getattr(bus, name)(*numbers), wanted
+
+
+def ended(bus, status):
+    """Calls of a session that has ended, or was closed: each of them is refused."""
+    for name, numbers in [
+        ("read", (9, 256)), ("write", (0, 4, PAST)), ("run", (1,)), ("run", (-1,)), ("irq", (PAST,)),
+        ("strike", (0, 1)), ("now", ()),
+    ]:
+        yield f"{name}{numbers}, {status}", lambda name=name, numbers=numbers: getattr(bus, name)(*numbers), status
+
+
+def rows():
+    """What is called, and what it has to answer."""
+    yield from openings()
+    bus = Session(3, 1000, 2)
+    yield from calls(bus)
+    plan = bus.plan()
+    yield "the plan's first line", lambda: plan.split("\n")[0], "version = 3"
+    report = bus.report()
+    yield "the report once more", lambda: bus.report() == report, True
+    yield "the plan after the end", lambda: bus.plan() == plan, True
+    yield from ended(bus, "ENDED")
+    bus.close()
+    yield from ended(bus, "NO_HANDLE")
+    for name in "plan", "report":
+        yield f"{name}, closed", getattr(bus, name), "NO_HANDLE"
+    yield "close once more", bus.close, None
+    yield "a process at the end", has_process, False
+
+
+def main():
+    bad = 0
+    for name, call, wanted in rows():
+        told = answer(call)
+        if told != wanted or type(told) is not type(wanted):
+            print(f"{name}: {told}, not {wanted}")
+            bad += 1
+    return 1 if bad else 0
+
+
+sys.exit(main())
