@@ -30,6 +30,18 @@ void board_wait(const struct board *board, uint32_t bits)
     board_done("bits", sja_bits(board->session, bits, 0));
 }
 
+void board_filter(const struct board *board, struct filter filter)
+{
+    board_write(board, ACR, (uint8_t)(filter.code >> 3));
+    board_write(board, ACR + 1, (uint8_t)(filter.code << 5));
+    board_write(board, AMR, (uint8_t)(filter.mask >> 3));
+    board_write(board, AMR + 1, (uint8_t)(filter.mask << 5 | 0x1f));
+    for (uint8_t i = 2; i < 4; i++) {
+        board_write(board, (uint8_t)(ACR + i), 0x00);
+        board_write(board, (uint8_t)(AMR + i), 0xff);
+    }
+}
+
 void board_put(const struct board *board, const struct message *message)
 {
     uint8_t info = message->length & INFO_LENGTH;

@@ -21,6 +21,13 @@ struct message {
     uint8_t data[8];
 };
 
+/* What a driver lets through: the identifiers that have these bits, and don't care where the mask is 1 (single filter
+ * of eleven bits, data sheet, 6.4.15). Of an extended identifier they are its first eleven. */
+struct filter {
+    uint32_t code;
+    uint32_t mask;
+};
+
 /* What became of a message that was to be sent. */
 enum outcome { PENDING, SENT, NOT_SENT };
 
@@ -32,6 +39,9 @@ void board_write(const struct board *board, uint8_t address, uint8_t value);
 
 /* Runs so many bits. */
 void board_wait(const struct board *board, uint32_t bits);
+
+/* Sets the acceptance filter, in reset mode: one filter, for MOD with AFM; all but the identifier isn't looked at. */
+void board_filter(const struct board *board, struct filter filter);
 
 /* Writes a message to the transmit buffer (data sheet, 6.4.13). */
 void board_put(const struct board *board, const struct message *message);

@@ -47,7 +47,7 @@ static struct result run(int polling_sends, int once, uint32_t struck, uint32_t 
 
     board_done("new", sja_new(VERSION, BITS, 2, &session));
     if (!polling_open(&polling, session, 0, (struct filter){ .mask = 0x7FF })
-        || !interrupts_open(&interrupts, session, 1))
+        || !interrupts_open(&interrupts, session, 1, (struct filter){ .mask = 0x7FF }))
         exit(2);
     interrupts_run(&interrupts, SETTLES);
     board_done("strike", sja_strike(session, struck, SETTLES + bit));

@@ -20,19 +20,15 @@ static int into_mode(const struct interrupts *driver, uint8_t mode)
     return 0;
 }
 
-/* Opens a controller that lets every message through: reset mode, clock divider, bit timing, output, filter, the
- * interrupts, and out of reset mode. What an earlier life left in the captures and in IR is read away. Whether it came
- * up. */
-int interrupts_open(struct interrupts *driver, sja *session, uint32_t node)
+/* Opens a controller: reset mode, clock divider, filter, bit timing, output, the interrupts, and out of reset mode.
+ * What an earlier life left in the captures and in IR is read away. Whether it came up. */
+int interrupts_open(struct interrupts *driver, sja *session, uint32_t node, struct filter filter)
 {
     *driver = (struct interrupts){ .board = { .session = session, .node = node }, .outcome = NOT_SENT };
     if (!into_mode(driver, MOD_RM))
         return 0;
     board_write(&driver->board, CDR, 0x80);
-    for (uint8_t i = 0; i < 4; i++) {
-        board_write(&driver->board, (uint8_t)(ACR + i), 0x00);
-        board_write(&driver->board, (uint8_t)(AMR + i), 0xff);
-    }
+    board_filter(&driver->board, filter);
     board_write(&driver->board, BTR0, 0x00);
     board_write(&driver->board, BTR1, 0x1c);
     board_write(&driver->board, OCR, 0x1a);

@@ -23,7 +23,7 @@ struct interrupts {
     unsigned errors;
 };
 
-int interrupts_open(struct interrupts *driver, sja *session, uint32_t node);
+int interrupts_open(struct interrupts *driver, sja *session, uint32_t node, struct filter filter);
 int interrupts_send(struct interrupts *driver, const struct message *message, int once);
 int interrupts_receive(struct interrupts *driver, struct message *message);
 void interrupts_handle(struct interrupts *driver);

@@ -17,20 +17,6 @@ static int into_mode(const struct polling *driver, uint8_t mode)
     return 0;
 }
 
-/* The acceptance filter, in reset mode: one filter, over the identifier of a standard frame; all else isn't looked
- * at. */
-static void set_filter(const struct polling *driver, struct filter filter)
-{
-    board_write(&driver->board, ACR, (uint8_t)(filter.code >> 3));
-    board_write(&driver->board, ACR + 1, (uint8_t)(filter.code << 5));
-    board_write(&driver->board, AMR, (uint8_t)(filter.mask >> 3));
-    board_write(&driver->board, AMR + 1, (uint8_t)(filter.mask << 5 | 0x1f));
-    for (uint8_t i = 2; i < 4; i++) {
-        board_write(&driver->board, (uint8_t)(ACR + i), 0x00);
-        board_write(&driver->board, (uint8_t)(AMR + i), 0xff);
-    }
-}
-
 /* Opens a controller: reset mode, clock divider, bit timing, output, filter, no interrupt, and out of reset mode.
  * Whether it came up. */
 int polling_open(struct polling *driver, sja *session, uint32_t node, struct filter filter)
@@ -45,7 +31,7 @@ int polling_open(struct polling *driver, sja *session, uint32_t node, struct fil
         return 0;
     board_write(&driver->board, CDR, 0x80);
     board_write(&driver->board, IER, 0x00);
-    set_filter(driver, filter);
+    board_filter(&driver->board, filter);
     board_write(&driver->board, BTR0, 0x00);
     board_write(&driver->board, BTR1, 0x1c);
     board_write(&driver->board, OCR, 0x1a);

@@ -4,13 +4,6 @@
 
 #include "board.h"
 
-/* What a driver lets through: the identifiers that have these bits, and don't care where the mask is 1 (single filter
- * of eleven bits, data sheet, 6.4.15). */
-struct filter {
-    uint32_t code;
-    uint32_t mask;
-};
-
 struct polling {
     struct board board;
     int busy;           /* a message is under way */

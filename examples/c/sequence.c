@@ -6,6 +6,7 @@
 #include <string.h>
 
 #include "board.h"
+#include "expect.h"
 #include "registers.h"
 
 enum { VERSION = 3, BITS = 20000, OTHER = 1, MOST_INTERRUPTS = 20 };
@@ -15,19 +16,8 @@ enum { ALL = IR_RI | IR_TI | IR_EI | IR_DOI | IR_EPI | IR_ALI | IR_BEI };
 struct device {
     struct board board;
     struct message received;
-    unsigned rx_packets, tx_packets, tx_errors, bus_errors, arbitration_lost, warnings, passives, bus_offs;
+    unsigned rx_packets, tx_packets, tx_errors, bus_errors, arbitration_lost, warnings, passives, bus_offs, backs;
 };
-
-static unsigned differences;
-
-/* Compares what was seen with what is wanted. */
-static void expect(const char *what, unsigned seen, unsigned wanted)
-{
-    if (seen == wanted)
-        return;
-    printf("  %s: %X, not %X\n", what, seen, wanted);
-    differences++;
-}
 
 static uint8_t reg(const struct device *device, uint8_t address)
 {
@@ -105,6 +95,7 @@ static void handle(struct device *device, uint8_t pending)
     if (pending & IR_EI) {
         device->warnings += (status & SR_ES) != 0;
         device->bus_offs += (status & SR_BS) && (reg(device, MOD) & MOD_RM);
+        device->backs += !(status & (SR_ES | SR_BS));
     }
     if (pending & IR_BEI) {
         device->bus_errors++;
@@ -142,6 +133,12 @@ static void transmit(const struct device *device, const struct message *message,
     set_reg(device, CMR, command);
 }
 
+/* The interrupt line, as the driver's processor sees it. */
+static unsigned line(const struct device *device)
+{
+    return (unsigned)board_done("irq", sja_irq(device->board.session, device->board.node));
+}
+
 static void stage(const char *name)
 {
     printf("%s\n", name);
@@ -176,7 +173,9 @@ int main(void)
     expect("TBS and TCS", reg(&device, SR) & (SR_TBS | SR_TCS), SR_TBS | SR_TCS);
 
     stage("receive");
+    expect("the other's line", line(&other), 1);
     run(&other, 1);
+    expect("its line once it is served", line(&other), 0);
     expect("received", other.rx_packets, 1);
     expect("the same", (unsigned)message_equals(&other.received, &message), 1);
     expect("RMC", reg(&other, RMC), 0);
@@ -231,14 +230,18 @@ int main(void)
     expect("TXERR", reg(&device, TXERR), 127);
 
     stage("restart");
+    expect("not back yet", device.backs, 0);
     into_normal(&device, 0);
     run(&device, 1600);
+    expect("EI at its end", device.backs, 1);
     expect("BS and ES", reg(&device, SR) & (SR_BS | SR_ES), 0);
     expect("TXERR", reg(&device, TXERR), 0);
     device.tx_packets = 0;
     transmit(&device, &message, CMR_TR);
     run(&device, 300);
     expect("sent again", device.tx_packets, 1);
+    expect("bus-off once all the while", device.bus_offs, 1);
+    expect("back once all the while", device.backs, 1);
 
     printf("%u differences\n", differences);
     board_done("free", sja_free(session));
