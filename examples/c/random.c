@@ -1,12 +1,28 @@
 /* Calls with random arguments, in and out of range, as many as the first word says: each has to be answered with a
- * status. Where a second word names a folder, the plan and the report of each session are put there, so that others can
- * look whether a run of the plan has that report. It's a test of the library, beside the sanitizers. */
+ * status, and a million of them have to meet all that there are but for refused memory. Most sessions are of all calls;
+ * some take turn after turn, or strike after strike, until there are no more. Where a second word names a folder, the
+ * plan and the report of each session are put there, so that others can look whether a run of the plan has that report.
+ * It's a test of the library, beside the sanitizers. */
 #include <stdio.h>
 #include <stdlib.h>
 
 #include "sja.h"
 
-enum { BITS = 2000, TEXT = 200000, MOST = 1 << 23 };
+enum { ALL = 1000000, TEXT = 200000, MOST = 1 << 23, MIXED_BITS = 4000, LAST = 2000 };
+
+/* What a session is for. */
+enum manner { MIXED, TURNS, STRIKES };
+
+struct driven {
+    sja *session;
+    uint32_t version;
+    uint32_t bits;
+    uint32_t nodes;
+    enum manner manner;
+    unsigned long number;
+    unsigned long left;         /* so many calls and it ends */
+    int ended;                  /* its report was asked for */
+};
 
 static uint64_t state = 88172645463325252u;
 
@@ -26,14 +42,39 @@ static uint32_t about(uint32_t limit)
 }
 
 static char text[TEXT];
+static size_t planned;          /* the length of the plan that it holds */
 static char report[64];
 static char most[MOST];
 
-static uint32_t one_call(sja *session)
+/* Asks for a text in some room, seldom for that of a plan, and more seldom for a report, which ends the session. */
+static uint32_t ask_text(struct driven *driven, int plan)
 {
+    sja_answer told;
+
+    if (any() % (plan ? 16 : 256) != 0)
+        return sja_now(driven->session).status;
+    told = (plan ? sja_plan : sja_report)(driven->session, text, about(TEXT) % TEXT);
+    driven->ended = driven->ended || !plan;
+    if (told.status == SJA_DONE)
+        planned = plan ? told.value : 0;
+    return told.status;
+}
+
+/* A strike; in version 3 one in 64 of them. */
+static uint32_t strike(const struct driven *driven)
+{
+    if (driven->version == 3 && any() % 64 != 0)
+        return sja_now(driven->session).status;
+    return sja_strike(driven->session, about(driven->nodes), about(driven->bits)).status;
+}
+
+static uint32_t one_call(struct driven *driven)
+{
+    sja *session = driven->session;
+
     switch (any() % 24) {
     case 0:
-        return sja_strike(session, about(2), about(BITS)).status;
+        return strike(driven);
     case 1:
         return sja_now(session).status;
     case 2:
@@ -43,12 +84,11 @@ static uint32_t one_call(sja *session)
     case 5:
         return sja_bits(session, about(20), about(3)).status;
     case 6:
-        return any() % 64 == 0 ? sja_plan(session, text, about(TEXT) % TEXT).status : (uint32_t)SJA_DONE;
+        return ask_text(driven, 1);
     case 7:
-        return any() % 256 == 0 ? sja_report(session, text, about(TEXT) % TEXT).status : (uint32_t)SJA_DONE;
+        return ask_text(driven, 0);
     case 8:
-        return any() % 64 == 0 ? sja_run_plan(text, about(64) % TEXT, report, sizeof report).status
-            : (uint32_t)SJA_DONE;
+        return sja_run_plan(text, any() % 8 == 0 ? planned : about(64) % TEXT, report, sizeof report).status;
     case 9:
         return sja_read(NULL, about(2), about(255)).status;
     case 10:
@@ -60,6 +100,55 @@ static uint32_t one_call(sja *session)
     default:
         return sja_write(session, about(2), about(31), about(255)).status;
     }
+}
+
+/* The next call of a session, as it is for. The last ones are of all calls. */
+static uint32_t next_call(struct driven *driven)
+{
+    if (driven->manner == MIXED || driven->left < LAST)
+        return one_call(driven);
+    if (driven->manner == STRIKES)
+        return sja_strike(driven->session, any() % driven->nodes, any() % driven->bits).status;
+    if (driven->left % 2 == 0)
+        return sja_bits(driven->session, 1, about(3)).status;
+    return sja_read(driven->session, any() % driven->nodes, about(255)).status;
+}
+
+/* How many bits a session is to have: a few thousand, or a number at a limit or past it. */
+static uint32_t some_bits(void)
+{
+    switch (any() % 32) {
+    case 0:
+        return 0;
+    case 1:
+        return 1;
+    case 2:
+        return any() | 1 << 22;
+    case 3:
+        return any() % 8 == 0 ? 200000 : 2000001;
+    case 4:
+        return 200001;
+    default:
+        return 1 + any() % MIXED_BITS;
+    }
+}
+
+/* Begins a session: the 20th takes turns until there are no more in version 3, and each 64th in version 1 or 2. */
+static uint32_t begin(struct driven *driven)
+{
+    unsigned long number = driven->number;
+
+    if (number == 20 || number % 64 == 7)
+        *driven = (struct driven){ .version = number == 20 ? 3 : 1 + any() % 2, .bits = number == 20 ? 150000 : 10000,
+                                   .nodes = 8, .manner = TURNS, .left = number == 20 ? 222000 : 14000 };
+    else if (number % 32 == 3)
+        *driven = (struct driven){ .version = 1 + any() % 2, .bits = MIXED_BITS, .nodes = 1 + any() % 3,
+                                   .manner = STRIKES, .left = 3500 };
+    else
+        *driven = (struct driven){ .version = 1 + about(2), .bits = some_bits(), .nodes = about(8),
+                                   .left = 1 + any() % (number % 8 == 5 ? 12000 : 3000) };
+    driven->number = number;
+    return sja_new(driven->version, driven->bits, driven->nodes, &driven->session).status;
 }
 
 /* Writes a text of a session to the file NUMBER.END of a folder. Whether that went well. */
@@ -79,21 +168,43 @@ static int put(const char *folder, unsigned long number, const char *end, size_t
 
 /* Puts the plan and the report of a session, which ends with it, into a folder, and lets go of it. A session has none
  * where no document says its plan. Whether the files could be written. */
-static int ended(sja *session, const char *folder, unsigned long number)
+static int ended(struct driven *driven, const char *folder)
 {
     int well = 1;
 
     if (folder != NULL) {
-        sja_answer told = sja_plan(session, most, sizeof most);
+        sja_answer told = sja_plan(driven->session, most, sizeof most);
 
         if (told.status == SJA_DONE) {
-            well = put(folder, number, "plan", told.value);
-            told = sja_report(session, most, sizeof most);
-            well = well && told.status == SJA_DONE && put(folder, number, "report", told.value);
+            well = put(folder, driven->number, "plan", told.value);
+            told = sja_report(driven->session, most, sizeof most);
+            well = well && told.status == SJA_DONE && put(folder, driven->number, "report", told.value);
         }
     }
-    sja_free(session);
+    sja_free(driven->session);
+    driven->session = NULL;
+    driven->number++;
     return well;
+}
+
+/* Whether the session is to end: where its calls are done, or, soon after its report was asked for. */
+static int is_over(struct driven *driven)
+{
+    return driven->left == 0 || (driven->ended && any() % 16 == 0);
+}
+
+/* Prints how often each status was told. Whether all were that have to be. */
+static int told_all(const unsigned long *seen, unsigned long calls)
+{
+    int all = 1;
+
+    for (uint32_t status = 0; status < SJA_BROKEN; status++) {
+        printf("status %2u: %lu\n", (unsigned)status, seen[status]);
+        all = all && (seen[status] > 0 || status == SJA_NO_MEMORY);
+    }
+    if (!all && calls >= ALL)
+        fprintf(stderr, "a status was never told\n");
+    return all || calls < ALL;
 }
 
 int main(int count, char **words)
@@ -101,28 +212,22 @@ int main(int count, char **words)
     unsigned long calls = count > 1 ? strtoul(words[1], NULL, 10) : 1000;
     const char *folder = count > 2 ? words[2] : NULL;
     unsigned long seen[SJA_BROKEN + 1] = { 0 };
-    unsigned long sessions = 0;
-    sja *session = NULL;
+    struct driven driven = { 0 };
 
     for (unsigned long i = 0; i < calls; i++) {
         uint32_t status;
 
-        if (session == NULL || any() % 2000 == 0) {
-            if (session != NULL && !ended(session, folder, sessions++))
-                return 1;
-            status = sja_new(1 + about(2), BITS, about(8), &session).status;
-        } else {
-            status = one_call(session);
-        }
+        if (driven.session != NULL && is_over(&driven) && !ended(&driven, folder))
+            return 1;
+        status = driven.session == NULL ? begin(&driven) : next_call(&driven);
+        driven.left -= driven.left > 0;
         if (status >= SJA_BROKEN) {
             fprintf(stderr, "call %lu: status %u\n", i, (unsigned)status);
             return 1;
         }
         seen[status]++;
     }
-    if (session != NULL && !ended(session, folder, sessions))
+    if (driven.session != NULL && !ended(&driven, folder))
         return 1;
-    for (uint32_t status = 0; status < SJA_BROKEN; status++)
-        printf("status %2u: %lu\n", (unsigned)status, seen[status]);
-    return 0;
+    return told_all(seen, calls) ? 0 : 1;
 }
