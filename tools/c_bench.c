@@ -1,9 +1,10 @@
-/* Accesses over sja.h, to be counted from outside by `checks/c_bench`: those of a frame, or one kind alone.
+/* Accesses and bits over sja.h, to be counted from outside by `checks/c_bench`: those of a frame, or one kind alone.
  *
- *     c_bench KIND COUNT
+ *     c_bench KIND COUNT [NODES]
  *
- * Two nodes are out of reset mode, by version 3. What is counted are the calls of `counted_read` and `counted_write`;
- * all else of a repetition goes by the same calls of sja.h, uncounted. It prints how many calls were counted.
+ * Two nodes, or so many, are out of reset mode, by version 3. What is counted are the calls of `counted_read`,
+ * `counted_write` and `counted_bits`; all else of a repetition goes by the same calls of sja.h, uncounted. It prints
+ * how many calls were counted.
  */
 #include <stdio.h>
 #include <stdlib.h>
@@ -12,9 +13,11 @@
 #include "sja.h"
 
 enum { MOD = 0, CMR = 1, SR = 2, IR = 3, IER = 4, BUFFER = 16 };
+enum { RM = 1, LOM = 2, STM = 4 };
 enum { TR = 1, AT = 2, RRB = 4, CDO = 8, SRR = 16, FRAME_BITS = 150 };
 
 static sja *bus;
+static uint32_t nodes = 2;
 static unsigned counted;
 
 __attribute__((noinline)) uint64_t counted_read(uint32_t node, uint32_t address)
@@ -29,17 +32,43 @@ __attribute__((noinline)) uint32_t counted_write(uint32_t node, uint32_t address
     return sja_write(bus, node, address, value).status;
 }
 
+__attribute__((noinline)) uint64_t counted_bits(uint32_t count, uint32_t watch)
+{
+    counted++;
+    return sja_bits(bus, count, watch).value;
+}
+
 /* The byte at a place of the transmit buffer: an extended frame of eight bytes. */
 static uint32_t byte_of(uint32_t place)
 {
     return place == 0 ? 0x88 : place * 17 & 0xff;
 }
 
-/* A frame goes from node 0 to node 1, uncounted. */
+/* The frame in the transmit buffer of a node goes to the others, uncounted. */
+static void sent_by(uint32_t node)
+{
+    sja_write(bus, node, CMR, TR);
+    sja_bits(bus, FRAME_BITS, 0);
+}
+
 static void sent(void)
 {
-    sja_write(bus, 0, CMR, TR);
-    sja_bits(bus, FRAME_BITS, 0);
+    sent_by(0);
+}
+
+/* Every node but one releases its message, uncounted. */
+static void released_but_by(uint32_t node)
+{
+    for (uint32_t other = 0; other < nodes; other++)
+        if (other != node)
+            sja_write(bus, other, CMR, RRB);
+}
+
+/* Puts the frame into the transmit buffer of a node, uncounted. */
+static void loaded(uint32_t node)
+{
+    for (uint32_t place = 0; place < 13; place++)
+        sja_write(bus, node, BUFFER + place, byte_of(place));
 }
 
 /* The 30 accesses of a frame, of which 15 are writes. */
@@ -61,7 +90,30 @@ static void command(uint32_t value)
 {
     counted_write(0, CMR, value);
     sja_bits(bus, FRAME_BITS, 0);
-    sja_write(bus, 1, CMR, RRB);
+    released_but_by(0);
+}
+
+/* Node 1 has a message, releases it and sends one of its own by one byte, which is three steps. */
+static void all_commands(void)
+{
+    sent();
+    counted_write(1, CMR, CDO | RRB | TR);
+    sja_bits(bus, FRAME_BITS, 0);
+    released_but_by(1);
+    for (uint32_t other = 2; other < nodes; other++)
+        sja_write(bus, other, CMR, RRB);
+}
+
+/* Node 1 leaves reset mode with another LOM and STM than it had, which is two steps. */
+static void other_mode(void)
+{
+    static uint32_t modes = STM;
+
+    sja_write(bus, 1, MOD, RM);
+    sja_bits(bus, 1, 0);
+    modes = modes == STM ? LOM : STM;
+    counted_write(1, MOD, modes);
+    sja_bits(bus, 12, 0);
 }
 
 /* Node 1 goes to reset mode and out of it, of which one is counted. */
@@ -74,6 +126,17 @@ static void mode(int stop)
         sja_write(bus, 1, MOD, 1);
         counted_write(1, MOD, 0);
     }
+}
+
+/* As many bits as a frame and the idle ones behind it, in which node 0 sends one or not, with node 0 watched or no
+ * node. */
+static void bits(int busy, uint32_t watch)
+{
+    if (busy)
+        sja_write(bus, 0, CMR, TR);
+    counted_bits(FRAME_BITS, watch);
+    if (busy)
+        released_but_by(0);
 }
 
 static int once(const char *kind)
@@ -106,8 +169,14 @@ static int once(const char *kind)
         sent(), counted_write(1, CMR, RRB);
     else if (!strcmp(kind, "CDO-RRB"))
         sent(), counted_write(1, CMR, CDO | RRB);
+    else if (!strcmp(kind, "CDO-RRB-TR"))
+        all_commands();
+    else if (!strcmp(kind, "start-modes"))
+        other_mode();
     else if (!strcmp(kind, "start") || !strcmp(kind, "stop"))
         mode(!strcmp(kind, "stop"));
+    else if (!strncmp(kind, "bits-", 5))
+        bits(strstr(kind, "busy") != NULL, strstr(kind, "watched") != NULL);
     else
         return 0;
     return 1;
@@ -115,18 +184,19 @@ static int once(const char *kind)
 
 int main(int words, char **word)
 {
-    int count = words == 3 ? atoi(word[2]) : 0;
+    int count = words >= 3 ? atoi(word[2]) : 0;
 
-    if (count < 1 || sja_new(3, 2000000, 2, &bus).status != SJA_DONE)
+    nodes = words >= 4 ? (uint32_t)atoi(word[3]) : nodes;
+    if (count < 1 || nodes < 2 || sja_new(3, 2000000, nodes, &bus).status != SJA_DONE)
         return 2;
-    sja_write(bus, 0, MOD, 0);
-    sja_write(bus, 1, MOD, 0);
+    for (uint32_t node = 0; node < nodes; node++)
+        sja_write(bus, node, MOD, 0);
     sja_bits(bus, 20, 0);
-    for (uint32_t place = 0; place < 13; place++)
-        sja_write(bus, 0, BUFFER + place, byte_of(place));
+    loaded(0);
+    loaded(1);
     for (int turn = 0; turn < count; turn++)
         if (!once(word[1]))
             return 2;
-    printf("%u accesses\n", counted);
+    printf("%u calls\n", counted);
     return sja_free(bus).status == SJA_DONE ? 0 : 1;
 }
