@@ -2,9 +2,9 @@
  * line back. What a driver does to its own memory does nothing to the session, and a session can be started beside any
  * program. For Linux and other POSIX systems.
  *
- * The environment variable SJA names the program; without it it is `sja` on the path. It has to be the proved program, or
- * a `./sja` that has one: without it `./sja live` opens no session, and sja_new answers SJA_BROKEN. What the process says
- * on its standard error goes nowhere; `$SJA live` in a shell shows it. Where SIGPIPE has no handler sja_new has it
+ * The environment variable SJA names the program; without it it is `sja` on the path. It has to be the proved program,
+ * or a `./sja` that has one: without it `./sja live` opens no session, and sja_new answers SJA_BROKEN. What the process
+ * says on its standard error goes nowhere; `$SJA live` in a shell shows it. Where SIGPIPE has no handler sja_new has it
  * ignored, so that a session's end is told by SJA_BROKEN and doesn't end the program.
  */
 #define _POSIX_C_SOURCE 200809L
