@@ -27,3 +27,4 @@ pub mod PlaceLemmas
 pub mod PlaceLaws
 pub mod NextLevels
 pub mod PackedLevels
+pub mod Agreeing

@@ -66,22 +66,6 @@ packed_of_frame s f place h =
       | inr past ↦ packed_past s place past ∙ sym (slice_get_past w place (omega (arith, count, past)))
     ]
 
--- the level at a place, told by the number that the levels before a later place write
-in_front : (s : SentBody) (n place : ℕ) → place < n → n ≤ s.length → s.length ≤ 128 →
-    packed_level s place ≡ Some (level_of (s.word / 2 ^ (s.length - n) / 2 ^ (n - 1 - place) % 2 == 1))
-in_front s n place before within short =
-    let shift : (s.length - 1 - place) % 128 ≡ s.length - n + (n - 1 - place) = omega arith in
-    packed_within s place (omega arith) ∙ ap (λ k. Some (level_of (s.word / 2 ^ k % 2 == 1))) shift
-    ∙ ap (λ v. Some (level_of (v % 2 == 1))) (sym (shr-shr s.word (s.length - n) (n - 1 - place)))
-
--- bodies whose levels before a place write the same number have the same levels there
-pub fronts_agree : (a b : SentBody) (n : ℕ) → n ≤ a.length → n ≤ b.length → a.length ≤ 128 → b.length ≤ 128 →
-    a.word / 2 ^ (a.length - n) ≡ b.word / 2 ^ (b.length - n) → AgreeFor n a b
-fronts_agree a b n in_a in_b short_a short_b same place before =
-    in_front a n place before in_a short_a
-    ∙ ap (λ v. Some (level_of (v / 2 ^ (n - 1 - place) % 2 == 1))) same
-    ∙ sym (in_front b n place before in_b short_b)
-
 -- ---- the next level
 
 -- it is the next one of the body and its CRC sequence

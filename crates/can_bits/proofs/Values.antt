@@ -23,7 +23,7 @@ digit-injective Dominant Recessive h = absurd (omega arith)
 digit-injective Recessive Dominant h = absurd (omega arith)
 
 -- the digit of the level of a digit
-level-digit : (r : ℕ) → r < 2 → digit (level_of (r == 1)) ≡ r
+pub level-digit : (r : ℕ) → r < 2 → digit (level_of (r == 1)) ≡ r
 level-digit zero h = refl
 level-digit (suc zero) h = refl
 level-digit (suc (suc r)) h = absurd (omega arith)

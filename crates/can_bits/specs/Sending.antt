@@ -1,7 +1,8 @@
 -- What a transmitter sends next, where its body is packed and its reader has taken what it sent so far: told of any
 -- packed body and any reader, by their own fields (this project's own rule). Where the body is that of a frame, it is
 -- the next level of the line of that frame (Bosch CAN 2.0 part A sections 3.1.1 and 5); `Shift::next_of` promises both.
-use Rattle.std.specs.Prelude.{◌≡◌, ◌<◌, ◌≤◌, ◌-◌, ◌/◌, ◌%◌, ◌^◌, ◌==◌, ℕ, suc, nat_lt, if◌then◌else◌}
+use Rattle.std.specs.Prelude.{◌≡◌, ◌≢◌, ◌<◌, ◌≤◌, ◌+◌, ◌-◌, ◌/◌, ◌%◌, ◌^◌, ◌==◌, ℕ, suc, min, nat_lt, nat_le}
+use Rattle.std.specs.Prelude.{if◌then◌else◌}
 use Rattle.std.specs.Prelude.{Option, Some, None, List, [], ◌∷◌, ◌++◌}
 use Rattle.can_bits.specs.declared.level.Level.{Level}
 use Rattle.can_bits.specs.declared.level.Level.TheVariants.{Recessive}
@@ -47,6 +48,14 @@ next_level s body = next_at s.frame_part s body
 abbrev pub AgreeFor : ℕ → SentBody → SentBody → Type 0
 AgreeFor n a b = (place : ℕ) → place < n → packed_level a place ≡ packed_level b place
 
+-- two bodies have a level each at so many places, from the first one on, and 128 binary digits have them, as they have
+-- those of every frame
+pub record BothHave (n : ℕ) (a b : SentBody) : Type 0 where
+  pub one : n ≤ a.length
+  pub other : n ≤ b.length
+  pub one_fits : a.length ≤ 128
+  pub other_fits : b.length ≤ 128
+
 -- ---- levels of the stuffed part
 
 -- a reader takes this level, whatever levels it may have been given: it is right after them, in the stuffed part past
@@ -63,3 +72,21 @@ pub data SendsAlong (body : SentBody) (old : Shift) : List Level → Shift → T
   nothing : SendsAlong body old [] old
   one_more : (mid new : Shift) (xs : List Level) → SendsAlong body old xs mid →
       TakesInside mid (next_level mid body) new → SendsAlong body old (xs ++ next_level mid body ∷ []) new
+
+-- ---- levels taken at once
+
+-- a reader is in the stuffed part, past SOF, and no level so far was wrong: told by its own fields
+pub record IsPastSof (s : Shift) : Type 0 where
+  pub right : s.wrong ≡ None
+  pub inside : s.frame_part ≡ Stuffed
+  pub begun : s.run ≢ 0
+  pub few : s.run ≤ 5
+
+-- how many levels a packed body has; none where 128 binary digits don't have them, which the body of no frame is
+abbrev pub sent_length : SentBody → ℕ
+sent_length body = if nat_le body.length 128 then body.length else 0
+
+-- up to which place levels of a body are taken at once: before the reader's next mark, with which more is known of the
+-- length; before the last level; and as far as 64 digits have the levels from the next one on
+abbrev pub plain_end : Gathered → SentBody → ℕ
+plain_end g body = min (min g.mark (sent_length body) - 1) (min (g.place + 64) 255)

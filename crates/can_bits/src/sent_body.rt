@@ -31,7 +31,7 @@ impl SentBody {
     ghost use Rattle.can_bits.specs.Digits.{bits, level_of};
     ghost use Rattle.can_bits.specs.Body.{head_bits, sent_body};
     ghost use Rattle.can_bits.specs.Packing.{Packs, IsSentBody};
-    ghost use Rattle.can_bits.specs.Sending.{AgreeFor, packed_level};
+    ghost use Rattle.can_bits.specs.Sending.{AgreeFor, BothHave, packed_level, sent_length};
 
     /// No levels.
     pub fn empty() -> SentBody
@@ -88,7 +88,7 @@ impl SentBody {
     /// How many levels there are; none where 128 binary digits don't have them, which the body of no frame is.
     #[inline(always)]
     pub(crate) fn len(&self) -> u8
-        ensures { result ≡ (if nat_le self.now.length 128 then self.now.length else 0) }
+        ensures { result ≡ sent_length self.now }
     {
         if self.length <= 128 { self.length } else { 0 }
     }
@@ -120,34 +120,24 @@ impl SentBody {
         }
     }
 
-    /// At so many places, from the first one on, both bodies have the same levels; it may be at more.
+    /// At how many places, from the first one on, both bodies have the same level; none where 128 binary digits don't
+    /// have all of one of them, which is so of no frame's.
     pub(crate) fn agreement(&self, other: &SentBody) -> u8
-        ensures { AgreeFor result self.now other.now }
+        ensures same { AgreeFor result self.now other.now }
+        ensures within { 0 < result → BothHave result self.now other.now }
+        ensures most { (n : ℕ) → BothHave n self.now other.now → AgreeFor n self.now other.now → n ≤ result }
     {
-        let most = self.length.min(other.length);
         let apart = self.from_highest() ^ other.from_highest();
-        let places = most.min(apart.leading_zeros() as u8);
-        let short = self.length.max(other.length) <= WORD;
-        if short && self.front(places) == other.front(places) {
-            places
-        } else {
-            0
-        }
+        self.len().min(other.len()).min(apart.leading_zeros() as u8)
     }
 
-    /// All levels, the first one the highest digit.
+    /// All levels, the first one the highest of 128 digits.
     #[inline(always)]
-    fn from_highest(&self) -> u128 {
-        self.word << (WORD.saturating_sub(self.length) % WORD)
-    }
-
-    /// The number that the levels before a place write.
-    #[inline(always)]
-    fn front(&self, place: u8) -> u128
-        requires { place ≤ self.now.length }
-        ensures { self.now.length - place < 128 → result ≡ self.now.word / 2 ^ (self.now.length - place) }
+    fn from_highest(&self) -> u128
+        ensures { (place : ℕ) → place < self.now.length → self.now.length ≤ 128
+            → packed_level self.now place ≡ Some (level_of (result / 2 ^ (127 - place) % 2 == 1)) }
     {
-        self.word >> ((self.length - place) % WORD)
+        self.word << (WORD.saturating_sub(self.length) % WORD)
     }
 }
 

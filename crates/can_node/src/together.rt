@@ -8,13 +8,14 @@ use super::stage::Stage;
 use can_bits::{Level, Shift};
 
 impl Node {
-    ghost use Rattle.std.specs.Prelude.{◌≡◌, ◌<◌, ◌≤◌, ◌⊎◌, ℕ, true, false, List};
+    ghost use Rattle.std.specs.Prelude.{◌≡◌, ◌<◌, ◌≤◌, ◌+◌, ◌⊎◌, ℕ, true, false, List};
     ghost use Rattle.std.specs.Prelude.{length, take, drop};
     ghost use Rattle.can_bits.specs.declared.level.Level.{Level as Bus};
+    ghost use Rattle.can_bits.specs.Sending.{BothHave, place_of};
     ghost use Rattle.can_bits.specs.Shifts.{StandsFor};
     ghost use Rattle.can_bits.specs.Streaming.{IsRightInside};
     ghost use Rattle.can_node.specs.Together.{is_sending, kept_level, reader_of, reading_as, HasReadAs};
-    ghost use Rattle.can_node.specs.Together.{GoesWith, SendsAlike, SendsBits, following, sending_as};
+    ghost use Rattle.can_node.specs.Together.{GoesWith, SendsAlike, SendsBits, body_of, following, sending_as};
     ghost use Rattle.can_node.specs.declared.node.Node.{Node as Sender};
 
     /// Whether this node is in a frame, and sends it.
@@ -53,13 +54,19 @@ impl Node {
         }
     }
 
-    /// For so many bits of the stuffed part this node goes on with one that sends, both having read just the same; it
-    /// may be for more. It is 255, and so more than any stuffed part has, where the node receives that frame and drives
-    /// recessive. Where it sends too, it is as far as both bodies are found to be the same. 0 says nothing.
+    /// For how many bits of the stuffed part this node goes on with one that sends, both having read just the same. It
+    /// is 255, and so more than any stuffed part has, where the node receives that frame and drives recessive. Where it
+    /// sends too, it is at how many places from the next one on both bodies are the same; stuff bits may come between.
+    /// Else it is 0.
     pub fn goes_with(&self, sender: &Node) -> u8
         ensures goes { 0 < result → GoesWith sender.now result self.now }
         ensures receives { (l : List Bus) (level : Bus) → StandsFor (reader_of self.now) l → IsRightInside l level →
             HasReadAs self.now (reader_of sender.now) → result ≡ 255 }
+        ensures sends { (l : List Bus) (level : Bus) (n : ℕ) → StandsFor (reader_of self.now) l → IsRightInside l level
+            → SendsAlike sender.now n self.now
+            → BothHave (place_of (reader_of sender.now) + n) (body_of sender.now) (body_of self.now) → n ≤ result }
+        ensures within { is_sending self.now ≡ true → 0 < result
+            → BothHave (place_of (reader_of sender.now) + result) (body_of sender.now) (body_of self.now) }
     {
         if self.has_read_as(&sender.shift) {
             return u8::MAX;

@@ -15,15 +15,23 @@ digit_low n a b below =
 pub digit_moved : (n s b : ℕ) → n * 2 ^ s / 2 ^ (s + b) ≡ n / 2 ^ b
 digit_moved n s b = sym (shr-shr (n * 2 ^ s) s b) ∙ ap (λ m. m / 2 ^ b) (shl-shr n s)
 
+-- one of 128 digits of which the highest of the word is the first
+pub digit_from_top : (n left k : ℕ) → left ≤ 128 → k < left →
+    n * 2 ^ (128 - left) % 2 ^ 128 / 2 ^ (127 - k) % 2 ≡ n / 2 ^ (left - 1 - k) % 2
+digit_from_top n left k room before =
+    let s = 128 - left in
+    let b = left - 1 - k in
+    let sum : 127 - k ≡ s + b = omega (arith, room, before) in
+    ap (λ m. n * 2 ^ s % 2 ^ 128 / 2 ^ m % 2) sum ∙ digit_low (n * 2 ^ s) 128 (s + b) (omega (arith, room, before))
+    ∙ ap (λ m. m % 2) (digit_moved n s b)
+
 -- one of the 64 digits from a place on
 pub digit_from : (n left k : ℕ) → left ≤ 128 → k < left → k < 64 →
     n * 2 ^ (128 - left) % 2 ^ 128 / 2 ^ 64 / 2 ^ (63 - k) % 2 ≡ n / 2 ^ (left - 1 - k) % 2
 digit_from n left k room before within =
-    let s = 128 - left in
-    let b = left - 1 - k in
-    let sum : 64 + (63 - k) ≡ s + b = omega (arith, room, before, within) in
-    ap (λ m. m % 2) (shr-shr (n * 2 ^ s % 2 ^ 128) 64 (63 - k) ∙ ap (λ m. n * 2 ^ s % 2 ^ 128 / 2 ^ m) sum)
-    ∙ digit_low (n * 2 ^ s) 128 (s + b) (omega (arith, room, before)) ∙ ap (λ m. m % 2) (digit_moved n s b)
+    let m = n * 2 ^ (128 - left) % 2 ^ 128 in
+    let sum : 64 + (63 - k) ≡ 127 - k = omega (arith, within) in
+    ap (λ q. q % 2) (shr-shr m 64 (63 - k)) ∙ ap (λ j. m / 2 ^ j % 2) sum ∙ digit_from_top n left k room before
 
 -- with the highest of 64 digits gone each one stands a place higher
 pub digit_next : (n k : ℕ) → k < 63 → 2 * (n % 2 ^ 63) / 2 ^ (63 - k) % 2 ≡ n / 2 ^ (63 - (k + 1)) % 2

@@ -18,7 +18,7 @@ impl Gathered {
     ghost use Rattle.can_frame.specs.Frame.{FrameValue};
     ghost use Rattle.can_bits.specs.Digits.{level_of};
     ghost use Rattle.can_bits.specs.Packing.{IsSentBody};
-    ghost use Rattle.can_bits.specs.Sending.{AgreeFor, or_crc, packed_level};
+    ghost use Rattle.can_bits.specs.Sending.{AgreeFor, BothHave, or_crc, packed_level, plain_end};
     ghost use Rattle.can_bits.specs.Inside.Gathering.{Gathers};
 
     /// The segment of the next level.
@@ -69,9 +69,12 @@ impl Gathered {
         }
     }
 
-    /// At so many places from the next one on both bodies have the same levels, and at all before; it may be at more.
+    /// At how many places from the next one on both bodies have the same levels, and at all before; 0 where they don't.
     pub(crate) fn agreement(&self, one: &SentBody, other: &SentBody) -> u8
-        ensures { 0 < result → AgreeFor (self.now.place + result) one.now other.now }
+        ensures same { 0 < result → AgreeFor (self.now.place + result) one.now other.now }
+        ensures within { 0 < result → BothHave (self.now.place + result) one.now other.now }
+        ensures most { (n : ℕ) → BothHave n one.now other.now → AgreeFor n one.now other.now
+            → n ≤ self.now.place + result }
     {
         one.agreement(other).saturating_sub(self.place)
     }
@@ -84,6 +87,7 @@ impl Gathered {
         ensures length { result < body.now.length ⊎ (result ≡ 0) }
         ensures fits { body.now.length ≤ 128 ⊎ (result ≡ 0) }
         ensures near { result ≤ self.now.place + 64 }
+        ensures exact { result ≡ plain_end self.now body.now }
     {
         self.mark
             .min(body.len())

@@ -53,6 +53,7 @@ impl Shift {
     pub(super) fn is_inside(&self) -> bool
         ensures no_fault { result ≡ true → self.now.wrong ≡ None }
         ensures in_part { result ≡ true → self.now.frame_part ≡ FramePart.Stuffed }
+        ensures fields { self.now.wrong ≡ None → self.now.frame_part ≡ FramePart.Stuffed → result ≡ true }
         ensures only { (l : List Bus) (level : Bus) → StandsFor self.now l → IsRightInside l level → result ≡ true }
     {
         match self.wrong {

@@ -10,7 +10,7 @@ use crate::sent_body::SentBody;
 const HIGHEST: u64 = 1 << 63;
 
 impl Shift {
-    ghost use Rattle.std.specs.Prelude.{◌≡◌, ◌≢◌, ◌≤◌, ◌<◌, ◌+◌, ◌∷◌, ◌++◌, List, length, take, drop, slice_range};
+    ghost use Rattle.std.specs.Prelude.{◌≡◌, ◌≢◌, ◌≤◌, ◌<◌, ◌+◌, ◌⊎◌, ◌∷◌, ◌++◌, List, length, take, drop, slice_range};
     ghost use Rattle.std.specs.Prelude.{true, None};
     ghost use Rattle.can_bits.specs.declared.level.Level.{Level as Bus};
     ghost use Rattle.can_frame.specs.Frame.{FrameValue};
@@ -20,7 +20,8 @@ impl Shift {
     ghost use Rattle.can_bits.specs.Line.{StuffedPart, tail};
     ghost use Rattle.can_bits.specs.Packing.{IsSentBody};
     ghost use Rattle.can_bits.specs.Places.{place_code, is_early_stuff};
-    ghost use Rattle.can_bits.specs.Sending.{AgreeFor, SendsAlong, next_level, place_of};
+    ghost use Rattle.can_bits.specs.Sending.{AgreeFor, BothHave, IsPastSof, SendsAlong, next_level, place_of};
+    ghost use Rattle.can_bits.specs.Sending.{plain_end};
     ghost use Rattle.can_bits.specs.Shifts.{StandsFor};
 
     /// The next level of the line that a transmitter of this packed body sends, where the levels so far are a front of
@@ -45,10 +46,14 @@ impl Shift {
         }
     }
 
-    /// For so many levels from the next one on transmitters of both bodies send the same, at this reader; it may be for
-    /// more. 0 says nothing.
+    /// At how many places from the next one on the bodies of two transmitters have the same levels, and at all that are
+    /// gathered, so that for so many levels, or more with stuff bits, both send the same at this reader. 0 where they
+    /// don't agree so far, and where 128 binary digits don't have all of one of them, which is so of no frame's.
     pub fn agreement(&self, one: &SentBody, other: &SentBody) -> u8
-        ensures { 0 < result → AgreeFor (place_of self.now + result) one.now other.now }
+        ensures same { 0 < result → AgreeFor (place_of self.now + result) one.now other.now }
+        ensures within { 0 < result → BothHave (place_of self.now + result) one.now other.now }
+        ensures most { (n : ℕ) → BothHave n one.now other.now → AgreeFor n one.now other.now
+            → n ≤ place_of self.now + result }
     {
         self.gathered.agreement(one, other)
     }
@@ -60,14 +65,16 @@ impl Shift {
         ensures in_part { result ≡ true → self.now.frame_part ≡ FramePart.Stuffed }
         ensures begun { result ≡ true → self.now.run ≢ 0 }
         ensures most { result ≡ true → self.now.run ≤ 5 }
+        ensures only { IsPastSof self.now → result ≡ true }
     {
         self.is_inside() && self.run > 0 && self.run <= RUN
     }
 
-    /// Takes some of the levels that a transmitter of this body sends next, perhaps none, and writes them from a place
-    /// of the list on. Answers where the rest of the list begins. The others are left to
-    /// [`take_inside`](Shift::take_inside): those with which more is known of the length, and all past the body. None
-    /// is taken where the place is past the list.
+    /// Takes levels that a transmitter of this body sends next, and writes them from a place of the list on. Answers
+    /// where the rest of the list begins. It takes them until the list is full, or the next one is left to
+    /// [`take_inside`](Shift::take_inside): one with which more is known of the length, the last of the body and all
+    /// past it, and one that the next 64 levels of the body don't have. None is taken where the place is past the list,
+    /// and where the reader isn't in the stuffed part past SOF.
     #[inline(always)]
     pub fn send_along(&mut self, body: &SentBody, levels: &mut [Level], from: usize) -> usize
         ensures more { from ≤ result }
@@ -76,6 +83,8 @@ impl Shift {
         ensures front { take from levels.new ≡ take from levels.old }
         ensures rest { drop result levels.new ≡ drop result levels.old }
         ensures sends { SendsAlong body.now self.old (slice_range levels.new from result) self.new }
+        ensures most { IsPastSof self.old → from ≤ length levels.old
+            → (result ≡ length levels.old) ⊎ (plain_end self.old.gathered body.now ≤ place_of self.new) }
     {
         let end = self.gathered.plain_end(body);
         if !self.gathered.is_before(end) || !self.is_past_sof() {

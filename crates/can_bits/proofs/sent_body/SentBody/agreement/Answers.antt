@@ -1,15 +1,31 @@
-use Rattle.std.proofs.Common.{rules, ◌≤◌, sym, ◌∙◌, arith}
-use Rattle.can_bits.proofs.PackedLevels.{fronts_agree}
+use Rattle.std.proofs.Common.{rules, ◌<◌, ◌≤◌, ◌^◌, arith}
+use Rattle.can_bits.specs.Sending.{BothHave}
+use Rattle.can_bits.proofs.Agreeing.{agreement_of_zeros, zeros_of_agreement}
 use Rattle.can_bits.proofs.sent_body.SentBody.agreement.Goals as goal
+use lib.Bits.{bit_xor}
+use lib.Count.{count_leading_zeros}
 
-pub returns-then-front : goal.returns-then-front
-returns-then-front c place before =
-    let a = c.args.self.now in
-    let b = c.args.other.now in
-    let n = c.min-places.result in
-    let in_a : n ≤ a.length = search rules in
-    let in_b : n ≤ b.length = search rules in
-    let short_a : a.length ≤ 128 = search rules in
-    let short_b : b.length ≤ 128 = search rules in
-    let same = sym (c.front.ensures (omega arith)) ∙ c.if-front.true ∙ c.front-then-short.ensures (omega arith) in
-    fronts_agree a b n in_a in_b short_a short_b same place before
+pub returns-clause-same : goal.returns-clause-same
+returns-clause-same c place before =
+    let x = c.from_highest.result in
+    let y = c.from_highest-2.result in
+    let room_x : x < 2 ^ 128 = search rules in
+    let room_y : y < 2 ^ 128 = search rules in
+    let both : BothHave c.min-2.result c.args.self.now c.args.other.now = search rules in
+    let zeros : c.min-2.result ≤ count_leading_zeros 128 (bit_xor x y) = search rules in
+    agreement_of_zeros c.args.self.now c.args.other.now x y c.min-2.result c.from_highest.ensures c.from_highest-2.ensures
+    room_x room_y both zeros place before
+
+pub returns-clause-most : goal.returns-clause-most
+returns-clause-most c n both agree =
+    let x = c.from_highest.result in
+    let y = c.from_highest-2.result in
+    let room_x : x < 2 ^ 128 = search rules in
+    let room_y : y < 2 ^ 128 = search rules in
+    let one = both.one in
+    let other = both.other in
+    let fits = both.one_fits in
+    let fits_too = both.other_fits in
+    let zeros = zeros_of_agreement c.args.self.now c.args.other.now x y n c.from_highest.ensures c.from_highest-2.ensures
+    room_x room_y both agree in
+    search rules
