@@ -1,4 +1,4 @@
-use Rattle.std.proofs.Common.{rules, ◌<◌, ◌≤◌, ◌^◌, arith}
+use Rattle.std.proofs.Common.{rules, ◌<◌, ◌≤◌, ◌^◌}
 use Rattle.can_bits.specs.Sending.{BothHave}
 use Rattle.can_bits.proofs.Agreeing.{agreement_of_zeros, zeros_of_agreement}
 use Rattle.can_bits.proofs.sent_body.SentBody.agreement.Goals as goal
