@@ -11,20 +11,31 @@ use super::stage::Stage;
 use can_bits::Level;
 
 impl Node {
-    ghost use Rattle.std.specs.Prelude.{◌≡◌, Some, true, false};
+    ghost use Rattle.std.specs.Prelude.{◌≡◌, List, Some, true, false};
+    ghost use Rattle.can_bits.specs.declared.level.Level.{Level as Bus};
+    ghost use Rattle.can_bits.specs.declared.level.Level.TheVariants.{Recessive};
+    ghost use Rattle.can_bits.specs.Shifts.{StandsFor};
+    ghost use Rattle.can_bits.specs.Streaming.{IsRightInside};
     ghost use Rattle.can_node.specs.declared.role.Role.TheVariants.{Transmitter, Receiver};
-    ghost use Rattle.can_node.specs.declared.stage.Stage.TheVariants.{InFrame as StageInFrame};
+    ghost use Rattle.can_node.specs.declared.stage.Stage.TheVariants.{InFrame as StageInFrame, BusIdle as StageBusIdle};
     ghost use Rattle.can_node.specs.Inside.Quiet.{TurnsQuietly, is_outside};
     ghost use Rattle.can_node.specs.Stands.{Samples, ShowsSame, nothing, is_receiving};
+    ghost use Rattle.can_node.specs.Together.{is_sending, kept_level, reader_of};
 
     /// Sees the level of the bus where the bit changes nothing that the node shows: no event, and the same error
     /// counters, phase, role and held request. Answers whether that was so; else the node is what it was, and
-    /// [`sample_fully`](Node::sample_fully) is to be called (this project's own rule).
+    /// [`sample_fully`](Node::sample_fully) is to be called (this project's own rule). It is so of each recessive bit
+    /// of an idle bus in which the node drives recessive, and of each right bit of a frame's stuffed part past SOF, which
+    /// a transmitter sees as it drives it. Past that part, and outside a frame, it may answer false for such a bit too.
     #[inline(always)]
     pub fn sample_quietly(&mut self, level: Level) -> bool
         ensures quiet { result ≡ true → Samples self.old self.new level (nothing (is_receiving self.old)) }
         ensures shown { result ≡ true → ShowsSame self.old self.new }
         ensures same { result ≡ false → self.new ≡ self.old }
+        ensures idle { self.old.stage ≡ StageBusIdle → kept_level self.old ≡ Recessive → level ≡ Recessive
+            → result ≡ true }
+        ensures inside { (l : List Bus) → self.old.stage ≡ StageInFrame → StandsFor (reader_of self.old) l
+            → IsRightInside l level → (is_sending self.old ≡ true → level ≡ kept_level self.old) → result ≡ true }
     {
         if let Stage::InFrame = self.stage {
             self.frame_bit_quietly(level)
@@ -42,6 +53,8 @@ impl Node {
             → Samples self.old self.new level (nothing (is_receiving self.old)) }
         ensures shown { self.old.stage ≡ StageInFrame → result ≡ true → ShowsSame self.old self.new }
         ensures same { result ≡ false → self.new ≡ self.old }
+        ensures inside { (l : List Bus) → self.old.stage ≡ StageInFrame → StandsFor (reader_of self.old) l
+            → IsRightInside l level → (is_sending self.old ≡ true → level ≡ kept_level self.old) → result ≡ true }
     {
         match self.context.role {
             Role::Receiver => {
