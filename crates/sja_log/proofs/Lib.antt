@@ -3,3 +3,4 @@ pub mod Account
 pub mod Trace
 -- the end of a run
 pub mod NodeLog
+pub mod LogWith

@@ -18,3 +18,4 @@ pub mod Runs
 pub mod Dated
 -- ---- what a log is made of
 pub mod Finishing
+pub mod LogWith

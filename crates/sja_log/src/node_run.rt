@@ -91,4 +91,11 @@ impl NodeRun {
     {
         self.activations.as_slice()
     }
+
+    /// The same node with these steps done in place of its own.
+    pub(crate) fn replace_steps(&mut self, done: Vec<Done>)
+        ensures { self.new ≡ record self.old { done = done.items } }
+    {
+        self.done = done;
+    }
 }

@@ -7,7 +7,6 @@ pub mod Kept
 pub mod Stepped
 pub mod Ran
 pub mod Begun
-pub mod Logged
 pub mod NodeTurns
 pub mod BusTurns
 pub mod AllTurns

@@ -11,7 +11,7 @@ use Rattle.sja_serial.specs.Ending.{IsLogOf}
 use Rattle.sja_session.specs.Sessions.{written as written_typed}
 use Rattle.sja_session.specs.declared.session_room.SessionRoom.{SessionRoom}
 use Rattle.sja_plan_session.specs.History.{Came, IsNew}
-use Rattle.sja_plan_session.specs.LogWith.{log_with}
+use Rattle.sja_log.specs.LogWith.{log_with}
 use Rattle.sja_plan_session.specs.PlanSessions.{PlanSessionValue, written}
 
 -- the log of a session that stands at these deeds and ends so. `typed` is the log of its typed steps: a run in one

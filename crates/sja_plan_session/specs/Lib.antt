@@ -8,7 +8,6 @@ pub mod Running
 pub mod Looking
 pub mod Striking
 -- ---- the whole
-pub mod LogWith
 pub mod History
 pub mod Keeping
 pub mod Ending

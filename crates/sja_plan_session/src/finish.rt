@@ -1,6 +1,5 @@
 //! The end of a session of version 3: its plan and its log.
 
-use super::log_with::log_with;
 use super::plan_session::PlanSession;
 use can_frame::OutOfMemory;
 use sja_log::{End, RunLog};
@@ -50,6 +49,6 @@ impl PlanSession {
             turns: _,
         } = self;
         let (_typed, log) = raw.finish(alloc)?;
-        log_with(alloc, &log, done.as_slice(), end)
+        Ok(log.with_steps(done, end))
     }
 }

@@ -11,9 +11,7 @@
 
 mod access;
 mod answers;
-mod copied_node;
 mod finish;
-pub mod log_with;
 mod may;
 mod more;
 mod of_plan;

@@ -2,7 +2,7 @@
 use Rattle.std.specs.Prelude.{◌≡◌, ◌==◌, Bool, true, false, List}
 use Rattle.sja_log.specs.Log.{RunValue}
 use Rattle.sja_plan.specs.Plan.{PlanValue}
-use Rattle.sja_plan_session.specs.LogWith.{log_with}
+use Rattle.sja_log.specs.LogWith.{log_with}
 use Rattle.sja_script.specs.declared.done.Done.{Done}
 use Rattle.sja_threads.specs.AccessRuns.{IsAccessRun}
 use Rattle.sja_threads.specs.Threads.{IsThreadedRun}

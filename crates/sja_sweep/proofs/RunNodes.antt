@@ -21,7 +21,7 @@ use Rattle.sja_plan_session.specs.PlanSessions.{PlanSessionValue}
 use Rattle.sja_plan_session.specs.RawRuns.{DoesSteps, DoesTurns, IsRawRun}
 use Rattle.sja_plan_session.specs.RawRuns.DoesSteps.{all, over, waits, more}
 use Rattle.sja_plan_session.specs.RawRuns.DoesTurns.{all_done, bus, bus_spent, rest, rest_spent, node}
-use Rattle.sja_plan_session.proofs.Logged.{with_many}
+use Rattle.sja_log.proofs.LogWith.{with_many}
 use Rattle.sja_plan_session.proofs.Typed.{chain_of}
 
 -- ---- a session of version 3 that takes the turns of a plan

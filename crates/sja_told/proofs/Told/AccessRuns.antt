@@ -11,10 +11,10 @@ use Rattle.sja_log.specs.Runs.{IsSerialRun}
 use Rattle.sja_log.specs.declared.end.End.{End}
 use Rattle.sja_plan.specs.Plan.{PlanValue}
 use Rattle.sja_plan_session.specs.Ending.{IsLogIn, IsSessionRun}
-use Rattle.sja_plan_session.specs.LogWith.{log_with}
+use Rattle.sja_log.specs.LogWith.{log_with}
 use Rattle.sja_plan_session.specs.PlanRuns.{IsPlanRun}
 use Rattle.sja_plan_session.specs.PlanSessions.{PlanSessionValue}
-use Rattle.sja_plan_session.proofs.Logged.{with_many, journal_with}
+use Rattle.sja_log.proofs.LogWith.{with_many, journal_with}
 use Rattle.sja_replay.specs.declared.happening.Happening.{Happening}
 use Rattle.sja_replay.specs.Happened.{Happened}
 use Rattle.sja_script.specs.declared.done.Done.{Done}
