@@ -1,10 +1,9 @@
 -- Steps that are done one after the other, and what is left for more.
 use Rattle.std.proofs.Common.{◌≡◌, ℕ, zero, suc, ◌+◌, ◌<◌, Bool, true, false, List, [], ◌∷◌, ◌++◌, length}
-use Rattle.std.proofs.Common.{refl, sym, ap}
-use Rattle.std.proofs.Common.{◌∙◌, subst, arith, inl, inr}
-use Rattle.std.specs.Prelude.{◌==◌, nat_eq, not, if◌then◌else◌, reverse, slice_index_or, slice_set}
+use Rattle.std.proofs.Common.{refl, sym, ap, ◌∙◌, subst, arith, inl, inr}
+use Rattle.std.specs.Prelude.{◌==◌, nat_eq, if◌then◌else◌, reverse, slice_index_or, slice_set}
 use Rattle.std.specs.Prelude.{Result, Ok, Err, IfOk, OnErr}
-use Rattle.std.proofs.lemmas.List.{length-append, length-set, set-get_or, get_or-set_same, get_or_default}
+use Rattle.std.proofs.lemmas.List.{length-append, length-set, set-get_or, get_or-set_same}
 use Rattle.sja_plan.specs.declared.turn.Turn.{Turn}
 use Rattle.sja_plan.specs.declared.turn.Turn.TheVariants.{Bus, Rest, Node}
 use Rattle.sja_plan.specs.Plan.{PlanValue}
@@ -12,7 +11,7 @@ use Rattle.sja_regs.specs.declared.registers.Registers.{Registers}
 use Rattle.sja_regs.specs.Commands.{command_of}
 use Rattle.sja_raw.specs.declared.kept_bytes.KeptBytes.{KeptBytes}
 use Rattle.sja_raw.specs.CommandWrites.{commands, releases, command_steps}
-use Rattle.sja_raw.specs.Kept.{at_power_on, kept_after, moved_by_answer}
+use Rattle.sja_raw.specs.Kept.{at_power_on, moved_by_answer}
 use Rattle.sja_raw.specs.Writes.{write_steps}
 use Rattle.sja_script.specs.declared.step.Step.{Step}
 use Rattle.sja_script.specs.declared.step.Step.TheVariants.{Command, Release}
@@ -169,10 +168,11 @@ raw_by was now deeds after at then_at many kept raw = record {
 }
 
 -- after a step
-pub raw_stepped : (was now : RawValue) (node : ℕ) (one : Step) (answer : StepAnswer) (raw : IsRaw was) →
-    DoesStep was.session now.session node one answer raw.stands.0 → length now.kept ≡ length was.kept → IsRaw now
-raw_stepped was now node one answer raw does kept =
-    let deeds = raw.stands.0 in
+pub raw_stepped : {was now : RawValue} {node : ℕ} {one : Step} {answer : StepAnswer} (raw : IsRaw was) →
+    ((deeds : List (List Deed)) → IsAt was.session deeds → DoesStep was.session now.session node one answer deeds) →
+    length now.kept ≡ length was.kept → IsRaw now
+raw_stepped {was} {now} {node} raw done kept =
+    let deeds = raw.stands.0 in let does = done deeds raw.stands.1 in
     raw_by was now deeds (with_deeds deeds node (does.deed ∷ [])) raw.stands.1 does.at
     (length-set deeds node (deeds_at deeds node ++ does.deed ∷ [])) kept raw
 
@@ -202,16 +202,6 @@ raw_watched was now count watched (Err e) ran stays kept raw =
     raw_by was now deeds deeds raw.stands.1 (subst (λ (s : SessionValue). IsAt s deeds) (sym stays) raw.stands.1) refl
     kept raw
 
--- ---- the kept registers of a node
-
-pub kept_moved : (kept : List KeptBytes) (i node : ℕ) (old new : KeptBytes) (answer : StepAnswer) → i ≡ node →
-    old ≡ slice_index_or kept i old → node < length kept → new ≡ moved_by_answer old answer →
-    slice_set kept i new ≡ slice_set kept node (moved_by_answer (slice_index_or kept node at_power_on) answer)
-kept_moved kept i node old new answer e is less moved =
-    (λ t. slice_set kept (e t) (moved t))
-    ∙ ap (λ k. slice_set kept node (moved_by_answer k answer))
-    (is ∙ ap (λ m. slice_index_or kept m old) e ∙ get_or_default kept node old at_power_on less)
-
 -- fewer steps may be done where more may
 pub may_fewer : (s : SessionValue) (node count others : ℕ) → MayDo s node (count + others) → MayDo s node count
 may_fewer s node count others may = record {
@@ -223,24 +213,6 @@ may_fewer s node count others may = record {
     by : HasTurnFor s node (count + others) → HasTurnFor s node count
     by (inl few) = inl (omega (arith, few))
     by (inr has) = inr has
-
--- a kept register that was written
-pub kept_start : (kept : List KeptBytes) (place node : ℕ) (old new : KeptBytes) (reset rm : Bool) (address value : ℕ) →
-    place ≡ node → old ≡ slice_index_or kept place old → node < length kept →
-    new ≡ kept_after old reset address value → reset ≡ rm →
-    new ≡ kept_after (slice_index_or kept node at_power_on) rm address value
-kept_start kept place node old new reset rm address value e is less wrote r =
-    let first = is ∙ ap (λ m. slice_index_or kept m old) e ∙ get_or_default kept node old at_power_on less in
-    wrote ∙ (λ t. kept_after (first t) (r t) address value)
-
--- none of the kept registers stands at MOD or CMR
-pub none_kept : (kept : KeptBytes) (rm : Bool) (address value : ℕ) → address < 2 →
-    kept_after kept rm address value ≡ kept
-none_kept kept true zero value less = refl
-none_kept kept false zero value less = refl
-none_kept kept true (suc zero) value less = refl
-none_kept kept false (suc zero) value less = refl
-none_kept kept rm (suc (suc address)) value less = absurd (omega (arith, less))
 
 -- ---- what a write of CMR does
 

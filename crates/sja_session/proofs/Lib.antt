@@ -6,6 +6,7 @@ pub mod Within
 pub mod Looked
 pub mod QuietBits
 pub mod Accessing
+pub mod KeptRegisters
 pub mod Stepped
 pub mod AfterBits
 pub mod BitsRun

@@ -12,9 +12,8 @@ impl RawSession {
     ghost use Rattle.std.specs.Prelude.{◌≡◌, ◌<◌, List, [], ◌∷◌, length, IfOk, IfErr, OnOk, OnErr};
     ghost use Rattle.sja_driver.specs.Deeds.{Deed};
     ghost use Rattle.sja_raw.specs.WriteLists.{ArePrompt, IsPrompt, steps_in};
-    ghost use Rattle.sja_regs.specs.declared.registers.Registers.{Registers};
-    ghost use Rattle.sja_session.specs.Inside.Accessing.{AnswersWrite};
-    ghost use Rattle.sja_session.specs.RawSessions.{Reads, Writes, MayWrite, IsWriteFault, steps_of};
+    ghost use Rattle.sja_session.specs.Inside.Accessing.{AnswersWrite, AreSteps};
+    ghost use Rattle.sja_session.specs.RawSessions.{Reads, Writes, MayWrite, IsWriteFault};
     ghost use Rattle.sja_session.specs.Sessions.{IsAt};
     ghost use Rattle.sja_session.specs.Stepping.{MayStep, IsStepFault};
 
@@ -85,8 +84,7 @@ impl RawSession {
     #[inline(always)]
     fn write_one(&mut self, node: u8, address: u8, value: u8, step: Step) -> Result<(), StepFault>
         requires prompt { IsPrompt step }
-        requires one { (deeds : List (List Deed)) → IsAt self.old.session deeds → (p : Registers) →
-            steps_of self.old node address value deeds p ≡ step ∷ [] }
+        requires one { AreSteps self.old node address value (step ∷ []) }
         ensures { AnswersWrite self.old self.new node address value result }
     {
         let place = usize::from(node);
@@ -115,8 +113,7 @@ impl RawSession {
     ) -> Result<(), StepFault>
         requires short { address < 2 }
         requires prompt { ArePrompt steps }
-        requires are { (deeds : List (List Deed)) → IsAt self.old.session deeds → (p : Registers) →
-            steps_of self.old node address value deeds p ≡ steps_in steps }
+        requires are { AreSteps self.old node address value (steps_in steps) }
         ensures { AnswersWrite self.old self.new node address value result }
     {
         self.session.may_do(node, count_of(&steps))?;

@@ -6,14 +6,10 @@ use super::step_fault::StepFault;
 use sja_script::Step;
 
 impl RawSession {
-    ghost use Rattle.std.specs.Prelude.{◌≡◌, ◌<◌, List, [], ◌∷◌, length};
-    ghost use Rattle.sja_driver.specs.Deeds.{Deed};
+    ghost use Rattle.std.specs.Prelude.{◌≡◌, ◌<◌, [], ◌∷◌, length};
     ghost use Rattle.sja_raw.specs.WriteLists.{IsPrompt};
-    ghost use Rattle.sja_regs.specs.declared.registers.Registers.{Registers};
     ghost use Rattle.sja_script.specs.declared.step.Step.TheVariants.{Command, Release};
-    ghost use Rattle.sja_session.specs.Inside.Accessing.{AnswersWrite};
-    ghost use Rattle.sja_session.specs.RawSessions.{steps_of};
-    ghost use Rattle.sja_session.specs.Sessions.{IsAt};
+    ghost use Rattle.sja_session.specs.Inside.Accessing.{AnswersWrite, AreSteps};
 
     /// Writes a byte to MOD, where the write isn't the same one of the typed driver.
     #[inline(never)]
@@ -62,8 +58,7 @@ impl RawSession {
     fn write_alone(&mut self, node: u8, address: u8, value: u8, step: Step) -> Result<(), StepFault>
         requires short { address < 2 }
         requires prompt { IsPrompt step }
-        requires one { (deeds : List (List Deed)) → IsAt self.old.session deeds → (p : Registers) →
-            steps_of self.old node address value deeds p ≡ step ∷ [] }
+        requires one { AreSteps self.old node address value (step ∷ []) }
         ensures { AnswersWrite self.old self.new node address value result }
     {
         match self.session.step(node, step)? {
@@ -79,8 +74,7 @@ impl RawSession {
     #[inline(always)]
     fn write_nothing(&mut self, node: u8, address: u8, value: u8) -> Result<(), StepFault>
         requires short { address < 2 }
-        requires nothing { (deeds : List (List Deed)) → IsAt self.old.session deeds → (p : Registers) →
-            steps_of self.old node address value deeds p ≡ [] }
+        requires nothing { AreSteps self.old node address value [] }
         ensures { AnswersWrite self.old self.new node address value result }
     {
         self.session.may_do(node, 0)?;
@@ -90,8 +84,7 @@ impl RawSession {
     /// The same of CMR where the write is this command and then a release.
     fn write_both(&mut self, node: u8, address: u8, value: u8, command: u8) -> Result<(), StepFault>
         requires command { address ≡ 1 }
-        requires both { (deeds : List (List Deed)) → IsAt self.old.session deeds → (p : Registers) →
-            steps_of self.old node address value deeds p ≡ Command command ∷ Release ∷ [] }
+        requires both { AreSteps self.old node address value (Command command ∷ Release ∷ []) }
         ensures { AnswersWrite self.old self.new node address value result }
     {
         self.session.may_do(node, 2)?;

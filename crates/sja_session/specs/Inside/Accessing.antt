@@ -1,11 +1,13 @@
 -- Steps of a node that are done one after the other, what is left for more, and what a write answers (this project's
 -- own rule).
 use Rattle.std.specs.Prelude.{◌≡◌, ◌+◌, ℕ, List, Result, ⊤, IfErr, OnOk, OnErr, length, slice_set}
+use Rattle.sja_regs.specs.declared.registers.Registers.{Registers}
 use Rattle.sja_script.specs.declared.step.Step.{Step}
 use Rattle.sja_script.specs.declared.step_answer.StepAnswer.{StepAnswer}
 use Rattle.sja_driver.specs.Deeds.{Deed}
 use Rattle.sja_session.specs.declared.step_fault.StepFault.{StepFault}
 use Rattle.sja_session.specs.RawSessions.{RawValue, DoesSteps, MayDo, MayWrite, IsWriteFault, Writes, kept_in, moved_by}
+use Rattle.sja_session.specs.RawSessions.{steps_of}
 use Rattle.sja_session.specs.Sessions.{SessionValue, IsAt}
 
 -- a session stands somewhere
@@ -25,6 +27,11 @@ pub record Does (was now : RawValue) (node : ℕ) (steps : List Step) (deeds : L
 pub record IsRaw (r : RawValue) : Type 0 where
   pub stands : Stands r.session
   pub kept : length r.kept ≡ length r.session.plan.nodes
+
+-- a write is these steps, by what the node's driver did before it
+abbrev pub AreSteps : RawValue → ℕ → ℕ → ℕ → List Step → Type 0
+AreSteps r node address value steps =
+    (deeds : List (List Deed)) → IsAt r.session deeds → (p : Registers) → steps_of r node address value deeds p ≡ steps
 
 -- a write was done, and might be, by what the node's driver did before it; or this is why not, and nothing changed
 abbrev pub AnswersWrite : RawValue → RawValue → ℕ → ℕ → ℕ → Result ⊤ StepFault → Type 0

@@ -1,5 +1,4 @@
 use Rattle.std.proofs.Common.{rules, refl, sym, ap, ◌∙◌, subst}
-use Rattle.sja_script.specs.declared.step.Step.TheVariants.{Read}
 use Rattle.sja_raw.specs.Reads.{raw_value}
 use Rattle.sja_driver.specs.Deeds.{deeds_at, is_active}
 use Rattle.sja_log.specs.Registering.{seen_now}
@@ -13,10 +12,7 @@ use Rattle.sja_session.proofs.raw_session.RawSession.read.Goals as goal
 -- a read leaves a session of such drivers
 pub invariant_of-self-2 : goal.invariant_of-self-2
 invariant_of-self-2 c =
-    let b = c.self.inside in let raw = c.self.invariant in
-    let was : RawValue = record { session = b.session; kept = b.kept.items } in
-    raw_stepped was _ c.args.node (Read c.args.address) c.in-Answer.answer raw
-    (c.step.ensures.done c.in-Answer.answer (search rules) raw.stands.0 raw.stands.1) refl
+    raw_stepped c.self.invariant (c.step.ensures.done c.in-Answer.answer (search rules)) refl
 
 -- the value is told by the typed step's answer
 pub returns-clause-reads : goal.returns-clause-reads

@@ -1,5 +1,4 @@
-use Rattle.std.proofs.Common.{rules, ◌≡◌, ◌<◌, List, [], ◌∷◌, length, sym, ap, ◌∙◌, subst, arith}
-use Rattle.std.proofs.lemmas.List.{length-set}
+use Rattle.std.proofs.Common.{rules, ◌<◌, List, [], ◌∷◌, length, sym, ap, ◌∙◌, subst, arith}
 use Rattle.std.specs.Prelude.{slice_index_or, slice_set}
 use Rattle.sja_script.specs.declared.step.Step.{Step}
 use Rattle.sja_script.specs.declared.step.Step.TheVariants.{Command, Release}
@@ -7,7 +6,8 @@ use Rattle.sja_driver.specs.Deeds.{Deed}
 use Rattle.sja_session.specs.Inside.Accessing.{Does, IsRaw}
 use Rattle.sja_session.specs.RawSessions.{RawValue, DoesSteps, MayDo, kept_in, moved_by}
 use Rattle.sja_session.specs.Sessions.{IsAt}
-use Rattle.sja_session.proofs.Accessing.{does_both, none_kept}
+use Rattle.sja_session.proofs.Accessing.{does_both}
+use Rattle.sja_session.proofs.KeptRegisters.{none_kept}
 use Rattle.sja_session.proofs.raw_session.RawSession.write_both.Goals.{After-do_one}
 use Rattle.sja_session.proofs.raw_session.RawSession.write_both.Goals as goal
 

@@ -1,60 +1,32 @@
-use Rattle.std.proofs.Common.{rules, ◌≡◌, ◌<◌, List, [], ◌∷◌, length, sym, ap, ◌∙◌, subst}
+use Rattle.std.proofs.Common.{rules, ◌≡◌, ◌<◌, length, ap, ◌∙◌}
 use Rattle.std.proofs.lemmas.List.{length-set}
 use Rattle.std.specs.Prelude.{slice_index_or, slice_set}
 use Rattle.sja_raw.specs.Kept.{moved_by_answer}
-use Rattle.sja_regs.specs.declared.registers.Registers.{Registers}
-use Rattle.sja_script.specs.declared.step.Step.{Step}
-use Rattle.sja_driver.specs.Deeds.{deeds_at, is_active}
-use Rattle.sja_serial.specs.Serial.{with_deeds}
-use Rattle.sja_session.specs.RawSessions.{RawValue, DoesSteps, Writes, steps_of}
-use Rattle.sja_session.specs.RawSessions.DoesSteps.{none, more}
-use Rattle.sja_session.specs.Sessions.{IsAt}
-use Rattle.sja_session.proofs.Accessing.{kept_start, raw_stepped}
+use Rattle.sja_session.proofs.Accessing.{raw_stepped}
+use Rattle.sja_session.proofs.KeptRegisters.{kept_start, wrote_one}
 use Rattle.sja_session.proofs.raw_session.RawSession.write_one.Goals as goal
 
 -- a write leaves a session of such drivers
 pub invariant_of-self-in-Answer : goal.invariant_of-self-in-Answer
 invariant_of-self-in-Answer c =
-    let b = c.self.inside in let raw = c.self.invariant in
-    let was : RawValue = record { session = b.session; kept = b.kept.items } in
-    raw_stepped was _ c.args.node c.args.step c.in-Answer.answer raw
-    (c.step.ensures.done c.in-Answer.answer (search rules) raw.stands.0 raw.stands.1)
-    (length-set b.kept.items c.from-place.result c.answered.new.self)
+    raw_stepped c.self.invariant (c.step.ensures.done c.in-Answer.answer (search rules))
+    (length-set c.self.inside.kept.items c.from-place.result c.answered.new.self)
 
 -- it is that step, and the kept register that stands there was written
 pub returns : goal.returns
 returns c = (
-  (λ deeds at.
-      let b = c.self.inside in let node = c.args.node in
-      let was : RawValue = record { session = b.session; kept = b.kept.items } in
-      let now : RawValue = record {
-        session = c.step.new.self;
-        kept = slice_set b.kept.items c.from-place.result c.answered.new.self;
-      } in
-      let own = subst (λ (r : RawValue). IsAt r.session deeds) (sym c.self.view_is) at in
-      let one = λ (p : Registers).
-      subst (λ (r : RawValue). steps_of r node c.args.address c.args.value deeds p ≡ c.args.step ∷ [])
-      (sym c.self.view_is) (c.requires.one deeds at p) in
-      let answer = c.in-Answer.answer in
-      let does = c.step.ensures.done answer (search rules) deeds own in
+  (
+      let b = c.self.inside in let node = c.args.node in let answer = c.in-Answer.answer in
       let place : c.from-place.result ≡ node = search rules in
       let inside : node < length b.kept.items = search rules in
-      let active = is_active (deeds_at deeds node) in
-      let after = with_deeds deeds node (does.deed ∷ []) in
-      subst (λ (r : RawValue). Writes r now node c.args.address c.args.value deeds) c.self.view_is (record {
-        answers = answer ∷ [];
-        after = after;
-        does = λ p. let port = slice_index_or b.session.run.ports node p in subst (λ (l : List Step).
-            DoesSteps node b.session deeds l (answer ∷ []) c.step.new.self after)
-            (sym (one p)) (more does none);
-        kept = λ p. let rm = (slice_index_or b.session.run.ports node p).mode.rm in
-            let start = kept_start b.kept.items c.from-place.result node c.index_mut-kept.result.now c.write.new.self
-            c.is_reset-reset.result rm c.args.address c.args.value
-            place c.index_mut-kept.ensures.value inside c.write.ensures
-            (c.is_reset-reset.ensures p ∙ ap (λ m. (slice_index_or b.session.run.ports m p).mode.rm) place) in
-            let moved = c.answered.ensures ∙ ap (λ k. moved_by_answer k answer) start in
-            λ t. slice_set b.kept.items (place t) (moved t);
-      })),
+      wrote_one c.self.view_is c.requires.one (c.step.ensures.done answer (search rules)) (λ p.
+      let rm = (slice_index_or b.session.run.ports node p).mode.rm in
+      let start = kept_start b.kept.items c.from-place.result node c.index_mut-kept.result.now c.write.new.self
+      c.is_reset-reset.result rm c.args.address c.args.value place c.index_mut-kept.ensures.value inside
+      c.write.ensures (c.is_reset-reset.ensures p
+      ∙ ap (λ m. (slice_index_or b.session.run.ports m p).mode.rm) place) in
+      let moved = c.answered.ensures ∙ ap (λ k. moved_by_answer k answer) start in
+      λ t. slice_set b.kept.items (place t) (moved t))),
   search rules,
   search rules,
   search rules,
