@@ -1,26 +1,30 @@
--- A session after bits in which no step was done.
-use Rattle.std.proofs.Common.{◌≡◌, ℕ, zero, suc, ◌+◌, ◌-◌, ◌<◌, List, length, sym, ap, ◌∙◌, subst, arith}
+-- A session after bits in which no step was done, and what holds of every session.
+use Rattle.std.proofs.Common.{◌≡◌, ℕ, zero, suc, ◌+◌, ◌-◌, ◌<◌, ◌≤◌, List, length, sym, ap, ◌∙◌, subst, arith}
+use Rattle.std.proofs.Common.{inl, inr}
 use Rattle.std.specs.Prelude.{reverse}
 use Rattle.sja_plan.specs.declared.turn.Turn.{Turn}
 use Rattle.sja_plan.specs.declared.turn.Turn.TheVariants.{Bus}
 use Rattle.sja_plan.specs.Growing.{plan_of}
 use Rattle.sja_plan.specs.Plan.{PlanValue}
+use Rattle.sja_script.specs.declared.strike.Strike.{Strike}
 use Rattle.sja_driver.specs.Deeds.{Deed}
 use Rattle.sja_serial.specs.Bits.{TakesBits}
 use Rattle.sja_serial.specs.Ending.{progress}
 use Rattle.sja_serial.specs.Serial.{SerialValue, StandsAt}
 use Rattle.sja_serial.proofs.WholeRun.GoingOn.{bits_run, stands_bits}
 use Rattle.sja_session.specs.declared.session_room.SessionRoom.{SessionRoom}
-use Rattle.sja_session.specs.Sessions.{session_of, start_of, IsAt, written}
-use Rattle.sja_session.specs.Turning.{with_turn}
+use Rattle.sja_session.specs.Running.{MayRun}
+use Rattle.sja_session.specs.Sessions.{SessionValue, session_of, start_of, IsAt, IsSession, written}
+use Rattle.sja_session.specs.Stepping.{HasTurn}
+use Rattle.sja_session.specs.Turning.{FitsLast, with_turn}
 use Rattle.sja_session.specs.Writing.{done_counts, fronts, with_bits_run}
 use Rattle.sja_session.proofs.Taken.{took_bits, took_same}
-use Rattle.sja_session.proofs.Turned.{took_turn}
+use Rattle.sja_session.proofs.Turned.{took_turn, few_turns, named_turns, bits_go_on}
+use Rattle.sja_session.proofs.Within.{bits_few, last_few}
 use Rattle.sja_session.proofs.Written.{counts_are}
 
-module _ {room : SessionRoom} (plan : PlanValue) (was now : SerialValue) (turns : List Turn)
-    (deeds : List (List Deed))
-    (Before : SerialValue → Type 0) (n run : ℕ) (h : IsAt (session_of room was plan turns) deeds)
+module _ {room : SessionRoom} {plan : PlanValue} {was now : SerialValue} {turns : List Turn} {deeds : List (List Deed)}
+    {Before : SerialValue → Type 0} {n run : ℕ} (h : IsAt (session_of room was plan turns) deeds)
     (t : TakesBits plan deeds Before was n now) (is : run ≡ now.bits - was.bits) where
   pub run_is : n ≡ run
   run_is = let b = bits_run plan deeds Before was now n t in omega (arith, b, is)
@@ -66,3 +70,67 @@ module _ {room : SessionRoom} (plan : PlanValue) (was now : SerialValue) (turns 
       ≡ with_bits_run (written (session_of room was plan turns)) m
   none_wrote zero e = wrote_as turns
   none_wrote (suc m) e = absurd (omega (arith, e))
+
+-- ---- what holds of every session
+
+-- it holds of one whose run, and whose strikes, are others, and which stands at the same deeds
+pub session_at : {s : SessionValue} {capacity : ℕ} (run : SerialValue) (strikes : List Strike)
+    (inv : IsSession s capacity) →
+    IsAt (record s { run = run; plan = record s.plan { strikes = strikes } }) inv.deeds →
+    IsSession (record s { run = run; plan = record s.plan { strikes = strikes } }) capacity
+session_at run strikes inv at = record {
+  deeds = inv.deeds;
+  at = at;
+  bits = inv.bits;
+  places = inv.places;
+  steps = inv.steps;
+  most = inv.most;
+  room = inv.room;
+  few = inv.few;
+  names = inv.names;
+}
+
+module _ {room : SessionRoom} {plan : PlanValue} {was now : SerialValue} {turns : List Turn} {capacity : ℕ}
+    {Before : SerialValue → Type 0} {n run : ℕ} (inv : IsSession (session_of room was plan turns) capacity)
+    (t : TakesBits plan inv.deeds Before was n now) (is : run ≡ now.bits - was.bits) where
+  -- no more bits were run than the plan has
+  bits_within : was.bits + run ≤ plan.bits
+  bits_within =
+      let m = many inv.at t is in
+      let b = bits_few (session_of room now plan (with_turn turns (Bus run))) inv.deeds (at_some inv.at t is) inv.bits
+      inv.places inv.steps in omega (arith, m, b)
+
+  -- so the last turn holds them
+  pub turn_fits : FitsLast turns (Bus run)
+  turn_fits =
+      let few = last_few (session_of room was plan turns) inv.deeds inv.at inv.bits inv.places inv.steps in
+      let b = bits_within in let limit = inv.bits in omega (arith, few, b, limit)
+
+  -- where some were run they were due, and so a turn is left for them
+  turn_left : (count : ℕ) → MayRun (session_of room was plan turns) count → 1 ≤ count → 0 < run →
+      HasTurn (session_of room was plan turns) (Bus run)
+  turn_left count (inl (inl none)) asked some = absurd (omega (arith, none, asked))
+  turn_left count (inl (inr over)) asked some = let b = bits_within in absurd (omega (arith, over, some, b))
+  turn_left count (inr (inl less)) asked some = inl less
+  turn_left count (inr (inr on)) asked some = inr (bits_go_on (reverse turns) run count ∙ on)
+
+  -- it holds with a turn of them
+  pub session_some : {items : List Turn} {places count : ℕ} → items ≡ with_turn turns (Bus run) →
+      places ≡ capacity → MayRun (session_of room was plan turns) count → 1 ≤ count → 0 < run →
+      IsSession (session_of room now plan items) places
+  session_some {places} {count} e same may asked some =
+      subst (λ (l : List Turn). IsSession (session_of room now plan l) places) (sym e) (record {
+        deeds = inv.deeds;
+        at = at_some inv.at t is;
+        bits = inv.bits;
+        places = inv.places;
+        steps = inv.steps;
+        most = inv.most;
+        room = let r = inv.room in omega (arith, r, same);
+        few = few_turns room.turns (Bus run) turns (turn_left count may asked some) inv.few;
+        names = named_turns (length plan.nodes) (Bus run) turns tt inv.names;
+      })
+
+  -- and where there were none
+  pub session_none : run ≡ 0 → IsSession (session_of room now plan turns) capacity
+  session_none none = session_at now plan.strikes inv (at_none inv.at t is none)

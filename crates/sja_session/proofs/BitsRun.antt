@@ -1,5 +1,5 @@
 -- Bits of a session, as many as were asked for or as are left.
-use Rattle.std.proofs.Common.{◌≡◌, ℕ, ◌+◌, ◌-◌, ◌<◌, ◌≤◌, Bool, true, false, List, refl, sym, ◌∙◌, arith, inl, inr}
+use Rattle.std.proofs.Common.{◌≡◌, ℕ, ◌-◌, ◌<◌, ◌≤◌, Bool, true, false, List, refl, sym, ◌∙◌, arith, inl, inr}
 use Rattle.std.specs.Prelude.{◌⊎◌}
 use Rattle.sja_plan.specs.declared.turn.Turn.{Turn}
 use Rattle.sja_plan.specs.declared.turn.Turn.TheVariants.{Bus}
@@ -13,47 +13,32 @@ use Rattle.sja_session.specs.Sessions.{session_of, IsAt}
 use Rattle.sja_session.specs.Turning.{with_turn}
 use Rattle.sja_session.proofs.AfterBits as after
 
-module _ {room : SessionRoom} (plan : PlanValue) (was now : SerialValue) (turns : List Turn)
-    (deeds : List (List Deed)) (count run : ℕ)
-    (all : Bool) (h : IsAt (session_of room was plan turns) deeds) (t : TakesBusTurn plan deeds was now count all)
-    (is : run ≡ now.bits - was.bits) where
-  abbrev AnyTime : SerialValue → Type 0
-  AnyTime r = Unit {0}
-
-  pub many : now.bits ≡ was.bits + run
-  many = after.many plan was now turns deeds AnyTime t.run run h t.bits is
-
+module _ {room : SessionRoom} {plan : PlanValue} {was now : SerialValue} {turns : List Turn} {deeds : List (List Deed)}
+    {count run : ℕ} {all : Bool} (h : IsAt (session_of room was plan turns) deeds)
+    (t : TakesBusTurn plan deeds was now count all) (is : run ≡ now.bits - was.bits) where
   within : (b : Bool) → all ≡ b → (run ≤ count) × ((run ≡ count) ⊎ (now.bits ≡ plan.bits))
   within true e =
-      let w = t.whole e in let r = after.run_is plan was now turns deeds AnyTime t.run run h t.bits is in
-      (omega (arith, w, r), inl (sym r ∙ w))
+      let w = t.whole e in let r = after.run_is h t.bits is in (omega (arith, w, r), inl (sym r ∙ w))
   within false e =
-      let s = t.spent e in let r = after.run_is plan was now turns deeds AnyTime t.run run h t.bits is in
-      let f = s.0 in (omega (arith, f, r), inr s.1)
-
-  pub at_some : IsAt (session_of room now plan (with_turn turns (Bus run))) deeds
-  at_some = after.at_some plan was now turns deeds AnyTime t.run run h t.bits is
-
-  pub at_none : run ≡ 0 → IsAt (session_of room now plan turns) deeds
-  at_none none = after.at_none plan was now turns deeds AnyTime t.run run h t.bits is none
+      let s = t.spent e in let r = after.run_is h t.bits is in let f = s.0 in (omega (arith, f, r), inr s.1)
 
   pub runs_some : 0 < run →
       RunsBits (session_of room was plan turns) (session_of room now plan (with_turn turns (Bus run))) count run deeds
   runs_some some = record {
-    bits = after.bits_now plan was now turns deeds AnyTime t.run run h t.bits is;
+    bits = after.bits_now h t.bits is;
     most = (within all refl).0;
     whole = (within all refl).1;
-    at = at_some;
+    at = after.at_some h t.bits is;
     room = refl;
-    wrote = after.some_wrote plan was now turns deeds AnyTime t.run run h t.bits is run refl some;
+    wrote = after.some_wrote h t.bits is run refl some;
   }
 
   pub runs_none : run ≡ 0 → RunsBits (session_of room was plan turns) (session_of room now plan turns) count run deeds
   runs_none none = record {
-    bits = after.bits_now plan was now turns deeds AnyTime t.run run h t.bits is;
+    bits = after.bits_now h t.bits is;
     most = (within all refl).0;
     whole = (within all refl).1;
-    at = at_none none;
+    at = after.at_none h t.bits is none;
     room = refl;
-    wrote = after.none_wrote plan was now turns deeds AnyTime t.run run h t.bits is run none;
+    wrote = after.none_wrote h t.bits is run none;
   }

@@ -13,34 +13,20 @@ use Rattle.sja_log.specs.Turns.{Progress}
 use Rattle.sja_serial.specs.Serial.{SerialValue, StandsAt}
 use Rattle.sja_session.specs.Lines.{Looks}
 use Rattle.sja_session.specs.declared.session_room.SessionRoom.{SessionRoom}
-use Rattle.sja_session.specs.Sessions.{session_of, Took, start_of, IsAt, IsSession}
+use Rattle.sja_session.specs.Sessions.{session_of, Took, start_of, IsAt}
 use Rattle.sja_session.specs.Writing.{fronts}
 use Rattle.sja_session.proofs.Written.{counts_are}
 
 module _ {room : SessionRoom} (plan : PlanValue) (was now : SerialValue) (turns : List Turn)
     (bits : now.bits ≡ was.bits)
     (stands : (deeds : List (List Deed)) → StandsAt plan was deeds → StandsAt plan now deeds) where
-  pub still_at : (deeds : List (List Deed)) → IsAt (session_of room was plan turns) deeds →
+  still_at : (deeds : List (List Deed)) → IsAt (session_of room was plan turns) deeds →
       IsAt (session_of room now plan turns) deeds
   still_at deeds h = record {
     stands = stands deeds h.stands;
     took = subst (λ (n : ℕ). Took deeds (start_of (length plan.nodes)) (reverse turns)
         (let p : Progress = record { bits = n; done = map (λ (l : List Deed). length l) deeds } in p)) (sym bits)
         h.took;
-  }
-
-  pub still_session : (capacity : ℕ) → IsSession (session_of room was plan turns) capacity →
-      IsSession (session_of room now plan turns) capacity
-  still_session capacity inv = record {
-    deeds = inv.deeds;
-    at = still_at inv.deeds inv.at;
-    bits = inv.bits;
-    places = inv.places;
-    steps = inv.steps;
-    most = inv.most;
-    room = inv.room;
-    few = inv.few;
-    names = inv.names;
   }
 
   pub looks : (node : ℕ) (line : Bool) (deeds : List (List Deed)) → IsAt (session_of room was plan turns) deeds →

@@ -1,10 +1,10 @@
 -- Bits of a session until all are at rest.
-use Rattle.std.proofs.Common.{◌≡◌, ℕ, ◌+◌, ◌-◌, ◌<◌, Bool, List, refl}
+use Rattle.std.proofs.Common.{◌≡◌, ℕ, ◌-◌, ◌<◌, Bool, List, refl}
 use Rattle.sja_plan.specs.declared.turn.Turn.{Turn}
 use Rattle.sja_plan.specs.declared.turn.Turn.TheVariants.{Bus}
 use Rattle.sja_plan.specs.Plan.{PlanValue}
 use Rattle.sja_driver.specs.Deeds.{Deed}
-use Rattle.sja_serial.specs.Bits.{SomeWorks, TakesRest}
+use Rattle.sja_serial.specs.Bits.{TakesRest}
 use Rattle.sja_serial.specs.Serial.{SerialValue}
 use Rattle.sja_session.specs.Resting.{Rests}
 use Rattle.sja_session.specs.declared.session_room.SessionRoom.{SessionRoom}
@@ -12,36 +12,26 @@ use Rattle.sja_session.specs.Sessions.{session_of, IsAt}
 use Rattle.sja_session.specs.Turning.{with_turn}
 use Rattle.sja_session.proofs.AfterBits as after
 
-module _ {room : SessionRoom} (plan : PlanValue) (was now : SerialValue) (turns : List Turn)
-    (deeds : List (List Deed)) (run : ℕ)
-    (rests : Bool) (h : IsAt (session_of room was plan turns) deeds) (t : TakesRest plan deeds was now rests)
-    (is : run ≡ now.bits - was.bits) where
-  pub many : now.bits ≡ was.bits + run
-  many = after.many plan was now turns deeds (SomeWorks plan) t.run run h t.bits is
-
-  pub at_some : IsAt (session_of room now plan (with_turn turns (Bus run))) deeds
-  at_some = after.at_some plan was now turns deeds (SomeWorks plan) t.run run h t.bits is
-
-  pub at_none : run ≡ 0 → IsAt (session_of room now plan turns) deeds
-  at_none none = after.at_none plan was now turns deeds (SomeWorks plan) t.run run h t.bits is none
-
+module _ {room : SessionRoom} {plan : PlanValue} {was now : SerialValue} {turns : List Turn} {deeds : List (List Deed)}
+    {run : ℕ} {rests : Bool} (h : IsAt (session_of room was plan turns) deeds)
+    (t : TakesRest plan deeds was now rests) (is : run ≡ now.bits - was.bits) where
   pub rests_some : 0 < run →
       Rests (session_of room was plan turns) (session_of room now plan (with_turn turns (Bus run))) run rests deeds
   rests_some some = record {
-    bits = after.bits_now plan was now turns deeds (SomeWorks plan) t.run run h t.bits is;
+    bits = after.bits_now h t.bits is;
     whole = t.whole;
     spent = t.spent;
-    at = at_some;
+    at = after.at_some h t.bits is;
     room = refl;
-    wrote = after.some_wrote plan was now turns deeds (SomeWorks plan) t.run run h t.bits is run refl some;
+    wrote = after.some_wrote h t.bits is run refl some;
   }
 
   pub rests_none : run ≡ 0 → Rests (session_of room was plan turns) (session_of room now plan turns) run rests deeds
   rests_none none = record {
-    bits = after.bits_now plan was now turns deeds (SomeWorks plan) t.run run h t.bits is;
+    bits = after.bits_now h t.bits is;
     whole = t.whole;
     spent = t.spent;
-    at = at_none none;
+    at = after.at_none h t.bits is none;
     room = refl;
-    wrote = after.none_wrote plan was now turns deeds (SomeWorks plan) t.run run h t.bits is run none;
+    wrote = after.none_wrote h t.bits is run none;
   }

@@ -1,18 +1,13 @@
-use Rattle.std.proofs.Common.{rules, ◌≡◌, ◌≤◌, ◌<◌, ℕ, ◌-◌, List, length, sym, ◌∙◌, subst, arith, inl, inr}
-use Rattle.std.specs.Prelude.{reverse}
+use Rattle.std.proofs.Common.{rules, ◌≡◌, ◌<◌, ℕ, ◌-◌, List, sym, subst, arith}
 use Rattle.sja_plan.specs.declared.turn.Turn.{Turn}
-use Rattle.sja_plan.specs.declared.turn.Turn.TheVariants.{Bus}
 use Rattle.sja_driver.specs.Deeds.{Deed}
 use Rattle.sja_serial.specs.Bits.{TakesRest}
 use Rattle.sja_serial.proofs.WholeRun.GoingOn.{bits_run}
 use Rattle.sja_session.specs.Resting.{Rests}
 use Rattle.sja_session.specs.Running.{MayRun}
-use Rattle.sja_session.specs.Sessions.{SessionValue, session_of, IsAt, AreNamed}
-use Rattle.sja_session.specs.Stepping.{HasTurn}
-use Rattle.sja_session.specs.Turning.{with_turn}
-use Rattle.sja_session.proofs.RestRun.{many, at_some, at_none, rests_some, rests_none}
-use Rattle.sja_session.proofs.Turned.{few_turns, named_turns, bits_go_on}
-use Rattle.sja_session.proofs.Within.{bits_few, last_few}
+use Rattle.sja_session.specs.Sessions.{SessionValue, session_of, IsAt}
+use Rattle.sja_session.proofs.AfterBits.{turn_fits, session_some, session_none}
+use Rattle.sja_session.proofs.RestRun.{rests_some, rests_none}
 use Rattle.sja_session.proofs.session.Session.rest.Goals.{After-bits}
 use Rattle.sja_session.proofs.session.Session.rest.Goals as goal
 
@@ -26,6 +21,7 @@ run c = c.bits.result - c.bits-before.result
 run_is : (c : After-bits) → run c ≡ c.rest_turn-at_rest.new.self.bits - c.self.inside.run.bits
 run_is c = λ i. c.bits.ensures i - c.bits-before.ensures i
 
+-- they were run from the deeds at which it stood
 turn : (c : After-bits) (deeds : List (List Deed)) → IsAt (was c) deeds →
     TakesRest c.self.inside.plan deeds c.self.inside.run c.rest_turn-at_rest.new.self c.rest_turn-at_rest.result
 turn c deeds h = c.rest_turn-at_rest.ensures.turn deeds h.stands
@@ -33,50 +29,6 @@ turn c deeds h = c.rest_turn-at_rest.ensures.turn deeds h.stands
 may : (c : After-bits) → MayRun (was c) 1
 may c = subst (λ (s : SessionValue). MayRun s 1) (sym c.self.view_is)
     (c.lacks_bus_turn.ensures.no (search rules))
-
-some_at : (c : After-bits) (deeds : List (List Deed)) → IsAt (was c) deeds →
-    IsAt (session_of c.self.inside.room c.rest_turn-at_rest.new.self c.self.inside.plan
-    (with_turn c.self.inside.turns.items (Bus (run c)))) deeds
-some_at c deeds h = at_some c.self.inside.plan c.self.inside.run c.rest_turn-at_rest.new.self
-    c.self.inside.turns.items deeds
-    (run c) c.rest_turn-at_rest.result h (turn c deeds h) (run_is c)
-
-some_run : (c : After-bits) (deeds : List (List Deed)) → IsAt (was c) deeds → 0 < run c → Rests (was c)
-    (session_of c.self.inside.room c.rest_turn-at_rest.new.self c.self.inside.plan (with_turn c.self.inside.turns.items
-    (Bus (run c))))
-    (run c) c.rest_turn-at_rest.result deeds
-some_run c deeds h some = rests_some c.self.inside.plan c.self.inside.run c.rest_turn-at_rest.new.self
-    c.self.inside.turns.items
-    deeds (run c) c.rest_turn-at_rest.result h (turn c deeds h) (run_is c) some
-
--- where some were run they were due, and so a turn is left for them
-left : (c : After-bits) → 0 < run c → HasTurn (was c) (Bus (run c))
-left c some = by (may c)
-  where
-    by : MayRun (was c) 1 → HasTurn (was c) (Bus (run c))
-    by (inl (inl none)) = absurd (omega (arith, none))
-    by (inl (inr over)) =
-        let inv = c.self.invariant in
-        let e = many c.self.inside.plan c.self.inside.run c.rest_turn-at_rest.new.self c.self.inside.turns.items
-        inv.deeds
-        (run c) c.rest_turn-at_rest.result inv.at (turn c inv.deeds inv.at) (run_is c) in
-        let b = bits_few (session_of c.self.inside.room c.rest_turn-at_rest.new.self c.self.inside.plan
-        (with_turn c.self.inside.turns.items (Bus (run c)))) inv.deeds (some_at c inv.deeds inv.at) inv.bits
-        inv.places inv.steps in absurd (omega (arith, over, some, e, b))
-    by (inr (inl less)) = inl less
-    by (inr (inr on)) = inr (bits_go_on (reverse c.self.inside.turns.items) (run c) 1 ∙ on)
-
-none_at : (c : After-bits) (deeds : List (List Deed)) → IsAt (was c) deeds → run c ≡ 0 →
-    IsAt (session_of c.self.inside.room c.rest_turn-at_rest.new.self c.self.inside.plan c.self.inside.turns.items) deeds
-none_at c deeds h none = at_none c.self.inside.plan c.self.inside.run c.rest_turn-at_rest.new.self
-    c.self.inside.turns.items
-    deeds (run c) c.rest_turn-at_rest.result h (turn c deeds h) (run_is c) none
-
-none_run : (c : After-bits) (deeds : List (List Deed)) → IsAt (was c) deeds → run c ≡ 0 → Rests (was c)
-    (session_of c.self.inside.room c.rest_turn-at_rest.new.self c.self.inside.plan c.self.inside.turns.items) (run c)
-    c.rest_turn-at_rest.result deeds
-none_run c deeds h none = rests_none c.self.inside.plan c.self.inside.run c.rest_turn-at_rest.new.self
-    c.self.inside.turns.items deeds (run c) c.rest_turn-at_rest.result h (turn c deeds h) (run_is c) none
 
 pub overflow_sub-bits : goal.overflow_sub-bits
 overflow_sub-bits c =
@@ -86,63 +38,35 @@ overflow_sub-bits c =
 
 pub push_turn-requires-clause-fits : goal.push_turn-requires-clause-fits
 push_turn-requires-clause-fits c =
-    let at = (goal.at.push_turn-requires-clause-fits c).After-bits in let inv = c.self.invariant in
-    let few = last_few (was at) inv.deeds inv.at inv.bits inv.places inv.steps in
-    let most = bits_few (session_of c.self.inside.room c.rest_turn-at_rest.new.self c.self.inside.plan
-    (with_turn c.self.inside.turns.items (Bus (run at)))) inv.deeds (some_at at inv.deeds inv.at) inv.bits inv.places
-    inv.steps in
-    let y = c.bits.ensures in let limit = inv.bits in omega (arith, few, most, y, limit)
+    let at = (goal.at.push_turn-requires-clause-fits c).After-bits in
+    turn_fits c.self.invariant (turn at _ c.self.invariant.at).bits (run_is at)
 
 pub invariant_of-self : goal.invariant_of-self
 invariant_of-self c =
     let at = (goal.at.invariant_of-self c).After-bits in let inv = c.self.invariant in
-    let items = sym c.push_turn.ensures.turns in record {
-      deeds = inv.deeds;
-      at = subst (λ (l : List Turn). IsAt (session_of c.self.inside.room c.rest_turn-at_rest.new.self c.self.inside.plan
-          l) inv.deeds)
-          items
-          (some_at at inv.deeds inv.at);
-      bits = inv.bits;
-      places = inv.places;
-      steps = inv.steps;
-      most = inv.most;
-      room = let r = inv.room in let p = c.push_turn.ensures.capacity in omega (arith, r, p);
-      few = subst (λ (l : List Turn). length l ≤ c.self.inside.room.turns) items
-          (few_turns c.self.inside.room.turns (Bus (run at)) c.self.inside.turns.items (left at (let s =
-          c.if-bits-gt0.true in omega (arith, s)))
-          inv.few);
-      names = subst (λ (l : List Turn). AreNamed (length c.self.inside.plan.nodes) (reverse l)) items
-          (named_turns (length c.self.inside.plan.nodes) (Bus (run at)) c.self.inside.turns.items tt inv.names);
-    }
+    let push = c.push_turn.ensures in let s = c.if-bits-gt0.true in let some : 0 < run at = omega (arith, s) in
+    session_some inv (turn at _ inv.at).bits (run_is at) push.turns push.capacity (may at) (omega arith) some
 
 pub invariant_of-self-else-bits-gt0 : goal.invariant_of-self-else-bits-gt0
 invariant_of-self-else-bits-gt0 c =
-    let at = (goal.at.invariant_of-self-else-bits-gt0 c).After-bits in
-    let inv = c.self.invariant in let f = c.if-bits-gt0.false in record {
-      deeds = inv.deeds;
-      at = none_at at inv.deeds inv.at (omega (arith, f));
-      bits = inv.bits;
-      places = inv.places;
-      steps = inv.steps;
-      most = inv.most;
-      room = inv.room;
-      few = inv.few;
-      names = inv.names;
-    }
+    let at = (goal.at.invariant_of-self-else-bits-gt0 c).After-bits in let f = c.if-bits-gt0.false in
+    session_none c.self.invariant (turn at _ c.self.invariant.at).bits (run_is at) (omega (arith, f))
 
 pub returns-then-bits-gt0-clause-rests : goal.returns-then-bits-gt0-clause-rests
 returns-then-bits-gt0-clause-rests c = λ deeds h.
     let at = (goal.at.returns-then-bits-gt0-clause-rests c).After-bits in let some = c.if-bits-gt0.true in
+    let own = subst (λ (s : SessionValue). IsAt s deeds) (sym c.self.view_is) h in
     let then = λ (l : List Turn). session_of c.self.inside.room c.rest_turn-at_rest.new.self c.self.inside.plan l in
     subst (λ (s : SessionValue). Rests s (then c.push_turn.new.turns.items) (run at) c.rest_turn-at_rest.result deeds)
     c.self.view_is
     (subst (λ (l : List Turn). Rests (was at) (then l) (run at) c.rest_turn-at_rest.result deeds)
     (sym c.push_turn.ensures.turns)
-    (some_run at deeds (subst (λ (s : SessionValue). IsAt s deeds) (sym c.self.view_is) h) (omega (arith, some))))
+    (rests_some own (turn at deeds own) (run_is at) (omega (arith, some))))
 
 pub returns-else-bits-gt0-clause-rests : goal.returns-else-bits-gt0-clause-rests
 returns-else-bits-gt0-clause-rests c = λ deeds h.
     let at = (goal.at.returns-else-bits-gt0-clause-rests c).After-bits in let f = c.if-bits-gt0.false in
+    let own = subst (λ (s : SessionValue). IsAt s deeds) (sym c.self.view_is) h in
     subst (λ (s : SessionValue). Rests s (session_of c.self.inside.room c.rest_turn-at_rest.new.self c.self.inside.plan
     c.self.inside.turns.items) (run at) c.rest_turn-at_rest.result deeds) c.self.view_is
-    (none_run at deeds (subst (λ (s : SessionValue). IsAt s deeds) (sym c.self.view_is) h) (omega (arith, f)))
+    (rests_none own (turn at deeds own) (run_is at) (omega (arith, f)))

@@ -6,6 +6,7 @@ use Rattle.sja_serial.specs.Striking.{struck_run}
 use Rattle.sja_session.specs.Sessions.{SessionValue, session_of, IsSession}
 use Rattle.sja_session.specs.Striking.{MayStrike, struck_session}
 use Rattle.sja_session.proofs.Struck.{is_struck, session_struck}
+use Rattle.sja_session.proofs.session.Session.strike.Goals.{In_ok-strike}
 use Rattle.sja_session.proofs.session.Session.strike.Goals as goal
 
 -- the bit hasn't run
@@ -24,23 +25,22 @@ invariant_of-self c =
     (sym c.in_err-strike.ensures.kept) c.self.invariant
 
 -- run and plan have the strike more
+struck_more : (c : In_ok-strike) → let b = c.self.inside in
+    session_of b.room c.strike.new.self c.in_ok-plan.plan b.turns.items
+    ≡ struck_session (session_of b.room b.run b.plan b.turns.items) c.args.node c.args.bit
+struck_more c =
+    let run = c.in_ok-strike.ensures.struck ∙ ap (struck_run c.self.inside.run) c.one_strike.ensures in
+    let plan = c.in_ok-plan.ensures.ok
+    ∙ ap (λ (s : SessionValue). struck_at s.plan c.args.node c.args.bit) (sym c.self.view_is) in
+    λ t. session_of c.self.inside.room (run t) (plan t) c.self.inside.turns.items
+
 pub invariant_of-self-2 : goal.invariant_of-self-2
 invariant_of-self-2 c =
-    let b = c.self.inside in let node = c.args.node in let bit = c.args.bit in
-    let run = c.in_ok-strike.ensures.struck ∙ ap (λ (s : Strike). struck_run b.run s) c.one_strike.ensures in
-    let plan = c.in_ok-plan.ensures.ok ∙ ap (λ (s : SessionValue). struck_at s.plan node bit) (sym c.self.view_is) in
-    let was : SessionValue = session_of b.room b.run b.plan b.turns.items in
-    let e : session_of b.room c.strike.new.self c.in_ok-plan.plan b.turns.items ≡ struck_session was node bit =
-    (λ t. session_of b.room (run t) (plan t) b.turns.items) in
-    session_struck was _ node bit (vec_capacity b.turns) e c.self.invariant
+    session_struck _ _ c.args.node c.args.bit (vec_capacity c.self.inside.turns)
+    (struck_more (goal.at.invariant_of-self-2 c).In_ok-strike) c.self.invariant
 
 pub returns-clause-struck : goal.returns-clause-struck
 returns-clause-struck c = λ deeds h.
-    let b = c.self.inside in let node = c.args.node in let bit = c.args.bit in
-    let run = c.in_ok-strike.ensures.struck ∙ ap (λ (s : Strike). struck_run b.run s) c.one_strike.ensures in
-    let plan = c.in_ok-plan.ensures.ok ∙ ap (λ (s : SessionValue). struck_at s.plan node bit) (sym c.self.view_is) in
-    let was : SessionValue = session_of b.room b.run b.plan b.turns.items in
-    let e : session_of b.room c.strike.new.self c.in_ok-plan.plan b.turns.items ≡ struck_session was node bit =
-    (λ t. session_of b.room (run t) (plan t) b.turns.items) in
-    is_struck c.args.self.now _ node bit deeds
-    (e ∙ ap (λ (s : SessionValue). struck_session s node bit) c.self.view_is) h
+    is_struck c.args.self.now _ c.args.node c.args.bit deeds
+    (struck_more (goal.at.returns-clause-struck c).In_ok-strike
+    ∙ ap (λ (s : SessionValue). struck_session s c.args.node c.args.bit) c.self.view_is) h
