@@ -18,17 +18,13 @@ use Rattle.sja_session.specs.declared.answered.Answered.TheVariants.{Answer, Wai
 use Rattle.sja_session.specs.declared.step_fault.StepFault.{StepFault}
 use Rattle.sja_plan_session.specs.Accessing.{Does, DoesStep, IsTyped, MayStep, WaitsFor}
 use Rattle.sja_plan_session.specs.Accessing.Does.{read, write, typed}
+use Rattle.sja_plan_session.specs.Inside.Answering.{DidStep}
 use Rattle.sja_plan_session.specs.Keeping.{IsPlanSession}
 use Rattle.sja_plan_session.specs.PlanSessions.{PlanSessionValue, bits_of}
 use Rattle.sja_plan_session.specs.Writing.{with_more}
 use Rattle.sja_plan_session.proofs.Kept.{after_step}
 
 -- ---- what the session below did
-
--- it did the step, and stands where that led
-abbrev pub DidStep : RawValue → RawValue → ℕ → Step → StepAnswer → List (List Deed) → Type 0
-DidStep was now node step answer deeds =
-    (after : List (List Deed)) × Does was now node deeds step answer after × IsAt now.session after
 
 answer_same : {a b : StepAnswer} → Answer a ≡ Answer b → a ≡ b
 answer_same e = cc

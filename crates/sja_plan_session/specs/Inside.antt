@@ -1,2 +1,3 @@
 -- The machine: what its functions promise of one another.
 pub mod Following
+pub mod Answering

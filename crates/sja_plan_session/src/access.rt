@@ -2,13 +2,13 @@
 
 ghost use Rattle.std.specs.Prelude.{◌≡◌, ℕ, List};
 ghost use Rattle.sja_driver.specs.Deeds.{Deed};
-ghost use Rattle.sja_script.specs.declared.step_answer.StepAnswer.{StepAnswer as AnswerOfStep};
 ghost use Rattle.sja_script.specs.declared.step_answer.StepAnswer.TheVariants.{Value};
 ghost use Rattle.sja_session.specs.RawSessions.{MayDo};
 ghost use Rattle.sja_session.specs.Sessions.{IsAt};
-ghost use Rattle.sja_session.specs.Stepping.{MayStep as MayTyped, Waits};
+ghost use Rattle.sja_session.specs.Stepping.{MayStep as MayTyped};
 ghost use Rattle.sja_session.specs.declared.answered.Answered.TheVariants.{Answer, Waits as HasToWait};
-ghost use Rattle.sja_plan_session.specs.Accessing.{Does, IsTyped};
+ghost use Rattle.sja_plan_session.specs.Accessing.{IsTyped};
+ghost use Rattle.sja_plan_session.specs.Inside.Answering.{DidAnswered, WaitsElse};
 
 use super::more::{push_done, push_step};
 use super::plan_session::PlanSession;
@@ -96,12 +96,8 @@ impl PlanSession {
 fn access(raw: &mut RawSession, node: u8, step: &Step) -> Answered
     requires stands { (deeds : List (List Deed)) × IsAt raw.old.session deeds }
     requires may { MayDo raw.old.session node 3 }
-    ensures done { (answer : AnswerOfStep) → result ≡ Answer answer → (deeds : List (List Deed)) →
-        IsAt raw.old.session deeds →
-        (after : List (List Deed)) × Does raw.old raw.new node deeds step.now answer after
-        × IsAt raw.new.session after }
-    ensures waits { result ≡ HasToWait → (deeds : List (List Deed)) → IsAt raw.old.session deeds →
-        Waits raw.old.session raw.new.session node step.now deeds }
+    ensures done { DidAnswered raw.old raw.new node step.now result }
+    ensures waits { WaitsElse raw.old raw.new node step.now result }
     ensures kept { result ≡ HasToWait → raw.new.kept ≡ raw.old.kept }
 {
     match step {
@@ -129,12 +125,8 @@ fn access(raw: &mut RawSession, node: u8, step: &Step) -> Answered
 fn typed(raw: &mut RawSession, node: u8, step: &Step) -> Answered
     requires may { MayTyped raw.old.session node }
     requires typed { IsTyped step.now }
-    ensures done { (answer : AnswerOfStep) → result ≡ Answer answer → (deeds : List (List Deed)) →
-        IsAt raw.old.session deeds →
-        (after : List (List Deed)) × Does raw.old raw.new node deeds step.now answer after
-        × IsAt raw.new.session after }
-    ensures waits { result ≡ HasToWait → (deeds : List (List Deed)) → IsAt raw.old.session deeds →
-        Waits raw.old.session raw.new.session node step.now deeds }
+    ensures done { DidAnswered raw.old raw.new node step.now result }
+    ensures waits { WaitsElse raw.old raw.new node step.now result }
     ensures kept { result ≡ HasToWait → raw.new.kept ≡ raw.old.kept }
 {
     match raw.step(node, step.copy()) {
