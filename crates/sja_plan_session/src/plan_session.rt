@@ -94,8 +94,8 @@ impl PlanSession {
             turns: room.turns,
         };
         let raw = RawSession::with_room(alloc, VERSION, bits, nodes, typed)?;
-        let steps = step_lists(alloc, nodes, room.steps)?;
-        let done = done_lists(alloc, nodes, room.steps)?;
+        let steps = empty_lists(alloc, nodes, room.steps)?;
+        let done = empty_lists(alloc, nodes, room.steps)?;
         let turns = Vec::with_capacity(alloc, room.turns as usize + 1)?;
         Ok(PlanSession {
             raw,
@@ -151,22 +151,14 @@ fn check(bits: u32, nodes: u8, room: SessionRoom) -> Result<(), SessionFault>
     Ok(())
 }
 
-/// An empty list of steps for each of so many nodes, with places for so many.
-pub(crate) fn step_lists(alloc: Global, nodes: u8, room: u32) -> Result<Vec<Vec<Step>>, AllocError>
-    ensures lists { IfOk result (λ lists. map (λ steps. steps.items) lists.items ≡ replicate nodes []) }
-    ensures room { IfOk result (λ lists. All (λ steps. room ≤ vec_capacity steps) lists.items) }
-{
-    let mut lists = Vec::with_capacity(alloc, usize::from(nodes))?;
-    for _ in 0..nodes {
-        lists.push_reserved(Vec::with_capacity(alloc, room as usize)?);
-    }
-    Ok(lists)
-}
-
-/// The same for what they answer.
-pub(crate) fn done_lists(alloc: Global, nodes: u8, room: u32) -> Result<Vec<Vec<Done>>, AllocError>
-    ensures lists { IfOk result (λ lists. map (λ done. done.items) lists.items ≡ replicate nodes []) }
-    ensures room { IfOk result (λ lists. All (λ done. room ≤ vec_capacity done) lists.items) }
+/// An empty list for each of so many nodes, with places for so many.
+pub(crate) fn empty_lists<T: Drop>(
+    alloc: Global,
+    nodes: u8,
+    room: u32,
+) -> Result<Vec<Vec<T>>, AllocError>
+    ensures lists { IfOk result (λ lists. map (λ list. list.items) lists.items ≡ replicate nodes []) }
+    ensures room { IfOk result (λ lists. All (λ list. room ≤ vec_capacity list) lists.items) }
 {
     let mut lists = Vec::with_capacity(alloc, usize::from(nodes))?;
     for _ in 0..nodes {

@@ -1,9 +1,9 @@
 use Rattle.std.proofs.Common.{◌≡◌, ◌≤◌, [], map, replicate, All, vec_len, vec_capacity}
-use Rattle.sja_plan_session.proofs.plan_session.step_lists.Given as goal
+use Rattle.sja_plan_session.proofs.plan_session.empty_lists.Given as goal
 
 -- so many lists were made, and there is room for all
 abbrev pub invariant-loop : goal.invariant-loop
-invariant-loop l = record {
+invariant-loop g l = record {
   count : vec_len l.lists ≡ l.counter;
   room : vec_capacity l.lists ≡ l.nodes;
   made : map (λ list. list.items) l.lists.items ≡ replicate l.counter [];
