@@ -7,4 +7,5 @@ pub mod PlanRefusals
 pub mod PlanRuns
 pub mod RefusedMemory
 pub mod Requests
+pub mod Showing
 pub mod Talks

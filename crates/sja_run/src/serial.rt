@@ -95,6 +95,7 @@ fn left_of<'a>(task: Task<'a>) -> Result<Left<'a>, Task<'a>>
 }
 
 /// Does the task, which isn't left to another call, and gives the exit status.
+#[tactic(auto, using(crate::proofs::Showing::shows_printed, crate::proofs::Showing::shows_refused))]
 fn reply<R: Read, O: Write, E: Write>(
     alloc: Global,
     task: Task<'_>,

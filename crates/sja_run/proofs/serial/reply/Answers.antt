@@ -1,7 +1,5 @@
 use Rattle.std.proofs.Common.{ap, inl, inr, subst, sym}
-use Rattle.std.specs.Prelude.{◌⊎◌, Some}
-use Rattle.std.specs.Io.KnownBytes.{Appends}
-use Rattle.std.proofs.KnownBytes.{Keeps-refl}
+use Rattle.std.specs.Prelude.{◌⊎◌}
 use Rattle.sja_run.specs.Answer.{AsksForRun}
 use Rattle.sja_run.proofs.FewBytes.{few_printed, few_turned_down}
 use Rattle.sja_run.proofs.serial.reply.Goals as goal
@@ -29,20 +27,3 @@ pub returns-in-Err-clause-few : goal.returns-in-Err-clause-few
 returns-in-Err-clause-few g c =
     few_turned_down _ _ _ c.in-Err.refusal
     (or_right (λ same. ap (λ i. g.R.Read.remaining i) same) c.in-Err.ensures.unread) c.in-Err.ensures.err
-
-pub returns-in-Ok-clause-answered : goal.returns-in-Ok-clause-answered
-returns-in-Ok-clause-answered g c = λ wrote told.
-    let text = c.in-Ok.text.items in
-    let written = subst (λ bytes. Appends (g.O.Write.contents c.args.out.now.writer)
-    (g.O.Write.contents c.print.new.self.writer) bytes) c.as_slice.ensures.value (c.print.ensures.written wrote).1 in
-    inl (text, c.in-Ok.ensures.ok, ap Some (c.print.ensures.status wrote), written, Keeps-refl _)
-
-pub returns-in-Err-clause-answered : goal.returns-in-Err-clause-answered
-returns-in-Err-clause-answered g c = λ wrote told.
-    inr (inl (
-      c.in-Err.refusal,
-      c.in-Err.ensures.err,
-      ap Some c.refuse.ensures.status,
-      Keeps-refl _,
-      (c.refuse.ensures.written told).1,
-    ))
