@@ -2,6 +2,7 @@
 
 mod accesses;
 mod configured;
+mod gate_counts;
 mod gates;
 mod given;
 mod interrupts;

@@ -48,7 +48,7 @@ steps = [\"write 0 02\", \"read 0\", \"write 0 04\", \"write 0 01\", \"read 0\",
 ";
 
 /// The run of a plan in which drivers know addresses and bytes alone, or why there is none.
-fn run_of<G: Gate, R: Threads + Wait + Sync>(
+pub fn run_of<G: Gate, R: Threads + Wait + Sync>(
     rt: &R,
     alloc: Global,
     plan: &Plan,
@@ -140,19 +140,4 @@ steps = []
     let ended = run(&rt, rt.alloc(), text, gates)?;
     answers(rt.alloc(), &ended, 0, "ok, 00", 2)?;
     answers(rt.alloc(), &ended, 1, "", 0)
-}
-
-/// Whether a run of two nodes with so many gates is refused.
-fn is_refused<R: Threads + Wait + Sync>(rt: &R, alloc: Global, gates: usize) -> Result<bool, Fail> {
-    let plan = read_plan(alloc, PASSING.as_bytes())?;
-    let run = run_of(rt, alloc, &plan, open_gates(alloc, gates)?);
-    Ok(matches!(&run, Err(RunFault::GateCount)))
-}
-
-#[test]
-fn there_is_a_gate_for_each_node(rt: HostRuntime) -> Result<(), Fail> {
-    assert!(rt; is_refused(&rt, rt.alloc(), 0)?);
-    assert!(rt; is_refused(&rt, rt.alloc(), 1)?);
-    assert!(rt; is_refused(&rt, rt.alloc(), 3)?);
-    Ok(())
 }

@@ -198,16 +198,3 @@ pub fn ended<G: Gate, R: Threads + Wait + Sync>(
     are_counts(&log, expected)?;
     Ok(log)
 }
-
-/// How many bits such a run has.
-pub fn bits_of<G: Gate, R: Threads + Wait + Sync>(
-    rt: &R,
-    alloc: Global,
-    text: &str,
-    gates: Vec<G>,
-    end: End,
-    expected: &[(usize, usize, usize)],
-) -> Result<u32, Fail> {
-    let log = ended(rt, alloc, text, gates, end, expected)?;
-    Ok(log.bits())
-}

@@ -1,6 +1,6 @@
 //! Drivers that wait for each other.
 
-use super::given::{bits_of, ended, two_gates};
+use super::given::{ended, two_gates};
 use sja_log::{End, RunLog};
 use sja_report::report;
 use std::alloc::Global;
@@ -43,35 +43,44 @@ steps = [
 ]
 ";
 
-/// Node 0 sends four times as many messages as have room: each time four of 13 bytes, and one of 12. Node 1 waits for
-/// five each time, and releases them.
-const FOUR_TIMES_FULL: &str = "version = 1
+/// A plan of two nodes: node 0 sends what fills a receive buffer four times, and node 1 empties its own four times.
+macro_rules! four_times {
+    ($filling:literal, $emptying:literal) => {
+        concat!(
+            "version = 1
 bits = 5000
 [[node]]
 steps = [
-    'start',
-    'load 88000000000000000000000000', 'command 01', 'sent', 'load 88000000000000000000000000', 'command 01', 'sent',
-    'load 88000000000000000000000000', 'command 01', 'sent', 'load 88000000000000000000000000', 'command 01', 'sent',
-    'load 870000000000000000000000', 'command 01', 'sent',
-    'load 88000000000000000000000000', 'command 01', 'sent', 'load 88000000000000000000000000', 'command 01', 'sent',
-    'load 88000000000000000000000000', 'command 01', 'sent', 'load 88000000000000000000000000', 'command 01', 'sent',
-    'load 870000000000000000000000', 'command 01', 'sent',
-    'load 88000000000000000000000000', 'command 01', 'sent', 'load 88000000000000000000000000', 'command 01', 'sent',
-    'load 88000000000000000000000000', 'command 01', 'sent', 'load 88000000000000000000000000', 'command 01', 'sent',
-    'load 870000000000000000000000', 'command 01', 'sent',
-    'load 88000000000000000000000000', 'command 01', 'sent', 'load 88000000000000000000000000', 'command 01', 'sent',
-    'load 88000000000000000000000000', 'command 01', 'sent', 'load 88000000000000000000000000', 'command 01', 'sent',
-    'load 870000000000000000000000', 'command 01', 'sent',
+    'start',",
+            $filling,
+            $filling,
+            $filling,
+            $filling,
+            "
 ]
 [[node]]
 steps = [
-    'start',
-    'await 5', 'release', 'release', 'release', 'release', 'release',
-    'await 5', 'release', 'release', 'release', 'release', 'release',
-    'await 5', 'release', 'release', 'release', 'release', 'release',
-    'await 5', 'release', 'release', 'release', 'release', 'release',
+    'start',",
+            $emptying,
+            $emptying,
+            $emptying,
+            $emptying,
+            "
 ]
-";
+"
+        )
+    };
+}
+
+/// Node 0 sends four messages of 13 bytes and one of 12 each time. Node 1 waits for five, and releases them.
+const FOUR_TIMES_FULL: &str = four_times!(
+    "
+    'load 88000000000000000000000000', 'command 01', 'sent', 'load 88000000000000000000000000', 'command 01', 'sent',
+    'load 88000000000000000000000000', 'command 01', 'sent', 'load 88000000000000000000000000', 'command 01', 'sent',
+    'load 870000000000000000000000', 'command 01', 'sent',",
+    "
+    'await 5', 'release', 'release', 'release', 'release', 'release',"
+);
 
 /// Whether the report of a run has this line.
 fn tells(alloc: Global, log: &RunLog, line: &str) -> Result<bool, Fail> {
@@ -90,7 +99,7 @@ fn two_gates_meet(rt: HostRuntime) -> Result<(), Fail> {
     let held = [(1, 1), (0, 0), (0, 0)];
     let gates = two_gates(rt.alloc(), held, held)?;
     let counts = [(6, 1, 0), (6, 1, 0)];
-    let _ = bits_of(&rt, rt.alloc(), EXCHANGING, gates, End::Rest, &counts)?;
+    let _ = ended(&rt, rt.alloc(), EXCHANGING, gates, End::Rest, &counts)?;
     Ok(())
 }
 

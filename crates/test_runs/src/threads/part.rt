@@ -1,14 +1,16 @@
 //! [`Part`]: what the bus does beside a driver that has a thread of its own.
 
+ghost use Rattle.std.specs.Prelude.{◌<◌, length};
+
 use can_frame::Message;
-use can_node::{BitEvents, Phase};
 use sja_bus::Board;
 use sja_link::{BusEnd, Down, Up};
-use sja_regs::{BusTurn, Port};
+use sja_regs::Port;
 use sja_rings::RingBus;
 use sja_threads::LockBoard;
 use std::sync::{Mutex, Wait};
 use std::thread::yield_now;
+use test_words::turn_of;
 
 /// What the bus does once the driver has started.
 #[derive(Drop)]
@@ -24,11 +26,20 @@ pub enum Part {
 impl Part {
     /// Does it. Whether the items that came were these.
     pub fn is_done<R: Wait>(self, rt: &R, ends: Vec<RingBus>, ports: &[Mutex<Port>]) -> bool {
-        match self {
-            Part::HandOver(message) => hand_over(rt, ends, message),
-            Part::Shut => shut(rt, ends, ports),
-            Part::Warn => warn(rt, ends, ports),
+        let mut ends = ends;
+        let Some(end) = ends.get_mut(0) else {
+            return false;
+        };
+        if ports.len() == 0 {
+            return false;
         }
+        let starts = matches!(taken(rt, end), Up::Start(_));
+        starts
+            && match self {
+                Part::HandOver(message) => hand_over(rt, end, message),
+                Part::Shut => shut(rt, ports),
+                Part::Warn => warn(rt, end, ports),
+            }
     }
 }
 
@@ -44,72 +55,36 @@ fn taken(rt: &impl Wait, end: &mut RingBus) -> Up {
 }
 
 /// Puts the message, and takes a credit and the stop.
-fn hand_over(rt: &impl Wait, ends: Vec<RingBus>, message: Message) -> bool {
-    let mut ends = ends;
-    let Some(end) = ends.get_mut(0) else {
-        return false;
-    };
-    let starts = matches!(taken(rt, end), Up::Start(_));
+fn hand_over(rt: &impl Wait, end: &mut RingBus, message: Message) -> bool {
     let puts = end.put(Down::Message(message)).is_ok();
     let credits = matches!(taken(rt, end), Up::Credit(_));
     let stops = matches!(taken(rt, end), Up::Stop);
-    starts && puts && credits && stops
+    puts && credits && stops
 }
 
 /// Closes the port, and waits until the driver has ended.
-fn shut<R: Wait>(rt: &R, ends: Vec<RingBus>, ports: &[Mutex<Port>]) -> bool {
-    let mut ends = ends;
-    let Some(end) = ends.get_mut(0) else {
-        return false;
-    };
-    if ports.len() == 0 {
-        return false;
-    }
-    let starts = matches!(taken(rt, end), Up::Start(_));
+fn shut<R: Wait>(rt: &R, ports: &[Mutex<Port>]) -> bool
+    requires { 0 < length ports.now }
+{
     let mut board = LockBoard { rt, ports };
     board.close(0);
     for _ in rt.forever() {
         if board.orders(0).ended {
-            return starts;
+            return true;
         }
         yield_now();
     }
     unreachable!()
 }
 
-/// A bit of the first activation in which the receive error counter comes to its limit.
-fn warned() -> BusTurn {
-    BusTurn {
-        activation: 1,
-        events: BitEvents {
-            received: None,
-            ended: None,
-            lost: None,
-            fault: None,
-            receiving: true,
-            went_off: false,
-            recovered: false,
-        },
-        txerr: 0,
-        rxerr: 96,
-        off: false,
-        phase: Phase::Idle,
-        aborted: false,
-        overrun: false,
-    }
-}
-
-/// Tells the port of that bit, and takes the stop.
-fn warn<R: Wait>(rt: &R, ends: Vec<RingBus>, ports: &[Mutex<Port>]) -> bool {
-    let mut ends = ends;
-    let Some(end) = ends.get_mut(0) else {
+/// Tells the port of a bit in which the receive error counter comes to its limit, and takes the stop.
+fn warn<R: Wait>(rt: &R, end: &mut RingBus, ports: &[Mutex<Port>]) -> bool
+    requires { 0 < length ports.now }
+{
+    let Some(turn) = turn_of(&["rx=60"]) else {
         return false;
     };
-    if ports.len() == 0 {
-        return false;
-    }
-    let starts = matches!(taken(rt, end), Up::Start(_));
     let mut board = LockBoard { rt, ports };
-    board.bus_turn(0, &warned());
-    starts && matches!(taken(rt, end), Up::Stop)
+    board.bus_turn(0, &turn);
+    matches!(taken(rt, end), Up::Stop)
 }

@@ -1,23 +1,10 @@
-//! Whole runs in threads whose gates quit, or are too few or too many. Whole runs with open gates stand in the rows of
-//! `test_program`.
+//! Whole runs in threads whose gates quit. Whole runs with open gates stand in the rows of `test_program`.
 
 use super::gates::Patience;
-use super::given::{bits_of, open_gates, run_of};
-use sja_log::{End, RunFault};
-use sja_plan::read_plan;
+use super::given::ended;
+use sja_log::End;
 use std::alloc::Global;
-use std::sync::Wait;
 use std::test::Fail;
-use std::thread::Threads;
-
-/// Node 0 sends a frame of two bytes, and node 1 awaits and releases it.
-const PASSING: &str = "version = 1
-bits = 2000
-[[node]]
-steps = [\"start\", \"load 0224601122\", \"command 01\", \"sent\", \"stop\"]
-[[node]]
-steps = [\"start\", \"await 1\", \"window\", \"release\", \"stop\"]
-";
 
 /// Node 0 waits for a message that never comes, and node 1 only starts.
 const WAITING: &str = "version = 1
@@ -48,7 +35,7 @@ fn patient_gates(alloc: Global) -> Result<Vec<Patience>, Fail> {
 fn a_run_whose_gates_quit_ends_at_rest(rt: HostRuntime) -> Result<(), Fail> {
     let gates = patient_gates(rt.alloc())?;
     let counts = [(1, 0, 0), (1, 0, 0)];
-    assert!(rt; bits_of(&rt, rt.alloc(), WAITING, gates, End::Rest, &counts)? == 11);
+    assert!(rt; ended(&rt, rt.alloc(), WAITING, gates, End::Rest, &counts)?.bits() == 11);
     Ok(())
 }
 
@@ -58,21 +45,6 @@ fn a_wait_with_all_bits_spent_at_rest_is_left_to_the_gate(rt: HostRuntime) -> Re
     let mut gates = Vec::new(rt.alloc());
     gates.push(Patience { tries: 1_000 })?;
     let counts = [(1, 0, 0)];
-    assert!(rt; bits_of(&rt, rt.alloc(), WAITING_ALONE, gates, End::Rest, &counts)? == 11);
-    Ok(())
-}
-
-/// Whether a run of two nodes with so many gates is refused.
-fn is_refused<R: Threads + Wait + Sync>(rt: &R, alloc: Global, gates: usize) -> Result<bool, Fail> {
-    let plan = read_plan(alloc, PASSING.as_bytes())?;
-    let run = run_of(rt, alloc, &plan, open_gates(alloc, gates)?);
-    Ok(matches!(&run, Err(RunFault::GateCount)))
-}
-
-#[test]
-fn there_is_a_gate_for_each_node(rt: HostRuntime) -> Result<(), Fail> {
-    assert!(rt; is_refused(&rt, rt.alloc(), 0)?);
-    assert!(rt; is_refused(&rt, rt.alloc(), 1)?);
-    assert!(rt; is_refused(&rt, rt.alloc(), 3)?);
+    assert!(rt; ended(&rt, rt.alloc(), WAITING_ALONE, gates, End::Rest, &counts)?.bits() == 11);
     Ok(())
 }
