@@ -1,4 +1,5 @@
-//! Drivers: starts and stops, windows, and what comes back. The rows of `test_scripts` have the steps of scripts.
+//! Drivers: starts and stops, windows, and what comes back. The rows of scripts in `test_controller_rows` have their
+//! steps.
 
 mod each_given_back;
 mod endless;

@@ -3,8 +3,8 @@
 //! [`rings`] of `sja_rings`,
 //! [`drivers`] of `sja_driver`.
 //!
-//! Most of what is tested of them stands in rows: in `test_registers`, in `test_ledgers` for links and rings, and in
-//! `test_scripts` for drivers. Expected values are written by hand from the sources.
+//! Most of what is tested of them stands in the rows of `test_controller_rows`. Expected values are written by hand
+//! from the sources.
 #![tactic(auto)]
 
 #[cfg(test)]

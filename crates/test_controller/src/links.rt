@@ -1,5 +1,5 @@
-//! Links, their numbers, journals, and refused memory. The rows of `test_ledgers` have what links carry, the ledgers at
-//! their ends, and the world of one link.
+//! Links, their numbers, journals, and refused memory. The rows of links in `test_controller_rows` have what
+//! they carry, the ledgers at their ends, and the world of one link.
 
 pub(crate) mod given;
 mod journals;

@@ -1,5 +1,5 @@
-//! The register file: what each address answers, and bytes as bits and as frames. The rows of `test_registers` have
-//! what the calls of a port answer, one after the other.
+//! The register file: what each address answers, and bytes as bits and as frames. The rows of ports in
+//! `test_controller_rows` have what their calls answer, one after the other.
 
 mod addresses;
 mod buffering;

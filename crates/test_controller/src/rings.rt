@@ -1,5 +1,5 @@
-//! Links of two rings: ends that are gone, ends in two threads, and refused memory. The rows of `test_ledgers` have
-//! what they carry, what is left on them, and the ledgers at their ends.
+//! Links of two rings: ends that are gone, ends in two threads, and refused memory. The rows of links in
+//! `test_controller_rows` have what they carry, what is left on them, and the ledgers at their ends.
 
 mod given;
 mod gone;

@@ -24,26 +24,17 @@ mod writing;
 use answer::answer;
 use kind::Kind;
 use std::alloc::Global;
-use std::cell::Cell;
 use std::io;
 use std::process::ExitCode;
 use test_rows::{Given, Rows, answer_rows};
 
 /// What is made of plans.
-#[derive(Drop)]
-struct Plans {
-    kind: Cell<Option<Kind>>,
-}
+struct Plans;
 
 impl Rows for Plans {
-    /// What is made of the row's document. Nothing where the row names what is made of those below it, or where no row
-    /// above it did.
+    /// What is made of the row's document; nothing where no line above it names what.
     fn answered(&self, alloc: Global, given: &Given, row: &str) -> io::Result<String> {
-        if let Some(word) = row.strip_prefix("## ") {
-            self.kind.set(Kind::named(word));
-            return Ok(String::new(alloc));
-        }
-        match self.kind.get() {
+        match Kind::named(given.kind()) {
             Some(kind) => answer(alloc, kind, given, row),
             None => Ok(String::new(alloc)),
         }
@@ -52,8 +43,5 @@ impl Rows for Plans {
 
 /// Answers the exit status: 0 for done, 1 where memory was refused or a read or a write failed.
 fn main(rt: HostRuntime) -> ExitCode {
-    let plans = Plans {
-        kind: Cell::new(None),
-    };
-    answer_rows(&rt, "", &plans)
+    answer_rows(&rt, "", &Plans)
 }

@@ -29,7 +29,7 @@ fn rows_are_told<R: Rows>(rt: &HostRuntime, behind: &str, rows: &R) -> io::Resul
     let mut given = Given::nothing(rt.alloc());
     for line in rt.lines(rt.alloc()) {
         let line = line?;
-        if line.as_str().starts_with("== ") || given.takes(line.as_str())? {
+        if given.takes(line.as_str())? {
             println!(rt; "{line}")?;
         } else {
             let text = rows.answered(rt.alloc(), &given, line.as_str())?;

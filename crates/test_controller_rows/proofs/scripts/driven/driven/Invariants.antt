@@ -3,7 +3,7 @@ use Rattle.sja_link.specs.Deques.{Deques}
 use Rattle.sja_driver.specs.Holding.{NumberedFrom}
 use Rattle.sja_driver.specs.LoggedDrivers.{node_of, log_of, IsLawful}
 use Rattle.sja_driver.specs.Logs.{HasRoom}
-use Rattle.test_scripts.proofs.driven.driven.Given as goal
+use Rattle.test_controller_rows.proofs.scripts.driven.driven.Given as goal
 
 -- the driver and its links agree, and the log has room for the steps that are left
 abbrev pub invariant-loop-step : goal.invariant-loop-step

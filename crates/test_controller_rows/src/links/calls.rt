@@ -1,6 +1,6 @@
 //! Calls of a link and of its ledgers in words.
 
-use super::answers::{of_bus, of_driver, push_said, push_taken};
+use super::answers::{of_ledger, push_said, push_taken};
 use super::link::Link;
 use super::words::{down_of, message_of, push_down, push_up, up_of};
 use sja_link::{Busy, Down, Verdict};
@@ -30,9 +30,8 @@ pub fn does<L: Link>(
         "returns" => returns(text, link, rest),
         "take" | "takes" => takes(alloc, text, link, name),
         "get" | "gets" => gets(alloc, text, link, name),
-        "collect" | "off" | "free" => of_bus(alloc, text, link, name),
         "settle" => Ok(()),
-        _ => of_driver(alloc, text, link, name),
+        _ => of_ledger(alloc, text, link, name),
     }
 }
 

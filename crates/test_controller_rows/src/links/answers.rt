@@ -7,8 +7,8 @@ use sja_link::{BadCredit, Busy, ReleaseFault, Stopped, Up};
 use std::alloc::{AllocError, Global};
 use std::fmt;
 
-/// What the bus's ledger answers.
-pub fn of_bus<L: Link>(
+/// What a ledger answers.
+pub fn of_ledger<L: Link>(
     alloc: Global,
     text: &mut String,
     link: &mut L,
@@ -17,7 +17,13 @@ pub fn of_bus<L: Link>(
     match name {
         "collect" => push_collected(alloc, text, link.collect()),
         "off" => text.push_str(off_of(link.off())),
-        _ => push_said(alloc, text, link.free()),
+        "free" => push_said(alloc, text, link.free()),
+        "look" => push_looked(alloc, text, link.look()),
+        "window" => push_window(alloc, text, link.window()),
+        "release" => push_released(alloc, text, link.release()),
+        "unread" => push_unread(alloc, text, link),
+        "seen" => push_seen(alloc, text, link),
+        _ => text.push_str(" ?"),
     }
 }
 
@@ -43,23 +49,6 @@ fn off_of(put: Option<Result<(), Busy>>) -> &'static str {
         Some(Ok(())) => " ok",
         Some(Err(Busy)) => " busy",
         None => " ?",
-    }
-}
-
-/// What the driver's ledger answers.
-pub fn of_driver<L: Link>(
-    alloc: Global,
-    text: &mut String,
-    link: &mut L,
-    name: &str,
-) -> Result<(), AllocError> {
-    match name {
-        "look" => push_looked(alloc, text, link.look()),
-        "window" => push_window(alloc, text, link.window()),
-        "release" => push_released(alloc, text, link.release()),
-        "unread" => push_unread(alloc, text, link),
-        "seen" => push_seen(alloc, text, link),
-        _ => text.push_str(" ?"),
     }
 }
 

@@ -2,7 +2,7 @@ use Rattle.std.proofs.Common.{◌≡◌, ◌+◌, ◌≤◌, ℕ, length, ◌∙
 use Rattle.std.proofs.lemmas.Slice.Zip.{AllZip-long}
 use Rattle.sja_link.specs.Deques.{Deques}
 use Rattle.sja_driver.specs.Holding.{NumberedFrom}
-use Rattle.test_scripts.proofs.driven.driven.Goals as goal
+use Rattle.test_controller_rows.proofs.scripts.driven.driven.Goals as goal
 
 pub tried-requires : goal.tried-requires
 tried-requires c =
