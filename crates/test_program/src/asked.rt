@@ -1,7 +1,7 @@
 //! What a row asks for: words, a document, and how the program is tried.
 
-use super::beginnings::{interrupted, of_input, of_word};
-use super::fed::Fed;
+use super::beginnings::{of_input, of_word};
+use super::fed::{Behind, Fed};
 use super::given::Given;
 use super::groups::Groups;
 use super::parts::part;
@@ -89,8 +89,8 @@ fn cut<T: Threads + Wait + Sync>(
 ) -> io::Result<String> {
     match what {
         "word" => of_word(rt, alloc, words, document),
-        "input" => of_input(rt, alloc, &words, document),
-        _ => interrupted(rt, alloc, &words, document),
+        "input" => of_input(rt, alloc, &words, document, Behind::End),
+        _ => of_input(rt, alloc, &words, document, Behind::Interrupted),
     }
 }
 

@@ -30,39 +30,34 @@ pub(crate) fn of_word<T: Threads + Wait + Sync>(
     groups.told()
 }
 
-/// The answers over each beginning of the input, by how many bytes it has.
+/// The answers over each beginning of the input, by how many bytes it has. Where reads behind it are interrupted they
+/// are whole, and say how many reads are made.
 pub(crate) fn of_input<T: Threads + Wait + Sync>(
     rt: &T,
     alloc: Global,
     words: &[String],
     document: &[u8],
+    behind: Behind,
 ) -> io::Result<String> {
     let mut groups = Groups::new(alloc);
     for count in 0..=document.len() {
         let beginning = document.get(..count).unwrap_or(b"");
-        let tried = tried(rt, alloc, words, &mut Fed::whole(beginning));
-        groups.add(count, judged(alloc, &tried)?)?;
+        let mut input = Fed::new(beginning, usize::MAX, behind);
+        let tried = tried(rt, alloc, words, &mut input);
+        let text = match behind {
+            Behind::Interrupted => with_reads(alloc, &tried, &input)?,
+            _ => judged(alloc, &tried)?,
+        };
+        groups.add(count, text)?;
     }
     groups.told()
 }
 
-/// The same where a read behind the beginning is interrupted, with how many reads are made.
-pub(crate) fn interrupted<T: Threads + Wait + Sync>(
-    rt: &T,
-    alloc: Global,
-    words: &[String],
-    document: &[u8],
-) -> io::Result<String> {
-    let mut groups = Groups::new(alloc);
-    for count in 0..=document.len() {
-        let beginning = document.get(..count).unwrap_or(b"");
-        let mut input = Fed::new(beginning, usize::MAX, Behind::Interrupted);
-        let tried = tried(rt, alloc, words, &mut input);
-        let mut text = shown(alloc, &tried, &input)?;
-        write!(text, "\nin {} reads", input.reads)?;
-        groups.add(count, text)?;
-    }
-    groups.told()
+/// The answer, and how many reads are made.
+fn with_reads(alloc: Global, tried: &Outcome, input: &Fed<'_>) -> io::Result<String> {
+    let mut text = shown(alloc, tried, input)?;
+    write!(text, "\nin {} reads", input.reads)?;
+    Ok(text)
 }
 
 /// The status, and whether one line is written, or told as an error, and nothing else.
