@@ -1,7 +1,7 @@
 use Rattle.std.proofs.Common.{arith}
 use Rattle.sja_raw.specs.RawDrivers.{typed_of}
 use Rattle.sja_raw.proofs.Keeping.{keeps_more, may_less}
-use Rattle.test_raw.proofs.access.read_at.Goals as goal
+use Rattle.test_bus.proofs.raw.access.read_at.Goals as goal
 
 pub read-requires : goal.read-requires
 read-requires g c =

@@ -1,6 +1,6 @@
 use Rattle.std.proofs.Common.{◌≡◌, ◌+◌, ◌<◌, ℕ}
 use Rattle.std.specs.Prelude.{slice_index_or}
-use Rattle.test_raw.proofs.hand.are_ends_of.Given as goal
+use Rattle.test_bus.proofs.raw.hand.are_ends_of.Given as goal
 
 -- the ends so far have the numbers of their places
 abbrev pub invariant-loop-place : goal.invariant-loop-place

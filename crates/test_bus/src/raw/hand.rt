@@ -5,7 +5,7 @@ ghost use Rattle.sja_driver.specs.Holding.{NumberedFrom};
 ghost use Rattle.sja_driver.specs.Logs.{HasRoom};
 ghost use Rattle.sja_driver.specs.LoggedDrivers.{node_of, log_of, IsLawful};
 ghost use Rattle.sja_raw.specs.RawDrivers.{typed_of};
-ghost use Rattle.test_raw.specs.Lawful.{lawful_once};
+ghost use Rattle.test_bus.specs.Lawful.{lawful_once};
 
 use super::access::{Access, answered};
 use super::answer::Answer;

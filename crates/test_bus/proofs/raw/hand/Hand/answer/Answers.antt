@@ -2,7 +2,7 @@ use Rattle.std.proofs.Common.{◌≡◌, ◌+◌, ◌-◌, ℕ, ◌∙◌, subst
 use Rattle.sja_driver.specs.LoggedDrivers.{log_of}
 use Rattle.sja_driver.specs.Logs.{HasRoom}
 use Rattle.sja_raw.specs.RawDrivers.{typed_of}
-use Rattle.test_raw.proofs.hand.Hand.answer.Goals as goal
+use Rattle.test_bus.proofs.raw.hand.Hand.answer.Goals as goal
 
 pub invariant_of-self : goal.invariant_of-self
 invariant_of-self g c =
