@@ -9,7 +9,7 @@ ghost use Rattle.sja_raw_threads.specs.RawThreadedRuns.{IsRawThreadedRun, IsPlan
 
 use sja_log::{RunFault, RunLog};
 use sja_plan::{Plan, RAW_VERSION};
-use sja_threads::{EndedRun, Gate, run_accesses, run_threads};
+use sja_threads::{Gate, run_accesses, run_threads};
 use std::alloc::Global;
 use std::sync::Wait;
 use std::thread::Threads;
@@ -34,9 +34,9 @@ pub fn run_raw_threads<G: Gate, R: Threads + Wait + Sync>(
     ensures fault { (vec_len gates ≡ length plan.now.nodes) →
         IfErr result (IsFaultWith (rooms true plan.now) plan.now) }
 {
-    let EndedRun { log, accesses } = run_accesses(rt, alloc, plan, gates)?;
-    let end = log.end();
-    Ok(log.with_steps(accesses, end))
+    let ended = run_accesses(rt, alloc, plan, gates)?;
+    let end = ended.log.end();
+    Ok(ended.log.with_steps(ended.accesses, end))
 }
 
 /// Runs a plan with each driver in a thread of its own, and gives the log of the run: of a plan of version 3
