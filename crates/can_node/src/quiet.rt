@@ -25,7 +25,7 @@ impl Node {
     /// Sees the level of the bus where the bit changes nothing that the node shows: no event, and the same error
     /// counters, phase, role and held request. Answers whether that was so; else the node is what it was, and
     /// [`sample_fully`](Node::sample_fully) is to be called (this project's own rule). It is so of each recessive bit
-    /// of an idle bus in which the node drives recessive, and of each right bit of a frame's stuffed part past SOF, which
+    /// of an idle bus in which the node drives recessive, and of each right bit of a frame's stuffed part past SOF that
     /// a transmitter sees as it drives it. Past that part, and outside a frame, it may answer false for such a bit too.
     #[inline(always)]
     pub fn sample_quietly(&mut self, level: Level) -> bool

@@ -7,17 +7,21 @@ use lib.Count.{count_leading_zeros}
 
 pub returns-clause-same : goal.returns-clause-same
 returns-clause-same c place before =
+    let a = c.args.self.now in
+    let b = c.args.other.now in
     let x = c.from_highest.result in
     let y = c.from_highest-2.result in
     let room_x : x < 2 ^ 128 = search rules in
     let room_y : y < 2 ^ 128 = search rules in
-    let both : BothHave c.min-2.result c.args.self.now c.args.other.now = search rules in
+    let both : BothHave c.min-2.result a b = search rules in
     let zeros : c.min-2.result ≤ count_leading_zeros 128 (bit_xor x y) = search rules in
-    agreement_of_zeros c.args.self.now c.args.other.now x y c.min-2.result c.from_highest.ensures c.from_highest-2.ensures
-    room_x room_y both zeros place before
+    agreement_of_zeros a b x y c.min-2.result c.from_highest.ensures c.from_highest-2.ensures room_x room_y both zeros
+    place before
 
 pub returns-clause-most : goal.returns-clause-most
 returns-clause-most c n both agree =
+    let a = c.args.self.now in
+    let b = c.args.other.now in
     let x = c.from_highest.result in
     let y = c.from_highest-2.result in
     let room_x : x < 2 ^ 128 = search rules in
@@ -26,6 +30,5 @@ returns-clause-most c n both agree =
     let other = both.other in
     let fits = both.one_fits in
     let fits_too = both.other_fits in
-    let zeros = zeros_of_agreement c.args.self.now c.args.other.now x y n c.from_highest.ensures c.from_highest-2.ensures
-    room_x room_y both agree in
+    let zeros = zeros_of_agreement a b x y n c.from_highest.ensures c.from_highest-2.ensures room_x room_y both agree in
     search rules
