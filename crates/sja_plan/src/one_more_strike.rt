@@ -1,4 +1,4 @@
-//! A plan with one strike more.
+//! A plan with one strike more, in place or in a copy.
 
 ghost use Rattle.std.specs.Prelude.{◌≡◌, ◌<◌, ◌≤◌, length, map, IfOk, IfErr};
 ghost use Rattle.sja_plan.specs.Plan.{times_in};
@@ -13,17 +13,50 @@ use sja_script::{Step, Strike};
 use std::alloc::Global;
 
 impl Plan {
-    ghost use Rattle.std.specs.Prelude.{◌≡◌, ◌<◌, ◌≤◌, ◌⊎◌, length, IfOk, IfErr};
-    ghost use Rattle.sja_plan.specs.Plan.{times_in};
+    ghost use Rattle.std.specs.Prelude.{◌≡◌, ◌<◌, ◌≤◌, ◌⊎◌, ℕ, length, IfOk, IfErr, OnOk, OnErr};
+    ghost use Rattle.sja_plan.specs.Plan.{PlanValue, times_in};
     ghost use Rattle.sja_plan.specs.Limits.{most_strikes};
-    ghost use Rattle.sja_plan.specs.Struck.{struck_at};
+    ghost use Rattle.sja_plan.specs.Struck.{struck_at, unstruck};
     ghost use Rattle.sja_plan.specs.declared.plan_fault.PlanFault.TheVariants.{Memory, StrikeCount};
 
-    /// This plan with one strike more, its last one: the node, counted from 0, is struck once, at this bit, counted
-    /// from 0 (this project's own rule). All else is the same.
+    /// One strike more, behind the others: the node, counted from 0, is struck once, at this bit, counted from 0 (this
+    /// project's own rule). All else stays as it is, and nothing but the list of strikes is touched.
     ///
-    /// A node and a bit that several strikes name are struck once: where the plan strikes this node in this bit, the
-    /// new plan strikes the same bits.
+    /// A node and a bit that several strikes name are struck once: where the plan strikes this node in this bit, it
+    /// strikes the same bits as before.
+    ///
+    /// Errors, the first that holds, and nothing changed: [`PlanFault::StrikeCount`] where the plan's strikes strike as
+    /// many bits already as they may in its version; [`PlanFault::Memory`] where memory was refused.
+    pub fn strike(&mut self, node: u8, bit: u32) -> Result<(), PlanFault>
+        requires { node < length self.old.nodes }
+        ensures struck { OnOk result (self.new ≡ struck_at self.old node bit) }
+        ensures left { OnOk result (times_in self.old.strikes < most_strikes self.old.version) }
+        ensures err { IfErr result (λ fault.
+            ((fault ≡ Memory) × (times_in self.old.strikes < most_strikes self.old.version))
+            ⊎ ((fault ≡ StrikeCount) × (most_strikes self.old.version ≤ times_in self.old.strikes))) }
+        ensures kept { OnErr result (self.new ≡ self.old) }
+    {
+        if self.strike_count() >= most_strikes(self.version) {
+            return Err(PlanFault::StrikeCount);
+        }
+        self.strikes.push(Strike {
+            node,
+            bit,
+            every: 1,
+            times: 1,
+        })?;
+        Ok(())
+    }
+
+    /// Takes the last strike back, where there is one: a plan that [`strike`](Plan::strike) gave one more is as it was.
+    pub fn unstrike(&mut self)
+        ensures last { self.new ≡ unstruck self.old }
+        ensures back { (p : PlanValue) (node bit : ℕ) → self.old ≡ struck_at p node bit → self.new ≡ p }
+    {
+        self.strikes.pop();
+    }
+
+    /// This plan with one strike more, its last one, as [`strike`](Plan::strike) adds it. All else is the same.
     ///
     /// Errors: [`PlanFault::StrikeCount`] exactly where the plan's strikes strike as many bits already as they may in
     /// its version, unless [`PlanFault::Memory`] is told: memory was refused.
@@ -34,22 +67,22 @@ impl Plan {
         ensures err { IfErr result (λ fault. (fault ≡ Memory)
             ⊎ ((fault ≡ StrikeCount) × (most_strikes self.now.version ≤ times_in self.now.strikes))) }
     {
-        if self.strike_count() >= most_strikes(self.version) {
-            return Err(PlanFault::StrikeCount);
-        }
-        let mut strikes = all_strikes(alloc, self.strikes.as_slice())?;
-        strikes.push(Strike {
-            node,
-            bit,
-            every: 1,
-            times: 1,
-        })?;
+        let mut plan = self.copy(alloc)?;
+        plan.strike(node, bit)?;
+        Ok(plan)
+    }
+
+    /// The same plan.
+    fn copy(&self, alloc: Global) -> Result<Plan, PlanFault>
+        ensures ok { IfOk result (λ plan. plan ≡ self.now) }
+        ensures err { IfErr result (λ fault. fault ≡ Memory) }
+    {
         Ok(Plan {
             version: self.version,
             bits: self.bits,
             nodes: all_nodes(alloc, self.nodes.as_slice())?,
             turns: all_turns(alloc, self.turns.as_slice())?,
-            strikes,
+            strikes: all_strikes(alloc, self.strikes.as_slice())?,
         })
     }
 

@@ -6,15 +6,13 @@ ghost use Rattle.sja_plan.specs.Struck.{one_strike};
 use super::raw_session::RawSession;
 use super::session::Session;
 use super::strike_fault::StrikeFault;
-use sja_plan::{Plan, most_strikes};
+use sja_plan::PlanFault;
 use sja_script::Strike;
 use std::alloc::Global;
 
 impl Session {
-    ghost use Rattle.std.specs.Prelude.{◌≡◌, ◌<◌, List, length, IfOk, IfErr, OnOk, OnErr};
+    ghost use Rattle.std.specs.Prelude.{◌≡◌, ◌<◌, ◌≤◌, List, length, IfErr, OnOk, OnErr};
     ghost use Rattle.sja_driver.specs.Deeds.{Deed};
-    ghost use Rattle.sja_plan.specs.Struck.{struck_at};
-    ghost use Rattle.sja_session.specs.declared.strike_fault.StrikeFault.TheVariants.{Memory};
     ghost use Rattle.sja_session.specs.Sessions.{IsAt};
     ghost use Rattle.sja_session.specs.Striking.{MayStrike, IsStrikeFault, IsStruck};
 
@@ -33,32 +31,27 @@ impl Session {
         ensures err { IfErr result (IsStrikeFault self.old node bit) }
         ensures kept { OnErr result (self.new ≡ self.old) }
     {
-        self.may_strike(node, bit)?;
-        let plan = self.struck_plan(alloc, node, bit)?;
-        self.run.strike(alloc, one_strike(node, bit))?;
-        self.plan = plan;
-        Ok(())
-    }
-
-    /// The plan with this strike more.
-    ///
-    /// Error: [`StrikeFault::Memory`] where memory was refused.
-    fn struck_plan(&self, alloc: Global, node: u8, bit: u32) -> Result<Plan, StrikeFault>
-        requires there { node < length self.now.plan.nodes }
-        ensures ok { IfOk result (λ plan. plan ≡ struck_at self.now.plan node bit) }
-        ensures err { IfErr result (λ fault. fault ≡ Memory) }
-    {
-        match self.plan.with_strike(alloc, node, bit) {
-            Ok(plan) => Ok(plan),
-            Err(_) => Err(StrikeFault::Memory),
+        self.check_bit(node, bit)?;
+        match self.plan.strike(node, bit) {
+            Ok(()) => {}
+            Err(PlanFault::StrikeCount) => return Err(StrikeFault::StrikesUsed),
+            Err(_) => return Err(StrikeFault::Memory),
+        }
+        match self.run.strike(alloc, one_strike(node, bit)) {
+            Ok(()) => Ok(()),
+            Err(refused) => {
+                self.plan.unstrike();
+                Err(StrikeFault::from(refused))
+            }
         }
     }
 
-    /// Whether this bit of this node may be struck.
+    /// Whether the node is there, and the bit is one of the session's that hasn't run.
     ///
-    /// Errors: as [`strike`](Session::strike) tells them, but for refused memory.
-    fn may_strike(&self, node: u8, bit: u32) -> Result<(), StrikeFault>
-        ensures ok { OnOk result (MayStrike self.now node bit) }
+    /// Errors: as [`strike`](Session::strike) tells them, the first three.
+    fn check_bit(&self, node: u8, bit: u32) -> Result<(), StrikeFault>
+        ensures there { OnOk result (node < length self.now.plan.nodes) }
+        ensures ahead { OnOk result ((bit < self.now.plan.bits) × (self.now.run.bits ≤ bit)) }
         ensures err { IfErr result (IsStrikeFault self.now node bit) }
     {
         if usize::from(node) >= self.plan.nodes() {
@@ -69,9 +62,6 @@ impl Session {
         }
         if bit < self.run.bits() {
             return Err(StrikeFault::Past);
-        }
-        if self.plan.strike_count() >= most_strikes(self.plan.version()) {
-            return Err(StrikeFault::StrikesUsed);
         }
         Ok(())
     }
