@@ -58,7 +58,7 @@ impl PlanSession {
 
     /// A session to which nothing happened: so many nodes, 1 to 8, for at most so many bits, 1 to 2,000,000, with room
     /// for 65,535 steps of each node and 200,000 turns. All memory that steps and bits need is reserved here: of each
-    /// node some 42 MB, and 120 bytes a bit.
+    /// node some 57 MB, and 162 bytes a bit.
     ///
     /// Errors: those of [`with_room`](PlanSession::with_room).
     pub fn new(alloc: Global, bits: u32, nodes: u8) -> Result<PlanSession, SessionFault>
