@@ -10,3 +10,4 @@ pub mod Journals
 pub mod RunningOn
 pub mod RanOn
 pub mod SoFar
+pub mod UntilTold

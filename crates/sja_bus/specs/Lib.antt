@@ -16,5 +16,6 @@ pub mod Reasons
 -- ---- bits that are run at once, and one after another
 pub mod Stretches
 pub mod Several
+pub mod UntilTold
 -- ---- how the code keeps a bus: definitions of the private contracts alone
 pub mod Inside

@@ -6,7 +6,8 @@ ghost use Rattle.lemmas.specs.Related.{EachRelated};
 ghost use Rattle.sja_wire.specs.Wire.{wired};
 ghost use Rattle.sja_wire.specs.Links.{Numbered};
 ghost use Rattle.sja_bus.specs.Inside.Rows.{AreReady, AreSeated, AreTold, EachSeat, SeatTakes, SeatUntold};
-ghost use Rattle.sja_bus.specs.Inside.Rows.{SeatOpens, SeatOpensUntold, SeatTurns, GoesAll, AllRead, driven_by};
+ghost use Rattle.sja_bus.specs.Inside.Rows.{SeatHasBits, SeatOpens, SeatOpensUntold, SeatTurns, GoesAll, AllRead};
+ghost use Rattle.sja_bus.specs.Inside.Rows.{driven_by};
 ghost use Rattle.sja_bus.specs.Boards.{KeepsOthers};
 ghost use Rattle.sja_bus.specs.declared.seat.Seat.{Seat as Seated};
 ghost use Rattle.sja_bus.specs.Inside.Underway.{IsUnderway};
@@ -159,6 +160,7 @@ pub(crate) fn sample_all<E: BusEnd, B: Board>(
     ensures rooms { OnOk result ((n : ℕ → ℕ) → HaveRoom n seats.old → HaveRoom n seats.new) }
     ensures level { IfOk result (λ end. end.level ≡ wired (driven_by seats.new)) }
     ensures untold { IfOk result (λ end. end.told ≡ false → board.new ≡ board.old) }
+    ensures quiet { IfOk result (λ end. end.told ≡ false → EachSeat SeatHasBits seats.old seats.new) }
     ensures free { IfOk result (λ end. end.told ≡ false → (n : ℕ) → AreFree (suc n) seats.old → AreFree n seats.new) }
     ensures broken { IfErr result (λ f. SeatBreaks E.stands E.full seats.old seats.new links.old f) }
 {

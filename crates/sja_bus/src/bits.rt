@@ -1,7 +1,8 @@
 //! Bits of a bus, one after another.
 
 ghost use Rattle.std.specs.Prelude.{◌≡◌, ◌+◌, ◌<◌, ◌≤◌, ℕ, true, false, length, slice_index_or, IfOk};
-ghost use Rattle.std.specs.Prelude.{OnOk, IfErr, MatchResult};
+ghost use Rattle.std.specs.Prelude.{◌⊎◌, false, OnOk, IfErr, MatchResult};
+ghost use Rattle.sja_script.specs.Striking.{Strikes};
 ghost use Rattle.can_node.specs.Stands.{ShowsRest};
 ghost use Rattle.lemmas.specs.Related.{EachRelated};
 ghost use Rattle.sja_bus.specs.declared.seat.Seat.{Seat as Seated};
@@ -11,6 +12,7 @@ ghost use Rattle.sja_bus.specs.Inside.Refusing.{HaveRoom, AreFree};
 ghost use Rattle.sja_wire.specs.Wire.{wired};
 ghost use Rattle.sja_bus.specs.Inside.Rows.{AreReady, AreSeated, AreTold, IsBus, driven_by};
 ghost use Rattle.sja_bus.specs.Inside.RunningOn.{NoneAborts, RowsRun, RowsStop};
+ghost use Rattle.sja_bus.specs.Inside.RunningOn.{SomeAborts, SomeFull, SomeStruck, SomeUntold};
 
 use super::all_nodes::sample_all;
 use super::board::Board;
@@ -34,7 +36,7 @@ impl Bus {
     ghost use Rattle.sja_wire.specs.Links.{Numbered};
     ghost use Rattle.sja_bus.specs.Buses.{IsStill};
     ghost use Rattle.sja_bus.specs.Moment.{moment, Keeps};
-    ghost use Rattle.sja_bus.specs.Several.{AllRest, RunsBits, StopsBits};
+    ghost use Rattle.sja_bus.specs.Several.{AllRest, RunsBits, StopsBits, WorksIf};
     ghost use Rattle.sja_bus.specs.Inside.RunningOn.{AreFor, AnyBit, IsSoFar, IsStopped};
 
     /// Bits one after another: so many, or as many as are left; with `to_rest` only as long as some node isn't at rest.
@@ -85,7 +87,7 @@ impl Bus {
     /// So many bits, or as many as are left.
     ///
     /// Error: the fault that is answered always.
-    fn at_most(&self, count: u32) -> Result<u32, BusFault>
+    pub(crate) fn at_most(&self, count: u32) -> Result<u32, BusFault>
         ensures right { OnOk result (self.now.fault ≡ None) }
         ensures count { IfOk result (λ n. n ≤ count) }
         ensures left { IfOk result (λ n. n ≤ self.now.left) }
@@ -116,43 +118,31 @@ impl Bus {
         requires right { self.old.fault ≡ None }
         requires most { count ≤ self.old.left }
         ensures most { IfOk result (λ n. n ≤ count) }
-        ensures runs { IfOk result (λ n. IsSoFar E.BusEnd B.Board (AnyBit E.BusEnd B.Board) to_rest
+        ensures runs { IfOk result (λ n. IsSoFar E.BusEnd B.Board (AnyBit E.BusEnd B.Board) (WorksIf to_rest)
             (moment self.old links.old board.old) n (moment self.new links.new board.new)) }
-        ensures stops { IfErr result (λ f. IsStopped E.BusEnd B.Board to_rest count
+        ensures stops { IfErr result (λ f. IsStopped E.BusEnd B.Board (WorksIf to_rest) count
             (moment self.old links.old board.old) (moment self.new links.new board.new) f) }
     {
         let mut run = 0;
         while run < count {
-            if !may_run_untaken(self.seats.as_slice(), board) {
+            let bits = self.run_until_told(links, board, count - run, to_rest)?;
+            if bits == 0 {
                 return Ok(run);
             }
-            let (seats, most) = (self.seats.as_mut_slice(), count - run);
-            match untaken_bits(seats, links, board, &self.struck, self.run, most, to_rest) {
-                Ok(0) => return Ok(run),
-                Ok(bits) => {
-                    self.run += bits;
-                    self.left -= bits;
-                    run += bits;
-                }
-                Err(broken) => {
-                    self.run += broken.after;
-                    self.left -= broken.after;
-                    self.fault = Some(broken.fault);
-                    return Err(broken.fault);
-                }
-            }
+            run += bits;
         }
         Ok(run)
     }
 }
 
 /// Whether no port wants an abort, and the ports are told all.
-fn may_run_untaken<B: Board>(seats: &[Seat], board: &B) -> bool
+pub(crate) fn may_run_untaken<B: Board>(seats: &[Seat], board: &B) -> bool
     requires ready { AreReady seats.now }
     requires ports { length seats.now ≤ B.ports board.now }
     ensures orders { result ≡ true → NoneAborts (B.orders_are board.now) (length seats.now) }
     ensures told { result ≡ true → AreTold seats.now }
     ensures facts { result ≡ true → (k : ℕ) → k < length seats.now → B.facts board.now k }
+    ensures no { result ≡ false → SomeAborts (B.orders_are board.now) (length seats.now) ⊎ SomeUntold seats.now }
 {
     for k in 0..seats.len() {
         if board.orders(seats[k].number()).abort {
@@ -165,7 +155,7 @@ fn may_run_untaken<B: Board>(seats: &[Seat], board: &B) -> bool
 /// Bits of all nodes from this one on, at most so many: as far as no node is struck and each journal has room, with
 /// `to_rest` as long as some node works, and up to the first in which a port is told something. Answers how many.
 #[inline(never)]
-fn untaken_bits<E: BusEnd, B: Board>(
+pub(crate) fn untaken_bits<E: BusEnd, B: Board>(
     seats: &mut [Seat],
     links: &mut [E],
     board: &mut B,
@@ -183,6 +173,8 @@ fn untaken_bits<E: BusEnd, B: Board>(
     ensures others { KeepsOthers B.ports B.kept (length seats.old) board.old board.new }
     ensures most { MatchResult result (λ n. n ≤ most) (λ f. f.after < most) }
     ensures rooms { OnOk result ((n : ℕ → ℕ) → HaveRoom n seats.old → HaveRoom n seats.new) }
+    ensures none { IfOk result (λ n. n ≡ 0 → to_rest ≡ false → (most ≡ 0) ⊎ SomeFull 0 seats.old
+        ⊎ ((node : ℕ) × (node < 8) × Strikes struck.now.script from node)) }
     ensures runs { IfOk result (λ n. RowsRun E.BusEnd B.Board to_rest struck.now.script from most
         seats.old seats.new links.old links.new board.old board.new n) }
     ensures breaks { IfErr result (λ f. RowsStop E.BusEnd B.Board to_rest struck.now.script from most
@@ -212,11 +204,16 @@ fn goes_on(seats: &[Seat], struck: StruckNodes, to_rest: bool) -> bool
     ensures none { result ≡ true → (node : ℕ) → IsAmong node struck → ⊥ }
     ensures works { result ≡ true → to_rest ≡ true → (k : ℕ) × (k < length seats.now)
         × ((s : Seated) → ShowsRest (slice_index_or seats.now k s).node false) }
+    ensures no { result ≡ false → SomeStruck struck ⊎ ((to_rest ≡ true) × ((k : ℕ) (s : Seated) →
+        k < length seats.now → ShowsRest (slice_index_or seats.now k s).node true)) }
 {
     if !struck.is_empty() {
         return false;
     }
-    !(to_rest && are_at_rest(seats))
+    if to_rest {
+        return !are_at_rest(seats);
+    }
+    true
 }
 
 /// The level that all drive next: this one, where no bit more was run together.
@@ -232,6 +229,7 @@ fn level_after(seats: &[Seat], together: u32, level: Level) -> Level
 fn room_of(seats: &[Seat], most: u32) -> u32
     ensures most { result ≤ most }
     ensures free { AreFree result seats.now }
+    ensures least { (result ≡ most) ⊎ SomeFull result seats.now }
 {
     let mut free = most as usize;
     for k in 0..seats.len() {

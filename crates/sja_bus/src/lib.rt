@@ -35,6 +35,7 @@ mod striking;
 mod struck_bits;
 mod struck_nodes;
 mod together;
+mod until_told;
 mod untold;
 mod verdict;
 mod wire;

@@ -1,7 +1,8 @@
 //! What the port of a controller is told of a bit, and whether all ports are told.
 
-ghost use Rattle.std.specs.Prelude.{◌≡◌, true};
+ghost use Rattle.std.specs.Prelude.{◌≡◌, true, false};
 ghost use Rattle.sja_bus.specs.Inside.Rows.{AreTold};
+ghost use Rattle.sja_bus.specs.Inside.RunningOn.{SomeUntold};
 
 use super::activity::Activity;
 use super::bit_outcome::BitOutcome;
@@ -79,7 +80,8 @@ impl Seat {
 
 /// Whether no port is to be told anything.
 pub(crate) fn are_told(seats: &[Seat]) -> bool
-    ensures { result ≡ true → AreTold seats.now }
+    ensures yes { result ≡ true → AreTold seats.now }
+    ensures no { result ≡ false → SomeUntold seats.now }
 {
     for k in 0..seats.len() {
         let Untold::Nothing = seats[k].untold else {

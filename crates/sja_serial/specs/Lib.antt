@@ -12,6 +12,7 @@ pub mod Giving
 pub mod Waiting
 -- ---- what bits do
 pub mod Bits
+pub mod UntilTold
 -- ---- the whole run
 pub mod Serial
 pub mod Beginning

@@ -107,7 +107,7 @@ impl SerialRun {
     }
 
     /// One bit of the bus. No item is taken, since all that the drivers gave was taken before. Nothing stops it.
-    fn run_one_bit(&mut self, plan: &Plan)
+    pub(crate) fn run_one_bit(&mut self, plan: &Plan)
         requires run { IsRunOf plan.now self.old }
         requires left { self.old.bits < plan.now.bits }
         requires limits { IsInLimits plan.now }
@@ -123,7 +123,7 @@ impl SerialRun {
 
     /// How many bits are left. What holds of every plan and of every bus is said beside it: by that nothing stops a
     /// bit.
-    fn bits_left(&self, plan: &Plan) -> u32
+    pub(crate) fn bits_left(&self, plan: &Plan) -> u32
         requires { IsRunOf plan.now self.now }
         ensures left { self.now.bits + result ≡ plan.now.bits }
         ensures limits { IsInLimits plan.now }

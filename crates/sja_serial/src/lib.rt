@@ -4,10 +4,11 @@
 //!
 //! A [`SerialRun`] has the bus, and of each node its port, its links and its driver with the log of what it did.
 //! It is made of a plan ([`SerialRun::new`]), takes the turns of its nodes ([`SerialRun::node_turn`]), or a step of one
-//! ([`SerialRun::try_next`]), and those of the bus ([`SerialRun::bus_turn`], [`SerialRun::rest_turn`]), and ends with
-//! its log ([`SerialRun::finish`]). A bit that hasn't run can be struck too ([`SerialRun::strike`]). After each step of
-//! a driver the bus takes what was given, so between two steps nothing waits on a link: each item is taken after just
-//! the bits before its step, and no link is ever full upward.
+//! ([`SerialRun::try_next`]), and those of the bus ([`SerialRun::bus_turn`], [`SerialRun::rest_turn`]), or bits up to
+//! the first that a port is told of ([`SerialRun::bits_until_told`]), and ends with its log ([`SerialRun::finish`]). A
+//! bit that hasn't run can be struck too ([`SerialRun::strike`]). After each step of a driver the bus takes what was
+//! given, so between two steps nothing waits on a link: each item is taken after just the bits before its step, and no
+//! link is ever full upward.
 //!
 //! Contracts say at which deeds of the drivers a run stands, `StandsAt` of `specs/Serial.antt`: of each node its driver
 //! did these deeds, of the steps that the plan has for it; its links carried what its journal and its deeds say; its
@@ -26,6 +27,7 @@ mod node_turns;
 mod run;
 mod serial_run;
 mod striking;
+mod until_told;
 
 pub use run::run_serial;
 pub use serial_run::SerialRun;

@@ -10,6 +10,8 @@ pub mod KeptRegisters
 pub mod Stepped
 pub mod AfterBits
 pub mod BitsRun
+pub mod StillLines
+pub mod Stretches
 pub mod RestRun
 pub mod Finished
 pub mod LastAnswer

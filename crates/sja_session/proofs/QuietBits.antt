@@ -1,5 +1,5 @@
 -- Bits of a session in which lines are watched.
-use Rattle.std.proofs.Common.{◌≡◌, ℕ, ◌<◌, ◌≤◌, Bool, true, false, List, length, refl, sym, ap, ◌∙◌, subst}
+use Rattle.std.proofs.Common.{◌≡◌, ℕ, ◌+◌, ◌<◌, ◌≤◌, Bool, true, false, List, length, refl, sym, ap, ◌∙◌, subst}
 use Rattle.std.proofs.Common.{arith, inl, inr}
 use Rattle.std.specs.Prelude.{Option, Some, None, ◌⊎◌, ◌&&◌, not, reverse, slice_index_or}
 use Rattle.sja_wire.specs.Wire.{journal_at}
@@ -9,26 +9,14 @@ use Rattle.sja_regs.specs.InterruptLine.{is_line_active}
 use Rattle.sja_regs.specs.Registers.{at_power_on}
 use Rattle.sja_driver.specs.Deeds.{Deed, deeds_at, is_active}
 use Rattle.sja_log.specs.Registering.{seen_now}
-use Rattle.sja_serial.proofs.WholeRun.GoingOn.{bits_run}
 use Rattle.sja_session.specs.Lines.{IsStill, line_at}
-use Rattle.sja_session.specs.Running.{RunsBits, MayRun}
+use Rattle.sja_session.specs.Running.{MayRun}
 use Rattle.sja_session.specs.declared.session_room.SessionRoom.{SessionRoom}
 use Rattle.sja_session.specs.Sessions.{SessionValue, IsAt}
 use Rattle.sja_session.specs.Turning.{goes_on_latest}
-use Rattle.sja_session.specs.Watching.{NoneRose, Watches, risen, rises}
+use Rattle.sja_session.specs.Watching.{NoneRose, Watches, rise, risen, rises}
 use Rattle.sja_session.specs.Watching.NoneRose.{none, bit}
 use Rattle.sja_session.proofs.Turned.{bits_go_on}
-
--- one bit, where one is left
-pub one_run : (was now : SessionValue) (deeds : List (List Deed)) (run : ℕ) → RunsBits was now 1 run deeds →
-    was.run.bits < was.plan.bits → RunsBits was now 1 1 deeds
-one_run was now deeds run r less = subst (λ (n : ℕ). RunsBits was now 1 n deeds) (one r.whole) r
-  where
-    one : (run ≡ 1) ⊎ (now.run.bits ≡ was.plan.bits) → run ≡ 1
-    one (inl e) = e
-    one (inr spent) =
-        let b = bits_run was.plan deeds _ was.run now.run run r.bits in let m = r.most in
-        omega (arith, b, m, spent, less)
 
 -- ---- looks
 
@@ -71,12 +59,19 @@ pub quiet_at : {watched : List Bool} {nodes : ℕ} {deeds : List (List Deed)} {w
 quiet_at (none s) = s.at
 quiet_at (bit q r f s) = s.at
 
--- lines, as they were told before and after a bit, rise where those of the session do
+-- lines of watched nodes, as they were told before and after a bit, rise where those of the session do
 pub rises_told : (watched before now : List Bool) (was then_ : SessionValue) (deeds : List (List Deed)) (k : ℕ) →
-    slice_index_or before k false ≡ line_at was deeds k → slice_index_or now k false ≡ line_at then_ deeds k →
+    (slice_index_or watched k false ≡ true → slice_index_or before k false ≡ line_at was deeds k) →
+    (slice_index_or watched k false ≡ true → slice_index_or now k false ≡ line_at then_ deeds k) →
     risen watched before now k ≡ rises watched was then_ deeds k
-rises_told watched before now was then_ deeds k b n =
-    λ i. slice_index_or watched k false && (not (b i) && n i)
+rises_told watched before now was then_ deeds k = by (slice_index_or watched k false)
+  where
+    by : (w : Bool) → (w ≡ true → slice_index_or before k false ≡ line_at was deeds k) →
+        (w ≡ true → slice_index_or now k false ≡ line_at then_ deeds k) →
+        (w && rise (slice_index_or before k false) (slice_index_or now k false))
+        ≡ (w && rise (line_at was deeds k) (line_at then_ deeds k))
+    by false b n = refl
+    by true b n = λ i. rise (b refl i) (n refl i)
 
 -- the bits of the plan stay
 pub quiet_bits : {watched : List Bool} {nodes : ℕ} {deeds : List (List Deed)} {was now : SessionValue} {n : ℕ} →
@@ -84,6 +79,20 @@ pub quiet_bits : {watched : List Bool} {nodes : ℕ} {deeds : List (List Deed)} 
 quiet_bits (none s) = ap (λ (p : PlanValue). p.bits) s.wrote
 quiet_bits (bit q r f s) =
     ap (λ (p : PlanValue). p.bits) s.wrote ∙ ap (λ (p : PlanValue). p.bits) r.wrote ∙ quiet_bits q
+
+-- bits in which no line rose, and a look
+rose_then : {watched : List Bool} {nodes : ℕ} {deeds : List (List Deed)} {a b c : SessionValue} {n : ℕ} →
+    NoneRose watched nodes deeds a b n → IsStill b c deeds → NoneRose watched nodes deeds a c n
+rose_then (none s) t = none (still_then s t)
+rose_then (bit q r f s) t = bit q r f (still_then s t)
+
+-- and bits after bits
+pub rose_on : {watched : List Bool} {nodes : ℕ} {deeds : List (List Deed)} {a b c : SessionValue} {m n : ℕ} →
+    NoneRose watched nodes deeds a b m → NoneRose watched nodes deeds b c n → NoneRose watched nodes deeds a c (m + n)
+rose_on {watched} {nodes} {deeds} {a} {b} {c} {m} q (none s) =
+    subst (λ (x : ℕ). NoneRose watched nodes deeds a c x) (omega arith) (rose_then q s)
+rose_on {watched} {nodes} {deeds} {a} {b} {c} {m} q (bit {n = n} p r f s) =
+    subst (λ (x : ℕ). NoneRose watched nodes deeds a c x) (omega arith) (bit (rose_on q p) r f s)
 
 -- as many nodes at the same deeds
 pub nodes_same : {was now : SessionValue} {deeds : List (List Deed)} → IsAt was deeds → IsAt now deeds →

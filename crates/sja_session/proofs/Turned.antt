@@ -85,6 +85,25 @@ bits_go_on (Bus x ∷ l) n m = refl
 bits_go_on (Node k x ∷ l) n m = refl
 bits_go_on (Rest ∷ l) n m = refl
 
+-- and they go on with bits
+pub bits_on_bits : (l : List Turn) (n m : ℕ) → goes_on_latest (on_latest (Bus n) l) (Bus m) ≡ true
+bits_on_bits [] n m = refl
+bits_on_bits (Bus x ∷ l) n m = refl
+bits_on_bits (Node k x ∷ l) n m = refl
+bits_on_bits (Rest ∷ l) n m = refl
+
+-- so that bits twice are all at once
+all_latest : (l : List Turn) (n m : ℕ) → on_latest (Bus m) (on_latest (Bus n) l) ≡ on_latest (Bus (n + m)) l
+all_latest [] n m = refl
+all_latest (Bus x ∷ l) n m = let e : x + n + m ≡ x + (n + m) = omega arith in ap (λ y. Bus y ∷ l) e
+all_latest (Node k x ∷ l) n m = refl
+all_latest (Rest ∷ l) n m = refl
+
+pub bits_twice : (turns : List Turn) (n m : ℕ) →
+    with_turn (with_turn turns (Bus n)) (Bus m) ≡ with_turn turns (Bus (n + m))
+bits_twice turns n m =
+    ap (λ l. reverse (on_latest (Bus m) l)) (latest_of turns (Bus n)) ∙ ap reverse (all_latest (reverse turns) n m)
+
 -- ---- where they led
 
 -- the last turn, by what it was

@@ -1,2 +1,5 @@
--- Steps that accesses do: definitions of private contracts alone.
+-- Definitions of private contracts alone.
+-- ---- steps that accesses do
 pub mod Accessing
+-- ---- bits in which no port is told anything
+pub mod UntilTold

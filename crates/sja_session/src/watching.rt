@@ -5,17 +5,19 @@ ghost use Rattle.sja_session.specs.Watching.{risen};
 
 use super::raw_session::RawSession;
 use super::session::Session;
+use super::turns::push_turn;
 use super::turns_used::TurnsUsed;
 use super::watched::Watched;
+use sja_plan::Turn;
 
 impl Session {
     ghost use Rattle.std.specs.Prelude.{◌≡◌, ◌≤◌, ◌<◌, ℕ, true, false, List, length, slice_index_or, IfOk, OnOk, OnErr};
     ghost use Rattle.sja_driver.specs.Deeds.{Deed};
-    ghost use Rattle.sja_plan.specs.declared.turn.Turn.TheVariants.{Bus};
     ghost use Rattle.sja_session.specs.Lines.{IsStill, line_at};
-    ghost use Rattle.sja_session.specs.Running.{RunsBits, MayRun, LacksBusTurn};
+    ghost use Rattle.sja_session.specs.Running.{MayRun, LacksBusTurn};
     ghost use Rattle.sja_session.specs.Sessions.{IsAt};
     ghost use Rattle.sja_session.specs.Watching.{Watches};
+    ghost use Rattle.sja_session.specs.Inside.UntilTold.{RunsUntilTold};
 
     /// Runs so many bits, or as many as the plan has left, or up to the first bit in which the interrupt line of a
     /// watched node rises: it wasn't active before the bit, and is after it. A place of `watched` is a node, counted
@@ -32,20 +34,12 @@ impl Session {
         if self.lacks_bus_turn(count) {
             return Err(TurnsUsed);
         }
-        if self.run.bits() >= self.plan.bits() {
-            return Ok(Watched {
-                bits: 0,
-                rose: None,
-            });
-        }
-        let mut before = self.lines();
+        self.plan.limits();
+        let mut before = self.lines(&watched);
         let mut bits = 0;
-        for _ in 0..count {
-            if !self.one_bit() {
-                return Ok(Watched { bits, rose: None });
-            }
-            bits += 1;
-            let now = self.lines();
+        while bits < count && self.run.bits() < self.plan.bits() {
+            bits += self.run_until_told(count - bits);
+            let now = self.lines(&watched);
             if let Some(node) = first_risen(&watched, &before, &now) {
                 return Ok(Watched {
                     bits,
@@ -57,35 +51,37 @@ impl Session {
         Ok(Watched { bits, rose: None })
     }
 
-    /// Runs a bit, and says so; none, where the plan has none left.
-    fn one_bit(&mut self) -> bool
+    /// Runs bits up to the first in which a port is told its turn, at most so many. It says how many. In none of the
+    /// others a line changes, since neither a port nor what has come for its driver does.
+    fn run_until_told(&mut self, count: u32) -> u32
         requires may { MayRun self.old 1 }
-        ensures ran { result ≡ true → (deeds : List (List Deed)) → IsAt self.old deeds →
-            RunsBits self.old self.new 1 1 deeds }
-        ensures may { result ≡ true → MayRun self.new 1 }
-        ensures spent { result ≡ false → self.old.plan.bits ≤ self.old.run.bits }
-        ensures kept { result ≡ false → self.new ≡ self.old }
+        requires some { 1 ≤ count }
+        requires left { self.old.run.bits < self.old.plan.bits }
+        ensures most { result ≤ count }
+        ensures ran { (deeds : List (List Deed)) → IsAt self.old deeds →
+            RunsUntilTold self.old self.new result deeds }
+        ensures may { MayRun self.new 1 }
     {
-        if self.run.bits() >= self.plan.bits() {
-            return false;
-        }
-        match self.bits(1) {
-            Ok(_) => true,
-            Err(_) => unreachable!(),
-        }
+        let run = self.run.bits_until_told(&self.plan, count);
+        push_turn(&mut self.turns, Turn::Bus(run));
+        run
     }
 
-    /// Which interrupt lines are active, a place for each node that there may be.
-    fn lines(&mut self) -> [bool; 8]
+    /// Which interrupt lines of watched nodes are active, a place for each node that there may be.
+    fn lines(&mut self, watched: &[bool; 8]) -> [bool; 8]
         ensures still { (deeds : List (List Deed)) → IsAt self.old deeds → IsStill self.old self.new deeds }
         ensures lines { (deeds : List (List Deed)) → IsAt self.old deeds → (k : ℕ) → k < length self.old.plan.nodes
-            → k < 8 → slice_index_or result k false ≡ line_at self.old deeds k }
+            → k < 8 → slice_index_or watched.now k false ≡ true →
+            slice_index_or result k false ≡ line_at self.old deeds k }
         ensures none { (k : ℕ) → length self.old.plan.nodes ≤ k → slice_index_or result k false ≡ false }
     {
         let mut lines = [false; 8];
         for node in 0..8u8 {
-            if let Some(line) = self.irq(node) {
-                lines[usize::from(node)] = line;
+            let place = usize::from(node);
+            if watched[place] {
+                if let Some(line) = self.irq(node) {
+                    lines[place] = line;
+                }
             }
         }
         lines

@@ -11,10 +11,10 @@ use Rattle.sja_bus.specs.declared.seat.Seat.{Seat}
 use Rattle.sja_bus.specs.Boards.{KeepsOthers}
 use Rattle.sja_bus.specs.Buses.{BusValue}
 use Rattle.sja_bus.specs.Reasons.{room_for}
-use Rattle.sja_bus.specs.Moment.{moment, Keeps}
+use Rattle.sja_bus.specs.Moment.{Moment, moment, Keeps}
 use Rattle.sja_bus.specs.Inside.Refusing.{HaveRoom}
 use Rattle.sja_bus.specs.Inside.Rows.{journals_of, untold_of}
-use Rattle.sja_bus.specs.Inside.RunningOn.{bus_of, AnyBit, RowsRun, RowsStop, IsSoFar, IsStopped}
+use Rattle.sja_bus.specs.Inside.RunningOn.{bus_of, AnyBit, RowsRun, RowsStop, IsSoFar, IsStopped, WorksUntold}
 use Rattle.sja_bus.proofs.AllNodes.Running.{count_is}
 
 -- what contracts see of a bus with these seats
@@ -59,15 +59,19 @@ module _ {E B : Type 0} (e : Ends E) (b : Ports B) (to_rest : Bool) (script : Li
         nodes = ap (λ (l : List _). length l) journals ∙ count_is now ∙ len ∙ sym (count_is was);
       })
 
+  -- before each of their bits some node works, where that is asked for, and no port was told anything
+  abbrev Before : Moment E B → Type 0
+  Before = WorksUntold to_rest (moment old links board)
+
   -- so many
   pub ran : (n : ℕ) (new : BusValue) → n ≤ count → count ≤ left → bus_of script steps (run + n) (left - n) now ≡ new →
       RowsRun e b to_rest script run count was now links after board told n →
-      IsSoFar e b (AnyBit e b) to_rest (moment old links board) n (moment new after told)
+      IsSoFar e b (AnyBit e b) Before (moment old links board) n (moment new after told)
   ran n new few enough end runs =
-      let P : BusValue → Type 0 = λ w. IsSoFar e b (AnyBit e b) to_rest (moment w links board) n
-      (moment new after told) in
-      let Q : BusValue → Type 0 = λ w. IsSoFar e b (AnyBit e b) to_rest
-      (moment (bus_of script steps run left was) links board) n
+      let P : BusValue → Type 0 = λ w. IsSoFar e b (AnyBit e b) (WorksUntold to_rest (moment w links board))
+      (moment w links board) n (moment new after told) in
+      let first = moment (bus_of script steps run left was) links board in
+      let Q : BusValue → Type 0 = λ w. IsSoFar e b (AnyBit e b) (WorksUntold to_rest first) first n
       (moment w after told) in
       let O : BusValue → Type 0 = λ w. Keeps e b (moment w links board)
       (moment (bus_of script steps (run + n) (left - n) now) after told) in
@@ -83,10 +87,10 @@ module _ {E B : Type 0} (e : Ends E) (b : Ports B) (to_rest : Bool) (script : Li
       new.script ≡ script → new.steps ≡ steps → new.run ≡ run + f.after → new.left ≡ left - f.after → new.fault ≡ Some
       f.fault →
       new.journals ≡ journals_of now → RowsStop e b to_rest script run count was now links after board told f →
-      IsStopped e b to_rest count (moment old links board) (moment new after told) f.fault
+      IsStopped e b Before count (moment old links board) (moment new after told) f.fault
   stopped f new enough rooms script_is steps_are run_is left_is fault journals stops =
-      let P : BusValue → Type 0 = λ w. IsStopped e b to_rest count (moment w links board) (moment new after told)
-      f.fault in
+      let P : BusValue → Type 0 = λ w. IsStopped e b (WorksUntold to_rest (moment w links board)) count
+      (moment w links board) (moment new after told) f.fault in
       let O : BusValue → Type 0 = λ w. Keeps e b (moment w links board) (moment new after told) in
       subst P start (record {
         keeps = subst O (sym start) (keeps new script_is steps_are journals);

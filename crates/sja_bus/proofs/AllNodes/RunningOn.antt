@@ -23,7 +23,7 @@ use Rattle.sja_bus.specs.Buses.{BusValue}
 use Rattle.sja_wire.specs.OneBit.{Opens}
 use Rattle.sja_bus.specs.Reasons.{room_for, StopsBit}
 use Rattle.sja_bus.specs.Moment.{Moment, OneBit}
-use Rattle.sja_bus.specs.Several.{SomeWork, AreBits, WorksIf}
+use Rattle.sja_bus.specs.Several.{SomeWork, AreBits}
 use Rattle.sja_bus.specs.Several.AreBits.{no_bit, one_more}
 use Rattle.sja_bus.specs.Inside.Refusing.{HaveRoom, SeatBreaks}
 use Rattle.sja_bus.specs.Inside.Rows.{AreReady, EachSeat, SeatTurns, GoesAll, IsBus, driven_by, journals_of}
@@ -218,7 +218,8 @@ more_bits One Before was mid now n next is bits before one =
     subst P e (one_more was mid now n bits before one)
 
 -- after one bit more
-pub bits_on : {E B : Type 0} (e : Ends E) (b : Ports B) (to_rest : Bool) (was : Moment E B) (script : List Strike)
+pub bits_on : {E B : Type 0} (e : Ends E) (b : Ports B) (Before : Moment E B → Type 0) (was : Moment E B)
+    (script : List Strike)
     (steps : List ℕ) (from run most left : ℕ) (struck : StruckNodes) (seats after : List Seat) (links links_after : List
     E)
     (board now : B) → run < most → most ≤ left → length after ≡ length seats → length seats ≤ 8 →
@@ -227,16 +228,15 @@ pub bits_on : {E B : Type 0} (e : Ends E) (b : Ports B) (to_rest : Bool) (was : 
     EachRelated e.same links links_after → KeepsOthers b.ports b.kept (length seats) board now →
     GoesAll e.same e.stands seats after links links_after → IsBus script (from + run) seats →
     IsBus script (from + (run + 1)) after → ((k : ℕ) → k < length seats → b.facts now k) →
-    (to_rest ≡ true → SomeWork (journals_of seats)) →
-    AreBits (AnyBit e b) (WorksIf to_rest) was run (moment_of script steps (from + run) (left - run) seats links board)
-    →
-    AreBits (AnyBit e b) (WorksIf to_rest) was (run + 1)
+    Before (moment_of script steps (from + run) (left - run) seats links board) →
+    AreBits (AnyBit e b) Before was run (moment_of script steps (from + run) (left - run) seats links board) →
+    AreBits (AnyBit e b) Before was (run + 1)
     (moment_of script steps (from + (run + 1)) (left - (run + 1)) after links_after now)
-bits_on e b to_rest was script steps from run most left struck seats after links links_after board now early enough len
+bits_on e b Before was script steps from run most left struck seats after links links_after board now early enough len
     few at
-    row sames others goes bus bus_after are works bits =
-    more_bits (AnyBit e b) (WorksIf to_rest) was (moment_of script steps (from + run) (left - run) seats links board)
-    (moment_of script steps (from + (run + 1)) (left - (run + 1)) after links_after now) run (run + 1) refl bits works
+    row sames others goes bus bus_after are holds bits =
+    more_bits (AnyBit e b) Before was (moment_of script steps (from + run) (left - run) seats links board)
+    (moment_of script steps (from + (run + 1)) (left - (run + 1)) after links_after now) run (run + 1) refl bits holds
     (one_bit e b script steps (from + run) (from + (run + 1)) (left - run) (left - (run + 1)) struck seats after links
     links_after board now (omega arith) (omega (arith, early, enough)) len few at row sames others
     goes bus bus_after are)

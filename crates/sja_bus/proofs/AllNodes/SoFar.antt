@@ -1,5 +1,6 @@
 -- Bits one after another, as far as they came.
-use Rattle.std.proofs.Common.{◌≡◌, ℕ, suc, ◌+◌, ◌≤◌, Bool, None, length, refl, ◌∙◌, subst, arith}
+use Rattle.std.proofs.Common.{◌≡◌, ℕ, suc, ◌+◌, ◌≤◌, None, length, refl, ◌∙◌, subst, arith}
+use Rattle.std.specs.Prelude.{Result, Ok, Err, IfOk}
 use Rattle.std.proofs.lemmas.Slice.Zip.{AllZip-long as each_length}
 use Rattle.sja_link.specs.Lists.{Lists}
 use Rattle.sja_link.specs.declared.bus_end.BusEnd.{Ghosts as Ends}
@@ -9,10 +10,15 @@ use Rattle.sja_bus.specs.declared.board.Board.{Ghosts as Ports}
 use Rattle.sja_wire.specs.declared.bus_fault.BusFault.{BusFault}
 use Rattle.sja_bus.specs.Boards.{KeepsOthers}
 use Rattle.sja_bus.specs.Moment.{Moment, Keeps, OneBit}
-use Rattle.sja_bus.specs.Several.{AreBits, WorksIf, BreaksOff}
+use Rattle.sja_bus.specs.Several.{AreBits, BreaksOff}
 use Rattle.sja_bus.specs.Several.AreBits.{no_bit, one_more}
-use Rattle.sja_bus.specs.Inside.RunningOn.{AreFor, IsSoFar}
+use Rattle.sja_bus.specs.Inside.RunningOn.{AreFor, IsSoFar, IsStopped}
 use Rattle.sja_bus.proofs.AllNodes.Many.{numbered_kept}
+
+-- what follows for each number of bits that may have been answered
+pub each_count : {P Q : ℕ → Type 0} (r : Result ℕ BusFault) → ((n : ℕ) → P n → Q n) → IfOk r P → IfOk r Q
+each_count (Ok n) f p = f n p
+each_count (Err x) f p = tt
 
 -- the ports from a number on are as they were, over two times
 pub others_trans : {B : Type 0} (ports : B → ℕ) (kept : B → B → ℕ → Type 0) →
@@ -33,6 +39,31 @@ many_more One More Before was _ _ m _ later p (one_more mid last now k q before 
     let is : suc (m + k) ≡ m + suc k = omega arith in
     subst P is (one_more was last now (m + k) (many_more One More Before was mid last m k later p q) before
     (later k last now one))
+
+-- bits, before each of which something held that says this too
+pub bits_as : {E B : Type 0} (One : ℕ → Moment E B → Moment E B → Type 0) (Before Also : Moment E B → Type 0)
+    (was now : Moment E B) (n : ℕ) → ((m : Moment E B) → Before m → Also m) → AreBits One Before was n now →
+    AreBits One Also was n now
+bits_as One Before Also was _ _ also (no_bit _) = no_bit was
+bits_as One Before Also was _ _ also (one_more _ mid now n bits before one) =
+    one_more was mid now n (bits_as One Before Also was mid n also bits) (also mid before) one
+
+-- and one that broke off behind them
+pub breaks_as : {E B : Type 0} (stands : E → Lists → Type 0) (full : E → Type 0) (orders_are : B → ℕ → Orders → Type 0)
+    (One : ℕ → Moment E B → Moment E B → Type 0) (Before Also : Moment E B → Type 0) (count : ℕ)
+    (was now : Moment E B) (f : BusFault) → ((m : Moment E B) → Before m → Also m) →
+    BreaksOff stands full orders_are One Before count was now f →
+    BreaksOff stands full orders_are One Also count was now f
+breaks_as stands full orders_are One Before Also count was now f also off = record {
+  mid = off.mid;
+  run = off.run;
+  early = off.early;
+  bits = bits_as One Before Also was off.mid off.run also off.bits;
+  before = also off.mid off.before;
+  stops = off.stops;
+  run_so_far = off.run_so_far;
+  left_so_far = off.left_so_far;
+}
 
 -- bits, and then some of which one broke off
 pub breaks_later : {E B : Type 0} (stands : E → Lists → Type 0) (full : E → Type 0)
@@ -88,11 +119,31 @@ module _ {E B : Type 0} (e : Ends E) (b : Ports B) where
     nodes = q.nodes ∙ p.nodes;
   }
 
+  -- so far, and broken off, with less said of what held before each bit
+  pub so_far_as : (One : ℕ → Moment E B → Moment E B → Type 0) (Before Also : Moment E B → Type 0)
+      (was now : Moment E B) (n : ℕ) → ((m : Moment E B) → Before m → Also m) → IsSoFar e b One Before was n now →
+      IsSoFar e b One Also was n now
+  so_far_as One Before Also was now n also far = record {
+    keeps = far.keeps;
+    left = far.left;
+    right = far.right;
+    bits = bits_as One Before Also was now n also far.bits;
+  }
+
+  pub stopped_as : (Before Also : Moment E B → Type 0) (count : ℕ) (was now : Moment E B) (f : BusFault) →
+      ((m : Moment E B) → Before m → Also m) → IsStopped e b Before count was now f →
+      IsStopped e b Also count was now f
+  stopped_as Before Also count was now f also stops = record {
+    keeps = stops.keeps;
+    fault = stops.fault;
+    reason = breaks_as e.stands e.full b.orders_are (λ k. OneBit e b) Before Also count was now f also stops.reason;
+  }
+
   -- none so far
   pub none_yet : (One : ℕ → Moment E B → Moment E B → Type 0) → ((x : E) → e.same x x) →
-      ((x : B) (k : ℕ) → b.kept x x k) → (to_rest : Bool) (m : Moment E B) → m.bus.fault ≡ None →
-      IsSoFar e b One to_rest m 0 m
-  none_yet One same_refl kept_refl to_rest m right = record {
+      ((x : B) (k : ℕ) → b.kept x x k) → (Before : Moment E B → Type 0) (m : Moment E B) → m.bus.fault ≡ None →
+      IsSoFar e b One Before m 0 m
+  none_yet One same_refl kept_refl Before m right = record {
     keeps = keeps_refl same_refl kept_refl m;
     left = omega arith;
     right = right;
@@ -101,24 +152,24 @@ module _ {E B : Type 0} (e : Ends E) (b : Ports B) where
 
   module _ (One : ℕ → Moment E B → Moment E B → Type 0)
       (same_trans : (x y z : E) → e.same x y → e.same y z → e.same x z)
-      (kept_trans : (x y z : B) (k : ℕ) → b.kept x y k → b.kept y z k → b.kept x z k) (to_rest : Bool)
-      (was mid now : Moment E B) (m : ℕ) (far : IsSoFar e b One to_rest was m mid) where
+      (kept_trans : (x y z : B) (k : ℕ) → b.kept x y k → b.kept y z k → b.kept x z k) (Before : Moment E B → Type 0)
+      (was mid now : Moment E B) (m : ℕ) (far : IsSoFar e b One Before was m mid) where
     -- and so many more
     pub and_more : (More : ℕ → Moment E B → Moment E B → Type 0) (n : ℕ) →
-        ((k : ℕ) (x y : Moment E B) → More k x y → One (m + k) x y) → IsSoFar e b More to_rest mid n now →
-        IsSoFar e b One to_rest was (m + n) now
+        ((k : ℕ) (x y : Moment E B) → More k x y → One (m + k) x y) → IsSoFar e b More Before mid n now →
+        IsSoFar e b One Before was (m + n) now
     and_more More n later on = let left = far.left in let less = on.left in record {
       keeps = keeps_trans same_trans kept_trans was mid now far.keeps on.keeps;
       left = omega (arith, left, less);
       right = on.right;
-      bits = many_more One More (WorksIf to_rest) was mid now m n later far.bits on.bits;
+      bits = many_more One More Before was mid now m n later far.bits on.bits;
     }
 
     -- and one more
-    pub and_one : WorksIf to_rest mid → OneBit e b mid now → One m mid now → IsSoFar e b One to_rest was (m + 1) now
+    pub and_one : Before mid → OneBit e b mid now → One m mid now → IsSoFar e b One Before was (m + 1) now
     and_one before bit one =
         let run = far.left in let left = bit.left in let is : suc m ≡ m + 1 = omega arith in
-        let P : ℕ → Type 0 = λ k. AreBits One (WorksIf to_rest) was k now in record {
+        let P : ℕ → Type 0 = λ k. AreBits One Before was k now in record {
           keeps = keeps_trans same_trans kept_trans was mid now far.keeps bit.keeps;
           left = omega (arith, run, left);
           right = bit.right;

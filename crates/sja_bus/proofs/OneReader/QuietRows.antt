@@ -18,15 +18,16 @@ use Rattle.sja_wire.specs.Wire.{wired}
 use Rattle.sja_bus.specs.declared.board.Board.{Ghosts as Ports}
 use Rattle.sja_bus.specs.declared.seat.Seat.{Seat}
 use Rattle.sja_bus.specs.StrikesByBit.{IsAmong}
-use Rattle.sja_bus.specs.Several.{AreBits, WorksIf}
+use Rattle.sja_bus.specs.Several.{AreBits}
 use Rattle.sja_bus.specs.Inside.Refusing.{AreFree, HaveRoom}
 use Rattle.sja_bus.specs.Inside.Rows.{AreReady, AreTold, EachSeat, GoesAll, IsBus, SeatTurns, driven_by}
-use Rattle.sja_bus.specs.Inside.Rows.{seen_by}
-use Rattle.sja_bus.specs.Inside.RunningOn.{AnyBit, NoneAborts, moment_of}
+use Rattle.sja_bus.specs.Inside.Rows.{SeatHasBits, seen_by}
+use Rattle.sja_bus.specs.Inside.RunningOn.{AnyBit, NoneAborts, WorksUntold, moment_of}
 use Rattle.sja_bus.specs.Inside.Together.{AreQuietRows, IsQuietRow}
 use Rattle.sja_bus.specs.Inside.Turning.{IsQuietBit}
 use Rattle.sja_bus.specs.Inside.Together.AreQuietRows.{no_row, one_more}
 use Rattle.sja_bus.proofs.AllNodes.RunningOn.{bits_on, passes, some_work}
+use Rattle.sja_bus.proofs.AllNodes.UntilTold.{none_told, row_bits}
 use Rattle.sja_bus.proofs.AtPorts.Turning.{quiet_turns}
 use Rattle.sja_bus.proofs.Links.Moving.{goes_quiet}
 use Rattle.sja_bus.proofs.Resting.Stretches.{nobody, not_among}
@@ -129,21 +130,23 @@ row_goes same stands r to_rest seats after links row = record {
 
 -- the bus so many bits after this one, in none of which a port was told anything
 pub record IsAfter {E B : Type 0} (e : Ends E) (b : Ports B) (to_rest : Bool) (script : List Strike)
-    (from most nodes : ℕ) (begun : List Seat) (given : List E) (first : B) (links : List E) (board : B) (run : ℕ)
+    (from most : ℕ) (begun : List Seat) (given : List E) (first : B) (links : List E) (board : B) (run : ℕ)
     (seats : List Seat) : Type 0 where
-  pub count : length seats ≡ nodes
+  pub count : length seats ≡ length begun
   pub bus : IsBus script (from + run) seats
+  pub more : EachSeat SeatHasBits begun seats
   pub bits : (steps : List ℕ) (left : ℕ) → most ≤ left →
-      AreBits (AnyBit e b) (WorksIf to_rest) (moment_of script steps from left begun given first) run
+      AreBits (AnyBit e b) (WorksUntold to_rest (moment_of script steps from left begun given first))
+      (moment_of script steps from left begun given first) run
       (moment_of script steps (from + run) (left - run) seats links board)
 
 module _ {E B : Type 0} (e : Ends E) (b : Ports B) (same_refl : (x : E) → e.same x x)
-    (kept_refl : (x : B) (m : ℕ) → b.kept x x m) (to_rest : Bool) (script : List Strike) (from most nodes : ℕ)
-    (begun : List Seat) (given : List E) (first : B) (few : nodes ≤ 8) (links : List E) (board : B)
-    (still : board ≡ first)
-    (asked : NoneAborts (b.orders_are first) nodes) (facts : (k : ℕ) → k < nodes → b.facts board k) where
+    (kept_refl : (x : B) (m : ℕ) → b.kept x x m) (to_rest : Bool) (script : List Strike) (from most : ℕ)
+    (begun : List Seat) (given : List E) (first : B) (few : length begun ≤ 8) (links : List E) (board : B)
+    (still : board ≡ first) (asked : NoneAborts (b.orders_are first) (length begun))
+    (facts : (k : ℕ) → k < length begun → b.facts board k) where
   abbrev So_far : ℕ → List Seat → Type 0
-  So_far run seats = IsAfter e b to_rest script from most nodes begun given first links board run seats
+  So_far run seats = IsAfter e b to_rest script from most begun given first links board run seats
 
   row_on : (run : ℕ) (seats after : List Seat) → run < most →
       ((node : ℕ) → node < 8 → Strikes script (from + run) node → ⊥) → IsQuietRow to_rest seats after →
@@ -154,18 +157,24 @@ module _ {E B : Type 0} (e : Ends E) (b : Ports B) (same_refl : (x : E) → e.sa
       let turns = row_turns told kept (λ m. kept_refl board m) to_rest seats after far.bus.ready row in
       let at : (node : ℕ) → node < 8 → IsAmong node nobody ↔ Strikes script (from + run) node =
       λ node low. (λ hit. absurd (not_among node hit), λ strikes. absurd (unstruck node low strikes)) in
-      let pass = passes b.orders_are told kept script (from + run) nodes nobody nobody (wired (driven_by seats)) first
+      let pass = passes b.orders_are told kept script (from + run) (length begun) nobody nobody
+      (wired (driven_by seats)) first
       board seats after few count row.count still asked not_among not_among at refl turns row.ready far.bus in
       let next = pass.bus (from + (run + 1)) (omega arith) in record {
         count = row.count ∙ count;
         bus = next;
+        more = row_bits to_rest begun seats after count far.more row;
         bits = λ steps left enough.
-            bits_on e b to_rest (moment_of script steps from left begun given first) script steps from run most left
-            nobody seats after links links board board early enough row.count pass.few pass.at pass.row
+            let was = moment_of script steps from left begun given first in
+            bits_on e b (WorksUntold to_rest was) was script steps from run most left nobody seats after
+            links links board board early enough row.count pass.few pass.at pass.row
             (each_refl e.same same_refl links) (refl, λ m far. kept_refl board m)
             (row_goes e.same e.stands same_refl to_rest seats after links row) far.bus next
-            (λ k low. facts k (omega (arith, low, count)))
-            (λ yes. some_work seats far.bus.ready (row.works yes)) (far.bits steps left enough);
+            (λ k low. facts k (omega (arith, low, count))) (
+              (λ yes. some_work seats far.bus.ready (row.works yes)),
+              none_told script steps from (from + run) left
+                  (left - run) begun seats given links first board still count far.more,
+            ) (far.bits steps left enough);
       }
 
   pub rows_on : (run : ℕ) (seats : List Seat) (n : ℕ) (after : List Seat) → run + n ≤ most →

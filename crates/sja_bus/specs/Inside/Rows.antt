@@ -16,6 +16,7 @@ use Rattle.sja_script.specs.declared.strike.Strike.{Strike}
 use Rattle.sja_bus.specs.declared.struck_nodes.StruckNodes.{StruckNodes}
 use Rattle.sja_bus.specs.declared.untold.Untold.TheVariants.{Nothing, Dropped}
 use Rattle.sja_bus.specs.declared.seat.Seat.{Seat}
+use Rattle.sja_bus.specs.UntilTold.{HasBitsMore}
 use Rattle.sja_wire.specs.Wire.{IsWired}
 use Rattle.sja_wire.specs.Links.{per_node, Kept, Grows, Numbered}
 use Rattle.sja_wire.specs.OneBit.{MayHaveItems, Opens}
@@ -65,6 +66,10 @@ SeatTakes m old new = MayHaveItems old.journal.entries new.journal.entries
 
 abbrev pub SeatOpens : (ℕ → Orders → Type 0) → ℕ → Seat → Seat → Type 0
 SeatOpens orders_are m old new = Opens (orders_are m) old.journal.entries new.journal.entries
+
+-- the journal of a seat has bits more and nothing else
+abbrev pub SeatHasBits : ℕ → Seat → Seat → Type 0
+SeatHasBits m old new = HasBitsMore old.journal.entries new.journal.entries
 
 -- what is to be told of each
 abbrev pub SeatUntold : ℕ → Seat → Seat → Type 0

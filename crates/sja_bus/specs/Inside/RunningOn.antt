@@ -1,5 +1,6 @@
 -- Bits in which the bus takes nothing and aborts nothing.
-use Rattle.std.specs.Prelude.{◌≡◌, ◌+◌, ◌-◌, ◌*◌, ◌<◌, ◌≤◌, ℕ, false, Bool, None, Some, List, length}
+use Rattle.std.specs.Prelude.{◌≡◌, ◌+◌, ◌-◌, ◌*◌, ◌<◌, ◌≤◌, ℕ, true, false, Bool, None, Some, List, length}
+use Rattle.std.specs.Prelude.{slice_index_or}
 use Rattle.sja_link.specs.declared.bus_end.BusEnd.{Ghosts as Ends}
 use Rattle.sja_link.specs.declared.link_id.LinkId.{LinkId}
 use Rattle.sja_regs.specs.declared.orders.Orders.{Orders}
@@ -8,17 +9,38 @@ use Rattle.sja_bus.specs.declared.board.Board.{Ghosts as Ports}
 use Rattle.sja_bus.specs.declared.broken_off.BrokenOff.{BrokenOff}
 use Rattle.sja_wire.specs.declared.bus_fault.BusFault.{BusFault}
 use Rattle.sja_bus.specs.declared.seat.Seat.{Seat}
+use Rattle.sja_bus.specs.declared.struck_nodes.StruckNodes.{StruckNodes}
+use Rattle.sja_bus.specs.StrikesByBit.{IsAmong}
 use Rattle.sja_bus.specs.Buses.{BusValue}
 use Rattle.sja_wire.specs.Links.{Numbered}
 use Rattle.sja_bus.specs.Reasons.{room_for}
 use Rattle.sja_bus.specs.Moment.{Moment, Keeps, OneBit}
 use Rattle.sja_bus.specs.Several.{AreBits, WorksIf, BreaksOff}
+use Rattle.sja_bus.specs.UntilTold.{NoneTold}
 use Rattle.sja_bus.specs.Inside.Refusing.{HaveRoom}
+use Rattle.sja_bus.specs.Inside.Turning.{is_untold}
 use Rattle.sja_bus.specs.Inside.Rows.{IsBus, journals_of, untold_of}
 
 -- each of so many ports has orders, and they want no abort
 abbrev pub NoneAborts : (ℕ → Orders → Type 0) → ℕ → Type 0
 NoneAborts orders_are nodes = (node : ℕ) → node < nodes → (o : Orders) × orders_are node o × (o.abort ≡ false)
+
+-- some port of so many has orders that want one
+abbrev pub SomeAborts : (ℕ → Orders → Type 0) → ℕ → Type 0
+SomeAborts orders_are nodes = (node : ℕ) × (o : Orders) × (node < nodes) × orders_are node o × (o.abort ≡ true)
+
+-- some port is to be told something
+abbrev pub SomeUntold : List Seat → Type 0
+SomeUntold seats = (k : ℕ) × (k < length seats) × ((s : Seat) → is_untold (slice_index_or seats k s).untold ≡ true)
+
+-- some journal has no room for more than so many further entries
+abbrev pub SomeFull : ℕ → List Seat → Type 0
+SomeFull n seats = (k : ℕ) × (k < length seats) × ((s : Seat) →
+    (slice_index_or seats k s).journal.room - length (slice_index_or seats k s).journal.entries ≤ n)
+
+-- one of these nodes is one of eight
+abbrev pub SomeStruck : StruckNodes → Type 0
+SomeStruck struck = (node : ℕ) × (node < 8) × IsAmong node struck
 
 -- what a contract sees of a bus with these seats and without a fault
 abbrev pub bus_of : List Strike → List ℕ → ℕ → ℕ → List Seat → BusValue
@@ -42,12 +64,17 @@ moment_of script steps run left seats links board =
 abbrev pub AnyBit : {E B : Type 0} → Ends E → Ports B → ℕ → Moment E B → Moment E B → Type 0
 AnyBit e b n = OneBit e b
 
+-- some node works, where that is asked for, and no port was told anything since that moment
+abbrev pub WorksUntold : {E B : Type 0} → Bool → Moment E B → Moment E B → Type 0
+WorksUntold to_rest was m = WorksIf to_rest m × NoneTold was m
+
 -- so many of these bits, whatever the room for steps is and however many are left that are enough, and the bus after
 -- them
 pub record RowsRun {E B : Type 0} (e : Ends E) (b : Ports B) (to_rest : Bool) (script : List Strike) (from most : ℕ)
     (was now : List Seat) (links after : List E) (board told : B) (n : ℕ) : Type 0 where
   pub bus : IsBus script (from + n) now
-  pub bits : (steps : List ℕ) (left : ℕ) → most ≤ left → AreBits (AnyBit e b) (WorksIf to_rest)
+  pub bits : (steps : List ℕ) (left : ℕ) → most ≤ left →
+      AreBits (AnyBit e b) (WorksUntold to_rest (moment_of script steps from left was links board))
       (moment_of script steps from left was links board) n
       (moment_of script steps (from + n) (left - n) now after told)
 
@@ -57,7 +84,8 @@ abbrev pub RowsStop : {E B : Type 0} → Ends E → Ports B → Bool → List St
 RowsStop e b to_rest script from most was now links after board told f =
     (steps : List ℕ) (left : ℕ) (bus : BusValue) → most ≤ left → HaveRoom (room_for (from + left) steps) was →
     bus.journals ≡ journals_of now → bus.run ≡ from + f.after → bus.left ≡ left - f.after →
-    BreaksOff e.stands e.full b.orders_are (AnyBit e b) (WorksIf to_rest) most
+    BreaksOff e.stands e.full b.orders_are (AnyBit e b)
+    (WorksUntold to_rest (moment_of script steps from left was links board)) most
     (moment_of script steps from left was links board) (record { bus = bus; links = after; board = told }) f.fault
 
 -- ---- by the bus
@@ -68,17 +96,17 @@ pub record AreFor {E : Type 0} (link : E → LinkId) (links : List E) (nodes boa
   pub ids : Numbered link links
   pub ports : nodes ≤ boards
 
--- so many such bits, which went well
+-- so many such bits, before each of which this held, and which went well
 pub record IsSoFar {E B : Type 0} (e : Ends E) (b : Ports B) (One : ℕ → Moment E B → Moment E B → Type 0)
-    (to_rest : Bool) (was : Moment E B) (n : ℕ) (now : Moment E B) : Type 0 where
+    (Before : Moment E B → Type 0) (was : Moment E B) (n : ℕ) (now : Moment E B) : Type 0 where
   pub keeps : Keeps e b was now
   pub left : now.bus.left + n ≡ was.bus.left
   pub right : now.bus.fault ≡ None
-  pub bits : AreBits One (WorksIf to_rest) was n now
+  pub bits : AreBits One Before was n now
 
 -- fewer than so many bits, and then one that didn't come to its end
-pub record IsStopped {E B : Type 0} (e : Ends E) (b : Ports B) (to_rest : Bool) (count : ℕ) (was now : Moment E B)
-    (f : BusFault) : Type 0 where
+pub record IsStopped {E B : Type 0} (e : Ends E) (b : Ports B) (Before : Moment E B → Type 0) (count : ℕ)
+    (was now : Moment E B) (f : BusFault) : Type 0 where
   pub keeps : Keeps e b was now
   pub fault : now.bus.fault ≡ Some f
-  pub reason : BreaksOff e.stands e.full b.orders_are (AnyBit e b) (WorksIf to_rest) count was now f
+  pub reason : BreaksOff e.stands e.full b.orders_are (AnyBit e b) Before count was now f

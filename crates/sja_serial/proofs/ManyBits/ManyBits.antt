@@ -1,7 +1,6 @@
 -- Bits that a bus ran one after another: each of them is a bit of the run.
-use Rattle.std.proofs.Common.{◌≡◌, ℕ, ◌+◌, ◌≤◌, true, List, [], length, refl, sym, ◌∙◌, subst, arith, inl, inr}
-use Rattle.std.specs.Prelude.{◌⊎◌, None, min}
-use Rattle.std.proofs.lemmas.Bool.{cases_lt}
+use Rattle.std.proofs.Common.{◌≡◌, ℕ, ◌+◌, ◌≤◌, true, List, [], length, refl, sym, ap, ◌∙◌, subst, arith}
+use Rattle.std.specs.Prelude.{None}
 use Rattle.sja_link.specs.declared.bus_end.BusEnd.{Ghosts as Ends}
 use Rattle.sja_link.specs.Deques.{Deques, Lies}
 use Rattle.sja_bus.specs.declared.board.Board.{Ghosts as Ports}
@@ -9,18 +8,22 @@ use Rattle.sja_wire.specs.declared.bus_fault.BusFault.{BusFault}
 use Rattle.sja_bus.specs.declared.serial_board.SerialBoard.{SerialBoard}
 use Rattle.sja_bus.specs.Boards.{HasOrders, HasFacts, ShowsTurn, WasTold, WasClosed, WasKept}
 use Rattle.sja_wire.specs.Lawful.{IsBusRun}
-use Rattle.sja_bus.specs.Moment.{Moment, OneBit}
-use Rattle.sja_bus.specs.Several.{AllRest as AllAtRest, BitInOrder, AreBits, WorksIf, BreaksOff}
+use Rattle.sja_bus.specs.Buses.{BusValue}
+use Rattle.sja_bus.specs.Moment.{Moment, OneBit, moment}
+use Rattle.sja_bus.specs.Several.{BitInOrder, AreBits, WorksIf, BreaksOff}
 use Rattle.sja_bus.specs.Several.AreBits.{no_bit as none_run, one_more as one_run}
+use Rattle.sja_bus.specs.UntilTold.{NoneTold}
 use Rattle.sja_plan.specs.Plan.{PlanValue, IsInLimits}
 use Rattle.sja_driver.specs.declared.logged_driver.LoggedDriver.{LoggedDriver}
 use Rattle.sja_driver.specs.Deeds.{Deed}
-use Rattle.sja_serial.specs.Bits.{TakesBit, TakesBits, AllRestIn, SomeWorks}
+use Rattle.sja_serial.specs.Bits.{TakesBit, TakesBits, SomeWorks}
 use Rattle.sja_serial.specs.Bits.TakesBits.{no_bit, one_more}
 use Rattle.sja_serial.specs.Serial.{SerialValue, StandsAt, IsRunOf, run_now}
+use Rattle.sja_serial.specs.UntilTold.{NoneTold as NoneToldInRun}
 use Rattle.sja_serial.proofs.OneBit.BitRun.{cuts_of, takes_bit}
 use Rattle.sja_serial.proofs.WholeRun.GoingOn.{bits_run}
-use Rattle.sja_serial.proofs.ManyBits.SomeBits.{all_rest, some_works}
+use Rattle.sja_serial.proofs.ManyBits.Borrowed.{run_is, lawful_there}
+use Rattle.sja_serial.proofs.ManyBits.SomeBits.{some_works}
 use Rattle.sja_serial.proofs.ManyBits.Unstopped.{never_stops}
 
 -- a moment of a bus in one thread
@@ -56,6 +59,32 @@ NthBit = BitInOrder ends ports
 abbrev pub run_then : List LoggedDriver → SerialMoment → SerialValue
 run_then drivers m = run_now m.bus drivers m.board.ports.items m.links m.bus.run
 
+-- ---- kinds of bits
+
+-- each is a bit of the bus, and what holds of the bus before it, since the first, holds of the run
+pub record IsKind (plan : PlanValue) (One : ℕ → SerialMoment → SerialMoment → Type 0)
+    (Before : SerialMoment → SerialMoment → Type 0) (After : SerialValue → SerialValue → Type 0) : Type 0 where
+  pub bit : (k : ℕ) (was now : SerialMoment) → One k was now → OneBit ends ports was now
+  pub holds : (deeds : List (List Deed)) (drivers : List LoggedDriver) (first m : SerialMoment) →
+      StandsAt plan (run_then drivers m) deeds → Before first m → After (run_then drivers first) (run_then drivers m)
+
+-- those before which some node works
+pub busy : (plan : PlanValue) → IsKind plan NthBit (λ first. WorksIf true) (λ first. SomeWorks plan)
+busy plan = record {
+  bit = λ k was now one. one.bit;
+  holds = λ deeds drivers first m stands works. some_works plan (run_then drivers m) deeds stands (works refl);
+}
+
+-- those before which no port was told anything since the first
+pub untold : (plan : PlanValue) → IsKind plan (λ k. OneBit ends ports) NoneTold NoneToldInRun
+untold plan = record {
+  bit = λ k was now one. one;
+  holds = λ deeds drivers first m stands none. record {
+    ports = ap (λ (b : SerialBoard). b.ports.items) none.board;
+    journals = none.journals;
+  };
+}
+
 module _ (plan : PlanValue) (deeds : List (List Deed)) (drivers : List LoggedDriver) where
   -- a run stands there, and its bus has its laws
   pub record IsThere (m : SerialMoment) : Type 0 where
@@ -68,98 +97,76 @@ module _ (plan : PlanValue) (deeds : List (List Deed)) (drivers : List LoggedDri
       takes_bit plan (run_then drivers was) (run_then drivers now) deeds t.stands b.right b.keeps.script
       b.keeps.steps b.run b.left b.keeps.nodes refl b.run b.keeps.others.0 b.kept b.keeps.sames b.bit (cuts_of t.lawful)
 
-  module _ (Before : SerialMoment → Type 0) where
-    there_still : (was now : SerialMoment) (n : ℕ) → AreBits NthBit Before was n now → IsThere was → IsThere now
+  module _ {One : ℕ → SerialMoment → SerialMoment → Type 0} {Before : SerialMoment → SerialMoment → Type 0}
+      {After : SerialValue → SerialValue → Type 0} (kind : IsKind plan One Before After) (first : SerialMoment) where
+    there_still : (was now : SerialMoment) (n : ℕ) → AreBits One (Before first) was n now → IsThere was → IsThere now
     there_still was now n (none_run _) t = t
-    there_still was now n (one_run _ mid _ k bits before one) t = record {
-      stands = (one_bit mid now (there_still was mid k bits t) one.bit).stands;
-      lawful = one.bit.lawful;
+    there_still was now n (one_run _ mid _ k bits before one) t = let b = kind.bit k mid now one in record {
+      stands = (one_bit mid now (there_still was mid k bits t) b).stands;
+      lawful = b.lawful;
     }
 
-  -- each of them is a bit of the run, before which some node works
-  pub takes_bits : (was now : SerialMoment) (n : ℕ) → AreBits NthBit (WorksIf true) was n now → IsThere was →
-      TakesBits plan deeds (SomeWorks plan) (run_then drivers was) n (run_then drivers now)
-  takes_bits was now n (none_run _) t = no_bit (run_then drivers was)
-  takes_bits was now n (one_run _ mid _ k bits before one) t =
-      let m = there_still (WorksIf true) was mid k bits t in
-      one_more (run_then drivers was) (run_then drivers mid) (run_then drivers now) k (takes_bits was mid k bits t)
-      (some_works plan (run_then drivers mid) deeds m.stands (before refl)) (one_bit mid now m one.bit)
+    -- each of them is a bit of the run
+    takes_bits : (was now : SerialMoment) (n : ℕ) → AreBits One (Before first) was n now → IsThere was →
+        TakesBits plan deeds (After (run_then drivers first)) (run_then drivers was) n (run_then drivers now)
+    takes_bits was now n (none_run _) t = no_bit (run_then drivers was)
+    takes_bits was now n (one_run _ mid _ k bits before one) t =
+        let m = there_still was mid k bits t in
+        one_more (run_then drivers was) (run_then drivers mid) (run_then drivers now) k (takes_bits was mid k bits t)
+        (kind.holds deeds drivers first mid m.stands before) (one_bit mid now m (kind.bit k mid now one))
 
-  -- none of them broke off, where no more were asked for than are left
-  pub never_breaks : (was now : SerialMoment) (count : ℕ) (f : BusFault) → IsThere was → IsInLimits plan →
-      was.bus.run + count ≤ plan.bits →
-      BreaksOff Lies (λ (s : Deques). length s.down ≡ 22) (λ (b : SerialBoard). HasOrders b.ports.items) NthBit
-      (WorksIf true) count was now f → ⊥
-  never_breaks was now count f t limits few b =
-      let m = there_still (WorksIf true) was b.mid b.run b.bits t in
-      let run : b.mid.bus.run ≡ was.bus.run + b.run = bits_run plan deeds (SomeWorks plan) (run_then drivers was)
-      (run_then drivers b.mid) b.run (takes_bits was b.mid b.run b.bits t) in
-      let early = b.early in
-      never_stops plan (run_then drivers b.mid) deeds m.stands (omega (arith, run, early, few)) m.lawful limits
-      (HasOrders b.mid.board.ports.items) now.bus now.links f b.stops
+    -- none of them broke off, where no more were asked for than are left
+    never_breaks : (was now : SerialMoment) (count : ℕ) (f : BusFault) → IsThere was → IsInLimits plan →
+        was.bus.run + count ≤ plan.bits →
+        BreaksOff ends.stands ends.full ports.orders_are One (Before first) count was now f → ⊥
+    never_breaks was now count f t limits few b =
+        let m = there_still was b.mid b.run b.bits t in
+        let run : b.mid.bus.run ≡ was.bus.run + b.run = bits_run plan deeds (After (run_then drivers first))
+        (run_then drivers was) (run_then drivers b.mid) b.run (takes_bits was b.mid b.run b.bits t) in
+        let early = b.early in
+        never_stops plan (run_then drivers b.mid) deeds m.stands (omega (arith, run, early, few)) m.lawful limits
+        (HasOrders b.mid.board.ports.items) now.bus now.links f b.stops
 
--- ---- a call that runs them
+-- ---- a call that runs them, over a slice of the links of a run that has so many left
 
--- a run is that of a moment
-module _ (plan : PlanValue) (drivers : List LoggedDriver) (was : SerialMoment) (r : SerialValue) (bits most count : ℕ)
-    (r_is : run_now was.bus drivers was.board.ports.items was.links bits ≡ r) (run : IsRunOf plan r)
-    (lawful : IsBusRun r.bus.script r.bus.run r.bus.journals) (left : ℕ) (left_is : r.bits + left ≡ plan.bits)
-    (most_is : most ≡ min count left) where
-  bits_are : bits ≡ was.bus.run
-  bits_are = subst (λ (x : SerialValue). x.bits ≡ x.bus.run) (sym r_is) run.1.bits
+module _ (bus : BusValue) (drivers : List LoggedDriver) (board : SerialBoard) (slice links : List Deques) (bits : ℕ)
+    (r : SerialValue) (same : slice ≡ links) (view : run_now bus drivers board.ports.items links bits ≡ r)
+    (plan : PlanValue) (run : IsRunOf plan r) (lawful : IsBusRun r.bus.script r.bus.run r.bus.journals) (most : ℕ)
+    (few : r.bits + most ≤ plan.bits) {One : ℕ → SerialMoment → SerialMoment → Type 0}
+    {Before : SerialMoment → SerialMoment → Type 0} {After : SerialValue → SerialValue → Type 0}
+    (kind : IsKind plan One Before After) where
+  abbrev was : SerialMoment
+  was = moment bus slice board
 
-  all_bits : bits + left ≡ plan.bits
-  all_bits = subst (λ (x : SerialValue). x.bits + left ≡ plan.bits) (sym r_is) left_is
+  bits_are : bits ≡ bus.run
+  bits_are = subst (λ (x : SerialValue). x.bits ≡ x.bus.run) (sym view) run.1.bits
 
   was_is : run_then drivers was ≡ r
-  was_is = (λ i. run_now was.bus drivers was.board.ports.items was.links (sym bits_are i)) ∙ r_is
+  was_is = (λ i. run_now bus drivers board.ports.items slice (sym bits_are i))
+      ∙ run_is bus drivers board.ports.items slice links bits r same view
 
   there : (deeds : List (List Deed)) → StandsAt plan r deeds → IsThere plan deeds drivers was
-  there deeds h =
-      let stands = subst (λ (x : SerialValue). StandsAt plan x deeds) (sym was_is) h in
-      record {
-        stands = stands;
-        lawful = subst (λ (x : SerialValue). IsBusRun x.bus.script x.bus.run x.bus.journals) (sym was_is) lawful;
-      }
+  there deeds h = record {
+    stands = subst (λ (x : SerialValue). StandsAt plan x deeds) (sym was_is) h;
+    lawful = lawful_there bus drivers board.ports.items slice links bits r same view lawful;
+  }
 
   -- none of its bits broke off
   pub no_break : (now : SerialMoment) (f : BusFault) → IsInLimits plan →
-      (was.bus.fault ≡ None → BreaksOff Lies (λ (s : Deques). length s.down ≡ 22)
-      (λ (b : SerialBoard). HasOrders b.ports.items) NthBit (WorksIf true) most was now f) → ⊥
+      (bus.fault ≡ None → BreaksOff ends.stands ends.full ports.orders_are One (Before was) most was now f) → ⊥
   no_break now f limits breaks =
-      let e = bits_are in let all = all_bits in let t = there run.0 run.1 in
-      never_breaks plan run.0 drivers was now most f t limits (omega (arith, e, all, most_is)) (breaks t.stands.right)
+      let t = there run.0 run.1 in
+      never_breaks plan run.0 drivers kind was was now most f t limits
+      (subst (λ (x : SerialValue). x.bits + most ≤ plan.bits) (sym was_is) few) (breaks t.stands.right)
 
-  -- it is that of another moment after so many of them
-  module _ (now : SerialMoment) (n : SerialValue) (many : ℕ)
-      (n_is : run_now now.bus drivers now.board.ports.items now.links (bits + many) ≡ n)
-      (are : AreBits NthBit (WorksIf true) was many now) where
-    bits_now : now.bus.run ≡ bits + many
-    bits_now = let e = bits_are in let b = bits_run plan run.0 (SomeWorks plan) (run_then drivers was)
-        (run_then drivers now) many (takes_bits plan run.0 drivers was now many are (there run.0 run.1)) in
-        omega (arith, e, b)
-
-    now_is : run_then drivers now ≡ n
-    now_is = (λ i. run_now now.bus drivers now.board.ports.items now.links (bits_now i)) ∙ n_is
-
-    pub busy_bits : (deeds : List (List Deed)) → StandsAt plan r deeds →
-        TakesBits plan deeds (SomeWorks plan) r many n
-    busy_bits deeds h =
-        subst (λ (x : SerialValue). TakesBits plan deeds (SomeWorks plan) r many x) now_is
-        (subst (λ (x : SerialValue). TakesBits plan deeds (SomeWorks plan) x many (run_then drivers now)) was_is
-        (takes_bits plan deeds drivers was now many are (there deeds h)))
-
-    -- there were as many as were asked for, or as are left, or every node is at rest
-    pub busy_whole : (many ≡ most) ⊎ (now.bus.left ≡ 0) ⊎ ((true ≡ true) × AllAtRest now.bus.journals) →
-        (many ≡ count) ⊎ (plan.bits ≤ n.bits) ⊎ AllRestIn plan n
-    busy_whole whole =
-        let t = there_still plan run.0 drivers (WorksIf true) was now many are (there run.0 run.1) in
-        let ran = t.stands.all_bits in let e = bits_now in let all = all_bits in
-        subst (λ (x : SerialValue). (many ≡ count) ⊎ (plan.bits ≤ x.bits) ⊎ AllRestIn plan x) now_is (elim whole [
-          | inl same ↦ elim (cases_lt count left) [
-            | inl more ↦ inl (omega (arith, same, most_is, more))
-            | inr few ↦ inr (inl (omega (arith, same, most_is, all, few, e)))
-          ]
-          | inr (inl none) ↦ inr (inl (omega (arith, none, ran)))
-          | inr (inr rest) ↦ inr (inr (all_rest plan (run_then drivers now) run.0 t.stands rest.1))
-        ])
+  -- those that it ran are bits of the run, into which the links are put back
+  pub bits_taken : (now : SerialMoment) (back : List Deques) → back ≡ now.links → (many : ℕ) →
+      AreBits One (Before was) was many now → (deeds : List (List Deed)) → StandsAt plan r deeds →
+      TakesBits plan deeds (After r) r many (run_now now.bus drivers now.board.ports.items back (bits + many))
+  bits_taken now back back_is many are deeds h =
+      let t = takes_bits plan deeds drivers kind was was now many are (there deeds h) in
+      let b = bits_run plan deeds (After (run_then drivers was)) (run_then drivers was) (run_then drivers now) many t in
+      let e = bits_are in let bits_now : now.bus.run ≡ bits + many = omega (arith, e, b) in
+      subst (λ (x : SerialValue). TakesBits plan deeds (After r) r many x)
+      (λ i. run_now now.bus drivers now.board.ports.items (sym back_is i) (bits_now i))
+      (subst (λ (x : SerialValue). TakesBits plan deeds (After x) x many (run_then drivers now)) was_is t)

@@ -1,11 +1,13 @@
 -- Bits of a run, one after another.
-use Rattle.std.specs.Prelude.{◌⊎◌}
+use Rattle.std.specs.Prelude.{◌⊎◌, min}
 use Rattle.std.proofs.Common.{◌≡◌, ℕ, zero, suc, ◌+◌, ◌<◌, ◌≤◌, Bool, true, false, List, length}
-use Rattle.std.proofs.Common.{sym, ◌∙◌, subst, arith, inl, inr}
+use Rattle.std.proofs.Common.{refl, sym, ◌∙◌, subst, arith, inl, inr}
+use Rattle.std.proofs.lemmas.Bool.{cases_lt}
 use Rattle.sja_link.specs.declared.entry.Entry.{Entry}
 use Rattle.sja_link.specs.Records.{record_of}
 use Rattle.sja_bus.specs.Buses.{BusValue}
 use Rattle.sja_bus.specs.Resting.{RestsAs}
+use Rattle.sja_bus.specs.Several.{AllRest as AllAtRest}
 use Rattle.sja_wire.specs.Lawful.{IsBusRun}
 use Rattle.sja_wire.specs.Wire.{journal_at}
 use Rattle.sja_plan.specs.Plan.{PlanValue}
@@ -108,6 +110,23 @@ pub some_works : (plan : PlanValue) (n : SerialValue) (deeds : List (List Deed))
     SomeWorks plan n
 some_works plan n deeds h busy = let c = h.count.journals in let l = busy.1 in (busy.0, omega (arith, c, l), busy.2)
 
+-- at most as many were run as are left of those that were asked for, so there were as many, or none is left, or every
+-- node is at rest
+pub busy_whole : (plan : PlanValue) (deeds : List (List Deed)) (Before : SerialValue → Type 0) (r n : SerialValue)
+    (many most count left : ℕ) → SomeBits plan deeds Before r n many → r.bits + left ≡ plan.bits →
+    most ≡ min count left →
+    (many ≡ most) ⊎ (n.bus.left ≡ 0) ⊎ ((true ≡ true) × AllAtRest n.bus.journals) →
+    (many ≡ count) ⊎ (plan.bits ≤ n.bits) ⊎ AllRestIn plan n
+busy_whole plan deeds Before r n many most count left s left_is most_is whole =
+    let ran = s.many in let all = s.stands.all_bits in let run = s.stands.bits in elim whole [
+      | inl same ↦ elim (cases_lt count left) [
+        | inl more ↦ inl (omega (arith, same, most_is, more))
+        | inr few ↦ inr (inl (omega (arith, same, most_is, left_is, few, ran)))
+      ]
+      | inr (inl none) ↦ inr (inl (omega (arith, none, all, run)))
+      | inr (inr rest) ↦ inr (inr (all_rest plan n deeds s.stands rest.1))
+    ]
+
 -- not every node is at rest where some node works
 not_both : (plan : PlanValue) (n : SerialValue) → AllRestIn plan n → SomeWorks plan n → ⊥
 not_both plan n rest busy =
@@ -158,12 +177,18 @@ one_after plan deeds r m n same t =
           same.1 (t.nodes k less);
     }
 
-pub just_one : (plan : PlanValue) (deeds : List (List Deed)) (r n : SerialValue) → TakesBit plan deeds r n →
-    TakesBits plan deeds (λ x. Unit {0}) r 1 n
-just_one plan deeds r n t = one_more r r n 0 (no_bit r) tt t
+pub just_one : (plan : PlanValue) (deeds : List (List Deed)) (Before : SerialValue → Type 0) (r n : SerialValue) →
+    Before r → TakesBit plan deeds r n → TakesBits plan deeds Before r 1 n
+just_one plan deeds Before r n holds t = one_more r r n 0 (no_bit r) holds t
 
 -- none could be run at once, and then one was run
 pub none_then_one : (plan : PlanValue) (deeds : List (List Deed)) (r m n : SerialValue) (most run : ℕ) →
     TakesAtOnce plan deeds r m most run → run ≡ 0 → TakesBit plan deeds m n → TakesBits plan deeds (λ x. Unit {0}) r 1 n
-none_then_one plan deeds r m n most run once is_none t = just_one plan deeds r n
+none_then_one plan deeds r m n most run once is_none t = just_one plan deeds (λ x. Unit {0}) r n tt
     (one_after plan deeds r m n (once.none is_none) t)
+
+-- where none was run it is the same run
+pub none_ran : (plan : PlanValue) (deeds : List (List Deed)) (Before : SerialValue → Type 0) (r m : SerialValue)
+    (run : ℕ) → TakesBits plan deeds Before r run m → run ≡ 0 → m ≡ r
+none_ran plan deeds Before r m run (no_bit _) is_none = refl
+none_ran plan deeds Before r m run (one_more _ mid _ k before holds bit) is_none = absurd (omega (arith, is_none))

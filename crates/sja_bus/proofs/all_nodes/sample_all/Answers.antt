@@ -8,15 +8,17 @@ use Rattle.lemmas.specs.Related.{EachRelated}
 use Rattle.sja_bus.specs.declared.seat.Seat.{Seat}
 use Rattle.sja_wire.specs.Wire.{wired}
 use Rattle.sja_wire.specs.Links.{Goes}
-use Rattle.sja_bus.specs.Inside.Rows.{SeatTurns, seen_by, driven_by}
+use Rattle.sja_bus.specs.UntilTold.HasBitsMore.{none}
+use Rattle.sja_bus.specs.Inside.Rows.{SeatHasBits, SeatTurns, seen_by, driven_by}
 use Rattle.sja_bus.specs.Inside.Refusing.{SeatBreaks}
 use Rattle.sja_bus.proofs.AllNodes.Levels.{level_now}
-use Rattle.sja_bus.proofs.AllNodes.Many.{done_all}
+use Rattle.sja_bus.proofs.AllNodes.Many.{done_all, done_none, done_one}
 use Rattle.sja_bus.proofs.Links.Moving.{goes_quiet}
 use Rattle.sja_bus.proofs.ItemsTaken.Refusing.{free_one}
 use Rattle.sja_bus.proofs.AllNodes.Running.{seen_is}
 use Rattle.sja_bus.proofs.AtPorts.Turning.{quiet_turns}
 use Rattle.sja_bus.proofs.AllNodes.Underway.{underway_none, underway_one, underway_at}
+use Rattle.sja_bus.proofs.AllNodes.UntilTold.{bit_more}
 use Rattle.lemmas.proofs.Results.{err_is}
 use Rattle.sja_bus.proofs.all_nodes.sample_all.Goals as goal
 
@@ -28,6 +30,7 @@ loop-k-init g c =
       links = refl;
       board = refl;
       free = λ n h m s here. let room = h m s here in omega (arith, room);
+      bits = done_none SeatHasBits c.args.seats.now;
       level = refl;
     }
 
@@ -64,6 +67,9 @@ loop-k-preserved g c =
       board = inv.board;
       free = λ n h. free_one n k (Bit old.drives c.seen-sees.result) c.args.seats.now c.loop-k.seats s new here was
           ((inv.row.done k s was).1 (omega arith)) quiet.whole c.sample_quietly.ensures.room h (inv.free n h);
+      bits = done_one SeatHasBits k c.args.seats.now c.loop-k.seats s new was inv.row.count
+          (bit_more old.journal.entries old.journal.entries new.journal.entries old.drives c.seen-sees.result none
+          quiet.whole) inv.bits;
       level = level_now c.loop-k.seats k new c.loop-k.next c.both-next.result here inv.level
           (c.both-next.ensures ∙ ap (λ (x : Seat). wired (c.loop-k.next ∷ x.drives ∷ []))
           (set_here c.loop-k.seats k new c.index-seats-k-in-loop-k.result here));
@@ -140,6 +146,11 @@ returns-clause-untold g c =
 
 pub returns-clause-free : goal.returns-clause-free
 returns-clause-free g c = λ none. c.loop-k.invariant.free
+
+pub returns-clause-quiet : goal.returns-clause-quiet
+returns-clause-quiet g c = λ untold.
+    let all : length c.args.seats.now ≤ c.loop-k.k = search rules in
+    done_all SeatHasBits c.loop-k.k c.args.seats.now c.loop-k.seats all c.loop-k.invariant.bits
 
 pub returns-then-not-sample_quietly-clause-sames : goal.returns-then-not-sample_quietly-clause-sames
 returns-then-not-sample_quietly-clause-sames g c =

@@ -1,18 +1,20 @@
-use Rattle.std.proofs.Common.{◌≡◌, ℕ, ◌+◌, ◌-◌, ◌<◌, false, true, List, length, rules, arith, refl, sym, ap, ◌∙◌, subst}
+use Rattle.std.proofs.Common.{◌≡◌, ℕ, ◌+◌, ◌-◌, ◌<◌, false, true, List, length, rules, arith, refl, sym, ap, ◌∙◌}
+use Rattle.std.proofs.Common.{subst, inl, inr}
 use Rattle.std.specs.Prelude.{slice_index_or}
 use Rattle.lemmas.proofs.Related.{each_refl, each_trans}
 use Rattle.sja_wire.specs.Wire.{wired}
 use Rattle.sja_bus.specs.Reasons.{room_for}
-use Rattle.sja_bus.specs.Several.{WorksIf}
+use Rattle.sja_bus.specs.UntilTold.HasBitsMore.{none}
 use Rattle.sja_script.specs.Striking.{Strikes}
 use Rattle.sja_bus.specs.declared.seat.Seat.{Seat}
 use Rattle.sja_bus.specs.declared.struck_nodes.StruckNodes.{StruckNodes}
 use Rattle.sja_bus.specs.StrikesByBit.{IsAmong}
 use Rattle.sja_bus.specs.Inside.Refusing.{AreFree}
 use Rattle.sja_bus.specs.Inside.Rows.{AreTold, IsBus, driven_by}
-use Rattle.sja_bus.specs.Inside.RunningOn.{moment_of, AnyBit, RowsRun}
+use Rattle.sja_bus.specs.Inside.RunningOn.{moment_of, AnyBit, RowsRun, SomeFull, WorksUntold}
 use Rattle.sja_bus.proofs.AllNodes.Many.{numbered_kept}
 use Rattle.sja_bus.proofs.AllNodes.RunningOn.{facts_of_bit, passes, none_still, some_work, none_yet, bits_on, stops_on}
+use Rattle.sja_bus.proofs.AllNodes.UntilTold.{none_told, seats_then}
 use Rattle.sja_bus.proofs.OneReader.QuietRows.{free_after, have_room_after, none_run, part_at, part_left}
 use Rattle.sja_bus.proofs.OneReader.QuietRows.{rooms_after, rows_on, told_after}
 use Rattle.sja_bus.proofs.Resting.Stretches.{nobody}
@@ -50,15 +52,20 @@ runs_more g c =
     inv.level c.in-Ok.ensures.turns c.in-Ok.ensures.ready inv.bus in record {
       bus = pass.bus (c.args.from + (c.loop-run.run + 1)) (omega arith);
       bits = λ steps left enough.
-          bits_on E B c.args.to_rest (moment_of c.args.struck.now.script steps c.args.from left c.args.seats.now
-          c.args.links.now c.args.board.now)
-          c.args.struck.now.script steps c.args.from c.loop-run.run c.args.most left c.none.result c.loop-run.seats
+          let was = moment_of c.args.struck.now.script steps c.args.from left c.args.seats.now c.args.links.now
+          c.args.board.now in
+          bits_on E B (WorksUntold c.args.to_rest was) was c.args.struck.now.script steps c.args.from
+          c.loop-run.run c.args.most left c.none.result c.loop-run.seats
           c.sample_all.new.seats c.loop-run.links c.sample_all.new.links a z early enough c.sample_all.auto.seats
           pass.few pass.at pass.row
           c.sample_all.ensures.sames c.sample_all.ensures.board c.in-Ok.ensures.goes inv.bus
-          (pass.bus (c.args.from + (c.loop-run.run + 1)) (omega arith)) (facts g c)
-          (λ yes. some_work c.loop-run.seats inv.bus.ready (c.goes_on.ensures.works goes yes)) (inv.bits steps left
-          enough);
+          (pass.bus (c.args.from + (c.loop-run.run + 1)) (omega arith)) (facts g c) (
+            (λ yes. some_work c.loop-run.seats inv.bus.ready (c.goes_on.ensures.works goes yes)),
+            none_told
+                c.args.struck.now.script steps c.args.from (c.args.from + c.loop-run.run) left (left - c.loop-run.run)
+                c.args.seats.now c.loop-run.seats c.args.links.now c.loop-run.links c.args.board.now a inv.board
+                c.loop-run.auto.seats inv.more,
+          ) (inv.bits steps left enough);
     }
 
 pub loop-run-init : goal.loop-run-init
@@ -75,9 +82,10 @@ loop-run-init g c =
       rooms = λ n h. h;
       free = λ k s here. let room = c.room_of.ensures.free k s here in let count = c.part-marks.ensures.count in
           omega (arith, room, count);
-      bits = λ steps left enough. none_yet (AnyBit E B) (WorksIf c.args.to_rest) script steps c.args.from left
-          c.args.seats.now
-          c.args.links.now c.args.board.now;
+      more = λ k s here. none;
+      bits = λ steps left enough. none_yet (AnyBit E B) (WorksUntold c.args.to_rest
+          (moment_of script steps c.args.from left c.args.seats.now c.args.links.now c.args.board.now)) script steps
+          c.args.from left c.args.seats.now c.args.links.now c.args.board.now;
     }
 
 pub sample_all-requires : goal.sample_all-requires
@@ -167,12 +175,13 @@ loop-run-preserved g c =
     c.run_together-together.ensures.none i node nobody low
     (subst P (sym (part_at marks (run + 1) i nobody (omega (arith, low, few, left))))
     ((c.part-marks.ensures.struck ((run + 1) + i) node nobody (omega (arith, low, few, left)) small).1 strikes)) in
+    let begun = seats_then c.args.seats.now c.loop-run.seats one same inv.more (c.in-Ok.ensures.quiet untold) in
     let far = rows_on E B g.met.E.BusEnd.same_refl g.met.B.Board.kept_refl c.args.to_rest script from c.args.most
-    (length c.args.seats.now) c.args.seats.now c.args.links.now c.args.board.now c.requires.seated.few
+    c.args.seats.now c.args.links.now c.args.board.now c.requires.seated.few
     c.sample_all.new.links c.sample_all.new.board still c.requires.may.0
     (λ k low. facts g at k (omega (arith, low, same))) (run + 1) one n now
     (omega (arith, within, few, left, count, all)) unstruck rows
-    (record { count = omega (arith, same, size); bus = more.bus; bits = more.bits }) in
+    (record { count = omega (arith, same, size); bus = more.bus; more = begun; bits = more.bits }) in
     let rest : length marks - (run + 1) - n ≡ length marks - (run + 1 + n) = omega arith in
     let F : ℕ → Type 0 = λ m. AreFree m now in record {
       level = c.level_after-level.ensures;
@@ -184,6 +193,7 @@ loop-run-preserved g c =
           inv.sames c.sample_all.ensures.sames;
       rooms = λ r h. have_room_after one now n stay r (c.in-Ok.ensures.rooms r (inv.rooms r h));
       free = subst F rest (free_after one now n (length marks - (run + 1)) stay (free_now g at untold));
+      more = far.more;
       bits = far.bits;
     }
 
@@ -203,7 +213,11 @@ returns-in-Err-clause-breaks g c = λ steps left later enough rooms journals run
       run = run;
       early = early;
       bits = inv.bits steps left enough;
-      before = λ yes. some_work was inv.bus.ready (c.goes_on.ensures.works goes yes);
+      before = (
+        (λ yes. some_work was inv.bus.ready (c.goes_on.ensures.works goes yes)),
+        none_told script steps from (from + run) left (left - run) c.args.seats.now was c.args.links.now
+            c.loop-run.links c.args.board.now a inv.board c.loop-run.auto.seats inv.more,
+      );
       stops = stops_on E.same E.stands E.full (B.orders_are a) script steps (from + run) (left - run) (from + left) was
           now
           c.loop-run.links c.sample_all.new.links c.in-Err.fault later g.met.E.BusEnd.same_refl journals
@@ -212,3 +226,11 @@ returns-in-Err-clause-breaks g c = λ steps left later enough rooms journals run
       run_so_far = run_is;
       left_so_far = left_is;
     }
+
+pub returns-after-loop-run-clause-none : goal.returns-after-loop-run-clause-none
+returns-after-loop-run-clause-none g c = λ none free.
+    let past = c.loop-run-test.false in let count = c.part-marks.ensures.count in
+    let zero : c.room_of.result ≡ 0 = omega (arith, none, past, count) in elim c.room_of.ensures.least [
+      | inl all ↦ inl (omega (arith, all, zero))
+      | inr full ↦ let P : ℕ → Type 0 = λ n. SomeFull n c.args.seats.now in inr (inl (subst P zero full))
+    ]

@@ -1,10 +1,10 @@
 use Rattle.std.proofs.Common.{◌≡◌, ℕ, ◌+◌, ◌-◌, ◌≤◌, List, length}
 use Rattle.lemmas.specs.Related.{EachRelated}
-use Rattle.sja_bus.specs.Several.{AreBits, WorksIf}
+use Rattle.sja_bus.specs.Several.{AreBits}
 use Rattle.sja_wire.specs.Wire.{wired}
 use Rattle.sja_bus.specs.Inside.Refusing.{HaveRoom, AreFree}
-use Rattle.sja_bus.specs.Inside.Rows.{AreTold, IsBus, driven_by}
-use Rattle.sja_bus.specs.Inside.RunningOn.{moment_of, AnyBit}
+use Rattle.sja_bus.specs.Inside.Rows.{AreTold, EachSeat, IsBus, SeatHasBits, driven_by}
+use Rattle.sja_bus.specs.Inside.RunningOn.{moment_of, AnyBit, WorksUntold}
 use Rattle.sja_bus.proofs.bits.untaken_bits.Given as goal
 
 -- the bits so far, in none of which a port was told anything
@@ -18,8 +18,10 @@ invariant-loop-run g l = record {
   sames : EachRelated g.E.BusEnd.same l.initial.links l.links;
   rooms : (n : ℕ → ℕ) → HaveRoom n l.initial.seats → HaveRoom n l.seats;
   free : AreFree (length l.marks - l.run) l.seats;
+  more : EachSeat SeatHasBits l.initial.seats l.seats;
   bits : (steps : List ℕ) (left : ℕ) → l.most ≤ left →
-      AreBits (AnyBit g.E.BusEnd g.B.Board) (WorksIf l.to_rest)
+      AreBits (AnyBit g.E.BusEnd g.B.Board) (WorksUntold l.to_rest
+      (moment_of l.struck.script steps l.from left l.initial.seats l.initial.links l.initial.board))
       (moment_of l.struck.script steps l.from left l.initial.seats l.initial.links l.initial.board) l.run
       (moment_of l.struck.script steps (l.from + l.run) (left - l.run) l.seats l.links l.board);
 }

@@ -32,12 +32,14 @@ kept g c =
 -- one that did is one more
 one_more : (g : _) (c : After-run_untaken_bits g) →
     WorksIf c.args.to_rest (moment c.loop-run.self c.loop-run.links c.loop-run.board) → IsSoFar g.E.BusEnd g.B.Board
-    (BitInOrder g.E.BusEnd g.B.Board) c.args.to_rest (moment c.args.self.now c.args.links.now c.args.board.now)
-    (c.loop-run.run + 1) (moment c.bit.new.self c.bit.new.links c.bit.new.board)
+    (BitInOrder g.E.BusEnd g.B.Board) (WorksIf c.args.to_rest)
+    (moment c.args.self.now c.args.links.now c.args.board.now) (c.loop-run.run + 1)
+    (moment c.bit.new.self c.bit.new.links c.bit.new.board)
 one_more g c before =
     let ok = c.in_ok-bit.ensures in
     and_one g.E.BusEnd g.B.Board (BitInOrder g.E.BusEnd g.B.Board) g.met.E.BusEnd.same_trans
-    g.met.B.Board.kept_trans c.args.to_rest (moment c.args.self.now c.args.links.now c.args.board.now)
+    g.met.B.Board.kept_trans (WorksIf c.args.to_rest)
+    (moment c.args.self.now c.args.links.now c.args.board.now)
     (moment c.loop-run.self c.loop-run.links c.loop-run.board)
     (moment c.bit.new.self c.bit.new.links c.bit.new.board) c.loop-run.run c.loop-run.invariant.far before ok.bit
     (record { bit = ok.bit; takes = λ first. ok.takes })
@@ -67,7 +69,7 @@ pub loop-run-init : goal.loop-run-init
 loop-run-init g c = record {
   few = omega arith;
   far = none_yet g.E.BusEnd g.B.Board (BitInOrder g.E.BusEnd g.B.Board) g.met.E.BusEnd.same_refl
-      g.met.B.Board.kept_refl c.args.to_rest
+      g.met.B.Board.kept_refl (WorksIf c.args.to_rest)
       (moment c.args.self.now c.args.links.now c.args.board.now) c.in_ok-most.ensures.right;
 }
 
@@ -132,7 +134,7 @@ loop-run-preserved g c =
     let more = c.loop-run-test.true in let most = c.in_ok-run.ensures.most in record {
       few = omega (arith, more, most);
       far = and_more g.E.BusEnd g.B.Board (BitInOrder g.E.BusEnd g.B.Board) g.met.E.BusEnd.same_trans
-          g.met.B.Board.kept_trans c.args.to_rest
+          g.met.B.Board.kept_trans (WorksIf c.args.to_rest)
           (moment c.args.self.now c.args.links.now c.args.board.now)
           (moment c.bit.new.self c.bit.new.links c.bit.new.board)
           (moment c.run_untaken_bits.new.self c.run_untaken_bits.new.links

@@ -1,13 +1,13 @@
 use Rattle.std.proofs.Common.{◌≤◌, ◌-◌}
 use Rattle.sja_bus.specs.Moment.{moment}
-use Rattle.sja_bus.specs.Several.{BitInOrder}
+use Rattle.sja_bus.specs.Several.{BitInOrder, WorksIf}
 use Rattle.sja_bus.specs.Inside.RunningOn.{IsSoFar}
 use Rattle.sja_bus.proofs.bus.Bus.bits.Given as goal
 
 abbrev pub invariant-loop-run : goal.invariant-loop-run
 invariant-loop-run g l = record {
   few : l.run ≤ l.most;
-  far : IsSoFar g.E.BusEnd g.B.Board (BitInOrder g.E.BusEnd g.B.Board) l.to_rest
+  far : IsSoFar g.E.BusEnd g.B.Board (BitInOrder g.E.BusEnd g.B.Board) (WorksIf l.to_rest)
       (moment l.initial.self l.initial.links l.initial.board) l.run (moment l.self l.links l.board);
 }
 

@@ -6,14 +6,10 @@ use Rattle.sja_bus.specs.Buses.{BusValue, AllTold, EachJournal, EachUntold}
 use Rattle.sja_bus.specs.Stretches.{IsStretch, IsOutOfEntries}
 use Rattle.sja_bus.specs.Inside.AtOnce.{RunsAtOnce}
 use Rattle.lemmas.proofs.Results.{err_map}
+use Rattle.sja_bus.proofs.AllNodes.SoFar.{each_count}
 use Rattle.sja_bus.proofs.Resting.QuietBits.{keeps_rest, dry_rest, stretch_rest}
 use Rattle.sja_bus.proofs.bus.Bus.quiet_bits.Goals.{After-run_idle_bits}
 use Rattle.sja_bus.proofs.bus.Bus.quiet_bits.Goals as goal
-
--- what follows for each number of bits that may have been answered
-each_count : {P Q : ℕ → Type 0} (r : Result ℕ BusFault) → ((n : ℕ) → P n → Q n) → IfOk r P → IfOk r Q
-each_count (Ok n) f p = f n p
-each_count (Err x) f p = tt
 
 -- they are a stretch from where the taking ended
 stretch : (g : _) (c : After-run_idle_bits g) → let b = c.args.board.now in let mid = c.gather.new.self in

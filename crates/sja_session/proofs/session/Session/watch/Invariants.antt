@@ -1,4 +1,4 @@
-use Rattle.std.proofs.Common.{◌≡◌, ◌≤◌, ◌<◌, ℕ, false, List, length}
+use Rattle.std.proofs.Common.{◌≡◌, ◌-◌, ◌≤◌, ◌<◌, ℕ, true, false, List, length}
 use Rattle.std.specs.Prelude.{slice_index_or}
 use Rattle.sja_driver.specs.Deeds.{Deed}
 use Rattle.sja_session.specs.Lines.{line_at}
@@ -7,13 +7,16 @@ use Rattle.sja_session.specs.Sessions.{IsAt}
 use Rattle.sja_session.specs.Watching.{NoneRose}
 use Rattle.sja_session.proofs.session.Session.watch.Given as goal
 
--- so many bits were run in which no line rose, and the lines are told as they are now
-abbrev pub invariant-loop : goal.invariant-loop
-invariant-loop l = record {
+-- so many bits were run in which no line rose, and the lines of watched nodes are told as they are now
+abbrev pub invariant-loop-bits : goal.invariant-loop-bits
+invariant-loop-bits l = record {
   ran : (deeds : List (List Deed)) → IsAt l.fn.self deeds →
       NoneRose l.watched (length l.fn.self.plan.nodes) deeds l.fn.self l.self l.bits;
   told : (deeds : List (List Deed)) → IsAt l.fn.self deeds → (k : ℕ) → k < length l.fn.self.plan.nodes → k < 8 →
-      slice_index_or l.before k false ≡ line_at l.self deeds k;
+      slice_index_or l.watched k false ≡ true → slice_index_or l.before k false ≡ line_at l.self deeds k;
   may : 1 ≤ l.count → MayRun l.self 1;
-  count : l.bits ≡ l.counter;
+  most : l.bits ≤ l.count;
 }
+
+abbrev pub decreases-loop-bits : goal.decreases-loop-bits
+decreases-loop-bits l = l.count - l.bits

@@ -1,0 +1,142 @@
+use Rattle.std.proofs.Common.{◌≡◌, ◌+◌, ◌-◌, ◌≤◌, ℕ, true, List, ◌++◌, length, take, drop, refl, sym, ap, ◌∙◌, subst}
+use Rattle.std.proofs.Common.{arith, rules}
+use Rattle.std.proofs.lemmas.Grind.{common_steps}
+use Rattle.std.specs.Prelude.{◌<◌, ◌⊎◌, None, Result, Ok, Err, vec_capacity}
+use Rattle.sja_script.specs.Striking.{Strikes}
+use Rattle.sja_wire.specs.declared.bus_fault.BusFault.{BusFault}
+use Rattle.sja_bus.specs.declared.seat.Seat.{Seat}
+use Rattle.sja_bus.specs.Moment.{moment}
+use Rattle.sja_bus.specs.Reasons.{room_for}
+use Rattle.sja_bus.specs.Inside.Refusing.{HaveRoom}
+use Rattle.sja_bus.specs.Inside.Rows.{AreSeated, IsBus, journals_of}
+use Rattle.sja_bus.specs.UntilTold.{TakesFullBit}
+use Rattle.sja_bus.specs.Inside.RunningOn.{bus_of, AnyBit, SomeAborts, SomeFull, SomeUntold, WorksUntold}
+use Rattle.sja_bus.specs.Inside.Whole.{IsWhole}
+use Rattle.sja_bus.proofs.AllNodes.RanOn.{bus_is, ran, stopped}
+use Rattle.sja_bus.proofs.AllNodes.Running.{count_is}
+use Rattle.sja_bus.proofs.AllNodes.SoFar.{none_yet}
+use Rattle.sja_bus.proofs.AllNodes.UntilTold.{held_by_port, held_by_rows}
+use Rattle.sja_bus.proofs.bus.Bus.run_until_told.Goals.{After-untaken_bits}
+use Rattle.sja_bus.proofs.bus.Bus.run_until_told.Goals as goal
+
+-- there was no fault before
+right : (g : _) (c : After-untaken_bits g) → c.self.inside.fault ≡ None
+right g c = ap (λ w. w.fault) c.self.view_is ∙ c.requires.right
+
+-- as many seats as before
+same_count : (g : _) (c : After-untaken_bits g) → length c.untaken_bits.new.seats ≡ length c.self.inside.seats.items
+same_count g c = c.untaken_bits.auto.seats ∙ ap (λ (l : List Seat). length l) c.as_mut_slice-seats.ensures.value
+
+-- the seats that are written back are those
+are_back : (g : _) (c : After-untaken_bits g) → take c.self.inside.seats.len
+    (c.untaken_bits.new.seats ++ drop (length c.untaken_bits.new.seats) c.self.inside.seats.items)
+    ≡ c.untaken_bits.new.seats
+are_back g c = let len = same_count g c in grind (arith, common_steps)
+
+enough_left : (g : _) (c : After-untaken_bits g) → c.args.count ≤ c.self.inside.left
+enough_left g c = let left = ap (λ w. w.left) c.self.view_is in let most = c.requires.most in omega (arith, left, most)
+
+-- the bus before, by the seats that run on
+begins : (g : _) (c : After-untaken_bits g) → let b = c.self.inside in
+    bus_of b.struck.script b.steps.items b.run b.left c.as_mut_slice-seats.result.now ≡ c.args.self.now
+begins g c = let b = c.self.inside in
+    bus_is b.struck.script b.steps.items b.run b.left b.fault b.seats.items c.as_mut_slice-seats.result.now
+    c.args.self.now c.as_mut_slice-seats.ensures.value (right g c) c.self.view_is
+
+pub returns-then-not-may_run_untaken-clause-runs : goal.returns-then-not-may_run_untaken-clause-runs
+returns-then-not-may_run_untaken-clause-runs g c =
+    let E = g.E.BusEnd in let B = g.B.Board in let was = moment c.args.self.now c.args.links.now c.args.board.now in
+    none_yet E B (AnyBit E B) g.met.E.BusEnd.same_refl g.met.B.Board.kept_refl (WorksUntold c.args.to_rest was) was
+    c.requires.right
+
+pub returns-then-not-may_run_untaken-clause-none : goal.returns-then-not-may_run_untaken-clause-none
+returns-then-not-may_run_untaken-clause-none g c = λ zero free.
+    let b = c.self.inside in let asked = g.B.Board.orders_are c.args.board.now in
+    let Q : List Seat → Type 0 = λ l. SomeAborts asked (length l) ⊎ SomeUntold l in
+    subst (TakesFullBit asked c.args.count) c.self.view_is
+    (held_by_port asked c.args.count b.struck.script b.steps.items b.run b.left b.fault b.seats.items
+    (subst Q c.as_slice.ensures.value (c.may_run_untaken.ensures.no (search rules))))
+
+pub returns-in-Ok-clause-none : goal.returns-in-Ok-clause-none
+returns-in-Ok-clause-none g c = λ zero free.
+    let at = (goal.at.returns-in-Ok-clause-none g c).After-untaken_bits in
+    let b = c.self.inside in let asked = g.B.Board.orders_are c.args.board.now in let whole = c.self.invariant.0 in
+    let none : c.in-Ok.bits ≡ 0 = ap (λ (r : Result ℕ BusFault). count_in r) zero in
+    let N : ℕ → Type 0 = λ m. HaveRoom (room_for m b.steps.items) b.seats.items in
+    let Q : List Seat → Type 0 = λ l. (c.args.count ≡ 0) ⊎ SomeFull 0 l
+    ⊎ ((node : ℕ) × (node < 8) × Strikes b.struck.script b.run node) in
+    subst (TakesFullBit asked c.args.count) c.self.view_is
+    (held_by_rows asked c.args.count b.struck.script b.steps.items b.run b.left b.fault b.seats.items
+    (subst N (sym whole.bits) (whole.rooms (right g at)))
+    (subst Q c.as_mut_slice-seats.ensures.value (c.in-Ok.ensures.none none free)))
+  where
+    count_in : Result ℕ BusFault → ℕ
+    count_in (Ok n) = n
+    count_in (Err f) = 0
+
+pub untaken_bits-requires-clause-seated : goal.untaken_bits-requires-clause-seated
+untaken_bits-requires-clause-seated g c =
+    let b = c.self.inside in let whole = c.self.invariant.0 in let fit = c.requires.fit in
+    let nodes = ap (λ w. length w.journals) c.self.view_is in let seats = count_is b.seats.items in
+    let count = fit.count in let ports = fit.ports in
+    let P : List Seat → Type 0 = λ l. AreSeated g.E.BusEnd.link l c.args.links.now (g.B.Board.ports c.args.board.now) in
+    subst P (sym c.as_mut_slice-seats.ensures.value) (record {
+      few = whole.few;
+      count = omega (arith, nodes, seats, count);
+      ids = fit.ids;
+      ready = (whole.bus (ap (λ w. w.fault) c.self.view_is ∙ c.requires.right)).ready;
+      ports = omega (arith, nodes, seats, ports);
+    })
+
+pub untaken_bits-requires-clause-facts : goal.untaken_bits-requires-clause-facts
+untaken_bits-requires-clause-facts g c = λ k few.
+    let may : c.may_run_untaken.result ≡ true = search rules in
+    let old = ap (λ (l : List Seat). length l) c.as_slice.ensures.value in
+    let new = ap (λ (l : List Seat). length l) c.as_mut_slice-seats.ensures.value in
+    c.may_run_untaken.ensures.facts may k (omega (arith, few, old, new))
+
+pub invariant_of-self : goal.invariant_of-self
+invariant_of-self g c =
+    let at = (goal.at.invariant_of-self g c).After-untaken_bits in
+    let b = c.self.inside in let n = c.in-Ok.bits in let now = c.untaken_bits.new.seats in
+    let whole = c.self.invariant.0 in let few = whole.few in let logs = whole.logs in let bits = whole.bits in
+    let len = same_count g at in let enough = enough_left g at in let most = c.in-Ok.ensures.most in
+    let H : List Seat → Type 0 = λ l. (m : ℕ → ℕ) → HaveRoom m l → HaveRoom m now in
+    let P : List Seat → Type 0 = λ l. IsWhole b.struck b.steps.items (b.run + n) (b.left - n) b.fault l
+    (vec_capacity b.logs) in (
+      subst P (sym (are_back g at)) (record {
+        few = omega (arith, len, few);
+        bits = omega (arith, bits, most, enough);
+        most = whole.most;
+        bus = λ right. c.in-Ok.ensures.runs.bus;
+        logs = omega (arith, len, logs);
+        rooms = λ right. subst H c.as_mut_slice-seats.ensures.value c.in-Ok.ensures.rooms
+            (room_for b.struck.bits b.steps.items) (whole.rooms right);
+      }),
+      c.self.invariant.1,
+    )
+
+pub returns-in-Ok-clause-runs : goal.returns-in-Ok-clause-runs
+returns-in-Ok-clause-runs g c =
+    let at = (goal.at.returns-in-Ok-clause-runs g c).After-untaken_bits in
+    let E = g.E.BusEnd in let B = g.B.Board in let b = c.self.inside in let n = c.in-Ok.bits in
+    ran E B c.args.to_rest b.struck.script b.steps.items b.run b.left c.as_mut_slice-seats.result.now
+    c.untaken_bits.new.seats c.args.links.now c.untaken_bits.new.links c.args.board.now c.untaken_bits.new.board
+    c.args.count c.untaken_bits.auto.seats c.untaken_bits.ensures.sames c.untaken_bits.ensures.others c.args.self.now
+    (begins g at) n _ c.in-Ok.ensures.most (enough_left g at)
+    (bus_is b.struck.script b.steps.items (b.run + n) (b.left - n) b.fault _ c.untaken_bits.new.seats _
+    (sym (are_back g at)) (right g at) refl) c.in-Ok.ensures.runs
+
+pub returns-in-Err-clause-stops : goal.returns-in-Err-clause-stops
+returns-in-Err-clause-stops g c =
+    let at = (goal.at.returns-in-Err-clause-stops g c).After-untaken_bits in
+    let E = g.E.BusEnd in let B = g.B.Board in let b = c.self.inside in let whole = c.self.invariant.0 in
+    let seats = c.as_mut_slice-seats.result.now in
+    let N : ℕ → Type 0 = λ m. HaveRoom (room_for m b.steps.items) b.seats.items in
+    let R : List Seat → Type 0 = λ l. HaveRoom (room_for (b.run + b.left) b.steps.items) l in
+    stopped E B c.args.to_rest b.struck.script b.steps.items b.run b.left seats c.untaken_bits.new.seats
+    c.args.links.now c.untaken_bits.new.links c.args.board.now c.untaken_bits.new.board c.args.count
+    c.untaken_bits.auto.seats c.untaken_bits.ensures.sames c.untaken_bits.ensures.others c.args.self.now (begins g at)
+    c.in-Err.broken _ (enough_left g at)
+    (subst R (sym c.as_mut_slice-seats.ensures.value) (subst N (sym whole.bits) (whole.rooms (right g at))))
+    refl refl refl refl refl (ap (λ (l : List Seat). journals_of l) (are_back g at)) c.in-Err.ensures.breaks

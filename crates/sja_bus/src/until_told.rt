@@ -1,0 +1,92 @@
+//! Bits of a bus up to the first in which a port is told its turn.
+
+use super::bits::{may_run_untaken, untaken_bits};
+use super::board::Board;
+use super::bus::Bus;
+use sja_link::BusEnd;
+use sja_wire::BusFault;
+
+impl Bus {
+    ghost use Rattle.std.specs.Prelude.{◌≡◌, ◌*◌, ◌≤◌, false, None, Some, Ok, Err, length, OnOk, IfOk, IfErr};
+    ghost use Rattle.sja_wire.specs.declared.bus_fault.BusFault.{BusFault as Fault};
+    ghost use Rattle.sja_wire.specs.Links.{Numbered};
+    ghost use Rattle.sja_bus.specs.Buses.{IsStill};
+    ghost use Rattle.sja_bus.specs.Moment.{moment, Keeps};
+    ghost use Rattle.sja_bus.specs.UntilTold.{RunsUntilTold, StopsUntilTold, TakesFullBit};
+    ghost use Rattle.sja_bus.specs.Inside.RunningOn.{AreFor, AnyBit, IsSoFar, IsStopped, WorksUntold};
+
+    /// Bits one after another up to the first in which a port is told its turn: at most so many, and as many as are
+    /// left, as far as nothing is untold, no port wants an abort and no strike falls. Answers how many they were.
+    ///
+    /// They are what as many calls of [`bit`](Bus::bit) are that find nothing on any link. In none of them but the last
+    /// one a port is told anything, a message is judged, or a node goes bus-off. An answer of 0 says that the next bit
+    /// takes a call of `bit`. `links` are 64 a node, by node and activation.
+    ///
+    /// Error: after some of these bits, [`BusFault::Stuck`] or [`BusFault::JournalFull`], and then the same always. The
+    /// bits before it count.
+    pub fn bits_until_told<E: BusEnd, B: Board>(
+        &mut self,
+        links: &mut [E],
+        board: &mut B,
+        count: u32,
+    ) -> Result<u32, BusFault>
+        requires count { length links.old ≡ 64 * length self.old.journals }
+        requires ids { Numbered E.link links.old }
+        requires ports { length self.old.journals ≤ B.ports board.old }
+        ensures keeps { Keeps E.BusEnd B.Board
+            (moment self.old links.old board.old) (moment self.new links.new board.new) }
+        ensures most { IfOk result (λ n. n ≤ count) }
+        ensures bits { IfOk result (λ n. RunsUntilTold E.BusEnd B.Board
+            (moment self.old links.old board.old) n (moment self.new links.new board.new)) }
+        ensures none { result ≡ Ok 0 → TakesFullBit (B.orders_are board.old) count self.old }
+        ensures right { OnOk result (self.new.fault ≡ None) }
+        ensures fault { IfErr result (λ f. self.new.fault ≡ Some f) }
+        ensures reason { IfErr result (λ f. self.old.fault ≡ None → StopsUntilTold E.BusEnd B.Board count
+            (moment self.old links.old board.old) (moment self.new links.new board.new) f) }
+        ensures stays { (f : Fault) → self.old.fault ≡ Some f →
+            (result ≡ Err f) × IsStill self.old self.new links.old links.new board.old board.new }
+    {
+        let most = self.at_most(count)?;
+        self.run_until_told(links, board, most, false)
+    }
+
+    /// The same, at most so many as are left, with `to_rest` as long as some node works.
+    #[inline(always)]
+    pub(crate) fn run_until_told<E: BusEnd, B: Board>(
+        &mut self,
+        links: &mut [E],
+        board: &mut B,
+        count: u32,
+        to_rest: bool,
+    ) -> Result<u32, BusFault>
+        requires fit { AreFor E.link links.old (length self.old.journals) (B.ports board.old) }
+        requires right { self.old.fault ≡ None }
+        requires most { count ≤ self.old.left }
+        ensures most { IfOk result (λ n. n ≤ count) }
+        ensures runs { IfOk result (λ n. IsSoFar E.BusEnd B.Board (AnyBit E.BusEnd B.Board)
+            (WorksUntold to_rest (moment self.old links.old board.old))
+            (moment self.old links.old board.old) n (moment self.new links.new board.new)) }
+        ensures none { result ≡ Ok 0 → to_rest ≡ false → TakesFullBit (B.orders_are board.old) count self.old }
+        ensures stops { IfErr result (λ f. IsStopped E.BusEnd B.Board
+            (WorksUntold to_rest (moment self.old links.old board.old)) count
+            (moment self.old links.old board.old) (moment self.new links.new board.new) f) }
+    {
+        if !may_run_untaken(self.seats.as_slice(), board) {
+            return Ok(0);
+        }
+        let seats = self.seats.as_mut_slice();
+        match untaken_bits(seats, links, board, &self.struck, self.run, count, to_rest) {
+            Ok(bits) => {
+                self.run += bits;
+                self.left -= bits;
+                Ok(bits)
+            }
+            Err(broken) => {
+                self.run += broken.after;
+                self.left -= broken.after;
+                self.fault = Some(broken.fault);
+                Err(broken.fault)
+            }
+        }
+    }
+}

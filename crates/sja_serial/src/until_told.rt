@@ -1,0 +1,58 @@
+//! Bits of the bus up to the first in which a port is told its turn.
+
+use super::serial_run::SerialRun;
+use sja_plan::Plan;
+
+impl SerialRun {
+    ghost use Rattle.std.specs.Prelude.{◌≡◌, ◌+◌, ◌<◌, ◌≤◌, List};
+    ghost use Rattle.sja_wire.specs.Lawful.{IsBusRun};
+    ghost use Rattle.sja_plan.specs.Plan.{IsInLimits};
+    ghost use Rattle.sja_driver.specs.Deeds.{Deed};
+    ghost use Rattle.sja_serial.specs.Serial.{StandsAt, IsRunOf};
+    ghost use Rattle.sja_serial.specs.UntilTold.{TakesUntilTold};
+
+    /// The next bits, at most so many and as many as are left, up to the first in which a port is told its turn: in
+    /// none of the others a port is told anything, a message is judged, or a node goes bus-off. It says how many: at
+    /// least one, where one is asked for and left.
+    pub fn bits_until_told(&mut self, plan: &Plan, count: u32) -> u32
+        requires run { IsRunOf plan.now self.old }
+        ensures most { result ≤ count }
+        ensures some { 1 ≤ count → self.old.bits < plan.now.bits → 1 ≤ result }
+        ensures bits { (deeds : List (List Deed)) → StandsAt plan.now self.old deeds →
+            TakesUntilTold plan.now deeds self.old result self.new }
+        ensures stays { IsRunOf plan.now self.new }
+    {
+        let most = count.min(self.bits_left(plan));
+        if most == 0 {
+            return 0;
+        }
+        let bits = self.run_untold_bits(plan, most);
+        if bits == 0 {
+            self.run_one_bit(plan);
+            return 1;
+        }
+        bits
+    }
+
+    /// The same, of so many that are left, as far as no strike falls, no port wants an abort and nothing is untold.
+    fn run_untold_bits(&mut self, plan: &Plan, count: u32) -> u32
+        requires run { IsRunOf plan.now self.old }
+        requires left { self.old.bits + count ≤ plan.now.bits }
+        requires limits { IsInLimits plan.now }
+        requires lawful { IsBusRun self.old.bus.script self.old.bus.run self.old.bus.journals }
+        ensures most { result ≤ count }
+        ensures bits { (deeds : List (List Deed)) → StandsAt plan.now self.old deeds →
+            TakesUntilTold plan.now deeds self.old result self.new }
+    {
+        match self
+            .bus
+            .bits_until_told(self.links.as_mut_slice(), &mut self.board, count)
+        {
+            Ok(bits) => {
+                self.bits += bits;
+                bits
+            }
+            Err(_) => unreachable!(),
+        }
+    }
+}

@@ -1,0 +1,56 @@
+use Rattle.std.proofs.Common.{◌≡◌, ◌<◌, ℕ, ◌-◌, List, sym, ap, ◌∙◌, subst, arith, inr}
+use Rattle.std.specs.Prelude.{reverse}
+use Rattle.sja_plan.specs.declared.turn.Turn.{Turn}
+use Rattle.sja_plan.specs.declared.turn.Turn.TheVariants.{Bus}
+use Rattle.sja_plan.specs.Plan.{PlanValue}
+use Rattle.sja_driver.specs.Deeds.{Deed}
+use Rattle.sja_serial.specs.Serial.{SerialValue}
+use Rattle.sja_serial.specs.UntilTold.{TakesUntilTold}
+use Rattle.sja_serial.proofs.WholeRun.GoingOn.{bits_run}
+use Rattle.sja_session.specs.Inside.UntilTold.{RunsUntilTold}
+use Rattle.sja_session.specs.Running.{MayRun}
+use Rattle.sja_session.specs.Sessions.{SessionValue, session_of, IsAt}
+use Rattle.sja_session.specs.Turning.{goes_on_latest}
+use Rattle.sja_session.proofs.AfterBits.{turn_fits, session_some}
+use Rattle.sja_session.proofs.StillLines.{until_told}
+use Rattle.sja_session.proofs.Turned.{bits_on_bits, latest_of}
+use Rattle.sja_session.proofs.session.Session.run_until_told.Goals as goal
+
+run_is : (plan : PlanValue) (deeds : List (List Deed)) (was now : SerialValue) (n : ℕ) →
+    TakesUntilTold plan deeds was n now → n ≡ now.bits - was.bits
+run_is plan deeds was now n t = let b = bits_run plan deeds _ was now n t in omega (arith, b)
+
+pub push_turn-requires-clause-fits : goal.push_turn-requires-clause-fits
+push_turn-requires-clause-fits c =
+    let inv = c.self.invariant in let t = c.bits_until_told-run.ensures.bits inv.deeds inv.at.stands in
+    turn_fits inv t (run_is _ _ _ _ _ t)
+
+pub invariant_of-self : goal.invariant_of-self
+invariant_of-self c =
+    let inv = c.self.invariant in let t = c.bits_until_told-run.ensures.bits inv.deeds inv.at.stands in
+    let push = c.push_turn.ensures in
+    let may = subst (λ (s : SessionValue). MayRun s 1) (sym c.self.view_is) c.requires.may in
+    let left = subst (λ (s : SessionValue). s.run.bits < s.plan.bits) (sym c.self.view_is) c.requires.left in
+    let some = c.bits_until_told-run.ensures.some c.requires.some left in
+    session_some inv t (run_is _ _ _ _ _ t) push.turns push.capacity may (omega arith) (omega (arith, some))
+
+pub returns-clause-ran : goal.returns-clause-ran
+returns-clause-ran c = λ deeds h.
+    let s = c.self.inside in let run = c.bits_until_told-run.result in let now = c.bits_until_told-run.new.self in
+    let own = subst (λ (x : SessionValue). IsAt x deeds) (sym c.self.view_is) h in
+    let left = subst (λ (x : SessionValue). x.run.bits < x.plan.bits) (sym c.self.view_is) c.requires.left in
+    subst (λ (x : SessionValue). RunsUntilTold x (session_of s.room now s.plan c.push_turn.new.turns.items) run deeds)
+    c.self.view_is
+    (subst (λ (l : List Turn). RunsUntilTold (session_of s.room s.run s.plan s.turns.items)
+    (session_of s.room now s.plan l) run deeds) (sym c.push_turn.ensures.turns)
+    (until_told s.room s.plan s.turns.items deeds s.run now run own
+    (c.bits_until_told-run.ensures.bits deeds own.stands)
+    (c.bits_until_told-run.ensures.some c.requires.some left)))
+
+-- a turn of the bus goes on with further bits
+pub returns-clause-may : goal.returns-clause-may
+returns-clause-may c =
+    let turns = c.self.inside.turns.items in let run = c.bits_until_told-run.result in
+    inr (inr (ap (λ (l : List Turn). goes_on_latest (reverse l) (Bus 1)) c.push_turn.ensures.turns
+    ∙ ap (λ (l : List Turn). goes_on_latest l (Bus 1)) (latest_of turns (Bus run))
+    ∙ bits_on_bits (reverse turns) run 1))
