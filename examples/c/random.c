@@ -60,21 +60,13 @@ static uint32_t ask_text(struct driven *driven, int plan)
     return told.status;
 }
 
-/* A strike; in version 3 one in 64 of them. */
-static uint32_t strike(const struct driven *driven)
-{
-    if (driven->version == 3 && any() % 64 != 0)
-        return sja_now(driven->session).status;
-    return sja_strike(driven->session, about(driven->nodes), about(driven->bits)).status;
-}
-
 static uint32_t one_call(struct driven *driven)
 {
     sja *session = driven->session;
 
     switch (any() % 24) {
     case 0:
-        return strike(driven);
+        return sja_strike(session, about(driven->nodes), about(driven->bits)).status;
     case 1:
         return sja_now(session).status;
     case 2:
