@@ -2,8 +2,10 @@
 
 use super::buses::{self, Traffic};
 use super::document::Document;
+use super::watching::{self, BUSY, BUSY_WATCHED, IDLE, IDLE_WATCHED};
 use super::{
-    contending, faults, hearing, idle, line, node, plans, sending, sessions, shift, stream, talk,
+    contending, driving, faults, hearing, idle, line, node, plans, sending, sessions, shift,
+    stream, talk,
 };
 use std::alloc::Global;
 
@@ -54,12 +56,24 @@ pub enum Figure {
     SessionCommand,
     /// A session of a sender and a receiver.
     SessionStream,
+    /// Registers of a session that writes its plan are read by their addresses.
+    SessionPlanRead,
+    /// Registers of such a session are written by their addresses.
+    SessionPlanWrite,
+    /// Such a session runs idle bits.
+    SessionIdle,
+    /// It runs idle bits and watches its lines.
+    SessionIdleWatched,
+    /// It runs the bits of frames.
+    SessionBusy,
+    /// It runs the bits of frames and watches its lines.
+    SessionBusyWatched,
     /// A session is driven line by line.
     Talk,
 }
 
 /// Every figure, in the order in which `all` tells them.
-pub const FIGURES: [Figure; 23] = [
+pub const FIGURES: [Figure; 29] = [
     Figure::Shift,
     Figure::Line,
     Figure::Node,
@@ -82,6 +96,12 @@ pub const FIGURES: [Figure; 23] = [
     Figure::SessionWrite,
     Figure::SessionCommand,
     Figure::SessionStream,
+    Figure::SessionPlanRead,
+    Figure::SessionPlanWrite,
+    Figure::SessionIdle,
+    Figure::SessionIdleWatched,
+    Figure::SessionBusy,
+    Figure::SessionBusyWatched,
     Figure::Talk,
 ];
 
@@ -100,16 +120,16 @@ const CONTENDING: Traffic = Traffic {
 };
 
 /// Eight nodes of which none sends.
-const IDLE: Traffic = Traffic {
+const BUS_IDLE: Traffic = Traffic {
     nodes: 8,
     senders: 0,
     at_once: false,
 };
 
 /// The same, by stretches of bits that are run at once.
-const IDLE_STRETCH: Traffic = Traffic {
+const BUS_IDLE_STRETCH: Traffic = Traffic {
     at_once: true,
-    ..IDLE
+    ..BUS_IDLE
 };
 
 impl Figure {
@@ -148,6 +168,12 @@ impl Figure {
             Figure::SessionWrite => "session-write",
             Figure::SessionCommand => "session-command",
             Figure::SessionStream => "session-stream",
+            Figure::SessionPlanRead => "session-plan-read",
+            Figure::SessionPlanWrite => "session-plan-write",
+            Figure::SessionIdle => "session-idle",
+            Figure::SessionIdleWatched => "session-idle-watched",
+            Figure::SessionBusy => "session-busy",
+            Figure::SessionBusyWatched => "session-busy-watched",
             Figure::Talk => "talk",
         }
     }
@@ -167,8 +193,8 @@ impl Figure {
             Figure::Stream => stream::told(alloc, count),
             Figure::BusStream => buses::told(alloc, count / 10, STREAM),
             Figure::BusContending => buses::told(alloc, count / 10, CONTENDING),
-            Figure::BusIdle => buses::told(alloc, count / 10, IDLE),
-            Figure::BusIdleStretch => buses::told(alloc, count / 10, IDLE_STRETCH),
+            Figure::BusIdle => buses::told(alloc, count / 10, BUS_IDLE),
+            Figure::BusIdleStretch => buses::told(alloc, count / 10, BUS_IDLE_STRETCH),
             Figure::Plan => plans::told(alloc, count, Document::Steps),
             Figure::Comments => plans::told(alloc, count, Document::Comments),
             Figure::Numbers => plans::told(alloc, count, Document::Numbers),
@@ -178,6 +204,12 @@ impl Figure {
             Figure::SessionWrite => sessions::writes_told(alloc, count),
             Figure::SessionCommand => sessions::commands_told(alloc, count),
             Figure::SessionStream => sessions::frames_told(alloc, count / 10),
+            Figure::SessionPlanRead => driving::reads_told(alloc, count),
+            Figure::SessionPlanWrite => driving::writes_told(alloc, count),
+            Figure::SessionIdle => watching::told(alloc, count / 10, IDLE),
+            Figure::SessionIdleWatched => watching::told(alloc, count / 10, IDLE_WATCHED),
+            Figure::SessionBusy => watching::told(alloc, count / 10, BUSY),
+            Figure::SessionBusyWatched => watching::told(alloc, count / 10, BUSY_WATCHED),
             Figure::Talk => talk::told(alloc, count),
         }
     }

@@ -7,6 +7,7 @@
 mod buses;
 mod contending;
 mod document;
+mod driving;
 mod faults;
 mod figure;
 mod hearing;
@@ -23,6 +24,7 @@ mod station;
 mod stream;
 mod talk;
 mod tally;
+mod watching;
 mod wire;
 mod worked;
 

@@ -26,7 +26,7 @@ const WAITING: u32 = 11;
 const FRAMES: u32 = 1_300;
 
 /// The transmit buffer of an extended data frame with eight data bytes: addresses, and what is written there.
-const FRAME: [(u8, u8); 13] = [
+pub const FRAME: [(u8, u8); 13] = [
     (16, 0x88),
     (17, 0x91),
     (18, 0xa2),
