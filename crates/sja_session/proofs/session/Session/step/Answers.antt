@@ -181,3 +181,8 @@ returns-clause-done c = λ answer e deeds h.
     answer deeds) (sym c.push_turn.ensures.turns)
     (does_step c.self.inside.plan c.self.inside.run c.try_next.new.self c.self.inside.turns.items deeds c.args.node
     c.done-at.result c.args.step (may at).there (at_is at deeds own) (long at) own t answer same)))
+
+-- a step that has to wait has no answer
+pub returns-then-not-try_next-clause-done : goal.returns-then-not-try_next-clause-done
+returns-then-not-try_next-clause-done c = λ answer is.
+    let none : Ok HasToWait ≡ Ok (Answer answer) = is in absurd cc
