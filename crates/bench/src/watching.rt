@@ -88,8 +88,11 @@ fn has_risen(session: &mut PlanSession, watching: Watching) -> Option<bool> {
     if watching.busy {
         write(session, 1, 1, 0x04)?;
     }
+    if first == BITS {
+        return Some(false);
+    }
     let _ = pass(session, BITS.checked_sub(first)?, watching)?;
-    Some(first < BITS)
+    Some(true)
 }
 
 /// Lets so many bits pass, or, where lines are watched, those up to the first in which one rises. It says how many.
