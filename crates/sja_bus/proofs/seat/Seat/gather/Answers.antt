@@ -110,3 +110,6 @@ returns-in_err-take-clause-refused g c =
     c.args.base c.args.self.now.journal.room (link_of c.args.self.now.ledger).node
     c.index-links-here.result c.take.new.end c.in_err-take.field-0.0 c.if-self-ge64.false room inv.ready.sound
     inv.stays.node inv.stays.room inv.items inv.goes c.in_err-take.ensures.refused)
+
+pub returns-then-self-ge64-clause-dry : goal.returns-then-self-ge64-clause-dry
+returns-then-self-ge64-clause-dry g c = λ d few. absurd (omega (arith, few, c.if-self-ge64.true))
