@@ -1,4 +1,4 @@
-use Rattle.std.proofs.Common.{rules, ◌≡◌, Err, suc, subst}
+use Rattle.std.proofs.Common.{rules, ◌≡◌, Ok, Err, true, suc, subst}
 use Rattle.sja_wire.specs.declared.bus_fault.BusFault.{BusFault}
 use Rattle.sja_link.specs.declared.link_id.LinkId.{LinkId}
 use Rattle.sja_bus.specs.Reasons.{IsRefusedFor}
@@ -40,3 +40,6 @@ returns-in_err-note-in-Ok-Some-clause-refused g c =
       shown = took;
     } in
     err_is P c.from_residual.result f is here
+
+pub returns-in-Err-clause-untold : goal.returns-in-Err-clause-untold
+returns-in-Err-clause-untold g c = λ taken. let e : Err _ ≡ Ok true = taken in absurd cc
