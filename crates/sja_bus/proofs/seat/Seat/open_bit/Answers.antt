@@ -21,7 +21,7 @@ pub returns-then-ordered-clause-opens : goal.returns-then-ordered-clause-opens
 returns-then-ordered-clause-opens g c =
     let P : ℕ → Type 0 = λ n. g.B.Board.orders_are c.args.board.now n c.orders-ordered.result in
     let are = subst P (c.number.ensures ∙ c.gather.ensures.stays.node) c.orders-ordered.ensures.orders in
-    let yes : c.orders-ordered.result.abort ≡ true = search rules in
+    let yes : c.orders-ordered.result.abort ≡ true = c.if-ordered.true in
     ok_map c.abort.result (λ a. record {
       taken = c.gather.new.self.journal.entries;
       items =
@@ -39,7 +39,7 @@ returns-else-ordered-clause-opens g c =
     let k = c.gather.new.self.journal.entries in
     let P : ℕ → Type 0 = λ n. g.B.Board.orders_are c.args.board.now n c.orders-ordered.result in
     let are = subst P (c.number.ensures ∙ c.gather.ensures.stays.node) c.orders-ordered.ensures.orders in
-    let no : c.orders-ordered.result.abort ≡ false = search rules in
+    let no : c.orders-ordered.result.abort ≡ false = c.if-ordered.false in
     record {
       taken = k;
       items = c.in_ok-gather.ensures.items;
@@ -66,7 +66,7 @@ returns-then-ordered-clause-stops g c =
     let E = g.E.BusEnd in let mid = c.gather.new.self in
     let O : ℕ → Type 0 = λ n. g.B.Board.orders_are c.args.board.now n c.orders-ordered.result in
     let are = subst O (c.number.ensures ∙ c.gather.ensures.stays.node) c.orders-ordered.ensures.orders in
-    let yes : c.orders-ordered.result.abort ≡ true = search rules in
+    let yes : c.orders-ordered.result.abort ≡ true = c.if-ordered.true in
     err_both c.abort.result
     (λ due f full. inr (full_for_abort E.same E.stands c.args.self.now mid c.abort.new.self c.args.links.now
     c.gather.new.links c.args.base f c.gather.ensures.stays.node c.gather.ensures.stays.room
