@@ -138,7 +138,7 @@ free_now g c untold =
 pub run_together-together-requires : goal.run_together-together-requires
 run_together-together-requires g c =
     let at = (goal.at.run_together-together-requires g c).In-Ok in
-    let untold : c.in-Ok.end.told ≡ false = search rules in
+    let untold : c.in-Ok.end.told ≡ false = c.if-end.false in
     let within : c.loop-run.run < length c.part-marks.result.now = search rules in
     let left = part_left c.part-marks.result.now (c.loop-run.run + 1) (omega (arith, within)) in record {
       ready = c.in-Ok.ensures.ready;
@@ -160,7 +160,7 @@ loop-run-preserved g c =
     let marks = c.part-marks.result.now in
     let more = runs_more g at in
     let within : run < length marks = search rules in
-    let untold : c.in-Ok.end.told ≡ false = search rules in
+    let untold : c.in-Ok.end.told ≡ false = c.if-end.false in
     let one = c.sample_all.new.seats in let now = c.run_together-together.new.seats in
     let n = c.run_together-together.result in let rows = c.run_together-together.ensures.rows in
     let stay = rooms_after c.args.to_rest one n now rows in
