@@ -1,4 +1,4 @@
-use Rattle.std.proofs.Common.{append-nil, ◌≡◌, ℕ, true, false, rules, refl, sym, ◌∙◌, subst, inr}
+use Rattle.std.proofs.Common.{append-nil, ◌≡◌, ℕ, true, false, refl, sym, ◌∙◌, subst, inr}
 use Rattle.sja_bus.proofs.ItemsTaken.Breaking.{full_for_abort}
 use Rattle.sja_bus.proofs.Links.Moving.{goes_trans, goes_aborted}
 use Rattle.sja_bus.proofs.AtPorts.Turning.{aborts_none, takes_then}
