@@ -1,34 +1,19 @@
 -- How a session takes the turns of a plan.
-use Rattle.std.proofs.Common.{◌≡◌, ℕ, zero, suc, ◌+◌, ◌<◌, ◌≤◌, Bool, true, false, List, [], ◌∷◌, length, refl, sym}
-use Rattle.std.proofs.Common.{ap, ◌∙◌, ◌≢◌, drop, subst, All, arith, inl, inr}
+use Rattle.std.proofs.Common.{◌≡◌, ℕ, ◌+◌, ◌<◌, ◌≤◌, true, false, List, ◌∷◌, length, refl, sym}
+use Rattle.std.proofs.Common.{ap, ◌∙◌, drop, subst, arith}
 use Rattle.std.proofs.lemmas.List.{drop_all, drop_more}
-use Rattle.std.proofs.lemmas.Option.{slice_get-get_or, slice_get_past}
-use Rattle.std.specs.Prelude.{◌⊎◌, ◌==◌, ◌-◌, Some, None, reverse, slice_get, slice_index_or}
+use Rattle.std.specs.Prelude.{slice_index_or}
 use Rattle.sja_driver.specs.Deeds.{Deed}
 use Rattle.sja_log.specs.declared.end.End.{End}
 use Rattle.sja_log.specs.declared.end.End.TheVariants.{Turns as TurnsDone, Bits as BitsSpent}
 use Rattle.sja_plan.specs.Plan.{PlanValue}
 use Rattle.sja_plan.specs.declared.turn.Turn.{Turn}
 use Rattle.sja_plan.specs.declared.turn.Turn.TheVariants.{Bus, Rest, Node}
-use Rattle.sja_script.specs.declared.step.Step.{Step}
-use Rattle.sja_script.specs.declared.step_answer.StepAnswer.{StepAnswer}
 use Rattle.sja_session.specs.Sessions.{IsAt}
-use Rattle.sja_session.specs.declared.session_room.SessionRoom.{SessionRoom}
-use Rattle.sja_session.specs.declared.step_fault.StepFault.{StepFault}
-use Rattle.sja_session.specs.declared.step_fault.StepFault.TheVariants.{NoNode, StepsUsed, TurnsUsed}
-use Rattle.sja_session.specs.Turning.{goes_on_latest, with_turn}
-use Rattle.sja_session.proofs.QuietBits.{nodes_same}
-use Rattle.sja_session.proofs.Turned.{few_turns, latest_of}
-use Rattle.sja_plan_session.specs.Accessing.{DoesStep, HasTurn, IsStepFault, LacksTurn, MayStep, WaitsFor}
 use Rattle.sja_plan_session.specs.Inside.Following.{Follows, DoesTurn, LeadsOn}
-use Rattle.sja_plan_session.specs.PlanSessions.{PlanSessionValue, done_of, node_count}
-use Rattle.sja_plan_session.specs.RawRuns.{DoesSteps, DoesTurns, next_step}
-use Rattle.sja_plan_session.specs.RawRuns.DoesSteps.{all, over, waits, more}
+use Rattle.sja_plan_session.specs.PlanSessions.{PlanSessionValue}
+use Rattle.sja_plan_session.specs.RawRuns.{DoesTurns}
 use Rattle.sja_plan_session.specs.RawRuns.DoesTurns.{all_done, bus, bus_spent, rest, rest_spent, node}
-use Rattle.sja_plan_session.specs.Running.{Runs, RunsToRest, WritesBits, with_bits}
-use Rattle.sja_plan_session.proofs.Bits.{BitsLed, runs_led, rests_led, bits_led, nodes_led, few_bits}
-use Rattle.sja_plan_session.proofs.Fewer.{on_itself}
-use Rattle.sja_plan_session.proofs.Typed.{chain_of, led_by}
 
 -- ---- a turn and those after it
 

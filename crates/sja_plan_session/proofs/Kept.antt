@@ -1,10 +1,10 @@
 -- What holds of every session of version 3 holds of it after each of its calls.
-use Rattle.std.proofs.Common.{◌≡◌, ℕ, zero, suc, ◌+◌, ◌<◌, ◌≤◌, ◌≢◌, List, [], ◌∷◌, ◌++◌}
+use Rattle.std.proofs.Common.{◌≡◌, ℕ, zero, suc, ◌+◌, ◌<◌, ◌≤◌, ◌≢◌, List, [], ◌∷◌}
 use Rattle.std.proofs.Common.{length}
 use Rattle.std.proofs.Common.{refl, sym, ap, ◌∙◌, subst, All, arith, inl, inr}
 use Rattle.std.specs.Prelude.{reverse, slice_index_or}
 use Rattle.std.proofs.lemmas.Bool.{cases_eq}
-use Rattle.std.proofs.lemmas.List.{length-append, length-set, get_or-set_same, get_or-set_other}
+use Rattle.std.proofs.lemmas.List.{length-append}
 use Rattle.sja_driver.specs.Deeds.{Deed}
 use Rattle.sja_plan.specs.Plan.{PlanValue}
 use Rattle.sja_plan.specs.declared.turn.Turn.{Turn}
@@ -23,7 +23,6 @@ use Rattle.sja_plan_session.specs.Keeping.{AreFewer, AreSteps, AreWithin, IsPlan
 use Rattle.sja_plan_session.specs.PlanSessions.{PlanSessionValue, bits_of, most_bits, node_count, steps_of, done_of}
 use Rattle.sja_plan_session.specs.Rooms.{IsAccessRoom}
 use Rattle.sja_plan_session.specs.Running.{WritesBits}
-use Rattle.sja_plan_session.specs.Writing.{with_more}
 use Rattle.sja_plan_session.proofs.Bits.{BitsLed, version_led, bits_led, nodes_led}
 use Rattle.sja_plan_session.proofs.Fewer.{fewer_both}
 use Rattle.sja_plan_session.proofs.OneMore.{more_same, more_other, more_long}

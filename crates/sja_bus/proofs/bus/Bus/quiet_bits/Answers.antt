@@ -1,5 +1,5 @@
 use Rattle.std.proofs.Common.{◌≡◌, ◌≢◌, ap, ◌+◌, ◌∙◌, ℕ, List, refl, sym, subst, inr}
-use Rattle.std.specs.Prelude.{Result, Ok, Err, IfOk}
+use Rattle.std.specs.Prelude.{Result, Ok, IfOk}
 use Rattle.sja_wire.specs.declared.bus_fault.BusFault.{BusFault}
 use Rattle.sja_wire.specs.OneBit.{MayHaveItems}
 use Rattle.sja_bus.specs.Buses.{BusValue, AllTold, EachJournal, EachUntold}

@@ -1,7 +1,7 @@
 use Rattle.std.proofs.Common.{◌≡◌, ◌+◌, ◌-◌, ℕ, subst, arith, rules}
 use Rattle.std.specs.Prelude.{Err}
 use Rattle.sja_wire.specs.declared.bus_fault.BusFault.{BusFault}
-use Rattle.sja_bus.specs.Moment.{Moment, moment}
+use Rattle.sja_bus.specs.Moment.{moment}
 use Rattle.sja_bus.specs.Several.{WorksIf}
 use Rattle.sja_bus.specs.Inside.RunningOn.{AnyBit, IsSoFar, IsStopped, WorksUntold}
 use Rattle.lemmas.proofs.Results.{err_is}

@@ -8,7 +8,7 @@ use Rattle.sja_bus.specs.declared.seat.Seat.{Seat}
 use Rattle.sja_bus.specs.Moment.{moment}
 use Rattle.sja_bus.specs.Reasons.{room_for}
 use Rattle.sja_bus.specs.Inside.Refusing.{HaveRoom}
-use Rattle.sja_bus.specs.Inside.Rows.{AreSeated, IsBus, journals_of}
+use Rattle.sja_bus.specs.Inside.Rows.{AreSeated, journals_of}
 use Rattle.sja_bus.specs.UntilTold.{TakesFullBit}
 use Rattle.sja_bus.specs.Inside.RunningOn.{bus_of, AnyBit, SomeAborts, SomeFull, SomeUntold, WorksUntold}
 use Rattle.sja_bus.specs.Inside.Whole.{IsWhole}

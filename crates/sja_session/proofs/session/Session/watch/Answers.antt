@@ -1,4 +1,4 @@
-use Rattle.std.proofs.Common.{rules, ◌≤◌, false, List, length, sym, ◌∙◌, subst, arith}
+use Rattle.std.proofs.Common.{rules, ◌≤◌, List, length, sym, ◌∙◌, subst, arith}
 use Rattle.std.proofs.Common.{inr}
 use Rattle.sja_driver.specs.Deeds.{Deed}
 use Rattle.sja_session.specs.Running.{MayRun}
