@@ -57,8 +57,11 @@ def main():
         bus.write(0, BUFFER + place, value)
     bus.write(0, CMR, 0x01)
     ran = bus.ask("run 200")
-    print("bits", ran[1], "line", ran[3])
-    print("node 1 received", *(message.hex() for message in receive(bus, 1)))
+    print("bits", *ran[1:])
+    lines = int(ran[3], 16) if len(ran) > 3 else 0
+    for node in (0, 1):
+        if lines >> node & 1:
+            print(f"node {node} received", *(message.hex() for message in receive(bus, node)))
     print(bus.end(), end="")
 
 

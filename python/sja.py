@@ -44,6 +44,23 @@ class _Answer(ctypes.Structure):
     _fields_ = [("status", ctypes.c_uint32), ("value", ctypes.c_uint64)]
 
 
+def _done(answer):
+    """The value of a call of the library that is done."""
+    if answer.status:
+        raise SjaError(STATUSES[answer.status])
+    return answer.value
+
+
+def _text_of(call, *given):
+    """The text of a call of the library, which is asked first how much room it needs."""
+    needs = call(*given, ctypes.create_string_buffer(1), 0)
+    if STATUSES[needs.status] != "NO_ROOM":
+        _done(needs)
+    room = ctypes.create_string_buffer(needs.value)
+    _done(call(*given, room, needs.value))
+    return room.value.decode()
+
+
 class _Library:
     """A session in this process."""
 
@@ -58,30 +75,18 @@ class _Library:
             call = getattr(self.calls, f"sja_{name}")
             call.argtypes, call.restype = types, _Answer
         self.handle = ctypes.c_void_p()
-        self._done(self.calls.sja_make(ctypes.byref(self.handle)))
+        _done(self.calls.sja_make(ctypes.byref(self.handle)))
         try:
-            self._done(self.calls.sja_begin(self.handle, version, bits, nodes))
+            _done(self.calls.sja_begin(self.handle, version, bits, nodes))
         except SjaError:
             self.close()
             raise
 
-    @staticmethod
-    def _done(answer):
-        if answer.status:
-            raise SjaError(STATUSES[answer.status])
-        return answer.value
-
     def call(self, name, *numbers):
-        return self._done(getattr(self.calls, f"sja_{name}")(self.handle, *numbers))
+        return _done(getattr(self.calls, f"sja_{name}")(self.handle, *numbers))
 
     def text(self, name):
-        call = getattr(self.calls, f"sja_{name}")
-        needs = call(self.handle, ctypes.create_string_buffer(1), 0)
-        if STATUSES[needs.status] != "NO_ROOM":
-            self._done(needs)
-        room = ctypes.create_string_buffer(needs.value)
-        self._done(call(self.handle, room, needs.value))
-        return room.value.decode()
+        return _text_of(getattr(self.calls, f"sja_{name}"), self.handle)
 
     def close(self):
         if self.handle:
@@ -216,13 +221,38 @@ def _taken(number):
     return operator.index(number) if _is_number(number) else GREATEST
 
 
+def _library():
+    """The shared object, or nothing where there is none."""
+    return os.environ.get("SJA_LIBRARY", BESIDE if os.path.exists(BESIDE) else "")
+
+
+def _program():
+    return os.environ.get("SJA", "sja")
+
+
+def run_plan(plan):
+    """Runs a plan, a text as `sja run` takes it. Its report."""
+    document, library = plan.encode(), _library()
+    if library:
+        call = ctypes.CDLL(library).sja_run_plan
+        call.argtypes, call.restype = [ctypes.c_char_p, ctypes.c_size_t] * 2, _Answer
+        return _text_of(call, document, len(document))
+    try:
+        ran = subprocess.run([_program(), "run"], input=document, stdout=subprocess.PIPE, stderr=subprocess.DEVNULL)
+    except OSError:
+        raise SjaError("BROKEN") from None
+    if ran.returncode:
+        raise SjaError("NO_PLAN" if ran.returncode == 1 else "BROKEN")
+    return ran.stdout.decode()
+
+
 class Session:
     """A bus of one to eight controllers. The calls are those of c/sja.h."""
 
     def __init__(self, version, bits, nodes):
-        library = os.environ.get("SJA_LIBRARY", BESIDE if os.path.exists(BESIDE) else "")
+        library = _library()
         made = _Library if library else _Process
-        self._session = made(library or os.environ.get("SJA", "sja"), *map(_taken, (version, bits, nodes)))
+        self._session = made(library or _program(), *map(_taken, (version, bits, nodes)))
 
     def _open(self):
         if self._session is None:

@@ -7,7 +7,7 @@ import sys
 
 sys.dont_write_bytecode = True
 sys.path.insert(0, f"{os.path.dirname(os.path.dirname(os.path.abspath(__file__)))}/python")
-from sja import Session, SjaError  # noqa: E402
+from sja import Session, SjaError, run_plan  # noqa: E402
 
 PAST = 2**32
 
@@ -78,6 +78,9 @@ def rows():
     yield "the plan's first line", lambda: plan.split("\n")[0], "version = 3"
     report = bus.report()
     yield "the report once more", lambda: bus.report() == report, True
+    yield "the report of its plan", lambda: run_plan(plan) == report, True
+    yield "the report of no plan", lambda: run_plan("version = 4\n"), "NO_PLAN"
+    yield "the report of an empty plan", lambda: run_plan(""), "NO_PLAN"
     yield "the plan after the end", lambda: bus.plan() == plan, True
     yield from ended(bus, "ENDED")
     bus.close()
