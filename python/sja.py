@@ -113,17 +113,26 @@ class _Process:
             self.close()
             raise
 
+    def _lost(self):
+        """What is answered where the process answers no more: it ended with status 1 where it was refused memory."""
+        with contextlib.suppress(OSError):
+            self.process.stdin.close()
+        return "NO_MEMORY" if self.process.wait() == 1 else "BROKEN"
+
     def _say(self, line):
         try:
             self.process.stdin.write(f"{line}\n".encode())
             self.process.stdin.flush()
-        except OSError:
-            raise SjaError("BROKEN") from None
+        except (OSError, ValueError):
+            raise SjaError(self._lost()) from None
 
     def _ask(self, line, *words):
         """Says a line. What is answered, which begins with one of these words."""
         self._say(line)
-        heard = self.process.stdout.readline().decode().rstrip("\n")
+        answer = self.process.stdout.readline()
+        if not answer:
+            raise SjaError(self._lost())
+        heard = answer.decode().rstrip("\n")
         for word in words:
             if heard == word or heard.startswith(f"{word} "):
                 return heard
@@ -187,7 +196,7 @@ class _Process:
             if line == b"full PLAN\n" and not lines:
                 return "NO_DOCUMENT", ""
             lines.append(line)
-        return "BROKEN", ""
+        return self._lost(), ""
 
     def _end(self):
         """Ends the session. Its plan and its report are kept, each with its status."""
@@ -195,7 +204,7 @@ class _Process:
         self.texts["plan"] = self._plan_now()
         self._say("end")
         report = self.process.stdout.read().decode()
-        self.texts["report"] = ("DONE" if report else "NO_MEMORY", report)
+        self.texts["report"] = ("DONE" if report else self._lost(), report)
 
     def text(self, name):
         if not self.texts and name == "report":
