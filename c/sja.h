@@ -69,10 +69,12 @@ sja_answer sja_read(sja *session, uint32_t node, uint32_t address);
 sja_answer sja_write(sja *session, uint32_t node, uint32_t address, uint32_t value);
 
 /* Runs so many bits, or as many as are left, or up to the first bit in which the interrupt line of a watched node
- * rises: node K is watched where bit K of watch is 1. The value is how many were run. */
+ * rises: node K is watched where bit K of watch is 1. The value is how many were run. A line that is active already
+ * stops nothing, however it came to be: so a driver asks sja_irq first, and handles what is pending. */
 sja_answer sja_bits(sja *session, uint32_t count, uint32_t watch);
 
-/* Whether the interrupt line of a node is active: the value is 1 or 0. It clears nothing. */
+/* Whether the interrupt line of a node is active: the value is 1 or 0. It's a level: it stays 1 until the interrupt was
+ * read or disabled. It clears nothing. */
 sja_answer sja_irq(sja *session, uint32_t node);
 
 /* Has a node see the other level in a bit that hasn't run, counted from 0. */

@@ -152,14 +152,15 @@ void interrupts_handle(struct interrupts *driver)
     }
 }
 
+/* The line is a level, and bits stop where it rises: so what is pending is handled before each of them runs. */
 void interrupts_run(struct interrupts *driver, uint32_t bits)
 {
-    while (bits > 0) {
-        uint64_t run = board_done("bits", sja_bits(driver->board.session, bits, 1u << driver->board.node));
+    uint64_t run;
 
+    do {
         interrupts_handle(driver);
-        if (run == 0)
-            return;
+        run = board_done("bits", sja_bits(driver->board.session, bits, 1u << driver->board.node));
         bits -= (uint32_t)run;
-    }
+    } while (run > 0);
+    interrupts_handle(driver);
 }

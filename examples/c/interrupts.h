@@ -29,7 +29,7 @@ int interrupts_receive(struct interrupts *driver, struct message *message);
 void interrupts_handle(struct interrupts *driver);
 void interrupts_close(struct interrupts *driver);
 
-/* Runs bits, and handles each interrupt of the driver as it comes. */
+/* Runs bits, and handles each interrupt of the driver as it comes, and first one that is pending already. */
 void interrupts_run(struct interrupts *driver, uint32_t bits);
 
 #endif

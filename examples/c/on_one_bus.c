@@ -119,7 +119,8 @@ static void overrun_polling(struct polling *polling, struct interrupts *interrup
     deliver(polling, 1, interrupts, 0, &message);
 }
 
-/* The same with nobody who serves the interrupt of the other driver. */
+/* The same with nobody who serves the interrupt of the other driver. Its line is active from the first message on, and
+ * is served before the last one comes: else that is lost too. */
 static void overrun_interrupts(struct polling *polling, struct interrupts *interrupts)
 {
     struct message message = FILLS;
@@ -130,14 +131,12 @@ static void overrun_interrupts(struct polling *polling, struct interrupts *inter
         board_wait(&polling->board, 300);
         tell("polling", polling_outcome(polling), SENT);
     }
-    interrupts_handle(interrupts);
-    deliver(polling, 0, interrupts, FIT, NULL);
+    polling_send(polling, &message, 0);
+    tell("polling", wait_polling(polling, interrupts), SENT);
+    deliver(polling, 0, interrupts, FIT + 1, &message);
     printf("  interrupts: %u overrun\n", interrupts->overruns);
     expect("overruns", interrupts->overruns, 1);
     expect("DOS", board_read(&interrupts->board, SR) & SR_DOS, 0);
-    polling_send(polling, &message, 0);
-    tell("polling", wait_polling(polling, interrupts), SENT);
-    deliver(polling, 0, interrupts, 1, &message);
 }
 
 /* Strikes the frame that a node sends. */

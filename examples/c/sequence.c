@@ -108,23 +108,29 @@ static void handle(struct device *device, uint8_t pending)
     }
 }
 
-/* Runs bits and handles each interrupt as it comes. */
+/* Handles interrupts until none is pending. */
+static void serve(struct device *device)
+{
+    for (int i = 0; i < MOST_INTERRUPTS; i++) {
+        uint8_t pending = reg(device, IR);
+
+        if (pending == 0)
+            return;
+        handle(device, pending);
+    }
+}
+
+/* Runs bits and handles each interrupt as it comes, and first one that is pending already. */
 static void run(struct device *device, uint32_t bits)
 {
-    while (bits > 0) {
-        uint64_t done = board_done("bits", sja_bits(device->board.session, bits, 1u << device->board.node));
+    uint64_t done;
 
-        for (int i = 0; i < MOST_INTERRUPTS; i++) {
-            uint8_t pending = reg(device, IR);
-
-            if (pending == 0)
-                break;
-            handle(device, pending);
-        }
-        if (done == 0)
-            return;
+    do {
+        serve(device);
+        done = board_done("bits", sja_bits(device->board.session, bits, 1u << device->board.node));
         bits -= (uint32_t)done;
-    }
+    } while (done > 0);
+    serve(device);
 }
 
 static void transmit(const struct device *device, const struct message *message, uint8_t command)
