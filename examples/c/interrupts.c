@@ -55,7 +55,6 @@ int interrupts_send(struct interrupts *driver, const struct message *message, in
     board_put(&driver->board, message);
     board_write(&driver->board, CMR, once ? CMR_TR | CMR_AT : CMR_TR);
     driver->busy = 1;
-    driver->once = once;
     driver->outcome = PENDING;
     return 1;
 }

@@ -13,7 +13,6 @@ struct interrupts {
     unsigned count;
     unsigned lost;                  /* messages for which the queue had no place */
     int busy;                       /* a message is under way */
-    int once;                       /* it is tried once alone */
     enum outcome outcome;           /* what became of the last one */
     int warned;                     /* an error counter is at the warning limit or past it */
     int off;                        /* bus-off */

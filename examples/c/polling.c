@@ -24,7 +24,6 @@ int polling_open(struct polling *driver, sja *session, uint32_t node, struct fil
     driver->board.session = session;
     driver->board.node = node;
     driver->busy = 0;
-    driver->once = 0;
     driver->overruns = 0;
     driver->restarts = 0;
     if (!into_mode(driver, MOD_RM))
@@ -53,7 +52,6 @@ int polling_send(struct polling *driver, const struct message *message, int once
     board_put(&driver->board, message);
     board_write(&driver->board, CMR, once ? CMR_TR | CMR_AT : CMR_TR);
     driver->busy = 1;
-    driver->once = once;
     return 1;
 }
 

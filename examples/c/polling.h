@@ -7,7 +7,6 @@
 struct polling {
     struct board board;
     int busy;           /* a message is under way */
-    int once;           /* it is tried once alone */
     unsigned overruns;
     unsigned restarts;
 };
