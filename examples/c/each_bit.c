@@ -9,7 +9,7 @@
 #include "interrupts.h"
 #include "polling.h"
 
-enum { VERSION = 2, BITS = 1000, FRAME = 100, SETTLES = 30, LATEST = 600 };
+enum { VERSION = 3, BITS = 1000, FRAME = 100, SETTLES = 30, LATEST = 600 };
 
 static const struct message MESSAGE = { .id = 0x2A5, .length = 3, .data = { 0xA5, 0x00, 0x5A } };
 
