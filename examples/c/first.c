@@ -4,17 +4,16 @@
 
 int main(void)
 {
-    char report[1000];
+    char report[1000] = "";
     sja *bus;
 
-    if (sja_new(3, 1000, 2, &bus).status != SJA_DONE)   /* version 3, at most 1,000 bits, two nodes */
-        return 1;
-    sja_write(bus, 0, 0, 0x00);                         /* node 0, MOD: out of reset mode */
-    sja_write(bus, 1, 0, 0x00);                         /* node 1 too */
-    sja_write(bus, 0, 1, 0x01);                         /* node 0, CMR: TR */
-    sja_bits(bus, 200, 0);                              /* 200 bits run */
+    sja_new(3, 1000, 2, &bus);              /* version 3, at most 1,000 bits, two nodes */
+    sja_write(bus, 0, 0, 0x00);             /* node 0, MOD: out of reset mode */
+    sja_write(bus, 1, 0, 0x00);             /* node 1 too */
+    sja_write(bus, 0, 1, 0x01);             /* node 0, CMR: TR */
+    sja_bits(bus, 200, 0);                  /* 200 bits run */
     printf("%u message\n", (unsigned)sja_read(bus, 1, 29).value);   /* node 1, RMC: it has the frame */
-    if (sja_report(bus, report, sizeof report).status == SJA_DONE)
-        fputs(report, stdout);                          /* what happened */
+    sja_report(bus, report, sizeof report); /* what happened */
+    fputs(report, stdout);
     return sja_free(bus).status == SJA_DONE ? 0 : 1;
 }
