@@ -42,7 +42,7 @@ enum sja_status {
     SJA_NO_PLAN = 14,     /* the bytes are no plan */
     SJA_NO_DOCUMENT = 15, /* no document says the plan, or it would be too long */
     SJA_NO_ROOM = 16,     /* the text doesn't fit: the value is the size that it needs, with the NUL at its end */
-    SJA_NO_MEMORY = 17,   /* memory was refused */
+    SJA_NO_MEMORY = 17,   /* memory was refused; of sja_plan and sja_report also: no session stands at the handle */
     SJA_BROKEN = 18       /* sja_pipe.c alone: the process of the session can't be started, or doesn't answer */
 };
 
@@ -52,8 +52,9 @@ typedef struct sja_answer {
     uint64_t value;
 } sja_answer;
 
-/* Makes the place of a session, and puts its handle into *session. There is no session in it, as if it had ended.
- * Where memory is refused *session is null. */
+/* Makes the place of a session, and puts its handle into *session. There is no session in it, as if it had ended
+ * without a plan and a report: SJA_NO_MEMORY is what these two calls answer. Where memory is refused *session is
+ * null. */
 sja_answer sja_make(sja **session);
 
 /* Begins a session to which nothing happened at a handle, in place of what stands there: by a version of the rules, 1
@@ -65,7 +66,8 @@ sja_answer sja_begin(sja *session, uint32_t version, uint32_t bits, uint32_t nod
 sja_answer sja_read(sja *session, uint32_t node, uint32_t address);
 
 /* Writes a byte to an address of a node: any of the 256. What a register doesn't take, or not in this mode, is ignored,
- * and the status is SJA_DONE all the same. No bit runs. */
+ * and the status is SJA_DONE all the same: so where MOD is to leave reset mode and all starts of the node are used, 64 in
+ * version 3 and eight before, RM stays 1. No bit runs. */
 sja_answer sja_write(sja *session, uint32_t node, uint32_t address, uint32_t value);
 
 /* Runs so many bits, or as many as are left, or up to the first bit in which the interrupt line of a watched node

@@ -100,7 +100,8 @@ static void received(struct interrupts *driver)
 }
 
 /* ES or BS has changed. After a bus-off reset mode is left at once, and the controller waits for 128 times eleven
- * recessive bits; what was under way is lost. At its end both are 0 again. */
+ * recessive bits; what was under way is lost. At its end both are 0 again. Where RM stays 1, as once all starts of a
+ * session's node are used, it is given up: it stays off. */
 static void changed(struct interrupts *driver)
 {
     uint8_t status = board_read(&driver->board, SR);
@@ -108,11 +109,10 @@ static void changed(struct interrupts *driver)
     driver->warned = (status & SR_ES) != 0;
     if ((status & SR_BS) && !driver->off) {
         driver->off = 1;
-        driver->restarts++;
         if (driver->busy)
             driver->outcome = NOT_SENT;
         driver->busy = 0;
-        into_mode(driver, MOD_AFM);
+        driver->restarts += (unsigned)into_mode(driver, MOD_AFM);
     } else if (!(status & SR_BS)) {
         driver->off = 0;
     }

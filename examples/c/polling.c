@@ -24,6 +24,7 @@ int polling_open(struct polling *driver, sja *session, uint32_t node, struct fil
     driver->board.session = session;
     driver->board.node = node;
     driver->busy = 0;
+    driver->down = 0;
     driver->overruns = 0;
     driver->restarts = 0;
     if (!into_mode(driver, MOD_RM))
@@ -44,10 +45,10 @@ void polling_close(struct polling *driver)
     into_mode(driver, MOD_RM);
 }
 
-/* Sends a message, or tries it once alone. Whether the transmit buffer was free for it. */
+/* Sends a message, or tries it once alone. Whether the controller is on the bus and its transmit buffer was free. */
 int polling_send(struct polling *driver, const struct message *message, int once)
 {
-    if (!(board_read(&driver->board, SR) & SR_TBS))
+    if ((board_read(&driver->board, SR) & (SR_TBS | SR_BS)) != SR_TBS)
         return 0;
     board_put(&driver->board, message);
     board_write(&driver->board, CMR, once ? CMR_TR | CMR_AT : CMR_TR);
@@ -80,7 +81,7 @@ int polling_receive(struct polling *driver, struct message *message)
 
 /* Looks after what went wrong: a data overrun is counted and cleared, and after a bus-off reset mode is left, so that
  * the controller waits for 128 times eleven recessive bits and comes back (data sheet, 6.4.3 and 6.4.5). What was under
- * way then is lost. */
+ * way then is lost. Where RM stays 1, as once all starts of a session's node are used, it is given up. */
 void polling_care(struct polling *driver)
 {
     uint8_t status = board_read(&driver->board, SR);
@@ -89,9 +90,9 @@ void polling_care(struct polling *driver)
         driver->overruns++;
         board_write(&driver->board, CMR, CMR_CDO);
     }
-    if ((status & SR_BS) && (board_read(&driver->board, MOD) & MOD_RM)) {
-        driver->restarts++;
+    if ((status & SR_BS) && !driver->down && (board_read(&driver->board, MOD) & MOD_RM)) {
         driver->busy = 0;
-        into_mode(driver, MOD_AFM);
+        driver->down = !into_mode(driver, MOD_AFM);
+        driver->restarts += !driver->down;
     }
 }

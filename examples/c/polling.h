@@ -7,6 +7,7 @@
 struct polling {
     struct board board;
     int busy;           /* a message is under way */
+    int down;           /* it didn't come up again after a bus-off */
     unsigned overruns;
     unsigned restarts;
 };
