@@ -66,8 +66,8 @@ sja_answer sja_begin(sja *session, uint32_t version, uint32_t bits, uint32_t nod
 sja_answer sja_read(sja *session, uint32_t node, uint32_t address);
 
 /* Writes a byte to an address of a node: any of the 256. What a register doesn't take, or not in this mode, is ignored,
- * and the status is SJA_DONE all the same: so where MOD is to leave reset mode and all starts of the node are used, 64 in
- * version 3 and eight before, RM stays 1. No bit runs. */
+ * and the status is SJA_DONE all the same: so where MOD is to leave reset mode and all starts of the node are used, 64
+ * in version 3 and eight before, RM stays 1. No bit runs. */
 sja_answer sja_write(sja *session, uint32_t node, uint32_t address, uint32_t value);
 
 /* Runs so many bits, or as many as are left, or up to the first bit in which the interrupt line of a watched node
