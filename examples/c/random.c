@@ -1,17 +1,19 @@
 /* Calls with random arguments, in and out of range, as many as the first word says: each has to be answered with a
- * status, and a million of them have to meet all that there are but for refused memory. Most sessions are of all calls;
- * some take turn after turn, or strike after strike, until there are no more. Where a second word names a folder, the
- * plan and the report of each session are put there, so that others can look whether a run of the plan has that report.
- * It's a test of the library, beside the sanitizers. */
+ * status, and a million of them have to meet all that there are but for refused memory. Half of the sessions are of all
+ * calls. In most others nodes send frames, so that some thousands of messages are stored; some take turn after turn, or
+ * strike after strike, until there are no more. Where a second word names a folder, the plan and the report of each
+ * session are put there, so that others can look whether a run of the plan has that report. It's a test of the library,
+ * beside the sanitizers. */
 #include <stdio.h>
 #include <stdlib.h>
 
 #include "sja.h"
 
-enum { ALL = 1000000, TEXT = 200000, MOST = 1 << 23, MIXED_BITS = 4000, LAST = 2000 };
+enum { ALL = 1000000, TEXT = 200000, MOST = 1 << 23, MIXED_BITS = 4000, BUSY_BITS = 30000, LAST = 2000 };
+enum { MOD = 0, CMR = 1, BUFFER = 16, BUFFER_BYTES = 13, AMR = 20, STARTING = 5, ROUND = 24 };
 
 /* What a session is for. */
-enum manner { MIXED, TURNS, STRIKES };
+enum manner { MIXED, BUSY, TURNS, STRIKES };
 
 struct driven {
     sja *session;
@@ -21,6 +23,8 @@ struct driven {
     enum manner manner;
     unsigned long number;
     unsigned long left;         /* so many calls and it ends */
+    uint32_t made;              /* calls of a busy one */
+    uint32_t sender;            /* whose frame is written there */
     int ended;                  /* its report was asked for */
 };
 
@@ -60,6 +64,14 @@ static uint32_t ask_text(struct driven *driven, int plan)
     return told.status;
 }
 
+/* An address: half the time MOD, CMR or one of the transmit buffer. */
+static uint32_t some_address(void)
+{
+    if (any() % 2 == 0)
+        return about(31);
+    return any() % 3 == 0 ? any() % 2 : BUFFER + any() % BUFFER_BYTES;
+}
+
 static uint32_t one_call(struct driven *driven)
 {
     sja *session = driven->session;
@@ -90,15 +102,48 @@ static uint32_t one_call(struct driven *driven)
     case 14:
         return sja_read(session, about(2), about(255)).status;
     default:
-        return sja_write(session, about(2), about(31), about(255)).status;
+        return sja_write(session, about(2), some_address(), about(255)).status;
     }
 }
 
-/* The next call of a session, as it is for. The last ones are of all calls. */
+/* A call of a session whose nodes send: each leaves reset mode with a filter that passes all. Then, in turn, a frame is
+ * written and asked for, bits run, a message is released, a node may leave reset mode again, and calls are made as in
+ * other sessions. */
+static uint32_t busy_call(struct driven *driven)
+{
+    sja *session = driven->session;
+    uint32_t call = driven->made++, node = any() % driven->nodes;
+
+    if (call < STARTING * driven->nodes)
+        return call % STARTING < 4 ? sja_write(session, call / STARTING, AMR + call % STARTING, 0xff).status
+                                   : sja_write(session, call / STARTING, MOD, 0).status;
+    call = (call - STARTING * driven->nodes) % ROUND;
+    if (call == 0)
+        driven->sender = node;
+    if (call < BUFFER_BYTES)
+        return sja_write(session, driven->sender, BUFFER + call, call < 2 ? any() % 9 : any() & 0xe0).status;
+    switch (call) {
+    case BUFFER_BYTES:
+        return sja_write(session, driven->sender, CMR, any() % 8 == 0 ? 3 : 1).status;
+    case BUFFER_BYTES + 1:
+        return sja_bits(session, any() % 300, about(255)).status;
+    case BUFFER_BYTES + 2:
+    case BUFFER_BYTES + 3:
+        return sja_write(session, node, CMR, 4).status;
+    case BUFFER_BYTES + 4:
+        return any() % 4 == 0 ? sja_write(session, node, MOD, 0).status : sja_read(session, node, any() % 32).status;
+    default:
+        return one_call(driven);
+    }
+}
+
+/* The next call of a session, as it is for. The last ones, but of a busy one, are of all calls. */
 static uint32_t next_call(struct driven *driven)
 {
-    if (driven->manner == MIXED || driven->left < LAST)
+    if (driven->manner == MIXED || (driven->manner != BUSY && driven->left < LAST))
         return one_call(driven);
+    if (driven->manner == BUSY)
+        return busy_call(driven);
     if (driven->manner == STRIKES)
         return sja_strike(driven->session, any() % driven->nodes, any() % driven->bits).status;
     if (driven->left % 2 == 0)
@@ -125,7 +170,8 @@ static uint32_t some_bits(void)
     }
 }
 
-/* Begins a session: the 20th takes turns until there are no more in version 3, and each 64th in version 1 or 2. */
+/* Begins a session: the 20th takes turns until there are no more in version 3, and each 64th in version 1 or 2. Of the
+ * others half are busy. */
 static uint32_t begin(struct driven *driven)
 {
     unsigned long number = driven->number;
@@ -136,6 +182,9 @@ static uint32_t begin(struct driven *driven)
     else if (number % 32 == 3)
         *driven = (struct driven){ .version = 1 + any() % 2, .bits = MIXED_BITS, .nodes = 1 + any() % 3,
                                    .manner = STRIKES, .left = 3500 };
+    else if (number % 2 == 0)
+        *driven = (struct driven){ .version = 1 + any() % 3, .bits = BUSY_BITS, .nodes = 2 + any() % 7,
+                                   .manner = BUSY, .left = 200 + any() % 3000 };
     else
         *driven = (struct driven){ .version = 1 + about(2), .bits = some_bits(), .nodes = about(8),
                                    .left = 1 + any() % (number % 8 == 5 ? 12000 : 3000) };
