@@ -43,7 +43,8 @@ enum sja_status {
     SJA_NO_DOCUMENT = 15, /* no document says the plan, or it would be too long */
     SJA_NO_ROOM = 16,     /* the text doesn't fit: the value is the size that it needs, with the NUL at its end */
     SJA_NO_MEMORY = 17,   /* memory was refused; of sja_plan and sja_report also: no session stands at the handle */
-    SJA_BROKEN = 18       /* sja_pipe.c alone: the process of the session can't be started, or doesn't answer */
+    SJA_BROKEN = 18       /* sja_pipe.c alone: the process of the session can't be started, or doesn't answer and
+                           * didn't say by its status that memory was refused */
 };
 
 /* What a call answers: how it went, and a number. The number is 0 where nothing else is said. */

@@ -3,9 +3,10 @@
  * program. For Linux and other POSIX systems.
  *
  * The environment variable SJA names the program; without it it is `sja` on the path. It has to be the proved program,
- * or a `./sja` that has one: without it `./sja live` opens no session, and sja_new answers SJA_BROKEN. What the process
- * says on its standard error goes nowhere; `$SJA live` in a shell shows it. Where SIGPIPE has no handler sja_new has it
- * ignored, so that a session's end is told by SJA_BROKEN and doesn't end the program.
+ * or a `./sja` that has one: without it `./sja live` opens no session, and sja_new answers SJA_BROKEN. Where it is
+ * refused memory it ends, and each call answers SJA_NO_MEMORY from then on. What the process says on its standard error
+ * goes nowhere; `$SJA live` in a shell shows it. Where SIGPIPE has no handler sja_new has it ignored, so that a
+ * session's end is told by SJA_BROKEN and doesn't end the program.
  */
 #define _POSIX_C_SOURCE 200809L
 
@@ -40,6 +41,7 @@ struct sja {
     size_t count;
     uint32_t bits;
     uint32_t nodes;
+    uint32_t lost;          /* what is answered where the process answers no more */
     int ended;
     uint32_t plan_status;
     uint32_t report_status;
@@ -196,6 +198,25 @@ static sja_answer text_put(const struct text *text, char *into, size_t size)
 
 /* ---- lines */
 
+/* The process has closed an end, so it ends, and it's kept why: `sja live` has status 1 where it was refused memory and
+ * answers no more. Gives 0. */
+static int hung_up(sja *session)
+{
+    if (session->to >= 0) {
+        close(session->to);
+        close(session->from);
+        session->to = session->from = -1;
+        session->lost = finished(session->process) == 1 ? SJA_NO_MEMORY : SJA_BROKEN;
+    }
+    return 0;
+}
+
+/* Says a line. Whether that was done. */
+static int say(sja *session, const char *said)
+{
+    return write_all(session->to, said, strlen(said)) || hung_up(session);
+}
+
 /* Has at least one byte at hand. Whether there is one. */
 static int fill(sja *session)
 {
@@ -207,7 +228,7 @@ static int fill(sja *session)
         count = read(session->from, session->held, BYTES);
     while (count < 0 && errno == EINTR);
     if (count <= 0)
-        return 0;
+        return hung_up(session);
     session->first = 0;
     session->count = (size_t)count;
     return 1;
@@ -252,7 +273,7 @@ static int hear(sja *session, char *line)
 /* Says a line, and hears the one back. Whether both were done. */
 static int ask(sja *session, const char *said, char *heard)
 {
-    return write_all(session->to, said, strlen(said)) && hear(session, heard);
+    return say(session, said) && hear(session, heard);
 }
 
 /* Whether a line begins with a word, and the number behind it. */
@@ -315,7 +336,7 @@ sja_answer sja_make(sja **session)
 sja_answer sja_begin(sja *session, uint32_t version, uint32_t bits, uint32_t nodes)
 {
     char said[LINE], heard[LINE];
-    sja made = { .bits = bits, .nodes = nodes };
+    sja made = { .bits = bits, .nodes = nodes, .lost = SJA_BROKEN };
     sja_answer told;
 
     if (session == NULL)
@@ -326,7 +347,7 @@ sja_answer sja_begin(sja *session, uint32_t version, uint32_t bits, uint32_t nod
     snprintf(said, sizeof said, "live %u %u %u\n", (unsigned)at_most(version, GREATEST),
              (unsigned)at_most(bits, GREATEST), (unsigned)at_most(nodes, GREATEST));
     if (!ask(&made, said, heard))
-        told = answer(SJA_BROKEN, 0);
+        told = answer(made.lost, 0);
     else
         told = strcmp(heard, "ok") == 0 ? answer(SJA_DONE, 0) : refused(heard);
     if (told.status != SJA_DONE) {
@@ -362,7 +383,7 @@ sja_answer sja_read(sja *session, uint32_t node, uint32_t address)
         return answer(status, 0);
     snprintf(said, sizeof said, "read %u %u\n", (unsigned)node, (unsigned)address);
     if (!ask(session, said, heard))
-        return answer(SJA_BROKEN, 0);
+        return answer(session->lost, 0);
     return tells(heard, "value", 16, &value) ? answer(SJA_DONE, value) : refused(heard);
 }
 
@@ -379,7 +400,7 @@ sja_answer sja_write(sja *session, uint32_t node, uint32_t address, uint32_t val
         return answer(status, 0);
     snprintf(said, sizeof said, "write %u %u %02x\n", (unsigned)node, (unsigned)address, (unsigned)value);
     if (!ask(session, said, heard))
-        return answer(SJA_BROKEN, 0);
+        return answer(session->lost, 0);
     return strcmp(heard, "ok") == 0 ? answer(SJA_DONE, 0) : refused(heard);
 }
 
@@ -390,7 +411,7 @@ static sja_answer lines(sja *session)
     uint64_t active;
 
     if (!ask(session, "line\n", heard))
-        return answer(SJA_BROKEN, 0);
+        return answer(session->lost, 0);
     return tells(heard, "line", 16, &active) ? answer(SJA_DONE, active) : refused(heard);
 }
 
@@ -404,7 +425,7 @@ static sja_answer run(sja *session, uint32_t count, uint64_t *active, int *none)
 
     snprintf(said, sizeof said, "run %u\n", (unsigned)count);
     if (!ask(session, said, heard))
-        return answer(SJA_BROKEN, 0);
+        return answer(session->lost, 0);
     if (!tells(heard, "ran", 10, &run))
         return refused(heard);
     line = strstr(heard, " line ");
@@ -460,7 +481,7 @@ sja_answer sja_strike(sja *session, uint32_t node, uint32_t bit)
         return answer(SJA_NO_BIT, 0);
     snprintf(said, sizeof said, "strike %u %u\n", (unsigned)node, (unsigned)bit);
     if (!ask(session, said, heard))
-        return answer(SJA_BROKEN, 0);
+        return answer(session->lost, 0);
     return strcmp(heard, "ok") == 0 ? answer(SJA_DONE, 0) : refused(heard);
 }
 
@@ -473,7 +494,7 @@ sja_answer sja_now(sja *session)
     if (status != SJA_DONE)
         return answer(status, 0);
     if (!ask(session, "bits\n", heard))
-        return answer(SJA_BROKEN, 0);
+        return answer(session->lost, 0);
     return tells(heard, "bits", 10, &now) ? answer(SJA_DONE, now) : refused(heard);
 }
 
@@ -482,20 +503,21 @@ sja_answer sja_now(sja *session)
 static uint32_t read_plan(sja *session)
 {
     static const char too_long[] = "full PLAN\n";
-    const char *said = "plan\n";
     uint32_t status = SJA_DONE;
     int begins = 1;
 
     text_free(&session->plan);
-    if (!write_all(session->to, said, strlen(said)))
-        return SJA_BROKEN;
+    if (!say(session, "plan\n"))
+        return session->lost;
     for (;;) {
         const char *bytes;
         size_t count;
         int whole, was = begins;
 
-        if (!fill(session))
-            return SJA_BROKEN;
+        if (!fill(session)) {
+            text_free(&session->plan);
+            return session->lost;
+        }
         count = take(session, &bytes, &whole);
         begins = whole;
         if (was && whole && count == 2 && bytes[0] == '.')
@@ -515,18 +537,16 @@ static uint32_t read_plan(sja *session)
 /* Ends the session, and reads its report. */
 static uint32_t read_report(sja *session)
 {
-    const char *said = "end\n";
-
     session->plan_status = read_plan(session);
     session->ended = 1;
-    if (!write_all(session->to, said, strlen(said)))
-        return SJA_BROKEN;
+    if (!say(session, "end\n"))
+        return session->lost;
     while (fill(session)) {
         if (!text_add(&session->report, session->held + session->first, session->count))
             return SJA_NO_MEMORY;
         session->count = 0;
     }
-    return session->report.length > 0 ? SJA_DONE : SJA_NO_MEMORY;
+    return session->report.length > 0 ? SJA_DONE : session->lost;
 }
 
 sja_answer sja_report(sja *session, char *text, size_t size)
