@@ -1,16 +1,17 @@
 /* Where a watched run stops. Two sessions get the same random drivers, of each version and of one to eight nodes. One
  * runs its bits by `sja_bits(count, watch)`, the other bit by bit, with a look at each line by `sja_irq` after each.
  * Both have to stop at the same bit with the same lines active, and to read, plan and report the same. The words are a
- * seed and how many sessions. Prints what was met, or what differs, with status 1. Built with -DALL_ARE_WATCHED it
- * wants a stop where a node rises that isn't watched, too, and has to find a difference. `checks/c_library` runs it. */
+ * seed and how many sessions, of which 100 have to meet some stops. Prints what was met, or what differs, with status
+ * 1. Built with -DALL_ARE_WATCHED it wants a stop where a node rises that isn't watched, too, and has to find a
+ * difference. `checks/c_library` runs it. */
 #include <stdio.h>
 #include <stdlib.h>
 #include <string.h>
 
 #include "sja.h"
 
-enum { TEXT = 1 << 22, ALL = 0xff, MOD = 0, CMR = 1, SR = 2, IR = 3, IER = 4, ALC = 11, EWLR = 13, RXERR = 14,
-       TXERR = 15, BUFFER = 16, AMR = 20 };
+enum { TEXT = 1 << 22, ALL = 0xff };
+enum { MOD = 0, CMR = 1, SR = 2, IR = 3, IER = 4, ALC = 11, EWLR = 13, BUFFER = 16, AMR = 20 };
 
 static sja *watched, *stepped;
 static uint32_t nodes;
@@ -93,7 +94,8 @@ static void ask(uint32_t node)
     put(node, CMR, below(2) ? 0x01 : 1 + below(0x13));
 }
 
-/* Out of reset mode: mostly with a filter that passes all, and with all interrupts. Some counters are near a limit. */
+/* Out of reset mode: mostly with a filter that passes all, and with all interrupts. Some have EWLR, RXERR or TXERR,
+ * which stand behind one another, near a limit. */
 static void start(uint32_t node)
 {
     put(node, MOD, 0x01);
@@ -168,5 +170,5 @@ int main(int count, char **words)
     }
     printf("%lu bits, %lu stops: %lu of two nodes at once, %lu in the first bit\n", bits, stops, together, at_once);
     printf("%lu rises that weren't watched, bus-off seen %lu times\n", passed, offs);
-    return 0;
+    return sessions < 100 || (stops > 100 && together > 0 && at_once > 0 && passed > 0 && offs > 0) ? 0 : 1;
 }
