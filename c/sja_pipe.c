@@ -405,27 +405,42 @@ sja_answer sja_write(sja *session, uint32_t node, uint32_t address, uint32_t val
 }
 
 /* The interrupt lines that are active, a bit a node. */
-static sja_answer lines(sja *session)
+static sja_answer heard_lines(sja *session)
 {
     char heard[LINE];
     uint64_t active;
 
-    if (!ask(session, "line\n", heard))
+    if (!hear(session, heard))
         return answer(session->lost, 0);
     return tells(heard, "line", 16, &active) ? answer(SJA_DONE, active) : refused(heard);
 }
 
+static sja_answer lines(sja *session)
+{
+    return say(session, "line\n") ? heard_lines(session) : answer(session->lost, 0);
+}
+
 /* Runs up to the first bit in which some line rises. How many bits were run, and the lines that are active then; `none`
- * where no line rose. */
-static sja_answer run(sja *session, uint32_t count, uint64_t *active, int *none)
+ * where no line rose. `before`, where it isn't null, gets the lines that were active before: they are asked for together
+ * with the bits, so that the process is woken once. */
+static sja_answer run(sja *session, uint32_t count, uint64_t *before, uint64_t *active, int *none)
 {
     char said[LINE], heard[LINE];
+    sja_answer looked = answer(SJA_DONE, 0);
     uint64_t run;
     const char *line;
 
-    snprintf(said, sizeof said, "run %u\n", (unsigned)count);
-    if (!ask(session, said, heard))
+    snprintf(said, sizeof said, "%srun %u\n", before != NULL ? "line\n" : "", (unsigned)count);
+    if (!say(session, said))
         return answer(session->lost, 0);
+    if (before != NULL) {
+        looked = heard_lines(session);
+        *before = looked.value;
+    }
+    if (!hear(session, heard))
+        return answer(session->lost, 0);
+    if (looked.status != SJA_DONE)
+        return looked;
     if (!tells(heard, "ran", 10, &run))
         return refused(heard);
     line = strstr(heard, " line ");
@@ -435,26 +450,24 @@ static sja_answer run(sja *session, uint32_t count, uint64_t *active, int *none)
 
 sja_answer sja_bits(sja *session, uint32_t count, uint32_t watch)
 {
-    sja_answer before = answer(SJA_DONE, 0), told;
+    sja_answer told;
     uint32_t status = is_askable(session, 0);
-    uint64_t total = 0, active = 0;
+    uint64_t total = 0, before = 0, active = 0;
+    uint64_t *look = watch != 0 ? &before : NULL;
     int none = 0;
 
     if (status != SJA_DONE)
         return answer(status, 0);
     count = at_most(count, GREATEST);
-    if (watch != 0)
-        before = lines(session);
-    if (before.status != SJA_DONE)
-        return before;
     do {
-        told = run(session, count - (uint32_t)total, &active, &none);
+        told = run(session, count - (uint32_t)total, look, &active, &none);
         if (told.status != SJA_DONE)
             return told;
         total += told.value;
-        if (!none && (active & ~before.value & watch))
+        if (!none && (active & ~before & watch))
             break;
-        before.value = active;
+        before = active;
+        look = NULL;
     } while (!none && total < count);
     return answer(SJA_DONE, total);
 }

@@ -129,6 +129,9 @@ class _Process:
     def _ask(self, line, *words):
         """Says a line. What is answered, which begins with one of these words."""
         self._say(line)
+        return self._hear(*words)
+
+    def _hear(self, *words):
         answer = self.process.stdout.readline()
         if not answer:
             raise SjaError(self._lost())
@@ -162,11 +165,14 @@ class _Process:
         return int(self._ask("line", "line").split()[1], 16)
 
     def _bits(self, count, watch):
+        """The lines are asked for together with the first bits, so that the process is woken once."""
         self._judge()
-        before = self._lines() if watch else 0
-        total = 0
+        total, before = 0, None if watch else 0
         while True:
-            words = self._ask(f"run {min(count - total, 9999999)}", "ran").split()
+            self._say(("line\n" if before is None else "") + f"run {min(count - total, 9999999)}")
+            if before is None:
+                before = int(self._hear("line").split()[1], 16)
+            words = self._hear("ran").split()
             total += int(words[1])
             active = int(words[3], 16) if words[2:3] == ["line"] else None
             if active is None or total >= count or active & ~before & watch:
