@@ -1,4 +1,6 @@
 -- Each bit of a run is told.
+pub mod NextSegments
+pub mod SomeViews
 pub mod Parts
 pub mod Receptions
 pub mod Bits

@@ -13,6 +13,14 @@ ghost use Rattle.sja_told.specs.Stored.{AllStored};
 ghost use Rattle.sja_told.specs.StoredLines.{IsToldStored};
 ghost use Rattle.sja_trace.specs.TraceText.{IsTrace};
 
+/// A law: the journal of each node of a session that reads and writes addresses has happenings. The number of bits of a
+/// log is a `u32`.
+pub fn every_journal_of_a_session_has_happenings()
+    ensures { (plan : PlanValue) (log : RunValue) → IsSessionRun plan log → (k : ℕ) (d : NodeValue)
+        → k < length log.nodes → log.bits < 2 ^ 32 → (hs : List Happening)
+        × Happened [] (slice_index_or log.nodes k d).journal hs }
+{}
+
 /// A law: the journal of each node of a session that reads and writes addresses has a happening for each bit that was
 /// run. The number of bits of a log is a `u32`.
 pub fn every_bit_of_a_session_is_told()

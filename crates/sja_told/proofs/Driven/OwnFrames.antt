@@ -79,7 +79,7 @@ on_line st r check part rest done more before y b is driven well split =
 -- ---- a frame that fails
 
 -- what comes before its last bit begins with what comes before another
-before_last : (done more before : List Bit) (b last : Bit) → done ++ b ∷ more ≡ before ++ last ∷ [] →
+pub before_last : (done more before : List Bit) (b last : Bit) → done ++ b ∷ more ≡ before ++ last ∷ [] →
     (y : List Bit) × (before ≡ done ++ y)
 before_last done more before b last e = elim (last_of more) [
   | inl none ↦

@@ -21,7 +21,7 @@ use Rattle.sja_script.specs.declared.done.Done.{Done}
 use Rattle.sja_trace.specs.TraceText.{IsTrace}
 use Rattle.sja_told.specs.Stored.{AllStored}
 use Rattle.sja_told.specs.StoredLines.{IsToldStored}
-use Rattle.sja_told.proofs.Told.AllRuns.{bits_told, stores_told}
+use Rattle.sja_told.proofs.Told.AllRuns.{bits_told, stores_told, told_there}
 use Rattle.sja_told.proofs.Told.StoredRuns.{stored_lines}
 
 -- each journal of a log is told to its end, with each message that was stored
@@ -54,6 +54,38 @@ plan_told plan log run = elim (cases_lt plan.version 3) [
 
 session_told : (plan : PlanValue) (log : RunValue) → IsSessionRun plan log → IsTold log
 session_told plan log run = log_told run.last run.deeds _ log run.is
+
+-- ---- they have happenings
+
+abbrev HasHappenings : RunValue → Type 0
+HasHappenings log = (k : ℕ) (d : NodeValue) → k < length log.nodes → log.bits < 2 ^ 32 → (hs : List Happening)
+    × Happened [] (slice_index_or log.nodes k d).journal hs
+
+happenings_with : (log : RunValue) (done : List (List Done)) (end : End) → HasHappenings log →
+    HasHappenings (log_with log done end)
+happenings_with log done end there k d less few =
+    let same = journal_with log.nodes done k d in
+    let n = with_many log.nodes done in
+    let t = there k d (omega (arith, less, n)) few in
+    (t.0, subst (λ (j : List Entry). Happened [] j t.0) (sym same) t.1)
+
+log_happenings : (s : PlanSessionValue) (deeds : List (List Deed)) (end : End) (log : RunValue) →
+    IsLogIn s deeds end log → HasHappenings log
+log_happenings s deeds end log h =
+    subst HasHappenings (sym h.is) (happenings_with h.typed s.done end (told_there _ h.typed h.run))
+
+pub plan_happenings : (plan : PlanValue) (log : RunValue) → IsPlanRun plan log → (k : ℕ) (d : NodeValue) →
+    k < length log.nodes → log.bits < 2 ^ 32 → (hs : List Happening)
+    × Happened [] (slice_index_or log.nodes k d).journal hs
+plan_happenings plan log run = elim (cases_lt plan.version 3) [
+  | inl typed ↦ told_there plan log (run.typed typed)
+  | inr raw ↦ let r = run.raw raw in log_happenings r.last r.deeds r.end log r.is
+]
+
+pub session_happenings : (plan : PlanValue) (log : RunValue) → IsSessionRun plan log → (k : ℕ) (d : NodeValue) →
+    k < length log.nodes → log.bits < 2 ^ 32 → (hs : List Happening)
+    × Happened [] (slice_index_or log.nodes k d).journal hs
+session_happenings plan log run = log_happenings run.last run.deeds _ log run.is
 
 -- ---- the laws, of a log that is told
 

@@ -14,7 +14,7 @@ use Rattle.sja_log.specs.Runs.{IsSerialRun}
 use Rattle.sja_log.proofs.NodeLog.Logs.{journal_there}
 use Rattle.sja_replay.specs.declared.happening.Happening.{Happening}
 use Rattle.sja_replay.specs.Happened.{Happened}
-use Rattle.sja_told.proofs.Told.Runs.{all_told}
+use Rattle.sja_told.proofs.Told.Runs.{all_told, some_told}
 use Rattle.sja_told.specs.Stored.{AllStored}
 
 module _ (plan : PlanValue) (log : RunValue) (h : IsSerialRun plan log) (k : ℕ) (d : NodeValue)
@@ -35,6 +35,14 @@ module _ (plan : PlanValue) (log : RunValue) (h : IsSerialRun plan log) (k : ℕ
   pub bits_run : (place_of journal).bits ≡ log.bits
   bits_run = bits_counted journal ∙ ap (λ (j : List Entry). length (bits_of j))
       (sym (journal_there log.nodes k d less)) ∙ h.run.bus.wired.count k there
+
+  -- it has happenings
+  pub told_there : log.bits < 2 ^ 32 → (hs : List Happening) × Happened [] journal hs
+  told_there few =
+      let n = bits_run in
+      let r = h.registers k d less in
+      some_told journal lawful.found lawful.cut (lawful.verdicts lawful.found lawful.cut) orderly
+      (omega (arith, few, n)) plan.version _ r.0 r.1 (h.run.nodes k d less).trace.deeds_are.states
 
   told_all : log.bits < 2 ^ 32 → (hs : List Happening) → Happened [] journal hs →
       (length hs ≡ (place_of journal).bits) × AllStored journal hs

@@ -37,11 +37,12 @@ use Rattle.sja_replay.specs.Happened.{Happened}
 use Rattle.sja_replay.specs.Happened.IsUntold.{misdriven, misfits, uncounted}
 use Rattle.sja_replay.specs.Happened.Happened.{between, bit, refused, untold}
 use Rattle.sja_replay.specs.Happening.{Brings, bit_of}
-use Rattle.sja_replay.specs.Taking.{last_part}
+use Rattle.sja_replay.specs.Taking.{ends_in_abort, last_part}
 use Rattle.sja_replay.proofs.Once.Bits.{Tells, tells, events_once, role_same}
 use Rattle.sja_replay.proofs.Once.Lists.{closes_once}
 use Rattle.sja_serial.proofs.OneBit.BitAsked.{place_bit}
 use Rattle.sja_told.proofs.Driven.Records.{a_bit_is_driven}
+use Rattle.sja_told.proofs.Told.SomeViews.{view_there}
 use Rattle.sja_told.proofs.Told.Parts.{of_part_at, each_part, record_both}
 use Rattle.sja_told.proofs.Told.Receptions.{partner_of, received_there}
 
@@ -292,6 +293,43 @@ module _ (whole : List Entry) (others : List FinishedPiece) (cut : IsCut (record
       × Closes (last_part with_bit) e behind fate (judged_as b.verdict ++ off_as b.off) rest in
       subst P (events_same h brings)
       (closes_by (last_part with_bit) rest b.off turn.events b.verdict quiet right t.off)
+
+  -- whatever happens after the bit, something happens with it
+  pub with_more : (more : List Happening) → Happened k rest more →
+      (hs : List Happening) × Happened j (Bit driven seen ∷ behind) hs
+  with_more more x =
+      let h = tells_turn changed j k driven seen b turn t in
+      let before = view_there h.cut in
+      let after = view_there h.with_bit in
+      let c = closes_by (last_part with_bit) rest b.off turn.events b.verdict quiet right t.off in
+      let here : Happening = record {
+        bit = (place_of j).bits;
+        driven = driven;
+        seen = seen;
+        aborted = ends_in_abort j;
+        before = before.0;
+        events = turn.events;
+        after = after.0;
+        fate = c.0;
+      } in
+      let brings : Brings j driven seen here = record {
+        found = h.found;
+        cut = h.cut;
+        step = h.step;
+        drives = drives h.found h.cut;
+        bit = refl;
+        levels = (refl, refl);
+        aborted = refl;
+        before = before.1;
+        events = h.told;
+        with_bit = h.with_bit;
+        role = h.role;
+        after = after.1;
+      } in
+      let same : with_bit ++ (judged_as b.verdict ++ off_as b.off) ≡ k =
+      sym (append_assoc with_bit (judged_as b.verdict) (off_as b.off)) ∙ sym b.whole in
+      let P : List Entry → Type 0 = λ l. Happened l rest more in
+      (here ∷ more, bit fewer brings c.1 (subst P (sym same) x))
 
   -- a list of happenings goes on past the bit
   pub past_bit : (hs : List Happening) → Happened j (Bit driven seen ∷ behind) hs →

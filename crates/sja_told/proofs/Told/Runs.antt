@@ -38,7 +38,7 @@ use Rattle.sja_told.specs.Fronts.{IsBetweenBits}
 use Rattle.sja_told.proofs.Driven.Fronts.{cut_front}
 use Rattle.sja_told.proofs.Ports.{IsPort, port_first, asked_first, kind_by, port_step, was_free, asked_step}
 use Rattle.sja_told.proofs.Ports.{port_bit, asked_bit}
-use Rattle.sja_told.proofs.Told.Bits.{IsQuiet, behind, split, past_bit}
+use Rattle.sja_told.proofs.Told.Bits.{IsQuiet, behind, split, past_bit, with_more}
 use Rattle.sja_told.proofs.Told.Items.{start_resets, send_away, abort_changes}
 use Rattle.sja_told.proofs.Told.Parts.{each_part}
 use Rattle.sja_told.specs.Stored.{AllStored}
@@ -121,10 +121,15 @@ module _ (whole : List Entry) (others : List FinishedPiece) (cut : IsCut (record
   abbrev pub Passes : List Entry → List Entry → Type 0
   Passes j rest = (hs : List Happening) → Happened [] whole hs → Passed hs j rest
 
+  -- whatever are the happenings of what is left, the whole journal has happenings
+  abbrev pub Leads : List Entry → List Entry → Type 0
+  Leads j rest = (more : List Happening) → Happened j rest more → (hs : List Happening) × Happened [] whole hs
+
   pub record Come (j rest : List Entry) (deeds : List Deed) (p : Registers) : Type 0 where
     pub port : IsPort j deeds p
     pub asked : IsAsked j p
     pub passes : Passes j rest
+    pub leads : Leads j rest
 
   -- ---- a step
 
@@ -150,6 +155,11 @@ module _ (whole : List Entry) (others : List FinishedPiece) (cut : IsCut (record
       same (Credit n) = refl
       same (SendItem request) = refl
       same StopItem = refl
+
+  leads_item : (j k rest : List Entry) (u : Up) → k ≡ j ++ Item u ∷ [] → IsTaken j (Item u) →
+      Leads j (Item u ∷ rest) → Leads k rest
+  leads_item j k rest u is taken h more x =
+      let P : List Entry → Type 0 = λ l. Happened l rest more in h more (between taken (subst P is x))
 
   -- an item may come there
   takes_start : (j k : List Entry) (config : Config) → k ≡ j ++ Item (StartItem config) ∷ [] → HasCut j → HasCut k →
@@ -211,6 +221,12 @@ module _ (whole : List Entry) (others : List FinishedPiece) (cut : IsCut (record
   passes_abort j rest false taken h hs x =
       let P : List Entry → Type 0 = λ l. Passed hs l rest in subst P (sym (append-nil j)) (h hs x)
 
+  leads_abort : (j rest : List Entry) (changed : Bool) → (changed ≡ true → IsTaken j Abort) →
+      Leads j (abort_as changed ++ rest) → Leads (j ++ abort_as changed) rest
+  leads_abort j rest true taken h more x = h more (between (taken refl) x)
+  leads_abort j rest false taken h more x =
+      let P : List Entry → Type 0 = λ l. Happened l rest more in h more (subst P (append-nil j) x)
+
   module _ (j k rest : List Entry) (p q : Registers) (b : IsPortBit p q j k) (all : whole ≡ k ++ rest)
       (quiet_rest : IsQuiet rest) where
     abbrev opened : List Entry
@@ -271,6 +287,11 @@ module _ (whole : List Entry) (others : List FinishedPiece) (cut : IsCut (record
           later = on.4;
         }
 
+    leads_bit : Leads j (abort_as b.changed ++ left_then) → Leads k rest
+    leads_bit h more x =
+        let on = with_more whole others cut verdicts few b.changed opened k rest b.driven b.seen b.bit b.turn b.is_turn
+        all quiet_rest more x in leads_abort j left_then b.changed abort_taken h on.0 on.1
+
   -- ---- the whole
 
   come : (version : ℕ) (j rest : List Entry) (deeds : List Deed) (p : Registers) → LeadTo version j deeds p →
@@ -282,6 +303,7 @@ module _ (whole : List Entry) (others : List FinishedPiece) (cut : IsCut (record
     passes = λ hs x.
         let P : List Entry → Type 0 = λ l. Happened [] l hs in
         record { done = []; more = hs; parts = refl; count = refl; stored = stored_none; later = subst P all x };
+    leads = λ more x. let P : List Entry → Type 0 = λ l. Happened [] l more in (more, subst P (sym all) x);
   }
   come version k rest deeds q (bit j _ _ p _ lead b) fits has all quiet_rest =
       let h = come version j (abort_as b.changed ++ left_then j k rest p q b all quiet_rest) deeds p lead fits
@@ -290,6 +312,7 @@ module _ (whole : List Entry) (others : List FinishedPiece) (cut : IsCut (record
         port = port_bit j k deeds p q h.port b;
         asked = asked_bit j k deeds p q h.port b h.asked (cut_before j k rest p q b all quiet_rest);
         passes = passes_bit j k rest p q b all quiet_rest h.passes;
+        leads = leads_bit j k rest p q b all quiet_rest h.leads;
       }
   come version k rest deeds q (step j _ before d p _ lead now tells gave entered left) fits has all quiet_rest =
       let each = each_front (Fits version) [] before d fits in
@@ -301,11 +324,12 @@ module _ (whole : List Entry) (others : List FinishedPiece) (cut : IsCut (record
 
       -- after what came before it, and what it leaves of a list of happenings
       after : (more : List Entry) → HasCut j → Come j more before p → Fits version before d → Passes k rest →
-          Come k rest (before ++ d ∷ []) q
-      after more cut_j h fit passes = record {
+          Leads k rest → Come k rest (before ++ d ∷ []) q
+      after more cut_j h fit passes leads = record {
         port = port_step version j k before d p q h.port fit tells gave entered left;
         asked = asked_step version j k before d p q h.port fit tells gave entered left h.asked cut_j;
         passes = passes;
+        leads = leads;
       }
 
       item : (u : Up) → d.gave ≡ u ∷ [] → ((more : List Entry) → HasCut j → whole ≡ j ++ more → IsQuiet more →
@@ -316,6 +340,7 @@ module _ (whole : List Entry) (others : List FinishedPiece) (cut : IsCut (record
           let h = came (Item u ∷ rest) cut_j
           (all ∙ ap (λ l. l ++ rest) (one u is) ∙ append_assoc j (Item u ∷ []) rest) tt in
           after (Item u ∷ rest) cut_j h fit (passes_item j k rest u (one u is) (taken cut_j h) h.passes)
+          (leads_item j k rest u (one u is) (taken cut_j h) h.leads)
 
       by : ((more : List Entry) → HasCut j → whole ≡ j ++ more → IsQuiet more → Come j more before p) →
           Fits version before d → Kind (is_active before) (opened_by before) d.step d.answer d.gave →
@@ -324,9 +349,10 @@ module _ (whole : List Entry) (others : List FinishedPiece) (cut : IsCut (record
           let is : k ≡ j = entered ∙ ap (λ (l : List Up). j ++ entries_of_items l) none ∙ append-nil j in
           let P : List Entry → Type 0 = λ l. HasCut l in
           let R : List Entry → Type 0 = λ l. Passes l rest in
+          let S : List Entry → Type 0 = λ l. Leads l rest in
           let cut_j = subst P is has in
           let h = came rest cut_j (all ∙ ap (λ l. l ++ rest) is) quiet_rest in
-          after rest cut_j h fit (subst R (sym is) h.passes)
+          after rest cut_j h fit (subst R (sym is) h.passes) (subst S (sym is) h.leads)
       by came fit (starts was open_more config is o same) =
           item (StartItem config) is came fit
           (λ cut_j h. takes_start j k config (one (StartItem config) is) cut_j has)
@@ -337,6 +363,13 @@ module _ (whole : List Entry) (others : List FinishedPiece) (cut : IsCut (record
           let free = was_free version j k before d p q h.port fit tells gave entered left request is in
           takes_send j k p request (one (SendItem request) is) h.asked free.0 free.1 cut_j has)
       by came fit (stops was is o same) = item StopItem is came fit (λ cut_j h. takes_stop j cut_j)
+
+  -- it has happenings
+  pub some_told : (version : ℕ) (deeds : List Deed) (p : Registers) → LeadTo version whole deeds p →
+      EachAfter (Fits version) [] deeds → (hs : List Happening) × Happened [] whole hs
+  some_told version deeds p lead fits =
+      (come version whole [] deeds p lead fits (record { found = others; cut = cut }) (sym (append-nil whole))
+      tt).leads [] over
 
   -- all bits are told, and each message that was stored
   pub all_told : (version : ℕ) (deeds : List Deed) (p : Registers) → LeadTo version whole deeds p →
