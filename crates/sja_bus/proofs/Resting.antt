@@ -1,4 +1,5 @@
 -- Bits in which all nodes are at rest.
+pub mod Unstruck
 pub mod Rests
 pub mod AtRest
 pub mod Stretches

@@ -15,3 +15,4 @@ pub mod AtOnce
 pub mod RunningOn
 pub mod Together
 pub mod SerialBoards
+pub mod NotingBoards

@@ -1,18 +1,18 @@
 //! Bits of a bus, one after another.
 
 ghost use Rattle.std.specs.Prelude.{◌≡◌, ◌+◌, ◌<◌, ◌≤◌, ℕ, true, false, length, slice_index_or, IfOk};
-ghost use Rattle.std.specs.Prelude.{◌⊎◌, false, OnOk, IfErr, MatchResult};
+ghost use Rattle.std.specs.Prelude.{◌⊎◌, false, IfErr, MatchResult};
 ghost use Rattle.sja_script.specs.Striking.{Strikes};
 ghost use Rattle.can_node.specs.Stands.{ShowsRest};
 ghost use Rattle.lemmas.specs.Related.{EachRelated};
 ghost use Rattle.sja_bus.specs.declared.seat.Seat.{Seat as Seated};
 ghost use Rattle.sja_bus.specs.StrikesByBit.{IsAmong};
 ghost use Rattle.sja_bus.specs.Boards.{KeepsOthers};
-ghost use Rattle.sja_bus.specs.Inside.Refusing.{HaveRoom, AreFree};
+ghost use Rattle.sja_bus.specs.Inside.Refusing.{AreFree};
 ghost use Rattle.sja_wire.specs.Wire.{wired};
-ghost use Rattle.sja_bus.specs.Inside.Rows.{AreReady, AreSeated, AreTold, IsBus, driven_by};
-ghost use Rattle.sja_bus.specs.Inside.RunningOn.{NoneAborts, RowsRun, RowsStop};
-ghost use Rattle.sja_bus.specs.Inside.RunningOn.{SomeAborts, SomeFull, SomeStruck, SomeUntold};
+ghost use Rattle.sja_bus.specs.Inside.Rows.{AreReady, AreSeated, IsBus, driven_by};
+ghost use Rattle.sja_bus.specs.Inside.RunningOn.{MayRunOn, RowsRun, RowsStop};
+ghost use Rattle.sja_bus.specs.Inside.RunningOn.{AllAtRest, SomeAborts, SomeFull, SomeStruck, SomeUntold};
 
 use super::all_nodes::sample_all;
 use super::board::Board;
@@ -139,9 +139,7 @@ impl Bus {
 pub(crate) fn may_run_untaken<B: Board>(seats: &[Seat], board: &B) -> bool
     requires ready { AreReady seats.now }
     requires ports { length seats.now ≤ B.ports board.now }
-    ensures orders { result ≡ true → NoneAborts (B.orders_are board.now) (length seats.now) }
-    ensures told { result ≡ true → AreTold seats.now }
-    ensures facts { result ≡ true → (k : ℕ) → k < length seats.now → B.facts board.now k }
+    ensures may { result ≡ true → MayRunOn B.Board board.now seats.now }
     ensures no { result ≡ false → SomeAborts (B.orders_are board.now) (length seats.now) ⊎ SomeUntold seats.now }
 {
     for k in 0..seats.len() {
@@ -165,16 +163,15 @@ pub(crate) fn untaken_bits<E: BusEnd, B: Board>(
     to_rest: bool,
 ) -> Result<u32, BrokenOff>
     requires seated { AreSeated E.link seats.old links.old (B.ports board.old) }
-    requires may { NoneAborts (B.orders_are board.old) (length seats.old) × AreTold seats.old }
+    requires may { MayRunOn B.Board board.old seats.old }
     requires bus { IsBus struck.now.script from seats.old }
     requires within { (from + most ≤ struck.now.bits) × (struck.now.bits ≤ 2000000) }
-    requires facts { (k : ℕ) → k < length seats.old → B.facts board.old k }
     ensures sames { EachRelated E.same links.old links.new }
     ensures others { KeepsOthers B.ports B.kept (length seats.old) board.old board.new }
     ensures most { MatchResult result (λ n. n ≤ most) (λ f. f.after < most) }
-    ensures rooms { OnOk result ((n : ℕ → ℕ) → HaveRoom n seats.old → HaveRoom n seats.new) }
-    ensures none { IfOk result (λ n. n ≡ 0 → to_rest ≡ false → (most ≡ 0) ⊎ SomeFull 0 seats.old
-        ⊎ ((node : ℕ) × (node < 8) × Strikes struck.now.script from node)) }
+    ensures none { IfOk result (λ n. n ≡ 0 → (most ≡ 0) ⊎ SomeFull 0 seats.old
+        ⊎ ((node : ℕ) × (node < 8) × Strikes struck.now.script from node)
+        ⊎ ((to_rest ≡ true) × AllAtRest seats.old)) }
     ensures runs { IfOk result (λ n. RowsRun E.BusEnd B.Board to_rest struck.now.script from most
         seats.old seats.new links.old links.new board.old board.new n) }
     ensures breaks { IfErr result (λ f. RowsStop E.BusEnd B.Board to_rest struck.now.script from most
@@ -204,8 +201,7 @@ fn goes_on(seats: &[Seat], struck: StruckNodes, to_rest: bool) -> bool
     ensures none { result ≡ true → (node : ℕ) → IsAmong node struck → ⊥ }
     ensures works { result ≡ true → to_rest ≡ true → (k : ℕ) × (k < length seats.now)
         × ((s : Seated) → ShowsRest (slice_index_or seats.now k s).node false) }
-    ensures no { result ≡ false → SomeStruck struck ⊎ ((to_rest ≡ true) × ((k : ℕ) (s : Seated) →
-        k < length seats.now → ShowsRest (slice_index_or seats.now k s).node true)) }
+    ensures no { result ≡ false → SomeStruck struck ⊎ ((to_rest ≡ true) × AllAtRest seats.now) }
 {
     if !struck.is_empty() {
         return false;

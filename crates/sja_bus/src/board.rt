@@ -36,10 +36,10 @@ pub trait Board {
         ensures facts { facts self.now node };
 
     /// Tells the port of this node what a bit brought.
-    fn bus_turn(&mut self, node: u8, turn: &BusTurn)
+    fn bus_turn(&mut self, node: u8, turn: BusTurn)
         requires { node < ports self.old }
         ensures ports { ports self.new ≡ ports self.old }
-        ensures told { told self.old self.new node turn.now }
+        ensures told { told self.old self.new node turn }
         ensures others { (k : ℕ) → k ≢ node → kept self.old self.new k };
 
     /// Marks at the port of this node that the bus has no bits left.

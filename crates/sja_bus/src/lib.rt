@@ -6,8 +6,8 @@
 //! Contracts see a bus as its journals: each journal's record has one cut, by which its verdicts are right, and each
 //! level that was seen is the one that all nodes drove together, or the other one where the script strikes.
 //!
-//! `Bus::new`, `Bus::strike`, `serial_links` and `SerialBoard::new` alone take memory. The tests stand in
-//! `crates/test_bus`.
+//! `Bus::new`, `Bus::strike`, `serial_links`, `SerialBoard::new` and `NotingBoard::new` alone take memory. The tests
+//! stand in `crates/test_bus`.
 #![tactic(auto)]
 
 mod aborts;
@@ -24,9 +24,11 @@ mod bus_off;
 mod idle_bits;
 mod items;
 mod lead;
+mod looking;
 mod node_bit;
 mod node_links;
 mod node_log;
+mod noting_board;
 mod ports;
 mod row_frame;
 mod seat;
@@ -46,5 +48,6 @@ pub use board_laws::{
 };
 pub use bus::Bus;
 pub use node_links::{are_links_of, serial_links};
+pub use noting_board::NotingBoard;
 pub use serial_board::SerialBoard;
 pub use sja_wire::{BusFault, NodeLog};

@@ -33,7 +33,7 @@ impl Seat {
             × TurnOf self.old outcome.events outcome.overrun turn }
     {
         let turn = self.turn_of(outcome);
-        board.bus_turn(self.number(), &turn);
+        board.bus_turn(self.number(), turn);
         self.untold = Untold::Nothing;
     }
 

@@ -56,8 +56,8 @@ impl Board for SerialBoard {
         self.ports[node as usize].orders()
     }
 
-    fn bus_turn(&mut self, node: u8, turn: &BusTurn) {
-        self.ports[node as usize].bus_turn(turn);
+    fn bus_turn(&mut self, node: u8, turn: BusTurn) {
+        self.ports[node as usize].bus_turn(&turn);
     }
 
     fn close(&mut self, node: u8) {

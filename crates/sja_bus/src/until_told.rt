@@ -7,20 +7,23 @@ use sja_link::BusEnd;
 use sja_wire::BusFault;
 
 impl Bus {
-    ghost use Rattle.std.specs.Prelude.{◌≡◌, ◌*◌, ◌≤◌, false, None, Some, Ok, Err, length, OnOk, IfOk, IfErr};
+    ghost use Rattle.std.specs.Prelude.{◌≡◌, ◌+◌, ◌*◌, ◌<◌, ◌≤◌, ℕ, false, None, Some, Ok, Err, length};
+    ghost use Rattle.std.specs.Prelude.{OnOk, IfOk, IfErr};
+    ghost use Rattle.sja_script.specs.Striking.{Strikes};
     ghost use Rattle.sja_wire.specs.declared.bus_fault.BusFault.{BusFault as Fault};
     ghost use Rattle.sja_wire.specs.Links.{Numbered};
     ghost use Rattle.sja_bus.specs.Buses.{IsStill};
     ghost use Rattle.sja_bus.specs.Moment.{moment, Keeps};
-    ghost use Rattle.sja_bus.specs.UntilTold.{RunsUntilTold, StopsUntilTold, TakesFullBit};
-    ghost use Rattle.sja_bus.specs.Inside.RunningOn.{AreFor, AnyBit, IsSoFar, IsStopped, WorksUntold};
+    ghost use Rattle.sja_bus.specs.UntilTold.{RunsUntilTold, StopsUntilTold, RunsNone, WorksUntold};
+    ghost use Rattle.sja_bus.specs.Inside.RunningOn.{AreFor, AnyBit, IsSoFar, IsStopped};
 
     /// Bits one after another up to the first in which a port is told its turn: at most so many, and as many as are
-    /// left, as far as nothing is untold, no port wants an abort and no strike falls. Answers how many they were.
+    /// left, as far as nothing is untold, no port wants an abort and no strike falls, with `to_rest` as long as some
+    /// node works. Answers how many they were.
     ///
     /// They are what as many calls of [`bit`](Bus::bit) are that find nothing on any link. In none of them but the last
-    /// one a port is told anything, a message is judged, or a node goes bus-off. An answer of 0 says that the next bit
-    /// takes a call of `bit`. `links` are 64 a node, by node and activation.
+    /// one a port is told anything, a message is judged, or a node goes bus-off. Where none was run though some were
+    /// asked for and are left, the next bit takes a call of `bit`. `links` are 64 a node, by node and activation.
     ///
     /// Error: after some of these bits, [`BusFault::Stuck`] or [`BusFault::JournalFull`], and then the same always. The
     /// bits before it count.
@@ -29,6 +32,7 @@ impl Bus {
         links: &mut [E],
         board: &mut B,
         count: u32,
+        to_rest: bool,
     ) -> Result<u32, BusFault>
         requires count { length links.old ≡ 64 * length self.old.journals }
         requires ids { Numbered E.link links.old }
@@ -36,18 +40,20 @@ impl Bus {
         ensures keeps { Keeps E.BusEnd B.Board
             (moment self.old links.old board.old) (moment self.new links.new board.new) }
         ensures most { IfOk result (λ n. n ≤ count) }
-        ensures bits { IfOk result (λ n. RunsUntilTold E.BusEnd B.Board
+        ensures bits { IfOk result (λ n. RunsUntilTold E.BusEnd B.Board to_rest
             (moment self.old links.old board.old) n (moment self.new links.new board.new)) }
-        ensures none { result ≡ Ok 0 → TakesFullBit (B.orders_are board.old) count self.old }
+        ensures unstruck { IfOk result (λ n. (i node : ℕ) → i < n → node < 8 →
+            Strikes self.old.script (self.old.run + i) node → ⊥) }
+        ensures none { result ≡ Ok 0 → RunsNone (B.orders_are board.old) to_rest count self.old }
         ensures right { OnOk result (self.new.fault ≡ None) }
         ensures fault { IfErr result (λ f. self.new.fault ≡ Some f) }
-        ensures reason { IfErr result (λ f. self.old.fault ≡ None → StopsUntilTold E.BusEnd B.Board count
+        ensures reason { IfErr result (λ f. self.old.fault ≡ None → StopsUntilTold E.BusEnd B.Board to_rest count
             (moment self.old links.old board.old) (moment self.new links.new board.new) f) }
         ensures stays { (f : Fault) → self.old.fault ≡ Some f →
             (result ≡ Err f) × IsStill self.old self.new links.old links.new board.old board.new }
     {
         let most = self.at_most(count)?;
-        self.run_until_told(links, board, most, false)
+        self.run_until_told(links, board, most, to_rest)
     }
 
     /// The same, at most so many as are left, with `to_rest` as long as some node works.
@@ -66,7 +72,9 @@ impl Bus {
         ensures runs { IfOk result (λ n. IsSoFar E.BusEnd B.Board (AnyBit E.BusEnd B.Board)
             (WorksUntold to_rest (moment self.old links.old board.old))
             (moment self.old links.old board.old) n (moment self.new links.new board.new)) }
-        ensures none { result ≡ Ok 0 → to_rest ≡ false → TakesFullBit (B.orders_are board.old) count self.old }
+        ensures unstruck { IfOk result (λ n. (i node : ℕ) → i < n → node < 8 →
+            Strikes self.old.script (self.old.run + i) node → ⊥) }
+        ensures none { result ≡ Ok 0 → RunsNone (B.orders_are board.old) to_rest count self.old }
         ensures stops { IfErr result (λ f. IsStopped E.BusEnd B.Board
             (WorksUntold to_rest (moment self.old links.old board.old)) count
             (moment self.old links.old board.old) (moment self.new links.new board.new) f) }

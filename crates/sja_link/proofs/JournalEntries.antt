@@ -3,6 +3,9 @@ pub mod Entering
 pub mod Openings
 pub mod ListCounts
 pub mod Decoding
+pub mod Coded
+pub mod Endings
+pub mod Searching
 pub mod Filling
 pub mod Writing
 pub mod Counting

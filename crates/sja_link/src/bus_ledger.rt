@@ -56,7 +56,7 @@ impl BusLedger {
         self.id
     }
 
-    /// How many bytes are free: 64, less those stored, and those collected back. Tests alone ask it.
+    /// How many bytes are free: 64, less those stored, and those collected back.
     pub fn free(&self) -> u8
         ensures value { result ≡ free_in self.now }
         ensures few { result ≤ 64 }

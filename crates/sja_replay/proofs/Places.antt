@@ -15,7 +15,8 @@ use Rattle.sja_link.proofs.JournalEntries.Entering.{place_push, part_here, of_pa
 use Rattle.sja_link.proofs.Ledger.Freeing.{free_push}
 use Rattle.sja_replay.specs.declared.replay.Replay.{Replay}
 use Rattle.sja_replay.specs.Replaying.{IsAt}
-use Rattle.sja_replay.specs.Taking.{last_part, is_abort, ends_in_abort}
+use Rattle.sja_link.specs.LookingBack.{is_abort, ends_in_abort}
+use Rattle.sja_replay.specs.Taking.{last_part}
 
 -- the last entry is an abort where the one that comes is
 pub ends_push : (j : List Entry) (e : Entry) → ends_in_abort (j ++ e ∷ []) ≡ is_abort e

@@ -95,33 +95,27 @@ impl<'a> Replay<'a> {
         mem::replace(&mut self.ahead, next)
     }
 
-    /// A bit, with the entries that it brought; where it can't be told none is left.
+    /// A bit, with the entries that it brought. Nothing where they aren't those, or the node drives another level; no
+    /// entry is left then.
     fn told_bit(&mut self, driven: Level, seen: Level) -> Option<Happening>
         ensures brings { BringsNext self.old self.new driven seen result }
         ensures ends { IfNone result (left_of self.new ≡ []) }
     {
-        match self.bit(driven, seen) {
-            Some(happening) => Some(happening),
-            None => self.end(),
-        }
-    }
-
-    /// A bit, with the entries that it brought. Nothing where they aren't those, or the node drives another level.
-    fn bit(&mut self, driven: Level, seen: Level) -> Option<Happening>
-        ensures { BringsNext self.old self.new driven seen result }
-    {
         if !is_same(self.node.drive(), driven) {
-            return None;
+            return self.end();
         }
         let before = View::of(&self.node);
         let bit = self.bits;
-        self.bits = bit.checked_add(1)?;
+        let Some(bits) = bit.checked_add(1) else {
+            return self.end();
+        };
+        self.bits = bits;
         let aborted = self.aborted;
         self.aborted = false;
         let events = self.node.sample(seen);
         let after = View::of(&self.node);
         let Ok(fate) = self.close(&events) else {
-            return None;
+            return self.end();
         };
         Some(Happening {
             bit,

@@ -3,4 +3,6 @@ pub mod BitAsked
 pub mod BitCounted
 pub mod BitPort
 pub mod Bit
+pub mod OtherWords
+pub mod Noted
 pub mod BitRun

@@ -1,5 +1,5 @@
 -- A run in one thread, between two turns (this project's own rule).
-use Rattle.std.specs.Prelude.{◌≡◌, ◌+◌, ◌*◌, ◌<◌, ◌≤◌, ◌++◌, ◌⊎◌, ℕ, false, None, List}
+use Rattle.std.specs.Prelude.{◌≡◌, ◌≢◌, ◌+◌, ◌*◌, ◌<◌, ◌≤◌, ◌++◌, ◌⊎◌, ℕ, false, Option, None, List}
 use Rattle.std.specs.Prelude.{length, slice_index_or, slice_set}
 use Rattle.sja_link.specs.declared.up.Up.{Up}
 use Rattle.sja_link.specs.declared.entry.Entry.{Entry}
@@ -9,6 +9,7 @@ use Rattle.sja_wire.specs.Links.{Numbered}
 use Rattle.sja_wire.specs.OneBit.{entries_of_items}
 use Rattle.sja_wire.specs.Wire.{journal_at}
 use Rattle.sja_plan.specs.Plan.{PlanValue, steps_at}
+use Rattle.sja_regs.specs.declared.bus_turn.BusTurn.{BusTurn}
 use Rattle.sja_regs.specs.declared.registers.Registers.{Registers}
 use Rattle.sja_script.specs.declared.step.Step.{Step}
 use Rattle.sja_driver.specs.declared.logged_driver.LoggedDriver.{LoggedDriver}
@@ -18,19 +19,23 @@ use Rattle.sja_serial.specs.Nodes.{IsNode}
 use Rattle.sja_serial.specs.Shown.{ShowsRecord}
 use Rattle.sja_serial.specs.Waiting.{HasToWait}
 
--- what a contract sees of a run: its bus, the drivers, their ports and their links by node, and the bits that were run
+-- what a contract sees of a run: its bus; the drivers, their ports, the turn that each port was told last and that
+-- wasn't taken yet, and their links, by node; and the bits that were run
 pub record SerialValue : Type 0 where
   pub bus : BusValue
   pub drivers : List LoggedDriver
   pub ports : List Registers
+  pub turns : List (Option BusTurn)
   pub links : List Deques
   pub bits : ℕ
 
-abbrev pub run_now : BusValue → List LoggedDriver → List Registers → List Deques → ℕ → SerialValue
-run_now bus drivers ports links bits = record {
+abbrev pub run_now : BusValue → List LoggedDriver → List Registers → List (Option BusTurn) → List Deques → ℕ →
+    SerialValue
+run_now bus drivers ports turns links bits = record {
   bus = bus;
   drivers = drivers;
   ports = ports;
+  turns = turns;
   links = links;
   bits = bits;
 }
@@ -40,6 +45,7 @@ pub record HasNodes (nodes : ℕ) (r : SerialValue) : Type 0 where
   pub journals : length r.bus.journals ≡ nodes
   pub drivers : length r.drivers ≡ nodes
   pub ports : length r.ports ≡ nodes
+  pub turns : length r.turns ≡ nodes
   pub links : length r.links ≡ 64 * nodes
 
 -- the run of a plan stands where its drivers did these deeds, a list for each node
@@ -74,13 +80,14 @@ pub record HasMore (j k : List Entry) : Type 0 where
   pub items : List Up
   pub whole : k ≡ j ++ entries_of_items items
 
--- these deeds were done then: the driver of this node did them after the bits that had run, and no bit was run; the
--- journals have items more
+-- these deeds were done then: the driver of this node did them after the bits that had run, and no bit was run, so no
+-- port was told a turn; the journals have items more
 pub record NodeDoes (plan : PlanValue) (was now : SerialValue) (node : ℕ) (deeds : List (List Deed))
     (more : List Deed) : Type 0 where
   pub stands : StandsAt plan now (with_deeds deeds node more)
   pub at_once : (i : ℕ) (d : Deed) → i < length more → (slice_index_or more i d).bits ≡ was.bits
   pub bits : now.bits ≡ was.bits
+  pub turns : now.turns ≡ was.turns
   pub items : (m : ℕ) → m < length plan.nodes → HasMore (journal_at was.bus.journals m) (journal_at now.bus.journals m)
 
 -- the driver of a node has no step left, or its next one has to wait
@@ -90,10 +97,13 @@ CannotStep plan r deeds node =
     ⊎ ((s : Step) (p : Registers) → HasToWait (slice_index_or r.ports node p) (journal_at r.bus.journals node)
     (deeds_at deeds node) (slice_index_or (steps_at plan node) (length (deeds_at deeds node)) s))
 
--- one turn of a node: these deeds more, at most so many; fewer only where the driver is stuck
+-- one turn of a node: these deeds more, at most so many; fewer only where the driver is stuck. Each other journal is as
+-- it was
 pub record TakesTurn (plan : PlanValue) (was now : SerialValue) (node count : ℕ)
     (deeds : List (List Deed)) : Type 0 where
   pub more : List Deed
   pub does : NodeDoes plan was now node deeds more
+  pub others : (m : ℕ) → m < length plan.nodes → m ≢ node →
+      journal_at now.bus.journals m ≡ journal_at was.bus.journals m
   pub most : length more ≤ count
   pub stuck : length more < count → CannotStep plan now (with_deeds deeds node more) node

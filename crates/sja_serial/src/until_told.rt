@@ -4,29 +4,57 @@ use super::serial_run::SerialRun;
 use sja_plan::Plan;
 
 impl SerialRun {
-    ghost use Rattle.std.specs.Prelude.{◌≡◌, ◌+◌, ◌<◌, ◌≤◌, List};
+    ghost use Rattle.std.specs.Prelude.{◌≡◌, ◌+◌, ◌<◌, ◌≤◌, ℕ, true, false, List};
+    ghost use Rattle.sja_script.specs.Striking.{Strikes};
     ghost use Rattle.sja_wire.specs.Lawful.{IsBusRun};
     ghost use Rattle.sja_plan.specs.Plan.{IsInLimits};
     ghost use Rattle.sja_driver.specs.Deeds.{Deed};
     ghost use Rattle.sja_serial.specs.Serial.{StandsAt, IsRunOf};
+    ghost use Rattle.sja_serial.specs.Bits.{SomeWorks};
     ghost use Rattle.sja_serial.specs.UntilTold.{TakesUntilTold};
 
     /// The next bits, at most so many and as many as are left, up to the first in which a port is told its turn: in
-    /// none of the others a port is told anything, a message is judged, or a node goes bus-off. It says how many: at
-    /// least one, where one is asked for and left.
+    /// none of the others a port is told anything, a message is judged, or a node goes bus-off, and none of several is
+    /// struck. It says how many: at least one, where one is asked for and left.
     pub fn bits_until_told(&mut self, plan: &Plan, count: u32) -> u32
         requires run { IsRunOf plan.now self.old }
         ensures most { result ≤ count }
         ensures some { 1 ≤ count → self.old.bits < plan.now.bits → 1 ≤ result }
+        ensures unstruck { 2 ≤ result → (i node : ℕ) → i < result → node < 8 →
+            Strikes self.old.bus.script (self.old.bus.run + i) node → ⊥ }
         ensures bits { (deeds : List (List Deed)) → StandsAt plan.now self.old deeds →
-            TakesUntilTold plan.now deeds self.old result self.new }
+            TakesUntilTold plan.now deeds false self.old result self.new }
         ensures stays { IsRunOf plan.now self.new }
     {
         let most = count.min(self.bits_left(plan));
         if most == 0 {
             return 0;
         }
-        let bits = self.run_untold_bits(plan, most);
+        let bits = self.run_untold_bits(plan, most, false);
+        if bits == 0 {
+            self.run_one_bit(plan);
+            return 1;
+        }
+        bits
+    }
+
+    /// The next bits, as long as some node works and as many as are left, up to the first in which a port is told its
+    /// turn, as [`bits_until_told`](SerialRun::bits_until_told) has it. It says how many: at least one, where some node
+    /// works and a bit is left.
+    pub fn rest_until_told(&mut self, plan: &Plan) -> u32
+        requires run { IsRunOf plan.now self.old }
+        ensures some { SomeWorks plan.now self.old → self.old.bits < plan.now.bits → 1 ≤ result }
+        ensures unstruck { 2 ≤ result → (i node : ℕ) → i < result → node < 8 →
+            Strikes self.old.bus.script (self.old.bus.run + i) node → ⊥ }
+        ensures bits { (deeds : List (List Deed)) → StandsAt plan.now self.old deeds →
+            TakesUntilTold plan.now deeds true self.old result self.new }
+        ensures stays { IsRunOf plan.now self.new }
+    {
+        let most = self.bits_left(plan);
+        if most == 0 || self.at_rest(plan) {
+            return 0;
+        }
+        let bits = self.run_untold_bits(plan, most, true);
         if bits == 0 {
             self.run_one_bit(plan);
             return 1;
@@ -35,18 +63,20 @@ impl SerialRun {
     }
 
     /// The same, of so many that are left, as far as no strike falls, no port wants an abort and nothing is untold.
-    fn run_untold_bits(&mut self, plan: &Plan, count: u32) -> u32
+    fn run_untold_bits(&mut self, plan: &Plan, count: u32, to_rest: bool) -> u32
         requires run { IsRunOf plan.now self.old }
         requires left { self.old.bits + count ≤ plan.now.bits }
         requires limits { IsInLimits plan.now }
         requires lawful { IsBusRun self.old.bus.script self.old.bus.run self.old.bus.journals }
         ensures most { result ≤ count }
+        ensures unstruck { (i node : ℕ) → i < result → node < 8 →
+            Strikes self.old.bus.script (self.old.bus.run + i) node → ⊥ }
         ensures bits { (deeds : List (List Deed)) → StandsAt plan.now self.old deeds →
-            TakesUntilTold plan.now deeds self.old result self.new }
+            TakesUntilTold plan.now deeds to_rest self.old result self.new }
     {
         match self
             .bus
-            .bits_until_told(self.links.as_mut_slice(), &mut self.board, count)
+            .bits_until_told(self.links.as_mut_slice(), &mut self.board, count, to_rest)
         {
             Ok(bits) => {
                 self.bits += bits;

@@ -21,7 +21,15 @@ use Rattle.sja_session.proofs.Turned.{bits_go_on}
 -- ---- looks
 
 pub still_same : (s : SessionValue) (deeds : List (List Deed)) → IsAt s deeds → IsStill s s deeds
-still_same s deeds h = record { at = h; bus = refl; bits = refl; ports = refl; room = refl; wrote = refl }
+still_same s deeds h = record {
+  at = h;
+  bus = refl;
+  bits = refl;
+  ports = refl;
+  turns = refl;
+  room = refl;
+  wrote = refl;
+}
 
 pub still_then : {a b c : SessionValue} {deeds : List (List Deed)} → IsStill a b deeds → IsStill b c deeds →
     IsStill a c deeds
@@ -30,6 +38,7 @@ still_then first second = record {
   bus = second.bus ∙ first.bus;
   bits = second.bits ∙ first.bits;
   ports = second.ports ∙ first.ports;
+  turns = second.turns ∙ first.turns;
   room = second.room ∙ first.room;
   wrote = second.wrote ∙ first.wrote;
 }

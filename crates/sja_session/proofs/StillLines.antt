@@ -28,7 +28,7 @@ use Rattle.sja_log.proofs.Trace.Timings.{put_now}
 use Rattle.sja_serial.specs.Bits.{TakesBit, TakesBits, TakesBusTurn}
 use Rattle.sja_serial.specs.Bits.TakesBits.{no_bit, one_more}
 use Rattle.sja_serial.specs.Serial.{SerialValue}
-use Rattle.sja_serial.specs.UntilTold.{NoneTold, TakesUntilTold}
+use Rattle.sja_serial.specs.UntilTold.{NoneTold}
 use Rattle.sja_session.specs.declared.session_room.SessionRoom.{SessionRoom}
 use Rattle.sja_session.specs.Inside.UntilTold.{RunsUntilTold}
 use Rattle.sja_session.specs.Lines.{line_at}
@@ -137,7 +137,7 @@ module _ (room : SessionRoom) (plan : PlanValue) (turns : List Turn) (deeds : Li
 
   -- up to the first of which a port is told
   pub until_told : (was now : SerialValue) (n : ℕ) → IsAt (session_of room was plan turns) deeds →
-      TakesUntilTold plan deeds was n now → 1 ≤ n →
+      TakesBits plan deeds (NoneTold was) was n now → 1 ≤ n →
       RunsUntilTold (session_of room was plan turns) (session_of room now plan (with_turn turns (Bus n))) n deeds
   until_told was _ _ h (no_bit _) some = absurd (omega (arith, some))
   until_told was now _ h (one_more _ mid _ m bits told takes) some =

@@ -36,9 +36,10 @@ abbrev pub struck_session : SessionValue → ℕ → ℕ → SessionValue
 struck_session s node bit =
     record s { run = struck_run s.run (one_strike node bit); plan = struck_at s.plan node bit }
 
--- the strike was taken: nothing else changed, the session stands at the same deeds, and the plan that it wrote has the
--- strike more
+-- the strike was taken, of a bit that hasn't run: nothing else changed, the session stands at the same deeds, and the
+-- plan that it wrote has the strike more
 pub record IsStruck (was now : SessionValue) (node bit : ℕ) (deeds : List (List Deed)) : Type 0 where
+  pub ahead : was.run.bits ≤ bit
   pub is : now ≡ struck_session was node bit
   pub at : IsAt now deeds
   pub wrote : written now ≡ struck_at (written was) node bit

@@ -36,8 +36,8 @@ impl<'a, R: Wait> Board for LockBoard<'a, R> {
         self.ports[node as usize].lock(self.rt).orders()
     }
 
-    fn bus_turn(&mut self, node: u8, turn: &BusTurn) {
-        self.ports[node as usize].lock(self.rt).bus_turn(turn);
+    fn bus_turn(&mut self, node: u8, turn: BusTurn) {
+        self.ports[node as usize].lock(self.rt).bus_turn(&turn);
     }
 
     fn close(&mut self, node: u8) {

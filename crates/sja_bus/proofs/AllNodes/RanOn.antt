@@ -14,7 +14,8 @@ use Rattle.sja_bus.specs.Reasons.{room_for}
 use Rattle.sja_bus.specs.Moment.{Moment, moment, Keeps}
 use Rattle.sja_bus.specs.Inside.Refusing.{HaveRoom}
 use Rattle.sja_bus.specs.Inside.Rows.{journals_of, untold_of}
-use Rattle.sja_bus.specs.Inside.RunningOn.{bus_of, AnyBit, RowsRun, RowsStop, IsSoFar, IsStopped, WorksUntold}
+use Rattle.sja_bus.specs.UntilTold.{WorksUntold}
+use Rattle.sja_bus.specs.Inside.RunningOn.{bus_of, AnyBit, RowsRun, RowsStop, IsSoFar, IsStopped}
 use Rattle.sja_bus.proofs.AllNodes.Running.{count_is}
 
 -- what contracts see of a bus with these seats

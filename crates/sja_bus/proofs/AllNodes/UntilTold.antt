@@ -1,5 +1,5 @@
 -- Bits before each of which no port was told anything: the journals have bits alone more.
-use Rattle.std.proofs.Common.{◌≡◌, ℕ, ◌+◌, ◌<◌, ◌≤◌, Bool, List, [], ◌∷◌, ◌++◌, length, inl, inr}
+use Rattle.std.proofs.Common.{◌≡◌, ℕ, ◌+◌, ◌<◌, ◌≤◌, Bool, true, List, [], ◌∷◌, ◌++◌, length, inl, inr}
 use Rattle.std.proofs.Common.{sym, ◌∙◌, subst, arith}
 use Rattle.std.specs.Prelude.{◌⊎◌, Option, slice_index_or}
 use Rattle.can_bits.specs.declared.level.Level.{Level}
@@ -13,15 +13,16 @@ use Rattle.sja_wire.specs.Wire.{wired, journal_at}
 use Rattle.sja_bus.specs.declared.seat.Seat.{Seat}
 use Rattle.sja_bus.specs.Buses.{BusValue}
 use Rattle.sja_bus.specs.Reasons.{room_for}
-use Rattle.sja_bus.specs.UntilTold.{HasBitsMore, NoneTold, TakesFullBit}
+use Rattle.sja_bus.specs.UntilTold.{HasBitsMore, NoneTold, RunsNone}
 use Rattle.sja_bus.specs.UntilTold.HasBitsMore.{none, one_more}
-use Rattle.sja_bus.specs.UntilTold.TakesFullBit.{none_asked, spent, struck, untold, aborts, full}
+use Rattle.sja_bus.specs.UntilTold.RunsNone.{rests, none_asked, spent, struck, untold, aborts, full}
 use Rattle.sja_bus.specs.Inside.Refusing.{HaveRoom}
-use Rattle.sja_bus.specs.Inside.Rows.{EachSeat, SeatHasBits, driven_by, journals_of}
-use Rattle.sja_bus.specs.Inside.RunningOn.{SomeAborts, SomeFull, SomeUntold, moment_of}
+use Rattle.sja_bus.specs.Inside.Rows.{AreReady, EachSeat, SeatHasBits, driven_by, journals_of}
+use Rattle.sja_bus.specs.Inside.RunningOn.{AllAtRest, SomeAborts, SomeFull, SomeUntold, moment_of}
 use Rattle.sja_bus.specs.Inside.Together.{IsQuietRow}
 use Rattle.sja_bus.proofs.AllNodes.RanOn.{bus_with}
 use Rattle.sja_bus.proofs.AllNodes.Running.{count_is, journal_is, untold_is}
+use Rattle.sja_bus.proofs.Resting.Rests.{rests_at}
 
 seat_at : (seats : List Seat) (k : ℕ) → k < length seats → Seat
 seat_at [] k few = absurd (omega (arith, few))
@@ -72,10 +73,10 @@ none_told script steps from run left less begun seats given links first board st
 
 -- ---- why none of them was run
 
-module _ (orders_are : ℕ → Orders → Type 0) (count : ℕ) (script : List Strike) (steps : List ℕ) (run left : ℕ)
-    (fault : Option BusFault) (seats : List Seat) where
+module _ (orders_are : ℕ → Orders → Type 0) (to_rest : Bool) (count : ℕ) (script : List Strike) (steps : List ℕ)
+    (run left : ℕ) (fault : Option BusFault) (seats : List Seat) where
   abbrev Why : Type 0
-  Why = TakesFullBit orders_are count (bus_with script steps run left fault seats)
+  Why = RunsNone orders_are to_rest count (bus_with script steps run left fault seats)
 
   inside : (k : ℕ) → k < length seats → k < length (journals_of seats)
   inside k few = let c = count_is seats in omega (arith, few, c)
@@ -86,23 +87,28 @@ module _ (orders_are : ℕ → Orders → Type 0) (count : ℕ) (script : List S
   held_by_port (inr some) = let s = seat_at seats some.0 some.1 in
       untold some.0 (inside some.0 some.1) (untold_is seats some.0 s some.1 ∙ some.2 s)
 
-  -- by how many were asked for, by a journal, or by the script
-  pub held_by_rows : HaveRoom (room_for (run + left) steps) seats →
-      (count ≡ 0) ⊎ SomeFull 0 seats ⊎ ((node : ℕ) × (node < 8) × Strikes script run node) → Why
-  held_by_rows rooms (inl zero) = none_asked zero
-  held_by_rows rooms (inr (inl some)) =
+  -- by how many were asked for, by a journal, by the script, or as all nodes are at rest
+  pub held_by_rows : AreReady seats → HaveRoom (room_for (run + left) steps) seats →
+      (count ≡ 0) ⊎ SomeFull 0 seats ⊎ ((node : ℕ) × (node < 8) × Strikes script run node)
+      ⊎ ((to_rest ≡ true) × AllAtRest seats) → Why
+  held_by_rows ready rooms (inl zero) = none_asked zero
+  held_by_rows ready rooms (inr (inl some)) =
       let s = seat_at seats some.0 some.1 in let room = rooms some.0 s some.1 in let free = some.2 s in
       let P : List Entry → Type 0 = λ j. room_for (run + left) steps some.0 ≤ length j in
       full some.0 (inside some.0 some.1) (subst P (sym (journal_is seats some.0 s some.1)) (omega (arith, room, free)))
-  held_by_rows rooms (inr (inr some)) = struck some.0 some.1 some.2
+  held_by_rows ready rooms (inr (inr (inl some))) = struck some.0 some.1 some.2
+  held_by_rows ready rooms (inr (inr (inr some))) = rests some.0 (λ k few.
+      let c = count_is seats in let near : k < length seats = omega (arith, few, c) in
+      rests_at seats true k ready few (λ s. some.1 k s near))
 
 -- of as many as are left of those that were asked for
-pub held_of : (orders_are : ℕ → Orders → Type 0) (most count : ℕ) (bus : BusValue) →
-    (most ≡ count) ⊎ (most ≡ bus.left) → TakesFullBit orders_are most bus → TakesFullBit orders_are count bus
-held_of orders_are most count bus (inl all) (none_asked zero) = none_asked (sym all ∙ zero)
-held_of orders_are most count bus (inr few) (none_asked zero) = spent (sym few ∙ zero)
-held_of orders_are most count bus which (spent zero) = spent zero
-held_of orders_are most count bus which (struck node low strikes) = struck node low strikes
-held_of orders_are most count bus which (untold node few is) = untold node few is
-held_of orders_are most count bus which (aborts node o few are wants) = aborts node o few are wants
-held_of orders_are most count bus which (full node few is) = full node few is
+pub held_of : (orders_are : ℕ → Orders → Type 0) (to_rest : Bool) (most count : ℕ) (bus : BusValue) →
+    (most ≡ count) ⊎ (most ≡ bus.left) → RunsNone orders_are to_rest most bus → RunsNone orders_are to_rest count bus
+held_of orders_are to_rest most count bus which (rests asked all) = rests asked all
+held_of orders_are to_rest most count bus (inl all) (none_asked zero) = none_asked (sym all ∙ zero)
+held_of orders_are to_rest most count bus (inr few) (none_asked zero) = spent (sym few ∙ zero)
+held_of orders_are to_rest most count bus which (spent zero) = spent zero
+held_of orders_are to_rest most count bus which (struck node low strikes) = struck node low strikes
+held_of orders_are to_rest most count bus which (untold node few is) = untold node few is
+held_of orders_are to_rest most count bus which (aborts node o few are wants) = aborts node o few are wants
+held_of orders_are to_rest most count bus which (full node few is) = full node few is

@@ -22,7 +22,8 @@ use Rattle.sja_bus.specs.Several.{AreBits}
 use Rattle.sja_bus.specs.Inside.Refusing.{AreFree, HaveRoom}
 use Rattle.sja_bus.specs.Inside.Rows.{AreReady, AreTold, EachSeat, GoesAll, IsBus, SeatTurns, driven_by}
 use Rattle.sja_bus.specs.Inside.Rows.{SeatHasBits, seen_by}
-use Rattle.sja_bus.specs.Inside.RunningOn.{AnyBit, NoneAborts, WorksUntold, moment_of}
+use Rattle.sja_bus.specs.UntilTold.{WorksUntold}
+use Rattle.sja_bus.specs.Inside.RunningOn.{AnyBit, NoneAborts, moment_of}
 use Rattle.sja_bus.specs.Inside.Together.{AreQuietRows, IsQuietRow}
 use Rattle.sja_bus.specs.Inside.Turning.{IsQuietBit}
 use Rattle.sja_bus.specs.Inside.Together.AreQuietRows.{no_row, one_more}

@@ -3,8 +3,10 @@ use Rattle.std.specs.Prelude.{◌≡◌, ◌+◌, ◌-◌, ◌*◌, ◌<◌, ◌
 use Rattle.std.specs.Prelude.{slice_index_or}
 use Rattle.sja_link.specs.declared.bus_end.BusEnd.{Ghosts as Ends}
 use Rattle.sja_link.specs.declared.link_id.LinkId.{LinkId}
+use Rattle.can_node.specs.Stands.{ShowsRest}
 use Rattle.sja_regs.specs.declared.orders.Orders.{Orders}
 use Rattle.sja_script.specs.declared.strike.Strike.{Strike}
+use Rattle.sja_script.specs.Striking.{Strikes}
 use Rattle.sja_bus.specs.declared.board.Board.{Ghosts as Ports}
 use Rattle.sja_bus.specs.declared.broken_off.BrokenOff.{BrokenOff}
 use Rattle.sja_wire.specs.declared.bus_fault.BusFault.{BusFault}
@@ -15,11 +17,11 @@ use Rattle.sja_bus.specs.Buses.{BusValue}
 use Rattle.sja_wire.specs.Links.{Numbered}
 use Rattle.sja_bus.specs.Reasons.{room_for}
 use Rattle.sja_bus.specs.Moment.{Moment, Keeps, OneBit}
-use Rattle.sja_bus.specs.Several.{AreBits, WorksIf, BreaksOff}
-use Rattle.sja_bus.specs.UntilTold.{NoneTold}
+use Rattle.sja_bus.specs.Several.{AreBits, BreaksOff}
+use Rattle.sja_bus.specs.UntilTold.{WorksUntold}
 use Rattle.sja_bus.specs.Inside.Refusing.{HaveRoom}
 use Rattle.sja_bus.specs.Inside.Turning.{is_untold}
-use Rattle.sja_bus.specs.Inside.Rows.{IsBus, journals_of, untold_of}
+use Rattle.sja_bus.specs.Inside.Rows.{AreTold, IsBus, journals_of, untold_of}
 
 -- each of so many ports has orders, and they want no abort
 abbrev pub NoneAborts : (ℕ → Orders → Type 0) → ℕ → Type 0
@@ -33,10 +35,20 @@ SomeAborts orders_are nodes = (node : ℕ) × (o : Orders) × (node < nodes) × 
 abbrev pub SomeUntold : List Seat → Type 0
 SomeUntold seats = (k : ℕ) × (k < length seats) × ((s : Seat) → is_untold (slice_index_or seats k s).untold ≡ true)
 
+-- each of these nodes is at rest
+abbrev pub AllAtRest : List Seat → Type 0
+AllAtRest seats = (k : ℕ) (s : Seat) → k < length seats → ShowsRest (slice_index_or seats k s).node true
+
 -- some journal has no room for more than so many further entries
 abbrev pub SomeFull : ℕ → List Seat → Type 0
 SomeFull n seats = (k : ℕ) × (k < length seats) × ((s : Seat) →
     (slice_index_or seats k s).journal.room - length (slice_index_or seats k s).journal.entries ≤ n)
+
+-- the ports of these seats want no abort, are told all, and have the facts of a port
+pub record MayRunOn {B : Type 0} (b : Ports B) (board : B) (seats : List Seat) : Type 0 where
+  pub orders : NoneAborts (b.orders_are board) (length seats)
+  pub told : AreTold seats
+  pub facts : (k : ℕ) → k < length seats → b.facts board k
 
 -- one of these nodes is one of eight
 abbrev pub SomeStruck : StruckNodes → Type 0
@@ -64,15 +76,13 @@ moment_of script steps run left seats links board =
 abbrev pub AnyBit : {E B : Type 0} → Ends E → Ports B → ℕ → Moment E B → Moment E B → Type 0
 AnyBit e b n = OneBit e b
 
--- some node works, where that is asked for, and no port was told anything since that moment
-abbrev pub WorksUntold : {E B : Type 0} → Bool → Moment E B → Moment E B → Type 0
-WorksUntold to_rest was m = WorksIf to_rest m × NoneTold was m
-
 -- so many of these bits, whatever the room for steps is and however many are left that are enough, and the bus after
--- them
+-- them: each journal has the room that it had, and in none of the bits the script strikes one of eight nodes
 pub record RowsRun {E B : Type 0} (e : Ends E) (b : Ports B) (to_rest : Bool) (script : List Strike) (from most : ℕ)
     (was now : List Seat) (links after : List E) (board told : B) (n : ℕ) : Type 0 where
   pub bus : IsBus script (from + n) now
+  pub rooms : (room : ℕ → ℕ) → HaveRoom room was → HaveRoom room now
+  pub unstruck : (i node : ℕ) → i < n → node < 8 → Strikes script (from + i) node → ⊥
   pub bits : (steps : List ℕ) (left : ℕ) → most ≤ left →
       AreBits (AnyBit e b) (WorksUntold to_rest (moment_of script steps from left was links board))
       (moment_of script steps from left was links board) n

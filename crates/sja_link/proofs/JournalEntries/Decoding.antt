@@ -40,27 +40,31 @@ plain_rest code codes s c r m p h =
     let a = p.starts_are in let b = p.credits_are in let e = p.requests_are in let f = p.messages_are in
     rest_whole code codes s s c c r r m m h (omega (arith, a)) (omega (arith, b)) (omega (arith, e)) (omega (arith, f))
 
-start_rest : (codes : List Code) (x : Config) (s : List Config) (c : List ℕ) (r : List Request) (m : List (List ℕ)) →
+pub start_rest : (codes : List Code) (x : Config) (s : List Config) (c : List ℕ) (r : List Request)
+    (m : List (List ℕ)) →
     AreWhole (Start ∷ codes) (x ∷ s) c r m → AreWhole codes s c r m
 start_rest codes x s c r m h = rest_whole Start codes (x ∷ s) s c c r r m m h (omega arith) (omega arith)
     (omega arith) (omega arith)
 
-credit_rest : (codes : List Code) (s : List Config) (x : ℕ) (c : List ℕ) (r : List Request) (m : List (List ℕ)) →
+pub credit_rest : (codes : List Code) (s : List Config) (x : ℕ) (c : List ℕ) (r : List Request) (m : List (List ℕ)) →
     AreWhole (Credit ∷ codes) s (x ∷ c) r m → AreWhole codes s c r m
 credit_rest codes s x c r m h = rest_whole Credit codes s s (x ∷ c) c r r m m h (omega arith) (omega arith)
     (omega arith) (omega arith)
 
-request_rest : (codes : List Code) (s : List Config) (c : List ℕ) (x : Request) (r : List Request) (m : List (List ℕ)) →
+pub request_rest : (codes : List Code) (s : List Config) (c : List ℕ) (x : Request) (r : List Request)
+    (m : List (List ℕ)) →
     AreWhole (Send ∷ codes) s c (x ∷ r) m → AreWhole codes s c r m
 request_rest codes s c x r m h = rest_whole Send codes s s c c (x ∷ r) r m m h (omega arith) (omega arith)
     (omega arith) (omega arith)
 
-stored_rest : (codes : List Code) (s : List Config) (c : List ℕ) (r : List Request) (x : List ℕ) (m : List (List ℕ)) →
+pub stored_rest : (codes : List Code) (s : List Config) (c : List ℕ) (r : List Request) (x : List ℕ)
+    (m : List (List ℕ)) →
     AreWhole (Stored ∷ codes) s c r (x ∷ m) → AreWhole codes s c r m
 stored_rest codes s c r x m h = rest_whole Stored codes s s c c r r (x ∷ m) m h (omega arith) (omega arith)
     (omega arith) (omega arith)
 
-overrun_rest : (codes : List Code) (s : List Config) (c : List ℕ) (r : List Request) (x : List ℕ) (m : List (List ℕ)) →
+pub overrun_rest : (codes : List Code) (s : List Config) (c : List ℕ) (r : List Request) (x : List ℕ)
+    (m : List (List ℕ)) →
     AreWhole (Overrun ∷ codes) s c r (x ∷ m) → AreWhole codes s c r m
 overrun_rest codes s c r x m h = rest_whole Overrun codes s s c c r r (x ∷ m) m h (omega arith) (omega arith)
     (omega arith) (omega arith)

@@ -1,7 +1,7 @@
 -- A run before its first turn.
 use Rattle.std.proofs.Common.{◌≡◌, ℕ, zero, suc, ◌+◌, ◌*◌, ◌<◌, ◌≤◌, List, [], ◌∷◌, ◌++◌, length, refl, sym}
 use Rattle.std.proofs.Common.{ap, ◌∙◌, subst, arith, inl, inr}
-use Rattle.std.specs.Prelude.{not, replicate, slice_index_or}
+use Rattle.std.specs.Prelude.{Option, None, not, replicate, slice_index_or}
 use Rattle.std.proofs.lemmas.List.{get_or-map}
 use Rattle.std.proofs.lemmas.Bool.{cases_eq}
 use Rattle.sja_link.specs.Accounts.{account}
@@ -11,6 +11,7 @@ use Rattle.sja_bus.specs.Buses.{BusValue, new_bus}
 use Rattle.sja_bus.specs.NewLinks.{AreNewLinks, new_link}
 use Rattle.sja_wire.specs.Wire.{journal_at}
 use Rattle.sja_plan.specs.Plan.{PlanValue}
+use Rattle.sja_regs.specs.declared.bus_turn.BusTurn.{BusTurn}
 use Rattle.sja_regs.specs.declared.registers.Registers.{Registers}
 use Rattle.sja_regs.specs.Registers.{at_power_on}
 use Rattle.sja_script.specs.declared.strike.Strike.{Strike}
@@ -125,14 +126,16 @@ length_all (suc n) x = ap suc (length_all n x)
 
 -- a run to which nothing happened stands where no driver did anything
 pub stands_new : (plan : PlanValue) (bus : BusValue) (drivers : List LoggedDriver) (ports : List Registers)
-    (links : List Deques) (nodes bits : ℕ) (steps : List ℕ) (script : List Strike) → nodes ≡ length plan.nodes → script
+    (turns : List (Option BusTurn)) (links : List Deques) (nodes bits : ℕ) (steps : List ℕ) (script : List Strike) →
+    nodes ≡ length plan.nodes → script
     ≡ plan.strikes →
     bits ≡ plan.bits → bus ≡ new_bus script bits nodes steps → steps ≡ step_counts plan →
     length drivers ≡ length plan.nodes → AreNew plan (length plan.nodes) drivers →
-    ports ≡ replicate nodes (at_power_on plan.version) → AreNewLinks nodes links →
-    StandsAt plan (run_now bus drivers ports links 0) (replicate (length plan.nodes) [])
-stands_new plan bus drivers ports links nodes bits steps script count script_is bits_is bus_is steps_are driver_count
-    made ports_are
+    ports ≡ replicate nodes (at_power_on plan.version) → turns ≡ replicate nodes None → AreNewLinks nodes links →
+    StandsAt plan (run_now bus drivers ports turns links 0) (replicate (length plan.nodes) [])
+stands_new plan bus drivers ports turns links nodes bits steps script count script_is bits_is bus_is steps_are
+    driver_count
+    made ports_are turns_are
     fresh = record {
       right = ap (λ (b : BusValue). b.fault) bus_is;
       script = ap (λ (b : BusValue). b.script) bus_is ∙ script_is;
@@ -143,6 +146,7 @@ stands_new plan bus drivers ports links nodes bits steps script count script_is 
         journals = ap (λ (b : BusValue). length b.journals) bus_is ∙ length_all nodes [] ∙ count;
         drivers = driver_count;
         ports = ap (λ l. length l) ports_are ∙ length_all nodes (at_power_on plan.version) ∙ count;
+        turns = ap (λ l. length l) turns_are ∙ length_all nodes None ∙ count;
         links = fresh.count ∙ ap (λ n. 64 * n) count;
       };
       deeds_count = length_all (length plan.nodes) [];

@@ -1,7 +1,7 @@
 -- Deeds of one node, one after another.
 use Rattle.std.proofs.Common.{◌≡◌, ℕ, zero, suc, ◌+◌, ◌-◌, ◌<◌, ◌≤◌, List, [], ◌∷◌, ◌++◌, length, refl, sym, ap, ◌∙◌}
 use Rattle.std.proofs.Common.{subst, append_assoc, append-nil, arith, inl, inr}
-use Rattle.std.specs.Prelude.{slice_index_or, slice_set}
+use Rattle.std.specs.Prelude.{◌≢◌, slice_index_or, slice_set}
 use Rattle.std.proofs.lemmas.Bool.{cases_lt}
 use Rattle.std.proofs.lemmas.List.{length-append, length-map, map-append, get_or-set_same}
 use Rattle.sja_link.specs.declared.entry.Entry.{Entry}
@@ -69,6 +69,7 @@ does_none plan r node deeds h = record {
   stands = subst (λ (l : List (List Deed)). StandsAt plan r l) (sym (no_deeds deeds node)) h;
   at_once = λ i d less. absurd (omega (arith, less));
   bits = refl;
+  turns = refl;
   items = λ m less. record { items = []; whole = sym (append-nil (journal_at r.bus.journals m)) };
 }
 
@@ -88,6 +89,7 @@ does_both plan r m n node deeds xs ys there f g = record {
   stands = subst (λ (l : List (List Deed)). StandsAt plan n l) (deeds_twice deeds node xs ys there) g.stands;
   at_once = both_at xs ys r.bits f.at_once (λ i d less. g.at_once i d less ∙ f.bits);
   bits = g.bits ∙ f.bits;
+  turns = g.turns ∙ f.turns;
   items = λ k less. more_both (journal_at r.bus.journals k) (journal_at m.bus.journals k)
       (journal_at n.bus.journals k) (f.items k less) (g.items k less);
 }
@@ -99,26 +101,34 @@ pub done_count : (plan : PlanValue) (r : SerialValue) (deeds : List (List Deed))
 done_count plan r deeds node d p h there =
     ap (λ l. length l) (sym (h.nodes node d p there).traced.traces.done) ∙ length-map (deeds_at deeds node) done_of
 
--- so many deeds were done
+-- so many deeds were done, and each other journal is as it was
 pub record SoFar (plan : PlanValue) (r n : SerialValue) (node : ℕ) (deeds : List (List Deed)) (count : ℕ) : Type 0 where
   pub more : List Deed
   pub does : NodeDoes plan r n node deeds more
+  pub others : (m : ℕ) → m < length plan.nodes → m ≢ node →
+      journal_at n.bus.journals m ≡ journal_at r.bus.journals m
   pub many : length more ≡ count
 
 pub so_far_none : (plan : PlanValue) (r : SerialValue) (node : ℕ) (deeds : List (List Deed)) → StandsAt plan r deeds →
     SoFar plan r r node deeds 0
-so_far_none plan r node deeds h = record { more = []; does = does_none plan r node deeds h; many = refl }
+so_far_none plan r node deeds h = record {
+  more = [];
+  does = does_none plan r node deeds h;
+  others = λ m less other. refl;
+  many = refl;
+}
 
 pub so_far_one : (plan : PlanValue) (r m n : SerialValue) (node count : ℕ) (deeds : List (List Deed)) →
     node < length deeds → (s : SoFar plan r m node deeds count) → (d : Deed) →
-    NodeDoes plan m n node (with_deeds deeds node s.more) (d ∷ []) →
-    SoFar plan r n node deeds (count + 1)
-so_far_one plan r m n node count deeds there s d did =
+    NodeDoes plan m n node (with_deeds deeds node s.more) (d ∷ []) → ((k : ℕ) → k < length plan.nodes → k ≢ node →
+    journal_at n.bus.journals k ≡ journal_at m.bus.journals k) → SoFar plan r n node deeds (count + 1)
+so_far_one plan r m n node count deeds there s d did same =
     let l = length-append s.more (d ∷ []) in let k = s.many in
     record {
       more = s.more ++ d ∷ [];
       does = does_both plan r m n node deeds s.more
           (d ∷ []) there s.does did;
+      others = λ k less other. same k less other ∙ s.others k less other;
       many = omega (arith, l, k);
     }
 
@@ -126,8 +136,9 @@ so_far_one plan r m n node count deeds there s d did =
 pub turn_waits : (plan : PlanValue) (r m n : SerialValue) (node count most : ℕ) (deeds : List (List Deed)) →
     node < length deeds → (s : SoFar plan r m node deeds count) → count ≤ most →
     NodeDoes plan m n node (with_deeds deeds node s.more) [] × CannotStep plan n (with_deeds deeds node s.more) node →
+    ((k : ℕ) → k < length plan.nodes → journal_at n.bus.journals k ≡ journal_at m.bus.journals k) →
     TakesTurn plan r n node most deeds
-turn_waits plan r m n node count most deeds there s few w =
+turn_waits plan r m n node count most deeds there s few w same =
     let k = s.many in
     let both : NodeDoes plan r n node deeds (s.more ++ []) =
     does_both plan r m n node deeds s.more [] there s.does w.0 in
@@ -135,6 +146,7 @@ turn_waits plan r m n node count most deeds there s few w =
       more = s.more;
       does = subst (λ (l : List Deed). NodeDoes plan r n node deeds l)
           (append-nil s.more) both;
+      others = λ k less other. same k less ∙ s.others k less other;
       most = omega (arith, k, few);
       stuck = λ less. w.1;
     }
@@ -145,6 +157,7 @@ turn_done plan r n node count most deeds s all = let k = s.many in
     record {
       more = s.more;
       does = s.does;
+      others = s.others;
       most = omega (arith, k, all);
       stuck = λ less. absurd
           (omega (arith, k, all, less));

@@ -7,7 +7,7 @@ use Rattle.sja_link.specs.Accounts.{Account}
 use Rattle.sja_link.specs.Deques.{Deques, Lies}
 use Rattle.lemmas.specs.Related.{EachRelated}
 use Rattle.sja_regs.specs.Registers.{at_power_on}
-use Rattle.sja_bus.specs.Boards.{HasOrders, WasTold, WasKept}
+use Rattle.sja_bus.specs.Boards.{HasOrders}
 use Rattle.sja_bus.specs.Buses.{EachJournal, KeepsAll, EachUntold, untold_at}
 use Rattle.sja_wire.specs.Lawful.{IsBusRun}
 use Rattle.sja_wire.specs.OneBit.{MayHaveItems}
@@ -20,6 +20,7 @@ use Rattle.sja_driver.specs.Deeds.{Deed, given_in, deeds_of}
 use Rattle.sja_log.proofs.Trace.Stepping.{given_taken}
 use Rattle.sja_serial.specs.Bits.{TakesBits, TakesAtOnce}
 use Rattle.sja_serial.specs.Serial.{SerialValue, StandsAt, run_now}
+use Rattle.sja_serial.specs.UntilTold.{NotesTurn, KeepsTurn}
 use Rattle.sja_driver.specs.Deeds.{deeds_at}
 use Rattle.sja_serial.proofs.OneBit.BitRun.{some_of, no_link}
 use Rattle.sja_log.proofs.Account.Dry.{none_taken}
@@ -30,7 +31,7 @@ use Rattle.sja_serial.proofs.ManyBits.StillBits.{with_none, keeps_still, run_at,
 module _ (plan : PlanValue) (r n : SerialValue) (deeds : List (List Deed)) (h : StandsAt plan r deeds)
     (right : n.bus.fault ≡ None) (script : n.bus.script ≡ r.bus.script)
     (room : n.bus.steps ≡ r.bus.steps) (journals : length n.bus.journals ≡ length r.bus.journals)
-    (drivers : n.drivers ≡ r.drivers) (ports : n.ports ≡ r.ports)
+    (drivers : n.drivers ≡ r.drivers) (ports : n.ports ≡ r.ports) (turns : n.turns ≡ r.turns)
     (sames : EachRelated (λ (a b : Deques). b.link ≡ a.link) r.links n.links)
     (kept : KeepsAll Lies r.bus.journals n.bus.journals r.links n.links)
     (was : IsBusRun r.bus.script r.bus.run r.bus.journals) where
@@ -60,8 +61,8 @@ module _ (plan : PlanValue) (r n : SerialValue) (deeds : List (List Deed)) (h : 
       n.bus.left + count ≡ r.bus.left → n.bits ≡ r.bits + count →
       (count ≡ 0 → EachJournal MayHaveItems r.bus.journals n.bus.journals) →
       (count ≡ 0 → EachUntold r.bus.untold n.bus.untold r.bus.journals n.bus.journals) →
-      (count ≢ 0 → IsStretch (HasOrders r.ports) (WasTold r.ports r.ports)
-      (WasKept r.ports r.ports) r.bus.script r.bus.run count r.bus.untold r.bus.journals n.bus.journals) →
+      (count ≢ 0 → IsStretch (HasOrders r.ports) (NotesTurn r r) (KeepsTurn r r) r.bus.script r.bus.run count
+      r.bus.untold r.bus.journals n.bus.journals) →
       TakesAtOnce plan deeds r n most count
   takes_at_once most zero within run left bits items untold stretch =
       let same = none_came (items refl) in record {
@@ -71,7 +72,7 @@ module _ (plan : PlanValue) (r n : SerialValue) (deeds : List (List Deed)) (h : 
             let c = h.count.journals in let few : m < length r.bus.journals = omega (arith, c, less) in
             (none_untold (untold_at r.bus.untold m) (untold_at n.bus.untold m) (journal_at r.bus.journals m)
             (journal_at n.bus.journals m) (items refl m few) (untold refl m few) e).0) right script room
-            (omega (arith, run)) (omega (arith, left)) (omega (arith, bits)) same drivers ports refl;
+            (omega (arith, run)) (omega (arith, left)) (omega (arith, bits)) same drivers ports turns refl;
         none = λ zero. (omega (arith, bits), same);
         some = λ ne. absurd (ne refl);
       }
@@ -88,7 +89,7 @@ module _ (plan : PlanValue) (r n : SerialValue) (deeds : List (List Deed)) (h : 
         fault = (h.right ∙ sym right) i;
         journals = sym s.grown i;
         untold = n.bus.untold;
-      }) (sym drivers i) (sym ports i) n.links (sym bits i) in
+      }) (sym drivers i) (sym ports i) (sym turns i) n.links (sym bits i) in
       let taken = subst (λ (x : SerialValue). TakesBits plan deeds (λ y. Unit {0}) r (suc k) x) is all in record {
         within = within;
         stands = stands_bits plan deeds _ r n (suc k) taken h;

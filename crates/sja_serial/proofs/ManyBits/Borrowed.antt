@@ -1,6 +1,8 @@
 -- A run whose links a call has as a slice.
 use Rattle.std.proofs.Common.{◌≡◌, ℕ, ◌<◌, List, sym, ◌∙◌, subst}
 use Rattle.sja_link.specs.Deques.{Deques}
+use Rattle.std.specs.Prelude.{Option}
+use Rattle.sja_regs.specs.declared.bus_turn.BusTurn.{BusTurn}
 use Rattle.sja_regs.specs.declared.registers.Registers.{Registers}
 use Rattle.sja_bus.specs.Buses.{BusValue}
 use Rattle.sja_wire.specs.Lawful.{IsBusRun}
@@ -9,15 +11,16 @@ use Rattle.sja_driver.specs.declared.logged_driver.LoggedDriver.{LoggedDriver}
 use Rattle.sja_driver.specs.Deeds.{Deed}
 use Rattle.sja_serial.specs.Serial.{SerialValue, StandsAt, IsRunOf, run_now}
 
-module _ (bus : BusValue) (drivers : List LoggedDriver) (ports : List Registers) (slice links : List Deques) (bits : ℕ)
-    (r : SerialValue) (same : slice ≡ links) (view : run_now bus drivers ports links bits ≡ r) where
+module _ (bus : BusValue) (drivers : List LoggedDriver) (ports : List Registers)
+    (turns : List (Option BusTurn)) (slice links : List Deques) (bits : ℕ) (r : SerialValue) (same : slice ≡ links)
+    (view : run_now bus drivers ports turns links bits ≡ r) where
   -- it is that run
-  pub run_is : run_now bus drivers ports slice bits ≡ r
-  run_is = (λ i. run_now bus drivers ports (same i) bits) ∙ view
+  pub run_is : run_now bus drivers ports turns slice bits ≡ r
+  run_is = (λ i. run_now bus drivers ports turns (same i) bits) ∙ view
 
   -- it stands where that run does, and has bits left where that has
   pub stands_there : (plan : PlanValue) → IsRunOf plan r → r.bits < plan.bits → (deeds : List (List Deed))
-      × StandsAt plan (run_now bus drivers ports slice bits) deeds × (bits < plan.bits)
+      × StandsAt plan (run_now bus drivers ports turns slice bits) deeds × (bits < plan.bits)
   stands_there plan run left = (
     run.0,
     subst (λ (x : SerialValue). StandsAt plan x run.0) (sym run_is) run.1,

@@ -128,7 +128,7 @@ busy_whole plan deeds Before r n many most count left s left_is most_is whole =
     ]
 
 -- not every node is at rest where some node works
-not_both : (plan : PlanValue) (n : SerialValue) → AllRestIn plan n → SomeWorks plan n → ⊥
+pub not_both : (plan : PlanValue) (n : SerialValue) → AllRestIn plan n → SomeWorks plan n → ⊥
 not_both plan n rest busy =
     let r = rest busy.0 busy.1 in let is = r.is in let no = busy.2.every r.found r.cut in cc (is, no)
 

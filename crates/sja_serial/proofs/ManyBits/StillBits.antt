@@ -14,7 +14,7 @@ use Rattle.sja_link.specs.Carried.{taken_of}
 use Rattle.lemmas.specs.Related.{EachRelated}
 use Rattle.lemmas.proofs.Related.{each_at, each_refl}
 use Rattle.sja_regs.specs.declared.registers.Registers.{Registers}
-use Rattle.sja_bus.specs.Boards.{HasOrders, WasTold, WasKept}
+use Rattle.sja_bus.specs.Boards.{HasOrders}
 use Rattle.sja_bus.specs.Buses.{KeepsAll, untold_at}
 use Rattle.sja_wire.specs.Lawful.{IsBusRun}
 use Rattle.sja_wire.specs.Links.{per_node, Kept}
@@ -34,6 +34,7 @@ use Rattle.sja_serial.specs.Serial.{SerialValue, StandsAt, run_now}
 use Rattle.sja_driver.specs.Deeds.{deeds_at}
 use Rattle.sja_plan.specs.Plan.{steps_at}
 use Rattle.sja_serial.specs.Shown.{ShowsRecord}
+use Rattle.sja_serial.specs.UntilTold.{NotesTurn, KeepsTurn}
 use Rattle.sja_serial.proofs.OneBit.BitAsked.{HasCut}
 use Rattle.sja_serial.proofs.OneBit.BitRun.{cuts_of, takes_bit}
 use Rattle.sja_wire.proofs.Taking.{same_front}
@@ -68,7 +69,7 @@ run_at r links untold i = run_now (record {
   fault = r.bus.fault;
   journals = with_recessive i r.bus.journals;
   untold = untold;
-}) r.drivers r.ports links (r.bits + i)
+}) r.drivers r.ports r.turns links (r.bits + i)
 
 -- ---- a run whose links were looked at, and nothing was taken
 
@@ -131,9 +132,9 @@ module _ (plan : PlanValue) (r : SerialValue) (deeds : List (List Deed)) (h : St
       untold_at r.bus.untold m ≡ false) → n.bus.fault ≡ None → n.bus.script ≡ r.bus.script → n.bus.steps ≡ r.bus.steps →
       n.bus.run ≡ r.bus.run → n.bus.left ≡ r.bus.left → n.bits ≡ r.bits → n.bus.journals ≡ r.bus.journals → n.drivers ≡
       r.drivers →
-      n.ports ≡ r.ports → n.links ≡ links →
+      n.ports ≡ r.ports → n.turns ≡ r.turns → n.links ≡ links →
       StandsAt plan n deeds
-  stands_still n told right script room run left bits journals drivers ports links_are = record {
+  stands_still n told right script room run left bits journals drivers ports turns links_are = record {
     right = right;
     script = script ∙ h.script;
     all_bits = let a = h.all_bits in omega (arith, a, run, left);
@@ -142,6 +143,7 @@ module _ (plan : PlanValue) (r : SerialValue) (deeds : List (List Deed)) (h : St
       journals = ap (λ l. length l) journals ∙ h.count.journals;
       drivers = ap (λ l. length l) drivers ∙ h.count.drivers;
       ports = ap (λ l. length l) ports ∙ h.count.ports;
+      turns = ap (λ l. length l) turns ∙ h.count.turns;
       links = ap (λ l. length l) links_are ∙ many ∙ h.count.links;
     };
     deeds_count = h.deeds_count;
@@ -173,8 +175,8 @@ module _ (plan : PlanValue) (r : SerialValue) (deeds : List (List Deed)) (h : St
 
   module _ (count : ℕ) (after : List (List Entry)) (most : count ≤ r.bus.left)
       (was : IsBusRun r.bus.script r.bus.run r.bus.journals)
-      (stretch : IsStretch (HasOrders r.ports) (WasTold r.ports r.ports)
-      (WasKept r.ports r.ports) r.bus.script r.bus.run count r.bus.untold r.bus.journals after) where
+      (stretch : IsStretch (HasOrders r.ports) (NotesTurn r r) (KeepsTurn r r) r.bus.script r.bus.run count r.bus.untold
+      r.bus.journals after) where
     abbrev at : List Bool → ℕ → SerialValue
     at untold i = run_at r links untold i
 
@@ -194,7 +196,7 @@ module _ (plan : PlanValue) (r : SerialValue) (deeds : List (List Deed)) (h : St
 
     first : StandsAt plan (at r.bus.untold 0) deeds
     first = stands_still (at r.bus.untold 0) (λ m less e. e) h.right refl refl (omega arith) (omega arith) (omega arith)
-        (with_none r.bus.journals) refl refl refl
+        (with_none r.bus.journals) refl refl refl refl
 
     takes : (untold : List Bool) (i : ℕ) → i < count → StandsAt plan (at r.bus.untold i) deeds →
         TakesBit plan deeds (at r.bus.untold i) (at untold (suc i))
@@ -202,7 +204,7 @@ module _ (plan : PlanValue) (r : SerialValue) (deeds : List (List Deed)) (h : St
         let a = length-map r.bus.journals (λ j. j ++ recessive_bits i) in
         let b = length-map r.bus.journals (λ j. j ++ recessive_bits (suc i)) in
         takes_bit plan (at r.bus.untold i) (at untold (suc i)) deeds stood h.right refl refl (omega arith)
-        (omega (arith, early, most)) (omega (arith, a, b)) refl (omega arith) refl
+        (omega (arith, early, most)) (omega (arith, a, b)) refl (omega arith) refl refl
         (λ m acc few kept. keeps_still i (suc i) r.bus.journals links m acc (inside i m few) kept)
         (each_refl (λ (x y : Deques). y.link ≡ x.link) (λ x. refl) links) (stretch.bits i early)
         (cuts i (omega (arith, early)))
@@ -211,16 +213,10 @@ module _ (plan : PlanValue) (r : SerialValue) (deeds : List (List Deed)) (h : St
     stands zero early = first
     stands (suc i) early = (takes r.bus.untold i (omega (arith, early)) (stands i (omega (arith, early)))).stands
 
-    -- one of them, where other things were untold
-    one : (before untold : List Bool) (i : ℕ) → i < count → TakesBit plan deeds (at before i) (at untold (suc i))
-    one before untold i early =
-        let t = takes untold i early (stands i (omega (arith, early))) in
-        record { stands = t.stands; bits = t.bits; nodes = t.nodes }
-
     -- the first, from the run as it was
     one_first : (untold : List Bool) → 0 < count → TakesBit plan deeds r (at untold 1)
     one_first untold early =
-        let t = one r.bus.untold untold 0 early in let b = t.bits in record {
+        let t = takes untold 0 early first in record {
           stands = t.stands;
           bits = omega arith;
           nodes = λ m less. subst (λ (l : List (List Entry)). HasOneBit (journal_at l m)
@@ -231,8 +227,11 @@ module _ (plan : PlanValue) (r : SerialValue) (deeds : List (List Deed)) (h : St
         TakesBits plan deeds (λ x. Unit {0}) r (suc i) (at untold (suc i))
     chain untold zero early = one_more r r (at untold 1) 0 (no_bit r) tt (one_first untold early)
     chain untold (suc i) early =
-        one_more r (at untold (suc i)) (at untold (suc (suc i))) (suc i) (chain untold i (omega (arith, early))) tt
-        (one untold untold (suc i) early)
+        one_more r (at r.bus.untold (suc i)) (at untold (suc (suc i))) (suc i) (chain r.bus.untold i (omega (
+          arith,
+          early,
+        )))
+        tt (takes untold (suc i) early (stands (suc i) (omega (arith, early))))
 
     -- all of them, where there are any
     pub all_at_once : (untold : List Bool) (k : ℕ) → count ≡ suc k →

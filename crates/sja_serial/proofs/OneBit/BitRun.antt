@@ -1,21 +1,17 @@
 -- A run after a bit.
-use Rattle.std.proofs.Common.{◌≡◌, ℕ, ◌+◌, ◌*◌, ◌<◌, ◌≤◌, Bool, List, [], ◌∷◌, length, sym, ap, ◌∙◌, subst, arith}
-use Rattle.std.proofs.Common.{inl, inr}
+use Rattle.std.proofs.Common.{◌≡◌, ℕ, ◌+◌, ◌*◌, ◌<◌, ◌≤◌, List, [], ◌∷◌, length, sym, ap, ◌∙◌, subst, arith}
 use Rattle.std.specs.Prelude.{None, slice_index_or}
 use Rattle.std.proofs.lemmas.Slice.Zip.{AllZip-long}
-use Rattle.can_bits.specs.declared.level.Level.{Level}
 use Rattle.can_bits.specs.declared.level.Level.TheVariants.{Recessive}
 use Rattle.sja_link.specs.declared.entry.Entry.{Entry}
 use Rattle.sja_link.specs.Deques.{Deques, Lies}
 use Rattle.lemmas.specs.Related.{EachRelated}
 use Rattle.lemmas.proofs.Related.{each_at}
-use Rattle.sja_regs.specs.declared.bus_turn.BusTurn.{BusTurn}
-use Rattle.sja_regs.specs.declared.orders.Orders.{Orders}
 use Rattle.sja_regs.specs.declared.registers.Registers.{Registers}
 use Rattle.sja_regs.specs.Registers.{at_power_on}
 use Rattle.sja_regs.specs.Turns.{after_turn}
-use Rattle.sja_bus.specs.Boards.{HasOrders, WasTold, WasKept}
-use Rattle.sja_bus.specs.Buses.{KeepsAll, IsBit, IsNodeBit, untold_at}
+use Rattle.sja_bus.specs.Boards.{HasOrders}
+use Rattle.sja_bus.specs.Buses.{KeepsAll, IsBit, untold_at}
 use Rattle.sja_wire.specs.Lawful.{IsBusRun}
 use Rattle.sja_wire.specs.Links.{per_node}
 use Rattle.sja_wire.specs.Wire.{journal_at}
@@ -30,8 +26,10 @@ use Rattle.sja_serial.specs.Serial.{SerialValue, StandsAt}
 use Rattle.sja_driver.specs.Deeds.{deeds_at}
 use Rattle.sja_plan.specs.Plan.{steps_at}
 use Rattle.sja_serial.specs.Shown.{ShowsRecord}
+use Rattle.sja_serial.specs.UntilTold.{NotesTurn, KeepsTurn, TellsBit}
 use Rattle.sja_serial.proofs.OneBit.BitAsked.{HasCut}
-use Rattle.sja_serial.proofs.OneBit.Bit.{BitOf, after_one_bit, one_bit, shows}
+use Rattle.sja_serial.proofs.OneBit.Bit.{BitOf, OrdersOf, after_one_bit, one_bit, shows}
+use Rattle.sja_serial.proofs.OneBit.OtherWords.{other_node_bit}
 
 -- each journal of a lawful bus has a cut
 pub cuts_of : {script : List Strike} {run : ℕ} {journals : List (List Entry)} → IsBusRun script run journals →
@@ -46,41 +44,16 @@ some_of (x ∷ xs) i less = x
 pub no_link : Deques
 no_link = record { link = record { node = 0; activation = 0 }; down = []; up = [] }
 
--- a bit of a node by its port alone
-bit_of : (has_orders : Orders → Type 0) (was_told : BusTurn → Type 0) (was_kept : Type 0) (p q : Registers)
-    (untold : Bool) (j k : List Entry) (driven seen : Level) →
-    ((o : Orders) → has_orders o → o ≡ record { abort = p.abort; ended = p.ended }) →
-    ((t : BusTurn) → was_told t → q ≡ after_turn p t) → (was_kept → q ≡ p) →
-    IsNodeBit has_orders was_told was_kept untold j k driven seen → BitOf p q untold j k driven seen
-bit_of has_orders was_told was_kept p q untold j k driven seen f g c b = record {
-  opened = b.opened;
-  opens = record {
-    taken = b.opens.taken;
-    items = b.opens.items;
-    aborts = b.opens.aborts;
-    orders = b.opens.orders;
-    are_orders = f b.opens.orders b.opens.are_orders;
-    unasked = b.opens.unasked;
-    applied = b.opens.applied;
-  };
-  bit = b.bit;
-  turn = b.turn;
-  is_turn = b.is_turn;
-  port = elim b.port [
-    | inl told ↦ inl (g b.turn told)
-    | inr over ↦ inr (record { kept = c over.kept; told = over.told; same = over.same; alone = over.alone })
-  ];
-}
-
 module _ (plan : PlanValue) (r n : SerialValue) (deeds : List (List Deed)) (h : StandsAt plan r deeds)
     (right : n.bus.fault ≡ None) (script : n.bus.script ≡ r.bus.script)
     (room : n.bus.steps ≡ r.bus.steps) (run : n.bus.run ≡ r.bus.run + 1) (left : n.bus.left + 1 ≡ r.bus.left)
     (journals : length n.bus.journals ≡ length r.bus.journals) (drivers_are : n.drivers ≡ r.drivers)
     (bits_are : n.bits ≡ r.bits + 1)
-    (ports : length n.ports ≡ length r.ports) (kept : KeepsAll Lies r.bus.journals n.bus.journals r.links n.links)
+    (ports : length n.ports ≡ length r.ports) (turns : length n.turns ≡ length r.turns)
+    (kept : KeepsAll Lies r.bus.journals n.bus.journals r.links n.links)
     (sames : EachRelated (λ (a b : Deques). b.link ≡ a.link) r.links n.links)
-    (bit : IsBit (HasOrders r.ports) (WasTold r.ports n.ports)
-    (WasKept r.ports n.ports) r.bus.script r.bus.run r.bus.untold r.bus.journals n.bus.journals)
+    (bit : IsBit (HasOrders r.ports) (NotesTurn r n) (KeepsTurn r n) r.bus.script r.bus.run r.bus.untold r.bus.journals
+    n.bus.journals)
     (cuts : (m : ℕ) → m < length r.bus.journals → HasCut (journal_at r.bus.journals m)) where
   many : length n.links ≡ length r.links
   many = AllZip-long (λ (a b : Deques). b.link ≡ a.link) r.links n.links sames
@@ -92,10 +65,11 @@ module _ (plan : PlanValue) (r n : SerialValue) (deeds : List (List Deed)) (h : 
     here : BitOf (slice_index_or r.ports m p) (slice_index_or n.ports m p) (untold_at r.bus.untold m)
         (journal_at r.bus.journals m) (journal_at n.bus.journals m) (slice_index_or bit.driven m Recessive) (bit.seen m)
     here =
-        bit_of (HasOrders r.ports m) (WasTold r.ports n.ports m) (WasKept r.ports n.ports m)
-        (slice_index_or r.ports m p) (slice_index_or n.ports m p) (untold_at r.bus.untold m)
-        (journal_at r.bus.journals m) (journal_at n.bus.journals m) (slice_index_or bit.driven m Recessive)
-        (bit.seen m) (λ o x. x p) (λ t x. x p) (λ x. x p) (bit.nodes m (inside m less))
+        let p_was = slice_index_or r.ports m p in let p_now = slice_index_or n.ports m p in
+        other_node_bit (HasOrders r.ports m) (OrdersOf p_was) (NotesTurn r n m) (λ t. p_now ≡ after_turn p_was t)
+        (KeepsTurn r n m) (p_now ≡ p_was) (untold_at r.bus.untold m) (journal_at r.bus.journals m)
+        (journal_at n.bus.journals m) (slice_index_or bit.driven m Recessive) (bit.seen m) (λ o x. x p)
+        (λ t x. x.0 p) (λ x. x.0 p) (bit.nodes m (inside m less))
 
     one : HasOneBit (journal_at r.bus.journals m) (journal_at n.bus.journals m)
     one =
@@ -133,6 +107,7 @@ module _ (plan : PlanValue) (r n : SerialValue) (deeds : List (List Deed)) (h : 
       journals = journals ∙ h.count.journals;
       drivers = ap (λ l. length l) drivers_are ∙ h.count.drivers;
       ports = ports ∙ h.count.ports;
+      turns = turns ∙ h.count.turns;
       links = many ∙ h.count.links;
     };
     deeds_count = h.deeds_count;
@@ -154,3 +129,7 @@ module _ (plan : PlanValue) (r n : SerialValue) (deeds : List (List Deed)) (h : 
     bits = bits_are;
     nodes = λ m less. one m (driver_at m less) (at_power_on plan.version) less;
   }
+
+  -- and it tells what was noted
+  pub tells_bit : TellsBit plan deeds r n
+  tells_bit = record { takes = takes_bit; drivers = drivers_are; bit = bit }

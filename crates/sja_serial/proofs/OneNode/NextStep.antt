@@ -2,7 +2,7 @@
 use Rattle.std.proofs.Common.{◌≡◌, ◌+◌, ◌*◌, ◌<◌, ℕ, Bool, true, false, List, [], length, refl, sym, ap, ◌∙◌}
 use Rattle.std.proofs.Common.{subst}
 use Rattle.std.proofs.Common.{arith}
-use Rattle.std.specs.Prelude.{None, slice_index_or, slice_set}
+use Rattle.std.specs.Prelude.{Option, None, slice_index_or, slice_set}
 use Rattle.std.proofs.lemmas.List.{get_or_default}
 use Rattle.sja_link.specs.declared.entry.Entry.{Entry}
 use Rattle.sja_link.specs.Deques.{Deques, Lies}
@@ -10,6 +10,7 @@ use Rattle.sja_link.specs.Places.{place_of}
 use Rattle.lemmas.proofs.Related.{each_refl}
 use Rattle.lemmas.specs.Related.{EachRelated}
 use Rattle.sja_link.proofs.JournalEntries.Entering.{bits_counted}
+use Rattle.sja_regs.specs.declared.bus_turn.BusTurn.{BusTurn}
 use Rattle.sja_regs.specs.declared.registers.Registers.{Registers}
 use Rattle.sja_regs.specs.Registers.{at_power_on}
 use Rattle.sja_script.specs.declared.step.Step.{Step}
@@ -43,15 +44,15 @@ IsTried plan was now node deeds done =
 
 -- a run, which stands at these deeds, and the links of which a call has as a slice
 module _ (plan : PlanValue) (bus : BusValue) (drivers : List LoggedDriver) (ports : List Registers)
-    (slice links : List Deques) (bits : ℕ) (self : SerialValue) (same : slice ≡ links)
-    (view : run_now bus drivers ports links bits ≡ self) (deeds : List (List Deed)) (h : StandsAt plan self deeds)
+    (turns : List (Option BusTurn)) (slice links : List Deques) (bits : ℕ) (self : SerialValue) (same : slice ≡ links)
+    (view : run_now bus drivers ports turns links bits ≡ self) (deeds : List (List Deed)) (h : StandsAt plan self deeds)
     (i : ℕ) (there : i < length plan.nodes) where
   abbrev run : SerialValue
-  run = run_now bus drivers ports slice bits
+  run = run_now bus drivers ports turns slice bits
 
   stood : StandsAt plan run deeds
   stood = subst (λ (x : SerialValue). StandsAt plan x deeds)
-      (sym (run_is bus drivers ports slice links bits self same view)) h
+      (sym (run_is bus drivers ports turns slice links bits self same view)) h
 
   -- the log has as many steps
   pub steps_done : (d : LoggedDriver) → d ≡ slice_index_or drivers i d →
@@ -107,10 +108,11 @@ module _ (plan : PlanValue) (bus : BusValue) (drivers : List LoggedDriver) (port
           EachUntold bus.untold n.untold bus.journals n.journals →
           AllDry (λ (s : Deques). s.up ≡ []) n.journals after →
           EachRelated (λ (a b : Deques). b.link ≡ a.link) given after → length after ≡ length slice →
-          IsTried plan run (run_now n (slice_set drivers i now) (slice_set ports i q) after bits) i deeds done
+          IsTried plan run (run_now n (slice_set drivers i now) (slice_set ports i q) turns after bits) i deeds done
       is_tried n is right ran script room over count kept items untold dry sames many =
-          next_tried plan run (run_now n (slice_set drivers i now) (slice_set ports i q) after bits) deeds i stood there
-          given was now q no_link refl refl refl right ran script room over count kept items untold dry sames many
+          next_tried plan run (run_now n (slice_set drivers i now) (slice_set ports i q) turns after bits) deeds i stood
+          there
+          given was now q no_link refl refl refl refl right ran script room over count kept items untold dry sames many
           stays.others stays.ids
           (stays.node ∙ ap node_of was_is ∙ stood.own i was there) p one done
           (λ x. get_or_default ports i x p (let c = stood.count.ports in omega (arith, c, there)) ∙ sym p_is) node_at
@@ -119,10 +121,11 @@ module _ (plan : PlanValue) (bus : BusValue) (drivers : List LoggedDriver) (port
       -- the step gave nothing, and nothing was taken
       pub is_tried_quietly : one ≡ slice_index_or (steps_at plan i) (length (deeds_at deeds i)) one →
           GaveNothing one done (done_in (log_of now)) → length given ≡ length slice →
-          IsTried plan run (run_now bus (slice_set drivers i now) (slice_set ports i q) given bits) i deeds done
+          IsTried plan run (run_now bus (slice_set drivers i now) (slice_set ports i q) turns given bits) i deeds done
       is_tried_quietly is quiet many =
-          next_tried plan run (run_now bus (slice_set drivers i now) (slice_set ports i q) given bits) deeds i stood
-          there given was now q no_link refl refl refl stood.right refl refl refl refl refl
+          next_tried plan run (run_now bus (slice_set drivers i now) (slice_set ports i q) turns given bits) deeds i
+          stood
+          there given was now q no_link refl refl refl refl stood.right refl refl refl refl refl
           (λ node h less kept. kept) (λ node less. no_items (journal_at bus.journals node))
           (λ node less. as_untold (untold_at bus.untold node) (journal_at bus.journals node))
           (all_dry plan run deeds i stood was now p q given one bits done node_at steps stays.others

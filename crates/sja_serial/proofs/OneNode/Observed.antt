@@ -1,7 +1,7 @@
 -- A run in which what has come for one node's driver was taken in, and no step was tried.
 use Rattle.std.proofs.Common.{◌≡◌, ◌≢◌, ◌+◌, ◌*◌, ◌<◌, ℕ, false, List, length, refl, sym, ap}
 use Rattle.std.proofs.Common.{◌∙◌, subst, append-nil, arith, inl, inr}
-use Rattle.std.specs.Prelude.{slice_index_or, slice_set}
+use Rattle.std.specs.Prelude.{Option, slice_index_or, slice_set}
 use Rattle.std.proofs.lemmas.Bool.{cases_eq}
 use Rattle.std.proofs.lemmas.List.{get_or-set_same, get_or-set_other, length-set}
 use Rattle.lemmas.proofs.Related.{each_at}
@@ -12,6 +12,7 @@ use Rattle.sja_wire.specs.Links.{per_node}
 use Rattle.sja_wire.specs.Wire.{journal_at}
 use Rattle.sja_bus.specs.Buses.{BusValue}
 use Rattle.sja_plan.specs.Plan.{PlanValue, steps_at}
+use Rattle.sja_regs.specs.declared.bus_turn.BusTurn.{BusTurn}
 use Rattle.sja_regs.specs.declared.registers.Registers.{Registers}
 use Rattle.sja_regs.specs.InterruptLine.{is_line_active}
 use Rattle.sja_script.specs.declared.step.Step.TheVariants.{Read}
@@ -36,8 +37,8 @@ use Rattle.sja_serial.proofs.OneNode.Gathered.{linked_after}
 use Rattle.sja_serial.proofs.OneNode.Trying.{alike, shows_none, looked}
 
 module _ (plan : PlanValue) (bus : BusValue) (drivers : List LoggedDriver) (ports : List Registers)
-    (slice after : List Deques) (bits : ℕ) (deeds : List (List Deed))
-    (h : StandsAt plan (run_now bus drivers ports slice bits) deeds) (i : ℕ) (there : i < length plan.nodes)
+    (turns : List (Option BusTurn)) (slice after : List Deques) (bits : ℕ) (deeds : List (List Deed))
+    (h : StandsAt plan (run_now bus drivers ports turns slice bits) deeds) (i : ℕ) (there : i < length plan.nodes)
     (was now : LoggedDriver) (was_is : was ≡ slice_index_or drivers i was)
     (observed : Looked Lies shows_none was now slice after (64 * i))
     (stays : StaysLawful (λ (s : Deques). s.link) alike was now slice after (64 * i) false)
@@ -131,7 +132,7 @@ module _ (plan : PlanValue) (bus : BusValue) (drivers : List LoggedDriver) (port
     | inr differ ↦ ap node_of (get_or-set_other drivers i m now d (λ e. differ (sym e))) ∙ h.own m d less
   ]
 
-  pub stands : StandsAt plan (run_now bus (slice_set drivers i now) ports after bits) deeds
+  pub stands : StandsAt plan (run_now bus (slice_set drivers i now) ports turns after bits) deeds
   stands = record {
     right = h.right;
     script = h.script;
@@ -141,6 +142,7 @@ module _ (plan : PlanValue) (bus : BusValue) (drivers : List LoggedDriver) (port
       journals = h.count.journals;
       drivers = length-set drivers i now ∙ h.count.drivers;
       ports = h.count.ports;
+      turns = h.count.turns;
       links = many ∙ h.count.links;
     };
     deeds_count = h.deeds_count;

@@ -45,7 +45,7 @@ none_untold before now j k items untold told = (over before refl, by items.items
 module _ (plan : PlanValue) (r n : SerialValue) (deeds : List (List Deed)) (node : ℕ) (h : StandsAt plan r deeds)
     (there : node < length plan.nodes) (given : List Deques) (was now : LoggedDriver) (q : Registers) (none : Deques)
     (drivers_are : n.drivers ≡ slice_set r.drivers node now) (ports_are : n.ports ≡ slice_set r.ports node q)
-    (bits_are : n.bits ≡ r.bits)
+    (turns_are : n.turns ≡ r.turns) (bits_are : n.bits ≡ r.bits)
     (right : n.bus.fault ≡ None) (run : n.bus.run ≡ r.bus.run) (script : n.bus.script ≡ r.bus.script)
     (room : n.bus.steps ≡ r.bus.steps) (left_is : n.bus.left ≡ r.bus.left) (journals : length n.bus.journals ≡ length
     r.bus.journals)
@@ -126,6 +126,7 @@ module _ (plan : PlanValue) (r n : SerialValue) (deeds : List (List Deed)) (node
       journals = journals ∙ h.count.journals;
       drivers = ap (λ l. length l) drivers_are ∙ length-set r.drivers node now ∙ h.count.drivers;
       ports = ap (λ l. length l) ports_are ∙ length-set r.ports node q ∙ h.count.ports;
+      turns = ap (λ l. length l) turns_are ∙ h.count.turns;
       links = many ∙ h.count.links;
     };
     room = λ m less. subst (λ (l : List ℕ). length (steps_at plan m) ≤ slice_index_or l m 0) (sym room) (h.room m less);

@@ -36,7 +36,7 @@ use Rattle.sja_serial.proofs.OneNode.Standing.{other_journal, stands_after}
 module _ (plan : PlanValue) (r n : SerialValue) (deeds : List (List Deed)) (node : ℕ) (h : StandsAt plan r deeds)
     (there : node < length plan.nodes) (given : List Deques) (was now : LoggedDriver) (q : Registers) (none : Deques)
     (drivers_are : n.drivers ≡ slice_set r.drivers node now) (ports_are : n.ports ≡ slice_set r.ports node q)
-    (bits_are : n.bits ≡ r.bits)
+    (turns_are : n.turns ≡ r.turns) (bits_are : n.bits ≡ r.bits)
     (right : n.bus.fault ≡ None) (run : n.bus.run ≡ r.bus.run) (script : n.bus.script ≡ r.bus.script)
     (room : n.bus.steps ≡ r.bus.steps) (left_is : n.bus.left ≡ r.bus.left) (journals : length n.bus.journals ≡ length
     r.bus.journals)
@@ -50,7 +50,8 @@ module _ (plan : PlanValue) (r n : SerialValue) (deeds : List (List Deed)) (node
   -- the journal of another node is as it was
   other : (m : ℕ) (d : LoggedDriver) (p : Registers) → (m ≡ node → ⊥) → m < length plan.nodes →
       journal_at n.bus.journals m ≡ journal_at r.bus.journals m
-  other = other_journal plan r n deeds node h there given was now q none drivers_are ports_are bits_are right run script
+  other = other_journal plan r n deeds node h there given was now q none drivers_are ports_are turns_are bits_are right
+      run script
       room left_is journals kept items untold dry sames many others ids whose
 
   -- the run stands at the deeds that are had more
@@ -59,7 +60,8 @@ module _ (plan : PlanValue) (r n : SerialValue) (deeds : List (List Deed)) (node
       journal_at n.bus.journals node ≡ journal_at r.bus.journals node →
       ShowsRecord (journal_at r.bus.journals node) (slice_index_or r.ports node p) →
       ShowsRecord (journal_at n.bus.journals node) q) → StandsAt plan n (with_deeds deeds node more)
-  standing = stands_after plan r n deeds node h there given was now q none drivers_are ports_are bits_are right run
+  standing = stands_after plan r n deeds node h there given was now q none drivers_are ports_are turns_are bits_are
+      right run
       script room left_is journals kept items untold dry sames many others ids whose
 
   inside : node < length r.bus.journals
@@ -101,6 +103,7 @@ module _ (plan : PlanValue) (r n : SerialValue) (deeds : List (List Deed)) (node
               (subst (λ (g : Registers). ShowsRecord j g) (port x) shown));
           at_once = λ i e less. only d i e (s.bits ∙ place) less;
           bits = bits_are;
+          turns = turns_are;
           items = more_items;
         };
         step = λ x. s.step_is ∙ is ∙ get_or_default (steps_at plan node) (length ds) one x left;
@@ -163,6 +166,7 @@ module _ (plan : PlanValue) (r n : SerialValue) (deeds : List (List Deed)) (node
               (sym same_now) shown));
           at_once = λ i d less. absurd (omega (arith, less));
           bits = bits_are;
+          turns = turns_are;
           items = more_items;
         };
         why = inr (λ s x.

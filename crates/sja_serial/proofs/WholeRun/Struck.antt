@@ -21,6 +21,7 @@ stands_struck plan r deeds strike h = record {
     journals = h.count.journals;
     drivers = h.count.drivers;
     ports = h.count.ports;
+    turns = h.count.turns;
     links = h.count.links;
   };
   deeds_count = h.deeds_count;

@@ -17,6 +17,7 @@ use Rattle.sja_link.specs.declared.entry.Entry.TheVariants.{Overrun as OverrunEn
 use Rattle.sja_link.specs.declared.verdict.Verdict.{Verdict}
 use Rattle.sja_link.specs.declared.verdict.Verdict.TheVariants.{Stored as ToStore, Overrun as ToLose}
 use Rattle.sja_link.specs.Free.{free_of}
+use Rattle.sja_link.specs.LookingBack.{ends_in_abort}
 use Rattle.sja_link.specs.Judged.{Judged, judged_at, judged_in}
 use Rattle.sja_link.specs.Parts.{in_part, part}
 use Rattle.sja_link.specs.Places.{JournalPlace, past, past_all, place_of, placed_from}
@@ -37,7 +38,7 @@ use Rattle.sja_replay.specs.Happened.{Happened}
 use Rattle.sja_replay.specs.Happened.IsUntold.{misdriven, misfits, uncounted}
 use Rattle.sja_replay.specs.Happened.Happened.{between, bit, refused, untold}
 use Rattle.sja_replay.specs.Happening.{Brings, bit_of}
-use Rattle.sja_replay.specs.Taking.{ends_in_abort, last_part}
+use Rattle.sja_replay.specs.Taking.{last_part}
 use Rattle.sja_replay.proofs.Once.Bits.{Tells, tells, events_once, role_same}
 use Rattle.sja_replay.proofs.Once.Lists.{closes_once}
 use Rattle.sja_serial.proofs.OneBit.BitAsked.{place_bit}

@@ -1,5 +1,6 @@
 //! Calls of a bus, whatever its links are.
 
+use super::looks::of_looks;
 use super::told::Told;
 use super::wired::Wired;
 use super::words::{number, small, strike_of};
@@ -14,7 +15,7 @@ use std::alloc::Global;
 /// bus can, and how many those were each time; `until 1000`, bits up to the first fault, how many went well, and the
 /// fault; `rest`, bits until every node is at rest, and how many they are, and `settle`, the same with nothing said;
 /// `rests`, whether every node is at rest; `started 1`, whether a start of this node was taken; and `strike 1/60/1/1`,
-/// whether a strike more is taken.
+/// whether a strike more is taken. Others are of [`of_looks`].
 pub fn of_bus<E: BusEnd + Drop>(
     alloc: Global,
     told: &mut Told,
@@ -38,6 +39,12 @@ pub fn of_bus<E: BusEnd + Drop>(
             Some(strike) => told.said(bus.strike(alloc, strike)),
             None => told.unread(),
         },
+        [
+            "until_told" | "turn" | "last" | "dominant" | "recessive",
+            ..
+        ] => {
+            of_looks(told, bus, words);
+        }
         [name, bits] => match number(bits) {
             Some(bits) => runs(told, bus, name, bits),
             None => told.unread(),

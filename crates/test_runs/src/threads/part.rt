@@ -85,6 +85,6 @@ fn warn<R: Wait>(rt: &R, end: &mut RingBus, ports: &[Mutex<Port>]) -> bool
         return false;
     };
     let mut board = LockBoard { rt, ports };
-    board.bus_turn(0, &turn);
+    board.bus_turn(0, turn);
     matches!(taken(rt, end), Up::Stop)
 }

@@ -11,12 +11,14 @@ use Rattle.sja_bus.specs.declared.struck_nodes.StruckNodes.{StruckNodes}
 use Rattle.sja_bus.specs.StrikesByBit.{IsAmong}
 use Rattle.sja_bus.specs.Inside.Refusing.{AreFree}
 use Rattle.sja_bus.specs.Inside.Rows.{AreTold, IsBus, driven_by}
-use Rattle.sja_bus.specs.Inside.RunningOn.{moment_of, AnyBit, RowsRun, SomeFull, WorksUntold}
+use Rattle.sja_bus.specs.UntilTold.{WorksUntold}
+use Rattle.sja_bus.specs.Inside.RunningOn.{moment_of, AllAtRest, AnyBit, RowsRun, SomeFull}
 use Rattle.sja_bus.proofs.AllNodes.Many.{numbered_kept}
 use Rattle.sja_bus.proofs.AllNodes.RunningOn.{facts_of_bit, passes, none_still, some_work, none_yet, bits_on, stops_on}
 use Rattle.sja_bus.proofs.AllNodes.UntilTold.{none_told, seats_then}
 use Rattle.sja_bus.proofs.OneReader.QuietRows.{free_after, have_room_after, none_run, part_at, part_left}
 use Rattle.sja_bus.proofs.OneReader.QuietRows.{rooms_after, rows_on, told_after}
+use Rattle.sja_bus.proofs.Resting.Unstruck.{none_more, none_now}
 use Rattle.sja_bus.proofs.Resting.Stretches.{nobody}
 use Rattle.sja_bus.proofs.bits.untaken_bits.Goals.{In-Ok}
 use Rattle.sja_bus.proofs.bits.untaken_bits.Goals as goal
@@ -30,7 +32,7 @@ facts g c =
     c.loop-run.board c.sample_all.new.board (omega (arith, ports, same, p)) c.sample_all.ensures.board
     c.in-Ok.ensures.turns
     (λ k few. let F : _ → Type 0 = λ x. B.facts x k in
-    subst F (sym before) (c.requires.facts k (omega (arith, few, same))))
+    subst F (sym before) (c.requires.may.facts k (omega (arith, few, same))))
 
 -- the bits so far, and one more that went well
 runs_more : (g : _) (c : In-Ok g) → RowsRun g.E.BusEnd g.B.Board c.args.to_rest c.args.struck.now.script
@@ -47,10 +49,14 @@ runs_more g c =
     let pass = passes B.orders_are (B.told a z) (B.kept a z) c.args.struck.now.script (c.args.from + c.loop-run.run)
     (length c.args.seats.now) c.none.result (slice_index_or c.part-marks.result.now c.loop-run.run _)
     c.loop-run.level c.args.board.now a c.loop-run.seats c.sample_all.new.seats
-    c.requires.seated.few c.loop-run.auto.seats c.sample_all.auto.seats inv.board c.requires.may.0 c.none.ensures
+    c.requires.seated.few c.loop-run.auto.seats c.sample_all.auto.seats inv.board c.requires.may.orders c.none.ensures
     (c.goes_on.ensures.none goes) (λ node few. c.part-marks.ensures.struck c.loop-run.run node _ within few)
     inv.level c.in-Ok.ensures.turns c.in-Ok.ensures.ready inv.bus in record {
       bus = pass.bus (c.args.from + (c.loop-run.run + 1)) (omega arith);
+      rooms = λ n h. c.in-Ok.ensures.rooms n (inv.rooms n h);
+      unstruck = none_more c.args.struck.now.script c.args.from c.loop-run.run 1 inv.unstruck
+          (none_now c.args.struck.now.script c.args.from c.loop-run.run (λ node few strikes.
+          c.goes_on.ensures.none goes node ((c.part-marks.ensures.struck c.loop-run.run node _ within few).1 strikes)));
       bits = λ steps left enough.
           let was = moment_of c.args.struck.now.script steps c.args.from left c.args.seats.now c.args.links.now
           c.args.board.now in
@@ -77,9 +83,11 @@ loop-run-init g c =
       board = refl;
       within = omega arith;
       bus = subst P at c.requires.bus;
-      told = c.requires.may.1;
+      told = c.requires.may.told;
       sames = each_refl E.same g.met.E.BusEnd.same_refl c.args.links.now;
       rooms = λ n h. h;
+      fresh = λ zero. refl;
+      unstruck = λ i node low few strikes. absurd (omega (arith, low));
       free = λ k s here. let room = c.room_of.ensures.free k s here in let count = c.part-marks.ensures.count in
           omega (arith, room, count);
       more = λ k s here. none;
@@ -116,9 +124,6 @@ pub returns-in-Err-clause-sames : goal.returns-in-Err-clause-sames
 returns-in-Err-clause-sames g c =
     each_trans g.E.BusEnd.same g.met.E.BusEnd.same_trans c.args.links.now c.loop-run.links c.sample_all.new.links
     c.loop-run.invariant.sames c.sample_all.ensures.sames
-
-pub returns-then-end-clause-rooms : goal.returns-then-end-clause-rooms
-returns-then-end-clause-rooms g c = λ n h. c.in-Ok.ensures.rooms n (c.loop-run.invariant.rooms n h)
 
 pub returns-then-end-clause-runs : goal.returns-then-end-clause-runs
 returns-then-end-clause-runs g c = runs_more g (goal.at.returns-then-end-clause-runs g c).In-Ok
@@ -178,7 +183,7 @@ loop-run-preserved g c =
     let begun = seats_then c.args.seats.now c.loop-run.seats one same inv.more (c.in-Ok.ensures.quiet untold) in
     let far = rows_on E B g.met.E.BusEnd.same_refl g.met.B.Board.kept_refl c.args.to_rest script from c.args.most
     c.args.seats.now c.args.links.now c.args.board.now c.requires.seated.few
-    c.sample_all.new.links c.sample_all.new.board still c.requires.may.0
+    c.sample_all.new.links c.sample_all.new.board still c.requires.may.orders
     (λ k low. facts g at k (omega (arith, low, same))) (run + 1) one n now
     (omega (arith, within, few, left, count, all)) unstruck rows
     (record { count = omega (arith, same, size); bus = more.bus; more = begun; bits = more.bits }) in
@@ -193,6 +198,8 @@ loop-run-preserved g c =
           inv.sames c.sample_all.ensures.sames;
       rooms = λ r h. have_room_after one now n stay r (c.in-Ok.ensures.rooms r (inv.rooms r h));
       free = subst F rest (free_after one now n (length marks - (run + 1)) stay (free_now g at untold));
+      fresh = λ zero. absurd (omega (arith, zero));
+      unstruck = none_more script from (run + 1) n more.unstruck unstruck;
       more = far.more;
       bits = far.bits;
     }
@@ -208,7 +215,7 @@ returns-in-Err-clause-breaks g c = λ steps left later enough rooms journals run
     let early : run < c.args.most = omega (arith, within, count, all) in
     let goes : c.goes_on.result ≡ true = search rules in
     let none = none_still B.orders_are (length c.args.seats.now) c.args.board.now a was c.loop-run.auto.seats inv.board
-    c.requires.may.0 in record {
+    c.requires.may.orders in record {
       mid = moment_of script steps (from + run) (left - run) was c.loop-run.links a;
       run = run;
       early = early;
@@ -228,9 +235,24 @@ returns-in-Err-clause-breaks g c = λ steps left later enough rooms journals run
     }
 
 pub returns-after-loop-run-clause-none : goal.returns-after-loop-run-clause-none
-returns-after-loop-run-clause-none g c = λ none free.
+returns-after-loop-run-clause-none g c = λ none.
     let past = c.loop-run-test.false in let count = c.part-marks.ensures.count in
     let zero : c.room_of.result ≡ 0 = omega (arith, none, past, count) in elim c.room_of.ensures.least [
       | inl all ↦ inl (omega (arith, all, zero))
       | inr full ↦ let P : ℕ → Type 0 = λ n. SomeFull n c.args.seats.now in inr (inl (subst P zero full))
+    ]
+
+pub returns-else-goes_on-clause-none : goal.returns-else-goes_on-clause-none
+returns-else-goes_on-clause-none g c = λ none.
+    let at : c.args.from + c.loop-run.run ≡ c.args.from = omega (arith, none) in
+    elim (c.goes_on.ensures.no c.if-goes_on.false) [
+      | inl hit ↦ let P : ℕ → Type 0 = λ n. Strikes c.args.struck.now.script n hit.0 in
+          inr (inr (inl (
+            hit.0,
+            hit.1,
+            subst P at
+                ((c.part-marks.ensures.struck c.loop-run.run hit.0 _ c.loop-run-test.true hit.1).0 hit.2),
+          )))
+      | inr all ↦ let P : List Seat → Type 0 = λ l. AllAtRest l in
+          inr (inr (inr (all.0, subst P (c.loop-run.invariant.fresh none) all.1)))
     ]

@@ -1,6 +1,6 @@
 use Rattle.std.proofs.Common.{◌≡◌, ◌+◌, ◌-◌, ◌≤◌, length, drop, sym, ap, ◌∙◌, arith}
 use Rattle.std.proofs.lemmas.List.{length-drop, drop-drop}
-use Rattle.sja_link.specs.Inside.Codes.{bits_before}
+use Rattle.sja_link.specs.Inside.Codes.{is_bit, bits_before}
 use Rattle.sja_link.proofs.JournalEntries.Blocks.{past_block}
 use Rattle.sja_link.proofs.code.leading_bits.Goals as goal
 
@@ -11,8 +11,10 @@ loop-bits-preserved c =
     let left = drop bits codes in
     let long = length-drop bits codes in
     let block : bits + 32 - bits ≡ 32 = omega arith in
-    let room : bits + 32 - bits ≤ length left = omega (arith, long, c.loop-bits-test.true, c.loop-bits.invariant.few) in
-    let past = rw block at (past_block (bits + 32 - bits) left room (sym c.are_bits.ensures ∙ c.if-are_bits.true)) in
+    let room : bits + 32 - bits ≤ length left =
+    omega (arith, long, c.loop-bits-test.true, c.loop-bits.invariant.few) in
+    let past = rw block at (past_block is_bit (bits + 32 - bits) left room
+    (sym c.are_bits.ensures ∙ c.if-are_bits.true)) in
     let behind = ap bits_before (drop-drop 32 bits codes) in
     record {
       counted = omega (arith, past, behind, c.loop-bits.invariant.counted);

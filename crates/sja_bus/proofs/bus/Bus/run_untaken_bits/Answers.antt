@@ -3,7 +3,8 @@ use Rattle.std.specs.Prelude.{Err}
 use Rattle.sja_wire.specs.declared.bus_fault.BusFault.{BusFault}
 use Rattle.sja_bus.specs.Moment.{moment}
 use Rattle.sja_bus.specs.Several.{WorksIf}
-use Rattle.sja_bus.specs.Inside.RunningOn.{AnyBit, IsSoFar, IsStopped, WorksUntold}
+use Rattle.sja_bus.specs.UntilTold.{WorksUntold}
+use Rattle.sja_bus.specs.Inside.RunningOn.{AnyBit, IsSoFar, IsStopped}
 use Rattle.lemmas.proofs.Results.{err_is}
 use Rattle.sja_bus.proofs.AllNodes.SoFar.{and_more, breaks_later, keeps_trans, none_yet, so_far_as, still_for}
 use Rattle.sja_bus.proofs.AllNodes.SoFar.{stopped_as}

@@ -5,12 +5,13 @@ use Rattle.std.specs.Prelude.{◌<◌, ◌⊎◌, None, Result, Ok, Err, vec_cap
 use Rattle.sja_script.specs.Striking.{Strikes}
 use Rattle.sja_wire.specs.declared.bus_fault.BusFault.{BusFault}
 use Rattle.sja_bus.specs.declared.seat.Seat.{Seat}
+use Rattle.sja_bus.specs.Buses.{BusValue}
 use Rattle.sja_bus.specs.Moment.{moment}
 use Rattle.sja_bus.specs.Reasons.{room_for}
 use Rattle.sja_bus.specs.Inside.Refusing.{HaveRoom}
 use Rattle.sja_bus.specs.Inside.Rows.{AreSeated, journals_of}
-use Rattle.sja_bus.specs.UntilTold.{TakesFullBit}
-use Rattle.sja_bus.specs.Inside.RunningOn.{bus_of, AnyBit, SomeAborts, SomeFull, SomeUntold, WorksUntold}
+use Rattle.sja_bus.specs.UntilTold.{RunsNone, WorksUntold}
+use Rattle.sja_bus.specs.Inside.RunningOn.{bus_of, AllAtRest, AnyBit, MayRunOn, SomeAborts, SomeFull, SomeUntold}
 use Rattle.sja_bus.specs.Inside.Whole.{IsWhole}
 use Rattle.sja_bus.proofs.AllNodes.RanOn.{bus_is, ran, stopped}
 use Rattle.sja_bus.proofs.AllNodes.Running.{count_is}
@@ -50,25 +51,25 @@ returns-then-not-may_run_untaken-clause-runs g c =
     c.requires.right
 
 pub returns-then-not-may_run_untaken-clause-none : goal.returns-then-not-may_run_untaken-clause-none
-returns-then-not-may_run_untaken-clause-none g c = λ zero free.
+returns-then-not-may_run_untaken-clause-none g c = λ zero.
     let b = c.self.inside in let asked = g.B.Board.orders_are c.args.board.now in
     let Q : List Seat → Type 0 = λ l. SomeAborts asked (length l) ⊎ SomeUntold l in
-    subst (TakesFullBit asked c.args.count) c.self.view_is
-    (held_by_port asked c.args.count b.struck.script b.steps.items b.run b.left b.fault b.seats.items
+    subst (RunsNone asked c.args.to_rest c.args.count) c.self.view_is
+    (held_by_port asked c.args.to_rest c.args.count b.struck.script b.steps.items b.run b.left b.fault b.seats.items
     (subst Q c.as_slice.ensures.value (c.may_run_untaken.ensures.no (search rules))))
 
 pub returns-in-Ok-clause-none : goal.returns-in-Ok-clause-none
-returns-in-Ok-clause-none g c = λ zero free.
+returns-in-Ok-clause-none g c = λ zero.
     let at = (goal.at.returns-in-Ok-clause-none g c).After-untaken_bits in
     let b = c.self.inside in let asked = g.B.Board.orders_are c.args.board.now in let whole = c.self.invariant.0 in
     let none : c.in-Ok.bits ≡ 0 = ap (λ (r : Result ℕ BusFault). count_in r) zero in
     let N : ℕ → Type 0 = λ m. HaveRoom (room_for m b.steps.items) b.seats.items in
     let Q : List Seat → Type 0 = λ l. (c.args.count ≡ 0) ⊎ SomeFull 0 l
-    ⊎ ((node : ℕ) × (node < 8) × Strikes b.struck.script b.run node) in
-    subst (TakesFullBit asked c.args.count) c.self.view_is
-    (held_by_rows asked c.args.count b.struck.script b.steps.items b.run b.left b.fault b.seats.items
-    (subst N (sym whole.bits) (whole.rooms (right g at)))
-    (subst Q c.as_mut_slice-seats.ensures.value (c.in-Ok.ensures.none none free)))
+    ⊎ ((node : ℕ) × (node < 8) × Strikes b.struck.script b.run node) ⊎ ((c.args.to_rest ≡ true) × AllAtRest l) in
+    subst (RunsNone asked c.args.to_rest c.args.count) c.self.view_is
+    (held_by_rows asked c.args.to_rest c.args.count b.struck.script b.steps.items b.run b.left b.fault b.seats.items
+    (whole.bus (right g at)).ready (subst N (sym whole.bits) (whole.rooms (right g at)))
+    (subst Q c.as_mut_slice-seats.ensures.value (c.in-Ok.ensures.none none)))
   where
     count_in : Result ℕ BusFault → ℕ
     count_in (Ok n) = n
@@ -88,12 +89,11 @@ untaken_bits-requires-clause-seated g c =
       ports = omega (arith, nodes, seats, ports);
     })
 
-pub untaken_bits-requires-clause-facts : goal.untaken_bits-requires-clause-facts
-untaken_bits-requires-clause-facts g c = λ k few.
+pub untaken_bits-requires-clause-may : goal.untaken_bits-requires-clause-may
+untaken_bits-requires-clause-may g c =
     let may : c.may_run_untaken.result ≡ true = search rules in
-    let old = ap (λ (l : List Seat). length l) c.as_slice.ensures.value in
-    let new = ap (λ (l : List Seat). length l) c.as_mut_slice-seats.ensures.value in
-    c.may_run_untaken.ensures.facts may k (omega (arith, few, old, new))
+    let P : List Seat → Type 0 = λ l. MayRunOn g.B.Board c.args.board.now l in
+    subst P (c.as_slice.ensures.value ∙ sym c.as_mut_slice-seats.ensures.value) (c.may_run_untaken.ensures.may may)
 
 pub invariant_of-self : goal.invariant_of-self
 invariant_of-self g c =
@@ -110,7 +110,7 @@ invariant_of-self g c =
         most = whole.most;
         bus = λ right. c.in-Ok.ensures.runs.bus;
         logs = omega (arith, len, logs);
-        rooms = λ right. subst H c.as_mut_slice-seats.ensures.value c.in-Ok.ensures.rooms
+        rooms = λ right. subst H c.as_mut_slice-seats.ensures.value c.in-Ok.ensures.runs.rooms
             (room_for b.struck.bits b.steps.items) (whole.rooms right);
       }),
       c.self.invariant.1,
@@ -126,6 +126,11 @@ returns-in-Ok-clause-runs g c =
     (begins g at) n _ c.in-Ok.ensures.most (enough_left g at)
     (bus_is b.struck.script b.steps.items (b.run + n) (b.left - n) b.fault _ c.untaken_bits.new.seats _
     (sym (are_back g at)) (right g at) refl) c.in-Ok.ensures.runs
+
+pub returns-in-Ok-clause-unstruck : goal.returns-in-Ok-clause-unstruck
+returns-in-Ok-clause-unstruck g c = λ i node low few strikes.
+    let P : BusValue → Type 0 = λ w. Strikes w.script (w.run + i) node in
+    c.in-Ok.ensures.runs.unstruck i node low few (subst P (sym c.self.view_is) strikes)
 
 pub returns-in-Err-clause-stops : goal.returns-in-Err-clause-stops
 returns-in-Err-clause-stops g c =

@@ -29,10 +29,12 @@ abbrev slice : After-irq → List Deques
 slice c = c.as_mut_slice-links.result.now
 
 abbrev run : After-irq → SerialValue
-run c = let b = c.self.inside in run_now b.bus b.drivers.items b.board.ports.items (slice c) b.bits
+run c = let b = c.self.inside in run_now b.bus b.drivers.items b.board.board.ports.items b.board.turns.items (slice c)
+    b.bits
 
 run_same : (c : After-irq) → run c ≡ c.args.self.now
-run_same c = let b = c.self.inside in run_is b.bus b.drivers.items b.board.ports.items (slice c) b.links.items b.bits
+run_same c = let b = c.self.inside in run_is b.bus b.drivers.items b.board.board.ports.items b.board.turns.items (slice
+    c) b.links.items b.bits
     c.args.self.now c.as_mut_slice-links.ensures.value c.self.view_is
 
 stood : (c : After-irq) (deeds : List (List Deed)) → StandsAt c.args.plan.now c.args.self.now deeds →
@@ -63,8 +65,9 @@ returns-clause-stands c = λ deeds h.
     let links : (with_items b.links c.irq.new.links).items ≡ c.irq.new.links =
     with_items_is b.links c.irq.new.links (omega (arith, many at, c.as_mut_slice-links.ensures.len)) in
     subst (λ (l : List Deques). StandsAt c.args.plan.now (run_now b.bus (slice_set b.drivers.items i c.irq.new.self)
-    b.board.ports.items l b.bits) deeds) (sym links)
-    (stands c.args.plan.now b.bus b.drivers.items b.board.ports.items (slice at) c.irq.new.links b.bits deeds
+    b.board.board.ports.items b.board.turns.items l b.bits) deeds) (sym links)
+    (stands c.args.plan.now b.bus b.drivers.items b.board.board.ports.items b.board.turns.items (slice at)
+    c.irq.new.links b.bits deeds
     (stood at deeds h) i (there at) c.index_mut.result.now c.irq.new.self c.index_mut.ensures.value (looked at)
     (stays at) (many at))
 
@@ -73,11 +76,13 @@ returns-clause-line c = λ deeds h p.
     let at = (goal.at.returns-clause-line c).After-irq in
     let b = c.self.inside in let i = c.from-index.result in let port = c.index-port.result.now in
     let own = stood at deeds h in
-    let within : i < length b.board.ports.items = let k = own.count.ports in let t = there at in omega (arith, k, t) in
-    let is = c.index-port.ensures ∙ get_or_default b.board.ports.items i port p within in
+    let within : i < length b.board.board.ports.items = let k = own.count.ports in
+    let t = there at in omega (arith, k, t) in
+    let is = c.index-port.ensures ∙ get_or_default b.board.board.ports.items i port p within in
     let lawful : IsBusRun b.bus.script b.bus.run b.bus.journals = c.bits_run.ensures.lawful own.right in
     let line = c.irq.ensures.line
-    ∙ line_is c.args.plan.now b.bus b.drivers.items b.board.ports.items (slice at) c.irq.new.links b.bits deeds
+    ∙ line_is c.args.plan.now b.bus b.drivers.items b.board.board.ports.items b.board.turns.items (slice at)
+    c.irq.new.links b.bits deeds
     own i (there at) c.index_mut.result.now c.irq.new.self c.index_mut.ensures.value (looked at) (stays at) (many at)
     lawful p port is in
     line ∙ (λ t. is_line_active (slice_index_or (run_same at t).ports (node_is at t) p)

@@ -19,7 +19,7 @@ loop-preserved c = λ deeds h.
     let yes : c.try_next.result ≡ true = search rules in
     let d = c.try_next.ensures.done yes (with_deeds deeds c.args.node s.more) s.does.stands in
     so_far_one c.args.plan.now c.args.self.now c.loop.self c.try_next.new.self c.args.node c.loop.counter deeds there s
-    d.deed d.does
+    d.deed d.does d.others
 
 pub returns-then-not-try_next : goal.returns-then-not-try_next
 returns-then-not-try_next c =
@@ -31,7 +31,7 @@ returns-then-not-try_next c =
     let few = c.loop-test.true in
     let w = c.try_next.ensures.waits no (with_deeds deeds c.args.node s.more) s.does.stands in
     turn_waits c.args.plan.now c.args.self.now c.loop.self c.try_next.new.self c.args.node c.loop.counter c.args.count
-    deeds there s (omega (arith, few)) (w.does, w.why) in
+    deeds there s (omega (arith, few)) (w.does, w.why) w.journals in
     let h = c.requires.run in let first = taken h.0 h.1 in
     record { turn = taken; stays = (with_deeds h.0 c.args.node first.more, first.does.stands) }
 

@@ -1,22 +1,29 @@
-use Rattle.std.proofs.Common.{arith}
+use Rattle.std.proofs.Common.{◌+◌, arith, sym, subst}
 use Rattle.std.proofs.lemmas.List.{with_items_is}
+use Rattle.sja_script.specs.Striking.{Strikes}
 use Rattle.sja_bus.specs.Moment.{moment}
-use Rattle.sja_serial.proofs.ManyBits.ManyBits.{untold, no_break, bits_taken}
+use Rattle.sja_serial.specs.Serial.{SerialValue}
+use Rattle.sja_serial.proofs.ManyBits.ManyBits.{untold, no_break, bits_told}
 use Rattle.sja_serial.proofs.serial_run.SerialRun.run_untold_bits.Goals as goal
 
 pub unreachable-requires : goal.unreachable-requires
 unreachable-requires c = let b = c.self.inside in
     no_break b.bus b.drivers.items b.board c.as_mut_slice.result.now b.links.items b.bits c.args.self.now
     c.as_mut_slice.ensures.value c.self.view_is c.args.plan.now c.requires.run c.requires.lawful c.args.count
-    c.requires.left (untold c.args.plan.now)
+    c.requires.left (untold c.args.plan.now c.args.to_rest)
     (moment c.bits_until_told.new.self c.bits_until_told.new.links c.bits_until_told.new.board) _ c.requires.limits
     c.in-Err.ensures.reason
 
 pub returns-clause-bits : goal.returns-clause-bits
 returns-clause-bits c = let b = c.self.inside in
-    bits_taken b.bus b.drivers.items b.board c.as_mut_slice.result.now b.links.items b.bits c.args.self.now
+    bits_told b.bus b.drivers.items b.board c.as_mut_slice.result.now b.links.items b.bits c.args.self.now
     c.as_mut_slice.ensures.value c.self.view_is c.args.plan.now c.requires.run c.requires.lawful c.args.count
-    c.requires.left (untold c.args.plan.now)
+    c.requires.left (untold c.args.plan.now c.args.to_rest)
     (moment c.bits_until_told.new.self c.bits_until_told.new.links c.bits_until_told.new.board) _
     (with_items_is b.links c.bits_until_told.new.links
     (omega (arith, c.bits_until_told.auto.links, c.as_mut_slice.ensures.len))) c.in-Ok.bits c.in-Ok.ensures.bits
+
+pub returns-clause-unstruck : goal.returns-clause-unstruck
+returns-clause-unstruck c = λ i node less few strikes.
+    let P : SerialValue → Type 0 = λ x. Strikes x.bus.script (x.bus.run + i) node in
+    c.in-Ok.ensures.unstruck i node less few (subst P (sym c.self.view_is) strikes)

@@ -25,7 +25,8 @@ many_done : (c : After-done-next) (deeds : List (List Deed)) → StandsAt c.args
     length c.done-next.result.now ≡ length (deeds_at deeds c.from-index.result)
 many_done c deeds h = let b = c.self.inside in
     ap (λ l. length l) (c.done-next.ensures ∙ ap done_in c.log.ensures)
-    ∙ steps_done c.args.plan.now b.bus b.drivers.items b.board.ports.items b.links.items b.links.items b.bits
+    ∙ steps_done c.args.plan.now b.bus b.drivers.items b.board.board.ports.items b.board.turns.items b.links.items
+    b.links.items b.bits
     c.args.self.now refl c.self.view_is deeds h c.from-index.result (there c) c.index.result.now c.index.ensures
 
 all_steps : (c : After-done-next) →
@@ -56,7 +57,8 @@ step-done-requires c =
     let at = (goal.at.step-done-requires c).After-done-next in let b = c.self.inside in
     let deeds = c.requires.run.0 in let h = c.requires.run.1 in
     let less = left at deeds h c.if-next-steps.false in
-    let n = node_at c.args.plan.now b.bus b.drivers.items b.board.ports.items c.as_mut_slice-links.result.now
+    let n = node_at c.args.plan.now b.bus b.drivers.items b.board.board.ports.items b.board.turns.items
+    c.as_mut_slice-links.result.now
     b.links.items b.bits c.args.self.now c.as_mut_slice-links.ensures.value c.self.view_is deeds h c.from-index.result
     (there at) c.index_mut-driver.result.now c.index_mut-port.result.now c.index_mut-driver.ensures.value
     c.index_mut-port.ensures.value in
@@ -71,7 +73,8 @@ pub unreachable-requires : goal.unreachable-requires
 unreachable-requires c =
     let at = (goal.at.unreachable-requires c).After-done-next in let b = c.self.inside in
     let deeds = c.requires.run.0 in let h = c.requires.run.1 in
-    none_refused c.args.plan.now b.bus b.drivers.items b.board.ports.items c.as_mut_slice-links.result.now
+    none_refused c.args.plan.now b.bus b.drivers.items b.board.board.ports.items b.board.turns.items
+    c.as_mut_slice-links.result.now
     b.links.items b.bits c.args.self.now c.as_mut_slice-links.ensures.value c.self.view_is deeds h c.from-index.result
     (there at) c.index_mut-driver.result.now c.index_mut-port.result.now c.index_mut-driver.ensures.value
     c.index_mut-port.ensures.value c.gather.ensures.lawful (left at deeds h c.if-next-steps.false)
@@ -85,18 +88,19 @@ unreachable-requires c =
 abbrev now : In-Ok → SerialValue
 now c = let b = c.self.inside in let i = c.from-index.result in
     run_now c.gather.new.self (slice_set b.drivers.items i c.step-done.new.self)
-    (slice_set b.board.ports.items i c.step-done.new.port) (with_items b.links c.gather.new.links).items b.bits
+    (slice_set b.board.board.ports.items i c.step-done.new.port) b.board.turns.items (with_items b.links
+    c.gather.new.links).items b.bits
 
 -- and with the links as a slice
 now_is : (c : In-Ok) → (let b = c.self.inside in let i = c.from-index.result in
     run_now c.gather.new.self (slice_set b.drivers.items i c.step-done.new.self)
-    (slice_set b.board.ports.items i c.step-done.new.port) c.gather.new.links b.bits) ≡ now c
+    (slice_set b.board.board.ports.items i c.step-done.new.port) b.board.turns.items c.gather.new.links b.bits) ≡ now c
 now_is c = let b = c.self.inside in let i = c.from-index.result in
     let l : (with_items b.links c.gather.new.links).items ≡ c.gather.new.links =
     with_items_is b.links c.gather.new.links
     (omega (arith, c.gather.auto.links, c.step-done.auto.links, c.as_mut_slice-links.ensures.len)) in
     λ t. run_now c.gather.new.self (slice_set b.drivers.items i c.step-done.new.self)
-    (slice_set b.board.ports.items i c.step-done.new.port) (sym l t) b.bits
+    (slice_set b.board.board.ports.items i c.step-done.new.port) b.board.turns.items (sym l t) b.bits
 
 did : (c : In-Ok) (deeds : List (List Deed)) → StandsAt c.args.plan.now c.args.self.now deeds →
     c.from-index.result ≡ c.args.node → c.from-index.result < length c.args.plan.now.nodes →
@@ -110,10 +114,12 @@ did c deeds h node there done less =
     let is : one ≡ slice_index_or (steps_at plan i) (length (deeds_at deeds i)) one =
     c.index-steps-next.is ∙ ap (λ l. slice_index_or l (length c.done-next.result.now) one) c.steps-steps.ensures.value
     ∙ ap (λ m. slice_index_or (steps_at plan i) m one) done in
-    let r = run_now b.bus b.drivers.items b.board.ports.items slice b.bits in
-    let was : r ≡ c.args.self.now = run_is b.bus b.drivers.items b.board.ports.items slice b.links.items b.bits
+    let r = run_now b.bus b.drivers.items b.board.board.ports.items b.board.turns.items slice b.bits in
+    let was : r ≡ c.args.self.now = run_is b.bus b.drivers.items b.board.board.ports.items b.board.turns.items slice
+    b.links.items b.bits
     c.args.self.now c.as_mut_slice-links.ensures.value c.self.view_is in
-    let t = is_tried plan b.bus b.drivers.items b.board.ports.items slice b.links.items b.bits c.args.self.now
+    let t = is_tried plan b.bus b.drivers.items b.board.board.ports.items b.board.turns.items slice b.links.items b.bits
+    c.args.self.now
     c.as_mut_slice-links.ensures.value c.self.view_is deeds h i there c.index_mut-driver.result.now
     c.index_mut-port.result.now c.index_mut-driver.ensures.value c.index_mut-port.ensures.value
     c.gather.ensures.lawful less c.step-done.new.self c.step-done.new.port c.step-done.new.links c.gather.new.links
@@ -125,7 +131,7 @@ did c deeds h node there done less =
     (subst (λ (x : SerialValue). IsTried plan c.args.self.now x i deeds c.step-done.result) (now_is c)
     (subst (λ (x : SerialValue). IsTried plan x
     (run_now c.gather.new.self (slice_set b.drivers.items i c.step-done.new.self)
-    (slice_set b.board.ports.items i c.step-done.new.port) c.gather.new.links b.bits) i deeds
+    (slice_set b.board.board.ports.items i c.step-done.new.port) b.board.turns.items c.gather.new.links b.bits) i deeds
     c.step-done.result) was t))
 
 -- ---- what a step did that gives nothing
@@ -134,18 +140,20 @@ did c deeds h node there done less =
 abbrev still : Then-gave_nothing → SerialValue
 still c = let b = c.self.inside in let i = c.from-index.result in
     run_now b.bus (slice_set b.drivers.items i c.step-done.new.self)
-    (slice_set b.board.ports.items i c.step-done.new.port) (with_items b.links c.step-done.new.links).items b.bits
+    (slice_set b.board.board.ports.items i c.step-done.new.port) b.board.turns.items (with_items b.links
+    c.step-done.new.links).items b.bits
 
 -- and with the links as a slice
 still_is : (c : Then-gave_nothing) → (let b = c.self.inside in let i = c.from-index.result in
     run_now b.bus (slice_set b.drivers.items i c.step-done.new.self)
-    (slice_set b.board.ports.items i c.step-done.new.port) c.step-done.new.links b.bits) ≡ still c
+    (slice_set b.board.board.ports.items i c.step-done.new.port) b.board.turns.items c.step-done.new.links b.bits) ≡
+    still c
 still_is c = let b = c.self.inside in let i = c.from-index.result in
     let l : (with_items b.links c.step-done.new.links).items ≡ c.step-done.new.links =
     with_items_is b.links c.step-done.new.links
     (omega (arith, c.step-done.auto.links, c.as_mut_slice-links.ensures.len)) in
     λ t. run_now b.bus (slice_set b.drivers.items i c.step-done.new.self)
-    (slice_set b.board.ports.items i c.step-done.new.port) (sym l t) b.bits
+    (slice_set b.board.board.ports.items i c.step-done.new.port) b.board.turns.items (sym l t) b.bits
 
 did_quietly : (c : Then-gave_nothing) (laws : (let b = c.self.inside.bus in b.fault ≡ None →
     IsBusRun b.script b.run b.journals)) (deeds : List (List Deed)) → StandsAt c.args.plan.now c.args.self.now deeds →
@@ -160,10 +168,12 @@ did_quietly c laws deeds h node there done less =
     let is : one ≡ slice_index_or (steps_at plan i) (length (deeds_at deeds i)) one =
     c.index-steps-next.is ∙ ap (λ l. slice_index_or l (length c.done-next.result.now) one) c.steps-steps.ensures.value
     ∙ ap (λ m. slice_index_or (steps_at plan i) m one) done in
-    let r = run_now b.bus b.drivers.items b.board.ports.items slice b.bits in
-    let was : r ≡ c.args.self.now = run_is b.bus b.drivers.items b.board.ports.items slice b.links.items b.bits
+    let r = run_now b.bus b.drivers.items b.board.board.ports.items b.board.turns.items slice b.bits in
+    let was : r ≡ c.args.self.now = run_is b.bus b.drivers.items b.board.board.ports.items b.board.turns.items slice
+    b.links.items b.bits
     c.args.self.now c.as_mut_slice-links.ensures.value c.self.view_is in
-    let t = is_tried_quietly plan b.bus b.drivers.items b.board.ports.items slice b.links.items b.bits c.args.self.now
+    let t = is_tried_quietly plan b.bus b.drivers.items b.board.board.ports.items b.board.turns.items slice
+    b.links.items b.bits c.args.self.now
     c.as_mut_slice-links.ensures.value c.self.view_is deeds h i there c.index_mut-driver.result.now
     c.index_mut-port.result.now c.index_mut-driver.ensures.value c.index_mut-port.ensures.value laws less
     c.step-done.new.self c.step-done.new.port c.step-done.new.links c.step-done.new.links c.first_link.result one
@@ -173,7 +183,8 @@ did_quietly c laws deeds h node there done less =
     (subst (λ (x : SerialValue). IsTried plan c.args.self.now x i deeds c.step-done.result) (still_is c)
     (subst (λ (x : SerialValue). IsTried plan x
     (run_now b.bus (slice_set b.drivers.items i c.step-done.new.self)
-    (slice_set b.board.ports.items i c.step-done.new.port) c.step-done.new.links b.bits) i deeds
+    (slice_set b.board.board.ports.items i c.step-done.new.port) b.board.turns.items c.step-done.new.links b.bits) i
+    deeds
     c.step-done.result) was t))
 
 pub returns-then-gave_nothing-clause-done : goal.returns-then-gave_nothing-clause-done

@@ -1,11 +1,13 @@
-use Rattle.std.proofs.Common.{◌≡◌, ◌<◌, ℕ, ◌-◌, List, sym, ap, ◌∙◌, subst, arith, inr}
+use Rattle.std.proofs.Common.{◌≡◌, ◌<◌, ℕ, ◌-◌, false, List, sym, ap, ◌∙◌, subst, arith, inr}
 use Rattle.std.specs.Prelude.{reverse}
 use Rattle.sja_plan.specs.declared.turn.Turn.{Turn}
 use Rattle.sja_plan.specs.declared.turn.Turn.TheVariants.{Bus}
 use Rattle.sja_plan.specs.Plan.{PlanValue}
 use Rattle.sja_driver.specs.Deeds.{Deed}
+use Rattle.sja_serial.specs.Bits.{TakesBits}
 use Rattle.sja_serial.specs.Serial.{SerialValue}
-use Rattle.sja_serial.specs.UntilTold.{TakesUntilTold}
+use Rattle.sja_serial.specs.UntilTold.{NoneTold}
+use Rattle.sja_serial.proofs.ManyBits.Telling.{untold_of}
 use Rattle.sja_serial.proofs.WholeRun.GoingOn.{bits_run}
 use Rattle.sja_session.specs.Inside.UntilTold.{RunsUntilTold}
 use Rattle.sja_session.specs.Running.{MayRun}
@@ -17,17 +19,21 @@ use Rattle.sja_session.proofs.Turned.{bits_on_bits, latest_of}
 use Rattle.sja_session.proofs.session.Session.run_until_told.Goals as goal
 
 run_is : (plan : PlanValue) (deeds : List (List Deed)) (was now : SerialValue) (n : ℕ) →
-    TakesUntilTold plan deeds was n now → n ≡ now.bits - was.bits
+    TakesBits plan deeds (NoneTold was) was n now → n ≡ now.bits - was.bits
 run_is plan deeds was now n t = let b = bits_run plan deeds _ was now n t in omega (arith, b)
 
 pub push_turn-requires-clause-fits : goal.push_turn-requires-clause-fits
 push_turn-requires-clause-fits c =
-    let inv = c.self.invariant in let t = c.bits_until_told-run.ensures.bits inv.deeds inv.at.stands in
+    let inv = c.self.invariant in let s = c.self.inside in let t = untold_of s.plan inv.deeds false s.run s.run
+    c.bits_until_told-run.new.self c.bits_until_told-run.result
+    (c.bits_until_told-run.ensures.bits inv.deeds inv.at.stands) in
     turn_fits inv t (run_is _ _ _ _ _ t)
 
 pub invariant_of-self : goal.invariant_of-self
 invariant_of-self c =
-    let inv = c.self.invariant in let t = c.bits_until_told-run.ensures.bits inv.deeds inv.at.stands in
+    let inv = c.self.invariant in let s = c.self.inside in let t = untold_of s.plan inv.deeds false s.run s.run
+    c.bits_until_told-run.new.self c.bits_until_told-run.result
+    (c.bits_until_told-run.ensures.bits inv.deeds inv.at.stands) in
     let push = c.push_turn.ensures in
     let may = subst (λ (s : SessionValue). MayRun s 1) (sym c.self.view_is) c.requires.may in
     let left = subst (λ (s : SessionValue). s.run.bits < s.plan.bits) (sym c.self.view_is) c.requires.left in
@@ -44,7 +50,7 @@ returns-clause-ran c = λ deeds h.
     (subst (λ (l : List Turn). RunsUntilTold (session_of s.room s.run s.plan s.turns.items)
     (session_of s.room now s.plan l) run deeds) (sym c.push_turn.ensures.turns)
     (until_told s.room s.plan s.turns.items deeds s.run now run own
-    (c.bits_until_told-run.ensures.bits deeds own.stands)
+    (untold_of s.plan deeds false s.run s.run now run (c.bits_until_told-run.ensures.bits deeds own.stands))
     (c.bits_until_told-run.ensures.some c.requires.some left)))
 
 -- a turn of the bus goes on with further bits

@@ -1,0 +1,38 @@
+-- Bits of a run that tell what was noted in them.
+use Rattle.std.proofs.Common.{◌≡◌, ℕ, Bool, List, refl, arith}
+use Rattle.sja_plan.specs.Plan.{PlanValue}
+use Rattle.sja_driver.specs.Deeds.{Deed}
+use Rattle.sja_serial.specs.Bits.{TakesBits}
+use Rattle.sja_serial.specs.Bits.TakesBits.{no_bit as none_run, one_more as one_run}
+use Rattle.sja_serial.specs.Serial.{SerialValue, StandsAt}
+use Rattle.sja_serial.specs.UntilTold.{NoneTold, TellsBit, TellsBits, WorksUntold}
+use Rattle.sja_serial.specs.UntilTold.TellsBits.{no_bit, one_more}
+
+module _ (plan : PlanValue) (deeds : List (List Deed)) (Before : SerialValue → Type 0) where
+  -- they are bits of the run
+  pub takes_of : (r m : SerialValue) (n : ℕ) → TellsBits plan deeds Before r n m → TakesBits plan deeds Before r n m
+  takes_of r m n (no_bit _) = none_run r
+  takes_of r m n (one_more _ mid _ k bits holds bit) = one_run r mid m k (takes_of r mid k bits) holds bit.takes
+
+  -- one alone
+  pub just_told : (r n : SerialValue) → Before r → TellsBit plan deeds r n → TellsBits plan deeds Before r 1 n
+  just_told r n holds bit = one_more r r n 0 (no_bit r) holds bit
+
+  -- where none was run it is the same run
+  pub none_told : (r m : SerialValue) (run : ℕ) → TellsBits plan deeds Before r run m → run ≡ 0 → m ≡ r
+  none_told r m run (no_bit _) is_none = refl
+  none_told r m run (one_more _ mid _ k bits holds bit) is_none = absurd (omega (arith, is_none))
+
+  -- the run stands where it stood
+  pub stands_told : (r m : SerialValue) (n : ℕ) → TellsBits plan deeds Before r n m → StandsAt plan r deeds →
+      StandsAt plan m deeds
+  stands_told r m n (no_bit _) h = h
+  stands_told r m n (one_more _ mid _ k bits holds bit) h = bit.takes.stands
+
+-- bits up to the first that a port is told of are bits before each of which none was told anything
+pub untold_of : (plan : PlanValue) (deeds : List (List Deed)) (to_rest : Bool) (first was now : SerialValue) (n : ℕ) →
+    TellsBits plan deeds (WorksUntold plan to_rest first) was n now →
+    TakesBits plan deeds (NoneTold first) was n now
+untold_of plan deeds to_rest first was now n (no_bit _) = none_run was
+untold_of plan deeds to_rest first was now n (one_more _ mid _ k bits both bit) =
+    one_run was mid now k (untold_of plan deeds to_rest first was mid k bits) both.1 bit.takes
