@@ -1,6 +1,7 @@
 -- Digits, and the texts that they make: their length, their capitals, and that a text of digits has one number.
 use Rattle.std.proofs.Common.{◌≡◌, ◌≢◌, ◌+◌, ◌*◌, ◌/◌, ◌%◌, ◌^◌, ◌<◌, ◌≤◌, ◌∙◌, ℕ, zero, suc, inl, inr}
 use Rattle.std.proofs.Common.{List, [], ◌∷◌, ◌++◌, length, take, drop, get_or, refl, sym, ap, ap₂, add-one, arith}
+use Rattle.std.proofs.Common.{append_assoc}
 use Rattle.std.proofs.lemmas.Bool.Decides.{nat_tests}
 use Rattle.std.proofs.lemmas.Bool.{cases_lt}
 use Rattle.std.proofs.lemmas.List.{take_at, drop_at, map_more, map-append, length-append}
@@ -78,6 +79,28 @@ digits_of-more count n v h =
     let high : (n * 16 + v) / 16 ≡ n = omega arith in
     let low : (n * 16 + v) % 16 ≡ v = omega arith in
     rw (add-one, high, low) refl
+
+-- behind a text the digits of a number, and behind these its last two
+two_more : (text : List ℕ) (count n high : ℕ) → high ≡ n / 16 / 16 →
+    (text ++ digits_of count high) ++ digits_of 2 n ≡ text ++ digits_of (suc (suc count)) n
+two_more text count n high is =
+    append_assoc text (digits_of count high) (digits_of 2 n)
+    ∙ ap (λ h. text ++ (digits_of count h ++ digits_of 2 n)) is
+    ∙ ap (λ l. text ++ l) (sym (append_assoc (digits_of count (n / 16 / 16)) (digit_of (n / 16 % 16) ∷ [])
+    (digit_of (n % 16) ∷ [])))
+
+-- three digits, the first one by itself
+pub three_digits : (text : List ℕ) (n a : ℕ) → a ≡ n / 256 →
+    (text ++ digits_of 1 a) ++ digits_of 2 n ≡ text ++ digits_of 3 n
+three_digits text n a first = two_more text 1 n a (omega (arith, first))
+
+-- eight, two by two
+pub eight_digits : (text : List ℕ) (n a b c : ℕ) → a ≡ n / 16777216 → b ≡ n / 65536 → c ≡ n / 256 →
+    (((text ++ digits_of 2 a) ++ digits_of 2 b) ++ digits_of 2 c) ++ digits_of 2 n ≡ text ++ digits_of 8 n
+eight_digits text n a b c first second third =
+    ap (λ l. (l ++ digits_of 2 c) ++ digits_of 2 n) (two_more text 2 b a (omega (arith, first, second)))
+    ∙ ap (λ l. l ++ digits_of 2 n) (two_more text 4 c b (omega (arith, second, third)))
+    ∙ two_more text 6 n c (omega (arith, third))
 
 -- one digit more, sixteen times the numbers
 pow-more : (i : ℕ) → 16 ^ (i + 1) ≡ 16 * 16 ^ i

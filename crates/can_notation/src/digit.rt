@@ -3,12 +3,16 @@
 ghost use Rattle.std.specs.Prelude.{◌≡◌, ◌≢◌, ◌<◌, ℕ, IfSome, IfNone};
 ghost use Rattle.can_notation.specs.Digits.{digit_of, capital};
 
+/// The upper-case digits, by their numbers.
+const DIGITS: [u8; 16] = *b"0123456789ABCDEF";
+
 /// The upper-case digit of a number.
+#[inline]
 pub(crate) fn digit_of(n: u8) -> u8
     requires { n < 16 }
     ensures { result ≡ digit_of n }
 {
-    if n < 10 { b'0' + n } else { b'A' + (n - 10) }
+    DIGITS[usize::from(n)]
 }
 
 /// The number that a digit stands for, in either case.

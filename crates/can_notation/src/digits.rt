@@ -10,16 +10,49 @@ use arrayvec::ArrayVec;
 /// How many characters a text has at most: 8 of an identifier, `#`, 16 of the data and 2 of a DLC above 8.
 pub const TEXT_BYTES: usize = 27;
 
-/// Writes the last `count` digits of a number behind a text.
-pub(crate) fn push_digits(text: &mut ArrayVec<u8, TEXT_BYTES>, count: usize, n: u32)
-    requires { array_vec_len text.old + count ≤ 27 }
-    ensures items { text.new.items ≡ text.old.items ++ digits_of count n }
-    ensures len { array_vec_len text.new ≡ array_vec_len text.old + count }
+/// Writes the last digit of a number behind a text.
+#[inline]
+fn push_digit(text: &mut ArrayVec<u8, TEXT_BYTES>, n: u32)
+    requires { array_vec_len text.old < 27 }
+    ensures items { text.new.items ≡ text.old.items ++ digits_of 1 n }
+    ensures len { array_vec_len text.new ≡ array_vec_len text.old + 1 }
 {
-    if count > 0 {
-        push_digits(text, count - 1, n >> 4);
-        text.push(digit_of((n & 0x0f) as u8));
-    }
+    text.push(digit_of((n & 0x0f) as u8));
+}
+
+/// Writes the last two digits of a number behind a text.
+#[inline]
+pub(crate) fn push_pair(text: &mut ArrayVec<u8, TEXT_BYTES>, n: u32)
+    requires { array_vec_len text.old < 26 }
+    ensures items { text.new.items ≡ text.old.items ++ digits_of 2 n }
+    ensures len { array_vec_len text.new ≡ array_vec_len text.old + 2 }
+{
+    push_digit(text, n >> 4);
+    push_digit(text, n);
+}
+
+/// Writes the last three digits of a number behind a text.
+#[tactic(auto, using(crate::proofs::DigitLemmas::three_digits))]
+pub(crate) fn push_three(text: &mut ArrayVec<u8, TEXT_BYTES>, n: u32)
+    requires { array_vec_len text.old < 25 }
+    ensures items { text.new.items ≡ text.old.items ++ digits_of 3 n }
+    ensures len { array_vec_len text.new ≡ array_vec_len text.old + 3 }
+{
+    push_digit(text, n >> 8);
+    push_pair(text, n);
+}
+
+/// Writes the last eight digits of a number behind a text.
+#[tactic(auto, using(crate::proofs::DigitLemmas::eight_digits))]
+pub(crate) fn push_eight(text: &mut ArrayVec<u8, TEXT_BYTES>, n: u32)
+    requires { array_vec_len text.old < 20 }
+    ensures items { text.new.items ≡ text.old.items ++ digits_of 8 n }
+    ensures len { array_vec_len text.new ≡ array_vec_len text.old + 8 }
+{
+    push_pair(text, n >> 24);
+    push_pair(text, n >> 16);
+    push_pair(text, n >> 8);
+    push_pair(text, n);
 }
 
 /// The number of at most 8 digits, in either case.

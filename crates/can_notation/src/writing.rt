@@ -3,10 +3,11 @@
 ghost use Rattle.std.specs.Prelude.{◌≡◌, ◌<◌, ◌≤◌, ◌+◌, ◌*◌, ◌++◌, All, length, min};
 ghost use Rattle.std.specs.Str.{IsAscii};
 ghost use Rattle.arrayvec.specs.ArrayVec.{array_vec_len};
-ghost use Rattle.can_notation.specs.Text.{data_text, count_text, long_dlc_text, body_text, text};
+ghost use Rattle.can_notation.specs.Text.{data_text, count_text, long_dlc_text, body_text};
+ghost use Rattle.can_notation.specs.Text.{identifier_text, text};
 
 use super::digit::digit_of;
-use super::digits::{TEXT_BYTES, push_digits};
+use super::digits::{TEXT_BYTES, push_eight, push_pair, push_three};
 use arrayvec::ArrayVec;
 use can_frame::Frame;
 
@@ -21,12 +22,24 @@ pub fn text_of(frame: &Frame) -> ArrayVec<u8, TEXT_BYTES>
     ensures ascii { IsAscii result.items }
 {
     let mut text = ArrayVec::new();
-    let count = if frame.ext() { 8 } else { 3 };
-    push_digits(&mut text, count, frame.id());
+    push_identifier(&mut text, frame.ext(), frame.id());
     text.push(b'#');
     push_body(&mut text, frame);
     push_long_dlc(&mut text, frame.dlc());
     text
+}
+
+/// Writes the identifier.
+fn push_identifier(text: &mut ArrayVec<u8, TEXT_BYTES>, ext: bool, id: u32)
+    requires { array_vec_len text.old ≡ 0 }
+    ensures items { text.new.items ≡ text.old.items ++ identifier_text ext id }
+    ensures room { array_vec_len text.new ≤ 8 }
+{
+    if ext {
+        push_eight(text, id);
+    } else {
+        push_three(text, id);
+    }
 }
 
 /// Writes what stands for the data.
@@ -50,7 +63,7 @@ fn push_data(text: &mut ArrayVec<u8, TEXT_BYTES>, bytes: &[u8])
     ensures len { array_vec_len text.new ≡ array_vec_len text.old + 2 * length bytes.now }
 {
     for byte in bytes {
-        push_digits(text, 2, u32::from(*byte));
+        push_pair(text, u32::from(*byte));
     }
 }
 

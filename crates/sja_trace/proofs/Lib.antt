@@ -1,6 +1,7 @@
 pub mod Sayings
 pub mod Lines
 pub mod StepOrders
+pub mod StepsFrom
 pub mod Telling
 pub mod NodeStories
 pub mod UpTo

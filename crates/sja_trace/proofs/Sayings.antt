@@ -1,6 +1,11 @@
 -- Events that are written one after another.
 use Rattle.std.proofs.Common.{◌≡◌, ◌||◌, ℕ, Bool, true, false, List, [], ◌∷◌, ◌++◌, codes, string_bytes}
-use Rattle.std.proofs.Common.{refl, sym, ap, ap₂, ◌∙◌, append-nil, append_assoc}
+use Rattle.std.proofs.Common.{◌&&◌, not, refl, sym, ap, ap₂, ◌∙◌, subst, append-nil, append_assoc}
+use Rattle.can_node.specs.declared.counters.Counters.{Counters}
+use Rattle.can_node.specs.declared.state.State.{State}
+use Rattle.can_node.specs.declared.state.State.TheVariants.{Active, Passive, BusOff}
+use Rattle.can_node.specs.Stands.{state_of}
+use Rattle.sja_trace.specs.BitEvents.{warns, change_text, confinement_said}
 use Rattle.sja_trace.specs.Events.{said_if}
 use Rattle.sja_trace.specs.TraceText.{behind, joined}
 use Rattle.sja_trace.specs.declared.told.Told.{Told}
@@ -50,6 +55,26 @@ tells_none t = record {
   text = sym (append-nil (string_bytes t.text)) ∙ ap (λ x. string_bytes t.text ++ x) (sym (nothing_said t.begun));
   begun = alone t.begun;
 }
+
+-- where the counters are as they were no state changes
+no_warning : (b : Bool) → (not b && b) ≡ false
+no_warning true = refl
+no_warning false = refl
+
+no_change : (s : State) → change_text s s ≡ []
+no_change Active = refl
+no_change Passive = refl
+no_change BusOff = refl
+
+pub confinement_none : (k : Counters) → confinement_said k k ≡ []
+confinement_none k =
+    ap₂ (λ warning change. warning ++ change) (ap (λ b. said_if b (codes "error warning")) (no_warning (warns k)))
+    (no_change (state_of k))
+
+pub tells_same : (t : Told) (old new : Counters) → new ≡ old → Tells t t (confinement_said old new)
+tells_same t old new same =
+    let P : List (List ℕ) → Type 0 = λ es. Tells t t es in
+    subst P (sym (confinement_none old) ∙ ap (λ k. confinement_said old k) (sym same)) (tells_none t)
 
 -- one event: what stands before it, and its text
 one_said : (b : Bool) (e : List ℕ) → separator b ++ e ≡ said_after b (e ∷ [])

@@ -9,11 +9,8 @@ use Rattle.can_node.specs.declared.counters.Counters.{Counters}
 use Rattle.can_node.specs.declared.phase.Phase.{Phase}
 use Rattle.can_node.specs.declared.phase.Phase.TheVariants.{Reset, Waiting, Idle, Frame, Flag, Delimiter}
 use Rattle.can_node.specs.declared.phase.Phase.TheVariants.{Intermission, Suspension}
-use Rattle.can_node.specs.declared.state.State.{State}
-use Rattle.can_node.specs.declared.state.State.TheVariants.{Active, Passive, BusOff}
 use Rattle.can_node.specs.declared.bit_events.BitEvents.{BitEvents}
 use Rattle.can_node.specs.Context.{is_held}
-use Rattle.can_node.specs.Stands.{state_of}
 use Rattle.sja_replay.specs.declared.happening.Happening.{Happening}
 use Rattle.sja_replay.specs.declared.short_bit.ShortBit.{ShortBit}
 use Rattle.sja_replay.specs.declared.view.View.{View}
@@ -24,9 +21,10 @@ use Rattle.sja_trace.specs.Events.{fault_in, fault_said, is_flag, has_fault, fla
 use Rattle.sja_trace.specs.Events.{end_in, end_said}
 use Rattle.sja_trace.specs.Names.{flag_name, level_name}
 use Rattle.sja_trace.specs.Places.{phase_text, where_text, segment_text, owner_text}
-use Rattle.sja_trace.specs.BitEvents.{begins_suspension, suspension_said, warns, change_text, confinement_said}
+use Rattle.sja_trace.specs.BitEvents.{begins_suspension, suspension_said, confinement_said}
 use Rattle.sja_trace.specs.BitEvents.{states_said, have_same, counters_text, counters_said, restart_said, all_said}
 use Rattle.sja_trace.specs.Inside.Hands.{view_of, happening_of, hand_line, IsHand, counters_of, driven_of}
+use Rattle.sja_trace.proofs.Sayings.{confinement_none}
 use Rattle.sja_trace.specs.BitEvents.{counters_after}
 use Rattle.sja_trace.specs.TraceText.{driven_in, event_line, bit_line}
 
@@ -67,20 +65,7 @@ no_start Delimiter h idle stays = refl
 no_start Intermission h idle stays = ap is_frame stays
 no_start Suspension h idle stays = ap is_frame stays
 
--- nor do states change where the counters stay
-no_warning : (b : Bool) → (not b && b) ≡ false
-no_warning true = refl
-no_warning false = refl
-
-no_change : (s : State) → change_text s s ≡ []
-no_change Active = refl
-no_change Passive = refl
-no_change BusOff = refl
-
-confinement_none : (k : Counters) → confinement_said k k ≡ []
-confinement_none k =
-    none_both _ _ (ap (λ b. said_if b (codes "error warning")) (no_warning (warns k))) (no_change (state_of k))
-
+-- nor do counters change where they stay
 same_counters : (k : Counters) → have_same k k ≡ true
 same_counters k = ap₂ (λ a b. a && b) (eq-eqb k.tec k.tec refl) (eq-eqb k.rec k.rec refl)
 
@@ -200,7 +185,7 @@ own_short q quiet = record {
   no_start = quiet;
 }
 
-all_same : (bus : Level) (left : Counters) (h : Happening) (q : ShortBit) → IsInShort h q →
+pub all_same : (bus : Level) (left : Counters) (h : Happening) (q : ShortBit) → IsInShort h q →
     all_said bus left (happening_of q) ≡ all_said bus left h
 all_same bus left h q s =
     all_is bus left (happening_of q) q (own_short q s.no_start) ∙ sym (all_is bus left h q s)

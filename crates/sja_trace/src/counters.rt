@@ -1,6 +1,6 @@
 //! The error counters, and the states that they lead to.
 
-ghost use Rattle.std.specs.Prelude.{◌≡◌, ◌++◌, string_bytes, OnOk};
+ghost use Rattle.std.specs.Prelude.{◌≡◌, ◌++◌, true, string_bytes, OnOk};
 ghost use Rattle.sja_trace.specs.BitEvents.{warns, comes_to_warn, confinement_said, change_text, states_said};
 ghost use Rattle.sja_trace.specs.BitEvents.{have_same, counters_text, counters_said, counters_after, restart_said};
 ghost use Rattle.sja_trace.specs.Inside.Saying.{Tells};
@@ -28,12 +28,23 @@ pub(crate) fn put_states(told: &mut Told, bit: &Happening) -> Result<(), AllocEr
 }
 
 /// Error warning, error passive and error active.
+#[tactic(auto, using(crate::proofs::Sayings::tells_same))]
 fn put_confinement(told: &mut Told, old: Counters, new: Counters) -> Result<(), AllocError>
     ensures { OnOk result (Tells told.old told.new (confinement_said old new)) }
 {
+    if are_same(old, new) {
+        return Ok(());
+    }
     told.say_if(comes_to_warn(old, new), "error warning")?;
     put_change(told, old.state(), new.state())?;
     Ok(())
+}
+
+/// Whether both counters and bus-off are as they were.
+fn are_same(old: Counters, new: Counters) -> bool
+    ensures { result ≡ true → new ≡ old }
+{
+    old.tec == new.tec && old.rec == new.rec && old.off == new.off
 }
 
 /// Whether the warning limit is reached, where it wasn't before.
@@ -76,7 +87,7 @@ pub(crate) fn put_counters(told: &mut Told, bit: &Happening) -> Result<(), Alloc
 }
 
 /// Whether both counters are as they were.
-pub(crate) fn have_same(old: Counters, new: Counters) -> bool
+pub fn have_same(old: Counters, new: Counters) -> bool
     ensures { result ≡ have_same old new }
 {
     old.tec == new.tec && old.rec == new.rec

@@ -33,11 +33,14 @@ mod told;
 mod trace_text;
 mod words;
 
-pub use counters::comes_to_warn;
+pub use counters::{comes_to_warn, have_same};
 pub use has_event::{is_same, is_start};
 pub use names::{cause_name, segment_name};
 pub use node_bits::NodeBits;
+pub use node_lines::put_hand_line;
+pub use steps::put_steps_from;
 pub use teller::Teller;
-pub use tellers::{bus_of, driven_in, finish_all, go_on_all};
+pub use tellers::{bus_of, driven_in, finish_all, go_on_all, with_node};
+pub use told::Told;
 pub use trace_text::trace;
 pub use words::{put_frame, put_place};

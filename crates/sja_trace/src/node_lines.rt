@@ -1,12 +1,12 @@
 //! The lines of a node in a bit.
 
-ghost use Rattle.std.specs.Prelude.{◌≡◌, ◌++◌, string_bytes, OnOk};
+ghost use Rattle.std.specs.Prelude.{◌≡◌, ◌++◌, decimal, string_bytes, OnOk};
 ghost use Rattle.sja_trace.specs.BitEvents.{all_said};
 ghost use Rattle.sja_trace.specs.Telling.{at_hand};
 ghost use Rattle.sja_trace.specs.TraceText.{joined, bit_line};
 ghost use Rattle.sja_trace.specs.Inside.Hands.{hand_line, happening_of};
 ghost use Rattle.sja_trace.specs.Inside.Passing.{told_lines};
-ghost use Rattle.sja_trace.specs.Inside.Saying.{is_any, line_if};
+ghost use Rattle.sja_trace.specs.Inside.Saying.{is_any, line_opening, line_if};
 
 use super::events::put_all;
 use super::hand::happening_of;
@@ -35,28 +35,39 @@ pub(crate) fn put_node(
         ++ told_lines bus bit node teller.now) }
 {
     teller.steps.put(alloc, text, node, bit)?;
-    put_hand_line(text, told, node, teller, bus, bit)?;
+    let left = teller.counters;
+    put_hand_line(
+        text,
+        told,
+        node,
+        &teller.short,
+        teller.bits.bit(),
+        left,
+        bus,
+        bit,
+    )?;
     Ok(())
 }
 
-/// The line of the bit at hand, if the node has the bit and it brought anything.
+/// The line of a bit at hand, in short or else in full, if the node has the bit and it brought anything.
 #[tactic(auto, using(crate::proofs::Lines::no_line))]
-fn put_hand_line(
+pub fn put_hand_line(
     text: &mut String,
     told: &mut Told,
     node: usize,
-    teller: &Teller<'_>,
+    short: &Option<ShortBit>,
+    full: &Option<Happening>,
+    left: Counters,
     bus: Level,
     bit: u32,
 ) -> Result<(), AllocError>
     ensures { OnOk result (string_bytes text.new ≡ string_bytes text.old
-        ++ hand_line bus bit node teller.now.counters teller.now.short (at_hand teller.now.bits)) }
+        ++ hand_line bus bit node left short.now full.now) }
 {
-    let left = teller.counters;
-    if let Some(short) = &teller.short {
+    if let Some(short) = short {
         return put_short_line(text, told, node, short, left, bus, bit);
     }
-    match teller.bits.bit() {
+    match full {
         Some(happening) => put_event_line(text, told, node, happening, left, bus, bit),
         None => Ok(()),
     }
@@ -118,5 +129,32 @@ fn put_line(text: &mut String, told: &Told, node: usize, bit: u32) -> Result<(),
     if !told.begun() {
         return Ok(());
     }
-    writeln!(text, "bit {bit} node {node}: {}", told.text)
+    put_opening(text, node, bit)?;
+    text.push_str(told.text.as_str())?;
+    text.push('\n')?;
+    Ok(())
+}
+
+/// What a line begins with.
+#[tactic(auto, using(sja_report::proofs::Written::five_texts))]
+fn put_opening(text: &mut String, node: usize, bit: u32) -> Result<(), AllocError>
+    ensures { OnOk result (string_bytes text.new ≡ string_bytes text.old ++ line_opening bit node) }
+{
+    text.push_str("bit ")?;
+    write!(text, "{bit}")?;
+    text.push_str(" node ")?;
+    put_node_number(text, node)?;
+    text.push_str(": ")?;
+    Ok(())
+}
+
+/// The number of a node.
+#[tactic(auto, using(std::proofs::lemmas::Fmt::decimal_digit))]
+fn put_node_number(text: &mut String, node: usize) -> Result<(), AllocError>
+    ensures { OnOk result (string_bytes text.new ≡ string_bytes text.old ++ decimal node) }
+{
+    if node < 10 {
+        return text.push(char::from(b'0' + node as u8));
+    }
+    write!(text, "{node}")
 }

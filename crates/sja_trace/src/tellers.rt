@@ -109,7 +109,7 @@ pub fn driven_in(bit: &Option<Happening>) -> Level
 }
 
 /// The level on a bus of this level where one node more drives this one.
-fn with_node(bus: Level, driven: Level) -> Level
+pub fn with_node(bus: Level, driven: Level) -> Level
     ensures { result ≡ wired (bus ∷ driven ∷ []) }
 {
     match bus {

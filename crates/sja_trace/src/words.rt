@@ -1,6 +1,6 @@
 //! Texts of frames, bytes and places.
 
-ghost use Rattle.std.specs.Prelude.{◌≡◌, ◌<◌, ◌++◌, false, string_bytes, OnOk};
+ghost use Rattle.std.specs.Prelude.{◌≡◌, ◌<◌, [], ◌∷◌, ◌++◌, false, string_bytes, OnOk};
 ghost use Rattle.std.specs.Fmt.{digit_glyph};
 ghost use Rattle.std.specs.Str.{IsAscii};
 ghost use Rattle.can_notation.specs.Text.{text as frame_text};
@@ -30,29 +30,28 @@ pub fn put_frame(text: &mut String, frame: &Frame) -> Result<(), AllocError>
 pub(crate) fn put_byte(text: &mut String, byte: u8) -> Result<(), AllocError>
     ensures { OnOk result (string_bytes text.new ≡ string_bytes text.old ++ byte_word byte) }
 {
-    put_ascii(text, &digits_of(byte))
+    put_digit(text, byte / 16)?;
+    put_digit(text, byte % 16)?;
+    Ok(())
 }
 
-/// Characters, all of them ASCII.
+/// A hexadecimal digit, in lower case.
+fn put_digit(text: &mut String, number: u8) -> Result<(), AllocError>
+    requires { number < 16 }
+    ensures { OnOk result (string_bytes text.new ≡ string_bytes text.old ++ digit_glyph false number ∷ []) }
+{
+    text.push(char::from(digit_of(number)))
+}
+
+/// Characters, all of them ASCII: so they are UTF-8, which the call asks for.
 fn put_ascii(text: &mut String, characters: &[u8]) -> Result<(), AllocError>
     requires { IsAscii characters.now }
     ensures { OnOk result (string_bytes text.new ≡ string_bytes text.old ++ characters.now) }
 {
-    match str::from_utf8(characters) {
-        Ok(characters) => text.push_str(characters),
-        Err(_) => unreachable!(),
-    }
+    text.push_str(unsafe { str::from_utf8_unchecked(characters) })
 }
 
-/// The two digits of a byte.
-fn digits_of(byte: u8) -> [u8; 2]
-    ensures word { result ≡ byte_word byte }
-    ensures ascii { IsAscii result }
-{
-    [digit_of(byte / 16), digit_of(byte % 16)]
-}
-
-/// A hexadecimal digit, in lower case.
+/// The hexadecimal digit of a number, in lower case.
 fn digit_of(number: u8) -> u8
     requires { number < 16 }
     ensures digit { result ≡ digit_glyph false number }

@@ -1,5 +1,5 @@
 -- Events that are written one after another.
-use Rattle.std.specs.Prelude.{◌≡◌, ◌||◌, ℕ, Bool, true, false, List, [], ◌∷◌, ◌++◌, codes, string_bytes}
+use Rattle.std.specs.Prelude.{◌≡◌, ◌||◌, ℕ, Bool, true, false, List, [], ◌∷◌, ◌++◌, codes, decimal, string_bytes}
 use Rattle.sja_trace.specs.TraceText.{behind, joined, told_line}
 use Rattle.sja_trace.specs.declared.told.Told.{Told}
 
@@ -22,6 +22,10 @@ is_any (e ∷ es) = true
 pub record Tells (old new : Told) (events : List (List ℕ)) : Type 0 where
   pub text : string_bytes new.text ≡ string_bytes old.text ++ said_after old.begun events
   pub begun : new.begun ≡ (old.begun || is_any events)
+
+-- what a line begins with
+abbrev pub line_opening : ℕ → ℕ → List ℕ
+line_opening bit node = (((codes "bit " ++ decimal bit) ++ codes " node ") ++ decimal node) ++ codes ": "
 
 -- the line of a bit of which something is told, and else none
 abbrev pub line_if : Bool → ℕ → ℕ → List ℕ → List ℕ
