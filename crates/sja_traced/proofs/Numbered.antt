@@ -1,0 +1,68 @@
+-- Lines and levels of all nodes, node by node.
+use Rattle.std.proofs.Common.{◌≡◌, ℕ, ◌+◌, ◌<◌, zero, suc, List, [], ◌∷◌, ◌++◌, length, map, refl, ap, ap₂, subst}
+use Rattle.std.proofs.Common.{arith}
+use Rattle.std.specs.Prelude.{slice_index_or}
+use Rattle.sja_log.specs.Log.{NodeValue}
+use Rattle.sja_plan.specs.Plan.{PlanValue, steps_at}
+use Rattle.sja_report.specs.ReportLines.{numbered}
+use Rattle.sja_trace.specs.TraceText.{NodeStory, AreStories, IsStory}
+
+-- lines that are alike node by node
+pub numbered_alike : {A B : Type 0} (f : ℕ → A → List ℕ) (g : ℕ → B → List ℕ) (n : ℕ) (xs : List A) (ys : List B) →
+    length xs ≡ length ys → ((k m : ℕ) (x : A) (y : B) → k < length xs → m ≡ n + k →
+    f m (slice_index_or xs k x) ≡ g m (slice_index_or ys k y)) → numbered f n xs ≡ numbered g n ys
+numbered_alike f g n [] [] count alike = refl
+numbered_alike f g n [] (y ∷ ys) count alike = absurd (omega (arith, count))
+numbered_alike f g n (x ∷ xs) [] count alike = absurd (omega (arith, count))
+numbered_alike f g n (x ∷ xs) (y ∷ ys) count alike =
+    ap₂ (λ l r. l ++ r) (alike 0 n x y (omega arith) (omega arith))
+    (numbered_alike f g (n + 1) xs ys (omega (arith, count)) (λ k m a b less is. alike (suc k) m a b
+    (omega (arith, less)) (omega (arith, is))))
+
+-- no lines
+pub numbered_none : {A : Type 0} (f : ℕ → A → List ℕ) (n : ℕ) (xs : List A) →
+    ((k m : ℕ) (x : A) → k < length xs → m ≡ n + k → f m (slice_index_or xs k x) ≡ []) → numbered f n xs ≡ []
+numbered_none f n [] none = refl
+numbered_none f n (x ∷ xs) none =
+    ap₂ (λ l r. l ++ r) (none 0 n x (omega arith) (omega arith))
+    (numbered_none f (n + 1) xs (λ k m a less is. none (suc k) m a (omega (arith, less)) (omega (arith, is))))
+
+-- what is alike node by node
+pub map_alike : {A B C : Type 0} (f : A → C) (g : B → C) (xs : List A) (ys : List B) → length xs ≡ length ys →
+    ((k : ℕ) (x : A) (y : B) → k < length xs → f (slice_index_or xs k x) ≡ g (slice_index_or ys k y)) →
+    map f xs ≡ map g ys
+map_alike f g [] [] count alike = refl
+map_alike f g [] (y ∷ ys) count alike = absurd (omega (arith, count))
+map_alike f g (x ∷ xs) [] count alike = absurd (omega (arith, count))
+map_alike f g (x ∷ xs) (y ∷ ys) count alike =
+    ap₂ (λ l r. l ∷ r) (alike 0 x y (omega arith))
+    (map_alike f g xs ys (omega (arith, count)) (λ k a b less. alike (suc k) a b (omega (arith, less))))
+
+-- ---- the stories of a log
+
+pub stories_count : (k : ℕ) (plan : PlanValue) (nodes : List NodeValue) (stories : List NodeStory) →
+    AreStories k plan nodes stories → length stories ≡ length nodes
+stories_count k plan [] [] are = refl
+stories_count k plan [] (s ∷ stories) are = absurd are
+stories_count k plan (n ∷ nodes) [] are = absurd are
+stories_count k plan (n ∷ nodes) (s ∷ stories) are = ap suc (stories_count (k + 1) plan nodes stories are.1)
+
+pub story_at : (k : ℕ) (plan : PlanValue) (nodes : List NodeValue) (stories : List NodeStory) →
+    AreStories k plan nodes stories → (i m : ℕ) (n : NodeValue) (s : NodeStory) → i < length nodes → m ≡ k + i →
+    IsStory (steps_at plan m) (slice_index_or nodes i n) (slice_index_or stories i s)
+story_at k plan [] stories are i m n s less is = absurd (omega (arith, less))
+story_at k plan (a ∷ nodes) [] are i m n s less is = absurd are
+story_at k plan (a ∷ nodes) (b ∷ stories) are zero m n s less is =
+    let same : k ≡ m = omega (arith, is) in subst (λ (j : ℕ). IsStory (steps_at plan j) a b) same are.0
+story_at k plan (a ∷ nodes) (b ∷ stories) are (suc i) m n s less is =
+    story_at (k + 1) plan nodes stories are.1 i m n s (omega (arith, less)) (omega (arith, is))
+
+-- what each gives is a list
+pub map_is : {A C : Type 0} (f : A → C) (xs : List A) (cs : List C) (d : C) → length xs ≡ length cs →
+    ((k : ℕ) (x : A) → k < length xs → f (slice_index_or xs k x) ≡ slice_index_or cs k d) → map f xs ≡ cs
+map_is f [] [] d count each = refl
+map_is f [] (c ∷ cs) d count each = absurd (omega (arith, count))
+map_is f (x ∷ xs) [] d count each = absurd (omega (arith, count))
+map_is f (x ∷ xs) (c ∷ cs) d count each =
+    ap₂ (λ y l. y ∷ l) (each 0 x (omega arith))
+    (map_is f xs cs d (omega (arith, count)) (λ k y less. each (suc k) y (omega (arith, less))))

@@ -1,0 +1,24 @@
+//! Runs in one thread that are traced as they go.
+//!
+//! [`run_traced`] runs a plan as `run_serial` of `sja_serial` does, and gives the log of the run with its trace: the
+//! text that `trace` of `sja_trace` makes of the plan and that log. It goes over no bit once more. Bits are run up to
+//! the first that a port is told of; what is said of that bit comes of the turns of the ports, and of what the nodes
+//! show before it and after it. Of the others nothing is said but that another node's frame begins, or that a receiver
+//! acknowledges.
+//!
+//! `specs/Knowing.antt` says what is known of a node between two bits, and when of two bits the same is said. The rows
+//! of `crates/test_program` that are traces go through it.
+#![tactic(auto)]
+
+mod fates;
+mod lines;
+mod looking;
+mod node_trace;
+mod round;
+mod run_trace;
+mod traced_run;
+mod turns;
+mod whole_run;
+
+pub use traced_run::TracedRun;
+pub use whole_run::run_traced;
