@@ -40,7 +40,7 @@ pub fn of_bus<E: BusEnd + Drop>(
             None => told.unread(),
         },
         [
-            "until_told" | "turn" | "last" | "dominant" | "recessive",
+            "until_told" | "until_rest" | "turn" | "last" | "dominant" | "recessive",
             ..
         ] => {
             of_looks(told, bus, words);

@@ -104,8 +104,9 @@ impl<E: BusEnd + Drop> Wired<E> {
         )
     }
 
-    /// Up to so many bits, up to the first in which a port is told its turn: how many.
-    pub fn until_told(&mut self, count: u32) -> Option<Result<u32, BusFault>> {
+    /// Up to so many bits, up to the first in which a port is told its turn, with `to_rest` as long as some node works:
+    /// how many.
+    pub fn until_told(&mut self, count: u32, to_rest: bool) -> Option<Result<u32, BusFault>> {
         if !are_links_of(self.links.as_slice(), self.nodes)
             || self.board.board.ports.len() < usize::from(self.nodes)
         {
@@ -114,7 +115,7 @@ impl<E: BusEnd + Drop> Wired<E> {
         let links = self.links.as_mut_slice();
         Some(
             self.bus
-                .bits_until_told(links, &mut self.board, count, false),
+                .bits_until_told(links, &mut self.board, count, to_rest),
         )
     }
 
