@@ -6,8 +6,8 @@
 //! show before it and after it. Of the others nothing is said but that another node's frame begins, or that a receiver
 //! acknowledges.
 //!
-//! `specs/Knowing.antt` says what is known of a node between two bits, and when of two bits the same is said. The rows
-//! of `crates/test_program` that are traces go through it.
+//! `specs/Knowing.antt` says what is known of a node between two bits, and when of two bits the same is said. In
+//! `crates/test_plan` each row that is a trace is told both ways.
 #![tactic(auto)]
 
 mod fates;

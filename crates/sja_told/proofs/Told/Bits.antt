@@ -42,20 +42,11 @@ use Rattle.sja_replay.specs.Taking.{last_part}
 use Rattle.sja_replay.proofs.Once.Bits.{Tells, tells, events_once, role_same}
 use Rattle.sja_replay.proofs.Once.Lists.{closes_once}
 use Rattle.sja_serial.proofs.OneBit.BitAsked.{place_bit}
+use Rattle.sja_told.specs.Quiet.{IsQuiet}
 use Rattle.sja_told.proofs.Driven.Records.{a_bit_is_driven}
 use Rattle.sja_told.proofs.Told.SomeViews.{view_there}
 use Rattle.sja_told.proofs.Told.Parts.{of_part_at, each_part, record_both}
 use Rattle.sja_told.proofs.Told.Receptions.{partner_of, received_there}
-
--- no verdict and no bus-off stands first
-abbrev pub IsQuiet : List Entry → Type 0
-IsQuiet [] = Unit {0}
-IsQuiet (Bit driven seen ∷ rest) = Unit {0}
-IsQuiet (Item u ∷ rest) = Unit {0}
-IsQuiet (Abort ∷ rest) = Unit {0}
-IsQuiet (StoredEntry m ∷ rest) = ⊥
-IsQuiet (OverrunEntry m ∷ rest) = ⊥
-IsQuiet (Off ∷ rest) = ⊥
 
 -- ---- going on in a list of happenings
 

@@ -38,7 +38,8 @@ use Rattle.sja_told.specs.Fronts.{IsBetweenBits}
 use Rattle.sja_told.proofs.Driven.Fronts.{cut_front}
 use Rattle.sja_told.proofs.Ports.{IsPort, port_first, asked_first, kind_by, port_step, was_free, asked_step}
 use Rattle.sja_told.proofs.Ports.{port_bit, asked_bit}
-use Rattle.sja_told.proofs.Told.Bits.{IsQuiet, behind, split, past_bit, with_more}
+use Rattle.sja_told.specs.Quiet.{IsQuiet}
+use Rattle.sja_told.proofs.Told.Bits.{behind, split, past_bit, with_more}
 use Rattle.sja_told.proofs.Told.Items.{start_resets, send_away, abort_changes}
 use Rattle.sja_told.proofs.Told.Parts.{each_part}
 use Rattle.sja_told.specs.Stored.{AllStored}
@@ -49,7 +50,7 @@ abbrev pub Fits : ℕ → List Deed → Deed → Type 0
 Fits version before d = FitsState version (is_active before) (opened_by before) d.step d.answer
 
 -- what holds of each element holds of those before the last one, and of that
-each_front : {X : Type 0} (P : List X → X → Type 0) (before xs : List X) (x : X) →
+pub each_front : {X : Type 0} (P : List X → X → Type 0) (before xs : List X) (x : X) →
     EachAfter P before (xs ++ x ∷ []) → EachAfter P before xs × P (before ++ xs) x
 each_front P before [] x h = (tt, subst (λ l. P l x) (sym (append-nil before)) h.0)
 each_front P before (y ∷ xs) x h =

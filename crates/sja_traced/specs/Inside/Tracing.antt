@@ -1,5 +1,5 @@
 -- A run that is traced as it goes: what its text is, and what is known of each node.
-use Rattle.std.specs.Prelude.{◌≡◌, ◌<◌, ◌≤◌, ◌+◌, ◌^◌, ℕ, false, None, List, [], ◌++◌, length}
+use Rattle.std.specs.Prelude.{◌≡◌, ◌<◌, ◌≤◌, ◌^◌, ℕ, false, None, List, [], ◌++◌, length}
 use Rattle.std.specs.Prelude.{map, replicate, slice_index_or, string_bytes}
 use Rattle.can_node.specs.declared.counters.Counters.{Counters}
 use Rattle.sja_driver.specs.declared.logged_driver.LoggedDriver.{LoggedDriver}
@@ -12,7 +12,7 @@ use Rattle.sja_log.specs.Log.{NodeValue, RunValue, journals_in}
 use Rattle.sja_plan.specs.Plan.{PlanValue}
 use Rattle.sja_script.specs.declared.done.Done.{Done}
 use Rattle.sja_serial.specs.Serial.{SerialValue}
-use Rattle.sja_told.proofs.Told.Bits.{IsQuiet}
+use Rattle.sja_told.specs.Quiet.{IsQuiet}
 use Rattle.sja_trace.specs.TraceText.{NodeStory, AreStories, counters_left, lines_to}
 use Rattle.sja_traced.specs.Knowing.{Knows, AreAll}
 use Rattle.sja_traced.specs.declared.node_trace.NodeTrace.{NodeTrace}

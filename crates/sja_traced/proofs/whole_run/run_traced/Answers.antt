@@ -2,7 +2,7 @@ use Rattle.std.proofs.Common.{◌<◌, ◌^◌, arith, string_bytes}
 use Rattle.sja_log.specs.Runs.{IsSerialRun}
 use Rattle.sja_serial.proofs.ManyBits.SomeBits.{bits_within}
 use Rattle.sja_serial.proofs.WholeRun.Whole.{serial_of}
-use Rattle.sja_traced.proofs.WholeLog.{is_trace}
+use Rattle.sja_traced.proofs.WholeRun.WholeLog.{is_trace}
 use Rattle.sja_traced.proofs.whole_run.run_traced.Goals as goal
 
 pub returns-clause-run : goal.returns-clause-run

@@ -1,4 +1,4 @@
-use Rattle.sja_traced.proofs.Plain.{first_frame, plain_frame}
+use Rattle.sja_traced.proofs.SayingAlike.Plain.{first_frame, plain_frame}
 use Rattle.sja_traced.proofs.node_trace.NodeTrace.first_said.Goals as goal
 
 pub returns-else-self-clause-some : goal.returns-else-self-clause-some

@@ -2,7 +2,7 @@ use Rattle.std.proofs.Common.{◌+◌, ◌<◌, false, arith}
 use Rattle.sja_serial.proofs.ManyBits.SomeBits.{bits_none, bits_within, bus_all, bus_spent}
 use Rattle.sja_serial.specs.Serial.{SerialValue}
 use Rattle.sja_serial.specs.UntilTold.{WorksUntold}
-use Rattle.sja_traced.proofs.BitsTold.{some_told}
+use Rattle.sja_traced.proofs.RunOfBits.BitsTold.{some_told}
 use Rattle.sja_traced.proofs.run_trace.RunTrace.bus_turn.Goals as goal
 
 pub loop-left-init : goal.loop-left-init

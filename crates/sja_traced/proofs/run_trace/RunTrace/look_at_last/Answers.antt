@@ -1,7 +1,7 @@
 use Rattle.std.proofs.Common.{◌<◌, length, None, arith, ◌∙◌, slice_index_or}
-use Rattle.sja_traced.proofs.Looks.{AtLast, last_none, told_taken, untold_taken}
-use Rattle.sja_traced.proofs.SoFar.{so_far_all, so_far_same, so_far_step}
-use Rattle.sja_traced.proofs.TurnsTaken.{taken_all, taken_run, taken_stands, taken_turns}
+use Rattle.sja_traced.proofs.LookedAt.Looks.{AtLast, last_none, told_taken, untold_taken}
+use Rattle.sja_traced.proofs.LookedAt.SoFar.{so_far_all, so_far_same, so_far_step}
+use Rattle.sja_traced.proofs.LookedAt.TurnsTaken.{taken_all, taken_run, taken_stands, taken_turns}
 use Rattle.sja_traced.proofs.run_trace.RunTrace.look_at_last.Goals as goal
 
 pub loop-node-preserved : goal.loop-node-preserved

@@ -1,8 +1,8 @@
 use Rattle.std.proofs.Common.{◌≡◌}
 use Rattle.sja_serial.specs.Serial.{IsRunOf}
-use Rattle.sja_traced.proofs.Looks.{AtLast}
-use Rattle.sja_traced.proofs.SoFar.{SoFar}
-use Rattle.sja_traced.proofs.TurnsTaken.{IsTaken}
+use Rattle.sja_traced.proofs.LookedAt.Looks.{AtLast}
+use Rattle.sja_traced.proofs.LookedAt.SoFar.{SoFar}
+use Rattle.sja_traced.proofs.LookedAt.TurnsTaken.{IsTaken}
 use Rattle.sja_traced.proofs.run_trace.RunTrace.look_at_last.Given as goal
 
 -- of so many nodes the bit is at hand, and the turn was taken

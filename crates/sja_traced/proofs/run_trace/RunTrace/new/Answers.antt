@@ -1,6 +1,6 @@
 use Rattle.std.proofs.Common.{◌<◌, ◌∷◌, [], length, arith, rules, ap}
 use Rattle.std.proofs.Math.ListN.{length-append}
-use Rattle.sja_traced.proofs.Fresh.{HasBegun, fresh_more, fresh_of, fresh_traced}
+use Rattle.sja_traced.proofs.WholeRun.Fresh.{HasBegun, fresh_more, fresh_of, fresh_traced}
 use Rattle.sja_traced.proofs.run_trace.RunTrace.new.Goals as goal
 
 pub loop-node-preserved : goal.loop-node-preserved

@@ -1,5 +1,5 @@
 use Rattle.std.proofs.Common.{◌≡◌, ◌<◌, ◌≤◌, ℕ, length, slice_index_or, vec_capacity}
-use Rattle.sja_traced.proofs.Fresh.{IsFresh}
+use Rattle.sja_traced.proofs.WholeRun.Fresh.{IsFresh}
 use Rattle.sja_traced.specs.declared.node_trace.NodeTrace.{NodeTrace}
 use Rattle.sja_traced.proofs.run_trace.RunTrace.new.Given as goal
 

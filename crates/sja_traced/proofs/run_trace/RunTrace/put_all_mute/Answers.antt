@@ -1,7 +1,7 @@
 use Rattle.std.proofs.Common.{◌+◌, ◌-◌, ◌≡◌, subst, arith}
 use Rattle.sja_traced.specs.Inside.Bits.{HasRun}
 use Rattle.sja_traced.specs.Inside.Rounds.{IsOn, RoundAt}
-use Rattle.sja_traced.proofs.RoundOn.{have_entries, on_put, on_quiet}
+use Rattle.sja_traced.proofs.Writing.RoundOn.{have_entries, on_put, on_quiet}
 use Rattle.sja_traced.proofs.run_trace.RunTrace.put_all_mute.Goals.{After-quiet_for-past}
 use Rattle.sja_traced.proofs.run_trace.RunTrace.put_all_mute.Goals as goal
 

@@ -1,10 +1,10 @@
-use Rattle.std.proofs.Common.{◌+◌, ◌-◌, sym, ap, ◌∙◌, arith}
+use Rattle.std.proofs.Common.{◌-◌, sym, ap, ◌∙◌, arith}
 use Rattle.lemmas.proofs.Results.{ok_map}
 use Rattle.sja_serial.specs.Serial.{SerialValue}
-use Rattle.sja_traced.proofs.Chain.{all_run}
-use Rattle.sja_traced.proofs.LastOn.{last_on}
-use Rattle.sja_traced.proofs.RoundOn.{puts_same}
-use Rattle.sja_traced.proofs.Rounds.{bits_after}
+use Rattle.sja_traced.proofs.RunOfBits.Chain.{all_run}
+use Rattle.sja_traced.proofs.Writing.LastOn.{last_on}
+use Rattle.sja_traced.proofs.Writing.PutMute.{puts_same}
+use Rattle.sja_traced.proofs.RunOfBits.Rounds.{bits_after}
 use Rattle.sja_traced.proofs.run_trace.RunTrace.put_bits.Goals as goal
 
 pub overflow_sub-first : goal.overflow_sub-first
@@ -39,8 +39,7 @@ returns-clause-traced c =
     let before = bits_after plan t0 now bits h (bits - 1) (omega arith) in
     let is = c.bits.ensures in
     ok_map c.put_bit.result (λ puts.
-    last_on plan t0 now bits h (bits - 1) trace x (omega (arith, some)) (c.bits.result - bits + (bits - 1))
-    (omega (arith, all, before, some, is)) mid.nodes.items looked.count looked.nodes c.look_at_last.new.run looked.run
-    c.put_bit.new.self
-    (puts_same plan c.look_at_last.new.run (c.bits.result - bits + (bits - 1)) mid.nodes.items trace mid
-    c.put_bit.new.self looked.text.0 puts)) c.put_bit.ensures
+    last_on plan t0 now bits h (bits - 1) trace x (omega (arith, some)) _ mid.nodes.items looked.count looked.nodes
+    (omega (arith, all, before, some, is)) c.look_at_last.new.run looked.run c.put_bit.new.self
+    (puts_same plan c.look_at_last.new.run _ mid.nodes.items trace mid c.put_bit.new.self looked.text.0 puts))
+    c.put_bit.ensures

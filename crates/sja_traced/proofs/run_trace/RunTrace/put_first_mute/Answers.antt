@@ -1,5 +1,5 @@
 use Rattle.std.proofs.Common.{rules, arith}
-use Rattle.sja_traced.proofs.RoundOn.{have_entries, on_first, on_put, round_first}
+use Rattle.sja_traced.proofs.Writing.RoundOn.{have_entries, on_first, on_put, round_first}
 use Rattle.sja_traced.proofs.run_trace.RunTrace.put_first_mute.Goals.{else-bits-gt1-via-then-bits-gt1+else-has_more}
 use Rattle.sja_traced.proofs.run_trace.RunTrace.put_first_mute.Goals.{else-bits-gt1-via-else-bits-gt1}
 use Rattle.sja_traced.proofs.run_trace.RunTrace.put_first_mute.Goals as goal

@@ -1,5 +1,5 @@
 use Rattle.lemmas.proofs.Results.{ok_map}
-use Rattle.sja_traced.proofs.RoundOn.{puts_mute}
+use Rattle.sja_traced.proofs.Writing.PutMute.{puts_mute}
 use Rattle.sja_traced.proofs.run_trace.RunTrace.put_mute.Goals as goal
 
 pub returns : goal.returns

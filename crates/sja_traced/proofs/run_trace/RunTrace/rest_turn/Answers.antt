@@ -2,7 +2,7 @@ use Rattle.std.proofs.Common.{◌≡◌, ◌+◌, ◌<◌, true, false, refl, ar
 use Rattle.sja_serial.proofs.ManyBits.SomeBits.{bits_none, bits_within}
 use Rattle.sja_serial.specs.Bits.{SomeWorks}
 use Rattle.sja_serial.specs.UntilTold.{WorksUntold}
-use Rattle.sja_traced.proofs.BitsTold.{less_left, some_told}
+use Rattle.sja_traced.proofs.RunOfBits.BitsTold.{less_left, some_told}
 use Rattle.sja_traced.proofs.run_trace.RunTrace.rest_turn.Goals as goal
 
 pub loop-alloc-init : goal.loop-alloc-init

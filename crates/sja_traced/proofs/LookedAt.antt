@@ -1,0 +1,6 @@
+-- What is looked at before bits and after them, node by node.
+pub mod SoFar
+pub mod OneByOne
+pub mod Looks
+pub mod Ahead
+pub mod TurnsTaken
