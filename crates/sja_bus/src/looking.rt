@@ -17,6 +17,7 @@ impl Bus {
 
     /// Whether the script strikes a node in the next bit; not where no bit is left.
     pub fn is_struck_next(&self) -> bool
+        ensures spent { self.now.left ≡ 0 → result ≡ false }
         ensures yes { result ≡ true → (node : ℕ) × (node < 8) × Strikes self.now.script self.now.run node }
         ensures no { result ≡ false → self.now.left ≢ 0 → (node : ℕ) → node < 8
             → Strikes self.now.script self.now.run node → ⊥ }

@@ -13,9 +13,11 @@ impl SerialRun {
     ghost use Rattle.sja_serial.specs.Bits.{SomeWorks};
     ghost use Rattle.sja_serial.specs.UntilTold.{TakesUntilTold};
 
-    /// The next bits, at most so many and as many as are left, up to the first in which a port is told its turn: in
-    /// none of the others a port is told anything, a message is judged, or a node goes bus-off, and none of several is
-    /// struck. It says how many: at least one, where one is asked for and left.
+    /// The next bits, at most so many and as many as are left, up to the first in which a port is told its turn, or to
+    /// the last one before a struck one; a struck bit is one alone, and so is each before which something is untold, a
+    /// port wants an abort, or a journal has no room that isn't reserved. In none of them but the last a port is told
+    /// anything, a message is judged, or a node goes bus-off, and none of several is struck. It says how many: at least
+    /// one, where one is asked for and left.
     pub fn bits_until_told(&mut self, plan: &Plan, count: u32) -> u32
         requires run { IsRunOf plan.now self.old }
         ensures most { result ≤ count }
@@ -38,9 +40,9 @@ impl SerialRun {
         bits
     }
 
-    /// The next bits, as long as some node works and as many as are left, up to the first in which a port is told its
-    /// turn, as [`bits_until_told`](SerialRun::bits_until_told) has it. It says how many: at least one, where some node
-    /// works and a bit is left.
+    /// The next bits, as long as some node works and as many as are left, as
+    /// [`bits_until_told`](SerialRun::bits_until_told) runs them. It says how many: at least one, where some node works
+    /// and a bit is left.
     pub fn rest_until_told(&mut self, plan: &Plan) -> u32
         requires run { IsRunOf plan.now self.old }
         ensures some { SomeWorks plan.now self.old → self.old.bits < plan.now.bits → 1 ≤ result }

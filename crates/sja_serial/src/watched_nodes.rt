@@ -22,6 +22,7 @@ impl SerialRun {
 
     /// Whether the plan strikes a node in the next bit; not where no bit is left.
     pub fn is_struck_next(&self) -> bool
+        ensures spent { self.now.bus.left ≡ 0 → result ≡ false }
         ensures yes { result ≡ true → (node : ℕ) × (node < 8) × Strikes self.now.bus.script self.now.bus.run node }
         ensures no { result ≡ false → self.now.bus.left ≢ 0 → (node : ℕ) → node < 8
             → Strikes self.now.bus.script self.now.bus.run node → ⊥ }
