@@ -14,7 +14,8 @@ use Rattle.sja_session.specs.Running.{MayRun}
 use Rattle.sja_session.specs.declared.session_room.SessionRoom.{SessionRoom}
 use Rattle.sja_session.specs.Sessions.{SessionValue, IsAt}
 use Rattle.sja_session.specs.Turning.{goes_on_latest}
-use Rattle.sja_session.specs.Watching.{NoneRose, Watches, rise, risen, rises}
+use Rattle.sja_session.specs.Watching.{NoneRose, Watches, rise, rises}
+use Rattle.sja_session.specs.Inside.Risen.{risen}
 use Rattle.sja_session.specs.Watching.NoneRose.{none, bit}
 use Rattle.sja_session.proofs.Turned.{bits_go_on}
 

@@ -6,7 +6,8 @@ use Rattle.sja_driver.specs.Deeds.{Deed}
 use Rattle.sja_session.specs.Inside.UntilTold.{RunsUntilTold}
 use Rattle.sja_session.specs.Lines.{IsStill, line_at}
 use Rattle.sja_session.specs.Sessions.{SessionValue, IsAt}
-use Rattle.sja_session.specs.Watching.{NoneRose, RoseLast, risen, rises}
+use Rattle.sja_session.specs.Watching.{NoneRose, RoseLast, rises}
+use Rattle.sja_session.specs.Inside.Risen.{risen}
 use Rattle.sja_session.specs.Watching.NoneRose.{bit}
 use Rattle.sja_session.proofs.QuietBits.{nodes_same, quiet_at, rises_told, risen_now, rose_on}
 

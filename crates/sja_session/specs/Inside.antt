@@ -3,3 +3,5 @@
 pub mod Accessing
 -- ---- bits in which no port is told anything
 pub mod UntilTold
+-- ---- lines that rose, as they were looked at
+pub mod Risen

@@ -11,11 +11,6 @@ use Rattle.sja_session.specs.Sessions.{SessionValue}
 abbrev pub rise : Bool → Bool → Bool
 rise before now = not before && now
 
--- of a place: it is watched, and was false and is true
-abbrev pub risen : List Bool → List Bool → List Bool → ℕ → Bool
-risen watched before now k =
-    slice_index_or watched k false && rise (slice_index_or before k false) (slice_index_or now k false)
-
 -- the line of a node is watched, and wasn't active before and is now
 abbrev pub rises : List Bool → SessionValue → SessionValue → List (List Deed) → ℕ → Bool
 rises watched was now deeds k = slice_index_or watched k false && rise (line_at was deeds k) (line_at now deeds k)

@@ -1,7 +1,7 @@
 //! The bits of a session until an interrupt line rises.
 
 ghost use Rattle.std.specs.Prelude.{◌≡◌, ◌<◌, ℕ, true, false, IfSome, IfNone};
-ghost use Rattle.sja_session.specs.Watching.{risen};
+ghost use Rattle.sja_session.specs.Inside.Risen.{risen};
 
 use super::raw_session::RawSession;
 use super::session::Session;

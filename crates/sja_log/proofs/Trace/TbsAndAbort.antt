@@ -9,7 +9,7 @@ use Rattle.sja_log.specs.Registering.{LeadTo, seen_now}
 use Rattle.sja_log.specs.Registering.LeadTo.{power_on, step, bit}
 
 -- what holds of each element holds of those before the last one, and of that
-each_front : {X : Type 0} (P : List X → X → Type 0) (before xs : List X) (x : X) →
+pub each_front : {X : Type 0} (P : List X → X → Type 0) (before xs : List X) (x : X) →
     EachAfter P before (xs ++ x ∷ []) → EachAfter P before xs × P (before ++ xs) x
 each_front P before [] x h = (tt, subst (λ l. P l x) (sym (append-nil before)) h.0)
 each_front P before (y ∷ xs) x h =

@@ -28,6 +28,7 @@ use Rattle.sja_driver.proofs.Step.GivenKinds.{Kind}
 use Rattle.sja_driver.proofs.Step.GivenKinds.Kind.{quiet, starts, credits, sends, stops}
 use Rattle.sja_log.specs.Registering.{IsPortBit, LeadTo}
 use Rattle.sja_log.specs.Registering.LeadTo.{power_on, step, bit}
+use Rattle.sja_log.proofs.Trace.TbsAndAbort.{each_front}
 use Rattle.sja_replay.specs.declared.happening.Happening.{Happening}
 use Rattle.sja_replay.specs.Happened.{Happened}
 use Rattle.sja_replay.specs.Happened.Happened.{over, between, bit as told_bit, refused, untold}
@@ -48,14 +49,6 @@ use Rattle.sja_told.proofs.Told.Stores.{stored_none, stored_other, stored_bit}
 -- a deed answers as in this version the state has it
 abbrev pub Fits : ℕ → List Deed → Deed → Type 0
 Fits version before d = FitsState version (is_active before) (opened_by before) d.step d.answer
-
--- what holds of each element holds of those before the last one, and of that
-pub each_front : {X : Type 0} (P : List X → X → Type 0) (before xs : List X) (x : X) →
-    EachAfter P before (xs ++ x ∷ []) → EachAfter P before xs × P (before ++ xs) x
-each_front P before [] x h = (tt, subst (λ l. P l x) (sym (append-nil before)) h.0)
-each_front P before (y ∷ xs) x h =
-    let rest = each_front P (before ++ y ∷ []) xs x h.1 in
-    ((h.0, rest.0), subst (λ l. P l x) (append_assoc before (y ∷ []) xs) rest.1)
 
 -- past an entry that is no bit and may come there
 entry_on : (j rest : List Entry) (e : Entry) (hs : List Happening) → Happened j (e ∷ rest) hs → IsTaken j e →

@@ -24,6 +24,7 @@ use Rattle.sja_link.specs.Records.{record_of}
 use Rattle.sja_link.proofs.JournalEntries.Entering.{record_push}
 use Rattle.sja_log.specs.Registering.{LeadTo}
 use Rattle.sja_log.specs.Registering.LeadTo.{power_on, step, bit}
+use Rattle.sja_log.proofs.Trace.TbsAndAbort.{each_front}
 use Rattle.sja_plan.specs.Plan.{PlanValue}
 use Rattle.sja_regs.specs.declared.bus_turn.BusTurn.{BusTurn}
 use Rattle.sja_regs.specs.declared.registers.Registers.{Registers}
@@ -32,7 +33,6 @@ use Rattle.sja_replay.specs.declared.fate.Fate.TheVariants.{Overrun}
 use Rattle.sja_replay.specs.Taking.{last_part}
 use Rattle.sja_serial.specs.Serial.{SerialValue, StandsAt}
 use Rattle.sja_told.proofs.Ports.{kind_by}
-use Rattle.sja_told.proofs.Told.Runs.{each_front}
 use Rattle.sja_traced.specs.KnownBits.{fate_by, kind_of}
 use Rattle.sja_traced.proofs.Receiving.Begun.{begun_abort, begun_bit, begun_both, begun_then, is_begun}
 use Rattle.sja_traced.proofs.Receiving.FreeThen.{free_then}

@@ -1,5 +1,5 @@
 use Rattle.std.proofs.Common.{◌≡◌, ◌<◌, ℕ, false}
-use Rattle.sja_session.specs.Watching.{risen}
+use Rattle.sja_session.specs.Inside.Risen.{risen}
 use Rattle.sja_session.proofs.watching.first_risen.Given as goal
 
 -- none so far
