@@ -75,9 +75,9 @@ abbrev pub counters_said : Happening → List (List ℕ)
 counters_said h =
     said_if (not (have_same h.before.counters h.after.counters)) (counters_text h.after.counters)
 
--- ---- a start may change them between two bits: while bus-off stands it makes TEC 127 and REC 0, and in version 3 of
--- the registers it takes what was written to TXERR and RXERR (SJA1000 data sheet, 6.4.11 and 6.4.12). left are the
--- counters as the bits before this one left them, both 0 before the first bit (6.4.2)
+-- ---- a start may change them between two bits: while bus-off stands it makes TEC 127 and REC 0, unless the node only
+-- listens then, and in version 3 of the registers it takes what was written to TXERR and RXERR (SJA1000 data sheet,
+-- 6.4.11 and 6.4.12). left are the counters as the bits before this one left them, both 0 before the first bit (6.4.2)
 
 abbrev pub counters_after : Option Happening → Counters
 counters_after None = record { tec = 0; rec = 0; off = false }

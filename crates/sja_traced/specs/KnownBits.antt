@@ -27,7 +27,7 @@ kind_of None = None
 kind_of (Some v) = Some (v.0)
 
 -- what became of the frame that a bit told, where it told one: its message was stored, or found no room, where so many
--- bytes were free (SJA1000 data sheet, 6.4.4: data overrun), or the filter stopped it, and there is no verdict
+-- bytes were free (SJA1000 data sheet, 6.4.14), or the filter stopped it, and there is no verdict
 abbrev pub fate_by : Option FrameValue → Option Verdict → ℕ → Option Fate
 fate_by None verdict free = None
 fate_by (Some f) None free = Some Stopped

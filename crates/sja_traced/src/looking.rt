@@ -58,8 +58,8 @@ impl RunTrace {
         false
     }
 
-    /// In how many bits the first one comes of which something may be said, of so many that told nothing and that came
-    /// so many after those noted: so many where there is none.
+    /// Of how many bits nothing is said, from the first on, of so many that told nothing and that came so many after
+    /// those noted.
     pub(crate) fn quiet_for(&self, run: &SerialRun, plan: &Plan, past: u32, bits: u32) -> u32
         requires run { IsRunOf plan.now run.now }
         requires count { length self.now.nodes.items ≡ length plan.now.nodes }

@@ -14,7 +14,8 @@ pub(crate) struct NodeTrace {
     pub(crate) steps: usize,
     /// The error counters as the bits so far left them.
     pub(crate) left: Counters,
-    /// What the node shows of its next bit. The segment is that of a bit before, but where the next bit is struck.
+    /// What the node shows of its next bit. Segment and flag are those of a bit before, but where the next bit is
+    /// struck.
     pub(crate) view: View,
     /// How many entries its journal had before the bits that were run last.
     pub(crate) entries: usize,
@@ -54,8 +55,9 @@ impl NodeTrace {
         }
     }
 
-    /// The first of the bits whose entries have numbers from one up to another one, of which something may be said
-    /// though they told nothing: a receiver acknowledges, or a frame may begin on an idle bus.
+    /// Of the bits whose entries have numbers from one up to another one, and which told nothing, the first of which
+    /// something may be said all the same, or one before it: a receiver acknowledges, or a node that is idle drives or
+    /// sees dominant. Where none is answered there is no such bit.
     pub(crate) fn first_said(&self, journal: &Journal, from: usize, to: usize) -> Option<usize>
         requires { (from ≤ to) × (to ≤ length journal.now.entries) }
         ensures some { IfSome result (λ i. (from ≤ i) × (i ≤ to)
