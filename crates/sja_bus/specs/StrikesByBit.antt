@@ -24,6 +24,10 @@ abbrev pub AreStruckFrom : List Strike → ℕ → List StruckNodes → Type 0
 AreStruckFrom script from bits = (run node : ℕ) (d : StruckNodes) → run < length bits → node < 8 →
     IsAmong node (slice_index_or bits run d) ↔ Strikes script (from + run) node
 
+-- in the first so many of these bits no node is among them
+abbrev pub AreUnstruck : ℕ → List StruckNodes → Type 0
+AreUnstruck n bits = (i node : ℕ) (d : StruckNodes) → i < n → IsAmong node (slice_index_or bits i d) → ⊥
+
 -- a script, and of how many bits it is known whom it strikes
 pub record Scripted : Type 0 where
   pub script : List Strike

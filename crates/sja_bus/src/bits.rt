@@ -2,7 +2,6 @@
 
 ghost use Rattle.std.specs.Prelude.{◌≡◌, ◌+◌, ◌<◌, ◌≤◌, ℕ, true, false, length, slice_index_or, IfOk};
 ghost use Rattle.std.specs.Prelude.{◌⊎◌, false, IfErr, MatchResult};
-ghost use Rattle.sja_script.specs.Striking.{Strikes};
 ghost use Rattle.can_node.specs.Stands.{ShowsRest};
 ghost use Rattle.lemmas.specs.Related.{EachRelated};
 ghost use Rattle.sja_bus.specs.declared.seat.Seat.{Seat as Seated};
@@ -11,7 +10,7 @@ ghost use Rattle.sja_bus.specs.Boards.{KeepsOthers};
 ghost use Rattle.sja_bus.specs.Inside.Refusing.{AreFree};
 ghost use Rattle.sja_wire.specs.Wire.{wired};
 ghost use Rattle.sja_bus.specs.Inside.Rows.{AreReady, AreSeated, IsBus, driven_by};
-ghost use Rattle.sja_bus.specs.Inside.RunningOn.{MayRunOn, RowsRun, RowsStop};
+ghost use Rattle.sja_bus.specs.Inside.RunningOn.{MayRunOn, RowsRun, RowsRunNone, RowsStop};
 ghost use Rattle.sja_bus.specs.Inside.RunningOn.{AllAtRest, SomeAborts, SomeFull, SomeStruck, SomeUntold};
 
 use super::all_nodes::sample_all;
@@ -37,7 +36,7 @@ impl Bus {
     ghost use Rattle.sja_bus.specs.Buses.{IsStill};
     ghost use Rattle.sja_bus.specs.Moment.{moment, Keeps};
     ghost use Rattle.sja_bus.specs.Several.{AllRest, RunsBits, StopsBits, WorksIf};
-    ghost use Rattle.sja_bus.specs.Inside.RunningOn.{AreFor, AnyBit, IsSoFar, IsStopped};
+    ghost use Rattle.sja_bus.specs.Inside.RunningOn.{AnyBit, IsSoFar, IsStopped, MayRunBits};
 
     /// Bits one after another: so many, or as many as are left; with `to_rest` only as long as some node isn't at rest.
     /// Answers how many they were.
@@ -111,21 +110,19 @@ impl Bus {
         &mut self,
         links: &mut [E],
         board: &mut B,
-        count: u32,
+        further: u32,
         to_rest: bool,
     ) -> Result<u32, BusFault>
-        requires fit { AreFor E.link links.old (length self.old.journals) (B.ports board.old) }
-        requires right { self.old.fault ≡ None }
-        requires most { count ≤ self.old.left }
-        ensures most { IfOk result (λ n. n ≤ count) }
+        requires { MayRunBits E.link self.old links.old (B.ports board.old) further }
+        ensures most { IfOk result (λ n. n ≤ further) }
         ensures runs { IfOk result (λ n. IsSoFar E.BusEnd B.Board (AnyBit E.BusEnd B.Board) (WorksIf to_rest)
             (moment self.old links.old board.old) n (moment self.new links.new board.new)) }
-        ensures stops { IfErr result (λ f. IsStopped E.BusEnd B.Board (WorksIf to_rest) count
+        ensures stops { IfErr result (λ f. IsStopped E.BusEnd B.Board (WorksIf to_rest) further
             (moment self.old links.old board.old) (moment self.new links.new board.new) f) }
     {
         let mut run = 0;
-        while run < count {
-            let bits = self.run_until_told(links, board, count - run, to_rest)?;
+        while run < further {
+            let bits = self.run_until_told(links, board, further - run, to_rest)?;
             if bits == 0 {
                 return Ok(run);
             }
@@ -169,9 +166,7 @@ pub(crate) fn untaken_bits<E: BusEnd, B: Board>(
     ensures sames { EachRelated E.same links.old links.new }
     ensures others { KeepsOthers B.ports B.kept (length seats.old) board.old board.new }
     ensures most { MatchResult result (λ n. n ≤ most) (λ f. f.after < most) }
-    ensures none { IfOk result (λ n. n ≡ 0 → (most ≡ 0) ⊎ SomeFull 0 seats.old
-        ⊎ ((node : ℕ) × (node < 8) × Strikes struck.now.script from node)
-        ⊎ ((to_rest ≡ true) × AllAtRest seats.old)) }
+    ensures none { IfOk result (λ n. n ≡ 0 → RowsRunNone to_rest struck.now.script from most seats.old) }
     ensures runs { IfOk result (λ n. RowsRun E.BusEnd B.Board to_rest struck.now.script from most
         seats.old seats.new links.old links.new board.old board.new n) }
     ensures breaks { IfErr result (λ f. RowsStop E.BusEnd B.Board to_rest struck.now.script from most

@@ -1,6 +1,6 @@
 //! Whom a script strikes in each bit of a run.
 
-ghost use Rattle.std.specs.Prelude.{◌≡◌, ◌+◌, ◌*◌, ◌<◌, ◌↔◌, ◌++◌, ℕ, [], ◌∷◌, IfOk};
+ghost use Rattle.std.specs.Prelude.{◌+◌, ◌*◌, ◌<◌, ◌↔◌, ℕ, []};
 ghost use Rattle.sja_script.specs.Striking.{Hits};
 ghost use Rattle.sja_bus.specs.StrikesByBit.{IsMarked, AreStruck};
 
@@ -13,22 +13,24 @@ use std::marker::Model;
 /// Of each bit of a run the nodes that its script strikes, one byte a bit, so that no bit of the bus goes over all
 /// strikes.
 ///
-/// Contracts see it as the script and the number of bits.
+/// Contracts see it as the script, with the strikes that came later at its end, and the number of bits.
 #[derive(Debug, Drop)]
 pub(crate) struct StruckBits {
     script: FaultScript,
+    /// The strikes that came later, one by one.
+    later: Vec<Strike>,
     bits: Vec<StruckNodes>,
 }
 
 impl Model for StruckBits {
-    ghost use Rattle.std.specs.Prelude.{◌≡◌, ◌<◌, ◌^◌, length};
+    ghost use Rattle.std.specs.Prelude.{◌≡◌, ◌<◌, ◌++◌, ◌^◌, length};
     ghost use Rattle.sja_bus.specs.StrikesByBit.{Scripted, AreStruck};
 
     ghost Value = { Scripted };
 
-    ghost view = { λ s. record { script = s.script; bits = length s.bits.items } };
+    ghost view = { λ s. record { script = s.script ++ s.later.items; bits = length s.bits.items } };
 
-    ghost invariant = { λ s. AreStruck s.script s.bits.items × (length s.bits.items < 2 ^ 32) };
+    ghost invariant = { λ s. AreStruck (s.script ++ s.later.items) s.bits.items × (length s.bits.items < 2 ^ 32) };
 }
 
 impl StruckBits {
@@ -51,6 +53,7 @@ impl StruckBits {
         mark_all(struck.as_mut_slice(), script.as_slice());
         Ok(StruckBits {
             script,
+            later: Vec::new(alloc),
             bits: struck,
         })
     }
@@ -58,13 +61,12 @@ impl StruckBits {
     /// One strike more.
     ///
     /// Error: [`OutOfMemory`] where memory was refused; nothing changed.
-    pub(crate) fn strike(&mut self, alloc: Global, strike: Strike) -> Result<(), OutOfMemory>
+    pub(crate) fn strike(&mut self, strike: Strike) -> Result<(), OutOfMemory>
         ensures struck { OnOk result (self.new ≡ record self.old { script = self.old.script ++ strike ∷ [] }) }
         ensures kept { OnErr result (self.new ≡ self.old) }
     {
-        let script = with_one_more(alloc, self.script.as_slice(), strike)?;
+        self.later.push(strike)?;
         mark(self.bits.as_mut_slice(), &strike);
-        self.script = FaultScript::of(script);
         Ok(())
     }
 
@@ -107,24 +109,6 @@ impl StruckBits {
         }
         end - from
     }
-}
-
-/// These strikes, and one more behind them.
-///
-/// Error: [`OutOfMemory`] where memory was refused.
-fn with_one_more(
-    alloc: Global,
-    strikes: &[Strike],
-    strike: Strike,
-) -> Result<Vec<Strike>, OutOfMemory>
-    ensures { IfOk result (λ list. list.items ≡ strikes.now ++ strike ∷ []) }
-{
-    let mut list = Vec::with_capacity(alloc, strikes.len() + 1)?;
-    for earlier in strikes {
-        list.push_reserved(*earlier);
-    }
-    list.push_reserved(strike);
-    Ok(list)
 }
 
 /// Marks in each bit the nodes that these strikes hit.

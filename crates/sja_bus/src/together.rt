@@ -1,13 +1,13 @@
 //! Bits that are run at once: in which one node sends a frame and all others have read just what it has, and receive it
 //! or send the same, so that one reader does for all; and in which every node is at rest.
 
-ghost use Rattle.std.specs.Prelude.{◌≡◌, ◌<◌, ◌≤◌, ℕ, Bool, true, length, slice_index_or, IfSome};
+ghost use Rattle.std.specs.Prelude.{◌≡◌, ◌<◌, ◌≤◌, Bool, true, length, slice_index_or, IfSome};
 ghost use Rattle.sja_bus.specs.declared.seat.Seat.{Seat as Seated};
-ghost use Rattle.sja_bus.specs.declared.struck_nodes.StruckNodes.{StruckNodes as Struck};
-ghost use Rattle.sja_bus.specs.StrikesByBit.{IsAmong};
+ghost use Rattle.sja_bus.specs.StrikesByBit.{AreUnstruck};
 ghost use Rattle.sja_bus.specs.Inside.Refusing.{AreFree};
-ghost use Rattle.sja_bus.specs.Inside.Rows.{AreReady, AreTold, EachSeat};
-ghost use Rattle.sja_bus.specs.Inside.Together.{AreQuietRows, IsLed, OthersGo, SeatGoesOn};
+ghost use Rattle.sja_bus.specs.Inside.Rows.{EachSeat};
+ghost use Rattle.sja_bus.specs.Inside.Together.{AreQuietRows, IsLed, MayRunTogether, OthersGo, RunsTogether};
+ghost use Rattle.sja_bus.specs.Inside.Together.{SeatGoesOn};
 
 use super::idle_bits::{all_rest, are_at_rest};
 use super::lead::Lead;
@@ -32,12 +32,8 @@ pub(crate) fn run_together(
     run: u32,
     to_rest: bool,
 ) -> u32
-    requires ready { AreReady seats.old }
-    requires told { AreTold seats.old }
-    requires free { AreFree (length struck.now) seats.old }
-    ensures few { result ≤ length struck.now }
-    ensures none { (i node : ℕ) (d : Struck) → i < result → IsAmong node (slice_index_or struck.now i d) → ⊥ }
-    ensures rows { AreQuietRows to_rest seats.old result seats.new }
+    requires { MayRunTogether (length struck.now) seats.old }
+    ensures { RunsTogether to_rest struck.now seats.old result seats.new }
 {
     if run % EACH == 1 {
         run_at_once(seats, struck, to_rest)
@@ -49,12 +45,8 @@ pub(crate) fn run_together(
 /// The same at whatever bit.
 #[inline(never)]
 fn run_at_once(seats: &mut [Seat], struck: &[StruckNodes], to_rest: bool) -> u32
-    requires ready { AreReady seats.old }
-    requires told { AreTold seats.old }
-    requires free { AreFree (length struck.now) seats.old }
-    ensures few { result ≤ length struck.now }
-    ensures none { (i node : ℕ) (d : Struck) → i < result → IsAmong node (slice_index_or struck.now i d) → ⊥ }
-    ensures rows { AreQuietRows to_rest seats.old result seats.new }
+    requires { MayRunTogether (length struck.now) seats.old }
+    ensures { RunsTogether to_rest struck.now seats.old result seats.new }
 {
     match leader(seats) {
         Some(lead) => {
@@ -69,12 +61,8 @@ fn run_at_once(seats: &mut [Seat], struck: &[StruckNodes], to_rest: bool) -> u32
 /// Runs bits of all nodes as long as none is struck, where each is at rest and it isn't asked that some node works.
 /// Answers how many.
 fn run_idle(seats: &mut [Seat], struck: &[StruckNodes], to_rest: bool) -> u32
-    requires ready { AreReady seats.old }
-    requires told { AreTold seats.old }
-    requires free { AreFree (length struck.now) seats.old }
-    ensures few { result ≤ length struck.now }
-    ensures none { (i node : ℕ) (d : Struck) → i < result → IsAmong node (slice_index_or struck.now i d) → ⊥ }
-    ensures rows { AreQuietRows to_rest seats.old result seats.new }
+    requires { MayRunTogether (length struck.now) seats.old }
+    ensures { RunsTogether to_rest struck.now seats.old result seats.new }
 {
     if to_rest {
         return 0;
@@ -91,7 +79,7 @@ fn run_idle(seats: &mut [Seat], struck: &[StruckNodes], to_rest: bool) -> u32
 fn unstruck(struck: &[StruckNodes]) -> usize
     ensures most { result ≤ 160 }
     ensures few { result ≤ length struck.now }
-    ensures none { (i node : ℕ) (d : Struck) → i < result → IsAmong node (slice_index_or struck.now i d) → ⊥ }
+    ensures none { AreUnstruck result struck.now }
 {
     let most = struck.len().min(MOST);
     if are_unstruck(&struck[..most]) {
@@ -109,8 +97,7 @@ fn unstruck(struck: &[StruckNodes]) -> usize
 /// one instruction.
 #[inline(always)]
 fn are_unstruck(struck: &[StruckNodes]) -> bool
-    ensures { result ≡ true → (i node : ℕ) (d : Struck) → i < length struck.now
-        → IsAmong node (slice_index_or struck.now i d) → ⊥ }
+    ensures { result ≡ true → AreUnstruck (length struck.now) struck.now }
 {
     let mut none = true;
     for k in 0..struck.len() {
@@ -159,10 +146,8 @@ fn others_go(seats: &[Seat], lead: usize) -> u8
 fn run_led(seats: &mut [Seat], lead: Lead, levels: &mut [Level]) -> usize
     requires led { IsLed seats.old lead.node lead.most }
     requires few { length levels.old ≤ lead.most }
-    requires ready { AreReady seats.old }
-    requires told { AreTold seats.old }
     requires most { length levels.old ≤ 160 }
-    requires free { AreFree (length levels.old) seats.old }
+    requires may { MayRunTogether (length levels.old) seats.old }
     ensures few { result ≤ length levels.old }
     ensures rows { (to_rest : Bool) → AreQuietRows to_rest seats.old result seats.new }
 {

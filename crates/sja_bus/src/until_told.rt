@@ -15,7 +15,7 @@ impl Bus {
     ghost use Rattle.sja_bus.specs.Buses.{IsStill};
     ghost use Rattle.sja_bus.specs.Moment.{moment, Keeps};
     ghost use Rattle.sja_bus.specs.UntilTold.{RunsUntilTold, StopsUntilTold, RunsNone, WorksUntold};
-    ghost use Rattle.sja_bus.specs.Inside.RunningOn.{AreFor, AnyBit, IsSoFar, IsStopped};
+    ghost use Rattle.sja_bus.specs.Inside.RunningOn.{AnyBit, IsSoFar, IsStopped, MayRunBits};
 
     /// Bits one after another up to the first in which a port is told its turn: at most so many, and as many as are
     /// left, as far as nothing is untold, no port wants an abort and no strike falls, with `to_rest` as long as some
@@ -62,28 +62,26 @@ impl Bus {
         &mut self,
         links: &mut [E],
         board: &mut B,
-        count: u32,
+        most: u32,
         to_rest: bool,
     ) -> Result<u32, BusFault>
-        requires fit { AreFor E.link links.old (length self.old.journals) (B.ports board.old) }
-        requires right { self.old.fault ≡ None }
-        requires most { count ≤ self.old.left }
-        ensures most { IfOk result (λ n. n ≤ count) }
+        requires { MayRunBits E.link self.old links.old (B.ports board.old) most }
+        ensures most { IfOk result (λ n. n ≤ most) }
         ensures runs { IfOk result (λ n. IsSoFar E.BusEnd B.Board (AnyBit E.BusEnd B.Board)
             (WorksUntold to_rest (moment self.old links.old board.old))
             (moment self.old links.old board.old) n (moment self.new links.new board.new)) }
         ensures unstruck { IfOk result (λ n. (i node : ℕ) → i < n → node < 8 →
             Strikes self.old.script (self.old.run + i) node → ⊥) }
-        ensures none { result ≡ Ok 0 → RunsNone (B.orders_are board.old) to_rest count self.old }
+        ensures none { result ≡ Ok 0 → RunsNone (B.orders_are board.old) to_rest most self.old }
         ensures stops { IfErr result (λ f. IsStopped E.BusEnd B.Board
-            (WorksUntold to_rest (moment self.old links.old board.old)) count
+            (WorksUntold to_rest (moment self.old links.old board.old)) most
             (moment self.old links.old board.old) (moment self.new links.new board.new) f) }
     {
         if !may_run_untaken(self.seats.as_slice(), board) {
             return Ok(0);
         }
         let seats = self.seats.as_mut_slice();
-        match untaken_bits(seats, links, board, &self.struck, self.run, count, to_rest) {
+        match untaken_bits(seats, links, board, &self.struck, self.run, most, to_rest) {
             Ok(bits) => {
                 self.run += bits;
                 self.left -= bits;

@@ -7,7 +7,6 @@ use Rattle.sja_link.specs.declared.entry.Entry.{Entry}
 use Rattle.sja_link.specs.declared.entry.Entry.TheVariants.{Bit}
 use Rattle.sja_regs.specs.declared.orders.Orders.{Orders}
 use Rattle.sja_script.specs.declared.strike.Strike.{Strike}
-use Rattle.sja_script.specs.Striking.{Strikes}
 use Rattle.sja_wire.specs.declared.bus_fault.BusFault.{BusFault}
 use Rattle.sja_wire.specs.Wire.{wired, journal_at}
 use Rattle.sja_bus.specs.declared.seat.Seat.{Seat}
@@ -18,7 +17,7 @@ use Rattle.sja_bus.specs.UntilTold.HasBitsMore.{none, one_more}
 use Rattle.sja_bus.specs.UntilTold.RunsNone.{rests, none_asked, spent, struck, untold, aborts, full}
 use Rattle.sja_bus.specs.Inside.Refusing.{HaveRoom}
 use Rattle.sja_bus.specs.Inside.Rows.{AreReady, EachSeat, SeatHasBits, driven_by, journals_of}
-use Rattle.sja_bus.specs.Inside.RunningOn.{AllAtRest, SomeAborts, SomeFull, SomeUntold, moment_of}
+use Rattle.sja_bus.specs.Inside.RunningOn.{RowsRunNone, SomeAborts, SomeUntold, moment_of}
 use Rattle.sja_bus.specs.Inside.Together.{IsQuietRow}
 use Rattle.sja_bus.proofs.AllNodes.RanOn.{bus_with}
 use Rattle.sja_bus.proofs.AllNodes.Running.{count_is, journal_is, untold_is}
@@ -89,8 +88,7 @@ module _ (orders_are : ℕ → Orders → Type 0) (to_rest : Bool) (count : ℕ)
 
   -- by how many were asked for, by a journal, by the script, or as all nodes are at rest
   pub held_by_rows : AreReady seats → HaveRoom (room_for (run + left) steps) seats →
-      (count ≡ 0) ⊎ SomeFull 0 seats ⊎ ((node : ℕ) × (node < 8) × Strikes script run node)
-      ⊎ ((to_rest ≡ true) × AllAtRest seats) → Why
+      RowsRunNone to_rest script run count seats → Why
   held_by_rows ready rooms (inl zero) = none_asked zero
   held_by_rows ready rooms (inr (inl some)) =
       let s = seat_at seats some.0 some.1 in let room = rooms some.0 s some.1 in let free = some.2 s in

@@ -8,7 +8,7 @@ use Rattle.can_node.specs.declared.node.Node.{Node}
 use Rattle.can_node.specs.Stands.{InReset}
 use Rattle.sja_link.specs.declared.up.Up.TheVariants.{Start, Send, Stop}
 use Rattle.sja_link.specs.declared.entry.Entry.{Entry}
-use Rattle.sja_link.specs.declared.entry.Entry.TheVariants.{Up as Item, Off}
+use Rattle.sja_link.specs.declared.entry.Entry.TheVariants.{Up as Item, Abort, Off}
 use Rattle.sja_link.specs.Places.{JournalPlace, past, place_of}
 use Rattle.sja_link.specs.Records.{told, record_of}
 use Rattle.sja_link.specs.Parts.{part, entry_at}
@@ -205,6 +205,15 @@ reads_swap old new j ended filter free h = record {
   orderly = h.orderly;
   active = h.active;
 }
+
+-- an abort that changed the node, while one runs
+pub reads_abort : (old new : Node) (j : List Entry) (ended : ℕ) (activity : Activity) (filter : Filter) (free : ℕ) →
+    activity ≡ Running filter → Reads old j ended activity free → Reads new (j ++ Abort ∷ []) ended activity free
+reads_abort old new j ended activity filter free runs h =
+    let P : Activity → Type 0 = λ a. Reads old j ended a free in
+    let Q : Activity → Type 0 = λ a. Reads new (j ++ Abort ∷ []) ended a free in
+    subst Q (sym runs) (reads_quiet new new j Abort ended (Running filter) free (λ p. refl, refl, refl, refl) (λ r. r)
+    (reads_swap old new j ended filter free (subst P runs h)))
 
 -- the activation that runs is the one that is read
 pub runs_at : (activity : Activity) (node : Node) (j : List Entry) (ended free : ℕ) → open_in activity ≡ 1 →

@@ -1,5 +1,5 @@
 -- Bits in which the bus takes nothing and aborts nothing.
-use Rattle.std.specs.Prelude.{◌≡◌, ◌+◌, ◌-◌, ◌*◌, ◌<◌, ◌≤◌, ℕ, true, false, Bool, None, Some, List, length}
+use Rattle.std.specs.Prelude.{◌≡◌, ◌⊎◌, ◌+◌, ◌-◌, ◌*◌, ◌<◌, ◌≤◌, ℕ, true, false, Bool, None, Some, List, length}
 use Rattle.std.specs.Prelude.{slice_index_or}
 use Rattle.sja_link.specs.declared.bus_end.BusEnd.{Ghosts as Ends}
 use Rattle.sja_link.specs.declared.link_id.LinkId.{LinkId}
@@ -88,6 +88,12 @@ pub record RowsRun {E B : Type 0} (e : Ends E) (b : Ports B) (to_rest : Bool) (s
       (moment_of script steps from left was links board) n
       (moment_of script steps (from + n) (left - n) now after told)
 
+-- why none of so many bits is run from this one on: none was asked for; or a journal is full; or the script strikes one
+-- of eight nodes in this bit; or each node is at rest, and it was asked that some work
+abbrev pub RowsRunNone : Bool → List Strike → ℕ → ℕ → List Seat → Type 0
+RowsRunNone to_rest script from most seats = (most ≡ 0) ⊎ SomeFull 0 seats
+    ⊎ ((node : ℕ) × (node < 8) × Strikes script from node) ⊎ ((to_rest ≡ true) × AllAtRest seats)
+
 -- fewer than so many, and then one that broke off: so for every bus that counts just the bits before it
 abbrev pub RowsStop : {E B : Type 0} → Ends E → Ports B → Bool → List Strike → ℕ → ℕ → List Seat → List Seat → List E →
     List E → B → B → BrokenOff → Type 0
@@ -105,6 +111,12 @@ pub record AreFor {E : Type 0} (link : E → LinkId) (links : List E) (nodes boa
   pub count : length links ≡ 64 * nodes
   pub ids : Numbered link links
   pub ports : nodes ≤ boards
+
+-- a bus without a fault, of which so many bits are left, with links and ports for its nodes
+pub record MayRunBits {E : Type 0} (link : E → LinkId) (bus : BusValue) (links : List E) (boards n : ℕ) : Type 0 where
+  pub fit : AreFor link links (length bus.journals) boards
+  pub right : bus.fault ≡ None
+  pub most : n ≤ bus.left
 
 -- so many such bits, before each of which this held, and which went well
 pub record IsSoFar {E B : Type 0} (e : Ends E) (b : Ports B) (One : ℕ → Moment E B → Moment E B → Type 0)

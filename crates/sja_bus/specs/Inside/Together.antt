@@ -1,6 +1,6 @@
 -- Bits of a bus in which nothing happens that a port is told, and those in which one node sends and the others go on
 -- with it.
-use Rattle.std.specs.Prelude.{◌≡◌, ◌≢◌, ◌<◌, ℕ, suc, Bool, true, false, List, ◌++◌, length, map}
+use Rattle.std.specs.Prelude.{◌≡◌, ◌≢◌, ◌<◌, ◌≤◌, ℕ, suc, Bool, true, false, List, ◌++◌, length, map}
 use Rattle.std.specs.Prelude.{slice_index_or}
 use Rattle.can_bits.specs.declared.level.Level.{Level}
 use Rattle.can_bits.specs.declared.level.Level.TheVariants.{Recessive}
@@ -12,7 +12,10 @@ use Rattle.sja_link.specs.declared.entry.Entry.{Entry}
 use Rattle.sja_link.specs.declared.entry.Entry.TheVariants.{Bit}
 use Rattle.sja_wire.specs.Wire.{wired}
 use Rattle.sja_bus.specs.declared.seat.Seat.{Seat}
-use Rattle.sja_bus.specs.Inside.Rows.{AreReady, EachSeat, driven_by}
+use Rattle.sja_bus.specs.declared.struck_nodes.StruckNodes.{StruckNodes}
+use Rattle.sja_bus.specs.StrikesByBit.{AreUnstruck}
+use Rattle.sja_bus.specs.Inside.Refusing.{AreFree}
+use Rattle.sja_bus.specs.Inside.Rows.{AreReady, AreTold, EachSeat, driven_by}
 use Rattle.sja_bus.specs.Inside.Turning.{IsQuietBit}
 
 -- ---- quiet bits of all seats
@@ -32,6 +35,20 @@ pub data AreQuietRows (to_rest : Bool) (seats : List Seat) : ℕ → List Seat �
   no_row : AreQuietRows to_rest seats 0 seats
   one_more : (mid after : List Seat) (n : ℕ) → AreQuietRows to_rest seats n mid → IsQuietRow to_rest mid after →
       AreQuietRows to_rest seats (suc n) after
+
+-- before so many bits are run together: the seats are ready, no port is to be told anything, and each journal has room
+-- for so many
+pub record MayRunTogether (n : ℕ) (seats : List Seat) : Type 0 where
+  pub ready : AreReady seats
+  pub told : AreTold seats
+  pub free : AreFree n seats
+
+-- the first so many of these bits were run together: in none of them a node is struck, and nothing happens in them
+pub record RunsTogether (to_rest : Bool) (struck : List StruckNodes) (seats : List Seat) (n : ℕ) (after : List Seat) :
+    Type 0 where
+  pub few : n ≤ length struck
+  pub none : AreUnstruck n struck
+  pub rows : AreQuietRows to_rest seats n after
 
 -- ---- one sends, the others go on with it
 

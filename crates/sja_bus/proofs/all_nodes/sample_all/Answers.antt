@@ -1,4 +1,4 @@
-use Rattle.std.proofs.Common.{◌≡◌, ◌*◌, ◌<◌, ◌≤◌, ◌∷◌, [], length, rules, arith, refl, sym, ap, ◌∙◌, subst}
+use Rattle.std.proofs.Common.{◌≡◌, ◌*◌, ◌<◌, ◌≤◌, ◌∷◌, [], false, length, rules, arith, refl, sym, ap, ◌∙◌, subst}
 use Rattle.std.specs.Prelude.{Err, slice_index_or, slice_set}
 use Rattle.std.proofs.Math.ListN.{length-set}
 use Rattle.std.proofs.lemmas.List.{take_all, set-get_or, get_or-set_same as set_here}
@@ -11,6 +11,7 @@ use Rattle.sja_wire.specs.Links.{Goes}
 use Rattle.sja_bus.specs.UntilTold.HasBitsMore.{none}
 use Rattle.sja_bus.specs.Inside.Rows.{SeatHasBits, SeatTurns, seen_by, driven_by}
 use Rattle.sja_bus.specs.Inside.Refusing.{SeatBreaks}
+use Rattle.sja_bus.specs.Inside.Underway.{IsUnderway}
 use Rattle.sja_bus.proofs.AllNodes.Levels.{level_now}
 use Rattle.sja_bus.proofs.AllNodes.Many.{done_all, done_none, done_one}
 use Rattle.sja_bus.proofs.Links.Moving.{goes_quiet}
@@ -20,6 +21,7 @@ use Rattle.sja_bus.proofs.AtPorts.Turning.{quiet_turns}
 use Rattle.sja_bus.proofs.AllNodes.Underway.{underway_none, underway_one, underway_at}
 use Rattle.sja_bus.proofs.AllNodes.UntilTold.{bit_more}
 use Rattle.lemmas.proofs.Results.{err_is}
+use Rattle.sja_bus.proofs.all_nodes.sample_all.Goals.{After-sample_quietly}
 use Rattle.sja_bus.proofs.all_nodes.sample_all.Goals as goal
 
 pub loop-k-init : goal.loop-k-init
@@ -88,15 +90,24 @@ sample_quietly-requires-clause-free g c =
     let P : Seat → Type 0 = λ x. length x.journal.entries < x.journal.room in
     subst P (sym ((c.loop-k.invariant.row.done k s was).1 (omega arith))) (omega (arith, room))
 
-pub sample_from-requires : goal.sample_from-requires
-sample_from-requires g c =
+-- those before this place had a bit in which nothing happened, and something happens to this one, which is as it was
+row_so_far : (g : _) (c : After-sample_quietly g) → c.sample_quietly.result ≡ false → IsUnderway g.E.BusEnd.same
+    g.E.BusEnd.stands g.B.Board.ports g.B.Board.told g.B.Board.kept c.args.struck c.args.level c.args.seats.now
+    c.args.links.now c.args.board.now c.loop-k.k (slice_set c.loop-k.seats c.loop-k.k c.sample_quietly.new.self)
+    c.loop-k.links c.loop-k.board
+row_so_far g c happens =
     let E = g.E.BusEnd in let B = g.B.Board in let inv = c.loop-k.invariant in let k = c.loop-k.k in
     let same : slice_set c.loop-k.seats k c.sample_quietly.new.self ≡ c.loop-k.seats =
-    ap (λ x. slice_set c.loop-k.seats k x) (c.sample_quietly.ensures.same (search rules))
+    ap (λ x. slice_set c.loop-k.seats k x) (c.sample_quietly.ensures.same happens)
     ∙ set-get_or c.loop-k.seats k c.index-seats-k.result in
-    let row = underway_at E.same E.stands B.ports B.told B.kept c.args.struck c.args.level c.args.seats.now
+    underway_at E.same E.stands B.ports B.told B.kept c.args.struck c.args.level c.args.seats.now
     c.loop-k.seats (slice_set c.loop-k.seats k c.sample_quietly.new.self) c.args.links.now c.loop-k.links
-    c.args.board.now c.loop-k.board k same inv.links inv.board inv.row in
+    c.args.board.now c.loop-k.board k same inv.links inv.board inv.row
+
+pub sample_from-requires : goal.sample_from-requires
+sample_from-requires g c =
+    let B = g.B.Board in let inv = c.loop-k.invariant in
+    let row = row_so_far g (goal.at.sample_from-requires g c).After-sample_quietly (search rules) in
     let h = c.requires.seated in
     let seats = c.loop-k.auto.seats in let links = c.loop-k.auto.links in let few = h.few in let count = h.count in
     let ports = h.ports in let p = ap B.ports inv.board in record {
@@ -165,49 +176,26 @@ returns-then-not-sample_quietly-clause-board g c =
 
 pub returns-then-not-sample_quietly-clause-ready : goal.returns-then-not-sample_quietly-clause-ready
 returns-then-not-sample_quietly-clause-ready g c =
-    let E = g.E.BusEnd in let B = g.B.Board in let inv = c.loop-k.invariant in let k = c.loop-k.k in
-    let same : slice_set c.loop-k.seats k c.sample_quietly.new.self ≡ c.loop-k.seats =
-    ap (λ x. slice_set c.loop-k.seats k x) (c.sample_quietly.ensures.same (search rules))
-    ∙ set-get_or c.loop-k.seats k c.index-seats-k.result in
-    let row = underway_at E.same E.stands B.ports B.told B.kept c.args.struck c.args.level c.args.seats.now
-    c.loop-k.seats (slice_set c.loop-k.seats k c.sample_quietly.new.self) c.args.links.now c.loop-k.links
-    c.args.board.now c.loop-k.board k same inv.links inv.board inv.row in
-    let did = c.in_ok-sample_from.ensures.row c.args.seats.now c.args.links.now c.args.board.now row in
-    did.2.ready
+    let at = (goal.at.returns-then-not-sample_quietly-clause-ready g c).After-sample_quietly in
+    (c.in_ok-sample_from.ensures.row c.args.seats.now c.args.links.now c.args.board.now
+    (row_so_far g at (search rules))).2.ready
 
 pub returns-then-not-sample_quietly-clause-goes : goal.returns-then-not-sample_quietly-clause-goes
 returns-then-not-sample_quietly-clause-goes g c =
-    let E = g.E.BusEnd in let B = g.B.Board in let inv = c.loop-k.invariant in let k = c.loop-k.k in
-    let same : slice_set c.loop-k.seats k c.sample_quietly.new.self ≡ c.loop-k.seats =
-    ap (λ x. slice_set c.loop-k.seats k x) (c.sample_quietly.ensures.same (search rules))
-    ∙ set-get_or c.loop-k.seats k c.index-seats-k.result in
-    let row = underway_at E.same E.stands B.ports B.told B.kept c.args.struck c.args.level c.args.seats.now
-    c.loop-k.seats (slice_set c.loop-k.seats k c.sample_quietly.new.self) c.args.links.now c.loop-k.links
-    c.args.board.now c.loop-k.board k same inv.links inv.board inv.row in
-    let did = c.in_ok-sample_from.ensures.row c.args.seats.now c.args.links.now c.args.board.now row in
-    did.2.goes
+    let at = (goal.at.returns-then-not-sample_quietly-clause-goes g c).After-sample_quietly in
+    (c.in_ok-sample_from.ensures.row c.args.seats.now c.args.links.now c.args.board.now
+    (row_so_far g at (search rules))).2.goes
 
 pub returns-then-not-sample_quietly-clause-rooms : goal.returns-then-not-sample_quietly-clause-rooms
 returns-then-not-sample_quietly-clause-rooms g c =
-    let E = g.E.BusEnd in let B = g.B.Board in let inv = c.loop-k.invariant in let k = c.loop-k.k in
-    let same : slice_set c.loop-k.seats k c.sample_quietly.new.self ≡ c.loop-k.seats =
-    ap (λ x. slice_set c.loop-k.seats k x) (c.sample_quietly.ensures.same (search rules))
-    ∙ set-get_or c.loop-k.seats k c.index-seats-k.result in
-    let row = underway_at E.same E.stands B.ports B.told B.kept c.args.struck c.args.level c.args.seats.now
-    c.loop-k.seats (slice_set c.loop-k.seats k c.sample_quietly.new.self) c.args.links.now c.loop-k.links
-    c.args.board.now c.loop-k.board k same inv.links inv.board inv.row in
-    let did = c.in_ok-sample_from.ensures.row c.args.seats.now c.args.links.now c.args.board.now row in
-    did.2.rooms
+    let at = (goal.at.returns-then-not-sample_quietly-clause-rooms g c).After-sample_quietly in
+    (c.in_ok-sample_from.ensures.row c.args.seats.now c.args.links.now c.args.board.now
+    (row_so_far g at (search rules))).2.rooms
 
 pub returns-then-not-sample_quietly-clause-turns : goal.returns-then-not-sample_quietly-clause-turns
 returns-then-not-sample_quietly-clause-turns g c =
-    let E = g.E.BusEnd in let B = g.B.Board in let inv = c.loop-k.invariant in let k = c.loop-k.k in
-    let same : slice_set c.loop-k.seats k c.sample_quietly.new.self ≡ c.loop-k.seats =
-    ap (λ x. slice_set c.loop-k.seats k x) (c.sample_quietly.ensures.same (search rules))
-    ∙ set-get_or c.loop-k.seats k c.index-seats-k.result in
-    let row = underway_at E.same E.stands B.ports B.told B.kept c.args.struck c.args.level c.args.seats.now
-    c.loop-k.seats (slice_set c.loop-k.seats k c.sample_quietly.new.self) c.args.links.now c.loop-k.links
-    c.args.board.now c.loop-k.board k same inv.links inv.board inv.row in
+    let B = g.B.Board in let at = (goal.at.returns-then-not-sample_quietly-clause-turns g c).After-sample_quietly in
+    let row = row_so_far g at (search rules) in
     let did = c.in_ok-sample_from.ensures.row c.args.seats.now c.args.links.now c.args.board.now row in
     let u = did.2 in let all = did.1 in let count = u.count in
     done_all (SeatTurns (B.told c.args.board.now c.sample_from.new.board)
@@ -227,13 +215,8 @@ returns-in_err-sample_from-clause-board g c =
 
 pub returns-in_err-sample_from-clause-broken : goal.returns-in_err-sample_from-clause-broken
 returns-in_err-sample_from-clause-broken g c =
-    let E = g.E.BusEnd in let B = g.B.Board in let inv = c.loop-k.invariant in let k = c.loop-k.k in
-    let same : slice_set c.loop-k.seats k c.sample_quietly.new.self ≡ c.loop-k.seats =
-    ap (λ x. slice_set c.loop-k.seats k x) (c.sample_quietly.ensures.same (search rules))
-    ∙ set-get_or c.loop-k.seats k c.index-seats-k.result in
-    let row = underway_at E.same E.stands B.ports B.told B.kept c.args.struck c.args.level c.args.seats.now
-    c.loop-k.seats (slice_set c.loop-k.seats k c.sample_quietly.new.self) c.args.links.now c.loop-k.links
-    c.args.board.now c.loop-k.board k same inv.links inv.board inv.row in
+    let E = g.E.BusEnd in
+    let row = row_so_far g (goal.at.returns-in_err-sample_from-clause-broken g c).After-sample_quietly (search rules) in
     let f = c.in_err-sample_from.field-0.0 in
     let is : c.from_residual.result ≡ Err f = search rules in
     let P : _ → Type 0 = λ x. SeatBreaks E.stands E.full c.args.seats.now c.sample_from.new.seats c.args.links.now x in

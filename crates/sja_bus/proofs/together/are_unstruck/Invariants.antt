@@ -1,10 +1,8 @@
-use Rattle.std.proofs.Common.{◌≡◌, ℕ, ◌<◌, true}
-use Rattle.std.specs.Prelude.{slice_index_or}
-use Rattle.sja_bus.specs.declared.struck_nodes.StruckNodes.{StruckNodes}
-use Rattle.sja_bus.specs.StrikesByBit.{IsAmong}
+use Rattle.std.proofs.Common.{◌≡◌, true}
+use Rattle.sja_bus.specs.StrikesByBit.{AreUnstruck}
 use Rattle.sja_bus.proofs.together.are_unstruck.Given as goal
 
 -- none is struck in the bits so far
 abbrev pub invariant-loop-k : goal.invariant-loop-k
 invariant-loop-k l =
-    l.none ≡ true → (i node : ℕ) (d : StruckNodes) → i < l.k → IsAmong node (slice_index_or l.struck i d) → ⊥
+    l.none ≡ true → AreUnstruck l.k l.struck

@@ -2,15 +2,15 @@ use Rattle.std.proofs.Common.{◌≡◌, Bool, true, false, List, rules, sym, su
 use Rattle.sja_bus.specs.declared.seat.Seat.{Seat}
 use Rattle.sja_bus.specs.Inside.Idling.{all_after}
 use Rattle.sja_bus.specs.Inside.Together.{AreQuietRows}
-use Rattle.sja_bus.specs.Inside.Together.AreQuietRows.{no_row}
 use Rattle.sja_bus.proofs.OneReader.IdleRows.{idle_rows, resting_all}
+use Rattle.sja_bus.proofs.OneReader.Unstruck.{runs_none}
 use Rattle.sja_bus.proofs.together.run_idle.Goals as goal
 
-pub returns-then-to_rest-clause-rows : goal.returns-then-to_rest-clause-rows
-returns-then-to_rest-clause-rows c = no_row
+pub returns-then-to_rest : goal.returns-then-to_rest
+returns-then-to_rest c = runs_none c.args.to_rest c.args.struck.now c.args.seats.now
 
-pub returns-then-not-are_at_rest-clause-rows : goal.returns-then-not-are_at_rest-clause-rows
-returns-then-not-are_at_rest-clause-rows c = no_row
+pub returns-then-not-are_at_rest : goal.returns-then-not-are_at_rest
+returns-then-not-are_at_rest c = runs_none c.args.to_rest c.args.struck.now c.args.seats.now
 
 pub all_rest-requires : goal.all_rest-requires
 all_rest-requires c = record {
@@ -18,12 +18,16 @@ all_rest-requires c = record {
       let room = c.requires.free k s few in let less = c.unstruck-count.ensures.few in omega (arith, room, less);
 }
 
-pub returns-clause-rows : goal.returns-clause-rows
-returns-clause-rows c =
+pub returns : goal.returns
+returns c =
     let seats = c.args.seats.now in let n = c.unstruck-count.result in
     let is : c.are_at_rest.result ≡ true = search rules in
     let any : c.args.to_rest ≡ false = search rules in
     let P : List Seat → Type 0 = λ l. AreQuietRows c.args.to_rest seats n l in
     let Q : Bool → Type 0 = λ b. AreQuietRows b seats n (all_after n seats) in
-    subst P (sym c.all_rest.ensures) (subst Q (sym any) (idle_rows seats c.requires.ready
-    (resting_all seats c.requires.ready c.requires.told (c.are_at_rest.ensures.rest is)) n))
+    record {
+      few = c.unstruck-count.ensures.few;
+      none = c.unstruck-count.ensures.none;
+      rows = subst P (sym c.all_rest.ensures) (subst Q (sym any) (idle_rows seats c.requires.ready
+          (resting_all seats c.requires.ready c.requires.told (c.are_at_rest.ensures.rest is)) n));
+    }

@@ -24,8 +24,8 @@ returns-then-count-gt0-clause-rows c = λ to_rest.
     let G : Shift → Type 0 = λ r. EachSeat (SeatGoesOn lead r (take count levels)) (slice_set seats lead one) after in
     let P : ℕ → Type 0 = λ n. AreQuietRows to_rest seats n after in
     subst P (length-take-le count levels (omega (arith, few, size)))
-    (led_rows to_rest seats after lead c.args.lead.most s new (take count levels) c.requires.led c.requires.ready
-    c.requires.told c.send_inside-count.ensures.sends
+    (led_rows to_rest seats after lead c.args.lead.most s new (take count levels) c.requires.led c.requires.may.ready
+    c.requires.may.told c.send_inside-count.ensures.sends
     (λ other. c.send_inside-count.ensures.alike c.args.lead.most other c.if-count-gt0.true enough) all
     (subst G same c.all_go_on.ensures))
 

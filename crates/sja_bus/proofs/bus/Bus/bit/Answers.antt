@@ -1,11 +1,11 @@
 use Rattle.std.proofs.Common.{◌≡◌, ◌≢◌, ◌+◌, ◌-◌, false, replicate, None, List, ◌++◌, length, take, drop, sym, ap, ◌∙◌}
 use Rattle.std.proofs.Common.{subst, arith, rules, ℕ, refl, Some}
-use Rattle.std.proofs.lemmas.Grind.{common_steps}
 use Rattle.std.specs.Prelude.{◌⊎◌, Err, vec_capacity}
 use Rattle.lemmas.proofs.Related.{each_refl}
 use Rattle.sja_bus.specs.declared.seat.Seat.{Seat}
 use Rattle.sja_bus.specs.Buses.{BusValue, IsBit}
-use Rattle.sja_bus.specs.Inside.Rows.{journals_of, untold_of}
+use Rattle.sja_bus.specs.Moment.{moment, Keeps}
+use Rattle.sja_bus.specs.Inside.Rows.{AreTold, IsBus, journals_of, untold_of}
 use Rattle.sja_bus.specs.Inside.Whole.{IsWhole, IsRowBit}
 use Rattle.sja_bus.specs.Reasons.{room_for, StopsBit}
 use Rattle.sja_bus.specs.Reasons.StopsBit.{spent}
@@ -13,11 +13,11 @@ use Rattle.sja_bus.specs.Inside.Refusing.{HaveRoom, SeatRefuses, SeatFull, SeatS
 use Rattle.sja_bus.proofs.AllNodes.Journals.{wired_row, is_bit, all_told}
 use Rattle.sja_bus.proofs.WholeBus.Logs.{calm_by, none_untold}
 use Rattle.sja_bus.proofs.AllNodes.Running.{count_is, bus_run}
-use Rattle.sja_bus.proofs.Links.WrittenBack.{keeps_back, keeps_still}
+use Rattle.sja_bus.proofs.Links.WrittenBack.{are_back, keeps_back, keeps_still}
 use Rattle.sja_bus.proofs.ItemsTaken.TakenBefore.{takes_back}
 use Rattle.sja_bus.proofs.ItemsTaken.Breaking.{stops_bit}
 use Rattle.lemmas.proofs.Results.{err_is}
-use Rattle.sja_bus.proofs.bus.Bus.bit.Goals.{In-Ok}
+use Rattle.sja_bus.proofs.bus.Bus.bit.Goals.{After-bit_of_all, In-Ok}
 use Rattle.sja_bus.proofs.bus.Bus.bit.Goals as goal
 
 pub returns-in_err-goes_on-clause-keeps : goal.returns-in_err-goes_on-clause-keeps
@@ -29,133 +29,132 @@ returns-in_err-goes_on-clause-keeps g c = record {
   nodes = refl;
 }
 
--- the bus is whole after the bit
-whole : (g : _) (c : In-Ok g) → let b = c.self.inside in let now = c.bit_of_all.new.seats in
-    IsWhole b.struck b.steps.items (b.run + 1) (b.left - 1) b.fault (take b.seats.len (now ++ drop (length now)
-    b.seats.items))
-    (vec_capacity b.logs)
-whole g c =
-    let b = c.self.inside in
-    let now = c.bit_of_all.new.seats in let was = b.seats.items in let inv = c.self.invariant.0 in
-    let v : c.as_mut_slice.result.now ≡ was = c.as_mut_slice.ensures.value in
-    let len : length now ≡ length was = c.bit_of_all.auto.seats ∙ ap (λ (l : List Seat). length l) v in
-    let e : take b.seats.len (now ++ drop (length now) was) ≡ now = grind (arith, common_steps) in
+-- as many seats as before
+same_count : (g : _) (c : After-bit_of_all g) → length c.bit_of_all.new.seats ≡ length c.self.inside.seats.items
+same_count g c = c.bit_of_all.auto.seats ∙ ap (λ (l : List Seat). length l) c.as_mut_slice.ensures.value
+
+-- the seats that are written back are those
+written : (g : _) (c : After-bit_of_all g) → take c.self.inside.seats.len
+    (c.bit_of_all.new.seats ++ drop (length c.bit_of_all.new.seats) c.self.inside.seats.items) ≡ c.bit_of_all.new.seats
+written g c =
+    let seats = c.self.inside.seats in
+    are_back seats.items c.bit_of_all.new.seats seats.len (omega arith) (same_count g c)
+
+-- what a bit keeps, whether it comes to its end or not
+keeps : (g : _) (c : After-bit_of_all g) (new : BusValue) → new.script ≡ c.self.inside.struck.script →
+    new.steps ≡ c.self.inside.steps.items → new.journals ≡ journals_of (take c.self.inside.seats.len
+    (c.bit_of_all.new.seats ++ drop (length c.bit_of_all.new.seats) c.self.inside.seats.items)) →
+    Keeps g.E.BusEnd g.B.Board (moment c.args.self.now c.args.links.now c.args.board.now)
+    (moment new c.bit_of_all.new.links c.bit_of_all.new.board)
+keeps g c new script steps journals =
+    let seats = c.self.inside.seats in let seen = c.self.view_is in
+    keeps_still g.E.BusEnd g.B.Board seats.items c.as_mut_slice.result.now c.bit_of_all.new.seats seats.len
+    c.args.self.now new c.args.links.now c.bit_of_all.new.links c.args.board.now c.bit_of_all.new.board (omega arith)
+    c.as_mut_slice.ensures.value c.bit_of_all.auto.seats (ap (λ (w : BusValue). w.journals) seen)
+    (script ∙ ap (λ (w : BusValue). w.script) seen) (steps ∙ ap (λ (w : BusValue). w.steps) seen) journals
+    c.bit_of_all.ensures.sames c.bit_of_all.ensures.board
+
+-- the bus had no fault, and a bit left
+right : (g : _) (c : In-Ok g) → (c.self.inside.fault ≡ None) × (c.self.inside.left ≢ 0)
+right g c =
+    let F : BusValue → Type 0 = λ w. (w.fault ≡ None) × (w.left ≢ 0) in
+    subst F (sym c.self.view_is) c.in_ok-goes_on.ensures.ok
+
+-- the bit of all its seats
+row : (g : _) (c : In-Ok g) → IsRowBit (g.B.Board.orders_are c.args.board.now)
+    (g.B.Board.told c.args.board.now c.bit_of_all.new.board) (g.B.Board.kept c.args.board.now c.bit_of_all.new.board)
+    c.at-struck.result c.self.inside.seats.items c.bit_of_all.new.seats
+row g c =
     let T : List Seat → Type 0 = λ l. IsRowBit (g.B.Board.orders_are c.args.board.now)
     (g.B.Board.told c.args.board.now c.bit_of_all.new.board)
-    (g.B.Board.kept c.args.board.now c.bit_of_all.new.board) c.at-struck.result l now in
-    let row : IsRowBit (g.B.Board.orders_are c.args.board.now) (g.B.Board.told c.args.board.now c.bit_of_all.new.board)
-    (g.B.Board.kept c.args.board.now c.bit_of_all.new.board) c.at-struck.result was now =
-    subst T v c.in-Ok.ensures.bit in
-    let F : BusValue → Type 0 = λ w. (w.fault ≡ None) × (w.left ≢ 0) in
-    let some = (subst F (sym c.self.view_is) c.in_ok-goes_on.ensures.ok).1 in let bits = inv.bits in
-    let few = inv.few in let logs = inv.logs in
-    let H : List Seat → Type 0 = λ l. (n : ℕ → ℕ) → HaveRoom n l → HaveRoom n now in
-    let l : IsWhole b.struck b.steps.items (b.run + 1) (b.left - 1) b.fault now (vec_capacity b.logs) = record {
+    (g.B.Board.kept c.args.board.now c.bit_of_all.new.board) c.at-struck.result l c.bit_of_all.new.seats in
+    subst T c.as_mut_slice.ensures.value c.in-Ok.ensures.bit
+
+-- nothing is to be told of any after it
+told : (g : _) (c : In-Ok g) → length c.bit_of_all.new.seats ≡ length c.self.inside.seats.items →
+    AreTold c.bit_of_all.new.seats
+told g c len = all_told (g.B.Board.told c.args.board.now c.bit_of_all.new.board)
+    (g.B.Board.kept c.args.board.now c.bit_of_all.new.board) c.at-struck.result c.self.inside.seats.items
+    c.bit_of_all.new.seats len (row g c)
+
+-- the bus is whole after the bit
+whole : (g : _) (c : In-Ok g) → length c.bit_of_all.new.seats ≡ length c.self.inside.seats.items →
+    let b = c.self.inside in
+    IsWhole b.struck b.steps.items (b.run + 1) (b.left - 1) b.fault c.bit_of_all.new.seats (vec_capacity b.logs)
+whole g c len =
+    let b = c.self.inside in let inv = c.self.invariant.0 in
+    let some = (right g c).1 in let bits = inv.bits in let few = inv.few in let logs = inv.logs in
+    let H : List Seat → Type 0 = λ l. (n : ℕ → ℕ) → HaveRoom n l → HaveRoom n c.bit_of_all.new.seats in record {
       few = omega (arith, len, few);
       bits = omega (arith, bits, some);
       most = inv.most;
       bus = λ f. record {
         ready = c.in-Ok.ensures.ready;
-        calm = calm_by now (all_told (g.B.Board.told c.args.board.now c.bit_of_all.new.board)
-            (g.B.Board.kept c.args.board.now c.bit_of_all.new.board) c.at-struck.result was now len row);
+        calm = calm_by c.bit_of_all.new.seats (told g c len);
         wired = wired_row (g.B.Board.orders_are c.args.board.now)
             (g.B.Board.told c.args.board.now c.bit_of_all.new.board)
-            (g.B.Board.kept c.args.board.now c.bit_of_all.new.board) b.struck.script b.run c.at-struck.result was now
-            len few c.at-struck.ensures row (inv.bus f).wired;
+            (g.B.Board.kept c.args.board.now c.bit_of_all.new.board) b.struck.script b.run c.at-struck.result
+            b.seats.items c.bit_of_all.new.seats len few c.at-struck.ensures (row g c) (inv.bus f).wired;
       };
       logs = omega (arith, len, logs);
-      rooms = λ f. subst H v c.in-Ok.ensures.rooms (room_for b.struck.bits b.steps.items) (inv.rooms f);
-    } in
-    let P : List Seat → Type 0 = λ xs. IsWhole b.struck b.steps.items (b.run + 1) (b.left - 1) b.fault xs (vec_capacity
-    b.logs) in
-    subst P (sym e) l
+      rooms = λ f. subst H c.as_mut_slice.ensures.value c.in-Ok.ensures.rooms (room_for b.struck.bits b.steps.items)
+          (inv.rooms f);
+    }
 
 pub invariant_of-self : goal.invariant_of-self
-invariant_of-self g c = (whole g (goal.at.invariant_of-self g c).In-Ok, c.self.invariant.1)
+invariant_of-self g c =
+    let at = goal.at.invariant_of-self g c in let b = c.self.inside in
+    let P : List Seat → Type 0 = λ xs. IsWhole b.struck b.steps.items (b.run + 1) (b.left - 1) b.fault xs
+    (vec_capacity b.logs) in (
+      subst P (sym (written g at.After-bit_of_all)) (whole g at.In-Ok (same_count g at.After-bit_of_all)),
+      c.self.invariant.1,
+    )
 
 pub returns-in-Ok-clause-keeps : goal.returns-in-Ok-clause-keeps
 returns-in-Ok-clause-keeps g c =
-    let seats = c.self.inside.seats in
-    let all : seats.len ≡ length seats.items = omega arith in
-    keeps_still g.E.BusEnd g.B.Board seats.items c.as_mut_slice.result.now c.bit_of_all.new.seats seats.len
-    c.args.self.now _ c.args.links.now c.bit_of_all.new.links c.args.board.now c.bit_of_all.new.board all
-    c.as_mut_slice.ensures.value c.bit_of_all.auto.seats (ap (λ (w : BusValue). w.journals) c.self.view_is)
-    (ap (λ (w : BusValue). w.script) c.self.view_is)
-    (ap (λ (w : BusValue). w.steps) c.self.view_is) refl c.bit_of_all.ensures.sames c.bit_of_all.ensures.board
+    keeps g (goal.at.returns-in-Ok-clause-keeps g c).After-bit_of_all _ refl refl refl
 
 pub returns-in-Err-clause-keeps : goal.returns-in-Err-clause-keeps
 returns-in-Err-clause-keeps g c =
-    let seats = c.self.inside.seats in
-    let all : seats.len ≡ length seats.items = omega arith in
-    keeps_still g.E.BusEnd g.B.Board seats.items c.as_mut_slice.result.now c.bit_of_all.new.seats seats.len
-    c.args.self.now _ c.args.links.now c.bit_of_all.new.links c.args.board.now c.bit_of_all.new.board all
-    c.as_mut_slice.ensures.value c.bit_of_all.auto.seats (ap (λ (w : BusValue). w.journals) c.self.view_is)
-    (ap (λ (w : BusValue). w.script) c.self.view_is)
-    (ap (λ (w : BusValue). w.steps) c.self.view_is) refl c.bit_of_all.ensures.sames c.bit_of_all.ensures.board
+    keeps g (goal.at.returns-in-Err-clause-keeps g c).After-bit_of_all _ refl refl refl
 
 pub returns-in-Ok-clause-bit : goal.returns-in-Ok-clause-bit
-returns-in-Ok-clause-bit g c = record {
-  keeps = returns-in-Ok-clause-keeps g c;
-  run = search rules;
-  left = search rules;
-  kept =
-      let E = g.E.BusEnd in let seats = c.self.inside.seats in
-      let all : seats.len ≡ length seats.items = omega arith in
-      keeps_back E.same E.stands seats.items c.as_mut_slice.result.now c.bit_of_all.new.seats seats.len
-      c.args.self.now.journals c.args.links.now
-      c.bit_of_all.new.links all c.as_mut_slice.ensures.value c.bit_of_all.auto.seats
-      (ap (λ (w : BusValue). w.journals) c.self.view_is) c.in-Ok.ensures.goes;
-  bit =
-      let b = c.self.inside in let inv = c.self.invariant.0 in let few = inv.few in
-      let now = c.bit_of_all.new.seats in let was = b.seats.items in
-      let v : c.as_mut_slice.result.now ≡ was = c.as_mut_slice.ensures.value in
-      let len : length now ≡ length was = c.bit_of_all.auto.seats ∙ ap (λ (l : List Seat). length l) v in
-      let e : take b.seats.len (now ++ drop (length now) was) ≡ now = grind (arith, common_steps) in
-      let T : List Seat → Type 0 = λ l. IsRowBit (g.B.Board.orders_are c.args.board.now)
-      (g.B.Board.told c.args.board.now c.bit_of_all.new.board)
-      (g.B.Board.kept c.args.board.now c.bit_of_all.new.board) c.at-struck.result l now in
-      let row : IsRowBit (g.B.Board.orders_are c.args.board.now)
-      (g.B.Board.told c.args.board.now c.bit_of_all.new.board)
-      (g.B.Board.kept c.args.board.now c.bit_of_all.new.board) c.at-struck.result was now =
-      subst T v c.in-Ok.ensures.bit in
-      let orders = g.B.Board.orders_are c.args.board.now in
-      let told = g.B.Board.told c.args.board.now c.bit_of_all.new.board in let kept =
-      g.B.Board.kept c.args.board.now c.bit_of_all.new.board in
-      let P : BusValue → Type 0 = λ w. IsBit orders told kept w.script w.run w.untold w.journals (journals_of now) in
-      let Q : List Seat → Type 0 = λ xs. IsBit orders told kept c.args.self.now.script c.args.self.now.run
-      c.args.self.now.untold c.args.self.now.journals (journals_of xs) in
-      let F : BusValue → Type 0 = λ w. (w.fault ≡ None) × (w.left ≢ 0) in
-      let right : b.fault ≡ None = (subst F (sym c.self.view_is) c.in_ok-goes_on.ensures.ok).0 in
-      subst Q (sym e) (subst P c.self.view_is (is_bit orders told kept b.struck.script b.run c.at-struck.result was now
-      len few c.at-struck.ensures (inv.bus right).calm row));
-  told =
-      let b = c.self.inside in
-      let now = c.bit_of_all.new.seats in let was = b.seats.items in
-      let v : c.as_mut_slice.result.now ≡ was = c.as_mut_slice.ensures.value in
-      let len : length now ≡ length was = c.bit_of_all.auto.seats ∙ ap (λ (l : List Seat). length l) v in
-      let e : take b.seats.len (now ++ drop (length now) was) ≡ now = grind (arith, common_steps) in
-      let told = g.B.Board.told c.args.board.now c.bit_of_all.new.board in let kept =
-      g.B.Board.kept c.args.board.now c.bit_of_all.new.board in
-      let T : List Seat → Type 0 = λ l. IsRowBit (g.B.Board.orders_are c.args.board.now) told kept
-      c.at-struck.result l now in
-      let row = subst T v c.in-Ok.ensures.bit in
-      let none : untold_of now ≡ replicate (length was) false =
-      none_untold now (all_told told kept c.at-struck.result was now len row) ∙ ap (λ n. replicate n false) len in
-      let P : BusValue → Type 0 = λ w. untold_of now ≡ replicate (length w.journals) false in
-      let Q : List Seat → Type 0 = λ xs. untold_of xs ≡ replicate (length c.args.self.now.journals) false in
-      subst Q (sym e) (subst P c.self.view_is (none ∙ ap (λ n. replicate n false) (sym (count_is was))));
-  right = search rules;
-  lawful =
-      let b = c.self.inside in
-      let F : BusValue → Type 0 = λ w. (w.fault ≡ None) × (w.left ≢ 0) in
-      let right : b.fault ≡ None = (subst F (sym c.self.view_is) c.in_ok-goes_on.ensures.ok).0 in
-      bus_run b.struck.script (b.run + 1) _ ((whole g (goal.at.returns-in-Ok-clause-bit g c).In-Ok).bus right);
-  facts = λ k few.
-      let seats = c.self.inside.seats.items in let nodes = count_is seats in
-      let same = ap (λ (l : List Seat). length l) c.as_mut_slice.ensures.value in
-      let journals = ap (λ (w : BusValue). length w.journals) c.self.view_is in
-      c.in-Ok.ensures.facts k (omega (arith, few, nodes, same, journals));
-}
+returns-in-Ok-clause-bit g c =
+    let at = goal.at.returns-in-Ok-clause-bit g c in let b = c.self.inside in let few = c.self.invariant.0.few in
+    let now = c.bit_of_all.new.seats in let was = b.seats.items in let len = same_count g at.After-bit_of_all in
+    let back = written g at.After-bit_of_all in let fine = (right g at.In-Ok).0 in record {
+      keeps = returns-in-Ok-clause-keeps g c;
+      run = search rules;
+      left = search rules;
+      kept = keeps_back g.E.BusEnd.same g.E.BusEnd.stands was c.as_mut_slice.result.now now b.seats.len
+          c.args.self.now.journals c.args.links.now c.bit_of_all.new.links (omega arith) c.as_mut_slice.ensures.value
+          c.bit_of_all.auto.seats (ap (λ (w : BusValue). w.journals) c.self.view_is) c.in-Ok.ensures.goes;
+      bit =
+          let orders = g.B.Board.orders_are c.args.board.now in
+          let told = g.B.Board.told c.args.board.now c.bit_of_all.new.board in
+          let kept = g.B.Board.kept c.args.board.now c.bit_of_all.new.board in
+          let self = c.args.self.now in
+          let P : BusValue → Type 0 = λ w. IsBit orders told kept w.script w.run w.untold w.journals
+          (journals_of now) in
+          let Q : List Seat → Type 0 = λ xs. IsBit orders told kept self.script self.run self.untold self.journals
+          (journals_of xs) in
+          subst Q (sym back) (subst P c.self.view_is (is_bit orders told kept b.struck.script b.run c.at-struck.result
+          was now len few c.at-struck.ensures (c.self.invariant.0.bus fine).calm (row g at.In-Ok)));
+      told =
+          let none : untold_of now ≡ replicate (length was) false =
+          none_untold now (told g at.In-Ok len) ∙ ap (λ n. replicate n false) len in
+          let P : BusValue → Type 0 = λ w. untold_of now ≡ replicate (length w.journals) false in
+          let Q : List Seat → Type 0 = λ xs. untold_of xs ≡ replicate (length c.args.self.now.journals) false in
+          subst Q (sym back) (subst P c.self.view_is (none ∙ ap (λ n. replicate n false) (sym (count_is was))));
+      right = search rules;
+      lawful =
+          let P : List Seat → Type 0 = λ xs. IsBus b.struck.script (b.run + 1) xs in
+          bus_run b.struck.script (b.run + 1) _ (subst P (sym back) ((whole g at.In-Ok len).bus fine));
+      facts = λ k low.
+          let nodes = count_is was in let same = ap (λ (l : List Seat). length l) c.as_mut_slice.ensures.value in
+          let journals = ap (λ (w : BusValue). length w.journals) c.self.view_is in
+          c.in-Ok.ensures.facts k (omega (arith, low, nodes, same, journals));
+    }
 
 pub returns-in_err-goes_on-clause-reason : goal.returns-in_err-goes_on-clause-reason
 returns-in_err-goes_on-clause-reason g c =
@@ -172,9 +171,7 @@ returns-in-Err-clause-reason g c = λ none.
     g.B.Board.orders_are c.args.board.now in
     let now = c.bit_of_all.new.seats in let was = b.seats.items in let f = c.in-Err.fault in
     let before = c.args.links.now in let after = c.bit_of_all.new.links in
-    let v : c.as_mut_slice.result.now ≡ was = c.as_mut_slice.ensures.value in
-    let len : length now ≡ length was = c.bit_of_all.auto.seats ∙ ap (λ (l : List Seat). length l) v in
-    let e : take b.seats.len (now ++ drop (length now) was) ≡ now = grind (arith, common_steps) in
+    let at = (goal.at.returns-in-Err-clause-reason g c).After-bit_of_all in let len = same_count g at in
     let right : b.fault ≡ None = ap (λ (w : BusValue). w.fault) c.self.view_is ∙ none in
     let rooms = inv.rooms right in
     let old = c.args.self.now in
@@ -194,8 +191,8 @@ returns-in-Err-clause-reason g c = λ none.
     ⊎ SeatFull E.stands O l now before after f) ⊎ SeatStops E.stands E.full O E.same l now before f in
     let reason = stops_bit E.same E.stands E.full O b.struck.script b.steps.items b.run b.left b.struck.bits b.fault was
     now before
-    after f (new now) refl inv.bits len rooms (subst S v c.in-Err.ensures.stops) in
-    subst Q (sym e) (subst P c.self.view_is reason)
+    after f (new now) refl inv.bits len rooms (subst S c.as_mut_slice.ensures.value c.in-Err.ensures.stops) in
+    subst Q (sym (written g at)) (subst P c.self.view_is reason)
 
 pub returns-in-Ok-clause-takes : goal.returns-in-Ok-clause-takes
 returns-in-Ok-clause-takes g c =

@@ -101,12 +101,18 @@ returns-in_err-bit-clause-reason g c =
       left_so_far = c.in_err-bit.ensures.unrun.1;
     })
 
-pub run_untaken_bits-requires-clause-fit : goal.run_untaken_bits-requires-clause-fit
-run_untaken_bits-requires-clause-fit g c = let fit = c.requires in
-    still_for g.E.BusEnd g.B.Board g.met.E.BusEnd.same_link
-    (moment c.args.self.now c.args.links.now c.args.board.now) (moment c.bit.new.self c.bit.new.links c.bit.new.board)
-    (kept g (goal.at.run_untaken_bits-requires-clause-fit g c).After-bit)
-    (record { count = fit.count; ids = fit.ids; ports = fit.ports })
+pub run_untaken_bits-requires : goal.run_untaken_bits-requires
+run_untaken_bits-requires g c =
+    let fit = c.requires in let one = c.in_ok-bit.ensures.bit in let so_far = c.loop-run.invariant.far.left in
+    let next = one.left in let most = c.in_ok-most.ensures.left in record {
+      fit = still_for g.E.BusEnd g.B.Board g.met.E.BusEnd.same_link
+          (moment c.args.self.now c.args.links.now c.args.board.now)
+          (moment c.bit.new.self c.bit.new.links c.bit.new.board)
+          (kept g (goal.at.run_untaken_bits-requires g c).After-bit)
+          (record { count = fit.count; ids = fit.ids; ports = fit.ports });
+      right = one.right;
+      most = omega (arith, so_far, next, most);
+    }
 
 pub returns-in_err-run-clause-keeps : goal.returns-in_err-run-clause-keeps
 returns-in_err-run-clause-keeps g c =

@@ -37,10 +37,16 @@ loop-run-init g c = record {
       (WorksIf c.args.to_rest) (moment c.args.self.now c.args.links.now c.args.board.now) c.requires.right;
 }
 
-pub run_until_told-requires-clause-fit : goal.run_until_told-requires-clause-fit
-run_until_told-requires-clause-fit g c =
-    still_for g.E.BusEnd g.B.Board g.met.E.BusEnd.same_link (moment c.args.self.now c.args.links.now c.args.board.now)
-    (moment c.loop-run.self c.loop-run.links c.loop-run.board) c.loop-run.invariant.far.keeps c.requires.fit
+pub run_until_told-requires : goal.run_until_told-requires
+run_until_told-requires g c =
+    let far = c.loop-run.invariant.far in let early = c.loop-run-test.true in let left = far.left in
+    let most = c.requires.most in record {
+      fit = still_for g.E.BusEnd g.B.Board g.met.E.BusEnd.same_link
+          (moment c.args.self.now c.args.links.now c.args.board.now)
+          (moment c.loop-run.self c.loop-run.links c.loop-run.board) far.keeps c.requires.fit;
+      right = far.right;
+      most = omega (arith, early, left, most);
+    }
 
 pub returns-then-bits-eq0-clause-runs : goal.returns-then-bits-eq0-clause-runs
 returns-then-bits-eq0-clause-runs g c =
@@ -65,15 +71,15 @@ returns-in_err-bits-clause-stops g c =
     let was = moment c.args.self.now c.args.links.now c.args.board.now in
     let mid = moment c.loop-run.self c.loop-run.links c.loop-run.board in
     let now = moment c.run_until_told.new.self c.run_until_told.new.links c.run_until_told.new.board in
-    let early = c.loop-run-test.true in
-    let stops = stopped_as E B (WorksUntold c.args.to_rest mid) (WorksIf c.args.to_rest) (c.args.count - c.loop-run.run)
-    mid now f (λ m both. both.0) c.in_err-bits.ensures.stops in
+    let early = c.loop-run-test.true in let rest = c.args.further - c.loop-run.run in
+    let stops = stopped_as E B (WorksUntold c.args.to_rest mid) (WorksIf c.args.to_rest) rest mid now f
+    (λ m both. both.0) c.in_err-bits.ensures.stops in
     let is : c.from_residual.result ≡ Err f = search rules in
-    let P : BusFault → Type 0 = λ x. IsStopped E B (WorksIf c.args.to_rest) c.args.count was now x in
+    let P : BusFault → Type 0 = λ x. IsStopped E B (WorksIf c.args.to_rest) c.args.further was now x in
     err_is P c.from_residual.result f is (record {
       keeps = keeps_trans E B g.met.E.BusEnd.same_trans g.met.B.Board.kept_trans was mid now far.keeps stops.keeps;
       fault = stops.fault;
       reason = breaks_later E.stands E.full B.orders_are (AnyBit E B) (AnyBit E B) (WorksIf c.args.to_rest) was mid now
-          c.loop-run.run (c.args.count - c.loop-run.run) c.args.count f (omega (arith, early)) (λ k x y one. one)
+          c.loop-run.run rest c.args.further f (omega (arith, early)) (λ k x y one. one)
           far.bits stops.reason;
     })

@@ -6,10 +6,10 @@ use Rattle.sja_bus.proofs.bus.Bus.run_untaken_bits.Given as goal
 
 abbrev pub invariant-loop-run : goal.invariant-loop-run
 invariant-loop-run g l = record {
-  few : l.run ≤ l.count;
+  few : l.run ≤ l.further;
   far : IsSoFar g.E.BusEnd g.B.Board (AnyBit g.E.BusEnd g.B.Board) (WorksIf l.to_rest)
       (moment l.initial.self l.initial.links l.initial.board) l.run (moment l.self l.links l.board);
 }
 
 abbrev pub decreases-loop-run : goal.decreases-loop-run
-decreases-loop-run g l = l.count - l.run
+decreases-loop-run g l = l.further - l.run

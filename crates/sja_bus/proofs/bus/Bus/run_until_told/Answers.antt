@@ -1,7 +1,7 @@
 use Rattle.std.proofs.Common.{◌≡◌, ◌+◌, ◌-◌, ◌≤◌, ℕ, true, List, ◌++◌, length, take, drop, refl, sym, ap, ◌∙◌, subst}
 use Rattle.std.proofs.Common.{arith, rules}
 use Rattle.std.proofs.lemmas.Grind.{common_steps}
-use Rattle.std.specs.Prelude.{◌<◌, ◌⊎◌, None, Result, Ok, Err, vec_capacity}
+use Rattle.std.specs.Prelude.{◌⊎◌, None, Result, Ok, Err, vec_capacity}
 use Rattle.sja_script.specs.Striking.{Strikes}
 use Rattle.sja_wire.specs.declared.bus_fault.BusFault.{BusFault}
 use Rattle.sja_bus.specs.declared.seat.Seat.{Seat}
@@ -11,7 +11,7 @@ use Rattle.sja_bus.specs.Reasons.{room_for}
 use Rattle.sja_bus.specs.Inside.Refusing.{HaveRoom}
 use Rattle.sja_bus.specs.Inside.Rows.{AreSeated, journals_of}
 use Rattle.sja_bus.specs.UntilTold.{RunsNone, WorksUntold}
-use Rattle.sja_bus.specs.Inside.RunningOn.{bus_of, AllAtRest, AnyBit, MayRunOn, SomeAborts, SomeFull, SomeUntold}
+use Rattle.sja_bus.specs.Inside.RunningOn.{bus_of, AnyBit, MayRunOn, RowsRunNone, SomeAborts, SomeUntold}
 use Rattle.sja_bus.specs.Inside.Whole.{IsWhole}
 use Rattle.sja_bus.proofs.AllNodes.RanOn.{bus_is, ran, stopped}
 use Rattle.sja_bus.proofs.AllNodes.Running.{count_is}
@@ -34,7 +34,7 @@ are_back : (g : _) (c : After-untaken_bits g) → take c.self.inside.seats.len
     ≡ c.untaken_bits.new.seats
 are_back g c = let len = same_count g c in grind (arith, common_steps)
 
-enough_left : (g : _) (c : After-untaken_bits g) → c.args.count ≤ c.self.inside.left
+enough_left : (g : _) (c : After-untaken_bits g) → c.args.most ≤ c.self.inside.left
 enough_left g c = let left = ap (λ w. w.left) c.self.view_is in let most = c.requires.most in omega (arith, left, most)
 
 -- the bus before, by the seats that run on
@@ -54,8 +54,8 @@ pub returns-then-not-may_run_untaken-clause-none : goal.returns-then-not-may_run
 returns-then-not-may_run_untaken-clause-none g c = λ zero.
     let b = c.self.inside in let asked = g.B.Board.orders_are c.args.board.now in
     let Q : List Seat → Type 0 = λ l. SomeAborts asked (length l) ⊎ SomeUntold l in
-    subst (RunsNone asked c.args.to_rest c.args.count) c.self.view_is
-    (held_by_port asked c.args.to_rest c.args.count b.struck.script b.steps.items b.run b.left b.fault b.seats.items
+    subst (RunsNone asked c.args.to_rest c.args.most) c.self.view_is
+    (held_by_port asked c.args.to_rest c.args.most b.struck.script b.steps.items b.run b.left b.fault b.seats.items
     (subst Q c.as_slice.ensures.value (c.may_run_untaken.ensures.no (search rules))))
 
 pub returns-in-Ok-clause-none : goal.returns-in-Ok-clause-none
@@ -64,10 +64,9 @@ returns-in-Ok-clause-none g c = λ zero.
     let b = c.self.inside in let asked = g.B.Board.orders_are c.args.board.now in let whole = c.self.invariant.0 in
     let none : c.in-Ok.bits ≡ 0 = ap (λ (r : Result ℕ BusFault). count_in r) zero in
     let N : ℕ → Type 0 = λ m. HaveRoom (room_for m b.steps.items) b.seats.items in
-    let Q : List Seat → Type 0 = λ l. (c.args.count ≡ 0) ⊎ SomeFull 0 l
-    ⊎ ((node : ℕ) × (node < 8) × Strikes b.struck.script b.run node) ⊎ ((c.args.to_rest ≡ true) × AllAtRest l) in
-    subst (RunsNone asked c.args.to_rest c.args.count) c.self.view_is
-    (held_by_rows asked c.args.to_rest c.args.count b.struck.script b.steps.items b.run b.left b.fault b.seats.items
+    let Q : List Seat → Type 0 = RowsRunNone c.args.to_rest b.struck.script b.run c.args.most in
+    subst (RunsNone asked c.args.to_rest c.args.most) c.self.view_is
+    (held_by_rows asked c.args.to_rest c.args.most b.struck.script b.steps.items b.run b.left b.fault b.seats.items
     (whole.bus (right g at)).ready (subst N (sym whole.bits) (whole.rooms (right g at)))
     (subst Q c.as_mut_slice-seats.ensures.value (c.in-Ok.ensures.none none)))
   where
@@ -122,7 +121,7 @@ returns-in-Ok-clause-runs g c =
     let E = g.E.BusEnd in let B = g.B.Board in let b = c.self.inside in let n = c.in-Ok.bits in
     ran E B c.args.to_rest b.struck.script b.steps.items b.run b.left c.as_mut_slice-seats.result.now
     c.untaken_bits.new.seats c.args.links.now c.untaken_bits.new.links c.args.board.now c.untaken_bits.new.board
-    c.args.count c.untaken_bits.auto.seats c.untaken_bits.ensures.sames c.untaken_bits.ensures.others c.args.self.now
+    c.args.most c.untaken_bits.auto.seats c.untaken_bits.ensures.sames c.untaken_bits.ensures.others c.args.self.now
     (begins g at) n _ c.in-Ok.ensures.most (enough_left g at)
     (bus_is b.struck.script b.steps.items (b.run + n) (b.left - n) b.fault _ c.untaken_bits.new.seats _
     (sym (are_back g at)) (right g at) refl) c.in-Ok.ensures.runs
@@ -140,7 +139,7 @@ returns-in-Err-clause-stops g c =
     let N : ℕ → Type 0 = λ m. HaveRoom (room_for m b.steps.items) b.seats.items in
     let R : List Seat → Type 0 = λ l. HaveRoom (room_for (b.run + b.left) b.steps.items) l in
     stopped E B c.args.to_rest b.struck.script b.steps.items b.run b.left seats c.untaken_bits.new.seats
-    c.args.links.now c.untaken_bits.new.links c.args.board.now c.untaken_bits.new.board c.args.count
+    c.args.links.now c.untaken_bits.new.links c.args.board.now c.untaken_bits.new.board c.args.most
     c.untaken_bits.auto.seats c.untaken_bits.ensures.sames c.untaken_bits.ensures.others c.args.self.now (begins g at)
     c.in-Err.broken _ (enough_left g at)
     (subst R (sym c.as_mut_slice-seats.ensures.value) (subst N (sym whole.bits) (whole.rooms (right g at))))

@@ -1,4 +1,4 @@
-use Rattle.std.proofs.Common.{◌≡◌, ◌+◌, ◌-◌, ◌<◌, ℕ, List, length, inr, rules, arith, refl, sym, ap, subst}
+use Rattle.std.proofs.Common.{◌≡◌, ◌++◌, ◌+◌, ◌-◌, ◌<◌, ℕ, List, length, inr, rules, arith, refl, sym, ap, subst}
 use Rattle.sja_script.specs.declared.strike.Strike.{Strike}
 use Rattle.sja_script.specs.Striking.{Strikes}
 use Rattle.sja_bus.specs.declared.struck_nodes.StruckNodes.{StruckNodes}
@@ -9,12 +9,14 @@ use Rattle.sja_bus.proofs.struck_bits.StruckBits.quiet_for.Goals as goal
 pub returns-then-not-is_empty-clause-quiet : goal.returns-then-not-is_empty-clause-quiet
 returns-then-not-is_empty-clause-quiet c = λ bit node low high below hit.
     let P : List Strike → Type 0 = λ script. Strikes script bit node in
-    quiet_in c.self.inside.script c.self.inside.bits.items c.args.from c.loop-bit.bit c.self.invariant.0 (search rules)
+    let script = c.self.inside.script ++ c.self.inside.later.items in
+    quiet_in script c.self.inside.bits.items c.args.from c.loop-bit.bit c.self.invariant.0 (search rules)
     c.loop-bit.invariant bit node low (omega arith) below (subst P (sym (ap (λ s. s.script) c.self.view_is)) hit)
 
 pub returns-then-not-is_empty-clause-longest : goal.returns-then-not-is_empty-clause-longest
 returns-then-not-is_empty-clause-longest c =
-    let script = c.self.inside.script in let bits = c.self.inside.bits.items in let bit = c.loop-bit.bit in
+    let script = c.self.inside.script ++ c.self.inside.later.items in let bits = c.self.inside.bits.items in
+    let bit = c.loop-bit.bit in
     let one = c.if-not-is_empty.ensures.some refl in
     let A : StruckNodes → Type 0 = λ x. IsAmong one.0 x in
     let within : bit < length bits = search rules in
@@ -28,5 +30,6 @@ returns-then-not-is_empty-clause-longest c =
 pub returns-clause-quiet : goal.returns-clause-quiet
 returns-clause-quiet c = λ bit node low high below hit.
     let P : List Strike → Type 0 = λ script. Strikes script bit node in
-    quiet_in c.self.inside.script c.self.inside.bits.items c.args.from c.loop-bit.bit c.self.invariant.0 (search rules)
+    let script = c.self.inside.script ++ c.self.inside.later.items in
+    quiet_in script c.self.inside.bits.items c.args.from c.loop-bit.bit c.self.invariant.0 (search rules)
     c.loop-bit.invariant bit node low (omega arith) below (subst P (sym (ap (λ s. s.script) c.self.view_is)) hit)
