@@ -93,6 +93,13 @@ keeps_more link alike was now links links_now base m n le h = record {
   goes_on = λ k may. h.goes_on k (may_less link was links base (k + m) (k + n) (omega (arith, le)) may);
 }
 
+-- one step where there may be two
+pub keeps_of_two : {E : Type 0} {link : E → LinkId} {alike : E → E → Type 0} {was now : LoggedDriver}
+    {links links_now : List E} {base : ℕ} → Keeps link alike was now links links_now base 1 →
+    Keeps link alike was now links links_now base 2
+keeps_of_two {E} {link} {alike} {was} {now} {links} {links_now} {base} h =
+    keeps_more link alike was now links links_now base 1 2 (omega arith) h
+
 -- one step, and then others
 pub keeps_then : {E : Type 0} (link : E → LinkId) (alike : E → E → Type 0) →
     ((a b c : E) → alike a b → alike b c → alike a c) → (was mid now : LoggedDriver)

@@ -1,7 +1,6 @@
 //! Writes of CMR.
 
 ghost use Rattle.std.specs.Prelude.{◌≡◌, ◌&&◌, not, ◌<◌, false};
-ghost use Rattle.sja_regs.specs.Commands.{command_of};
 ghost use Rattle.sja_raw.specs.CommandWrites.{command_byte, doable, may_request, releases, command_steps};
 ghost use Rattle.sja_raw.specs.RawDrivers.{Writes};
 ghost use Rattle.sja_raw.specs.Trying.{MayTry, Keeps};
@@ -21,24 +20,23 @@ const RELEASE: u8 = 1 << RRB;
 /// The version of the model that has no self reception.
 const FIRST_VERSION: u8 = 1;
 
-/// Writes CMR.
+/// Writes a command to CMR.
 pub(crate) fn write_command<E: DriverEnd>(
     typed: &mut LoggedDriver,
     links: &mut [E],
     base: usize,
     port: &mut Port,
-    value: u8,
+    command: Command,
     bits: u32,
 ) -> Option<u8>
     requires { MayTry E.link typed.old links.old base 2 }
     ensures keeps { Keeps E.link E.same typed.old typed.new links.old links.new base 2 }
     ensures writes { Writes E.same E.stands E.dry E.full base bits typed.old typed.new links.old links.new
-        port.old port.new 1 (command_steps port.old (command_of value)) result }
+        port.old port.new 1 (command_steps port.old command) result }
 {
     if is_reset(port) {
         return None;
     }
-    let command = Command::of(value);
     let byte = command_byte(doable(port, command));
     if byte == 0 {
         return release_if(typed, links, base, port, command.rrb, bits);
@@ -46,7 +44,7 @@ pub(crate) fn write_command<E: DriverEnd>(
     if try_step(typed, links, base, port, &Step::Command(byte), bits) {
         release_if(typed, links, base, port, command.rrb, bits)
     } else {
-        Some(value)
+        Some(command_byte(command))
     }
 }
 

@@ -1,12 +1,12 @@
 //! Writes of MOD.
 
-ghost use Rattle.std.specs.Prelude.{◌≡◌, ◌++◌, [], ◌∷◌, true, false};
+ghost use Rattle.std.specs.Prelude.{◌≡◌, [], ◌∷◌, true, false};
 ghost use Rattle.sja_regs.specs.Registers.{is_forced};
 ghost use Rattle.sja_regs.specs.Writing.{is_other_mode};
 ghost use Rattle.sja_script.specs.declared.step.Step.TheVariants.{Start, Write};
 ghost use Rattle.sja_driver.specs.AnyDrivers.{is_out};
 ghost use Rattle.sja_driver.specs.LoggedDrivers.{driver_of};
-ghost use Rattle.sja_raw.specs.ModeWrites.{is_written, reset_byte, operating_byte, closing, leaving, mode_steps};
+ghost use Rattle.sja_raw.specs.ModeWrites.{is_written, reset_byte, operating_byte, leaving, mode_steps};
 ghost use Rattle.sja_raw.specs.RawDrivers.{Writes};
 ghost use Rattle.sja_raw.specs.Trying.{MayTry, Keeps};
 
@@ -18,7 +18,8 @@ use sja_regs::bits::differ;
 use sja_regs::{Mode, Port};
 use sja_script::Step;
 
-/// Writes MOD.
+/// Writes MOD. Where that leaves reset mode the activation that bus-off ended is closed, if there is one, and the next
+/// begins in this mode.
 pub(crate) fn write_mode<E: DriverEnd>(
     typed: &mut LoggedDriver,
     links: &mut [E],
@@ -39,35 +40,8 @@ pub(crate) fn write_mode<E: DriverEnd>(
         return single(typed, links, base, port, &written, value, bits);
     }
     if new.rm {
-        single(typed, links, base, port, &Step::Stop, value, bits)
-    } else {
-        leave_reset(typed, links, base, port, new, bits)
+        return single(typed, links, base, port, &Step::Stop, value, bits);
     }
-}
-
-/// Whether this mode is written by the typed driver's write: RM as it is, or a bus-off is asked for.
-pub(crate) fn is_written(port: &Port, new: Mode) -> bool
-    ensures { result ≡ is_written port.now new }
-{
-    !differ(is_reset(port), new.rm) || port.is_forced()
-}
-
-/// Leaves reset mode: closes the activation that bus-off ended, if there is one, and begins the next in this mode.
-fn leave_reset<E: DriverEnd>(
-    typed: &mut LoggedDriver,
-    links: &mut [E],
-    base: usize,
-    port: &mut Port,
-    new: Mode,
-    bits: u32,
-) -> Option<u8>
-    requires room { MayTry E.link typed.old links.old base 3 }
-    requires reset { port.old.mode.rm ≡ true }
-    requires forced { is_forced port.old ≡ false }
-    ensures keeps { Keeps E.link E.same typed.old typed.new links.old links.new base 3 }
-    ensures writes { Writes E.same E.stands E.dry E.full base bits typed.old typed.new links.old links.new
-        port.old port.new 0 (closing (is_out (driver_of typed.old)) ++ leaving port.old.mode new) result }
-{
     if !is_out(typed) {
         return begin(typed, links, base, port, new, bits);
     }
@@ -76,6 +50,13 @@ fn leave_reset<E: DriverEnd>(
     } else {
         Some(operating_byte(new))
     }
+}
+
+/// Whether this mode is written by the typed driver's write: RM as it is, or a bus-off is asked for.
+pub(crate) fn is_written(port: &Port, new: Mode) -> bool
+    ensures { result ≡ is_written port.now new }
+{
+    !differ(is_reset(port), new.rm) || port.is_forced()
 }
 
 /// Takes LOM, STM and AFM where one of them changes, and begins an activation.

@@ -14,8 +14,8 @@ use super::raw_driver::RawDriver;
 use super::trying::{is_reset, single};
 use sja_driver::LoggedDriver;
 use sja_link::DriverEnd;
-use sja_regs::Port;
 use sja_regs::address::{CMR, MOD};
+use sja_regs::{Command, Port};
 use sja_script::Step;
 
 impl RawDriver {
@@ -69,7 +69,7 @@ fn write_typed<E: DriverEnd>(
     let written = Step::Write(address, value);
     match address {
         MOD => write_mode(typed, links, base, port, value, bits),
-        CMR => write_command(typed, links, base, port, value, bits),
+        CMR => write_command(typed, links, base, port, Command::of(value), bits),
         _ => single(typed, links, base, port, &written, value, bits),
     }
 }

@@ -8,6 +8,7 @@ ghost use Rattle.sja_driver.specs.LoggedDrivers.{log_of};
 ghost use Rattle.sja_driver.specs.Logs.{HasRoom, IsEmpty, done_in};
 ghost use Rattle.sja_threads.specs.Working.{HasWorked};
 
+use super::at_gate::AtGate;
 use super::gate::Gate;
 use super::pass::Pass;
 use super::waits::wait_to_try;
@@ -79,13 +80,11 @@ impl<D: DriverEnd + Drop> DriverThread<D> {
 
     /// Does a step of this number: the gate is asked before each try. It says whether the step is done; else the gate
     /// quit.
-    pub(crate) fn do_step<G: Gate>(
+    pub(crate) fn do_step<G: Gate, R: Wait>(
         &mut self,
-        rt: &impl Wait,
-        port: &Mutex<Port>,
+        at: &AtGate<R, G>,
         step: &Step,
         number: u32,
-        gate: &G,
     ) -> bool
         requires { MayWork D.link self.old 1 }
         ensures done { DoesSteps D.DriverEnd self.old self.new (step_if result step.now) }
@@ -93,28 +92,22 @@ impl<D: DriverEnd + Drop> DriverThread<D> {
     {
         let parker = Parker::new();
         let mut tries = 1u32;
-        for _ in rt.forever() {
-            let pass = gate.turn(self.node, number, tries);
+        for _ in at.rt.forever() {
+            let pass = at.gate.turn(self.node, number, tries);
             if pass == Pass::Quit {
                 return false;
             }
-            if self.try_if(rt, port, step, pass) {
+            if self.try_if(at.rt, at.port, step, pass) {
                 return true;
             }
-            wait_to_try(rt, &parker, tries);
+            wait_to_try(at.rt, &parker, tries);
             tries = tries.saturating_add(1);
         }
         unreachable!()
     }
 
     /// Does steps, one after the other, until the gate quits. It says how many were done.
-    fn do_steps<G: Gate>(
-        &mut self,
-        rt: &impl Wait,
-        port: &Mutex<Port>,
-        steps: &[Step],
-        gate: &G,
-    ) -> usize
+    fn do_steps<G: Gate, R: Wait>(&mut self, at: &AtGate<R, G>, steps: &[Step]) -> usize
         requires { MayWork D.link self.old (length steps.now) }
         ensures done { DoesSteps D.DriverEnd self.old self.new (take result steps.now) }
         ensures few { result ≤ length steps.now }
@@ -122,7 +115,7 @@ impl<D: DriverEnd + Drop> DriverThread<D> {
     {
         let mut number = 1u32;
         for k in 0..steps.len() {
-            if !self.do_step(rt, port, &steps[k], number, gate) {
+            if !self.do_step(at, &steps[k], number) {
                 return k;
             }
             number = number.saturating_add(1);
@@ -131,21 +124,15 @@ impl<D: DriverEnd + Drop> DriverThread<D> {
     }
 
     /// Follows its script ([`work`]), and hands back its ends and the driver.
-    pub(crate) fn follow<G: Gate>(
-        mut self,
-        rt: &impl Wait,
-        port: &Mutex<Port>,
-        steps: &[Step],
-        gate: G,
-    ) -> Worked<D>
+    pub(crate) fn follow<G: Gate, R: Wait>(mut self, at: AtGate<R, G>, steps: &[Step]) -> Worked<D>
         requires { MayBegin D.link self (length steps.now) }
         ensures same { EachRelated D.same self.links.items result.links.items }
         ensures worked { HasWorked D.stands self.set (node_of self.driver) steps.now self.links.items result }
         ensures done { G.QUITS ≡ false → length (done_in (log_of result.driver)) ≡ length steps.now }
         ensures typed { result.accesses ≡ None }
     {
-        self.do_steps(rt, port, steps, &gate);
-        port.lock(rt).finish();
+        self.do_steps(&at, steps);
+        at.port.lock(at.rt).finish();
         let DriverThread { driver, links, .. } = self;
         Worked {
             links,
@@ -193,5 +180,5 @@ pub fn work<D: DriverEnd + Drop, G: Gate>(
         set,
         links,
     };
-    thread.follow(rt, port, steps, gate)
+    thread.follow(AtGate { rt, port, gate }, steps)
 }

@@ -17,6 +17,7 @@
 //! The runs alone take memory, none of it for a bit. The tests stand in `crates/test_runs`.
 #![tactic(auto)]
 
+mod at_gate;
 mod bus_thread;
 mod driver_thread;
 mod drivers_and_ends;

@@ -3,6 +3,7 @@
 ghost use Rattle.std.specs.Prelude.{◌≡◌, ◌⊎◌, ◌+◌, ◌*◌, ◌≤◌, ◌++◌, ℕ, List, [], ◌∷◌, length, vec_capacity, true, false};
 ghost use Rattle.sja_regs.specs.declared.registers.Registers.{Registers as PortRegisters};
 
+use super::at_gate::AtGate;
 use super::driver_thread::DriverThread;
 use super::gate::Gate;
 use super::let_go::let_go;
@@ -108,14 +109,12 @@ impl<D: DriverEnd + Drop> RawThread<D> {
     /// Does the typed steps that a write is, of the step of this number: the gate is asked before each try, of which
     /// each goes on where the one before it ended. It says whether all are done; else the gate quit, before the first
     /// try or with some left.
-    fn do_write<G: Gate>(
+    fn do_write<G: Gate, R: Wait>(
         &mut self,
-        rt: &impl Wait,
-        port: &Mutex<Port>,
+        at: &AtGate<R, G>,
         address: u8,
         value: u8,
         number: u32,
-        gate: &G,
     ) -> bool
         requires { MayWork D.link self.old.thread 3 }
         ensures done { result ≡ true → Writes D.DriverEnd self.old self.new address value [] }
@@ -126,18 +125,18 @@ impl<D: DriverEnd + Drop> RawThread<D> {
         ensures never { result ≡ false → G.QUITS ≡ true }
     {
         let node = self.thread.node;
-        let Some(first) = let_go(rt, gate, node, number, 1) else {
+        let Some(first) = let_go(at.rt, &at.gate, node, number, 1) else {
             return false;
         };
-        let mut left = self.begin_write(rt, port, address, value);
+        let mut left = self.begin_write(at.rt, at.port, address, value);
         let parker = Parker::new();
         let mut tries = first;
-        for _ in rt.forever() {
-            if self.try_write(rt, port, &mut left) {
+        for _ in at.rt.forever() {
+            if self.try_write(at.rt, at.port, &mut left) {
                 return true;
             }
-            wait_to_try(rt, &parker, tries);
-            match let_go(rt, gate, node, number, tries.saturating_add(1)) {
+            wait_to_try(at.rt, &parker, tries);
+            match let_go(at.rt, &at.gate, node, number, tries.saturating_add(1)) {
                 Some(next) => tries = next,
                 None => return false,
             }
@@ -166,21 +165,14 @@ impl<D: DriverEnd + Drop> RawThread<D> {
 
     /// Does a step that is no write: the typed step, of which a read gives a value in any case. It says whether it's
     /// done; else the gate quit.
-    fn do_typed<G: Gate>(
-        &mut self,
-        rt: &impl Wait,
-        port: &Mutex<Port>,
-        step: &Step,
-        number: u32,
-        gate: &G,
-    ) -> bool
+    fn do_typed<G: Gate, R: Wait>(&mut self, at: &AtGate<R, G>, step: &Step, number: u32) -> bool
         requires may { MayAccess D.link self.old 1 }
         requires typed { IsNoWrite step.now }
         ensures done { result ≡ true → DoesAccess D.DriverEnd self.old self.new step.now }
         ensures quits { result ≡ false → BreaksOff D.DriverEnd G.QUITS self.old self.new step.now }
         ensures never { result ≡ false → G.QUITS ≡ true }
     {
-        if !self.thread.do_step(rt, port, step, number, gate) {
+        if !self.thread.do_step(at, step, number) {
             return false;
         }
         let answer = told(
@@ -194,23 +186,16 @@ impl<D: DriverEnd + Drop> RawThread<D> {
     }
 
     /// Does a step of this number, and says whether it's done; else the gate quit.
-    fn do_access<G: Gate>(
-        &mut self,
-        rt: &impl Wait,
-        port: &Mutex<Port>,
-        step: &Step,
-        number: u32,
-        gate: &G,
-    ) -> bool
+    fn do_access<G: Gate, R: Wait>(&mut self, at: &AtGate<R, G>, step: &Step, number: u32) -> bool
         requires { MayAccess D.link self.old 1 }
         ensures done { result ≡ true → DoesAccess D.DriverEnd self.old self.new step.now }
         ensures quits { result ≡ false → BreaksOff D.DriverEnd G.QUITS self.old self.new step.now }
         ensures never { result ≡ false → G.QUITS ≡ true }
     {
         let Step::Write(address, value) = step else {
-            return self.do_typed(rt, port, step, number, gate);
+            return self.do_typed(at, step, number);
         };
-        if !self.do_write(rt, port, *address, *value, number, gate) {
+        if !self.do_write(at, *address, *value, number) {
             return false;
         }
         self.enter(StepAnswer::Done);
@@ -218,14 +203,14 @@ impl<D: DriverEnd + Drop> RawThread<D> {
     }
 
     /// Does steps, one after the other, until the gate quits.
-    fn do_accesses<G: Gate>(&mut self, rt: &impl Wait, port: &Mutex<Port>, steps: &[Step], gate: &G)
+    fn do_accesses<G: Gate, R: Wait>(&mut self, at: &AtGate<R, G>, steps: &[Step])
         requires { MayAccess D.link self.old (length steps.now) }
         ensures { (first : DriverThread D) → HasDone D.DriverEnd first self.old [] →
             HasEnded D.DriverEnd G.QUITS first self.new steps.now }
     {
         let mut number = 1u32;
         for k in 0..steps.len() {
-            if !self.do_access(rt, port, &steps[k], number, gate) {
+            if !self.do_access(at, &steps[k], number) {
                 return;
             }
             number = number.saturating_add(1);
@@ -234,20 +219,14 @@ impl<D: DriverEnd + Drop> RawThread<D> {
 
     /// Follows its script: each step is that of a driver that knows addresses and bytes alone. It hands back its ends,
     /// the typed driver, and what the steps answered.
-    pub(crate) fn follow<G: Gate>(
-        mut self,
-        rt: &impl Wait,
-        port: &Mutex<Port>,
-        steps: &[Step],
-        gate: G,
-    ) -> Worked<D>
+    pub(crate) fn follow<G: Gate, R: Wait>(mut self, at: AtGate<R, G>, steps: &[Step]) -> Worked<D>
         requires { MayBeginRaw D.link self (length steps.now) }
         ensures same { EachRelated D.same self.thread.links.items result.links.items }
         ensures worked { IsWorkedBy D.stands G.QUITS self.thread.set (node_of self.thread.driver) steps.now
             self.thread.links.items result }
     {
-        self.do_accesses(rt, port, steps, &gate);
-        port.lock(rt).finish();
+        self.do_accesses(&at, steps);
+        at.port.lock(at.rt).finish();
         let DriverThread { driver, links, .. } = self.thread;
         Worked {
             links,

@@ -124,8 +124,7 @@ fn run_drivers<G: Gate, R: Threads + Wait + Sync>(
 ) -> Result<JoinedRun, RunFault>
     requires parts { AreRunParts plan.now parts }
     requires ports { length ports.now ≡ length plan.now.nodes }
-    ensures ending { IfOk result (IsEnding G.QUITS plan.now) }
-    ensures raw { IfOk result (λ joined. joined.raw ≡ parts.raw) }
+    ensures ending { IfOk result (λ joined. IsEnding G.QUITS plan.now joined × (joined.raw ≡ parts.raw)) }
     ensures fault { IfErr result (IsFaultWith (rooms parts.raw plan.now) plan.now) }
 {
     thread::scope(
@@ -134,8 +133,8 @@ fn run_drivers<G: Gate, R: Threads + Wait + Sync>(
         move |scope| -> Result<JoinedRun, RunFault>
             requires parts { AreRunParts plan.now parts }
             requires ports { length ports.now ≡ length plan.now.nodes }
-            ensures ending { IfOk result (IsEnding G.QUITS plan.entry.now) }
-            ensures raw { IfOk result (λ joined. joined.raw ≡ parts.raw) }
+            ensures ending { IfOk result (λ joined.
+                IsEnding G.QUITS plan.entry.now joined × (joined.raw ≡ parts.raw)) }
             ensures fault { IfErr result (IsFaultWith (rooms parts.raw plan.entry.now) plan.entry.now) }
         {
             let joined = run_in(scope, rt, plan, parts, ports);
@@ -160,8 +159,7 @@ fn run_in<'s, E, G: Gate + 's, R: Threads + Wait + Sync>(
 ) -> Result<JoinedRun, RunFault>
     requires parts { AreRunParts plan.now parts }
     requires ports { length ports.now ≡ length plan.now.nodes }
-    ensures ending { IfOk result (IsEnding G.QUITS plan.now) }
-    ensures raw { IfOk result (λ joined. joined.raw ≡ parts.raw) }
+    ensures ending { IfOk result (λ joined. IsEnding G.QUITS plan.now joined × (joined.raw ≡ parts.raw)) }
     ensures fault { IfErr result (IsFaultWith (rooms parts.raw plan.now) plan.now) }
 {
     let RunParts {

@@ -6,6 +6,7 @@ ghost use Rattle.sja_log.specs.declared.run_fault.RunFault.TheVariants.{Thread};
 ghost use Rattle.sja_threads.specs.Inside.Started.{IsThreadStart, Serves};
 ghost use Rattle.sja_threads.specs.Inside.Promised.{IsFor};
 
+use super::at_gate::AtGate;
 use super::driver_thread::DriverThread;
 use super::gate::Gate;
 use super::raw_thread::RawThread;
@@ -61,9 +62,10 @@ fn serve<G: Gate>(
         links,
     };
     let steps = plan.steps(usize::from(node));
+    let at = AtGate { rt, port, gate };
     match accesses {
-        None => thread.follow(rt, port, steps, gate),
-        Some(done) => RawThread::new(thread, done).follow(rt, port, steps, gate),
+        None => thread.follow(at, steps),
+        Some(done) => RawThread::new(thread, done).follow(at, steps),
     }
 }
 

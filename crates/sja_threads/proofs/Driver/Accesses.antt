@@ -16,7 +16,7 @@ use Rattle.sja_script.specs.declared.step_answer.StepAnswer.{StepAnswer}
 use Rattle.sja_script.specs.declared.step_answer.StepAnswer.TheVariants.{Done as DoneAnswer}
 use Rattle.sja_driver.specs.AnyDrivers.{is_out}
 use Rattle.sja_driver.specs.Carried.{Tells}
-use Rattle.sja_driver.specs.Deeds.{Deed, done_of as done_of_deed}
+use Rattle.sja_driver.specs.Deeds.{Deed, done_of as done_of_deed, is_active}
 use Rattle.sja_driver.specs.Holding.{Goes}
 use Rattle.sja_driver.specs.LoggedDrivers.{node_of, driver_of, log_of, IsLawful}
 use Rattle.sja_driver.specs.Logs.{Traces, done_in}
@@ -27,7 +27,7 @@ use Rattle.sja_raw.specs.WriteLists.{listed, steps_in}
 use Rattle.sja_raw.specs.Writes.{write_steps}
 use Rattle.sja_threads.specs.declared.driver_thread.DriverThread.{DriverThread}
 use Rattle.sja_threads.specs.declared.raw_thread.RawThread.{RawThread}
-use Rattle.sja_threads.specs.Accessing.{Access, IsAccess, LeadOn, LeadToAccesses, done_of, kept_by}
+use Rattle.sja_threads.specs.Accessing.{Access, IsAccess, IsBrokenOff, LeadOn, LeadToAccesses, done_of, kept_by}
 use Rattle.sja_threads.specs.Accessing.IsBrokenOff.{not_begun, begun}
 use Rattle.sja_threads.specs.Accessing.LeadToAccesses.{nothing_done, access_done}
 use Rattle.sja_threads.specs.Inside.Accesses.{IsTold, IsNoWrite, MayAccess, MayBeginRaw, DoesFirst, Writes, HasDone}
@@ -309,12 +309,13 @@ module _ {E : Type 0} (e : Ends E) where
               ∙ ap (λ (l : List Done). l ++ record { answer = answer; bits = 0 } ∷ []) p.done_are ∙ sym entered;
         }
 
-    -- the script ends, with none of the next step done
-    pub ended_now : (quits : Bool) (more : List Step) (q : DoesSteps e was.thread now.thread more) (left : List Step) →
-        more ≡ [] → IsLawful now.thread.driver → now.done ≡ was.done → (quits ≡ false → left ≡ []) →
+    -- the script ends, with so much of the next step done
+    ended_by : (quits : Bool) (more : List Step) (q : DoesSteps e was.thread now.thread more) (left : List Step) →
+        IsLawful now.thread.driver → now.done ≡ was.done →
+        IsBrokenOff was.thread.set (is_active p.does.deeds) left q.deeds → (quits ≡ false → left ≡ []) →
         HasEnded e quits first now (steps ++ left)
     unfolding does_more
-    ended_now quits more q left none lawful same all = record {
+    ended_by quits more q left lawful same broken all = record {
       typed = p.typed ++ more;
       does = does_more e trans first was.thread now.thread p.typed p.does more q;
       lawful = lawful;
@@ -327,45 +328,38 @@ module _ {E : Type 0} (e : Ends E) where
         left = left;
         steps_are = ap (λ (l : List Step). l ++ left) p.steps_are;
         done_are = p.done_are ∙ sym (ap (λ (v : Vec Done Global). v.items) same);
-        more = [];
-        broken_off = not_begun;
-        deeds_are = ap (λ (l : List Deed). p.does.deeds ++ l) (no_deeds q.deeds (q.are ∙ none));
+        more = q.deeds;
+        broken_off = broken;
+        deeds_are = refl;
         all = all;
       };
     }
-      where
-        no_deeds : (deeds : List Deed) → map (λ (d : Deed). d.step) deeds ≡ [] → deeds ≡ []
-        no_deeds [] are = refl
-        no_deeds (d ∷ deeds) are =
-            absurd (let some = ap (λ (l : List Step). length l) are in omega (arith, some))
 
-    -- with some of a write done, but not all
+    no_deeds : (deeds : List Deed) → map (λ (d : Deed). d.step) deeds ≡ [] → deeds ≡ []
+    no_deeds [] are = refl
+    no_deeds (d ∷ deeds) are =
+        absurd (let some = ap (λ (l : List Step). length l) are in omega (arith, some))
+
+    -- with none of it
+    pub ended_now : (quits : Bool) (more : List Step) (q : DoesSteps e was.thread now.thread more) (left : List Step) →
+        more ≡ [] → IsLawful now.thread.driver → now.done ≡ was.done → (quits ≡ false → left ≡ []) →
+        HasEnded e quits first now (steps ++ left)
+    ended_now quits more q left none lawful same all =
+        ended_by quits more q left lawful same
+        (subst (λ (l : List Deed). IsBrokenOff was.thread.set (is_active p.does.deeds) left l)
+        (sym (no_deeds q.deeds (q.are ∙ none))) not_begun) all
+
+    -- with some of a write, but not all
     pub ended_within : (quits : Bool) (address value : ℕ) (rest left : List Step) →
         Writes e was now address value rest → 1 ≤ length rest → IsLawful now.thread.driver → quits ≡ true →
         HasEnded e quits first now (steps ++ Write address value ∷ left)
-    unfolding does_more
     ended_within quits address value rest left w some lawful broken =
-        let q = w.first.does in record {
-          typed = p.typed ++ w.first.steps;
-          does = does_more e trans first was.thread now.thread p.typed p.does w.first.steps q;
-          lawful = lawful;
-          accessed = record {
-            accesses = p.accesses;
-            before = p.does.deeds;
-            last = was.thread.set;
-            kept = was.kept;
-            leads = p.leads;
-            left = Write address value ∷ left;
-            steps_are = ap (λ (l : List Step). l ++ Write address value ∷ left) p.steps_are;
-            done_are = p.done_are ∙ sym (ap (λ (v : Vec Done Global). v.items) w.first.done);
-            more = q.deeds;
-            broken_off = begun address value w.at rest w.has
-                (ap (λ (b : Bool). write_steps w.at b address value) traces.out ∙ w.first.whole
-                ∙ ap (λ (l : List Step). l ++ rest) (sym q.are)) some;
-            deeds_are = refl;
-            all = λ never. absurd (let two : true ≡ false = sym broken ∙ never in cc);
-          };
-        }
+        let q = w.first.does in
+        ended_by quits w.first.steps q (Write address value ∷ left) lawful w.first.done
+        (begun address value w.at rest w.has
+        (ap (λ (b : Bool). write_steps w.at b address value) traces.out ∙ w.first.whole
+        ∙ ap (λ (l : List Step). l ++ rest) (sym q.are)) some)
+        (λ never. absurd (let two : true ≡ false = sym broken ∙ never in cc))
 
   -- ---- one step of a script
 

@@ -7,7 +7,7 @@ use Rattle.sja_link.specs.DriverLedgers.{held_by, knows_bus_off}
 use Rattle.sja_link.specs.Showing.{seen_of}
 use Rattle.sja_regs.specs.declared.registers.Registers.{Registers}
 use Rattle.sja_regs.specs.Registers.{at_power_on}
-use Rattle.sja_regs.specs.DriverSettings.{SettingsValue, settings_in, HasSettings}
+use Rattle.sja_regs.specs.DriverSettings.{SettingsValue, settings_in, HasSettings, with_settings}
 use Rattle.sja_script.specs.declared.step.Step.{Step}
 use Rattle.sja_script.specs.declared.step_answer.StepAnswer.TheVariants.{Done as DoneAnswer, Released as ReleasedAnswer}
 use Rattle.sja_driver.specs.declared.any_driver.AnyDriver.{AnyDriver}
@@ -24,20 +24,9 @@ use Rattle.sja_threads.specs.Setting.{LeadToSettings, IsDoneAt}
 use Rattle.sja_threads.specs.Setting.LeadToSettings.{step_done}
 use Rattle.sja_threads.specs.Accessing.LeadOn.{nothing_more, one_more}
 
--- some registers with these settings
+-- some registers with these settings, in reset mode just where they are
 abbrev pub registers_with : SettingsValue → Registers
-registers_with s =
-    record (at_power_on 1) {
-      version = s.version;
-      mode = s.mode;
-      enabled = s.enabled;
-      ewlr = s.ewlr;
-      set_tec = s.set_tec;
-      set_rec = s.set_rec;
-      acr = s.acr;
-      amr = s.amr;
-      buffer = s.buffer;
-    }
+registers_with s = record (with_settings (at_power_on 1) s) { mode = s.mode }
 
 pub has_those : (s : SettingsValue) → HasSettings (registers_with s) s
 has_those s = record {

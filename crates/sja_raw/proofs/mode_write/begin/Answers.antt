@@ -5,7 +5,7 @@ use Rattle.sja_regs.specs.Modes.{mode_of}
 use Rattle.sja_regs.specs.Writing.{is_other_mode}
 use Rattle.sja_raw.proofs.After.{written}
 use Rattle.sja_raw.proofs.Chain.{waits_at, then_at, both_left, takes}
-use Rattle.sja_raw.proofs.Keeping.{keeps_more, keeps_then, may_less}
+use Rattle.sja_raw.proofs.Keeping.{keeps_of_two, keeps_then, may_less}
 use Rattle.sja_raw.proofs.ModeBytes.{reset_back}
 use Rattle.sja_raw.proofs.mode_write.begin.Goals as goal
 
@@ -18,9 +18,7 @@ try_step-requires g c =
     may_less g.E.DriverEnd.link c.args.typed.now c.args.links.now c.args.base 1 2 (omega arith) c.requires.room
 
 pub returns-then-not-is_other_mode-clause-keeps : goal.returns-then-not-is_other_mode-clause-keeps
-returns-then-not-is_other_mode-clause-keeps g c =
-    keeps_more g.E.DriverEnd.link g.E.DriverEnd.same c.args.typed.now _ c.args.links.now _
-    c.args.base 1 2 (omega arith) c.start.ensures.keeps
+returns-then-not-is_other_mode-clause-keeps g c = keeps_of_two c.start.ensures.keeps
 
 pub start-requires-then-try_step-clause-room : goal.start-requires-then-try_step-clause-room
 start-requires-then-try_step-clause-room g c =
@@ -59,9 +57,7 @@ returns-then-try_step-clause-writes g c =
     (then_at c.try_step.ensures.steps c.if-try_step.true c.start-then-try_step.ensures.writes)
 
 pub returns-else-try_step-clause-keeps : goal.returns-else-try_step-clause-keeps
-returns-else-try_step-clause-keeps g c =
-    keeps_more g.E.DriverEnd.link g.E.DriverEnd.same c.args.typed.now _ c.args.links.now _
-    c.args.base 1 2 (omega arith) c.try_step.ensures.keeps
+returns-else-try_step-clause-keeps g c = keeps_of_two c.try_step.ensures.keeps
 
 pub returns-else-try_step-clause-writes : goal.returns-else-try_step-clause-writes
 returns-else-try_step-clause-writes g c =

@@ -40,11 +40,13 @@ returns-in-Ok-clause-ending g c =
     let plan = c.args.plan.now in
     let parts = c.args.parts in
     let starts = parts.starts.items in
-    let r = c.requires.parts in
-    ending g.G.Gate.QUITS parts.raw plan starts parts.bus c.rounds_beside_drivers.new.self c.join_all.result.items _
-    refl refl refl r.starts r.links r.made r.alike c.in-Ok.ensures.on (ap (λ (b : BusValue). b.steps) r.bus)
-    (all_kept g.G.Gate.QUITS plan starts (map (λ child. child.promise) c.in_ok-children.children.items)
-    c.join_all.result.items c.in_ok-children.ensures.all c.join_all.ensures)
+    let r = c.requires.parts in (
+      ending g.G.Gate.QUITS parts.raw plan starts parts.bus c.rounds_beside_drivers.new.self c.join_all.result.items _
+          refl refl refl r.starts r.links r.made r.alike c.in-Ok.ensures.on (ap (λ (b : BusValue). b.steps) r.bus)
+          (all_kept g.G.Gate.QUITS plan starts (map (λ child. child.promise) c.in_ok-children.children.items)
+          c.join_all.result.items c.in_ok-children.ensures.all c.join_all.ensures),
+      refl,
+    )
 
 pub returns-in-Err-clause-fault : goal.returns-in-Err-clause-fault
 returns-in-Err-clause-fault g c =
