@@ -13,7 +13,7 @@ use Rattle.sja_session.specs.declared.answered.Answered.TheVariants.{Answer}
 use Rattle.sja_session.specs.declared.step_fault.StepFault.{StepFault}
 use Rattle.sja_plan_session.specs.Accessing.{DoesStep}
 use Rattle.sja_plan_session.specs.PlanSessions.{PlanSessionValue}
-use Rattle.sja_plan_session.proofs.Typed.{writes_at}
+use Rattle.sja_plan_session.proofs.AfterCalls.Typed.{writes_at}
 use Rattle.sja_driver_session.specs.DriverSessions.{StandsIn}
 use Rattle.sja_driver_session.specs.Steps.{MayWriteIn, StepsIn, ReadsIn, WritesIn}
 use Rattle.sja_driver_session.specs.declared.driver_session.DriverSession.{DriverSession}

@@ -13,9 +13,9 @@ use Rattle.sja_session.specs.Sessions.{SessionValue, IsAt, written as written_ty
 use Rattle.sja_session.specs.Writing.{with_bits_run, with_step_done}
 use Rattle.sja_plan_session.specs.Accessing.{DoesStep}
 use Rattle.sja_plan_session.specs.PlanSessions.{PlanSessionValue, written as written_raw}
-use Rattle.sja_plan_session.proofs.Bits.{BitsLed, version_led, bits_led, runs_led, rests_led, watches_led}
-use Rattle.sja_plan_session.proofs.Growing.{step_wrote, bits_wrote, struck_wrote, same_wrote}
-use Rattle.sja_plan_session.proofs.Typed.{chain_of, led_by}
+use Rattle.sja_plan_session.proofs.AfterCalls.Bits.{BitsLed, version_led, bits_led, runs_led, rests_led, watches_led}
+use Rattle.sja_plan_session.proofs.WrittenPlan.Growing.{step_wrote, bits_wrote, struck_wrote, same_wrote}
+use Rattle.sja_plan_session.proofs.AfterCalls.Typed.{chain_of, led_by}
 use Rattle.sja_driver_session.specs.Bits.{RunsIn, RestsIn, WatchesIn, WritesBitsIn, IsStillIn, StrikesIn}
 use Rattle.sja_driver_session.specs.DriverSessions.{IsUnwrittenIn, StandsIn, node_count, session_of, version_of}
 use Rattle.sja_driver_session.specs.DriverSessions.{written}

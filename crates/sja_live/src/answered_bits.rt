@@ -23,7 +23,7 @@ pub(crate) fn ran(session: &mut DriverSession, count: u32) -> LiveAnswer
 }
 
 /// What bits up to rest are answered.
-#[tactic(auto, using(crate::proofs::Told::not_rest))]
+#[tactic(auto, using(crate::proofs::Replies::Told::not_rest))]
 pub(crate) fn rested(session: &mut DriverSession) -> LiveAnswer
     ensures { IsAnswered session.old session.new Rest result }
 {

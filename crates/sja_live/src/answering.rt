@@ -52,7 +52,7 @@ pub(crate) fn answered(
 }
 
 /// What a look at the interrupt lines is answered.
-#[tactic(auto, using(crate::proofs::Asked::told_lines))]
+#[tactic(auto, using(crate::proofs::Replies::Asked::told_lines))]
 fn looked(session: &mut DriverSession) -> LiveAnswer
     ensures { IsAnswered session.old session.new Line result }
 {
@@ -60,7 +60,7 @@ fn looked(session: &mut DriverSession) -> LiveAnswer
 }
 
 /// How many bits were run.
-#[tactic(auto, using(crate::proofs::Asked::told_bits))]
+#[tactic(auto, using(crate::proofs::Replies::Asked::told_bits))]
 fn bits_so_far(session: &DriverSession) -> LiveAnswer
     ensures { IsAnswered session.now session.now Bits result }
 {
@@ -70,7 +70,7 @@ fn bits_so_far(session: &DriverSession) -> LiveAnswer
 /// What a strike is answered.
 ///
 /// Error: [`OutOfMemory`] where memory was refused; nothing changed.
-#[tactic(auto, using(crate::proofs::Asked::strikes))]
+#[tactic(auto, using(crate::proofs::Replies::Asked::strikes))]
 fn struck(
     alloc: Global,
     session: &mut DriverSession,

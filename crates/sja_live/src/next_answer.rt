@@ -27,7 +27,7 @@ use std::io::Read;
 /// Reads the first line: the session that it opens, or why it opens none.
 ///
 /// Errors: [`TalkFault::Memory`] and [`TalkFault::Read`].
-#[tactic(auto, using(crate::proofs::LineAnswers::first_lines, crate::proofs::BreakingOff::line_taken))]
+#[tactic(auto, using(crate::proofs::Replies::LineAnswers::first_lines, crate::proofs::Talks::BreakingOff::line_taken))]
 pub(crate) fn first_said<R: Read>(
     alloc: Global,
     input: &mut R,
@@ -50,7 +50,7 @@ pub(crate) fn first_said<R: Read>(
 /// Reads a line and does what it asks for; none, where it ends the talk or there is no line.
 ///
 /// Errors: [`TalkFault::Memory`] and [`TalkFault::Read`].
-#[tactic(auto, using(crate::proofs::LineAnswers::next_lines, crate::proofs::BreakingOff::line_taken))]
+#[tactic(auto, using(crate::proofs::Replies::LineAnswers::next_lines, crate::proofs::Talks::BreakingOff::line_taken))]
 pub(crate) fn next_answer<R: Read>(
     alloc: Global,
     input: &mut R,
@@ -73,7 +73,7 @@ pub(crate) fn next_answer<R: Read>(
 /// Does what a line asks for; none, where that is the end.
 ///
 /// Error: [`TalkFault::Memory`].
-#[tactic(auto, using(crate::proofs::LineAnswers::line_answers))]
+#[tactic(auto, using(crate::proofs::Replies::LineAnswers::line_answers))]
 fn answer_of(
     alloc: Global,
     session: &mut DriverSession,

@@ -33,7 +33,7 @@ pub(crate) enum Line {
 /// Reads the next line. One that is too long is read to its line feed, and forgotten.
 ///
 /// Errors: [`TalkFault::Read`] where a read failed; [`TalkFault::Memory`].
-#[tactic(auto, using(crate::proofs::BreakingOff::lines_left))]
+#[tactic(auto, using(crate::proofs::Talks::BreakingOff::lines_left))]
 pub(crate) fn next_line<R: Read>(alloc: Global, input: &mut R) -> Result<Line, TalkFault>
     ensures line { IfOk result (λ line. TakesLine (R.remaining input.old) (R.remaining input.new) line) }
     ensures readable { IfOk result IsLineReadable }

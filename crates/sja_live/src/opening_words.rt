@@ -3,7 +3,8 @@
 ghost use Rattle.std.specs.Prelude.{IfOk, IfErr};
 ghost use Rattle.sja_live.specs.Inside.Reading.{IsUnopened};
 ghost use Rattle.sja_live.specs.Lines.{IsReadable};
-ghost use Rattle.sja_live.specs.Opening.{Opens};
+ghost use Rattle.sja_live.specs.Opening.{IsLiveLine, IsOpeningFault, Opens};
+ghost use Rattle.sja_plan.specs.Words.{Text, words};
 
 use super::opening::Opening;
 use super::opening_fault::OpeningFault;
@@ -28,15 +29,29 @@ pub(crate) fn opened(alloc: Global, line: &str) -> Result<Opening, Unopened>
     if name != "live" {
         return Err(Unopened::Fault(OpeningFault::Command));
     }
+    match opening_of(version, bits, nodes) {
+        Ok(opening) => Ok(opening),
+        Err(fault) => Err(Unopened::Fault(fault)),
+    }
+}
+
+/// The session that the three words of such a line open.
+///
+/// Error: the first of these words that is wrong.
+fn opening_of(version: &str, bits: &str, nodes: &str) -> Result<Opening, OpeningFault>
+    ensures ok { (line : Text) → IsLiveLine (words line) version.now bits.now nodes.now → IfOk result (Opens line) }
+    ensures err { (line : Text) → IsReadable line → IsLiveLine (words line) version.now bits.now nodes.now
+        → IfErr result (IsOpeningFault line) }
+{
     let Ok(version) = number_within(version, 1, u32::from(RAW_VERSION)) else {
-        return Err(Unopened::Fault(OpeningFault::Version));
+        return Err(OpeningFault::Version);
     };
     let version = version as u8;
     let Ok(bits) = number_within(bits, 1, most_bits(version)) else {
-        return Err(Unopened::Fault(OpeningFault::Bits));
+        return Err(OpeningFault::Bits);
     };
     let Ok(nodes) = number_within(nodes, 1, u32::from(MOST_NODES)) else {
-        return Err(Unopened::Fault(OpeningFault::Nodes));
+        return Err(OpeningFault::Nodes);
     };
     let nodes = nodes as u8;
     Ok(Opening {

@@ -29,7 +29,7 @@ use std::io::{Read, Write};
 ///
 /// Errors: [`TalkFault::Memory`], [`TalkFault::Read`] and [`TalkFault::Write`], where memory was refused, or a read or
 /// a write failed. What was answered before stays written.
-#[tactic(auto, using(crate::proofs::GoingOn::talk_refused, crate::proofs::BreakingOff::unopened))]
+#[tactic(auto, using(crate::proofs::Talks::GoingOn::talk_refused, crate::proofs::Talks::BreakingOff::unopened))]
 pub fn talk<R: Read, W: Write>(
     alloc: Global,
     input: &mut R,

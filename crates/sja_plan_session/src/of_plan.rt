@@ -1,6 +1,6 @@
 //! A session of version 3 that begins as the run of a plan does.
 
-use super::plan_session::{PlanSession, empty_lists};
+use super::plan_session::PlanSession;
 use sja_plan::{MOST_RAW_STEPS_TOLD, MOST_RAW_TURNS, Plan};
 use sja_session::{RawSession, SessionFault, SessionRoom};
 use std::alloc::Global;
@@ -37,15 +37,6 @@ impl PlanSession {
         };
         let nodes = plan.nodes() as u8;
         let raw = RawSession::of_plan(alloc, plan, typed)?;
-        let steps = empty_lists(alloc, nodes, room.steps)?;
-        let done = empty_lists(alloc, nodes, room.steps)?;
-        let turns = Vec::with_capacity(alloc, room.turns as usize + 1)?;
-        Ok(PlanSession {
-            raw,
-            room,
-            steps,
-            done,
-            turns,
-        })
+        Ok(PlanSession::over(alloc, raw, nodes, room)?)
     }
 }

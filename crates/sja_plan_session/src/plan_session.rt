@@ -50,8 +50,11 @@ impl Model for PlanSession {
 }
 
 impl PlanSession {
-    ghost use Rattle.std.specs.Prelude.{◌≡◌, [], IfOk, IfErr, OnOk};
+    ghost use Rattle.std.specs.Prelude.{◌≡◌, ◌≤◌, ℕ, List, [], IfOk, IfErr, OnOk};
+    ghost use Rattle.sja_plan.specs.Limits.{most_bits};
+    ghost use Rattle.sja_script.specs.declared.strike.Strike.{Strike};
     ghost use Rattle.sja_plan_session.specs.History.{IsNew};
+    ghost use Rattle.sja_plan_session.specs.Inside.Beginning.{IsNewBelow};
     ghost use Rattle.sja_plan_session.specs.PlanSessions.{bits_of};
     ghost use Rattle.sja_plan_session.specs.Rooms.{most_room};
     ghost use Rattle.sja_plan_session.specs.Rooms.{MayBegin, IsAccessRoom, IsBeginFault};
@@ -94,6 +97,25 @@ impl PlanSession {
             turns: room.turns,
         };
         let raw = RawSession::with_room(alloc, VERSION, bits, nodes, typed)?;
+        Ok(PlanSession::over(alloc, raw, nodes, room)?)
+    }
+
+    /// The session over this one of typed drivers, to which nothing happened, with empty lists for each of so many
+    /// nodes.
+    ///
+    /// Error: [`AllocError`] where memory was refused.
+    pub(crate) fn over(
+        alloc: Global,
+        raw: RawSession,
+        nodes: u8,
+        room: SessionRoom,
+    ) -> Result<PlanSession, AllocError>
+        requires below { (bits : ℕ) × (strikes : List Strike) × IsNewBelow raw bits nodes room strikes
+            × (bits ≤ most_bits 3) }
+        requires room { IsAccessRoom room }
+        ensures { IfOk result (λ s. (bits : ℕ) (strikes : List Strike) →
+            IsNewBelow raw bits nodes room strikes → IsNew s bits nodes room strikes) }
+    {
         let steps = empty_lists(alloc, nodes, room.steps)?;
         let done = empty_lists(alloc, nodes, room.steps)?;
         let turns = Vec::with_capacity(alloc, room.turns as usize + 1)?;

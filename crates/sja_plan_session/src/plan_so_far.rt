@@ -16,7 +16,7 @@ impl PlanSession {
 
     /// What the session wrote is within the limits of a document of version 3. It does nothing: a caller who needs a
     /// limit calls it for its contract.
-    #[tactic(auto, using(crate::proofs::Written::within_limits))]
+    #[tactic(auto, using(crate::proofs::WrittenPlan::Written::within_limits))]
     pub fn limits(&self)
         ensures { IsWithinLimits self.now }
     {

@@ -14,7 +14,7 @@ impl PlanSession {
     ///
     /// Error: [`TurnsUsed`] where a bit is to be run, there is room for no more turns, and the last one isn't of the
     /// bus. Nothing changed.
-    #[tactic(auto, using(crate::proofs::Ran::bits_kept, crate::proofs::Ran::writes_bits))]
+    #[tactic(auto, using(crate::proofs::AfterCalls::Ran::bits_kept, crate::proofs::AfterCalls::Ran::writes_bits))]
     pub fn bits(&mut self, count: u32) -> Result<u32, TurnsUsed>
         ensures bits { IfOk result (λ run. (deeds : List (List Deed)) → IsAt self.old.raw.session deeds →
             Runs self.old self.new count run deeds) }
@@ -32,7 +32,7 @@ impl PlanSession {
     /// rest.
     ///
     /// Error: [`TurnsUsed`], as [`bits`](PlanSession::bits) tells it.
-    #[tactic(auto, using(crate::proofs::Ran::rest_kept, crate::proofs::Ran::writes_bits))]
+    #[tactic(auto, using(crate::proofs::AfterCalls::Ran::rest_kept, crate::proofs::AfterCalls::Ran::writes_bits))]
     pub fn rest(&mut self) -> Result<Rested, TurnsUsed>
         ensures rests { IfOk result (λ r. (deeds : List (List Deed)) → IsAt self.old.raw.session deeds →
             RunsToRest self.old self.new r.bits r.at_rest deeds) }
@@ -50,7 +50,7 @@ impl PlanSession {
     /// rises. It says how many were run, and whose line rose.
     ///
     /// Error: [`TurnsUsed`], as [`bits`](PlanSession::bits) tells it.
-    #[tactic(auto, using(crate::proofs::Ran::watch_kept, crate::proofs::Ran::writes_bits))]
+    #[tactic(auto, using(crate::proofs::AfterCalls::Ran::watch_kept, crate::proofs::AfterCalls::Ran::writes_bits))]
     pub fn watch(&mut self, count: u32, watched: [bool; 8]) -> Result<Watched, TurnsUsed>
         ensures watches { IfOk result (λ w. (deeds : List (List Deed)) → IsAt self.old.raw.session deeds →
             RunsToLine self.old self.new count watched w.bits w.rose deeds) }
@@ -74,7 +74,7 @@ impl PlanSession {
 
     /// Whether the interrupt line of a node, counted from 0, is active. None where there is no such node. It is no
     /// step: nothing happens, and the plan has nothing of it.
-    #[tactic(auto, using(crate::proofs::Ran::look_kept, crate::proofs::Ran::looks_in))]
+    #[tactic(auto, using(crate::proofs::AfterCalls::Ran::look_kept, crate::proofs::AfterCalls::Ran::looks_in))]
     pub fn irq(&mut self, node: u8) -> Option<bool>
         ensures line { IfSome result (λ line. (deeds : List (List Deed)) → IsAt self.old.raw.session deeds →
             LooksIn self.old self.new node line deeds) }

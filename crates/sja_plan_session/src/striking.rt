@@ -15,7 +15,7 @@ impl PlanSession {
     /// as a strike of the plan. Nothing else changes.
     ///
     /// Errors: those of [`Session::strike`](sja_session::Session::strike), and nothing changed.
-    #[tactic(auto, using(crate::proofs::Ran::strike_kept, crate::proofs::Ran::strikes_in))]
+    #[tactic(auto, using(crate::proofs::AfterCalls::Ran::strike_kept, crate::proofs::AfterCalls::Ran::strikes_in))]
     pub fn strike(&mut self, alloc: Global, node: u8, bit: u32) -> Result<(), StrikeFault>
         ensures struck { OnOk result ((deeds : List (List Deed)) → IsAt self.old.raw.session deeds →
             Strikes self.old self.new node bit deeds) }

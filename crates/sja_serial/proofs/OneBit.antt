@@ -4,5 +4,4 @@ pub mod BitCounted
 pub mod BitPort
 pub mod Bit
 pub mod OtherWords
-pub mod Noted
 pub mod BitRun

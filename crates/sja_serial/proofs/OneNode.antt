@@ -1,10 +1,10 @@
 -- One node, as its driver goes on and as bits run.
+pub mod Settings
 pub mod Ports
 pub mod Trying
 pub mod Asked
 pub mod Counting
 pub mod After
-pub mod Dating
 pub mod Ported
 pub mod Gathered
 pub mod Done

@@ -4,6 +4,7 @@ pub mod GoingOn
 pub mod AfterBusTurn
 pub mod AfterNodeTurn
 pub mod Coming
+pub mod NextTurn
 pub mod Ended
 pub mod Whole
 pub mod Struck

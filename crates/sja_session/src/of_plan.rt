@@ -7,13 +7,12 @@ ghost use Rattle.sja_session.specs.Beginning.{blank_like};
 
 use super::beginning::check_room;
 use super::plan_so_far::copied_strikes;
-use super::raw_session::RawSession;
+use super::raw_session::{RawSession, with_kept};
 use super::session::Session;
 use super::session_fault::SessionFault;
 use super::session_room::SessionRoom;
 use can_frame::OutOfMemory;
 use sja_plan::Plan;
-use sja_raw::KeptBytes;
 use sja_script::Step;
 use sja_serial::SerialRun;
 use std::alloc::Global;
@@ -81,8 +80,7 @@ impl RawSession {
         ensures err { IfErr result (LacksRoom plan.now.version room) }
     {
         let session = Session::of_plan(alloc, plan, room)?;
-        let kept = Vec::from_elem(alloc, KeptBytes::new(), plan.nodes())?;
-        Ok(RawSession { session, kept })
+        Ok(with_kept(alloc, session, plan.nodes())?)
     }
 }
 

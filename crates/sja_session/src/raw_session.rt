@@ -1,5 +1,8 @@
 //! [`RawSession`]: a session whose drivers know addresses and bytes alone.
 
+ghost use Rattle.std.specs.Prelude.{◌≡◌, length, replicate, IfOk};
+ghost use Rattle.sja_raw.specs.Kept.{at_power_on};
+
 use super::answered::Answered;
 use super::session::Session;
 use super::session_fault::SessionFault;
@@ -11,7 +14,7 @@ use sja_log::RunLog;
 use sja_plan::Plan;
 use sja_raw::KeptBytes;
 use sja_script::Step;
-use std::alloc::Global;
+use std::alloc::{AllocError, Global};
 use std::marker::Model;
 
 /// A session whose drivers know addresses and bytes alone (this project's own rule): a [`Session`], and the registers
@@ -58,7 +61,8 @@ impl RawSession {
         ensures limits { OnOk result (MayBegin version bits nodes) }
         ensures err { IfErr result (IsSessionFault version bits nodes (most_room version)) }
     {
-        RawSession::with_room(alloc, version, bits, nodes, SessionRoom::most(version))
+        let session = Session::new(alloc, version, bits, nodes)?;
+        Ok(with_kept(alloc, session, usize::from(nodes))?)
     }
 
     /// The same, as [`Session::with_room`] makes it.
@@ -80,8 +84,7 @@ impl RawSession {
         ensures err { IfErr result (IsSessionFault version bits nodes room) }
     {
         let session = Session::with_room(alloc, version, bits, nodes, room)?;
-        let kept = Vec::from_elem(alloc, KeptBytes::new(), usize::from(nodes))?;
-        Ok(RawSession { session, kept })
+        Ok(with_kept(alloc, session, usize::from(nodes))?)
     }
 
     /// The session: its bits, its answers and its plan so far.
@@ -163,4 +166,18 @@ impl RawSession {
     {
         self.session.finish(alloc)
     }
+}
+
+/// A session with the kept registers of its nodes, of so many, as after power-on.
+pub(crate) fn with_kept(
+    alloc: Global,
+    session: Session,
+    nodes: usize,
+) -> Result<RawSession, AllocError>
+    requires { length session.plan.nodes ≡ nodes }
+    ensures session { IfOk result (λ r. r.session ≡ session) }
+    ensures kept { IfOk result (λ r. r.kept ≡ replicate nodes at_power_on) }
+{
+    let kept = Vec::from_elem(alloc, KeptBytes::new(), nodes)?;
+    Ok(RawSession { session, kept })
 }

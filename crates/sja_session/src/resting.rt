@@ -3,9 +3,8 @@
 use super::raw_session::RawSession;
 use super::rested::Rested;
 use super::session::Session;
-use super::turns::push_turn;
+use super::turns::push_bits;
 use super::turns_used::TurnsUsed;
-use sja_plan::Turn;
 
 impl Session {
     ghost use Rattle.std.specs.Prelude.{◌≡◌, List, IfOk, OnOk, OnErr};
@@ -32,9 +31,7 @@ impl Session {
         let before = self.run.bits();
         let at_rest = self.run.rest_turn(&self.plan);
         let bits = self.run.bits() - before;
-        if bits > 0 {
-            push_turn(&mut self.turns, Turn::Bus(bits));
-        }
+        push_bits(&mut self.turns, bits);
         Ok(Rested { bits, at_rest })
     }
 }

@@ -1,7 +1,7 @@
 //! The bits of a session.
 
 use super::session::Session;
-use super::turns::push_turn;
+use super::turns::push_bits;
 use super::turns_used::TurnsUsed;
 use sja_plan::Turn;
 
@@ -28,9 +28,7 @@ impl Session {
         let before = self.run.bits();
         self.run.bus_turn(&self.plan, count);
         let run = self.run.bits() - before;
-        if run > 0 {
-            push_turn(&mut self.turns, Turn::Bus(run));
-        }
+        push_bits(&mut self.turns, run);
         Ok(run)
     }
 }

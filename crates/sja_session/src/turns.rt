@@ -1,7 +1,8 @@
 //! The turns that a session takes, as its plan has them.
 
 ghost use Rattle.std.specs.Prelude.{◌≡◌, ◌+◌, ◌<◌, ◌^◌, reverse, vec_len, vec_capacity};
-ghost use Rattle.sja_session.specs.Turning.{goes_on, enlarged, size_of, with_turn, goes_on_latest, FitsLast};
+ghost use Rattle.sja_plan.specs.declared.turn.Turn.TheVariants.{Bus};
+ghost use Rattle.sja_session.specs.Turning.{goes_on, enlarged, size_of, with_turn, with_bits, goes_on_latest, FitsLast};
 
 use sja_plan::Turn;
 
@@ -25,6 +26,18 @@ pub fn push_turn(turns: &mut Vec<Turn>, turn: Turn)
                 turns.push_reserved(turn);
             }
         }
+    }
+}
+
+/// Takes so many bits that were run as a turn of the bus more; where none were, no turn is taken.
+pub(crate) fn push_bits(turns: &mut Vec<Turn>, bits: u32)
+    requires room { vec_len turns.old < vec_capacity turns.old }
+    requires fits { FitsLast turns.old.items (Bus bits) }
+    ensures turns { turns.new.items ≡ with_bits turns.old.items bits }
+    ensures capacity { vec_capacity turns.new ≡ vec_capacity turns.old }
+{
+    if bits > 0 {
+        push_turn(turns, Turn::Bus(bits));
     }
 }
 

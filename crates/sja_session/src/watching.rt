@@ -67,7 +67,8 @@ impl Session {
         run
     }
 
-    /// Which interrupt lines of watched nodes are active, a place for each node that there may be.
+    /// Which interrupt lines of watched nodes are active, a place for each node that there may be. Of the nodes that
+    /// are there each that is watched is looked at.
     fn lines(&mut self, watched: &[bool; 8]) -> [bool; 8]
         ensures still { (deeds : List (List Deed)) → IsAt self.old deeds → IsStill self.old self.new deeds }
         ensures lines { (deeds : List (List Deed)) → IsAt self.old deeds → (k : ℕ) → k < length self.old.plan.nodes
@@ -76,7 +77,8 @@ impl Session {
         ensures none { (k : ℕ) → length self.old.plan.nodes ≤ k → slice_index_or result k false ≡ false }
     {
         let mut lines = [false; 8];
-        for node in 0..8u8 {
+        let nodes = self.nodes() as u8;
+        for node in 0..nodes {
             let place = usize::from(node);
             if watched[place] {
                 if let Some(line) = self.irq(node) {

@@ -43,3 +43,14 @@ pub count_from : {B : Type 0} (f : ℕ → List B) (first i old n new : ℕ) →
 count_from f first i old n new low so_far one added =
     let both = length-append (gathered f (range_with_len first (i - first))) (f i) in
     let next = ap (λ l. length l) (gathered_next f first i low) in omega (arith, so_far, one, added, both, next)
+
+-- once so many numbers are reached that were to be
+pub gather_end : {B : Type 0} (f : ℕ → List B) (first i n : ℕ) (begun new : List B) →
+    new ≡ begun ++ gathered f (range_with_len first (i - first)) → i - first ≡ n →
+    new ≡ begun ++ gathered f (range_with_len first n)
+gather_end f first i n begun new so_far same = so_far ∙ ap (λ k. begun ++ gathered f (range_with_len first k)) same
+
+pub map_end : {B : Type 0} (f : ℕ → B) (first i n : ℕ) (begun new : List B) →
+    new ≡ begun ++ map f (range_with_len first (i - first)) → i - first ≡ n →
+    new ≡ begun ++ map f (range_with_len first n)
+map_end f first i n begun new so_far same = so_far ∙ ap (λ k. begun ++ map f (range_with_len first k)) same

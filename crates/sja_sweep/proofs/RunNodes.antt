@@ -14,7 +14,7 @@ use Rattle.sja_session.specs.RawSessions.{DoesSteps as DoesTyped}
 use Rattle.sja_session.specs.RawSessions.DoesSteps.{none, more as one_more}
 use Rattle.sja_session.specs.Sessions.{SessionValue, IsAt}
 use Rattle.sja_session.specs.Writing.{done_counts}
-use Rattle.sja_session.proofs.Written.{counts_many, length_fronts}
+use Rattle.sja_session.proofs.WrittenPlan.Written.{counts_many, length_fronts}
 use Rattle.sja_plan_session.specs.Accessing.{DoesStep}
 use Rattle.sja_plan_session.specs.PlanRuns.{IsPlanRun}
 use Rattle.sja_plan_session.specs.PlanSessions.{PlanSessionValue}
@@ -22,7 +22,7 @@ use Rattle.sja_plan_session.specs.RawRuns.{DoesSteps, DoesTurns, IsRawRun}
 use Rattle.sja_plan_session.specs.RawRuns.DoesSteps.{all, over, waits, more}
 use Rattle.sja_plan_session.specs.RawRuns.DoesTurns.{all_done, bus, bus_spent, rest, rest_spent, node}
 use Rattle.sja_log.proofs.LogWith.{with_many}
-use Rattle.sja_plan_session.proofs.Typed.{chain_of}
+use Rattle.sja_plan_session.proofs.AfterCalls.Typed.{chain_of}
 
 -- ---- a session of version 3 that takes the turns of a plan
 

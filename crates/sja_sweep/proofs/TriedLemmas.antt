@@ -1,7 +1,9 @@
 -- Strikes that were tried, one after another, and their runs.
 use Rattle.std.proofs.Common.{◌≡◌, ℕ, ◌+◌, ◌*◌, ◌<◌, ◌≤◌, false, List, [], ◌∷◌, ◌++◌, length, map, take}
 use Rattle.std.proofs.Common.{get_or, refl, sym, ap, ap₂, ◌∙◌, subst}
+use Rattle.std.specs.Prelude.{Result, Ok, Err, IfOk, string_bytes}
 use Rattle.std.proofs.lemmas.List.{map-append, take_more}
+use Rattle.sja_sweep.specs.declared.swept.Swept.{Swept}
 use Rattle.sja_sweep.specs.declared.told.Told.{Told}
 use Rattle.sja_sweep.specs.declared.sweeping.Sweeping.{Sweeping}
 use Rattle.sja_sweep.specs.SweepText.{sweep_text, sweep_rows}
@@ -78,7 +80,7 @@ tried_both plan planned ts part whole old tolds new both added so_far more =
     (zip_append (IsTried plan planned) ts part (map told_value old) (map told_value tolds) so_far more))
 
 -- a sweep whose trials were made, and whose texts tell their outcomes
-pub sweep_is : (plan : PlanValue) (s : Sweeping) (planned : RanValue) (trials : List Trial) (outcomes : List Outcome)
+sweep_is : (plan : PlanValue) (s : Sweeping) (planned : RanValue) (trials : List Trial) (outcomes : List Outcome)
     (text rows : List ℕ) → IsBegun plan s planned trials → AreTried plan planned trials outcomes →
     text ≡ sweep_text s.changed planned.log outcomes → rows ≡ sweep_rows outcomes → IsSweep plan s text rows
 sweep_is plan s planned trials outcomes text rows begun tried text_is rows_are =
@@ -99,3 +101,14 @@ sweep_is plan s planned trials outcomes text rows begun tried text_is rows_are =
       room = subst Room begun.trials_are begun.room;
       node = begun.node;
     }
+
+-- the same of texts, or of none where memory was refused
+pub sweep_texts : {X : Type 0} (plan : PlanValue) (s : Sweeping) (planned : RanValue) (trials : List Trial)
+    (outcomes : List Outcome) (texts : Result Swept X) → IsBegun plan s planned trials →
+    AreTried plan planned trials outcomes →
+    IfOk texts (λ swept. string_bytes swept.text ≡ sweep_text s.changed planned.log outcomes) →
+    IfOk texts (λ swept. string_bytes swept.rows ≡ sweep_rows outcomes) →
+    IfOk texts (λ swept. IsSweep plan s (string_bytes swept.text) (string_bytes swept.rows))
+sweep_texts plan s planned trials outcomes (Ok swept) begun tried text rows =
+    sweep_is plan s planned trials outcomes _ _ begun tried text rows
+sweep_texts plan s planned trials outcomes (Err fault) begun tried text rows = tt

@@ -1,9 +1,9 @@
 //! The runs of a sweep in several threads.
 
-ghost use Rattle.std.specs.Prelude.{◌≡◌, ◌<◌, ◌≤◌, length, All, IfOk, IfErr, map};
+ghost use Rattle.std.specs.Prelude.{◌≡◌, ◌<◌, ◌≤◌, length, All, IfOk, IfErr};
 ghost use Rattle.sja_sweep.specs.Errors.{IsRan};
-ghost use Rattle.sja_sweep.specs.Inside.Reaching.{ran_value, told_value, IsThere, IsTrialFault};
-ghost use Rattle.sja_sweep.specs.Inside.Tried.{AreTried};
+ghost use Rattle.sja_sweep.specs.Inside.Reaching.{ran_value, IsThere, IsTrialFault};
+ghost use Rattle.sja_sweep.specs.Inside.Tried.{AreTold};
 
 use super::ran::Ran;
 use super::runs::all_tried;
@@ -26,15 +26,14 @@ pub(crate) fn tried_in_jobs<R: Threads + Sync>(
 ) -> Result<Vec<Told>, SweepFault>
     requires planned { IsRan plan.now (ran_value planned.now) }
     requires there { All (IsThere plan.now) trials.now }
-    ensures ok { IfOk result (λ tolds.
-        AreTried plan.now (ran_value planned.now) trials.now (map told_value tolds.items)) }
+    ensures ok { IfOk result (λ tolds. AreTold plan.now (ran_value planned.now) trials.now tolds.items) }
     ensures err { IfErr result IsTrialFault }
 {
     let size = trials.len().div_ceil(jobs.max(1)).max(1);
     let part = |_: usize, trials: &[Trial]| -> Result<Vec<Told>, SweepFault>
         requires { IsRan plan.now (ran_value planned.now) × All (IsThere plan.now) trials.now }
         ensures { IfOk result (λ tolds.
-            AreTried plan.entry.now (ran_value planned.entry.now) trials.entry.now (map told_value tolds.items))
+            AreTold plan.entry.now (ran_value planned.entry.now) trials.entry.now tolds.items)
             × IfErr result IsTrialFault }
     { all_tried(alloc, plan, planned, trials) };
     let parts = map_chunks(rt, alloc, trials, size, &part)?;

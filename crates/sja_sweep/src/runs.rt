@@ -1,6 +1,6 @@
 //! The runs of a sweep, each with one strike, or two.
 
-ghost use Rattle.std.specs.Prelude.{◌≡◌, ◌+◌, ◌<◌, ◌≤◌, length, All, IfOk, IfErr, map};
+ghost use Rattle.std.specs.Prelude.{◌≡◌, ◌+◌, ◌<◌, ◌≤◌, length, All, IfOk, IfErr};
 ghost use Rattle.sja_plan.specs.Limits.{most_strikes};
 ghost use Rattle.sja_plan.specs.Plan.{times_in};
 ghost use Rattle.sja_plan.specs.Struck.{struck_at};
@@ -8,7 +8,7 @@ ghost use Rattle.sja_sweep.specs.Errors.{IsRan};
 ghost use Rattle.sja_sweep.specs.declared.sweep_fault.SweepFault.TheVariants.{Memory};
 ghost use Rattle.sja_sweep.specs.Targets.{struck_by};
 ghost use Rattle.sja_sweep.specs.Inside.Reaching.{ran_value, told_value, IsThere, IsTrialFault};
-ghost use Rattle.sja_sweep.specs.Inside.Tried.{IsTried, AreTried};
+ghost use Rattle.sja_sweep.specs.Inside.Tried.{IsTried, AreTold};
 
 use super::ran::{Ran, run_plan};
 use super::sweep_fault::SweepFault;
@@ -27,8 +27,7 @@ pub(crate) fn all_tried(
 ) -> Result<Vec<Told>, SweepFault>
     requires planned { IsRan plan.now (ran_value planned.now) }
     requires there { All (IsThere plan.now) trials.now }
-    ensures ok { IfOk result (λ tolds.
-        AreTried plan.now (ran_value planned.now) trials.now (map told_value tolds.items)) }
+    ensures ok { IfOk result (λ tolds. AreTold plan.now (ran_value planned.now) trials.now tolds.items) }
     ensures err { IfErr result IsTrialFault }
 {
     let mut tolds = Vec::new(alloc);

@@ -1,17 +1,21 @@
 //! [`sweep`] and [`sweep_jobs`]: whole sweeps, in one thread and in several.
 
-ghost use Rattle.std.specs.Prelude.{string_bytes, IfOk, IfErr};
+ghost use Rattle.std.specs.Prelude.{map, string_bytes, IfOk, IfErr};
+ghost use Rattle.sja_plan.specs.Plan.{PlanValue};
+ghost use Rattle.sja_sweep.specs.Inside.Reaching.{ran_value, told_value};
+ghost use Rattle.sja_sweep.specs.Inside.Tried.{IsBegun, AreTried};
 ghost use Rattle.sja_sweep.specs.Sweeps.{IsSweep, IsSweepFault};
 
-use super::begun::begin;
+use super::begun::{Begun, begin};
 use super::jobs::tried_in_jobs;
 use super::runs::all_tried;
 use super::sweep_fault::SweepFault;
 use super::sweeping::Sweeping;
 use super::swept::Swept;
+use super::told::Told;
 use super::written::written;
 use sja_plan::Plan;
-use std::alloc::Global;
+use std::alloc::{AllocError, Global};
 use std::thread::Threads;
 
 /// Runs a plan as it is, and then with what is tried: one strike more, or two, one run after the other. It tells what
@@ -32,12 +36,7 @@ pub fn sweep(alloc: Global, plan: &Plan, sweeping: &Sweeping) -> Result<Swept, S
 {
     let begun = begin(alloc, plan, sweeping)?;
     let tolds = all_tried(alloc, plan, &begun.planned, begun.trials.as_slice())?;
-    let swept = written(
-        alloc,
-        sweeping.changed,
-        &begun.planned.log,
-        tolds.as_slice(),
-    )?;
+    let swept = texts(alloc, sweeping, &begun, tolds.as_slice())?;
     Ok(swept)
 }
 
@@ -60,11 +59,22 @@ pub fn sweep_jobs<R: Threads + Sync>(
     let begun = begin(alloc, plan, sweeping)?;
     let trials = begun.trials.as_slice();
     let tolds = tried_in_jobs(rt, alloc, plan, &begun.planned, trials, jobs)?;
-    let swept = written(
-        alloc,
-        sweeping.changed,
-        &begun.planned.log,
-        tolds.as_slice(),
-    )?;
+    let swept = texts(alloc, sweeping, &begun, tolds.as_slice())?;
     Ok(swept)
+}
+
+/// The texts of a sweep that is begun, by what came of each trial.
+///
+/// Error: [`AllocError`] where memory was refused.
+fn texts(
+    alloc: Global,
+    sweeping: &Sweeping,
+    begun: &Begun,
+    tolds: &[Told],
+) -> Result<Swept, AllocError>
+    ensures { (plan : PlanValue) → IsBegun plan sweeping.now (ran_value begun.now.planned) begun.now.trials.items
+        → AreTried plan (ran_value begun.now.planned) begun.now.trials.items (map told_value tolds.now)
+        → IfOk result (λ swept. IsSweep plan sweeping.now (string_bytes swept.text) (string_bytes swept.rows)) }
+{
+    written(alloc, sweeping.changed, &begun.planned.log, tolds)
 }

@@ -8,7 +8,7 @@ use Rattle.sja_link.specs.Deques.{Deques, Lies}
 use Rattle.lemmas.specs.Related.{EachRelated}
 use Rattle.sja_regs.specs.Registers.{at_power_on}
 use Rattle.sja_bus.specs.Boards.{HasOrders}
-use Rattle.sja_bus.specs.Buses.{EachJournal, KeepsAll, EachUntold, untold_at}
+use Rattle.sja_bus.specs.Buses.{EachJournal, KeepsAll, EachUntold}
 use Rattle.sja_wire.specs.Lawful.{IsBusRun}
 use Rattle.sja_wire.specs.OneBit.{MayHaveItems}
 use Rattle.sja_wire.specs.Links.{per_node, Kept}
@@ -22,7 +22,8 @@ use Rattle.sja_serial.specs.Bits.{TakesBits, TakesAtOnce}
 use Rattle.sja_serial.specs.Serial.{SerialValue, StandsAt, run_now}
 use Rattle.sja_serial.specs.UntilTold.{NotesTurn, KeepsTurn}
 use Rattle.sja_driver.specs.Deeds.{deeds_at}
-use Rattle.sja_serial.proofs.OneBit.BitRun.{some_of, no_link}
+use Rattle.sja_serial.proofs.OneBit.BitRun.{some_of}
+use Rattle.sja_serial.proofs.OneNode.Gathered.{no_link}
 use Rattle.sja_log.proofs.Account.Dry.{none_taken}
 use Rattle.sja_serial.proofs.WholeRun.GoingOn.{stands_bits}
 use Rattle.sja_serial.proofs.OneNode.Standing.{none_untold}
@@ -57,6 +58,20 @@ module _ (plan : PlanValue) (r n : SerialValue) (deeds : List (List Deed)) (h : 
       subst (λ (l : List (List Entry)). Kept Lies (journal_at l m) n.links (per_node * m) acc)
       (with_none r.bus.journals) (keeps_still count 0 r.bus.journals n.links m acc few now)
 
+  -- the run after them is this one
+  is_run : (count : ℕ) → n.bus.run ≡ r.bus.run + count → n.bus.left + count ≡ r.bus.left → n.bits ≡ r.bits + count →
+      n.bus.journals ≡ with_recessive count r.bus.journals → run_at r n.links n.bus.untold count ≡ n
+  is_run count run left bits grown = let less : r.bus.left - count ≡ n.bus.left = omega (arith, left) in
+      λ i. run_now (record {
+        script = sym script i;
+        steps = sym room i;
+        run = sym run i;
+        left = less i;
+        fault = (h.right ∙ sym right) i;
+        journals = sym grown i;
+        untold = n.bus.untold;
+      }) (sym drivers i) (sym ports i) (sym turns i) n.links (sym bits i)
+
   pub takes_at_once : (most count : ℕ) → count ≤ most → n.bus.run ≡ r.bus.run + count →
       n.bus.left + count ≡ r.bus.left → n.bits ≡ r.bits + count →
       (count ≡ 0 → EachJournal MayHaveItems r.bus.journals n.bus.journals) →
@@ -65,32 +80,21 @@ module _ (plan : PlanValue) (r n : SerialValue) (deeds : List (List Deed)) (h : 
       r.bus.untold r.bus.journals n.bus.journals) →
       TakesAtOnce plan deeds r n most count
   takes_at_once most zero within run left bits items untold stretch =
-      let same = none_came (items refl) in record {
+      let same = none_came (items refl) in let grown = same ∙ sym (with_none r.bus.journals) in
+      let stood = stands_still plan r deeds h n.links sames (kept_back 0 grown) n.bus.untold (λ m less e.
+      let c = h.count.journals in let few : m < length r.bus.journals = omega (arith, c, less) in
+      (none_untold (items refl m few) (untold refl m few) e).0) in record {
         within = within;
-        stands = stands_still plan r deeds h n.links sames
-            (kept_back 0 (same ∙ sym (with_none r.bus.journals))) n (λ m less e.
-            let c = h.count.journals in let few : m < length r.bus.journals = omega (arith, c, less) in
-            (none_untold (untold_at r.bus.untold m) (untold_at n.bus.untold m) (journal_at r.bus.journals m)
-            (journal_at n.bus.journals m) (items refl m few) (untold refl m few) e).0) right script room
-            (omega (arith, run)) (omega (arith, left)) (omega (arith, bits)) same drivers ports turns refl;
+        stands = subst (λ (x : SerialValue). StandsAt plan x deeds) (is_run 0 run left bits grown) stood;
         none = λ zero. (omega (arith, bits), same);
         some = λ ne. absurd (ne refl);
       }
   takes_at_once most (suc k) within run left bits items untold stretch =
       let s = stretch (λ z. absurd (omega (arith, z))) in
-      let less : r.bus.left - suc k ≡ n.bus.left = omega (arith, left) in
       let all = all_at_once plan r deeds h n.links sames (kept_back (suc k) s.grown) (suc k) n.bus.journals
       (omega (arith, left)) was s n.bus.untold k refl in
-      let is : run_at r n.links n.bus.untold (suc k) ≡ n = λ i. run_now (record {
-        script = sym script i;
-        steps = sym room i;
-        run = sym run i;
-        left = less i;
-        fault = (h.right ∙ sym right) i;
-        journals = sym s.grown i;
-        untold = n.bus.untold;
-      }) (sym drivers i) (sym ports i) (sym turns i) n.links (sym bits i) in
-      let taken = subst (λ (x : SerialValue). TakesBits plan deeds (λ y. Unit {0}) r (suc k) x) is all in record {
+      let taken = subst (λ (x : SerialValue). TakesBits plan deeds (λ y. Unit {0}) r (suc k) x)
+      (is_run (suc k) run left bits s.grown) all in record {
         within = within;
         stands = stands_bits plan deeds _ r n (suc k) taken h;
         none = λ zero. absurd (omega (arith, zero));

@@ -9,24 +9,33 @@ use Rattle.sja_wire.specs.Lawful.{IsBusRun}
 use Rattle.sja_plan.specs.Plan.{PlanValue}
 use Rattle.sja_driver.specs.declared.logged_driver.LoggedDriver.{LoggedDriver}
 use Rattle.sja_driver.specs.Deeds.{Deed}
-use Rattle.sja_serial.specs.Serial.{SerialValue, StandsAt, IsRunOf, run_now}
+use Rattle.sja_serial.specs.Serial.{SerialValue, StandsAt, run_now}
 
-module _ (bus : BusValue) (drivers : List LoggedDriver) (ports : List Registers)
-    (turns : List (Option BusTurn)) (slice links : List Deques) (bits : ℕ) (r : SerialValue) (same : slice ≡ links)
+module _ {bus : BusValue} {drivers : List LoggedDriver} {ports : List Registers} {turns : List (Option BusTurn)}
+    {slice links : List Deques} {bits : ℕ} {r : SerialValue} (same : slice ≡ links)
     (view : run_now bus drivers ports turns links bits ≡ r) where
   -- it is that run
   pub run_is : run_now bus drivers ports turns slice bits ≡ r
   run_is = (λ i. run_now bus drivers ports turns (same i) bits) ∙ view
 
   -- it stands where that run does, and has bits left where that has
-  pub stands_there : (plan : PlanValue) → IsRunOf plan r → r.bits < plan.bits → (deeds : List (List Deed))
-      × StandsAt plan (run_now bus drivers ports turns slice bits) deeds × (bits < plan.bits)
-  stands_there plan run left = (
-    run.0,
-    subst (λ (x : SerialValue). StandsAt plan x run.0) (sym run_is) run.1,
-    subst (λ (x : SerialValue). x.bits < plan.bits) (sym run_is) left,
-  )
+  pub stands_there : (plan : PlanValue) (deeds : List (List Deed)) → StandsAt plan r deeds →
+      StandsAt plan (run_now bus drivers ports turns slice bits) deeds
+  stands_there plan deeds = subst (λ (x : SerialValue). StandsAt plan x deeds) (sym run_is)
+
+  pub left_there : (plan : PlanValue) → r.bits < plan.bits → bits < plan.bits
+  left_there plan = subst (λ (x : SerialValue). x.bits < plan.bits) (sym run_is)
 
   -- and its bus has its laws where that of the run has
   pub lawful_there : IsBusRun r.bus.script r.bus.run r.bus.journals → IsBusRun bus.script bus.run bus.journals
   lawful_there = subst (λ (x : SerialValue). IsBusRun x.bus.script x.bus.run x.bus.journals) (sym view)
+
+  -- what comes of it is what comes of that run, whose links are put back
+  pub put_back : (P : SerialValue → SerialValue → Type 0) (now : BusValue) (drivers_now : List LoggedDriver)
+      (ports_now : List Registers) (turns_now : List (Option BusTurn)) (after back : List Deques) (bits_now : ℕ) →
+      back ≡ after → P (run_now bus drivers ports turns slice bits)
+      (run_now now drivers_now ports_now turns_now after bits_now) →
+      P r (run_now now drivers_now ports_now turns_now back bits_now)
+  put_back P now drivers_now ports_now turns_now after back bits_now is h =
+      subst (λ (l : List Deques). P r (run_now now drivers_now ports_now turns_now l bits_now)) (sym is)
+      (subst (λ (x : SerialValue). P x (run_now now drivers_now ports_now turns_now after bits_now)) run_is h)

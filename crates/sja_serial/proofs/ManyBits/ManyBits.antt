@@ -20,7 +20,7 @@ use Rattle.sja_serial.specs.Bits.{TakesBits, SomeWorks}
 use Rattle.sja_serial.specs.Serial.{SerialValue, StandsAt, IsRunOf, run_now}
 use Rattle.sja_serial.specs.UntilTold.{TellsBit, TellsBits, WorksUntold as WorksUntoldInRun}
 use Rattle.sja_serial.specs.UntilTold.TellsBits.{no_bit, one_more}
-use Rattle.sja_serial.proofs.OneBit.Noted.{noted_bit}
+use Rattle.sja_serial.proofs.OneBit.OtherWords.{noted_bit}
 use Rattle.sja_serial.proofs.OneBit.BitRun.{cuts_of, tells_bit}
 use Rattle.sja_serial.proofs.WholeRun.GoingOn.{bits_run}
 use Rattle.sja_serial.proofs.ManyBits.Borrowed.{run_is, lawful_there}
@@ -159,12 +159,12 @@ module _ (bus : BusValue) (drivers : List LoggedDriver) (board : NotingBoard) (s
 
   was_is : run_then drivers was ≡ r
   was_is = (λ i. run_now bus drivers board.board.ports.items board.turns.items slice (sym bits_are i))
-      ∙ run_is bus drivers board.board.ports.items board.turns.items slice links bits r same view
+      ∙ run_is same view
 
   there : (deeds : List (List Deed)) → StandsAt plan r deeds → IsThere plan deeds drivers was
   there deeds h = record {
     stands = subst (λ (x : SerialValue). StandsAt plan x deeds) (sym was_is) h;
-    lawful = lawful_there bus drivers board.board.ports.items board.turns.items slice links bits r same view lawful;
+    lawful = lawful_there same view lawful;
   }
 
   -- none of its bits broke off

@@ -1,7 +1,7 @@
 -- Bits of a run, one after another.
 use Rattle.std.specs.Prelude.{◌⊎◌, min}
 use Rattle.std.proofs.Common.{◌≡◌, ℕ, zero, suc, ◌+◌, ◌<◌, ◌≤◌, Bool, true, false, List, length}
-use Rattle.std.proofs.Common.{refl, sym, ◌∙◌, subst, arith, inl, inr}
+use Rattle.std.proofs.Common.{sym, ◌∙◌, subst, arith, inl, inr}
 use Rattle.std.proofs.lemmas.Bool.{cases_lt}
 use Rattle.sja_link.specs.declared.entry.Entry.{Entry}
 use Rattle.sja_link.specs.Records.{record_of}
@@ -186,9 +186,3 @@ pub none_then_one : (plan : PlanValue) (deeds : List (List Deed)) (r m n : Seria
     TakesAtOnce plan deeds r m most run → run ≡ 0 → TakesBit plan deeds m n → TakesBits plan deeds (λ x. Unit {0}) r 1 n
 none_then_one plan deeds r m n most run once is_none t = just_one plan deeds (λ x. Unit {0}) r n tt
     (one_after plan deeds r m n (once.none is_none) t)
-
--- where none was run it is the same run
-pub none_ran : (plan : PlanValue) (deeds : List (List Deed)) (Before : SerialValue → Type 0) (r m : SerialValue)
-    (run : ℕ) → TakesBits plan deeds Before r run m → run ≡ 0 → m ≡ r
-none_ran plan deeds Before r m run (no_bit _) is_none = refl
-none_ran plan deeds Before r m run (one_more _ mid _ k before holds bit) is_none = absurd (omega (arith, is_none))

@@ -1,18 +1,15 @@
 -- Recessive bits that are run at once while nothing is taken: each of them is a bit of the run.
 use Rattle.std.proofs.Common.{◌≡◌, ℕ, zero, suc, ◌+◌, ◌-◌, ◌*◌, ◌<◌, ◌≤◌, Bool, List, []}
 use Rattle.std.proofs.Common.{◌∷◌, ◌++◌, length, refl, sym, ap, ◌∙◌, subst, append-nil, arith}
-use Rattle.std.specs.Prelude.{None, false, slice_index_or}
+use Rattle.std.specs.Prelude.{false, slice_index_or}
 use Rattle.std.proofs.lemmas.List.{length-map}
 use Rattle.std.proofs.lemmas.Slice.Zip.{AllZip-long}
 use Rattle.sja_link.specs.declared.entry.Entry.{Entry}
-use Rattle.sja_link.specs.declared.up.Up.{Up}
 use Rattle.sja_link.specs.Accounts.{Account, account}
 use Rattle.sja_link.specs.Deques.{Deques, Lies}
 use Rattle.sja_link.specs.Lists.{Lists}
-use Rattle.sja_link.specs.Parts.{part}
-use Rattle.sja_link.specs.Carried.{taken_of}
 use Rattle.lemmas.specs.Related.{EachRelated}
-use Rattle.lemmas.proofs.Related.{each_at, each_refl}
+use Rattle.lemmas.proofs.Related.{each_refl}
 use Rattle.sja_regs.specs.declared.registers.Registers.{Registers}
 use Rattle.sja_bus.specs.Boards.{HasOrders}
 use Rattle.sja_bus.specs.Buses.{KeepsAll, untold_at}
@@ -23,21 +20,20 @@ use Rattle.sja_wire.specs.Wire.{journal_at}
 use Rattle.sja_bus.proofs.Resting.QuietBits.{longer_at, account_still}
 use Rattle.sja_plan.specs.Plan.{PlanValue}
 use Rattle.sja_driver.specs.declared.logged_driver.LoggedDriver.{LoggedDriver}
-use Rattle.sja_driver.specs.Deeds.{Deed, given_in, deeds_of}
-use Rattle.sja_driver.specs.LoggedDrivers.{node_of}
+use Rattle.sja_driver.specs.Deeds.{Deed}
 use Rattle.sja_log.proofs.Trace.Stepping.{given_taken}
 use Rattle.sja_serial.specs.Bits.{HasOneBit, TakesBit, TakesBits}
 use Rattle.sja_serial.specs.Bits.TakesBits.{no_bit, one_more}
-use Rattle.sja_serial.specs.Linking.{IsLinked}
 use Rattle.sja_serial.specs.Nodes.{IsNode}
 use Rattle.sja_serial.specs.Serial.{SerialValue, StandsAt, run_now}
 use Rattle.sja_driver.specs.Deeds.{deeds_at}
 use Rattle.sja_plan.specs.Plan.{steps_at}
 use Rattle.sja_serial.specs.Shown.{ShowsRecord}
 use Rattle.sja_serial.specs.UntilTold.{NotesTurn, KeepsTurn}
+use Rattle.sja_serial.proofs.AllNodes.Slices.{numbered_still}
 use Rattle.sja_serial.proofs.OneBit.BitAsked.{HasCut}
 use Rattle.sja_serial.proofs.OneBit.BitRun.{cuts_of, takes_bit}
-use Rattle.sja_wire.proofs.Taking.{same_front}
+use Rattle.sja_serial.proofs.OneNode.Gathered.{linked_after, node_with}
 
 -- ---- recessive bits and what the links stand for
 
@@ -73,16 +69,10 @@ run_at r links untold i = run_now (record {
 
 -- ---- a run whose links were looked at, and nothing was taken
 
-none_more : (xs ys : List Up) → xs ≡ xs ++ ys → ys ≡ []
-none_more xs ys e = sym (same_front xs [] ys (append-nil xs ∙ e))
-
 module _ (plan : PlanValue) (r : SerialValue) (deeds : List (List Deed)) (h : StandsAt plan r deeds)
     (links : List Deques)
     (sames : EachRelated (λ (a b : Deques). b.link ≡ a.link) r.links links)
     (kept : KeepsAll Lies r.bus.journals r.bus.journals r.links links) where
-  many : length links ≡ length r.links
-  many = AllZip-long (λ (a b : Deques). b.link ≡ a.link) r.links links sames
-
   module _ (m : ℕ) (d : LoggedDriver) (p : Registers) (less : m < length plan.nodes) where
     abbrev j : List Entry
     j = journal_at r.bus.journals m
@@ -94,81 +84,36 @@ module _ (plan : PlanValue) (r : SerialValue) (deeds : List (List Deed)) (h : St
         (slice_index_or r.ports m p) r.links (64 * m)
     was = h.nodes m d p less
 
-    lies : (a : ℕ) (s : Deques) → a < 64 → Lies (slice_index_or links (64 * m + a) s)
-        (account j (suc a) (record { got = was.linked.holds.got a; given = given_in (deeds_of ds (suc a)) }))
-    lies = kept m (λ a. record { got = was.linked.holds.got a; given = given_in (deeds_of ds (suc a)) })
-        (let c = h.count.journals in omega (arith, c, less)) was.linked.holds.kept
-
-    linked_still : IsLinked j ds (slice_index_or r.drivers m d) links (64 * m)
-    linked_still =
-        let holds = was.linked.holds in record {
-          holds = record {
-            got = holds.got;
-            kept = lies;
-            told = holds.told;
-            off_is = holds.off_is;
-            later = holds.later;
-          };
-          taken = λ a s few. none_more (taken_of (part j (suc a))) (slice_index_or links (64 * m + a) s).up
-              (sym (given_taken ds j (suc a) (was.in_time.when (suc a))) ∙ (lies a s few).1);
-          level = was.linked.level;
-        }
-
     node_still : IsNode plan.version (steps_at plan m) j ds (slice_index_or r.drivers m d)
         (slice_index_or r.ports m p) links (64 * m)
-    node_still = record {
-      traced = was.traced;
-      linked = linked_still;
-      ported = was.ported;
-      asked = was.asked;
-      counted = was.counted;
-      done = was.done;
-      in_time = was.in_time;
-      registers = was.registers;
-    }
+    node_still = node_with was was.traced (linked_after (slice_index_or r.drivers m d) was.linked.holds
+        (λ acc. kept m acc (let c = h.count.journals in omega (arith, c, less)))
+        (λ a. given_taken ds j a (was.in_time.when a)) was.linked.level)
 
   -- it stands where it stood, where nothing more is told
-  pub stands_still : (n : SerialValue) → ((m : ℕ) → m < length plan.nodes → untold_at n.bus.untold m ≡ false →
-      untold_at r.bus.untold m ≡ false) → n.bus.fault ≡ None → n.bus.script ≡ r.bus.script → n.bus.steps ≡ r.bus.steps →
-      n.bus.run ≡ r.bus.run → n.bus.left ≡ r.bus.left → n.bits ≡ r.bits → n.bus.journals ≡ r.bus.journals → n.drivers ≡
-      r.drivers →
-      n.ports ≡ r.ports → n.turns ≡ r.turns → n.links ≡ links →
-      StandsAt plan n deeds
-  stands_still n told right script room run left bits journals drivers ports turns links_are = record {
-    right = right;
-    script = script ∙ h.script;
-    all_bits = let a = h.all_bits in omega (arith, a, run, left);
-    bits = bits ∙ h.bits ∙ sym run;
+  pub stands_still : (untold : List Bool) → ((m : ℕ) → m < length plan.nodes → untold_at untold m ≡ false →
+      untold_at r.bus.untold m ≡ false) → StandsAt plan (run_at r links untold 0) deeds
+  stands_still untold told = let same = sym (with_none r.bus.journals) in record {
+    right = h.right;
+    script = h.script;
+    all_bits = let a = h.all_bits in omega (arith, a);
+    bits = let b = h.bits in omega (arith, b);
     count = record {
-      journals = ap (λ l. length l) journals ∙ h.count.journals;
-      drivers = ap (λ l. length l) drivers ∙ h.count.drivers;
-      ports = ap (λ l. length l) ports ∙ h.count.ports;
-      turns = ap (λ l. length l) turns ∙ h.count.turns;
-      links = ap (λ l. length l) links_are ∙ many ∙ h.count.links;
+      journals = ap (λ l. length l) (with_none r.bus.journals) ∙ h.count.journals;
+      drivers = h.count.drivers;
+      ports = h.count.ports;
+      turns = h.count.turns;
+      links = AllZip-long (λ (a b : Deques). b.link ≡ a.link) r.links links sames ∙ h.count.links;
     };
     deeds_count = h.deeds_count;
-    room = λ m less. subst (λ (l : List ℕ). length (steps_at plan m) ≤ slice_index_or l m 0) (sym room) (h.room m less);
-    ids = λ m a d few less.
-        ap (λ (l : List Deques). (slice_index_or l (per_node * m + a) d).link) links_are
-        ∙ each_at (λ (x y : Deques). y.link ≡ x.link) (λ (s : Deques). s.link) (λ x y e. e) r.links links
-        (per_node * m + a) d sames
-        ∙ h.ids m a d few (subst (λ (k : ℕ). per_node * m + a < k) (ap (λ l. length l) links_are ∙ many) less);
-    own = λ m d less. subst (λ (l : List LoggedDriver). node_of (slice_index_or l m d) ≡ m) (sym drivers)
-        (h.own m d less);
-    nodes = λ m d p less.
-        subst (λ (l : List Deques). IsNode plan.version (steps_at plan m) (journal_at n.bus.journals m)
-        (deeds_at deeds m) (slice_index_or n.drivers m d) (slice_index_or n.ports m p) l (64 * m)) (sym links_are)
-        (subst (λ (l : List Registers). IsNode plan.version (steps_at plan m) (journal_at n.bus.journals m)
-        (deeds_at deeds m) (slice_index_or n.drivers m d) (slice_index_or l m p) links (64 * m)) (sym ports)
-        (subst (λ (l : List LoggedDriver). IsNode plan.version (steps_at plan m) (journal_at n.bus.journals m)
-        (deeds_at deeds m) (slice_index_or l m d) (slice_index_or r.ports m p) links (64 * m)) (sym drivers)
-        (subst (λ (l : List (List Entry)). IsNode plan.version (steps_at plan m) (journal_at l m) (deeds_at deeds m)
-        (slice_index_or r.drivers m d) (slice_index_or r.ports m p) links (64 * m)) (sym journals)
-        (node_still m d p less))));
-    shown = λ m p less none.
-        subst (λ (l : List Registers). ShowsRecord (journal_at n.bus.journals m) (slice_index_or l m p)) (sym ports)
-        (subst (λ (l : List (List Entry)). ShowsRecord (journal_at l m) (slice_index_or r.ports m p)) (sym journals)
-        (h.shown m p less (told m less none)));
+    room = h.room;
+    ids = numbered_still r.links links h.ids sames;
+    own = h.own;
+    nodes = λ m d p less. subst (λ (l : List (List Entry)). IsNode plan.version (steps_at plan m) (journal_at l m)
+        (deeds_at deeds m) (slice_index_or r.drivers m d) (slice_index_or r.ports m p) links (64 * m)) same
+        (node_still m d p less);
+    shown = λ m p less none. subst (λ (l : List (List Entry)). ShowsRecord (journal_at l m)
+        (slice_index_or r.ports m p)) same (h.shown m p less (told m less none));
   }
 
   -- ---- the bits
@@ -195,8 +140,7 @@ module _ (plan : PlanValue) (r : SerialValue) (deeds : List (List Deed)) (h : St
         record { found = says.found; cut = says.cut }
 
     first : StandsAt plan (at r.bus.untold 0) deeds
-    first = stands_still (at r.bus.untold 0) (λ m less e. e) h.right refl refl (omega arith) (omega arith) (omega arith)
-        (with_none r.bus.journals) refl refl refl refl
+    first = stands_still r.bus.untold (λ m less e. e)
 
     takes : (untold : List Bool) (i : ℕ) → i < count → StandsAt plan (at r.bus.untold i) deeds →
         TakesBit plan deeds (at r.bus.untold i) (at untold (suc i))
@@ -227,11 +171,9 @@ module _ (plan : PlanValue) (r : SerialValue) (deeds : List (List Deed)) (h : St
         TakesBits plan deeds (λ x. Unit {0}) r (suc i) (at untold (suc i))
     chain untold zero early = one_more r r (at untold 1) 0 (no_bit r) tt (one_first untold early)
     chain untold (suc i) early =
-        one_more r (at r.bus.untold (suc i)) (at untold (suc (suc i))) (suc i) (chain r.bus.untold i (omega (
-          arith,
-          early,
-        )))
-        tt (takes untold (suc i) early (stands (suc i) (omega (arith, early))))
+        one_more r (at r.bus.untold (suc i)) (at untold (suc (suc i))) (suc i)
+        (chain r.bus.untold i (omega (arith, early))) tt
+        (takes untold (suc i) early (stands (suc i) (omega (arith, early))))
 
     -- all of them, where there are any
     pub all_at_once : (untold : List Bool) (k : ℕ) → count ≡ suc k →

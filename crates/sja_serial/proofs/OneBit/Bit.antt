@@ -1,11 +1,10 @@
 -- A node after a bit.
-use Rattle.std.proofs.Common.{◌≡◌, ℕ, suc, ◌+◌, ◌<◌, ◌≤◌, Bool, true, false, List, [], ◌++◌, refl, sym, ap, ◌∙◌, subst}
-use Rattle.std.proofs.Common.{append_assoc, append-nil, arith}
+use Rattle.std.proofs.Common.{◌≡◌, ℕ, suc, ◌+◌, ◌≤◌, Bool, true, false, List, [], ◌++◌, refl, sym, ap, ◌∙◌, subst}
+use Rattle.std.proofs.Common.{append_assoc, arith}
 use Rattle.std.specs.Prelude.{slice_index_or}
 use Rattle.can_bits.specs.declared.level.Level.{Level}
-use Rattle.sja_link.specs.declared.up.Up.{Up}
 use Rattle.sja_link.specs.declared.entry.Entry.{Entry}
-use Rattle.sja_link.specs.Accounts.{Account, account}
+use Rattle.sja_link.specs.Accounts.{Account}
 use Rattle.sja_link.specs.Deques.{Deques, Lies}
 use Rattle.sja_link.specs.Parts.{part}
 use Rattle.sja_link.specs.Carried.{taken_of}
@@ -30,7 +29,7 @@ use Rattle.sja_log.specs.Timing.{taken_when}
 use Rattle.sja_log.specs.Windows.{put_by, off_by}
 use Rattle.sja_log.proofs.Trace.Stepping.{given_taken}
 use Rattle.sja_serial.specs.Bits.{HasOneBit}
-use Rattle.sja_serial.specs.Linking.{IsLinked, IsLevel}
+use Rattle.sja_serial.specs.Linking.{IsLevel}
 use Rattle.sja_serial.specs.Nodes.{IsNode}
 use Rattle.sja_serial.specs.Porting.{IsPorted}
 use Rattle.sja_serial.specs.Shown.{ShowsRecord}
@@ -41,12 +40,9 @@ use Rattle.sja_log.proofs.Trace.TbsAndAbort.{tbs_right}
 use Rattle.sja_serial.proofs.OneBit.BitPort.{ported_bit}
 use Rattle.sja_log.proofs.Account.Dry.{none_taken_own}
 use Rattle.sja_log.proofs.Trace.Later.{SameBy, done_more, all_see, all_carry, settings_by_then}
+use Rattle.sja_serial.proofs.OneNode.Gathered.{no_link, lies_after, linked_after}
 use Rattle.sja_serial.proofs.OneNode.Shown.{as_told, shows_told}
-use Rattle.sja_log.proofs.Account.Own.{AreOwn, own_activation, own_stopped, own_sends, own_when, own_taken}
-use Rattle.sja_wire.proofs.Taking.{same_front}
-
-none_more : (xs ys : List Up) → xs ≡ xs ++ ys → ys ≡ []
-none_more xs ys e = sym (same_front xs [] ys (append-nil xs ∙ e))
+use Rattle.sja_log.proofs.Account.Own.{AreOwn, own_activation, own_stopped, own_sends, own_when}
 
 -- the orders of a port, and what it is told
 abbrev pub OrdersOf : Registers → Orders → Type 0
@@ -55,8 +51,8 @@ OrdersOf p orders = orders ≡ record { abort = p.abort; ended = p.ended }
 abbrev pub BitOf : Registers → Registers → Bool → List Entry → List Entry → Level → Level → Type 0
 BitOf p q untold j k driven seen = IsNodeBit (OrdersOf p) (λ turn. q ≡ after_turn p turn) (q ≡ p) untold j k driven seen
 
-module _ (version : ℕ) (steps : List Step) (j k : List Entry) (deeds : List Deed) (driver : LoggedDriver)
-    (p q : Registers) (links after : List Deques) (base : ℕ) (none : Deques) (untold : Bool) (driven seen : Level)
+module _ {version : ℕ} {steps : List Step} {j k : List Entry} {deeds : List Deed} {driver : LoggedDriver}
+    {p q : Registers} {links : List Deques} (after : List Deques) {base : ℕ} {untold : Bool} {driven seen : Level}
     (h : IsNode version steps j deeds driver p links base) (b : BitOf p q untold j k driven seen)
     (kept : (acc : ℕ → Account) → Kept Lies j links base acc → Kept Lies k after base acc) where
   abbrev changed : Bool
@@ -67,11 +63,6 @@ module _ (version : ℕ) (steps : List Step) (j k : List Entry) (deeds : List De
 
   own : AreOwn es
   own = added_own changed driven seen b.bit.verdict b.bit.off
-
-  lies_after : (a : ℕ) (d : Deques) → a < 64 → Lies (slice_index_or after (base + a) d)
-      (account k (suc a) (record { got = h.linked.holds.got a; given = given_in (deeds_of deeds (suc a)) }))
-  lies_after = kept (λ a. record { got = h.linked.holds.got a; given = given_in (deeds_of deeds (suc a)) })
-      h.linked.holds.kept
 
   before : (a : ℕ) → given_in (deeds_of deeds a) ≡ taken_of (part j a)
   before a = given_taken deeds j a (h.in_time.when a)
@@ -86,7 +77,8 @@ module _ (version : ℕ) (steps : List Step) (j k : List Entry) (deeds : List De
   none_taken =
       none_taken_own j b.opens.taken b.opens.items (λ a. given_in (deeds_of deeds (suc a)))
       (λ a few. before (suc a)) k es own from_taken
-      (λ a. (slice_index_or after (base + a) none).up) (λ a few. (lies_after a none few).1)
+      (λ a. (slice_index_or after (base + a) no_link).up)
+      (λ a few. (lies_after k after h.linked.holds kept a no_link few).1)
 
   opened_is : b.opened ≡ j ++ abort_as changed
   opened_is = b.opens.aborts.whole ∙ ap (λ (l : List Entry). l ++ abort_as changed) none_taken
@@ -133,22 +125,6 @@ module _ (version : ℕ) (steps : List Step) (j k : List Entry) (deeds : List De
         begun = activation ∙ h.linked.level.begun;
         ended = omega (arith, s, e);
         asked = ap (λ (l : List Entry). sends_taken l) whole ∙ own_sends j es own ∙ h.linked.level.asked;
-      }
-
-  linked : IsLinked k deeds driver after base
-  linked =
-      let holds = h.linked.holds in record {
-        holds = record {
-          got = holds.got;
-          kept = lies_after;
-          told = holds.told;
-          off_is = holds.off_is;
-          later = holds.later;
-        };
-        taken = λ a d few. none_more (taken_of (part k (suc a))) (slice_index_or after (base + a) d).up
-            (ap (λ (l : List Entry). taken_of (part l (suc a))) whole ∙ own_taken j es (suc a) own
-            ∙ sym (before (suc a)) ∙ (lies_after a d few).1);
-        level = level;
       }
 
   ported : IsPorted version k deeds q
@@ -206,7 +182,7 @@ module _ (version : ℕ) (steps : List Step) (j k : List Entry) (deeds : List De
     pub after_one_bit : HasCut j → IsNode version steps k deeds driver q after base
     after_one_bit lawful = record {
       traced = h.traced;
-      linked = linked;
+      linked = linked_after driver h.linked.holds kept (λ a. given_taken deeds k a (in_time.when a)) level;
       ported = ported;
       asked = bit_asked untold j k driven seen p q b none_taken (λ t e. e) (λ e. e) lawful
           (tbs_right version j deeds p h.registers h.traced.traces.answered.states)

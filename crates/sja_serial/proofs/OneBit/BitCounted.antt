@@ -1,7 +1,7 @@
 -- A bit keeps how many entries a journal can have by the deeds of its driver.
 use Rattle.std.proofs.Common.{◌≡◌, ◌≤◌, ℕ, suc, ◌+◌, ◌*◌, Bool, true, false, not, Option, Some, None, List, [], ◌∷◌}
 use Rattle.std.proofs.Common.{◌++◌, inl, inr, refl, sym, ap, ◌∙◌, subst, append-nil, arith}
-use Rattle.std.specs.Prelude.{◌||◌, ◌&&◌, ◌⊎◌, if◌then◌else◌, slice_index_or}
+use Rattle.std.specs.Prelude.{◌||◌, ◌&&◌, ◌⊎◌, if◌then◌else◌}
 use Rattle.std.proofs.lemmas.Bool.{cases_eq}
 use Rattle.can_bits.specs.declared.level.Level.{Level}
 use Rattle.can_node.specs.declared.aborted.Aborted.TheVariants.{Unchanged, Marked}
@@ -27,7 +27,6 @@ use Rattle.sja_regs.specs.declared.orders.Orders.{Orders}
 use Rattle.sja_regs.specs.declared.registers.Registers.{Registers}
 use Rattle.sja_regs.specs.Turns.{ends, goes_off, after_turn}
 use Rattle.sja_wire.specs.Aborting.{abort_in as abort_at, changes, IsApplied}
-use Rattle.sja_bus.specs.Boards.{HasOrders, WasTold, WasKept}
 use Rattle.sja_bus.specs.Buses.{IsNodeBit}
 use Rattle.sja_wire.specs.Links.{stops_of}
 use Rattle.sja_wire.specs.OneBit.{HasBit, abort_as, judged_as, off_as}
@@ -238,13 +237,3 @@ bit_counted untold j k driven seen deeds p q bit none orders told kept lawful h 
           (bit_keeps opened k driven seen one t.found others t.cut c) in
           omega (arith, a, b, d, e, g);
     }
-
--- the same of a port of a board in one thread
-pub board_counted : (old new : List Registers) (node : ℕ) (d : Registers) (untold : Bool) (j k : List Entry)
-    (driven seen : Level) (deeds : List Deed)
-    (bit : IsNodeBit (HasOrders old node) (WasTold old new node) (WasKept old new node) untold j k driven seen) →
-    bit.opens.taken ≡ j → HasCut j → IsCounted j deeds (slice_index_or old node d) →
-    IsCounted k deeds (slice_index_or new node d)
-board_counted old new node d untold j k driven seen deeds bit none lawful h =
-    bit_counted untold j k driven seen deeds (slice_index_or old node d) (slice_index_or new node d) bit none
-    (λ orders is. ap (λ (o : Orders). o.abort) (is d)) (λ turn is. is d) (λ is. is d) lawful h

@@ -18,6 +18,8 @@ use Rattle.sja_log.specs.Settings.{settings_of}
 use Rattle.sja_log.specs.Windows.{off_by}
 use Rattle.sja_serial.specs.Alike.{AreAlike}
 use Rattle.sja_serial.specs.Porting.{IsPorted}
+use Rattle.sja_serial.proofs.OneNode.Settings.{set_alike, alike_set}
+use Rattle.sja_serial.proofs.OneNode.Shown.{and_last}
 
 -- whether a bus-off is asked for stays: once TXERR was written it isn't the node's
 asked_on : (raw same tec rec : Bool) (told was : ℕ) →
@@ -29,19 +31,9 @@ asked_on true true true rec told was = refl
 asked_on true false true rec told was = refl
 
 alike_turn : (p r : Registers) (turn : BusTurn) → AreAlike p r → AreAlike (after_turn p turn) r
-alike_turn p r turn h = record {
-  version = h.version;
-  lom = h.lom;
-  stm = h.stm;
-  afm = h.afm;
-  acr = h.acr;
-  amr = h.amr;
-  buffer = h.buffer;
-  set_tec = h.set_tec;
-  set_rec = h.set_rec;
-  asks = asked_on (is_raw p) (turn.activation == p.activation) (is_some p.set_tec) (is_some p.set_rec) turn.txerr
-      p.txerr ∙ h.asks;
-}
+alike_turn p r turn h =
+    let asks = asked_on (is_raw p) (turn.activation == p.activation) (is_some p.set_tec) (is_some p.set_rec) turn.txerr
+    p.txerr ∙ h.asks in alike_set _ r (λ k. record (set_alike h k) { asks = asks k })
 
 -- reset mode is entered where the turn says bus-off in a turn of the port's activation
 off_or : (rm same went off : Bool) → same ≡ true → went ≡ off → (((not rm && same) && went) || rm) ≡ (rm || off)
@@ -59,10 +51,6 @@ or_none false = refl
 or_both : (a b c : Bool) → ((a || b) || c) ≡ (a || (b || c))
 or_both true b c = refl
 or_both false b c = refl
-
-and_last : (a b : Bool) → (a && b) ≡ true → b ≡ true
-and_last true b h = h
-and_last false b h = absurd cc
 
 -- the turn of a bit, which the port was told, or for which it was passed over
 module _ (untold changed : Bool) (j opened k : List Entry) (driven seen : Level) (bit : HasBit opened driven seen k)
@@ -87,22 +75,11 @@ module _ (untold changed : Bool) (j opened k : List Entry) (driven seen : Level)
     | inr over ↦ subst (λ (x : Registers). AreAlike x r) (sym over.kept) h
   ]
 
-  same_activation : q.activation ≡ p.activation
-  same_activation = elim port [
-    | inl told ↦ ap (λ (r : Registers). r.activation) told
-    | inr over ↦ ap (λ (r : Registers). r.activation) over.kept
-  ]
-
-  same_version : q.version ≡ p.version
-  same_version = elim port [
-    | inl told ↦ ap (λ (r : Registers). r.version) told
-    | inr over ↦ ap (λ (r : Registers). r.version) over.kept
-  ]
-
-  same_closed : q.closed ≡ p.closed
-  same_closed = elim port [
-    | inl told ↦ ap (λ (r : Registers). r.closed) told
-    | inr over ↦ ap (λ (r : Registers). r.closed) over.kept
+  -- what a turn leaves, in either case
+  kept : {A : Type 0} (f : Registers → A) → f (after_turn p turn) ≡ f p → f q ≡ f p
+  kept f same = elim port [
+    | inl told ↦ ap f told ∙ same
+    | inr over ↦ ap f over.kept
   ]
 
   -- an abort that stands stood before
@@ -118,14 +95,14 @@ module _ (untold changed : Bool) (j opened k : List Entry) (driven seen : Level)
       off_by (place_of k).bits k (opened_by deeds) ≡ (off_by (place_of j).bits j (opened_by deeds) || bit.off) →
       IsPorted version j deeds p → IsPorted version k deeds q
   ported_bit version deeds settings at more sends offs h = record {
-    version_is = same_version ∙ h.version_is;
+    version_is = kept (λ (r : Registers). r.version) refl ∙ h.version_is;
     set = subst (λ (r : Registers). AreAlike q r) (sym settings) (set_now (settings_of version j deeds) h.set);
     reset =
         reset_now (h.activation ∙ sym at) ∙ ap (λ (b : Bool). b || bit.off) h.reset
         ∙ or_both (not (is_active deeds)) (off_by (place_of j).bits j (opened_by deeds)) bit.off
         ∙ ap (λ (b : Bool). not (is_active deeds) || b) (sym offs);
-    activation = same_activation ∙ h.activation;
-    unclosed = same_closed ∙ h.unclosed;
+    activation = kept (λ (r : Registers). r.activation) refl ∙ h.activation;
+    unclosed = kept (λ (r : Registers). r.closed) refl ∙ h.unclosed;
     commanded = λ stands.
         let c = h.commanded (stood stands) in let b = c.by_then in let l = c.later in record {
           early = c.early;

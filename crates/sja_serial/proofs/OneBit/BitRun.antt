@@ -4,16 +4,16 @@ use Rattle.std.specs.Prelude.{None, slice_index_or}
 use Rattle.std.proofs.lemmas.Slice.Zip.{AllZip-long}
 use Rattle.can_bits.specs.declared.level.Level.TheVariants.{Recessive}
 use Rattle.sja_link.specs.declared.entry.Entry.{Entry}
+use Rattle.sja_link.specs.Accounts.{Account}
 use Rattle.sja_link.specs.Deques.{Deques, Lies}
 use Rattle.lemmas.specs.Related.{EachRelated}
-use Rattle.lemmas.proofs.Related.{each_at}
 use Rattle.sja_regs.specs.declared.registers.Registers.{Registers}
 use Rattle.sja_regs.specs.Registers.{at_power_on}
 use Rattle.sja_regs.specs.Turns.{after_turn}
 use Rattle.sja_bus.specs.Boards.{HasOrders}
 use Rattle.sja_bus.specs.Buses.{KeepsAll, IsBit, untold_at}
 use Rattle.sja_wire.specs.Lawful.{IsBusRun}
-use Rattle.sja_wire.specs.Links.{per_node}
+use Rattle.sja_wire.specs.Links.{Kept}
 use Rattle.sja_wire.specs.Wire.{journal_at}
 use Rattle.sja_script.specs.declared.strike.Strike.{Strike}
 use Rattle.sja_plan.specs.Plan.{PlanValue}
@@ -27,6 +27,7 @@ use Rattle.sja_driver.specs.Deeds.{deeds_at}
 use Rattle.sja_plan.specs.Plan.{steps_at}
 use Rattle.sja_serial.specs.Shown.{ShowsRecord}
 use Rattle.sja_serial.specs.UntilTold.{NotesTurn, KeepsTurn, TellsBit}
+use Rattle.sja_serial.proofs.AllNodes.Slices.{numbered_still}
 use Rattle.sja_serial.proofs.OneBit.BitAsked.{HasCut}
 use Rattle.sja_serial.proofs.OneBit.Bit.{BitOf, OrdersOf, after_one_bit, one_bit, shows}
 use Rattle.sja_serial.proofs.OneBit.OtherWords.{other_node_bit}
@@ -41,9 +42,6 @@ pub some_of : {A : Type 0} (xs : List A) (i : ℕ) → i < length xs → A
 some_of [] i less = absurd (omega (arith, less))
 some_of (x ∷ xs) i less = x
 
-pub no_link : Deques
-no_link = record { link = record { node = 0; activation = 0 }; down = []; up = [] }
-
 module _ (plan : PlanValue) (r n : SerialValue) (deeds : List (List Deed)) (h : StandsAt plan r deeds)
     (right : n.bus.fault ≡ None) (script : n.bus.script ≡ r.bus.script)
     (room : n.bus.steps ≡ r.bus.steps) (run : n.bus.run ≡ r.bus.run + 1) (left : n.bus.left + 1 ≡ r.bus.left)
@@ -55,9 +53,6 @@ module _ (plan : PlanValue) (r n : SerialValue) (deeds : List (List Deed)) (h : 
     (bit : IsBit (HasOrders r.ports) (NotesTurn r n) (KeepsTurn r n) r.bus.script r.bus.run r.bus.untold r.bus.journals
     n.bus.journals)
     (cuts : (m : ℕ) → m < length r.bus.journals → HasCut (journal_at r.bus.journals m)) where
-  many : length n.links ≡ length r.links
-  many = AllZip-long (λ (a b : Deques). b.link ≡ a.link) r.links n.links sames
-
   inside : (m : ℕ) → m < length plan.nodes → m < length r.bus.journals
   inside m less = let c = h.count.journals in omega (arith, c, less)
 
@@ -71,28 +66,19 @@ module _ (plan : PlanValue) (r n : SerialValue) (deeds : List (List Deed)) (h : 
         (journal_at n.bus.journals m) (slice_index_or bit.driven m Recessive) (bit.seen m) (λ o x. x p)
         (λ t x. x.0 p) (λ x. x.0 p) (bit.nodes m (inside m less))
 
+    keeps : (acc : ℕ → Account) → Kept Lies (journal_at r.bus.journals m) r.links (64 * m) acc →
+        Kept Lies (journal_at n.bus.journals m) n.links (64 * m) acc
+    keeps acc = kept m acc (inside m less)
+
     one : HasOneBit (journal_at r.bus.journals m) (journal_at n.bus.journals m)
-    one =
-        one_bit plan.version (steps_at plan m) (journal_at r.bus.journals m) (journal_at n.bus.journals m)
-        (deeds_at deeds m) (slice_index_or r.drivers m d) (slice_index_or r.ports m p) (slice_index_or n.ports m p)
-        r.links n.links (64 * m) no_link (untold_at r.bus.untold m) (slice_index_or bit.driven m Recessive)
-        (bit.seen m) (h.nodes m d p less) here (λ acc. kept m acc (inside m less))
+    one = one_bit n.links (h.nodes m d p less) here keeps
 
     node_now : IsNode plan.version (steps_at plan m) (journal_at n.bus.journals m) (deeds_at deeds m)
         (slice_index_or r.drivers m d) (slice_index_or n.ports m p) n.links (64 * m)
-    node_now =
-        after_one_bit plan.version (steps_at plan m) (journal_at r.bus.journals m) (journal_at n.bus.journals m)
-        (deeds_at deeds m) (slice_index_or r.drivers m d) (slice_index_or r.ports m p) (slice_index_or n.ports m p)
-        r.links n.links (64 * m) no_link (untold_at r.bus.untold m) (slice_index_or bit.driven m Recessive)
-        (bit.seen m) (h.nodes m d p less) here (λ acc. kept m acc (inside m less))
-        (h.shown m p less) (cuts m (inside m less))
+    node_now = after_one_bit n.links (h.nodes m d p less) here keeps (h.shown m p less) (cuts m (inside m less))
 
     shows_now : ShowsRecord (journal_at n.bus.journals m) (slice_index_or n.ports m p)
-    shows_now =
-        shows plan.version (steps_at plan m) (journal_at r.bus.journals m) (journal_at n.bus.journals m)
-        (deeds_at deeds m) (slice_index_or r.drivers m d) (slice_index_or r.ports m p) (slice_index_or n.ports m p)
-        r.links n.links (64 * m) no_link (untold_at r.bus.untold m) (slice_index_or bit.driven m Recessive)
-        (bit.seen m) (h.nodes m d p less) here (λ acc. kept m acc (inside m less)) (h.shown m p less)
+    shows_now = shows n.links (h.nodes m d p less) here keeps (h.shown m p less)
 
   driver_at : (m : ℕ) → m < length plan.nodes → LoggedDriver
   driver_at m less = some_of r.drivers m (let c = h.count.drivers in omega (arith, c, less))
@@ -108,18 +94,15 @@ module _ (plan : PlanValue) (r n : SerialValue) (deeds : List (List Deed)) (h : 
       drivers = ap (λ l. length l) drivers_are ∙ h.count.drivers;
       ports = ports ∙ h.count.ports;
       turns = turns ∙ h.count.turns;
-      links = many ∙ h.count.links;
+      links = AllZip-long (λ (a b : Deques). b.link ≡ a.link) r.links n.links sames ∙ h.count.links;
     };
     deeds_count = h.deeds_count;
     room = λ m less. subst (λ (l : List ℕ). length (steps_at plan m) ≤ slice_index_or l m 0) (sym room) (h.room m less);
-    ids = λ m a d few less. each_at (λ (x y : Deques). y.link ≡ x.link) (λ (s : Deques). s.link)
-        (λ x y e. e) r.links n.links (per_node * m + a) d sames
-        ∙ h.ids m a d few (subst (λ (k : ℕ). per_node * m + a < k) many less);
+    ids = numbered_still r.links n.links h.ids sames;
     own = λ m d less. ap (λ (l : List LoggedDriver). node_of (slice_index_or l m d)) drivers_are ∙ h.own m d less;
     nodes = λ m d p less. subst (λ (l : List LoggedDriver). IsNode plan.version (steps_at plan m)
         (journal_at n.bus.journals m) (deeds_at deeds m) (slice_index_or l m d) (slice_index_or n.ports m p) n.links
-        (64 * m)) (sym drivers_are)
-        (node_now m d p less);
+        (64 * m)) (sym drivers_are) (node_now m d p less);
     shown = λ m p less told. shows_now m (driver_at m less) p less;
   }
 

@@ -26,7 +26,9 @@ use Rattle.sja_log.specs.InTime.{IsInTime}
 use Rattle.sja_log.specs.Settings.{settings_of}
 use Rattle.sja_log.specs.Timing.{given_when, taken_when}
 use Rattle.sja_log.specs.Windows.{put_by, SeesIf}
+use Rattle.sja_log.proofs.Trace.Later.{done_push}
 use Rattle.sja_log.proofs.Trace.Timings.{aborts_on, aborts_push}
+use Rattle.sja_log.specs.Dated.{AreDone}
 use Rattle.sja_serial.specs.Linking.{IsLevel}
 use Rattle.sja_serial.specs.Porting.{IsPorted}
 use Rattle.sja_driver.proofs.Step.GivenKinds.{Kind}
@@ -166,3 +168,10 @@ in_time_after version j k deeds d p q e next ported h =
     aborts_after (item u gave is at) =
         subst (λ (l : List Entry). EachAfter (AbortIsDue (deeds ++ d ∷ [])) [] l) (sym is)
         (aborts_push (deeds ++ d ∷ []) j (Item u) (aborts_on deeds d [] j h.aborts) tt)
+
+-- no deed is later than the last bit: it is done now
+pub done_after : (j k : List Entry) (deeds : List Deed) (d : Deed) → Enters j k deeds d → d.bits ≡ (place_of j).bits →
+    AreDone (place_of j).bits deeds → AreDone (place_of k).bits (deeds ++ d ∷ [])
+done_after j k deeds d e now h =
+    let same = same_bits j k deeds d e in
+    subst (λ n. AreDone n (deeds ++ d ∷ [])) (sym same) (done_push (place_of j).bits deeds d h (omega (arith, now)))

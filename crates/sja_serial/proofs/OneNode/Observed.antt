@@ -8,7 +8,6 @@ use Rattle.lemmas.proofs.Related.{each_at}
 use Rattle.sja_link.specs.declared.entry.Entry.{Entry}
 use Rattle.sja_link.specs.Deques.{Deques, Lies}
 use Rattle.sja_wire.specs.Lawful.{IsBusRun}
-use Rattle.sja_wire.specs.Links.{per_node}
 use Rattle.sja_wire.specs.Wire.{journal_at}
 use Rattle.sja_bus.specs.Buses.{BusValue}
 use Rattle.sja_plan.specs.Plan.{PlanValue, steps_at}
@@ -28,18 +27,17 @@ use Rattle.sja_driver.specs.Observing.{Looked, Observes}
 use Rattle.sja_log.specs.Registering.{seen_now}
 use Rattle.sja_log.proofs.Account.Seeing.{seen_shown}
 use Rattle.sja_log.proofs.Trace.Stepping.{given_taken}
-use Rattle.sja_serial.specs.Linking.{IsLinked}
 use Rattle.sja_serial.specs.Nodes.{IsNode}
 use Rattle.sja_serial.specs.Serial.{run_now, StandsAt}
-use Rattle.sja_serial.proofs.AllNodes.Slices.{apart, each_other}
-use Rattle.sja_serial.proofs.OneBit.BitRun.{no_link}
-use Rattle.sja_serial.proofs.OneNode.Gathered.{linked_after}
+use Rattle.sja_serial.proofs.AllNodes.Slices.{apart, each_other, numbered_still}
+use Rattle.sja_serial.proofs.OneNode.Gathered.{no_link, linked_after, node_with}
+use Rattle.sja_serial.proofs.OneNode.Standing.{owners}
 use Rattle.sja_serial.proofs.OneNode.Trying.{alike, shows_none, looked}
 
-module _ (plan : PlanValue) (bus : BusValue) (drivers : List LoggedDriver) (ports : List Registers)
-    (turns : List (Option BusTurn)) (slice after : List Deques) (bits : ℕ) (deeds : List (List Deed))
-    (h : StandsAt plan (run_now bus drivers ports turns slice bits) deeds) (i : ℕ) (there : i < length plan.nodes)
-    (was now : LoggedDriver) (was_is : was ≡ slice_index_or drivers i was)
+module _ {plan : PlanValue} {bus : BusValue} {drivers : List LoggedDriver} {ports : List Registers}
+    {turns : List (Option BusTurn)} {slice after : List Deques} {bits : ℕ} {deeds : List (List Deed)}
+    (h : StandsAt plan (run_now bus drivers ports turns slice bits) deeds) {i : ℕ} (there : i < length plan.nodes)
+    {was now : LoggedDriver} (was_is : was ≡ slice_index_or drivers i was)
     (observed : Looked Lies shows_none was now slice after (64 * i))
     (stays : StaysLawful (λ (s : Deques). s.link) alike was now slice after (64 * i) false)
     (many : length after ≡ length slice) where
@@ -63,49 +61,30 @@ module _ (plan : PlanValue) (bus : BusValue) (drivers : List LoggedDriver) (port
   holds p = subst (λ (l : List Deed). HoldsBy Lies l (driver_of now) (log_of now) j after (64 * i)) (append-nil ds)
       ((observed.goes plan.version).holds ds j (stood p).traced.traces (stood p).linked.holds)
 
-  linked : (p : Registers) → IsLinked j ds now after (64 * i)
-  linked p = linked_after j j ds (driver_of now) (log_of now) after after (64 * i) no_link (holds p) (λ acc x. x) now
-      refl refl (λ a. given_taken ds j a ((stood p).in_time.when a)) (stood p).linked.level
-
   node_now : (p : Registers) → IsNode plan.version (steps_at plan i) j ds now (slice_index_or ports i p) after (64 * i)
-  node_now p = let n = stood p in record {
-    traced = record {
-      lawful = stays.lawful;
-      traces = traces p;
-      within = n.traced.within;
-      first = n.traced.first;
-      room = λ k l. stays.waits refl k (n.traced.room k l);
-    };
-    linked = linked p;
-    ported = n.ported;
-    asked = n.asked;
-    counted = n.counted;
-    done = n.done;
-    in_time = n.in_time;
-    registers = n.registers;
-  }
+  node_now p = let n = stood p in
+      node_with n (record {
+        lawful = stays.lawful;
+        traces = traces p;
+        within = n.traced.within;
+        first = n.traced.first;
+        room = λ k l. stays.waits refl k (n.traced.room k l);
+      })
+      (linked_after now (holds p) (λ acc x. x) (λ a. given_taken ds j a (n.in_time.when a)) n.linked.level)
 
   -- ---- the others
 
   other_node : (m : ℕ) (d : LoggedDriver) (p : Registers) → (m ≡ i → ⊥) → m < length plan.nodes →
       IsNode plan.version (steps_at plan m) (journal_at bus.journals m) (deeds_at deeds m) (slice_index_or drivers m d)
       (slice_index_or ports m p) after (64 * m)
-  other_node m d p differ less = let n = h.nodes m d p less in record {
-    traced = n.traced;
-    linked = record {
-      holds = each_other (deeds_at deeds m) (slice_index_or drivers m d) (journal_at bus.journals m) slice after m i
-          (ended_of was) differ n.linked.holds stays.others;
-      taken = λ a e few. ap (λ (s : Deques). s.up) (stays.others (64 * m + a) e (apart m i a (ended_of was) differ few))
-          ∙ n.linked.taken a e few;
-      level = n.linked.level;
-    };
-    ported = n.ported;
-    asked = n.asked;
-    counted = n.counted;
-    done = n.done;
-    in_time = n.in_time;
-    registers = n.registers;
-  }
+  other_node m d p differ less = let n = h.nodes m d p less in
+      node_with n n.traced (record {
+        holds = each_other (λ a. apart m i a (ended_of was) differ) n.linked.holds stays.others;
+        taken = λ a e few.
+            ap (λ (s : Deques). s.up) (stays.others (64 * m + a) e (apart m i a (ended_of was) differ few))
+            ∙ n.linked.taken a e few;
+        level = n.linked.level;
+      })
 
   inside : i < length drivers
   inside = let c = h.count.drivers in omega (arith, c, there)
@@ -124,14 +103,6 @@ module _ (plan : PlanValue) (bus : BusValue) (drivers : List LoggedDriver) (port
         (sym (get_or-set_other drivers i m now d other)) (other_node m d p other less)
   ]
 
-  owner : (m : ℕ) (d : LoggedDriver) → m < length plan.nodes →
-      node_of (slice_index_or (slice_set drivers i now) m d) ≡ m
-  owner m d less = elim (cases_eq i m) [
-    | inl e ↦ subst (λ (k : ℕ). node_of (slice_index_or (slice_set drivers i now) k d) ≡ k) e
-        (ap node_of (get_or-set_same drivers i now d inside) ∙ stays.node ∙ ap node_of was_is ∙ h.own i was there)
-    | inr differ ↦ ap node_of (get_or-set_other drivers i m now d (λ e. differ (sym e))) ∙ h.own m d less
-  ]
-
   pub stands : StandsAt plan (run_now bus (slice_set drivers i now) ports turns after bits) deeds
   stands = record {
     right = h.right;
@@ -147,9 +118,8 @@ module _ (plan : PlanValue) (bus : BusValue) (drivers : List LoggedDriver) (port
     };
     deeds_count = h.deeds_count;
     room = h.room;
-    ids = λ m a d few less. each_at alike (λ (x : Deques). x.link) (λ x y same. same) slice after (per_node * m + a) d
-        stays.same ∙ h.ids m a d few (subst (λ (k : ℕ). per_node * m + a < k) many less);
-    own = owner;
+    ids = numbered_still slice after h.ids stays.same;
+    own = owners now h there was_is stays.node;
     nodes = node_at;
     shown = h.shown;
   }

@@ -1,5 +1,5 @@
 -- What a step leaves in the registers, beside what the deeds have set.
-use Rattle.std.proofs.Common.{◌≡◌, ℕ, Bool, true, false, List, [], ◌∷◌, refl, ap}
+use Rattle.std.proofs.Common.{◌≡◌, ℕ, Bool, true, false, [], ◌∷◌, refl, ap}
 use Rattle.std.specs.Prelude.{◌==◌, ◌&&◌, not, nat_le, if◌then◌else◌, Option, Some, None, is_some, slice_set}
 use Rattle.std.specs.Prelude.{unwrap_or}
 use Rattle.sja_link.specs.declared.up.Up.TheVariants.{Start as StartItem}
@@ -15,7 +15,7 @@ use Rattle.sja_regs.specs.Addresses.{register_at}
 use Rattle.sja_regs.specs.Commands.{command_of, requests}
 use Rattle.sja_regs.specs.Modes.{mode_of}
 use Rattle.sja_regs.specs.Reading.{after_reading_at}
-use Rattle.sja_regs.specs.Registers.{after_leaving_reset, asks_off, is_forced}
+use Rattle.sja_regs.specs.Registers.{after_leaving_reset, is_forced}
 use Rattle.sja_regs.specs.Writing.{after_forced_off, after_writing_at, after_loading}
 use Rattle.sja_script.specs.declared.step.Step.{Step}
 use Rattle.sja_script.specs.declared.step.Step.TheVariants.{Start, Stop, Window, Release, Read, Write, Load}
@@ -28,66 +28,20 @@ use Rattle.sja_driver.specs.Deeds.{opened}
 use Rattle.sja_driver.specs.Ports.{send_of}
 use Rattle.sja_log.specs.Settings.{in_mode, after_setting}
 use Rattle.sja_serial.specs.Alike.{AreAlike}
-
--- ---- the same settings
-
--- version, mode bits, acceptance filter, transmit buffer, the error counters that were written, and whether they ask
--- for a bus-off
-abbrev settings : Registers →
-    ℕ × Bool × Bool × Bool × List ℕ × List ℕ × List ℕ × Option ℕ × Option ℕ × Bool
-settings p =
-    (p.version, p.mode.lom, p.mode.stm, p.mode.afm, p.acr, p.amr, p.buffer, p.set_tec, p.set_rec, asks_off p)
-
-set_alike : (p r : Registers) → AreAlike p r → settings p ≡ settings r
-set_alike p r h = λ i. (
-  h.version i,
-  h.lom i,
-  h.stm i,
-  h.afm i,
-  h.acr i,
-  h.amr i,
-  h.buffer i,
-  h.set_tec i,
-  h.set_rec i,
-  h.asks i,
-)
-
-alike_set : (p r : Registers) → settings p ≡ settings r → AreAlike p r
-alike_set p r e = record {
-  version = ap (λ x. x.0) e;
-  lom = ap (λ x. x.1) e;
-  stm = ap (λ x. x.2) e;
-  afm = ap (λ x. x.3) e;
-  acr = ap (λ x. x.4) e;
-  amr = ap (λ x. x.5) e;
-  buffer = ap (λ x. x.6) e;
-  set_tec = ap (λ x. x.7) e;
-  set_rec = ap (λ x. x.8) e;
-  asks = ap (λ x. x.9) e;
-}
+use Rattle.sja_serial.proofs.OneNode.Settings.{settings, set_alike, alike_set}
 
 -- a start takes the counters with it
 alike_start : (b : Bool) (p r : Registers) → b ≡ true → AreAlike p r →
     AreAlike (if b then after_leaving_reset p else p) (record r { set_tec = None; set_rec = None })
-alike_start true p r e h = record {
-  version = h.version;
-  lom = h.lom;
-  stm = h.stm;
-  afm = h.afm;
-  acr = h.acr;
-  amr = h.amr;
-  buffer = h.buffer;
-  set_tec = refl;
-  set_rec = refl;
-  asks = λ k. nat_le 3 (h.version k) && false;
-}
+alike_start true p r e h = alike_set _ _
+    (λ k. record (set_alike h k) { set_tec = None; set_rec = None; asks = nat_le 3 (h.version k) && false })
 alike_start false p r e h = absurd cc
 
 alike_read : (x : Option Register) (p r : Registers) → AreAlike p r → AreAlike (after_reading_at p x) r
 alike_read None p r h = h
-alike_read (Some Interrupt) p r h = alike_set _ r (set_alike p r h)
-alike_read (Some ArbitrationLostCapture) p r h = alike_set _ r (set_alike p r h)
-alike_read (Some ErrorCodeCapture) p r h = alike_set _ r (set_alike p r h)
+alike_read (Some Interrupt) p r h = alike_set _ r (set_alike h)
+alike_read (Some ArbitrationLostCapture) p r h = alike_set _ r (set_alike h)
+alike_read (Some ErrorCodeCapture) p r h = alike_set _ r (set_alike h)
 alike_read (Some other) p r h = h
 
 -- MOD was written, which brought a bus-off in both or in neither
@@ -95,49 +49,23 @@ alike_mode : (a b : Bool) (m : ModeBits) (p r : Registers) → a ≡ b → AreAl
     AreAlike (if a then after_forced_off (record p { mode = record m { rm = true } }) else record p { mode = m })
     (if b then after_forced_off (record r { mode = record m { rm = true } }) else record r { mode = m })
 alike_mode true true m p r e h =
-    alike_set _ _ (λ k. (
-      h.version k,
-      m.lom,
-      m.stm,
-      m.afm,
-      h.acr k,
-      h.amr k,
-      h.buffer k,
-      h.set_tec k,
-      Some 0,
-      nat_le 3 (h.version k) && (is_some (h.set_tec k) && false),
-    ))
+    alike_set _ _ (λ k. record (set_alike h k) {
+      lom = m.lom;
+      stm = m.stm;
+      afm = m.afm;
+      set_rec = Some 0;
+      asks = nat_le 3 (h.version k) && (is_some (h.set_tec k) && false);
+    })
 alike_mode true false m p r e h = absurd cc
 alike_mode false true m p r e h = absurd cc
 alike_mode false false m p r e h =
-    alike_set _ _ (λ k. (
-      h.version k,
-      m.lom,
-      m.stm,
-      m.afm,
-      h.acr k,
-      h.amr k,
-      h.buffer k,
-      h.set_tec k,
-      h.set_rec k,
-      h.asks k,
-    ))
+    alike_set _ _ (λ k. record (set_alike h k) { lom = m.lom; stm = m.stm; afm = m.afm })
 
 -- TXERR was written
 txerr_set : (v : ℕ) (p r : Registers) → AreAlike p r →
     settings (record p { txerr = v; set_tec = Some v }) ≡ settings (record r { txerr = v; set_tec = Some v })
-txerr_set v p r h = λ k. (
-  h.version k,
-  h.lom k,
-  h.stm k,
-  h.afm k,
-  h.acr k,
-  h.amr k,
-  h.buffer k,
-  Some v,
-  h.set_rec k,
-  nat_le 3 (h.version k) && (v == 255),
-)
+txerr_set v p r h =
+    λ k. record (set_alike h k) { set_tec = Some v; asks = nat_le 3 (h.version k) && (v == 255) }
 
 alike_txerr : (full : Bool) (v : ℕ) (p r : Registers) → AreAlike p r →
     AreAlike (if full then record p { txerr = v; set_tec = Some v }
@@ -153,86 +81,30 @@ alike_write None v p r e h = h
 alike_write (Some Mode) v p r e h =
     alike_mode (is_forced p && not (mode_of v).rm) (is_forced r && not (mode_of v).rm) (mode_of v) p r
     (λ k. (e k && h.asks k) && not (mode_of v).rm) h
-alike_write (Some InterruptEnable) v p r e h = alike_set _ _ (set_alike p r h)
-alike_write (Some ErrorWarningLimit) v p r e h = alike_set _ _ (set_alike p r h)
-alike_write (Some ReceiveErrorCounter) v p r e h =
-    alike_set _ _ (λ k. (
-      h.version k,
-      h.lom k,
-      h.stm k,
-      h.afm k,
-      h.acr k,
-      h.amr k,
-      h.buffer k,
-      h.set_tec k,
-      Some v,
-      h.asks k,
-    ))
+alike_write (Some InterruptEnable) v p r e h = alike_set _ _ (set_alike h)
+alike_write (Some ErrorWarningLimit) v p r e h = alike_set _ _ (set_alike h)
+alike_write (Some ReceiveErrorCounter) v p r e h = alike_set _ _ (λ k. record (set_alike h k) { set_rec = Some v })
 alike_write (Some TransmitErrorCounter) v p r e h = alike_txerr (v == 255) v p r h
 alike_write (Some (AcceptanceCode i)) v p r e h =
-    alike_set _ _ (λ k. (
-      h.version k,
-      h.lom k,
-      h.stm k,
-      h.afm k,
-      slice_set (h.acr k) i v,
-      h.amr k,
-      h.buffer k,
-      h.set_tec k,
-      h.set_rec k,
-      h.asks k,
-    ))
+    alike_set _ _ (λ k. record (set_alike h k) { acr = slice_set (h.acr k) i v })
 alike_write (Some (AcceptanceMask i)) v p r e h =
-    alike_set _ _ (λ k. (
-      h.version k,
-      h.lom k,
-      h.stm k,
-      h.afm k,
-      h.acr k,
-      slice_set (h.amr k) i v,
-      h.buffer k,
-      h.set_tec k,
-      h.set_rec k,
-      h.asks k,
-    ))
+    alike_set _ _ (λ k. record (set_alike h k) { amr = slice_set (h.amr k) i v })
 alike_write (Some (Buffer i)) v p r e h =
-    alike_set _ _ (λ k. (
-      h.version k,
-      h.lom k,
-      h.stm k,
-      h.afm k,
-      h.acr k,
-      h.amr k,
-      slice_set (h.buffer k) i v,
-      h.set_tec k,
-      h.set_rec k,
-      h.asks k,
-    ))
+    alike_set _ _ (λ k. record (set_alike h k) { buffer = slice_set (h.buffer k) i v })
 alike_write (Some other) v p r e h = h
 
 -- a step sets the same in both
 pub alike_step : (p r : Registers) (step : Step) (answer : StepAnswer) → (opened step answer ≡ 1 → p.mode.rm ≡ true) →
     AreAlike p r → AreAlike (ported p step answer) (after_setting p.mode.rm r step answer)
 alike_step p r Start Done starts h = alike_start p.mode.rm p r (starts refl) h
-alike_step p r Stop Done starts h = alike_set _ _ (set_alike p r h)
+alike_step p r Stop Done starts h = alike_set _ _ (set_alike h)
 alike_step p r (Read address) answer starts h = alike_read (register_at p.mode.rm address) p r h
 alike_step p r (Write address value) Done starts h =
     alike_write (register_at p.mode.rm address) value p (in_mode p.mode.rm r) refl
-    (alike_set _ _ (set_alike p r h))
+    (alike_set _ _ (set_alike h))
 alike_step p r (Load m) Done starts h =
-    alike_set _ _ (λ k. (
-      h.version k,
-      h.lom k,
-      h.stm k,
-      h.afm k,
-      h.acr k,
-      h.amr k,
-      (after_loading p m).buffer,
-      h.set_tec k,
-      h.set_rec k,
-      h.asks k,
-    ))
-alike_step p r (Command value) Done starts h = alike_set _ _ (set_alike p r h)
+    alike_set _ _ (λ k. record (set_alike h k) { buffer = (after_loading p m).buffer })
+alike_step p r (Command value) Done starts h = alike_set _ _ (set_alike h)
 alike_step p r Start other starts h = h
 alike_step p r Stop other starts h = h
 alike_step p r (Write address value) other starts h = h

@@ -24,6 +24,7 @@ use Rattle.sja_driver.specs.LoggedDrivers.{ended_of, Steps}
 use Rattle.sja_driver.specs.Tries.{gave_by}
 use Rattle.sja_serial.specs.Nodes.{IsNode}
 use Rattle.sja_serial.specs.Serial.{SerialValue, StandsAt}
+use Rattle.sja_driver.proofs.LogOfSteps.Logged.{min_less}
 use Rattle.sja_serial.proofs.OneNode.Trying.{alike, shows_none, takes_none}
 
 -- no item is taken where there is none
@@ -33,11 +34,8 @@ no_items j = record { items = []; whole = sym (append-nil j); read = tt; in_orde
 pub as_untold : (b : Bool) (j : List Entry) → IsUntold b b j j
 as_untold b j = record { stays = λ e. e; takes = λ differ. absurd (differ refl); none = λ e same. e }
 
-min_less : (n : ℕ) → min n 63 < 64
-min_less n = grind arith
-
-module _ (plan : PlanValue) (r : SerialValue) (deeds : List (List Deed)) (i : ℕ) (stood : StandsAt plan r deeds)
-    (was now : LoggedDriver) (p q : Registers) (given : List Deques) (one : Step) (bits : ℕ) (done : Bool)
+module _ {plan : PlanValue} {r : SerialValue} {deeds : List (List Deed)} (i : ℕ) (stood : StandsAt plan r deeds)
+    {was now : LoggedDriver} {p q : Registers} {given : List Deques} {one : Step} {bits : ℕ} {done : Bool}
     (node : IsNode plan.version (steps_at plan i) (journal_at r.bus.journals i) (deeds_at deeds i) was p r.links
     (64 * i))
     (st : Steps alike Lies shows_none takes_none was now r.links given (64 * i) p q one bits done)

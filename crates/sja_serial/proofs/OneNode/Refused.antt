@@ -1,7 +1,7 @@
 -- An item that was refused is the one that was given last.
 use Rattle.std.proofs.Common.{◌≡◌, ℕ, suc, ◌+◌, ◌<◌, List, [], ◌∷◌, ◌++◌, refl, sym, ap, ◌∙◌, cond, append_assoc}
 use Rattle.std.proofs.Common.{append-nil, arith, inl, inr}
-use Rattle.std.specs.Prelude.{◌==◌, slice_index_or}
+use Rattle.std.specs.Prelude.{◌==◌, Bool, slice_index_or}
 use Rattle.std.proofs.lemmas.Bool.{cases_eq, ne_eqb, eqb-true}
 use Rattle.sja_link.specs.declared.up.Up.{Up}
 use Rattle.sja_link.specs.declared.entry.Entry.{Entry}
@@ -14,10 +14,10 @@ use Rattle.sja_wire.specs.declared.bus_fault.BusFault.{BusFault}
 use Rattle.sja_wire.specs.Links.{stops_of}
 use Rattle.sja_wire.specs.OneBit.{entries_of_items, AreRead}
 use Rattle.sja_bus.specs.Reasons.{RefusesItem}
-use Rattle.sja_driver.specs.declared.any_driver.AnyDriver.{AnyDriver}
-use Rattle.sja_driver.specs.declared.work_log.WorkLog.{WorkLog}
+use Rattle.sja_driver.specs.declared.release.Release.{Release}
 use Rattle.sja_driver.specs.Deeds.{Deed, given_in, deeds_of}
-use Rattle.sja_driver.specs.Holding.{HoldsBy}
+use Rattle.sja_driver.specs.Holding.{Holds}
+use Rattle.sja_serial.proofs.OneNode.Gathered.{no_link}
 use Rattle.sja_wire.proofs.Taking.{waiting, adds, taken_adds, AtMostOne, same_front, none_front, none_back, some_none}
 use Rattle.sja_wire.proofs.Taking.{adds_first, one_is}
 
@@ -51,25 +51,25 @@ just_refused j (u ∷ us) gave b s item up read few others next = elim (cases_eq
 ]
 
 -- a node whose links stand for what its driver gave, where at most one item waited
-pub refused_is : (j k : List Entry) (deeds : List Deed) (driver : AnyDriver) (log : WorkLog) (links after : List Deques)
-    (base room node : ℕ) (none : Deques) (f : BusFault) (gave : List Up) (b : ℕ) → HoldsBy Lies deeds driver log j links
-    base →
-    AtMostOne gave → ((a : ℕ) → given_in (deeds_of deeds a) ≡ taken_of (part j a) ++ waiting b gave a) →
+pub refused_is : {j k : List Entry} {deeds : List Deed} {releases : List Release} {left : List (List (List ℕ))}
+    {ended : ℕ} {off : Bool} {links after : List Deques} {base room node : ℕ} {f : BusFault} (gave : List Up) (b : ℕ) →
+    Holds Lies deeds releases left ended off j links base → AtMostOne gave →
+    ((a : ℕ) → given_in (deeds_of deeds a) ≡ taken_of (part j a) ++ waiting b gave a) →
     (r : RefusesItem Lies room j k links after base node f) → (k ≡ j) × (gave ≡ r.item ∷ [])
-refused_is j k deeds driver log links after base room node none f gave b holds few given r =
+refused_is {j} {k} {deeds} {after = after} {base} gave b holds few given r =
     let acc : ℕ → Account = λ a. record { got = holds.got a; given = given_in (deeds_of deeds (suc a)) } in
     let us = r.items.items in
-    let up : ℕ → List Up = λ a. (slice_index_or after (base + a) none).up in
+    let up : ℕ → List Up = λ a. (slice_index_or after (base + a) no_link).up in
     let taken : (a : ℕ) → taken_of (part k a) ≡ taken_of (part j a) ++ adds j us a =
     λ a. ap (λ (l : List Entry). taken_of (part l a)) r.items.whole ∙ taken_adds j us a in
     let others : (a : ℕ) → a < 64 → (stops_of k ≡ a → ⊥) → waiting b gave (suc a) ≡ adds j us (suc a) ++ up a =
     λ a less differ. same_front (taken_of (part j (suc a))) (waiting b gave (suc a)) (adds j us (suc a) ++ up a)
-    (sym (given (suc a)) ∙ (r.others acc a none holds.kept less differ).1 ∙ ap (λ l. l ++ up a) (taken (suc a))
+    (sym (given (suc a)) ∙ (r.others acc a no_link holds.kept less differ).1 ∙ ap (λ l. l ++ up a) (taken (suc a))
     ∙ append_assoc (taken_of (part j (suc a))) (adds j us (suc a)) (up a)) in
     let s = stops_of k in
     let next : waiting b gave (suc s) ≡ (adds j us (suc s) ++ r.item ∷ []) ++ up s =
     same_front (taken_of (part j (suc s))) (waiting b gave (suc s)) ((adds j us (suc s) ++ r.item ∷ []) ++ up s)
-    (sym (given (suc s)) ∙ (r.shown acc none holds.kept).1 ∙ ap (λ l. (l ++ r.item ∷ []) ++ up s) (taken (suc s))
+    (sym (given (suc s)) ∙ (r.shown acc no_link holds.kept).1 ∙ ap (λ l. (l ++ r.item ∷ []) ++ up s) (taken (suc s))
     ∙ ap (λ l. l ++ up s) (append_assoc (taken_of (part j (suc s))) (adds j us (suc s)) (r.item ∷ []))
     ∙ append_assoc (taken_of (part j (suc s))) (adds j us (suc s) ++ r.item ∷ []) (up s)) in
     let both = just_refused j us gave b s r.item up r.items.read few others next in

@@ -87,7 +87,7 @@ shows_first version = record {
 
 -- ---- after a bit
 
-and_last : (a b : Bool) → (a && b) ≡ true → b ≡ true
+pub and_last : (a b : Bool) → (a && b) ≡ true → b ≡ true
 and_last true b h = h
 and_last false b h = absurd cc
 

@@ -29,6 +29,7 @@ use Rattle.sja_script.specs.declared.step_answer.StepAnswer.TheVariants.{Done}
 use Rattle.sja_driver.specs.Answers.{done_unless}
 use Rattle.sja_driver.specs.Carried.{Tells, carried, ported}
 use Rattle.sja_driver.proofs.Step.Modes.{write_rm}
+use Rattle.sja_link.proofs.Ledger.Small.{or_true}
 use Rattle.sja_serial.specs.Shown.{ShowsRecord}
 
 -- counters and BS of q are those of p and the node's in the same turns, or they are the node's in no turn
@@ -60,10 +61,6 @@ and_none : (a b : Bool) → b ≡ true → (a && not b) ≡ false
 and_none true true e = refl
 and_none false true e = refl
 and_none a false e = absurd cc
-
-or_some : (a : Bool) → (a || true) ≡ true
-or_some true = refl
-or_some false = refl
 
 -- once a counter was written none is the node's
 unfollowed : (raw same set : Bool) → raw ≡ true → set ≡ true → (not raw || (same && not set)) ≡ false
@@ -140,7 +137,7 @@ write_alike (Some ErrorWarningLimit) v p h =
 write_alike (Some ReceiveErrorCounter) v p h =
     record {
       counts = own_counts (λ t. unfollowed (is_raw p) (t.activation == p.activation) (is_some p.set_tec || true)
-          (raw_written (is_raw p) ((not p.mode.rm, ResetOnly) ∷ []) h) (or_some (is_some p.set_tec)));
+          (raw_written (is_raw p) ((not p.mode.rm, ResetOnly) ∷ []) h) (or_true (is_some p.set_tec)));
       rs = refl;
       ts = refl;
       still = λ t. refl;

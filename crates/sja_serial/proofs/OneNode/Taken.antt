@@ -19,11 +19,10 @@ use Rattle.sja_wire.specs.Wire.{journal_at}
 use Rattle.sja_plan.specs.Plan.{PlanValue}
 use Rattle.sja_regs.specs.declared.registers.Registers.{Registers}
 use Rattle.sja_script.specs.declared.step.Step.{Step}
-use Rattle.sja_driver.specs.declared.any_driver.AnyDriver.{AnyDriver}
 use Rattle.sja_driver.specs.declared.logged_driver.LoggedDriver.{LoggedDriver}
-use Rattle.sja_driver.specs.declared.work_log.WorkLog.{WorkLog}
+use Rattle.sja_driver.specs.declared.release.Release.{Release}
 use Rattle.sja_driver.specs.Deeds.{Deed, opens_by, opened_by, is_active, given_in, deeds_of}
-use Rattle.sja_driver.specs.Holding.{HoldsBy, place_after}
+use Rattle.sja_driver.specs.Holding.{Holds, HoldsBy, place_after}
 use Rattle.sja_driver.specs.LoggedDrivers.{node_of, driver_of, log_of, ended_of, Steps}
 use Rattle.sja_driver.specs.Logs.{Traces, deeds_by}
 use Rattle.sja_driver.specs.Tries.{Tried}
@@ -35,9 +34,10 @@ use Rattle.sja_plan.specs.Plan.{steps_at}
 use Rattle.sja_driver.proofs.Deeds.Credits.{credit_lengths, credit_right}
 use Rattle.sja_serial.proofs.OneNode.InOrder.{never_refused}
 use Rattle.sja_link.proofs.Ledger.Small.{no_item}
+use Rattle.sja_serial.proofs.OneNode.Gathered.{no_link}
 use Rattle.sja_serial.proofs.OneNode.Refused.{refused_is}
 use Rattle.sja_serial.proofs.OneNode.Room.{has_room}
-use Rattle.sja_serial.proofs.AllNodes.Slices.{each_other}
+use Rattle.sja_serial.proofs.AllNodes.Slices.{apart, each_other}
 use Rattle.sja_wire.proofs.Taking.{no_wait}
 use Rattle.sja_serial.proofs.OneNode.Trying.{alike, shows_none, takes_none}
 use Rattle.sja_log.proofs.Trace.TbsAndAbort.{tbs_right}
@@ -46,24 +46,23 @@ use Rattle.sja_serial.proofs.OneNode.Turned.{is_unmet}
 
 -- ---- a node whose driver gave nothing
 
-pub none_taken : (j k : List Entry) (deeds : List Deed) (driver : AnyDriver) (log : WorkLog) (links after : List Deques)
-    (base room node : ℕ) (none : Deques) (f : BusFault) → HoldsBy Lies deeds driver log j links base →
+none_taken : {j k : List Entry} {deeds : List Deed} {releases : List Release} {left : List (List (List ℕ))}
+    {ended : ℕ} {off : Bool} {links after : List Deques} {base room node : ℕ} {f : BusFault} →
+    Holds Lies deeds releases left ended off j links base →
     ((a : ℕ) → given_in (deeds_of deeds a) ≡ taken_of (part j a)) → RefusesItem Lies room j k links after base node f →
     ⊥
-none_taken j k deeds driver log links after base room node none f holds given r =
-    let is = refused_is j k deeds driver log links after base room node none f [] 0 holds (omega arith)
+none_taken {j} holds given r =
+    let is = refused_is [] 0 holds (omega arith)
     (λ a. given a ∙ sym (ap (λ (l : List Up). taken_of (part j a) ++ l) (no_wait a) ∙ append-nil (taken_of (part j a))))
     r in
     no_item r.item (sym is.1)
 
 -- ---- a step of a driver, and a node whose item was refused then
 
-module _ (version : ℕ) (steps : List Step) (j : List Entry) (deeds : List Deed) (was now : LoggedDriver)
-    (p q : Registers)
-    (links given : List Deques) (base : ℕ) (one : Step) (none : Deques) (h : IsNode version steps j deeds was p links
-    base)
-    (lawful : IsLawfulJournal j) (bits room : ℕ) (short : length deeds ≤ length steps)
-    (enough : 2 * bits + 2 * length steps + 100 ≤ room) (run : (place_of j).bits ≤ bits) where
+module _ {version : ℕ} {steps : List Step} {j : List Entry} {deeds : List Deed} {was : LoggedDriver} {p : Registers}
+    {links : List Deques} {base : ℕ} (h : IsNode version steps j deeds was p links base) (lawful : IsLawfulJournal j)
+    (bits room : ℕ) (short : length deeds ≤ length steps) (enough : 2 * bits + 2 * length steps + 100 ≤ room)
+    (run : (place_of j).bits ≤ bits) where
   before : (a : ℕ) → given_in (deeds_of deeds a) ≡ taken_of (part j a)
   before a = given_taken deeds j a (h.in_time.when a)
 
@@ -77,30 +76,30 @@ module _ (version : ℕ) (steps : List Step) (j : List Entry) (deeds : List Deed
       (omega (arith, b, m)) run in omega (arith, few, enough)
 
   -- the step was done
-  pub done_taken : (k : List Entry) (after : List Deques) (node : ℕ) (f : BusFault) →
+  done_taken : {now : LoggedDriver} {q : Registers} {given : List Deques} {one : Step} {k : List Entry}
+      {after : List Deques} {node : ℕ} {f : BusFault} →
       Steps alike Lies shows_none takes_none was now links given base p q one (place_of j).bits true →
       RefusesItem Lies room j k given after base node f → ⊥
-  done_taken k after node f st r =
-      let y = doing version steps j deeds was now p q links given base one none h lawful st in
-      let c = y.is_next in let d = c.deed in let next = c.next in let b = opened_by deeds + opens_by d in
-      let is = refused_is j k (deeds ++ d ∷ []) (driver_of now) (log_of now) given after base room node none
-      f d.gave b
-      y.holds (at_most_one (is_active deeds) (opened_by deeds) d.step d.answer d.gave y.kind) y.waits_now r in
+  done_taken {now} {q} {given} {one} {node = node} {f} st r =
+      let y = doing version steps j deeds was now p q links given base one no_link h lawful st in
+      let c = y.is_next in let d = c.deed in let next = c.next in
+      let is = refused_is d.gave (opened_by deeds + opens_by d) y.holds
+      (at_most_one (is_active deeds) (opened_by deeds) d.step d.answer d.gave y.kind) y.waits_now r in
       let read = is_read j deeds d h.linked.level most y.kind (λ e. no_item r.item (sym is.1 ∙ e)) in
       let right : (n : ℕ) → d.gave ≡ Credit n ∷ [] → IsBadCredit j n → ⊥ = λ n gave bad.
-      credit_right j deeds d n (driver_of now) (log_of now) given base none lawful before
+      credit_right j deeds d n (driver_of now) (log_of now) given base no_link lawful before
       h.traced.traces.answered.gives y.trace y.holds (credit_lengths p d.step d.answer n (sym next.gave ∙ gave))
       (stops_of j) read.1 (sym read.0) bad.free bad.is_free bad.bad in
       never_refused version j deeds d p q next h.ported h.asked h.linked.level y.kind
-      (tbs_right version j deeds p h.registers h.traced.traces.answered.states) lawful right node
-      room
-      r.item f is.1 fits (subst (λ (l : List Entry). IsRefusedFor node room l r.item f) is.0 r.why)
+      (tbs_right version j deeds p h.registers h.traced.traces.answered.states) lawful right node room r.item f is.1
+      fits (subst (λ (l : List Entry). IsRefusedFor node room l r.item f) is.0 r.why)
 
   -- it waits
-  pub waits_taken : (k : List Entry) (after : List Deques) (node : ℕ) (f : BusFault) →
+  waits_taken : {now : LoggedDriver} {q : Registers} {given : List Deques} {one : Step} {k : List Entry}
+      {after : List Deques} {node : ℕ} {f : BusFault} →
       Steps alike Lies shows_none takes_none was now links given base p q one (place_of j).bits false →
       RefusesItem Lies room j k given after base node f → ⊥
-  waits_taken k after node f st r =
+  waits_taken {now} {given = given} {one} st r =
       let unmet = is_unmet st.tried st.met in
       let nothing_done : deeds ++ deeds_by p one st.tried (place_of j).bits ≡ deeds =
       ap (λ (o : Tried). deeds ++ deeds_by p one o (place_of j).bits) unmet ∙ append-nil deeds in
@@ -109,45 +108,35 @@ module _ (version : ℕ) (steps : List Step) (j : List Entry) (deeds : List Deed
       let holds_still : HoldsBy Lies deeds (driver_of now) (log_of now) j given base =
       subst (λ (l : List Deed). HoldsBy Lies l (driver_of now) (log_of now) j given base) nothing_done
       (st.goes.holds deeds j trace h.linked.holds) in
-      none_taken j k deeds (driver_of now) (log_of now) given after base room node none f holds_still before
-      r
+      none_taken holds_still before r
 
 -- ---- a taking after a step
 
 -- no item of any node is refused
-pub gather_takes : (plan : PlanValue) (r : SerialValue) (deeds : List (List Deed)) (node : ℕ) (was now : LoggedDriver)
-    (p q : Registers) (given after : List Deques) (journals : List (List Entry)) (one : Step) (none : Deques)
-    (f : BusFault)
-    (b : Bool) → StandsAt plan r deeds → node < length plan.nodes →
+pub gather_takes : {plan : PlanValue} {r : SerialValue} {deeds : List (List Deed)} {node : ℕ} {was now : LoggedDriver}
+    {p q : Registers} {given after : List Deques} {journals : List (List Entry)} {one : Step} {f : BusFault}
+    {b : Bool} → StandsAt plan r deeds → node < length plan.nodes →
     IsNode plan.version (steps_at plan node) (journal_at r.bus.journals node) (deeds_at deeds node) was p r.links
     (64 * node) →
     IsLawfulJournal (journal_at r.bus.journals node) → length (deeds_at deeds node) ≤ length (steps_at plan node) →
     (place_of (journal_at r.bus.journals node)).bits ≡ r.bits →
     Steps alike Lies shows_none takes_none was now r.links given (64 * node) p q one r.bits b →
-    ((i : ℕ) (d : Deques) → i ≢ place_after (64 * node) (ended_of was) → slice_index_or given i d ≡ slice_index_or
-    r.links i d) →
+    ((i : ℕ) (d : Deques) → i ≢ place_after (64 * node) (ended_of was) →
+    slice_index_or given i d ≡ slice_index_or r.links i d) →
     IsTakenAndRefused Lies (r.bus.run + r.bus.left) r.bus.steps r.bus.journals journals given after f → ⊥
-gather_takes plan r deeds node was now p q given after journals one none f b h there w lawful short place st others
-    r_not =
+gather_takes {plan} {r} {deeds} {node} {was} {now} {p} {q} {given} {after} {journals} {one} {f} {b} h there w lawful
+    short place st others r_not =
     let m = r_not.node in
     elim (cases_eq m node) [
       | inl e ↦
           let P : ℕ → Type 0 = λ x. RefusesItem Lies (room_for (r.bus.run + r.bus.left) r.bus.steps x)
-          (journal_at r.bus.journals x)
-          (journal_at journals x) given after (64 * x) x f in
-          let refuses = subst P e r_not.refuses in
+          (journal_at r.bus.journals x) (journal_at journals x) given after (64 * x) x f in
           here b (subst (λ (n : ℕ). Steps alike Lies shows_none takes_none was now r.links given (64 * node) p q one n
-          b)
-          (sym place) st) refuses
+          b) (sym place) st) (subst P e r_not.refuses)
       | inr differ ↦
-          let x = slice_index_or r.drivers m now in
           let few : m < length plan.nodes = let c = h.count.journals in let l = r_not.few in omega (arith, c, l) in
           let n = h.nodes m now p few in
-          none_taken (journal_at r.bus.journals m) (journal_at journals m) (deeds_at deeds m) (driver_of x) (log_of x)
-          given after (64 * m)
-          (room_for (r.bus.run + r.bus.left) r.bus.steps m) m none f
-          (each_other (deeds_at deeds m) x (journal_at r.bus.journals m) r.links given m node (ended_of was) differ
-          n.linked.holds others)
+          none_taken (each_other (λ a. apart m node a (ended_of was) differ) n.linked.holds others)
           (λ a. given_taken (deeds_at deeds m) (journal_at r.bus.journals m) a (n.in_time.when a)) r_not.refuses
     ]
   where
@@ -165,13 +154,7 @@ gather_takes plan r deeds node was now p q given after journals one none f b h t
         Steps alike Lies shows_none takes_none was now r.links given (64 * node) p q one (place_of j).bits x →
         RefusesItem Lies (room_for (r.bus.run + r.bus.left) r.bus.steps node) j (journal_at journals node) given after
         (64 * node) node f → ⊥
-    here true s refuses =
-        done_taken plan.version (steps_at plan node) j (deeds_at deeds node) was now p q r.links given (64 * node) one
-        none w lawful
-        (r.bus.run + r.bus.left) (room_for (r.bus.run + r.bus.left) r.bus.steps node) short enough run (journal_at
-        journals node) after node f s refuses
-    here false s refuses =
-        waits_taken plan.version (steps_at plan node) j (deeds_at deeds node) was now p q r.links given (64 * node) one
-        none w lawful
-        (r.bus.run + r.bus.left) (room_for (r.bus.run + r.bus.left) r.bus.steps node) short enough run (journal_at
-        journals node) after node f s refuses
+    here true = done_taken w lawful (r.bus.run + r.bus.left) (room_for (r.bus.run + r.bus.left) r.bus.steps node) short
+        enough run
+    here false = waits_taken w lawful (r.bus.run + r.bus.left) (room_for (r.bus.run + r.bus.left) r.bus.steps node)
+        short enough run

@@ -3,7 +3,6 @@ use Rattle.std.proofs.Common.{◌≡◌, ◌≢◌, ℕ, suc, ◌+◌, ◌<◌, 
 use Rattle.std.proofs.Common.{◌∷◌, ◌++◌, length, map, refl, sym, ap, ◌∙◌, subst, arith}
 use Rattle.std.specs.Prelude.{not, min, slice_index_or}
 use Rattle.can_frame.specs.declared.seen.Seen.{Seen}
-use Rattle.sja_link.specs.declared.driver_ledger.DriverLedger.{DriverLedger}
 use Rattle.sja_link.specs.declared.entry.Entry.{Entry}
 use Rattle.sja_link.specs.Accounts.{account}
 use Rattle.sja_link.specs.Deques.{Deques, Lies}
@@ -29,13 +28,15 @@ use Rattle.sja_driver.specs.Carried.{Sees, Tells, carried, ported}
 use Rattle.sja_driver.specs.Deeds.{Deed, opened_by, is_active, given_in, deeds_of, released_lengths, FitsState}
 use Rattle.sja_driver.specs.Drivers.{nothing_seen}
 use Rattle.sja_driver.specs.Holding.{HoldsBy, place_after}
-use Rattle.sja_driver.specs.Logs.{Traces, releases_in, left_in, released_of, leaves, deeds_by}
+use Rattle.sja_driver.specs.Logs.{Traces, releases_in, left_in, released_of, deeds_by}
 use Rattle.sja_driver.specs.Tries.{Tried, is_met, off_after, window_after}
 use Rattle.sja_driver.specs.Tries.Tried.{Unmet, Answered, Released, Ended}
 use Rattle.sja_log.specs.Registering.{seen_now}
 use Rattle.sja_log.specs.Windows.{SeesIf}
 use Rattle.sja_serial.specs.Asking.{IsAsked}
 use Rattle.sja_serial.specs.Waiting.{HasToWait}
+use Rattle.sja_driver.proofs.LogOfSteps.Logged.{min_few, min_less}
+use Rattle.sja_driver.proofs.Step.Left.{leaves_last}
 use Rattle.sja_log.proofs.Account.Seeing.{IsSeeing, seen_as, seen_by_now, tells_seen, seen_shown}
 use Rattle.sja_wire.proofs.Taking.{same_front}
 use Rattle.sja_log.proofs.Account.Looks.{IsShown, is_shown}
@@ -63,16 +64,6 @@ pub record IsNext (j : List Entry) (deeds : List Deed) (p q : Registers) (d : De
   pub tells : Tells d.step (is_active deeds) p (seen_now (is_active deeds) j deeds) d.answer
   pub patient : d.answer ≢ Refused Closed
   pub left : q ≡ ported p d.step d.answer
-
-leaves_last : (xs : List DriverLedger) (y : List (List ℕ)) → slice_index_or (leaves xs y) (length xs) [] ≡ y
-leaves_last [] y = refl
-leaves_last (x ∷ xs) y = leaves_last xs y
-
-min_few : (n : ℕ) → n < 64 → min n 63 ≡ n
-min_few n few = grind arith
-
-min_less : (n : ℕ) → min n 63 < 64
-min_less n = grind arith
 
 -- ---- a driver that took in what its link showed knows what was put
 
@@ -212,6 +203,11 @@ module _ (j : List Entry) (deeds : List Deed) (log : WorkLog) (links : List Dequ
   not_full : (s : Deques) → s.up ≡ [] → length s.up ≡ 24 → ⊥
   not_full s none_up full = let e : length s.up ≡ 0 = ap (λ l. length l) none_up in omega (arith, e, full)
 
+  not_used : ((a : ℕ) (d : Deques) → a < 64 → (slice_index_or links (base + a) d).up ≡ []) →
+      length (slice_index_or links (place_after base (length (left_in log))) none).up ≡ 24 → ⊥
+  not_used empty = not_full (slice_index_or links (place_after base (length (left_in log))) none)
+      (empty (min (length (left_in log)) 63) none (min_less (length (left_in log))))
+
   -- a driver that waits sees what has been put
   seen_waiting : {version : ℕ} (w now : AnyDriver) → Traces version w log deeds →
       IsDriverOf node (length (left_in log)) w →
@@ -242,17 +238,11 @@ module _ (j : List Entry) (deeds : List Deed) (log : WorkLog) (links : List Dequ
   waits p Interrupt w now out asked trace place h empty (closed, inactive, look) =
       subst (λ (s : Seen). is_line_active p s ≡ false)
       (seen_by_now w now Interrupt Done tt out ∙ seen_waiting w now trace place h look) inactive
-  waits p Start (InReset was) now out asked trace place h empty (left, full) =
-      not_full (slice_index_or links (place_after base (length (left_in log))) none)
-      (empty (min (length (left_in log)) 63) none (min_less (length (left_in log)))) full
+  waits p Start (InReset was) now out asked trace place h empty (left, full) = not_used empty full
   waits p Start (InActive was) now out asked trace place h empty full = elim full [ ]
-  waits p Stop (InActive was) now out asked trace place h empty full =
-      not_full (slice_index_or links (place_after base (length (left_in log))) none)
-      (empty (min (length (left_in log)) 63) none (min_less (length (left_in log)))) full
+  waits p Stop (InActive was) now out asked trace place h empty full = not_used empty full
   waits p Stop (InReset was) now out asked trace place h empty full = elim full [ ]
-  waits p (Command value) (InActive was) now out asked trace place h empty (full, asks, fits) =
-      not_full (slice_index_or links (place_after base (length (left_in log))) none)
-      (empty (min (length (left_in log)) 63) none (min_less (length (left_in log)))) full
+  waits p (Command value) (InActive was) now out asked trace place h empty (full, asks, fits) = not_used empty full
   waits p (Command value) (InReset was) now out asked trace place h empty full = elim full [ ]
   waits p Window w now out asked trace place h empty full = elim full [ ]
   waits p (Read a) w now out asked trace place h empty full = elim full [ ]

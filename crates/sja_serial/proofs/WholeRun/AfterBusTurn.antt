@@ -1,5 +1,5 @@
 -- What follows a turn of the bus, or rest, in a run follows, with that turn, from where the run stood before.
-use Rattle.std.proofs.Common.{◌≡◌, ℕ, ◌+◌, ◌-◌, ◌<◌, ◌≤◌, true, false, List, ◌∷◌, length}
+use Rattle.std.proofs.Common.{◌≡◌, ℕ, ◌+◌, ◌-◌, ◌<◌, true, false, List, ◌∷◌, length}
 use Rattle.std.proofs.Common.{map, take, refl, sym, ap, ◌∙◌, subst, arith, inl, inr}
 use Rattle.std.specs.Prelude.{slice_index}
 use Rattle.std.proofs.lemmas.Bool.{cases_lt, false≢true}
@@ -22,11 +22,9 @@ use Rattle.sja_serial.specs.Bits.TakesBits.{no_bit, one_more}
 use Rattle.sja_serial.specs.Ending.{progress}
 use Rattle.sja_serial.specs.Serial.{SerialValue, StandsAt}
 use Rattle.sja_driver.specs.Deeds.{deeds_at}
+use Rattle.sja_serial.proofs.ManyBits.SomeBits.{bits_within}
 use Rattle.sja_serial.proofs.WholeRun.GoingOn.{acts_of, GoesOn, ArePresent, deeds_then, record_then}
 use Rattle.sja_serial.proofs.WholeRun.GoingOn.{back_bit, present_bits, bits_run, stands_bits}
-
-within : (plan : PlanValue) (r : SerialValue) (deeds : List (List Deed)) → StandsAt plan r deeds → r.bits ≤ plan.bits
-within plan r deeds h = let b = h.bits in let a = h.all_bits in omega (arith, a, b)
 
 module _ (plan : PlanValue) (deeds : List (List Deed)) (journals : List (List Entry)) (all : List (List Deed)) where
   bits_on : (was now : SerialValue) (n : ℕ) → now.bits ≡ was.bits + n →
@@ -41,7 +39,7 @@ module _ (plan : PlanValue) (deeds : List (List Deed)) (journals : List (List En
   bus_whole was now count turns q end h t follows =
       let n = bits_run plan deeds _ was now t.run t.bits in
       let stands = stands_bits plan deeds _ was now t.run t.bits h in
-      let few = within plan now deeds stands in let w = t.whole refl in
+      let few = bits_within plan now deeds stands in let w = t.whole refl in
       let e : now.bits ≡ was.bits + count = omega (arith, n, w) in
       bus (progress was deeds) q count turns end (omega (arith, few, e))
       (subst (λ (p : Progress). RunsTo (acts_of plan journals all) p turns q end) (bits_on was now count e) follows)
@@ -104,7 +102,7 @@ module _ (plan : PlanValue) (deeds : List (List Deed)) (journals : List (List En
       let e = bits_run plan deeds _ was now t.run t.bits in
       let stands = stands_bits plan deeds _ was now t.run t.bits h in
       let there = present_bits plan deeds _ was now t.run t.bits present in
-      let few = within plan now deeds stands in
+      let few = bits_within plan now deeds stands in
       let still : AllAtRest (acts_of plan journals all) (progress was deeds) now.bits = λ k less.
       let rests = t.whole refl k less in
       subst (λ (l : List NodeEntry). IsAtRest l)

@@ -4,7 +4,7 @@ use Rattle.std.proofs.Common.{replicate, take, drop, refl, sym, ap, ◌∙◌, s
 use Rattle.std.proofs.Common.{inr}
 use Rattle.std.specs.Prelude.{slice_index_or}
 use Rattle.std.proofs.lemmas.Bool.{cases_eq}
-use Rattle.std.proofs.lemmas.List.{get_or-set_same, get_or-set_other}
+use Rattle.std.proofs.lemmas.List.{get_or-set_same, get_or-set_other, take_more}
 use Rattle.sja_link.specs.declared.entry.Entry.{Entry}
 use Rattle.sja_bus.specs.Buses.{BusValue, new_bus}
 use Rattle.sja_wire.specs.Wire.{journal_at}
@@ -91,14 +91,6 @@ end_all plan turns r c whole = record {
 
 -- ---- the turns of a plan, up to one of them
 
-take_one : (ts : List Turn) (i : ℕ) (d : Turn) → i < length ts →
-    take (i + 1) ts ≡ take i ts ++ slice_index_or ts i d ∷ []
-take_one [] i d less = absurd (omega (arith, less))
-take_one (t ∷ ts) zero d less = refl
-take_one (t ∷ ts) (suc i) d less =
-    let e : suc i + 1 ≡ suc (i + 1) = omega arith in
-    ap (λ k. take k (t ∷ ts)) e ∙ ap (λ l. t ∷ l) (take_one ts i d (omega (arith, less)))
-
 take_all : (ts : List Turn) (i : ℕ) (d : Turn) → i < length ts →
     take i ts ++ (slice_index_or ts i d ∷ drop (i + 1) ts) ≡ ts
 take_all [] i d less = absurd (omega (arith, less))
@@ -113,7 +105,7 @@ pub come_at : (plan : PlanValue) (i : ℕ) (d t : Turn) (now : SerialValue) → 
     HasCome plan (take (i + 1) plan.turns) now
 come_at plan i d t now less is h =
     subst (λ (l : List Turn). HasCome plan l now)
-    (ap (λ x. take i plan.turns ++ x ∷ []) (sym is) ∙ sym (take_one plan.turns i d less)) h
+    (ap (λ x. take i plan.turns ++ x ∷ []) (sym is) ∙ sym (take_more plan.turns i d less)) h
 
 pub whole_at : (plan : PlanValue) (i : ℕ) (d t : Turn) → i < length plan.turns → slice_index_or plan.turns i d ≡ t →
     take i plan.turns ++ (t ∷ drop (i + 1) plan.turns) ≡ plan.turns

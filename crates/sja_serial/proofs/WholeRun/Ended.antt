@@ -25,6 +25,7 @@ use Rattle.sja_log.specs.Runs.{IsTrace}
 use Rattle.sja_log.specs.Settling.{IsSettled, AreSettled}
 use Rattle.sja_log.proofs.Trace.Stepping.{given_taken}
 use Rattle.sja_log.proofs.Trace.Windows.{settled_kept}
+use Rattle.sja_serial.proofs.OneNode.Gathered.{no_link}
 use Rattle.sja_serial.specs.Nodes.{IsNode}
 use Rattle.sja_serial.specs.Serial.{SerialValue, StandsAt}
 use Rattle.sja_driver.specs.Deeds.{deeds_at}
@@ -41,9 +42,6 @@ down_at : (links : List Deques) (k : ℕ) (d : Deques) →
 down_at [] k d = refl
 down_at (x ∷ links) zero d = refl
 down_at (x ∷ links) (suc k) d = down_at links k d
-
-abbrev no_link : Deques
-no_link = record { link = record { node = 0; activation = 0 }; down = []; up = [] }
 
 -- ---- one node
 

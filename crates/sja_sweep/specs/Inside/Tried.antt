@@ -24,6 +24,10 @@ pub record IsTried (plan : PlanValue) (planned : RanValue) (t : Trial) (o : Outc
 abbrev pub AreTried : PlanValue → RanValue → List Trial → List Outcome → Type 0
 AreTried plan planned targets outcomes = AllZip (IsTried plan planned) targets outcomes
 
+-- the same, as they are told
+abbrev pub AreTold : PlanValue → RanValue → List Trial → List Told → Type 0
+AreTold plan planned trials tolds = AreTried plan planned trials (map told_value tolds)
+
 -- a sweep is begun: the run of the plan as it is, and what is to be tried, which is not too much and has room in a plan
 pub record IsBegun (plan : PlanValue) (s : Sweeping) (planned : RanValue) (trials : List Trial) : Type 0 where
   pub as_planned : IsRan plan planned
@@ -37,7 +41,7 @@ pub record IsBegun (plan : PlanValue) (s : Sweeping) (planned : RanValue) (trial
 abbrev pub IsPartTried : {V : Type 0} → (V → List Told) → PlanValue → RanValue → List Trial → Result V SweepFault →
     Type 0
 IsPartTried items plan planned trials r =
-    IfOk r (λ tolds. AreTried plan planned trials (map told_value (items tolds))) × IfErr r IsTrialFault
+    IfOk r (λ tolds. AreTold plan planned trials (items tolds)) × IfErr r IsTrialFault
 
 -- of all parts, each of so many trials but the last one, which may have fewer
 abbrev pub ArePartsTried : {V : Type 0} → (V → List Told) → PlanValue → RanValue → ℕ → List Trial →
@@ -52,5 +56,5 @@ pub record AreJoined {V : Type 0} (items : V → List Told) (plan : PlanValue) (
   pub done : List Trial
   pub left : List Trial
   pub whole : trials ≡ done ++ left
-  pub tried : AreTried plan planned done (map told_value all)
+  pub tried : AreTold plan planned done all
   pub rest : ArePartsTried items plan planned size left parts

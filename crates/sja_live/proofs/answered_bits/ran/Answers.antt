@@ -1,5 +1,5 @@
 use Rattle.std.proofs.Common.{refl}
-use Rattle.sja_live.proofs.Told.{told_rose, told_ran, told_spent, not_run}
+use Rattle.sja_live.proofs.Replies.Told.{told_rose, told_ran, told_spent, not_run}
 use Rattle.sja_live.proofs.answered_bits.ran.Goals as goal
 
 -- a line rose

@@ -1,4 +1,4 @@
-use Rattle.sja_live.proofs.Told.{told_rest, at_no_rest}
+use Rattle.sja_live.proofs.Replies.Told.{told_rest, at_no_rest}
 use Rattle.sja_live.proofs.answered_bits.rested.Goals as goal
 
 pub returns-in-Ok : goal.returns-in-Ok

@@ -1,6 +1,6 @@
 use Rattle.std.proofs.Common.{◌≡◌, Ok}
 use Rattle.sja_session.specs.declared.answered.Answered.TheVariants.{Answer, Waits as HasToWait}
-use Rattle.sja_live.proofs.Told.{told_step, told_wait, not_step}
+use Rattle.sja_live.proofs.Replies.Told.{told_step, told_wait, not_step}
 use Rattle.sja_live.proofs.answered_steps.stepped.Goals as goal
 
 pub returns-in-Ok-Answer : goal.returns-in-Ok-Answer

@@ -1,4 +1,4 @@
-use Rattle.sja_live.proofs.Told.{told_read, not_read}
+use Rattle.sja_live.proofs.Replies.Told.{told_read, not_read}
 use Rattle.sja_live.proofs.answered_steps.was_read.Goals as goal
 
 pub returns-in-Ok : goal.returns-in-Ok

@@ -1,4 +1,4 @@
-use Rattle.sja_live.proofs.Told.{told_write, not_write}
+use Rattle.sja_live.proofs.Replies.Told.{told_write, not_write}
 use Rattle.sja_live.proofs.answered_steps.was_written.Goals as goal
 
 pub returns-in-Ok : goal.returns-in-Ok

@@ -1,4 +1,4 @@
-use Rattle.sja_live.proofs.Asked.{told_answer, told_nothing}
+use Rattle.sja_live.proofs.Replies.Asked.{told_answer, told_nothing}
 use Rattle.sja_live.proofs.answering.last_answer.Goals as goal
 
 pub returns-in-Some : goal.returns-in-Some

@@ -1,5 +1,5 @@
 use Rattle.std.proofs.Common.{rules}
-use Rattle.sja_live.proofs.Asked.{told_plan, not_plan, spelled_plan}
+use Rattle.sja_live.proofs.Replies.Asked.{told_plan, not_plan, spelled_plan}
 use Rattle.sja_live.proofs.answering.plan_answer.Goals as goal
 
 pub plan_text-requires : goal.plan_text-requires

@@ -1,6 +1,6 @@
 use Rattle.std.proofs.Common.{rules}
 use Rattle.sja_driver_session.specs.DriverSessions.{session_of}
-use Rattle.sja_live.proofs.Asked.{told_strike, not_past}
+use Rattle.sja_live.proofs.Replies.Asked.{told_strike, not_past}
 use Rattle.sja_session.specs.Striking.{IsStrikeFault}
 use Rattle.sja_session.specs.declared.strike_fault.StrikeFault.TheVariants.{Past}
 use Rattle.sja_live.proofs.answering.struck.Goals as goal

@@ -3,7 +3,7 @@ use Rattle.std.specs.Prelude.{IfOk, IfErr}
 use Rattle.sja_live.specs.Commands.{AreCommandWords}
 use Rattle.sja_live.specs.Inside.Reading.{IsUnasked}
 use Rattle.sja_plan.specs.Words.{Text}
-use Rattle.sja_live.proofs.WordLists.{one_word, two_words, three_words, four_words, step_words, text_at}
+use Rattle.sja_live.proofs.Lines.WordLists.{one_word, two_words, three_words, four_words, step_words, text_at}
 use Rattle.sja_live.proofs.command_words.command_of.Goals as goal
 
 -- no word

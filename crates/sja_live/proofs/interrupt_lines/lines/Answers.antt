@@ -1,8 +1,8 @@
 use Rattle.std.proofs.Common.{arith}
 use Rattle.sja_driver_session.specs.Bits.{line_in}
-use Rattle.sja_live.proofs.InterruptLines.{one_more, all_told, more_few, few_of, still_more, told_of}
-use Rattle.sja_live.proofs.Told.{still_live}
-use Rattle.sja_session.proofs.QuietBits.{nodes_same}
+use Rattle.sja_live.proofs.Replies.InterruptLines.{one_more, all_told, more_few, few_of, still_more, told_of}
+use Rattle.sja_live.proofs.Replies.Told.{still_live}
+use Rattle.sja_session.proofs.WatchedBits.QuietBits.{nodes_same}
 use Rattle.sja_live.proofs.interrupt_lines.lines.Goals as goal
 
 pub with_line-lines-requires : goal.with_line-lines-requires

@@ -1,6 +1,6 @@
 use Rattle.std.proofs.Common.{length, ap, ◌∙◌}
 use Rattle.sja_session.specs.Sessions.{SessionValue}
-use Rattle.sja_live.proofs.LineAnswers.{answers_done, answers_mistake}
+use Rattle.sja_live.proofs.Replies.LineAnswers.{answers_done, answers_mistake}
 use Rattle.sja_live.proofs.next_answer.answer_of.Goals as goal
 
 -- what the line asks for is done

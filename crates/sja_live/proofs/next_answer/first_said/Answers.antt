@@ -1,6 +1,6 @@
 use Rattle.std.proofs.Common.{rules, subst}
 use Rattle.sja_live.specs.Opening.{IsOpeningFault}
-use Rattle.sja_live.proofs.LineAnswers.{first_fails}
+use Rattle.sja_live.proofs.Replies.LineAnswers.{first_fails}
 use Rattle.sja_live.proofs.next_answer.first_said.Goals as goal
 
 -- the line opens no session

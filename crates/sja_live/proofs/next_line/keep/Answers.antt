@@ -1,6 +1,6 @@
 use Rattle.std.proofs.Common.{List, ℕ, [], ◌∷◌, ◌++◌, length, ap, ◌∙◌, arith}
 use Rattle.sja_live.specs.Lines.{most_line}
-use Rattle.sja_live.proofs.LineBytes.{take_full, take_room}
+use Rattle.sja_live.proofs.Lines.LineBytes.{take_full, take_room}
 use Rattle.sja_live.proofs.next_line.keep.Goals as goal
 
 -- there is no room

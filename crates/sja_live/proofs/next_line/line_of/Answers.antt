@@ -2,7 +2,7 @@ use Rattle.std.proofs.Common.{◌≤◌, length, sym, ap, ◌∙◌, subst, arit
 use Rattle.std.proofs.lemmas.Str.{IsUtf8-string_bytes}
 use Rattle.std.specs.Prelude.{IsUtf8}
 use Rattle.sja_live.specs.Lines.{most_line}
-use Rattle.sja_live.proofs.LineBytes.{kept_whole}
+use Rattle.sja_live.proofs.Lines.LineBytes.{kept_whole}
 use Rattle.sja_live.proofs.next_line.line_of.Goals as goal
 
 -- the bytes are a text

@@ -1,8 +1,8 @@
 use Rattle.std.proofs.Common.{◌≡◌, arith, rules}
 use Rattle.std.specs.Prelude.{Err}
 use Rattle.lemmas.proofs.Results.{err_is}
-use Rattle.sja_live.proofs.BreakingOff.{line_begun, line_stopped}
-use Rattle.sja_live.proofs.LineBytes.{readable_line, takes_end, takes_line, within_more}
+use Rattle.sja_live.proofs.Talks.BreakingOff.{line_begun, line_stopped}
+use Rattle.sja_live.proofs.Lines.LineBytes.{readable_line, takes_end, takes_line, within_more}
 use Rattle.sja_live.proofs.next_line.next_line.Goals as goal
 
 -- the text is over

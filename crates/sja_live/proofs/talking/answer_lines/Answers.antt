@@ -1,8 +1,8 @@
 use Rattle.std.proofs.Common.{◌≡◌, rules}
 use Rattle.std.specs.Prelude.{Err}
 use Rattle.lemmas.proofs.Results.{err_is}
-use Rattle.sja_live.proofs.BreakingOff.{talk_breaks, talk_stops, talk_unanswered}
-use Rattle.sja_live.proofs.GoingOn.{talk_begins, talk_goes_on}
+use Rattle.sja_live.proofs.Talks.BreakingOff.{talk_breaks, talk_stops, talk_unanswered}
+use Rattle.sja_live.proofs.Talks.GoingOn.{talk_begins, talk_goes_on}
 use Rattle.sja_live.proofs.talking.answer_lines.Goals as goal
 
 -- no line was answered yet

@@ -1,9 +1,9 @@
 use Rattle.std.proofs.Common.{◌≡◌, rules}
 use Rattle.std.specs.Prelude.{Err}
 use Rattle.lemmas.proofs.Results.{err_is}
-use Rattle.sja_live.proofs.BreakingOff.{talk_silent, talk_unopened}
-use Rattle.sja_live.proofs.GoingOn.{talk_refused}
-use Rattle.sja_live.proofs.NewSessions.{begins_live}
+use Rattle.sja_live.proofs.Talks.BreakingOff.{talk_silent, talk_unopened}
+use Rattle.sja_live.proofs.Talks.GoingOn.{talk_refused}
+use Rattle.sja_live.proofs.Talks.NewSessions.{begins_live}
 use Rattle.sja_live.proofs.talking.talk.Goals as goal
 
 -- the session that was opened is live

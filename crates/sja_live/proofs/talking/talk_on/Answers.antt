@@ -1,7 +1,7 @@
 use Rattle.std.specs.Prelude.{Result, Ok, Err, IfErr}
 use Rattle.lemmas.proofs.Results.{ok_map}
-use Rattle.sja_live.proofs.BreakingOff.{talk_unanswered}
-use Rattle.sja_live.proofs.GoingOn.{talk_ends}
+use Rattle.sja_live.proofs.Talks.BreakingOff.{talk_unanswered}
+use Rattle.sja_live.proofs.Talks.GoingOn.{talk_ends}
 use Rattle.sja_live.proofs.talking.talk_on.Goals as goal
 
 err_two : {A X : Type 0} {P Q R : X → Type 0} (r : Result A X) → ((x : X) → P x → Q x → R x) → IfErr r P →

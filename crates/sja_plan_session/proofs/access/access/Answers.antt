@@ -1,8 +1,8 @@
 use Rattle.std.proofs.Common.{sym, subst}
 use Rattle.sja_script.specs.declared.step.Step.{Step}
 use Rattle.sja_plan_session.specs.Inside.Answering.{DidStep}
-use Rattle.sja_plan_session.proofs.Stepped.{read_done, write_done}
-use Rattle.sja_plan_session.proofs.Typed.{step_may, write_refused, writes_at}
+use Rattle.sja_plan_session.proofs.AfterCalls.Stepped.{read_done, write_done}
+use Rattle.sja_plan_session.proofs.AfterCalls.Typed.{step_may, write_refused, writes_at}
 use Rattle.sja_plan_session.proofs.access.access.Goals as goal
 
 pub unreachable-requires-in-Err-write : goal.unreachable-requires-in-Err-write

@@ -1,6 +1,6 @@
 use Rattle.std.proofs.Common.{ap}
 use Rattle.std.specs.Prelude.{Ok}
-use Rattle.sja_plan_session.proofs.Stepped.{typed_done}
+use Rattle.sja_plan_session.proofs.AfterCalls.Stepped.{typed_done}
 use Rattle.sja_plan_session.proofs.access.typed.Goals as goal
 
 pub returns-clause-done : goal.returns-clause-done

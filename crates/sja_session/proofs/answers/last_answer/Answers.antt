@@ -5,7 +5,7 @@ use Rattle.sja_driver.specs.LoggedDrivers.{log_of}
 use Rattle.sja_driver.specs.Logs.{done_in}
 use Rattle.sja_script.specs.declared.done.Done.{Done}
 use Rattle.sja_session.specs.Answering.{last_of}
-use Rattle.sja_session.proofs.LastAnswer.{last_got}
+use Rattle.sja_session.proofs.StepsDone.LastAnswer.{last_got}
 use Rattle.sja_session.proofs.answers.last_answer.Goals as goal
 
 pub returns-in-Some : goal.returns-in-Some

@@ -1,7 +1,6 @@
-use Rattle.std.proofs.Common.{◌≡◌, ◌-◌, ◌++◌, ℕ, map, ap, ◌∙◌, arith}
-use Rattle.std.specs.List.{range_with_len}
+use Rattle.std.proofs.Common.{◌-◌, arith}
 use Rattle.sja_sweep.specs.Targets.{pair}
-use Rattle.sja_sweep.proofs.Gathers.{map_from}
+use Rattle.sja_sweep.proofs.Gathers.{map_from, map_end}
 use Rattle.sja_sweep.proofs.pairs.push_bits.Goals as goal
 
 pub loop-bit-preserved : goal.loop-bit-preserved
@@ -16,9 +15,6 @@ loop-bit-preserved c =
 
 pub returns : goal.returns
 returns c =
-    let low = c.loop-bit.invariant.low in
-    let high = c.loop-bit.invariant.high in
-    let same : c.loop-bit.bit - c.args.asked.first ≡ c.args.asked.count - c.args.later = omega (arith, low, high) in
-    c.loop-bit.invariant.pushed
-    ∙ ap (λ (n : ℕ). c.args.trials.now.items
-    ++ map (pair c.args.node c.args.other c.args.later) (range_with_len c.args.asked.first n)) same
+    let inv = c.loop-bit.invariant in let low = inv.low in let high = inv.high in
+    map_end (pair c.args.node c.args.other c.args.later) c.args.asked.first c.loop-bit.bit
+    (c.args.asked.count - c.args.later) _ _ inv.pushed (omega (arith, low, high))

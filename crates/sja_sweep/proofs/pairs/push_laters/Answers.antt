@@ -1,9 +1,7 @@
-use Rattle.std.proofs.Common.{◌≡◌, ◌+◌, ◌-◌, ◌++◌, ℕ, min, ap, ◌∙◌, arith}
-use Rattle.std.specs.List.{range_with_len}
-use Rattle.lemmas.specs.Gathering.{gathered}
+use Rattle.std.proofs.Common.{◌+◌, ◌-◌, min, arith}
 use Rattle.sja_sweep.specs.Targets.{least_later}
 use Rattle.sja_sweep.specs.Inside.Asking.{bits_paired}
-use Rattle.sja_sweep.proofs.Gathers.{gather_from}
+use Rattle.sja_sweep.proofs.Gathers.{gather_from, gather_end}
 use Rattle.sja_sweep.proofs.pairs.push_laters.Goals as goal
 
 pub loop-later-preserved : goal.loop-later-preserved
@@ -19,13 +17,8 @@ loop-later-preserved c =
 pub returns : goal.returns
 returns c =
     let least = least_later c.args.node c.args.other in
-    let low = c.loop-later.invariant.low in
-    let high = c.loop-later.invariant.high in
+    let inv = c.loop-later.invariant in let low = inv.low in let high = inv.high in
     let ended = c.end_of-end.ensures in
     let begun = c.least_later-later.ensures.is in
-    let same : c.loop-later.later - least_later c.args.node c.args.other
-    ≡ min (c.args.within + 1) c.args.asked.count - least_later c.args.node c.args.other =
-    omega (arith, low, high, ended, begun) in
-    c.loop-later.invariant.pushed
-    ∙ ap (λ (n : ℕ). c.args.trials.now.items
-    ++ gathered (bits_paired c.args.asked c.args.node c.args.other) (range_with_len least n)) same
+    gather_end (bits_paired c.args.asked c.args.node c.args.other) least c.loop-later.later
+    (min (c.args.within + 1) c.args.asked.count - least) _ _ inv.pushed (omega (arith, low, high, ended, begun))

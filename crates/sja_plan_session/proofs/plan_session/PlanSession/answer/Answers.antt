@@ -2,7 +2,7 @@ use Rattle.std.proofs.Common.{◌-◌, length, refl, sym, ap, ◌∙◌}
 use Rattle.std.specs.Prelude.{Some}
 use Rattle.sja_script.specs.declared.done.Done.{Done}
 use Rattle.sja_session.specs.Answering.{last_of}
-use Rattle.sja_session.proofs.LastAnswer.{last_got}
+use Rattle.sja_session.proofs.StepsDone.LastAnswer.{last_got}
 use Rattle.sja_plan_session.specs.PlanSessions.{done_of}
 use Rattle.sja_plan_session.proofs.plan_session.PlanSession.answer.Goals as goal
 

@@ -3,8 +3,8 @@ use Rattle.sja_log.specs.declared.end.End.TheVariants.{Turns as TurnsDone}
 use Rattle.sja_session.specs.Sessions.{IsAt}
 use Rattle.sja_plan_session.specs.Ending.{IsLogIn}
 use Rattle.sja_plan_session.specs.PlanSessions.{PlanSessionValue, written}
-use Rattle.sja_plan_session.proofs.PlannedRun.{session_raw_run}
-use Rattle.sja_plan_session.proofs.Written.{session_run}
+use Rattle.sja_plan_session.proofs.PlannedRuns.PlannedRun.{session_raw_run}
+use Rattle.sja_plan_session.proofs.WrittenPlan.Written.{session_run}
 use Rattle.sja_plan_session.proofs.plan_session.PlanSession.finish.Goals as goal
 
 pub returns-clause-run : goal.returns-clause-run

@@ -1,4 +1,4 @@
-use Rattle.sja_plan_session.proofs.Ran.{irq_kept}
+use Rattle.sja_plan_session.proofs.AfterCalls.Ran.{irq_kept}
 use Rattle.sja_plan_session.proofs.plan_session.PlanSession.irq.Goals as goal
 
 pub invariant_of-self : goal.invariant_of-self

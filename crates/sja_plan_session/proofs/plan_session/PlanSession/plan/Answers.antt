@@ -5,7 +5,7 @@ use Rattle.sja_script.specs.declared.done.Done.{Done}
 use Rattle.sja_script.specs.declared.step.Step.{Step}
 use Rattle.sja_session.specs.Sessions.{SessionValue}
 use Rattle.sja_plan_session.specs.PlanSessions.{PlanSessionValue}
-use Rattle.sja_plan_session.proofs.Written.{written_limits}
+use Rattle.sja_plan_session.proofs.WrittenPlan.Written.{written_limits}
 use Rattle.sja_plan_session.proofs.plan_session.PlanSession.plan.Goals as goal
 
 pub of-requires : goal.of-requires

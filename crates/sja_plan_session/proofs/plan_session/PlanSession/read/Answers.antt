@@ -1,4 +1,4 @@
-use Rattle.sja_plan_session.proofs.Stepped.{answered_read}
+use Rattle.sja_plan_session.proofs.AfterCalls.Stepped.{answered_read}
 use Rattle.sja_plan_session.proofs.plan_session.PlanSession.read.Goals as goal
 
 pub value_in-requires : goal.value_in-requires

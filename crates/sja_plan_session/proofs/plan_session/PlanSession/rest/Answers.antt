@@ -1,8 +1,8 @@
 use Rattle.std.proofs.Common.{sym, subst}
 use Rattle.sja_plan_session.specs.PlanSessions.{PlanSessionValue}
 use Rattle.sja_plan_session.specs.Running.{MayRun}
-use Rattle.sja_plan_session.proofs.Bits.{rests_led}
-use Rattle.sja_plan_session.proofs.Ran.{fits_bits, rest_kept}
+use Rattle.sja_plan_session.proofs.AfterCalls.Bits.{rests_led}
+use Rattle.sja_plan_session.proofs.AfterCalls.Ran.{fits_bits, rest_kept}
 use Rattle.sja_plan_session.proofs.plan_session.PlanSession.rest.Goals as goal
 
 pub push_bits-requires-clause-fits : goal.push_bits-requires-clause-fits

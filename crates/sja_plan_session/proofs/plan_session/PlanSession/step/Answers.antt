@@ -5,8 +5,8 @@ use Rattle.sja_script.specs.declared.step_answer.StepAnswer.{StepAnswer}
 use Rattle.sja_session.specs.Sessions.{IsAt}
 use Rattle.sja_plan_session.specs.Accessing.{DoesStep, MayStep}
 use Rattle.sja_plan_session.specs.PlanSessions.{PlanSessionValue}
-use Rattle.sja_plan_session.proofs.Ran.{wait_kept}
-use Rattle.sja_plan_session.proofs.Stepped.{answer_told, did_step, session_of, step_kept}
+use Rattle.sja_plan_session.proofs.AfterCalls.Ran.{wait_kept}
+use Rattle.sja_plan_session.proofs.AfterCalls.Stepped.{answer_told, did_step, session_of, step_kept}
 use Rattle.sja_plan_session.proofs.plan_session.PlanSession.step.Goals as goal
 
 -- after a step

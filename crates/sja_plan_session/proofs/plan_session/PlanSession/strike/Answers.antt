@@ -1,4 +1,4 @@
-use Rattle.sja_plan_session.proofs.Ran.{struck_kept}
+use Rattle.sja_plan_session.proofs.AfterCalls.Ran.{struck_kept}
 use Rattle.sja_plan_session.proofs.plan_session.PlanSession.strike.Goals as goal
 
 pub invariant_of-self : goal.invariant_of-self

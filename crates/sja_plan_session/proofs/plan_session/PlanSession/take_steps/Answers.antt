@@ -1,6 +1,6 @@
 use Rattle.std.proofs.Common.{ap, ◌∙◌, arith}
 use Rattle.std.specs.Prelude.{Ok}
-use Rattle.sja_plan_session.proofs.NodeTurns.{ends_all, ends_over, ends_waits, is_last, is_next, stepped_one}
+use Rattle.sja_plan_session.proofs.PlanTurns.NodeTurns.{ends_all, ends_over, ends_waits, is_last, is_next, stepped_one}
 use Rattle.sja_plan_session.proofs.plan_session.PlanSession.take_steps.Goals as goal
 
 -- no step is left

@@ -1,4 +1,4 @@
-use Rattle.sja_plan_session.proofs.NodeTurns.{HasStepped}
+use Rattle.sja_plan_session.proofs.PlanTurns.NodeTurns.{HasStepped}
 use Rattle.sja_plan_session.proofs.plan_session.PlanSession.take_steps.Given as goal
 
 -- so many steps are done

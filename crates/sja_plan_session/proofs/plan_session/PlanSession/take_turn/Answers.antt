@@ -2,7 +2,7 @@ use Rattle.std.proofs.Common.{refl, sym, subst}
 use Rattle.std.specs.Prelude.{◌==◌}
 use Rattle.sja_plan.specs.declared.turn.Turn.{Turn}
 use Rattle.sja_plan_session.specs.Inside.Following.{LeadsOn}
-use Rattle.sja_plan_session.proofs.BusTurns.{bits_lead}
+use Rattle.sja_plan_session.proofs.PlanTurns.BusTurns.{bits_lead}
 use Rattle.sja_plan_session.proofs.plan_session.PlanSession.take_turn.Goals as goal
 
 pub returns-in-Ok-clause-does : goal.returns-in-Ok-clause-does

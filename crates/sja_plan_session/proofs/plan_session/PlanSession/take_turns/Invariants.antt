@@ -1,4 +1,4 @@
-use Rattle.sja_plan_session.proofs.AllTurns.{HasTaken}
+use Rattle.sja_plan_session.proofs.PlanTurns.AllTurns.{HasTaken}
 use Rattle.sja_plan_session.proofs.plan_session.PlanSession.take_turns.Given as goal
 
 -- so many turns are taken

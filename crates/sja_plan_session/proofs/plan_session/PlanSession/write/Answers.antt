@@ -1,4 +1,4 @@
-use Rattle.sja_plan_session.proofs.Stepped.{answered_write}
+use Rattle.sja_plan_session.proofs.AfterCalls.Stepped.{answered_write}
 use Rattle.sja_plan_session.proofs.plan_session.PlanSession.write.Goals as goal
 
 pub returns-clause-writes : goal.returns-clause-writes

@@ -1,4 +1,4 @@
-use Rattle.sja_session.proofs.Accessing.{does_none}
+use Rattle.sja_session.proofs.StepsDone.Accessing.{does_none}
 use Rattle.sja_session.proofs.raw_session.RawSession.do_if.Goals as goal
 
 -- no step

@@ -3,8 +3,8 @@ use Rattle.std.specs.Prelude.{slice_set}
 use Rattle.sja_session.specs.Inside.Accessing.{Does}
 use Rattle.sja_session.specs.RawSessions.{RawValue}
 use Rattle.sja_session.specs.Sessions.{IsAt}
-use Rattle.sja_session.proofs.Accessing.{does_one}
-use Rattle.sja_session.proofs.KeptRegisters.{kept_moved}
+use Rattle.sja_session.proofs.StepsDone.Accessing.{does_one}
+use Rattle.sja_session.proofs.StepsDone.KeptRegisters.{kept_moved}
 use Rattle.sja_session.proofs.raw_session.RawSession.do_one.Goals as goal
 
 pub returns : goal.returns

@@ -6,7 +6,7 @@ use Rattle.sja_wire.specs.Wire.{journal_at}
 use Rattle.std.specs.Prelude.{slice_index_or}
 use Rattle.sja_session.specs.RawSessions.{RawValue, Reads, kept_in}
 use Rattle.sja_session.specs.Sessions.{IsAt}
-use Rattle.sja_session.proofs.Accessing.{raw_stepped}
+use Rattle.sja_session.proofs.StepsDone.Accessing.{raw_stepped}
 use Rattle.sja_session.proofs.raw_session.RawSession.read.Goals as goal
 
 -- a read leaves a session of such drivers

@@ -1,6 +1,6 @@
 use Rattle.std.proofs.Common.{rules}
 use Rattle.std.proofs.lemmas.List.{length-set}
-use Rattle.sja_session.proofs.Accessing.{raw_stepped}
+use Rattle.sja_session.proofs.StepsDone.Accessing.{raw_stepped}
 use Rattle.sja_session.proofs.raw_session.RawSession.step.Goals as goal
 
 -- a step that was done leaves a session of such drivers

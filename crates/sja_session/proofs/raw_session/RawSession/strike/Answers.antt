@@ -1,6 +1,6 @@
 use Rattle.std.proofs.Common.{refl}
 use Rattle.sja_session.specs.RawSessions.{RawValue}
-use Rattle.sja_session.proofs.Struck.{raw_struck}
+use Rattle.sja_session.proofs.BitsDone.Struck.{raw_struck}
 use Rattle.sja_session.proofs.raw_session.RawSession.strike.Goals as goal
 
 -- a strike leaves a session of such drivers

@@ -1,6 +1,6 @@
 use Rattle.std.proofs.Common.{refl}
 use Rattle.sja_session.specs.RawSessions.{RawValue}
-use Rattle.sja_session.proofs.Accessing.{raw_watched}
+use Rattle.sja_session.proofs.StepsDone.Accessing.{raw_watched}
 use Rattle.sja_session.proofs.raw_session.RawSession.watch.Goals as goal
 
 -- bits in which lines are watched leave a session of such drivers

@@ -6,8 +6,8 @@ use Rattle.sja_driver.specs.Deeds.{Deed}
 use Rattle.sja_session.specs.Inside.Accessing.{Does, IsRaw}
 use Rattle.sja_session.specs.RawSessions.{RawValue, DoesSteps, MayDo, kept_in, moved_by}
 use Rattle.sja_session.specs.Sessions.{IsAt}
-use Rattle.sja_session.proofs.Accessing.{does_both}
-use Rattle.sja_session.proofs.KeptRegisters.{none_kept}
+use Rattle.sja_session.proofs.StepsDone.Accessing.{does_both}
+use Rattle.sja_session.proofs.StepsDone.KeptRegisters.{none_kept}
 use Rattle.sja_session.proofs.raw_session.RawSession.write_both.Goals.{After-do_one}
 use Rattle.sja_session.proofs.raw_session.RawSession.write_both.Goals as goal
 

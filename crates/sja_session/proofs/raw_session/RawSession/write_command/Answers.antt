@@ -5,7 +5,8 @@ use Rattle.sja_script.specs.declared.step.Step.{Step}
 use Rattle.sja_script.specs.declared.step.Step.TheVariants.{Command, Release}
 use Rattle.sja_driver.specs.Deeds.{Deed, deeds_at, is_active}
 use Rattle.sja_session.specs.RawSessions.{RawValue, steps_of}
-use Rattle.sja_session.proofs.Accessing.{command_alone, command_both, command_so, nothing_at_all, release_alone}
+use Rattle.sja_session.proofs.StepsDone.Accessing.{command_alone, command_both, command_so, nothing_at_all}
+use Rattle.sja_session.proofs.StepsDone.Accessing.{release_alone}
 use Rattle.sja_session.proofs.raw_session.RawSession.write_command.Goals.{After-written_command-written}
 use Rattle.sja_session.proofs.raw_session.RawSession.write_command.Goals as goal
 

@@ -5,7 +5,7 @@ use Rattle.sja_raw.specs.Kept.{at_power_on}
 use Rattle.sja_script.specs.declared.step.Step.{Step}
 use Rattle.sja_session.specs.RawSessions.{DoesSteps, kept_in}
 use Rattle.sja_session.specs.RawSessions.DoesSteps.{none}
-use Rattle.sja_session.proofs.KeptRegisters.{none_kept}
+use Rattle.sja_session.proofs.StepsDone.KeptRegisters.{none_kept}
 use Rattle.sja_session.proofs.raw_session.RawSession.write_nothing.Goals as goal
 
 pub returns : goal.returns

@@ -2,8 +2,8 @@ use Rattle.std.proofs.Common.{rules, ◌≡◌, ◌<◌, length, ap, ◌∙◌}
 use Rattle.std.proofs.lemmas.List.{length-set}
 use Rattle.std.specs.Prelude.{slice_index_or, slice_set}
 use Rattle.sja_raw.specs.Kept.{moved_by_answer}
-use Rattle.sja_session.proofs.Accessing.{raw_stepped}
-use Rattle.sja_session.proofs.KeptRegisters.{kept_start, wrote_one}
+use Rattle.sja_session.proofs.StepsDone.Accessing.{raw_stepped}
+use Rattle.sja_session.proofs.StepsDone.KeptRegisters.{kept_start, wrote_one}
 use Rattle.sja_session.proofs.raw_session.RawSession.write_one.Goals as goal
 
 -- a write leaves a session of such drivers

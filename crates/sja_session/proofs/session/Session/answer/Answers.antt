@@ -4,7 +4,7 @@ use Rattle.sja_driver.specs.Deeds.{Deed, deeds_at}
 use Rattle.sja_serial.proofs.WholeRun.GoingOn.{first_driver}
 use Rattle.sja_session.specs.Answering.{last_answer}
 use Rattle.sja_session.specs.Sessions.{SessionValue, IsAt}
-use Rattle.sja_session.proofs.Stepped.{last_answered}
+use Rattle.sja_session.proofs.StepsDone.Stepped.{last_answered}
 use Rattle.sja_session.proofs.session.Session.answer.Goals as goal
 
 past : (deeds : List (List Deed)) (k : ℕ) → length deeds ≤ k → deeds_at deeds k ≡ []

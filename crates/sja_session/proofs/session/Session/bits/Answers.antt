@@ -1,12 +1,12 @@
-use Rattle.std.proofs.Common.{rules, ◌≡◌, ◌<◌, ℕ, ◌-◌, List, sym, subst, arith}
+use Rattle.std.proofs.Common.{rules, ◌≡◌, ℕ, ◌-◌, List, sym, subst, arith}
 use Rattle.sja_plan.specs.declared.turn.Turn.{Turn}
 use Rattle.sja_driver.specs.Deeds.{Deed}
 use Rattle.sja_serial.specs.Bits.{TakesBusTurn}
 use Rattle.sja_serial.proofs.WholeRun.GoingOn.{bits_run}
 use Rattle.sja_session.specs.Running.{RunsBits, MayRun}
 use Rattle.sja_session.specs.Sessions.{SessionValue, session_of, IsAt}
-use Rattle.sja_session.proofs.AfterBits.{turn_fits, session_some, session_none}
-use Rattle.sja_session.proofs.BitsRun.{runs_some, runs_none}
+use Rattle.sja_session.proofs.BitsDone.AfterBits.{turn_fits, session_now}
+use Rattle.sja_session.proofs.BitsDone.BitsRun.{runs}
 use Rattle.sja_session.proofs.session.Session.bits.Goals.{After-bits}
 use Rattle.sja_session.proofs.session.Session.bits.Goals as goal
 
@@ -21,9 +21,9 @@ run_is : (c : After-bits) → run c ≡ c.bus_turn.new.self.bits - c.self.inside
 run_is c = λ i. c.bits.ensures i - c.bits-before.ensures i
 
 -- they were run from the deeds at which it stood
-turn : (c : After-bits) (deeds : List (List Deed)) → IsAt (was c) deeds →
+ran : (c : After-bits) (deeds : List (List Deed)) → IsAt (was c) deeds →
     TakesBusTurn c.self.inside.plan deeds c.self.inside.run c.bus_turn.new.self c.args.count c.bus_turn.result
-turn c deeds h = c.bus_turn.ensures.turn deeds h.stands
+ran c deeds h = c.bus_turn.ensures.turn deeds h.stands
 
 may : (c : After-bits) → MayRun (was c) c.args.count
 may c = subst (λ (s : SessionValue). MayRun s c.args.count) (sym c.self.view_is)
@@ -35,39 +35,26 @@ overflow_sub-run c =
     let b = bits_run c.self.inside.plan inv.deeds _ c.self.inside.run c.bus_turn.new.self t.run t.bits in
     let x = c.bits-before.ensures in let y = c.bits.ensures in omega (arith, b, x, y)
 
-pub push_turn-requires-clause-fits : goal.push_turn-requires-clause-fits
-push_turn-requires-clause-fits c =
-    let at = (goal.at.push_turn-requires-clause-fits c).After-bits in
-    turn_fits c.self.invariant (turn at _ c.self.invariant.at).bits (run_is at)
+pub push_bits-requires-clause-fits : goal.push_bits-requires-clause-fits
+push_bits-requires-clause-fits c =
+    let at = (goal.at.push_bits-requires-clause-fits c).After-bits in
+    turn_fits c.self.invariant (ran at _ c.self.invariant.at).bits (run_is at)
 
+-- where some were run some were asked for
 pub invariant_of-self : goal.invariant_of-self
 invariant_of-self c =
     let at = (goal.at.invariant_of-self c).After-bits in let inv = c.self.invariant in
-    let push = c.push_turn.ensures in let s = c.if-run-gt0.true in let some : 0 < run at = omega (arith, s) in
-    let few = (runs_some inv.at (turn at _ inv.at) (run_is at) some).most in
-    session_some inv (turn at _ inv.at).bits (run_is at) push.turns push.capacity (may at)
-    (omega (arith, some, few)) some
+    let push = c.push_bits.ensures in
+    let most = (runs inv.at (ran at _ inv.at) (run_is at)).most in
+    session_now inv (ran at _ inv.at).bits (run_is at) push.turns push.capacity (may at)
+    (λ some. omega (arith, some, most))
 
-pub invariant_of-self-else-run-gt0 : goal.invariant_of-self-else-run-gt0
-invariant_of-self-else-run-gt0 c =
-    let at = (goal.at.invariant_of-self-else-run-gt0 c).After-bits in let f = c.if-run-gt0.false in
-    session_none c.self.invariant (turn at _ c.self.invariant.at).bits (run_is at) (omega (arith, f))
-
-pub returns-then-run-gt0-clause-bits : goal.returns-then-run-gt0-clause-bits
-returns-then-run-gt0-clause-bits c = λ deeds h.
-    let at = (goal.at.returns-then-run-gt0-clause-bits c).After-bits in let some = c.if-run-gt0.true in
+pub returns-clause-bits : goal.returns-clause-bits
+returns-clause-bits c = λ deeds h.
+    let at = (goal.at.returns-clause-bits c).After-bits in
     let own = subst (λ (s : SessionValue). IsAt s deeds) (sym c.self.view_is) h in
     let then = λ (l : List Turn). session_of c.self.inside.room c.bus_turn.new.self c.self.inside.plan l in
-    subst (λ (s : SessionValue). RunsBits s (then c.push_turn.new.turns.items) c.args.count (run at) deeds)
+    subst (λ (s : SessionValue). RunsBits s (then c.push_bits.new.turns.items) c.args.count (run at) deeds)
     c.self.view_is
     (subst (λ (l : List Turn). RunsBits (was at) (then l) c.args.count (run at) deeds)
-    (sym c.push_turn.ensures.turns)
-    (runs_some own (turn at deeds own) (run_is at) (omega (arith, some))))
-
-pub returns-else-run-gt0-clause-bits : goal.returns-else-run-gt0-clause-bits
-returns-else-run-gt0-clause-bits c = λ deeds h.
-    let at = (goal.at.returns-else-run-gt0-clause-bits c).After-bits in let f = c.if-run-gt0.false in
-    let own = subst (λ (s : SessionValue). IsAt s deeds) (sym c.self.view_is) h in
-    subst (λ (s : SessionValue). RunsBits s (session_of c.self.inside.room c.bus_turn.new.self c.self.inside.plan
-    c.self.inside.turns.items) c.args.count (run at) deeds) c.self.view_is
-    (runs_none own (turn at deeds own) (run_is at) (omega (arith, f)))
+    (sym c.push_bits.ensures.turns) (runs own (ran at deeds own) (run_is at)))

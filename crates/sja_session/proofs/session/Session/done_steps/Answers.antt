@@ -6,7 +6,7 @@ use Rattle.std.proofs.lemmas.List.{map-append}
 use Rattle.sja_script.specs.declared.step.Step.{Step}
 use Rattle.sja_session.specs.Sessions.{SessionValue}
 use Rattle.sja_session.specs.Writing.{done_counts, fronts}
-use Rattle.sja_session.proofs.Written.{fronts_at, length_fronts, counts_many}
+use Rattle.sja_session.proofs.WrittenPlan.Written.{fronts_at, length_fronts, counts_many}
 use Rattle.sja_session.proofs.session.Session.done_steps.Goals as goal
 
 pub loop-node-preserved : goal.loop-node-preserved

@@ -5,8 +5,8 @@ use Rattle.sja_serial.specs.Ending.{TakesTurns, IsLogOf}
 use Rattle.sja_serial.specs.Serial.{StandsAt}
 use Rattle.sja_serial.proofs.WholeRun.Whole.{serial_of}
 use Rattle.sja_session.specs.Sessions.{SessionValue, session_of, IsAt, written}
-use Rattle.sja_session.proofs.Finished.{all_taken}
-use Rattle.sja_session.proofs.Plans.{stands_written}
+use Rattle.sja_session.proofs.Lifetime.Finished.{all_taken}
+use Rattle.sja_session.proofs.WrittenPlan.Plans.{stands_written}
 use Rattle.sja_session.proofs.session.Session.finish.Goals as goal
 
 pub finish-requires : goal.finish-requires

@@ -1,7 +1,7 @@
 use Rattle.std.proofs.Common.{sym, subst}
 use Rattle.sja_session.specs.Lines.{Looks}
 use Rattle.sja_session.specs.Sessions.{SessionValue, session_of, IsAt}
-use Rattle.sja_session.proofs.Looked.{looks}
+use Rattle.sja_session.proofs.BitsDone.Looked.{looks}
 use Rattle.sja_session.proofs.session.Session.irq.Goals as goal
 
 -- a look at the run is one at the session

@@ -1,6 +1,6 @@
 use Rattle.std.proofs.Common.{ℕ, subst, arith}
 use Rattle.sja_session.specs.Beginning.{IsRoom}
-use Rattle.sja_session.proofs.Blank.{session_first, at_first, bus_first, wrote_first}
+use Rattle.sja_session.proofs.Lifetime.Blank.{session_first, at_first, bus_first, wrote_first}
 use Rattle.sja_session.proofs.session.Session.of_plan.Goals as goal
 
 pub invariant_of-result : goal.invariant_of-result

@@ -6,8 +6,8 @@ use Rattle.sja_script.specs.declared.step.Step.{Step}
 use Rattle.sja_script.specs.declared.strike.Strike.{Strike}
 use Rattle.sja_session.specs.Sessions.{SessionValue}
 use Rattle.sja_session.specs.Writing.{done_counts, fronts}
-use Rattle.sja_session.proofs.Turned.{all_turns_named}
-use Rattle.sja_session.proofs.Written.{fronts_few, length_fronts, counts_many}
+use Rattle.sja_session.proofs.WrittenPlan.Turned.{all_turns_named}
+use Rattle.sja_session.proofs.WrittenPlan.Written.{fronts_few, length_fronts, counts_many}
 use Rattle.sja_session.proofs.session.Session.plan.Goals as goal
 
 pub of-requires : goal.of-requires

@@ -13,9 +13,9 @@ use Rattle.sja_session.specs.Inside.UntilTold.{RunsUntilTold}
 use Rattle.sja_session.specs.Running.{MayRun}
 use Rattle.sja_session.specs.Sessions.{SessionValue, session_of, IsAt}
 use Rattle.sja_session.specs.Turning.{goes_on_latest}
-use Rattle.sja_session.proofs.AfterBits.{turn_fits, session_some}
-use Rattle.sja_session.proofs.StillLines.{until_told}
-use Rattle.sja_session.proofs.Turned.{bits_on_bits, latest_of}
+use Rattle.sja_session.proofs.BitsDone.AfterBits.{turn_fits, session_some}
+use Rattle.sja_session.proofs.WatchedBits.StillLines.{until_told}
+use Rattle.sja_session.proofs.WrittenPlan.Turned.{bits_on_bits, latest_of}
 use Rattle.sja_session.proofs.session.Session.run_until_told.Goals as goal
 
 run_is : (plan : PlanValue) (deeds : List (List Deed)) (was now : SerialValue) (n : ℕ) →

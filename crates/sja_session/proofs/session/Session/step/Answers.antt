@@ -19,10 +19,10 @@ use Rattle.sja_session.specs.declared.step_fault.StepFault.{StepFault}
 use Rattle.sja_session.specs.Answering.{last_of}
 use Rattle.sja_session.specs.Sessions.{SessionValue, session_of, IsAt, IsSession}
 use Rattle.sja_session.specs.Stepping.{MayStep, DoesStep, Waits, steps_done_of}
-use Rattle.sja_session.proofs.Plans.{stands_placed}
-use Rattle.sja_session.proofs.Stepped.{answer_is, does_step, waits_step, after_done, after_waiting}
-use Rattle.sja_session.proofs.Within.{last_few}
-use Rattle.sja_session.proofs.Written.{count_at}
+use Rattle.sja_session.proofs.WrittenPlan.Plans.{stands_placed}
+use Rattle.sja_session.proofs.StepsDone.Stepped.{answer_is, does_step, waits_step, after_done, after_waiting}
+use Rattle.sja_session.proofs.WrittenPlan.Within.{last_few}
+use Rattle.sja_session.proofs.WrittenPlan.Written.{count_at}
 use Rattle.sja_session.proofs.session.Session.step.Goals.{After-set_step}
 use Rattle.sja_session.proofs.session.Session.step.Goals as goal
 

@@ -4,8 +4,8 @@ use Rattle.sja_driver.specs.Deeds.{Deed}
 use Rattle.sja_session.specs.Running.{MayRun}
 use Rattle.sja_session.specs.Sessions.{SessionValue, IsAt}
 use Rattle.sja_session.specs.Watching.NoneRose.{none as no_bit}
-use Rattle.sja_session.proofs.QuietBits.{line_still, may_one, may_still, nodes_same, quiet_at, quiet_bits}
-use Rattle.sja_session.proofs.Stretches.{none_rises, one_rises}
+use Rattle.sja_session.proofs.WatchedBits.QuietBits.{line_still, may_one, may_still, nodes_same, quiet_at, quiet_bits}
+use Rattle.sja_session.proofs.WatchedBits.Stretches.{none_rises, one_rises}
 use Rattle.sja_session.proofs.session.Session.watch.Goals as goal
 
 pub loop-bits-init : goal.loop-bits-init

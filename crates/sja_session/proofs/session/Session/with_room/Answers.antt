@@ -1,5 +1,5 @@
 use Rattle.std.proofs.Common.{arith}
-use Rattle.sja_session.proofs.Blank.{session_first, at_first, bus_first, wrote_first}
+use Rattle.sja_session.proofs.Lifetime.Blank.{session_first, at_first, bus_first, wrote_first}
 use Rattle.sja_session.proofs.session.Session.with_room.Goals as goal
 
 pub invariant_of-result : goal.invariant_of-result

@@ -1,0 +1,3 @@
+-- A line as bytes and as words.
+pub mod LineBytes
+pub mod WordLists

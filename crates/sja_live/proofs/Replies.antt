@@ -1,0 +1,6 @@
+-- What a line is answered.
+pub mod Named
+pub mod Asked
+pub mod InterruptLines
+pub mod Told
+pub mod LineAnswers

@@ -1,0 +1,5 @@
+-- What a session wrote has texts.
+pub mod TurnTexts
+pub mod WriteTexts
+pub mod Spelled
+pub mod SpelledSteps

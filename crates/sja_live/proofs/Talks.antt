@@ -1,0 +1,4 @@
+-- A talk, from its first line on.
+pub mod NewSessions
+pub mod GoingOn
+pub mod BreakingOff

@@ -1,0 +1,155 @@
+-- A talk, line by line.
+use Rattle.std.proofs.Common.{◌≡◌, List, [], ◌∷◌, ◌++◌, replicate, refl, sym, ap, ◌∙◌, subst}
+use Rattle.std.specs.Prelude.{◌⊎◌, Option, Some, None, Ok, Err}
+use Rattle.std.proofs.lemmas.List.{append_assoc, append-nil}
+use Rattle.std.specs.Io.KnownBytes.{Appends}
+use Rattle.sja_driver.specs.Deeds.{Deed}
+use Rattle.sja_driver_session.specs.declared.driver_session.DriverSession.{DriverSession}
+use Rattle.sja_live.specs.AnswerTexts.{answer_text, opened_text, opening_text}
+use Rattle.sja_live.specs.Beginning.{IsNewOf}
+use Rattle.sja_live.specs.Calls.{IsLiveAt}
+use Rattle.sja_live.specs.Inside.Going.{AppendsReport, FirstSays, Goes, IsNextAnswer}
+use Rattle.sja_live.specs.Lines.{first_line, behind_line, LeadsOn}
+use Rattle.sja_live.specs.Lines.LeadsOn.{none, more}
+use Rattle.sja_live.proofs.Talks.NewSessions.{new_live}
+use Rattle.sja_live.specs.Talking.{EndsTalk, HasTalked, IsTold, Replies, Speaks}
+use Rattle.sja_live.specs.Talking.Talks.{begin, go_on}
+use Rattle.sja_live.specs.declared.live_answer.LiveAnswer.{LiveAnswer}
+use Rattle.sja_live.specs.declared.opening.Opening.{Opening}
+use Rattle.sja_live.specs.declared.opening_fault.OpeningFault.{OpeningFault}
+use Rattle.sja_live.specs.declared.talked.Talked.TheVariants.{Reported, Unopened}
+use Rattle.sja_plan.specs.Words.{Text}
+use Rattle.sja_report.specs.ReportLines.{report_text}
+
+-- ---- one line more
+
+leads_more : {text rest : Text} {lines : List Text} → LeadsOn text lines rest → ¬ (rest ≡ []) →
+    LeadsOn text (lines ++ first_line rest ∷ []) (behind_line rest)
+leads_more none some = more some none
+leads_more (more not lead) some = more not (leads_more lead some)
+
+talk_more : (input rest : Text) (was now : DriverSession) (deeds after : List (List Deed)) (said : Text)
+    (answer : LiveAnswer) → HasTalked input rest was deeds said → ¬ (rest ≡ []) →
+    Replies was now deeds (first_line rest) answer after →
+    HasTalked input (behind_line rest) now after (said ++ answer_text answer)
+talk_more input rest was now deeds after said answer h some replies = record {
+  some = h.some;
+  readable = h.readable;
+  opening = h.opening;
+  opens = h.opens;
+  first = h.first;
+  new = h.new;
+  lines = h.lines ++ first_line rest ∷ [];
+  lead = leads_more h.lead some;
+  text = h.text ++ answer_text answer;
+  talks = go_on h.talks replies;
+  output_is = ap (λ l. l ++ answer_text answer) h.output_is
+      ∙ append_assoc opened_text h.text (answer_text answer);
+}
+
+-- ---- where the bytes are known or not
+
+-- a session was opened, and that was said
+pub talk_begins : (input left old new : Option Text) (opening : Opening) (s : DriverSession) →
+    FirstSays input left (Ok opening) → IsNewOf s opening → Appends old new opened_text → Goes input left old new s
+talk_begins None left old new opening s said is wrote = tt
+talk_begins (Some input) left None new opening s said is wrote = tt
+talk_begins (Some input) None (Some old) new opening s said is wrote = absurd said
+talk_begins (Some input) (Some left) (Some old) None opening s said is wrote = absurd wrote
+talk_begins (Some input) (Some left) (Some old) (Some new) opening s said is wrote =
+    let some = said.0 in let readable = said.1 in let opens = said.2 in let behind = said.3 in
+    let first : HasTalked input (behind_line input) s (replicate opening.nodes []) opened_text = record {
+      some = some;
+      readable = readable;
+      opening = opening;
+      opens = opens;
+      first = s;
+      new = is;
+      lines = [];
+      lead = none;
+      text = [];
+      talks = begin;
+      output_is = sym (append-nil opened_text);
+    } in (
+      opened_text,
+      replicate opening.nodes [],
+      new_live s opening is opens.bits.2,
+      subst (λ l. HasTalked input l s (replicate opening.nodes []) opened_text) (sym behind) first,
+      wrote,
+    )
+
+-- a line was answered, and that was said
+pub talk_goes_on : (input rest left old mid new : Option Text) (was now : DriverSession) (answer : LiveAnswer) →
+    Goes input rest old mid was →
+    ((deeds : List (List Deed)) → IsLiveAt was deeds → IsNextAnswer rest left was now deeds (Some answer)) →
+    Appends mid new (answer_text answer) → Goes input left old new now
+talk_goes_on None rest left old mid new was now answer g next wrote = tt
+talk_goes_on (Some input) rest left None mid new was now answer g next wrote = tt
+talk_goes_on (Some input) None left (Some old) mid new was now answer g next wrote = absurd g
+talk_goes_on (Some input) (Some rest) left (Some old) None new was now answer g next wrote = absurd g
+talk_goes_on (Some input) (Some rest) None (Some old) (Some mid) new was now answer g next wrote =
+    absurd (next g.1 g.2)
+talk_goes_on (Some input) (Some rest) (Some left) (Some old) (Some mid) None was now answer g next wrote = absurd wrote
+talk_goes_on (Some input) (Some rest) (Some left) (Some old) (Some mid) (Some new) was now answer g next wrote =
+    let said = g.0 in let deeds = g.1 in let at = g.2 in let h = g.3 in let is = g.4 in
+    let n = next deeds at in let some = n.0 in let a = n.1 in let behind = n.2 in
+    let after = a.0 in (
+      said ++ answer_text answer,
+      after,
+      a.2,
+      subst (λ l. HasTalked input l now after (said ++ answer_text answer)) (sym behind)
+          (talk_more input rest was now deeds after said answer h some a.1),
+      wrote ∙ ap (λ l. l ++ answer_text answer) is ∙ append_assoc old said (answer_text answer),
+    )
+
+-- the talk ended, and the report was written
+pub talk_ends : (input rest left old mid new : Option Text) (was now : DriverSession) →
+    Goes input rest old mid was →
+    ((deeds : List (List Deed)) → IsLiveAt was deeds → IsNextAnswer rest left was now deeds None) →
+    ((deeds : List (List Deed)) → IsLiveAt now deeds → AppendsReport mid new now deeds) →
+    Speaks input left old new (IsTold Reported)
+talk_ends None rest left old mid new was now g next wrote = tt
+talk_ends (Some input) rest left None mid new was now g next wrote = tt
+talk_ends (Some input) None left (Some old) mid new was now g next wrote = absurd g
+talk_ends (Some input) (Some rest) left (Some old) None new was now g next wrote = absurd g
+talk_ends (Some input) (Some rest) None (Some old) (Some mid) new was now g next wrote =
+    absurd (next g.1 g.2)
+talk_ends (Some input) (Some rest) (Some left) (Some old) (Some mid) new was now g next wrote =
+    let said = g.0 in let deeds = g.1 in let at = g.2 in let h = g.3 in let is = g.4 in
+    let n = next deeds at in
+    let then_at = subst (λ (s : DriverSession). IsLiveAt s deeds) (sym n.0) at in
+    let report = subst (λ (s : DriverSession). AppendsReport (Some mid) new s deeds) n.0 (wrote deeds then_at) in
+    by new said deeds h is n.1 n.2 report
+  where
+    by : (new : Option Text) (said : Text) (deeds : List (List Deed)) → HasTalked input rest was deeds said →
+        mid ≡ old ++ said → (rest ≡ []) ⊎ (¬ (rest ≡ []) × EndsTalk was (first_line rest)) →
+        left ≡ behind_line rest → AppendsReport (Some mid) new was deeds →
+        Speaks (Some input) (Some left) (Some old) new (IsTold Reported)
+    by None said deeds h is over behind report = absurd report.2
+    by (Some new) said deeds h is over behind report =
+        let log = report.0 in (
+          said ++ report_text log,
+          report.2 ∙ ap (λ l. l ++ report_text log) is ∙ append_assoc old said (report_text log),
+          record {
+            last = was;
+            deeds = deeds;
+            rest = rest;
+            said = said;
+            talked = h;
+            over = over;
+            log = log;
+            is = report.1;
+            told = refl;
+            behind = behind;
+          },
+        )
+
+-- the first line opened no session, and that was said
+pub talk_refused : (input left old new : Option Text) (fault : OpeningFault) → FirstSays input left (Err fault) →
+    Appends old new (opening_text fault) → Speaks input left old new (IsTold Unopened)
+talk_refused None left old new fault said wrote = tt
+talk_refused (Some input) left None new fault said wrote = tt
+talk_refused (Some input) None (Some old) new fault said wrote = absurd said
+talk_refused (Some input) (Some left) (Some old) None fault said wrote = absurd wrote
+talk_refused (Some input) (Some left) (Some old) (Some new) fault said wrote =
+    (opening_text fault, wrote, record { fault = fault; is = said.0; told = refl; behind = said.1 })

@@ -1,0 +1,264 @@
+-- What holds of every session of version 3 holds of it after each of its calls.
+use Rattle.std.proofs.Common.{◌≡◌, ℕ, zero, suc, ◌+◌, ◌<◌, ◌≤◌, ◌≢◌, List, [], ◌∷◌}
+use Rattle.std.proofs.Common.{length}
+use Rattle.std.proofs.Common.{refl, sym, ap, ◌∙◌, subst, All, arith, inl, inr}
+use Rattle.std.specs.Prelude.{reverse, slice_index_or}
+use Rattle.std.proofs.lemmas.Bool.{cases_eq}
+use Rattle.std.proofs.lemmas.List.{length-append}
+use Rattle.sja_driver.specs.Deeds.{Deed}
+use Rattle.sja_plan.specs.Plan.{PlanValue}
+use Rattle.sja_plan.specs.declared.turn.Turn.{Turn}
+use Rattle.sja_plan.specs.declared.turn.Turn.TheVariants.{Bus, Node}
+use Rattle.sja_script.specs.declared.done.Done.{Done}
+use Rattle.sja_script.specs.declared.step.Step.{Step}
+use Rattle.sja_script.specs.declared.step_answer.StepAnswer.{StepAnswer}
+use Rattle.sja_session.specs.Sessions.{AreNamed, IsAt}
+use Rattle.sja_session.specs.Turning.{on_latest}
+use Rattle.sja_session.specs.declared.session_room.SessionRoom.{SessionRoom}
+use Rattle.sja_session.proofs.WrittenPlan.Turned.{latest_of, few_turns, named_turns}
+use Rattle.sja_plan_session.specs.Accessing.{DoesStep, HasTurn, IsUnwritten, MayStep}
+use Rattle.sja_plan_session.specs.History.{Came, IsNew, typed_room}
+use Rattle.sja_plan_session.specs.History.Came.{step as stepped}
+use Rattle.sja_plan_session.specs.Keeping.{AreFewer, AreSteps, AreWithin, IsPlanSession}
+use Rattle.sja_plan_session.specs.PlanSessions.{PlanSessionValue, bits_of, most_bits, node_count, steps_of, done_of}
+use Rattle.sja_plan_session.specs.Rooms.{IsAccessRoom}
+use Rattle.sja_plan_session.specs.Running.{WritesBits}
+use Rattle.sja_plan_session.proofs.AfterCalls.Bits.{BitsLed, version_led, bits_led, nodes_led}
+use Rattle.sja_plan_session.proofs.WrittenPlan.Fewer.{fewer_both}
+use Rattle.sja_plan_session.proofs.WrittenPlan.OneMore.{more_same, more_other, more_long}
+use Rattle.sja_plan_session.proofs.AfterCalls.Typed.{Led, Chain, chain_of, led_by, fewer_steps, done_at}
+use Rattle.sja_plan_session.proofs.WrittenPlan.Within.{all_same, all_bits, all_step}
+
+-- ---- what no call changes
+
+pub record Frame (was now : PlanSessionValue) : Type 0 where
+  pub version : now.raw.session.plan.version ≡ was.raw.session.plan.version
+  pub bits : most_bits now ≡ most_bits was
+  pub nodes : node_count now ≡ node_count was
+  pub typed : now.raw.session.room ≡ was.raw.session.room
+  pub room : now.room ≡ was.room
+
+-- and what holds anew
+pub record Anew (was now : PlanSessionValue) (first : PlanSessionValue) (deeds : List (List Deed)) : Type 0 where
+  pub came : Came first now deeds
+  pub at : IsAt now.raw.session deeds
+  pub steps : length now.steps ≡ length was.steps
+  pub done : length now.done ≡ length was.done
+  pub each : (node : ℕ) → node < node_count was → AreSteps now node
+  pub fewer : AreFewer (reverse now.raw.session.turns) (reverse now.turns)
+  pub few_turns : length now.turns ≤ was.room.turns
+  pub within : AreWithin now (reverse now.turns)
+  pub names : AreNamed (node_count was) (reverse now.turns)
+
+pub go_on : (was now : PlanSessionValue) (sr dr : List ℕ) (tr : ℕ) (deeds : List (List Deed)) →
+    (inv : IsPlanSession was sr dr tr) → Frame was now → Anew was now inv.first deeds → IsPlanSession now sr dr tr
+go_on was now sr dr tr deeds inv f a = record {
+  first = inv.first;
+  strikes = inv.strikes;
+  new = subst (λ (r : SessionRoom). IsNew inv.first (most_bits now) (node_count now) r inv.strikes) (sym f.room)
+      (subst (λ n. IsNew inv.first (most_bits now) n was.room inv.strikes) (sym f.nodes)
+      (subst (λ n. IsNew inv.first n (node_count was) was.room inv.strikes) (sym f.bits) inv.new));
+  deeds = deeds;
+  came = a.came;
+  at = a.at;
+  version = f.version ∙ inv.version;
+  bits = let b = inv.bits in let e = f.bits in omega (arith, b, e);
+  typed = f.typed ∙ inv.typed ∙ ap typed_room (sym f.room);
+  step_lists = a.steps ∙ inv.step_lists ∙ sym f.nodes;
+  done_lists = a.done ∙ inv.done_lists ∙ sym f.nodes;
+  each = λ node less. a.each node (let n = f.nodes in omega (arith, n, less));
+  fewer = a.fewer;
+  few_turns = subst (λ (r : SessionRoom). length now.turns ≤ r.turns) (sym f.room) a.few_turns;
+  within = a.within;
+  room = subst IsAccessRoom (sym f.room) inv.room;
+  names = subst (λ n. AreNamed n (reverse now.turns)) (sym f.nodes) a.names;
+  room_steps = subst (λ (r : SessionRoom). All (λ room. r.steps ≤ room) sr) (sym f.room) inv.room_steps;
+  room_done = subst (λ (r : SessionRoom). All (λ room. r.steps ≤ room) dr) (sym f.room) inv.room_done;
+  room_turns = subst (λ (r : SessionRoom). r.turns + 1 ≤ tr) (sym f.room) inv.room_turns;
+}
+
+-- ---- after a step
+
+module _ (was now : PlanSessionValue) (sr dr : List ℕ) (tr node : ℕ) (step : Step) (answer : StepAnswer)
+    (after : List (List Deed)) (inv : IsPlanSession was sr dr tr) (may : MayStep was node)
+    (does : DoesStep was now node step answer inv.deeds after) where
+  chain : Chain was.raw.session now.raw.session node inv.deeds after
+  chain = chain_of does.does
+
+  led : Led was.raw.session now.raw.session inv.deeds after node (length chain.steps)
+  led = led_by inv.at may.there chain
+
+  frame : Frame was now
+  frame = record {
+    version = led.version;
+    bits = led.bits;
+    nodes = led.nodes;
+    typed = led.room;
+    room = does.room;
+  }
+
+  turns_are : reverse now.turns ≡ on_latest (Node node 1) (reverse was.turns)
+  turns_are = ap (λ (l : List Turn). reverse l) does.turns ∙ latest_of was.turns (Node node 1)
+
+  one_longer : length (steps_of now node) ≡ length (steps_of was node) + 1
+  one_longer =
+      let e = inv.step_lists in let t = may.there in
+      ap (λ (l : List (List Step)). length (slice_index_or l node [])) does.steps
+      ∙ ap (λ (l : List Step). length l) (more_same was.steps node step (omega (arith, e, t)))
+      ∙ length-append (steps_of was node) (step ∷ [])
+
+  more_steps : (m : ℕ) → length (steps_of was m) ≤ length (steps_of now m)
+  more_steps m = elim (cases_eq m node) [
+    | inl e ↦ let x = one_longer in
+        subst (λ k. length (steps_of was k) ≤ length (steps_of now k)) (sym e) (omega (arith, x))
+    | inr differ ↦
+        let x = ap (λ (l : List (List Step)). length (slice_index_or l m [])) does.steps
+        ∙ ap (λ (l : List Step). length l) (more_other was.steps node m step differ) in omega (arith, x)
+  ]
+
+  one_told : length (done_of now node) ≡ length (done_of was node) + 1
+  one_told =
+      let e = inv.done_lists in let t = may.there in
+      let d : Done = record { answer = answer; bits = bits_of was } in
+      ap (λ (l : List (List Done)). length (slice_index_or l node [])) does.done
+      ∙ ap (λ (l : List Done). length l) (more_same was.done node d (omega (arith, e, t)))
+      ∙ length-append (done_of was node) (d ∷ [])
+
+  steps_own : AreSteps now node
+  steps_own = let a = inv.each node may.there in let x = one_longer in let y = one_told in record {
+    answered = let e = a.answered in omega (arith, e, x, y);
+    few = subst (λ (r : SessionRoom). length (steps_of now node) ≤ r.steps) (sym does.room)
+        (let l = may.left in omega (arith, x, l));
+    typed =
+        let t = a.typed in let d = done_at was.raw.session inv.deeds node inv.at in
+        let e = done_at now.raw.session after node does.at in let h = led.here in let f = chain.few in
+        omega (arith, x, t, d, e, h, f);
+  }
+
+  steps_other : (m : ℕ) → m ≢ node → m < node_count was → AreSteps now m
+  steps_other m differ less =
+      let a = inv.each m less in
+      let x : steps_of now m ≡ steps_of was m =
+      ap (λ (l : List (List Step)). slice_index_or l m []) does.steps ∙ more_other was.steps node m step differ in
+      let d : Done = record { answer = answer; bits = bits_of was } in
+      let y : done_of now m ≡ done_of was m =
+      ap (λ (l : List (List Done)). slice_index_or l m []) does.done ∙ more_other was.done node m d differ in
+      let p = ap (λ (l : List Step). length l) x in let q = ap (λ (l : List Done). length l) y in record {
+        answered = let e = a.answered in omega (arith, e, p, q);
+        few = subst (λ (r : SessionRoom). length (steps_of now m) ≤ r.steps) (sym does.room)
+            (let f = a.few in omega (arith, f, p));
+        typed =
+            let t = a.typed in let d = done_at was.raw.session inv.deeds m inv.at in
+            let e = done_at now.raw.session after m does.at in
+            let h = ap (λ (l : List Deed). length l) (led.others m differ) in omega (arith, t, d, e, h, p);
+      }
+
+  pub after_step : IsPlanSession now sr dr tr
+  after_step = go_on was now sr dr tr after inv frame (record {
+    came = stepped node step answer inv.came does;
+    at = does.at;
+    steps = ap (λ (l : List (List Step)). length l) does.steps ∙ more_long was.steps node step;
+    done = ap (λ (l : List (List Done)). length l) does.done ∙ more_long was.done node _;
+    each = λ m less. elim (cases_eq m node) [
+      | inl e ↦ subst (AreSteps now) (sym e) steps_own
+      | inr differ ↦ steps_other m differ less
+    ];
+    fewer = subst (λ l. AreFewer (reverse now.raw.session.turns) l) (sym turns_are)
+        (fewer_steps (reverse was.turns) inv.fewer chain.does);
+    few_turns = subst (λ (l : List Turn). length l ≤ was.room.turns) (sym does.turns)
+        (few_turns was.room.turns (Node node 1) was.turns may.turn inv.few_turns);
+    within = subst (AreWithin now) (sym turns_are)
+        (all_step was now more_steps node one_longer (let e = led.run in omega (arith, e)) (reverse was.turns)
+        inv.within);
+    names = subst (λ (l : List Turn). AreNamed (node_count was) (reverse l)) (sym does.turns)
+        (named_turns (node_count was) (Node node 1) was.turns may.there inv.names);
+  })
+
+-- ---- where no step was written down
+
+module _ (was now : PlanSessionValue) (sr dr : List ℕ) (tr : ℕ) (inv : IsPlanSession was sr dr tr)
+    (at : IsAt now.raw.session inv.deeds) (f : Frame was now) (came : Came inv.first now inv.deeds)
+    (steps : now.steps ≡ was.steps) (done : now.done ≡ was.done) where
+  pub same_steps : (k : ℕ) → length (steps_of was k) ≤ length (steps_of now k)
+  same_steps k = let e = ap (λ (l : List (List Step)). length (slice_index_or l k [])) steps in omega (arith, e)
+
+  each_same : (m : ℕ) → m < node_count was → AreSteps now m
+  each_same m less =
+      let a = inv.each m less in
+      let p = ap (λ (l : List (List Step)). length (slice_index_or l m [])) steps in
+      let q = ap (λ (l : List (List Done)). length (slice_index_or l m [])) done in record {
+        answered = let e = a.answered in omega (arith, e, p, q);
+        few = subst (λ (r : SessionRoom). length (steps_of now m) ≤ r.steps) (sym f.room)
+            (let b = a.few in omega (arith, b, p));
+        typed =
+            let t = a.typed in let d = done_at was.raw.session inv.deeds m inv.at in
+            let e = done_at now.raw.session inv.deeds m at in omega (arith, t, d, e, p);
+      }
+
+  pub with_turns : AreFewer (reverse now.raw.session.turns) (reverse now.turns) →
+      length now.turns ≤ was.room.turns → AreWithin now (reverse now.turns) →
+      AreNamed (node_count was) (reverse now.turns) → IsPlanSession now sr dr tr
+  with_turns fewer few within names = go_on was now sr dr tr inv.deeds inv f (record {
+    came = came;
+    at = at;
+    steps = ap (λ (l : List (List Step)). length l) steps;
+    done = ap (λ (l : List (List Done)). length l) done;
+    each = each_same;
+    fewer = fewer;
+    few_turns = few;
+    within = within;
+    names = names;
+  })
+
+-- after a look, a step that has to wait or a strike
+pub after_none : (was now : PlanSessionValue) (sr dr : List ℕ) (tr : ℕ) (inv : IsPlanSession was sr dr tr) →
+    IsAt now.raw.session inv.deeds → Frame was now → Came inv.first now inv.deeds → IsUnwritten was now →
+    now.raw.session.turns ≡ was.raw.session.turns → bits_of now ≡ bits_of was → IsPlanSession now sr dr tr
+after_none was now sr dr tr inv at f came u turns bits =
+    with_turns was now sr dr tr inv at f came u.steps u.done
+    (subst (λ l. AreFewer (reverse l) (reverse now.turns)) (sym turns)
+    (subst (λ l. AreFewer (reverse was.raw.session.turns) (reverse l)) (sym u.turns) inv.fewer))
+    (subst (λ (l : List Turn). length l ≤ was.room.turns) (sym u.turns) inv.few_turns)
+    (subst (λ (l : List Turn). AreWithin now (reverse l)) (sym u.turns)
+    (all_same was now (same_steps was now sr dr tr inv at f came u.steps u.done) (omega (arith, bits))
+    (reverse was.turns) inv.within))
+    (subst (λ (l : List Turn). AreNamed (node_count was) (reverse l)) (sym u.turns) inv.names)
+
+-- ---- after bits
+
+bits_frame : (was now : PlanSessionValue) (deeds : List (List Deed)) (run : ℕ) → IsAt was.raw.session deeds →
+    BitsLed was.raw.session now.raw.session deeds run → now.room ≡ was.room → Frame was now
+bits_frame was now deeds run at b room = record {
+  version = version_led b;
+  bits = bits_led b;
+  nodes = nodes_led at b;
+  typed = b.room;
+  room = room;
+}
+
+module _ (was now : PlanSessionValue) (sr dr : List ℕ) (tr : ℕ) (inv : IsPlanSession was sr dr tr) where
+  pub after_bits : (run : ℕ) → BitsLed was.raw.session now.raw.session inv.deeds run → WritesBits was now run →
+      Came inv.first now inv.deeds → (0 < run → HasTurn was (Bus run)) → IsPlanSession now sr dr tr
+  after_bits zero b w came has =
+      after_none was now sr dr tr inv b.at (bits_frame was now inv.deeds zero inv.at b w.room) came (record {
+        room = w.room;
+        steps = w.steps;
+        done = w.done;
+        turns = w.turns;
+      }) (ap (λ (p : PlanValue). p.turns) b.wrote) (let e = b.bits in omega (arith, e))
+  after_bits (suc n) b w came has =
+      let f = bits_frame was now inv.deeds (suc n) inv.at b w.room in
+      let t : Turn = Bus (suc n) in
+      let wrote = ap (λ (l : List Turn). reverse l) w.turns ∙ latest_of was.turns t in
+      let typed = ap (λ (p : PlanValue). reverse p.turns) b.wrote ∙ latest_of was.raw.session.turns t in
+      with_turns was now sr dr tr inv b.at f came w.steps w.done
+      (subst (λ l. AreFewer l (reverse now.turns)) (sym typed)
+      (subst (λ l. AreFewer (on_latest t (reverse was.raw.session.turns)) l) (sym wrote)
+      (fewer_both t refl (reverse was.raw.session.turns) (reverse was.turns) inv.fewer)))
+      (subst (λ (l : List Turn). length l ≤ was.room.turns) (sym w.turns)
+      (few_turns was.room.turns t was.turns (has (omega arith)) inv.few_turns))
+      (subst (AreWithin now) (sym wrote)
+      (all_bits was now (same_steps was now sr dr tr inv b.at f came w.steps w.done) (suc n) b.bits
+      (reverse was.turns) inv.within))
+      (subst (λ (l : List Turn). AreNamed (node_count was) (reverse l)) (sym w.turns)
+      (named_turns (node_count was) t was.turns tt inv.names))

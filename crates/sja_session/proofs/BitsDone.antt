@@ -1,0 +1,6 @@
+-- Bits of a session, its looks and its strikes.
+pub mod AfterBits
+pub mod BitsRun
+pub mod RestRun
+pub mod Looked
+pub mod Struck

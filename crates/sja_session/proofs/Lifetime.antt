@@ -1,0 +1,3 @@
+-- A session that begins, and one that ends.
+pub mod Blank
+pub mod Finished

@@ -1,0 +1,5 @@
+-- A step, or several of an access, and what they leave.
+pub mod Stepped
+pub mod Accessing
+pub mod KeptRegisters
+pub mod LastAnswer

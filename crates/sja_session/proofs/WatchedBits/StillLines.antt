@@ -1,0 +1,148 @@
+-- Bits in which no port of a session is told anything: none of them changes a line.
+use Rattle.std.proofs.Common.{◌≡◌, ℕ, zero, suc, ◌+◌, ◌<◌, ◌≤◌, Bool, true, false, List, [], ◌∷◌, ◌++◌, length, drop}
+use Rattle.std.proofs.Common.{refl, sym, ap, ◌∙◌, subst, append-nil, arith, inl, inr}
+use Rattle.std.specs.Prelude.{◌&&◌, slice_index_or}
+use Rattle.std.proofs.lemmas.Bool.{cases_eq}
+use Rattle.lemmas.proofs.Gathered.{gathered_push}
+use Rattle.can_bits.specs.declared.level.Level.{Level}
+use Rattle.sja_link.specs.declared.entry.Entry.{Entry}
+use Rattle.sja_link.specs.declared.entry.Entry.TheVariants.{Bit}
+use Rattle.sja_link.specs.Carried.{put_in, put_of}
+use Rattle.sja_link.specs.Lists.{messages}
+use Rattle.sja_link.specs.Looking.{off_among}
+use Rattle.sja_link.specs.Parts.{part}
+use Rattle.sja_link.specs.Places.{past, place_of}
+use Rattle.sja_link.specs.Showing.{seen_of}
+use Rattle.sja_link.proofs.JournalEntries.Entering.{part_here, part_else}
+use Rattle.sja_bus.specs.UntilTold.{HasBitsMore}
+use Rattle.sja_bus.specs.UntilTold.HasBitsMore.{none as no_more, one_more as one_bit_more}
+use Rattle.sja_plan.specs.declared.turn.Turn.{Turn}
+use Rattle.sja_plan.specs.declared.turn.Turn.TheVariants.{Bus}
+use Rattle.sja_plan.specs.Plan.{PlanValue}
+use Rattle.sja_regs.specs.InterruptLine.{is_line_active}
+use Rattle.sja_regs.specs.Registers.{at_power_on}
+use Rattle.sja_driver.specs.Deeds.{Deed, deeds_at, deeds_of, is_active, opened_by, released_lengths}
+use Rattle.sja_log.specs.Registering.{seen_now}
+use Rattle.sja_log.specs.Windows.{put_by}
+use Rattle.sja_log.proofs.Trace.Timings.{put_now}
+use Rattle.sja_serial.specs.Bits.{TakesBit, TakesBits, TakesBusTurn}
+use Rattle.sja_serial.specs.Bits.TakesBits.{no_bit, one_more}
+use Rattle.sja_serial.specs.Serial.{SerialValue}
+use Rattle.sja_serial.specs.UntilTold.{NoneTold}
+use Rattle.sja_session.specs.declared.session_room.SessionRoom.{SessionRoom}
+use Rattle.sja_session.specs.Inside.UntilTold.{RunsUntilTold}
+use Rattle.sja_session.specs.Lines.{line_at}
+use Rattle.sja_session.specs.Running.{RunsBits}
+use Rattle.sja_session.specs.Sessions.{SessionValue, session_of, IsAt}
+use Rattle.sja_session.specs.Turning.{with_turn, with_bits}
+use Rattle.sja_session.specs.Watching.{NoneRose, rise}
+use Rattle.sja_session.specs.Watching.NoneRose.{bit}
+use Rattle.sja_session.specs.Watching.NoneRose.{none as none_rose}
+use Rattle.sja_session.proofs.BitsDone.BitsRun.{runs}
+use Rattle.sja_session.proofs.WatchedBits.QuietBits.{quiet_at, still_same}
+use Rattle.sja_session.proofs.WrittenPlan.Turned.{bits_twice}
+
+-- ---- messages, and lines
+
+-- a bit puts nothing
+put_bit : (j : List Entry) (driven seen : Level) (a : ℕ) →
+    put_of (part (j ++ Bit driven seen ∷ []) a) ≡ put_of (part j a)
+put_bit j driven seen a = elim (cases_eq (past (place_of j) (Bit driven seen)).activation a) [
+  | inl q ↦ ap put_of (part_here j (Bit driven seen) a q) ∙ gathered_push put_in (part j a) (Bit driven seen)
+      ∙ append-nil (put_of (part j a))
+  | inr n ↦ ap put_of (part_else j (Bit driven seen) a n)
+]
+
+put_bits : {j k : List Entry} → HasBitsMore j k → (a : ℕ) → put_of (part k a) ≡ put_of (part j a)
+put_bits no_more a = refl
+put_bits (one_bit_more k driven seen h) a = put_bit k driven seen a ∙ put_bits h a
+
+-- so a driver sees the same messages after bits
+seen_same : {j k : List Entry} → HasBitsMore j k → (active : Bool) (deeds : List Deed) →
+    seen_now active k deeds ≡ seen_now active j deeds
+seen_same h false deeds = refl
+seen_same {j} {k} h true deeds =
+    let a = opened_by deeds in
+    let shown : put_by (place_of k).bits k a ≡ put_by (place_of j).bits j a =
+    put_now k a ∙ put_bits h a ∙ sym (put_now j a) in
+    ap (λ l. seen_of (off_among false l) (drop (length (released_lengths (deeds_of deeds a))) (messages l))) shown
+
+-- and each line is as it was
+line_same : (was now : SessionValue) (deeds : List (List Deed)) → NoneTold was.run now.run → (k : ℕ) →
+    k < length was.run.bus.journals → line_at now deeds k ≡ line_at was deeds k
+line_same was now deeds told k less =
+    let seen = seen_same (told.journals k less) (is_active (deeds_at deeds k)) (deeds_at deeds k) in
+    λ i. is_line_active (slice_index_or (told.ports i) k (at_power_on 1)) (seen i)
+
+-- a line that is as it was didn't rise
+unmoved : (w before now : Bool) → now ≡ before → (w && rise before now) ≡ false
+unmoved false before now e = refl
+unmoved true true now e = refl
+unmoved true false now e = e
+
+-- ---- bits one after the other
+
+-- the session after so many bits
+abbrev after : SessionRoom → PlanValue → List Turn → ℕ → SerialValue → SessionValue
+after room plan turns m run = session_of room run plan (with_bits turns m)
+
+turn_more : (turns : List Turn) (m : ℕ) → with_turn (with_bits turns m) (Bus 1) ≡ with_bits turns (suc m)
+turn_more turns zero = refl
+turn_more turns (suc m) = let e : suc m + 1 ≡ suc (suc m) = omega arith in
+    bits_twice turns (suc m) 1 ∙ ap (λ n. with_turn turns (Bus n)) e
+
+module _ (room : SessionRoom) (plan : PlanValue) (turns : List Turn) (deeds : List (List Deed)) where
+  one_bit : (m : ℕ) (mid now : SerialValue) → IsAt (after room plan turns m mid) deeds →
+      TakesBit plan deeds mid now →
+      RunsBits (after room plan turns m mid) (after room plan turns (suc m) now) 1 1 deeds
+  one_bit m mid now at takes =
+      let e = takes.bits in
+      let turn : TakesBusTurn plan deeds mid now 1 true = record {
+        run = 1;
+        bits = one_more mid mid now 0 (no_bit mid) tt takes;
+        whole = λ all. refl;
+        spent = λ no. absurd cc;
+      } in
+      subst (λ (l : List Turn). RunsBits (after room plan turns m mid) (session_of room now plan l) 1 1 deeds)
+      (turn_more turns m) (runs at turn (omega (arith, e)))
+
+  module _ (first : SerialValue) (many : length first.bus.journals ≡ length plan.nodes) where
+    -- since then no port was told anything: each line is as it was
+    as_first : (m : ℕ) (now : SerialValue) → NoneTold first now → (k : ℕ) → k < length plan.nodes →
+        line_at (after room plan turns m now) deeds k ≡ line_at (session_of room first plan turns) deeds k
+    as_first m now told k less =
+        line_same (session_of room first plan turns) (after room plan turns m now) deeds told k
+        (omega (arith, many, less))
+
+    -- before each of these bits none was told anything: no line rose
+    none_rose_in : (watched : List Bool) (was now : SerialValue) (m : ℕ) →
+        IsAt (session_of room was plan turns) deeds → TakesBits plan deeds (NoneTold first) was m now →
+        NoneTold first now →
+        NoneRose watched (length plan.nodes) deeds (session_of room was plan turns) (after room plan turns m now) m
+    none_rose_in watched was _ _ h (no_bit _) told = none_rose (still_same (session_of room was plan turns) deeds h)
+    none_rose_in watched was now _ h (one_more _ mid _ m bits quiet takes) told =
+        let earlier = none_rose_in watched was mid m h bits quiet in
+        let one = one_bit m mid now (quiet_at earlier) takes in
+        subst (λ (n : ℕ). NoneRose watched (length plan.nodes) deeds (session_of room was plan turns)
+        (after room plan turns (suc m) now) n) (omega arith)
+        (bit earlier one
+        (λ k less. unmoved (slice_index_or watched k false) (line_at (after room plan turns m mid) deeds k)
+        (line_at (after room plan turns (suc m) now) deeds k)
+        (as_first (suc m) now told k less ∙ sym (as_first m mid quiet k less)))
+        (still_same (after room plan turns (suc m) now) deeds one.at))
+
+  -- up to the first of which a port is told
+  pub until_told : (was now : SerialValue) (n : ℕ) → IsAt (session_of room was plan turns) deeds →
+      TakesBits plan deeds (NoneTold was) was n now → 1 ≤ n →
+      RunsUntilTold (session_of room was plan turns) (session_of room now plan (with_turn turns (Bus n))) n deeds
+  until_told was _ _ h (no_bit _) some = absurd (omega (arith, some))
+  until_told was now _ h (one_more _ mid _ m bits told takes) some =
+      let many = h.stands.count.journals in
+      let rose = λ (watched : List Bool). none_rose_in was many watched was mid m h bits told in record {
+        before = after room plan turns m mid;
+        earlier = m;
+        many = omega arith;
+        quiet = rose;
+        same = as_first was many m mid told;
+        bit = one_bit m mid now (quiet_at (rose [])) takes;
+      }

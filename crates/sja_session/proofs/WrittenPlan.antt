@@ -1,0 +1,6 @@
+-- The plan that a session wrote: its steps and turns, and where they led.
+pub mod Written
+pub mod Plans
+pub mod Turned
+pub mod Taken
+pub mod Within
