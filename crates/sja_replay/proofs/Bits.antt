@@ -1,5 +1,5 @@
 -- A replay after a bit.
-use Rattle.std.proofs.Common.{◌≡◌, ◌≢◌, ◌||◌, ℕ, ◌+◌, ◌<◌, ◌^◌, false, Ok, Err, Option, None, List, [], ◌∷◌}
+use Rattle.std.proofs.Common.{◌≡◌, ◌≢◌, ◌||◌, ℕ, ◌+◌, ◌<◌, ◌≤◌, ◌^◌, false, Ok, Err, Option, None, List, [], ◌∷◌}
 use Rattle.std.proofs.Common.{◌++◌, refl, sym, ap, ◌∙◌, subst, arith}
 use Rattle.can_bits.specs.declared.level.Level.{Level}
 use Rattle.can_node.specs.declared.bit_events.BitEvents.{BitEvents}
@@ -102,6 +102,18 @@ pub record HasBit (r mid : Replay) : Type 0 where
   pub free : mid.free ≡ r.free
   pub ahead : mid.ahead ≡ r.ahead
   pub entries : mid.entries ≡ r.entries
+
+pub has_bit : (r : Replay) (node : Node) (bits : ℕ) (fits : r.free ≤ 64) → bits ≡ r.bits + 1 → bits < 2 ^ 32 →
+    HasBit r (record r { node = node; bits = bits; aborted = false; fits = fits })
+has_bit r node bits fits one few = record {
+  bits = one;
+  few = few;
+  aborted = refl;
+  off = refl;
+  free = refl;
+  ahead = refl;
+  entries = refl;
+}
 
 left_same : (r mid : Replay) → HasBit r mid → left_of mid ≡ left_of r
 left_same r mid k = ap (λ a. with_ahead a mid.entries) k.ahead ∙ ap (with_ahead r.ahead) k.entries

@@ -38,14 +38,18 @@ same_phase entries found others h k =
     ap (λ (x : Place). phase_at x (open_bits h)) (same_place entries found others h k)
     ∙ ap (phase_at k.place) (same_bits entries found others h k)
 
--- and have the node drive the same
-pub drives_same : (entries : List NodeEntry) (found others : List FinishedPiece) (h : IsCut entries found)
-    (k : IsCut entries others) (x y : Level) → DrivesIn h x → DrivesIn k y → x ≡ y
-drives_same entries found others h k x y a b =
+-- what is driven by one cut is driven by another
+pub drives_by : (entries : List NodeEntry) (found others : List FinishedPiece) (h : IsCut entries found)
+    (k : IsCut entries others) (x : Level) → DrivesIn h x → DrivesIn k x
+drives_by entries found others h k x a =
     let now = same_now entries found others h k in
     let place = same_place entries found others h k in
     let bits = same_bits entries found others h k in
     let c : Drives (now_in k) h.place (open_bits h) x = rw now at a in
-    let d : Drives (now_in k) k.place (open_bits h) x = rw place at c in
-    let e : Drives (now_in k) k.place (open_bits k) x = rw bits at d in
-    drives_once (now_in k) k.place (open_bits k) x y e b
+    let d : Drives (now_in k) k.place (open_bits h) x = rw place at c in rw bits at d
+
+-- and the node drives the same by both
+pub drives_same : (entries : List NodeEntry) (found others : List FinishedPiece) (h : IsCut entries found)
+    (k : IsCut entries others) (x y : Level) → DrivesIn h x → DrivesIn k y → x ≡ y
+drives_same entries found others h k x y a b =
+    drives_once (now_in k) k.place (open_bits k) x y (drives_by entries found others h k x a) b

@@ -8,3 +8,8 @@ pub mod Judging
 pub mod Closes
 pub mod Once
 pub mod Passed
+pub mod Parts
+pub mod Knowing
+pub mod Coming
+pub mod PastBits
+pub mod Reached

@@ -3,3 +3,5 @@ pub mod Events
 pub mod Views
 pub mod Bits
 pub mod Lists
+pub mod LastBits
+pub mod EndsOnce

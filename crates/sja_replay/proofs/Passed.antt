@@ -1,5 +1,5 @@
 -- A replay goes on past a bit that tells nothing.
-use Rattle.std.proofs.Common.{◌≡◌, ℕ, ◌+◌, ◌<◌, ◌≤◌, ◌^◌, false, Option, Some, None, List, []}
+use Rattle.std.proofs.Common.{◌≡◌, ℕ, ◌+◌, ◌<◌, ◌≤◌, ◌^◌, Bool, false, Option, Some, None, List, []}
 use Rattle.std.proofs.Common.{refl, sym, ap, ◌∙◌, subst, append-nil}
 use Rattle.std.specs.Coded.{le_prop}
 use Rattle.can_bits.specs.declared.level.Level.{Level}
@@ -7,6 +7,7 @@ use Rattle.can_bits.specs.declared.segment.Segment.{Segment}
 use Rattle.can_node.specs.declared.bit_events.BitEvents.{BitEvents}
 use Rattle.can_node.specs.declared.counters.Counters.{Counters}
 use Rattle.can_node.specs.declared.node.Node.{Node}
+use Rattle.can_node.specs.declared.request.Request.{Request}
 use Rattle.can_node.specs.Context.{ContextValue, is_transmitter}
 use Rattle.can_node.specs.NextField.{ShowsSegment}
 use Rattle.can_node.specs.Stands.{StandsAt, DrivesNext, Samples, ShowsSame, nothing, is_receiving}
@@ -22,22 +23,26 @@ use Rattle.sja_replay.specs.declared.short_bit.ShortBit.{ShortBit}
 use Rattle.sja_replay.specs.declared.view.View.{View}
 use Rattle.sja_replay.specs.Inside.Walking.{IsTakenFrom, IsBrought, IsClosed, LooksAt}
 use Rattle.sja_replay.specs.Replaying.{IsAt}
-use Rattle.sja_replay.specs.Short.{IsNoStart, PassesBit}
+use Rattle.sja_replay.specs.Short.{IsNoStart, IsInShort, PassesBit}
 use Rattle.sja_replay.specs.Viewing.{Shows}
-use Rattle.sja_replay.proofs.Bits.{happening, told_bit}
+use Rattle.sja_replay.proofs.Bits.{happening, has_bit, told_bit}
 use Rattle.sja_replay.proofs.Walks.{past_none, goes_on, goes_bit, tells_bit}
 
 -- ---- what the node shows before the bit and after it
 
-abbrev view_before : Node → ShortBit → View
-view_before node q = record {
+-- with this request
+abbrev pub view_with : ShortBit → Option Request → View
+view_with q held = record {
   phase = q.phase;
   segment = q.segment;
   transmits = q.transmits;
   counters = q.counters;
-  held = node.context.held;
+  held = held;
   flag = q.flag;
 }
+
+abbrev view_before : Node → ShortBit → View
+view_before node q = view_with q node.context.held
 
 abbrev view_after : Node → ShortBit → Option Segment → View
 view_after node q s = record {
@@ -81,6 +86,26 @@ shows_after old new i found driven seen q s was l same segment = λ entries more
       held = ap (λ (c : ContextValue). c.held) h.shows;
       flag = ap (λ (c : ContextValue). c.flag) h.shows;
     }
+
+-- so it is a bit in short
+pub in_short : (q : ShortBit) (h : Happening) (held : Option Request) (receiving : Bool) → h.driven ≡ q.driven →
+    h.seen ≡ q.seen → h.aborted ≡ false → h.before ≡ view_with q held → h.events ≡ nothing receiving →
+    h.after.phase ≡ q.phase → h.after.counters ≡ q.counters → h.fate ≡ None → IsNoStart q → IsInShort h q
+in_short q h held receiving driven seen aborted before told phase counters fate quiet = record {
+  driven = driven;
+  seen = seen;
+  aborted = aborted;
+  phase = ap (λ (v : View). v.phase) before;
+  segment = ap (λ (v : View). v.segment) before;
+  transmits = ap (λ (v : View). v.transmits) before;
+  counters = ap (λ (v : View). v.counters) before;
+  flag = ap (λ (v : View). v.flag) before;
+  told = told ∙ ap nothing (sym (ap (λ (e : BitEvents). e.receiving) told));
+  phase_stays = phase;
+  counters_stay = counters;
+  fate = fate;
+  no_start = quiet;
+}
 
 -- ---- past the bit
 
@@ -137,33 +162,12 @@ passed_bit old mid new driven seen x q s took j at ahead unmarked drives is l sa
     (shows_before old.node driven seen q l)
     (shows_after old.node mid.node (record_of j) at.found driven seen q s at.stands l same segment)
     (λ p free looked. closes p free)
-    (record {
-      bits = k.bits;
-      few = k.few;
-      aborted = refl;
-      off = refl;
-      free = refl;
-      ahead = refl;
-      entries = refl;
-    }) in
+    (has_bit from mid.node mid.bits _ k.bits k.few) in
     let past = past_none old j at in
     record {
       happened = h;
-      short = record {
-        driven = sym l.driven_is;
-        seen = sym l.seen_is;
-        aborted = unmarked;
-        phase = refl;
-        segment = refl;
-        transmits = refl;
-        counters = refl;
-        flag = refl;
-        told = refl;
-        phase_stays = refl;
-        counters_stay = refl;
-        fate = refl;
-        no_start = quiet;
-      };
+      short = in_short q h old.node.context.held (is_receiving old.node) (sym l.driven_is) (sym l.seen_is) unmarked
+          refl refl refl refl refl quiet;
       goes = goes_bit old old from new j driven seen h (goes_on old old j past) taken brings;
       tells = tells_bit old old from new j driven seen h past taken brings;
     }

@@ -69,8 +69,8 @@ fn word_of(byte: u8) -> [u8; 3]
     [b' ', digit_of(byte / 16), digit_of(byte % 16)]
 }
 
-/// A hexadecimal digit, in lower case.
-fn digit_of(number: u8) -> u8
+/// The hexadecimal digit of a number, in lower case.
+pub fn digit_of(number: u8) -> u8
     requires { number < 16 }
     ensures digit { result ≡ digit_glyph false number }
     ensures ascii { result < 128 }

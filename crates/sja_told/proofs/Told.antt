@@ -1,13 +1,11 @@
 -- Each bit of a run is told.
 pub mod NextSegments
 pub mod SomeViews
-pub mod Parts
 pub mod Receptions
 pub mod Bits
 pub mod Items
 pub mod Stores
 pub mod Runs
 pub mod AllRuns
-pub mod Lines
 pub mod StoredRuns
 pub mod AccessRuns

@@ -4,5 +4,3 @@ pub mod Fronts
 pub mod Quiet
 -- The messages that were stored, beside the happenings.
 pub mod Stored
--- Their lines in a trace.
-pub mod StoredLines

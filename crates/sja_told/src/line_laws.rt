@@ -8,7 +8,7 @@ ghost use Rattle.sja_plan.specs.Plan.{PlanValue};
 ghost use Rattle.sja_log.specs.Log.{NodeValue, RunValue};
 ghost use Rattle.sja_log.specs.Runs.{IsSerialRun};
 ghost use Rattle.sja_trace.specs.TraceText.{IsTrace};
-ghost use Rattle.sja_told.specs.StoredLines.{IsToldStored};
+ghost use Rattle.sja_trace.specs.StoredLines.{IsToldStored};
 
 /// A law: each message that a node of a run in one thread stored has its line in the trace: of the bit before it and of
 /// this node, and in it stands that the frame whose message it is was received and stored, as can-utils write it.

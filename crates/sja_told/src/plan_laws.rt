@@ -10,7 +10,7 @@ ghost use Rattle.sja_plan_session.specs.PlanRuns.{IsPlanRun};
 ghost use Rattle.sja_replay.specs.declared.happening.Happening.{Happening};
 ghost use Rattle.sja_replay.specs.Happened.{Happened};
 ghost use Rattle.sja_told.specs.Stored.{AllStored};
-ghost use Rattle.sja_told.specs.StoredLines.{IsToldStored};
+ghost use Rattle.sja_trace.specs.StoredLines.{IsToldStored};
 ghost use Rattle.sja_trace.specs.TraceText.{IsTrace};
 
 /// A law: the journal of each node of a run of a plan, of any version, has happenings. The number of bits of a log is a

@@ -2,9 +2,15 @@ pub mod Sayings
 pub mod Lines
 pub mod StepOrders
 pub mod StepsFrom
+pub mod StepsDue
 pub mod Telling
 pub mod NodeStories
 pub mod UpTo
 pub mod Shorts
 pub mod Passed
+pub mod SaidAlike
+pub mod SaidMute
+pub mod Numbered
+pub mod LogStories
+pub mod StoredLines
 pub mod WrittenBack

@@ -6,11 +6,12 @@ use Rattle.std.proofs.lemmas.List.{length-take-le, take_more, take_all}
 use Rattle.lemmas.specs.Related.{EachRelated}
 use Rattle.sja_log.specs.Log.{NodeValue}
 use Rattle.sja_plan.specs.Plan.{PlanValue, steps_at}
+use Rattle.sja_replay.specs.declared.happening.Happening.{Happening}
 use Rattle.sja_script.specs.declared.step.Step.{Step}
 use Rattle.sja_trace.specs.declared.teller.Teller.{Teller}
 use Rattle.sja_trace.specs.BitEvents.{counters_after}
 use Rattle.sja_trace.specs.TraceText.{NodeStory, AreStories}
-use Rattle.sja_trace.specs.Telling.{IsUnderway}
+use Rattle.sja_trace.specs.Telling.{HaveCome, IsUnderway}
 use Rattle.sja_trace.specs.Inside.Coming.{HasTold, HaveTold, IsShown, IsSameTo, TellerGoesOn, TellerEnds, AreUnderway}
 use Rattle.sja_trace.proofs.Telling.{before_same}
 
@@ -87,6 +88,20 @@ record OneMore (steps : List Step) (n : NodeValue) (bits : ℕ) (new : Teller) (
   shown : IsShown bits new story
   same : IsSameTo bits s story
 
+-- so much is told of it then
+pub has_more : (steps : List Step) (n : NodeValue) (bits : ℕ) (old new : Teller) (s : NodeStory)
+    (told : List Happening) → HasTold steps n bits old s → new.steps.steps.now ≡ steps → new.steps.done.now ≡ n.done →
+    HaveCome n.journal (suc bits) new.bits told →
+    HasTold steps n (suc bits) new (record { steps = s.steps; done = s.done; bits = told })
+has_more steps n bits old new s told h steps_are done_are come = record {
+  steps_are = steps_are;
+  done_are = done_are;
+  story_steps = h.story_steps;
+  story_done = h.story_done;
+  come = come;
+  fresh = λ first. absurd (omega (arith, first));
+}
+
 one_more : (steps : List Step) (n : NodeValue) (bits : ℕ) (old new : Teller) (s : NodeStory) →
     HasTold steps n bits old s → TellerGoesOn old new → OneMore steps n bits new s
 one_more steps n bits old new s h on =
@@ -95,14 +110,7 @@ one_more steps n bits old new s h on =
     let own_done = on.same.done ∙ h.done_are in
     record {
       story = record { steps = s.steps; done = s.done; bits = more.told };
-      has = record {
-        steps_are = own_steps;
-        done_are = own_done;
-        story_steps = h.story_steps;
-        story_done = h.story_done;
-        come = more.come;
-        fresh = λ first. absurd (omega (arith, first));
-      };
+      has = has_more steps n bits old new s more.told h own_steps own_done more.come;
       shown = record {
         steps = own_steps ∙ sym h.story_steps;
         done = own_done ∙ sym h.story_done;

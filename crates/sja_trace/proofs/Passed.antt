@@ -15,7 +15,8 @@ use Rattle.sja_wire.specs.Wire.{wired}
 use Rattle.sja_trace.specs.declared.node_steps.NodeSteps.{NodeSteps}
 use Rattle.sja_trace.specs.declared.teller.Teller.{Teller}
 use Rattle.sja_trace.specs.BitEvents.{counters_after}
-use Rattle.sja_trace.specs.Telling.{HasCome, at_hand}
+use Rattle.sja_replay.specs.Coming.{HasCome}
+use Rattle.sja_trace.specs.Telling.{at_hand}
 use Rattle.sja_trace.specs.TraceText.{NodeStory, IsTrace, steps_due, event_line}
 use Rattle.sja_trace.specs.Inside.Coming.{HasTold, HaveTold, IsShown, IsSameTo, TellerEnds, AreUnderway, IsUpTo}
 use Rattle.sja_trace.specs.Inside.Coming.{teller_lines, driven_now, bit_text, late_lines}
@@ -23,7 +24,7 @@ use Rattle.sja_trace.specs.Inside.Hands.{IsHand}
 use Rattle.sja_trace.specs.Inside.Passing.{TellerPasses, IsFor, ComesTo, told_lines, hands_driven, hands_text}
 use Rattle.sja_trace.proofs.Shorts.{hand_counters, hand_driven, hand_said}
 use Rattle.sja_trace.proofs.Telling.{before_same}
-use Rattle.sja_trace.proofs.NodeStories.{all_underway}
+use Rattle.sja_trace.proofs.NodeStories.{all_underway, has_more}
 use Rattle.sja_trace.proofs.UpTo.{same_bits, shown_bit, up_all}
 
 -- ---- one in place of another
@@ -95,14 +96,7 @@ one_passed steps n bits t v u s h f on =
     record {
       teller = w;
       story = record { steps = s.steps; done = s.done; bits = more.told };
-      has = record {
-        steps_are = own_steps;
-        done_are = own_done;
-        story_steps = h.story_steps;
-        story_done = h.story_done;
-        come = (more.come, refl);
-        fresh = λ first. refl;
-      };
+      has = has_more steps n bits v w s more.told h own_steps own_done (more.come, refl);
       shown = record {
         steps = own_steps ∙ sym h.story_steps;
         done = own_done ∙ sym h.story_done;

@@ -15,6 +15,7 @@ use Rattle.sja_replay.specs.declared.happening.Happening.{Happening}
 use Rattle.sja_replay.specs.declared.short_bit.ShortBit.{ShortBit}
 use Rattle.sja_replay.specs.declared.view.View.{View}
 use Rattle.sja_replay.specs.Short.{IsInShort, IsNoStart}
+use Rattle.sja_replay.proofs.Passed.{in_short}
 use Rattle.sja_trace.specs.Events.{said_if, abort_text, abort_said, start_text, start_said, strike_text, strike_said}
 use Rattle.sja_trace.specs.Events.{is_frame, is_dominant, is_start_in, acknowledgement_said, loss_in, loss_said}
 use Rattle.sja_trace.specs.Events.{fault_in, fault_said, is_flag, has_fault, flag_said, reception_in, reception_said}
@@ -39,7 +40,7 @@ before_none a b c is none = ap₂ (λ x y. x ++ y) is none ∙ append-nil c
 
 -- ---- what doesn't begin where the phase stays
 
-no_flag : (b : Bool) → (b && (not b || false)) ≡ false
+pub no_flag : (b : Bool) → (b && (not b || false)) ≡ false
 no_flag true = refl
 no_flag false = refl
 
@@ -169,21 +170,7 @@ all_is bus left h q s =
 
 -- the happening that stands for the bit is one of those that it may be
 own_short : (q : ShortBit) → IsNoStart q → IsInShort (happening_of q) q
-own_short q quiet = record {
-  driven = refl;
-  seen = refl;
-  aborted = refl;
-  phase = refl;
-  segment = refl;
-  transmits = refl;
-  counters = refl;
-  flag = refl;
-  told = refl;
-  phase_stays = refl;
-  counters_stay = refl;
-  fate = refl;
-  no_start = quiet;
-}
+own_short q quiet = in_short q (happening_of q) None (not q.transmits) refl refl refl refl refl refl refl refl quiet
 
 pub all_same : (bus : Level) (left : Counters) (h : Happening) (q : ShortBit) → IsInShort h q →
     all_said bus left (happening_of q) ≡ all_said bus left h

@@ -21,7 +21,7 @@ from_next node i steps done s d old new whole less few is are wrote so_far =
     ∙ so_far
 
 -- none left
-none_done : (node n : ℕ) (steps : List Step) → steps_from node n steps [] ≡ []
+pub none_done : (node n : ℕ) (steps : List Step) → steps_from node n steps [] ≡ []
 none_done node n [] = refl
 none_done node n (s ∷ steps) = refl
 

@@ -1,60 +1,27 @@
 -- The bits of a node are told one after another.
 use Rattle.std.proofs.Common.{◌≡◌, ℕ, ◌+◌, ◌<◌, zero, suc, Bool, true, false, Option, Some, None, IfSome}
-use Rattle.std.proofs.Common.{List, [], ◌∷◌, ◌++◌, length, refl, sym, ap, ◌∙◌, subst, arith, append-nil, append_assoc}
+use Rattle.std.proofs.Common.{List, [], ◌∷◌, ◌++◌, length, refl, sym, ap, ◌∙◌, subst, arith}
 use Rattle.std.specs.Prelude.{slice_get}
 use Rattle.std.proofs.lemmas.List.{length-append}
 use Rattle.std.proofs.lemmas.Option.{slice_get_past}
+use Rattle.can_node.proofs.Contending.FieldLevels.{get-append_left, get-append_right}
 use Rattle.sja_link.specs.declared.entry.Entry.{Entry}
 use Rattle.sja_replay.specs.declared.happening.Happening.{Happening}
-use Rattle.sja_replay.specs.declared.replay.Replay.{Replay}
 use Rattle.sja_replay.specs.declared.short_bit.ShortBit.{ShortBit}
 use Rattle.sja_replay.specs.Happened.{Happened}
 use Rattle.sja_replay.specs.Replaying.{left_of, IsAt, GoesOn}
 use Rattle.sja_replay.specs.Short.{PassesBit}
+use Rattle.sja_replay.specs.Coming.{HasCome, left_in}
+use Rattle.sja_replay.proofs.Coming.{came_by, came_on, came_all}
 use Rattle.sja_trace.specs.declared.node_bits.NodeBits.{NodeBits}
-use Rattle.sja_trace.specs.Telling.{CameTo, HasCome, IsUnderway, HaveSame, bit_before, left_in}
+use Rattle.sja_trace.specs.Telling.{IsUnderway, HaveSame, bit_before}
 use Rattle.sja_trace.specs.Telling.{TellsOn, TellsAll, IsFinishing}
 use Rattle.sja_trace.specs.Inside.Hands.{HandGoesOn}
-
--- ---- the happenings of a journal
-
-pub came_first : (j : List Entry) (r : Replay) → IsAt r [] → left_of r ≡ j → CameTo j r []
-came_first j r at left = record {
-  before = [];
-  at = at;
-  leads = λ more x. (let P : List Entry → Type 0 = λ l. Happened [] l more in subst P left x);
-}
-
-came_by : (j : List Entry) (old new : Replay) (h : Happening) (hs : List Happening) → (c : CameTo j old hs) →
-    GoesOn old new c.before (h ∷ []) → CameTo j new (hs ++ h ∷ [])
-came_by j old new h hs c g = record {
-  before = g.now;
-  at = g.at;
-  leads = λ more x.
-      (let P : List Happening → Type 0 = λ l. Happened [] j l in
-      subst P (sym (append_assoc hs (h ∷ []) more)) (c.leads (h ∷ more) (g.leads more x)));
-}
-
-came_on : (j : List Entry) (old new : Replay) (h : Happening) (hs : List Happening) → CameTo j old hs →
-    ((before : List Entry) → IsAt old before → GoesOn old new before (h ∷ [])) → CameTo j new (hs ++ h ∷ [])
-came_on j old new h hs c goes = came_by j old new h hs c (goes c.before c.at)
-
-came_all : (j : List Entry) (r : Replay) (hs : List Happening) → CameTo j r hs →
-    ((before : List Entry) → IsAt r before → Happened before (left_of r) []) → Happened [] j hs
-came_all j r hs c none =
-    let P : List Happening → Type 0 = λ l. Happened [] j l in
-    subst P (append-nil hs) (c.leads [] (none c.before c.at))
 
 -- ---- one more behind others
 
 get_last : (hs : List Happening) (h : Happening) → slice_get (hs ++ h ∷ []) (length hs) ≡ Some h
-get_last [] h = refl
-get_last (x ∷ hs) h = get_last hs h
-
-get_front : (hs more : List Happening) (i : ℕ) → i < length hs → slice_get (hs ++ more) i ≡ slice_get hs i
-get_front [] more i less = absurd (omega (arith, less))
-get_front (x ∷ hs) more zero less = refl
-get_front (x ∷ hs) more (suc i) less = get_front hs more i (omega (arith, less))
+get_last hs h = get-append_right hs (h ∷ []) (length hs) (length hs) 0 refl (omega arith)
 
 -- the bit before one is that of the same happenings
 pub before_same : (bits : ℕ) (old new : List Happening) → HaveSame bits old new →
@@ -109,7 +76,7 @@ bit_on old new h begun still some goes = record {
           bit,
         );
         bit = bit;
-        same = λ i less. get_front told (h ∷ []) i (omega (arith, many, less));
+        same = λ i less. get-append_left told (h ∷ []) i (omega (arith, many, less));
       });
 }
 
@@ -157,7 +124,7 @@ short_on old new q begun still passes = λ journal bits told come.
         is = sym (ap (λ (n : ℕ). slice_get all n) many) ∙ get_last told p.happened;
         short = p.short;
       };
-      same = λ i less. get_front told (p.happened ∷ []) i (omega (arith, many, less));
+      same = λ i less. get-append_left told (p.happened ∷ []) i (omega (arith, many, less));
     })
 
 pub passed_on : (old new : NodeBits) (r : Option ShortBit) → old.over ≡ false → new.over ≡ false →

@@ -1,25 +1,12 @@
 -- The bits of a node that are told one after another (this project's own rule).
-use Rattle.std.specs.Prelude.{◌≡◌, ◌<◌, ◌≤◌, ◌+◌, ℕ, zero, suc, Bool, true, false}
-use Rattle.std.specs.Prelude.{Option, None, List, [], ◌++◌, length, slice_get}
+use Rattle.std.specs.Prelude.{◌≡◌, ◌<◌, ◌+◌, ℕ, zero, suc, false, Option, None, List, [], slice_get}
 use Rattle.sja_link.specs.declared.entry.Entry.{Entry}
 use Rattle.sja_replay.specs.declared.happening.Happening.{Happening}
-use Rattle.sja_replay.specs.declared.replay.Replay.{Replay}
+use Rattle.sja_replay.specs.Coming.{HasCome, left_in}
 use Rattle.sja_replay.specs.Happened.{Happened}
-use Rattle.sja_replay.specs.Replaying.{left_of, IsAt}
 use Rattle.sja_trace.specs.declared.node_bits.NodeBits.{NodeBits}
 
 -- ---- how far they came
-
--- the replay of this journal has told these happenings, and whatever is told of the rest, comes behind them
-pub record CameTo (journal : List Entry) (r : Replay) (hs : List Happening) : Type 0 where
-  pub before : List Entry
-  pub at : IsAt r before
-  pub leads : (more : List Happening) → Happened before (left_of r) more → Happened [] journal (hs ++ more)
-
--- after so many bits a replay has told as many happenings of a journal; or it is over, and has told all there are
-abbrev pub HasCome : Bool → List Entry → ℕ → Replay → List Happening → Type 0
-HasCome false journal bits r hs = CameTo journal r hs × (length hs ≡ bits)
-HasCome true journal bits r hs = Happened [] journal hs × (length hs ≤ bits)
 
 -- the bit before this one; there is none before the first
 abbrev pub bit_before : ℕ → List Happening → Option Happening
@@ -66,11 +53,6 @@ pub record ToldAll (journal : List Entry) (bits : ℕ) (old : List Happening) : 
   pub told : List Happening
   pub are : Happened [] journal told
   pub same : HaveSame bits old told
-
--- how much is left of its journal at most
-abbrev pub left_in : Bool → Replay → ℕ
-left_in true r = 0
-left_in false r = suc (length (left_of r))
 
 -- a bit more is told, or none is left
 pub record TellsOn (old new : NodeBits) : Type 0 where

@@ -14,6 +14,7 @@ use can_frame::Frame;
 use can_node::Phase;
 use can_notation::text_of;
 use sja_replay::View;
+use sja_report::digit_of;
 use std::alloc::AllocError;
 use std::fmt::Write;
 use std::str;
@@ -49,19 +50,6 @@ fn put_ascii(text: &mut String, characters: &[u8]) -> Result<(), AllocError>
     ensures { OnOk result (string_bytes text.new ≡ string_bytes text.old ++ characters.now) }
 {
     text.push_str(unsafe { str::from_utf8_unchecked(characters) })
-}
-
-/// The hexadecimal digit of a number, in lower case.
-fn digit_of(number: u8) -> u8
-    requires { number < 16 }
-    ensures digit { result ≡ digit_glyph false number }
-    ensures ascii { result < 128 }
-{
-    if number < 10 {
-        b'0' + number
-    } else {
-        b'a' - 10 + number
-    }
 }
 
 /// The name of the bit that has this place code.

@@ -1,7 +1,6 @@
 -- What is known of a node between two bits, and past one of which its port was told nothing or a turn.
 pub mod AbortPlaces
 pub mod Known
-pub mod Shown
 pub mod Opened
 pub mod Muted
 pub mod ToldBits

@@ -1,4 +1,3 @@
-pub mod InJournal
 pub mod KnownNode
 pub mod Receiving
 pub mod SayingAlike

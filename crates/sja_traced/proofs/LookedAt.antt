@@ -4,3 +4,4 @@ pub mod OneByOne
 pub mod Looks
 pub mod Ahead
 pub mod TurnsTaken
+pub mod Endings

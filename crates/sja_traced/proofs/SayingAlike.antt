@@ -1,6 +1,4 @@
 -- Of two bits that are alike the same is said.
-pub mod SaidAlike
-pub mod SaidMute
 pub mod Plain
 pub mod Hands
 pub mod AtHand

@@ -1,5 +1,4 @@
 -- The lines of bits and of steps, and how far a run is traced once they were written.
-pub mod Numbered
 pub mod StepLines
 pub mod LateLines
 pub mod AfterBit

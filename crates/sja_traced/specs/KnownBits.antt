@@ -1,25 +1,16 @@
--- What a bit brought to a node, by the turn of the bit, or in short where it told nothing (this project's own rule;
--- sources as named).
-use Rattle.std.specs.Prelude.{◌≡◌, ℕ, Bool, false, Option, Some, None, List, length}
+-- What a bit brought to a node, by the turn of the bit (this project's own rule; sources as named).
+use Rattle.std.specs.Prelude.{◌≡◌, ℕ, Bool, Option, Some, None, List, length, if◌then◌else◌}
 use Rattle.can_bits.specs.declared.level.Level.{Level}
-use Rattle.can_bits.specs.Places.{are_same}
 use Rattle.can_frame.specs.Frame.{FrameValue}
 use Rattle.can_frame.specs.Message.{message}
-use Rattle.can_node.specs.NextBit.{now_in}
-use Rattle.can_node.specs.NextField.{SegmentIn}
-use Rattle.sja_link.specs.NodeWords.{FinishedPiece, IsCut}
-use Rattle.sja_link.specs.declared.entry.Entry.{Entry}
+use Rattle.can_node.specs.declared.request.Request.{Request}
 use Rattle.sja_link.specs.declared.verdict.Verdict.{Verdict}
 use Rattle.sja_link.specs.declared.verdict.Verdict.TheVariants.{Stored as ToStore, Overrun as ToLose}
-use Rattle.sja_link.specs.Records.{record_of}
 use Rattle.sja_regs.specs.declared.bus_turn.BusTurn.{BusTurn}
 use Rattle.sja_replay.specs.declared.fate.Fate.{Fate}
 use Rattle.sja_replay.specs.declared.fate.Fate.TheVariants.{Stored, Overrun, Stopped}
 use Rattle.sja_replay.specs.declared.happening.Happening.{Happening}
-use Rattle.sja_replay.specs.declared.short_bit.ShortBit.{ShortBit}
 use Rattle.sja_replay.specs.declared.view.View.{View}
-use Rattle.sja_replay.specs.Short.{IsNoStart}
-use Rattle.sja_traced.specs.Knowing.{held_before}
 
 -- the verdict without its message
 abbrev pub kind_of : Option (Verdict × List ℕ) → Option Verdict
@@ -34,10 +25,9 @@ fate_by (Some f) None free = Some Stopped
 fate_by (Some f) (Some ToStore) free = Some Stored
 fate_by (Some f) (Some ToLose) free = Some (Overrun (length (message f)) free)
 
--- the segment and the flag of the next bit are known too at the end of this journal
-abbrev pub KnowsPlace : List Entry → View → Type 0
-KnowsPlace j v = (found : List FinishedPiece) (cut : IsCut (record_of j) found) →
-    SegmentIn cut v.segment × (v.flag ≡ (now_in cut).flag)
+-- the request that is held right before a bit, where an abort dropped it or not
+abbrev pub held_before : Bool → Option Request → Option Request
+held_before dropped held = if dropped then None else held
 
 -- the happening is that of a bit with these levels and this turn, before which this was known of the node, and after
 -- which the node shows this; right before the bit an abort changed the node or none did
@@ -50,14 +40,3 @@ pub record IsOfTurn (v after : View) (changed : Bool) (driven seen : Level) (tur
   pub events : g.events ≡ turn.events
   pub shown : g.after ≡ after
   pub fate : g.fate ≡ fate_by turn.events.received verdict free
-
--- the bit in short is one that told nothing, with these levels, before which this was known of the node; where the node
--- was struck, it has the segment and the flag of the happening
-pub record IsShortOf (bus : Level) (v : View) (driven seen : Level) (h : Happening) (q : ShortBit) : Type 0 where
-  pub driven_is : q.driven ≡ driven
-  pub seen_is : q.seen ≡ seen
-  pub phase_is : q.phase ≡ v.phase
-  pub transmits_is : q.transmits ≡ v.transmits
-  pub counters_are : q.counters ≡ v.counters
-  pub struck : are_same seen bus ≡ false → (h.before.segment ≡ q.segment) × (h.before.flag ≡ q.flag)
-  pub no_start : IsNoStart q

@@ -1,43 +1,18 @@
 -- A node's numbers are read bit by bit.
 use Rattle.std.proofs.Common.{◌≡◌, ℕ, ◌<◌, ◌≤◌, suc, Bool, true, false, Some, None, List, [], ◌∷◌, ◌++◌, length}
-use Rattle.std.proofs.Common.{refl, sym, ap, ◌∙◌, subst, arith, append-nil, append_assoc}
+use Rattle.std.proofs.Common.{refl, sym, ap, ◌∙◌, subst, arith}
 use Rattle.std.proofs.lemmas.List.{length-append}
 use Rattle.sja_link.specs.declared.entry.Entry.{Entry}
 use Rattle.sja_replay.specs.declared.happening.Happening.{Happening}
-use Rattle.sja_replay.specs.declared.replay.Replay.{Replay}
+use Rattle.sja_replay.specs.Coming.{HasCome, left_in}
 use Rattle.sja_replay.specs.Happened.{Happened}
 use Rattle.sja_replay.specs.Replaying.{left_of, IsAt, GoesOn}
+use Rattle.sja_replay.proofs.Coming.{came_on, came_all}
 use Rattle.sja_wave.specs.declared.meter.Meter.{Meter}
 use Rattle.sja_wave.specs.Views.{view_in}
-use Rattle.sja_wave.specs.Inside.Meters.{gauges_of, CameTo, HasCome, HasRead, IsReading, left_in}
-use Rattle.sja_wave.specs.Inside.Meters.{ReadMore, ReadsOn, ReadFurther, IsFinishing, ReadAll, ReadsAll}
+use Rattle.sja_wave.specs.Inside.Meters.{gauges_of, IsReading}
+use Rattle.sja_wave.specs.Inside.Meters.{ReadsOn, IsFinishing, ReadsAll}
 use Rattle.sja_wave.proofs.ViewsIn.{view_front, view_next, view_after, view_past}
-
--- ---- the happenings of a journal
-
-pub came_first : (j : List Entry) (r : Replay) → IsAt r [] → left_of r ≡ j → CameTo j r []
-came_first j r at left = record {
-  before = [];
-  at = at;
-  leads = λ more x. (let P : List Entry → Type 0 = λ l. Happened [] l more in subst P left x);
-}
-
-came_on : (j : List Entry) (old new : Replay) (h : Happening) (hs : List Happening) → CameTo j old hs →
-    ((before : List Entry) → IsAt old before → GoesOn old new before (h ∷ [])) → CameTo j new (hs ++ h ∷ [])
-came_on j old new h hs c goes =
-    let g = goes c.before c.at in record {
-      before = g.now;
-      at = g.at;
-      leads = λ more x.
-          (let P : List Happening → Type 0 = λ l. Happened [] j l in
-          subst P (sym (append_assoc hs (h ∷ []) more)) (c.leads (h ∷ more) (g.leads more x)));
-    }
-
-came_all : (j : List Entry) (r : Replay) (hs : List Happening) → CameTo j r hs →
-    ((before : List Entry) → IsAt r before → Happened before (left_of r) []) → Happened [] j hs
-came_all j r hs c none =
-    let P : List Happening → Type 0 = λ l. Happened [] j l in
-    subst P (append-nil hs) (c.leads [] (none c.before c.at))
 
 -- ---- a meter goes on
 

@@ -1,12 +1,12 @@
 -- The text of all bits so far.
-use Rattle.std.proofs.Common.{◌≡◌, ℕ, ◌≤◌, suc, List, [], ◌∷◌, ◌++◌, length, refl, sym, ap, ◌∙◌, subst, arith}
+use Rattle.std.proofs.Common.{◌≡◌, ℕ, suc, List, [], ◌++◌, length, sym, ap, ◌∙◌, subst, arith}
 use Rattle.std.proofs.Common.{append-nil, append_assoc}
 use Rattle.std.proofs.lemmas.Slice.Zip.{AllZip-long}
 use Rattle.lemmas.specs.Related.{EachRelated}
 use Rattle.lemmas.proofs.Related.{each_refl, each_trans}
 use Rattle.sja_log.specs.Log.{NodeValue, RunValue}
 use Rattle.sja_wave.specs.declared.probe.Probe.{Probe}
-use Rattle.sja_wave.specs.Stories.{NodeStory, IsStory, nodes_of}
+use Rattle.sja_wave.specs.Stories.{NodeStory, IsStory}
 use Rattle.sja_wave.specs.WaveText.{time_line, timed, declarations, first_values, changes_after, changes_to}
 use Rattle.sja_wave.specs.WaveText.{changes_of, IsWave}
 use Rattle.sja_wave.specs.Inside.Changes.{all_values, all_changes}
@@ -25,28 +25,44 @@ gone_first first probes text at = record {
   text_is = λ stories same. sym (append-nil text);
 }
 
--- the changes of one bit more, for whatever comes of the parts
-more_is : (k : ℕ) (news : List Probe) (stories parts : List NodeStory) → EachRelated (IsAtBit (suc k)) news parts →
-    EachRelated (IsSameTo (suc k)) parts stories → all_changes news ≡ changes_after k stories
-more_is k news stories parts at same = changes_are k news stories (all_show (suc k) news parts stories at same)
+-- one bit more: whatever stories come of the parts, the text before begins them, and these are the bit's changes
+record OneMore (k : ℕ) (first : List NodeStory) (news : List Probe) (start old : List ℕ) : Type 0 where
+  parts : List NodeStory
+  at : EachRelated (IsAtBit (suc k)) news parts
+  same : EachRelated (IsSameTo 0) first parts
+  begins : (stories : List NodeStory) → EachRelated (IsSameTo (suc k)) parts stories →
+      old ≡ start ++ changes_to k stories
+  changes : (stories : List NodeStory) → EachRelated (IsSameTo (suc k)) parts stories →
+      all_changes news ≡ changes_after k stories
+
+one_more : (k : ℕ) (first : List NodeStory) (olds news : List Probe) (start old : List ℕ) →
+    HaveGone k first olds start old → EachRelated GoesOn olds news → OneMore k first news start old
+one_more k first olds news start old gone on =
+    let all = all_on k olds news gone.parts gone.at on in record {
+      parts = all.stories;
+      at = all.at;
+      same = each_trans (IsSameTo 0) (same_trans 0) first gone.parts all.stories gone.same
+          (all_less 0 k gone.parts all.stories (omega arith) all.same);
+      begins = λ stories same.
+          gone.text_is stories (each_trans (IsSameTo k) (same_trans k) gone.parts all.stories stories all.same
+          (all_less k (suc k) all.stories stories (omega arith) same));
+      changes = λ stories same. changes_are k news stories (all_show (suc k) news all.stories stories all.at same);
+    }
 
 pub gone_more : (k n : ℕ) (first : List NodeStory) (olds news : List Probe) (start old new : List ℕ) → n ≡ suc k →
     HaveGone k first olds start old → EachRelated GoesOn olds news → new ≡ old ++ timed n (all_changes news) →
     HaveGone n first news start new
 gone_more k n first olds news start old new number gone on wrote =
-    let all = all_on k olds news gone.parts gone.at on in
+    let one = one_more k first olds news start old gone on in
     let P : ℕ → Type 0 = λ m. HaveGone m first news start new in
     subst P (sym number) (record {
-      parts = all.stories;
-      at = all.at;
-      same = each_trans (IsSameTo 0) (same_trans 0) first gone.parts all.stories gone.same
-          (all_less 0 k gone.parts all.stories (omega arith) all.same);
+      parts = one.parts;
+      at = one.at;
+      same = one.same;
       text_is = λ stories same.
           (wrote ∙ ap (λ (m : ℕ). old ++ timed m (all_changes news)) number
-          ∙ ap (λ l. old ++ timed (suc k) l) (more_is k news stories all.stories all.at same)
-          ∙ ap (λ t. t ++ timed (suc k) (changes_after k stories))
-          (gone.text_is stories (each_trans (IsSameTo k) (same_trans k) gone.parts all.stories stories all.same
-          (all_less k (suc k) all.stories stories (omega arith) same)))
+          ∙ ap (λ l. old ++ timed (suc k) l) (one.changes stories same)
+          ∙ ap (λ t. t ++ timed (suc k) (changes_after k stories)) (one.begins stories same)
           ∙ append_assoc start (changes_to k stories) (timed (suc k) (changes_after k stories)));
     })
 
@@ -69,19 +85,16 @@ pub gone_end : (k bits n : ℕ) (first : List NodeStory) (olds news : List Probe
     bits ≡ suc k → n ≡ bits → HaveGone k first olds start old → EachRelated GoesOn olds news →
     new ≡ old ++ (time_line n ++ all_changes news) → HaveEnded bits first news start new
 gone_end k bits n first olds news start old new number same_number gone on wrote =
-    let all = all_on k olds news gone.parts gone.at on in
+    let one = one_more k first olds news start old gone on in
     let P : ℕ → Type 0 = λ m. HaveEnded m first news start new in
     subst P (sym number) (record {
-      parts = all.stories;
-      at = all.at;
-      same = each_trans (IsSameTo 0) (same_trans 0) first gone.parts all.stories gone.same
-          (all_less 0 k gone.parts all.stories (omega arith) all.same);
+      parts = one.parts;
+      at = one.at;
+      same = one.same;
       text_is = λ stories same.
           (wrote ∙ ap (λ (m : ℕ). old ++ (time_line m ++ all_changes news)) (same_number ∙ number)
-          ∙ ap (λ l. old ++ (time_line (suc k) ++ l)) (more_is k news stories all.stories all.at same)
-          ∙ ap (λ t. t ++ (time_line (suc k) ++ changes_after k stories))
-          (gone.text_is stories (each_trans (IsSameTo k) (same_trans k) gone.parts all.stories stories all.same
-          (all_less k (suc k) all.stories stories (omega arith) same)))
+          ∙ ap (λ l. old ++ (time_line (suc k) ++ l)) (one.changes stories same)
+          ∙ ap (λ t. t ++ (time_line (suc k) ++ changes_after k stories)) (one.begins stories same)
           ∙ append_assoc start (changes_to k stories) (time_line (suc k) ++ changes_after k stories)
           ∙ ap (λ t. start ++ t)
           (sym (append_assoc (changes_to k stories) (time_line (suc k)) (changes_after k stories))));

@@ -4,9 +4,8 @@ use Rattle.std.proofs.lemmas.List.{append_cancel_left}
 use Rattle.can_bits.specs.declared.level.Level.{Level}
 use Rattle.can_node.specs.declared.bit_events.BitEvents.{BitEvents}
 use Rattle.can_node.specs.Context.{ContextValue, is_transmitter}
-use Rattle.can_node.specs.Driving.{Drives}
 use Rattle.can_node.specs.Events.{Step, events_of}
-use Rattle.can_node.specs.NextBit.{now_in, open_bits, DrivesIn}
+use Rattle.can_node.specs.NextBit.{now_in, open_bits}
 use Rattle.can_node.specs.Stands.{closed_by, entries_of}
 use Rattle.can_node.proofs.OneCut.CutOnce.{cut_once}
 use Rattle.sja_link.specs.NodeWords.{NodeBit, NodeEntry, NodeTook, NodeWentOff, FinishedPiece, IsCut, none_yet, counted}
@@ -18,18 +17,6 @@ use Rattle.sja_replay.proofs.Cuts.{same_now, same_place, same_bits}
 use Rattle.sja_replay.proofs.Once.BusOff.{went_once}
 use Rattle.sja_replay.proofs.Once.Events.{events_alike, finish_alike}
 use Rattle.sja_replay.proofs.Once.Views.{view_once}
-
--- what is driven by one cut is driven by another
-pub drives_by : (entries : List NodeEntry) (found others : List FinishedPiece) (h : IsCut entries found)
-    (k : IsCut entries others) (x : Level) → DrivesIn h x → DrivesIn k x
-drives_by entries found others h k x a =
-    let now = same_now entries found others h k in
-    let place = same_place entries found others h k in
-    let bits = same_bits entries found others h k in
-    let c : Drives (now_in k) h.place (open_bits h) x = rw now at a in
-    let d : Drives (now_in k) k.place (open_bits h) x = rw place at c in
-    let e : Drives (now_in k) k.place (open_bits k) x = rw bits at d in
-    e
 
 -- the role by cuts of two records that are one
 pub role_same : (entries again : List NodeEntry) (found others : List FinishedPiece) (h : IsCut entries found)

@@ -18,11 +18,12 @@ use Rattle.sja_replay.specs.Happened.IsUntold.{misdriven, misfits, uncounted}
 use Rattle.sja_replay.specs.Happened.Happened.{over, between, bit, refused, untold}
 use Rattle.sja_replay.specs.Happening.{Brings}
 use Rattle.sja_replay.specs.Taking.{last_part}
-use Rattle.sja_replay.proofs.Once.Bits.{AreAlike, brings_once, drives_by}
+use Rattle.sja_replay.proofs.Cuts.{drives_by}
+use Rattle.sja_replay.proofs.Once.Bits.{AreAlike, brings_once}
 
 -- ---- what a bit brought
 
-judges_once : (p rest : List Entry) (f g : Fate) (a b : List Entry) → Judges p rest f a → Judges p rest g b →
+pub judges_once : (p rest : List Entry) (f g : Fate) (a b : List Entry) → Judges p rest f a → Judges p rest g b →
     (f ≡ g) × (a ≡ b)
 judges_once p (StoredEntry m ∷ more) f g a b h k = (h.0 ∙ sym k.0, h.1 ∙ sym k.1)
 judges_once p (OverrunEntry m ∷ more) f g a b h k = (h.0 ∙ sym k.0, h.1 ∙ sym k.1)

@@ -20,7 +20,7 @@ use Rattle.sja_link.specs.Free.{free_of}
 use Rattle.sja_link.specs.LookingBack.{ends_in_abort}
 use Rattle.sja_link.specs.Judged.{Judged, judged_at, judged_in}
 use Rattle.sja_link.specs.Parts.{in_part, part}
-use Rattle.sja_link.specs.Places.{JournalPlace, past, past_all, place_of, placed_from}
+use Rattle.sja_link.specs.Places.{JournalPlace, past, place_of, placed_from}
 use Rattle.sja_link.specs.Records.{told_at, record_of}
 use Rattle.sja_link.specs.Verdicts.{HasVerdicts, IsAccepted, IsOn, IsDue, filter_of}
 use Rattle.sja_link.proofs.JournalEntries.Entering.{all_rise, place_push, record_counted}
@@ -35,47 +35,17 @@ use Rattle.sja_replay.specs.declared.fate.Fate.TheVariants.{Stored, Overrun, Sto
 use Rattle.sja_replay.specs.declared.happening.Happening.{Happening}
 use Rattle.sja_replay.specs.Closing.{Judges, HasFate, Closes, off_if}
 use Rattle.sja_replay.specs.Happened.{Happened}
-use Rattle.sja_replay.specs.Happened.IsUntold.{misdriven, misfits, uncounted}
-use Rattle.sja_replay.specs.Happened.Happened.{between, bit, refused, untold}
+use Rattle.sja_replay.specs.Happened.Happened.{bit}
 use Rattle.sja_replay.specs.Happening.{Brings, bit_of}
 use Rattle.sja_replay.specs.Taking.{last_part}
 use Rattle.sja_replay.proofs.Once.Bits.{Tells, tells, events_once, role_same}
-use Rattle.sja_replay.proofs.Once.Lists.{closes_once}
 use Rattle.sja_serial.proofs.OneBit.BitAsked.{place_bit}
 use Rattle.sja_told.specs.Quiet.{IsQuiet}
 use Rattle.sja_told.proofs.Driven.Records.{a_bit_is_driven}
 use Rattle.sja_told.proofs.Told.SomeViews.{view_there}
-use Rattle.sja_told.proofs.Told.Parts.{of_part_at, each_part, record_both}
+use Rattle.sja_replay.proofs.Parts.{of_part_at, each_part, record_both, place_both}
+use Rattle.sja_replay.proofs.PastBits.{bit_on}
 use Rattle.sja_told.proofs.Told.Receptions.{partner_of, received_there}
-
--- ---- going on in a list of happenings
-
--- past a bit that can be told
-pub bit_on : (j : List Entry) (driven seen : Level) (rest brought left : List Entry) (hs : List Happening) →
-    Happened j (Bit driven seen ∷ rest) hs → (place_of j).bits + 1 < 2 ^ 32 →
-    ((found : List FinishedPiece) (cut : IsCut (record_of j) found) → DrivesIn cut driven) →
-    ((h : Happening) → Brings j driven seen h → (fate : Option Fate)
-    × Closes (last_part (j ++ Bit driven seen ∷ [])) h.events rest fate brought left) →
-    (h : Happening) × (more : List Happening) × (hs ≡ h ∷ more) × Brings j driven seen h
-    × Closes (last_part (j ++ Bit driven seen ∷ [])) h.events rest h.fate brought left
-    × Happened ((j ++ Bit driven seen ∷ []) ++ brought) left more
-bit_on j driven seen rest brought left hs (between t x) few drives closes = absurd t.takes
-bit_on j driven seen rest brought left hs (refused never other) few drives closes = absurd (other driven seen refl)
-bit_on j driven seen rest brought left hs (untold (misdriven {found = found} cut never)) few drives closes =
-    absurd (never (drives found cut))
-bit_on j driven seen rest brought left hs (untold (misfits h brings never)) few drives closes =
-    let c = closes h brings in absurd (never c.0 brought left c.1)
-bit_on j driven seen rest brought left hs (untold (uncounted many)) few drives closes =
-    absurd (omega (arith, few, many))
-bit_on j driven seen rest brought left hs (bit {brought = a} {left = l} {h = h} {hs = more} less brings others x)
-    few drives closes =
-    let i : List Entry = j ++ Bit driven seen ∷ [] in
-    let c = closes h brings in
-    let one = closes_once (last_part i) h.events rest h.fate c.0 a brought l left others c.1 in
-    let P : Option Fate → Type 0 = λ f. Closes (last_part i) h.events rest f brought left in
-    let Q : List Entry → Type 0 = λ b. Happened (i ++ b) left more in
-    let R : List Entry → Type 0 = λ b. Happened (i ++ a) b more in
-    (h, more, refl, brings, subst P (sym one.0) c.1, subst Q one.1 (subst R one.2 x))
 
 -- ---- the entries that a bit brings
 
@@ -92,7 +62,8 @@ stops_quiet p (StoredEntry m ∷ rest) q = absurd q
 stops_quiet p (OverrunEntry m ∷ rest) q = absurd q
 stops_quiet p (Off ∷ rest) q = absurd q
 
-stops_off : (p rest : List Entry) (off : Bool) → IsQuiet rest → Judges p (off_as off ++ rest) Stopped []
+-- a frame with no verdict behind it was stopped
+pub stops_off : (p rest : List Entry) (off : Bool) → IsQuiet rest → Judges p (off_as off ++ rest) Stopped []
 stops_off p rest true q = (refl, refl)
 stops_off p rest false q = stops_quiet p rest q
 
@@ -166,15 +137,6 @@ tells_turn changed j k driven seen b turn t =
           ∙ role_same (record_of k) (record_of j ++ entries_of (bit_of driven seen) turn.events) t.says.found pieces
           t.says.cut w (sym same);
     }
-
--- ---- the place of a longer journal
-
-past_both : (p : JournalPlace) (xs ys : List Entry) → past_all p (xs ++ ys) ≡ past_all (past_all p xs) ys
-past_both p [] ys = refl
-past_both p (x ∷ xs) ys = past_both (past p x) xs ys
-
-pub place_both : (j rest : List Entry) → place_of (j ++ rest) ≡ past_all (place_of j) rest
-place_both j rest = past_both _ j rest
 
 -- ---- a bit of a journal
 

@@ -42,7 +42,7 @@ use Rattle.sja_told.proofs.Ports.{port_bit, asked_bit}
 use Rattle.sja_told.specs.Quiet.{IsQuiet}
 use Rattle.sja_told.proofs.Told.Bits.{behind, split, past_bit, with_more}
 use Rattle.sja_told.proofs.Told.Items.{start_resets, send_away, abort_changes}
-use Rattle.sja_told.proofs.Told.Parts.{each_part}
+use Rattle.sja_replay.proofs.Parts.{each_part}
 use Rattle.sja_told.specs.Stored.{AllStored}
 use Rattle.sja_told.proofs.Told.Stores.{stored_none, stored_other, stored_bit}
 

@@ -1,6 +1,7 @@
 -- Each message that a node of a run stored has its line in the trace.
 use Rattle.std.proofs.Common.{◌≡◌, ◌<◌, ◌^◌, ℕ, List, [], ◌∷◌, ◌++◌, arith}
 use Rattle.std.specs.Prelude.{slice_index_or, length}
+use Rattle.std.proofs.lemmas.Option.{slice_get_within}
 use Rattle.sja_link.specs.declared.entry.Entry.{Entry}
 use Rattle.sja_link.specs.declared.entry.Entry.TheVariants.{Stored as StoredEntry}
 use Rattle.sja_link.specs.Places.{place_of}
@@ -11,9 +12,10 @@ use Rattle.sja_replay.specs.declared.happening.Happening.{Happening}
 use Rattle.sja_replay.specs.Happened.{Happened}
 use Rattle.sja_trace.specs.TraceText.{IsTrace}
 use Rattle.sja_told.specs.Stored.{AllStored}
-use Rattle.sja_told.specs.StoredLines.{IsToldStored}
+use Rattle.sja_trace.specs.StoredLines.{IsToldStored}
 use Rattle.sja_told.proofs.Told.AllRuns.{bits_told, stores_told}
-use Rattle.sja_told.proofs.Told.Lines.{story_at, stored_line, get_within}
+use Rattle.sja_trace.proofs.LogStories.{story_split}
+use Rattle.sja_trace.proofs.StoredLines.{stored_line}
 
 -- of a log in whose journal of a node each bit is told, with each message that was stored
 module _ (plan : PlanValue) (log : RunValue) (trace : List ℕ) (told : IsTrace plan log trace) (k : ℕ) (d : NodeValue)
@@ -25,12 +27,12 @@ module _ (plan : PlanValue) (log : RunValue) (trace : List ℕ) (told : IsTrace 
       ((hs : List Happening) → Happened [] journal hs → AllStored journal hs) → (before after : List Entry)
       (m : List ℕ) → journal ≡ before ++ StoredEntry m ∷ after → IsToldStored trace k (place_of before).bits m
   stored_lines bits stores before after m is =
-      let at = story_at plan 0 k log.nodes told.stories d told.are less in
+      let at = story_split plan 0 k log.nodes told.stories d told.are less in
       let hs = at.story.bits in
       let x = at.is.bits_are in
       let s = stores hs x before after m is in
       let n = bits hs x in
-      let within = get_within hs s.bit s.happening s.there in record {
+      let within = slice_get_within hs s.bit s.happening s.there in record {
         bit = s.bit;
         count = s.count;
         frame = s.frame;

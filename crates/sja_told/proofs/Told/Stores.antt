@@ -1,10 +1,11 @@
 -- The messages that were stored in a journal, beside the happenings that told them.
 use Rattle.std.proofs.Common.{◌≡◌, inl, inr, ℕ, suc, Bool, true, false, Option, Some, None, List, [], ◌∷◌, ◌++◌, length}
-use Rattle.std.proofs.Common.{refl, sym, ap, ◌∙◌, subst, arith, append_assoc, append-nil, zero}
-use Rattle.std.specs.Prelude.{slice_get}
+use Rattle.std.proofs.Common.{refl, sym, ap, ◌∙◌, subst, arith, append_assoc, append-nil}
+use Rattle.std.proofs.lemmas.Option.{slice_get_within}
 use Rattle.std.proofs.lemmas.List.{same_from_push}
 use Rattle.lemmas.proofs.Lists.{last_of}
 use Rattle.can_bits.specs.declared.level.Level.{Level}
+use Rattle.can_node.proofs.Contending.FieldLevels.{get-append_left, get-append_right}
 use Rattle.can_node.proofs.OneCut.Entries.{some_not_none}
 use Rattle.sja_link.specs.declared.entry.Entry.{Entry}
 use Rattle.sja_link.specs.declared.entry.Entry.TheVariants.{Bit, Stored as StoredEntry}
@@ -20,24 +21,13 @@ use Rattle.sja_told.proofs.Told.Bits.{StoresIn}
 
 -- ---- with more happenings
 
-get_left : (xs ys : List Happening) (i : ℕ) (x : Happening) → slice_get xs i ≡ Some x → slice_get (xs ++ ys) i ≡ Some x
-get_left [] ys i x e = let no : None ≡ Some x = e in absurd cc
-get_left (y ∷ xs) ys zero x e = e
-get_left (y ∷ xs) ys (suc i) x e = get_left xs ys i x e
-
-get_last : (xs : List Happening) (x : Happening) (i : ℕ) → i ≡ length xs → slice_get (xs ++ x ∷ []) i ≡ Some x
-get_last [] x zero e = refl
-get_last [] x (suc i) e = absurd (omega (arith, e))
-get_last (y ∷ xs) x zero e = absurd (omega (arith, e))
-get_last (y ∷ xs) x (suc i) e = get_last xs x i (omega (arith, e))
-
 stored_on : (j : List Entry) (done more : List Happening) → AllStored j done → AllStored j (done ++ more)
 stored_on j done more h before after m e =
     let s = h before after m e in record {
       bit = s.bit;
       count = s.count;
       happening = s.happening;
-      there = get_left done more s.bit s.happening s.there;
+      there = get-append_left done more s.bit (slice_get_within done s.bit s.happening s.there) ∙ s.there;
       frame = s.frame;
       received = s.received;
       bytes = s.bytes;
@@ -95,7 +85,7 @@ stored_bit j k driven seen b done h count stores old =
           bit = (place_of j).bits;
           count = bits;
           happening = h;
-          there = get_last done h (place_of j).bits (sym count);
+          there = get-append_right done (h ∷ []) (length done) (place_of j).bits 0 refl (omega (arith, count));
           frame = s.0;
           received = s.1;
           bytes = same m x e ∙ s.2;

@@ -11,7 +11,8 @@ use Rattle.sja_replay.specs.declared.view.View.{View}
 use Rattle.sja_replay.specs.Short.{IsInShort}
 use Rattle.sja_trace.specs.declared.node_bits.NodeBits.{NodeBits}
 use Rattle.sja_trace.specs.BitEvents.{counters_after}
-use Rattle.sja_trace.specs.Telling.{HasCome, HaveSame, at_hand}
+use Rattle.sja_replay.specs.Coming.{HasCome}
+use Rattle.sja_trace.specs.Telling.{HaveSame, at_hand}
 use Rattle.sja_trace.specs.TraceText.{driven_in, event_line}
 
 -- ---- what is known of a bit in short, or of the one at hand where it isn't in short

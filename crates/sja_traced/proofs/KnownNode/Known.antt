@@ -1,13 +1,13 @@
 -- A view by a cut of a journal's record shows what is known of the node there, and so does one after a bit.
 use Rattle.std.proofs.Common.{◌≡◌, ◌∷◌, ◌++◌, not, ℕ, Bool, true, false, Option, Some, None, List, [], inl, inr, refl}
-use Rattle.std.proofs.Common.{sym, ap, ◌∙◌, subst, append-nil, append_assoc}
+use Rattle.std.proofs.Common.{sym, ap, ◌∙◌, append-nil, append_assoc}
 use Rattle.can_bits.specs.declared.level.Level.{Level}
 use Rattle.can_node.specs.declared.bit_events.BitEvents.{BitEvents}
 use Rattle.can_node.specs.declared.request.Request.{Request}
-use Rattle.can_node.specs.Context.{ContextValue, is_held, is_transmitter}
+use Rattle.can_node.specs.Context.{ContextValue, is_held}
 use Rattle.can_node.specs.Stands.{entries_of}
 use Rattle.can_node.proofs.Machine.Changes.{KeepsRequest}
-use Rattle.sja_link.specs.NodeWords.{NodeEntry, NodeTook, FinishedPiece, IsCut}
+use Rattle.sja_link.specs.NodeWords.{NodeTook}
 use Rattle.sja_link.specs.declared.entry.Entry.{Entry}
 use Rattle.sja_link.specs.declared.entry.Entry.TheVariants.{Bit, Stored as StoredEntry, Overrun as OverrunEntry, Off}
 use Rattle.sja_link.specs.declared.verdict.Verdict.{Verdict}
@@ -21,43 +21,13 @@ use Rattle.sja_replay.specs.declared.happening.Happening.{Happening}
 use Rattle.sja_replay.specs.declared.view.View.{View}
 use Rattle.sja_replay.specs.Happening.{Brings, bit_of}
 use Rattle.sja_link.specs.LookingBack.{ends_in_abort}
-use Rattle.sja_replay.specs.Viewing.{IsView}
-use Rattle.sja_replay.proofs.Cuts.{same_now, same_phase}
 use Rattle.sja_replay.proofs.Once.Bits.{tells, events_once}
 use Rattle.sja_replay.proofs.Places.{ends_push}
 use Rattle.sja_told.proofs.Told.Bits.{tells_turn}
 use Rattle.sja_wire.specs.OneBit.{HasBit, judged_as, off_as}
 use Rattle.sja_wire.specs.Telling.{IsTurn}
-use Rattle.sja_traced.specs.Knowing.{Knows}
-
--- ---- a view, and what is known
-
--- two views are one but for segment and flag
-pub record LookAlike (v w : View) : Type 0 where
-  pub phase : v.phase ≡ w.phase
-  pub transmits : v.transmits ≡ w.transmits
-  pub counters : v.counters ≡ w.counters
-  pub held : v.held ≡ w.held
-
-look_alike : (j : List Entry) (v w : View) → Knows j v → (found : List FinishedPiece)
-    (cut : IsCut (record_of j) found) → IsView cut w → LookAlike w v
-look_alike j v w h found cut is =
-    let now = same_now (record_of j) found h.found cut h.cut in
-    let tec = is.tec ∙ ap (λ (c : ContextValue). c.tec) now ∙ sym h.tec in
-    let rec = is.rec ∙ ap (λ (c : ContextValue). c.rec) now ∙ sym h.rec in
-    let off = is.off ∙ ap (λ (c : ContextValue). c.off) now ∙ sym h.off in record {
-      phase = is.phase ∙ same_phase (record_of j) found h.found cut h.cut ∙ sym h.phase;
-      transmits = is.transmits ∙ ap (λ (c : ContextValue). is_transmitter c.role) now ∙ sym h.transmits;
-      counters = λ i. record { tec = tec i; rec = rec i; off = off i };
-      held = is.held ∙ ap (λ (c : ContextValue). c.held) now ∙ sym h.held;
-    }
-
--- by a cut of the same record
-pub shows_known : (j : List Entry) (v w : View) → Knows j v → (entries : List NodeEntry) → entries ≡ record_of j →
-    (found : List FinishedPiece) (cut : IsCut entries found) → IsView cut w → LookAlike w v
-shows_known j v w h entries same found cut is =
-    let P : List NodeEntry → Type 0 = λ l. (c : IsCut l found) → IsView c w → LookAlike w v in
-    subst P (sym same) (λ c d. look_alike j v w h found c d) cut is
+use Rattle.sja_replay.specs.Knowing.{Knows}
+use Rattle.sja_replay.proofs.Knowing.{LookAlike, shows_known}
 
 -- ---- a journal with a bit more
 

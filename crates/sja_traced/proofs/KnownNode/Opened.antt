@@ -18,10 +18,10 @@ use Rattle.sja_link.specs.LookingBack.{ends_in_abort}
 use Rattle.sja_replay.specs.Viewing.{IsView}
 use Rattle.sja_replay.proofs.Places.{ends_push}
 use Rattle.sja_wire.specs.OneBit.{abort_as}
-use Rattle.sja_traced.specs.Knowing.{Knows, held_before}
-use Rattle.sja_traced.specs.KnownBits.{KnowsPlace}
+use Rattle.sja_replay.specs.Knowing.{Knows, KnowsPlace}
+use Rattle.sja_traced.specs.KnownBits.{held_before}
 use Rattle.sja_traced.proofs.KnownNode.AbortPlaces.{abort_phase, abort_segment}
-use Rattle.sja_traced.proofs.KnownNode.Known.{LookAlike, shows_known}
+use Rattle.sja_replay.proofs.Knowing.{LookAlike, shows_known}
 
 -- ---- an abort keeps all but the request and its mark
 

@@ -11,8 +11,7 @@ use Rattle.can_node.specs.Context.{ContextValue, is_held}
 use Rattle.can_node.specs.NextBit.{now_in}
 use Rattle.sja_link.specs.NodeWords.{FinishedPiece, received, IsCut}
 use Rattle.sja_link.specs.declared.entry.Entry.{Entry}
-use Rattle.sja_link.specs.declared.entry.Entry.TheVariants.{Bit, Up as Item, Abort, Stored as StoredEntry}
-use Rattle.sja_link.specs.declared.entry.Entry.TheVariants.{Overrun as OverrunEntry, Off}
+use Rattle.sja_link.specs.declared.entry.Entry.TheVariants.{Bit}
 use Rattle.sja_link.specs.declared.verdict.Verdict.{Verdict}
 use Rattle.sja_link.specs.declared.verdict.Verdict.TheVariants.{Stored as ToStore, Overrun as ToLose}
 use Rattle.sja_link.specs.Free.{free_of}
@@ -24,41 +23,27 @@ use Rattle.sja_replay.specs.declared.fate.Fate.{Fate}
 use Rattle.sja_replay.specs.declared.fate.Fate.TheVariants.{Overrun, Stopped}
 use Rattle.sja_replay.specs.declared.happening.Happening.{Happening}
 use Rattle.sja_replay.specs.declared.view.View.{View}
-use Rattle.sja_replay.specs.Closing.{Judges, HasFate}
+use Rattle.sja_replay.specs.Closing.{HasFate}
 use Rattle.sja_replay.specs.Taking.{last_part}
 use Rattle.sja_link.specs.LookingBack.{ends_in_abort}
 use Rattle.sja_replay.specs.Viewing.{IsView}
 use Rattle.sja_replay.proofs.Cuts.{same_now}
+use Rattle.sja_replay.proofs.Once.Lists.{judges_once}
 use Rattle.sja_replay.proofs.Once.Views.{view_once}
 use Rattle.sja_serial.proofs.OneBit.BitAsked.{place_abort}
 use Rattle.sja_told.specs.Quiet.{IsQuiet}
-use Rattle.sja_told.proofs.Told.Bits.{IsRightFor, right}
+use Rattle.sja_told.proofs.Told.Bits.{IsRightFor, right, stops_off}
 use Rattle.sja_wire.specs.OneBit.{HasBit, abort_as, judged_as, off_as}
 use Rattle.sja_wire.specs.Telling.{IsTurn}
-use Rattle.sja_traced.specs.Knowing.{Knows, AreAll, SaysAlike}
-use Rattle.sja_traced.specs.KnownBits.{kind_of, fate_by, KnowsPlace, IsOfTurn}
-use Rattle.sja_traced.proofs.KnownNode.Known.{LookAlike, turn_events, record_after, split_bit, bit_quiet}
-use Rattle.sja_traced.proofs.KnownNode.Shown.{placed_once}
+use Rattle.sja_replay.specs.Knowing.{Knows, AreAll, KnowsPlace}
+use Rattle.sja_trace.specs.SayingAlike.{SaysAlike}
+use Rattle.sja_traced.specs.KnownBits.{kind_of, fate_by, IsOfTurn}
+use Rattle.sja_replay.proofs.Knowing.{LookAlike, knows_by, placed_once}
+use Rattle.sja_traced.proofs.KnownNode.Known.{turn_events, record_after, split_bit, bit_quiet}
 use Rattle.sja_traced.proofs.KnownNode.Opened.{opened_view, unchanged_alike, aborted_alike, opened_ends, opened_place}
-use Rattle.sja_traced.proofs.InJournal.Reached.{Reached, reached}
-use Rattle.sja_traced.proofs.KnownNode.Shown.{knows_by}
+use Rattle.sja_replay.proofs.Reached.{Reached, reached}
 
 -- ---- the fate of a frame, by its verdict
-
-stopped_quiet : (p rest : List Entry) (fate : Fate) (verdict : List Entry) → IsQuiet rest →
-    Judges p rest fate verdict → fate ≡ Stopped
-stopped_quiet p [] fate verdict q judges = judges.0
-stopped_quiet p (Bit driven seen ∷ rest) fate verdict q judges = judges.0
-stopped_quiet p (Item u ∷ rest) fate verdict q judges = judges.0
-stopped_quiet p (Abort ∷ rest) fate verdict q judges = judges.0
-stopped_quiet p (StoredEntry m ∷ rest) fate verdict q judges = absurd q
-stopped_quiet p (OverrunEntry m ∷ rest) fate verdict q judges = absurd q
-stopped_quiet p (Off ∷ rest) fate verdict q judges = absurd q
-
-stopped_off : (p rest : List Entry) (off : Bool) (fate : Fate) (verdict : List Entry) → IsQuiet rest →
-    Judges p (off_as off ++ rest) fate verdict → fate ≡ Stopped
-stopped_off p rest true fate verdict q judges = judges.0
-stopped_off p rest false fate verdict q judges = stopped_quiet p rest fate verdict q judges
 
 lost_as : (f : FrameValue) (m : List ℕ) (free : ℕ) →
     (frame : FrameValue) × (Some f ≡ Some frame) × (m ≡ message frame) →
@@ -72,7 +57,7 @@ fate_is : (p rest : List Entry) (off : Bool) (f : Option FrameValue) (v : Option
     HasFate p f (judged_as v ++ (off_as off ++ rest)) fate verdict → fate ≡ fate_by f (kind_of v) (free_of p)
 fate_is p rest off None v fate verdict q r has = has.0
 fate_is p rest off (Some f) None fate verdict q r has =
-    has.1 ∙ ap Some (stopped_off p rest off has.0 verdict q has.2)
+    has.1 ∙ ap Some (judges_once p (off_as off ++ rest) has.0 Stopped verdict [] has.2 (stops_off p rest off q)).0
 fate_is p rest off (Some f) (Some (ToStore, m)) fate verdict q r has = has.1 ∙ ap Some (has.2.0)
 fate_is p rest off (Some f) (Some (ToLose, m)) fate verdict q r has =
     has.1 ∙ ap Some (has.2.0 ∙ lost_as f m (free_of p) r.1)

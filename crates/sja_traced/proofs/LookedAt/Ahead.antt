@@ -13,12 +13,11 @@ use Rattle.sja_replay.specs.declared.view.View.{View}
 use Rattle.sja_replay.specs.Viewing.{Shows}
 use Rattle.sja_script.specs.Striking.{Strikes}
 use Rattle.sja_serial.specs.Serial.{SerialValue}
-use Rattle.sja_traced.proofs.KnownNode.Shown.{shown_known, shown_place}
+use Rattle.sja_replay.proofs.Knowing.{shown_known, shown_place}
 use Rattle.sja_traced.proofs.LookedAt.SoFar.{SoFar, so_far_all}
 use Rattle.sja_traced.specs.Inside.Bits.{HasLooked}
 use Rattle.sja_traced.specs.Inside.Tracing.{AreTold, IsKnown, IsTraced, done_at}
-use Rattle.sja_traced.specs.Knowing.{Knows}
-use Rattle.sja_traced.specs.KnownBits.{KnowsPlace}
+use Rattle.sja_replay.specs.Knowing.{Knows, KnowsPlace}
 use Rattle.sja_traced.specs.declared.node_trace.NodeTrace.{NodeTrace}
 use Rattle.sja_traced.specs.declared.run_trace.RunTrace.{RunTrace}
 use Rattle.sja_wire.specs.Wire.{journal_at}

@@ -57,25 +57,25 @@ none_noted nodes k old new p count past =
 
 -- ---- one more is taken
 
-pub taken_run : (init was now : SerialValue) (node : ℕ) → was ≡ record init { turns = was.turns } →
-    now ≡ record was { turns = slice_set was.turns node None } → now ≡ record init { turns = now.turns }
-taken_run init was now node run taken =
-    let turns : List (Option BusTurn) = slice_set was.turns node None in
+-- of a run of a plan the turns of so many nodes are taken, and nothing else changed
+pub record HaveTaken (plan : PlanValue) (init now : SerialValue) (k : ℕ) : Type 0 where
+  pub run : now ≡ record init { turns = now.turns }
+  pub stands : IsRunOf plan now
+  pub turns : SoFar IsTaken k init.turns now.turns
+
+pub taken_next : (plan : PlanValue) (init was now : SerialValue) (k : ℕ) → HaveTaken plan init was k →
+    now ≡ record was { turns = slice_set was.turns k None } → k < length init.turns →
+    HaveTaken plan init now (k + 1)
+taken_next plan init was now k h taken less =
+    let turns : List (Option BusTurn) = slice_set was.turns k None in
     let with = λ (r : SerialValue). run_now r.bus r.drivers r.ports turns r.links r.bits in
     let put = λ (t : List (Option BusTurn)). run_now init.bus init.drivers init.ports t init.links init.bits in
-    taken ∙ ap with run ∙ ap put (sym (ap (λ (r : SerialValue). r.turns) taken))
-
-pub taken_stands : (plan : PlanValue) (was now : SerialValue) (node : ℕ) →
-    now ≡ record was { turns = slice_set was.turns node None } → IsRunOf plan was → IsRunOf plan now
-taken_stands plan was now node taken stands =
-    subst (λ (r : SerialValue). IsRunOf plan r) (sym taken) (run_taken plan was node stands)
-
-pub taken_turns : (init : List (Option BusTurn)) (was now : SerialValue) (node : ℕ) →
-    now ≡ record was { turns = slice_set was.turns node None } → SoFar IsTaken node init was.turns →
-    node < length init → SoFar IsTaken (node + 1) init now.turns
-taken_turns init was now node taken p less =
-    subst (λ (t : List (Option BusTurn)). SoFar IsTaken (node + 1) init t)
-    (sym (ap (λ (r : SerialValue). r.turns) taken)) (so_far_next IsTaken node init was.turns None None p less refl)
+    let are = sym (ap (λ (r : SerialValue). r.turns) taken) in record {
+      run = taken ∙ ap with h.run ∙ ap put are;
+      stands = subst (λ (r : SerialValue). IsRunOf plan r) (sym taken) (run_taken plan was k h.stands);
+      turns = subst (λ (t : List (Option BusTurn)). SoFar IsTaken (k + 1) init.turns t) are
+          (so_far_next IsTaken k init.turns was.turns None None h.turns less refl);
+    }
 
 pub taken_all : (init was : SerialValue) (nodes k : ℕ) → was ≡ record init { turns = was.turns } →
     SoFar IsTaken k init.turns was.turns → length init.turns ≡ nodes → nodes ≤ k →

@@ -1,31 +1,19 @@
 -- The bytes that were free with a bit whose message found no room are those that are free after it.
 use Rattle.std.proofs.Common.{◌≡◌, ◌∷◌, ◌++◌, ℕ, suc, Bool, true, false, Option, Some, None, List, [], refl, sym}
 use Rattle.std.proofs.Common.{subst, arith, append-nil}
-use Rattle.lemmas.proofs.Gathered.{total_push}
 use Rattle.can_bits.specs.declared.level.Level.{Level}
 use Rattle.sja_link.specs.declared.entry.Entry.{Entry}
 use Rattle.sja_link.specs.declared.entry.Entry.TheVariants.{Bit, Overrun as OverrunEntry, Off}
 use Rattle.sja_link.specs.declared.verdict.Verdict.{Verdict}
 use Rattle.sja_link.specs.declared.verdict.Verdict.TheVariants.{Stored as ToStore, Overrun as ToLose}
-use Rattle.sja_link.specs.Free.{credit_in, bytes_in, free_of, IsFree}
+use Rattle.sja_link.specs.Free.{free_of, IsFree}
 use Rattle.sja_link.specs.Parts.{part}
-use Rattle.sja_link.specs.Places.{past, place_of}
 use Rattle.sja_replay.specs.Taking.{last_part}
-use Rattle.sja_replay.proofs.Places.{last_part_on}
+use Rattle.sja_replay.proofs.Places.{free_before}
 use Rattle.sja_wire.specs.Links.{stops_of}
 use Rattle.sja_wire.specs.OneBit.{HasBit, judged_as, off_as}
 use Rattle.sja_wire.specs.Opening.{IsOpen}
 use Rattle.sja_wire.specs.Telling.{is_overrun}
-
--- an entry that stores nothing and gives nothing back leaves them
-free_before : (j : List Entry) (e : Entry) (n : ℕ) → (past (place_of j) e).activation ≡ (place_of j).activation →
-    bytes_in e ≡ 0 → credit_in e ≡ 0 → IsFree (last_part (j ++ e ∷ [])) n → IsFree (last_part j) n
-free_before j e n same stores gives h =
-    let p = last_part j in
-    let now = subst (λ (l : List Entry). IsFree l n) (last_part_on j e same) h in
-    let b = total_push bytes_in p e in
-    let c = total_push credit_in p e in
-    omega (arith, now, b, c, stores, gives)
 
 before_off : (j : List Entry) (off : Bool) (n : ℕ) → IsFree (last_part (j ++ off_as off)) n → IsFree (last_part j) n
 before_off j true n h = free_before j Off n refl refl refl h

@@ -1,16 +1,16 @@
 -- A node that was struck in the last bits is known with its place.
 use Rattle.std.proofs.Common.{◌≡◌, ℕ, ◌+◌, ◌<◌, ◌≤◌, true, false, length}
-use Rattle.std.proofs.Common.{refl, sym, ap, ◌∙◌, subst, arith, inl, inr}
+use Rattle.std.proofs.Common.{sym, ap, ◌∙◌, subst, arith, inl, inr}
 use Rattle.std.specs.Prelude.{slice_index_or}
 use Rattle.std.proofs.lemmas.Bool.{cases_lt}
 use Rattle.can_bits.specs.declared.level.Level.{Level}
-use Rattle.can_bits.specs.declared.level.Level.TheVariants.{Dominant, Recessive}
 use Rattle.can_bits.specs.Places.{are_same}
 use Rattle.sja_plan.specs.Plan.{PlanValue}
 use Rattle.sja_replay.specs.declared.view.View.{View}
 use Rattle.sja_script.specs.Striking.{Strikes}
 use Rattle.sja_serial.specs.Serial.{SerialValue}
-use Rattle.sja_traced.specs.KnownBits.{KnowsPlace}
+use Rattle.sja_replay.specs.Knowing.{KnowsPlace}
+use Rattle.sja_trace.proofs.SaidMute.{is_same}
 use Rattle.sja_traced.specs.Inside.Bits.{HasRun}
 use Rattle.sja_traced.specs.declared.node_trace.NodeTrace.{NodeTrace}
 use Rattle.sja_traced.specs.declared.run_trace.RunTrace.{RunTrace}
@@ -18,12 +18,8 @@ use Rattle.sja_traced.proofs.RunOfBits.Chain.{none_run}
 use Rattle.sja_traced.proofs.RunOfBits.Rounds.{after, stands_at, bits_after, inside, seen, t}
 use Rattle.sja_wire.specs.Wire.{wired, journal_at}
 
-same_level : (l : Level) → are_same l l ≡ true
-same_level Dominant = refl
-same_level Recessive = refl
-
 not_other : (l m : Level) → l ≡ m → are_same l m ≡ false → ⊥
-not_other l m same other = absurd (never (sym other ∙ ap (λ x. are_same l x) (sym same) ∙ same_level l))
+not_other l m same other = absurd (never (sym other ∙ ap (λ x. are_same l x) (sym same) ∙ is_same l))
   where
     never : false ≡ true → ⊥
     never e = cc

@@ -25,14 +25,14 @@ use Rattle.sja_replay.specs.Viewing.{IsView}
 use Rattle.sja_replay.specs.declared.happening.Happening.{Happening}
 use Rattle.sja_replay.specs.declared.view.View.{View}
 use Rattle.sja_serial.specs.Serial.{SerialValue}
-use Rattle.sja_traced.specs.Knowing.{Knows}
-use Rattle.sja_traced.specs.KnownBits.{KnowsPlace, IsOfTurn, fate_by, kind_of}
+use Rattle.sja_replay.specs.Knowing.{Knows, KnowsPlace}
+use Rattle.sja_traced.specs.KnownBits.{IsOfTurn, fate_by, kind_of}
 use Rattle.sja_traced.specs.Inside.Bits.{IsMuteAt, told_of, view_after}
 use Rattle.sja_traced.specs.Inside.Bits.IsMuteAt.{in_short, in_full}
 use Rattle.sja_traced.specs.Inside.Tracing.{BeginsAs, IsKnown}
 use Rattle.sja_traced.specs.declared.node_trace.NodeTrace.{NodeTrace}
 use Rattle.sja_traced.proofs.Writing.AfterBit.{HandAt}
-use Rattle.sja_traced.proofs.InJournal.Endings.{same_end}
+use Rattle.sja_traced.proofs.LookedAt.Endings.{same_end}
 use Rattle.sja_traced.proofs.SayingAlike.Hands.{right_mute, right_told}
 use Rattle.sja_traced.proofs.KnownNode.Known.{bit_quiet}
 use Rattle.sja_traced.proofs.KnownNode.Muted.{knows_on, mute}

@@ -1,5 +1,5 @@
 -- A bit at hand of a node: of it the same is said as of the happening of the whole journal.
-use Rattle.std.proofs.Common.{◌≡◌, ◌&&◌, ◌||◌, not, ℕ, Bool, true, false, Option, Some, None, List, [], ◌++◌}
+use Rattle.std.proofs.Common.{◌≡◌, ◌&&◌, ◌||◌, not, ℕ, true, false, Option, Some, None, List, [], ◌++◌}
 use Rattle.std.proofs.Common.{refl, sym, ap, ap₂, ◌∙◌, subst}
 use Rattle.std.specs.Prelude.{◌==◌, slice_get}
 use Rattle.can_bits.specs.declared.level.Level.{Level}
@@ -17,15 +17,16 @@ use Rattle.sja_trace.specs.BitEvents.{all_said, counters_text, bit_said}
 use Rattle.sja_trace.specs.Events.{is_flag, has_fault, said_if}
 use Rattle.sja_trace.specs.TraceText.{bit_line}
 use Rattle.sja_trace.specs.Inside.Hands.{driven_of, hand_line, happening_of}
-use Rattle.sja_traced.specs.Knowing.{Knows, SaysAlike}
-use Rattle.sja_traced.specs.KnownBits.{KnowsPlace, IsShortOf}
+use Rattle.sja_replay.specs.Knowing.{Knows, KnowsPlace}
+use Rattle.sja_trace.specs.SayingAlike.{SaysAlike, IsShortOf}
 use Rattle.sja_traced.specs.Inside.Bits.{IsMuteAt, short_of, still_of, view_after}
 use Rattle.sja_traced.specs.Inside.Bits.IsMuteAt.{in_short, in_full}
 use Rattle.sja_traced.specs.Inside.Tracing.{CountSame}
 use Rattle.sja_traced.specs.declared.node_trace.NodeTrace.{NodeTrace}
 use Rattle.sja_traced.proofs.KnownNode.Muted.{Muted}
-use Rattle.sja_traced.proofs.SayingAlike.SaidAlike.{told_same}
-use Rattle.sja_traced.proofs.SayingAlike.SaidMute.{mute_same}
+use Rattle.sja_trace.proofs.SaidAlike.{told_same}
+use Rattle.sja_trace.proofs.SaidMute.{mute_same}
+use Rattle.sja_trace.proofs.Shorts.{no_flag as not_again}
 use Rattle.sja_traced.proofs.KnownNode.ToldBits.{ToldBit}
 
 -- ---- what is said of the bit at hand
@@ -61,11 +62,7 @@ pub record IsRight (bus : Level) (b : ℕ) (hand : NodeTrace) (after : List Entr
   pub calm : ends_in_abort after ≡ false
 
 no_flag : (p q : Phase) → q ≡ p → is_flag q && (not (is_flag p) || false) ≡ false
-no_flag p q same = ap (λ x. is_flag x && (not (is_flag p) || false)) same ∙ neither (is_flag p)
-  where
-    neither : (b : Bool) → (b && (not b || false)) ≡ false
-    neither true = refl
-    neither false = refl
+no_flag p q same = ap (λ x. is_flag x && (not (is_flag p) || false)) same ∙ not_again (is_flag p)
 
 module _ (bus : Level) (b : ℕ) (v : View) (driven seen : Level) (j k : List Entry) (hs : List Happening)
     (m : Muted v driven seen j k hs) (struck : are_same seen bus ≡ false → KnowsPlace j v) where

@@ -12,7 +12,7 @@ use Rattle.sja_link.specs.declared.entry.Entry.TheVariants.{Up as Item}
 use Rattle.sja_link.specs.declared.up.Up.{Up}
 use Rattle.sja_link.specs.declared.up.Up.TheVariants.{Start, Credit, Send, Stop}
 use Rattle.sja_link.specs.Places.{JournalPlace, past, past_all, place_of}
-use Rattle.sja_told.proofs.Told.Bits.{place_both}
+use Rattle.sja_replay.proofs.Parts.{place_both}
 use Rattle.sja_link.specs.LookingBack.{ends_in_abort}
 use Rattle.sja_plan.specs.Plan.{PlanValue}
 use Rattle.sja_replay.specs.declared.view.View.{View}
@@ -21,7 +21,7 @@ use Rattle.sja_serial.specs.Serial.{SerialValue, StandsAt, TakesTurn}
 use Rattle.sja_trace.specs.TraceText.{counters_left, lines_to}
 use Rattle.sja_traced.proofs.WholeRun.Beginning.{begins_before_turn, turn_did}
 use Rattle.sja_traced.specs.Inside.Tracing.{AreTold, IsKnown, IsTraced, done_at}
-use Rattle.sja_traced.specs.Knowing.{Knows}
+use Rattle.sja_replay.specs.Knowing.{Knows}
 use Rattle.sja_traced.specs.declared.node_trace.NodeTrace.{NodeTrace}
 use Rattle.sja_traced.specs.declared.run_trace.RunTrace.{RunTrace}
 use Rattle.sja_wire.specs.OneBit.{entries_of_items}

@@ -1,5 +1,5 @@
 -- The log of a run that is traced begins as the run goes, and its trace is the text.
-use Rattle.std.proofs.Common.{◌≡◌, ℕ, suc, ◌+◌, ◌<◌, ◌^◌, true, List, [], ◌∷◌, ◌++◌, length, drop, refl}
+use Rattle.std.proofs.Common.{◌≡◌, ℕ, ◌+◌, ◌<◌, ◌^◌, true, List, [], ◌++◌, length, drop}
 use Rattle.std.proofs.Common.{slice_index_or}
 use Rattle.std.proofs.Common.{string_bytes, sym, ap, ap₂, ◌∙◌, arith, append-nil}
 use Rattle.std.proofs.lemmas.List.{get_or-map}
@@ -10,8 +10,6 @@ use Rattle.sja_log.specs.declared.end.End.{End}
 use Rattle.sja_log.specs.Log.{NodeValue, RunValue}
 use Rattle.sja_log.specs.Runs.{IsSerialRun}
 use Rattle.sja_plan.specs.Plan.{PlanValue, steps_at}
-use Rattle.sja_replay.specs.declared.happening.Happening.{Happening}
-use Rattle.sja_replay.specs.Happened.{Happened}
 use Rattle.sja_report.specs.ReportLines.{numbered}
 use Rattle.sja_script.specs.declared.done.Done.{Done}
 use Rattle.sja_script.specs.declared.step.Step.{Step}
@@ -22,24 +20,13 @@ use Rattle.sja_trace.specs.TraceText.{NodeStory, AreStories, IsTrace, late_steps
 use Rattle.sja_trace.specs.TraceText.{steps_from, stories_text}
 use Rattle.sja_traced.proofs.WholeRun.Drivers.{done_of_deeds, some_of}
 use Rattle.sja_traced.proofs.Writing.LateLines.{late_lines}
-use Rattle.sja_traced.proofs.Writing.Numbered.{numbered_alike, story_at, stories_count}
+use Rattle.sja_trace.proofs.Numbered.{numbered_alike}
+use Rattle.sja_trace.proofs.LogStories.{story_at, stories_count, stories_there}
 use Rattle.sja_traced.specs.Inside.Bits.{late_text}
 use Rattle.sja_traced.specs.Inside.Tracing.{BeginsAs, HasStories, IsTraced, done_at}
 use Rattle.sja_traced.specs.declared.node_trace.NodeTrace.{NodeTrace}
 use Rattle.sja_traced.specs.declared.run_trace.RunTrace.{RunTrace}
 use Rattle.sja_wire.specs.Wire.{journal_at}
-
--- where each journal has happenings there are stories
-stories_there : (k : ℕ) (plan : PlanValue) (nodes : List NodeValue) → ((i : ℕ) (n : NodeValue) → i < length nodes →
-    (hs : List Happening) × Happened [] (slice_index_or nodes i n).journal hs) →
-    (stories : List NodeStory) × AreStories k plan nodes stories
-stories_there k plan [] told = ([], tt)
-stories_there k plan (n ∷ nodes) told =
-    let one = told 0 n (omega arith) in
-    let rest = stories_there (k + 1) plan nodes (λ i m less. told (suc i) m (omega (arith, less))) in (
-      record { steps = steps_at plan k; done = n.done; bits = one.0 } ∷ rest.0,
-      (record { steps_are = refl; done_are = refl; bits_are = one.1 }, rest.1),
-    )
 
 module _ (plan : PlanValue) (r : SerialValue) (deeds : List (List Deed)) (end : End) (log : RunValue)
     (stands : StandsAt plan r deeds) (l : IsLogOf plan r deeds end log) (few : log.bits < 2 ^ 32) where

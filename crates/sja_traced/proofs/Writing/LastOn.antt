@@ -22,8 +22,8 @@ use Rattle.sja_serial.specs.Serial.{SerialValue}
 use Rattle.sja_serial.specs.UntilTold.{KeepsTurn, NotesTurn}
 use Rattle.sja_trace.specs.TraceText.{counters_left, lines_to}
 use Rattle.sja_trace.specs.Inside.Hands.{driven_of}
-use Rattle.sja_traced.specs.Knowing.{Knows}
-use Rattle.sja_traced.specs.KnownBits.{KnowsPlace, kind_of}
+use Rattle.sja_replay.specs.Knowing.{Knows, KnowsPlace}
+use Rattle.sja_traced.specs.KnownBits.{kind_of}
 use Rattle.sja_traced.specs.Inside.Bits.{AreAtLast, HasRun, IsAtLast, PutsBit}
 use Rattle.sja_traced.specs.Inside.Bits.IsAtLast.{untold, told}
 use Rattle.sja_traced.specs.Inside.Bits.{levels_driven, node_text, told_of}
@@ -34,7 +34,7 @@ use Rattle.sja_traced.proofs.Writing.AfterBit.{HandAt, known_after, text_after}
 use Rattle.sja_traced.proofs.SayingAlike.AtHand.{hand_mute, hand_told}
 use Rattle.sja_traced.proofs.RunOfBits.Chain.{all_run}
 use Rattle.sja_traced.proofs.RunOfBits.NodeBits.{opened_is}
-use Rattle.sja_traced.proofs.Writing.Numbered.{map_is}
+use Rattle.sja_trace.proofs.Numbered.{map_is}
 use Rattle.sja_traced.proofs.RunOfBits.OneBitOn.{same_done}
 use Rattle.sja_traced.proofs.Receiving.OpenThen.{fate_then}
 use Rattle.sja_traced.specs.Inside.Rounds.{RoundAt}

@@ -1,23 +1,13 @@
 -- The lines of the steps that come after the last bit: those that weren't told yet.
-use Rattle.std.proofs.Common.{◌≡◌, ℕ, ◌+◌, ◌<◌, zero, suc, true, List, [], ◌∷◌, ◌++◌, length, drop}
-use Rattle.std.proofs.Common.{refl, sym, ap, ap₂, ◌∙◌, arith}
-use Rattle.std.specs.Prelude.{Bool, slice_index_or}
-use Rattle.std.proofs.lemmas.Bool.{le-leb, lt-leb}
+use Rattle.std.proofs.Common.{◌≡◌, ℕ, ◌+◌, zero, suc, true, List, [], ◌∷◌, ◌++◌, drop}
+use Rattle.std.proofs.Common.{refl, sym, ap, ◌∙◌, arith}
+use Rattle.std.specs.Prelude.{Bool}
+use Rattle.std.proofs.lemmas.Bool.{lt-leb}
 use Rattle.sja_script.specs.declared.done.Done.{Done}
 use Rattle.sja_script.specs.declared.step.Step.{Step}
 use Rattle.sja_trace.specs.TraceText.{line_where, step_line, steps_due, steps_from}
+use Rattle.sja_trace.proofs.StepsDue.{all_due}
 use Rattle.sja_traced.specs.Inside.Tracing.{AreTold}
-
--- all of them are due
-all_due : (bits node n : ℕ) (steps : List Step) (done : List Done) →
-    ((i : ℕ) (d : Done) → i < length done → (slice_index_or done i d).bits ≡ bits) →
-    steps_from node n steps done ≡ steps_due true bits node n steps done
-all_due bits node n [] done now = refl
-all_due bits node n (s ∷ steps) [] now = refl
-all_due bits node n (s ∷ steps) (d ∷ done) now =
-    let here = now 0 d (omega arith) in
-    ap₂ (λ (b : Bool) l. line_where b (step_line node n s d) ++ l) (sym (le-leb bits d.bits (omega (arith, here))))
-    (all_due bits node (n + 1) steps done (λ i e less. now (suc i) e (omega (arith, less))))
 
 -- those before the place aren't
 pub late_lines : (bits node place n : ℕ) (steps : List Step) (done : List Done) → AreTold bits place done →

@@ -24,10 +24,11 @@ use Rattle.sja_traced.proofs.Writing.AfterBit.{event_said}
 use Rattle.sja_traced.proofs.SayingAlike.AtHand.{some_node}
 use Rattle.sja_traced.proofs.KnownNode.Known.{bit_quiet}
 use Rattle.sja_traced.proofs.KnownNode.Muted.{Muted, knows_on, mute}
-use Rattle.sja_traced.proofs.Writing.Numbered.{map_is, numbered_none, stories_count, story_at}
+use Rattle.sja_trace.proofs.LogStories.{stories_count, story_at}
+use Rattle.sja_trace.proofs.Numbered.{map_is, numbered_none}
 use Rattle.sja_traced.proofs.RunOfBits.OneBitOn.{begins_before, same_done}
 use Rattle.sja_traced.proofs.RunOfBits.Rounds.{after, bit, driven, none_noted, passed, seen, stands_at}
-use Rattle.sja_traced.proofs.SayingAlike.SaidMute.{mute_none}
+use Rattle.sja_trace.proofs.SaidMute.{mute_none}
 use Rattle.sja_traced.proofs.Writing.StepLines.{no_new_lines}
 use Rattle.sja_traced.proofs.RunOfBits.Struck.{seen_of_several}
 use Rattle.sja_wire.specs.OneBit.{abort_as}

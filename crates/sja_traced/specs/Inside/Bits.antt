@@ -30,8 +30,8 @@ use Rattle.sja_trace.specs.BitEvents.{have_same}
 use Rattle.sja_trace.specs.Events.{is_dominant, is_frame}
 use Rattle.sja_trace.specs.TraceText.{steps_from}
 use Rattle.sja_trace.specs.Inside.Hands.{driven_of, hand_line}
-use Rattle.sja_traced.specs.Knowing.{held_before}
-use Rattle.sja_traced.specs.KnownBits.{KnowsPlace, fate_by}
+use Rattle.sja_replay.specs.Knowing.{KnowsPlace}
+use Rattle.sja_traced.specs.KnownBits.{held_before, fate_by}
 use Rattle.sja_traced.specs.declared.node_trace.NodeTrace.{NodeTrace}
 use Rattle.sja_traced.specs.declared.run_trace.RunTrace.{RunTrace}
 use Rattle.sja_traced.specs.Inside.Tracing.{IsTraced, done_at}

@@ -14,7 +14,7 @@ use Rattle.sja_script.specs.declared.done.Done.{Done}
 use Rattle.sja_serial.specs.Serial.{SerialValue}
 use Rattle.sja_told.specs.Quiet.{IsQuiet}
 use Rattle.sja_trace.specs.TraceText.{NodeStory, AreStories, counters_left, lines_to}
-use Rattle.sja_traced.specs.Knowing.{Knows, AreAll}
+use Rattle.sja_replay.specs.Knowing.{Knows, AreAll}
 use Rattle.sja_traced.specs.declared.node_trace.NodeTrace.{NodeTrace}
 use Rattle.sja_traced.specs.declared.run_trace.RunTrace.{RunTrace}
 use Rattle.sja_wire.specs.Lawful.{IsBusRun}

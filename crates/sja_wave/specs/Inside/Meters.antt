@@ -1,11 +1,10 @@
 -- The numbers of a node, read bit by bit.
-use Rattle.std.specs.Prelude.{◌≡◌, ◌<◌, ◌≤◌, ℕ, suc, Bool, true, false, Option, List, [], ◌++◌, length}
+use Rattle.std.specs.Prelude.{◌≡◌, ◌<◌, ◌≤◌, ℕ, suc, false, Option, List, [], length}
 use Rattle.sja_link.specs.declared.entry.Entry.{Entry}
 use Rattle.sja_replay.specs.declared.happening.Happening.{Happening}
-use Rattle.sja_replay.specs.declared.replay.Replay.{Replay}
 use Rattle.sja_replay.specs.declared.view.View.{View}
+use Rattle.sja_replay.specs.Coming.{HasCome, left_in}
 use Rattle.sja_replay.specs.Happened.{Happened}
-use Rattle.sja_replay.specs.Replaying.{left_of, IsAt}
 use Rattle.sja_wave.specs.declared.gauges.Gauges.{Gauges}
 use Rattle.sja_wave.specs.declared.meter.Meter.{Meter}
 use Rattle.sja_wave.specs.Views.{view_in, tec_of, rec_of, phase_of}
@@ -14,17 +13,6 @@ abbrev pub gauges_of : Option View → Gauges
 gauges_of v = record { tec = tec_of v; rec = rec_of v; phase = phase_of v }
 
 -- ---- how far a journal was read
-
--- the replay of this journal has told these bits, and whatever is told of the rest, comes behind them
-pub record CameTo (journal : List Entry) (r : Replay) (hs : List Happening) : Type 0 where
-  pub before : List Entry
-  pub at : IsAt r before
-  pub leads : (more : List Happening) → Happened before (left_of r) more → Happened [] journal (hs ++ more)
-
--- so many bits were told; or the replay is over, and has told all there are
-abbrev pub HasCome : Bool → List Entry → ℕ → Replay → List Happening → Type 0
-HasCome false journal bits r hs = CameTo journal r hs × (length hs ≡ bits)
-HasCome true journal bits r hs = Happened [] journal hs × (length hs ≤ bits)
 
 -- the meter has gone past so many bits of a journal, of which these were told
 pub record HasRead (journal : List Entry) (bits : ℕ) (m : Meter) (hs : List Happening) : Type 0 where
@@ -37,11 +25,6 @@ pub record IsReading (m : Meter) : Type 0 where
   pub bits : ℕ
   pub told : List Happening
   pub has : HasRead journal bits m told
-
--- how much is left at most
-abbrev pub left_in : Bool → Replay → ℕ
-left_in true r = 0
-left_in false r = suc (length (left_of r))
 
 -- ---- it goes on
 

@@ -1,5 +1,5 @@
-use Rattle.std.proofs.Common.{◌≡◌, ◌+◌, ◌<◌, ◌^◌, false, refl, rules}
-use Rattle.sja_replay.proofs.Bits.{told_bit, untold_bit, misdriven_at}
+use Rattle.std.proofs.Common.{◌≡◌, ◌+◌, ◌<◌, ◌^◌, false, rules}
+use Rattle.sja_replay.proofs.Bits.{has_bit, told_bit, untold_bit, misdriven_at}
 use Rattle.sja_replay.proofs.replay.Replay.told_bit.Goals as goal
 
 -- src/replay.rt
@@ -18,15 +18,8 @@ returns-in_default-close-clause-brings c = rw c.end-in_default-close.ensures.non
     c.close.new.self before c.args.driven c.args.seen c.drive.result
     c.of-before.result c.sample-events.result c.of-after.result c.in_default-close.field-0 h c.drive.ensures
     (c.is_same.ensures.yes c.if-not-is_same.false) c.sample-events.ensures.samples c.of-before.ensures
-    c.of-after.ensures c.in_default-close.ensures (record {
-      bits = bits;
-      few = few;
-      aborted = refl;
-      off = refl;
-      free = refl;
-      ahead = refl;
-      entries = refl;
-    }))
+    c.of-after.ensures c.in_default-close.ensures
+    (has_bit c.args.self.now c.sample-events.new.self c.in-Some.bits _ bits few))
 
 pub returns-clause-brings : goal.returns-clause-brings
 returns-clause-brings c = λ before h.
@@ -35,12 +28,5 @@ returns-clause-brings c = λ before h.
     told_bit c.args.self.now _ c.close.new.self before c.args.driven c.args.seen c.drive.result
     c.of-before.result c.sample-events.result c.of-after.result c.in-Ok.fate h c.drive.ensures
     (c.is_same.ensures.yes c.if-not-is_same.false) c.sample-events.ensures.samples c.of-before.ensures
-    c.of-after.ensures c.in-Ok.ensures (record {
-      bits = bits;
-      few = few;
-      aborted = refl;
-      off = refl;
-      free = refl;
-      ahead = refl;
-      entries = refl;
-    })
+    c.of-after.ensures c.in-Ok.ensures
+    (has_bit c.args.self.now c.sample-events.new.self c.in-Some.bits _ bits few)

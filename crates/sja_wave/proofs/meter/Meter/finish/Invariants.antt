@@ -1,4 +1,5 @@
-use Rattle.sja_wave.specs.Inside.Meters.{left_in, IsFinishing}
+use Rattle.sja_replay.specs.Coming.{left_in}
+use Rattle.sja_wave.specs.Inside.Meters.{IsFinishing}
 use Rattle.sja_wave.proofs.meter.Meter.finish.Given as goal
 
 -- several bits more were read

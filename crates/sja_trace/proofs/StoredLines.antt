@@ -1,13 +1,13 @@
--- The line of a bit of a node in a trace.
-use Rattle.std.proofs.Common.{◌≡◌, ◌<◌, ◌+◌, inl, inr, ℕ, zero, suc, false, Some, None, List, [], ◌∷◌, ◌++◌, length}
+-- The line of a bit with which a node stored a frame stands in the trace.
+use Rattle.std.proofs.Common.{◌≡◌, ◌<◌, ◌+◌, inl, inr, ℕ, zero, suc, false, Some, List, [], ◌∷◌, ◌++◌, length}
 use Rattle.std.proofs.Common.{refl, sym, ap, ◌∙◌, subst, arith, append_assoc, append-nil}
-use Rattle.std.specs.Prelude.{codes, slice_get, slice_index_or}
+use Rattle.std.specs.Prelude.{codes, slice_get}
 use Rattle.std.proofs.lemmas.Bool.{cases_eq}
 use Rattle.can_bits.specs.declared.level.Level.{Level}
 use Rattle.can_frame.specs.Frame.{FrameValue}
 use Rattle.can_node.specs.declared.counters.Counters.{Counters}
 use Rattle.sja_log.specs.Log.{NodeValue}
-use Rattle.sja_plan.specs.Plan.{PlanValue, steps_at}
+use Rattle.sja_plan.specs.Plan.{PlanValue}
 use Rattle.sja_replay.specs.declared.fate.Fate.TheVariants.{Stored}
 use Rattle.sja_replay.specs.declared.happening.Happening.{Happening}
 use Rattle.sja_report.specs.ReportLines.{numbered}
@@ -16,8 +16,9 @@ use Rattle.sja_trace.specs.Events.{abort_said, start_said, strike_said, acknowle
 use Rattle.sja_trace.specs.Events.{fault_said, flag_said, reception_in, end_said}
 use Rattle.sja_trace.specs.TraceText.{behind, joined, told_line, bit_line, steps_due, event_line, node_lines, bus_in}
 use Rattle.sja_trace.specs.TraceText.{NodeStory, counters_left, bit_lines, lines_to, late_steps, stories_text}
-use Rattle.sja_trace.specs.TraceText.{IsStory, AreStories}
-use Rattle.sja_told.specs.StoredLines.{stored_text, HasStoredLine}
+use Rattle.sja_trace.specs.StoredLines.{stored_text, HasStoredLine}
+use Rattle.sja_trace.proofs.LogStories.{StoryAt}
+use Rattle.sja_trace.proofs.Numbered.{numbered_both}
 
 -- texts that stand somewhere in another one
 pub record Holds (whole part : List ℕ) : Type 0 where
@@ -91,46 +92,6 @@ said_stored bus left h f received fate =
 
 -- ---- among lines
 
-numbered_both : {A : Type 0} (f : ℕ → A → List ℕ) (n : ℕ) (xs ys : List A) →
-    numbered f n (xs ++ ys) ≡ numbered f n xs ++ numbered f (n + length xs) ys
-numbered_both f n [] ys = ap (λ m. numbered f m ys) (omega arith)
-numbered_both f n (x ∷ xs) ys =
-    ap (λ l. f n x ++ l) (numbered_both f (n + 1) xs ys
-    ∙ ap (λ m. numbered f (n + 1) xs ++ numbered f m ys) (omega arith))
-    ∙ sym (append_assoc (f n x) (numbered f (n + 1) xs) (numbered f (n + length (x ∷ xs)) ys))
-
--- the story of a node
-pub record StoryAt (plan : PlanValue) (n : NodeValue) (k m : ℕ) (stories : List NodeStory) : Type 0 where
-  pub before : List NodeStory
-  pub story : NodeStory
-  pub after : List NodeStory
-  pub whole : stories ≡ before ++ story ∷ after
-  pub count : length before ≡ k
-  pub is : IsStory (steps_at plan (m + k)) n story
-
-pub story_at : (plan : PlanValue) (m k : ℕ) (nodes : List NodeValue) (stories : List NodeStory) (d : NodeValue) →
-    AreStories m plan nodes stories → k < length nodes → StoryAt plan (slice_index_or nodes k d) k m stories
-story_at plan m k [] stories d are less = absurd (omega (arith, less))
-story_at plan m k (n ∷ nodes) [] d are less = absurd are
-story_at plan m zero (n ∷ nodes) (s ∷ stories) d are less = record {
-  before = [];
-  story = s;
-  after = stories;
-  whole = refl;
-  count = refl;
-  is = subst (λ x. IsStory (steps_at plan x) n s) (omega arith) are.0;
-}
-story_at plan m (suc k) (n ∷ nodes) (s ∷ stories) d are less =
-    let h = story_at plan (m + 1) k nodes stories d are.1 (omega (arith, less)) in
-    let c = h.count in record {
-      before = s ∷ h.before;
-      story = h.story;
-      after = h.after;
-      whole = ap (λ l. s ∷ l) h.whole;
-      count = omega (arith, c);
-      is = subst (λ x. IsStory (steps_at plan x) (slice_index_or nodes k d) h.story) (omega arith) h.is;
-    }
-
 node_holds : (bus : Level) (bit node : ℕ) (s : NodeStory) (h : Happening) (f : FrameValue) →
     slice_get s.bits bit ≡ Some h → h.events.received ≡ Some f → h.fate ≡ Some Stored →
     (told : List ℕ) × Holds told (stored_text f) × Holds (node_lines bus bit node s) (told_line bit node told)
@@ -193,8 +154,3 @@ stored_line plan n k stories bits bit trace at h f whole early there received fa
       after = all.after;
       whole = all.is ∙ ap (λ l. all.before ++ (told_line bit k l ++ all.after)) node.1.is;
     }
-
-pub get_within : (xs : List Happening) (i : ℕ) (x : Happening) → slice_get xs i ≡ Some x → i < length xs
-get_within [] i x e = let no : None ≡ Some x = e in absurd cc
-get_within (y ∷ xs) zero x e = omega arith
-get_within (y ∷ xs) (suc i) x e = let h = get_within xs i x e in omega (arith, h)

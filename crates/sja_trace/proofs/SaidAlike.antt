@@ -17,7 +17,7 @@ use Rattle.sja_trace.specs.Names.{flag_name, level_name}
 use Rattle.sja_trace.specs.Places.{where_text}
 use Rattle.sja_trace.specs.BitEvents.{begins_suspension, confinement_said, have_same, counters_text}
 use Rattle.sja_trace.specs.BitEvents.{all_said}
-use Rattle.sja_traced.specs.Knowing.{SaysAlike}
+use Rattle.sja_trace.specs.SayingAlike.{SaysAlike}
 
 -- ---- whether a frame begins
 

@@ -1,4 +1,4 @@
--- A journal ends with one bit alone.
+-- What stands before and behind the last bit of a journal: there is one such bit alone.
 use Rattle.std.proofs.Common.{◌≡◌, List, [], ◌∷◌, ◌++◌, refl, sym, ap, ap₂}
 use Rattle.std.proofs.Common.{subst}
 use Rattle.can_bits.specs.declared.level.Level.{Level}

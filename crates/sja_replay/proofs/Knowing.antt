@@ -1,5 +1,5 @@
 -- What a node shows that stands at a journal's record is known there, by every cut of the record.
-use Rattle.std.proofs.Common.{◌≡◌, List, refl, ap, ◌∙◌, subst}
+use Rattle.std.proofs.Common.{◌≡◌, List, refl, sym, ap, ◌∙◌, subst}
 use Rattle.can_node.specs.declared.node.Node.{Node}
 use Rattle.can_node.specs.Bits.{Bit}
 use Rattle.can_node.specs.Context.{ContextValue, is_transmitter}
@@ -14,8 +14,7 @@ use Rattle.sja_replay.specs.declared.view.View.{View}
 use Rattle.sja_replay.specs.Viewing.{IsView, Shows}
 use Rattle.sja_replay.proofs.Cuts.{same_now, same_place, same_bits, same_phase}
 use Rattle.sja_replay.proofs.Once.Views.{view_once}
-use Rattle.sja_traced.specs.Knowing.{Knows}
-use Rattle.sja_traced.specs.KnownBits.{KnowsPlace}
+use Rattle.sja_replay.specs.Knowing.{Knows, KnowsPlace}
 
 -- by one cut it is by another
 pub view_by : (entries : List NodeEntry) (found others : List FinishedPiece) (h : IsCut entries found)
@@ -68,6 +67,33 @@ knows_by j found cut w is = record {
 pub place_by : (j : List Entry) (found : List FinishedPiece) (cut : IsCut (record_of j) found) (w : View) →
     IsView cut w → KnowsPlace j w
 place_by j found cut w is others k = let by = view_by (record_of j) found others cut k w is in (by.segment, by.flag)
+
+-- two views are one but for segment and flag
+pub record LookAlike (v w : View) : Type 0 where
+  pub phase : v.phase ≡ w.phase
+  pub transmits : v.transmits ≡ w.transmits
+  pub counters : v.counters ≡ w.counters
+  pub held : v.held ≡ w.held
+
+look_alike : (j : List Entry) (v w : View) → Knows j v → (found : List FinishedPiece)
+    (cut : IsCut (record_of j) found) → IsView cut w → LookAlike w v
+look_alike j v w h found cut is =
+    let now = same_now (record_of j) found h.found cut h.cut in
+    let tec = is.tec ∙ ap (λ (c : ContextValue). c.tec) now ∙ sym h.tec in
+    let rec = is.rec ∙ ap (λ (c : ContextValue). c.rec) now ∙ sym h.rec in
+    let off = is.off ∙ ap (λ (c : ContextValue). c.off) now ∙ sym h.off in record {
+      phase = is.phase ∙ same_phase (record_of j) found h.found cut h.cut ∙ sym h.phase;
+      transmits = is.transmits ∙ ap (λ (c : ContextValue). is_transmitter c.role) now ∙ sym h.transmits;
+      counters = λ i. record { tec = tec i; rec = rec i; off = off i };
+      held = is.held ∙ ap (λ (c : ContextValue). c.held) now ∙ sym h.held;
+    }
+
+-- by a cut of the same record
+pub shows_known : (j : List Entry) (v w : View) → Knows j v → (entries : List NodeEntry) → entries ≡ record_of j →
+    (found : List FinishedPiece) (cut : IsCut entries found) → IsView cut w → LookAlike w v
+shows_known j v w h entries same found cut is =
+    let P : List NodeEntry → Type 0 = λ l. (c : IsCut l found) → IsView c w → LookAlike w v in
+    subst P (sym same) (λ c d. look_alike j v w h found c d) cut is
 
 -- of a node
 module _ (j : List Entry) (node : Node) (found : List FinishedPiece) (stands : StandsAt node (record_of j) found)

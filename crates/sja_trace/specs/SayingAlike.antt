@@ -1,36 +1,13 @@
--- What is known of a node between two bits, and of a bit of it (this project's own rule).
-use Rattle.std.specs.Prelude.{◌≡◌, Bool, true, false, Option, None, List, [], length}
-use Rattle.std.specs.Prelude.{if◌then◌else◌}
+-- Of which bits the same is said (this project's own rule).
+use Rattle.std.specs.Prelude.{◌≡◌, true, false, None}
 use Rattle.can_bits.specs.declared.level.Level.{Level}
 use Rattle.can_bits.specs.Places.{are_same}
-use Rattle.can_node.specs.declared.request.Request.{Request}
-use Rattle.can_node.specs.Context.{is_transmitter}
-use Rattle.can_node.specs.NextBit.{now_in, phase_in}
 use Rattle.can_node.specs.Stands.{nothing}
-use Rattle.sja_link.specs.NodeWords.{FinishedPiece, IsCut}
-use Rattle.sja_link.specs.declared.entry.Entry.{Entry}
-use Rattle.sja_link.specs.Places.{place_of}
-use Rattle.sja_link.specs.Records.{record_of}
 use Rattle.sja_replay.specs.declared.happening.Happening.{Happening}
+use Rattle.sja_replay.specs.declared.short_bit.ShortBit.{ShortBit}
 use Rattle.sja_replay.specs.declared.view.View.{View}
-use Rattle.sja_replay.specs.Happened.{Happened}
+use Rattle.sja_replay.specs.Short.{IsNoStart}
 use Rattle.sja_trace.specs.Events.{flag_begins}
-
--- at the end of this journal the node shows this of its next bit, but for the segment and the flag
-pub record Knows (j : List Entry) (v : View) : Type 0 where
-  pub found : List FinishedPiece
-  pub cut : IsCut (record_of j) found
-  pub phase : v.phase ≡ phase_in cut
-  pub transmits : v.transmits ≡ is_transmitter (now_in cut).role
-  pub tec : v.counters.tec ≡ (now_in cut).tec
-  pub rec : v.counters.rec ≡ (now_in cut).rec
-  pub off : v.counters.off ≡ (now_in cut).off
-  pub held : v.held ≡ (now_in cut).held
-
--- these are the happenings of the journal, one for each of its bits
-pub record AreAll (j : List Entry) (happenings : List Happening) : Type 0 where
-  pub are : Happened [] j happenings
-  pub count : length happenings ≡ (place_of j).bits
 
 -- a bit told nothing: its levels, and what the node showed before the bit and after it
 pub record IsMute (v : View) (driven seen : Level) (h : Happening) : Type 0 where
@@ -64,6 +41,13 @@ pub record SaysAlike (bus : Level) (h g : Happening) : Type 0 where
   pub struck : are_same h.seen bus ≡ false →
       (h.before.segment ≡ g.before.segment) × (h.before.flag ≡ g.before.flag)
 
--- the request that is held right before a bit, where an abort dropped it or not
-abbrev pub held_before : Bool → Option Request → Option Request
-held_before dropped held = if dropped then None else held
+-- the bit in short is one that told nothing, with these levels, before which this was known of the node; where the node
+-- was struck, it has the segment and the flag of the happening
+pub record IsShortOf (bus : Level) (v : View) (driven seen : Level) (h : Happening) (q : ShortBit) : Type 0 where
+  pub driven_is : q.driven ≡ driven
+  pub seen_is : q.seen ≡ seen
+  pub phase_is : q.phase ≡ v.phase
+  pub transmits_is : q.transmits ≡ v.transmits
+  pub counters_are : q.counters ≡ v.counters
+  pub struck : are_same seen bus ≡ false → (h.before.segment ≡ q.segment) × (h.before.flag ≡ q.flag)
+  pub no_start : IsNoStart q

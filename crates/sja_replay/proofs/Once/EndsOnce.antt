@@ -8,7 +8,7 @@ use Rattle.sja_link.specs.declared.verdict.Verdict.{Verdict}
 use Rattle.sja_link.specs.declared.verdict.Verdict.TheVariants.{Stored as ToStore, Overrun as ToLose}
 use Rattle.sja_link.specs.Verdicts.{entry_of}
 use Rattle.sja_link.specs.LookingBack.{EndsWith, IsJudgedAs, ends_in_abort, off_if}
-use Rattle.sja_traced.proofs.InJournal.LastBits.{AreNoBits, last_once}
+use Rattle.sja_replay.proofs.Once.LastBits.{AreNoBits, last_once}
 
 -- ---- what comes after the bit
 
@@ -36,7 +36,7 @@ judged_behind ToStore m false = record { verdict = refl; none = (tt, tt) }
 judged_behind ToLose m true = record { verdict = refl; none = (tt, (tt, tt)) }
 judged_behind ToLose m false = record { verdict = refl; none = (tt, tt) }
 
-behind : (v : Option Verdict) (judged : List Entry) (off : Bool) → IsJudgedAs v judged →
+pub behind : (v : Option Verdict) (judged : List Entry) (off : Bool) → IsJudgedAs v judged →
     IsBehind v (judged ++ off_if off)
 behind None judged off is =
     let P : List Entry → Type 0 = λ l. IsBehind None (l ++ off_if off) in subst P (sym is) (alone_behind off)
@@ -46,7 +46,7 @@ behind (Some v) judged off is =
 
 -- ---- the bit
 
-whole_is : (j : List Entry) (b : LastBit) (e : EndsWith j b) →
+pub whole_is : (j : List Entry) (b : LastBit) (e : EndsWith j b) →
     j ≡ e.before ++ Bit b.driven b.seen ∷ (e.judged ++ off_if e.off)
 whole_is j b e =
     let bit : List Entry = Bit b.driven b.seen ∷ [] in

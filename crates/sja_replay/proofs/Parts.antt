@@ -51,3 +51,12 @@ pub each_part : (P : List Entry → Entry → Type 0) (j rest : List Entry) (e :
 each_part P j rest e a h each =
     each_at P [] (part j a) (gathered (in_part entry_at a) (placed_from (past (place_of j) e) rest)) e
     (subst (λ l. EachAfter P [] l) (of_part_at entry_at j rest e a h) each)
+
+-- ---- the place of a longer journal
+
+past_both : (p : JournalPlace) (xs ys : List Entry) → past_all p (xs ++ ys) ≡ past_all (past_all p xs) ys
+past_both p [] ys = refl
+past_both p (x ∷ xs) ys = past_both (past p x) xs ys
+
+pub place_both : (j rest : List Entry) → place_of (j ++ rest) ≡ past_all (place_of j) rest
+place_both j rest = past_both _ j rest

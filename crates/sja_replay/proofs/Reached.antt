@@ -19,8 +19,8 @@ use Rattle.sja_replay.specs.Happened.Happened.{over, between, bit, refused, unto
 use Rattle.sja_replay.specs.Happening.{Brings}
 use Rattle.sja_replay.specs.Taking.{Takes, last_part}
 use Rattle.sja_replay.proofs.Closings.{brought_behind}
-use Rattle.sja_told.proofs.Told.Bits.{place_both}
-use Rattle.sja_traced.specs.Knowing.{AreAll}
+use Rattle.sja_replay.specs.Knowing.{AreAll}
+use Rattle.sja_replay.proofs.Parts.{place_both}
 
 -- ---- how many bits a journal has
 

@@ -1,11 +1,8 @@
--- Lines and levels of all nodes, node by node.
-use Rattle.std.proofs.Common.{◌≡◌, ℕ, ◌+◌, ◌<◌, zero, suc, List, [], ◌∷◌, ◌++◌, length, map, refl, ap, ap₂, subst}
-use Rattle.std.proofs.Common.{arith}
+-- Lines of all nodes, node by node, and what else is alike of each.
+use Rattle.std.proofs.Common.{◌≡◌, ℕ, ◌+◌, ◌<◌, suc, List, [], ◌∷◌, ◌++◌, length, map, refl, sym}
+use Rattle.std.proofs.Common.{ap, ap₂, ◌∙◌, arith, append_assoc}
 use Rattle.std.specs.Prelude.{slice_index_or}
-use Rattle.sja_log.specs.Log.{NodeValue}
-use Rattle.sja_plan.specs.Plan.{PlanValue, steps_at}
 use Rattle.sja_report.specs.ReportLines.{numbered}
-use Rattle.sja_trace.specs.TraceText.{NodeStory, AreStories, IsStory}
 
 -- lines that are alike node by node
 pub numbered_alike : {A B : Type 0} (f : ℕ → A → List ℕ) (g : ℕ → B → List ℕ) (n : ℕ) (xs : List A) (ys : List B) →
@@ -18,6 +15,15 @@ numbered_alike f g n (x ∷ xs) (y ∷ ys) count alike =
     ap₂ (λ l r. l ++ r) (alike 0 n x y (omega arith) (omega arith))
     (numbered_alike f g (n + 1) xs ys (omega (arith, count)) (λ k m a b less is. alike (suc k) m a b
     (omega (arith, less)) (omega (arith, is))))
+
+-- the lines of some and then of others
+pub numbered_both : {A : Type 0} (f : ℕ → A → List ℕ) (n : ℕ) (xs ys : List A) →
+    numbered f n (xs ++ ys) ≡ numbered f n xs ++ numbered f (n + length xs) ys
+numbered_both f n [] ys = ap (λ m. numbered f m ys) (omega arith)
+numbered_both f n (x ∷ xs) ys =
+    ap (λ l. f n x ++ l) (numbered_both f (n + 1) xs ys
+    ∙ ap (λ m. numbered f (n + 1) xs ++ numbered f m ys) (omega arith))
+    ∙ sym (append_assoc (f n x) (numbered f (n + 1) xs) (numbered f (n + length (x ∷ xs)) ys))
 
 -- no lines
 pub numbered_none : {A : Type 0} (f : ℕ → A → List ℕ) (n : ℕ) (xs : List A) →
@@ -37,25 +43,6 @@ map_alike f g (x ∷ xs) [] count alike = absurd (omega (arith, count))
 map_alike f g (x ∷ xs) (y ∷ ys) count alike =
     ap₂ (λ l r. l ∷ r) (alike 0 x y (omega arith))
     (map_alike f g xs ys (omega (arith, count)) (λ k a b less. alike (suc k) a b (omega (arith, less))))
-
--- ---- the stories of a log
-
-pub stories_count : (k : ℕ) (plan : PlanValue) (nodes : List NodeValue) (stories : List NodeStory) →
-    AreStories k plan nodes stories → length stories ≡ length nodes
-stories_count k plan [] [] are = refl
-stories_count k plan [] (s ∷ stories) are = absurd are
-stories_count k plan (n ∷ nodes) [] are = absurd are
-stories_count k plan (n ∷ nodes) (s ∷ stories) are = ap suc (stories_count (k + 1) plan nodes stories are.1)
-
-pub story_at : (k : ℕ) (plan : PlanValue) (nodes : List NodeValue) (stories : List NodeStory) →
-    AreStories k plan nodes stories → (i m : ℕ) (n : NodeValue) (s : NodeStory) → i < length nodes → m ≡ k + i →
-    IsStory (steps_at plan m) (slice_index_or nodes i n) (slice_index_or stories i s)
-story_at k plan [] stories are i m n s less is = absurd (omega (arith, less))
-story_at k plan (a ∷ nodes) [] are i m n s less is = absurd are
-story_at k plan (a ∷ nodes) (b ∷ stories) are zero m n s less is =
-    let same : k ≡ m = omega (arith, is) in subst (λ (j : ℕ). IsStory (steps_at plan j) a b) same are.0
-story_at k plan (a ∷ nodes) (b ∷ stories) are (suc i) m n s less is =
-    story_at (k + 1) plan nodes stories are.1 i m n s (omega (arith, less)) (omega (arith, is))
 
 -- what each gives is a list
 pub map_is : {A C : Type 0} (f : A → C) (xs : List A) (cs : List C) (d : C) → length xs ≡ length cs →

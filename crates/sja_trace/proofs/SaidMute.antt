@@ -1,5 +1,5 @@
 -- Of a bit that told nothing the same is said as of one in short.
-use Rattle.std.proofs.Common.{◌≡◌, ◌&&◌, ◌||◌, not, Bool, true, false, [], refl, sym, ap, ◌∙◌}
+use Rattle.std.proofs.Common.{◌≡◌, ◌&&◌, not, true, false, [], refl, sym, ap, ◌∙◌}
 use Rattle.can_bits.specs.declared.level.Level.{Level}
 use Rattle.can_bits.specs.declared.level.Level.TheVariants.{Dominant, Recessive}
 use Rattle.can_bits.specs.Places.{are_same}
@@ -13,10 +13,9 @@ use Rattle.sja_replay.specs.Short.{IsInShort}
 use Rattle.sja_trace.specs.BitEvents.{have_same, all_said}
 use Rattle.sja_trace.specs.Events.{is_frame, is_dominant, is_flag}
 use Rattle.sja_trace.specs.Inside.Hands.{happening_of}
-use Rattle.sja_trace.proofs.Shorts.{all_same, plain_none}
-use Rattle.sja_traced.specs.Knowing.{IsMute, SaysAlike}
-use Rattle.sja_traced.specs.KnownBits.{IsShortOf}
-use Rattle.sja_traced.proofs.SayingAlike.SaidAlike.{told_same}
+use Rattle.sja_trace.proofs.Shorts.{all_same, no_flag, plain_none}
+use Rattle.sja_trace.specs.SayingAlike.{IsMute, SaysAlike, IsShortOf}
+use Rattle.sja_trace.proofs.SaidAlike.{told_same}
 
 -- ---- a mute bit in short
 
@@ -52,7 +51,7 @@ mute_short v driven seen h m idle = record {
 
 -- ---- nothing is said of it
 
-is_same : (l : Level) → are_same l l ≡ true
+pub is_same : (l : Level) → are_same l l ≡ true
 is_same Dominant = refl
 is_same Recessive = refl
 
@@ -66,10 +65,8 @@ mute_none bus left v driven seen h m whole kept idle silent =
 
 -- ---- the same is said as of another one in short
 
--- no flag begins where the phase stays and no fault came
-no_flag : (b : Bool) → (b && (not b || false)) ≡ true → ⊥
-no_flag true e = cc
-no_flag false e = cc
+never : true ≡ false → ⊥
+never e = cc
 
 module _ (bus : Level) (v : View) (driven seen : Level) (h : Happening) (q : ShortBit)
     (s : IsShortOf bus v driven seen h q) where
@@ -90,7 +87,7 @@ module _ (bus : Level) (v : View) (driven seen : Level) (h : Happening) (q : Sho
     phase_after = sym s.phase_is;
     transmits_after = sym s.transmits_is;
     counters_after = sym s.counters_are;
-    flag = λ begins. absurd (no_flag (is_flag v.phase) begins);
+    flag = λ begins. absurd (never (sym begins ∙ no_flag (is_flag v.phase)));
     fate = refl;
     struck = s.struck;
   }
