@@ -1,12 +1,12 @@
 mod EachHandle
+mod LentCall
 pub mod LooseParts
 pub mod MadeParts
 mod NoHandle
-mod NoNumberCall
+mod NumberCall
 mod NumberCode
-mod OneNumberCall
+mod NumberContract
+mod NumberLocals
 mod TextCall
 mod TextCode
-mod ThreeNumberCall
-mod TwoNumberCall
 pub mod Walks

@@ -1,8 +1,8 @@
 -- The call by which a null handle is answered: it asks for nothing, and gives that answer.
-use Rattle.sja_c.proofs.Walks.{◌≡◌, [], ◌∷◌, refl, Ura, SProp, ent, sep, via, ftrue, Val, Model, Wired, Logic}
-use Rattle.sja_c.proofs.Walks.{Item, ‵, raw, ◌⊛◌, some, later, ◌$◌, ◌∵◌, !, qed, done, move, drop, split, join, pick}
-use Rattle.sja_c.proofs.Walks.{await, fact, Running, MachineTables, tables, Is, shows, lone, nothing, heard, peeks}
-use Rattle.sja_c.proofs.Walks.{lasts, triple_of, Contract, framed}
+use Rattle.sja_c.proofs.Walks.{◌≡◌, [], ◌∷◌, refl, Ura, SProp, ent, sep, via, ftrue, Val, Model, Wired, Logic, Item, ‵}
+use Rattle.sja_c.proofs.Walks.{raw, ◌⊛◌, some, later, ◌$◌, ◌∵◌, !, qed, done, move, drop, split, join, pick, await}
+use Rattle.sja_c.proofs.Walks.{fact, Running, MachineTables, tables, Is, shows, lone, nothing, heard, peeks, lasts}
+use Rattle.sja_c.proofs.Walks.{triple_of, Contract, framed}
 use base.Logic.{emp, emp∗, comm∗, fst∗}
 use types.Kit.{mean, given, rewrite, updating, now, check}
 use denote.Triple.Statement.{Triple}
