@@ -1,7 +1,7 @@
 //! The figures of a session that writes its plan, which the library for C and `sja live` drive: its registers are read
 //! and written by address, as a driver does for a frame.
 
-use super::sessions::FRAME;
+use super::sessions::{FRAME, written_next};
 use sja_plan_session::PlanSession;
 use std::alloc::Global;
 
@@ -82,16 +82,8 @@ fn writes_of(alloc: Global, count: u32) -> Option<u64> {
 
 /// Does one of these 16 writes.
 fn write_next(session: &mut PlanSession, access: u32) -> Option<()> {
-    match access {
-        0 => write(session, 1, 0, 0x00),
-        1 => write(session, 1, 4, 0xff),
-        2 => write(session, 1, 1, 0x08),
-        _ => {
-            let place = access.checked_sub(3)?;
-            let (address, value) = *FRAME.get(place as usize)?;
-            write(session, 1, address, value)
-        }
-    }
+    let (address, value) = written_next(access)?;
+    write(session, 1, address, value)
 }
 
 /// Takes both nodes out of reset mode, and lets them wait for the bus.

@@ -6,28 +6,13 @@ ghost use Rattle.sja_wire.specs.Links.{Numbered};
 use sja_bus::{Bus, SerialBoard};
 use sja_link::DequeLink;
 
-/// So many bits, one after another. Whether all were run.
-pub fn run_bits(bus: &mut Bus, links: &mut [DequeLink], board: &mut SerialBoard, count: u32) -> bool
-    requires count { length links.old ≡ 64 * length bus.old.journals }
-    requires ids { Numbered (λ l. l.link) links.old }
-    requires ports { length bus.old.journals ≤ length board.old.ports.items }
-    ensures nodes { length bus.new.journals ≡ length bus.old.journals }
-    ensures links { length links.new ≡ length links.old }
-    ensures ids { Numbered (λ l. l.link) links.new }
-    ensures ports { length board.new.ports.items ≡ length board.old.ports.items }
-{
-    match bus.bits(links, board, count, false) {
-        Ok(run) => run == count,
-        Err(_) => false,
-    }
-}
-
-/// So many bits, of which those in which every node is at rest are run at once. Whether all were run.
-pub fn run_bits_at_once(
+/// So many bits, one after another, or those in which every node is at rest at once. Whether all were run.
+pub fn run_bits(
     bus: &mut Bus,
     links: &mut [DequeLink],
     board: &mut SerialBoard,
     count: u32,
+    at_once: bool,
 ) -> bool
     requires count { length links.old ≡ 64 * length bus.old.journals }
     requires ids { Numbered (λ l. l.link) links.old }
@@ -37,6 +22,9 @@ pub fn run_bits_at_once(
     ensures ids { Numbered (λ l. l.link) links.new }
     ensures ports { length board.new.ports.items ≡ length board.old.ports.items }
 {
+    if !at_once {
+        return matches!(bus.bits(links, board, count, false), Ok(run) if run == count);
+    }
     let mut left = count;
     for _ in 0..count {
         let Ok(run) = bus.quiet_bits(links, board, left) else {

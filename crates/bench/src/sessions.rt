@@ -98,14 +98,20 @@ fn writes_in(session: &mut RawSession, count: u32) -> Option<u64> {
 
 /// Does one of these 16 writes.
 fn write_next(session: &mut RawSession, access: u32) -> Option<()> {
+    let (address, value) = written_next(access)?;
+    write(session, 1, address, value)
+}
+
+/// Where one of these 16 writes goes, and what it writes.
+#[inline(always)]
+pub fn written_next(access: u32) -> Option<(u8, u8)> {
     match access {
-        0 => write(session, 1, 0, 0x00),
-        1 => write(session, 1, 4, 0xff),
-        2 => write(session, 1, 1, 0x08),
+        0 => Some((0, 0x00)),
+        1 => Some((4, 0xff)),
+        2 => Some((1, 0x08)),
         _ => {
             let place = access.checked_sub(3)?;
-            let (address, value) = *FRAME.get(place as usize)?;
-            write(session, 1, address, value)
+            FRAME.get(place as usize).copied()
         }
     }
 }

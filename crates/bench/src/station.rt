@@ -3,7 +3,7 @@
 ghost use Rattle.std.specs.Prelude.{◌≡◌, ◌≤◌, ◌*◌, length, IfOk};
 ghost use Rattle.sja_wire.specs.Links.{Numbered};
 
-use super::running::{run_bits, run_bits_at_once};
+use super::running::run_bits;
 use can_frame::{Message, OutOfMemory};
 use sja_bus::{Bus, SerialBoard, are_links_of, serial_links};
 use sja_driver::{Active, Driver};
@@ -81,11 +81,7 @@ impl Station {
     /// So many bits, one after another, or those in which every node is at rest at once. Whether all were run.
     pub fn bits(&mut self, count: u32, at_once: bool) -> bool {
         let links = self.links.as_mut_slice();
-        if at_once {
-            run_bits_at_once(&mut self.bus, links, &mut self.board, count)
-        } else {
-            run_bits(&mut self.bus, links, &mut self.board, count)
-        }
+        run_bits(&mut self.bus, links, &mut self.board, count, at_once)
     }
 }
 

@@ -30,7 +30,7 @@ pub(crate) fn put_node(
     }
 }
 
-/// The lines of what a bit brought.
+/// The lines of what a bit brought; those of error frames only where they are asked for.
 fn put_happening(
     text: &mut String,
     errors: bool,
@@ -40,9 +40,13 @@ fn put_happening(
 ) -> Result<(), AllocError>
     ensures { OnOk result (string_bytes text.new ≡ string_bytes text.old ++ bit_lines errors bit node happening.now) }
 {
-    put_before(text, errors, bit, node, happening)?;
+    if errors {
+        put_errors_before(text, bit, node, happening)?;
+    }
     put_stored(text, bit, node, &happening.events.received, happening.fate)?;
-    put_after(text, errors, bit, node, happening)?;
+    if errors {
+        put_errors_after(text, bit, node, happening)?;
+    }
     Ok(())
 }
 
@@ -63,25 +67,7 @@ fn put_stored(
     }
 }
 
-/// The error frames that come before what is received, if they are asked for.
-fn put_before(
-    text: &mut String,
-    errors: bool,
-    bit: u32,
-    node: usize,
-    happening: &Happening,
-) -> Result<(), AllocError>
-    ensures { OnOk result (string_bytes text.new ≡ string_bytes text.old
-        ++ line_where errors (lines_before bit node happening.now)) }
-{
-    if errors {
-        put_errors_before(text, bit, node, happening)
-    } else {
-        Ok(())
-    }
-}
-
-/// Lost arbitration, and a missing acknowledgement.
+/// The error frames that come before what is received: lost arbitration, and a missing acknowledgement.
 fn put_errors_before(
     text: &mut String,
     bit: u32,
@@ -95,25 +81,7 @@ fn put_errors_before(
     Ok(())
 }
 
-/// The error frames that come after it, if they are asked for.
-fn put_after(
-    text: &mut String,
-    errors: bool,
-    bit: u32,
-    node: usize,
-    happening: &Happening,
-) -> Result<(), AllocError>
-    ensures { OnOk result (string_bytes text.new ≡ string_bytes text.old
-        ++ line_where errors (lines_after bit node happening.now)) }
-{
-    if errors {
-        put_errors_after(text, bit, node, happening)
-    } else {
-        Ok(())
-    }
-}
-
-/// An overrun, a change of state, bus-off and the way back.
+/// The error frames that come after it: an overrun, a change of state, bus-off and the way back.
 fn put_errors_after(
     text: &mut String,
     bit: u32,

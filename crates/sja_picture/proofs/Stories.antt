@@ -76,14 +76,14 @@ pub knows_first : (nodes : List NodeValue) (ts : List Teller) (G : List (List Ha
 knows_first nodes ts G first g = record { stories = first.stories; have = first.have; holds = g }
 
 -- past a bit
-pub knows_next : (nodes : List NodeValue) (bit next : ℕ) (olds news : List Teller)
-    (G H : List (List Happening) → Type 0) → next ≡ suc bit → Knows nodes bit olds G →
-    EachRelated TellerGoesOn olds news →
-    ((told : List (List Happening)) → AreShown bit news told → G told → H told) → Knows nodes next news H
-knows_next nodes bit next olds news G H one k on goes =
+pub knows_next : (nodes : List NodeValue) (bit : ℕ) (olds news : List Teller) (G H : List (List Happening) → Type 0) →
+    Knows nodes bit olds G → EachRelated TellerGoesOn olds news →
+    ((told : List (List Happening)) → AreShown bit news told → G told → H told) → Knows nodes (bit + 1) news H
+knows_next nodes bit olds news G H k on goes =
     let m = all_more 0 no_plan bit nodes olds news k.stories k.have on in
     let P : ℕ → Type 0 = λ n. Knows nodes n news H in
-    subst P (sym one) (record {
+    let one : suc bit ≡ bit + 1 = omega arith in
+    subst P one (record {
       stories = m.stories;
       have = m.have;
       holds = λ told begin.

@@ -30,16 +30,8 @@ pub fn picture(
 ) -> Result<String, OutOfMemory>
     ensures { IfOk result (λ text. IsPicture log.now first last (string_bytes text)) }
 {
-    let mut tellers = tellers_of(alloc, log.nodes())?;
     let mut rows = rows_of(alloc, log.nodes())?;
-    let text = drawn(
-        alloc,
-        log,
-        first,
-        last,
-        tellers.as_mut_slice(),
-        rows.as_mut_slice(),
-    )?;
+    let text = drawn(alloc, log, first, last, rows.as_mut_slice())?;
     Ok(text)
 }
 
@@ -54,19 +46,19 @@ pub fn tellers_of(alloc: Global, nodes: &[NodeRun]) -> Result<Vec<Teller<'_>>, A
     Ok(tellers)
 }
 
-/// The same, with the tellers and the rows of all nodes before the first bit.
+/// The same, with the rows of all nodes before the first bit.
 fn drawn(
     alloc: Global,
     log: &RunLog,
     first: u32,
     last: Option<u32>,
-    tellers: &mut [Teller<'_>],
     rows: &mut [NodeRows],
 ) -> Result<String, AllocError>
-    requires begun { AreFirst log.now.nodes tellers.old }
-    requires fresh { AreFresh log.now.nodes rows.old }
+    requires { AreFresh log.now.nodes rows.old }
     ensures { IfOk result (λ text. IsPicture log.now first last (string_bytes text)) }
 {
+    let mut all = tellers_of(alloc, log.nodes())?;
+    let tellers = all.as_mut_slice();
     let span = Span::of(first, last, log.bits());
     let mut page = Page::new(alloc, span);
     for bit in 0..span.end {

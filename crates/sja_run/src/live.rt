@@ -1,6 +1,7 @@
 //! `live`: a session that is driven line by line.
 
-ghost use Rattle.std.specs.Prelude.{◌≡◌, ◌⊎◌, false, true};
+ghost use Rattle.std.specs.Prelude.{◌≡◌, false};
+ghost use Rattle.sja_run.specs.Answer.{IsOneWhereFailed};
 ghost use Rattle.sja_run.specs.Live.{ShowsTalk};
 
 use super::output::Output;
@@ -17,12 +18,11 @@ pub(crate) fn reply_live<R: Read, O: Write, E: Write>(
     out: &mut Output<O>,
     err: &mut Output<E>,
 ) -> u8
+    ensures failed { IsOneWhereFailed out.old.failed err.old.failed out.new.failed err.new.failed result }
     ensures answered { out.new.failed ≡ false → err.new.failed ≡ false
         → ShowsTalk result (R.remaining input.old) (R.remaining input.new)
         (O.contents out.old.writer) (O.contents out.new.writer)
         (E.contents err.old.writer) (E.contents err.new.writer) }
-    ensures failed { out.old.failed ≡ false → err.old.failed ≡ false
-        → (out.new.failed ≡ true) ⊎ (err.new.failed ≡ true) → result ≡ 1 }
 {
     if out.failed {
         return 1;

@@ -4,7 +4,7 @@ ghost use Rattle.std.specs.Prelude.{◌≡◌, ◌⊎◌, ℕ, List, IfOk, IfErr
 ghost use Rattle.sja_words.specs.Words.{Request, ParsesAs, files, live};
 ghost use Rattle.sja_words.specs.declared.plan_question.PlanQuestion.{PlanQuestion};
 ghost use Rattle.sja_run.specs.Answer.{AsksForOne, AsksForRun, IsPrinted, IsRefused, IsTurnedAway, Shows};
-ghost use Rattle.sja_run.specs.Answer.{request_left};
+ghost use Rattle.sja_run.specs.Answer.{IsOneWhereFailed, request_left};
 ghost use Rattle.sja_run.specs.Files.{ShowsFiles};
 ghost use Rattle.sja_run.specs.Input.{ReadsFew};
 ghost use Rattle.sja_run.specs.Live.{ShowsTalk};
@@ -93,8 +93,7 @@ fn reply_threads<T: Threads + Wait + Sync, R: Read, O: Write, E: Write>(
         (O.contents out.old.writer) (O.contents out.new.writer)
         (E.contents err.old.writer) (E.contents err.new.writer) }
     ensures one_writer { (out.new ≡ out.old) ⊎ (err.new ≡ err.old) }
-    ensures failed { out.old.failed ≡ false → err.old.failed ≡ false
-        → (out.new.failed ≡ true) ⊎ (err.new.failed ≡ true) → result ≡ 1 }
+    ensures failed { IsOneWhereFailed out.old.failed err.old.failed out.new.failed err.new.failed result }
     ensures few { ReadsFew (R.remaining input.old) (R.remaining input.new) }
 {
     match printed_threads(rt, alloc, threaded, input) {

@@ -3,7 +3,7 @@
 ghost use Rattle.std.specs.Prelude.{◌≡◌, ◌⊎◌, Some, IfOk, IfErr, false, true, map};
 ghost use Rattle.sja_words.specs.Words.{Request, ParsesAs, check, request_of};
 ghost use Rattle.sja_run.specs.Answer.{AsksForRun, IsLeftOver, Shows, IsLeft, IsTurnedAway, request_over};
-ghost use Rattle.sja_run.specs.Answer.{status_in};
+ghost use Rattle.sja_run.specs.Answer.{IsOneWhereFailed, status_in};
 ghost use Rattle.sja_run.specs.Input.{ReadsFew};
 
 use super::answer::printed;
@@ -109,8 +109,7 @@ fn reply<R: Read, O: Write, E: Write>(
         (O.contents out.old.writer) (O.contents out.new.writer)
         (E.contents err.old.writer) (E.contents err.new.writer) }
     ensures one_writer { (out.new ≡ out.old) ⊎ (err.new ≡ err.old) }
-    ensures failed { out.old.failed ≡ false → err.old.failed ≡ false
-        → (out.new.failed ≡ true) ⊎ (err.new.failed ≡ true) → result ≡ 1 }
+    ensures failed { IsOneWhereFailed out.old.failed err.old.failed out.new.failed err.new.failed result }
     ensures unread { AsksForRun (request_of task.entry) ⊎ (input.new ≡ input.old) }
     ensures few { ReadsFew (R.remaining input.old) (R.remaining input.new) }
 {
@@ -144,8 +143,7 @@ fn reply_check<R: Read, O: Write, E: Write>(
         (O.contents out.old.writer) (O.contents out.new.writer)
         (E.contents err.old.writer) (E.contents err.new.writer) }
     ensures one_writer { (out.new ≡ out.old) ⊎ (err.new ≡ err.old) }
-    ensures failed { out.old.failed ≡ false → err.old.failed ≡ false
-        → (out.new.failed ≡ true) ⊎ (err.new.failed ≡ true) → result ≡ 1 }
+    ensures failed { IsOneWhereFailed out.old.failed err.old.failed out.new.failed err.new.failed result }
     ensures few { ReadsFew (R.remaining input.old) (R.remaining input.new) }
 {
     match checked(alloc, input) {

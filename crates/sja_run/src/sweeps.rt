@@ -3,8 +3,9 @@
 ghost use Rattle.std.specs.Prelude.{◌≡◌, IfOk, IfErr, string_bytes, if◌then◌else◌};
 ghost use Rattle.sja_plan.specs.Plan.{PlanValue};
 ghost use Rattle.sja_sweep.specs.Sweeps.{IsSweep, IsSweepFault};
-ghost use Rattle.sja_run.specs.Run.{IsOfPlan};
-ghost use Rattle.sja_run.specs.Sweep.{IsSwept, RefusesOfPlan, RefusesPlan, RefusesSwept, sweeping_of};
+ghost use Rattle.sja_words.specs.Words.{sweep};
+ghost use Rattle.sja_run.specs.Answer.{IsAnswer};
+ghost use Rattle.sja_run.specs.Sweep.{IsSwept, RefusesPlan, RefusesSwept, sweeping_of};
 
 use super::input::plan_of_input;
 use sja_plan::Plan;
@@ -22,9 +23,7 @@ pub(crate) fn told_sweep<R: Read>(
     words: SweepWords,
     input: &mut R,
 ) -> Result<Vec<u8>, CommandRefusal>
-    ensures ok { IfOk result (λ text.
-        IsOfPlan (IsSwept words) (R.remaining input.old) (R.remaining input.new) text.items) }
-    ensures err { IfErr result (RefusesOfPlan (RefusesSwept words) (R.remaining input.old) (R.remaining input.new)) }
+    ensures { IsAnswer (sweep words) (R.remaining input.old) (R.remaining input.new) result }
 {
     let plan = plan_of_input(alloc, input)?;
     let text = told(words, sweep(alloc, &plan, &sweeping_of(words)))?;
@@ -39,12 +38,11 @@ pub(crate) fn told_sweep_jobs<T: Threads + Sync, R: Read>(
     words: SweepWords,
     input: &mut R,
 ) -> Result<Vec<u8>, CommandRefusal>
-    ensures ok { IfOk result (λ text.
-        IsOfPlan (IsSwept words) (R.remaining input.old) (R.remaining input.new) text.items) }
-    ensures err { IfErr result (RefusesOfPlan (RefusesSwept words) (R.remaining input.old) (R.remaining input.new)) }
+    ensures { IsAnswer (sweep words) (R.remaining input.old) (R.remaining input.new) result }
 {
+    let jobs = words.jobs as usize;
     let plan = plan_of_input(alloc, input)?;
-    let swept = sweep_jobs(rt, alloc, &plan, &sweeping_of(words), words.jobs as usize);
+    let swept = sweep_jobs(rt, alloc, &plan, &sweeping_of(words), jobs);
     let text = told(words, swept)?;
     Ok(text.into_bytes())
 }

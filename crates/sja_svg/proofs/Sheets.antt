@@ -63,7 +63,7 @@ sheet_passed first bit ts olds news sheet before p told shown d = record {
 
 -- shown
 pub sheet_drawn : (first bit : ℕ) (ts : List Teller) (olds news : List Lane) (old new : Sheet) → first ≤ bit →
-    DrawsBit first bit ts olds news old new → TakesBit first bit ts olds news old new
+    DrawsBit (place_in first bit) bit ts olds news old new → TakesBit first bit ts olds news old new
 sheet_drawn first bit ts olds news old new reached draws told shown d =
     let same = bus_shown bit told ts shown in
     let x = place_in first bit in

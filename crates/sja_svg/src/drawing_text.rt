@@ -1,7 +1,6 @@
 //! [`drawing`]: the drawing of the bits of a run.
 
 ghost use Rattle.std.specs.Prelude.{◌≡◌, IfOk, string_bytes};
-ghost use Rattle.sja_picture.specs.Inside.Pages.{AreFirst};
 ghost use Rattle.sja_svg.specs.DrawingText.{IsDrawing};
 ghost use Rattle.sja_svg.specs.Inside.Drawing.{AreFresh};
 
@@ -11,7 +10,7 @@ use super::sheet::Sheet;
 use can_frame::OutOfMemory;
 use sja_log::RunLog;
 use sja_picture::{Span, tellers_of};
-use sja_trace::{Teller, finish_all, go_on_all};
+use sja_trace::{finish_all, go_on_all};
 use std::alloc::{AllocError, Global};
 
 /// The drawing of the bits of a run from a first to a last one, as scalable vector graphics: one text that a browser
@@ -30,32 +29,24 @@ pub fn drawing(
 ) -> Result<String, OutOfMemory>
     ensures { IfOk result (λ text. IsDrawing log.now first last (string_bytes text)) }
 {
-    let mut tellers = tellers_of(alloc, log.nodes())?;
     let mut lanes = lanes_of(alloc, log.nodes())?;
-    let text = drawn(
-        alloc,
-        log,
-        first,
-        last,
-        tellers.as_mut_slice(),
-        lanes.as_mut_slice(),
-    )?;
+    let text = drawn(alloc, log, first, last, lanes.as_mut_slice())?;
     Ok(text)
 }
 
-/// The same, with the tellers and the lanes of all nodes before the first bit.
+/// The same, with the lanes of all nodes before the first bit.
 fn drawn(
     alloc: Global,
     log: &RunLog,
     first: u32,
     last: Option<u32>,
-    tellers: &mut [Teller<'_>],
     lanes: &mut [Lane],
 ) -> Result<String, AllocError>
-    requires begun { AreFirst log.now.nodes tellers.old }
-    requires fresh { AreFresh log.now.nodes lanes.old }
+    requires { AreFresh log.now.nodes lanes.old }
     ensures { IfOk result (λ text. IsDrawing log.now first last (string_bytes text)) }
 {
+    let mut all = tellers_of(alloc, log.nodes())?;
+    let tellers = all.as_mut_slice();
     let span = Span::of(first, last, log.bits());
     let mut sheet = Sheet::new(alloc);
     for bit in 0..span.end {

@@ -47,22 +47,21 @@ impl Sheet {
             pass_all(lanes, tellers);
             return Ok(());
         }
-        self.draw(lanes, tellers, first, bit)?;
+        self.draw(lanes, tellers, place_in(first, bit), bit)?;
         Ok(())
     }
 
-    /// Draws the bit at hand.
+    /// Draws the bit at hand at `x`.
     fn draw(
         &mut self,
         lanes: &mut [Lane],
         tellers: &[Teller<'_>],
-        first: u32,
+        x: u64,
         bit: u32,
     ) -> Result<(), AllocError>
         requires { length tellers.now ≡ length lanes.old }
-        ensures { OnOk result (DrawsBit first bit tellers.now lanes.old lanes.new self.old self.new) }
+        ensures { OnOk result (DrawsBit x bit tellers.now lanes.old lanes.new self.old self.new) }
     {
-        let x = place_in(first, bit);
         let bus = bus_of(tellers);
         put_mark(&mut self.marks, line_height(lanes.len()), x, bit)?;
         put_step(&mut self.bus, x, level_line(bus))?;

@@ -161,9 +161,5 @@ fn room_of(words: &[&str]) -> Option<Option<SessionRoom>> {
 /// The session that is asked for.
 fn held_of(alloc: Global, asked: Asked, raw: bool) -> Result<Held, SessionFault> {
     let (version, bits, nodes, room) = asked;
-    if raw {
-        Held::raw(alloc, version, bits, nodes, room)
-    } else {
-        Held::typed(alloc, version, bits, nodes, room)
-    }
+    Held::new(alloc, raw, version, bits, nodes, room)
 }

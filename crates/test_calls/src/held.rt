@@ -19,34 +19,26 @@ pub enum Held {
 }
 
 impl Held {
-    /// A session of typed drivers, with this room where some is asked for.
-    pub fn typed(
+    /// A session of drivers that know addresses and bytes alone (`is_raw`), or of typed ones, with this room where some
+    /// is asked for.
+    pub fn new(
         alloc: Global,
+        is_raw: bool,
         version: u8,
         bits: u32,
         nodes: u8,
         room: Option<SessionRoom>,
     ) -> Result<Held, SessionFault> {
-        let session = match room {
-            Some(room) => Session::with_room(alloc, version, bits, nodes, room)?,
-            None => Session::new(alloc, version, bits, nodes)?,
-        };
-        Ok(Held::Typed(session))
-    }
-
-    /// A session of drivers that know addresses and bytes alone.
-    pub fn raw(
-        alloc: Global,
-        version: u8,
-        bits: u32,
-        nodes: u8,
-        room: Option<SessionRoom>,
-    ) -> Result<Held, SessionFault> {
-        let session = match room {
-            Some(room) => RawSession::with_room(alloc, version, bits, nodes, room)?,
-            None => RawSession::new(alloc, version, bits, nodes)?,
-        };
-        Ok(Held::Raw(session))
+        Ok(match (is_raw, room) {
+            (false, None) => Held::Typed(Session::new(alloc, version, bits, nodes)?),
+            (false, Some(room)) => {
+                Held::Typed(Session::with_room(alloc, version, bits, nodes, room)?)
+            }
+            (true, None) => Held::Raw(RawSession::new(alloc, version, bits, nodes)?),
+            (true, Some(room)) => {
+                Held::Raw(RawSession::with_room(alloc, version, bits, nodes, room)?)
+            }
+        })
     }
 
     /// Does a step.

@@ -87,7 +87,7 @@ fn struck(
     node: u8,
     bit: u32,
 ) -> Result<Option<(String, String)>, AllocError> {
-    match Held::typed(alloc, 1, 1000, 2, None) {
+    match Held::new(alloc, false, 1, 1000, 2, None) {
         Ok(held) => texts_of(alloc, held, after, node, bit),
         Err(_) => Ok(None),
     }

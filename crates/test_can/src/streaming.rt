@@ -6,6 +6,7 @@ use super::told::Told;
 use can_bits::{Level, Segment, Shift, ShiftEvent};
 use can_frame::Message;
 use std::alloc::Global;
+use test_frames::segments::SEGMENTS;
 
 /// Does a call of the reader of this row.
 ///
@@ -116,31 +117,6 @@ fn code(told: &mut Told, line: &[Level], count: usize) {
         told.say("early");
     }
 }
-
-/// The segments by their names.
-const SEGMENTS: [(&str, Segment); 21] = [
-    ("StartOfFrame", Segment::StartOfFrame),
-    ("Id28To21", Segment::Id28To21),
-    ("Id20To18", Segment::Id20To18),
-    ("RtrStandard", Segment::RtrStandard),
-    ("Ide", Segment::Ide),
-    ("Id17To13", Segment::Id17To13),
-    ("Id12To5", Segment::Id12To5),
-    ("Id4To0", Segment::Id4To0),
-    ("RtrExtended", Segment::RtrExtended),
-    ("Reserved1", Segment::Reserved1),
-    ("Reserved0", Segment::Reserved0),
-    ("LengthCode", Segment::LengthCode),
-    ("Data", Segment::Data),
-    ("CheckSequence", Segment::CheckSequence),
-    ("CheckDelimiter", Segment::CheckDelimiter),
-    ("AckSlot", Segment::AckSlot),
-    ("AckDelimiter", Segment::AckDelimiter),
-    ("EndOfFrame", Segment::EndOfFrame),
-    ("ActiveErrorFlag", Segment::ActiveErrorFlag),
-    ("Delimiter", Segment::Delimiter),
-    ("OverloadFlag", Segment::OverloadFlag),
-];
 
 /// Says the codes of segments: `segment Ide Data`.
 pub fn segments(told: &mut Told, names: &str) {

@@ -3,15 +3,14 @@
 use can_frame::Message;
 use std::alloc::{AllocError, Global};
 use std::fmt;
+use test_rows::Line;
 
 /// What the calls of a row have answered, each answer behind a blank.
 #[derive(Drop)]
 pub struct Told {
     alloc: Global,
-    text: String,
+    line: Line,
     words: u32,
-    /// Memory was refused, so something is missing.
-    refused: bool,
 }
 
 impl Told {
@@ -19,19 +18,14 @@ impl Told {
     pub fn new(alloc: Global) -> Told {
         Told {
             alloc,
-            text: String::new(alloc),
+            line: Line::new(alloc),
             words: 0,
-            refused: false,
         }
     }
 
     /// The text of all answers, or that memory was refused.
     pub fn text(self) -> Result<String, AllocError> {
-        if self.refused {
-            Err(AllocError)
-        } else {
-            Ok(self.text)
-        }
+        self.line.text()
     }
 
     /// How many words were said.
@@ -41,43 +35,36 @@ impl Told {
 
     /// Memory was refused.
     pub fn refuse(&mut self) {
-        self.refused = true;
+        self.line.refuse();
     }
 
     /// Says a word.
     pub fn say(&mut self, word: &str) {
-        self.words = self.words.wrapping_add(1);
-        self.join(" ");
-        self.join(word);
-    }
-
-    /// Goes on with the word that was said last.
-    pub fn join(&mut self, part: &str) {
-        if self.text.push_str(part).is_err() {
-            self.refused = true;
-        }
+        self.begin();
+        self.line.join(word);
     }
 
     /// Says a word that was made, where there was memory for it.
     fn say_made(&mut self, made: Option<String>) {
-        match made {
-            Some(word) => self.say(word.as_str()),
-            None => self.refused = true,
-        }
+        self.begin();
+        self.line.join_made(made);
     }
 
-    /// Goes on with a part that was made, where there was memory for it.
-    fn join_made(&mut self, made: Option<String>) {
-        match made {
-            Some(part) => self.join(part.as_str()),
-            None => self.refused = true,
-        }
+    /// Begins a word.
+    fn begin(&mut self) {
+        self.words = self.words.wrapping_add(1);
+        self.line.join(" ");
+    }
+
+    /// Goes on with the word that was said last.
+    pub fn join(&mut self, part: &str) {
+        self.line.join(part);
     }
 
     /// Goes on with a number.
     pub fn join_number(&mut self, number: u32) {
         let made = format!(in self.alloc; "{number}").ok();
-        self.join_made(made);
+        self.line.join_made(made);
     }
 
     /// Says what is displayed so.
@@ -107,7 +94,7 @@ impl Told {
     /// Goes on with the name of something.
     pub fn join_name<D: fmt::Debug + Copy>(&mut self, item: D) {
         let made = format!(in self.alloc; "{item:?}").ok();
-        self.join_made(made);
+        self.line.join_made(made);
     }
 
     /// Says whether something is so.
@@ -131,7 +118,7 @@ impl Told {
     /// Goes on with a byte, as two hexadecimal digits.
     fn join_byte(&mut self, byte: u8) {
         let made = format!(in self.alloc; "{byte:02x}").ok();
-        self.join_made(made);
+        self.line.join_made(made);
     }
 
     /// Goes on with bytes, as two hexadecimal digits each.

@@ -2,11 +2,13 @@
 //!
 //! A line is as its transmitter sends it, with a recessive ACK slot, or as it is received, with a dominant one.
 //!
-//! [`runs`] has plans, reports and waves, and [`nodes`] how a node is started. The tests of several crates use them.
+//! [`runs`] has plans, reports and waves, [`nodes`] how a node is started, and [`segments`] the names of segments. The
+//! tests of several crates use them.
 #![tactic(auto)]
 
 pub mod nodes;
 pub mod runs;
+pub mod segments;
 
 /// The message of the standard data frame with identifier 0 and no data.
 pub const ZEROS: [u8; 3] = [0, 0, 0];

@@ -9,11 +9,13 @@
 mod bits;
 mod documents;
 mod given;
+mod line;
 mod marks;
 mod rows;
 
 pub use bits::Bits;
 pub use documents::document;
 pub use given::Given;
+pub use line::Line;
 pub use marks::marked;
 pub use rows::{Rows, answer_rows};

@@ -8,6 +8,7 @@ use super::{byte, named};
 use can_bits::Segment;
 use can_node::{BitEvents, Cause, Outcome, Phase};
 use sja_regs::BusTurn;
+use test_frames::segments::SEGMENTS;
 
 const PHASES: [(&str, Phase); 8] = [
     ("reset", Phase::Reset),
@@ -50,18 +51,6 @@ const CAUSES: [(&str, Cause); 5] = [
     ("Form", Cause::Form),
     ("Crc", Cause::Crc),
     ("Ack", Cause::Ack),
-];
-
-const SEGMENTS: [(&str, Segment); 9] = [
-    ("StartOfFrame", Segment::StartOfFrame),
-    ("Id28To21", Segment::Id28To21),
-    ("Data", Segment::Data),
-    ("CheckDelimiter", Segment::CheckDelimiter),
-    ("AckSlot", Segment::AckSlot),
-    ("AckDelimiter", Segment::AckDelimiter),
-    ("EndOfFrame", Segment::EndOfFrame),
-    ("ActiveErrorFlag", Segment::ActiveErrorFlag),
-    ("Delimiter", Segment::Delimiter),
 ];
 
 /// The bit that these words say; none where a word says nothing.

@@ -14,17 +14,15 @@ use Rattle.sja_svg.specs.declared.lane.Lane.{Lane}
 use Rattle.sja_svg.specs.declared.sheet.Sheet.{Sheet}
 use Rattle.sja_svg.specs.Elements.{step_to}
 use Rattle.sja_svg.specs.Lanes.{mark_at, mark_in, bus_step}
-use Rattle.sja_svg.specs.Places.{bits_width, place_in, level_line, line_height}
+use Rattle.sja_svg.specs.Places.{bits_width, level_line, line_height}
 use Rattle.sja_svg.specs.Sheets.{top, foot}
 use Rattle.sja_svg.specs.Inside.Drawing.{Draws, IsLane, shown_lane}
 
--- the bit at hand is drawn
-pub record DrawsBit (first bit : ℕ) (tellers : List Teller) (olds news : List Lane) (old new : Sheet) : Type 0 where
-  pub marks : string_bytes new.marks
-      ≡ string_bytes old.marks ++ mark_at (line_height (length olds)) (place_in first bit) bit
-  pub bus : string_bytes new.bus
-      ≡ string_bytes old.bus ++ step_to (place_in first bit) (level_line (wired (driven_now tellers)))
-  pub lanes : EachBeside (Draws (place_in first bit) (wired (driven_now tellers))) tellers olds news
+-- the bit at hand is drawn at x
+pub record DrawsBit (x bit : ℕ) (tellers : List Teller) (olds news : List Lane) (old new : Sheet) : Type 0 where
+  pub marks : string_bytes new.marks ≡ string_bytes old.marks ++ mark_at (line_height (length olds)) x bit
+  pub bus : string_bytes new.bus ≡ string_bytes old.bus ++ step_to x (level_line (wired (driven_now tellers)))
+  pub lanes : EachBeside (Draws x (wired (driven_now tellers))) tellers olds news
 
 -- what was drawn of the bits before this one
 pub record IsDrawn (first bit : ℕ) (sheet : Sheet) (lanes : List Lane) (told : List (List Happening)) : Type 0 where

@@ -3,15 +3,14 @@
 use can_frame::Message;
 use std::alloc::{AllocError, Global};
 use std::fmt;
+use test_rows::Line;
 use test_words::Bytes;
 
 /// What the calls of a row have answered, each answer behind a blank.
 #[derive(Drop)]
 pub struct Told {
     alloc: Global,
-    text: String,
-    /// Memory was refused, so something is missing.
-    refused: bool,
+    line: Line,
 }
 
 impl Told {
@@ -19,39 +18,25 @@ impl Told {
     pub fn new(alloc: Global) -> Told {
         Told {
             alloc,
-            text: String::new(alloc),
-            refused: false,
+            line: Line::new(alloc),
         }
     }
 
     /// The text of all answers, or that memory was refused.
     pub fn text(self) -> Result<String, AllocError> {
-        if self.refused {
-            Err(AllocError)
-        } else {
-            Ok(self.text)
-        }
-    }
-
-    /// Goes on with the word that was said last.
-    fn join(&mut self, part: &str) {
-        if self.text.push_str(part).is_err() {
-            self.refused = true;
-        }
+        self.line.text()
     }
 
     /// Says a word.
     pub fn say(&mut self, word: &str) {
-        self.join(" ");
-        self.join(word);
+        self.line.join(" ");
+        self.line.join(word);
     }
 
     /// Says a word that was made, where there was memory for it.
     fn say_made(&mut self, made: Option<String>) {
-        match made {
-            Some(word) => self.say(word.as_str()),
-            None => self.refused = true,
-        }
+        self.line.join(" ");
+        self.line.join_made(made);
     }
 
     /// Says a number.

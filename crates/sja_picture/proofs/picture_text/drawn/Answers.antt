@@ -1,27 +1,28 @@
-use Rattle.std.proofs.Common.{◌≡◌, ℕ, ◌+◌, ◌≤◌, suc, ap, ◌∙◌, arith}
+use Rattle.std.proofs.Common.{ℕ, ◌≤◌, ap, ◌∙◌, arith}
 use Rattle.sja_picture.specs.declared.span.Span.{Span}
 use Rattle.sja_picture.specs.PictureText.{picture_text, end_after}
+use Rattle.sja_picture.proofs.Fresh.{lent_first}
 use Rattle.sja_picture.proofs.Pages.{page_first, page_whole, beside}
 use Rattle.sja_picture.proofs.Stories.{knows_next, knows_underway, knows_all}
 use Rattle.sja_picture.proofs.picture_text.drawn.Goals as goal
 
 pub loop-bit-init : goal.loop-bit-init
 loop-bit-init c =
-    page_first c.args.log.now.nodes c.of-span.result c.args.tellers.now c.args.rows.now c.new-page.result
-    c.requires.begun c.requires.fresh c.new-page.ensures.text c.new-page.ensures.start c.new-page.ensures.bus
+    let begun = lent_first _ _ _ _ c.nodes.ensures c.as_mut_slice-tellers.ensures.value c.in_ok-all.ensures in
+    page_first c.args.log.now.nodes c.of-span.result _ c.args.rows.now c.new-page.result begun c.requires
+    c.new-page.ensures.text c.new-page.ensures.start c.new-page.ensures.bus
 
 pub loop-bit-preserved : goal.loop-bit-preserved
 loop-bit-preserved c =
-    let one : c.loop-bit.bit + 1 ≡ suc c.loop-bit.bit = omega arith in
-    knows_next c.args.log.now.nodes c.loop-bit.bit (c.loop-bit.bit + 1) c.loop-bit.tellers c.go_on_all.new.tellers _ _
-    one c.loop-bit.invariant c.go_on_all.ensures c.in_ok-take.ensures
+    knows_next _ c.loop-bit.bit _ _ _ _ c.loop-bit.invariant c.go_on_all.ensures c.in_ok-take.ensures
 
 pub finish_all-requires : goal.finish_all-requires
 finish_all-requires c = knows_underway _ _ _ _ c.loop-bit.invariant
 
 pub take-requires-clause-beside : goal.take-requires-clause-beside
 take-requires-clause-beside c =
-    let same = beside c.args.log.now.nodes c.args.tellers.now c.args.rows.now c.requires.begun c.requires.fresh in
+    let begun = lent_first _ _ _ _ c.nodes.ensures c.as_mut_slice-tellers.ensures.value c.in_ok-all.ensures in
+    let same = beside c.args.log.now.nodes _ c.args.rows.now begun c.requires in
     omega (arith, same)
 
 pub returns : goal.returns

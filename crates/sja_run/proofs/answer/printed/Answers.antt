@@ -26,7 +26,7 @@ returns-in-Encode-clause-err g c = rw c.in-Encode.is c.encoded.ensures.err
 
 -- a sweep
 pub returns-in-Sweep-clause-ok : goal.returns-in-Sweep-clause-ok
-returns-in-Sweep-clause-ok g c = rw c.in-Sweep.is c.told_sweep.ensures.ok
+returns-in-Sweep-clause-ok g c = rw c.in-Sweep.is c.told_sweep.ensures.0
 
 pub returns-in-Sweep-clause-err : goal.returns-in-Sweep-clause-err
-returns-in-Sweep-clause-err g c = rw c.in-Sweep.is c.told_sweep.ensures.err
+returns-in-Sweep-clause-err g c = rw c.in-Sweep.is c.told_sweep.ensures.1

@@ -19,7 +19,7 @@ returns-in-Text-clause-err g c =
 
 -- a sweep
 pub returns-in-Sweep-clause-ok : goal.returns-in-Sweep-clause-ok
-returns-in-Sweep-clause-ok g c = rw c.in-Sweep.is c.told_sweep_jobs.ensures.ok
+returns-in-Sweep-clause-ok g c = rw c.in-Sweep.is c.told_sweep_jobs.ensures.0
 
 pub returns-in-Sweep-clause-err : goal.returns-in-Sweep-clause-err
-returns-in-Sweep-clause-err g c = rw c.in-Sweep.is c.told_sweep_jobs.ensures.err
+returns-in-Sweep-clause-err g c = rw c.in-Sweep.is c.told_sweep_jobs.ensures.1

@@ -8,8 +8,7 @@ loop-node-init c = fresh_none IsFresh c.args.nodes.now c.new-lanes.result.items 
 
 pub loop-node-preserved : goal.loop-node-preserved
 loop-node-preserved c =
-    fresh_more IsFresh c.args.nodes.now c.loop-node._node-index _ _ _ c.loop-node-test.true c.new.ensures
-    c.loop-node.invariant c.in_ok-push.ensures.items
+    fresh_more IsFresh _ _ _ _ _ c.loop-node-test.true c.new.ensures c.loop-node.invariant c.in_ok-push.ensures.items
 
 pub returns : goal.returns
 returns c = fresh_all IsFresh c.args.nodes.now c.loop-node._node-index _ c.loop-node-test.false c.loop-node.invariant

@@ -1,6 +1,7 @@
-use Rattle.std.proofs.Common.{◌≡◌, ℕ, ◌+◌, ◌-◌, suc, ap, ◌∙◌, arith}
+use Rattle.std.proofs.Common.{◌≡◌, ℕ, ◌-◌, ap, ◌∙◌, arith}
 use Rattle.sja_picture.specs.declared.span.Span.{Span}
 use Rattle.sja_picture.specs.PictureText.{end_after}
+use Rattle.sja_picture.proofs.Fresh.{lent_first}
 use Rattle.sja_picture.proofs.Stories.{knows_next, knows_underway, knows_all}
 use Rattle.sja_svg.specs.DrawingText.{sheet_text}
 use Rattle.sja_svg.proofs.Sheets.{sheet_first, sheet_whole, beside}
@@ -8,21 +9,21 @@ use Rattle.sja_svg.proofs.drawing_text.drawn.Goals as goal
 
 pub loop-bit-init : goal.loop-bit-init
 loop-bit-init c =
-    sheet_first c.args.log.now.nodes c.of-span.result.first c.args.tellers.now c.args.lanes.now c.new-sheet.result
-    c.requires.begun c.requires.fresh c.new-sheet.ensures.marks c.new-sheet.ensures.bus
+    let begun = lent_first _ _ _ _ c.nodes.ensures c.as_mut_slice-tellers.ensures.value c.in_ok-all.ensures in
+    sheet_first c.args.log.now.nodes c.of-span.result.first _ c.args.lanes.now c.new-sheet.result begun c.requires
+    c.new-sheet.ensures.marks c.new-sheet.ensures.bus
 
 pub loop-bit-preserved : goal.loop-bit-preserved
 loop-bit-preserved c =
-    let one : c.loop-bit.bit + 1 ≡ suc c.loop-bit.bit = omega arith in
-    knows_next c.args.log.now.nodes c.loop-bit.bit (c.loop-bit.bit + 1) c.loop-bit.tellers c.go_on_all.new.tellers _ _
-    one c.loop-bit.invariant c.go_on_all.ensures c.in_ok-take.ensures
+    knows_next _ c.loop-bit.bit _ _ _ _ c.loop-bit.invariant c.go_on_all.ensures c.in_ok-take.ensures
 
 pub finish_all-requires : goal.finish_all-requires
 finish_all-requires c = knows_underway _ _ _ _ c.loop-bit.invariant
 
 pub take-requires : goal.take-requires
 take-requires c =
-    let same = beside c.args.log.now.nodes c.args.tellers.now c.args.lanes.now c.requires.begun c.requires.fresh in
+    let begun = lent_first _ _ _ _ c.nodes.ensures c.as_mut_slice-tellers.ensures.value c.in_ok-all.ensures in
+    let same = beside c.args.log.now.nodes _ c.args.lanes.now begun c.requires in
     omega (arith, same)
 
 pub returns : goal.returns

@@ -9,4 +9,4 @@ returns-then-bit-first c =
 pub returns : goal.returns
 returns c =
     sheet_drawn c.args.first c.args.bit c.args.tellers.now c.args.lanes.now c.draw.new.lanes c.args.self.now
-    c.draw.new.self c.if-bit-first.false c.in_ok-draw.ensures
+    c.draw.new.self c.if-bit-first.false (rw c.place_in.ensures at c.in_ok-draw.ensures)

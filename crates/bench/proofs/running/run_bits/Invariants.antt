@@ -1,6 +1,6 @@
 use Rattle.std.proofs.Common.{◌≡◌, ◌≤◌, ◌*◌, length}
 use Rattle.sja_wire.specs.Links.{Numbered}
-use Rattle.bench.proofs.running.run_bits_at_once.Given as goal
+use Rattle.bench.proofs.running.run_bits.Given as goal
 
 -- links and ports are those of the bus's nodes, which stay as many
 abbrev pub invariant-loop : goal.invariant-loop
