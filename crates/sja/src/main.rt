@@ -13,12 +13,8 @@ use std::process::ExitCode;
 /// What the parser says of an argument that is no text.
 const NO_TEXT: &str = "error: invalid UTF-8 was detected in one or more arguments\n";
 
-/// What is said before a plan is read that somebody has to type.
-const WAITING: &str =
-    "sja: the plan is waited for on standard input; from a file: sja run < plan.toml";
-
-/// Answers the exit status: 0 for done, 1 for refused, 2 for words that don't parse. Where words ask about the plan on
-/// standard input, and that is a terminal, a line on standard error says that the plan is waited for.
+/// Answers the exit status: 0 for done, 1 for refused, 2 for words that don't parse. Where words ask for what stands on
+/// standard input, and that is a terminal, a line on standard error says what is waited for.
 fn main(rt: HostRuntime) -> ExitCode {
     let mut out = Output::new(rt.stdout());
     let mut err = Output::new(rt.stderr());
@@ -26,8 +22,8 @@ fn main(rt: HostRuntime) -> ExitCode {
         Ok(args) => match args.collect::<Vec<String>>(rt.alloc()) {
             Ok(words) => {
                 let stdin = rt.stdin();
-                if stdin.is_terminal() && asks_for_plan(rt.alloc(), words.as_slice()) {
-                    let _ = eprintln!(rt; "{WAITING}");
+                if stdin.is_terminal() {
+                    say_what_is_waited_for(&rt, words.as_slice());
                 }
                 let disk = Disk { rt: &rt };
                 match BufReader::new(rt.alloc(), stdin) {
@@ -53,11 +49,20 @@ fn main(rt: HostRuntime) -> ExitCode {
     ExitCode::from(status)
 }
 
-/// Whether the words, the program's name first, ask about the plan on the input.
-fn asks_for_plan(alloc: Global, words: &[String]) -> bool {
-    match parse(alloc, words) {
-        Ok(task) => is_of_plan(&task),
-        Err(_) => false,
+/// Says what somebody has to type for these words, the program's name first: a plan, or the lines of a session.
+fn say_what_is_waited_for(rt: &HostRuntime, words: &[String]) {
+    let (Ok(task), Some(command)) = (parse(rt.alloc(), words), words.get(1)) else {
+        return;
+    };
+    let command = command.as_str();
+    if let Task::Live = task {
+        let _ = eprintln!(rt;
+            "sja: lines are waited for on standard input, each is answered; the first: live 3 1000 2"
+        );
+    } else if is_of_plan(&task) {
+        let _ = eprintln!(rt;
+            "sja: the plan is waited for on standard input; from a file: sja {command} < plan.toml"
+        );
     }
 }
 

@@ -8,6 +8,7 @@ mod late;
 mod of_node;
 mod remedy;
 mod source;
+mod starts;
 mod undone;
 
 use super::lines::text_of_hints;

@@ -1,14 +1,2 @@
-pub mod Commands
-pub mod FileNames
-pub mod Filters
-pub mod Messages
-pub mod NoFlag
-pub mod Numbers
-pub mod OnWords
-pub mod Parses
-pub mod PlainFiles
-pub mod PlainPictures
-pub mod PlainSweeps
-pub mod PlainWords
-pub mod Rows
-pub mod Several
+pub mod LiteralWords
+pub mod Requests

@@ -18,6 +18,7 @@ mod parsing;
 mod picture_command;
 mod picture_found;
 mod plan_question;
+mod refused_text;
 mod sweep_command;
 mod sweep_found;
 mod sweep_words;

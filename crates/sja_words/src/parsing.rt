@@ -5,13 +5,13 @@ ghost use Rattle.clap.specs.Words.{kind_of, subcommand_rows_of};
 ghost use Rattle.clap.specs.declared.error.kind.ErrorKind.TheVariants as kind;
 ghost use Rattle.sja_words.specs.Words.{IsAnswer, ParsesAs, Request, request_in, request_of};
 
-use super::command::{filter_command, sja_command};
+use super::command::sja_command;
 use super::found::task_of;
-use super::sweep_command::sweep_command;
+use super::refused_text::{refused_text, refused_value};
 use super::task::Task;
 use super::words_fault::WordsFault;
+use clap::ArgMatches;
 use clap::error::{Error, ErrorKind};
-use clap::{ArgMatches, Command};
 use std::alloc::{AllocError, Global};
 use std::convert::AsStr;
 
@@ -26,7 +26,7 @@ pub fn parse<'a, S: AsStr>(alloc: Global, words: &'a [S]) -> Result<Task<'a>, Wo
 {
     match answer_to(alloc, words)? {
         Ok(matches) => task_in(alloc, shown_name(words), &matches),
-        Err(error) => Err(fault_in(alloc, &error)),
+        Err(error) => Err(fault_in(alloc, words, &error)),
     }
 }
 
@@ -57,12 +57,16 @@ fn task_in<'a>(
     }
 }
 
-/// Why the parser refused words: with its own text, where memory wasn't refused.
-fn fault_in(alloc: Global, error: &Error) -> WordsFault
+/// Why the parser refused words: with its own text, where memory wasn't refused, and behind what it says of a value
+/// the usage of the command.
+fn fault_in<S: AsStr>(alloc: Global, words: &[S], error: &Error) -> WordsFault
     ensures { kind_of error.now ≡ kind.OutOfMemory → result ≡ WordsFault.OutOfMemory }
 {
-    match error.kind() {
-        ErrorKind::OutOfMemory => WordsFault::OutOfMemory,
+    match (error.kind(), words.get(1)) {
+        (ErrorKind::OutOfMemory, _) => WordsFault::OutOfMemory,
+        (ErrorKind::InvalidValue | ErrorKind::ValueValidation, Some(command)) => {
+            unparsed(refused_value(alloc, shown_name(words), command.as_str(), error))
+        }
         _ => unparsed(error.to_string(alloc)),
     }
 }
@@ -73,65 +77,6 @@ fn unparsed(text: Result<String, AllocError>) -> WordsFault {
         Ok(text) => WordsFault::Unparsed(text),
         Err(_) => WordsFault::OutOfMemory,
     }
-}
-
-/// What the parser would say of words that it took, and that give no task all the same.
-fn refused_text<'a>(
-    alloc: Global,
-    program: &str,
-    matches: &ArgMatches<'a>,
-) -> Result<String, AllocError> {
-    match matches.subcommand_name() {
-        Some("sweep") => plan_text(alloc, program),
-        _ => mode_text(alloc, program),
-    }
-}
-
-/// What the parser would say, under the program's name `program`, of an option beside `--plan`: with the usage of
-/// `sweep`.
-fn plan_text(alloc: Global, program: &str) -> Result<String, AllocError> {
-    let name = format!(in alloc; "{program} sweep")?;
-    let said = "'--plan <K> <B>' can't be used with another option";
-    text_of(
-        alloc,
-        sweep_command(alloc)?,
-        name.as_str(),
-        ErrorKind::ArgumentConflict,
-        said,
-    )
-}
-
-/// What the parser would say, under the program's name `program`, of a MODE that is none: with the usage of `filter`.
-fn mode_text(alloc: Global, program: &str) -> Result<String, AllocError> {
-    let name = format!(in alloc; "{program} filter")?;
-    let said = "MODE is neither 'single' nor 'dual'";
-    text_of(
-        alloc,
-        filter_command(alloc)?,
-        name.as_str(),
-        ErrorKind::InvalidValue,
-        said,
-    )
-}
-
-/// The text of such an error of a command that goes by this name.
-fn text_of<'a>(
-    alloc: Global,
-    command: Command<'a>,
-    name: &str,
-    kind: ErrorKind,
-    said: &str,
-) -> Result<String, AllocError> {
-    error_of(command.bin_name(name)?, kind, said)?.to_string(alloc)
-}
-
-/// The error, with the usage of the command.
-fn error_of<'a>(
-    mut command: Command<'a>,
-    kind: ErrorKind,
-    said: &str,
-) -> Result<Error, AllocError> {
-    command.error(kind, said)
 }
 
 /// The program's name as the parser shows it: what stands behind the last slash of the first word, or `sja` where

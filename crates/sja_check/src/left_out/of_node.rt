@@ -6,6 +6,7 @@ use super::super::lines::MOST_HINTS;
 use super::super::phrase::placed;
 use super::remedy::remedy_of;
 use super::source::Source;
+use super::starts::Starts;
 use super::undone::undone_hint;
 use sja_log::RunLog;
 use sja_plan::{Plan, RAW_VERSION};
@@ -54,19 +55,20 @@ fn refused_hints(
     requires { node < length plan.now.nodes }
 {
     let steps = plan.steps(node);
-    let mut started = false;
+    let mut starts = Starts::NoneYet;
     for (place, one) in done.iter().enumerate() {
         let step = steps.get(place);
         if let StepAnswer::Refused(refusal) = &one.answer {
             let hint = if found.len() < MOST_HINTS {
-                let remedy = remedy_of(*refusal, plan.version(), step, started);
+                let remedy = remedy_of(*refusal, plan.version(), step, starts);
                 refused_hint(alloc, source, node, place, *refusal, remedy)?
             } else {
                 String::new(alloc)
             };
             found.push(hint)?;
+            starts = starts.after_refusal(*refusal);
         } else if let Some(step) = step {
-            started = started || can_start(plan.version(), step);
+            starts = starts.after(can_start(plan.version(), step));
         }
     }
     Ok(())

@@ -1,18 +1,19 @@
 //! What to do about a refused step.
 
+use super::starts::Starts;
 use sja_plan::RAW_VERSION;
 use sja_script::{Refusal, Step};
 
-/// What to do about a step that was refused so in this version, in a node that was started before or wasn't (the table
-/// of refused steps in docs/REPORT.md).
+/// What to do about a step that was refused so in this version, in a node whose starts have come to this (the table of
+/// refused steps in docs/REPORT.md).
 pub(crate) fn remedy_of(
     refusal: Refusal,
     version: u8,
     step: Option<&Step>,
-    started: bool,
+    starts: Starts,
 ) -> &'static str {
     match refusal {
-        Refusal::WrongState => state_remedy(step, started),
+        Refusal::WrongState => state_remedy(step, starts),
         Refusal::NoActivationLeft if version < RAW_VERSION => "a node has eight starts",
         Refusal::NoActivationLeft => "a node has 64 starts",
         Refusal::Empty => "no message is there; let the bus run",
@@ -30,11 +31,12 @@ pub(crate) fn remedy_of(
 }
 
 /// What to do about a step that needs the other state.
-fn state_remedy(step: Option<&Step>, started: bool) -> &'static str {
-    match step {
-        Some(Step::Start) => "put \"stop\" before it",
-        _ if started => "put \"start\" again before it",
-        _ => "put \"start\" before it",
+fn state_remedy(step: Option<&Step>, starts: Starts) -> &'static str {
+    match (step, starts) {
+        (Some(Step::Start), _) => "put \"stop\" before it",
+        (_, Starts::NoneYet) => "put \"start\" before it",
+        (_, Starts::Begun) => "put \"start\" again before it",
+        (_, Starts::Spent) => "no start of the node is left",
     }
 }
 

@@ -1,4 +1,4 @@
-use Rattle.sja_words.proofs.Commands.{read_as}
+use Rattle.sja_words.proofs.Requests.Commands.{read_as}
 use Rattle.sja_words.specs.CommandLine.{sja_app}
 use Rattle.sja_words.proofs.command.sja_command.Goals as goal
 

@@ -1,4 +1,4 @@
-use Rattle.sja_words.proofs.Commands.{adds_rule, none_made}
+use Rattle.sja_words.proofs.Requests.Commands.{adds_rule, none_made}
 use Rattle.std.proofs.Common.{rules}
 use Rattle.sja_words.proofs.described.with_argument.Goals as goal
 

@@ -5,8 +5,8 @@ use Rattle.std.specs.Result.{is_err, IsOk, OnOk}
 use Rattle.std.proofs.lemmas.Bool.{eqb-true, eqb-false}
 use Rattle.std.proofs.lemmas.List.{length-map}
 use Rattle.sja_words.specs.Words.{request_of, arbitrate}
-use Rattle.sja_words.proofs.Rows.{raw_values-rows}
-use Rattle.sja_words.proofs.Several.{nothing_asked, not_asked, arbitrate_asked}
+use Rattle.sja_words.proofs.Requests.Rows.{raw_values-rows}
+use Rattle.sja_words.proofs.Requests.Several.{nothing_asked, not_asked, arbitrate_asked}
 use Rattle.sja_words.proofs.found.arbitrate_task.Goals as goal
 use Rattle.sja_words.proofs.found.arbitrate_task.Goals.{then-is_empty-via-then-is_empty}
 use Rattle.sja_words.proofs.found.arbitrate_task.Goals.{then-is_empty-via-else-is_empty+then-is_err}

@@ -1,5 +1,5 @@
 use Rattle.std.proofs.Common.{◌∙◌}
-use Rattle.sja_words.proofs.Rows.{first_value-rows}
+use Rattle.sja_words.proofs.Requests.Rows.{first_value-rows}
 use Rattle.sja_words.proofs.found.text_at.Goals as goal
 
 pub returns : goal.returns

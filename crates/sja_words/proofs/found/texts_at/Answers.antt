@@ -1,5 +1,5 @@
 use Rattle.std.proofs.Common.{◌∙◌}
-use Rattle.sja_words.proofs.Rows.{raw_values-rows}
+use Rattle.sja_words.proofs.Requests.Rows.{raw_values-rows}
 use Rattle.sja_words.proofs.found.texts_at.Goals as goal
 
 pub returns : goal.returns

@@ -1,4 +1,4 @@
-use Rattle.sja_words.proofs.PlainWords.{no_subcommand, no_message}
+use Rattle.sja_words.proofs.LiteralWords.PlainWords.{no_subcommand, no_message}
 use Rattle.sja_words.proofs.laws.a_message_is_needed.Goals as goal
 
 pub returns-clause-name : goal.returns-clause-name

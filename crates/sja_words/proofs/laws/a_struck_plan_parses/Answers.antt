@@ -1,4 +1,4 @@
-use Rattle.sja_words.proofs.PlainSweeps.{plan, one_number, beside}
+use Rattle.sja_words.proofs.LiteralWords.PlainSweeps.{plan, one_number, beside}
 use Rattle.sja_words.proofs.laws.a_struck_plan_parses.Goals as goal
 
 pub returns-clause-numbers : goal.returns-clause-numbers

@@ -1,4 +1,4 @@
-use Rattle.sja_words.proofs.Messages.{more_messages, no_messages, some_messages}
+use Rattle.sja_words.proofs.Requests.Messages.{more_messages, no_messages, some_messages}
 use Rattle.sja_words.proofs.laws.arbitrate_and_texts_parse.Goals as goal
 
 pub returns-clause-texts : goal.returns-clause-texts

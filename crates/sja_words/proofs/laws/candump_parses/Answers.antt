@@ -1,4 +1,4 @@
-use Rattle.sja_words.proofs.PlainPictures.{plain, errors, candump_in_threads}
+use Rattle.sja_words.proofs.LiteralWords.PlainPictures.{plain, errors, candump_in_threads}
 use Rattle.sja_words.proofs.laws.candump_parses.Goals as goal
 
 pub returns-clause-plain : goal.returns-clause-plain

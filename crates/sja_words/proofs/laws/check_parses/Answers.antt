@@ -1,5 +1,5 @@
-use Rattle.sja_words.proofs.FileNames.{check_files}
-use Rattle.sja_words.proofs.PlainWords.{check_alone}
+use Rattle.sja_words.proofs.Requests.FileNames.{check_files}
+use Rattle.sja_words.proofs.LiteralWords.PlainWords.{check_alone}
 use Rattle.sja_words.proofs.laws.check_parses.Goals as goal
 
 pub returns-clause-input : goal.returns-clause-input

@@ -1,4 +1,4 @@
-use Rattle.sja_words.proofs.PlainWords.{empty_line, line}
+use Rattle.sja_words.proofs.LiteralWords.PlainWords.{empty_line, line}
 use Rattle.sja_words.proofs.laws.decode_and_a_text_parse.Goals as goal
 
 pub returns-clause-empty : goal.returns-clause-empty

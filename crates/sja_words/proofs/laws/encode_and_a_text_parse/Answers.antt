@@ -1,4 +1,4 @@
-use Rattle.sja_words.proofs.PlainWords.{empty_text, text}
+use Rattle.sja_words.proofs.LiteralWords.PlainWords.{empty_text, text}
 use Rattle.sja_words.proofs.laws.encode_and_a_text_parse.Goals as goal
 
 pub returns-clause-empty : goal.returns-clause-empty

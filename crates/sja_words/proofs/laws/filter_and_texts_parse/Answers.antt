@@ -1,5 +1,5 @@
 use Rattle.std.proofs.Common.{codes, false, refl, true}
-use Rattle.sja_words.proofs.Filters.{filtering, no_mode}
+use Rattle.sja_words.proofs.Requests.Filters.{filtering, no_mode}
 use Rattle.sja_words.proofs.laws.filter_and_texts_parse.Goals as goal
 
 pub returns-clause-single : goal.returns-clause-single

@@ -1,4 +1,4 @@
-use Rattle.sja_words.proofs.PlainWords.{frames_alone, frames_in_threads}
+use Rattle.sja_words.proofs.LiteralWords.PlainWords.{frames_alone, frames_in_threads}
 use Rattle.sja_words.proofs.laws.frames_parses.Goals as goal
 
 pub returns-clause-one : goal.returns-clause-one

@@ -1,4 +1,4 @@
-use Rattle.sja_words.proofs.PlainWords.{live_alone}
+use Rattle.sja_words.proofs.LiteralWords.PlainWords.{live_alone}
 use Rattle.sja_words.proofs.laws.live_parses.Goals as goal
 
 pub returns : goal.returns

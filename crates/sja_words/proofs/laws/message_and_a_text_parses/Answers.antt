@@ -1,4 +1,4 @@
-use Rattle.sja_words.proofs.PlainWords.{empty_form, form}
+use Rattle.sja_words.proofs.LiteralWords.PlainWords.{empty_form, form}
 use Rattle.sja_words.proofs.laws.message_and_a_text_parses.Goals as goal
 
 pub returns-clause-empty : goal.returns-clause-empty

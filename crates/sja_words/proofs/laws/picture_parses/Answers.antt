@@ -1,4 +1,4 @@
-use Rattle.sja_words.proofs.PlainPictures.{all, all_words, both, first, past, svg, threads}
+use Rattle.sja_words.proofs.LiteralWords.PlainPictures.{all, all_words, both, first, past, svg, threads}
 use Rattle.sja_words.proofs.laws.picture_parses.Goals as goal
 
 pub returns-clause-all : goal.returns-clause-all

@@ -1,6 +1,6 @@
-use Rattle.sja_words.proofs.FileNames.{run_files}
-use Rattle.sja_words.proofs.PlainFiles.{run_jobs}
-use Rattle.sja_words.proofs.PlainWords.{run_alone, run_in_threads}
+use Rattle.sja_words.proofs.Requests.FileNames.{run_files}
+use Rattle.sja_words.proofs.LiteralWords.PlainFiles.{run_jobs}
+use Rattle.sja_words.proofs.LiteralWords.PlainWords.{run_alone, run_in_threads}
 use Rattle.sja_words.proofs.laws.run_parses.Goals as goal
 
 pub returns-clause-one : goal.returns-clause-one

@@ -1,4 +1,4 @@
-use Rattle.sja_words.proofs.PlainSweeps.{all, named, pairs, flags, past}
+use Rattle.sja_words.proofs.LiteralWords.PlainSweeps.{all, named, pairs, flags, past}
 use Rattle.sja_words.proofs.laws.sweep_parses.Goals as goal
 
 pub returns-clause-all : goal.returns-clause-all

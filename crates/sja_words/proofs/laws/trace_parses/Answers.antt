@@ -1,5 +1,5 @@
-use Rattle.sja_words.proofs.PlainFiles.{trace_file, trace_files}
-use Rattle.sja_words.proofs.PlainWords.{trace_alone, trace_in_threads}
+use Rattle.sja_words.proofs.LiteralWords.PlainFiles.{trace_file, trace_files}
+use Rattle.sja_words.proofs.LiteralWords.PlainWords.{trace_alone, trace_in_threads}
 use Rattle.sja_words.proofs.laws.trace_parses.Goals as goal
 
 pub returns-clause-one : goal.returns-clause-one

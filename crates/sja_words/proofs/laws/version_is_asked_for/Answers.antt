@@ -1,4 +1,4 @@
-use Rattle.sja_words.proofs.PlainWords.{long_version, short_version}
+use Rattle.sja_words.proofs.LiteralWords.PlainWords.{long_version, short_version}
 use Rattle.sja_words.proofs.laws.version_is_asked_for.Goals as goal
 
 pub returns-clause-long : goal.returns-clause-long

@@ -1,4 +1,4 @@
-use Rattle.sja_words.proofs.PlainWords.{wave_alone, wave_in_threads}
+use Rattle.sja_words.proofs.LiteralWords.PlainWords.{wave_alone, wave_in_threads}
 use Rattle.sja_words.proofs.laws.wave_parses.Goals as goal
 
 pub returns-clause-one : goal.returns-clause-one

@@ -1,5 +1,5 @@
 use Rattle.std.proofs.Common.{map}
-use Rattle.sja_words.proofs.Parses.{answered}
+use Rattle.sja_words.proofs.Requests.Parses.{answered}
 use Rattle.sja_words.proofs.parsing.answer_to.Goals as goal
 
 pub returns : goal.returns

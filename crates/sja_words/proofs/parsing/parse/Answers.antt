@@ -1,6 +1,6 @@
 use Rattle.std.proofs.Common.{map}
 use Rattle.std.proofs.lemmas.Result.{IfOk-weaker}
-use Rattle.sja_words.proofs.Parses.{asked_request, refused_request, taken_request}
+use Rattle.sja_words.proofs.Requests.Parses.{asked_request, refused_request, taken_request}
 use Rattle.sja_words.proofs.parsing.parse.Goals as goal
 
 pub returns-in-Ok-clause-ok : goal.returns-in-Ok-clause-ok

@@ -1,5 +1,5 @@
 use Rattle.std.proofs.Common.{◌≤◌, arith}
-use Rattle.sja_words.proofs.Numbers.{is_number, no_number}
+use Rattle.sja_words.proofs.Requests.Numbers.{is_number, no_number}
 use Rattle.sja_words.proofs.sweep_found.number_in.Goals as goal
 
 pub returns-in-Ok-clause-value : goal.returns-in-Ok-clause-value

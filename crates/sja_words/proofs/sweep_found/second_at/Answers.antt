@@ -1,7 +1,7 @@
 use Rattle.std.proofs.Common.{◌≡◌, Some, None, refl, sym, ap, map, ◌∙◌}
 use Rattle.std.specs.Prelude.{option_map, option_and_then, slice_get}
 use Rattle.clap.specs.Words.{all_of, found_of, rows_of}
-use Rattle.sja_words.proofs.Rows.{no_second, raw_values-rows, second_now}
+use Rattle.sja_words.proofs.Requests.Rows.{no_second, raw_values-rows, second_now}
 use Rattle.sja_words.proofs.sweep_found.second_at.Goals as goal
 
 pub returns-in_err-texts : goal.returns-in_err-texts

@@ -14,9 +14,9 @@ use Rattle.clap.specs.declared.builder.value_parser.ValueParser.TheVariants as p
 use Rattle.sja_words.specs.CommandLine.{arbitrate_app, sja_app}
 use Rattle.sja_words.specs.Words.{HasNoFlag, ParsesAs, Request, arbitrate, arbitrate_in, asked, begins_with_hyphen}
 use Rattle.sja_words.specs.Words.{faults, request_in}
-use Rattle.sja_words.proofs.NoFlag.{each_of, no_dashes, no_hyphen}
-use Rattle.sja_words.proofs.Several.{arbitrate_asked, not_asked}
-use Rattle.sja_words.proofs.OnWords.{sja_on_literals}
+use Rattle.sja_words.proofs.LiteralWords.NoFlag.{each_of, no_dashes, no_hyphen}
+use Rattle.sja_words.proofs.Requests.Several.{arbitrate_asked, not_asked}
+use Rattle.sja_words.proofs.LiteralWords.OnWords.{sja_on_literals}
 
 -- `arbitrate` as the parser has built it
 abbrev pub shape : Shape
@@ -158,7 +158,7 @@ unfolding sja_on_literals
 words_fit words = left_alone program.top (names_of program) (walk_from nothing_held) (codes "arbitrate") [] words
 
 -- what the program refuses, by the faults of its walk, what the subcommand refuses, and where the walk ends
-abbrev program_ends_with : Kinds → Walk → Kinds
+abbrev pub program_ends_with : Kinds → Walk → Kinds
 program_ends_with fault w =
     or_else fault (or_else (entered_fault program w.stopped)
     (or_else (settle_fault program.top.rules false w.held)

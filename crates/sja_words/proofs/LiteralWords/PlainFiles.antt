@@ -2,7 +2,7 @@
 use Rattle.std.proofs.Common.{ℕ, List, [], ◌∷◌, codes, refl, false}
 use Rattle.sja_words.specs.Words.{Request, ParsesAs, asked, faults, files}
 use Rattle.sja_words.specs.declared.plan_question.PlanQuestion.TheVariants.{Report, Trace}
-use Rattle.sja_words.proofs.OnWords.{sja_on_literals}
+use Rattle.sja_words.proofs.LiteralWords.OnWords.{sja_on_literals}
 
 -- three names, of which one is the input, and the number of threads among them
 pub run_jobs : (name : List ℕ) →

@@ -1,7 +1,7 @@
 -- What the words of `sweep` ask for, by computing the parser's answer.
 use Rattle.std.proofs.Common.{ℕ, List, [], ◌∷◌, codes, refl, true, Some}
 use Rattle.sja_words.specs.Words.{Request, ParsesAs, all_swept, asked, faults, struck_plan, sweep}
-use Rattle.sja_words.proofs.OnWords.{sja_on_literals}
+use Rattle.sja_words.proofs.LiteralWords.OnWords.{sja_on_literals}
 
 -- nothing behind it
 pub all : (name : List ℕ) → ParsesAs (name ∷ codes "sweep" ∷ []) (sweep all_swept)

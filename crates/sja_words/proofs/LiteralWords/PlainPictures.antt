@@ -1,7 +1,7 @@
 -- What the words of `picture` and `candump` ask for, by computing the parser's answer.
 use Rattle.std.proofs.Common.{ℕ, List, [], ◌∷◌, codes, refl, true, false, Some, None}
 use Rattle.sja_words.specs.Words.{Request, ParsesAs, asked, candump, faults, picture}
-use Rattle.sja_words.proofs.OnWords.{sja_on_literals}
+use Rattle.sja_words.proofs.LiteralWords.OnWords.{sja_on_literals}
 
 -- nothing behind it
 pub all : (name : List ℕ) → ParsesAs (name ∷ codes "picture" ∷ []) (picture 0 None false false)

@@ -5,49 +5,20 @@ use Rattle.std.proofs.lemmas.Slice.Eq.{bytes_eq-Decides}
 use Rattle.std.specs.Str.{bytes_eq}
 use Rattle.clap.specs.Words.{Text}
 use Rattle.sja_words.specs.Words.{HasNoFlag, ParsesAs, Request, begins_with_hyphen, filter, single_in, asked, faults}
-use Rattle.sja_words.proofs.NoFlag.{each_of, no_dashes, no_hyphen}
-use Rattle.sja_words.proofs.OnWords.{sja_on_literals}
+use Rattle.sja_words.proofs.LiteralWords.NoFlag.{each_of, no_dashes, no_hyphen}
+use Rattle.sja_words.proofs.LiteralWords.OnWords.{sja_on_literals}
 
--- four texts of which none begins with `-`, behind `filter`
-asked_four : (name a b c d : Text) → begins_with_hyphen a ≡ false → begins_with_hyphen b ≡ false
+-- of four texts behind `filter`, of which none begins with `-`, none is refused, and they ask for this
+of_four : (name a b c d : Text) → begins_with_hyphen a ≡ false → begins_with_hyphen b ≡ false
     → begins_with_hyphen c ≡ false → begins_with_hyphen d ≡ false →
-    asked (name ∷ codes "filter" ∷ a ∷ b ∷ c ∷ d ∷ []) ≡ option_map (λ single. filter single b c d) (single_in a)
-unfolding sja_on_literals asked
-asked_four name a b c d ha hb hc hd =
-    rw (
-      no_dashes a ha,
-      no_hyphen a ha,
-      no_hyphen a ha,
-      no_dashes b hb,
-      no_hyphen b hb,
-      no_hyphen b hb,
-      no_dashes c hc,
-      no_hyphen c hc,
-      no_hyphen c hc,
-      no_dashes d hd,
-      no_hyphen d hd,
-      no_hyphen d hd,
-    ) refl
-
-taken_four : (name a b c d : Text) → begins_with_hyphen a ≡ false → begins_with_hyphen b ≡ false
-    → begins_with_hyphen c ≡ false → begins_with_hyphen d ≡ false →
-    faults (name ∷ codes "filter" ∷ a ∷ b ∷ c ∷ d ∷ []) ≡ []
-unfolding sja_on_literals faults
-taken_four name a b c d ha hb hc hd =
-    rw (
-      no_dashes a ha,
-      no_hyphen a ha,
-      no_hyphen a ha,
-      no_dashes b hb,
-      no_hyphen b hb,
-      no_hyphen b hb,
-      no_dashes c hc,
-      no_hyphen c hc,
-      no_hyphen c hc,
-      no_dashes d hd,
-      no_hyphen d hd,
-      no_hyphen d hd,
-    ) refl
+    (faults (name ∷ codes "filter" ∷ a ∷ b ∷ c ∷ d ∷ []) ≡ [])
+    × (asked (name ∷ codes "filter" ∷ a ∷ b ∷ c ∷ d ∷ []) ≡ option_map (λ single. filter single b c d) (single_in a))
+unfolding sja_on_literals faults asked
+of_four name a b c d ha hb hc hd =
+    rw (no_dashes a ha, no_hyphen a ha, no_hyphen a ha)
+    (rw (no_dashes b hb, no_hyphen b hb, no_hyphen b hb)
+    (rw (no_dashes c hc, no_hyphen c hc, no_hyphen c hc)
+    (rw (no_dashes d hd, no_hyphen d hd, no_hyphen d hd) (refl, refl))))
 
 -- with a mode in the first place
 pub filtering : (name mode acr amr message : Text) (is_single : Bool) → begins_with_hyphen mode ≡ false →
@@ -57,11 +28,8 @@ filtering name mode acr amr message is_single m is h =
     let first = each_of acr (amr ∷ message ∷ []) h in
     let second = each_of amr (message ∷ []) first.1 in
     let third = each_of message [] second.1 in
-    record {
-      taken = taken_four name mode acr amr message m first.0 second.0 third.0;
-      asks = asked_four name mode acr amr message m first.0 second.0 third.0
-          ∙ ap (option_map (λ single. filter single acr amr message)) is;
-    }
+    let four = of_four name mode acr amr message m first.0 second.0 third.0 in
+    record { taken = four.0; asks = four.1 ∙ ap (option_map (λ single. filter single acr amr message)) is }
 
 -- two texts that differ
 unequal : (a b : Text) → ¬ (a ≡ b) → bytes_eq a b ≡ false
@@ -82,7 +50,7 @@ no_mode name mode acr amr message r not_single not_dual h parses =
     let third = each_of message [] second.1 in
     let none : single_in mode ≡ None =
     rw (unequal mode (codes "single") not_single, unequal mode (codes "dual") not_dual) refl in
-    let nothing : None ≡ Some r = sym (asked_four name mode acr amr message m.0 first.0 second.0 third.0
+    let nothing : None ≡ Some r = sym ((of_four name mode acr amr message m.0 first.0 second.0 third.0).1
     ∙ ap (option_map (λ single. filter single acr amr message)) none)
     ∙ parses.asks in
     cc

@@ -2,21 +2,20 @@
 use Rattle.std.proofs.Common.{◌≡◌, ◌<◌, ◌≤◌, ◌++◌, ◌^◌, ℕ, Bool, List, [], ◌∷◌, codes, refl, false, true}
 use Rattle.std.proofs.Common.{Option, None, Some, ◌∙◌, sym, ap, ap₂, arith, length}
 use Rattle.std.specs.List.{fold}
-use Rattle.std.specs.Prelude.{is_some}
 use Rattle.std.proofs.lemmas.Bool.{le-ltb, ne_eqb}
 use Rattle.std.proofs.lemmas.List.{append-nil, append_assoc}
 use Rattle.clap.specs.Kinds.{Kinds, or_else, range_kinds}
-use Rattle.clap.specs.Faults.{check_fault, defaults_fault, entered_fault, level_fault, settle_fault, walk_fault}
-use Rattle.clap.specs.Simple.{Shape, built_leaf, entered, names_of}
+use Rattle.clap.specs.Faults.{check_fault, defaults_fault, level_fault, settle_fault, walk_fault}
+use Rattle.clap.specs.Simple.{Shape, built_leaf, names_of}
 use Rattle.clap.specs.Walk.{Walk, settled, finished, nothing_held, positional, walk, walk_from, walked}
 use Rattle.clap.specs.Words.{Text}
 use Rattle.sja_words.specs.CommandLine.{check_app, run_app}
 use Rattle.sja_words.specs.Words.{HasNoFlag, ParsesAs, Request, asked, begins_with_hyphen, faults, files, request_by}
 use Rattle.sja_words.specs.declared.plan_question.PlanQuestion.{PlanQuestion}
 use Rattle.sja_words.specs.declared.plan_question.PlanQuestion.TheVariants.{Check, Report}
-use Rattle.sja_words.proofs.Messages.{asked_in, left_alone, left_over, program, texts_pass}
-use Rattle.sja_words.proofs.NoFlag.{each_of, no_dashes, no_hyphen}
-use Rattle.sja_words.proofs.OnWords.{sja_on_literals}
+use Rattle.sja_words.proofs.Requests.Messages.{asked_in, left_alone, left_over, program, program_ends_with, texts_pass}
+use Rattle.sja_words.proofs.LiteralWords.NoFlag.{each_of, no_dashes, no_hyphen}
+use Rattle.sja_words.proofs.LiteralWords.OnWords.{sja_on_literals}
 
 -- `check` (`true`), or `run`
 abbrev word : Bool → Text
@@ -152,14 +151,6 @@ words_fit : (c : Bool) (words : List Text) →
 unfolding sja_on_literals
 words_fit true words = left_alone program.top (names_of program) (walk_from nothing_held) (codes "check") [] words
 words_fit false words = left_alone program.top (names_of program) (walk_from nothing_held) (codes "run") [] words
-
--- what the program refuses, by the faults of its walk, what the subcommand refuses, and where the walk ends
-abbrev program_ends_with : Kinds → Walk → Kinds
-program_ends_with fault w =
-    or_else fault (or_else (entered_fault program w.stopped)
-    (or_else (settle_fault program.top.rules false w.held)
-    (or_else (defaults_fault (settled program.top.rules w.held).rows program.top.rules)
-    (check_fault program.top (finished program.top.rules w.held) (is_some (entered program w.stopped))))))
 
 taken_files : (c : Bool) (name first : Text) (texts : List Text) → HasNoFlag (first ∷ texts) →
     length (first ∷ texts) < 2 ^ 64 → faults (name ∷ word c ∷ first ∷ texts) ≡ []

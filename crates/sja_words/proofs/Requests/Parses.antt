@@ -9,7 +9,7 @@ use Rattle.clap.specs.declared.error.kind.ErrorKind.TheVariants.{OutOfMemory}
 use Rattle.clap.specs.declared.parser.matches.ArgMatches.{ArgMatches}
 use Rattle.sja_words.specs.CommandLine.{sja_app}
 use Rattle.sja_words.specs.Words.{IsAnswer, ParsesAs, Request, asked, faults, request_in}
-use Rattle.sja_words.proofs.OnWords.{sja_on_literals}
+use Rattle.sja_words.proofs.LiteralWords.OnWords.{sja_on_literals}
 
 -- the program's commands are such that the parser's answer is known
 is_plain : is_simple sja_app ≡ true
