@@ -8,3 +8,5 @@ pub mod Contending
 pub mod Machine
 pub mod Examples
 pub mod Requests
+pub mod Driven
+pub mod CutRecords

@@ -1,6 +1,7 @@
 -- ---- a record: what happened to a node
 pub mod Bits
 pub mod Record
+pub mod BetweenBits
 -- ---- the pieces of a record: what each is, where it may stand, what follows it
 pub mod Pieces
 pub mod Context

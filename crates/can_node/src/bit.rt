@@ -52,7 +52,7 @@ impl Node {
         let held = self.context.held.is_some();
         let off = self.context.counters.off;
         let loses = lost.is_some();
-        let after = self.after_bit(driven, level, loses, room);
+        let after = self.after_bit(level, loses, room);
         self.context.step_bit(self.stage, driven, level, loses);
         let sent = after.is_sent();
         self.go_to(&after);
@@ -70,23 +70,17 @@ impl Node {
     }
 
     /// What a bit makes of the piece under way, by the node's stage; arbitration is lost in it or not.
-    fn after_bit(
-        &mut self,
-        driven: Level,
-        seen: Level,
-        lost: bool,
-        room: Option<&mut KeptFrame>,
-    ) -> AfterBit
+    fn after_bit(&mut self, seen: Level, lost: bool, room: Option<&mut KeptFrame>) -> AfterBit
         ensures kept { self.new ≡ record self.old { shift = self.new.shift } }
         ensures turn { TurnsFrom
             (λ c place bits. At self.old.stage self.old.shift c (context_of self.old.context) place bits)
-            self.old self.new.shift driven seen lost result }
+            self.old self.new.shift self.old.next seen lost result }
     {
         match self.stage {
             Stage::InReset => AfterBit::InPiece(Stage::InReset),
             Stage::Integrating { left, run } => after_integration_bit(left, run, seen),
-            Stage::BusIdle => self.after_idle_bit(driven, seen),
-            Stage::InFrame => self.after_frame_bit(driven, seen, lost, room),
+            Stage::BusIdle => self.after_idle_bit(seen),
+            Stage::InFrame => self.after_frame_bit(seen, lost, room),
             Stage::LastEofBit => after_last_eof_bit(seen),
             Stage::InFlag { bits, last } => self.after_flag_bit(bits, last, seen),
             Stage::InDelimiter {
@@ -100,11 +94,11 @@ impl Node {
     }
 
     /// A bit where the bus is idle: it stays idle, or a frame begins with its SOF.
-    fn after_idle_bit(&mut self, driven: Level, seen: Level) -> AfterBit
+    fn after_idle_bit(&mut self, seen: Level) -> AfterBit
         ensures kept { self.new ≡ record self.old { shift = self.new.shift } }
         ensures turn { let now = context_of self.old.context in now.role ≡ Receiver
-            → HasBody self.old.context self.old.body → Drives now AtIdle [] driven
-            → IsTurn self.new.shift now now AtIdle [] (record { driven = driven; seen = seen }) result }
+            → HasBody self.old.context self.old.body → Drives now AtIdle [] self.old.next
+            → IsTurn self.new.shift now now AtIdle [] (record { driven = self.old.next; seen = seen }) result }
     {
         self.shift = Shift::new();
         match &self.context.held {
@@ -114,7 +108,7 @@ impl Node {
                     request,
                     self.context.self_test,
                     false,
-                    driven,
+                    self.next,
                     seen,
                 )
             }
@@ -138,19 +132,13 @@ impl Node {
     }
 
     /// A bit of a frame, after its SOF.
-    fn after_frame_bit(
-        &mut self,
-        driven: Level,
-        seen: Level,
-        lost: bool,
-        room: Option<&mut KeptFrame>,
-    ) -> AfterBit
+    fn after_frame_bit(&mut self, seen: Level, lost: bool, room: Option<&mut KeptFrame>) -> AfterBit
         ensures kept { self.new ≡ record self.old { shift = self.new.shift } }
         ensures turn { TurnsFrom (λ c place bits. IsReading self.old.shift c (context_of self.old.context) place bits)
-            self.old self.new.shift driven seen lost result }
+            self.old self.new.shift self.old.next seen lost result }
     {
         match self.context.role {
-            Role::Receiver => receive(&mut self.shift, driven, seen, room),
+            Role::Receiver => receive(&mut self.shift, self.next, seen, room),
             Role::Transmitter => match &self.context.held {
                 Some(request) => {
                     transmit(
@@ -158,7 +146,7 @@ impl Node {
                         request,
                         self.context.self_test,
                         lost,
-                        driven,
+                        self.next,
                         seen,
                     )
                 }

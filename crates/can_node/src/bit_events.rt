@@ -28,8 +28,8 @@ impl BitEvents {
     ghost use Rattle.std.specs.Prelude.{◌≡◌};
     ghost use Rattle.can_node.specs.Stands.{nothing};
 
-    /// A bit in which nothing happened, to a receiver or not.
-    pub(crate) fn nothing(receiving: bool) -> BitEvents
+    /// What a bit brings in which nothing happened, to a receiver or not (this project's own rule).
+    pub fn nothing(receiving: bool) -> BitEvents
         ensures { result ≡ nothing receiving }
     {
         BitEvents {

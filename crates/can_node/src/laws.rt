@@ -1,9 +1,10 @@
 //! Laws of the cut of a record into pieces. Each stands as the contract of a function that does nothing.
 
-ghost use Rattle.std.specs.Prelude.{◌≡◌, ◌++◌, ◌-◌, ℕ, true, false, map, List, []};
+ghost use Rattle.std.specs.Prelude.{◌≡◌, ◌++◌, ◌∷◌, ◌-◌, ℕ, true, false, map, List, []};
 ghost use Rattle.can_bits.specs.declared.level.Level.{Level};
 ghost use Rattle.can_node.specs.declared.config.Config.{Config};
 ghost use Rattle.can_node.specs.declared.phase.Phase.{Phase};
+ghost use Rattle.can_node.specs.BetweenBits.{IsBetweenBits};
 ghost use Rattle.can_node.specs.Bits.{Bit, recessive_bits};
 ghost use Rattle.can_node.specs.Context.{ContextValue, fresh};
 ghost use Rattle.can_node.specs.Pieces.{Place, Piece};
@@ -12,9 +13,9 @@ ghost use Rattle.can_node.specs.Record.{RecordEntry};
 ghost use Rattle.can_node.specs.Record.RecordEntry.{OneBit};
 ghost use Rattle.can_node.specs.Table.{Row, Elevens};
 ghost use Rattle.can_node.specs.Effects.{along};
-ghost use Rattle.can_node.specs.FinishedPieces.{received};
+ghost use Rattle.can_node.specs.FinishedPieces.{FinishedPiece, received};
 ghost use Rattle.can_node.specs.Cut.{IsCut};
-ghost use Rattle.can_node.specs.NextBit.{now_in, phase_in};
+ghost use Rattle.can_node.specs.NextBit.{DrivesIn, now_in, phase_in};
 ghost use Rattle.can_node.specs.WorkedReception.{record_of_reception, pieces_of_reception, frames_of_reception};
 ghost use Rattle.can_node.specs.Stands.{HasOneCut};
 
@@ -31,6 +32,20 @@ pub fn pieces_are_told_apart()
 /// isn't finished (this project's own rule).
 pub fn a_record_has_one_cut()
     ensures { (entries : List RecordEntry) → HasOneCut entries }
+{}
+
+/// In each bit of a record that has a cut the node drove what the cut of the entries before the bit says (this
+/// project's own rule, of which the standard's rules for each place are the parts).
+pub fn a_bit_is_driven_as_the_cut_says()
+    ensures { (entries more : List RecordEntry) (b : Bit) (found others : List FinishedPiece)
+        → (h : IsCut entries found) → IsCut (entries ++ OneBit b ∷ more) others → DrivesIn h b.driven }
+{}
+
+/// A record that has a cut has one without its last entry too, where that is a start, a stop, a request or an abort
+/// (this project's own rule).
+pub fn a_front_has_a_cut()
+    ensures { (entries : List RecordEntry) (e : RecordEntry) (others : List FinishedPiece) → IsBetweenBits e
+        → IsCut (entries ++ e ∷ []) others → (found : List FinishedPiece) × IsCut entries found }
 {}
 
 /// After bus-off, where the node doesn't only listen, each list of levels with its first eleven successive recessive

@@ -59,8 +59,8 @@ pub use contention_laws::{contention_has_one_answer, some_frame_goes_on};
 pub use counters::{BUS_OFF, Counters, ERROR_PASSIVE};
 pub use flag_kind::FlagKind;
 pub use laws::{
-    a_frame_of_another_node_is_received, a_record_has_one_cut, each_eleven_takes_one,
-    pieces_are_told_apart,
+    a_bit_is_driven_as_the_cut_says, a_frame_of_another_node_is_received, a_front_has_a_cut,
+    a_record_has_one_cut, each_eleven_takes_one, pieces_are_told_apart,
 };
 pub use node::Node;
 pub use outcome::Outcome;

@@ -4,6 +4,8 @@ use Rattle.std.proofs.Common.{List, [], ◌∷◌, ◌++◌, reverse, replicate,
 use Rattle.std.proofs.lemmas.List.{reverse-append, replicate_more, append_cancel_left, append-nil}
 use Rattle.std.proofs.lemmas.List.{take-append-drop, drop_more, take_at, drop_at, length-take-le, length-drop}
 use Rattle.std.proofs.Math.Seq.{take-add}
+-- the rest of a list after a front of it
+pub use Rattle.std.proofs.lemmas.List.{append_cancel_left as append-cancel}
 
 -- a list with one more in front, reversed
 pub reverse-cons : {A : Type 0} (x : A) (l : List A) → reverse (x ∷ l) ≡ reverse l ++ x ∷ []
@@ -12,6 +14,13 @@ reverse-cons x l = reverse-append (x ∷ []) l
 -- a list with one more at its end, reversed
 pub reverse-push : {A : Type 0} (l : List A) (x : A) → reverse (l ++ x ∷ []) ≡ x ∷ reverse l
 reverse-push l x = reverse-append l (x ∷ [])
+
+-- the last place of a list with one more at its end
+pub push_here : {A : Type 0} (l : List A) (x d : A) (i : ℕ) → i ≡ length l → get_or (l ++ x ∷ []) i d ≡ x
+push_here [] x d zero e = refl
+push_here [] x d (suc i) e = absurd (omega arith)
+push_here (y ∷ l) x d zero e = absurd (omega arith)
+push_here (y ∷ l) x d (suc i) e = push_here l x d i (omega arith)
 
 -- copies of one element, reversed
 pub reverse-replicate : {A : Type 0} (n : ℕ) (x : A) → reverse (replicate n x) ≡ replicate n x
@@ -42,10 +51,6 @@ last_of (y ∷ l) =
       | inr some ↦ inr (y ∷ some.0, some.1, ap (λ t. y ∷ t) some.2)
     ]
 
--- the rest of a list after a front of it
-pub append-cancel : {A : Type 0} (a x y : List A) → a ++ x ≡ a ++ y → x ≡ y
-append-cancel a x y e = append_cancel_left a x y e
-
 -- a list is empty or has a first element
 pub cases_list : {A : Type 0} (l : List A) → (l ≡ []) ⊎ ((x : A) × (rest : List A) × (l ≡ x ∷ rest))
 cases_list [] = inl refl
@@ -60,6 +65,15 @@ pub split_at : {A : Type 0} (l : List A) (i : ℕ) (d : A) → i < length l → 
 split_at l i d h =
     sym (take-append-drop i l) ∙ ap (λ r. take i l ++ r)
     (drop_more l i d h ∙ ap (λ n. get_or l i d ∷ drop n l) (add-one i))
+
+-- of two lists that are none together each is none
+pub none_front : {A : Type 0} (a b : List A) → a ++ b ≡ [] → a ≡ []
+none_front [] b e = refl
+none_front (x ∷ a) b e = absurd cc
+
+pub none_back : {A : Type 0} (a b : List A) → a ++ b ≡ [] → b ≡ []
+none_back [] b e = e
+none_back (x ∷ a) b e = absurd cc
 
 -- equal lists, each in two parts: first parts of one length are equal, and so are the second ones
 pub append-split : {A : Type 0} (a b c d : List A) → length a ≡ length c → a ++ b ≡ c ++ d → (a ≡ c) × (b ≡ d)

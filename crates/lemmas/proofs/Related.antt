@@ -1,5 +1,6 @@
 -- Lists whose elements are related place by place.
-use Rattle.std.proofs.Common.{◌≡◌, ℕ, zero, suc, ◌<◌, List, [], ◌∷◌, length, slice_index_or, slice_set, refl, arith}
+use Rattle.std.proofs.Common.{◌≡◌, ℕ, zero, suc, ◌<◌, List, [], ◌∷◌, ◌++◌, length, slice_index_or, slice_set, refl}
+use Rattle.std.proofs.Common.{arith}
 use Rattle.lemmas.specs.Related.{EachRelated}
 
 pub each_refl : {A : Type 0} (R : A → A → Type 0) → ((x : A) → R x x) → (xs : List A) → EachRelated R xs xs
@@ -31,3 +32,11 @@ each_at R f t [] (y ∷ ys) i d p = absurd p
 each_at R f t (x ∷ xs) [] i d p = absurd p
 each_at R f t (x ∷ xs) (y ∷ ys) zero d p = t x y p.0
 each_at R f t (x ∷ xs) (y ∷ ys) (suc i) d p = each_at R f t xs ys i d p.1
+
+-- one more at the end of each
+pub related_push : {A B : Type 0} (R : A → B → Type 0) (xs : List A) (ys : List B) (x : A) (y : B) →
+    EachRelated R xs ys → R x y → EachRelated R (xs ++ x ∷ []) (ys ++ y ∷ [])
+related_push R [] [] x y p r = (r, tt)
+related_push R [] (v ∷ ys) x y p r = absurd p
+related_push R (u ∷ xs) [] x y p r = absurd p
+related_push R (u ∷ xs) (v ∷ ys) x y p r = (p.0, related_push R xs ys x y p.1 r)

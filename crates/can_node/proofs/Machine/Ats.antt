@@ -90,7 +90,7 @@ at_last_eof_bit stage shift c now place bits driven seen turn e h drives is =
     (subst Q (sym at.1) (subst P (sym is) (last_row seen shift c now)))
 
 -- what a context keeps fixes what is driven in a flag
-level_kept : (c now : ContextValue) → now.listen ≡ c.listen → now.flag ≡ c.flag → flag_level now ≡ flag_level c
+pub level_kept : (c now : ContextValue) → now.listen ≡ c.listen → now.flag ≡ c.flag → flag_level now ≡ flag_level c
 level_kept c now listen flag =
     ap (λ t. if t then Recessive else level_of_flag now.flag) listen
     ∙ ap (λ f. if c.listen then Recessive else level_of_flag f) flag

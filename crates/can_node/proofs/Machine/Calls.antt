@@ -81,7 +81,7 @@ rec_stays (Some n) c stays = chosen c.off
     chosen false = stays
 
 -- a start keeps the node on the bus
-start_stays : (config : Config) (c : ContextValue) → IsOnBus c → IsOnBus (with_start config c)
+pub start_stays : (config : Config) (c : ContextValue) → IsOnBus c → IsOnBus (with_start config c)
 start_stays config c stays =
     let first = record c { listen = config.listen; self_test = config.self_test } in
     recounted_stays (with_rec config.rec (with_tec config.tec first))

@@ -110,7 +110,7 @@ transmitted_made true (Ended done) shift c now other place bits role held site s
 -- ---- the context after it
 
 -- a receiver stays receiver
-receives : (c : ContextValue) (x y : Level) → (if_acknowledged x y c).role ≡ c.role
+pub receives : (c : ContextValue) (x y : Level) → (if_acknowledged x y c).role ≡ c.role
 receives c Dominant Dominant = refl
 receives c Dominant Recessive = refl
 receives c Recessive y = refl

@@ -64,7 +64,7 @@ idle_transmits shift new now request driven seen self_test turn fits held speaks
     (from_idle b []) (stands [] stood) told
 
 -- a node that sends holds a request, and doesn't only listen
-sends_parts : (listen : Bool) (held : Option Request) (request : Request) →
+pub sends_parts : (listen : Bool) (held : Option Request) (request : Request) →
     (if listen then None else held) ≡ Some request →
     (listen ≡ false) × (held ≡ Some request)
 sends_parts true held request e = absurd cc

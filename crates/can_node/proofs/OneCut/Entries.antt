@@ -75,6 +75,22 @@ pub some_not_none : {A : Type 0} (l : List A) (x : A) (rest : List A) → l ++ x
 some_not_none [] x rest h = cc
 some_not_none (y ∷ l) x rest h = cc
 
+-- a front of entries that end with this one comes before it, or is all of them
+pub whole_or_front : (first more slice : List RecordEntry) (e : RecordEntry) → first ++ more ≡ slice ++ e ∷ [] →
+    ((x : List RecordEntry) × (slice ≡ first ++ x)) ⊎ ((first ≡ slice ++ e ∷ []) × (more ≡ []))
+whole_or_front first more slice e same = elim (last_of more) [
+  | inl none ↦ inr (sym (append-nil first) ∙ ap (λ l. first ++ l) (sym none) ∙ same, none)
+  | inr some ↦
+      let whole : (first ++ some.0) ++ some.1 ∷ [] ≡ slice ++ e ∷ [] =
+      append_assoc first some.0 (some.1 ∷ []) ∙ ap (λ l. first ++ l) (sym some.2) ∙ same in
+      inl (some.0, sym (same_from_push (first ++ some.0) slice some.1 e whole).0)
+]
+
+-- which entry a list ends with
+pub last_is : (before slice : List RecordEntry) (x e : RecordEntry) (first : List RecordEntry) →
+    first ≡ before ++ x ∷ [] → first ≡ slice ++ e ∷ [] → x ≡ e
+last_is before slice x e first is whole = (same_from_push before slice x e (sym is ∙ whole)).1
+
 -- after the last bit of a slice that ends in a bit nothing is left
 none_after : (a m : List RecordEntry) → EndsInBit (a ++ m) → bits_in m ≡ [] → m ≡ []
 none_after a m ends none =

@@ -117,7 +117,7 @@ breaks_off_now listen l before last cause segment stuffed answers right within b
 }
 
 -- whether the stuffed part has come whole is plain where a line begins
-past_or_not : (l : List Level) → Begins l → IsPastPart l ⊎ (IsPastPart l → ⊥)
+pub past_or_not : (l : List Level) → Begins l → IsPastPart l ⊎ (IsPastPart l → ⊥)
 past_or_not l begun =
     elim (begins_in l begun) [
       | inr past ↦ inl past

@@ -1,14 +1,11 @@
 -- What a start, a request or a stop at the end of a record leaves held, by every cut.
-use Rattle.std.proofs.Common.{◌≡◌, true, false, List, [], ◌∷◌, ◌++◌, map, refl, sym, ap, ◌∙◌, append_assoc}
-use Rattle.std.proofs.Common.{append-nil, inl, inr}
-use Rattle.std.specs.Prelude.{◌⊎◌, Option, Some, None}
-use Rattle.std.proofs.lemmas.List.{same_from_push}
-use Rattle.can_bits.specs.declared.level.Level.{Level}
-use Rattle.lemmas.proofs.Lists.{last_of}
+use Rattle.std.proofs.Common.{◌≡◌, true, false, List, [], ◌∷◌, ◌++◌, map, refl, sym, ap, ◌∙◌}
+use Rattle.std.proofs.Common.{inl, inr}
+use Rattle.std.specs.Prelude.{Option, Some, None}
 use Rattle.can_node.specs.declared.config.Config.{Config}
 use Rattle.can_node.specs.declared.phase.Phase.TheVariants.{Reset}
 use Rattle.can_node.specs.declared.request.Request.{Request}
-use Rattle.can_node.specs.Bits.{Bit, recessive_bits}
+use Rattle.can_node.specs.Bits.{recessive_bits}
 use Rattle.can_node.specs.Context.{ContextValue, fresh, is_held}
 use Rattle.can_node.specs.Pieces.{Place, Piece}
 use Rattle.can_node.specs.Pieces.Place.{AtReset}
@@ -23,9 +20,9 @@ use Rattle.can_node.specs.Cut.From.{here, on}
 use Rattle.can_node.specs.Driving.{phase_at}
 use Rattle.can_node.specs.NextBit.{now_in, open_bits, phase_in}
 use Rattle.can_node.proofs.Machine.Along.{along_both}
-use Rattle.can_node.proofs.Machine.Calls.{start_holds}
+use Rattle.can_node.proofs.Machine.Calls.{along_rest, start_holds}
 use Rattle.can_node.proofs.OneCut.CutOnce.{move_or_open}
-use Rattle.can_node.proofs.OneCut.Entries.{open_part, outer_not_within}
+use Rattle.can_node.proofs.OneCut.Entries.{open_part, outer_not_within, whole_or_front, last_is}
 use Rattle.can_node.proofs.OneCut.Entries.IsOuter.{start, stop}
 use Rattle.can_node.proofs.OneCut.GoOn.{open_end, rest_open}
 use Rattle.can_node.proofs.OneCut.Through.{Through, goes_through}
@@ -62,31 +59,9 @@ none_held_first found cut = ap (λ (c : ContextValue). is_held c.held) (now_empt
 
 -- ---- one entry after what is open
 
--- a move from there ends among what is open, or with that entry
-whole_or_front : (first more slice : List RecordEntry) (e : RecordEntry) → first ++ more ≡ slice ++ e ∷ [] →
-    ((x : List RecordEntry) × (slice ≡ first ++ x)) ⊎ ((first ≡ slice ++ e ∷ []) × (more ≡ []))
-whole_or_front first more slice e same = elim (last_of more) [
-  | inl none ↦ inr (sym (append-nil first) ∙ ap (λ l. first ++ l) (sym none) ∙ same, none)
-  | inr some ↦
-      let whole : (first ++ some.0) ++ some.1 ∷ [] ≡ slice ++ e ∷ [] =
-      append_assoc first some.0 (some.1 ∷ []) ∙ ap (λ l. first ++ l) (sym some.2) ∙ same in
-      inl (some.0, sym (same_from_push (first ++ some.0) slice some.1 e whole).0)
-]
-
--- which entry it ends with
-last_is : (before slice : List RecordEntry) (x e : RecordEntry) (first : List RecordEntry) → first ≡ before ++ x ∷ [] →
-    first ≡ slice ++ e ∷ [] → x ≡ e
-last_is before slice x e first is whole = (same_from_push before slice x e (sym is ∙ whole)).1
-
 -- the context before a start has the request that it leaves
 start_keeps : (config : Config) (c : ContextValue) → is_held (with_start config c).held ≡ is_held c.held
 start_keeps config c = ap is_held (start_holds config c)
-
--- bits in reset change nothing
-along_rest : (c : ContextValue) (done : List Bit) (l : List Level) →
-    along c AtReset done (map OneBit (recessive_bits l)) ≡ c
-along_rest c done [] = refl
-along_rest c done (x ∷ l) = along_rest c _ l
 
 any_sent : (held : Option Request) (request : Request) → is_held (keep_first held request) ≡ true
 any_sent None request = refl
@@ -172,7 +147,7 @@ started_from {c = c} {place = place} slice config
     by (aborted away) w o = let x = last_is [] slice Abort (Start config) (Abort ∷ []) refl w in absurd cc
     by {c = c} (started other l) w o =
         let r = rest_open o in
-        start_keeps other c ∙ ap (λ (d : ContextValue). is_held d.held) (sym (along_rest c [] r.0))
+        start_keeps other c ∙ ap (λ (d : ContextValue). is_held d.held) (sym (along_rest c [] (recessive_bits r.0)))
         ∙ ap (λ (x : List RecordEntry). is_held (along c AtReset [] x).held) (sym r.1)
     by (stopped s opened stays) w o = let x = last_is s slice Stop (Start config) (s ++ Stop ∷ []) refl w in absurd cc
     by (off_within s before b whole stays is unfinished full) w o =

@@ -1,22 +1,13 @@
-use Rattle.std.proofs.Common.{rules, ◌<◌, ◌≤◌, ◌^◌}
+use Rattle.std.proofs.Common.{rules, ◌<◌, ◌^◌}
 use Rattle.can_bits.specs.Sending.{BothHave}
 use Rattle.can_bits.proofs.Agreeing.{agreement_of_zeros, zeros_of_agreement}
 use Rattle.can_bits.proofs.sent_body.SentBody.agreement.Goals as goal
-use lib.Bits.{bit_xor}
-use lib.Count.{count_leading_zeros}
 
 pub returns-clause-same : goal.returns-clause-same
 returns-clause-same c place before =
-    let a = c.args.self.now in
-    let b = c.args.other.now in
-    let x = c.from_highest.result in
-    let y = c.from_highest-2.result in
-    let room_x : x < 2 ^ 128 = search rules in
-    let room_y : y < 2 ^ 128 = search rules in
-    let both : BothHave c.min-2.result a b = search rules in
-    let zeros : c.min-2.result ≤ count_leading_zeros 128 (bit_xor x y) = search rules in
-    agreement_of_zeros a b x y c.min-2.result c.from_highest.ensures c.from_highest-2.ensures room_x room_y both zeros
-    place before
+    let both : BothHave c.min-2.result c.args.self.now c.args.other.now = search rules in
+    agreement_of_zeros c.args.self.now c.args.other.now c.from_highest.result c.from_highest-2.result c.min-2.result
+    c.from_highest.ensures c.from_highest-2.ensures (search rules) (search rules) both (search rules) place before
 
 pub returns-clause-most : goal.returns-clause-most
 returns-clause-most c n both agree =
