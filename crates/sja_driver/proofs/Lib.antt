@@ -3,3 +3,7 @@ pub mod Registers
 pub mod Deeds
 pub mod Step
 pub mod LogOfSteps
+pub mod Trace
+pub mod Account
+pub mod OneNode
+pub mod OneBit

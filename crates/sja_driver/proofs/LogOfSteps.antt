@@ -6,3 +6,4 @@ pub mod Traced
 pub mod Goes
 pub mod Logged
 pub mod Looking
+pub mod GivenOutside

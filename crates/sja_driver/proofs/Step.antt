@@ -8,3 +8,7 @@ pub mod Written
 pub mod Modes
 pub mod Few
 pub mod GivenKinds
+pub mod NextItem
+pub mod CreditsGiven
+pub mod FewLeftDown
+pub mod After

@@ -1,6 +1,6 @@
 -- What the steps of a driver did (this project's own rule).
 use Rattle.std.specs.Prelude.{◌≡◌, ◌==◌, ◌+◌, ℕ, Bool, true, false, nat_lt}
-use Rattle.std.specs.Prelude.{if◌then◌else◌, List, [], ◌∷◌, ◌++◌, length, map, slice_index_or, take}
+use Rattle.std.specs.Prelude.{if◌then◌else◌, List, [], ◌∷◌, ◌++◌, length, map, slice_index_or, slice_set, take}
 use Rattle.can_node.specs.declared.config.Config.{Config}
 use Rattle.can_node.specs.declared.request.Request.{Request}
 use Rattle.sja_link.specs.Sizes.{most_activations}
@@ -26,6 +26,10 @@ pub record Deed : Type 0 where
 -- of a list of deeds for each node, those of this one
 abbrev pub deeds_at : List (List Deed) → ℕ → List Deed
 deeds_at deeds node = slice_index_or deeds node []
+
+-- with deeds more of one node
+abbrev pub with_deeds : List (List Deed) → ℕ → List Deed → List (List Deed)
+with_deeds deeds node more = slice_set deeds node (deeds_at deeds node ++ more)
 
 -- ---- states
 

@@ -5,3 +5,4 @@ pub mod Judging
 pub mod LongMessages
 pub mod Pullings
 pub mod Holding
+pub mod StoredMessages

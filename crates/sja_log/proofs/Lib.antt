@@ -4,3 +4,4 @@ pub mod Trace
 -- the end of a run
 pub mod NodeLog
 pub mod LogWith
+pub mod OneNode

@@ -18,7 +18,7 @@ use Rattle.sja_driver.specs.Deeds.{Deed, opened_by, is_active}
 use Rattle.sja_driver.specs.Drivers.{nothing_seen}
 use Rattle.sja_plan.specs.Plan.{PlanValue}
 use Rattle.sja_log.specs.Log.{NodeValue, RunValue}
-use Rattle.sja_log.specs.Windows.{off_by, window_of}
+use Rattle.sja_driver.specs.Windows.{off_by, window_of}
 
 -- what a read of the registers sees of the messages after these entries and deeds: out of reset what was put by then in
 -- the activation and not released, in reset nothing

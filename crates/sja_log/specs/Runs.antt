@@ -9,7 +9,7 @@ use Rattle.sja_wire.specs.Lawful.{CountersAre, IsBusRun}
 use Rattle.sja_log.specs.Log.{ActivationValue, NodeValue, RunValue, journals_in}
 use Rattle.sja_log.specs.Headline.{IsAccount}
 use Rattle.sja_log.specs.Settling.{AreSettled}
-use Rattle.sja_log.specs.InTime.{IsInTime}
+use Rattle.sja_driver.specs.InTime.{IsInTime}
 use Rattle.sja_log.specs.Turns.{RunsTo}
 use Rattle.sja_log.specs.Registering.{HaveRegisters}
 

@@ -10,9 +10,9 @@ use Rattle.sja_plan.specs.Plan.{PlanValue}
 use Rattle.sja_driver.specs.Deeds.{Deed, given_in, is_active, opened_by}
 use Rattle.sja_log.specs.declared.end.End.{End}
 use Rattle.sja_log.specs.declared.end.End.TheVariants.{Turns as TurnsDone, Bits as BitsSpent}
-use Rattle.sja_log.specs.Windows.{off_by, window_of}
-use Rattle.sja_log.specs.Resting.{IsHolding, IsAtRest}
-use Rattle.sja_log.specs.Moments.{at_moment, record_at}
+use Rattle.sja_driver.specs.Windows.{off_by, window_of}
+use Rattle.sja_driver.specs.Resting.{IsHolding, IsAtRest}
+use Rattle.sja_driver.specs.Moments.{at_moment, record_at}
 use Rattle.sja_log.specs.Registering.{IsLineInactive}
 
 -- ---- a run, and how far it has come

@@ -13,7 +13,7 @@ ghost use Rattle.sja_wire.specs.Lawful.{CountersAre, IsBusRun};
 ghost use Rattle.sja_log.specs.Log.{ActivationValue, NodeValue, RunValue, journals_in};
 ghost use Rattle.sja_log.specs.Settling.{IsSettled, AreSettled};
 ghost use Rattle.sja_log.specs.Headline.{IsAccount};
-ghost use Rattle.sja_log.specs.Moments.{at_moment, IsFront, BeginsWithBit};
+ghost use Rattle.sja_driver.specs.Moments.{at_moment, IsFront, BeginsWithBit};
 ghost use Rattle.sja_log.specs.Registering.{LeadTo};
 ghost use Rattle.sja_log.specs.Runs.{IsTrace, IsRun};
 

@@ -1,7 +1,8 @@
 -- Steps that are tried one after the other, and the byte that is left.
 use Rattle.std.proofs.Common.{◌≡◌, ◌≤◌, ℕ, Bool, true, false, Option, Some, None, List, [], ◌∷◌, ◌++◌, length}
 use Rattle.std.proofs.Common.{refl, sym, ap, ◌∙◌, subst, arith}
-use Rattle.std.specs.Prelude.{◌==◌, ◌||◌, ◌&&◌, not, nat_eq, if◌then◌else◌}
+use Rattle.std.specs.Prelude.{◌==◌, ◌||◌, not, nat_eq, if◌then◌else◌}
+use Rattle.std.proofs.lemmas.Bool.{and_parts}
 use Rattle.sja_link.specs.Lists.{Lists}
 use Rattle.sja_regs.specs.declared.command.Command.{Command as CommandBits}
 use Rattle.sja_regs.specs.declared.mode.Mode.{Mode}
@@ -21,7 +22,7 @@ use Rattle.sja_raw.specs.ModeWrites.{is_written, reset_byte, operating_byte, clo
 use Rattle.sja_raw.specs.RawDrivers.{Writes}
 use Rattle.sja_raw.specs.Trying.Tries.{none, waits, done}
 use Rattle.sja_raw.specs.Writes.{write_steps}
-use Rattle.sja_raw.proofs.After.{unmet}
+use Rattle.sja_driver.proofs.Step.After.{unmet}
 use Rattle.sja_raw.proofs.ModeBytes.{mode_back, same_mode}
 
 -- nothing is to be done
@@ -137,17 +138,13 @@ typed_by true false false written same enter leave told h is = absurd cc
 typed_by false true true written same enter leave told h is = let out : false ≡ true = h refl in absurd cc
 typed_by false true false written same enter leave told h is = absurd cc
 
-forced_in_reset : (rm asks : Bool) → (rm && asks) ≡ true → rm ≡ true
-forced_in_reset true asks e = refl
-forced_in_reset false asks e = absurd cc
-
 -- RM is written as it is, or a bus-off is asked for
 pub stays_so : (p : Registers) (out : Bool) (value : ℕ) (new : Mode) (written : Bool) → new ≡ mode_of value →
     written ≡ is_written p new → written ≡ true → mode_steps p.mode (is_forced p) out value ≡ Write 0 value ∷ []
 stays_so p out value new written of told is =
     typed_by p.mode.rm (mode_of value).rm (is_forced p) written (Write 0 value ∷ []) (Stop ∷ [])
     (closing out ++ leaving p.mode (mode_of value)) (told ∙ ap (λ (m : Mode). is_written p m) of)
-    (forced_in_reset p.mode.rm (asks_off p)) is
+    (λ f. (and_parts p.mode.rm (asks_off p) f).0) is
 
 entered_by : (now new forced written : Bool) (same enter leave : List Step) →
     written ≡ (not (differ now new) || forced) → written ≡ false → new ≡ true →

@@ -1,6 +1,5 @@
 pub mod Keeping
 pub mod Chain
-pub mod After
 pub mod ModeBytes
 pub mod CommandBytes
 pub mod ReadBack

@@ -24,7 +24,7 @@ use Rattle.sja_raw.specs.declared.kept_bytes.KeptBytes.{KeptBytes}
 use Rattle.sja_raw.specs.Reads.{raw_value}
 use Rattle.sja_raw.specs.Inside.Answered.{value_or}
 use Rattle.sja_raw.specs.Kept.{kept_at}
-use Rattle.sja_raw.proofs.After.{some_of}
+use Rattle.sja_driver.proofs.Step.After.{some_of}
 
 -- a read is no other step
 abbrev IsRead : Step → Type 0

@@ -4,18 +4,7 @@ use Rattle.sja_regs.specs.declared.bus_turn.BusTurn.{BusTurn}
 use Rattle.sja_regs.specs.declared.registers.Registers.{Registers}
 use Rattle.sja_regs.specs.Turns.{after_turn}
 use Rattle.sja_regs.specs.Keeping.{SaysTheSame}
-use Rattle.sja_regs.specs.Inside.TurnParts.{BringsNoNews}
 use Rattle.sja_regs.proofs.TurnLemmas.{nothing_else, nothing_said}
 
-brings_none : (p : Registers) (turn : BusTurn) → SaysTheSame p turn → BringsNoNews turn
-brings_none p turn h = record {
-  ended = h.ended;
-  lost = h.lost;
-  fault = h.fault;
-  went_off = h.went_off;
-  aborted = h.aborted;
-  overrun = h.overrun;
-}
-
 pub says_same : (p : Registers) (turn : BusTurn) → SaysTheSame p turn → after_turn p turn ≡ p
-says_same p turn h = sym (nothing_else p turn (brings_none p turn h)) ∙ nothing_said p turn h
+says_same p turn h = sym (nothing_else p turn h.news) ∙ nothing_said p turn h

@@ -1,6 +1,7 @@
 -- What a turn of the bus leaves.
 use Rattle.std.proofs.Common.{◌≡◌, ◌||◌, ◌&&◌, not, is_some, Bool, true, false}
 use Rattle.std.proofs.Common.{if◌then◌else◌, Option, None, refl, ap, sym, ◌∙◌}
+use Rattle.std.proofs.lemmas.Bool.{and_right}
 use Rattle.sja_regs.specs.declared.bus_turn.BusTurn.{BusTurn}
 use Rattle.sja_regs.specs.declared.registers.Registers.{Registers}
 use Rattle.sja_regs.specs.Captures.{after_capture}
@@ -11,8 +12,8 @@ use Rattle.sja_regs.specs.Registers.{is_raw, shown_state, error_causes, pending_
 use Rattle.sja_regs.specs.Turns.{is_live, is_sent, ends, goes_off, may_tell, dos_after, tbs_after, abort_after}
 use Rattle.sja_regs.specs.Turns.{with_node}
 use Rattle.sja_regs.specs.Turns.{code_of_fault, lost_in, fault_in, causes, after_turn}
-use Rattle.sja_regs.specs.Keeping.{OnlyEnabled, SaysTheSame}
-use Rattle.sja_regs.specs.Inside.TurnParts.{activity, with_counters, with_role, with_news, BringsNoNews}
+use Rattle.sja_regs.specs.Keeping.{OnlyEnabled, BringsNoNews, SaysTheSame}
+use Rattle.sja_regs.specs.Inside.TurnParts.{activity, with_counters, with_role, with_news}
 
 -- ---- interrupts that are pending
 
@@ -75,10 +76,6 @@ only_enabled p q turn h = rw h (turn_enabled p turn)
 
 -- ---- a turn that brought nothing to its activation
 
-and_false : (a b : Bool) → b ≡ false → (a && b) ≡ false
-and_false true b e = e
-and_false false b e = refl
-
 not_and : (a : Bool) → (not a && a) ≡ false
 not_and true = refl
 not_and false = refl
@@ -89,16 +86,16 @@ none_if false o e = refl
 
 no_end : (p : Registers) (turn : BusTurn) → BringsNoNews turn → ends p turn ≡ false
 no_end p turn h =
-    and_false (is_live p turn) (is_some turn.events.ended || turn.aborted)
+    and_right (is_live p turn) (is_some turn.events.ended || turn.aborted)
     (ap (λ o. is_some o || turn.aborted) h.ended ∙ h.aborted)
 
 stays_on : (p : Registers) (turn : BusTurn) → BringsNoNews turn → goes_off p turn ≡ false
-stays_on p turn h = and_false (is_live p turn) turn.events.went_off h.went_off
+stays_on p turn h = and_right (is_live p turn) turn.events.went_off h.went_off
 
 keeps_dos : (p : Registers) (turn : BusTurn) → BringsNoNews turn → dos_after p turn ≡ p.dos
 keeps_dos p turn h =
     ap (λ g. not g && (is_live p turn && turn.overrun || p.dos)) (stays_on p turn h)
-    ∙ ap (λ o. o || p.dos) (and_false (is_live p turn) turn.overrun h.overrun)
+    ∙ ap (λ o. o || p.dos) (and_right (is_live p turn) turn.overrun h.overrun)
 
 keeps_tbs : (p : Registers) (turn : BusTurn) → BringsNoNews turn → tbs_after p turn ≡ p.tbs
 keeps_tbs p turn h =
@@ -124,9 +121,9 @@ no_activity p turn h = λ i. record p.pending {
   doi = (ap (λ d. (not p.dos && d) && p.enabled.doi || p.pending.doi) (keeps_dos p turn h)
       ∙ ap (λ d. d && p.enabled.doi || p.pending.doi) (not_and p.dos)) i;
   ali = ap (λ l. (l && may_tell p p.alc) && p.enabled.ali || p.pending.ali)
-      (and_false (is_live p turn) (is_some turn.events.lost) (ap is_some h.lost)) i;
+      (and_right (is_live p turn) (is_some turn.events.lost) (ap is_some h.lost)) i;
   bei = ap (λ f. (f && may_tell p p.ecc) && p.enabled.bei || p.pending.bei)
-      (and_false (is_live p turn) (is_some turn.events.fault) (ap is_some h.fault)) i;
+      (and_right (is_live p turn) (is_some turn.events.fault) (ap is_some h.fault)) i;
 }
 
 stays_pending : (p : Registers) (turn : BusTurn) → BringsNoNews turn → (with_news p turn).pending ≡ p.pending
@@ -140,7 +137,7 @@ no_news p turn h = λ i. record p {
   dos = keeps_dos p turn h i;
   tbs = keeps_tbs p turn h i;
   tcs = ap (λ s. s || p.tcs)
-      (and_false (is_live p turn) (is_sent turn.events.ended) (ap is_sent h.ended)) i;
+      (and_right (is_live p turn) (is_sent turn.events.ended) (ap is_sent h.ended)) i;
   rs = ap (λ g. g || p.rs) (stays_on p turn h) i;
   ts = ap (λ g. g || p.ts) (stays_on p turn h) i;
   pending = stays_pending p turn h i;

@@ -31,14 +31,18 @@ pub record KeepsActivation (old new : Registers) : Type 0 where
   pub ali : new.pending.ali ≡ old.pending.ali
   pub bei : new.pending.bei ≡ old.pending.bei
 
--- the turn brings nothing to its activation, and says what the port shows already, where the port is the node's
-pub record SaysTheSame (p : Registers) (turn : BusTurn) : Type 0 where
+-- the turn brings nothing to its activation
+pub record BringsNoNews (turn : BusTurn) : Type 0 where
   pub ended : turn.events.ended ≡ None
   pub lost : turn.events.lost ≡ None
   pub fault : turn.events.fault ≡ None
   pub went_off : turn.events.went_off ≡ false
   pub aborted : turn.aborted ≡ false
   pub overrun : turn.overrun ≡ false
+
+-- the turn brings nothing to its activation, and says what the port shows already, where the port is the node's
+pub record SaysTheSame (p : Registers) (turn : BusTurn) : Type 0 where
+  pub news : BringsNoNews turn
   pub rxerr : rxerr_after p turn ≡ p.rxerr
   pub txerr : txerr_after p turn ≡ p.txerr
   pub rs : rs_after p turn ≡ p.rs

@@ -4,9 +4,8 @@ ghost use Rattle.std.specs.Prelude.{◌≡◌, ◌↔◌, not, is_some, true, fa
 ghost use Rattle.sja_regs.specs.Interrupting.{pending_after};
 ghost use Rattle.sja_regs.specs.Turns.{is_live, is_sent, may_tell, stands_still, follows_node, code_of_fault};
 ghost use Rattle.sja_regs.specs.Turns.{after_turn};
-ghost use Rattle.sja_regs.specs.Keeping.{OnlyEnabled, HasLeft, KeepsActivation, SaysTheSame};
+ghost use Rattle.sja_regs.specs.Keeping.{OnlyEnabled, HasLeft, KeepsActivation, BringsNoNews, SaysTheSame};
 ghost use Rattle.sja_regs.specs.Inside.TurnParts.{with_role, with_counters, with_news, HasCounted};
-ghost use Rattle.sja_regs.specs.Inside.TurnParts.{BringsNoNews};
 ghost use Rattle.sja_regs.specs.Inside.TurnParts.{activity, with_captures, after_settling};
 
 use super::bus_turn::BusTurn;

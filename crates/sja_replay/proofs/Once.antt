@@ -1,5 +1,3 @@
-pub mod BusOff
-pub mod Events
 pub mod Views
 pub mod Bits
 pub mod Lists

@@ -15,3 +15,5 @@ pub mod Coming
 pub mod Inside
 -- ---- a bit that told nothing, in short
 pub mod Short
+pub mod Stored
+pub mod Quiet

@@ -1,1 +1,3 @@
-pub mod Taking
+pub mod Journal
+pub mod Moving
+pub mod Wires

@@ -11,3 +11,6 @@ pub mod Telling
 -- ---- what holds of every bus
 pub mod Orderly
 pub mod Lawful
+pub mod Buses
+pub mod OutOfRoom
+pub mod Reasons

@@ -12,6 +12,7 @@ use Rattle.sja_link.specs.Deques.{Deques, Lies}
 use Rattle.sja_link.specs.Parts.{part}
 use Rattle.sja_link.specs.Carried.{taken_of, stored_of}
 use Rattle.sja_link.specs.Free.{credit_of, credit_in, bytes_in}
+use Rattle.sja_link.specs.World.{bytes_of}
 use Rattle.lemmas.specs.Picking.{EachAfter}
 use Rattle.sja_link.specs.Verdicts.{IsLawful}
 use Rattle.lemmas.proofs.Gathered.{total_append, total_push}
@@ -32,9 +33,8 @@ use Rattle.sja_driver.specs.Deeds.{Deed, opens_by, opened_by, Gives, length_in, 
 use Rattle.sja_driver.specs.Holding.{HoldsBy}
 use Rattle.sja_driver.specs.Logs.{Traces, releases_in, left_in, released_of, leaves}
 use Rattle.sja_driver.proofs.LogOfSteps.Sections.{deeds_here}
-use Rattle.sja_driver.proofs.Step.Few.{bytes, all_of, bytes_stored, credits_taken, credits_section, bytes_lengths}
-use Rattle.sja_driver.proofs.Step.Few.{AllFit}
-use Rattle.sja_driver.proofs.Step.Few.{fit_front, stored_fit}
+use Rattle.sja_driver.proofs.Step.Few.{all_of, bytes_stored, credits_taken, credits_section, bytes_lengths}
+use Rattle.sja_driver.proofs.Step.Few.{AllFit, fit_front, stored_fit}
 
 -- the last of these lengths is that of a message
 last_fits : (ms : List (List ℕ)) (ls : List ℕ) (n : ℕ) → map (λ (m : List ℕ). length m) ms ≡ ls ++ n ∷ [] → AllFit ms →
@@ -72,7 +72,7 @@ module _ (j : List Entry) (deeds : List Deed) (d : Deed) (n : ℕ) (driver : Any
         trace.released (suc a) ∙ more in
         let fit : AllFit released = fit_front released (held ++ messages link.down)
         (subst (λ (l : List (List ℕ)). AllFit l) (sym all) (stored_fit j (suc a) lawful)) in
-        let stored = bytes_stored (part j (suc a)) ∙ ap bytes (sym all)
+        let stored = bytes_stored (part j (suc a)) ∙ ap bytes_of (sym all)
         ∙ total_append (λ (m : List ℕ). length m) released (held ++ messages link.down) in
         let paid = credits_taken (part j (suc a)) ∙ ap (total credit_of) (sym (given (suc a)))
         ∙ credits_section 0 [] deeds (suc a) gives in

@@ -12,6 +12,7 @@ use Rattle.sja_link.specs.declared.up.Up.{Up}
 use Rattle.sja_link.specs.Accounts.{account}
 use Rattle.sja_link.specs.Lists.{Lists, messages}
 use Rattle.sja_link.specs.Looking.{off_among}
+use Rattle.sja_link.proofs.Ledger.Pullings.{off_stays}
 use Rattle.sja_regs.specs.declared.registers.Registers.{Registers}
 use Rattle.sja_script.specs.declared.step.Step.{Step}
 use Rattle.sja_driver.specs.declared.any_driver.AnyDriver.{AnyDriver}
@@ -39,15 +40,10 @@ abbrev has_some : {A : Type 0} → List A → Bool
 has_some [] = false
 has_some (x ∷ xs) = true
 
-sticks : (xs : List Down) → off_among true xs ≡ true
-sticks [] = refl
-sticks (Message m ∷ xs) = sticks xs
-sticks (Off ∷ xs) = sticks xs
-
 no_got : (xs : List Down) → [] ≡ messages xs → false ≡ off_among false xs → xs ≡ []
 no_got [] m o = refl
 no_got (Message m ∷ xs) e o = elim (true≢false (sym (ap has_some e))) [ ]
-no_got (Off ∷ xs) e o = elim (true≢false (sym (o ∙ sticks xs))) [ ]
+no_got (Off ∷ xs) e o = elim (true≢false (sym (o ∙ off_stays xs))) [ ]
 
 keeps_of : {E : Type 0} (stands : E → Lists → Type 0) (old new : E) (gave : List Up) →
     Does stands old new [] [] false false [] gave → gave ≡ [] → (l : Lists) → stands old l → stands new l

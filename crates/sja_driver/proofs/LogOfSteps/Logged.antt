@@ -28,6 +28,12 @@ min_few n few = grind arith
 pub min_less : (n : ℕ) → min n 63 < 64
 min_less n = grind arith
 
+-- room for fewer steps
+pub room_less : (k n : ℕ) (log : WorkLog) → k ≤ n → HasRoom n log → HasRoom k log
+room_less k n log less h =
+    let a = h.done in let b = h.releases in
+    record { done = omega (arith, a, less); releases = omega (arith, b, less); left = h.left }
+
 -- a try adds one step and one release at most
 few_done : (o : Tried) (bits : ℕ) → length (done_by o bits) ≤ 1
 few_done Unmet bits = omega arith

@@ -19,13 +19,14 @@ section_push o n (x ∷ xs) y a =
     ++ cond ((k + o y) == a) (y ∷ []) [])
     (add_assoc n (o x) (total o xs))
 
-module _ {B : Type 0} (f : Deed → List B) (xs : List Deed) (y : Deed) (a : ℕ) where
-  at : deeds_of (xs ++ y ∷ []) a ≡ deeds_of xs a ++ (if (opened_by xs + opens_by y) == a then y ∷ [] else [])
-  at = rw zero-add at (section_push opens_by 0 xs y a)
+pub deeds_push : (xs : List Deed) (y : Deed) (a : ℕ) →
+    deeds_of (xs ++ y ∷ []) a ≡ deeds_of xs a ++ (if (opened_by xs + opens_by y) == a then y ∷ [] else [])
+deeds_push xs y a = rw zero-add at (section_push opens_by 0 xs y a)
 
+module _ {B : Type 0} (f : Deed → List B) (xs : List Deed) (y : Deed) (a : ℕ) where
   base : gathered f (deeds_of (xs ++ y ∷ []) a)
       ≡ gathered f (deeds_of xs a) ++ gathered f (if (opened_by xs + opens_by y) == a then y ∷ [] else [])
-  base = ap (gathered f) at ∙ gathered_append f (deeds_of xs a) _
+  base = ap (gathered f) (deeds_push xs y a) ∙ gathered_append f (deeds_of xs a) _
 
   one : ((opened_by xs + opens_by y) == a) ≡ true →
       gathered f (deeds_of (xs ++ y ∷ []) a) ≡ gathered f (deeds_of xs a) ++ f y

@@ -1,15 +1,17 @@
 -- A driver never holds more messages than 64 bytes have room for.
 use Rattle.std.proofs.Common.{◌≡◌, ℕ, ◌+◌, ◌*◌, ◌≤◌, Bool, true, false, List, [], ◌∷◌, ◌++◌, length, map, refl, sym, ap}
-use Rattle.std.proofs.Common.{ap₂, ◌∙◌, subst, append_assoc, append-nil, arith}
-use Rattle.std.specs.Prelude.{◌==◌, if◌then◌else◌}
+use Rattle.std.proofs.Common.{◌∙◌, subst, append_assoc, append-nil, arith}
+use Rattle.std.specs.Prelude.{if◌then◌else◌}
 use Rattle.sja_link.specs.NodeWords.{ReceivedFrame}
 use Rattle.sja_link.specs.declared.down.Down.{Down}
 use Rattle.sja_link.specs.declared.up.Up.{Up}
+use Rattle.sja_link.specs.declared.up.Up.TheVariants.{Start as StartUp, Credit, Send as SendUp, Stop as StopUp}
 use Rattle.sja_link.specs.declared.entry.Entry.{Entry}
 use Rattle.sja_link.specs.declared.entry.Entry.TheVariants.{Bit, Up as Item, Abort, Stored, Overrun, Off}
 use Rattle.lemmas.specs.Gathering.{total}
 use Rattle.sja_link.specs.Lists.{messages}
 use Rattle.sja_link.specs.Looking.{Holds}
+use Rattle.sja_link.specs.World.{bytes_of, credits_of}
 use Rattle.sja_link.specs.Accounts.{Account}
 use Rattle.sja_link.specs.Parts.{part}
 use Rattle.sja_link.specs.Records.{record_of}
@@ -22,18 +24,9 @@ use Rattle.sja_link.specs.Verdicts.{IsOn, IsFair, IsDue, IsLawful}
 use Rattle.lemmas.proofs.Gathered.{total_push, total_append}
 use Rattle.sja_link.proofs.Ledger.Holding.{told_stored}
 use Rattle.sja_link.proofs.Ledger.Judging.{kept_stored}
-use Rattle.sja_script.specs.declared.step.Step.{Step}
-use Rattle.sja_script.specs.declared.step.Step.TheVariants.{Start, Stop, Window, Release, Read, Write, Load, Command}
-use Rattle.sja_script.specs.declared.step.Step.TheVariants.{Await, Sent, Interrupt}
-use Rattle.sja_script.specs.declared.step_answer.StepAnswer.{StepAnswer}
-use Rattle.sja_script.specs.declared.step_answer.StepAnswer.TheVariants.{Done, Released}
-use Rattle.sja_driver.specs.Deeds.{Deed, opens_by, Gives, GivesSend, length_in, given_in, released_lengths}
-use Rattle.sja_driver.specs.Deeds.{section_from, deeds_of}
-use Rattle.sja_regs.specs.Commands.{command_of, requests}
+use Rattle.sja_driver.specs.Deeds.{Deed, opens_by, Gives, given_in, released_lengths, section_from, deeds_of}
+use Rattle.sja_driver.proofs.Step.CreditsGiven.{credits_in}
 use Rattle.sja_link.proofs.JournalEntries.FramesReceived.{AreFrames, all_frames, message_fits}
-
-abbrev pub bytes : List (List ℕ) → ℕ
-bytes = total (λ (m : List ℕ). length m)
 
 -- ---- a message has 3 to 13 bytes
 
@@ -42,7 +35,7 @@ abbrev pub AllFit : List (List ℕ) → Type 0
 AllFit [] = Unit {0}
 AllFit (m ∷ ms) = ((3 ≤ length m) × (length m ≤ 13)) × AllFit ms
 
-long_bytes : (ms : List (List ℕ)) → AllFit ms → 3 * length ms ≤ bytes ms
+long_bytes : (ms : List (List ℕ)) → AllFit ms → 3 * length ms ≤ bytes_of ms
 long_bytes [] h = omega arith
 long_bytes (m ∷ ms) h = let a = h.0.0 in let b = long_bytes ms h.1 in omega (arith, a, b)
 
@@ -76,7 +69,7 @@ stored_fit j a lawful =
 
 -- ---- what was stored has room in 64 bytes and the credits taken
 
-pub bytes_stored : (p : List Entry) → total bytes_in p ≡ bytes (stored_of p)
+pub bytes_stored : (p : List Entry) → total bytes_in p ≡ bytes_of (stored_of p)
 bytes_stored [] = refl
 bytes_stored (Stored m ∷ p) = ap (λ n. length m + n) (bytes_stored p)
 bytes_stored (Off ∷ p) = let e = bytes_stored p in omega (arith, e)
@@ -119,47 +112,21 @@ room_all p (e ∷ es) due h =
 abbrev pub all_of : List ℕ → ℕ
 all_of = total (λ n. n)
 
-credits_one : (s : Step) (r : StepAnswer) (gave : List Up) → Gives s r gave →
-    total credit_of gave ≡ all_of (length_in s r)
-credits_one Start Done gave g = ap (total credit_of) g.1
-credits_one Release (Released k) gave g = ap (total credit_of) g
-credits_one Stop Done gave g = ap (total credit_of) g
-credits_one (Command v) Done gave g = asked (requests (command_of v)) g
-  where
-    asked : (b : Bool) → GivesSend b gave → total credit_of gave ≡ 0
-    asked true h = ap (total credit_of) h.1
-    asked false h = ap (total credit_of) h
-credits_one Start other gave g = ap (total credit_of) g
-credits_one Release other gave g = ap (total credit_of) g
-credits_one Stop other gave g = ap (total credit_of) g
-credits_one (Command v) other gave g = ap (total credit_of) g
-credits_one Window r gave g = ap (total credit_of) g
-credits_one (Read x) r gave g = ap (total credit_of) g
-credits_one (Write x y) r gave g = ap (total credit_of) g
-credits_one (Load m) r gave g = ap (total credit_of) g
-credits_one (Await k) r gave g = ap (total credit_of) g
-credits_one Sent r gave g = ap (total credit_of) g
-credits_one Interrupt r gave g = ap (total credit_of) g
+-- what credits give back is their sum
+pub credits_sum : (us : List Up) → total credit_of us ≡ all_of (credits_of us)
+credits_sum [] = refl
+credits_sum (Credit n ∷ us) = ap (λ k. n + k) (credits_sum us)
+credits_sum (StartUp config ∷ us) = let e = credits_sum us in omega (arith, e)
+credits_sum (SendUp request ∷ us) = let e = credits_sum us in omega (arith, e)
+credits_sum (StopUp ∷ us) = let e = credits_sum us in omega (arith, e)
 
 pub credits_section : (n : ℕ) (before ds : List Deed) (a : ℕ) → EachAfter (λ b (d : Deed). Gives d.step d.answer d.gave)
     before ds →
     total credit_of (given_in (section_from opens_by n ds a)) ≡ all_of (released_lengths (section_from opens_by n ds a))
-credits_section n before [] a g = refl
-credits_section n before (d ∷ ds) a g =
-    over ((n + opens_by d) == a) (credits_section (n + opens_by d) (before ++ d ∷ []) ds a g.1)
-  where
-    over : (b : Bool) → total credit_of (given_in (section_from opens_by (n + opens_by d) ds a)) ≡ all_of
-        (released_lengths (section_from opens_by (n + opens_by d) ds a)) →
-        total credit_of (given_in ((if b then d ∷ [] else []) ++ section_from opens_by (n + opens_by d) ds a)) ≡ all_of
-        (released_lengths ((if b then d ∷ [] else []) ++ section_from opens_by (n + opens_by d) ds a))
-    over true h =
-        total_append credit_of d.gave (given_in (section_from opens_by (n + opens_by d) ds a))
-        ∙ ap₂ (λ x y. x + y) (credits_one d.step d.answer d.gave g.0) h
-        ∙ sym (total_append (λ (k : ℕ). k) (length_in d.step d.answer)
-        (released_lengths (section_from opens_by (n + opens_by d) ds a)))
-    over false h = h
+credits_section n before ds a gives =
+    credits_sum (given_in (section_from opens_by n ds a)) ∙ ap all_of (credits_in n before ds a gives)
 
-pub bytes_lengths : (ms : List (List ℕ)) → bytes ms ≡ all_of (map (λ (m : List ℕ). length m) ms)
+pub bytes_lengths : (ms : List (List ℕ)) → bytes_of ms ≡ all_of (map (λ (m : List ℕ). length m) ms)
 bytes_lengths [] = refl
 bytes_lengths (m ∷ ms) = ap (λ n. length m + n) (bytes_lengths ms)
 
@@ -179,7 +146,7 @@ few_held j a deeds got down released window lawful put holds given gives lengths
     (stored_fit j a lawful))) in
     let due = (lawful.verdicts lawful.found lawful.cut).due a in
     let room = room_all [] (part j a) due (omega arith) in
-    let stored = bytes_stored (part j a) ∙ ap bytes (sym all) ∙ total_append (λ (m : List ℕ). length m) released
+    let stored = bytes_stored (part j a) ∙ ap bytes_of (sym all) ∙ total_append (λ (m : List ℕ). length m) released
     (window ++ messages down) in
     let rest = total_append (λ (m : List ℕ). length m) window (messages down) in
     let credits = credits_taken (part j a) ∙ ap (total credit_of) (sym given) ∙ credits_section 0 [] deeds a gives

@@ -1,6 +1,7 @@
 -- Reset mode, spent bits and a standing abort after a step.
 use Rattle.std.proofs.Common.{◌≡◌, ℕ, Bool, true, false, refl, sym, ◌∙◌, inl, inr, arith}
 use Rattle.std.specs.Prelude.{◌⊎◌, ◌==◌, ◌||◌, ◌&&◌, not, if◌then◌else◌, Option, Some, None, unwrap_or}
+use Rattle.std.proofs.lemmas.Bool.{and_parts}
 use Rattle.can_frame.specs.declared.seen.Seen.{Seen}
 use Rattle.sja_regs.specs.declared.reg_fault.RegFault.{RegFault}
 use Rattle.sja_regs.specs.declared.register.Register.{Register}
@@ -29,11 +30,6 @@ start_rm : (b : Bool) (p : Registers) → p.mode.rm ≡ b → (if b then after_l
 start_rm true p e = refl
 start_rm false p e = e
 
--- a bus-off that was asked for comes in reset mode alone
-forced_rm : (rm asks : Bool) → (rm && asks) ≡ true → rm ≡ true
-forced_rm true asks h = refl
-forced_rm false asks h = absurd cc
-
 -- MOD was written: with the same RM, or with RM 0 where a bus-off is asked for, which keeps RM at 1
 mode_rm : (forced rm new : Bool) (off on : Registers) (f : RegFault) (rest : Option RegFault) →
     (forced ≡ true → rm ≡ true) → off.mode.rm ≡ true → on.mode.rm ≡ new →
@@ -61,7 +57,7 @@ write_rm None v p h = refl
 write_rm (Some Mode) v p h =
     mode_rm (is_forced p) p.mode.rm (mode_of v).rm
     (after_forced_off (record p { mode = record (mode_of v) { rm = true } })) (record p { mode = mode_of v }) _ _
-    (forced_rm p.mode.rm (asks_off p)) refl refl h
+    (λ f. (and_parts p.mode.rm (asks_off p) f).0) refl refl h
 write_rm (Some TransmitErrorCounter) v p h = txerr_rm (v == 255) v p
 write_rm (Some other) v p h = refl
 

@@ -93,7 +93,7 @@ pub off_not_here : (xs : List Down) (k : ℕ) (x : Down) → total is_off xs ≡
     x ≡ get_or xs k x → x ≡ Off → ⊥
 off_not_here xs k x on less here is = counted_here is_off xs k x Off less here is refl on
 
-messages_few : (xs : List Down) → length (messages xs) ≤ length xs
+pub messages_few : (xs : List Down) → length (messages xs) ≤ length xs
 messages_few [] = omega arith
 messages_few (Message m ∷ xs) = let n = messages_few xs in omega (arith, n)
 messages_few (Off ∷ xs) = let n = messages_few xs in omega (arith, n)

@@ -6,6 +6,7 @@ use Rattle.std.proofs.lemmas.Bool.{cases_eq, eq-eqb, ne_eqb}
 use Rattle.sja_link.specs.NodeWords.{Count, none_yet, counted}
 use Rattle.can_node.proofs.OneCut.GoOn.{counted_both}
 use Rattle.sja_link.specs.declared.down.Down.TheVariants.{Message, Off as OffDown}
+use Rattle.sja_link.specs.declared.up.Up.{Up}
 use Rattle.sja_link.specs.declared.up.Up.TheVariants.{Start, Credit, Send, Stop}
 use Rattle.sja_link.specs.declared.entry.Entry.{Entry}
 use Rattle.sja_link.specs.declared.entry.Entry.TheVariants.{Bit, Up as Item, Abort, Stored, Overrun, Off}
@@ -50,10 +51,17 @@ all_rise p (e ∷ es) =
     let y = all_rise (past p e) es in
     record { activation = omega (arith, x, y); bits = omega (arith, x, y) }
 
-pub placed_push : (p : JournalPlace) (es : List Entry) (e : Entry) → placed_from p (es ++ e ∷ []) ≡ placed_from p es
-    ++ (record { before = past_all p es; entry = e }) ∷ []
-placed_push p [] e = refl
-placed_push p (x ∷ es) e = ap (λ l. (record { before = p; entry = x }) ∷ l) (placed_push (past p x) es e)
+-- an item is no bit
+pub item_bits : (p : JournalPlace) (u : Up) → (past p (Item u)).bits ≡ p.bits
+item_bits p (Start config) = refl
+item_bits p (Credit n) = refl
+item_bits p (Send request) = refl
+item_bits p Stop = refl
+
+pub placed_append : (p : JournalPlace) (es fs : List Entry) →
+    placed_from p (es ++ fs) ≡ placed_from p es ++ placed_from (past_all p es) fs
+placed_append p [] fs = refl
+placed_append p (e ∷ es) fs = ap (λ l. (record { before = p; entry = e }) ∷ l) (placed_append (past p e) es fs)
 
 -- an entry at the end of a journal
 abbrev pub last_of : List Entry → Entry → Placed
@@ -61,7 +69,7 @@ last_of j e = record { before = place_of j; entry = e }
 
 pub placed_end : {B : Type 0} (f : Placed → List B) (j : List Entry) (e : Entry) →
     gathered f (placed (j ++ e ∷ [])) ≡ gathered f (placed j) ++ f (last_of j e)
-placed_end f j e = ap (gathered f) (placed_push first_place j e) ∙ gathered_push f (placed j) (last_of j e)
+placed_end f j e = ap (gathered f) (placed_append first_place j (e ∷ [])) ∙ gathered_push f (placed j) (last_of j e)
 
 -- an entry stands in one activation, and in no other
 pub of_part_here : {B : Type 0} (f : Placed → List B) (j : List Entry) (e : Entry) (a : ℕ) →

@@ -6,7 +6,8 @@ use Rattle.sja_link.specs.declared.event.Event.TheVariants.{Start, Put, Off, Get
 use Rattle.sja_link.specs.WorldEvents.{IsEvent}
 
 -- a message has at least three bytes
-head_long : (ext : Bool) (id : ℕ) (rtr : Bool) (dlc : ℕ) (rest : List ℕ) → 3 ≤ length (head_of ext id rtr dlc ++ rest)
+pub head_long : (ext : Bool) (id : ℕ) (rtr : Bool) (dlc : ℕ) (rest : List ℕ) →
+    3 ≤ length (head_of ext id rtr dlc ++ rest)
 head_long false id rtr dlc rest = omega arith
 head_long true id rtr dlc rest = omega arith
 

@@ -12,6 +12,12 @@ off_both off [] ys = refl
 off_both off (Message m ∷ xs) ys = off_both off xs ys
 off_both off (Off ∷ xs) ys = off_both true xs ys
 
+-- bus-off stays known
+pub off_stays : (xs : List Down) → off_among true xs ≡ true
+off_stays [] = refl
+off_stays (Message m ∷ xs) = off_stays xs
+off_stays (Off ∷ xs) = off_stays xs
+
 pub pulls_refl : {E : Type 0} (stands : E → Lists → Type 0) (e : E) (held : List (List ℕ)) (off : Bool) →
     Pulls stands e e held held off off
 pulls_refl stands e held off = record {

@@ -1,15 +1,8 @@
 -- Small facts of truth values and of lists of one item.
 use Rattle.std.proofs.Common.{◌≡◌, Bool, true, false, [], ◌∷◌, refl}
 use Rattle.std.specs.Prelude.{◌||◌}
+pub use Rattle.std.proofs.lemmas.Bool.{false_from_ne_true as not_true, true_from_ne_false as not_false}
 use Rattle.sja_link.specs.declared.up.Up.{Up}
-
-pub not_true : (b : Bool) → (b ≡ true → ⊥) → b ≡ false
-not_true true never = absurd (never refl)
-not_true false never = refl
-
-pub not_false : (b : Bool) → (b ≡ false → ⊥) → b ≡ true
-not_false true never = refl
-not_false false never = absurd (never refl)
 
 pub neither : (b : Bool) → b ≡ true → b ≡ false → ⊥
 neither true e f = cc

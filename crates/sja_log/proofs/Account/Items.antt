@@ -7,7 +7,6 @@ use Rattle.std.proofs.lemmas.Bool.{cases_eq, eq-eqb, ne_eqb}
 use Rattle.std.proofs.lemmas.List.Sums.{fold_push}
 use Rattle.sja_link.specs.declared.down.Down.{Down}
 use Rattle.sja_link.specs.declared.up.Up.{Up}
-use Rattle.sja_link.specs.declared.up.Up.TheVariants.{Start as StartItem, Credit, Send as SendItem, Stop as StopItem}
 use Rattle.sja_link.specs.declared.entry.Entry.{Entry}
 use Rattle.sja_link.specs.declared.entry.Entry.TheVariants.{Up as Item}
 use Rattle.lemmas.specs.Gathering.{total}
@@ -17,29 +16,23 @@ use Rattle.lemmas.specs.Picking.{EachAfter}
 use Rattle.sja_link.specs.Places.{JournalPlace, past, place_of}
 use Rattle.sja_link.specs.Carried.{taken_in}
 use Rattle.sja_link.specs.World.{is_send}
-use Rattle.sja_link.proofs.JournalEntries.Entering.{place_push}
+use Rattle.sja_link.proofs.JournalEntries.Entering.{place_push, item_bits}
 use Rattle.lemmas.proofs.Gathered.{total_push}
 use Rattle.sja_wire.specs.Links.{stops_in, stops_of}
 use Rattle.sja_driver.specs.Carried.{Sees}
 use Rattle.sja_driver.specs.Deeds.{Deed, opens_by, opened_by, active_after, active_from, is_active, deeds_of}
 use Rattle.sja_driver.specs.Deeds.{released_lengths}
-use Rattle.sja_log.specs.Aborting.{sends_taken}
-use Rattle.sja_log.specs.Settings.{Standing, after_setting, after_deed, settings_of}
-use Rattle.sja_log.specs.Timing.{given_when, taken_when}
-use Rattle.sja_log.proofs.Trace.Waiting.{WaitsInTime}
-use Rattle.sja_log.specs.Windows.{put_by, off_by, window_of, SeesIf}
-use Rattle.sja_log.proofs.Trace.Stepping.{stands_in, timely_deed}
-use Rattle.sja_log.proofs.Trace.Timings.{timely_take, timely_quiet, all_timely}
+use Rattle.sja_driver.specs.Aborting.{sends_taken}
+use Rattle.sja_driver.specs.Settings.{Standing, after_setting, after_deed, settings_of}
+use Rattle.sja_driver.specs.Timing.{given_when, taken_when}
+use Rattle.sja_driver.proofs.Trace.Waiting.{WaitsInTime}
+use Rattle.sja_driver.specs.Windows.{put_by, off_by, window_of, SeesIf}
+use Rattle.sja_driver.proofs.Trace.Stepping.{stands_in, timely_deed}
+use Rattle.sja_driver.proofs.Trace.Timings.{timely_take, timely_quiet, all_timely}
 use Rattle.sja_log.proofs.Trace.Windows.{put_quiet}
 use Rattle.sja_regs.specs.Registers.{at_power_on}
 
 -- ---- places
-
-item_bits : (p : JournalPlace) (u : Up) → (past p (Item u)).bits ≡ p.bits
-item_bits p (StartItem config) = refl
-item_bits p (Credit n) = refl
-item_bits p (SendItem request) = refl
-item_bits p StopItem = refl
 
 pub bits_same : (j : List Entry) (u : Up) → (place_of (j ++ Item u ∷ [])).bits ≡ (place_of j).bits
 bits_same j u = ap (λ (p : JournalPlace). p.bits) (place_push j (Item u)) ∙ item_bits (place_of j) u

@@ -1,8 +1,7 @@
 -- What a step has seen, beside all that was put.
-use Rattle.std.proofs.Common.{◌≡◌, ℕ, ◌≤◌, Bool, true, false, List, [], ◌∷◌, ◌++◌, length, map, refl, sym, ap, ◌∙◌}
+use Rattle.std.proofs.Common.{◌≡◌, ℕ, ◌≤◌, Bool, true, false, List, [], ◌++◌, length, map, refl, sym, ap, ◌∙◌}
 use Rattle.std.proofs.Common.{append_assoc, append-nil, arith, inl, inr}
 use Rattle.sja_link.specs.declared.down.Down.{Down}
-use Rattle.sja_link.specs.declared.down.Down.TheVariants.{Message, Off as OffDown}
 use Rattle.sja_link.specs.declared.entry.Entry.{Entry}
 use Rattle.sja_link.specs.Lists.{messages}
 use Rattle.sja_link.specs.Deques.{Deques, Lies}
@@ -11,19 +10,13 @@ use Rattle.sja_link.specs.Accounts.{account}
 use Rattle.sja_link.specs.Places.{place_of}
 use Rattle.sja_link.specs.Parts.{part}
 use Rattle.sja_link.specs.Carried.{put_of}
-use Rattle.sja_link.proofs.Ledger.Pullings.{off_both}
+use Rattle.sja_link.proofs.Ledger.Pullings.{off_both, off_stays}
 use Rattle.sja_link.proofs.JournalEntries.ListCounts.{messages_both}
 use Rattle.sja_driver.specs.Acting.{Looks}
 use Rattle.sja_driver.specs.Deeds.{Deed, opened_by, released_lengths, deeds_of}
-use Rattle.sja_log.specs.Windows.{off_by, window_of}
+use Rattle.sja_driver.specs.Windows.{off_by, window_of}
 use Rattle.sja_log.proofs.Trace.Windows.{window_now, off_now}
-use Rattle.sja_log.proofs.Trace.Timings.{put_now}
-
--- bus-off stays known
-off_stays : (xs : List Down) → off_among true xs ≡ true
-off_stays [] = refl
-off_stays (Message m ∷ xs) = off_stays xs
-off_stays (OffDown ∷ xs) = off_stays xs
+use Rattle.sja_driver.proofs.Trace.Timings.{put_now}
 
 -- what is known of bus-off, and of the messages where it isn't known
 pub record IsShown (j : List Entry) (deeds : List Deed) (off : Bool) (window : List (List ℕ)) : Type 0 where

@@ -9,7 +9,7 @@ use Rattle.sja_script.specs.declared.step_answer.StepAnswer.{StepAnswer}
 use Rattle.sja_driver.specs.Acting.{IfLooking}
 use Rattle.sja_driver.specs.Carried.{Sees}
 use Rattle.sja_driver.specs.Deeds.{Deed, opened_by}
-use Rattle.sja_log.specs.Windows.{off_by, window_of}
+use Rattle.sja_driver.specs.Windows.{off_by, window_of}
 use Rattle.sja_log.proofs.Account.Looks.{IsShown}
 
 sees_off : (one : Step) (answer : StepAnswer) (window other : List (List ℕ)) → Sees one true window answer →

@@ -17,7 +17,7 @@ use Rattle.sja_driver.specs.Carried.{Tells}
 use Rattle.sja_driver.specs.Deeds.{Deed, active_after, opened_by}
 use Rattle.sja_driver.specs.Drivers.{nothing_seen}
 use Rattle.sja_log.specs.Registering.{seen_now}
-use Rattle.sja_log.specs.Windows.{off_by, window_of}
+use Rattle.sja_driver.specs.Windows.{off_by, window_of}
 use Rattle.sja_log.proofs.Account.Looks.{IsShown}
 
 -- out of reset by what is known of bus-off and by the window, in reset nothing

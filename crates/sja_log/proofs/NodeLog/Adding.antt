@@ -19,12 +19,12 @@ use Rattle.sja_link.proofs.JournalEntries.Entering.{place_push}
 use Rattle.sja_link.proofs.Ledger.Pullings.{off_both}
 use Rattle.sja_wire.specs.OneBit.{abort_as, judged_as, off_as, HasBit}
 use Rattle.sja_driver.specs.Deeds.{Deed}
-use Rattle.sja_log.specs.Aborting.{IsCommanded, AbortIsDue}
-use Rattle.sja_log.specs.Windows.{put_by, off_by}
-use Rattle.sja_log.proofs.Trace.Timings.{aborts_push, put_now}
+use Rattle.sja_driver.specs.Aborting.{IsCommanded, AbortIsDue}
+use Rattle.sja_driver.specs.Windows.{put_by, off_by}
+use Rattle.sja_driver.proofs.Trace.Timings.{aborts_push, put_now}
 use Rattle.sja_log.proofs.Trace.Windows.{put_quiet}
-use Rattle.sja_log.proofs.Trace.Later.{SameBy}
-use Rattle.sja_log.proofs.Account.Own.{AreOwn, own_part, own_late}
+use Rattle.sja_driver.proofs.Trace.Later.{SameBy}
+use Rattle.sja_driver.proofs.Account.Own.{AreOwn, own_part, own_late}
 
 -- the entries after the bit, and all of them
 abbrev pub after_bit : Option (Verdict × List ℕ) → Bool → List Entry

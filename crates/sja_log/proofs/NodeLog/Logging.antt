@@ -3,7 +3,7 @@ use Rattle.std.proofs.Common.{◌≡◌, ℕ, zero, suc, ◌+◌, ◌*◌, ◌<�
 use Rattle.std.proofs.Common.{◌∙◌, subst, arith, inl, inr}
 use Rattle.std.specs.Prelude.{slice_index_or}
 use Rattle.std.proofs.lemmas.Bool.{cases_eq}
-use Rattle.std.proofs.lemmas.List.{length-append, length-map}
+use Rattle.std.proofs.lemmas.List.{length-append, length-map, get_or_append_left}
 use Rattle.sja_link.specs.declared.driver_ledger.DriverLedger.{DriverLedger}
 use Rattle.sja_link.specs.declared.down.Down.{Down}
 use Rattle.sja_link.specs.DriverLedgers.{held_by}
@@ -13,22 +13,21 @@ use Rattle.sja_driver.specs.Logs.{leaves}
 use Rattle.sja_log.specs.Log.{ActivationValue, NodeValue}
 use Rattle.sja_log.proofs.NodeLog.Logs.{index_map}
 use Rattle.sja_log.specs.Finishing.{activation_after, AreActivations, IsNodeEnd, AreNodeEnds}
-use Rattle.lemmas.proofs.Pushed.{push_here, push_front}
+use Rattle.lemmas.proofs.Lists.{push_here}
 
 -- what an activation that ended left, and what the present one holds
 pub leaves_ended : (left : List DriverLedger) (held : List (List ℕ)) (a : ℕ) (d : DriverLedger) → a < length left →
     slice_index_or (leaves left held) a [] ≡ held_by (slice_index_or left a d)
 leaves_ended left held a d less =
     let n = length-map left (λ (l : DriverLedger). held_by l) in
-    push_front (map (λ (l : DriverLedger). held_by l) left) held [] a (omega (arith, n, less)) ∙ index_map (λ
-    (l : DriverLedger). held_by l) left a d [] less
+    get_or_append_left (map (λ (l : DriverLedger). held_by l) left) (held ∷ []) [] a (omega (arith, n, less))
+    ∙ index_map (λ (l : DriverLedger). held_by l) left a d [] less
 
 pub leaves_held : (left : List DriverLedger) (held : List (List ℕ)) (a : ℕ) → a ≡ length left → slice_index_or
     (leaves left held) a [] ≡ held
 leaves_held left held a e =
     let n = length-map left (λ (l : DriverLedger). held_by l) in
-    ap (λ m. slice_index_or (leaves left held) m []) (e ∙ sym n) ∙ push_here (map (λ
-    (l : DriverLedger). held_by l) left) held []
+    push_here (map (λ (l : DriverLedger). held_by l) left) held [] a (e ∙ sym n)
 
 -- no activation yet, and one more
 pub no_activations : (driver : LoggedDriver) (links : List (List Down)) (base : ℕ) →
@@ -43,11 +42,12 @@ activations_push driver links base n logs x h is = record {
   count_is = let c = h.count_is in let e = length-append logs (x ∷ []) in omega (arith, c, e);
   each = λ a d l less. elim (cases_eq n a) [
     | inl e ↦
-        ap (λ m. slice_index_or (logs ++ x ∷ []) m d) (sym (h.count_is ∙ e)) ∙ push_here logs x d ∙ is l
+        push_here logs x d a (sym (h.count_is ∙ e)) ∙ is l
         ∙ ap (λ m. activation_after driver (slice_index_or links (base + m) l) m) e
     | inr differ ↦
         let c = h.count_is in
-        push_front logs x d a (omega (arith, c, less, differ)) ∙ h.each a d l (omega (arith, less, differ))
+        get_or_append_left logs (x ∷ []) d a (omega (arith, c, less, differ))
+        ∙ h.each a d l (omega (arith, less, differ))
   ];
 }
 
@@ -64,8 +64,7 @@ nodes_push logs drivers links n nodes x h is = record {
   count_is = let c = h.count_is in let e = length-append nodes (x ∷ []) in omega (arith, c, e);
   each = λ k g d y less. elim (cases_eq n k) [
     | inl e ↦
-        let at : slice_index_or (nodes ++ x ∷ []) k y ≡ x = ap (λ m. slice_index_or (nodes ++ x ∷ []) m y) (sym
-        (h.count_is ∙ e)) ∙ push_here nodes x y in
+        let at : slice_index_or (nodes ++ x ∷ []) k y ≡ x = push_here nodes x y k (sym (h.count_is ∙ e)) in
         subst (λ (z : NodeValue). IsNodeEnd (slice_index_or logs k g) (slice_index_or drivers k d) links (64 * k) z)
         (sym at)
         (subst (λ (m : ℕ). IsNodeEnd (slice_index_or logs m g) (slice_index_or drivers m d) links (64 * m) x) e (is g
@@ -73,7 +72,7 @@ nodes_push logs drivers links n nodes x h is = record {
     | inr differ ↦
         let c = h.count_is in
         subst (λ (z : NodeValue). IsNodeEnd (slice_index_or logs k g) (slice_index_or drivers k d) links (64 * k) z)
-        (sym (push_front nodes x y k (omega (arith, c, less, differ)))) (h.each k g d y (omega
+        (sym (get_or_append_left nodes (x ∷ []) y k (omega (arith, c, less, differ)))) (h.each k g d y (omega
         (arith, less, differ)))
   ];
 }

@@ -13,7 +13,7 @@ use Rattle.sja_log.specs.Log.{NodeValue, RunValue, journals_in}
 use Rattle.sja_log.specs.Runs.{IsTrace, IsRun}
 use Rattle.sja_log.specs.Settling.{AreSettled}
 use Rattle.sja_log.proofs.Account.Accounts.{account_of}
-use Rattle.sja_log.proofs.Trace.Stepping.{opened_begun}
+use Rattle.sja_driver.proofs.Trace.Stepping.{opened_begun}
 
 pub index_map : {A B : Type 0} (f : A → B) (xs : List A) (k : ℕ) (d : A) (e : B) → k < length xs →
     slice_index_or (map f xs) k e ≡ f (slice_index_or xs k d)

@@ -11,7 +11,7 @@ use Rattle.sja_link.specs.declared.verdict.Verdict.TheVariants.{Stored as ToStor
 use Rattle.sja_wire.specs.OneBit.{HasBit, abort_as, judged_as, off_as, entries_of_items}
 use Rattle.sja_driver.specs.Deeds.{Deed}
 use Rattle.sja_regs.specs.declared.registers.Registers.{Registers}
-use Rattle.sja_log.specs.Moments.{BeginsWithBit}
+use Rattle.sja_driver.specs.Moments.{BeginsWithBit}
 use Rattle.sja_log.specs.Registering.{LeadTo}
 use Rattle.sja_log.specs.Registering.LeadTo.{power_on, step, bit}
 

@@ -15,9 +15,9 @@ use Rattle.sja_link.specs.Carried.{put_in, put_of, taken_of}
 use Rattle.sja_link.proofs.JournalEntries.Entering.{of_part_none}
 use Rattle.sja_wire.specs.Links.{per_node, Kept}
 use Rattle.sja_driver.specs.Deeds.{Deed, opened_by, released_lengths, deeds_of}
-use Rattle.sja_log.specs.Windows.{put_by, off_by, window_of}
+use Rattle.sja_driver.specs.Windows.{put_by, off_by, window_of}
 use Rattle.sja_log.specs.Settling.{IsSettled}
-use Rattle.sja_log.proofs.Trace.Timings.{put_now}
+use Rattle.sja_driver.proofs.Trace.Timings.{put_now}
 
 -- at the end: what is left unread is what is held, and what lies there
 pub settled_by : (j : List Entry) (a : ℕ) (driver : Account) (link : Deques) (released held : List (List ℕ)) →

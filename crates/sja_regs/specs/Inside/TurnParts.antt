@@ -1,5 +1,5 @@
 -- What the parts of a turn's code do.
-use Rattle.std.specs.Prelude.{◌≡◌, ◌||◌, ◌&&◌, not, is_some, false, None, if◌then◌else◌}
+use Rattle.std.specs.Prelude.{◌≡◌, ◌||◌, ◌&&◌, not, is_some, if◌then◌else◌}
 use Rattle.can_node.specs.declared.bit_events.BitEvents.{BitEvents}
 use Rattle.sja_regs.specs.declared.bus_turn.BusTurn.{BusTurn}
 use Rattle.sja_regs.specs.declared.interrupts.Interrupts.{Interrupts}
@@ -31,15 +31,6 @@ pub record HasCounted (p : Registers) (turn : BusTurn) : Type 0 where
   pub rxerr : turn.rxerr ≡ p.rxerr
   pub txerr : turn.txerr ≡ p.txerr
   pub off : turn.off ≡ p.bs
-
--- the turn brought nothing to its activation
-pub record BringsNoNews (turn : BusTurn) : Type 0 where
-  pub ended : turn.events.ended ≡ None
-  pub lost : turn.events.lost ≡ None
-  pub fault : turn.events.fault ≡ None
-  pub went_off : turn.events.went_off ≡ false
-  pub aborted : turn.aborted ≡ false
-  pub overrun : turn.overrun ≡ false
 
 -- which of the activation's interrupts have a cause: all but EI and EPI
 abbrev pub activity : Registers → BusTurn → Interrupts

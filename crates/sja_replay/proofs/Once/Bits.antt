@@ -8,14 +8,14 @@ use Rattle.can_node.specs.Events.{Step, events_of}
 use Rattle.can_node.specs.NextBit.{now_in, open_bits}
 use Rattle.can_node.specs.Stands.{closed_by, entries_of}
 use Rattle.can_node.proofs.OneCut.CutOnce.{cut_once}
+use Rattle.can_node.proofs.CutRecords.BusOff.{went_once}
+use Rattle.can_node.proofs.CutRecords.Events.{events_alike, finish_alike}
 use Rattle.sja_link.specs.NodeWords.{NodeBit, NodeEntry, NodeTook, NodeWentOff, FinishedPiece, IsCut, none_yet, counted}
 use Rattle.sja_link.specs.declared.entry.Entry.{Entry}
 use Rattle.sja_link.specs.Records.{record_of}
 use Rattle.sja_replay.specs.declared.happening.Happening.{Happening}
 use Rattle.sja_replay.specs.Happening.{Brings, bit_of}
-use Rattle.sja_replay.proofs.Cuts.{same_now, same_place, same_bits}
-use Rattle.sja_replay.proofs.Once.BusOff.{went_once}
-use Rattle.sja_replay.proofs.Once.Events.{events_alike, finish_alike}
+use Rattle.sja_replay.proofs.Knowledge.Cuts.{same_now, same_place, same_bits}
 use Rattle.sja_replay.proofs.Once.Views.{view_once}
 
 -- the role by cuts of two records that are one

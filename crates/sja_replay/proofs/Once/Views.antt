@@ -13,7 +13,7 @@ use Rattle.can_node.proofs.Bits.Nexts.{IsNext-unique}
 use Rattle.sja_link.specs.NodeWords.{NodeEntry, FinishedPiece, IsCut}
 use Rattle.sja_replay.specs.declared.view.View.{View}
 use Rattle.sja_replay.specs.Viewing.{IsView}
-use Rattle.sja_replay.proofs.Cuts.{same_now, same_place, same_bits, same_phase}
+use Rattle.sja_replay.proofs.Knowledge.Cuts.{same_now, same_place, same_bits, same_phase}
 
 -- ---- the segment
 

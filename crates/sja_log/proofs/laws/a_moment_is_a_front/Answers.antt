@@ -1,4 +1,4 @@
-use Rattle.sja_log.proofs.Trace.Fronts.{moment_is}
+use Rattle.sja_driver.proofs.Trace.Fronts.{moment_is}
 use Rattle.sja_log.proofs.laws.a_moment_is_a_front.Goals as goal
 
 pub returns : goal.returns

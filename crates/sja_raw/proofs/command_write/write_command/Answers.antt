@@ -3,7 +3,7 @@ use Rattle.sja_regs.specs.declared.command.Command.{Command as CommandBits}
 use Rattle.sja_regs.specs.declared.mode.Mode.{Mode}
 use Rattle.sja_regs.specs.Commands.{command_of}
 use Rattle.sja_raw.specs.CommandWrites.{releases, command_byte, command_steps}
-use Rattle.sja_raw.proofs.After.{commanded}
+use Rattle.sja_driver.proofs.Step.After.{commanded}
 use Rattle.sja_raw.proofs.CommandBytes.{command_back}
 use Rattle.sja_raw.proofs.Chain.{nothing_left, waits_at, then_at, commands_so, commands_off}
 use Rattle.sja_raw.proofs.Keeping.{keeps_none, keeps_of_two, keeps_then}

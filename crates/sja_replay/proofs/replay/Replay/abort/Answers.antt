@@ -1,5 +1,5 @@
 use Rattle.std.proofs.Common.{refl}
-use Rattle.sja_replay.proofs.Entering.{abort_taken, abort_refused, aborts_on}
+use Rattle.sja_replay.proofs.Knowledge.Entering.{abort_taken, abort_refused, aborts_on}
 use Rattle.sja_replay.proofs.replay.Replay.abort.Goals as goal
 
 -- src/items.rt

@@ -2,7 +2,7 @@ use Rattle.std.proofs.Common.{Option, Result, subst}
 use Rattle.sja_replay.specs.declared.fate.Fate.{Fate}
 use Rattle.sja_replay.specs.declared.misfit.Misfit.{Misfit}
 use Rattle.sja_replay.specs.Inside.Walking.{FindsVerdict, GoesOff}
-use Rattle.sja_replay.proofs.Closes.{closed_on, closed_off}
+use Rattle.sja_replay.proofs.BitTaken.Closes.{closed_on, closed_off}
 use Rattle.sja_replay.proofs.replay.Replay.close.Goals as goal
 
 -- src/verdicts.rt

@@ -1,5 +1,5 @@
 use Rattle.std.proofs.Common.{◌≤◌, ◌+◌, refl, arith}
-use Rattle.sja_replay.proofs.Entering.{credit_taken, credit_refused, pays}
+use Rattle.sja_replay.proofs.Knowledge.Entering.{credit_taken, credit_refused, pays}
 use Rattle.sja_replay.proofs.replay.Replay.credit.Goals as goal
 
 -- src/items.rt

@@ -1,5 +1,5 @@
 use Rattle.std.proofs.Common.{◌<◌, length, arith}
-use Rattle.sja_replay.proofs.Judging.{overrun}
+use Rattle.sja_replay.proofs.BitTaken.Judging.{overrun}
 use Rattle.sja_replay.proofs.replay.Replay.lose.Goals as goal
 
 -- src/verdicts.rt

@@ -1,5 +1,5 @@
 use Rattle.std.proofs.Common.{◌≡◌, ◌+◌, ◌<◌, ◌^◌, refl, ◌∙◌, rules}
-use Rattle.sja_replay.proofs.Passed.{same_node, passed_bit}
+use Rattle.sja_replay.proofs.BitTaken.Passed.{same_node, passed_bit}
 use Rattle.sja_replay.proofs.replay.Replay.pass.Goals as goal
 use Rattle.sja_replay.proofs.replay.Replay.pass.Goals.{then-may_start-via-then-may_start}
 use Rattle.sja_replay.proofs.replay.Replay.pass.Goals.{then-may_start-via-else-may_start+then-not-sample_quietly}

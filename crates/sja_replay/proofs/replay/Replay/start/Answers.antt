@@ -1,5 +1,5 @@
 use Rattle.std.proofs.Common.{refl}
-use Rattle.sja_replay.proofs.Entering.{start_taken, start_refused, starts}
+use Rattle.sja_replay.proofs.Knowledge.Entering.{start_taken, start_refused, starts}
 use Rattle.sja_replay.proofs.replay.Replay.start.Goals as goal
 
 -- src/items.rt

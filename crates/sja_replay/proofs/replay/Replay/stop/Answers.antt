@@ -1,5 +1,5 @@
 use Rattle.std.proofs.Common.{refl}
-use Rattle.sja_replay.proofs.Entering.{stop_taken, stops}
+use Rattle.sja_replay.proofs.Knowledge.Entering.{stop_taken, stops}
 use Rattle.sja_replay.proofs.replay.Replay.stop.Goals as goal
 
 -- src/items.rt

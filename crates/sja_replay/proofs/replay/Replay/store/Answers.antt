@@ -1,5 +1,5 @@
 use Rattle.std.proofs.Common.{◌≤◌, ◌-◌, length, refl, ap, arith}
-use Rattle.sja_replay.proofs.Judging.{stored}
+use Rattle.sja_replay.proofs.BitTaken.Judging.{stored}
 use Rattle.sja_replay.proofs.replay.Replay.store.Goals as goal
 
 -- src/verdicts.rt

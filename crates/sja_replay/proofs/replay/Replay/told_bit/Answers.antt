@@ -1,5 +1,5 @@
 use Rattle.std.proofs.Common.{◌≡◌, ◌+◌, ◌<◌, ◌^◌, false, rules}
-use Rattle.sja_replay.proofs.Bits.{has_bit, told_bit, untold_bit, misdriven_at}
+use Rattle.sja_replay.proofs.BitTaken.Bits.{has_bit, told_bit, untold_bit, misdriven_at}
 use Rattle.sja_replay.proofs.replay.Replay.told_bit.Goals as goal
 
 -- src/replay.rt

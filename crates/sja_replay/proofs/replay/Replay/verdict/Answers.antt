@@ -2,7 +2,7 @@ use Rattle.std.proofs.Common.{Result, subst}
 use Rattle.sja_replay.specs.declared.fate.Fate.{Fate}
 use Rattle.sja_replay.specs.declared.misfit.Misfit.{Misfit}
 use Rattle.sja_replay.specs.Inside.Walking.{JudgesNext}
-use Rattle.sja_replay.proofs.Closes.{with_frame, without_frame}
+use Rattle.sja_replay.proofs.BitTaken.Closes.{with_frame, without_frame}
 use Rattle.sja_replay.proofs.replay.Replay.verdict.Goals as goal
 
 -- src/verdicts.rt

@@ -1,0 +1,4 @@
+-- What was put, got, released and is left, by journal and deeds.
+pub mod Counts
+pub mod Dry
+pub mod Own

@@ -1,0 +1,235 @@
+-- What comes of a step that is tried, beside the journal.
+use Rattle.std.proofs.Common.{◌≡◌, ℕ, suc, ◌+◌, ◌<◌, Bool, true, false, List, []}
+use Rattle.std.proofs.Common.{◌∷◌, ◌++◌, length, map, refl, sym, ap, ◌∙◌, subst, arith}
+use Rattle.std.specs.Prelude.{not, min, slice_index_or}
+use Rattle.std.proofs.lemmas.List.{append_cancel_left}
+use Rattle.can_frame.specs.declared.seen.Seen.{Seen}
+use Rattle.sja_link.specs.declared.entry.Entry.{Entry}
+use Rattle.sja_link.specs.Accounts.{account}
+use Rattle.sja_link.specs.Deques.{Deques, Lies}
+use Rattle.sja_link.specs.Looking.{Holds as GotHolds}
+use Rattle.sja_link.specs.Parts.{part}
+use Rattle.sja_link.specs.Carried.{taken_of}
+use Rattle.sja_link.specs.Places.{place_of}
+use Rattle.sja_link.specs.Verdicts.{IsLawful as IsLawfulJournal}
+use Rattle.sja_regs.specs.declared.registers.Registers.{Registers}
+use Rattle.sja_regs.specs.InterruptLine.{is_line_active}
+use Rattle.sja_script.specs.declared.step.Step.{Step}
+use Rattle.sja_script.specs.declared.step.Step.TheVariants.{Start, Stop, Window, Release, Read}
+use Rattle.sja_script.specs.declared.step.Step.TheVariants.{Write, Load, Command, Await, Sent, Interrupt}
+use Rattle.sja_script.specs.declared.step_answer.StepAnswer.{StepAnswer}
+use Rattle.sja_script.specs.declared.step_answer.StepAnswer.TheVariants.{Done, Released as ReleasedAnswer}
+use Rattle.sja_driver.specs.declared.any_driver.AnyDriver.{AnyDriver}
+use Rattle.sja_driver.specs.declared.any_driver.AnyDriver.TheVariants.{InReset, InActive}
+use Rattle.sja_driver.specs.declared.work_log.WorkLog.{WorkLog}
+use Rattle.sja_driver.specs.Acting.{Acts, Looks, IfOut, IfLooking, Waits}
+use Rattle.sja_driver.specs.AnyDrivers.{is_out, opened_of, held_of, off_of, seen_by, IsDriverOf}
+use Rattle.sja_driver.specs.Carried.{Sees, Tells, carried, ported}
+use Rattle.sja_driver.specs.Deeds.{Deed, opened_by, is_active, given_in, deeds_of, released_lengths, FitsState}
+use Rattle.sja_driver.specs.Drivers.{nothing_seen}
+use Rattle.sja_driver.specs.Holding.{HoldsBy, place_after}
+use Rattle.sja_driver.specs.Logs.{Traces, releases_in, left_in, released_of, deeds_by}
+use Rattle.sja_driver.specs.Tries.{Tried, is_met, off_after, window_after}
+use Rattle.sja_driver.specs.Tries.Tried.{Unmet, Answered, Released, Ended}
+use Rattle.sja_log.specs.Registering.{seen_now}
+use Rattle.sja_driver.specs.Windows.{SeesIf}
+use Rattle.sja_driver.specs.Asking.{IsAsked}
+use Rattle.sja_log.specs.Waiting.{HasToWait}
+use Rattle.sja_driver.proofs.LogOfSteps.Logged.{min_few, min_less}
+use Rattle.sja_driver.proofs.Step.Left.{leaves_last}
+use Rattle.sja_log.proofs.Account.Seeing.{IsSeeing, seen_as, seen_by_now, tells_seen, seen_shown}
+use Rattle.sja_log.proofs.Account.Looks.{IsShown, is_shown}
+use Rattle.sja_driver.proofs.Step.Few.{few_held}
+use Rattle.sja_driver.proofs.Deeds.Patience.{never_closed}
+use Rattle.sja_log.proofs.Account.SawPut.{sees_shown, if_looking}
+use Rattle.sja_log.proofs.OneNode.Trying.{alike, shows_none, takes_none, IsNext}
+
+module _ (j : List Entry) (deeds : List Deed) (log : WorkLog) (links : List Deques) (base node : ℕ) (none : Deques)
+    (lawful : IsLawfulJournal j)
+    (given : (a : ℕ) → given_in (deeds_of deeds a) ≡ taken_of (part j a)) where
+  pub looked : {version : ℕ} (w : AnyDriver) → is_out w ≡ true → Traces version w log deeds → IsDriverOf node (length
+      (left_in log)) w →
+      HoldsBy Lies deeds w log j links base →
+      (window : List (List ℕ)) (off : Bool) → Looks alike Lies shows_none
+      (slice_index_or links (place_after base (length (left_in log))) none) (held_of w) window (off_of w) off →
+      IsShown j deeds off window
+  looked (InReset d) out trace place h window off look = absurd cc
+  looked (InActive d) out trace place h window off look =
+      let n = length (left_in log) in
+      let few : n < 64 = place.1 in
+      let opened : suc n ≡ opened_by deeds = let e = trace.opened in let a = ap (λ l. l.activation) place.0 in
+      omega (arith, e, a) in
+      let at : place_after base n ≡ base + n = ap (λ m. base + m) (min_few n few) in
+      let g = given_in (deeds_of deeds (suc n)) in
+      let lies : Lies (slice_index_or links (place_after base n) none)
+      (account j (opened_by deeds) (record { got = h.got n; given = g })) =
+      subst (λ (m : ℕ). Lies (slice_index_or links m none)
+      (account j (opened_by deeds) (record { got = h.got n; given = g }))) (sym at)
+      (subst (λ (m : ℕ). Lies (slice_index_or links (base + n) none)
+      (account j m (record { got = h.got n; given = g }))) opened (h.kept n none few)) in
+      let released = released_of (releases_in log) (suc n) in
+      let holds : GotHolds (h.got n) released (held_of (InActive d)) = h.told n few
+      ∙ ap (λ l. released ++ l) (leaves_last (left_in log) (held_of (InActive d))) in
+      let lengths : released_lengths (deeds_of deeds (opened_by deeds)) ≡ map (λ (m : List ℕ). length m) released =
+      sym (trace.released (opened_by deeds)) ∙ ap
+      (λ m. map (λ (x : List ℕ). length x) (released_of (releases_in log) m)) (sym opened) in
+      is_shown j deeds (slice_index_or links (place_after base n) none) (h.got n) g released
+      (held_of (InActive d)) window (off_of (InActive d)) off lies holds h.off_is lengths
+      (λ all down put told. few_held j (opened_by deeds) deeds all down released window lawful put told
+      (given (opened_by deeds)) trace.answered.gives lengths) look
+
+  fits_by : {version : ℕ} (one : Step) (answer : StepAnswer) (w : AnyDriver) → Traces version w log deeds →
+      FitsState version (is_out w) (opened_of w) one answer →
+      FitsState version (is_active deeds) (opened_by deeds) one answer
+  fits_by {version} one answer w trace fits =
+      subst (λ (b : Bool). FitsState version b (opened_by deeds) one answer) (sym trace.out)
+      (subst (λ (m : ℕ). FitsState version (is_out w) m one answer) (sym trace.opened) fits)
+
+  -- a step that was answered is the deed that comes next
+  pub next_one : (p q : Registers) (one : Step) (answer : StepAnswer) (w : AnyDriver) (off : Bool)
+      (window : List (List ℕ)) (seen : Seen) → Traces p.version w log deeds → IsDriverOf node (length (left_in log)) w →
+      HoldsBy Lies deeds w log j links base → p.closed ≡ false →
+      FitsState p.version (is_out w) (opened_of w) one answer →
+      IfOut w (Sees one off window answer) → Tells one (is_out w) p seen answer →
+      IfOut w (IfLooking one (Looks alike Lies shows_none
+      (slice_index_or links (place_after base (length (left_in log))) none) (held_of w) window (off_of w) off)) →
+      q ≡ ported p one answer →
+      (IsSeeing one → seen ≡ seen_as (is_out w) off window) →
+      IsNext j deeds p q (record { step = one; answer = answer; bits = (place_of j).bits; gave = carried p one answer })
+  next_one p q one answer (InReset d) off window seen trace place h unclosed fits sees tells looks left so = record {
+    now = refl;
+    fits = fits_by one answer (InReset d) trace fits;
+    gave = refl;
+    sees = let P : Bool → Type 0 = λ b. SeesIf b j deeds
+        (record { step = one; answer = answer; bits = (place_of j).bits; gave = carried p one answer }) in
+        subst P (sym trace.out) tt;
+    tells = let T : Bool → Type 0 = λ b. Tells one b p (seen_now b j deeds) answer in
+        subst T (sym trace.out) (tells_seen one answer false p seen nothing_seen (λ i. sym (so i)) tells);
+    patient = never_closed p.version false (opened_of (InReset d)) one answer off window p seen fits
+        (λ e. absurd cc) tells unclosed;
+    left = left;
+  }
+  next_one p q one answer (InActive d) off window seen trace place h unclosed fits sees tells looks left so = record {
+    now = refl;
+    fits = fits_by one answer (InActive d) trace fits;
+    gave = refl;
+    sees =
+        let P : Bool → Type 0 = λ b. SeesIf b j deeds
+        (record { step = one; answer = answer; bits = (place_of j).bits; gave = carried p one answer }) in
+        subst P (sym trace.out) (sees_shown j deeds one answer off window sees
+        (if_looking one _ _ (looked (InActive d) refl trace place h window off) looks));
+    tells = let T : Bool → Type 0 = λ b. Tells one b p (seen_now b j deeds) answer in
+        subst T (sym trace.out) (tells_seen one answer true p seen (seen_now true j deeds) (λ i.
+        seen_shown j deeds one off window i (if_looking one _ _ (looked (InActive d) refl trace place h window off)
+        looks) ∙ sym (so i)) tells);
+    patient = never_closed p.version true (opened_of (InActive d)) one answer off window p seen fits
+        (λ e. sees) tells unclosed;
+    left = left;
+  }
+
+  -- and it is just that one deed
+  pub record Comes (p q : Registers) (one : Step) (o : Tried) : Type 0 where
+    pub deed : Deed
+    pub next : IsNext j deeds p q deed
+    pub step_is : deed.step ≡ one
+    pub only : deeds_by p one o (place_of j).bits ≡ deed ∷ []
+
+  pub comes : (p q : Registers) (one : Step) (w now : AnyDriver) (new : Deques) (o : Tried) →
+      Traces p.version w log deeds →
+      IsDriverOf node (length (left_in log)) w → HoldsBy Lies deeds w log j links base →
+      p.closed ≡ false → true ≡ is_met o → Acts alike Lies shows_none takes_none
+      (slice_index_or links (place_after base (length (left_in log))) none) new p q one w now o → Comes p q one o
+  comes p q one w now new Unmet trace place h unclosed met acts = absurd cc
+  comes p q one w now new (Answered a) trace place h unclosed met acts = record {
+    deed = record { step = one; answer = a; bits = (place_of j).bits; gave = carried p one a };
+    next = next_one p q one a w (off_after now (Answered a)) (window_after now (Answered a))
+        (seen_by now) trace place h unclosed acts.fits acts.sees acts.tells acts.looks acts.port
+        (λ i. seen_by_now w now one a i acts.out);
+    step_is = refl;
+    only = refl;
+  }
+  comes p q one w now new (Released m) trace place h unclosed met acts = record {
+    deed = record {
+      step = one;
+      answer = ReleasedAnswer (length m);
+      bits = (place_of j).bits;
+      gave = carried p one
+          (ReleasedAnswer (length m));
+    };
+    next = next_one p q one (ReleasedAnswer (length m)) w (off_after now (Released m)) (window_after now (Released m))
+        (seen_by now) trace place h unclosed acts.fits acts.sees acts.tells acts.looks acts.port
+        (λ i. absurd (subst IsSeeing acts.kind i));
+    step_is = refl;
+    only = refl;
+  }
+  comes p q one w now new (Ended l) trace place h unclosed met acts = record {
+    deed = record { step = one; answer = Done; bits = (place_of j).bits; gave = carried p one Done };
+    next = next_one p q one Done w (off_after now (Ended l)) (window_after now (Ended l))
+        (seen_by now) trace place h unclosed acts.fits acts.sees acts.tells acts.looks acts.port
+        (λ i. absurd (subst IsSeeing acts.kind i));
+    step_is = refl;
+    only = refl;
+  }
+
+  -- ---- why a step isn't done
+
+  is_one : (held : Bool) → not held ≡ false → held ≡ true
+  is_one true e = refl
+  is_one false e = sym e
+
+  not_full : (s : Deques) → s.up ≡ [] → length s.up ≡ 24 → ⊥
+  not_full s none_up full = let e : length s.up ≡ 0 = ap (λ l. length l) none_up in omega (arith, e, full)
+
+  not_used : ((a : ℕ) (d : Deques) → a < 64 → (slice_index_or links (base + a) d).up ≡ []) →
+      length (slice_index_or links (place_after base (length (left_in log))) none).up ≡ 24 → ⊥
+  not_used empty = not_full (slice_index_or links (place_after base (length (left_in log))) none)
+      (empty (min (length (left_in log)) 63) none (min_less (length (left_in log))))
+
+  -- a driver that waits sees what has been put
+  seen_waiting : {version : ℕ} (w now : AnyDriver) → Traces version w log deeds →
+      IsDriverOf node (length (left_in log)) w →
+      HoldsBy Lies deeds w log j links base → IfOut w (Looks alike Lies shows_none
+      (slice_index_or links (place_after base (length (left_in log))) none) (held_of w) (held_of now) (off_of w)
+      (off_of now)) → seen_as (is_out w) (off_of now) (held_of now) ≡ seen_now (is_active deeds) j deeds
+  seen_waiting (InReset d) now trace place h look = ap (λ b. seen_now b j deeds) (sym trace.out)
+  seen_waiting (InActive d) now trace place h look =
+      sym (seen_shown j deeds Interrupt (off_of now) (held_of now) tt
+      (looked (InActive d) refl trace place h (held_of now) (off_of now) look))
+      ∙ ap (λ b. seen_now b j deeds) (sym trace.out)
+
+  pub waits : {version : ℕ} (p : Registers) (one : Step) (w now : AnyDriver) → is_out now ≡ is_out w → IsAsked j p →
+      Traces version w log deeds → IsDriverOf node (length (left_in log)) w → HoldsBy Lies deeds w log j links base →
+      ((a : ℕ) (d : Deques) → a < 64 → (slice_index_or links (base + a) d).up ≡ []) →
+      Waits alike Lies shows_none takes_none (slice_index_or links (place_after base (length (left_in log))) none) p one
+      w now → HasToWait p j deeds one
+  waits p (Await count) (InActive was) now out asked trace place h empty (closed, on, few, look) =
+      let shown = looked (InActive was) refl trace place h (held_of now) (off_of now) look in
+      let same = shown.window_is on in
+      (trace.out, shown.off_is ∙ on, subst (λ (l : List (List ℕ)). length l < count) (sym same) few)
+  waits p (Await count) (InReset was) now out asked trace place h empty full = elim full [ ]
+  waits p Sent (InActive was) now out asked trace place h empty (closed, busy, look) = (
+    trace.out,
+    (lawful.found, lawful.cut, is_one _ (sym (asked lawful.found lawful.cut) ∙ busy)),
+  )
+  waits p Sent (InReset was) now out asked trace place h empty full = elim full [ ]
+  waits p Interrupt w now out asked trace place h empty (closed, inactive, look) =
+      subst (λ (s : Seen). is_line_active p s ≡ false)
+      (seen_by_now w now Interrupt Done tt out ∙ seen_waiting w now trace place h look) inactive
+  waits p Start (InReset was) now out asked trace place h empty (left, full) = not_used empty full
+  waits p Start (InActive was) now out asked trace place h empty full = elim full [ ]
+  waits p Stop (InActive was) now out asked trace place h empty full = not_used empty full
+  waits p Stop (InReset was) now out asked trace place h empty full = elim full [ ]
+  waits p (Command value) (InActive was) now out asked trace place h empty (full, asks, fits) = not_used empty full
+  waits p (Command value) (InReset was) now out asked trace place h empty full = elim full [ ]
+  waits p Window w now out asked trace place h empty full = elim full [ ]
+  waits p (Read a) w now out asked trace place h empty full = elim full [ ]
+  waits p (Write a v) w now out asked trace place h empty full = elim full [ ]
+  waits p (Load m) w now out asked trace place h empty full = elim full [ ]
+  waits p Release (InReset was) now out asked trace place h empty full = elim full [ ]
+  waits p Release (InActive was) now out asked trace place h empty (on, r) =
+      let a = min (length (left_in log)) 63 in
+      let lies = h.kept a none (min_less (length (left_in log))) in
+      let after = r.lists _ lies in
+      let same = sym after.1 ∙ lies.1 in
+      not_full r.at (append_cancel_left _ r.at.up [] (same
+      ∙ ap (λ l. taken_of (part j (suc a)) ++ l) (empty a none (min_less (length (left_in log)))))) r.is_full

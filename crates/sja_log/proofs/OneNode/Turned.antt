@@ -1,0 +1,198 @@
+-- A node after a step of its driver and a taking of the bus, and a node whose driver did nothing.
+use Rattle.std.proofs.Common.{◌≡◌, ℕ, ◌+◌, ◌<◌, true, false, List, [], ◌∷◌, ◌++◌, length, refl, sym, ap, ◌∙◌, subst}
+use Rattle.std.proofs.Common.{append-nil, arith}
+use Rattle.std.specs.Prelude.{slice_index_or}
+use Rattle.std.proofs.lemmas.List.{length-append}
+use Rattle.sja_link.specs.declared.up.Up.{Up}
+use Rattle.sja_link.specs.declared.entry.Entry.{Entry}
+use Rattle.sja_link.specs.Deques.{Deques, Lies}
+use Rattle.sja_link.specs.Parts.{part}
+use Rattle.sja_link.specs.Carried.{taken_of}
+use Rattle.sja_link.specs.Places.{place_of}
+use Rattle.sja_link.specs.Verdicts.{IsLawful as IsLawfulJournal}
+use Rattle.sja_wire.specs.OneBit.{entries_of_items}
+use Rattle.sja_regs.specs.declared.registers.Registers.{Registers}
+use Rattle.sja_script.specs.declared.step.Step.{Step}
+use Rattle.sja_driver.specs.declared.logged_driver.LoggedDriver.{LoggedDriver}
+use Rattle.sja_driver.specs.Acting.{Acts}
+use Rattle.sja_driver.specs.Carried.{Tells, carried, ported}
+use Rattle.sja_driver.specs.Deeds.{Deed, opens_by, opened_by, is_active, given_in, deeds_of, FitsState}
+use Rattle.sja_driver.specs.Holding.{HoldsBy, place_after}
+use Rattle.sja_driver.specs.LoggedDrivers.{node_of, driver_of, log_of, ended_of, IsLawful, Steps}
+use Rattle.sja_driver.specs.Logs.{HasRoom, Traces, deeds_by}
+use Rattle.sja_driver.specs.Tries.{Tried, is_met}
+use Rattle.sja_driver.specs.Tries.Tried.{Unmet, Answered, Released, Ended}
+use Rattle.sja_log.specs.Registering.{seen_now}
+use Rattle.sja_log.specs.Registering.LeadTo.{step}
+use Rattle.sja_driver.specs.Windows.{SeesIf}
+use Rattle.sja_driver.proofs.Trace.Stepping.{given_taken}
+use Rattle.sja_driver.specs.Linking.{IsLevel, IsLinked}
+use Rattle.sja_log.specs.Nodes.{IsNode}
+use Rattle.sja_driver.specs.Shown.{ShowsRecord}
+use Rattle.sja_log.specs.Waiting.{HasToWait}
+use Rattle.sja_wire.proofs.Journal.Taking.{no_wait}
+use Rattle.sja_log.proofs.OneNode.Trying.{alike, shows_none, takes_none}
+use Rattle.sja_log.proofs.OneNode.StepTried.{waits}
+use Rattle.sja_log.proofs.OneNode.After.{done_after, enters, level_after, in_time_after}
+use Rattle.sja_log.proofs.OneNode.Ported.{ported_after, asked_after, counted_after}
+use Rattle.sja_driver.proofs.Deeds.FirstSteps.{first_more}
+use Rattle.sja_log.proofs.OneNode.Gathered.{no_link, Gathers, items_are, linked_after, node_with}
+use Rattle.sja_log.proofs.Trace.TbsAndAbort.{tbs_right}
+use Rattle.sja_log.proofs.OneNode.Done.{at_most_one, is_read, opened_most, doing}
+use Rattle.sja_driver.proofs.OneNode.StillShown.{shows_on}
+
+-- where a journal has no entry more no item was taken
+pub none_entered : (j k : List Entry) (items : List Up) → k ≡ j ++ entries_of_items items → k ≡ j → items ≡ []
+none_entered j k [] e same = refl
+none_entered j k (u ∷ items) e same =
+    let long = ap (λ (l : List Entry). length l) (sym same ∙ e) in
+    let both = length-append j (entries_of_items (u ∷ items)) in absurd (omega (arith, long, both))
+
+pub is_unmet : (o : Tried) → false ≡ is_met o → o ≡ Unmet
+is_unmet Unmet e = refl
+is_unmet (Answered a) e = absurd cc
+is_unmet (Released m) e = absurd cc
+is_unmet (Ended l) e = absurd cc
+
+-- the step was done
+pub record Stepped (version : ℕ) (steps : List Step) (j k : List Entry) (deeds : List Deed) (now : LoggedDriver)
+    (p q : Registers) (after : List Deques) (base : ℕ) (one : Step) : Type 0 where
+  pub deed : Deed
+  pub bits : deed.bits ≡ (place_of j).bits
+  pub step_is : deed.step ≡ one
+  pub tells : Tells deed.step (is_active deeds) p (seen_now (is_active deeds) j deeds) deed.answer
+  pub fits : FitsState version (is_active deeds) (opened_by deeds) deed.step deed.answer
+  pub sees : SeesIf (is_active deeds) j deeds deed
+  pub gave : deed.gave ≡ carried p deed.step deed.answer
+  pub entered : k ≡ j ++ entries_of_items deed.gave
+  pub left_port : q ≡ ported p deed.step deed.answer
+  pub node : IsNode version steps k (deeds ++ deed ∷ []) now q after base
+  -- where nothing was taken the port shows what it has shown
+  pub shows : k ≡ j → ShowsRecord j p → ShowsRecord k q
+
+-- it waits: nothing was taken, and the port is as it was
+pub record Waited (version : ℕ) (steps : List Step) (j k : List Entry) (deeds : List Deed) (now : LoggedDriver)
+    (p q : Registers) (after : List Deques) (base : ℕ) (one : Step) : Type 0 where
+  pub waits : HasToWait p j deeds one
+  pub journal : k ≡ j
+  pub port : q ≡ p
+  pub node : IsNode version steps k deeds now q after base
+
+module _ {version : ℕ} {steps : List Step} {j k : List Entry} {deeds : List Deed} {was : LoggedDriver}
+    (now : LoggedDriver) {p q : Registers} {links given after : List Deques} {base : ℕ}
+    (h : IsNode version steps j deeds was p links base) (now_lawful : IsLawful now)
+    (t : Gathers j k given after base) where
+  -- ---- a taking where no deed was done
+
+  module _ (trace : Traces version (driver_of now) (log_of now) deeds)
+      (holds : HoldsBy Lies deeds (driver_of now) (log_of now) j given base)
+      (room : (m : ℕ) → HasRoom m (log_of was) → HasRoom m (log_of now)) (port : q ≡ p) where
+    pub same_journal : k ≡ j
+    same_journal =
+        items_are holds t [] 0 (omega arith) (λ e. absurd (e refl))
+        (λ a. given_taken deeds j a (h.in_time.when a) ∙ sym (ap (λ (l : List Up). taken_of (part j a) ++ l) (no_wait a)
+        ∙ append-nil (taken_of (part j a))))
+        ∙ append-nil j
+
+    pub idle : IsNode version steps k deeds now q after base
+    idle =
+        let level : IsLevel k deeds = subst (λ (l : List Entry). IsLevel l deeds) (sym same_journal) h.linked.level in
+        let taken : (a : ℕ) → given_in (deeds_of deeds a) ≡ taken_of (part k a) =
+        λ a. given_taken deeds j a (h.in_time.when a)
+        ∙ ap (λ (l : List Entry). taken_of (part l a)) (sym same_journal) in
+        let linked : IsLinked k deeds now after base = linked_after now holds t.kept taken level in
+        subst (λ (l : List Entry). IsNode version steps l deeds now q after base) (sym same_journal)
+        (subst (λ (r : Registers). IsNode version steps j deeds now r after base) (sym port)
+        (node_with h (record {
+          lawful = now_lawful;
+          traces = trace;
+          within = h.traced.within;
+          first = h.traced.first;
+          room = λ m l. room m (h.traced.room m l);
+        }) (subst (λ (l : List Entry). IsLinked l deeds now after base) same_journal linked)))
+
+  module _ {one : Step} (lawful : IsLawfulJournal j) where
+    -- ---- a step that was done
+
+    pub stepped : length deeds < length steps → one ≡ slice_index_or steps (length deeds) one →
+        Steps alike Lies shows_none takes_none was now links given base p q one (place_of j).bits true →
+        ((m : ℕ) → HasRoom (m + 1) (log_of was) → HasRoom m (log_of now)) →
+        Stepped version steps j k deeds now p q after base one
+    stepped left is st room =
+        let y = doing version steps j deeds was now p q links given base one no_link h lawful st in
+        let c = y.is_next in let d = c.deed in let next = c.next in let b = opened_by deeds + opens_by d in
+        let most = opened_most deeds (driver_of was) (log_of was) (node_of was) (ended_of was) h.traced.traces
+        h.traced.lawful in
+        let entered : k ≡ j ++ entries_of_items d.gave =
+        items_are y.holds t d.gave b (at_most_one (is_active deeds) (opened_by deeds) d.step d.answer d.gave y.kind)
+        (is_read j deeds d h.linked.level most y.kind) y.waits_now in
+        let e = enters j k deeds d entered h.linked.level y.kind in
+        let buffer = tbs_right version j deeds p h.registers h.traced.traces.answered.states in
+        let level = level_after j k deeds d entered h.linked.level y.kind in
+        let long = length-append deeds (d ∷ []) in
+        let in_time = in_time_after version j k deeds d p q e next h.ported h.in_time in record {
+          deed = d;
+          bits = next.now;
+          step_is = c.step_is;
+          tells = next.tells;
+          fits = subst (λ (n : ℕ). FitsState n (is_active deeds) (opened_by deeds) d.step d.answer)
+              h.ported.version_is next.fits;
+          sees = next.sees;
+          gave = next.gave;
+          entered = entered;
+          left_port = next.left;
+          node = record {
+            traced = record {
+              lawful = now_lawful;
+              traces = y.trace;
+              within = omega (arith, left, long);
+              first = first_more steps deeds d one left (c.step_is ∙ is) h.traced.first;
+              room = λ m l. room m (h.traced.room (m + 1) (omega (arith, l, long)));
+            };
+            linked = linked_after now y.holds t.kept (λ a. given_taken (deeds ++ d ∷ []) k a (in_time.when a)) level;
+            ported = ported_after version j k deeds d p q e next h.ported h.linked.level level y.kind buffer;
+            done = done_after j k deeds d e next.now h.done;
+            asked = asked_after version j k deeds d p q e next h.ported h.linked.level level y.kind buffer h.asked
+                lawful;
+            counted = counted_after version j k deeds d p q e next h.ported h.linked.level level y.kind buffer
+                h.counted lawful;
+            in_time = in_time;
+            registers = step j k deeds d p q h.registers next.now next.tells next.gave entered next.left;
+          };
+          shows = λ same shown.
+              subst (λ (l : List Entry). ShowsRecord l q) (sym same)
+              (shows_on j p q d.step d.answer (is_active deeds) (seen_now (is_active deeds) j deeds) next.tells
+              (sym next.gave ∙ none_entered j k d.gave entered same) next.left shown);
+        }
+
+    -- ---- a step that waits
+
+    pub waited : Steps alike Lies shows_none takes_none was now links given base p q one (place_of j).bits false →
+        ((m : ℕ) → HasRoom m (log_of was) → HasRoom m (log_of now)) →
+        Waited version steps j k deeds now p q after base one
+    waited st room =
+        let at = place_after base (ended_of was) in let unmet = is_unmet st.tried st.met in
+        let acts : Acts alike Lies shows_none takes_none (slice_index_or links at no_link)
+        (slice_index_or given at no_link) p q one (driver_of was) (driver_of now) Unmet =
+        subst (λ (o : Tried). Acts alike Lies shows_none takes_none (slice_index_or links at no_link)
+        (slice_index_or given at no_link) p q one (driver_of was) (driver_of now) o) unmet
+        (st.acts no_link no_link) in
+        let nothing : deeds ++ deeds_by p one st.tried (place_of j).bits ≡ deeds =
+        ap (λ (o : Tried). deeds ++ deeds_by p one o (place_of j).bits) unmet ∙ append-nil deeds in
+        -- in the version of the port
+        let traced : Traces p.version (driver_of was) (log_of was) deeds =
+        subst (λ (n : ℕ). Traces n (driver_of was) (log_of was) deeds) (sym h.ported.version_is) h.traced.traces in
+        let trace : Traces version (driver_of now) (log_of now) deeds =
+        subst (λ (n : ℕ). Traces n (driver_of now) (log_of now) deeds) h.ported.version_is
+        (subst (λ (l : List Deed). Traces p.version (driver_of now) (log_of now) l) nothing
+        (st.goes.traces deeds traced)) in
+        let holds : HoldsBy Lies deeds (driver_of now) (log_of now) j given base =
+        subst (λ (l : List Deed). HoldsBy Lies l (driver_of now) (log_of now) j given base) nothing
+        (st.goes.holds deeds j traced h.linked.holds) in record {
+          waits = waits j deeds (log_of was) links base (node_of was) no_link lawful
+              (λ a. given_taken deeds j a (h.in_time.when a)) p one (driver_of was) (driver_of now) acts.out h.asked
+              h.traced.traces h.traced.lawful h.linked.holds h.linked.taken acts.waits;
+          journal = same_journal trace holds room acts.port;
+          port = acts.port;
+          node = idle trace holds room acts.port;
+        }

@@ -1,0 +1,31 @@
+-- A node of a run in one thread, between two steps (this project's own rule).
+use Rattle.std.specs.Prelude.{ℕ, List}
+use Rattle.sja_link.specs.declared.entry.Entry.{Entry}
+use Rattle.sja_link.specs.Deques.{Deques}
+use Rattle.sja_link.specs.Places.{place_of}
+use Rattle.sja_regs.specs.declared.registers.Registers.{Registers}
+use Rattle.sja_script.specs.declared.step.Step.{Step}
+use Rattle.sja_driver.specs.declared.logged_driver.LoggedDriver.{LoggedDriver}
+use Rattle.sja_driver.specs.Deeds.{Deed}
+use Rattle.sja_driver.specs.InTime.{IsInTime}
+use Rattle.sja_log.specs.Registering.{LeadTo}
+use Rattle.sja_driver.specs.Tracing.{IsTraced}
+use Rattle.sja_driver.specs.Linking.{IsLinked}
+use Rattle.sja_driver.specs.Porting.{IsPorted}
+use Rattle.sja_driver.specs.Asking.{IsAsked}
+use Rattle.sja_driver.specs.Counted.{IsCounted}
+use Rattle.sja_driver.specs.Dated.{AreDone}
+
+-- its driver did these deeds, of these steps; its links and its port are beside them and its journal; the journal has
+-- no more entries than they allow; no deed is later than its last bit; all was in time; and from power-on entries and
+-- deeds have led to the registers of its port
+pub record IsNode (version : ℕ) (steps : List Step) (j : List Entry) (deeds : List Deed) (driver : LoggedDriver)
+    (port : Registers) (links : List Deques) (base : ℕ) : Type 0 where
+  pub traced : IsTraced version steps deeds driver
+  pub linked : IsLinked j deeds driver links base
+  pub ported : IsPorted version j deeds port
+  pub asked : IsAsked j port
+  pub counted : IsCounted j deeds port
+  pub done : AreDone (place_of j).bits deeds
+  pub in_time : IsInTime version j deeds
+  pub registers : LeadTo version j deeds port

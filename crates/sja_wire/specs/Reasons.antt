@@ -1,0 +1,132 @@
+-- Why a bus doesn't go on: what each fault says of its node (this project's own rule).
+use Rattle.std.specs.Prelude.{◌≡◌, ◌+◌, ◌*◌, ◌<◌, ◌≤◌, ℕ, suc, true, Bool, List, ◌++◌, length, slice_index_or}
+use Rattle.sja_link.specs.NodeWords.{FinishedPiece, IsCut, received}
+use Rattle.sja_link.specs.declared.up.Up.{Up}
+use Rattle.sja_link.specs.declared.up.Up.TheVariants.{Credit}
+use Rattle.sja_link.specs.declared.entry.Entry.{Entry}
+use Rattle.sja_link.specs.Lists.{Lists, with_taken}
+use Rattle.sja_link.specs.Accounts.{Account, account}
+use Rattle.sja_link.specs.Parts.{part}
+use Rattle.sja_link.specs.Records.{record_of}
+use Rattle.sja_link.specs.Verdicts.{HasVerdicts}
+use Rattle.sja_regs.specs.declared.orders.Orders.{Orders}
+use Rattle.sja_wire.specs.declared.bus_fault.BusFault.{BusFault}
+use Rattle.sja_wire.specs.declared.bus_fault.BusFault.TheVariants.{BitsSpent, BadCredit, Stuck, BadOrder, JournalFull}
+use Rattle.sja_wire.specs.Wire.{journal_at}
+use Rattle.sja_wire.specs.Links.{per_node, Kept, stops_of}
+use Rattle.sja_wire.specs.Aborting.{IsApplied}
+use Rattle.sja_wire.specs.OneBit.{MayHaveItems, Opens, off_as}
+use Rattle.sja_wire.specs.OutOfOrder.{read_in, IsBadCredit, IsOutOfOrder, MayCome, HasOff}
+use Rattle.sja_wire.specs.OutOfRoom.{IsOutOfRoom}
+use Rattle.sja_wire.specs.Buses.{BusValue}
+
+-- ---- a node whose item was refused
+
+-- with this fault a node with so many reserved entries didn't enter this item after its journal: it is a bad credit, or
+-- out of order; or it may come there, and the reserved entries are used
+abbrev pub IsRefusedFor : ℕ → ℕ → List Entry → Up → BusFault → Type 0
+IsRefusedFor node room j item (BadCredit k bytes) = (k ≡ node) × (item ≡ Credit bytes) × IsBadCredit j bytes
+IsRefusedFor node room j item (BadOrder k) = (k ≡ node) × IsOutOfOrder j item
+IsRefusedFor node room j item (JournalFull k) = (k ≡ node) × (room ≤ length j) × MayCome j item
+IsRefusedFor node room j item (Stuck k) = ⊥
+IsRefusedFor node room j item BitsSpent = ⊥
+
+-- its journal went on from `before` to `j` with the items that were taken, and then an item was taken that wasn't
+-- entered. Whatever its driver got and gave, where its links stood for its journal before, the item came next on the
+-- link that is read, and its other links stand for its journal
+pub record RefusesItem {E : Type 0} (stands : E → Lists → Type 0) (room : ℕ) (before j : List Entry)
+    (links after : List E) (base node : ℕ) (f : BusFault) : Type 0 where
+  pub item : Up
+  pub why : IsRefusedFor node room j item f
+  pub items : MayHaveItems before j
+  pub few : stops_of j < per_node
+  pub shown : (h : ℕ → Account) (d : E) → Kept stands before links base h →
+      stands (slice_index_or after (base + stops_of j) d) (with_taken (account j (read_in j) (h (stops_of j))) item)
+  pub others : (h : ℕ → Account) (a : ℕ) (d : E) → Kept stands before links base h → a < per_node →
+      (stops_of j ≡ a → ⊥) → stands (slice_index_or after (base + a) d) (account j (suc a) (h a))
+
+-- ---- a node whose bit broke off
+
+-- the end of one of its links had no room for a message or for bus-off: whatever its driver got and gave, where its
+-- links stood for its journal before, that end stood for it then. The journal's verdicts are right beside the frames
+-- that its node received by the cut of its record, with bus-off after it where that is what was given back; and in the
+-- link's activation no bus-off was entered
+pub record GivesBack {E : Type 0} (stands : E → Lists → Type 0) (full : E → Type 0) (before j : List Entry)
+    (links : List E) (base : ℕ) : Type 0 where
+  pub place : ℕ
+  pub few : place < per_node
+  pub end : E
+  pub is_full : full end
+  pub stood : (h : ℕ → Account) → Kept stands before links base h → stands end (account j (suc place) (h place))
+  pub off : Bool
+  pub found : List FinishedPiece
+  pub cut : IsCut (record_of (j ++ off_as off)) found
+  pub verdicts : HasVerdicts j (received found)
+  pub on : HasOff (part j (suc place)) → ⊥
+
+-- with this fault the bit of a node broke off, which had so many reserved entries and this journal before: they didn't
+-- hold the entries of the bit; or a put was given back
+abbrev pub IsBrokenFor : {E : Type 0} → (E → Lists → Type 0) → (E → Type 0) → ℕ → ℕ → List Entry → List Entry →
+    List E → ℕ → BusFault → Type 0
+IsBrokenFor stands full node room before j links base (JournalFull k) = (k ≡ node) × IsOutOfRoom room before j
+IsBrokenFor stands full node room before j links base (Stuck k) = (k ≡ node) × GivesBack stands full before j links base
+IsBrokenFor stands full node room before j links base (BadCredit k bytes) = ⊥
+IsBrokenFor stands full node room before j links base (BadOrder k) = ⊥
+IsBrokenFor stands full node room before j links base BitsSpent = ⊥
+
+-- ---- a bus
+
+-- how many entries of a node's journal are reserved for a run of so many bits, in which each driver does so many steps
+abbrev pub room_for : ℕ → List ℕ → ℕ → ℕ
+room_for bits steps node = 2 * bits + 2 * slice_index_or steps node 0 + 100
+
+-- the fault is of one of its nodes, whose item was refused
+pub record IsTakenAndRefused {E : Type 0} (stands : E → Lists → Type 0) (bits : ℕ) (steps : List ℕ)
+    (before now : List (List Entry)) (links after : List E) (f : BusFault) : Type 0 where
+  pub node : ℕ
+  pub few : node < length before
+  pub refuses : RefusesItem stands (room_for bits steps node) (journal_at before node) (journal_at now node) links after
+      (per_node * node) node f
+
+-- items of one of its nodes were taken, and then its port ordered an abort that changes the node, and the reserved
+-- entries are used
+pub record IsNotAborted {E : Type 0} (stands : E → Lists → Type 0) (orders_are : ℕ → Orders → Type 0) (bits : ℕ)
+    (steps : List ℕ) (before now : List (List Entry)) (links after : List E) (f : BusFault) : Type 0 where
+  pub node : ℕ
+  pub few : node < length before
+  pub is : f ≡ JournalFull node
+  pub items : MayHaveItems (journal_at before node) (journal_at now node)
+  pub orders : Orders
+  pub are_orders : orders_are node orders
+  pub ordered : orders.abort ≡ true
+  pub due : IsApplied (journal_at now node) true
+  pub full : room_for bits steps node ≤ length (journal_at now node)
+  pub kept : (h : ℕ → Account) → Kept stands (journal_at before node) links (per_node * node) h →
+      Kept stands (journal_at now node) after (per_node * node) h
+
+-- of one of its nodes items were taken and an abort was applied or none, and then its bit broke off
+pub record IsBrokenOff {E : Type 0} (stands : E → Lists → Type 0) (full : E → Type 0) (orders_are : ℕ → Orders → Type 0)
+    (bits : ℕ) (steps : List ℕ) (before now : List (List Entry)) (links : List E) (f : BusFault) : Type 0 where
+  pub node : ℕ
+  pub few : node < length before
+  pub opened : List Entry
+  pub between : List E
+  pub opens : Opens (orders_are node) (journal_at before node) opened
+  pub kept : (h : ℕ → Account) → Kept stands (journal_at before node) links (per_node * node) h →
+      Kept stands opened between (per_node * node) h
+  pub broken : IsBrokenFor stands full node (room_for bits steps node) opened (journal_at now node) between
+      (per_node * node) f
+
+-- why a bit doesn't come to its end
+pub data StopsBit {E : Type 0} (stands : E → Lists → Type 0) (full : E → Type 0) (orders_are : ℕ → Orders → Type 0)
+    (before now : BusValue) (links after : List E) (f : BusFault) : Type 0 where
+  spent : f ≡ BitsSpent → before.left ≡ 0 → StopsBit stands full orders_are before now links after f
+  not_taken : IsTakenAndRefused stands (before.run + before.left) before.steps before.journals now.journals links after
+      f →
+      StopsBit stands full orders_are before now links after f
+  not_aborted : IsNotAborted stands orders_are (before.run + before.left) before.steps before.journals now.journals
+      links after f →
+      StopsBit stands full orders_are before now links after f
+  broken_off : IsBrokenOff stands full orders_are (before.run + before.left) before.steps before.journals now.journals
+      links f →
+      StopsBit stands full orders_are before now links after f
