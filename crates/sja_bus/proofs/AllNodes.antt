@@ -1,6 +1,5 @@
 -- The bit of all nodes, and bits one after the other.
 pub mod NodeBit
-pub mod Wires
 pub mod Many
 pub mod Rows
 pub mod Running
@@ -8,6 +7,7 @@ pub mod Underway
 pub mod Levels
 pub mod Journals
 pub mod RunningOn
+pub mod BitAfterBit
 pub mod RanOn
 pub mod SoFar
 pub mod UntilTold

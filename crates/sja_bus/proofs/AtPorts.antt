@@ -2,3 +2,5 @@
 pub mod Applying
 pub mod Aborting
 pub mod Turning
+pub mod TurnsTold
+pub mod OtherWords

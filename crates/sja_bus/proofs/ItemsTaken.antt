@@ -1,8 +1,8 @@
 -- What a node takes from its driver, and what stops it.
 pub mod Retrying
-pub mod AskingOff
 pub mod Takings
 pub mod OutOfRoom
 pub mod Refusing
 pub mod Breaking
+pub mod BreakingSeats
 pub mod TakenBefore

@@ -1,5 +1,4 @@
 -- The links of a node and of all nodes.
-pub mod Moving
 pub mod AtLinks
 pub mod Seating
 pub mod Linking

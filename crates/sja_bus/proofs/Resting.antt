@@ -3,4 +3,5 @@ pub mod Unstruck
 pub mod Rests
 pub mod AtRest
 pub mod Stretches
+pub mod WholeStretches
 pub mod QuietBits

@@ -3,16 +3,13 @@ pub mod StrikesByBit
 -- ---- what holds of every bus
 pub mod Resting
 -- ---- where a journal is full
-pub mod OutOfRoom
 -- ---- the links and ports of the nodes
 pub mod NewLinks
 pub mod Boards
 -- ---- all nodes of a bus
-pub mod Buses
 pub mod TakingAll
 pub mod Moment
 -- ---- why a bus stops
-pub mod Reasons
 -- ---- bits that are run at once, and one after another
 pub mod Stretches
 pub mod Several

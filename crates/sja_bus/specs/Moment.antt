@@ -4,7 +4,8 @@ use Rattle.sja_link.specs.declared.bus_end.BusEnd.{Ghosts as Ends}
 use Rattle.lemmas.specs.Related.{EachRelated}
 use Rattle.sja_bus.specs.declared.board.Board.{Ghosts as Ports}
 use Rattle.sja_bus.specs.Boards.{KeepsOthers}
-use Rattle.sja_bus.specs.Buses.{BusValue, KeepsAll, AllTold, IsBitOf}
+use Rattle.sja_link.specs.declared.entry.Entry.{Entry}
+use Rattle.sja_wire.specs.Buses.{BusValue, KeepsAll, AllTold, IsBit}
 use Rattle.sja_wire.specs.Lawful.{IsBusRun}
 
 -- a bus with its links and its ports, between two bits
@@ -25,6 +26,11 @@ pub record Keeps {E B : Type 0} (e : Ends E) (b : Ports B) (was now : Moment E B
   pub script : now.bus.script ≡ was.bus.script
   pub steps : now.bus.steps ≡ was.bus.steps
   pub nodes : length now.bus.journals ≡ length was.bus.journals
+
+-- the next bit of a bus, whose ports were as they were before and are as they are now
+abbrev pub IsBitOf : {B : Type 0} → Ports B → B → B → BusValue → List (List Entry) → Type 0
+IsBitOf p was now bus after =
+    IsBit (p.orders_are was) (p.told was now) (p.kept was now) bus.script bus.run bus.untold bus.journals after
 
 -- one bit, which went well: it keeps what every bit keeps, and it is counted; the links stand for the journals still;
 -- all nodes had the bit, and nothing is untold of any; there is no fault; and what holds of every bus and of every

@@ -8,7 +8,7 @@ use Rattle.sja_regs.specs.declared.orders.Orders.{Orders}
 use Rattle.sja_bus.specs.declared.board.Board.{Ghosts as Ports}
 use Rattle.sja_wire.specs.declared.bus_fault.BusFault.{BusFault}
 use Rattle.sja_bus.specs.Moment.{Moment, OneBit}
-use Rattle.sja_bus.specs.Reasons.{StopsBit}
+use Rattle.sja_wire.specs.Reasons.{StopsBit}
 use Rattle.sja_bus.specs.Resting.{RestsAs}
 use Rattle.sja_bus.specs.TakingAll.{TakesAll}
 use Rattle.sja_wire.specs.Wire.{journal_at}

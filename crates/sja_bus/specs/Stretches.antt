@@ -13,8 +13,8 @@ use Rattle.sja_wire.specs.declared.bus_fault.BusFault.{BusFault}
 use Rattle.sja_wire.specs.declared.bus_fault.BusFault.TheVariants.{JournalFull}
 use Rattle.sja_wire.specs.Wire.{journal_at}
 use Rattle.sja_wire.specs.OneBit.{MayHaveItems}
-use Rattle.sja_bus.specs.Buses.{BusValue, EachJournal, KeepsAll, untold_at, IsBit}
-use Rattle.sja_bus.specs.Reasons.{room_for}
+use Rattle.sja_wire.specs.Buses.{BusValue, EachJournal, KeepsAll, untold_at, IsBit}
+use Rattle.sja_wire.specs.Reasons.{room_for}
 use Rattle.sja_bus.specs.Resting.{RestsAs}
 
 -- the entries of so many bits that were driven and seen recessive

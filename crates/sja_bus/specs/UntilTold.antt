@@ -7,9 +7,9 @@ use Rattle.sja_link.specs.declared.bus_end.BusEnd.{Ghosts as Ends}
 use Rattle.sja_regs.specs.declared.orders.Orders.{Orders}
 use Rattle.sja_script.specs.Striking.{Strikes}
 use Rattle.sja_bus.specs.declared.board.Board.{Ghosts as Ports}
-use Rattle.sja_bus.specs.Buses.{BusValue, EachJournal, untold_at}
+use Rattle.sja_wire.specs.Buses.{BusValue, EachJournal, untold_at}
 use Rattle.sja_bus.specs.Moment.{Moment, OneBit}
-use Rattle.sja_bus.specs.Reasons.{room_for}
+use Rattle.sja_wire.specs.Reasons.{room_for}
 use Rattle.sja_bus.specs.Several.{AllRest, AreBits, BreaksOff, WorksIf}
 use Rattle.sja_wire.specs.declared.bus_fault.BusFault.{BusFault}
 use Rattle.sja_wire.specs.Wire.{journal_at}

@@ -33,7 +33,7 @@ impl Bus {
     ghost use Rattle.std.specs.Prelude.{IfErr};
     ghost use Rattle.sja_wire.specs.declared.bus_fault.BusFault.{BusFault as Fault};
     ghost use Rattle.sja_wire.specs.Links.{Numbered};
-    ghost use Rattle.sja_bus.specs.Buses.{IsStill};
+    ghost use Rattle.sja_wire.specs.Buses.{IsStill};
     ghost use Rattle.sja_bus.specs.Moment.{moment, Keeps};
     ghost use Rattle.sja_bus.specs.Several.{AllRest, RunsBits, StopsBits, WorksIf};
     ghost use Rattle.sja_bus.specs.Inside.RunningOn.{AnyBit, IsSoFar, IsStopped, MayRunBits};

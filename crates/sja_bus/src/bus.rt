@@ -4,7 +4,6 @@ ghost use Rattle.std.specs.Prelude.{◌≡◌, None};
 
 use super::all_nodes::{bit_of_all, gather_all};
 use super::board::Board;
-use super::idle_bits::are_at_rest;
 use super::node_log::logs_of;
 use super::seat::Seat;
 use super::struck_bits::StruckBits;
@@ -35,7 +34,7 @@ pub struct Bus {
 
 impl Model for Bus {
     ghost use Rattle.std.specs.Prelude.{◌≡◌, [], vec_capacity};
-    ghost use Rattle.sja_bus.specs.Buses.{BusValue};
+    ghost use Rattle.sja_wire.specs.Buses.{BusValue};
 
     ghost Value = { BusValue };
 
@@ -64,16 +63,12 @@ impl Bus {
     ghost use Rattle.sja_wire.specs.declared.bus_fault.BusFault.TheVariants.{BitsSpent};
     ghost use Rattle.sja_wire.specs.Links.{Numbered};
     ghost use Rattle.sja_wire.specs.OneBit.{MayHaveItems};
-    ghost use Rattle.sja_link.specs.Places.{place_of};
-    ghost use Rattle.sja_link.specs.Records.{record_of};
     ghost use Rattle.lemmas.specs.Related.{EachRelated};
     ghost use Rattle.sja_wire.specs.declared.node_log.NodeLog.{NodeLog as Log};
-    ghost use Rattle.sja_wire.specs.Wire.{journal_at};
-    ghost use Rattle.sja_bus.specs.Resting.{RestsAs};
     ghost use Rattle.sja_wire.specs.Lawful.{IsBusRun, CountersAre};
-    ghost use Rattle.sja_bus.specs.Buses.{EachJournal, KeepsAll, AllDry};
-    ghost use Rattle.sja_bus.specs.Buses.{new_bus, EachUntold, IsStill};
-    ghost use Rattle.sja_bus.specs.Reasons.{IsTakenAndRefused, StopsBit};
+    ghost use Rattle.sja_wire.specs.Buses.{EachJournal, KeepsAll, AllDry};
+    ghost use Rattle.sja_wire.specs.Buses.{new_bus, EachUntold, IsStill};
+    ghost use Rattle.sja_wire.specs.Reasons.{IsTakenAndRefused, StopsBit};
     ghost use Rattle.sja_bus.specs.TakingAll.{TakesAll};
     ghost use Rattle.sja_bus.specs.Moment.{moment, Keeps, OneBit};
 
@@ -215,31 +210,6 @@ impl Bus {
         ensures lawful { self.now.fault ≡ None → IsBusRun self.now.script self.now.run self.now.journals }
     {
         self.run
-    }
-
-    /// Whether every node is at rest: in reset, or idle with no request. What holds of every bus is said beside it.
-    pub fn at_rest(&self) -> bool
-        ensures lawful { self.now.fault ≡ None → IsBusRun self.now.script self.now.run self.now.journals }
-        ensures rest { self.now.fault ≡ None → result ≡ true → (node : ℕ) → node < length self.now.journals →
-            RestsAs (record_of (journal_at self.now.journals node)) true }
-        ensures busy { self.now.fault ≡ None → result ≡ false → (node : ℕ) × (node < length self.now.journals)
-            × RestsAs (record_of (journal_at self.now.journals node)) false }
-    {
-        are_at_rest(self.seats.as_slice())
-    }
-
-    /// Whether a start of this node was taken; not where there is no such node.
-    pub fn started(&self, node: u8) -> bool
-        ensures yes { self.now.fault ≡ None → result ≡ true → (node < length self.now.journals)
-            × ((place_of (journal_at self.now.journals node)).activation ≢ 0) }
-        ensures no { self.now.fault ≡ None → result ≡ false → node < length self.now.journals →
-            (place_of (journal_at self.now.journals node)).activation ≡ 0 }
-    {
-        let place = usize::from(node);
-        if place >= self.seats.len() {
-            return false;
-        }
-        self.seats[place].has_begun()
     }
 
     /// What is left of the nodes, in order: each journal, and the error counters at its end. By every cut of a

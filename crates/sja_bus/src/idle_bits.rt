@@ -21,8 +21,8 @@ impl Bus {
     ghost use Rattle.sja_wire.specs.declared.bus_fault.BusFault.{BusFault as Fault};
     ghost use Rattle.sja_wire.specs.Links.{Numbered};
     ghost use Rattle.sja_wire.specs.OneBit.{MayHaveItems};
-    ghost use Rattle.sja_bus.specs.Buses.{EachJournal, EachUntold, KeepsAll, AllDry, AllTold};
-    ghost use Rattle.sja_bus.specs.Reasons.{IsTakenAndRefused};
+    ghost use Rattle.sja_wire.specs.Buses.{EachJournal, EachUntold, KeepsAll, AllDry, AllTold};
+    ghost use Rattle.sja_wire.specs.Reasons.{IsTakenAndRefused};
     ghost use Rattle.sja_bus.specs.Stretches.{IsStretch, EndsStretch, IsOutOfEntries, IsFullInStretch};
     ghost use Rattle.sja_bus.specs.Inside.AtOnce.{RunsAtOnce};
     ghost use Rattle.sja_bus.specs.Inside.Idling.{IsResting, IsAwake, IsFullAfter, after_bits};
@@ -166,8 +166,8 @@ impl Seat {
     ghost use Rattle.sja_wire.specs.declared.bus_fault.BusFault.{BusFault as Fault};
     ghost use Rattle.sja_wire.specs.Links.{Numbered};
     ghost use Rattle.sja_wire.specs.OneBit.{MayHaveItems};
-    ghost use Rattle.sja_bus.specs.Buses.{EachJournal, EachUntold, KeepsAll, AllDry, AllTold};
-    ghost use Rattle.sja_bus.specs.Reasons.{IsTakenAndRefused};
+    ghost use Rattle.sja_wire.specs.Buses.{EachJournal, EachUntold, KeepsAll, AllDry, AllTold};
+    ghost use Rattle.sja_wire.specs.Reasons.{IsTakenAndRefused};
     ghost use Rattle.sja_bus.specs.Stretches.{IsStretch, EndsStretch, IsOutOfEntries, IsFullInStretch};
     ghost use Rattle.sja_bus.specs.Inside.AtOnce.{RunsAtOnce};
     ghost use Rattle.sja_bus.specs.Inside.Idling.{IsResting, IsAwake, IsFullAfter, after_bits};

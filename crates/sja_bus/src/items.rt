@@ -15,7 +15,7 @@ impl Seat {
     ghost use Rattle.sja_link.specs.declared.entry.Entry.TheVariants.{Up as Item};
     ghost use Rattle.sja_wire.specs.Links.{Goes, Moves};
     ghost use Rattle.sja_wire.specs.OneBit.{MayHaveItems, Opens};
-    ghost use Rattle.sja_bus.specs.Reasons.{RefusesItem};
+    ghost use Rattle.sja_wire.specs.Reasons.{RefusesItem};
     ghost use Rattle.sja_bus.specs.Inside.Seats.{IsSeat, IsReady, IsOwed};
     ghost use Rattle.sja_bus.specs.Inside.AtLinks.{HasLinks, KeepsLinks};
     ghost use Rattle.sja_bus.specs.Inside.Taking.{FullForAbort, Takes, Refuses, RefusesHere};

@@ -1,6 +1,7 @@
 //! What is seen of the nodes of a bus between its bits.
 
 use super::bus::Bus;
+use super::idle_bits::are_at_rest;
 use can_node::Node;
 use sja_link::Journal;
 
@@ -10,10 +11,13 @@ impl Bus {
     ghost use Rattle.sja_link.specs.NodeWords.{FinishedPiece};
     ghost use Rattle.sja_link.specs.Free.{IsFree};
     ghost use Rattle.sja_link.specs.Parts.{part};
+    ghost use Rattle.sja_link.specs.Places.{place_of};
     ghost use Rattle.sja_link.specs.Records.{record_of};
     ghost use Rattle.sja_wire.specs.Links.{stops_of};
     ghost use Rattle.can_node.specs.Stands.{StandsAt};
+    ghost use Rattle.sja_wire.specs.Lawful.{IsBusRun};
     ghost use Rattle.sja_wire.specs.Wire.{journal_at};
+    ghost use Rattle.sja_bus.specs.Resting.{RestsAs};
 
     /// Whether the script strikes a node in the next bit; not where no bit is left.
     pub fn is_struck_next(&self) -> bool
@@ -23,6 +27,31 @@ impl Bus {
             → Strikes self.now.script self.now.run node → ⊥ }
     {
         self.left > 0 && !self.struck.at(self.run).is_empty()
+    }
+
+    /// Whether every node is at rest: in reset, or idle with no request. What holds of every bus is said beside it.
+    pub fn at_rest(&self) -> bool
+        ensures lawful { self.now.fault ≡ None → IsBusRun self.now.script self.now.run self.now.journals }
+        ensures rest { self.now.fault ≡ None → result ≡ true → (node : ℕ) → node < length self.now.journals →
+            RestsAs (record_of (journal_at self.now.journals node)) true }
+        ensures busy { self.now.fault ≡ None → result ≡ false → (node : ℕ) × (node < length self.now.journals)
+            × RestsAs (record_of (journal_at self.now.journals node)) false }
+    {
+        are_at_rest(self.seats.as_slice())
+    }
+
+    /// Whether a start of this node was taken; not where there is no such node.
+    pub fn started(&self, node: u8) -> bool
+        ensures yes { self.now.fault ≡ None → result ≡ true → (node < length self.now.journals)
+            × ((place_of (journal_at self.now.journals node)).activation ≢ 0) }
+        ensures no { self.now.fault ≡ None → result ≡ false → node < length self.now.journals →
+            (place_of (journal_at self.now.journals node)).activation ≡ 0 }
+    {
+        let place = usize::from(node);
+        if place >= self.seats.len() {
+            return false;
+        }
+        self.seats[place].has_begun()
     }
 
     /// A node, counted from 0: while there is no fault it stands at the record in its journal.

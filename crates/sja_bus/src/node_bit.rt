@@ -17,7 +17,7 @@ impl Seat {
     ghost use Rattle.can_node.specs.Stands.{Samples, InReset};
     ghost use Rattle.sja_link.specs.BusLedgers.{link_of};
     ghost use Rattle.sja_wire.specs.Links.{Goes, Moves};
-    ghost use Rattle.sja_bus.specs.Reasons.{IsBrokenFor};
+    ghost use Rattle.sja_wire.specs.Reasons.{IsBrokenFor};
     ghost use Rattle.sja_bus.specs.Inside.Seats.{IsSound, IsSeat, IsReady, IsMid};
     ghost use Rattle.sja_bus.specs.Inside.AtLinks.{HasLinks, KeepsLinks};
     ghost use Rattle.sja_bus.specs.declared.untold.Untold.TheVariants.{Nothing};

@@ -12,7 +12,7 @@ impl Bus {
     ghost use Rattle.sja_script.specs.Striking.{Strikes};
     ghost use Rattle.sja_wire.specs.declared.bus_fault.BusFault.{BusFault as Fault};
     ghost use Rattle.sja_wire.specs.Links.{Numbered};
-    ghost use Rattle.sja_bus.specs.Buses.{IsStill};
+    ghost use Rattle.sja_wire.specs.Buses.{IsStill};
     ghost use Rattle.sja_bus.specs.Moment.{moment, Keeps};
     ghost use Rattle.sja_bus.specs.UntilTold.{RunsUntilTold, StopsUntilTold, RunsNone, WorksUntold};
     ghost use Rattle.sja_bus.specs.Inside.RunningOn.{AnyBit, IsSoFar, IsStopped, MayRunBits};

@@ -18,7 +18,7 @@ use Rattle.sja_wire.specs.Wire.{wired, journal_at, IsWired}
 use Rattle.sja_wire.specs.Links.{Kept, stops_of}
 use Rattle.sja_wire.specs.OneBit.{MayHaveItems, Opens}
 use Rattle.sja_wire.specs.Telling.{SaysAlone, IsPassedOver, IsUntold}
-use Rattle.sja_bus.specs.Buses.{EachJournal, EachUntold, KeepsAll, AllDry, untold_at, IsNodeBit, IsBit}
+use Rattle.sja_wire.specs.Buses.{EachJournal, EachUntold, KeepsAll, AllDry, untold_at, IsNodeBit, IsBit}
 use Rattle.sja_bus.specs.declared.untold.Untold.TheVariants.{Nothing, Changed, Dropped}
 use Rattle.sja_bus.specs.Inside.Turning.{is_untold, is_dropped, TakesUntold, OpensUntold, Drops, Turns}
 use Rattle.sja_bus.specs.Inside.Rows.{AreReady, AreCalm, EachSeat, SeatTakes, SeatUntold, GoesAll, AllRead, journals_of}

@@ -12,7 +12,7 @@ use Rattle.sja_link.specs.Accounts.{Account}
 use Rattle.lemmas.specs.Related.{EachRelated}
 use Rattle.lemmas.proofs.Related.{each_refl, each_trans, each_at}
 use Rattle.sja_bus.specs.declared.seat.Seat.{Seat}
-use Rattle.sja_bus.proofs.Links.Moving.{grows_refl, grows_trans}
+use Rattle.sja_wire.proofs.Moving.{grows_refl, grows_trans}
 use Rattle.sja_wire.specs.Links.{Grows, Goes, Kept, Numbered}
 use Rattle.sja_bus.specs.Inside.Rows.{IsOf, AreReady, GoesAll, EachSeat, Done}
 

@@ -28,7 +28,8 @@ use Rattle.sja_bus.specs.Inside.Following.{Follows, FollowsBit}
 use Rattle.sja_bus.specs.declared.bit_outcome.BitOutcome.{BitOutcome}
 use Rattle.sja_bus.specs.Inside.Turning.{BringsVerdict, Brings}
 use Rattle.sja_bus.specs.Inside.Seats.{IsPassing, IsJudged}
-use Rattle.sja_bus.proofs.Journal.Steps.{follows_bit, follows_stopped, follows_judged}
+use Rattle.sja_bus.proofs.Journal.BitSteps.{follows_bit, follows_stopped, follows_judged}
+use Rattle.sja_wire.proofs.Journal.Items.{items_bits}
 
 -- nothing is to be judged
 pub received_quiet : (old new : Node) (j : List Entry) (x seen : Level) (e : BitEvents) (filter : Filter) (a : ℕ) →
@@ -83,10 +84,6 @@ off_no_bit : (off : Bool) → bits_of (off_as off) ≡ []
 off_no_bit true = refl
 off_no_bit false = refl
 
-items_no_bit : (items : List Up) → bits_of (entries_of_items items) ≡ []
-items_no_bit [] = refl
-items_no_bit (u ∷ items) = items_no_bit items
-
 pub bits_has : (j k : List Entry) (x seen : Level) → HasBit j x seen k → bits_of k ≡ bits_of j
     ++ (record { driven = x; seen = seen }) ∷ []
 bits_has j k x seen h =
@@ -94,7 +91,7 @@ bits_has j k x seen h =
     ∙ bits_none (j ++ Bit x seen ∷ []) (judged_as h.verdict) (judged_no_bit h.verdict) ∙ bits_bit j x seen
 
 pub bits_items : (j k : List Entry) → MayHaveItems j k → bits_of k ≡ bits_of j
-bits_items j k h = ap bits_of h.whole ∙ bits_none j (entries_of_items h.items) (items_no_bit h.items)
+bits_items j k h = ap bits_of h.whole ∙ bits_none j (entries_of_items h.items) (items_bits h.items)
 
 -- a bit alone, with a verdict, and with bus-off after that
 pub has_alone : (j after : List Entry) (x seen : Level) → after ≡ j ++ Bit x seen ∷ [] →
@@ -148,9 +145,6 @@ rest_brings (Ok outcome) j after x seen e h =
 rest_brings (Err fault) j after x seen e h = tt
 
 -- items one after another
-pub items_none : (j : List Entry) → MayHaveItems j j
-items_none j = record { items = []; whole = sym (append-nil j); read = tt; in_order = tt }
-
 items_end : (items : List Up) (u : Up) → entries_of_items (items ++ u ∷ []) ≡ entries_of_items items ++ Item u ∷ []
 items_end [] u = refl
 items_end (v ∷ items) u = ap (λ l. Item v ∷ l) (items_end items u)

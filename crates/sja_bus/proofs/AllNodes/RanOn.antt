@@ -9,8 +9,8 @@ use Rattle.sja_bus.specs.declared.broken_off.BrokenOff.{BrokenOff}
 use Rattle.sja_wire.specs.declared.bus_fault.BusFault.{BusFault}
 use Rattle.sja_bus.specs.declared.seat.Seat.{Seat}
 use Rattle.sja_bus.specs.Boards.{KeepsOthers}
-use Rattle.sja_bus.specs.Buses.{BusValue}
-use Rattle.sja_bus.specs.Reasons.{room_for}
+use Rattle.sja_wire.specs.Buses.{BusValue}
+use Rattle.sja_wire.specs.Reasons.{room_for}
 use Rattle.sja_bus.specs.Moment.{Moment, moment, Keeps}
 use Rattle.sja_bus.specs.Inside.Refusing.{HaveRoom}
 use Rattle.sja_bus.specs.Inside.Rows.{journals_of, untold_of}

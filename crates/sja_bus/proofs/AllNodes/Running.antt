@@ -25,7 +25,7 @@ use Rattle.sja_regs.specs.declared.bus_turn.BusTurn.{BusTurn}
 use Rattle.sja_bus.specs.Inside.Turning.{is_untold}
 use Rattle.sja_bus.specs.Inside.Rows.{EachSeat, SeatTakes, SeatOpens, SeatTurns, seen_by, journals_of, untold_of}
 use Rattle.sja_bus.specs.Inside.Rows.{driven_by, IsBus}
-use Rattle.sja_bus.proofs.AllNodes.Wires.{wired_bit, wired_same}
+use Rattle.sja_wire.proofs.Wires.{wired_bit, wired_same}
 use Rattle.sja_bus.proofs.WholeBus.Lawfuls.{lawful_of}
 use Rattle.sja_bus.proofs.AllNodes.NodeBit.{bits_has, bits_items, bits_abort}
 

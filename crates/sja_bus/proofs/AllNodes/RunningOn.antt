@@ -1,47 +1,30 @@
 -- Bits in which nothing is taken and nothing aborted.
-use Rattle.std.proofs.Common.{◌≡◌, ℕ, suc, ◌+◌, ◌-◌, ◌<◌, ◌≤◌, true, false, None, List, [], ◌∷◌, length}
-use Rattle.std.proofs.Common.{replicate, inl, inr, refl, sym, ap, ◌∙◌, subst, append-nil, arith}
-use Rattle.std.specs.Prelude.{slice_index_or, ◌↔◌, ◌⊎◌}
+use Rattle.std.proofs.Common.{◌≡◌, ℕ, ◌+◌, ◌-◌, ◌<◌, ◌≤◌, true, false, List, length}
+use Rattle.std.proofs.Common.{refl, sym, ◌∙◌, subst, append-nil, arith}
+use Rattle.std.specs.Prelude.{slice_index_or, ◌↔◌}
 use Rattle.can_bits.specs.declared.level.Level.{Level}
-use Rattle.can_node.specs.Stands.{ShowsRest}
 use Rattle.sja_link.specs.declared.entry.Entry.{Entry}
-use Rattle.sja_link.specs.declared.bus_end.BusEnd.{Ghosts as Ends}
-use Rattle.sja_link.specs.Lists.{Lists}
-use Rattle.lemmas.specs.Related.{EachRelated}
 use Rattle.sja_regs.specs.declared.orders.Orders.{Orders}
 use Rattle.sja_regs.specs.declared.bus_turn.BusTurn.{BusTurn}
 use Rattle.sja_script.specs.declared.strike.Strike.{Strike}
 use Rattle.sja_script.specs.Striking.{Strikes}
-use Rattle.sja_bus.specs.declared.board.Board.{Ghosts as Ports}
-use Rattle.sja_wire.specs.declared.bus_fault.BusFault.{BusFault}
 use Rattle.sja_bus.specs.declared.struck_nodes.StruckNodes.{StruckNodes}
 use Rattle.sja_bus.specs.declared.seat.Seat.{Seat}
 use Rattle.sja_bus.specs.StrikesByBit.{IsAmong}
 use Rattle.sja_wire.specs.Wire.{wired}
-use Rattle.sja_bus.specs.Boards.{KeepsOthers}
-use Rattle.sja_bus.specs.Buses.{BusValue}
 use Rattle.sja_wire.specs.OneBit.{Opens}
-use Rattle.sja_bus.specs.Reasons.{room_for, StopsBit}
-use Rattle.sja_bus.specs.Moment.{Moment, OneBit}
-use Rattle.sja_bus.specs.Several.{SomeWork, AreBits}
-use Rattle.sja_bus.specs.Several.AreBits.{no_bit, one_more}
-use Rattle.sja_bus.specs.Inside.Refusing.{HaveRoom, SeatBreaks}
-use Rattle.sja_bus.specs.Inside.Rows.{AreReady, EachSeat, SeatTurns, GoesAll, IsBus, driven_by, journals_of}
-use Rattle.sja_bus.specs.Inside.RunningOn.{NoneAborts, moment_of, bus_of, AnyBit}
+use Rattle.sja_bus.specs.Inside.Rows.{AreReady, EachSeat, SeatTurns, IsBus, driven_by}
+use Rattle.sja_bus.specs.Inside.RunningOn.{NoneAborts}
 use Rattle.sja_bus.specs.Inside.Whole.{IsRowBit}
 use Rattle.sja_bus.proofs.Resting.AtRest.{untold_none}
-use Rattle.sja_bus.proofs.AllNodes.NodeBit.{items_none}
-use Rattle.sja_bus.proofs.ItemsTaken.Breaking.{stops_bit}
-use Rattle.sja_bus.proofs.AllNodes.Journals.{keeps_all, is_bit, all_told, wired_row}
-use Rattle.sja_bus.proofs.WholeBus.Logs.{none_untold, calm_by}
-use Rattle.sja_bus.proofs.AllNodes.Many.{goes_all_refl}
-use Rattle.sja_bus.proofs.Resting.Rests.{rests_at}
-use Rattle.sja_bus.proofs.AllNodes.Running.{count_is, bus_run}
+use Rattle.sja_wire.proofs.Journal.Items.{items_none}
+use Rattle.sja_bus.proofs.AllNodes.Journals.{all_told, wired_row}
+use Rattle.sja_bus.proofs.WholeBus.Logs.{calm_by}
 
 -- ---- one bit
 
 -- no item was taken, and no abort is ordered
-opens_none : (has_orders : Orders → Type 0) (j : List Entry) (o : Orders) → has_orders o →
+pub opens_none : (has_orders : Orders → Type 0) (j : List Entry) (o : Orders) → has_orders o →
     o.abort ≡ false → Opens has_orders j j
 opens_none has_orders j o has none = record {
   taken = j;
@@ -130,137 +113,3 @@ passes orders_are was_told was_kept script n nodes none here level first board s
       row = row;
       bus = bus_row (orders_are board) was_told was_kept script n none seats after len few at row ready bus;
     }
-
--- some node works
-pub some_work : (seats : List Seat) → AreReady seats → (k : ℕ) × (k < length seats)
-    × ((s : Seat) → ShowsRest (slice_index_or seats k s).node false) → SomeWork (journals_of seats)
-some_work seats ready which =
-    let c = count_is seats in let near = which.1 in
-    let few : which.0 < length (journals_of seats) = omega (arith, near, c) in
-    (which.0, few, rests_at seats false which.0 ready few which.2)
-
--- by the bus, its links and its ports
-pub one_bit : {E B : Type 0} (e : Ends E) (b : Ports B) (script : List Strike) (steps : List ℕ)
-    (n next left less : ℕ)
-    (struck : StruckNodes) (seats after : List Seat) (links links_after : List E) (board now : B) → next ≡ n + 1 →
-    less + 1 ≡ left → length after ≡ length seats → length seats ≤ 8 →
-    ((node : ℕ) → node < 8 → IsAmong node struck ↔ Strikes script n node) →
-    IsRowBit (b.orders_are board) (b.told board now) (b.kept board now) struck seats after →
-    EachRelated e.same links links_after → KeepsOthers b.ports b.kept (length seats) board now →
-    GoesAll e.same e.stands seats after links links_after → IsBus script n seats → IsBus script next after →
-    ((k : ℕ) → k < length seats → b.facts now k) → OneBit e b (moment_of script steps n left seats links board)
-    (moment_of script steps next less after links_after now)
-one_bit e b script steps n next left less struck seats after links links_after board now is_next is_less len few at row
-    sames
-    others goes bus bus_after are =
-    let nodes : length after ≡ length (journals_of seats) = len ∙ sym (count_is seats) in
-    let K : ℕ → Type 0 = λ m. KeepsOthers b.ports b.kept m board now in
-    let told = b.told board now in let kept = b.kept board now in record {
-      keeps = record {
-        sames = sames;
-        others = subst K (sym (count_is seats)) others;
-        script = refl;
-        steps = refl;
-        nodes = count_is after ∙ nodes;
-      };
-      run = is_next;
-      left = is_less;
-      kept = keeps_all e.same e.stands seats after links links_after len goes;
-      bit = is_bit (b.orders_are board) told kept script n struck seats after len few at bus.calm row;
-      told = none_untold after (all_told told kept struck seats after len row) ∙ ap (λ m. replicate m false) nodes;
-      right = refl;
-      lawful = bus_run script next after bus_after;
-      facts = λ k few. are k (let n = count_is seats in omega (arith, few, n));
-    }
-
--- what holds of the port of each node goes on with a bit
-pub facts_of_bit : {B : Type 0} (b : Ports B) →
-    ((was now : B) (k : ℕ) → b.ports now ≡ b.ports was → k < b.ports was →
-    b.kept was now k ⊎ ((turn : BusTurn) × b.told was now k turn) → b.facts was k → b.facts now k) →
-    (struck : StruckNodes) (level : Level) (seats after : List Seat) (board now : B) → length seats ≤ b.ports board →
-    KeepsOthers b.ports b.kept (length seats) board now →
-    EachSeat (SeatTurns (b.told board now) (b.kept board now) struck level) seats after →
-    ((k : ℕ) → k < length seats → b.facts board k) → (k : ℕ) → k < length seats → b.facts now k
-facts_of_bit {B} b go_on struck level seats after board now ports others turns facts k few =
-    go_on board now k others.0 (omega (arith, ports, few)) (each seats turns k few) (facts k few)
-  where
-    each : (before : List Seat) →
-        EachSeat (SeatTurns (b.told board now) (b.kept board now) struck level) before after →
-        (k : ℕ) → k < length before → b.kept board now k ⊎ ((turn : BusTurn) × b.told board now k turn)
-    each [] turn k near = absurd (omega (arith, near))
-    each (s ∷ before) turn k near = let bit = turn k s near in elim bit.port [
-      | inl told ↦ inr (bit.turn, told)
-      | inr passed ↦ inl passed.0
-    ]
-
--- ---- several
-
--- none so far
-pub none_yet : {E B : Type 0} (One : ℕ → Moment E B → Moment E B → Type 0) (Before : Moment E B → Type 0)
-    (script : List Strike) (steps : List ℕ) (from left : ℕ) (seats : List Seat) (links : List E) (board : B) →
-    AreBits One Before (moment_of script steps from left seats links board) 0
-    (moment_of script steps (from + 0) (left - 0) seats links board)
-none_yet One Before script steps from left seats links board =
-    let f : from ≡ from + 0 = omega arith in let l : left ≡ left - 0 = omega arith in
-    let P : ℕ → Type 0 = λ n. AreBits One Before (moment_of script steps from left seats links board) 0
-    (moment_of script steps n left seats links board) in
-    let Q : ℕ → Type 0 = λ n. AreBits One Before (moment_of script steps from left seats links board) 0
-    (moment_of script steps (from + 0) n seats links board) in
-    subst Q l (subst P f (no_bit (moment_of script steps from left seats links board)))
-
--- one more
-pub more_bits : {E B : Type 0} (One : ℕ → Moment E B → Moment E B → Type 0) (Before : Moment E B → Type 0)
-    (was mid now : Moment E B) (n next : ℕ) → next ≡ n + 1 →
-    AreBits One Before was n mid → Before mid → One n mid now → AreBits One Before was next now
-more_bits One Before was mid now n next is bits before one =
-    let e : suc n ≡ next = omega (arith, is) in
-    let P : ℕ → Type 0 = λ k. AreBits One Before was k now in
-    subst P e (one_more was mid now n bits before one)
-
--- after one bit more
-pub bits_on : {E B : Type 0} (e : Ends E) (b : Ports B) (Before : Moment E B → Type 0) (was : Moment E B)
-    (script : List Strike)
-    (steps : List ℕ) (from run most left : ℕ) (struck : StruckNodes) (seats after : List Seat) (links links_after : List
-    E)
-    (board now : B) → run < most → most ≤ left → length after ≡ length seats → length seats ≤ 8 →
-    ((node : ℕ) → node < 8 → IsAmong node struck ↔ Strikes script (from + run) node) →
-    IsRowBit (b.orders_are board) (b.told board now) (b.kept board now) struck seats after →
-    EachRelated e.same links links_after → KeepsOthers b.ports b.kept (length seats) board now →
-    GoesAll e.same e.stands seats after links links_after → IsBus script (from + run) seats →
-    IsBus script (from + (run + 1)) after → ((k : ℕ) → k < length seats → b.facts now k) →
-    Before (moment_of script steps (from + run) (left - run) seats links board) →
-    AreBits (AnyBit e b) Before was run (moment_of script steps (from + run) (left - run) seats links board) →
-    AreBits (AnyBit e b) Before was (run + 1)
-    (moment_of script steps (from + (run + 1)) (left - (run + 1)) after links_after now)
-bits_on e b Before was script steps from run most left struck seats after links links_after board now early enough len
-    few at
-    row sames others goes bus bus_after are holds bits =
-    more_bits (AnyBit e b) Before was (moment_of script steps (from + run) (left - run) seats links board)
-    (moment_of script steps (from + (run + 1)) (left - (run + 1)) after links_after now) run (run + 1) refl bits holds
-    (one_bit e b script steps (from + run) (from + (run + 1)) (left - run) (left - (run + 1)) struck seats after links
-    links_after board now (omega arith) (omega (arith, early, enough)) len few at row sames others
-    goes bus bus_after are)
-
--- the bit of one broke off
-pub stops_on : {E : Type 0} (same : E → E → Type 0) (stands : E → Lists → Type 0) (full : E → Type 0)
-    (orders_are : ℕ → Orders → Type 0) (script : List Strike) (steps : List ℕ) (run left bits : ℕ)
-    (seats after : List Seat) (links links_after : List E) (f : BusFault) (now : BusValue) → ((x : E) → same x x) →
-    now.journals ≡ journals_of after → run + left ≡ bits → length after ≡ length seats →
-    HaveRoom (room_for bits steps) seats → NoneAborts orders_are (length seats) → SeatBreaks stands full seats after
-    links f →
-    StopsBit stands full orders_are (bus_of script steps run left seats) now links links_after f
-stops_on same stands full orders_are script steps run left bits seats after links links_after f now same_refl journals
-    all
-    len rooms none breaks =
-    stops_bit same stands full orders_are script steps run left bits None seats after links links_after f
-    now journals all len rooms
-    (inr (record {
-      opened = seats;
-      between = links;
-      count = refl;
-      opens = λ m s few. let o = none m few in opens_none (orders_are m)
-          (slice_index_or seats m s).journal.entries o.0 o.1 o.2;
-      goes = goes_all_refl same stands same_refl seats links;
-      rooms = λ n h. h;
-      breaks = breaks;
-    }))

@@ -15,7 +15,7 @@ use Rattle.sja_bus.specs.Inside.Rows.{AreReady, SeatTurns, seen_by}
 use Rattle.sja_bus.specs.Inside.Underway.{IsUnderway}
 use Rattle.sja_bus.proofs.AllNodes.Many.{goes_all_refl, goes_all_one, ready_one, done_none, done_one, done_before}
 use Rattle.sja_bus.proofs.ItemsTaken.Refusing.{rooms_one}
-use Rattle.sja_bus.proofs.AtPorts.Turning.{turns_by}
+use Rattle.sja_bus.proofs.AtPorts.TurnsTold.{turns_by}
 
 -- none had it
 pub underway_none : {E B : Type 0} (same : E → E → Type 0) (stands : E → Lists → Type 0) → ((x : E) → same x x) →

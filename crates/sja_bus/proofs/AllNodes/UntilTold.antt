@@ -10,8 +10,8 @@ use Rattle.sja_script.specs.declared.strike.Strike.{Strike}
 use Rattle.sja_wire.specs.declared.bus_fault.BusFault.{BusFault}
 use Rattle.sja_wire.specs.Wire.{wired, journal_at}
 use Rattle.sja_bus.specs.declared.seat.Seat.{Seat}
-use Rattle.sja_bus.specs.Buses.{BusValue}
-use Rattle.sja_bus.specs.Reasons.{room_for}
+use Rattle.sja_wire.specs.Buses.{BusValue}
+use Rattle.sja_wire.specs.Reasons.{room_for}
 use Rattle.sja_bus.specs.UntilTold.{HasBitsMore, NoneTold, RunsNone}
 use Rattle.sja_bus.specs.UntilTold.HasBitsMore.{none, one_more}
 use Rattle.sja_bus.specs.UntilTold.RunsNone.{rests, none_asked, spent, struck, untold, aborts, full}

@@ -10,12 +10,12 @@ use Rattle.sja_link.specs.declared.verdict.Verdict.{Verdict}
 use Rattle.sja_link.specs.Parts.{part}
 use Rattle.sja_link.specs.Verdicts.{IsDue, IsLawful, entry_of}
 use Rattle.sja_wire.specs.OneBit.{MayHaveVerdict, judged_as, off_as}
-use Rattle.sja_bus.specs.OutOfRoom.{IsOutOfRoom}
+use Rattle.sja_wire.specs.OutOfRoom.{IsOutOfRoom}
 use Rattle.sja_wire.specs.Telling.{is_overrun}
 use Rattle.sja_bus.specs.Inside.Following.{FollowsBit}
 use Rattle.sja_bus.specs.Inside.Taking.{IsJudgedShort}
 use Rattle.sja_bus.proofs.WholeBus.Lawfuls.{lawful_of}
-use Rattle.sja_bus.proofs.Journal.Steps.{follows_on, follows_off}
+use Rattle.sja_bus.proofs.Journal.BitSteps.{follows_on, follows_off}
 
 -- the journal with bus-off after the bit, where the node went bus-off
 pub bit_lawful : (node : Node) (k : List Entry) (went : Bool) → FollowsBit node k went → IsLawful (k ++ off_as went)

@@ -20,18 +20,13 @@ use Rattle.sja_bus.specs.declared.activity.Activity.TheVariants.{Between, Runnin
 use Rattle.sja_wire.specs.Links.{stops_in, stops_of}
 use Rattle.sja_wire.specs.OutOfOrder.{HasOff, HasAskedOff}
 use Rattle.sja_bus.specs.Inside.Following.{is_on, IsActive}
-use Rattle.sja_bus.proofs.Journal.Orders.{acts_in}
+use Rattle.sja_wire.proofs.Journal.Orders.{acts_in}
 use Rattle.sja_bus.proofs.Journal.OnBus.{on_both}
-use Rattle.sja_bus.proofs.ItemsTaken.AskingOff.{off_before, asked_before}
+use Rattle.sja_wire.proofs.Journal.AskingOff.{off_before, asked_before}
 
 -- an entry that is no stop
 pub stopped_same : (j : List Entry) (e : Entry) (n : ℕ) → stops_in e ≡ 0 → stops_of j ≡ n → stops_of (j ++ e ∷ []) ≡ n
 stopped_same j e n none h = let t = total_push stops_in j e in omega (arith, t, none, h)
-
--- the part of the activation that is read
-part_now : (j : List Entry) (e : Entry) (a : ℕ) → (past (place_of j) e).activation ≡ a →
-    part (j ++ e ∷ []) a ≡ part j a ++ e ∷ []
-part_now j e a h = part_here j e a h
 
 -- what is free, with an entry more that stands in the activation that is read, or in the one before
 pub free_on : (j : List Entry) (e : Entry) (a n m : ℕ) → m + bytes_in e ≡ n + credit_in e →

@@ -15,7 +15,7 @@ use Rattle.sja_link.specs.declared.entry.Entry.TheVariants.{Bit}
 use Rattle.sja_link.specs.BusLedgers.{free_in}
 use Rattle.sja_bus.specs.declared.seat.Seat.{Seat}
 use Rattle.sja_bus.specs.Inside.Seats.{IsSound}
-use Rattle.sja_bus.proofs.Journal.Steps.{follows_bit, follows_on}
+use Rattle.sja_bus.proofs.Journal.BitSteps.{follows_bit, follows_on}
 use Rattle.sja_bus.proofs.Journal.Reading.{reads_quiet}
 use Rattle.sja_bus.proofs.Links.Seating.{sound_by}
 

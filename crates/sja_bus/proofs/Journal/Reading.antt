@@ -27,9 +27,9 @@ use Rattle.sja_bus.specs.Inside.Seats.{Pays}
 use Rattle.sja_wire.specs.OutOfOrder.{HasOff, HasAskedOff}
 use Rattle.sja_bus.specs.Inside.Following.{open_in, is_on, IsActive, Reads}
 use Rattle.sja_wire.specs.Orderly.{IsRunning, IsOrderly}
-use Rattle.sja_bus.proofs.Journal.Orders.{orderly_here, acts_in, quiet_orderly, stopless_with, runs_now, no_off_put}
+use Rattle.sja_wire.proofs.Journal.Orders.{orderly_here, acts_in, quiet_orderly, stopless_with, runs_now, no_off_put}
 use Rattle.sja_bus.proofs.Journal.OnBus.{on_both}
-use Rattle.sja_bus.proofs.ItemsTaken.AskingOff.{off_before, off_of_asked, none_off}
+use Rattle.sja_wire.proofs.Journal.AskingOff.{off_before, off_of_asked, none_off}
 use Rattle.sja_bus.proofs.Journal.Parted.{stopped_same, free_on, marks_in, no_stop, no_mark, stays_of}
 use Rattle.sja_bus.proofs.Journal.Parted.{off_same, begun_same, on_same, off_less, asked_less, active_same}
 

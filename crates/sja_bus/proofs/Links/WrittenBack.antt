@@ -8,7 +8,7 @@ use Rattle.lemmas.specs.Related.{EachRelated}
 use Rattle.sja_bus.specs.declared.board.Board.{Ghosts as Ports}
 use Rattle.sja_bus.specs.declared.seat.Seat.{Seat}
 use Rattle.sja_bus.specs.Boards.{KeepsOthers}
-use Rattle.sja_bus.specs.Buses.{BusValue, KeepsAll}
+use Rattle.sja_wire.specs.Buses.{BusValue, KeepsAll}
 use Rattle.sja_bus.specs.Moment.{moment, Keeps}
 use Rattle.sja_bus.specs.Inside.Rows.{journals_of, GoesAll}
 use Rattle.sja_bus.proofs.AllNodes.Journals.{keeps_all}

@@ -27,11 +27,12 @@ use Rattle.sja_bus.specs.Inside.RunningOn.{AnyBit, NoneAborts, moment_of}
 use Rattle.sja_bus.specs.Inside.Together.{AreQuietRows, IsQuietRow}
 use Rattle.sja_bus.specs.Inside.Turning.{IsQuietBit}
 use Rattle.sja_bus.specs.Inside.Together.AreQuietRows.{no_row, one_more}
-use Rattle.sja_bus.proofs.AllNodes.RunningOn.{bits_on, passes, some_work}
+use Rattle.sja_bus.proofs.AllNodes.RunningOn.{passes}
+use Rattle.sja_bus.proofs.AllNodes.BitAfterBit.{bits_on, some_work}
 use Rattle.sja_bus.proofs.AllNodes.UntilTold.{none_told, row_bits}
-use Rattle.sja_bus.proofs.AtPorts.Turning.{quiet_turns}
-use Rattle.sja_bus.proofs.Links.Moving.{goes_quiet}
-use Rattle.sja_bus.proofs.Resting.Stretches.{nobody, not_among}
+use Rattle.sja_bus.proofs.AtPorts.TurnsTold.{quiet_turns}
+use Rattle.sja_wire.proofs.Moving.{goes_quiet}
+use Rattle.sja_bus.proofs.Resting.WholeStretches.{nobody, not_among}
 use Rattle.lemmas.proofs.Related.{each_refl}
 
 -- ---- what stays, and what each bit takes

@@ -42,10 +42,10 @@ use Rattle.sja_bus.specs.Inside.Following.{Follows}
 use Rattle.sja_bus.specs.Inside.Seats.{IsSound, IsReady}
 use Rattle.sja_bus.specs.Inside.Turning.{IsQuietBit, OpensUntold, Turns}
 use Rattle.sja_bus.specs.Inside.Idling.{IsResting, after_bits}
-use Rattle.sja_bus.proofs.AllNodes.NodeBit.{items_none}
+use Rattle.sja_wire.proofs.Journal.Items.{items_none}
 use Rattle.sja_bus.proofs.WholeBus.Lawfuls.{now_once}
 use Rattle.sja_bus.proofs.Journal.Quiet.{quiet_sound}
-use Rattle.sja_bus.proofs.AtPorts.Turning.{quiet_turns, drops_none}
+use Rattle.sja_bus.proofs.AtPorts.TurnsTold.{quiet_turns, drops_none}
 
 -- ---- where it stands
 

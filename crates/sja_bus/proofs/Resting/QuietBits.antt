@@ -18,9 +18,9 @@ use Rattle.sja_wire.specs.Links.{Kept, stops_in, stops_of}
 use Rattle.sja_wire.specs.declared.bus_fault.BusFault.{BusFault}
 use Rattle.sja_wire.specs.OneBit.{MayHaveItems, entries_of_items}
 use Rattle.sja_wire.specs.Telling.{IsUntold}
-use Rattle.sja_bus.specs.Buses.{EachJournal, EachUntold, KeepsAll, AllDry, untold_at, IsNodeBit, IsBit}
+use Rattle.sja_wire.specs.Buses.{EachJournal, EachUntold, KeepsAll, AllDry, untold_at, IsNodeBit, IsBit}
 use Rattle.sja_bus.specs.Stretches.{recessive_bits, with_recessive, IsStretch}
-use Rattle.sja_bus.proofs.Links.Moving.{account_quiet}
+use Rattle.sja_wire.proofs.Moving.{account_quiet}
 use Rattle.sja_bus.proofs.Resting.AtRest.{one_more}
 
 -- ---- by journals

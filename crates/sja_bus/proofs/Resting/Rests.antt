@@ -27,7 +27,7 @@ use Rattle.sja_bus.specs.declared.untold.Untold.{Untold}
 use Rattle.sja_bus.specs.declared.untold.Untold.TheVariants.{Nothing, Changed, Dropped}
 use Rattle.sja_bus.specs.declared.seat.Seat.{Seat}
 use Rattle.sja_wire.specs.Wire.{journal_at}
-use Rattle.sja_bus.specs.Buses.{BusValue, untold_at}
+use Rattle.sja_wire.specs.Buses.{BusValue, untold_at}
 use Rattle.sja_bus.specs.Resting.{RestsAs}
 use Rattle.sja_bus.specs.Stretches.{EndsStretch}
 use Rattle.sja_bus.specs.Stretches.EndsStretch.{untold, busy}

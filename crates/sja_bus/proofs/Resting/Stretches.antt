@@ -1,39 +1,17 @@
 -- Bits in which every node is at rest.
-use Rattle.std.proofs.Common.{◌≡◌, ℕ, zero, suc, ◌+◌, ◌<◌, ◌≤◌, Bool, false, cond, List, [], ◌∷◌, ◌++◌, length, min}
-use Rattle.std.proofs.Common.{refl, sym, ap, ◌∙◌, subst, arith, inl, inr}
-use Rattle.std.specs.Prelude.{slice_index_or, slice_set, ◌↔◌, ◌⊎◌}
-use Rattle.std.specs.Int.{bit_at}
-use Rattle.std.proofs.lemmas.Bool.{ne_eqb, cases_eq}
-use Rattle.std.proofs.lemmas.List.{length-map, get_or-set_same as set_here, get_or_default as or_same}
-use Rattle.std.proofs.lemmas.Nat.Bits.{bit_at-zero}
-use Rattle.can_bits.specs.declared.level.Level.{Level}
+use Rattle.std.proofs.Common.{◌≡◌, ℕ, zero, suc, ◌+◌, ◌<◌, List, [], ◌∷◌, ◌++◌, length}
+use Rattle.std.proofs.Common.{refl, sym, ap, ◌∙◌, arith}
+use Rattle.std.specs.Prelude.{slice_index_or}
+use Rattle.std.proofs.lemmas.List.{length-map}
 use Rattle.can_bits.specs.declared.level.Level.TheVariants.{Recessive}
-use Rattle.can_bits.specs.Digits.{opposite}
-use Rattle.sja_link.specs.declared.entry.Entry.{Entry}
-use Rattle.sja_regs.specs.declared.orders.Orders.{Orders}
-use Rattle.sja_regs.specs.declared.bus_turn.BusTurn.{BusTurn}
-use Rattle.sja_script.specs.declared.strike.Strike.{Strike}
-use Rattle.sja_script.specs.Striking.{Strikes}
-use Rattle.sja_bus.specs.declared.struck_nodes.StruckNodes.{StruckNodes}
-use Rattle.sja_bus.specs.declared.untold.Untold.TheVariants.{Nothing, Dropped}
 use Rattle.sja_bus.specs.declared.seat.Seat.{Seat}
-use Rattle.sja_bus.specs.StrikesByBit.{IsAmong}
-use Rattle.sja_wire.specs.Wire.{wired, IsWired}
-use Rattle.sja_bus.specs.Reasons.{room_for}
-use Rattle.sja_wire.specs.declared.bus_fault.BusFault.{BusFault}
-use Rattle.sja_wire.specs.declared.bus_fault.BusFault.TheVariants.{JournalFull}
-use Rattle.sja_bus.specs.Buses.{BusValue, untold_at, IsBit}
-use Rattle.sja_bus.specs.Stretches.{recessive_bits, with_recessive, IsStretch, EndsStretch, IsOutOfEntries}
-use Rattle.sja_bus.specs.Stretches.EndsStretch.{asked_for, spent, struck}
-use Rattle.sja_bus.specs.Inside.Turning.{is_untold, Turns}
-use Rattle.sja_bus.specs.Inside.Rows.{IsOf, AreReady, Done, AreCalm, journals_of, untold_of, driven_by, seen_by, IsBus}
-use Rattle.sja_bus.specs.Inside.Rows.{SeatOpens, SeatOpensUntold, SeatTurns}
-use Rattle.sja_bus.specs.Inside.Whole.{IsRowBit}
-use Rattle.sja_bus.specs.Inside.Idling.{AreResting, IsFullAfter, IsFullBy, after_bits, all_after}
+use Rattle.sja_wire.specs.Wire.{wired}
+use Rattle.sja_bus.specs.Stretches.{recessive_bits, with_recessive}
+use Rattle.sja_bus.specs.Inside.Turning.{is_untold}
+use Rattle.sja_bus.specs.Inside.Rows.{journals_of, untold_of, driven_by}
+use Rattle.sja_bus.specs.Inside.Idling.{after_bits, all_after}
 use Rattle.sja_bus.specs.Inside.Refusing.{HaveRoom}
-use Rattle.sja_bus.proofs.AllNodes.Running.{journal_is, untold_is, count_is}
-use Rattle.sja_bus.proofs.AllNodes.Journals.{is_bit, wired_row}
-use Rattle.sja_bus.proofs.Resting.AtRest.{after_none, ready_after, turns_after, opens_after, untold_none}
+use Rattle.sja_bus.proofs.Resting.AtRest.{after_none}
 
 -- ---- all seats after so many bits
 
@@ -64,7 +42,8 @@ all_after_by n (s ∷ seats) (x ∷ now) len each =
     ap (λ y. y ∷ now) first ∙ ap (λ l. after_bits n s ∷ l) rest
 
 -- what they show
-after_journals : (n : ℕ) (seats : List Seat) → journals_of (all_after n seats) ≡ with_recessive n (journals_of seats)
+pub after_journals : (n : ℕ) (seats : List Seat) → journals_of (all_after n seats) ≡ with_recessive n
+    (journals_of seats)
 after_journals n [] = refl
 after_journals n (s ∷ seats) = ap (λ l. (s.journal.entries ++ recessive_bits n) ∷ l) (after_journals n seats)
 
@@ -85,186 +64,3 @@ after_wired n (s ∷ seats) drives =
     ∙ ap (λ x. wired (x ∷ driven_by (all_after n seats))) (sym (drives 0 s (omega arith)))
 
 -- ---- a bit in which nobody is struck
-
-abbrev pub nobody : StruckNodes
-nobody = record { mask = 0 }
-
-pub not_among : (node : ℕ) → IsAmong node nobody → ⊥
-not_among node hit = let z = bit_at-zero node in omega (arith, z, hit)
-
-seen_plain : (node : ℕ) → seen_by nobody Recessive node ≡ Recessive
-seen_plain node = ap (λ c. cond c (opposite Recessive) Recessive) (ne_eqb (bit_at 0 node) 1 (not_among node))
-
-module _ (orders_are : ℕ → Orders → Type 0) (was_told : ℕ → BusTurn → Type 0) (was_kept : ℕ → Type 0)
-    (kept : (node : ℕ) → was_kept node)
-    (seats : List Seat) (ready : AreReady seats) (rest : AreResting seats)
-    (asked : (node : ℕ) → node < length seats → (o : Orders) × orders_are node o) where
-  here : (n m : ℕ) → m < length (all_after n seats) → m < length seats
-  here n m few = let c = after_count n seats in omega (arith, few, c)
-
-  row_after : (n : ℕ) → IsRowBit orders_are was_told was_kept nobody (all_after n seats) (all_after (suc n) seats)
-  row_after n = record {
-    opened = all_after n seats;
-    level = Recessive;
-    count = refl;
-    opens = λ m s few.
-        let P : Seat → Type 0 = λ x. SeatOpens orders_are m x x in
-        let o = asked m (here n m few) in
-        subst P (sym (after_at n seats m s (here n m few)))
-        (opens_after (orders_are m) n (slice_index_or seats m s) o.0 o.1 (ready m s (here n m few)).ready
-        (rest m s (here n m few)));
-    untold = λ m s few.
-        let P : Seat → Type 0 = λ x. SeatOpensUntold m x x in
-        subst P (sym (after_at n seats m s (here n m few))) (untold_none (after_bits n (slice_index_or seats m s)));
-    is_level = after_wired n seats (λ k s few. (rest k s few).drives);
-    turns = λ m s few.
-        let P : Seat → Type 0 = λ x. SeatTurns was_told was_kept nobody Recessive m x
-        (slice_index_or (all_after (suc n) seats) m s) in
-        let Q : Seat → Type 0 = λ x. SeatTurns was_told was_kept nobody Recessive m
-        (after_bits n (slice_index_or seats m s)) x in
-        let R : Level → Type 0 = λ x. Turns (was_told m) (was_kept m) x (after_bits n (slice_index_or seats m s))
-        (after_bits (suc n) (slice_index_or seats m s)) in
-        subst P (sym (after_at n seats m s (here n m few))) (subst Q (sym (after_at (suc n) seats m s (here n m few)))
-        (subst R (sym (seen_plain m)) (turns_after (was_told m) (was_kept m) n (slice_index_or seats m s) (kept m)
-        (ready m s (here n m few)).ready (rest m s (here n m few)))));
-  }
-
-  calm_after : (n : ℕ) → AreCalm (all_after n seats)
-  calm_after n m s few e =
-      let none : (slice_index_or (all_after n seats) m s).untold ≡ Nothing =
-      ap (λ (x : Seat). x.untold) (after_at n seats m s (here n m few)) ∙ (rest m s (here n m few)).none in
-      let wrong : Nothing ≡ Dropped = sym none ∙ e in cc
-
-  ready_all : (n : ℕ) → AreReady (all_after n seats)
-  ready_all n m s few =
-      let P : Seat → Type 0 = λ x. IsOf x m in
-      let was = ready m s (here n m few) in
-      subst P (sym (after_at n seats m s (here n m few)))
-      (record {
-        ready = ready_after n (slice_index_or seats m s) was.ready
-            (rest m s (here n m few));
-        own = was.own;
-      })
-
-  module _ (script : List Strike) (run count : ℕ) (most : length seats ≤ 8)
-      (unstruck : (bit node : ℕ) → run ≤ bit → bit < run + count → node < 8 → Strikes script bit node → ⊥) where
-    unhit : (i : ℕ) → i < count → (node : ℕ) → node < 8 → IsAmong node nobody ↔ Strikes script (run + i) node
-    unhit i early node few = (
-      λ hit. absurd (not_among node hit),
-      λ hit. absurd (unstruck (run + i) node (omega arith) (omega (arith, early)) few hit),
-    )
-
-    wired_after : (i : ℕ) → i ≤ count → IsWired script run (journals_of seats) →
-        IsWired script (run + i) (journals_of (all_after i seats))
-    wired_after zero early was =
-        let P : List Seat → Type 0 = λ l. IsWired script (run + 0) (journals_of l) in
-        let Q : ℕ → Type 0 = λ k. IsWired script k (journals_of seats) in
-        subst P (sym (after_nothing seats)) (subst Q (omega arith) was)
-    wired_after (suc i) early was =
-        let Q : ℕ → Type 0 = λ k. IsWired script k (journals_of (all_after (suc i) seats)) in
-        let a = after_count i seats in let b = after_count (suc i) seats in
-        let next : run + i + 1 ≡ run + suc i = omega arith in
-        subst Q next
-        (wired_row orders_are was_told was_kept script (run + i) nobody (all_after i seats) (all_after (suc i) seats)
-        (omega (arith, a, b)) (omega (arith, a, most))
-        (unhit i (omega (arith, early))) (row_after i) (wired_after i (omega (arith, early)) was))
-
-    pub bus_after : IsBus script run seats → IsBus script (run + count) (all_after count seats)
-    bus_after was = record {
-      ready = ready_all count;
-      calm = calm_after count;
-      wired = wired_after count (omega arith) was.wired;
-    }
-
-    one_bit : (i : ℕ) → i < count →
-        IsBit orders_are was_told was_kept script (run + i) (untold_of seats) (with_recessive i (journals_of seats))
-        (with_recessive (suc i) (journals_of seats))
-    one_bit i early =
-        let a = after_count i seats in let b = after_count (suc i) seats in
-        let bit = is_bit orders_are was_told was_kept script (run + i) nobody (all_after i seats)
-        (all_after (suc i) seats) (omega (arith, a, b)) (omega (arith, a, most))
-        (unhit i early) (calm_after i) (row_after i) in
-        let P : List Bool → Type 0 = λ u. IsBit orders_are was_told was_kept script (run + i) u
-        (journals_of (all_after i seats)) (journals_of (all_after (suc i) seats)) in
-        let Q : List (List Entry) → Type 0 = λ j. IsBit orders_are was_told was_kept script (run + i) (untold_of seats)
-        j (journals_of (all_after (suc i) seats)) in
-        let R : List (List Entry) → Type 0 = λ k. IsBit orders_are was_told was_kept script (run + i) (untold_of seats)
-        (with_recessive i (journals_of seats)) k in
-        subst R (after_journals (suc i) seats) (subst Q (after_journals i seats) (subst P (after_untold i seats) bit))
-
-    pub stretch_after : IsStretch orders_are was_told was_kept script run count (untold_of seats) (journals_of seats)
-        (journals_of (all_after count seats))
-    stretch_after = record {
-      told = told_by seats refl;
-      grown = after_journals count seats;
-      bits = one_bit;
-    }
-      where
-        told_by : (xs : List Seat) → xs ≡ seats → (node : ℕ) → node < length (journals_of seats) →
-            untold_at (untold_of seats) node ≡ false
-        told_by [] e node few = let cs = count_is seats in let z : length seats ≡ 0 =
-            ap (λ (l : List Seat). length l) (sym e) in absurd (omega (arith, few, cs, z))
-        told_by (s ∷ xs) e node few =
-            let cs = count_is seats in let near : node < length seats = omega (arith, few, cs) in
-            untold_is seats node s near ∙ ap is_untold (rest node s near).none
-
--- ---- why they aren't more
-
--- as many as strike no node, of those that were asked for and are left
-pub ends_quiet : (count n most bits : ℕ) (was now : BusValue) → now.script ≡ was.script → now.run ≡ was.run + n →
-    now.left + n ≡ was.left →
-    was.run + was.left ≡ bits → most ≡ min count was.left →
-    (n ≡ most) ⊎ (was.run + n ≡ bits) ⊎ ((node : ℕ) × (node < 8) × Strikes was.script (was.run + n) node) →
-    EndsStretch count n now
-ends_quiet count n most bits was now script run left whole least longest = elim longest [
-  | inl all ↦ elim (cases_eq n count) [
-    | inl same ↦ asked_for same
-    | inr other ↦ spent (omega (arith, all, least, left, other))
-  ]
-  | inr more ↦ elim more [
-    | inl end ↦ spent (omega (arith, end, whole, left))
-    | inr hit ↦ struck hit.0 hit.1
-        (subst (λ (l : List Strike). Strikes l now.run hit.0) (sym script)
-        (subst (λ (r : ℕ). Strikes was.script r hit.0) (sym run) hit.2))
-  ]
-]
-
--- ---- no entry was free
-
--- of the first whose journal was full, after those that have so many bits more
-pub full_by : (n k : ℕ) (before after : List Seat) (s new : Seat) (f : BusFault) → k < length before →
-    length after ≡ length before → AreReady before →
-    Done (λ m old now. now ≡ after_bits n old) k before after → IsFullAfter n (slice_index_or after k s) new f →
-    IsFullBy n before (slice_set after k new) f
-full_by n k before after s new f few len ready done h = record {
-  node = k;
-  few = few;
-  own = λ e. (ready k e few).own;
-  after = λ e.
-      let here : slice_index_or (slice_set after k new) k e ≡ new = set_here after k new e (omega (arith, few, len)) in
-      let was : slice_index_or after k s ≡ slice_index_or before k e = or_same after k s e (omega (arith, few, len))
-      ∙ (done k e few).1 (omega arith) in
-      let P : Seat → Type 0 = λ x. IsFullAfter n (slice_index_or before k e) x f in
-      let Q : Seat → Type 0 = λ x. IsFullAfter n x new f in
-      subst P (sym here) (subst Q was h);
-}
-
-pub out_of_entries : (bits : ℕ) (steps : List ℕ) (left count : ℕ) (seats now : List Seat) (f : BusFault) → length now ≡
-    length seats →
-    count ≤ left → HaveRoom (room_for bits steps) seats → IsFullBy count seats now f →
-    IsOutOfEntries bits steps left (journals_of seats) (journals_of now) f
-out_of_entries bits steps left count [] now f len most rooms h = let few = h.few in absurd (omega (arith, few))
-out_of_entries bits steps left count (s ∷ seats) now f len most rooms h =
-    let all = s ∷ seats in let few = h.few in let cs = count_is all in let after = h.after s in
-    let is = journal_is now h.node s (omega (arith, few, len)) in
-    let was = journal_is all h.node s few in
-    let room = rooms h.node s few in let full = after.full in let early = after.early in
-    let size = ap (λ (l : List Entry). length l) is in record {
-      node = h.node;
-      few = omega (arith, few, cs);
-      is = after.is ∙ ap (λ k. JournalFull k) (h.own s);
-      entered = after.entered;
-      early = omega (arith, early, most);
-      grown = is ∙ after.grown ∙ ap (λ (l : List Entry). l ++ recessive_bits after.entered) (sym was);
-      full = omega (arith, room, full, size);
-    }

@@ -3,6 +3,7 @@ use Rattle.std.proofs.Common.{◌≡◌, ℕ, zero, suc, ◌+◌, ◌<◌, false
 use Rattle.std.proofs.Common.{subst, append_assoc, append-nil, arith, inl, inr}
 use Rattle.std.specs.Prelude.{slice_index_or, replicate}
 use Rattle.std.proofs.lemmas.Bool.{cases_eq}
+use Rattle.std.proofs.lemmas.List.{get_or_append_left}
 use Rattle.sja_link.specs.declared.entry.Entry.{Entry}
 use Rattle.lemmas.specs.Related.{EachRelated}
 use Rattle.sja_script.specs.declared.strike.Strike.{Strike}
@@ -14,7 +15,9 @@ use Rattle.sja_bus.specs.Inside.Ending.{IsLog}
 use Rattle.sja_bus.specs.declared.untold.Untold.TheVariants.{Nothing, Dropped}
 use Rattle.sja_bus.specs.Inside.Turning.{is_untold}
 use Rattle.sja_bus.specs.Inside.Rows.{IsOf, AreReady, AreCalm, journals_of, untold_of, IsBus}
-use Rattle.sja_bus.proofs.AllNodes.Wires.{index_before, index_last, wired_none}
+use Rattle.lemmas.proofs.Lists.{push_here}
+use Rattle.lemmas.proofs.Related.{related_push}
+use Rattle.sja_wire.proofs.Wires.{wired_none}
 use Rattle.sja_bus.proofs.AllNodes.Running.{journal_is, count_is}
 
 -- ---- the beginning
@@ -34,10 +37,11 @@ new_push n seats x len new was k s few = elim (cases_eq k n) [
   | inl e ↦
       let P : Seat → Type 0 = λ y. IsNew y k in
       let Q : ℕ → Type 0 = λ m. IsNew x m in
-      subst P (sym (index_last seats x s k (e ∙ sym len))) (subst Q (sym e) new)
+      subst P (sym (push_here seats x s k (e ∙ sym len))) (subst Q (sym e) new)
   | inr ne ↦
       let P : Seat → Type 0 = λ y. IsNew y k in
-      subst P (sym (index_before seats x s k (omega (arith, len, few, ne)))) (was k s (omega (arith, few, ne)))
+      subst P (sym (get_or_append_left seats (x ∷ []) s k (omega (arith, len, few, ne))))
+      (was k s (omega (arith, few, ne)))
 ]
 
 pub new_ready : (seats : List Seat) → AreNew (length seats) seats → AreReady seats
@@ -88,19 +92,12 @@ pub record LogsSoFar (seats rest : List Seat) (logs : List NodeLog) : Type 0 whe
 pub logs_none : (seats : List Seat) → LogsSoFar seats seats []
 logs_none seats = record { done = []; whole = refl; each = tt }
 
-each_end : {A B : Type 0} (R : A → B → Type 0) (xs : List A) (ys : List B) (x : A) (y : B) → EachRelated R xs ys →
-    R x y → EachRelated R (xs ++ x ∷ []) (ys ++ y ∷ [])
-each_end R [] [] x y h r = (r, tt)
-each_end R [] (w ∷ ys) x y h r = absurd h
-each_end R (v ∷ xs) [] x y h r = absurd h
-each_end R (v ∷ xs) (w ∷ ys) x y h r = (h.0, each_end R xs ys x y h.1 r)
-
 pub logs_push : (seats rest left : List Seat) (logs : List NodeLog) (s : Seat) (g : NodeLog) → rest ≡ s ∷ left →
     IsLog s g → LogsSoFar seats rest logs → LogsSoFar seats left (logs ++ g ∷ [])
 logs_push seats rest left logs s g e log h = record {
   done = h.done ++ s ∷ [];
   whole = h.whole ∙ ap (λ l. h.done ++ l) e ∙ sym (append_assoc h.done (s ∷ []) left);
-  each = each_end IsLog h.done logs s g h.each log;
+  each = related_push IsLog h.done logs s g h.each log;
 }
 
 pub logs_all : (seats rest : List Seat) (logs : List NodeLog) → rest ≡ [] → LogsSoFar seats rest logs →

@@ -14,6 +14,7 @@ use Rattle.sja_link.specs.Carried.{taken_of}
 use Rattle.sja_link.specs.World.{is_stop}
 use Rattle.sja_link.specs.Verdicts.{filter_of, HasVerdicts}
 use Rattle.sja_wire.specs.Links.{stops_of}
+use Rattle.sja_wire.specs.OneBit.{off_left}
 use Rattle.sja_wire.specs.OutOfOrder.{HasOff, HasAskedOff}
 use Rattle.sja_wire.specs.Orderly.{AreOrderly}
 use Rattle.sja_bus.specs.declared.activity.Activity.{Activity}
@@ -24,10 +25,6 @@ pub record Follows (node : Node) (j : List Entry) : Type 0 where
   pub found : List FinishedPiece
   pub stands : StandsAt node (record_of j) found
   pub verdicts : HasVerdicts j (received found)
-
--- the entry of bus-off, which is yet to be written
-abbrev pub off_left : Bool → List NodeEntry
-off_left went = if went then NodeWentOff ∷ [] else []
 
 -- the same after a bit, before bus-off is entered
 pub record FollowsBit (node : Node) (j : List Entry) (went : Bool) : Type 0 where

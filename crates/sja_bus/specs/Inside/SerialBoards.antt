@@ -2,6 +2,7 @@
 use Rattle.std.specs.Prelude.{◌≡◌, ◌<◌, ◌⊎◌, ◌==◌, ◌||◌, ◌&&◌, not, ℕ, Bool, true, false, if◌then◌else◌}
 use Rattle.std.specs.Prelude.{Option, Some, None, is_some, List, [], ◌∷◌, length, slice_index_or, refl}
 use Rattle.std.proofs.Common.{ap, sym, subst, inl, inr, ◌∙◌, arith}
+use Rattle.std.proofs.lemmas.Bool.{and_parts, not-true, or_parts, or_right}
 use Rattle.std.proofs.lemmas.List.{get_or_default as or_same}
 use Rattle.can_node.specs.declared.outcome.Outcome.{Outcome}
 use Rattle.sja_regs.specs.declared.bus_turn.BusTurn.{BusTurn}
@@ -28,22 +29,6 @@ orders_at (first ∷ ports) node few =
 
 -- ---- facts
 
-neither : (a b : Bool) → (a || b) ≡ false → (a ≡ false) × (b ≡ false)
-neither true b e = absurd cc
-neither false b e = (refl, e)
-
-both : (a b : Bool) → (a && b) ≡ true → (a ≡ true) × (b ≡ true)
-both true b e = (refl, e)
-both false b e = absurd cc
-
-not_true : (a : Bool) → not a ≡ true → a ≡ false
-not_true true e = absurd cc
-not_true false e = refl
-
-either : (a b : Bool) → b ≡ true → (a || b) ≡ true
-either true b e = refl
-either false b e = e
-
 -- a request that didn't end wasn't sent
 unsent : (live aborted : Bool) (o : Option Outcome) → (live && (is_some o || aborted)) ≡ false →
     (live && is_sent o) ≡ false
@@ -58,7 +43,7 @@ in_reset : (ended off rm tbs live overrun dos : Bool) → (off || rm) ≡ true �
 in_reset true true rm tbs live overrun dos e h = (refl, refl)
 in_reset false true rm tbs live overrun dos e h = (refl, refl)
 in_reset ended false rm tbs live overrun dos e h =
-    let was = h e in (either (ended || false) tbs was.0, ap (λ l. l && overrun || dos) was.2 ∙ was.1)
+    let was = h e in (or_right (ended || false) tbs was.0, ap (λ l. l && overrun || dos) was.2 ∙ was.1)
 
 -- no wake-up interrupt is pending, nor RI, where none was, also where reset mode is entered
 never_told : (off raw : Bool) (i : Interrupts) → (i.wui ≡ false) × (i.ri ≡ false) →
@@ -72,7 +57,7 @@ turn_keeps : (p : Registers) (turn : BusTurn) → RegisterFacts p → RegisterFa
 turn_keeps p turn h =
     let ended = ends p turn in let off = goes_off p turn in let live = is_live p turn in record {
       busy = λ e.
-          let none = neither (ended || off) p.tbs e in let stays = neither ended off none.0 in
+          let none = or_parts (ended || off) p.tbs e in let stays = or_parts ended off none.0 in
           let was = h.busy none.1 in (
             ap (λ s. s || p.tcs) (unsent live turn.aborted turn.events.ended stays.0) ∙ was.0,
             ap (λ g. g || p.mode.rm) stays.1 ∙ was.1,
@@ -82,9 +67,9 @@ turn_keeps p turn h =
           (λ rm. ((h.reset rm).0, (h.reset rm).1, ap (λ r. not r && (turn.activation == p.activation)) rm));
       first_version = h.first_version;
       abort = λ e.
-          let stands = both (not (ended || off)) p.abort e in
-          ap (λ n. n || p.tbs) (not_true (ended || off) stands.0) ∙ h.abort stands.1;
-      set = λ e. h.set (neither off p.mode.rm e).1;
+          let stands = and_parts (not (ended || off)) p.abort e in
+          ap (λ n. n || p.tbs) (not-true (ended || off) stands.0) ∙ h.abort stands.1;
+      set = λ e. h.set (or_parts off p.mode.rm e).1;
       set_first = h.set_first;
       never = never_told off (is_raw p) (pending_after p.pending p.enabled (causes p turn)) h.never;
       acr = h.acr;

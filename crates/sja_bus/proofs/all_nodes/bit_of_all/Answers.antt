@@ -4,7 +4,7 @@ use Rattle.lemmas.proofs.Related.{each_trans}
 use Rattle.sja_bus.specs.Inside.Refusing.{SeatRefuses, SeatFull, SeatStops}
 use Rattle.sja_bus.specs.Inside.Rows.{SeatTurns}
 use Rattle.sja_bus.proofs.AllNodes.Many.{goes_all_trans, numbered_kept, done_all}
-use Rattle.sja_bus.proofs.AllNodes.RunningOn.{facts_of_bit}
+use Rattle.sja_bus.proofs.AllNodes.BitAfterBit.{facts_of_bit}
 use Rattle.sja_bus.proofs.AllNodes.Underway.{underway_none}
 use Rattle.sja_bus.proofs.ItemsTaken.TakenBefore.{row_takes}
 use Rattle.lemmas.proofs.Results.{err_is}

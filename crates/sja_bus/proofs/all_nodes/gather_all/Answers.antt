@@ -2,7 +2,7 @@ use Rattle.std.proofs.Common.{◌≡◌, ◌<◌, ◌+◌, ℕ, length, rules, s
 use Rattle.std.specs.Prelude.{Err, slice_set, slice_index_or}
 use Rattle.sja_link.specs.BusLedgers.{link_of}
 use Rattle.sja_wire.specs.Links.{Goes}
-use Rattle.sja_bus.specs.Reasons.{RefusesItem}
+use Rattle.sja_wire.specs.Reasons.{RefusesItem}
 use Rattle.sja_bus.specs.Inside.Rows.{SeatTakes, SeatUntold}
 use Rattle.sja_bus.specs.Inside.Refusing.{SeatRefuses}
 use Rattle.lemmas.proofs.Related.{each_trans}

@@ -3,7 +3,7 @@ use Rattle.std.specs.Prelude.{◌⊎◌, Err, slice_index_or, slice_set}
 use Rattle.sja_link.specs.BusLedgers.{link_of}
 use Rattle.lemmas.proofs.Related.{each_trans}
 use Rattle.sja_wire.specs.Links.{Goes}
-use Rattle.sja_bus.specs.Reasons.{RefusesItem}
+use Rattle.sja_wire.specs.Reasons.{RefusesItem}
 use Rattle.sja_bus.specs.Inside.Taking.{FullForAbort}
 use Rattle.sja_bus.specs.Inside.Rows.{SeatOpens, SeatOpensUntold}
 use Rattle.sja_bus.specs.Inside.Refusing.{SeatRefuses, SeatFull}
@@ -11,7 +11,7 @@ use Rattle.sja_bus.proofs.AllNodes.Many.{done_all}
 use Rattle.sja_bus.proofs.AllNodes.Rows.{has_links, taken_none, taken_one}
 use Rattle.sja_bus.proofs.Resting.Rests.{earlier_or_now}
 use Rattle.sja_bus.proofs.ItemsTaken.Refusing.{refuses_seat}
-use Rattle.sja_bus.proofs.ItemsTaken.Breaking.{full_seat}
+use Rattle.sja_bus.proofs.ItemsTaken.BreakingSeats.{full_seat}
 use Rattle.lemmas.proofs.Results.{err_is}
 use Rattle.sja_bus.proofs.all_nodes.open_all.Goals as goal
 

@@ -14,10 +14,10 @@ use Rattle.sja_bus.specs.Inside.Refusing.{SeatBreaks}
 use Rattle.sja_bus.specs.Inside.Underway.{IsUnderway}
 use Rattle.sja_bus.proofs.AllNodes.Levels.{level_now}
 use Rattle.sja_bus.proofs.AllNodes.Many.{done_all, done_none, done_one}
-use Rattle.sja_bus.proofs.Links.Moving.{goes_quiet}
+use Rattle.sja_wire.proofs.Moving.{goes_quiet}
 use Rattle.sja_bus.proofs.ItemsTaken.Refusing.{free_one}
 use Rattle.sja_bus.proofs.AllNodes.Running.{seen_is}
-use Rattle.sja_bus.proofs.AtPorts.Turning.{quiet_turns}
+use Rattle.sja_bus.proofs.AtPorts.TurnsTold.{quiet_turns}
 use Rattle.sja_bus.proofs.AllNodes.Underway.{underway_none, underway_one, underway_at}
 use Rattle.sja_bus.proofs.AllNodes.UntilTold.{bit_more}
 use Rattle.lemmas.proofs.Results.{err_is}

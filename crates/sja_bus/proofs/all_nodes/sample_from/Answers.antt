@@ -2,10 +2,10 @@ use Rattle.std.proofs.Common.{◌≡◌, ◌<◌, ℕ, length, rules, arith, ref
 use Rattle.std.specs.Prelude.{Err, slice_set, slice_index_or}
 use Rattle.sja_link.specs.BusLedgers.{link_of}
 use Rattle.sja_wire.specs.Links.{Goes}
-use Rattle.sja_bus.specs.Reasons.{IsBrokenFor}
+use Rattle.sja_wire.specs.Reasons.{IsBrokenFor}
 use Rattle.sja_bus.specs.Inside.Rows.{SeatTurns, seen_by}
 use Rattle.sja_bus.specs.Inside.Refusing.{SeatBreaks}
-use Rattle.sja_bus.proofs.ItemsTaken.Breaking.{breaks_seat}
+use Rattle.sja_bus.proofs.ItemsTaken.BreakingSeats.{breaks_seat}
 use Rattle.lemmas.proofs.Related.{each_refl, each_trans}
 use Rattle.lemmas.proofs.Results.{err_is}
 use Rattle.sja_bus.proofs.AllNodes.Many.{ready_one}

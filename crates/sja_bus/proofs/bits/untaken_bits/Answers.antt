@@ -3,7 +3,7 @@ use Rattle.std.proofs.Common.{subst, inl, inr}
 use Rattle.std.specs.Prelude.{slice_index_or}
 use Rattle.lemmas.proofs.Related.{each_refl, each_trans}
 use Rattle.sja_wire.specs.Wire.{wired}
-use Rattle.sja_bus.specs.Reasons.{room_for}
+use Rattle.sja_wire.specs.Reasons.{room_for}
 use Rattle.sja_bus.specs.UntilTold.HasBitsMore.{none}
 use Rattle.sja_script.specs.Striking.{Strikes}
 use Rattle.sja_bus.specs.declared.seat.Seat.{Seat}
@@ -14,12 +14,13 @@ use Rattle.sja_bus.specs.Inside.Rows.{AreTold, IsBus, driven_by}
 use Rattle.sja_bus.specs.UntilTold.{WorksUntold}
 use Rattle.sja_bus.specs.Inside.RunningOn.{moment_of, AllAtRest, AnyBit, RowsRun, SomeFull}
 use Rattle.sja_bus.proofs.AllNodes.Many.{numbered_kept}
-use Rattle.sja_bus.proofs.AllNodes.RunningOn.{facts_of_bit, passes, none_still, some_work, none_yet, bits_on, stops_on}
+use Rattle.sja_bus.proofs.AllNodes.RunningOn.{passes, none_still}
+use Rattle.sja_bus.proofs.AllNodes.BitAfterBit.{facts_of_bit, some_work, none_yet, bits_on, stops_on}
 use Rattle.sja_bus.proofs.AllNodes.UntilTold.{none_told, seats_then}
 use Rattle.sja_bus.proofs.OneReader.QuietRows.{free_after, have_room_after, none_run, part_at, part_left}
 use Rattle.sja_bus.proofs.OneReader.QuietRows.{rooms_after, rows_on, told_after}
 use Rattle.sja_bus.proofs.Resting.Unstruck.{none_more, none_now}
-use Rattle.sja_bus.proofs.Resting.Stretches.{nobody}
+use Rattle.sja_bus.proofs.Resting.WholeStretches.{nobody}
 use Rattle.sja_bus.proofs.bits.untaken_bits.Goals.{In-Ok}
 use Rattle.sja_bus.proofs.bits.untaken_bits.Goals as goal
 

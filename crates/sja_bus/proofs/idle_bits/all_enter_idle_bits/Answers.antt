@@ -2,7 +2,8 @@ use Rattle.std.proofs.Common.{◌≡◌, ◌<◌, length, rules}
 use Rattle.std.specs.Prelude.{Err, slice_set}
 use Rattle.sja_bus.specs.Inside.Idling.{after_bits, IsFullBy}
 use Rattle.sja_bus.proofs.AllNodes.Many.{done_all}
-use Rattle.sja_bus.proofs.Resting.Stretches.{all_after_by, full_by}
+use Rattle.sja_bus.proofs.Resting.Stretches.{all_after_by}
+use Rattle.sja_bus.proofs.Resting.WholeStretches.{full_by}
 use Rattle.lemmas.proofs.Results.{err_is}
 use Rattle.sja_bus.proofs.idle_bits.all_enter_idle_bits.Goals as goal
 

@@ -3,7 +3,7 @@ use Rattle.std.specs.Prelude.{slice_index_or}
 use Rattle.can_node.specs.Stands.{ShowsRest}
 use Rattle.sja_link.specs.Records.{record_of}
 use Rattle.sja_bus.specs.declared.seat.Seat.{Seat}
-use Rattle.sja_bus.specs.Buses.{BusValue}
+use Rattle.sja_wire.specs.Buses.{BusValue}
 use Rattle.sja_wire.specs.Wire.{journal_at}
 use Rattle.sja_wire.specs.Lawful.{IsBusRun}
 use Rattle.sja_bus.specs.Resting.{RestsAs}

@@ -3,19 +3,19 @@ use Rattle.std.proofs.Common.{subst, arith, rules, ℕ, refl, Some}
 use Rattle.std.specs.Prelude.{◌⊎◌, Err, vec_capacity}
 use Rattle.lemmas.proofs.Related.{each_refl}
 use Rattle.sja_bus.specs.declared.seat.Seat.{Seat}
-use Rattle.sja_bus.specs.Buses.{BusValue, IsBit}
+use Rattle.sja_wire.specs.Buses.{BusValue, IsBit}
 use Rattle.sja_bus.specs.Moment.{moment, Keeps}
 use Rattle.sja_bus.specs.Inside.Rows.{AreTold, IsBus, journals_of, untold_of}
 use Rattle.sja_bus.specs.Inside.Whole.{IsWhole, IsRowBit}
-use Rattle.sja_bus.specs.Reasons.{room_for, StopsBit}
-use Rattle.sja_bus.specs.Reasons.StopsBit.{spent}
+use Rattle.sja_wire.specs.Reasons.{room_for, StopsBit}
+use Rattle.sja_wire.specs.Reasons.StopsBit.{spent}
 use Rattle.sja_bus.specs.Inside.Refusing.{HaveRoom, SeatRefuses, SeatFull, SeatStops}
 use Rattle.sja_bus.proofs.AllNodes.Journals.{wired_row, is_bit, all_told}
 use Rattle.sja_bus.proofs.WholeBus.Logs.{calm_by, none_untold}
 use Rattle.sja_bus.proofs.AllNodes.Running.{count_is, bus_run}
 use Rattle.sja_bus.proofs.Links.WrittenBack.{are_back, keeps_back, keeps_still}
 use Rattle.sja_bus.proofs.ItemsTaken.TakenBefore.{takes_back}
-use Rattle.sja_bus.proofs.ItemsTaken.Breaking.{stops_bit}
+use Rattle.sja_bus.proofs.ItemsTaken.BreakingSeats.{stops_bit}
 use Rattle.lemmas.proofs.Results.{err_is}
 use Rattle.sja_bus.proofs.bus.Bus.bit.Goals.{After-bit_of_all, In-Ok}
 use Rattle.sja_bus.proofs.bus.Bus.bit.Goals as goal

@@ -1,6 +1,6 @@
 use Rattle.std.proofs.Common.{◌≡◌, None, subst}
 use Rattle.sja_wire.specs.Lawful.{IsBusRun}
-use Rattle.sja_bus.specs.Buses.{BusValue}
+use Rattle.sja_wire.specs.Buses.{BusValue}
 use Rattle.sja_bus.proofs.AllNodes.Running.{bus_run}
 use Rattle.sja_bus.proofs.bus.Bus.bits_run.Goals as goal
 

@@ -2,7 +2,7 @@ use Rattle.std.proofs.Common.{◌≡◌, ℕ, ◌<◌, None, List, length, map, 
 use Rattle.std.specs.Prelude.{slice_index_or}
 use Rattle.sja_link.specs.declared.entry.Entry.{Entry}
 use Rattle.sja_wire.specs.declared.node_log.NodeLog.{NodeLog}
-use Rattle.sja_bus.specs.Buses.{BusValue}
+use Rattle.sja_wire.specs.Buses.{BusValue}
 use Rattle.sja_wire.specs.Lawful.{IsBusRun, CountersAre}
 use Rattle.sja_bus.proofs.AllNodes.Running.{bus_run}
 use Rattle.sja_bus.proofs.WholeBus.Logs.{logs_journals, logs_counters}

@@ -5,10 +5,10 @@ use Rattle.lemmas.proofs.Related.{each_refl}
 use Rattle.sja_bus.specs.declared.seat.Seat.{Seat}
 use Rattle.sja_wire.specs.Lawful.{IsBusRun}
 use Rattle.sja_wire.specs.OneBit.{MayHaveItems}
-use Rattle.sja_bus.specs.Buses.{BusValue, EachJournal, EachUntold, AllDry}
+use Rattle.sja_wire.specs.Buses.{BusValue, EachJournal, EachUntold, AllDry}
 use Rattle.sja_bus.specs.Inside.Rows.{journals_of, untold_of, EachSeat, SeatTakes, SeatUntold}
 use Rattle.sja_bus.specs.Inside.Whole.{IsWhole}
-use Rattle.sja_bus.specs.Reasons.{room_for, IsTakenAndRefused}
+use Rattle.sja_wire.specs.Reasons.{room_for, IsTakenAndRefused}
 use Rattle.sja_bus.specs.Inside.Refusing.{HaveRoom, SeatRefuses}
 use Rattle.sja_bus.proofs.AllNodes.Running.{wired_taken, bus_run}
 use Rattle.sja_bus.proofs.AllNodes.Journals.{all_items, all_dry, all_untold, calm_taken}

@@ -1,7 +1,7 @@
 use Rattle.std.proofs.Common.{◌≡◌, Bool, true, false, refl, sym, subst}
 use Rattle.std.specs.Prelude.{not}
 use Rattle.sja_script.specs.Striking.{Strikes}
-use Rattle.sja_bus.specs.Buses.{BusValue}
+use Rattle.sja_wire.specs.Buses.{BusValue}
 use Rattle.sja_bus.proofs.bus.Bus.is_struck_next.Goals as goal
 
 pub returns-then-self-gt0-clause-no : goal.returns-then-self-gt0-clause-no

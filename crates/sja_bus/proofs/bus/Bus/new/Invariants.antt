@@ -1,5 +1,5 @@
 use Rattle.std.proofs.Common.{◌≡◌, length, vec_len, vec_capacity}
-use Rattle.sja_bus.specs.Reasons.{room_for}
+use Rattle.sja_wire.specs.Reasons.{room_for}
 use Rattle.sja_bus.specs.Inside.Refusing.{HaveRoom}
 use Rattle.sja_bus.proofs.WholeBus.Logs.{AreNew}
 use Rattle.sja_bus.proofs.bus.Bus.new.Given as goal

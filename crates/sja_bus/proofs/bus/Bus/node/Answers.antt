@@ -6,7 +6,7 @@ use Rattle.sja_link.specs.declared.entry.Entry.{Entry}
 use Rattle.sja_link.specs.Records.{record_of}
 use Rattle.sja_wire.specs.Wire.{journal_at}
 use Rattle.sja_bus.specs.declared.seat.Seat.{Seat}
-use Rattle.sja_bus.specs.Buses.{BusValue}
+use Rattle.sja_wire.specs.Buses.{BusValue}
 use Rattle.sja_bus.specs.Inside.Rows.{journals_of}
 use Rattle.sja_bus.specs.Inside.Seats.{IsSound}
 use Rattle.sja_bus.proofs.AllNodes.Running.{count_is, journal_is}

@@ -2,7 +2,7 @@ use Rattle.std.proofs.Common.{◌≡◌, ◌≢◌, ap, ◌+◌, ◌∙◌, ℕ,
 use Rattle.std.specs.Prelude.{Result, Ok, IfOk}
 use Rattle.sja_wire.specs.declared.bus_fault.BusFault.{BusFault}
 use Rattle.sja_wire.specs.OneBit.{MayHaveItems}
-use Rattle.sja_bus.specs.Buses.{BusValue, AllTold, EachJournal, EachUntold}
+use Rattle.sja_wire.specs.Buses.{BusValue, AllTold, EachJournal, EachUntold}
 use Rattle.sja_bus.specs.Stretches.{IsStretch, IsOutOfEntries}
 use Rattle.sja_bus.specs.Inside.AtOnce.{RunsAtOnce}
 use Rattle.lemmas.proofs.Results.{err_map}

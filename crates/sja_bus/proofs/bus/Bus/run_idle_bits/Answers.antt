@@ -4,7 +4,7 @@ use Rattle.std.proofs.lemmas.Grind.{common_steps}
 use Rattle.std.specs.Prelude.{◌⊎◌, vec_capacity}
 use Rattle.sja_regs.specs.declared.orders.Orders.{Orders}
 use Rattle.sja_bus.specs.declared.seat.Seat.{Seat}
-use Rattle.sja_bus.specs.Buses.{BusValue}
+use Rattle.sja_wire.specs.Buses.{BusValue}
 use Rattle.sja_script.specs.Striking.{Strikes}
 use Rattle.sja_bus.specs.Stretches.{IsStretch, EndsStretch, IsOutOfEntries}
 use Rattle.sja_bus.specs.Inside.Rows.{journals_of, untold_of, IsBus}
@@ -12,13 +12,15 @@ use Rattle.sja_bus.specs.Inside.Whole.{IsWhole}
 use Rattle.sja_bus.specs.Inside.AtOnce.{RunsAtOnce}
 use Rattle.sja_bus.specs.Inside.Idling.{AreResting, IsOneAwake, IsFullBy, all_after}
 use Rattle.sja_bus.specs.Inside.Refusing.{HaveRoom}
-use Rattle.sja_bus.specs.Reasons.{room_for}
+use Rattle.sja_wire.specs.Reasons.{room_for}
 use Rattle.sja_bus.proofs.WholeBus.Logs.{none_untold}
 use Rattle.sja_bus.proofs.AllNodes.RanOn.{bus_with}
 use Rattle.sja_bus.proofs.AllNodes.Running.{count_is}
 use Rattle.sja_bus.proofs.Resting.Rests.{ends_awake}
-use Rattle.sja_bus.proofs.Resting.Stretches.{after_untold, room_after, bus_after, stretch_after, ends_quiet}
-use Rattle.sja_bus.proofs.Resting.Stretches.{out_of_entries}
+use Rattle.sja_bus.proofs.Resting.Stretches.{after_untold, room_after}
+use Rattle.sja_bus.proofs.Resting.WholeStretches.{bus_after, stretch_after}
+use Rattle.sja_bus.proofs.Resting.WholeStretches.{ends_quiet}
+use Rattle.sja_bus.proofs.Resting.WholeStretches.{out_of_entries}
 use Rattle.sja_bus.proofs.bus.Bus.run_idle_bits.Goals.{After-all_enter_idle_bits, In-Ok}
 use Rattle.sja_bus.proofs.bus.Bus.run_idle_bits.Goals.{then-bits-eq0-via-then-bits-eq0}
 use Rattle.sja_bus.proofs.bus.Bus.run_idle_bits.Goals.{then-bits-eq0-via-else-bits-eq0+then-not-are_resting}

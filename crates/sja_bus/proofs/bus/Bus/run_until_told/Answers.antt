@@ -5,9 +5,9 @@ use Rattle.std.specs.Prelude.{◌⊎◌, None, Result, Ok, Err, vec_capacity}
 use Rattle.sja_script.specs.Striking.{Strikes}
 use Rattle.sja_wire.specs.declared.bus_fault.BusFault.{BusFault}
 use Rattle.sja_bus.specs.declared.seat.Seat.{Seat}
-use Rattle.sja_bus.specs.Buses.{BusValue}
+use Rattle.sja_wire.specs.Buses.{BusValue}
 use Rattle.sja_bus.specs.Moment.{moment}
-use Rattle.sja_bus.specs.Reasons.{room_for}
+use Rattle.sja_wire.specs.Reasons.{room_for}
 use Rattle.sja_bus.specs.Inside.Refusing.{HaveRoom}
 use Rattle.sja_bus.specs.Inside.Rows.{AreSeated, journals_of}
 use Rattle.sja_bus.specs.UntilTold.{RunsNone, WorksUntold}

@@ -1,6 +1,6 @@
 use Rattle.std.proofs.Common.{◌≤◌, ap, arith}
 use Rattle.std.specs.Prelude.{vec_capacity}
-use Rattle.sja_bus.specs.Buses.{BusValue}
+use Rattle.sja_wire.specs.Buses.{BusValue}
 use Rattle.sja_bus.proofs.WholeBus.Striking.{whole_after}
 use Rattle.sja_bus.proofs.bus.Bus.strike.Goals as goal
 

@@ -8,7 +8,7 @@ use Rattle.sja_bus.proofs.AtPorts.Applying.{applied_running, applied_resting, ap
 use Rattle.sja_bus.proofs.Journal.Steps.{follows_abort}
 use Rattle.sja_bus.specs.declared.untold.Untold.TheVariants.{Changed, Dropped as DroppedUntold}
 use Rattle.sja_bus.proofs.AtPorts.Aborting.{marked_leaves, dropped_leaves}
-use Rattle.sja_bus.proofs.AtPorts.Turning.{aborts_none, aborts_one}
+use Rattle.sja_bus.proofs.AtPorts.TurnsTold.{aborts_none, aborts_one}
 use Rattle.sja_bus.proofs.Journal.Reading.{reads_abort}
 use Rattle.lemmas.proofs.Results.{ok_map, err_on}
 use Rattle.sja_bus.proofs.seat.Seat.abort.Goals.{After-abort}

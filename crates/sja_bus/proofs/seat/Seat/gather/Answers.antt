@@ -2,13 +2,14 @@ use Rattle.std.proofs.Common.{◌≡◌, suc, ◌+◌, ◌<◌, ◌≤◌, lengt
 use Rattle.std.specs.Prelude.{Err, slice_set}
 use Rattle.sja_link.specs.BusLedgers.{link_of}
 use Rattle.lemmas.proofs.Related.{each_at}
-use Rattle.sja_bus.specs.Reasons.{RefusesItem}
+use Rattle.sja_wire.specs.Reasons.{RefusesItem}
 use Rattle.lemmas.proofs.Results.{err_is}
 use Rattle.sja_bus.proofs.Links.AtLinks.{stays_refl, stays_trans, stays_one}
-use Rattle.sja_bus.proofs.Links.Moving.{goes_refl, goes_trans, goes_one}
+use Rattle.sja_wire.proofs.Moving.{goes_refl, goes_trans, goes_one}
 use Rattle.sja_bus.proofs.ItemsTaken.Refusing.{refuses_link}
-use Rattle.sja_bus.proofs.AllNodes.NodeBit.{items_none, items_push}
-use Rattle.sja_bus.proofs.AtPorts.Turning.{takes_one}
+use Rattle.sja_wire.proofs.Journal.Items.{items_none}
+use Rattle.sja_bus.proofs.AllNodes.NodeBit.{items_push}
+use Rattle.sja_bus.proofs.AtPorts.TurnsTold.{takes_one}
 use Rattle.sja_bus.proofs.seat.Seat.gather.Goals as goal
 
 pub loop-self-init : goal.loop-self-init

@@ -10,10 +10,10 @@ use Rattle.sja_bus.specs.declared.activity.Activity.TheVariants.{Off as Activity
 use Rattle.sja_bus.specs.declared.seat.Seat.{Seat}
 use Rattle.sja_bus.specs.Inside.Following.{Follows, Reads, open_in}
 use Rattle.sja_bus.specs.Inside.Taking.{GaveBack}
-use Rattle.sja_bus.proofs.Journal.Steps.{follows_off}
+use Rattle.sja_bus.proofs.Journal.BitSteps.{follows_off}
 use Rattle.sja_bus.proofs.Journal.Parted.{stands_at}
 use Rattle.sja_bus.proofs.Journal.Reading.{reads_off, runs_at}
-use Rattle.sja_bus.proofs.Links.Moving.{moves_push}
+use Rattle.sja_wire.proofs.Moving.{moves_push}
 use Rattle.lemmas.proofs.Results.{ok_map}
 use Rattle.sja_bus.proofs.seat.Seat.go_off.Goals as goal
 

@@ -1,7 +1,7 @@
 use Rattle.std.proofs.Common.{append-nil, ◌≡◌, ℕ, true, false, refl, sym, ◌∙◌, subst, inr}
 use Rattle.sja_bus.proofs.ItemsTaken.Breaking.{full_for_abort}
-use Rattle.sja_bus.proofs.Links.Moving.{goes_trans, goes_aborted}
-use Rattle.sja_bus.proofs.AtPorts.Turning.{aborts_none, takes_then}
+use Rattle.sja_wire.proofs.Moving.{goes_trans, goes_aborted}
+use Rattle.sja_bus.proofs.AtPorts.TurnsTold.{aborts_none, takes_then}
 use Rattle.sja_link.specs.BusLedgers.{link_of}
 use Rattle.lemmas.proofs.Results.{ok_map, err_both}
 use Rattle.sja_bus.proofs.seat.Seat.open_bit.Goals as goal

@@ -4,9 +4,9 @@ use Rattle.sja_bus.specs.declared.seat.Seat.{Seat}
 use Rattle.sja_bus.specs.Inside.Seats.{IsReady}
 use Rattle.sja_bus.specs.Inside.Turning.{Turns}
 use Rattle.lemmas.proofs.Related.{each_refl}
-use Rattle.sja_bus.proofs.Links.Moving.{goes_quiet}
+use Rattle.sja_wire.proofs.Moving.{goes_quiet}
 use Rattle.sja_link.specs.BusLedgers.{link_of}
-use Rattle.sja_bus.proofs.AtPorts.Turning.{quiet_turns, full_turns}
+use Rattle.sja_bus.proofs.AtPorts.TurnsTold.{quiet_turns, full_turns}
 use Rattle.sja_bus.proofs.seat.Seat.sample.Goals.{else-may_sample_quietly-via-else-may_sample_quietly}
 use Rattle.sja_bus.proofs.seat.Seat.sample.Goals as goal
 

@@ -11,7 +11,7 @@ use Rattle.sja_bus.proofs.Links.Seating.{reads_by, follows_by}
 use Rattle.sja_bus.proofs.AllNodes.NodeBit.{received_quiet, received_judged, has_alone, has_judged}
 use Rattle.sja_bus.proofs.Journal.Parted.{stands_at}
 use Rattle.sja_bus.proofs.Journal.Reading.{reads_quiet, reads_swap, runs_at}
-use Rattle.sja_bus.proofs.Links.Moving.{moves_quiet}
+use Rattle.sja_wire.proofs.Moving.{moves_quiet}
 use Rattle.std.specs.Prelude.{Err}
 use Rattle.sja_bus.specs.Inside.Taking.{BreaksHere, IsJudgedShort}
 use Rattle.sja_bus.proofs.ItemsTaken.Breaking.{breaks_by}

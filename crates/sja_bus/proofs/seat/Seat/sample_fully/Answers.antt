@@ -6,7 +6,7 @@ use Rattle.lemmas.proofs.Related.{each_refl}
 use Rattle.lemmas.proofs.Results.{ok_map, err_map}
 use Rattle.sja_bus.proofs.Links.AtLinks.{stays_one}
 use Rattle.sja_bus.proofs.ItemsTaken.Breaking.{broken_link, broken_short}
-use Rattle.sja_bus.proofs.Links.Moving.{goes_one, goes_quiet}
+use Rattle.sja_wire.proofs.Moving.{goes_one, goes_quiet}
 use Rattle.sja_bus.proofs.AllNodes.NodeBit.{rest_brings}
 use Rattle.sja_bus.proofs.seat.Seat.sample_fully.Goals as goal
 

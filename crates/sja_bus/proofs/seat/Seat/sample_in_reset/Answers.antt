@@ -6,7 +6,7 @@ use Rattle.can_node.specs.declared.node.Node.{Node}
 use Rattle.can_node.specs.Stands.{Samples}
 use Rattle.sja_bus.specs.declared.seat.Seat.{Seat}
 use Rattle.sja_bus.specs.Inside.Following.{FollowsBit}
-use Rattle.sja_bus.proofs.Journal.Steps.{follows_bit, follows_on}
+use Rattle.sja_bus.proofs.Journal.BitSteps.{follows_bit, follows_on}
 use Rattle.sja_bus.proofs.Journal.Reading.{reads_quiet}
 use Rattle.sja_bus.proofs.ItemsTaken.OutOfRoom.{bit_short}
 use Rattle.std.specs.Prelude.{Err}

@@ -4,10 +4,10 @@ use Rattle.sja_bus.specs.Inside.Following.{FollowsBit}
 use Rattle.sja_wire.specs.Links.{Moves}
 use Rattle.sja_bus.specs.Inside.Seats.{IsMid}
 use Rattle.sja_bus.specs.Inside.Taking.{BreaksHere}
-use Rattle.sja_bus.proofs.Links.Moving.{moves_trans}
+use Rattle.sja_wire.proofs.Moving.{moves_trans}
 use Rattle.sja_bus.proofs.ItemsTaken.Breaking.{breaks_after}
 use Rattle.sja_bus.proofs.ItemsTaken.OutOfRoom.{off_short}
-use Rattle.sja_bus.proofs.Journal.Steps.{follows_on}
+use Rattle.sja_bus.proofs.Journal.BitSteps.{follows_on}
 use Rattle.sja_bus.proofs.AllNodes.NodeBit.{has_on, has_off}
 use Rattle.lemmas.proofs.Results.{err_is}
 use Rattle.sja_bus.proofs.seat.Seat.sample_running.Goals as goal

@@ -1,10 +1,10 @@
 use Rattle.std.proofs.Common.{rules, ◌≡◌, Ok, Err, true, suc, subst}
 use Rattle.sja_wire.specs.declared.bus_fault.BusFault.{BusFault}
 use Rattle.sja_link.specs.declared.link_id.LinkId.{LinkId}
-use Rattle.sja_bus.specs.Reasons.{IsRefusedFor}
+use Rattle.sja_wire.specs.Reasons.{IsRefusedFor}
 use Rattle.sja_bus.specs.Inside.Taking.{RefusesHere}
 use Rattle.sja_link.specs.declared.entry.Entry.TheVariants.{Up as Item}
-use Rattle.sja_bus.proofs.Links.Moving.{moves_push}
+use Rattle.sja_wire.proofs.Moving.{moves_push}
 use Rattle.lemmas.proofs.Results.{err_is}
 use Rattle.sja_bus.proofs.seat.Seat.take.Goals as goal
 
