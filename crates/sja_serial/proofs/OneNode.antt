@@ -1,22 +1,7 @@
 -- One node, as its driver goes on and as bits run.
-pub mod Settings
-pub mod Ports
-pub mod Trying
-pub mod Asked
-pub mod Counting
-pub mod After
-pub mod Ported
-pub mod Gathered
-pub mod Done
-pub mod Shown
-pub mod StillShown
-pub mod Turned
 pub mod Standing
 pub mod Tried
-pub mod Room
-pub mod Refused
-pub mod InOrder
 pub mod Taken
-pub mod Quiet
 pub mod NextStep
 pub mod Observed
+pub mod Quiet

@@ -5,7 +5,7 @@ use Rattle.sja_plan.specs.declared.turn.Turn.{Turn}
 use Rattle.sja_plan.specs.declared.turn.Turn.TheVariants.{Bus, Rest, Node}
 use Rattle.sja_driver.specs.Deeds.{Deed}
 use Rattle.sja_log.specs.declared.end.End.{End}
-use Rattle.sja_log.specs.InTime.{IsInTime}
+use Rattle.sja_driver.specs.InTime.{IsInTime}
 use Rattle.sja_log.specs.Log.{NodeValue, RunValue, journals_in}
 use Rattle.sja_log.specs.Registering.{HaveRegisters}
 use Rattle.sja_log.specs.Runs.{IsRun}

@@ -1,23 +1,23 @@
 -- A run in one thread, between two turns (this project's own rule).
 use Rattle.std.specs.Prelude.{◌≡◌, ◌≢◌, ◌+◌, ◌*◌, ◌<◌, ◌≤◌, ◌++◌, ◌⊎◌, ℕ, false, Option, None, List}
-use Rattle.std.specs.Prelude.{length, slice_index_or, slice_set}
+use Rattle.std.specs.Prelude.{length, slice_index_or}
 use Rattle.sja_link.specs.declared.up.Up.{Up}
 use Rattle.sja_link.specs.declared.entry.Entry.{Entry}
 use Rattle.sja_link.specs.Deques.{Deques}
-use Rattle.sja_bus.specs.Buses.{BusValue, untold_at}
+use Rattle.sja_wire.specs.Buses.{BusValue, untold_at}
 use Rattle.sja_wire.specs.Links.{Numbered}
-use Rattle.sja_wire.specs.OneBit.{entries_of_items}
+use Rattle.sja_wire.specs.OneBit.{HasMore}
 use Rattle.sja_wire.specs.Wire.{journal_at}
 use Rattle.sja_plan.specs.Plan.{PlanValue, steps_at}
 use Rattle.sja_regs.specs.declared.bus_turn.BusTurn.{BusTurn}
 use Rattle.sja_regs.specs.declared.registers.Registers.{Registers}
 use Rattle.sja_script.specs.declared.step.Step.{Step}
 use Rattle.sja_driver.specs.declared.logged_driver.LoggedDriver.{LoggedDriver}
-use Rattle.sja_driver.specs.Deeds.{Deed, deeds_at}
+use Rattle.sja_driver.specs.Deeds.{Deed, deeds_at, with_deeds}
 use Rattle.sja_driver.specs.LoggedDrivers.{node_of}
-use Rattle.sja_serial.specs.Nodes.{IsNode}
-use Rattle.sja_serial.specs.Shown.{ShowsRecord}
-use Rattle.sja_serial.specs.Waiting.{HasToWait}
+use Rattle.sja_log.specs.Nodes.{IsNode}
+use Rattle.sja_driver.specs.Shown.{ShowsRecord}
+use Rattle.sja_log.specs.Waiting.{HasToWait}
 
 -- what a contract sees of a run: its bus; the drivers, their ports, the turn that each port was told last and that
 -- wasn't taken yet, and their links, by node; and the bits that were run
@@ -70,15 +70,6 @@ pub record StandsAt (plan : PlanValue) (r : SerialValue) (deeds : List (List Dee
 -- there are such deeds
 abbrev pub IsRunOf : PlanValue → SerialValue → Type 0
 IsRunOf plan r = (deeds : List (List Deed)) × StandsAt plan r deeds
-
--- with deeds more of one node
-abbrev pub with_deeds : List (List Deed) → ℕ → List Deed → List (List Deed)
-with_deeds deeds node more = slice_set deeds node (deeds_at deeds node ++ more)
-
--- a journal has these items more, and nothing else
-pub record HasMore (j k : List Entry) : Type 0 where
-  pub items : List Up
-  pub whole : k ≡ j ++ entries_of_items items
 
 -- these deeds were done then: the driver of this node did them after the bits that had run, and no bit was run, so no
 -- port was told a turn; the journals have items more

@@ -8,7 +8,7 @@ use Rattle.sja_script.specs.declared.step.Step.{Step}
 use Rattle.sja_driver.specs.Carried.{Tells, carried, ported}
 use Rattle.sja_driver.specs.Deeds.{Deed, deeds_at, opened_by, is_active, FitsState}
 use Rattle.sja_log.specs.Registering.{seen_now}
-use Rattle.sja_log.specs.Windows.{SeesIf}
+use Rattle.sja_driver.specs.Windows.{SeesIf}
 use Rattle.sja_serial.specs.Serial.{SerialValue, NodeDoes, CannotStep}
 
 -- the driver of a node did the next step of its plan: one deed more, answered by its state, by the registers of its

@@ -1,7 +1,7 @@
 -- Bits of a run in one thread up to the first in which a port is told its turn (this project's own rule).
 use Rattle.std.specs.Prelude.{◌≡◌, ◌<◌, ℕ, suc, Bool, true, Some, List, length}
 use Rattle.sja_bus.specs.Boards.{HasOrders, WasTold, WasKept, turn_at}
-use Rattle.sja_bus.specs.Buses.{EachJournal, IsBit}
+use Rattle.sja_wire.specs.Buses.{EachJournal, IsBit}
 use Rattle.sja_bus.specs.UntilTold.{HasBitsMore}
 use Rattle.sja_plan.specs.Plan.{PlanValue}
 use Rattle.sja_driver.specs.Deeds.{Deed}

@@ -1,7 +1,7 @@
 //! [`run_serial`]: a whole run in one thread.
 
 ghost use Rattle.std.specs.Prelude.{◌≡◌, List, [], length, replicate, IfOk, IfErr};
-ghost use Rattle.sja_bus.specs.Buses.{new_bus};
+ghost use Rattle.sja_wire.specs.Buses.{new_bus};
 ghost use Rattle.sja_driver.specs.Deeds.{Deed};
 ghost use Rattle.sja_plan.specs.Plan.{NamesNode, step_counts};
 ghost use Rattle.sja_log.specs.Headline.{AreAccounts};

@@ -42,7 +42,7 @@ impl Model for SerialRun {
 
 impl SerialRun {
     ghost use Rattle.std.specs.Prelude.{◌≡◌, None, [], length, replicate, IfOk};
-    ghost use Rattle.sja_bus.specs.Buses.{new_bus};
+    ghost use Rattle.sja_wire.specs.Buses.{new_bus};
     ghost use Rattle.sja_plan.specs.Plan.{step_counts};
     ghost use Rattle.sja_serial.specs.Serial.{StandsAt};
 

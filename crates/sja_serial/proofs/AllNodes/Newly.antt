@@ -1,13 +1,13 @@
 -- A run before its first turn.
-use Rattle.std.proofs.Common.{◌≡◌, ℕ, zero, suc, ◌+◌, ◌*◌, ◌<◌, ◌≤◌, List, [], ◌∷◌, ◌++◌, length, refl, sym}
+use Rattle.std.proofs.Common.{◌≡◌, ℕ, zero, suc, ◌+◌, ◌*◌, ◌<◌, List, [], ◌∷◌, ◌++◌, length, refl, sym}
 use Rattle.std.proofs.Common.{ap, ◌∙◌, subst, arith, inl, inr}
 use Rattle.std.specs.Prelude.{Option, None, not, replicate, slice_index_or}
-use Rattle.std.proofs.lemmas.List.{get_or-map}
+use Rattle.std.proofs.lemmas.List.{get_or-map, get_or_append_left}
 use Rattle.std.proofs.lemmas.Bool.{cases_eq}
 use Rattle.sja_link.specs.Accounts.{account}
 use Rattle.sja_link.specs.Deques.{Deques, Lies}
 use Rattle.sja_link.specs.declared.entry.Entry.{Entry}
-use Rattle.sja_bus.specs.Buses.{BusValue, new_bus}
+use Rattle.sja_wire.specs.Buses.{BusValue, new_bus}
 use Rattle.sja_bus.specs.NewLinks.{AreNewLinks, new_link}
 use Rattle.sja_wire.specs.Wire.{journal_at}
 use Rattle.sja_plan.specs.Plan.{PlanValue}
@@ -17,45 +17,36 @@ use Rattle.sja_regs.specs.Registers.{at_power_on}
 use Rattle.sja_script.specs.declared.strike.Strike.{Strike}
 use Rattle.sja_script.specs.declared.step.Step.{Step}
 use Rattle.sja_driver.specs.declared.logged_driver.LoggedDriver.{LoggedDriver}
-use Rattle.sja_driver.specs.declared.work_log.WorkLog.{WorkLog}
 use Rattle.sja_driver.specs.Deeds.{Deed, given_in, deeds_of}
 use Rattle.sja_driver.specs.LoggedDrivers.{driver_of, log_of}
-use Rattle.sja_driver.specs.Logs.{HasRoom}
 use Rattle.sja_log.specs.Registering.LeadTo.{power_on}
 use Rattle.sja_serial.specs.Beginning.{IsNewDriver, AreNew}
-use Rattle.sja_serial.specs.Nodes.{IsNode}
+use Rattle.sja_log.specs.Nodes.{IsNode}
 use Rattle.sja_serial.specs.Serial.{run_now, StandsAt}
 use Rattle.sja_driver.specs.Deeds.{deeds_at}
 use Rattle.sja_plan.specs.Plan.{steps_at, step_counts}
-use Rattle.sja_serial.specs.Shown.{ShowsRecord}
-use Rattle.lemmas.proofs.Pushed.{push_here, push_front}
+use Rattle.sja_driver.specs.Shown.{ShowsRecord}
+use Rattle.lemmas.proofs.Lists.{push_here}
 use Rattle.sja_driver.proofs.Step.NothingDone.{nothing_known, nothing_told}
+use Rattle.sja_driver.proofs.LogOfSteps.Logged.{room_less}
 use Rattle.can_node.proofs.Requests.Cuts.{none_held_first}
-use Rattle.sja_serial.proofs.OneNode.Shown.{shows_first}
+use Rattle.sja_driver.proofs.OneNode.Shown.{shows_first}
 
 -- one driver more
 pub new_push : (plan : PlanValue) (n : ℕ) (ds : List LoggedDriver) (x : LoggedDriver) → length ds ≡ n →
     AreNew plan n ds → IsNewDriver n (length (steps_at plan n)) x → AreNew plan (n + 1) (ds ++ x ∷ [])
 new_push plan n ds x len made is node d less = elim (cases_eq n node) [
   | inl e ↦
-      let at : slice_index_or (ds ++ x ∷ []) node d ≡ x = ap (λ m. slice_index_or (ds ++ x ∷ []) m d) (sym (len ∙ e))
-      ∙ push_here ds x d in
+      let at : slice_index_or (ds ++ x ∷ []) node d ≡ x = push_here ds x d node (sym (len ∙ e)) in
       subst (λ (y : LoggedDriver). IsNewDriver node (length (steps_at plan node)) y) (sym at)
       (subst (λ (m : ℕ). IsNewDriver m (length (steps_at plan m)) x) e is)
   | inr differ ↦
       subst (λ (y : LoggedDriver). IsNewDriver node (length (steps_at plan node)) y)
-      (sym (push_front ds x d node (omega (arith, len, less, differ)))) (made node d (omega (arith, less, differ)))
+      (sym (get_or_append_left ds (x ∷ []) d node (omega (arith, len, less, differ))))
+      (made node d (omega (arith, less, differ)))
 ]
 
 -- ---- a node
-
-room_less : (k n : ℕ) (log : WorkLog) → k ≤ n → HasRoom n log → HasRoom k log
-room_less k n log less h =
-    let a = h.done in let b = h.releases in record {
-      done = omega (arith, a, less);
-      releases = omega (arith, b, less);
-      left = h.left;
-    }
 
 pub new_node : (version node : ℕ) (steps : List Step) (x : LoggedDriver) (links : List Deques) (base : ℕ) →
     IsNewDriver node (length steps) x →

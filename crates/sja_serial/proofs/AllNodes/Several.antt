@@ -14,9 +14,11 @@ use Rattle.sja_driver.specs.declared.logged_driver.LoggedDriver.{LoggedDriver}
 use Rattle.sja_driver.specs.Deeds.{Deed, done_of}
 use Rattle.sja_driver.specs.LoggedDrivers.{log_of}
 use Rattle.sja_driver.specs.Logs.{done_in}
-use Rattle.sja_serial.specs.Serial.{SerialValue, StandsAt, HasMore, NodeDoes, CannotStep, TakesTurn, with_deeds}
+use Rattle.sja_serial.specs.Serial.{SerialValue, StandsAt, NodeDoes, CannotStep, TakesTurn}
+use Rattle.sja_wire.specs.OneBit.{HasMore}
+use Rattle.sja_driver.specs.Deeds.{with_deeds}
 use Rattle.sja_driver.specs.Deeds.{deeds_at}
-use Rattle.sja_serial.proofs.AllNodes.Slices.{no_deeds}
+use Rattle.sja_driver.proofs.OneNode.Slices.{no_deeds}
 
 set_twice : {A : Type 0} (xs : List A) (i : ℕ) (y z : A) → slice_set (slice_set xs i y) i z ≡ slice_set xs i z
 set_twice [] i y z = refl

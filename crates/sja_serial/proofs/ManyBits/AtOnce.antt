@@ -8,7 +8,7 @@ use Rattle.sja_link.specs.Deques.{Deques, Lies}
 use Rattle.lemmas.specs.Related.{EachRelated}
 use Rattle.sja_regs.specs.Registers.{at_power_on}
 use Rattle.sja_bus.specs.Boards.{HasOrders}
-use Rattle.sja_bus.specs.Buses.{EachJournal, KeepsAll, EachUntold}
+use Rattle.sja_wire.specs.Buses.{EachJournal, KeepsAll, EachUntold}
 use Rattle.sja_wire.specs.Lawful.{IsBusRun}
 use Rattle.sja_wire.specs.OneBit.{MayHaveItems}
 use Rattle.sja_wire.specs.Links.{per_node, Kept}
@@ -17,14 +17,14 @@ use Rattle.sja_wire.specs.Wire.{journal_at}
 use Rattle.sja_bus.proofs.Resting.QuietBits.{lists_same}
 use Rattle.sja_plan.specs.Plan.{PlanValue}
 use Rattle.sja_driver.specs.Deeds.{Deed, given_in, deeds_of}
-use Rattle.sja_log.proofs.Trace.Stepping.{given_taken}
+use Rattle.sja_driver.proofs.Trace.Stepping.{given_taken}
 use Rattle.sja_serial.specs.Bits.{TakesBits, TakesAtOnce}
 use Rattle.sja_serial.specs.Serial.{SerialValue, StandsAt, run_now}
 use Rattle.sja_serial.specs.UntilTold.{NotesTurn, KeepsTurn}
 use Rattle.sja_driver.specs.Deeds.{deeds_at}
 use Rattle.sja_serial.proofs.OneBit.BitRun.{some_of}
-use Rattle.sja_serial.proofs.OneNode.Gathered.{no_link}
-use Rattle.sja_log.proofs.Account.Dry.{none_taken}
+use Rattle.sja_log.proofs.OneNode.Gathered.{no_link}
+use Rattle.sja_driver.proofs.Account.Dry.{none_taken}
 use Rattle.sja_serial.proofs.WholeRun.GoingOn.{stands_bits}
 use Rattle.sja_serial.proofs.OneNode.Standing.{none_untold}
 use Rattle.sja_serial.proofs.ManyBits.StillBits.{with_none, keeps_still, run_at, stands_still, all_at_once}

@@ -1,5 +1,5 @@
 -- Bits that a bus ran one after another: each of them is a bit of the run.
-use Rattle.std.proofs.Common.{◌≡◌, ℕ, ◌+◌, ◌≤◌, Bool, true, List, [], length, refl, sym, ap, ◌∙◌, subst, arith}
+use Rattle.std.proofs.Common.{◌≡◌, ℕ, ◌+◌, ◌≤◌, Bool, true, false, List, [], length, refl, sym, ap, ◌∙◌, subst, arith}
 use Rattle.std.specs.Prelude.{None}
 use Rattle.sja_link.specs.declared.bus_end.BusEnd.{Ghosts as Ends}
 use Rattle.sja_link.specs.Deques.{Deques, Lies}
@@ -8,7 +8,7 @@ use Rattle.sja_wire.specs.declared.bus_fault.BusFault.{BusFault}
 use Rattle.sja_bus.specs.declared.noting_board.NotingBoard.{NotingBoard}
 use Rattle.sja_bus.specs.Boards.{HasOrders, HasFacts, NotesTurn, ShowsNoted, ShutsNoted, KeepsNoted}
 use Rattle.sja_wire.specs.Lawful.{IsBusRun}
-use Rattle.sja_bus.specs.Buses.{BusValue}
+use Rattle.sja_wire.specs.Buses.{BusValue}
 use Rattle.sja_bus.specs.Moment.{Moment, OneBit, moment}
 use Rattle.sja_bus.specs.Several.{BitInOrder, AreBits, WorksIf, BreaksOff}
 use Rattle.sja_bus.specs.Several.AreBits.{no_bit as none_run, one_more as one_run}
@@ -20,7 +20,7 @@ use Rattle.sja_serial.specs.Bits.{TakesBits, SomeWorks}
 use Rattle.sja_serial.specs.Serial.{SerialValue, StandsAt, IsRunOf, run_now}
 use Rattle.sja_serial.specs.UntilTold.{TellsBit, TellsBits, WorksUntold as WorksUntoldInRun}
 use Rattle.sja_serial.specs.UntilTold.TellsBits.{no_bit, one_more}
-use Rattle.sja_serial.proofs.OneBit.OtherWords.{noted_bit}
+use Rattle.sja_bus.proofs.AtPorts.OtherWords.{noted_bit}
 use Rattle.sja_serial.proofs.OneBit.BitRun.{cuts_of, tells_bit}
 use Rattle.sja_serial.proofs.WholeRun.GoingOn.{bits_run}
 use Rattle.sja_serial.proofs.ManyBits.Borrowed.{run_is, lawful_there}
@@ -70,12 +70,32 @@ pub record IsKind (plan : PlanValue) (One : ℕ → SerialMoment → SerialMomen
   pub holds : (deeds : List (List Deed)) (drivers : List LoggedDriver) (first m : SerialMoment) →
       StandsAt plan (run_then drivers m) deeds → Before first m → After (run_then drivers first) (run_then drivers m)
 
--- those before which some node works
-pub busy : (plan : PlanValue) → IsKind plan NthBit (λ first. WorksIf true) (λ first. SomeWorks plan)
-busy plan = record {
+-- whether a call ends at rest, as a number
+abbrev pub ends_at_rest : Bool → ℕ
+ends_at_rest false = 0
+ends_at_rest true = 1
+
+rests : (to_rest : Bool) → ends_at_rest to_rest ≡ 1 → to_rest ≡ true
+rests false some = absurd (omega (arith, some))
+rests true some = refl
+
+-- those before which some node works, where that is asked for
+pub busy : (plan : PlanValue) (to_rest : Bool) → ends_at_rest to_rest ≡ 1 →
+    IsKind plan NthBit (λ first. WorksIf to_rest) (λ first. SomeWorks plan)
+busy plan to_rest asked = record {
   bit = λ k was now one. one.bit;
-  holds = λ deeds drivers first m stands works. some_works plan (run_then drivers m) deeds stands (works refl);
+  holds = λ deeds drivers first m stands works.
+      some_works plan (run_then drivers m) deeds stands (works (rests to_rest asked));
 }
+
+-- those of a call, whether it ends at rest or not
+pub either : (plan : PlanValue) (to_rest : Bool) → IsKind plan NthBit (λ first. WorksIf to_rest) (λ first r. Unit {0})
+either plan to_rest = record { bit = λ k was now one. one.bit; holds = λ deeds drivers first m stands works. tt }
+
+-- whether the call that ran these ends at rest
+abbrev pub asked_in : {E B : Type 0} {One : ℕ → Moment E B → Moment E B → Type 0} (to_rest : Bool)
+    {was now : Moment E B} {n : ℕ} → AreBits One (WorksIf to_rest) was n now → Bool
+asked_in to_rest bits = to_rest
 
 -- those before which some node works, where that is asked for, and no port was told anything since the first
 pub untold : (plan : PlanValue) (to_rest : Bool) →

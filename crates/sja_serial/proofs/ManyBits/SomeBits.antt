@@ -5,7 +5,7 @@ use Rattle.std.proofs.Common.{sym, ◌∙◌, subst, arith, inl, inr}
 use Rattle.std.proofs.lemmas.Bool.{cases_lt}
 use Rattle.sja_link.specs.declared.entry.Entry.{Entry}
 use Rattle.sja_link.specs.Records.{record_of}
-use Rattle.sja_bus.specs.Buses.{BusValue}
+use Rattle.sja_wire.specs.Buses.{BusValue}
 use Rattle.sja_bus.specs.Resting.{RestsAs}
 use Rattle.sja_bus.specs.Several.{AllRest as AllAtRest}
 use Rattle.sja_wire.specs.Lawful.{IsBusRun}
@@ -113,9 +113,9 @@ some_works plan n deeds h busy = let c = h.count.journals in let l = busy.1 in (
 -- at most as many were run as are left of those that were asked for, so there were as many, or none is left, or every
 -- node is at rest
 pub busy_whole : (plan : PlanValue) (deeds : List (List Deed)) (Before : SerialValue → Type 0) (r n : SerialValue)
-    (many most count left : ℕ) → SomeBits plan deeds Before r n many → r.bits + left ≡ plan.bits →
+    (many most count left : ℕ) {Asked : Type 0} → SomeBits plan deeds Before r n many → r.bits + left ≡ plan.bits →
     most ≡ min count left →
-    (many ≡ most) ⊎ (n.bus.left ≡ 0) ⊎ ((true ≡ true) × AllAtRest n.bus.journals) →
+    (many ≡ most) ⊎ (n.bus.left ≡ 0) ⊎ (Asked × AllAtRest n.bus.journals) →
     (many ≡ count) ⊎ (plan.bits ≤ n.bits) ⊎ AllRestIn plan n
 busy_whole plan deeds Before r n many most count left s left_is most_is whole =
     let ran = s.many in let all = s.stands.all_bits in let run = s.stands.bits in elim whole [

@@ -14,35 +14,35 @@ use Rattle.sja_regs.specs.declared.orders.Orders.{Orders}
 use Rattle.sja_regs.specs.declared.registers.Registers.{Registers}
 use Rattle.sja_regs.specs.Turns.{after_turn}
 use Rattle.sja_wire.specs.Aborting.{IsApplied}
-use Rattle.sja_bus.specs.Buses.{IsNodeBit}
+use Rattle.sja_wire.specs.Buses.{IsNodeBit}
 use Rattle.sja_wire.specs.Links.{Kept, stops_of}
 use Rattle.sja_wire.specs.OneBit.{HasBit, abort_as}
 use Rattle.sja_wire.specs.Telling.{IsTurn}
 use Rattle.sja_script.specs.declared.step.Step.{Step}
 use Rattle.sja_driver.specs.declared.logged_driver.LoggedDriver.{LoggedDriver}
 use Rattle.sja_driver.specs.Deeds.{Deed, opened_by, given_in, deeds_of}
-use Rattle.sja_log.specs.Aborting.{IsCommanded, AbortIsDue, sends_taken}
-use Rattle.sja_log.specs.InTime.{IsInTime}
+use Rattle.sja_driver.specs.Aborting.{IsCommanded, AbortIsDue, sends_taken}
+use Rattle.sja_driver.specs.InTime.{IsInTime}
 use Rattle.sja_log.specs.Registering.{IsPortBit}
 use Rattle.sja_log.specs.Registering.LeadTo.{bit}
-use Rattle.sja_log.specs.Timing.{taken_when}
-use Rattle.sja_log.specs.Windows.{put_by, off_by}
-use Rattle.sja_log.proofs.Trace.Stepping.{given_taken}
+use Rattle.sja_driver.specs.Timing.{taken_when}
+use Rattle.sja_driver.specs.Windows.{put_by, off_by}
+use Rattle.sja_driver.proofs.Trace.Stepping.{given_taken}
 use Rattle.sja_serial.specs.Bits.{HasOneBit}
-use Rattle.sja_serial.specs.Linking.{IsLevel}
-use Rattle.sja_serial.specs.Nodes.{IsNode}
-use Rattle.sja_serial.specs.Porting.{IsPorted}
-use Rattle.sja_serial.specs.Shown.{ShowsRecord}
+use Rattle.sja_driver.specs.Linking.{IsLevel}
+use Rattle.sja_log.specs.Nodes.{IsNode}
+use Rattle.sja_driver.specs.Porting.{IsPorted}
+use Rattle.sja_driver.specs.Shown.{ShowsRecord}
 use Rattle.sja_log.proofs.NodeLog.Adding.{added, added_own, bit_whole, added_bits, added_put, added_due, added_off}
-use Rattle.sja_serial.proofs.OneBit.BitAsked.{HasCut, bit_asked}
-use Rattle.sja_serial.proofs.OneBit.BitCounted.{bit_counted}
+use Rattle.sja_driver.proofs.OneBit.BitAsked.{HasCut, bit_asked}
+use Rattle.sja_driver.proofs.OneBit.BitCounted.{bit_counted}
 use Rattle.sja_log.proofs.Trace.TbsAndAbort.{tbs_right}
-use Rattle.sja_serial.proofs.OneBit.BitPort.{ported_bit}
-use Rattle.sja_log.proofs.Account.Dry.{none_taken_own}
-use Rattle.sja_log.proofs.Trace.Later.{SameBy, done_more, all_see, all_carry, settings_by_then}
-use Rattle.sja_serial.proofs.OneNode.Gathered.{no_link, lies_after, linked_after}
-use Rattle.sja_serial.proofs.OneNode.Shown.{as_told, shows_told}
-use Rattle.sja_log.proofs.Account.Own.{AreOwn, own_activation, own_stopped, own_sends, own_when}
+use Rattle.sja_driver.proofs.OneBit.BitPort.{ported_bit}
+use Rattle.sja_driver.proofs.Account.Dry.{none_taken_own}
+use Rattle.sja_driver.proofs.Trace.Later.{SameBy, done_more, all_see, all_carry, settings_by_then}
+use Rattle.sja_log.proofs.OneNode.Gathered.{no_link, lies_after, linked_after}
+use Rattle.sja_driver.proofs.OneNode.Shown.{as_told, shows_told}
+use Rattle.sja_driver.proofs.Account.Own.{AreOwn, own_activation, own_stopped, own_sends, own_when}
 
 -- the orders of a port, and what it is told
 abbrev pub OrdersOf : Registers → Orders → Type 0

@@ -11,7 +11,7 @@ use Rattle.sja_regs.specs.declared.registers.Registers.{Registers}
 use Rattle.sja_regs.specs.Registers.{at_power_on}
 use Rattle.sja_regs.specs.Turns.{after_turn}
 use Rattle.sja_bus.specs.Boards.{HasOrders}
-use Rattle.sja_bus.specs.Buses.{KeepsAll, IsBit, untold_at}
+use Rattle.sja_wire.specs.Buses.{KeepsAll, IsBit, untold_at}
 use Rattle.sja_wire.specs.Lawful.{IsBusRun}
 use Rattle.sja_wire.specs.Links.{Kept}
 use Rattle.sja_wire.specs.Wire.{journal_at}
@@ -21,16 +21,16 @@ use Rattle.sja_driver.specs.declared.logged_driver.LoggedDriver.{LoggedDriver}
 use Rattle.sja_driver.specs.Deeds.{Deed}
 use Rattle.sja_driver.specs.LoggedDrivers.{node_of}
 use Rattle.sja_serial.specs.Bits.{HasOneBit, TakesBit}
-use Rattle.sja_serial.specs.Nodes.{IsNode}
+use Rattle.sja_log.specs.Nodes.{IsNode}
 use Rattle.sja_serial.specs.Serial.{SerialValue, StandsAt}
 use Rattle.sja_driver.specs.Deeds.{deeds_at}
 use Rattle.sja_plan.specs.Plan.{steps_at}
-use Rattle.sja_serial.specs.Shown.{ShowsRecord}
+use Rattle.sja_driver.specs.Shown.{ShowsRecord}
 use Rattle.sja_serial.specs.UntilTold.{NotesTurn, KeepsTurn, TellsBit}
-use Rattle.sja_serial.proofs.AllNodes.Slices.{numbered_still}
-use Rattle.sja_serial.proofs.OneBit.BitAsked.{HasCut}
+use Rattle.sja_driver.proofs.OneNode.Slices.{numbered_still}
+use Rattle.sja_driver.proofs.OneBit.BitAsked.{HasCut}
 use Rattle.sja_serial.proofs.OneBit.Bit.{BitOf, OrdersOf, after_one_bit, one_bit, shows}
-use Rattle.sja_serial.proofs.OneBit.OtherWords.{other_node_bit}
+use Rattle.sja_bus.proofs.AtPorts.OtherWords.{other_node_bit}
 
 -- each journal of a lawful bus has a cut
 pub cuts_of : {script : List Strike} {run : ℕ} {journals : List (List Entry)} → IsBusRun script run journals →

@@ -13,23 +13,38 @@ use Rattle.sja_wire.specs.declared.bus_fault.BusFault.{BusFault}
 use Rattle.sja_wire.specs.Lawful.{IsBusRun}
 use Rattle.sja_wire.specs.OneBit.{MayHaveItems}
 use Rattle.sja_wire.specs.Wire.{journal_at}
-use Rattle.sja_bus.specs.Buses.{BusValue, KeepsAll, EachJournal, AllDry, EachUntold, untold_at}
-use Rattle.sja_bus.specs.Reasons.{IsTakenAndRefused}
+use Rattle.sja_wire.specs.Buses.{BusValue, KeepsAll, EachJournal, AllDry, EachUntold, untold_at}
+use Rattle.sja_wire.specs.Reasons.{IsTakenAndRefused}
 use Rattle.sja_plan.specs.Plan.{PlanValue, steps_at}
 use Rattle.sja_driver.specs.declared.logged_driver.LoggedDriver.{LoggedDriver}
 use Rattle.sja_driver.specs.Deeds.{Deed, deeds_at}
 use Rattle.sja_driver.specs.LoggedDrivers.{log_of, StaysLawful, Steps}
 use Rattle.sja_driver.specs.Logs.{done_in}
-use Rattle.sja_serial.specs.Giving.{GaveNothing}
-use Rattle.sja_serial.specs.Nodes.{IsNode}
+use Rattle.sja_driver.specs.GivenNothing.{GaveNothing}
+use Rattle.sja_log.specs.Nodes.{IsNode}
 use Rattle.sja_serial.specs.Serial.{SerialValue, run_now, StandsAt}
 use Rattle.sja_serial.proofs.ManyBits.Borrowed.{stands_there, put_back}
 use Rattle.sja_serial.proofs.AllNodes.Several.{done_count}
-use Rattle.sja_serial.proofs.OneNode.Quiet.{no_items, as_untold, all_dry}
+use Rattle.sja_wire.proofs.Journal.Items.{items_none}
+use Rattle.sja_serial.proofs.OneNode.Quiet.{as_untold, all_dry}
 use Rattle.sja_serial.proofs.OneNode.Standing.{Tries, node_there}
 use Rattle.sja_serial.proofs.OneNode.Tried.{IsTried, next_tried, place}
 use Rattle.sja_serial.proofs.OneNode.Taken.{gather_takes}
-use Rattle.sja_serial.proofs.OneNode.Trying.{alike, shows_none, takes_none}
+use Rattle.sja_log.proofs.OneNode.Trying.{alike, shows_none, takes_none}
+
+-- the registers that a step was tried at, and the step at what they are
+abbrev pub tried_at : {was now : LoggedDriver} {slice given : List Deques} {base : ℕ} {p q : Registers} {one : Step}
+    {bits : ℕ} {done : Bool} →
+    Steps alike Lies shows_none takes_none was now slice given base p q one bits done → Registers
+tried_at {p = p} tries = p
+
+pub at_port : {was now : LoggedDriver} {slice given : List Deques} {base : ℕ} {p r q : Registers} {one : Step}
+    {bits : ℕ} {done : Bool} → p ≡ r →
+    Steps alike Lies shows_none takes_none was now slice given base p q one bits done →
+    Steps alike Lies shows_none takes_none was now slice given base r q one bits done
+at_port {was} {now} {slice} {given} {base} {p} {r} {q} {one} {bits} {done} same tries =
+    subst (λ (x : Registers). Steps alike Lies shows_none takes_none was now slice given base x q one bits done) same
+    tries
 
 -- a run, which stands at these deeds, and the links of which a call has as a slice
 module _ {plan : PlanValue} {bus : BusValue} {drivers : List LoggedDriver} {ports : List Registers}
@@ -122,7 +137,7 @@ module _ {plan : PlanValue} {bus : BusValue} {drivers : List LoggedDriver} {port
           done
       is_tried_quietly node_is back_is quiet many =
           is_tried node_is back_is bus stood.right refl refl refl refl refl (λ node acc less kept. kept)
-          (λ node less. no_items (journal_at bus.journals node))
+          (λ node less. items_none (journal_at bus.journals node))
           (λ node less. as_untold (untold_at bus.untold node) (journal_at bus.journals node))
           (all_dry i stood node_at steps stays.others (quiet p steps.tried (done_in (log_of was)) bits steps.met
           steps.logged)) (each_refl alike (λ x. refl) given) many

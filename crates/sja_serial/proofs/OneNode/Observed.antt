@@ -9,7 +9,7 @@ use Rattle.sja_link.specs.declared.entry.Entry.{Entry}
 use Rattle.sja_link.specs.Deques.{Deques, Lies}
 use Rattle.sja_wire.specs.Lawful.{IsBusRun}
 use Rattle.sja_wire.specs.Wire.{journal_at}
-use Rattle.sja_bus.specs.Buses.{BusValue}
+use Rattle.sja_wire.specs.Buses.{BusValue}
 use Rattle.sja_plan.specs.Plan.{PlanValue, steps_at}
 use Rattle.sja_regs.specs.declared.bus_turn.BusTurn.{BusTurn}
 use Rattle.sja_regs.specs.declared.registers.Registers.{Registers}
@@ -26,13 +26,14 @@ use Rattle.sja_driver.specs.Logs.{Traces}
 use Rattle.sja_driver.specs.Observing.{Looked, Observes}
 use Rattle.sja_log.specs.Registering.{seen_now}
 use Rattle.sja_log.proofs.Account.Seeing.{seen_shown}
-use Rattle.sja_log.proofs.Trace.Stepping.{given_taken}
-use Rattle.sja_serial.specs.Nodes.{IsNode}
+use Rattle.sja_driver.proofs.Trace.Stepping.{given_taken}
+use Rattle.sja_log.specs.Nodes.{IsNode}
 use Rattle.sja_serial.specs.Serial.{run_now, StandsAt}
-use Rattle.sja_serial.proofs.AllNodes.Slices.{apart, each_other, numbered_still}
-use Rattle.sja_serial.proofs.OneNode.Gathered.{no_link, linked_after, node_with}
+use Rattle.sja_driver.proofs.OneNode.Slices.{apart, each_other, numbered_still}
+use Rattle.sja_log.proofs.OneNode.Gathered.{no_link, linked_after, node_with}
 use Rattle.sja_serial.proofs.OneNode.Standing.{owners}
-use Rattle.sja_serial.proofs.OneNode.Trying.{alike, shows_none, looked}
+use Rattle.sja_log.proofs.OneNode.Trying.{alike, shows_none}
+use Rattle.sja_log.proofs.OneNode.StepTried.{looked}
 
 module _ {plan : PlanValue} {bus : BusValue} {drivers : List LoggedDriver} {ports : List Registers}
     {turns : List (Option BusTurn)} {slice after : List Deques} {bits : ℕ} {deeds : List (List Deed)}

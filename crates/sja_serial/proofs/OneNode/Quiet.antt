@@ -3,17 +3,16 @@ use Rattle.std.proofs.Common.{◌≡◌, ◌≢◌, ℕ, suc, ◌+◌, ◌*◌, 
 use Rattle.std.proofs.Common.{append-nil, arith, inl, inr}
 use Rattle.std.specs.Prelude.{min, slice_index_or}
 use Rattle.std.proofs.lemmas.Bool.{cases_eq}
+use Rattle.std.proofs.lemmas.List.{append_cancel_left}
 use Rattle.sja_link.specs.declared.entry.Entry.{Entry}
 use Rattle.sja_link.specs.declared.up.Up.{Up}
 use Rattle.sja_link.specs.Accounts.{account}
 use Rattle.sja_link.specs.Deques.{Deques, Lies}
 use Rattle.sja_link.specs.Lists.{Lists}
-use Rattle.sja_bus.specs.Buses.{AllDry}
+use Rattle.sja_wire.specs.Buses.{AllDry}
 use Rattle.sja_wire.specs.Links.{stops_of}
-use Rattle.sja_wire.specs.OneBit.{MayHaveItems}
 use Rattle.sja_wire.specs.Telling.{IsUntold}
 use Rattle.sja_wire.specs.Wire.{journal_at}
-use Rattle.sja_wire.proofs.Taking.{same_front}
 use Rattle.sja_plan.specs.Plan.{PlanValue, steps_at}
 use Rattle.sja_regs.specs.declared.registers.Registers.{Registers}
 use Rattle.sja_script.specs.declared.step.Step.{Step}
@@ -22,14 +21,10 @@ use Rattle.sja_driver.specs.Deeds.{Deed, deeds_at, given_in, deeds_of}
 use Rattle.sja_driver.specs.Holding.{place_after}
 use Rattle.sja_driver.specs.LoggedDrivers.{ended_of, Steps}
 use Rattle.sja_driver.specs.Tries.{gave_by}
-use Rattle.sja_serial.specs.Nodes.{IsNode}
+use Rattle.sja_log.specs.Nodes.{IsNode}
 use Rattle.sja_serial.specs.Serial.{SerialValue, StandsAt}
 use Rattle.sja_driver.proofs.LogOfSteps.Logged.{min_less}
-use Rattle.sja_serial.proofs.OneNode.Trying.{alike, shows_none, takes_none}
-
--- no item is taken where there is none
-pub no_items : (j : List Entry) → MayHaveItems j j
-no_items j = record { items = []; whole = sym (append-nil j); read = tt; in_order = tt }
+use Rattle.sja_log.proofs.OneNode.Trying.{alike, shows_none, takes_none}
 
 pub as_untold : (b : Bool) (j : List Entry) → IsUntold b b j j
 as_untold b j = record { stays = λ e. e; takes = λ differ. absurd (differ refl); none = λ e same. e }
@@ -51,7 +46,7 @@ module _ {plan : PlanValue} {r : SerialValue} {deeds : List (List Deed)} (i : �
       let lies = node.linked.holds.kept a d less in
       let after = (st.acts d d).does.lists l lies in
       let up = (slice_index_or given (place_after (64 * i) (ended_of was)) d).up in
-      same_front l.taken up [] (sym after.1 ∙ ap (λ (g : List Up). l.given ++ g) quiet
+      append_cancel_left l.taken up [] (sym after.1 ∙ ap (λ (g : List Up). l.given ++ g) quiet
       ∙ append-nil l.given ∙ lies.1 ∙ ap (λ (u : List Up). l.taken ++ u) (node.linked.taken a d less))
 
   -- and each other one

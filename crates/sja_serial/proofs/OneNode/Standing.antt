@@ -7,7 +7,7 @@ use Rattle.std.proofs.lemmas.List.{get_or-set_same, get_or-set_other, length-set
 use Rattle.sja_link.specs.declared.entry.Entry.{Entry}
 use Rattle.sja_link.specs.declared.up.Up.{Up}
 use Rattle.sja_link.specs.Deques.{Deques, Lies}
-use Rattle.sja_bus.specs.Buses.{BusValue, KeepsAll, EachJournal, AllDry, EachUntold, untold_at}
+use Rattle.sja_wire.specs.Buses.{BusValue, KeepsAll, EachJournal, AllDry, EachUntold, untold_at}
 use Rattle.sja_wire.specs.Links.{per_node}
 use Rattle.sja_wire.specs.OneBit.{MayHaveItems, entries_of_items}
 use Rattle.sja_wire.specs.Telling.{IsUntold}
@@ -20,13 +20,14 @@ use Rattle.sja_script.specs.declared.step.Step.{Step}
 use Rattle.sja_driver.specs.declared.logged_driver.LoggedDriver.{LoggedDriver}
 use Rattle.sja_driver.specs.Deeds.{Deed, deeds_at}
 use Rattle.sja_driver.specs.LoggedDrivers.{node_of, ended_of, StaysLawful, Steps}
-use Rattle.sja_serial.specs.Nodes.{IsNode}
-use Rattle.sja_serial.specs.Serial.{SerialValue, StandsAt, run_now, with_deeds}
-use Rattle.sja_serial.specs.Shown.{ShowsRecord}
-use Rattle.sja_serial.proofs.AllNodes.Slices.{apart, each_set, each_other}
-use Rattle.sja_serial.proofs.OneNode.Gathered.{no_link, Gathers}
-use Rattle.sja_serial.proofs.OneNode.Trying.{alike, shows_none, takes_none}
-use Rattle.sja_serial.proofs.OneNode.Turned.{none_entered, same_journal, idle}
+use Rattle.sja_log.specs.Nodes.{IsNode}
+use Rattle.sja_serial.specs.Serial.{SerialValue, StandsAt, run_now}
+use Rattle.sja_driver.specs.Deeds.{with_deeds}
+use Rattle.sja_driver.specs.Shown.{ShowsRecord}
+use Rattle.sja_driver.proofs.OneNode.Slices.{apart, each_set, each_other}
+use Rattle.sja_log.proofs.OneNode.Gathered.{no_link, Gathers}
+use Rattle.sja_log.proofs.OneNode.Trying.{alike, shows_none, takes_none}
+use Rattle.sja_log.proofs.OneNode.Turned.{none_entered, same_journal, idle}
 
 -- nothing is untold after a taking: so nothing was before it, and no item was taken
 pub none_untold : {before now : Bool} {j k : List Entry} → MayHaveItems j k → IsUntold before now j k → now ≡ false →

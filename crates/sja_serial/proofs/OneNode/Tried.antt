@@ -8,7 +8,7 @@ use Rattle.sja_link.specs.declared.entry.Entry.{Entry}
 use Rattle.sja_link.specs.Deques.{Deques, Lies}
 use Rattle.sja_link.specs.Places.{place_of}
 use Rattle.sja_link.proofs.JournalEntries.Entering.{bits_counted}
-use Rattle.sja_bus.specs.Buses.{BusValue}
+use Rattle.sja_wire.specs.Buses.{BusValue}
 use Rattle.sja_wire.specs.Lawful.{IsBusRun}
 use Rattle.sja_wire.specs.Wire.{journal_at}
 use Rattle.sja_plan.specs.Plan.{PlanValue, steps_at}
@@ -19,13 +19,14 @@ use Rattle.sja_driver.specs.Carried.{Tells, carried, ported}
 use Rattle.sja_driver.specs.Deeds.{Deed, deeds_at, is_active}
 use Rattle.sja_driver.specs.LoggedDrivers.{Steps}
 use Rattle.sja_log.specs.Registering.{seen_now}
-use Rattle.sja_serial.specs.Nodes.{IsNode}
-use Rattle.sja_serial.specs.Serial.{SerialValue, StandsAt, HasMore}
+use Rattle.sja_log.specs.Nodes.{IsNode}
+use Rattle.sja_serial.specs.Serial.{SerialValue, StandsAt}
+use Rattle.sja_wire.specs.OneBit.{HasMore}
 use Rattle.sja_serial.specs.Stepping.{DoesNext, DoesNothing}
-use Rattle.sja_serial.specs.Shown.{ShowsRecord}
-use Rattle.sja_serial.specs.Waiting.{HasToWait}
-use Rattle.sja_serial.proofs.OneNode.Trying.{alike, shows_none, takes_none}
-use Rattle.sja_serial.proofs.OneNode.Turned.{stepped, waited}
+use Rattle.sja_driver.specs.Shown.{ShowsRecord}
+use Rattle.sja_log.specs.Waiting.{HasToWait}
+use Rattle.sja_log.proofs.OneNode.Trying.{alike, shows_none, takes_none}
+use Rattle.sja_log.proofs.OneNode.Turned.{stepped, waited}
 use Rattle.sja_serial.proofs.OneNode.Standing.{Tries, run_tried, node_there, gathers, other_node, stands_after}
 
 -- the step was done, or it has to wait

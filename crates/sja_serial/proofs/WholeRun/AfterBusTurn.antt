@@ -13,8 +13,8 @@ use Rattle.sja_plan.specs.declared.turn.Turn.TheVariants.{Bus, Rest}
 use Rattle.sja_driver.specs.Deeds.{Deed}
 use Rattle.sja_log.specs.declared.end.End.{End}
 use Rattle.sja_log.specs.declared.end.End.TheVariants.{Bits as BitsSpent}
-use Rattle.sja_log.specs.Moments.{record_at}
-use Rattle.sja_log.specs.Resting.{IsAtRest}
+use Rattle.sja_driver.specs.Moments.{record_at}
+use Rattle.sja_driver.specs.Resting.{IsAtRest}
 use Rattle.sja_log.specs.Turns.{Progress, with_bits, AllAtRest, RunsTo}
 use Rattle.sja_log.specs.Turns.RunsTo.{bus, bus_spent, rest, rest_spent}
 use Rattle.sja_serial.specs.Bits.{TakesBits, SomeWorks, TakesBusTurn, TakesRest}

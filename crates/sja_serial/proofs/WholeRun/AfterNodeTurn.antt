@@ -20,16 +20,17 @@ use Rattle.sja_script.specs.declared.step.Step.TheVariants.{Write, Load, Command
 use Rattle.sja_driver.specs.Deeds.{Deed, is_active, opened_by}
 use Rattle.sja_log.specs.declared.end.End.{End}
 use Rattle.sja_log.specs.Registering.{LeadTo, seen_now}
-use Rattle.sja_log.specs.Resting.{IsHolding}
+use Rattle.sja_driver.specs.Resting.{IsHolding}
 use Rattle.sja_log.specs.Turns.{Progress, with_steps, IsUnmet, IsStuck, DoesSteps, RunsTo}
 use Rattle.sja_log.specs.Turns.RunsTo.{node}
-use Rattle.sja_log.specs.Windows.{off_by, window_of}
+use Rattle.sja_driver.specs.Windows.{off_by, window_of}
 use Rattle.sja_serial.specs.Ending.{progress}
 use Rattle.sja_serial.specs.Serial.{SerialValue, StandsAt}
 use Rattle.sja_driver.specs.Deeds.{deeds_at}
 use Rattle.sja_plan.specs.Plan.{steps_at}
-use Rattle.sja_serial.specs.Serial.{with_deeds, TakesTurn, CannotStep}
-use Rattle.sja_serial.specs.Waiting.{HasToWait}
+use Rattle.sja_serial.specs.Serial.{TakesTurn, CannotStep}
+use Rattle.sja_driver.specs.Deeds.{with_deeds}
+use Rattle.sja_log.specs.Waiting.{HasToWait}
 use Rattle.sja_serial.proofs.WholeRun.GoingOn.{acts_of, GoesOn, ArePresent, length_at, lengths_set}
 use Rattle.sja_serial.proofs.WholeRun.GoingOn.{deeds_then, entries_then, record_then, registers_then}
 use Rattle.sja_serial.proofs.WholeRun.GoingOn.{window_then, off_then}

@@ -6,8 +6,9 @@ use Rattle.std.specs.Prelude.{slice_index_or}
 use Rattle.std.proofs.lemmas.Bool.{cases_eq}
 use Rattle.std.proofs.lemmas.List.{get_or-set_same, get_or-set_other, take_more}
 use Rattle.sja_link.specs.declared.entry.Entry.{Entry}
-use Rattle.sja_bus.specs.Buses.{BusValue, new_bus}
+use Rattle.sja_wire.specs.Buses.{BusValue, new_bus}
 use Rattle.sja_wire.specs.Wire.{journal_at}
+use Rattle.sja_wire.proofs.Wires.{no_journal}
 use Rattle.sja_plan.specs.Plan.{PlanValue, NamesNode, step_counts}
 use Rattle.sja_plan.specs.declared.turn.Turn.{Turn}
 use Rattle.sja_plan.specs.declared.turn.Turn.TheVariants.{Bus, Rest, Node}
@@ -18,7 +19,8 @@ use Rattle.sja_log.specs.Turns.{Progress, RunsTo}
 use Rattle.sja_log.specs.Turns.RunsTo.{all_done}
 use Rattle.sja_serial.specs.Bits.{TakesBusTurn, TakesRest}
 use Rattle.sja_serial.specs.Ending.{progress, TakesTurns, TakesOne}
-use Rattle.sja_serial.specs.Serial.{SerialValue, StandsAt, TakesTurn, with_deeds}
+use Rattle.sja_serial.specs.Serial.{SerialValue, StandsAt, TakesTurn}
+use Rattle.sja_driver.specs.Deeds.{with_deeds}
 use Rattle.sja_driver.specs.Deeds.{deeds_at}
 use Rattle.sja_serial.proofs.WholeRun.Onward.{extends_none, extends_items, bits_items, aborts_items}
 use Rattle.sja_serial.proofs.WholeRun.GoingOn.{acts_of, GoesOn, IsPresent, ArePresent, present_bits, back_bits}
@@ -45,11 +47,6 @@ pub record HasCome (plan : PlanValue) (turns : List Turn) (r : SerialValue) : Ty
 no_lengths : (n : ℕ) → map (λ (l : List Deed). length l) (replicate n []) ≡ replicate n 0
 no_lengths zero = refl
 no_lengths (suc n) = ap (λ l. 0 ∷ l) (no_lengths n)
-
-no_journal : (n k : ℕ) → journal_at (replicate n []) k ≡ []
-no_journal zero k = refl
-no_journal (suc n) zero = refl
-no_journal (suc n) (suc k) = no_journal n k
 
 pub come_first : (plan : PlanValue) (r : SerialValue) → StandsAt plan r (replicate (length plan.nodes) []) →
     r.bus ≡ new_bus plan.strikes plan.bits (length plan.nodes) (step_counts plan) → HasCome plan [] r

@@ -18,15 +18,15 @@ use Rattle.sja_driver.specs.Deeds.{Deed, given_in, deeds_of}
 use Rattle.sja_driver.specs.LoggedDrivers.{log_of}
 use Rattle.sja_driver.specs.Logs.{releases_in, released_of}
 use Rattle.sja_log.specs.declared.end.End.{End}
-use Rattle.sja_log.specs.InTime.{IsInTime}
+use Rattle.sja_driver.specs.InTime.{IsInTime}
 use Rattle.sja_log.specs.Registering.{LeadTo}
 use Rattle.sja_log.specs.Log.{NodeValue, RunValue}
 use Rattle.sja_log.specs.Runs.{IsTrace}
 use Rattle.sja_log.specs.Settling.{IsSettled, AreSettled}
-use Rattle.sja_log.proofs.Trace.Stepping.{given_taken}
+use Rattle.sja_driver.proofs.Trace.Stepping.{given_taken}
 use Rattle.sja_log.proofs.Trace.Windows.{settled_kept}
-use Rattle.sja_serial.proofs.OneNode.Gathered.{no_link}
-use Rattle.sja_serial.specs.Nodes.{IsNode}
+use Rattle.sja_log.proofs.OneNode.Gathered.{no_link}
+use Rattle.sja_log.specs.Nodes.{IsNode}
 use Rattle.sja_serial.specs.Serial.{SerialValue, StandsAt}
 use Rattle.sja_driver.specs.Deeds.{deeds_at}
 use Rattle.sja_plan.specs.Plan.{steps_at}

@@ -14,18 +14,18 @@ use Rattle.sja_regs.specs.Registers.{at_power_on}
 use Rattle.sja_driver.specs.declared.logged_driver.LoggedDriver.{LoggedDriver}
 use Rattle.sja_driver.specs.Deeds.{Deed, given_in, opened_by}
 use Rattle.sja_log.specs.Turns.{Acts}
-use Rattle.sja_log.specs.Moments.{at_moment, record_at}
+use Rattle.sja_driver.specs.Moments.{at_moment, record_at}
 use Rattle.sja_log.specs.Registering.{LeadTo}
-use Rattle.sja_log.specs.Windows.{put_by, off_by, window_of}
+use Rattle.sja_driver.specs.Windows.{put_by, off_by, window_of}
 use Rattle.sja_link.specs.Looking.{off_among}
-use Rattle.sja_log.proofs.Trace.Moments.{HasBitsAfterAborts}
+use Rattle.sja_driver.proofs.Trace.Moments.{HasBitsAfterAborts}
 use Rattle.sja_log.proofs.Trace.Windows.{window_later}
-use Rattle.sja_log.specs.InTime.{IsInTime}
+use Rattle.sja_driver.specs.InTime.{IsInTime}
 use Rattle.sja_serial.specs.Bits.{TakesBit, TakesBits}
 use Rattle.sja_serial.specs.Bits.TakesBits.{no_bit, one_more}
 use Rattle.sja_serial.specs.Serial.{SerialValue, StandsAt}
 use Rattle.sja_driver.specs.Deeds.{deeds_at}
-use Rattle.sja_log.proofs.Account.Counts.{as_many}
+use Rattle.sja_driver.proofs.Account.Counts.{as_many}
 use Rattle.sja_serial.proofs.WholeRun.Onward.{Extends, moment_then, put_then, extends_bit, bits_bit, aborts_bit}
 
 -- a run of the plan with these journals and deeds

@@ -1,5 +1,5 @@
 -- A journal that goes on: what it was, and what it showed then.
-use Rattle.std.proofs.Common.{◌≡◌, ℕ, suc, ◌+◌, ◌<◌, ◌≤◌, Bool, true, false, Option, Some, None, List, [], ◌∷◌, ◌++◌}
+use Rattle.std.proofs.Common.{◌≡◌, ℕ, suc, ◌+◌, ◌<◌, Bool, true, false, Option, Some, None, List, [], ◌∷◌, ◌++◌}
 use Rattle.std.proofs.Common.{length, refl, sym, ap, ◌∙◌, subst, append_assoc, append-nil, arith}
 use Rattle.std.specs.Prelude.{◌==◌, nat_le, if◌then◌else◌}
 use Rattle.std.proofs.lemmas.Bool.{lt-leb}
@@ -8,23 +8,24 @@ use Rattle.can_bits.specs.declared.level.Level.{Level}
 use Rattle.sja_link.specs.NodeWords.{NodeBit}
 use Rattle.sja_link.specs.declared.down.Down.{Down}
 use Rattle.sja_link.specs.declared.up.Up.{Up}
-use Rattle.sja_link.specs.declared.up.Up.TheVariants.{Start, Credit, Send, Stop}
 use Rattle.sja_link.specs.declared.verdict.Verdict.{Verdict}
 use Rattle.sja_link.specs.declared.verdict.Verdict.TheVariants.{Stored as ToStore, Overrun as ToLose}
 use Rattle.sja_link.specs.declared.entry.Entry.{Entry}
 use Rattle.sja_link.specs.declared.entry.Entry.TheVariants.{Bit, Up as Item, Abort, Stored, Overrun, Off}
 use Rattle.lemmas.specs.Gathering.{gathered}
-use Rattle.sja_link.specs.Places.{JournalPlace, first_place, past, past_all, place_of, Placed, placed_from, placed}
+use Rattle.sja_link.specs.Places.{JournalPlace, first_place, past, place_of, Placed, placed_from, placed}
 use Rattle.sja_link.specs.Parts.{in_part}
 use Rattle.sja_link.specs.Carried.{bits_of, taken_of, put_in}
 use Rattle.sja_link.specs.Verdicts.{entry_of}
 use Rattle.lemmas.proofs.Gathered.{gathered_append}
+use Rattle.sja_link.proofs.JournalEntries.Entering.{past_rises, item_bits, placed_append}
+use Rattle.sja_wire.proofs.Journal.Items.{items_bits}
 use Rattle.sja_wire.specs.OneBit.{entries_of_items, abort_as, judged_as, off_as}
-use Rattle.sja_log.specs.Moments.{at_moment}
-use Rattle.sja_log.specs.Windows.{put_by}
-use Rattle.sja_log.proofs.Trace.Moments.{HasBitsAfterAborts, at_moment-now}
+use Rattle.sja_driver.specs.Moments.{at_moment}
+use Rattle.sja_driver.specs.Windows.{put_by}
+use Rattle.sja_driver.proofs.Trace.Moments.{HasBitsAfterAborts, at_moment-now}
 use Rattle.sja_serial.specs.Bits.{HasOneBit}
-use Rattle.sja_serial.specs.Serial.{HasMore}
+use Rattle.sja_wire.specs.OneBit.{HasMore}
 
 -- these entries put nothing before their first bit
 abbrev pub PutsLater : List Entry → Type 0
@@ -65,23 +66,6 @@ moment_then j final bits items x aborts b i =
 
 -- ---- what it had put
 
-bits_grow : (p : JournalPlace) (e : Entry) → p.bits ≤ (past p e).bits
-bits_grow p (Bit driven seen) = omega arith
-bits_grow p (Item (Start config)) = omega arith
-bits_grow p (Item (Credit n)) = omega arith
-bits_grow p (Item (Send request)) = omega arith
-bits_grow p (Item Stop) = omega arith
-bits_grow p Abort = omega arith
-bits_grow p (Stored m) = omega arith
-bits_grow p (Overrun m) = omega arith
-bits_grow p Off = omega arith
-
-item_bits : (p : JournalPlace) (u : Up) → (past p (Item u)).bits ≡ p.bits
-item_bits p (Start config) = refl
-item_bits p (Credit n) = refl
-item_bits p (Send request) = refl
-item_bits p Stop = refl
-
 abbrev early : ℕ → Placed → List Down
 early n q = if nat_le q.before.bits n then put_in q.entry else []
 
@@ -98,7 +82,7 @@ none_after : (n : ℕ) (p : JournalPlace) (es : List Entry) (a : ℕ) → n < p.
     gathered (in_part (early n) a) (placed_from p es) ≡ []
 none_after n p [] a h = refl
 none_after n p (e ∷ es) a h =
-    let more = bits_grow p e in
+    let more = (past_rises p e).bits in
     ap (λ (c : Bool). (if (past p e).activation == a then (if c then put_in e else []) else []) ++ gathered
     (in_part (early n) a) (placed_from (past p e) es)) (lt-leb p.bits n h)
     ∙ nothing ((past p e).activation == a) _ ∙ none_after n (past p e) es a (omega (arith, more, h))
@@ -117,11 +101,6 @@ none_by_then n p (Abort ∷ es) a e h =
 none_by_then n p (Stored m ∷ es) a e h = absurd h
 none_by_then n p (Overrun m ∷ es) a e h = absurd h
 none_by_then n p (Off ∷ es) a e h = absurd h
-
-placed_append : (p : JournalPlace) (es fs : List Entry) →
-    placed_from p (es ++ fs) ≡ placed_from p es ++ placed_from (past_all p es) fs
-placed_append p [] fs = refl
-placed_append p (e ∷ es) fs = ap (λ l. (record { before = p; entry = e }) ∷ l) (placed_append (past p e) es fs)
 
 pub put_then : (j final : List Entry) (n a : ℕ) → Extends j final → n ≡ (place_of j).bits →
     put_by n final a ≡ put_by n j a
@@ -144,10 +123,6 @@ extends_items j k final items x = record {
   whole = x.whole ∙ ap (λ l. l ++ x.rest) items.whole ∙ append_assoc j (entries_of_items items.items) x.rest;
   later = later_items items.items x.rest x.later;
 }
-
-items_bits : (us : List Up) → bits_of (entries_of_items us) ≡ []
-items_bits [] = refl
-items_bits (u ∷ us) = items_bits us
 
 items_aborts : (us : List Up) → HasBitsAfterAborts (entries_of_items us)
 items_aborts [] = tt

@@ -1,5 +1,10 @@
-use Rattle.std.proofs.Common.{rules, ◌≡◌, true, false, arith}
+use Rattle.std.proofs.Common.{rules, ◌≡◌, ℕ, true, false, arith}
+use Rattle.sja_plan.specs.Plan.{PlanValue}
 use Rattle.sja_plan.specs.declared.turn.Turn.TheVariants.{Bus}
+use Rattle.sja_log.specs.declared.end.End.{End}
+use Rattle.sja_log.specs.declared.end.End.TheVariants.{Turns as TurnsDone, Rest as AtRest, Bits as BitsSpent}
+use Rattle.sja_serial.specs.Ending.{TakesTurns}
+use Rattle.sja_serial.specs.Serial.{SerialValue}
 use Rattle.sja_serial.proofs.WholeRun.Coming.{come_first}
 use Rattle.sja_serial.proofs.WholeRun.NextTurn.{come_next, end_next, end_turns}
 use Rattle.sja_serial.proofs.run.take_turns.Goals as goal
@@ -21,11 +26,23 @@ loop-turn-preserved c =
     come_next turns.value i c.loop-turn-test.true c.take_one.new.run inv c.take_one.result
     (c.take_one.ensures inv.deeds inv.stands) (turns.there i (Bus 0) c.loop-turn-test.true) yes
 
+-- a run whose bits are spent ends so, where that is what it says
+abbrev number : End → ℕ
+number TurnsDone = 0
+number AtRest = 1
+number BitsSpent = 2
+
+spent : {plan : PlanValue} {r : SerialValue} {end : End} → number end ≡ 2 → TakesTurns plan r BitsSpent →
+    TakesTurns plan r end
+spent {end = TurnsDone} is t = absurd (omega (arith, is))
+spent {end = AtRest} is t = absurd (omega (arith, is))
+spent {end = BitsSpent} is t = t
+
 pub returns-then-not-take_one : goal.returns-then-not-take_one
 returns-then-not-take_one c =
     let inv = c.loop-turn.invariant in let no : c.take_one.result ≡ false = search rules in
-    end_next c.turns-turn-items.ensures.value c.loop-turn.turn-index c.loop-turn-test.true c.take_one.new.run inv
-    c.take_one.result (c.take_one.ensures inv.deeds inv.stands) no
+    spent (omega arith) (end_next c.turns-turn-items.ensures.value c.loop-turn.turn-index c.loop-turn-test.true
+    c.take_one.new.run inv c.take_one.result (c.take_one.ensures inv.deeds inv.stands) no)
 
 pub returns : goal.returns
 returns c = let t = c.loop-turn-test.false in

@@ -11,7 +11,7 @@ use Rattle.sja_regs.specs.InterruptLine.{is_line_active}
 use Rattle.sja_serial.specs.Serial.{run_now, StandsAt}
 use Rattle.sja_serial.proofs.ManyBits.Borrowed.{run_is, stands_there}
 use Rattle.sja_serial.proofs.OneNode.Observed.{stands, line_is}
-use Rattle.sja_serial.proofs.OneNode.Trying.{alike, shows_none}
+use Rattle.sja_log.proofs.OneNode.Trying.{alike, shows_none}
 use Rattle.sja_serial.proofs.serial_run.SerialRun.irq.Goals.{After-irq}
 use Rattle.sja_serial.proofs.serial_run.SerialRun.irq.Goals as goal
 

@@ -1,8 +1,14 @@
-use Rattle.std.proofs.Common.{◌∙◌, ap, sym, ℕ, None, replicate}
+use Rattle.std.proofs.Common.{◌≡◌, ◌∙◌, ap, sym, ℕ, List, None, replicate, arith}
+use Rattle.sja_regs.specs.declared.registers.Registers.{Registers}
 use Rattle.sja_regs.specs.Registers.{at_power_on}
-use Rattle.sja_bus.specs.Buses.{new_bus}
+use Rattle.sja_wire.specs.Buses.{new_bus}
 use Rattle.sja_serial.proofs.AllNodes.Newly.{stands_new}
 use Rattle.sja_serial.proofs.serial_run.SerialRun.new.Goals as goal
+
+-- ports after power-on are of this version, if theirs is it
+powered : {ports : List Registers} (n v version : ℕ) → ports ≡ replicate n (at_power_on v) → v ≡ version →
+    ports ≡ replicate n (at_power_on version)
+powered n v version are same = are ∙ ap (λ (v : ℕ). replicate n (at_power_on v)) same
 
 pub returns-clause-stands : goal.returns-clause-stands
 returns-clause-stands c =
@@ -13,8 +19,10 @@ returns-clause-stands c =
     (c.in_ok-bus.ensures ∙ ap (λ (n : ℕ). new_bus c.in_ok-script.script c.bits.result n c.in_ok-steps.steps.items)
     (c.in_ok-steps.ensures.count ∙ sym c.nodes-nodes.ensures.value)) c.in_ok-steps.ensures.value
     c.in_ok-drivers.ensures.count
-    c.in_ok-drivers.ensures.new (c.in_ok-board.ensures.ports
-    ∙ ap (λ v. replicate c.nodes-nodes.result (at_power_on v)) c.version.ensures.value) c.in_ok-board.ensures.turns
+    c.in_ok-drivers.ensures.new
+    (powered c.nodes-nodes.result _ c.args.plan.now.version c.in_ok-board.ensures.ports
+    (let own = c.version.ensures.value in omega (arith, own)))
+    c.in_ok-board.ensures.turns
     c.in_ok-links.ensures
 
 pub returns-clause-bus : goal.returns-clause-bus

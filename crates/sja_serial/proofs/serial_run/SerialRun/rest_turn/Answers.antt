@@ -1,4 +1,5 @@
-use Rattle.std.proofs.Common.{sym, subst}
+use Rattle.std.specs.Prelude.{◌⊎◌}
+use Rattle.std.proofs.Common.{◌≡◌, ◌≤◌, refl, sym, subst, arith, inl, inr}
 use Rattle.sja_serial.specs.Bits.{AllRestIn, SomeWorks}
 use Rattle.sja_serial.specs.Serial.{SerialValue, StandsAt, run_now}
 use Rattle.sja_serial.proofs.WholeRun.GoingOn.{stands_bits}
@@ -12,8 +13,10 @@ returns-clause-turn c = λ deeds h.
     let now = run_now b.bus b.drivers.items b.board.board.ports.items b.board.turns.items b.links.items b.bits in
     let s : StandsAt plan now deeds = subst (λ (x : SerialValue). StandsAt plan x deeds) (sym c.self.view_is)
     (stands_bits plan deeds (SomeWorks plan) c.args.self.now n c.run_busy_bits.result t h) in
-    rest_so plan deeds c.args.self.now n c.run_busy_bits.result c.bits.result c.at_rest.result h t
-    c.bits.ensures.value c.run_busy_bits.ensures.whole
+    let all = c.bits.ensures.value in
+    let whole : (c.run_busy_bits.result ≡ plan.bits) ⊎ (plan.bits ≤ n.bits) ⊎ AllRestIn plan n =
+    elim c.run_busy_bits.ensures.whole [ inl asked ↦ inl (omega (arith, asked, all)) | inr so ↦ inr so ] in
+    rest_so plan deeds c.args.self.now n c.run_busy_bits.result plan.bits c.at_rest.result h t refl whole
     (λ yes. subst (λ (x : SerialValue). AllRestIn plan x) c.self.view_is
     (all_rest plan now deeds s (c.at_rest.ensures.rest s.right yes)))
     (λ no. subst (λ (x : SerialValue). SomeWorks plan x) c.self.view_is

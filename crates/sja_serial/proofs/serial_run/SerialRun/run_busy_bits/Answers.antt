@@ -1,8 +1,8 @@
-use Rattle.std.proofs.Common.{◌+◌, ◌≤◌, arith}
+use Rattle.std.proofs.Common.{◌≡◌, ◌+◌, ◌≤◌, arith}
 use Rattle.std.proofs.lemmas.List.{with_items_is}
 use Rattle.sja_bus.specs.Moment.{moment}
 use Rattle.sja_serial.specs.Bits.{SomeWorks}
-use Rattle.sja_serial.proofs.ManyBits.ManyBits.{busy, no_break, bits_taken}
+use Rattle.sja_serial.proofs.ManyBits.ManyBits.{busy, either, ends_at_rest, asked_in, no_break, bits_taken}
 use Rattle.sja_serial.proofs.ManyBits.SomeBits.{some_first, busy_whole}
 use Rattle.sja_serial.proofs.serial_run.SerialRun.run_busy_bits.Goals.{After-bits}
 use Rattle.sja_serial.proofs.serial_run.SerialRun.run_busy_bits.Goals as goal
@@ -15,14 +15,18 @@ pub unreachable-requires : goal.unreachable-requires
 unreachable-requires c = let b = c.self.inside in let at = (goal.at.unreachable-requires c).After-bits in
     no_break b.bus b.drivers.items b.board c.as_mut_slice.result.now b.links.items b.bits c.args.self.now
     c.as_mut_slice.ensures.value c.self.view_is c.args.plan.now c.requires.run c.bits_left.ensures.lawful
-    c.min-most.result (few at) (busy c.args.plan.now) (moment c.bits.new.self c.bits.new.links c.bits.new.board) _
+    c.min-most.result (few at) (either c.args.plan.now _)
+    (moment c.bits.new.self c.bits.new.links c.bits.new.board) _
     c.bits_left.ensures.limits c.in-Err.ensures.reason
 
 pub returns-clause-bits : goal.returns-clause-bits
-returns-clause-bits c = let b = c.self.inside in let at = (goal.at.returns-clause-bits c).After-bits in
+returns-clause-bits c =
+    let asked : ends_at_rest (asked_in _ c.in-Ok.ensures.bits) ≡ 1 = omega arith in
+    let b = c.self.inside in let at = (goal.at.returns-clause-bits c).After-bits in
     bits_taken b.bus b.drivers.items b.board c.as_mut_slice.result.now b.links.items b.bits c.args.self.now
     c.as_mut_slice.ensures.value c.self.view_is c.args.plan.now c.requires.run c.bits_left.ensures.lawful
-    c.min-most.result (few at) (busy c.args.plan.now) (moment c.bits.new.self c.bits.new.links c.bits.new.board) _
+    c.min-most.result (few at) (busy c.args.plan.now (asked_in _ c.in-Ok.ensures.bits) asked)
+    (moment c.bits.new.self c.bits.new.links c.bits.new.board) _
     (with_items_is b.links c.bits.new.links (omega (arith, c.bits.auto.links, c.as_mut_slice.ensures.len)))
     c.in-Ok.many c.in-Ok.ensures.bits
 

@@ -3,7 +3,7 @@ use Rattle.std.specs.Prelude.{Ok}
 use Rattle.std.proofs.lemmas.List.{with_items_is}
 use Rattle.sja_serial.specs.Bits.{TakesAtOnce}
 use Rattle.sja_serial.specs.Serial.{SerialValue, run_now}
-use Rattle.sja_serial.proofs.OneBit.OtherWords.{noted_stretch}
+use Rattle.sja_bus.proofs.AtPorts.OtherWords.{noted_stretch}
 use Rattle.sja_serial.proofs.ManyBits.AtOnce.{takes_at_once}
 use Rattle.sja_serial.proofs.ManyBits.Borrowed.{stands_there, lawful_there, put_back}
 use Rattle.sja_serial.proofs.ManyBits.Unstopped.{never_refused_there}

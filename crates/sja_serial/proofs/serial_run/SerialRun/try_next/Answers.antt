@@ -3,14 +3,17 @@ use Rattle.std.specs.Prelude.{None, slice_index_or, slice_set}
 use Rattle.std.specs.Vec.{with_items}
 use Rattle.std.proofs.lemmas.List.{with_items_is}
 use Rattle.sja_wire.specs.Lawful.{IsBusRun}
-use Rattle.sja_plan.specs.Plan.{steps_at}
+use Rattle.sja_plan.specs.Plan.{PlanValue, steps_at}
+use Rattle.sja_script.specs.declared.step.Step.{Step}
 use Rattle.sja_driver.specs.Deeds.{Deed, deeds_at}
 use Rattle.sja_driver.specs.Logs.{done_in}
-use Rattle.sja_serial.specs.Serial.{run_now, StandsAt, CannotStep}
-use Rattle.sja_serial.proofs.OneNode.NextStep.{steps_done, node_at, none_refused, is_tried, is_tried_quietly}
+use Rattle.sja_serial.specs.Serial.{SerialValue, run_now, StandsAt, CannotStep}
+use Rattle.sja_serial.proofs.OneNode.NextStep.{tried_at, at_port, steps_done, node_at, none_refused, is_tried}
+use Rattle.sja_serial.proofs.OneNode.NextStep.{is_tried_quietly}
 use Rattle.sja_serial.proofs.OneNode.Tried.{IsTried}
 use Rattle.sja_serial.proofs.AllNodes.Several.{does_none}
-use Rattle.sja_serial.proofs.serial_run.SerialRun.try_next.Goals.{After-done-next, After-first_link, In-Ok}
+use Rattle.sja_serial.proofs.serial_run.SerialRun.try_next.Goals.{After-done-next, After-first_link, After-step-done}
+use Rattle.sja_serial.proofs.serial_run.SerialRun.try_next.Goals.{In-Ok}
 use Rattle.sja_serial.proofs.serial_run.SerialRun.try_next.Goals.{Then-gave_nothing}
 use Rattle.sja_serial.proofs.serial_run.SerialRun.try_next.Goals as goal
 
@@ -59,6 +62,10 @@ is_next c deeds done = let one = c.index-steps-next.result in
     c.index-steps-next.is ∙ ap (λ l. slice_index_or l (length c.done-next.result.now) one) c.steps-steps.ensures.value
     ∙ ap (λ m. slice_index_or (steps_at c.args.plan.now c.from-index.result) m one) done
 
+-- the port is as it was lent, where the step is tried
+as_lent : (c : After-step-done) → tried_at c.step-done.ensures.steps ≡ c.index_mut-port.result.now
+as_lent c = grind arith
+
 pub step-done-requires : goal.step-done-requires
 step-done-requires c =
     let at = (goal.at.step-done-requires c).After-done-next in
@@ -76,72 +83,98 @@ step-done-requires c =
 pub unreachable-requires : goal.unreachable-requires
 unreachable-requires c =
     let at = goal.at.unreachable-requires c in let done = at.After-done-next in
-    let deeds = c.requires.run.0 in let h = c.requires.run.1 in
+    let deeds = c.requires.run.0 in let h = c.requires.run.1 in let same = as_lent at.After-step-done in
     none_refused c.as_mut_slice-links.ensures.value c.self.view_is h (there done) c.index_mut-driver.ensures.value
     c.index_mut-port.ensures.value c.gather.ensures.lawful (left done deeds h c.if-next-steps.false)
-    (is_next at.After-first_link deeds (many_done done deeds h)) c.first_link.ensures c.step-done.ensures.steps
+    (is_next at.After-first_link deeds (many_done done deeds h))
+    c.first_link.ensures (at_port same c.step-done.ensures.steps)
     c.step-done.ensures.stays c.gather.new.self.journals c.gather.new.links c.in-Err.field-0 c.in-Err.ensures.reason
 
 -- ---- what the step did
 
-did : (c : In-Ok) {deeds : List (List Deed)} → StandsAt c.args.plan.now c.args.self.now deeds →
-    c.from-index.result < length c.args.plan.now.nodes → c.from-index.result ≡ c.args.node →
-    length (deeds_at deeds c.from-index.result) < length (steps_at c.args.plan.now c.from-index.result) →
-    c.index-steps-next.result ≡ slice_index_or (steps_at c.args.plan.now c.from-index.result)
-    (length (deeds_at deeds c.from-index.result)) c.index-steps-next.result →
+-- this is the next step of the node at this place, which is there
+abbrev IsNext : PlanValue → SerialValue → ℕ → ℕ → Step → List (List Deed) → Type 0
+IsNext plan run at node step deeds = StandsAt plan run deeds × (at < length plan.nodes) × (at ≡ node)
+    × (length (deeds_at deeds at) < length (steps_at plan at))
+    × (step ≡ slice_index_or (steps_at plan at) (length (deeds_at deeds at)) step)
+
+did : (c : In-Ok) (same : tried_at c.step-done.ensures.steps ≡ c.index_mut-port.result.now)
+    {deeds : List (List Deed)} →
+    IsNext c.args.plan.now c.args.self.now c.from-index.result c.args.node c.index-steps-next.result deeds →
     let b = c.self.inside in let i = c.from-index.result in IsTried c.args.plan.now c.args.self.now
     (run_now c.gather.new.self (slice_set b.drivers.items i c.step-done.new.self)
     (slice_set b.board.board.ports.items i c.step-done.new.port) b.board.turns.items
     (with_items b.links c.gather.new.links).items b.bits) c.args.node deeds c.step-done.result
-did c h there node less is =
+did c same n =
     let links = c.self.inside.links in let g = c.gather.ensures in let ok = c.in-Ok.ensures in
-    is_tried c.as_mut_slice-links.ensures.value c.self.view_is h there c.index_mut-driver.ensures.value
-    c.index_mut-port.ensures.value c.gather.ensures.lawful less is c.first_link.ensures c.step-done.ensures.steps
-    c.step-done.ensures.stays node (with_items_is links c.gather.new.links
+    is_tried c.as_mut_slice-links.ensures.value c.self.view_is n.0 n.1 c.index_mut-driver.ensures.value
+    c.index_mut-port.ensures.value c.gather.ensures.lawful n.3 n.4
+    c.first_link.ensures (at_port same c.step-done.ensures.steps)
+    c.step-done.ensures.stays n.2 (with_items_is links c.gather.new.links
     (omega (arith, c.gather.auto.links, c.step-done.auto.links, c.as_mut_slice-links.ensures.len))) c.gather.new.self
     ok.right g.bits.0 g.script g.steps g.bits.1 g.nodes ok.kept ok.items ok.untold ok.dry g.sames
     (omega (arith, c.gather.auto.links, c.step-done.auto.links))
 
 -- where it gives nothing, nothing was taken
-did_quietly : (c : Then-gave_nothing)
+did_quietly : (c : Then-gave_nothing) (same : tried_at c.step-done.ensures.steps ≡ c.index_mut-port.result.now)
     (laws : (let b = c.self.inside.bus in b.fault ≡ None → IsBusRun b.script b.run b.journals))
-    {deeds : List (List Deed)} → StandsAt c.args.plan.now c.args.self.now deeds →
-    c.from-index.result < length c.args.plan.now.nodes → c.from-index.result ≡ c.args.node →
-    length (deeds_at deeds c.from-index.result) < length (steps_at c.args.plan.now c.from-index.result) →
-    c.index-steps-next.result ≡ slice_index_or (steps_at c.args.plan.now c.from-index.result)
-    (length (deeds_at deeds c.from-index.result)) c.index-steps-next.result →
+    {deeds : List (List Deed)} →
+    IsNext c.args.plan.now c.args.self.now c.from-index.result c.args.node c.index-steps-next.result deeds →
     let b = c.self.inside in let i = c.from-index.result in IsTried c.args.plan.now c.args.self.now
     (run_now b.bus (slice_set b.drivers.items i c.step-done.new.self)
     (slice_set b.board.board.ports.items i c.step-done.new.port) b.board.turns.items
     (with_items b.links c.step-done.new.links).items b.bits) c.args.node deeds c.step-done.result
-did_quietly c laws h there node less is =
+did_quietly c same laws n =
     let links = c.self.inside.links in
-    is_tried_quietly c.as_mut_slice-links.ensures.value c.self.view_is h there c.index_mut-driver.ensures.value
-    c.index_mut-port.ensures.value laws less is c.first_link.ensures c.step-done.ensures.steps c.step-done.ensures.stays
-    node (with_items_is links c.step-done.new.links
+    is_tried_quietly c.as_mut_slice-links.ensures.value c.self.view_is n.0 n.1 c.index_mut-driver.ensures.value
+    c.index_mut-port.ensures.value laws n.3 n.4 c.first_link.ensures (at_port same c.step-done.ensures.steps)
+    c.step-done.ensures.stays
+    n.2 (with_items_is links c.step-done.new.links
     (omega (arith, c.step-done.auto.links, c.as_mut_slice-links.ensures.len)))
     (c.gave_nothing.ensures c.if-gave_nothing.true) (omega (arith, c.step-done.auto.links))
 
 pub returns-then-gave_nothing-clause-done : goal.returns-then-gave_nothing-clause-done
-returns-then-gave_nothing-clause-done c = λ yes deeds h.
+returns-then-gave_nothing-clause-done c =
+    let same : tried_at c.step-done.ensures.steps ≡ c.index_mut-port.result.now = grind arith in λ yes deeds h.
     let a = goal.at.returns-then-gave_nothing-clause-done c in let at = a.After-done-next in
-    (did_quietly a.Then-gave_nothing c.bits_run.ensures.lawful h (there at) (node_is at)
-    (left at deeds h c.if-next-steps.false) (is_next a.After-first_link deeds (many_done at deeds h))).0 yes
+    (did_quietly a.Then-gave_nothing same c.bits_run.ensures.lawful (
+      h,
+      there at,
+      node_is at,
+      left at deeds h c.if-next-steps.false,
+      is_next a.After-first_link deeds (many_done at deeds h),
+    )).0 yes
 
 pub returns-then-gave_nothing-clause-waits : goal.returns-then-gave_nothing-clause-waits
-returns-then-gave_nothing-clause-waits c = λ no deeds h.
+returns-then-gave_nothing-clause-waits c =
+    let same : tried_at c.step-done.ensures.steps ≡ c.index_mut-port.result.now = grind arith in λ no deeds h.
     let a = goal.at.returns-then-gave_nothing-clause-waits c in let at = a.After-done-next in
-    (did_quietly a.Then-gave_nothing c.bits_run.ensures.lawful h (there at) (node_is at)
-    (left at deeds h c.if-next-steps.false) (is_next a.After-first_link deeds (many_done at deeds h))).1 no
+    (did_quietly a.Then-gave_nothing same c.bits_run.ensures.lawful (
+      h,
+      there at,
+      node_is at,
+      left at deeds h c.if-next-steps.false,
+      is_next a.After-first_link deeds (many_done at deeds h),
+    )).1 no
 
 pub returns-clause-done : goal.returns-clause-done
 returns-clause-done c = λ yes deeds h.
     let a = goal.at.returns-clause-done c in let at = a.After-done-next in
-    (did a.In-Ok h (there at) (node_is at) (left at deeds h c.if-next-steps.false)
-    (is_next a.After-first_link deeds (many_done at deeds h))).0 yes
+    (did a.In-Ok (as_lent a.After-step-done) (
+      h,
+      there at,
+      node_is at,
+      left at deeds h c.if-next-steps.false,
+      is_next a.After-first_link deeds (many_done at deeds h),
+    )).0 yes
 
 pub returns-clause-waits : goal.returns-clause-waits
 returns-clause-waits c = λ no deeds h.
     let a = goal.at.returns-clause-waits c in let at = a.After-done-next in
-    (did a.In-Ok h (there at) (node_is at) (left at deeds h c.if-next-steps.false)
-    (is_next a.After-first_link deeds (many_done at deeds h))).1 no
+    (did a.In-Ok (as_lent a.After-step-done) (
+      h,
+      there at,
+      node_is at,
+      left at deeds h c.if-next-steps.false,
+      is_next a.After-first_link deeds (many_done at deeds h),
+    )).1 no
