@@ -3,7 +3,3 @@ pub mod Start
 pub mod Rounds
 pub mod Events
 pub mod End
-pub mod StoredMessages
-pub mod NextItem
-pub mod CreditsGiven
-pub mod GivenOutside

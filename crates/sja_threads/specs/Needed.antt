@@ -7,7 +7,7 @@ use Rattle.sja_wire.specs.Wire.{journal_at}
 use Rattle.sja_log.specs.declared.end.End.{End}
 use Rattle.sja_log.specs.declared.end.End.TheVariants.{Rest, Bits}
 use Rattle.sja_log.specs.Log.{RunValue, journals_in}
-use Rattle.sja_log.specs.Resting.{IsAtRest, IsWorking}
+use Rattle.sja_driver.specs.Resting.{IsAtRest, IsWorking}
 
 -- a place in a journal with just so many bits before it, at which the node is started and not at rest
 pub record WorksAt (j : List Entry) (bits : ℕ) : Type 0 where

@@ -6,9 +6,9 @@ use Rattle.sja_plan.specs.Plan.{PlanValue, step_counts}
 use Rattle.sja_regs.specs.declared.orders.Orders.{Orders}
 use Rattle.sja_wire.specs.declared.bus_fault.BusFault.{BusFault}
 use Rattle.sja_wire.specs.declared.bus_fault.BusFault.TheVariants.{BitsSpent}
-use Rattle.sja_bus.specs.Buses.{BusValue}
+use Rattle.sja_wire.specs.Buses.{BusValue}
 use Rattle.sja_wire.specs.Lawful.{IsBusRun}
-use Rattle.sja_bus.specs.Reasons.{IsTakenAndRefused, StopsBit}
+use Rattle.sja_wire.specs.Reasons.{IsTakenAndRefused, StopsBit}
 use Rattle.sja_log.specs.declared.run_fault.RunFault.{RunFault}
 use Rattle.sja_log.specs.declared.run_fault.RunFault.TheVariants.{Memory, GateCount, Bus, Thread, Unsettled}
 

@@ -52,6 +52,7 @@ impl BusThread {
     /// Runs a bit where one is due: where some controller isn't at rest. Where none is left the bits are spent.
     ///
     /// Error: what the bus answers for another cause than spent bits.
+    #[tactic(auto, using(crate::proofs::Rounds::GoesOn::stays_on, crate::proofs::Rounds::GoesOn::all_rest))]
     fn bit_if_due<R: Wait>(
         &mut self,
         plan: &Plan,

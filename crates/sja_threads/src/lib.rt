@@ -31,6 +31,7 @@ mod lock_board;
 mod pass;
 mod raw_answers;
 mod raw_thread;
+mod raw_write;
 mod round;
 mod run;
 mod run_end;

@@ -8,7 +8,6 @@ use Rattle.lemmas.proofs.Related.{each_refl, each_trans}
 use Rattle.sja_regs.specs.declared.registers.Registers.{Registers}
 use Rattle.sja_regs.specs.DriverSettings.{SettingsValue, settings_in, HasSettings}
 use Rattle.sja_script.specs.declared.step.Step.{Step}
-use Rattle.sja_driver.specs.declared.work_log.WorkLog.{WorkLog}
 use Rattle.sja_driver.specs.Deeds.{Deed, done_of, is_active}
 use Rattle.sja_driver.specs.Holding.{HoldsBy, Goes}
 use Rattle.sja_driver.specs.LoggedDrivers.{driver_of, log_of, StaysLawful, Steps}
@@ -16,6 +15,7 @@ use Rattle.sja_driver.specs.Logs.{HasRoom, Traces, deeds_by, done_by, done_in}
 use Rattle.sja_driver.specs.Tries.{Tried, is_met, port_after}
 use Rattle.sja_driver.specs.Tries.Tried.{Unmet, Answered, Released, Ended}
 use Rattle.sja_driver.proofs.Step.Modes.{version_step}
+use Rattle.sja_driver.proofs.LogOfSteps.Logged.{room_less}
 use Rattle.sja_script.specs.declared.step_answer.StepAnswer.TheVariants.{Done as DoneAnswer, Released as ReleasedAnswer}
 use Rattle.sja_threads.specs.declared.driver_thread.DriverThread.{DriverThread}
 use Rattle.sja_threads.specs.Accessing.LeadOn.{nothing_more}
@@ -33,12 +33,6 @@ version_after p which Unmet = refl
 version_after p which (Answered answer) = version_step p which answer
 version_after p which (Released m) = version_step p which (ReleasedAnswer (length m))
 version_after p which (Ended ledger) = version_step p which DoneAnswer
-
--- room for fewer steps
-room_less : (k n : ℕ) (log : WorkLog) → k ≤ n → HasRoom n log → HasRoom k log
-room_less k n log less h =
-    let a = h.done in let b = h.releases in
-    record { done = omega (arith, a, less); releases = omega (arith, b, less); left = h.left }
 
 -- the steps of a try: the step, if it is done
 steps_of : (p : Registers) (which : Step) (o : Tried) (bits : ℕ) →

@@ -8,7 +8,7 @@ use Rattle.sja_link.specs.Verdicts.{IsLawful as IsLawfulJournal}
 use Rattle.sja_rings.specs.declared.ring_bus.RingBus.{RingBus}
 use Rattle.sja_rings.specs.declared.ring_driver.RingDriver.{RingDriver}
 use Rattle.sja_wire.specs.declared.node_log.NodeLog.{NodeLog}
-use Rattle.sja_bus.specs.Buses.{BusValue}
+use Rattle.sja_wire.specs.Buses.{BusValue}
 use Rattle.sja_wire.specs.Lawful.{CountersAre, IsBusRun}
 use Rattle.sja_wire.specs.Orderly.{AreOrderly}
 use Rattle.sja_wire.specs.Wire.{journal_at}

@@ -24,7 +24,7 @@ use Rattle.sja_log.proofs.NodeLog.NodeEnds.{opened_few}
 use Rattle.sja_threads.specs.declared.worked.Worked.{Worked}
 use Rattle.sja_threads.specs.Inside.Ended.{IsOverAt}
 use Rattle.sja_threads.specs.Inside.Settling.{IsLeftOn}
-use Rattle.sja_threads.proofs.GivenOutside.{given_outside}
+use Rattle.sja_driver.proofs.LogOfSteps.GivenOutside.{given_outside}
 
 module _ (set : SettingsValue) (steps : List Step) (node : ℕ) (j : List Entry) (deeds : List Deed) (w : Worked
     RingDriver)

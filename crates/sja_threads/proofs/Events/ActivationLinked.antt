@@ -10,10 +10,10 @@ use Rattle.sja_link.specs.Lists.{Lists}
 use Rattle.sja_link.specs.Parts.{part}
 use Rattle.lemmas.specs.Picking.{EachAfter}
 use Rattle.sja_link.specs.World.{credits_of}
-use Rattle.sja_threads.proofs.StoredMessages.{AreMessages, stored_real}
+use Rattle.sja_link.proofs.Ledger.StoredMessages.{AreMessages, stored_real}
 use Rattle.sja_script.specs.declared.step.Step.{Step}
 use Rattle.sja_driver.specs.Deeds.{Deed}
-use Rattle.sja_threads.proofs.CreditsGiven.{credits_in}
+use Rattle.sja_driver.proofs.Step.CreditsGiven.{credits_in}
 use Rattle.sja_wire.specs.Orderly.{IsOrderly, AreOrderly}
 use Rattle.sja_log.specs.Log.{ActivationValue, NodeValue}
 use Rattle.sja_log.specs.Runs.{IsTrace}

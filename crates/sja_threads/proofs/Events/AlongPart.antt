@@ -7,7 +7,7 @@ use Rattle.sja_link.specs.declared.up.Up.TheVariants.{Start as StartUp, Credit, 
 use Rattle.sja_link.specs.declared.entry.Entry.{Entry}
 use Rattle.sja_link.specs.declared.entry.Entry.TheVariants.{Bit, Up as Item, Abort, Stored, Overrun, Off as OffEntry}
 use Rattle.sja_link.specs.Carried.{stored_of, put_of, taken_in, taken_of}
-use Rattle.sja_threads.proofs.StoredMessages.{AreMessages}
+use Rattle.sja_link.proofs.Ledger.StoredMessages.{AreMessages}
 use Rattle.lemmas.specs.Gathering.{gathered, total}
 use Rattle.sja_link.specs.Lists.{messages}
 use Rattle.lemmas.specs.Picking.{EachAfter}

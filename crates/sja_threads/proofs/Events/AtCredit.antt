@@ -19,7 +19,7 @@ use Rattle.sja_link.proofs.JournalEntries.ListCounts.{messages_both, credits_bot
 use Rattle.sja_wire.specs.Orderly.{IsOrderly}
 use Rattle.sja_threads.specs.Linked.{event_in}
 use Rattle.sja_threads.proofs.Events.Comes.{world, Comes, comes_get, comes_gets, comes_release}
-use Rattle.sja_threads.proofs.NextItem.{bytes_put, credits_sum, IsOffLast, next_message}
+use Rattle.sja_driver.proofs.Step.NextItem.{bytes_put, bytes_paid, IsOffLast, next_message}
 use Rattle.sja_threads.proofs.Events.Order.{Order, with_taken, put_same}
 use Rattle.sja_driver.proofs.Step.Few.{credits_taken}
 use Rattle.sja_threads.proofs.Events.AtEntry.{IsAt}
@@ -70,7 +70,7 @@ module _ (p : List Entry) (got down : List Down) (held : List (List ℕ)) (all :
       let m = f.message in
       let told : messages h.todo ≡ m ∷ (f.others ++ held) =
       h.told ∙ ap (λ (l : List (List ℕ)). l ++ held) f.whole in
-      let paid = credits_taken q ∙ credits_sum (taken_of q) (messages h.gone) h.credits_are in
+      let paid = credits_taken q ∙ bytes_paid (taken_of q) (messages h.gone) h.credits_are in
       let stored = sym (bytes_put q) ∙ ap (λ (l : List Down). bytes_of (messages l)) h.put_is
       ∙ ap bytes_of (messages_both h.gone h.waits)
       ∙ total_append (λ (x : List ℕ). length x) (messages h.gone) (messages h.waits) in

@@ -20,7 +20,7 @@ use Rattle.sja_link.proofs.JournalEntries.ListCounts.{credits_both}
 use Rattle.sja_wire.specs.Orderly.{IsOrderly}
 use Rattle.sja_threads.specs.Linked.{event_in}
 use Rattle.sja_threads.proofs.Events.Comes.{world, comes_act}
-use Rattle.sja_threads.proofs.NextItem.{bytes_put, IsOffLast, off_last_push}
+use Rattle.sja_driver.proofs.Step.NextItem.{bytes_put, IsOffLast, off_last_push}
 use Rattle.sja_threads.proofs.Events.Order.{Order, with_put, with_quiet, put_same, taken_same}
 use Rattle.sja_driver.proofs.Step.Few.{credits_taken}
 

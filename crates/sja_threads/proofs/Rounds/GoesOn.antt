@@ -12,7 +12,7 @@ use Rattle.sja_rings.proofs.SameEnd.{bus_refl, bus_trans}
 use Rattle.sja_plan.specs.Plan.{PlanValue}
 use Rattle.sja_regs.specs.declared.bus_turn.BusTurn.{BusTurn}
 use Rattle.sja_regs.specs.declared.orders.Orders.{Orders}
-use Rattle.sja_bus.specs.Buses.{EachJournal, KeepsAll, IsBit}
+use Rattle.sja_wire.specs.Buses.{EachJournal, KeepsAll, IsBit}
 use Rattle.sja_bus.specs.Resting.{RestsAs}
 use Rattle.sja_bus.proofs.AllNodes.Many.{numbered_kept}
 use Rattle.sja_wire.specs.declared.bus_fault.BusFault.{BusFault}

@@ -9,10 +9,10 @@ use Rattle.sja_rings.specs.Ends.{BusLists}
 use Rattle.sja_plan.specs.Plan.{PlanValue}
 use Rattle.sja_wire.specs.declared.bus_fault.BusFault.{BusFault}
 use Rattle.sja_wire.specs.declared.bus_fault.BusFault.TheVariants.{BitsSpent, JournalFull}
-use Rattle.sja_bus.specs.Buses.{BusValue}
+use Rattle.sja_wire.specs.Buses.{BusValue}
 use Rattle.sja_wire.specs.Lawful.{IsBusRun}
-use Rattle.sja_bus.specs.Reasons.{IsRefusedFor, IsBrokenFor, IsTakenAndRefused, StopsBit, room_for}
-use Rattle.sja_bus.specs.Reasons.StopsBit.{spent, not_taken, not_aborted, broken_off}
+use Rattle.sja_wire.specs.Reasons.{IsRefusedFor, IsBrokenFor, IsTakenAndRefused, StopsBit, room_for}
+use Rattle.sja_wire.specs.Reasons.StopsBit.{spent, not_taken, not_aborted, broken_off}
 use Rattle.sja_wire.specs.Links.{per_node}
 use Rattle.sja_wire.specs.Wire.{journal_at}
 use Rattle.sja_threads.specs.declared.bus_thread.BusThread.{BusThread}

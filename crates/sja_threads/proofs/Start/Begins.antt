@@ -1,5 +1,5 @@
 -- The bus of a run in threads before its first round.
-use Rattle.std.proofs.Common.{◌≡◌, ℕ, zero, suc, ◌+◌, ◌*◌, ◌<◌, false, List, [], length, replicate, refl, sym, ap, ◌∙◌}
+use Rattle.std.proofs.Common.{◌≡◌, ℕ, suc, ◌+◌, ◌*◌, ◌<◌, false, List, [], length, sym, ap, ◌∙◌}
 use Rattle.std.proofs.Common.{subst, arith}
 use Rattle.std.specs.Prelude.{slice_index_or}
 use Rattle.std.proofs.lemmas.List.{length-replicate}
@@ -9,18 +9,14 @@ use Rattle.sja_link.specs.Carried.{taken_of}
 use Rattle.sja_link.specs.Parts.{part}
 use Rattle.sja_rings.specs.Ends.{BusLists}
 use Rattle.sja_plan.specs.Plan.{PlanValue}
-use Rattle.sja_bus.specs.Buses.{BusValue, new_bus}
+use Rattle.sja_wire.specs.Buses.{BusValue, new_bus}
 use Rattle.sja_wire.specs.Wire.{journal_at}
+use Rattle.sja_wire.proofs.Wires.{no_journal}
 use Rattle.sja_log.proofs.NodeLog.NodeEnds.{any_of}
 use Rattle.sja_threads.specs.declared.bus_thread.BusThread.{BusThread}
 use Rattle.sja_threads.specs.declared.thread_start.ThreadStart.{ThreadStart}
 use Rattle.sja_threads.specs.Inside.Making.{AreNewEnds, AreMade}
 use Rattle.sja_threads.specs.Inside.Rounds.{IsUnderWay}
-
-nothing_at : (nodes node : ℕ) → journal_at (replicate nodes []) node ≡ []
-nothing_at zero node = refl
-nothing_at (suc nodes) zero = refl
-nothing_at (suc nodes) (suc node) = nothing_at nodes node
 
 pub begins : {G : Type 0} (plan : PlanValue) (t : BusThread) (starts : List (ThreadStart G)) →
     (counts : List ℕ) → t.bus ≡ new_bus plan.strikes plan.bits (length plan.nodes) counts →
@@ -46,7 +42,7 @@ begins {G} plan t starts counts is count run spent many made = record {
     none_run = ap (λ (b : BusValue). b.run) is
 
     empty : (node : ℕ) → journal_at t.bus.journals node ≡ []
-    empty node = ap (λ (b : BusValue). journal_at b.journals node) is ∙ nothing_at (length plan.nodes) node
+    empty node = ap (λ (b : BusValue). journal_at b.journals node) is ∙ no_journal (length plan.nodes) node
 
     at : (node : ℕ) (few : node < length plan.nodes) →
         let s : ThreadStart G = any_of starts (omega (arith, few, many)) in

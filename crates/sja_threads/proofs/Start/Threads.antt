@@ -1,5 +1,5 @@
 -- What the drivers' threads begin with, and what they hand back.
-use Rattle.std.proofs.Common.{◌≡◌, ℕ, suc, ◌+◌, ◌<◌, Bool, List, [], ◌∷◌, ◌++◌, length, sym, ap, ◌∙◌, subst}
+use Rattle.std.proofs.Common.{◌≡◌, ℕ, suc, ◌+◌, ◌<◌, Bool, List, [], ◌∷◌, length, sym, ap, ◌∙◌, subst}
 use Rattle.std.proofs.Common.{Option, Some, None, Vec, Global, false, refl, arith}
 use Rattle.std.specs.Prelude.{All, slice_index_or}
 use Rattle.sja_link.specs.declared.link_id.LinkId.{LinkId}
@@ -23,14 +23,6 @@ use Rattle.sja_threads.specs.AccessRuns.{room_for}
 use Rattle.sja_threads.specs.Inside.Started.{IsThreadStart, HandsBack, HasAnswerRoom, Serves, is_raw}
 use Rattle.sja_threads.specs.Inside.Started.{IsOfScript, IsWorkedBy}
 use Rattle.sja_threads.specs.Working.{HasWorked}
-
--- one more of each of two lists that are related place by place
-pub each_push : {A B : Type 0} (R : A → B → Type 0) (xs : List A) (ys : List B) (x : A) (y : B) → EachRelated R xs ys →
-    R x y → EachRelated R (xs ++ x ∷ []) (ys ++ y ∷ [])
-each_push R [] [] x y p r = (r, tt)
-each_push R [] (v ∷ ys) x y p r = absurd p
-each_push R (u ∷ xs) [] x y p r = absurd p
-each_push R (u ∷ xs) (v ∷ ys) x y p r = (p.0, each_push R xs ys x y p.1 r)
 
 no_base : (a : ℕ) → 0 + a ≡ a
 no_base a = omega arith

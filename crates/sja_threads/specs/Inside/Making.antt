@@ -7,7 +7,7 @@ use Rattle.sja_rings.specs.declared.ring_driver.RingDriver.{RingDriver}
 use Rattle.sja_rings.specs.Ends.{BusLists, DriverLists, OneLink, link_of_bus, link_of_driver}
 use Rattle.sja_plan.specs.Plan.{PlanValue, steps_at}
 use Rattle.sja_driver.specs.Logs.{HasRoom, IsEmpty}
-use Rattle.sja_bus.specs.Buses.{new_bus}
+use Rattle.sja_wire.specs.Buses.{new_bus}
 use Rattle.sja_threads.specs.declared.thread_start.ThreadStart.{ThreadStart}
 use Rattle.sja_threads.specs.declared.run_parts.RunParts.{RunParts}
 use Rattle.sja_threads.specs.AccessRuns.{room_for, rooms}

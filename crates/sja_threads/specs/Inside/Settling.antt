@@ -10,7 +10,7 @@ use Rattle.sja_driver.specs.declared.logged_driver.LoggedDriver.{LoggedDriver}
 use Rattle.sja_driver.specs.LoggedDrivers.{log_of}
 use Rattle.sja_driver.specs.Logs.{done_in}
 use Rattle.sja_script.specs.declared.done.Done.{Done}
-use Rattle.sja_bus.specs.Buses.{BusValue}
+use Rattle.sja_wire.specs.Buses.{BusValue}
 use Rattle.sja_log.specs.declared.end.End.{End}
 use Rattle.sja_log.specs.Log.{NodeValue, RunValue, journals_in}
 use Rattle.sja_threads.specs.declared.worked.Worked.{Worked}

@@ -4,7 +4,7 @@ use Rattle.std.proofs.lemmas.List.{map_more}
 use Rattle.lemmas.specs.Related.{EachRelated}
 use Rattle.sja_log.proofs.NodeLog.Logging.{next_of}
 use Rattle.sja_threads.specs.Inside.Promised.{IsPromised}
-use Rattle.sja_threads.proofs.Start.Threads.{each_push}
+use Rattle.lemmas.proofs.Related.{related_push}
 use Rattle.sja_threads.proofs.joined_run.join_all.Goals as goal
 
 -- one thread more was joined
@@ -18,7 +18,7 @@ kept_next {A} {B} {C} R f n m xs rest x ys all y left grown next so new =
     ∙ ap (λ (z : A). map f (take n xs) ++ f z ∷ []) at.0 in
     subst (λ (l : List B). EachRelated R l all) (sym here)
     (subst (λ (l : List C). EachRelated R (map f (take n xs) ++ f x ∷ []) l) (sym grown)
-    (each_push R (map f (take n xs)) ys (f x) y so new))
+    (related_push R (map f (take n xs)) ys (f x) y so new))
 
 pub loop-child-preserved : goal.loop-child-preserved
 loop-child-preserved g c =

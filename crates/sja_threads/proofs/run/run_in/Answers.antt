@@ -1,7 +1,7 @@
 use Rattle.std.proofs.Common.{rules, ◌≡◌, ℕ, List, length, map, vec_len, refl, ap, subst, arith}
 use Rattle.std.proofs.lemmas.List.{length-map}
 use Rattle.std.proofs.lemmas.Slice.Zip.{AllZip-long}
-use Rattle.sja_bus.specs.Buses.{BusValue}
+use Rattle.sja_wire.specs.Buses.{BusValue}
 use Rattle.sja_threads.specs.AccessRuns.{rooms}
 use Rattle.sja_threads.specs.Stopping.{StopsWith}
 use Rattle.sja_threads.specs.Inside.Promised.{IsFor}

@@ -1,3 +1,5 @@
+use Rattle.std.proofs.Common.{rules, ◌≡◌, subst}
+use Rattle.sja_threads.specs.Stopping.{StopsWith}
 use Rattle.sja_threads.proofs.End.ThreadedRun.{ended_run, if_three}
 use Rattle.sja_threads.proofs.run_end.end_run.Goals as goal
 
@@ -15,3 +17,9 @@ returns-in-Ok-clause-run g c =
     (λ ended run is are. ended_run g.G.Gate.QUITS c.args.plan.now c.args.joined c.rounds_after_drivers.new.self
     c.in-Ok.end ended.log c.requires.ending c.in-Ok.ensures.ends run is _ are)
     c.settled_log.ensures.run c.settled_log.ensures.log c.settled_log.ensures.accesses
+
+-- the fault that is told is the one that the bus answers
+pub returns-in-Err-clause-fault : goal.returns-in-Err-clause-fault
+returns-in-Err-clause-fault g c =
+    subst (StopsWith c.args.joined.bus.bus.steps c.args.plan.now)
+    (let told : c.in-Err.fault ≡ _ = search rules in told) c.in-Err.ensures.fault

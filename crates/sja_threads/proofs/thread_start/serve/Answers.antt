@@ -1,4 +1,4 @@
-use Rattle.std.proofs.Common.{ℕ, List, ap, ◌∙◌, subst}
+use Rattle.std.proofs.Common.{◌≡◌, ℕ, List, sym, ap, ◌∙◌, subst, arith}
 use Rattle.lemmas.specs.Related.{EachRelated}
 use Rattle.sja_rings.specs.declared.ring_driver.RingDriver.{RingDriver}
 use Rattle.sja_rings.specs.Ends.{DriverLists, SameDriver}
@@ -12,6 +12,16 @@ use Rattle.sja_threads.specs.Inside.Started.{IsWorkedBy}
 use Rattle.sja_threads.proofs.Start.Threads.{serves_raw}
 use Rattle.sja_threads.proofs.thread_start.serve.Goals as goal
 
+-- the version of settings after power-on
+version_in : (s : SettingsValue) (version : ℕ) → s ≡ settings_in (at_power_on version) → s.version ≡ version
+version_in s version is = ap (λ (x : SettingsValue). x.version) is
+
+-- they are those of the version that they have
+set_first : (version : ℕ) (s : SettingsValue) (other : ℕ) → s ≡ settings_in (at_power_on other) →
+    s.version ≡ version → s ≡ settings_in (at_power_on version)
+set_first version s other is same =
+    is ∙ ap (λ (n : ℕ). settings_in (at_power_on n)) (sym (version_in s other is) ∙ same)
+
 pub returns-in-Some : goal.returns-in-Some
 returns-in-Some g c =
     let plan = c.args.plan.now in
@@ -20,7 +30,9 @@ returns-in-Some g c =
     let quits = g.G.Gate.QUITS in
     let steps = c.steps-steps.result.now in
     let first = settings_in (at_power_on plan.version) in
-    let set = c.at_power_on-set.ensures ∙ ap (λ (n : ℕ). settings_in (at_power_on n)) c.version.ensures.value in
+    let set = set_first plan.version c.at_power_on-set.result _ c.at_power_on-set.ensures
+    (let is = version_in c.at_power_on-set.result _ c.at_power_on-set.ensures in
+    let same = c.version.ensures.value in omega (arith, is, same)) in
     serves_raw quits plan start w c.in-Some.done c.in-Some.is
     (subst (λ (t : DriverThread RingDriver). EachRelated SameDriver t.links.items w.links.items) c.new.ensures.thread
     c.follow-in-Some.ensures.same)

@@ -4,7 +4,8 @@ use Rattle.std.proofs.lemmas.List.{map_push, take_more}
 use Rattle.lemmas.specs.Related.{EachRelated}
 use Rattle.sja_log.proofs.NodeLog.Logging.{next_of}
 use Rattle.sja_threads.specs.Inside.Promised.{IsFor}
-use Rattle.sja_threads.proofs.Start.Threads.{each_push, starts_rest}
+use Rattle.lemmas.proofs.Related.{related_push}
+use Rattle.sja_threads.proofs.Start.Threads.{starts_rest}
 use Rattle.sja_threads.proofs.thread_start.start_all.Goals as goal
 
 -- one thread more was started
@@ -18,7 +19,7 @@ started_next {A} {B} R f n xs rest x ys all y left grown so new =
     let there : map f all ≡ map f ys ++ f y ∷ [] = ap (λ l. map f l) grown ∙ map_push f ys y in
     subst (λ (l : List A). EachRelated R l (map f all)) (sym here)
     (subst (λ (l : List B). EachRelated R (take n xs ++ x ∷ []) l) (sym there)
-    (each_push R (take n xs) (map f ys) x (f y) so new))
+    (related_push R (take n xs) (map f ys) x (f y) so new))
 
 pub loop-start-preserved : goal.loop-start-preserved
 loop-start-preserved g c =

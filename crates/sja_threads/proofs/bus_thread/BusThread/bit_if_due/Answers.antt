@@ -1,24 +1,18 @@
-use Rattle.std.proofs.Common.{rules, ◌≡◌, Err, refl, arith}
+use Rattle.std.proofs.Common.{rules, ◌≡◌, false, Err, refl, arith}
 use Rattle.std.specs.Vec.{with_items}
 use Rattle.std.proofs.lemmas.List.{with_items_is}
 use Rattle.lemmas.proofs.Results.{err_is}
 use Rattle.sja_threads.specs.Stopping.{StopsWith}
-use Rattle.sja_threads.proofs.Rounds.GoesOn.{after_bit, stays_on, spent_now, all_rest}
+use Rattle.sja_threads.proofs.Rounds.GoesOn.{after_bit, spent_now}
 use Rattle.sja_threads.proofs.Rounds.Stops.{stops_bit}
 use Rattle.sja_threads.proofs.bus_thread.BusThread.bit_if_due.Goals as goal
-
-pub returns-then-at_rest-clause-on : goal.returns-then-at_rest-clause-on
-returns-then-at_rest-clause-on g c = stays_on c.args.plan.now c.args.self.now c.requires.way
-
-pub returns-then-at_rest-clause-rests : goal.returns-then-at_rest-clause-rests
-returns-then-at_rest-clause-rests g c = λ rests.
-    all_rest c.args.self.now.bus.journals (c.at_rest.ensures.rest c.requires.way.right c.if-at_rest.true)
 
 pub returns-then-self-bits-clause-on : goal.returns-then-self-bits-clause-on
 returns-then-self-bits-clause-on g c =
     let w = c.requires.way in
+    let busy : c.at_rest.result ≡ false = search rules in
     spent_now c.args.plan.now c.args.self.now w (search rules) (c.at_rest.ensures.lawful w.right)
-    (c.at_rest.ensures.busy w.right c.if-at_rest.false)
+    (c.at_rest.ensures.busy w.right busy)
 
 pub returns-clause-on : goal.returns-clause-on
 returns-clause-on g c =
@@ -26,11 +20,12 @@ returns-clause-on g c =
     let o = c.in_ok-bit.ensures.bit in
     let k = o.keeps in
     let links = c.args.self.now.links in
+    let busy : c.at_rest.result ≡ false = search rules in
     let those : (with_items links c.bit.new.links).items ≡ c.bit.new.links =
     with_items_is links c.bit.new.links (omega (arith, c.bit.auto.links, c.as_mut_slice.ensures.len)) in
     after_bit c.args.self.now _ c.as_mut_slice.result.now c.bit.new.links c.as_mut_slice.ensures.value those k.script
     k.steps k.nodes k.sames c.args.plan.now w o.right o.kept _ _ _ (o.run, o.left) (c.at_rest.ensures.lawful w.right)
-    (c.at_rest.ensures.busy w.right c.if-at_rest.false) (search rules) o.bit refl refl
+    (c.at_rest.ensures.busy w.right busy) (search rules) o.bit refl refl
 
 pub returns-in_err-bit-clause-fault : goal.returns-in_err-bit-clause-fault
 returns-in_err-bit-clause-fault g c =

@@ -1,5 +1,7 @@
 use Rattle.std.proofs.Common.{rules, ◌≡◌, ℕ, List, Ok, Err, refl, ap, ◌∙◌, subst, arith, inl, inr}
 use Rattle.lemmas.proofs.Results.{err_is}
+use Rattle.sja_log.specs.declared.end.End.{End}
+use Rattle.sja_log.specs.declared.end.End.TheVariants.{Rest, Bits, Turns}
 use Rattle.sja_threads.specs.declared.round.Round.{Round}
 use Rattle.sja_threads.specs.Stopping.{StopsWith}
 use Rattle.sja_threads.specs.Inside.Rounds.{GoesOn}
@@ -7,6 +9,22 @@ use Rattle.sja_threads.proofs.Rounds.GoesOn.{stays_on, on_twice}
 use Rattle.sja_threads.proofs.bus_thread.BusThread.rounds_after_drivers.Given.{Over}
 use Rattle.sja_threads.proofs.bus_thread.BusThread.rounds_after_drivers.Goals.{In_ok-gather, In_ok-bit_if_due}
 use Rattle.sja_threads.proofs.bus_thread.BusThread.rounds_after_drivers.Goals as goal
+
+-- how a run ends, by number
+abbrev number_of : End → ℕ
+number_of Rest = 0
+number_of Bits = 1
+number_of Turns = 2
+
+rest_is : (end : End) → number_of end ≡ 0 → end ≡ Rest
+rest_is Rest is = refl
+rest_is Bits is = absurd (omega (arith, is))
+rest_is Turns is = absurd (omega (arith, is))
+
+bits_is : (end : End) → number_of end ≡ 1 → end ≡ Bits
+bits_is Rest is = absurd (omega (arith, is))
+bits_is Bits is = refl
+bits_is Turns is = absurd (omega (arith, is))
 
 -- once what was left was taken
 taken : (g : Over) (c : In_ok-gather g) → GoesOn c.args.plan.now c.args.self.now c.gather.new.self
@@ -65,7 +83,7 @@ pub returns-in-Rests-clause-ends : goal.returns-in-Rests-clause-ends
 returns-in-Rests-clause-ends g c = record {
   on = one_more g (goal.at.returns-in-Rests-clause-ends g c).In_ok-bit_if_due;
   duly = inl (
-    refl,
+    rest_is _ (omega arith),
     c.bit_if_due.ensures.rests (c.in_ok-bit_if_due.was ∙ ap (λ (r : Round). Ok r) c.in-Rests.is),
   );
 }
@@ -74,10 +92,10 @@ pub returns-in_default-clause-ends : goal.returns-in_default-clause-ends
 returns-in_default-clause-ends g c =
     let on = one_more g (goal.at.returns-in_default-clause-ends g c).In_ok-bit_if_due in
     let spent = on.way.spent (search rules) in
-    record { on = on; duly = inr (refl, spent.0, spent.1) }
+    record { on = on; duly = inr (bits_is _ (omega arith), spent.0, spent.1) }
 
 pub returns-in_default-2-clause-ends : goal.returns-in_default-2-clause-ends
 returns-in_default-2-clause-ends g c =
     let on = one_more g (goal.at.returns-in_default-2-clause-ends g c).In_ok-bit_if_due in
     let spent = on.way.spent (search rules) in
-    record { on = on; duly = inr (refl, spent.0, spent.1) }
+    record { on = on; duly = inr (bits_is _ (omega arith), spent.0, spent.1) }

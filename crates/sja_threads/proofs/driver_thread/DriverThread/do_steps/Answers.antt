@@ -1,4 +1,4 @@
-use Rattle.std.proofs.Common.{take, ◌≡◌, ◌+◌, ◌++◌, List, [], ◌∷◌, length, sym, ap, ◌∙◌, subst, arith}
+use Rattle.std.proofs.Common.{take, ◌≡◌, ℕ, ◌+◌, ◌++◌, ◌<◌, List, [], ◌∷◌, length, sym, ap, ◌∙◌, subst, arith}
 use Rattle.std.proofs.lemmas.List.{length-take-le, take_more}
 use Rattle.sja_script.specs.declared.step.Step.{Step}
 use Rattle.sja_threads.specs.Inside.Steps.{DoesSteps}
@@ -25,7 +25,7 @@ returns-then-not-do_step-clause-done g c =
 
 pub loop-k-preserved : goal.loop-k-preserved
 loop-k-preserved g c =
-    let few = c.loop-k-test.true in
+    let few : c.loop-k.k < length c.args.steps.now = let low = c.loop-k-test.true in omega (arith, low) in
     let s = c.index-steps-k.result in record {
       done = subst (λ (l : List Step). DoesSteps g.D.DriverEnd c.args.self.now c.do_step.new.self l)
           (sym (take_more c.args.steps.now c.loop-k.k s few
@@ -34,3 +34,10 @@ loop-k-preserved g c =
           (take c.loop-k.k c.args.steps.now) c.loop-k.invariant.done s c.do_step.result c.if-not-do_step.false
           c.do_step.ensures.done);
     }
+
+-- the loop ends behind the last one
+pub returns-clause-done : goal.returns-clause-done
+returns-clause-done g c =
+    let end : c.loop-k.k ≡ length c.args.steps.now = let past = c.loop-k-test.false in omega (arith, past) in
+    subst (λ (n : ℕ). DoesSteps g.D.DriverEnd c.args.self.now c.loop-k.self (take n c.args.steps.now)) end
+    c.loop-k.invariant.done

@@ -1,9 +1,19 @@
-use Rattle.std.proofs.Common.{◌≡◌, true, false, refl, sym, ap, ◌∙◌, subst, arith}
+use Rattle.std.proofs.Common.{rules, ◌≡◌, true, false, refl, sym, ap, ◌∙◌, subst, arith}
 use Rattle.std.proofs.lemmas.List.{with_items_is}
 use Rattle.sja_regs.specs.declared.registers.Registers.{Registers}
 use Rattle.sja_regs.specs.DriverSettings.{HasSettings, settings_in}
 use Rattle.sja_threads.proofs.Driver.Steps.{does_try}
+use Rattle.sja_threads.proofs.driver_thread.DriverThread.try_at_port.Goals.{After-step}
 use Rattle.sja_threads.proofs.driver_thread.DriverThread.try_at_port.Goals as goal
+
+-- at the step the port has what is set
+has_set : (g : _) (c : After-step g) → HasSettings c.deref_mut-2.result.now c.args.self.now.set
+has_set g c =
+    let version : c.restore.new.self.version ≡ c.args.self.now.set.version =
+    let is = c.restore.ensures.has.version in omega (arith, is) in
+    subst (λ (p : Registers). HasSettings p c.args.self.now.set) (sym c.deref_mut-2.ensures.value)
+    (let those : HasSettings c.restore.new.self c.args.self.now.set = search rules in
+    record those { version = version })
 
 pub returns-then-not-step : goal.returns-then-not-step
 returns-then-not-step g c =
@@ -11,10 +21,9 @@ returns-then-not-step g c =
     let links = c.args.self.now.links in
     let no = c.if-not-step.true in
     let those = with_items_is links s.new.links (omega (arith, s.auto.links, c.as_mut_slice.ensures.len)) in
-    let has = subst (λ (p : Registers). HasSettings p c.args.self.now.set) (sym c.deref_mut-2.ensures.value)
-    c.restore.ensures.has in
     does_try g.D.DriverEnd c.args.self.now _ c.as_mut_slice.result.now s.new.links c.deref_mut-2.result.now s.new.port
-    c.args.step.now s.result c.as_mut_slice.ensures.value those c.requires.enough has
+    c.args.step.now s.result c.as_mut_slice.ensures.value those c.requires.enough
+    (has_set g (goal.at.returns-then-not-step g c).After-step)
     (λ e. absurd (let x : false ≡ true = sym no ∙ e in cc)) (λ e. refl) s.ensures.stays s.ensures.steps false no
 
 pub returns : goal.returns
@@ -23,10 +32,9 @@ returns g c =
     let links = c.args.self.now.links in
     let yes = c.if-not-step.false in
     let those = with_items_is links s.new.links (omega (arith, s.auto.links, c.as_mut_slice.ensures.len)) in
-    let has = subst (λ (p : Registers). HasSettings p c.args.self.now.set) (sym c.deref_mut-2.ensures.value)
-    c.restore.ensures.has in
     does_try g.D.DriverEnd c.args.self.now _ c.as_mut_slice.result.now s.new.links c.deref_mut-2.result.now s.new.port
-    c.args.step.now s.result c.as_mut_slice.ensures.value those c.requires.enough has
+    c.args.step.now s.result c.as_mut_slice.ensures.value those c.requires.enough
+    (has_set g (goal.at.returns g c).After-step)
     (λ e. c.settings-self.ensures ∙ ap settings_in c.deref.ensures)
     (λ e. absurd (let x : true ≡ false = sym yes ∙ e in cc))
     s.ensures.stays s.ensures.steps true yes

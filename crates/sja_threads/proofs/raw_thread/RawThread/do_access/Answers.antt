@@ -1,7 +1,7 @@
 use Rattle.std.proofs.Common.{sym, subst}
 use Rattle.sja_script.specs.declared.step.Step.{Step}
 use Rattle.sja_threads.specs.Inside.Accesses.{BreaksOff, DoesAccess}
-use Rattle.sja_threads.proofs.Driver.Accesses.{write_done, write_quits}
+use Rattle.sja_threads.proofs.Driver.OneAccess.{write_done, write_quits}
 use Rattle.sja_threads.proofs.raw_thread.RawThread.do_access.Goals as goal
 
 pub returns-then-not-do_write-clause-quits : goal.returns-then-not-do_write-clause-quits

@@ -2,7 +2,8 @@ use Rattle.std.proofs.Common.{take, drop, ◌+◌, ◌-◌, ◌++◌, List, [], 
 use Rattle.std.proofs.lemmas.List.{take_all, take_more}
 use Rattle.sja_script.specs.declared.step.Step.{Step}
 use Rattle.sja_threads.specs.Inside.Accesses.{HasDone, HasEnded}
-use Rattle.sja_threads.proofs.Driver.Accesses.{access_less, done_all, round_one}
+use Rattle.sja_threads.proofs.Driver.Accesses.{round_one}
+use Rattle.sja_threads.proofs.Driver.OneAccess.{access_less, done_all}
 use Rattle.sja_threads.proofs.raw_thread.RawThread.do_accesses.Goals as goal
 
 pub returns-then-not-do_access : goal.returns-then-not-do_access

@@ -1,6 +1,7 @@
 use Rattle.std.proofs.Common.{refl, ap, ◌∙◌}
 use Rattle.sja_driver.specs.Logs.{done_in}
-use Rattle.sja_threads.proofs.Driver.Accesses.{must_quit, typed_done, typed_quits}
+use Rattle.sja_threads.proofs.Driver.Accesses.{must_quit}
+use Rattle.sja_threads.proofs.Driver.OneAccess.{typed_done, typed_quits}
 use Rattle.sja_threads.proofs.raw_thread.RawThread.do_typed.Goals as goal
 
 pub returns-then-not-do_step-clause-quits : goal.returns-then-not-do_step-clause-quits

@@ -2,7 +2,8 @@ use Rattle.std.proofs.Common.{◌+◌, List, length, subst, arith, inr}
 use Rattle.sja_raw.specs.WriteLists.{steps_in}
 use Rattle.sja_script.specs.declared.step.Step.{Step}
 use Rattle.sja_threads.specs.Inside.Accesses.{Writes}
-use Rattle.sja_threads.proofs.Driver.Accesses.{begun_able, first_able, write_begun, write_more}
+use Rattle.sja_threads.proofs.Driver.Accesses.{first_able}
+use Rattle.sja_threads.proofs.Driver.WholeWrites.{begun_able, write_begun, write_more}
 use Rattle.sja_threads.proofs.Driver.Steps.{may_less}
 use Rattle.sja_threads.proofs.raw_thread.RawThread.do_write.Goals as goal
 

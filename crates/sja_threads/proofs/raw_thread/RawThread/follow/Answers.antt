@@ -1,4 +1,4 @@
-use Rattle.sja_threads.proofs.Driver.Accesses.{done_none, worked_raw}
+use Rattle.sja_threads.proofs.Driver.OneAccess.{done_none, worked_raw}
 use Rattle.sja_threads.proofs.raw_thread.RawThread.follow.Goals as goal
 
 pub returns-clause-same : goal.returns-clause-same

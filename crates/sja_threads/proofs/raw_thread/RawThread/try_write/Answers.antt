@@ -1,7 +1,8 @@
 use Rattle.std.proofs.Common.{◌++◌, length, arith}
 use Rattle.std.proofs.lemmas.List.{length-append}
 use Rattle.sja_raw.specs.WriteLists.{listed}
-use Rattle.sja_threads.proofs.Driver.Accesses.{first_part, first_wide, rest_able}
+use Rattle.sja_threads.proofs.Driver.Accesses.{first_part, first_wide}
+use Rattle.sja_threads.proofs.Driver.WholeWrites.{rest_able}
 use Rattle.sja_threads.proofs.Driver.Steps.{may_less}
 use Rattle.sja_threads.proofs.raw_thread.RawThread.try_write.Goals as goal
 
