@@ -1,7 +1,7 @@
 -- How a session of any version begins (this project's own rule): in versions 1 and 2 as one of typed steps, in
 -- version 3 as one of accesses.
 use Rattle.std.specs.Prelude.{◌≡◌, ◌<◌, ℕ, [], replicate}
-use Rattle.sja_bus.specs.Buses.{new_bus}
+use Rattle.sja_wire.specs.Buses.{new_bus}
 use Rattle.sja_plan.specs.Growing.{plan_of}
 use Rattle.sja_plan.specs.Limits.{most_steps_told, most_turns}
 use Rattle.sja_raw.specs.Kept.{at_power_on}

@@ -5,7 +5,7 @@ use Rattle.sja_script.specs.declared.step.Step.{Step}
 use Rattle.sja_script.specs.declared.step.Step.TheVariants.{Read, Write}
 use Rattle.sja_script.specs.declared.step_answer.StepAnswer.{StepAnswer}
 use Rattle.sja_script.specs.declared.step_answer.StepAnswer.TheVariants.{Done as DoneAnswer, Value}
-use Rattle.sja_serial.specs.Serial.{with_deeds}
+use Rattle.sja_driver.specs.Deeds.{with_deeds}
 use Rattle.sja_session.specs.RawSessions.{DoesTyped, Reads, Writes, MayWrite, IsWriteFault}
 use Rattle.sja_session.specs.Stepping.{MayStep as MayTyped, IsStepFault as IsTypedFault, Waits}
 use Rattle.sja_session.specs.declared.step_fault.StepFault.{StepFault}

@@ -1,5 +1,4 @@
 pub mod PlanTurns
 pub mod AfterCalls
 pub mod WrittenPlan
-pub mod StruckBefore
 pub mod PlannedRuns

@@ -4,3 +4,4 @@ pub mod Covered
 pub mod Reached
 pub mod AsPlanned
 pub mod PlannedRun
+pub mod ReplayedSteps

@@ -8,7 +8,7 @@ use Rattle.sja_script.specs.declared.step.Step.{Step}
 use Rattle.sja_script.specs.declared.step.Step.TheVariants.{Read, Write}
 use Rattle.sja_script.specs.declared.step_answer.StepAnswer.{StepAnswer}
 use Rattle.sja_script.specs.declared.step_answer.StepAnswer.TheVariants.{Done as DoneAnswer, Value}
-use Rattle.sja_serial.specs.Serial.{with_deeds}
+use Rattle.sja_driver.specs.Deeds.{with_deeds}
 use Rattle.sja_session.specs.RawSessions.{RawValue, DoesTyped, Reads, Writes}
 use Rattle.sja_session.specs.Sessions.{IsAt}
 use Rattle.sja_session.specs.Stepping.{Waits}

@@ -1,6 +1,6 @@
 -- What a session of version 3 has come through (this project's own rule).
 use Rattle.std.specs.Prelude.{◌≡◌, ◌*◌, ℕ, Bool, Option, List, [], replicate}
-use Rattle.sja_bus.specs.Buses.{new_bus}
+use Rattle.sja_wire.specs.Buses.{new_bus}
 use Rattle.sja_driver.specs.Deeds.{Deed}
 use Rattle.sja_plan.specs.Growing.{plan_of}
 use Rattle.sja_raw.specs.Kept.{at_power_on}

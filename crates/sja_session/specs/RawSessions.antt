@@ -9,7 +9,7 @@ use Rattle.sja_script.specs.declared.step.Step.TheVariants.{Read}
 use Rattle.sja_script.specs.declared.step_answer.StepAnswer.{StepAnswer}
 use Rattle.sja_driver.specs.Deeds.{Deed, deeds_at, is_active}
 use Rattle.sja_log.specs.Registering.{seen_now}
-use Rattle.sja_serial.specs.Serial.{with_deeds}
+use Rattle.sja_driver.specs.Deeds.{with_deeds}
 use Rattle.sja_raw.specs.declared.kept_bytes.KeptBytes.{KeptBytes}
 use Rattle.sja_raw.specs.Kept.{at_power_on, kept_after, moved_by_answer}
 use Rattle.sja_raw.specs.Reads.{raw_value}

@@ -12,9 +12,9 @@ use Rattle.sja_script.specs.declared.step_answer.StepAnswer.{StepAnswer}
 use Rattle.sja_driver.specs.Carried.{Tells, carried, ported}
 use Rattle.sja_driver.specs.Deeds.{Deed, deeds_at, opened_by, is_active, FitsState}
 use Rattle.sja_log.specs.Registering.{seen_now}
-use Rattle.sja_log.specs.Windows.{SeesIf}
-use Rattle.sja_serial.specs.Serial.{with_deeds}
-use Rattle.sja_serial.specs.Waiting.{HasToWait}
+use Rattle.sja_driver.specs.Windows.{SeesIf}
+use Rattle.sja_driver.specs.Deeds.{with_deeds}
+use Rattle.sja_log.specs.Waiting.{HasToWait}
 use Rattle.sja_session.specs.declared.step_fault.StepFault.{StepFault}
 use Rattle.sja_session.specs.declared.step_fault.StepFault.TheVariants.{NoNode, StepsUsed, TurnsUsed}
 use Rattle.sja_session.specs.Sessions.{SessionValue, IsAt, written}

@@ -19,7 +19,7 @@ use std::alloc::Global;
 
 impl Session {
     ghost use Rattle.std.specs.Prelude.{◌≡◌, [], length, replicate, IfOk, IfErr, OnOk};
-    ghost use Rattle.sja_bus.specs.Buses.{new_bus};
+    ghost use Rattle.sja_wire.specs.Buses.{new_bus};
     ghost use Rattle.sja_plan.specs.Growing.{plan_of};
     ghost use Rattle.sja_session.specs.Beginning.{IsRoom, LacksRoom};
     ghost use Rattle.sja_session.specs.Sessions.{IsAt, written};
@@ -55,7 +55,7 @@ impl Session {
 
 impl RawSession {
     ghost use Rattle.std.specs.Prelude.{◌≡◌, [], length, replicate, IfOk, IfErr, OnOk};
-    ghost use Rattle.sja_bus.specs.Buses.{new_bus};
+    ghost use Rattle.sja_wire.specs.Buses.{new_bus};
     ghost use Rattle.sja_plan.specs.Growing.{plan_of};
     ghost use Rattle.sja_raw.specs.Kept.{at_power_on};
     ghost use Rattle.sja_session.specs.Beginning.{IsRoom, LacksRoom};

@@ -40,7 +40,7 @@ impl Model for RawSession {
 
 impl RawSession {
     ghost use Rattle.std.specs.Prelude.{◌≡◌, [], replicate, IfOk, IfErr, OnOk};
-    ghost use Rattle.sja_bus.specs.Buses.{new_bus};
+    ghost use Rattle.sja_wire.specs.Buses.{new_bus};
     ghost use Rattle.sja_plan.specs.Growing.{plan_of};
     ghost use Rattle.sja_raw.specs.Kept.{at_power_on};
     ghost use Rattle.sja_plan.specs.Limits.{most_steps};

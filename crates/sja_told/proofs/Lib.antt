@@ -1,3 +1,1 @@
-pub mod Driven
-pub mod Ports
 pub mod Told

@@ -1,10 +1,6 @@
 -- Each bit of a run is told.
-pub mod NextSegments
-pub mod SomeViews
-pub mod Receptions
-pub mod Bits
-pub mod Items
-pub mod Stores
+pub mod ToldBits
+pub mod ItemsFit
 pub mod Runs
 pub mod AllRuns
 pub mod StoredRuns

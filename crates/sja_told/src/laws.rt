@@ -6,7 +6,7 @@ ghost use Rattle.sja_log.specs.Log.{NodeValue, RunValue};
 ghost use Rattle.sja_log.specs.Runs.{IsSerialRun};
 ghost use Rattle.sja_replay.specs.declared.happening.Happening.{Happening};
 ghost use Rattle.sja_replay.specs.Happened.{Happened};
-ghost use Rattle.sja_told.specs.Stored.{AllStored};
+ghost use Rattle.sja_replay.specs.Stored.{AllStored};
 
 /// A law: the journal of each node of a run in one thread has happenings. The number of bits of a log is a `u32`.
 pub fn every_journal_of_a_run_has_happenings()

@@ -9,7 +9,6 @@
 mod laws;
 mod line_laws;
 mod plan_laws;
-mod record_laws;
 mod session_laws;
 
 pub use laws::{
@@ -20,7 +19,6 @@ pub use plan_laws::{
     every_bit_of_a_plan_run_is_told, every_journal_of_a_plan_run_has_happenings,
     every_stored_message_of_a_plan_run_has_its_line, every_stored_message_of_a_plan_run_is_told,
 };
-pub use record_laws::{a_bit_is_driven_as_the_cut_says, a_front_has_a_cut};
 pub use session_laws::{
     every_bit_of_a_session_is_told, every_journal_of_a_session_has_happenings,
     every_stored_message_of_a_session_has_its_line, every_stored_message_of_a_session_is_told,

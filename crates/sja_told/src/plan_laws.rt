@@ -9,7 +9,7 @@ ghost use Rattle.sja_log.specs.Log.{NodeValue, RunValue};
 ghost use Rattle.sja_plan_session.specs.PlanRuns.{IsPlanRun};
 ghost use Rattle.sja_replay.specs.declared.happening.Happening.{Happening};
 ghost use Rattle.sja_replay.specs.Happened.{Happened};
-ghost use Rattle.sja_told.specs.Stored.{AllStored};
+ghost use Rattle.sja_replay.specs.Stored.{AllStored};
 ghost use Rattle.sja_trace.specs.StoredLines.{IsToldStored};
 ghost use Rattle.sja_trace.specs.TraceText.{IsTrace};
 

@@ -1,11 +1,9 @@
-//! What a bit brought that told nothing, and what became of a frame that was received.
+//! What became of a frame that was received.
 
 ghost use Rattle.std.specs.Prelude.{◌≡◌, Some};
-ghost use Rattle.can_node.specs.Stands.{nothing};
 ghost use Rattle.sja_traced.specs.KnownBits.{fate_by};
 
 use can_frame::{Frame, Message};
-use can_node::BitEvents;
 use sja_link::Verdict;
 use sja_replay::Fate;
 
@@ -30,20 +28,5 @@ fn judged_by(frame: &Frame, verdict: Option<Verdict>, free: u8) -> Fate
             length: Message::of(frame).len() as u8,
             free,
         },
-    }
-}
-
-/// The events of a bit in which nothing happened, to a receiver or not.
-pub(crate) fn nothing(receiving: bool) -> BitEvents
-    ensures { result ≡ nothing receiving }
-{
-    BitEvents {
-        received: None,
-        ended: None,
-        lost: None,
-        fault: None,
-        receiving,
-        went_off: false,
-        recovered: false,
     }
 }

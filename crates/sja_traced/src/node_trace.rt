@@ -1,8 +1,8 @@
 //! [`NodeTrace`]: what is known of a node of a run that is traced.
 
-use super::fates::{fate_of, nothing};
+use super::fates::fate_of;
 use can_bits::Level;
-use can_node::{Counters, Node, Phase};
+use can_node::{BitEvents, Counters, Node, Phase};
 use sja_link::{Journal, LastBit};
 use sja_regs::BusTurn;
 use sja_replay::{Happening, ShortBit, View};
@@ -120,7 +120,7 @@ impl NodeTrace {
             seen,
             aborted: false,
             before: self.view.copy(),
-            events: nothing(!self.view.transmits),
+            events: BitEvents::nothing(!self.view.transmits),
             after: self.view.copy(),
             fate: None,
         }

@@ -23,7 +23,7 @@ pub(crate) struct RunTrace {
 impl RunTrace {
     ghost use Rattle.std.specs.Prelude.{◌≡◌, ◌++◌, [], length, replicate};
     ghost use Rattle.std.specs.Prelude.{string_bytes, IfOk, OnOk};
-    ghost use Rattle.sja_bus.specs.Buses.{new_bus};
+    ghost use Rattle.sja_wire.specs.Buses.{new_bus};
     ghost use Rattle.sja_plan.specs.Plan.{step_counts};
     ghost use Rattle.sja_report.specs.ReportLines.{numbered};
     ghost use Rattle.sja_serial.specs.Serial.{IsRunOf, StandsAt};

@@ -9,7 +9,7 @@ use std::alloc::Global;
 
 impl RunTrace {
     ghost use Rattle.std.specs.Prelude.{◌≡◌, [], List, length, replicate, IfOk, OnOk};
-    ghost use Rattle.sja_bus.specs.Buses.{new_bus};
+    ghost use Rattle.sja_wire.specs.Buses.{new_bus};
     ghost use Rattle.sja_driver.specs.Deeds.{Deed};
     ghost use Rattle.sja_plan.specs.Plan.{NamesNode, step_counts};
     ghost use Rattle.sja_serial.specs.Bits.{TakesBusTurn, TakesRest};

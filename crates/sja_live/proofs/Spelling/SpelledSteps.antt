@@ -20,7 +20,7 @@ use Rattle.sja_plan_text.specs.HasTexts.{HasStepText}
 use Rattle.sja_script.specs.declared.step.Step.{Step}
 use Rattle.sja_script.specs.declared.step.Step.TheVariants.{Read as ReadStep, Write as WriteStep}
 use Rattle.sja_script.specs.declared.step_answer.StepAnswer.{StepAnswer}
-use Rattle.sja_serial.specs.Serial.{with_deeds}
+use Rattle.sja_driver.specs.Deeds.{with_deeds}
 use Rattle.sja_session.specs.RawSessions.{RawValue, DoesSteps, steps_of as steps_of_write}
 use Rattle.sja_session.specs.RawSessions.DoesSteps.{none as no_step, more}
 use Rattle.sja_session.specs.Sessions.{SessionValue, IsAt, written as written_typed}

@@ -28,7 +28,7 @@ use Rattle.sja_plan_session.specs.Running.{MayRun, WritesBits, with_bits}
 use Rattle.sja_plan_session.specs.Striking.{Strikes}
 use Rattle.sja_plan_session.proofs.AfterCalls.Bits.{BitsLed, runs_led, rests_led, watches_led, few_bits, had_turn}
 use Rattle.sja_plan_session.proofs.AfterCalls.Bits.{bits_led}
-use Rattle.sja_plan_session.proofs.AfterCalls.Kept.{after_bits, after_none}
+use Rattle.sja_plan_session.proofs.AfterCalls.KeptByBits.{after_bits, after_none}
 use Rattle.sja_plan_session.proofs.WrittenPlan.Within.{few_steps, size_within}
 
 -- the session with other turns and another one below it

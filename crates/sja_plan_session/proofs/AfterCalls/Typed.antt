@@ -20,7 +20,7 @@ use Rattle.sja_regs.specs.declared.registers.Registers.{Registers}
 use Rattle.sja_script.specs.declared.step.Step.{Step}
 use Rattle.sja_script.specs.declared.step.Step.TheVariants.{Read, Write, Start, Stop, Command, Release}
 use Rattle.sja_script.specs.declared.step_answer.StepAnswer.{StepAnswer}
-use Rattle.sja_serial.specs.Serial.{with_deeds}
+use Rattle.sja_driver.specs.Deeds.{with_deeds}
 use Rattle.sja_session.specs.RawSessions.{RawValue, DoesSteps, HasTurnFor, IsAccessFault, IsWriteFault, MayDo}
 use Rattle.sja_session.specs.RawSessions.{Writes}
 use Rattle.sja_session.specs.RawSessions.DoesSteps.{none, more}

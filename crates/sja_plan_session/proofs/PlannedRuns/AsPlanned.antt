@@ -25,9 +25,9 @@ use Rattle.sja_plan_session.proofs.PlannedRuns.Covered.{names}
 use Rattle.sja_plan_session.proofs.PlannedRuns.Covered.{next_there, told_step}
 use Rattle.sja_plan_session.proofs.PlannedRuns.Joined.{TookTurns, step_on}
 use Rattle.sja_plan_session.proofs.PlannedRuns.Joined.TookTurns.{begun}
-use Rattle.sja_plan_session.proofs.StruckBefore.Replayed.{replays_own, struck_with}
-use Rattle.sja_plan_session.proofs.StruckBefore.ReplayedBits.{rests_as, runs_as, watches_as}
-use Rattle.sja_plan_session.proofs.StruckBefore.ReplayedSteps.{planned, step_replayed}
+use Rattle.sja_session.proofs.StruckBefore.Replayed.{replays_own, struck_with}
+use Rattle.sja_session.proofs.StruckBefore.ReplayedBits.{rests_as, runs_as, watches_as}
+use Rattle.sja_plan_session.proofs.PlannedRuns.ReplayedSteps.{planned, step_replayed}
 use Rattle.sja_plan_session.proofs.PlannedRuns.Reached.{IsReached, reached_bits, reached_same, same_look, same_strike}
 use Rattle.sja_plan_session.proofs.PlannedRuns.Reached.{same_wait}
 

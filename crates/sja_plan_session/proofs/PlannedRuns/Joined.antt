@@ -23,7 +23,7 @@ use Rattle.sja_plan_session.specs.RawRuns.DoesSteps.{all, more}
 use Rattle.sja_plan_session.specs.RawRuns.DoesTurns.{bus as does_bus, node as does_node}
 use Rattle.sja_plan_session.specs.Running.{Runs, with_bits}
 use Rattle.sja_plan_session.proofs.AfterCalls.Bits.{bits_more, told_more}
-use Rattle.sja_plan_session.proofs.StruckBefore.ReplayedBits.{AnyTime, takes_both}
+use Rattle.sja_session.proofs.StruckBefore.ReplayedBits.{AnyTime, takes_both}
 use Rattle.sja_plan_session.proofs.WrittenPlan.Within.{same_node}
 
 -- ---- what was taken

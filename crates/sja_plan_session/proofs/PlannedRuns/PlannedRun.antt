@@ -4,7 +4,7 @@ use Rattle.std.proofs.Common.{replicate}
 use Rattle.std.specs.Prelude.{reverse}
 use Rattle.std.proofs.lemmas.List.{reverse-reverse}
 use Rattle.std.proofs.lemmas.List.Elements.{All-from_get_or}
-use Rattle.sja_bus.specs.Buses.{BusValue}
+use Rattle.sja_wire.specs.Buses.{BusValue}
 use Rattle.sja_driver.specs.Deeds.{Deed}
 use Rattle.sja_log.specs.Log.{RunValue}
 use Rattle.sja_log.specs.Runs.{IsSerialRun}
@@ -28,10 +28,10 @@ use Rattle.sja_plan_session.proofs.PlannedRuns.Reached.{IsReached}
 use Rattle.sja_plan_session.proofs.AfterCalls.Begun.{nodes_are}
 use Rattle.sja_plan_session.proofs.PlannedRuns.Covered.{Covers}
 use Rattle.sja_plan_session.proofs.PlannedRuns.Joined.{turns_lead}
-use Rattle.sja_plan_session.proofs.StruckBefore.Replayed.{Replays, at_replayed, replayed, replays_own, restruck}
-use Rattle.sja_plan_session.proofs.StruckBefore.Replayed.{struck_with}
-use Rattle.sja_plan_session.proofs.StruckBefore.Replayed.{written_replayed}
-use Rattle.sja_plan_session.proofs.StruckBefore.ReplayedSteps.{planned}
+use Rattle.sja_session.proofs.StruckBefore.Replayed.{Replays, at_replayed, replayed, replays_own, restruck}
+use Rattle.sja_session.proofs.StruckBefore.Replayed.{struck_with}
+use Rattle.sja_session.proofs.StruckBefore.Replayed.{written_replayed}
+use Rattle.sja_plan_session.proofs.PlannedRuns.ReplayedSteps.{planned}
 
 -- a new session, given other strikes, is a new one with these
 new_planned : (first : PlanSessionValue) (bits nodes : ℕ) (room : SessionRoom) (old strikes : List Strike) →

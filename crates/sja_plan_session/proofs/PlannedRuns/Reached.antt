@@ -24,10 +24,10 @@ use Rattle.sja_plan_session.specs.Striking.{Strikes}
 use Rattle.sja_plan_session.proofs.AfterCalls.Bits.{BitsLed, few_bits}
 use Rattle.sja_plan_session.proofs.PlannedRuns.Covered.{IsTold, told_same}
 use Rattle.sja_plan_session.proofs.PlannedRuns.Joined.{TookTurns, bits_on}
-use Rattle.sja_plan_session.proofs.StruckBefore.Replayed.{Replays, at_replayed, done_plan, restruck, struck_with}
-use Rattle.sja_plan_session.proofs.StruckBefore.Replayed.{written_replayed}
-use Rattle.sja_plan_session.proofs.StruckBefore.ReplayedBits.{AnyTime, BitsAs, done_bits, done_still}
-use Rattle.sja_plan_session.proofs.StruckBefore.ReplayedSteps.{planned}
+use Rattle.sja_session.proofs.StruckBefore.Replayed.{Replays, at_replayed, done_plan, restruck, struck_with}
+use Rattle.sja_session.proofs.StruckBefore.Replayed.{written_replayed}
+use Rattle.sja_session.proofs.StruckBefore.ReplayedBits.{AnyTime, BitsAs, done_bits, done_still}
+use Rattle.sja_plan_session.proofs.PlannedRuns.ReplayedSteps.{planned}
 
 -- ---- where such a run stands
 

@@ -1,6 +1,6 @@
 -- The session of typed drivers below a new session of version 3 (this project's own rule).
 use Rattle.std.specs.Prelude.{◌≡◌, ◌*◌, ℕ, List, [], replicate}
-use Rattle.sja_bus.specs.Buses.{new_bus}
+use Rattle.sja_wire.specs.Buses.{new_bus}
 use Rattle.sja_plan.specs.Growing.{plan_of}
 use Rattle.sja_raw.specs.Kept.{at_power_on}
 use Rattle.sja_script.specs.declared.strike.Strike.{Strike}

@@ -3,7 +3,7 @@ use Rattle.std.proofs.Common.{◌≡◌, ◌+◌, ◌<◌, ◌≤◌, ℕ, zero,
 use Rattle.std.proofs.Common.{◌∙◌, subst, arith}
 use Rattle.std.specs.Prelude.{reverse, slice_index_or}
 use Rattle.std.proofs.lemmas.List.{length-replicate}
-use Rattle.sja_bus.specs.Buses.{BusValue, new_bus}
+use Rattle.sja_wire.specs.Buses.{BusValue, new_bus}
 use Rattle.sja_plan.specs.declared.turn.Turn.{Turn}
 use Rattle.sja_plan.specs.Growing.{plan_of}
 use Rattle.sja_plan.specs.Limits.{most_bits, most_turns}

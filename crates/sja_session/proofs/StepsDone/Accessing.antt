@@ -17,7 +17,7 @@ use Rattle.sja_script.specs.declared.step.Step.{Step}
 use Rattle.sja_script.specs.declared.step.Step.TheVariants.{Command, Release}
 use Rattle.sja_script.specs.declared.step_answer.StepAnswer.{StepAnswer}
 use Rattle.sja_driver.specs.Deeds.{Deed, deeds_at}
-use Rattle.sja_serial.specs.Serial.{with_deeds}
+use Rattle.sja_driver.specs.Deeds.{with_deeds}
 use Rattle.sja_session.specs.Inside.Accessing.{Does, IsRaw}
 use Rattle.sja_session.specs.RawSessions.{RawValue, DoesSteps, MayDo, HasTurnFor, kept_in, moved_by}
 use Rattle.sja_session.specs.RawSessions.DoesSteps.{none, more}

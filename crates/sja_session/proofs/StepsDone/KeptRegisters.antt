@@ -9,7 +9,7 @@ use Rattle.sja_regs.specs.declared.registers.Registers.{Registers}
 use Rattle.sja_script.specs.declared.step.Step.{Step}
 use Rattle.sja_script.specs.declared.step_answer.StepAnswer.{StepAnswer}
 use Rattle.sja_driver.specs.Deeds.{Deed}
-use Rattle.sja_serial.specs.Serial.{with_deeds}
+use Rattle.sja_driver.specs.Deeds.{with_deeds}
 use Rattle.sja_session.specs.Inside.Accessing.{AreSteps}
 use Rattle.sja_session.specs.RawSessions.{RawValue, DoesSteps, Writes, kept_in}
 use Rattle.sja_session.specs.RawSessions.DoesSteps.{none, more}

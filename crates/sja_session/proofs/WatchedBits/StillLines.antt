@@ -23,8 +23,8 @@ use Rattle.sja_regs.specs.InterruptLine.{is_line_active}
 use Rattle.sja_regs.specs.Registers.{at_power_on}
 use Rattle.sja_driver.specs.Deeds.{Deed, deeds_at, deeds_of, is_active, opened_by, released_lengths}
 use Rattle.sja_log.specs.Registering.{seen_now}
-use Rattle.sja_log.specs.Windows.{put_by}
-use Rattle.sja_log.proofs.Trace.Timings.{put_now}
+use Rattle.sja_driver.specs.Windows.{put_by}
+use Rattle.sja_driver.proofs.Trace.Timings.{put_now}
 use Rattle.sja_serial.specs.Bits.{TakesBit, TakesBits, TakesBusTurn}
 use Rattle.sja_serial.specs.Bits.TakesBits.{no_bit, one_more}
 use Rattle.sja_serial.specs.Serial.{SerialValue}

@@ -15,9 +15,9 @@ use Rattle.sja_regs.specs.Registers.{at_power_on}
 use Rattle.sja_script.specs.declared.step.Step.{Step}
 use Rattle.sja_driver.specs.declared.logged_driver.LoggedDriver.{LoggedDriver}
 use Rattle.sja_driver.specs.Deeds.{Deed, deeds_at}
-use Rattle.sja_serial.specs.Nodes.{IsNode}
+use Rattle.sja_log.specs.Nodes.{IsNode}
 use Rattle.sja_serial.specs.Serial.{SerialValue, StandsAt}
-use Rattle.sja_serial.proofs.OneNode.Gathered.{node_with}
+use Rattle.sja_log.proofs.OneNode.Gathered.{node_with}
 use Rattle.sja_serial.proofs.WholeRun.GoingOn.{first_driver}
 use Rattle.sja_session.specs.Sessions.{SessionValue, written}
 use Rattle.sja_session.specs.Writing.{done_counts}

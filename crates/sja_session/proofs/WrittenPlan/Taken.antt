@@ -16,7 +16,8 @@ use Rattle.sja_log.specs.Turns.{Progress, DoesSteps, RunsTo, with_bits, with_ste
 use Rattle.sja_log.specs.Turns.RunsTo.{all_done}
 use Rattle.sja_log.specs.Turns.RunsTo.{bus as runs_bus, node as runs_node}
 use Rattle.sja_serial.specs.Ending.{progress}
-use Rattle.sja_serial.specs.Serial.{SerialValue, with_deeds}
+use Rattle.sja_serial.specs.Serial.{SerialValue}
+use Rattle.sja_driver.specs.Deeds.{with_deeds}
 use Rattle.sja_serial.proofs.WholeRun.GoingOn.{acts_of, length_at, lengths_set}
 use Rattle.sja_session.specs.Sessions.{Took, start_of}
 use Rattle.sja_session.specs.Sessions.Took.{none, bus, node}

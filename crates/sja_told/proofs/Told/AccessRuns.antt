@@ -19,7 +19,7 @@ use Rattle.sja_replay.specs.declared.happening.Happening.{Happening}
 use Rattle.sja_replay.specs.Happened.{Happened}
 use Rattle.sja_script.specs.declared.done.Done.{Done}
 use Rattle.sja_trace.specs.TraceText.{IsTrace}
-use Rattle.sja_told.specs.Stored.{AllStored}
+use Rattle.sja_replay.specs.Stored.{AllStored}
 use Rattle.sja_trace.specs.StoredLines.{IsToldStored}
 use Rattle.sja_told.proofs.Told.AllRuns.{bits_told, stores_told, told_there}
 use Rattle.sja_told.proofs.Told.StoredRuns.{stored_lines}

@@ -15,7 +15,7 @@ use Rattle.sja_log.proofs.NodeLog.Logs.{journal_there}
 use Rattle.sja_replay.specs.declared.happening.Happening.{Happening}
 use Rattle.sja_replay.specs.Happened.{Happened}
 use Rattle.sja_told.proofs.Told.Runs.{all_told, some_told}
-use Rattle.sja_told.specs.Stored.{AllStored}
+use Rattle.sja_replay.specs.Stored.{AllStored}
 
 module _ (plan : PlanValue) (log : RunValue) (h : IsSerialRun plan log) (k : ℕ) (d : NodeValue)
     (less : k < length log.nodes) where

@@ -11,11 +11,11 @@ use Rattle.sja_log.specs.Runs.{IsSerialRun}
 use Rattle.sja_replay.specs.declared.happening.Happening.{Happening}
 use Rattle.sja_replay.specs.Happened.{Happened}
 use Rattle.sja_trace.specs.TraceText.{IsTrace}
-use Rattle.sja_told.specs.Stored.{AllStored}
+use Rattle.sja_replay.specs.Stored.{AllStored}
 use Rattle.sja_trace.specs.StoredLines.{IsToldStored}
 use Rattle.sja_told.proofs.Told.AllRuns.{bits_told, stores_told}
-use Rattle.sja_trace.proofs.LogStories.{story_split}
-use Rattle.sja_trace.proofs.StoredLines.{stored_line}
+use Rattle.sja_trace.proofs.Stories.LogStories.{story_split}
+use Rattle.sja_trace.proofs.Stories.StoredLines.{stored_line}
 
 -- of a log in whose journal of a node each bit is told, with each message that was stored
 module _ (plan : PlanValue) (log : RunValue) (trace : List ℕ) (told : IsTrace plan log trace) (k : ℕ) (d : NodeValue)

@@ -13,21 +13,21 @@ use Rattle.sja_link.specs.declared.entry.Entry.TheVariants.{Bit, Stored as Store
 use Rattle.sja_link.specs.declared.verdict.Verdict.{Verdict}
 use Rattle.sja_link.specs.declared.verdict.Verdict.TheVariants.{Stored as ToStore, Overrun as ToLose}
 use Rattle.sja_link.specs.Records.{record_of}
-use Rattle.sja_bus.proofs.AtPorts.Turning.{record_bit}
-use Rattle.sja_bus.proofs.Journal.Steps.{entries_split}
-use Rattle.sja_bus.specs.Inside.Following.{off_left}
+use Rattle.sja_wire.proofs.Journal.BitRecords.{record_bit}
+use Rattle.sja_wire.proofs.Journal.BitRecords.{entries_split}
+use Rattle.sja_wire.specs.OneBit.{off_left}
 use Rattle.sja_regs.specs.declared.bus_turn.BusTurn.{BusTurn}
 use Rattle.sja_replay.specs.declared.happening.Happening.{Happening}
 use Rattle.sja_replay.specs.declared.view.View.{View}
 use Rattle.sja_replay.specs.Happening.{Brings, bit_of}
 use Rattle.sja_link.specs.LookingBack.{ends_in_abort}
 use Rattle.sja_replay.proofs.Once.Bits.{tells, events_once}
-use Rattle.sja_replay.proofs.Places.{ends_push}
-use Rattle.sja_told.proofs.Told.Bits.{tells_turn}
+use Rattle.sja_replay.proofs.Knowledge.Places.{ends_push}
+use Rattle.sja_replay.proofs.Listed.BitEntries.{tells_turn}
 use Rattle.sja_wire.specs.OneBit.{HasBit, judged_as, off_as}
 use Rattle.sja_wire.specs.Telling.{IsTurn}
 use Rattle.sja_replay.specs.Knowing.{Knows}
-use Rattle.sja_replay.proofs.Knowing.{LookAlike, shows_known}
+use Rattle.sja_replay.proofs.Knowledge.Knowing.{LookAlike, shows_known}
 
 -- ---- a journal with a bit more
 

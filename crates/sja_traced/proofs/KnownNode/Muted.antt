@@ -18,8 +18,8 @@ use Rattle.sja_replay.specs.declared.view.View.{View}
 use Rattle.sja_replay.specs.Closing.{HasFate}
 use Rattle.sja_replay.specs.Taking.{last_part}
 use Rattle.sja_link.specs.LookingBack.{ends_in_abort}
-use Rattle.sja_replay.proofs.Cuts.{same_now, same_phase}
-use Rattle.sja_serial.proofs.OneBit.BitAsked.{bit_keeps, bit_told}
+use Rattle.sja_replay.proofs.Knowledge.Cuts.{same_now, same_phase}
+use Rattle.sja_driver.proofs.OneBit.BitAsked.{bit_keeps, bit_told}
 use Rattle.sja_wire.specs.OneBit.{HasBit, judged_as, off_as}
 use Rattle.sja_wire.specs.Telling.{IsTurn, SaysAlone}
 use Rattle.can_node.specs.NextField.{SegmentIn}
@@ -27,8 +27,8 @@ use Rattle.sja_replay.specs.Knowing.{KnowsPlace, Knows, AreAll}
 use Rattle.sja_trace.specs.SayingAlike.{IsMute}
 use Rattle.sja_traced.proofs.KnownNode.Known.{before_known, after_known, turn_events, split_bit, bit_quiet}
 use Rattle.sja_traced.proofs.KnownNode.Known.{same_not, held_stays}
-use Rattle.sja_replay.proofs.Reached.{Reached, reached}
-use Rattle.sja_replay.proofs.Knowing.{LookAlike, placed_once}
+use Rattle.sja_replay.proofs.Listed.Reached.{Reached, reached}
+use Rattle.sja_replay.proofs.Knowledge.Knowing.{LookAlike, placed_once}
 
 -- the happening of a bit that told nothing, and what is known after it. Where the place before the bit is known too,
 -- the happening has it

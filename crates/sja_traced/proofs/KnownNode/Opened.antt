@@ -8,6 +8,7 @@ use Rattle.can_node.specs.NextBit.{now_in}
 use Rattle.can_node.specs.NextField.{SegmentIn}
 use Rattle.can_node.specs.Pieces.{Place}
 use Rattle.can_node.proofs.Requests.OneMore.{abort_more}
+use Rattle.can_node.proofs.CutRecords.AbortPlaces.{abort_phase, abort_segment}
 use Rattle.sja_link.specs.NodeWords.{NodeAborted, FinishedPiece, IsCut}
 use Rattle.sja_link.specs.declared.entry.Entry.{Entry}
 use Rattle.sja_link.specs.declared.entry.Entry.TheVariants.{Abort}
@@ -16,12 +17,11 @@ use Rattle.sja_link.proofs.JournalEntries.Entering.{record_push}
 use Rattle.sja_replay.specs.declared.view.View.{View}
 use Rattle.sja_link.specs.LookingBack.{ends_in_abort}
 use Rattle.sja_replay.specs.Viewing.{IsView}
-use Rattle.sja_replay.proofs.Places.{ends_push}
+use Rattle.sja_replay.proofs.Knowledge.Places.{ends_push}
 use Rattle.sja_wire.specs.OneBit.{abort_as}
 use Rattle.sja_replay.specs.Knowing.{Knows, KnowsPlace}
 use Rattle.sja_traced.specs.KnownBits.{held_before}
-use Rattle.sja_traced.proofs.KnownNode.AbortPlaces.{abort_phase, abort_segment}
-use Rattle.sja_replay.proofs.Knowing.{LookAlike, shows_known}
+use Rattle.sja_replay.proofs.Knowledge.Knowing.{LookAlike, shows_known}
 
 -- ---- an abort keeps all but the request and its mark
 

@@ -27,21 +27,22 @@ use Rattle.sja_replay.specs.Closing.{HasFate}
 use Rattle.sja_replay.specs.Taking.{last_part}
 use Rattle.sja_link.specs.LookingBack.{ends_in_abort}
 use Rattle.sja_replay.specs.Viewing.{IsView}
-use Rattle.sja_replay.proofs.Cuts.{same_now}
+use Rattle.sja_replay.proofs.Knowledge.Cuts.{same_now}
 use Rattle.sja_replay.proofs.Once.Lists.{judges_once}
 use Rattle.sja_replay.proofs.Once.Views.{view_once}
-use Rattle.sja_serial.proofs.OneBit.BitAsked.{place_abort}
-use Rattle.sja_told.specs.Quiet.{IsQuiet}
-use Rattle.sja_told.proofs.Told.Bits.{IsRightFor, right, stops_off}
+use Rattle.sja_driver.proofs.OneBit.BitAsked.{place_abort}
+use Rattle.sja_replay.specs.Quiet.{IsQuiet}
+use Rattle.sja_replay.proofs.Listed.BitEntries.{IsRightFor, stops_off}
+use Rattle.sja_told.proofs.Told.ToldBits.{right}
 use Rattle.sja_wire.specs.OneBit.{HasBit, abort_as, judged_as, off_as}
 use Rattle.sja_wire.specs.Telling.{IsTurn}
 use Rattle.sja_replay.specs.Knowing.{Knows, AreAll, KnowsPlace}
 use Rattle.sja_trace.specs.SayingAlike.{SaysAlike}
 use Rattle.sja_traced.specs.KnownBits.{kind_of, fate_by, IsOfTurn}
-use Rattle.sja_replay.proofs.Knowing.{LookAlike, knows_by, placed_once}
+use Rattle.sja_replay.proofs.Knowledge.Knowing.{LookAlike, knows_by, placed_once}
 use Rattle.sja_traced.proofs.KnownNode.Known.{turn_events, record_after, split_bit, bit_quiet}
 use Rattle.sja_traced.proofs.KnownNode.Opened.{opened_view, unchanged_alike, aborted_alike, opened_ends, opened_place}
-use Rattle.sja_replay.proofs.Reached.{Reached, reached}
+use Rattle.sja_replay.proofs.Listed.Reached.{Reached, reached}
 
 -- ---- the fate of a frame, by its verdict
 

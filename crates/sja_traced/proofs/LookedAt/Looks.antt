@@ -20,7 +20,7 @@ use Rattle.sja_replay.specs.declared.view.View.{View}
 use Rattle.sja_replay.specs.Viewing.{Shows}
 use Rattle.sja_serial.specs.Serial.{SerialValue}
 use Rattle.sja_replay.proofs.Once.EndsOnce.{ends_once}
-use Rattle.sja_replay.proofs.Knowing.{shown_by}
+use Rattle.sja_replay.proofs.Knowledge.Knowing.{shown_by}
 use Rattle.sja_traced.specs.declared.node_trace.NodeTrace.{NodeTrace}
 use Rattle.sja_traced.specs.Inside.Bits.IsAtLast.{untold, told}
 use Rattle.sja_traced.specs.Inside.Bits.{told_of}

@@ -25,8 +25,8 @@ use Rattle.can_node.proofs.OneCut.GoOn.{no_rest_piece, open_end}
 use Rattle.can_node.proofs.OneCut.Through.{goes_through}
 use Rattle.lemmas.specs.Gathering.{total}
 use Rattle.lemmas.proofs.Gathered.{total_append, total_push}
-use Rattle.sja_bus.proofs.AtPorts.Turning.{record_bit}
-use Rattle.sja_bus.specs.Inside.Following.{off_left}
+use Rattle.sja_wire.proofs.Journal.BitRecords.{record_bit}
+use Rattle.sja_wire.specs.OneBit.{off_left}
 use Rattle.sja_link.specs.declared.entry.Entry.{Entry}
 use Rattle.sja_link.specs.declared.entry.Entry.TheVariants.{Abort as AbortEntry}
 use Rattle.sja_link.specs.Records.{record_of}

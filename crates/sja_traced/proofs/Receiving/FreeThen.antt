@@ -9,7 +9,7 @@ use Rattle.sja_link.specs.declared.verdict.Verdict.TheVariants.{Stored as ToStor
 use Rattle.sja_link.specs.Free.{free_of, IsFree}
 use Rattle.sja_link.specs.Parts.{part}
 use Rattle.sja_replay.specs.Taking.{last_part}
-use Rattle.sja_replay.proofs.Places.{free_before}
+use Rattle.sja_replay.proofs.Knowledge.Places.{free_before}
 use Rattle.sja_wire.specs.Links.{stops_of}
 use Rattle.sja_wire.specs.OneBit.{HasBit, judged_as, off_as}
 use Rattle.sja_wire.specs.Opening.{IsOpen}

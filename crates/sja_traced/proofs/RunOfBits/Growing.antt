@@ -10,12 +10,12 @@ use Rattle.sja_link.specs.Places.{JournalPlace, place_of}
 use Rattle.sja_plan.specs.Plan.{PlanValue}
 use Rattle.sja_serial.specs.Bits.{HasOneBit}
 use Rattle.sja_serial.specs.Serial.{SerialValue}
-use Rattle.sja_serial.proofs.OneBit.BitAsked.{place_abort, place_bit}
+use Rattle.sja_driver.proofs.OneBit.BitAsked.{place_abort, place_bit}
 use Rattle.sja_traced.specs.Inside.Bits.{HasRun}
 use Rattle.sja_traced.specs.declared.run_trace.RunTrace.{RunTrace}
 use Rattle.sja_traced.proofs.RunOfBits.Chain.{all_run, before_at, none_run}
 use Rattle.sja_traced.proofs.RunOfBits.NodeBits.{behind_bit, whole_bit}
-use Rattle.sja_replay.proofs.Reached.{bits_push}
+use Rattle.sja_replay.proofs.Listed.Reached.{bits_push}
 use Rattle.sja_traced.proofs.RunOfBits.Rounds.{after, bit, driven, passed, seen}
 use Rattle.sja_wire.specs.OneBit.{abort_as}
 use Rattle.sja_wire.specs.Wire.{journal_at}

@@ -3,7 +3,7 @@ use Rattle.std.proofs.Common.{◌≡◌, ℕ, Bool, true, false, Option, Some, N
 use Rattle.std.proofs.Common.{refl, sym, ap, ◌∙◌, subst, append_assoc, append-nil}
 use Rattle.std.proofs.lemmas.List.{append_cancel_left}
 use Rattle.can_bits.specs.declared.level.Level.{Level}
-use Rattle.sja_bus.specs.Buses.{IsNodeBit}
+use Rattle.sja_wire.specs.Buses.{IsNodeBit}
 use Rattle.sja_link.specs.declared.entry.Entry.{Entry}
 use Rattle.sja_link.specs.declared.entry.Entry.TheVariants.{Bit, Abort}
 use Rattle.sja_link.specs.declared.up.Up.{Up}

@@ -5,7 +5,7 @@ use Rattle.std.specs.Prelude.{replicate, slice_index_or}
 use Rattle.can_bits.specs.declared.level.Level.{Level}
 use Rattle.can_bits.specs.declared.level.Level.TheVariants.{Recessive}
 use Rattle.sja_bus.specs.Boards.{HasOrders, turn_at}
-use Rattle.sja_bus.specs.Buses.{IsNodeBit, untold_at}
+use Rattle.sja_wire.specs.Buses.{IsNodeBit, untold_at}
 use Rattle.sja_plan.specs.Plan.{PlanValue}
 use Rattle.sja_regs.specs.declared.bus_turn.BusTurn.{BusTurn}
 use Rattle.sja_serial.specs.Serial.{SerialValue, StandsAt}

@@ -24,9 +24,9 @@ use Rattle.sja_traced.specs.Inside.Bits.IsMuteAt.{in_short, in_full}
 use Rattle.sja_traced.specs.Inside.Tracing.{CountSame}
 use Rattle.sja_traced.specs.declared.node_trace.NodeTrace.{NodeTrace}
 use Rattle.sja_traced.proofs.KnownNode.Muted.{Muted}
-use Rattle.sja_trace.proofs.SaidAlike.{told_same}
-use Rattle.sja_trace.proofs.SaidMute.{mute_same}
-use Rattle.sja_trace.proofs.Shorts.{no_flag as not_again}
+use Rattle.sja_trace.proofs.BitSaid.SaidAlike.{told_same}
+use Rattle.sja_trace.proofs.BitSaid.SaidMute.{mute_same}
+use Rattle.sja_trace.proofs.BitSaid.Shorts.{no_flag as not_again}
 use Rattle.sja_traced.proofs.KnownNode.ToldBits.{ToldBit}
 
 -- ---- what is said of the bit at hand

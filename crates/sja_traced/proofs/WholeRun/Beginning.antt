@@ -12,8 +12,10 @@ use Rattle.sja_link.specs.declared.up.Up.{Up}
 use Rattle.sja_log.specs.Log.{RunValue}
 use Rattle.sja_plan.specs.Plan.{PlanValue}
 use Rattle.sja_script.specs.declared.done.Done.{Done}
-use Rattle.sja_serial.specs.Serial.{SerialValue, StandsAt, HasMore, TakesTurn, with_deeds}
-use Rattle.sja_told.specs.Quiet.{IsQuiet}
+use Rattle.sja_serial.specs.Serial.{SerialValue, StandsAt, TakesTurn}
+use Rattle.sja_wire.specs.OneBit.{HasMore}
+use Rattle.sja_driver.specs.Deeds.{with_deeds}
+use Rattle.sja_replay.specs.Quiet.{IsQuiet}
 use Rattle.sja_traced.proofs.WholeRun.Drivers.{done_of_deeds, some_of}
 use Rattle.sja_traced.specs.Inside.Tracing.{BeginsAs, DoesOn, GoesOn, done_at}
 use Rattle.sja_wire.specs.OneBit.{entries_of_items}

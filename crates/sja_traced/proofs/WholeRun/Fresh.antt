@@ -5,7 +5,7 @@ use Rattle.std.proofs.Math.ListN.{get_or-append}
 use Rattle.std.proofs.Math.Seq.{get_or-append_seam}
 use Rattle.std.proofs.lemmas.List.{get_or-replicate}
 use Rattle.can_node.specs.declared.counters.Counters.{Counters}
-use Rattle.sja_bus.specs.Buses.{BusValue, new_bus}
+use Rattle.sja_wire.specs.Buses.{BusValue, new_bus}
 use Rattle.can_node.specs.declared.node.Node.{Node}
 use Rattle.can_node.specs.Stands.{StandsAt as IsNodeAt}
 use Rattle.sja_driver.specs.Deeds.{done_of}
@@ -13,7 +13,7 @@ use Rattle.sja_link.specs.NodeWords.{FinishedPiece}
 use Rattle.sja_link.specs.Records.{record_of}
 use Rattle.sja_replay.specs.declared.view.View.{View}
 use Rattle.sja_replay.specs.Viewing.{Shows}
-use Rattle.sja_replay.proofs.Knowing.{shown_known}
+use Rattle.sja_replay.proofs.Knowledge.Knowing.{shown_known}
 use Rattle.sja_link.specs.declared.entry.Entry.{Entry}
 use Rattle.sja_link.specs.LookingBack.{ends_in_abort}
 use Rattle.sja_link.specs.Places.{place_of}

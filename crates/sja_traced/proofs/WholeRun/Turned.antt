@@ -12,7 +12,7 @@ use Rattle.sja_link.specs.declared.entry.Entry.TheVariants.{Up as Item}
 use Rattle.sja_link.specs.declared.up.Up.{Up}
 use Rattle.sja_link.specs.declared.up.Up.TheVariants.{Start, Credit, Send, Stop}
 use Rattle.sja_link.specs.Places.{JournalPlace, past, past_all, place_of}
-use Rattle.sja_replay.proofs.Parts.{place_both}
+use Rattle.sja_replay.proofs.Listed.Parts.{place_both}
 use Rattle.sja_link.specs.LookingBack.{ends_in_abort}
 use Rattle.sja_plan.specs.Plan.{PlanValue}
 use Rattle.sja_replay.specs.declared.view.View.{View}

@@ -20,8 +20,8 @@ use Rattle.sja_trace.specs.TraceText.{NodeStory, AreStories, IsTrace, late_steps
 use Rattle.sja_trace.specs.TraceText.{steps_from, stories_text}
 use Rattle.sja_traced.proofs.WholeRun.Drivers.{done_of_deeds, some_of}
 use Rattle.sja_traced.proofs.Writing.LateLines.{late_lines}
-use Rattle.sja_trace.proofs.Numbered.{numbered_alike}
-use Rattle.sja_trace.proofs.LogStories.{story_at, stories_count, stories_there}
+use Rattle.sja_trace.proofs.Stories.Numbered.{numbered_alike}
+use Rattle.sja_trace.proofs.Stories.LogStories.{story_at, stories_count, stories_there}
 use Rattle.sja_traced.specs.Inside.Bits.{late_text}
 use Rattle.sja_traced.specs.Inside.Tracing.{BeginsAs, HasStories, IsTraced, done_at}
 use Rattle.sja_traced.specs.declared.node_trace.NodeTrace.{NodeTrace}

@@ -15,7 +15,7 @@ use Rattle.sja_report.specs.ReportLines.{numbered}
 use Rattle.sja_script.specs.declared.done.Done.{Done}
 use Rattle.sja_serial.specs.Serial.{SerialValue}
 use Rattle.sja_serial.specs.UntilTold.{TellsBit}
-use Rattle.sja_serial.proofs.OneBit.BitAsked.{place_bit}
+use Rattle.sja_driver.proofs.OneBit.BitAsked.{place_bit}
 use Rattle.sja_trace.specs.BitEvents.{all_said, counters_after}
 use Rattle.sja_trace.specs.TraceText.{NodeStory, steps_due, event_line, bit_line, node_lines, driven_in, bus_in}
 use Rattle.sja_trace.specs.TraceText.{bit_lines, counters_left, lines_to, steps_from}
@@ -26,10 +26,10 @@ use Rattle.sja_traced.specs.Inside.Tracing.{AreTold, BeginsAs, CountSame, DoesOn
 use Rattle.sja_traced.specs.Inside.Tracing.{done_at}
 use Rattle.sja_traced.specs.declared.node_trace.NodeTrace.{NodeTrace}
 use Rattle.sja_traced.specs.declared.run_trace.RunTrace.{RunTrace}
-use Rattle.sja_serial.proofs.OneBit.BitAsked.{place_abort}
+use Rattle.sja_driver.proofs.OneBit.BitAsked.{place_abort}
 use Rattle.sja_traced.proofs.SayingAlike.Hands.{IsRight, left_same, line_said}
-use Rattle.sja_trace.proofs.LogStories.{stories_count, story_at}
-use Rattle.sja_trace.proofs.Numbered.{map_alike, numbered_alike}
+use Rattle.sja_trace.proofs.Stories.LogStories.{stories_count, story_at}
+use Rattle.sja_trace.proofs.Stories.Numbered.{map_alike, numbered_alike}
 use Rattle.sja_traced.proofs.RunOfBits.OneBitOn.{begins_before, same_done}
 use Rattle.sja_traced.proofs.Writing.StepLines.{new_lines}
 use Rattle.sja_wire.specs.OneBit.{abort_as}

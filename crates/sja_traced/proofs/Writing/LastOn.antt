@@ -6,7 +6,7 @@ use Rattle.can_bits.specs.declared.level.Level.{Level}
 use Rattle.can_bits.specs.declared.level.Level.TheVariants.{Recessive}
 use Rattle.can_bits.specs.Places.{are_same}
 use Rattle.sja_bus.specs.Boards.{HasOrders, turn_at}
-use Rattle.sja_bus.specs.Buses.{IsNodeBit, untold_at}
+use Rattle.sja_wire.specs.Buses.{IsNodeBit, untold_at}
 use Rattle.sja_link.specs.declared.entry.Entry.{Entry}
 use Rattle.sja_link.specs.declared.entry.Entry.TheVariants.{Bit}
 use Rattle.sja_link.specs.declared.last_bit.LastBit.{LastBit}
@@ -34,7 +34,7 @@ use Rattle.sja_traced.proofs.Writing.AfterBit.{HandAt, known_after, text_after}
 use Rattle.sja_traced.proofs.SayingAlike.AtHand.{hand_mute, hand_told}
 use Rattle.sja_traced.proofs.RunOfBits.Chain.{all_run}
 use Rattle.sja_traced.proofs.RunOfBits.NodeBits.{opened_is}
-use Rattle.sja_trace.proofs.Numbered.{map_is}
+use Rattle.sja_trace.proofs.Stories.Numbered.{map_is}
 use Rattle.sja_traced.proofs.RunOfBits.OneBitOn.{same_done}
 use Rattle.sja_traced.proofs.Receiving.OpenThen.{fate_then}
 use Rattle.sja_traced.specs.Inside.Rounds.{RoundAt}

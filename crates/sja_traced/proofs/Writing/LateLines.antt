@@ -6,7 +6,7 @@ use Rattle.std.proofs.lemmas.Bool.{lt-leb}
 use Rattle.sja_script.specs.declared.done.Done.{Done}
 use Rattle.sja_script.specs.declared.step.Step.{Step}
 use Rattle.sja_trace.specs.TraceText.{line_where, step_line, steps_due, steps_from}
-use Rattle.sja_trace.proofs.StepsDue.{all_due}
+use Rattle.sja_trace.proofs.DriverSteps.StepsDue.{all_due}
 use Rattle.sja_traced.specs.Inside.Tracing.{AreTold}
 
 -- those before the place aren't

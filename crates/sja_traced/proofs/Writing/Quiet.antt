@@ -11,7 +11,7 @@ use Rattle.sja_log.specs.Log.{NodeValue, RunValue}
 use Rattle.sja_plan.specs.Plan.{PlanValue, steps_at}
 use Rattle.sja_script.specs.declared.done.Done.{Done}
 use Rattle.sja_serial.specs.Serial.{SerialValue}
-use Rattle.sja_serial.proofs.OneBit.BitAsked.{place_abort, place_bit}
+use Rattle.sja_driver.proofs.OneBit.BitAsked.{place_abort, place_bit}
 use Rattle.sja_trace.specs.BitEvents.{counters_after, have_same}
 use Rattle.sja_trace.specs.TraceText.{NodeStory, steps_due, bit_line, node_lines, driven_in, bus_in}
 use Rattle.sja_trace.specs.TraceText.{bit_lines, counters_left, lines_to}
@@ -24,11 +24,11 @@ use Rattle.sja_traced.proofs.Writing.AfterBit.{event_said}
 use Rattle.sja_traced.proofs.SayingAlike.AtHand.{some_node}
 use Rattle.sja_traced.proofs.KnownNode.Known.{bit_quiet}
 use Rattle.sja_traced.proofs.KnownNode.Muted.{Muted, knows_on, mute}
-use Rattle.sja_trace.proofs.LogStories.{stories_count, story_at}
-use Rattle.sja_trace.proofs.Numbered.{map_is, numbered_none}
+use Rattle.sja_trace.proofs.Stories.LogStories.{stories_count, story_at}
+use Rattle.sja_trace.proofs.Stories.Numbered.{map_is, numbered_none}
 use Rattle.sja_traced.proofs.RunOfBits.OneBitOn.{begins_before, same_done}
 use Rattle.sja_traced.proofs.RunOfBits.Rounds.{after, bit, driven, none_noted, passed, seen, stands_at}
-use Rattle.sja_trace.proofs.SaidMute.{mute_none}
+use Rattle.sja_trace.proofs.BitSaid.SaidMute.{mute_none}
 use Rattle.sja_traced.proofs.Writing.StepLines.{no_new_lines}
 use Rattle.sja_traced.proofs.RunOfBits.Struck.{seen_of_several}
 use Rattle.sja_wire.specs.OneBit.{abort_as}

@@ -21,7 +21,7 @@ use Rattle.sja_traced.proofs.Writing.AfterBit.{HandAt, known_after, text_after}
 use Rattle.sja_traced.proofs.SayingAlike.AtHand.{hand_mute}
 use Rattle.sja_traced.proofs.RunOfBits.Chain.{all_run, none_run}
 use Rattle.sja_traced.proofs.RunOfBits.Growing.{entries_so_far, entry_there, grows, length_both}
-use Rattle.sja_trace.proofs.Numbered.{map_is}
+use Rattle.sja_trace.proofs.Stories.Numbered.{map_is}
 use Rattle.sja_traced.proofs.RunOfBits.OneBitOn.{same_done}
 use Rattle.sja_traced.proofs.Writing.Quiet.{traced_on, still_nothing}
 use Rattle.sja_traced.proofs.RunOfBits.Rounds.{after, bit, bits_after, driven, none_noted, passed, seen, stands_at}

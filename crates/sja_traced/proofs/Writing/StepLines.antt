@@ -5,9 +5,9 @@ use Rattle.std.proofs.lemmas.List.{drop-append-le, get_or-drop, length-drop}
 use Rattle.sja_script.specs.declared.done.Done.{Done}
 use Rattle.sja_script.specs.declared.step.Step.{Step}
 use Rattle.sja_trace.specs.TraceText.{steps_due, steps_from}
-use Rattle.sja_trace.proofs.StepOrders.{past_none}
-use Rattle.sja_trace.proofs.StepsDue.{are_past, past_with, all_now}
-use Rattle.sja_trace.proofs.StepsFrom.{none_done}
+use Rattle.sja_trace.proofs.DriverSteps.StepOrders.{past_none}
+use Rattle.sja_trace.proofs.DriverSteps.StepsDue.{are_past, past_with, all_now}
+use Rattle.sja_trace.proofs.DriverSteps.StepsFrom.{none_done}
 use Rattle.sja_traced.specs.Inside.Tracing.{AreTold, DoesOn}
 
 -- the lines of the steps before a bit, of all that are done in the whole run, are those of the steps that weren't told

@@ -1,7 +1,7 @@
 use Rattle.std.proofs.Common.{◌≡◌, [], replicate, subst}
 use Rattle.std.specs.Prelude.{IfOk, IfErr}
 use Rattle.lemmas.proofs.Results.{ok_map}
-use Rattle.sja_bus.specs.Buses.{new_bus}
+use Rattle.sja_wire.specs.Buses.{new_bus}
 use Rattle.sja_session.specs.Beginning.{IsSessionFault}
 use Rattle.sja_session.specs.declared.session_room.SessionRoom.{SessionRoom}
 use Rattle.sja_session.proofs.session.Session.new.Goals as goal

@@ -20,7 +20,8 @@ use Rattle.sja_session.specs.Answering.{last_of}
 use Rattle.sja_session.specs.Sessions.{SessionValue, session_of, IsAt, IsSession}
 use Rattle.sja_session.specs.Stepping.{MayStep, DoesStep, Waits, steps_done_of}
 use Rattle.sja_session.proofs.WrittenPlan.Plans.{stands_placed}
-use Rattle.sja_session.proofs.StepsDone.Stepped.{answer_is, does_step, waits_step, after_done, after_waiting}
+use Rattle.sja_session.proofs.StepsDone.Stepped.{answer_is, does_step, waits_step}
+use Rattle.sja_session.proofs.StepsDone.StepAnswered.{after_done, after_waiting}
 use Rattle.sja_session.proofs.WrittenPlan.Within.{last_few}
 use Rattle.sja_session.proofs.WrittenPlan.Written.{count_at}
 use Rattle.sja_session.proofs.session.Session.step.Goals.{After-set_step}

@@ -1,5 +1,5 @@
 use Rattle.std.proofs.Common.{slice_set, refl, ap}
-use Rattle.sja_replay.proofs.Knowing.{shown_known}
+use Rattle.sja_replay.proofs.Knowledge.Knowing.{shown_known}
 use Rattle.sja_traced.proofs.WholeRun.Turned.{seen_anew, traced_turn}
 use Rattle.sja_traced.proofs.run_trace.RunTrace.look_at.Goals as goal
 use Rattle.sja_traced.specs.declared.node_trace.NodeTrace.{NodeTrace}

@@ -1,22 +1,22 @@
--- A bit of a journal that steps and bits made is told, with the entries that it brought.
-use Rattle.std.proofs.Common.{◌≡◌, ◌<◌, ◌≤◌, ◌+◌, ◌^◌, ℕ, Bool, true, false, Option, Some, None, List, []}
-use Rattle.std.proofs.Common.{◌∷◌, ◌++◌, length, refl, sym, ap, ◌∙◌, subst, arith, append_assoc}
+-- A bit of a journal that steps and bits made is told.
+use Rattle.std.proofs.Common.{◌≡◌, ◌<◌, ◌+◌, ◌^◌, ℕ, Bool, true, false, Option, Some, None, List, []}
+use Rattle.std.proofs.Common.{◌∷◌, ◌++◌, refl, sym, ap, ◌∙◌, subst, arith, append_assoc}
 use Rattle.can_bits.specs.declared.level.Level.{Level}
 use Rattle.can_frame.specs.Frame.{FrameValue}
 use Rattle.can_frame.specs.Message.{message}
 use Rattle.can_node.specs.declared.bit_events.BitEvents.{BitEvents}
 use Rattle.can_node.specs.NextBit.{DrivesIn}
-use Rattle.can_node.specs.Stands.{closed_by, entries_of}
+use Rattle.can_node.proofs.Driven.Records.{a_bit_is_driven}
+use Rattle.can_node.proofs.CutRecords.Receptions.{partner_of, received_there}
 use Rattle.lemmas.specs.Gathering.{gathered}
 use Rattle.lemmas.specs.Picking.{EachAfter}
 use Rattle.sja_link.specs.NodeWords.{NodeEntry, NodeTook, FinishedPiece, received, IsCut}
 use Rattle.sja_link.specs.NodeWords.{Count, none_yet, counted}
 use Rattle.sja_link.specs.declared.entry.Entry.{Entry}
-use Rattle.sja_link.specs.declared.entry.Entry.TheVariants.{Bit, Up as Item, Abort, Stored as StoredEntry}
-use Rattle.sja_link.specs.declared.entry.Entry.TheVariants.{Overrun as OverrunEntry, Off}
+use Rattle.sja_link.specs.declared.entry.Entry.TheVariants.{Bit, Stored as StoredEntry}
+use Rattle.sja_link.specs.declared.entry.Entry.TheVariants.{Overrun as OverrunEntry}
 use Rattle.sja_link.specs.declared.verdict.Verdict.{Verdict}
 use Rattle.sja_link.specs.declared.verdict.Verdict.TheVariants.{Stored as ToStore, Overrun as ToLose}
-use Rattle.sja_link.specs.Free.{free_of}
 use Rattle.sja_link.specs.LookingBack.{ends_in_abort}
 use Rattle.sja_link.specs.Judged.{Judged, judged_at, judged_in}
 use Rattle.sja_link.specs.Parts.{in_part, part}
@@ -24,121 +24,23 @@ use Rattle.sja_link.specs.Places.{JournalPlace, past, place_of, placed_from}
 use Rattle.sja_link.specs.Records.{told_at, record_of}
 use Rattle.sja_link.specs.Verdicts.{HasVerdicts, IsAccepted, IsOn, IsDue, filter_of}
 use Rattle.sja_link.proofs.JournalEntries.Entering.{all_rise, place_push, record_counted}
-use Rattle.sja_bus.proofs.AtPorts.Turning.{record_bit}
-use Rattle.sja_bus.proofs.Journal.Steps.{entries_split}
-use Rattle.sja_bus.specs.Inside.Following.{off_left}
 use Rattle.sja_wire.specs.OneBit.{HasBit, judged_as, off_as}
 use Rattle.sja_wire.specs.Telling.{IsTurn}
 use Rattle.sja_regs.specs.declared.bus_turn.BusTurn.{BusTurn}
 use Rattle.sja_replay.specs.declared.fate.Fate.{Fate}
-use Rattle.sja_replay.specs.declared.fate.Fate.TheVariants.{Stored, Overrun, Stopped}
 use Rattle.sja_replay.specs.declared.happening.Happening.{Happening}
-use Rattle.sja_replay.specs.Closing.{Judges, HasFate, Closes, off_if}
+use Rattle.sja_replay.specs.Closing.{Closes}
 use Rattle.sja_replay.specs.Happened.{Happened}
 use Rattle.sja_replay.specs.Happened.Happened.{bit}
 use Rattle.sja_replay.specs.Happening.{Brings, bit_of}
 use Rattle.sja_replay.specs.Taking.{last_part}
-use Rattle.sja_replay.proofs.Once.Bits.{Tells, tells, events_once, role_same}
-use Rattle.sja_serial.proofs.OneBit.BitAsked.{place_bit}
-use Rattle.sja_told.specs.Quiet.{IsQuiet}
-use Rattle.sja_told.proofs.Driven.Records.{a_bit_is_driven}
-use Rattle.sja_told.proofs.Told.SomeViews.{view_there}
-use Rattle.sja_replay.proofs.Parts.{of_part_at, each_part, record_both, place_both}
-use Rattle.sja_replay.proofs.PastBits.{bit_on}
-use Rattle.sja_told.proofs.Told.Receptions.{partner_of, received_there}
-
--- ---- the entries that a bit brings
-
-off_alike : (off : Bool) → off_as off ≡ off_if off
-off_alike true = refl
-off_alike false = refl
-
-stops_quiet : (p rest : List Entry) → IsQuiet rest → Judges p rest Stopped []
-stops_quiet p [] q = (refl, refl)
-stops_quiet p (Bit driven seen ∷ rest) q = (refl, refl)
-stops_quiet p (Item u ∷ rest) q = (refl, refl)
-stops_quiet p (Abort ∷ rest) q = (refl, refl)
-stops_quiet p (StoredEntry m ∷ rest) q = absurd q
-stops_quiet p (OverrunEntry m ∷ rest) q = absurd q
-stops_quiet p (Off ∷ rest) q = absurd q
-
--- a frame with no verdict behind it was stopped
-pub stops_off : (p rest : List Entry) (off : Bool) → IsQuiet rest → Judges p (off_as off ++ rest) Stopped []
-stops_off p rest true q = (refl, refl)
-stops_off p rest false q = stops_quiet p rest q
-
--- a verdict that is right: it is on a frame, and says whether the message fits
-abbrev pub IsRightFor : List Entry → Option FrameValue → Option (Verdict × List ℕ) → Type 0
-IsRightFor p f None = Unit {0}
-IsRightFor p f (Some (ToStore, m)) =
-    (length m ≤ free_of p) × ((frame : FrameValue) × (f ≡ Some frame) × (m ≡ message frame))
-IsRightFor p f (Some (ToLose, m)) =
-    (free_of p < length m) × ((frame : FrameValue) × (f ≡ Some frame) × (m ≡ message frame))
-
-fate_of : (p rest : List Entry) (off : Bool) (f : Option FrameValue) (v : Option (Verdict × List ℕ)) → IsQuiet rest →
-    IsRightFor p f v → (fate : Option Fate) × HasFate p f (judged_as v ++ (off_as off ++ rest)) fate (judged_as v)
-fate_of p rest off None None q r = (None, (refl, refl))
-fate_of p rest off (Some x) None q r = (Some Stopped, (Stopped, refl, stops_off p rest off q))
-fate_of p rest off (Some x) (Some (ToStore, m)) q r = (Some Stored, (Stored, refl, (refl, refl, r.0)))
-fate_of p rest off (Some x) (Some (ToLose, m)) q r =
-    (Some (Overrun (length m) (free_of p)), (Overrun (length m) (free_of p), refl, (refl, refl, r.0)))
-fate_of p rest off None (Some (ToStore, m)) q r = let no = r.1.1 in absurd cc
-fate_of p rest off None (Some (ToLose, m)) q r = let no = r.1.1 in absurd cc
-
-closes_by : (p rest : List Entry) (off : Bool) (e : BitEvents) (v : Option (Verdict × List ℕ)) → IsQuiet rest →
-    IsRightFor p e.received v → e.went_off ≡ off →
-    (fate : Option Fate) × Closes p e (judged_as v ++ (off_as off ++ rest)) fate (judged_as v ++ off_as off) rest
-closes_by p rest off e v q r went =
-    let f = fate_of p rest off e.received v q r in (
-      f.0,
-      record {
-        verdict = judged_as v;
-        has = f.1;
-        are = ap (λ l. judged_as v ++ l) (off_alike off ∙ ap off_if (sym went));
-        whole = sym (append_assoc (judged_as v) (off_as off) rest);
-      },
-    )
-
--- a message that was stored is that of the frame that the happening has, and so is its fate
-abbrev pub StoresIn : Option (Verdict × List ℕ) → Happening → Type 0
-StoresIn None h = Unit {0}
-StoresIn (Some (ToStore, m)) h =
-    (frame : FrameValue) × (h.events.received ≡ Some frame) × (m ≡ message frame) × (h.fate ≡ Some Stored)
-StoresIn (Some (ToLose, m)) h = Unit {0}
-
-stores_by : (p rest : List Entry) (off : Bool) (v : Option (Verdict × List ℕ)) (h : Happening)
-    (brought left : List Entry) → IsRightFor p h.events.received v →
-    Closes p h.events (judged_as v ++ (off_as off ++ rest)) h.fate brought left → StoresIn v h
-stores_by p rest off None h brought left r c = tt
-stores_by p rest off (Some (ToLose, m)) h brought left r c = tt
-stores_by p rest off (Some (ToStore, m)) h brought left r c =
-    let P : Option FrameValue → Type 0 =
-    λ f. HasFate p f (judged_as (Some (ToStore, m)) ++ (off_as off ++ rest)) h.fate c.verdict in
-    let k = subst P r.1.1 c.has in (r.1.0, r.1.1, r.1.2, k.1 ∙ ap Some k.2.0)
-
--- ---- a turn tells what a happening has
-
-pub tells_turn : (changed : Bool) (j k : List Entry) (driven seen : Level) (b : HasBit j driven seen k)
-    (turn : BusTurn) → IsTurn changed j driven seen k b turn → Tells j driven seen turn.events
-tells_turn changed j k driven seen b turn t =
-    let same : record_of j ++ entries_of (bit_of driven seen) turn.events ≡ record_of k =
-    entries_split (record_of j) (bit_of driven seen) turn.events.went_off
-    ∙ ap (λ w. (record_of j ++ NodeTook (bit_of driven seen) ∷ []) ++ off_left w) t.off
-    ∙ sym (record_bit j k driven seen b) in
-    let pieces = t.found ++ closed_by (counted none_yet (record_of j ++ NodeTook (bit_of driven seen) ∷ [])) t.step in
-    let P : List NodeEntry → Type 0 = λ l. IsCut l pieces in
-    let w = subst P (sym same) t.after in record {
-      found = t.found;
-      cut = t.cut;
-      step = t.step;
-      told = t.events;
-      with_bit = w;
-      role = t.says.receiving
-          ∙ role_same (record_of k) (record_of j ++ entries_of (bit_of driven seen) turn.events) t.says.found pieces
-          t.says.cut w (sym same);
-    }
-
--- ---- a bit of a journal
+use Rattle.sja_replay.proofs.Once.Bits.{tells, events_once}
+use Rattle.sja_driver.proofs.OneBit.BitAsked.{place_bit}
+use Rattle.sja_replay.specs.Quiet.{IsQuiet}
+use Rattle.sja_replay.proofs.Knowledge.SomeViews.{view_there}
+use Rattle.sja_replay.proofs.Listed.Parts.{of_part_at, each_part, record_both, place_both}
+use Rattle.sja_replay.proofs.Listed.PastBits.{bit_on}
+use Rattle.sja_replay.proofs.Listed.BitEntries.{IsRightFor, closes_by, StoresIn, stores_by, tells_turn}
 
 module _ (whole : List Entry) (others : List FinishedPiece) (cut : IsCut (record_of whole) others)
     (verdicts : HasVerdicts whole (received others)) (few : (place_of whole).bits < 2 ^ 32)

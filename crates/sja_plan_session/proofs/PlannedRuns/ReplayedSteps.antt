@@ -5,7 +5,7 @@ use Rattle.sja_driver.specs.Carried.{Tells, carried, ported}
 use Rattle.sja_driver.specs.Deeds.{Deed, deeds_at, is_active}
 use Rattle.sja_link.specs.declared.entry.Entry.{Entry}
 use Rattle.sja_log.specs.Registering.{seen_now}
-use Rattle.sja_log.specs.Windows.{SeesIf}
+use Rattle.sja_driver.specs.Windows.{SeesIf}
 use Rattle.sja_plan.specs.Plan.{PlanValue}
 use Rattle.sja_raw.specs.Kept.{kept_after}
 use Rattle.sja_raw.specs.Reads.{raw_value}
@@ -15,7 +15,8 @@ use Rattle.sja_regs.specs.declared.registers.Registers.{Registers}
 use Rattle.sja_script.specs.declared.step.Step.{Step}
 use Rattle.sja_script.specs.declared.step_answer.StepAnswer.{StepAnswer}
 use Rattle.sja_script.specs.declared.strike.Strike.{Strike}
-use Rattle.sja_serial.specs.Serial.{SerialValue, with_deeds}
+use Rattle.sja_serial.specs.Serial.{SerialValue}
+use Rattle.sja_driver.specs.Deeds.{with_deeds}
 use Rattle.sja_session.specs.RawSessions.{RawValue, DoesSteps, kept_in, moved_by}
 use Rattle.sja_session.specs.RawSessions.DoesSteps.{none, more}
 use Rattle.sja_session.specs.Sessions.{SessionValue, IsAt}
@@ -27,9 +28,9 @@ use Rattle.sja_plan_session.specs.Accessing.{Does, DoesStep}
 use Rattle.sja_plan_session.specs.Accessing.Does.{read, write, typed}
 use Rattle.sja_plan_session.specs.PlanSessions.{PlanSessionValue}
 use Rattle.sja_plan_session.specs.Writing.{with_more}
-use Rattle.sja_plan_session.proofs.StruckBefore.Replayed.{Replays, at_replayed, done_nodes, replayed, replays_own}
-use Rattle.sja_plan_session.proofs.StruckBefore.Replayed.{restruck}
-use Rattle.sja_plan_session.proofs.StruckBefore.Replayed.{struck_with, written_replayed}
+use Rattle.sja_session.proofs.StruckBefore.Replayed.{Replays, at_replayed, done_nodes, replayed, replays_own}
+use Rattle.sja_session.proofs.StruckBefore.Replayed.{restruck}
+use Rattle.sja_session.proofs.StruckBefore.Replayed.{struck_with, written_replayed}
 
 -- ---- a typed step
 

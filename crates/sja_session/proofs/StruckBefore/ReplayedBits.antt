@@ -18,7 +18,7 @@ use Rattle.sja_session.specs.Watching.{NoneRose, Watches}
 use Rattle.sja_session.specs.Watching.NoneRose.{none, bit}
 use Rattle.sja_session.specs.Writing.{with_bits_run}
 use Rattle.sja_wire.specs.Wire.{journal_at}
-use Rattle.sja_plan_session.proofs.StruckBefore.Replayed.{Replays, done_nodes, done_plan, stands_done, struck_with}
+use Rattle.sja_session.proofs.StruckBefore.Replayed.{Replays, done_nodes, done_plan, stands_done, struck_with}
 
 -- bits at which nothing is asked of the run before
 abbrev pub AnyTime : SerialValue → Type 0
