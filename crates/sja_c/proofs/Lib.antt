@@ -1,12 +1,5 @@
-mod EachHandle
-mod LentCall
-pub mod LooseParts
-pub mod MadeParts
-mod NoHandle
-mod NumberCall
-mod NumberCode
-mod NumberContract
-mod NumberLocals
-mod TextCall
-mod TextCode
 pub mod Walks
+pub mod WithNumbers
+pub mod WithText
+pub mod AtHandle
+pub mod OwnedParts

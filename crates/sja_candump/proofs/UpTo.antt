@@ -5,7 +5,7 @@ use Rattle.lemmas.specs.Related.{EachRelated}
 use Rattle.sja_log.specs.Log.{NodeValue, RunValue}
 use Rattle.sja_replay.specs.declared.happening.Happening.{Happening}
 use Rattle.sja_report.specs.ReportLines.{numbered}
-use Rattle.sja_trace.proofs.WrittenBack.{are_back, same_count}
+use Rattle.sja_trace.proofs.Stories.WrittenBack.{are_back, same_count}
 use Rattle.sja_trace.specs.declared.node_bits.NodeBits.{NodeBits}
 use Rattle.sja_trace.specs.Telling.{HaveSame, TellsOn, TellsAll}
 use Rattle.sja_candump.specs.CandumpText.{IsCandump, node_lines, story_lines, lines_to}

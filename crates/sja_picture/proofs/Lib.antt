@@ -1,8 +1,2 @@
-pub mod Runs
-pub mod Stories
-pub mod Beside
-pub mod Drawing
-pub mod RulerNumbers
-pub mod Fresh
-pub mod Places
-pub mod Pages
+pub mod NodeRows
+pub mod WholePage

@@ -77,7 +77,7 @@ impl Page {
     }
 
     /// Ends the block before this bit.
-    #[tactic(auto, using(crate::proofs::Fresh::block_texts))]
+    #[tactic(auto, using(crate::proofs::NodeRows::Fresh::block_texts))]
     fn end_block(
         &mut self,
         alloc: Global,

@@ -39,7 +39,7 @@ fn end_of_ten(last: u64) -> u64
 }
 
 /// The character at a place of a text, and a space behind it.
-#[tactic(auto, using(crate::proofs::RulerNumbers::character_is))]
+#[tactic(auto, using(crate::proofs::WholePage::RulerNumbers::character_is))]
 fn put_character(text: &mut String, characters: &[u8], place: u64) -> Result<(), AllocError>
     requires { IsAscii characters.now }
     ensures { OnOk result (string_bytes text.new ≡ string_bytes text.old

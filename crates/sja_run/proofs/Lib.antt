@@ -1,11 +1,4 @@
-pub mod FewBytes
-pub mod FileReads
-pub mod FileSteps
-pub mod FileTexts
-pub mod MostRead
-pub mod PlanRefusals
-pub mod PlanRuns
-pub mod RefusedMemory
-pub mod Requests
-pub mod Showing
-pub mod Talks
+pub mod Requested
+pub mod PlanAnswers
+pub mod BytesRead
+pub mod FilesDone

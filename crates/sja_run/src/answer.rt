@@ -15,7 +15,7 @@ use std::io::Read;
 
 /// The text that answers the task, which isn't left to another call and isn't `check`. Only for a text of a run and for
 /// `sweep` the input is read.
-#[tactic(auto, using(crate::proofs::Requests::once_printed, crate::proofs::Requests::once_refused))]
+#[tactic(auto, using(crate::proofs::Requested::Requests::once))]
 pub(crate) fn printed<R: Read>(
     alloc: Global,
     task: Task<'_>,

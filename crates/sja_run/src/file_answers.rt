@@ -100,7 +100,7 @@ fn check_outcome(alloc: Global, bytes: &[u8]) -> FileOutcome
 }
 
 /// This text of a run of the plan that these bytes are: with each driver in a thread of its own, or with all in one.
-#[tactic(auto, using(crate::proofs::PlanRuns::bytes_refused))]
+#[tactic(auto, using(crate::proofs::PlanAnswers::PlanRuns::bytes_refused))]
 fn written_in<T: Threads + Wait + Sync>(
     rt: &T,
     alloc: Global,

@@ -19,7 +19,7 @@ const ROOM: usize = 1_024;
 /// The plan that the bytes of the input are.
 ///
 /// Errors: those of [`read_input`]; [`CommandRefusal::Plan`] where they are no plan.
-#[tactic(auto, using(crate::proofs::FewBytes::refused_input))]
+#[tactic(auto, using(crate::proofs::BytesRead::FewBytes::refused_input))]
 pub(crate) fn plan_of_input<R: Read>(alloc: Global, input: &mut R) -> Result<Plan, CommandRefusal>
     ensures ok { IfOk result (HoldsPlan (R.remaining input.old) (R.remaining input.new)) }
     ensures err { IfErr result (RefusesRun (R.remaining input.old) (R.remaining input.new)) }
@@ -55,7 +55,7 @@ pub fn read_input<R: Read>(alloc: Global, input: &mut R) -> Result<Vec<u8>, Comm
 }
 
 /// How many bytes are read at most where the first ones are these: one more than a plan may have that begins so.
-#[tactic(auto, using(crate::proofs::MostRead::most_few))]
+#[tactic(auto, using(crate::proofs::BytesRead::MostRead::most_few))]
 fn most_read(bytes: &[u8]) -> usize
     ensures { result ≡ most_read bytes.now }
 {

@@ -79,7 +79,7 @@ pub fn sja<T: Threads + Wait + Sync, F: Sources, S: AsStr, R: Read, O: Write, E:
 }
 
 /// Does what is left to threads, and gives the exit status.
-#[tactic(auto, using(crate::proofs::Showing::shows_printed, crate::proofs::Showing::shows_refused))]
+#[tactic(auto, using(crate::proofs::Requested::Showing::shows))]
 fn reply_threads<T: Threads + Wait + Sync, R: Read, O: Write, E: Write>(
     rt: &T,
     alloc: Global,

@@ -28,7 +28,7 @@ use std::io::{Read, Write};
 /// `input` is read for a text of a run, for `check` and for `sweep` alone: at most one byte more of it than a plan may
 /// have that begins so, in at most 33,554,434 reads.
 /// The words, texts and statuses are this project's own rule.
-#[tactic(auto, using(crate::proofs::FewBytes::unread))]
+#[tactic(auto, using(crate::proofs::BytesRead::FewBytes::unread))]
 pub fn sja_serial<'a, S: AsStr, R: Read, O: Write, E: Write>(
     alloc: Global,
     words: &'a [S],
@@ -95,7 +95,7 @@ fn left_of<'a>(task: Task<'a>) -> Result<Left<'a>, Task<'a>>
 }
 
 /// Does the task, which isn't left to another call, and gives the exit status.
-#[tactic(auto, using(crate::proofs::Showing::shows_printed, crate::proofs::Showing::shows_refused))]
+#[tactic(auto, using(crate::proofs::Requested::Showing::shows))]
 fn reply<R: Read, O: Write, E: Write>(
     alloc: Global,
     task: Task<'_>,
@@ -131,7 +131,7 @@ fn is_check(task: &Task<'_>) -> bool
 }
 
 /// Does `check`, and gives the exit status: 1 where the plan has a mistake, which goes to the error output.
-#[tactic(auto, using(crate::proofs::FewBytes::few_checked, crate::proofs::FewBytes::few_unchecked))]
+#[tactic(auto, using(crate::proofs::BytesRead::FewBytes::few))]
 fn reply_check<R: Read, O: Write, E: Write>(
     alloc: Global,
     input: &mut R,

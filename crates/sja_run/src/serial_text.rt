@@ -17,7 +17,7 @@ use std::alloc::Global;
 use std::io::Read;
 
 /// This text of a run in one thread of the plan that the bytes of the input are.
-#[tactic(auto, using(crate::proofs::PlanRuns::run_refused))]
+#[tactic(auto, using(crate::proofs::PlanAnswers::PlanRuns::run_refused))]
 pub(crate) fn written<R: Read>(
     alloc: Global,
     what: RunText,

@@ -14,7 +14,7 @@ use std::alloc::Global;
 use std::io::Read;
 
 /// The plan that the bytes of the input are, with a strike more of this node in this bit, as a document.
-#[tactic(auto, using(crate::proofs::PlanRefusals::of_plan_refused, crate::proofs::PlanRefusals::plan_refused))]
+#[tactic(auto, using(crate::proofs::PlanAnswers::PlanRefusals::refusals))]
 pub(crate) fn struck<R: Read>(
     alloc: Global,
     node: u32,

@@ -17,7 +17,7 @@ use std::io::Read;
 use std::thread::Threads;
 
 /// The lines of the sweep of the plan that the bytes of the input are, or its rows; in one thread.
-#[tactic(auto, using(crate::proofs::PlanRefusals::of_plan_refused, crate::proofs::PlanRefusals::plan_refused))]
+#[tactic(auto, using(crate::proofs::PlanAnswers::PlanRefusals::refusals))]
 pub(crate) fn told_sweep<R: Read>(
     alloc: Global,
     words: SweepWords,
@@ -31,7 +31,7 @@ pub(crate) fn told_sweep<R: Read>(
 }
 
 /// The same in as many threads as the words say.
-#[tactic(auto, using(crate::proofs::PlanRefusals::of_plan_refused, crate::proofs::PlanRefusals::plan_refused))]
+#[tactic(auto, using(crate::proofs::PlanAnswers::PlanRefusals::refusals))]
 pub(crate) fn told_sweep_jobs<T: Threads + Sync, R: Read>(
     rt: &T,
     alloc: Global,

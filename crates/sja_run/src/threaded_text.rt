@@ -17,7 +17,7 @@ use std::sync::Wait;
 use std::thread::Threads;
 
 /// This text of a run of the plan that the bytes of the input are, with each driver in a thread of its own.
-#[tactic(auto, using(crate::proofs::FewBytes::refused_threads, crate::proofs::PlanRuns::threads_refused))]
+#[tactic(auto, using(crate::proofs::BytesRead::FewBytes::no_threads))]
 pub(crate) fn written_threads<T: Threads + Wait + Sync, R: Read>(
     rt: &T,
     alloc: Global,

@@ -9,8 +9,8 @@ use Rattle.lemmas.specs.Related.{EachRelated}
 use Rattle.sja_frames.specs.declared.run.Run.{Run}
 use Rattle.sja_picture.specs.EqualLevels.{from_start}
 use Rattle.sja_picture.specs.Inside.Drawing.{run_past, run_after, is_full, AreShown, EachBeside}
-use Rattle.sja_picture.proofs.Drawing.{shown_more, shown_none}
-use Rattle.sja_picture.proofs.Runs.{run_next, full_is}
+use Rattle.sja_picture.proofs.NodeRows.Drawing.{shown_more, shown_none}
+use Rattle.sja_picture.proofs.NodeRows.Runs.{run_next, full_is}
 use Rattle.sja_replay.specs.declared.happening.Happening.{Happening}
 use Rattle.sja_report.specs.ReportLines.{numbered}
 use Rattle.sja_trace.specs.Telling.{at_hand}

@@ -6,9 +6,9 @@ use Rattle.sja_log.specs.Log.{NodeValue}
 use Rattle.sja_picture.specs.Rows.{bus_in}
 use Rattle.sja_picture.specs.Inside.Drawing.{EachBeside}
 use Rattle.sja_picture.specs.Inside.Pages.{AreFirst}
-use Rattle.sja_picture.proofs.Drawing.{bus_shown}
-use Rattle.sja_picture.proofs.Pages.{first_each, same_count}
-use Rattle.sja_picture.proofs.Stories.{Knows, knows_first}
+use Rattle.sja_picture.proofs.NodeRows.Drawing.{bus_shown}
+use Rattle.sja_picture.proofs.WholePage.Pages.{first_each, same_count}
+use Rattle.sja_picture.proofs.NodeRows.Stories.{Knows, knows_first}
 use Rattle.sja_replay.specs.declared.happening.Happening.{Happening}
 use Rattle.sja_report.specs.ReportLines.{numbered}
 use Rattle.sja_trace.specs.declared.teller.Teller.{Teller}

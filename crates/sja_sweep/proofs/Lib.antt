@@ -1,11 +1,3 @@
-pub mod Ranges
-pub mod Searches
-pub mod Texts
-pub mod Entries
-pub mod Gathers
-pub mod SpanLemmas
-pub mod TrialLemmas
-pub mod RunNodes
-pub mod ErrorLemmas
-pub mod TriedLemmas
-pub mod JobLemmas
+pub mod TriedStrikes
+pub mod NumberLists
+pub mod TriedRuns

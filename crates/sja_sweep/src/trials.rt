@@ -13,7 +13,7 @@ use super::trial::Trial;
 use std::alloc::{AllocError, Global};
 
 /// How many runs a sweep has beside the one of the plan as it is.
-#[tactic(auto, using(crate::proofs::TrialLemmas::alone_asked, crate::proofs::TrialLemmas::paired_asked))]
+#[tactic(auto, using(crate::proofs::TriedStrikes::TrialLemmas::both_asked))]
 pub(crate) fn run_count(sweeping: &Sweeping, nodes: usize, bits: u32, asked: Asked) -> u128
     requires { IsAsked sweeping.now nodes bits asked }
     ensures is { result ≡ length (trials_of sweeping.now nodes bits) }
@@ -26,7 +26,7 @@ pub(crate) fn run_count(sweeping: &Sweeping, nodes: usize, bits: u32, asked: Ask
 }
 
 /// What a sweep tries, in order.
-#[tactic(auto, using(crate::proofs::TrialLemmas::alone_asked, crate::proofs::TrialLemmas::paired_asked))]
+#[tactic(auto, using(crate::proofs::TriedStrikes::TrialLemmas::both_asked))]
 pub(crate) fn trials_of(
     alloc: Global,
     sweeping: &Sweeping,

@@ -28,7 +28,7 @@ pub(crate) fn put_states(told: &mut Told, bit: &Happening) -> Result<(), AllocEr
 }
 
 /// Error warning, error passive and error active.
-#[tactic(auto, using(crate::proofs::Sayings::tells_same))]
+#[tactic(auto, using(crate::proofs::BitSaid::Sayings::tells_same))]
 fn put_confinement(told: &mut Told, old: Counters, new: Counters) -> Result<(), AllocError>
     ensures { OnOk result (Tells told.old told.new (confinement_said old new)) }
 {
@@ -62,7 +62,7 @@ fn warns(counters: Counters) -> bool
 }
 
 /// Error passive and error active.
-#[tactic(auto, using(crate::proofs::Sayings::tells_none))]
+#[tactic(auto, using(crate::proofs::BitSaid::Sayings::tells_none))]
 fn put_change(told: &mut Told, before: State, after: State) -> Result<(), AllocError>
     ensures { OnOk result (Tells told.old told.new (change_text before after)) }
 {

@@ -50,7 +50,7 @@ pub(crate) fn put_node(
 }
 
 /// The line of a bit at hand, in short or else in full, if the node has the bit and it brought anything.
-#[tactic(auto, using(crate::proofs::Lines::no_line))]
+#[tactic(auto, using(crate::proofs::SoFar::Lines::no_line))]
 pub fn put_hand_line(
     text: &mut String,
     told: &mut Told,
@@ -74,7 +74,7 @@ pub fn put_hand_line(
 }
 
 /// The line of a bit in short, if anything is said of it.
-#[tactic(auto, using(crate::proofs::Lines::no_words))]
+#[tactic(auto, using(crate::proofs::SoFar::Lines::no_words))]
 fn put_short_line(
     text: &mut String,
     told: &mut Told,

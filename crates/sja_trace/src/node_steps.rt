@@ -44,7 +44,7 @@ impl<'a> NodeSteps<'a> {
     }
 
     /// Goes on past the next bit.
-    #[tactic(auto, using(crate::proofs::StepOrders::past_later))]
+    #[tactic(auto, using(crate::proofs::DriverSteps::StepOrders::past_later))]
     pub(crate) fn go_on(&mut self)
         ensures { HasSameSteps self.old self.new }
     {
@@ -82,7 +82,7 @@ impl<'a> NodeSteps<'a> {
     }
 
     /// A place before which no step stands right before this bit.
-    #[tactic(auto, using(crate::proofs::StepOrders::past_later))]
+    #[tactic(auto, using(crate::proofs::DriverSteps::StepOrders::past_later))]
     fn first_at(&self, bit: u32) -> usize
         ensures { ArePast bit result self.now.done.now }
     {

@@ -13,7 +13,7 @@ use sja_replay::ShortBit;
 
 /// Whether the node saw what the bus had, began with the counters that the bits before left, and neither may have begun
 /// a frame with the bit nor acknowledged one. Then nothing is said of the bit.
-#[tactic(auto, using(crate::proofs::Shorts::plain_none))]
+#[tactic(auto, using(crate::proofs::BitSaid::Shorts::plain_none))]
 pub(crate) fn is_plain(bus: Level, left: Counters, bit: &ShortBit) -> bool
     ensures { result ≡ true → all_said bus left (happening_of bit.now) ≡ [] }
 {

@@ -36,7 +36,7 @@ pub(crate) fn tellers_of<'a>(
 }
 
 /// The steps of a node; none where the plan has no such node.
-#[tactic(auto, using(crate::proofs::NodeStories::no_steps))]
+#[tactic(auto, using(crate::proofs::Stories::NodeStories::no_steps))]
 fn steps_of<'a>(plan: &'a Plan, node: usize) -> &'a [Step]
     ensures { result.now ≡ steps_at plan.now node }
 {

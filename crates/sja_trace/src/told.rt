@@ -53,7 +53,7 @@ impl Told {
     }
 
     /// An event of these words.
-    #[tactic(auto, using(crate::proofs::Sayings::tells_one))]
+    #[tactic(auto, using(crate::proofs::BitSaid::Sayings::tells_one))]
     pub(crate) fn say(&mut self, words: &str) -> Result<(), AllocError>
         ensures { OnOk result (Tells self.old self.new (words.now ∷ [])) }
     {
@@ -63,7 +63,7 @@ impl Told {
     }
 
     /// An event of these words where a test holds, and else none.
-    #[tactic(auto, using(crate::proofs::Sayings::tells_none))]
+    #[tactic(auto, using(crate::proofs::BitSaid::Sayings::tells_none))]
     pub(crate) fn say_if(&mut self, test: bool, words: &str) -> Result<(), AllocError>
         ensures { OnOk result (Tells self.old self.new (said_if test words.now)) }
     {

@@ -1,5 +1,5 @@
 -- `sja_read` meets its contract, as each function of C with a handle and two numbers: it calls `read_of`.
-use Rattle.sja_c.proofs.NumberContract.{meets, asked}
+use Rattle.sja_c.proofs.WithNumbers.NumberContract.{meets, asked}
 use Rattle.sja_c.proofs.accesses.read_of.Met as call_met
 use Rattle.sja_c.proofs.accesses.read_of.Symbol as call_is
 use Rattle.sja_c.proofs.accesses.sja_read.Code as code

@@ -1,5 +1,5 @@
 -- `sja_write` meets its contract, as each function of C with a handle and three numbers: it calls `write_of`.
-use Rattle.sja_c.proofs.NumberContract.{meets, asked}
+use Rattle.sja_c.proofs.WithNumbers.NumberContract.{meets, asked}
 use Rattle.sja_c.proofs.accesses.write_of.Met as call_met
 use Rattle.sja_c.proofs.accesses.write_of.Symbol as call_is
 use Rattle.sja_c.proofs.accesses.sja_write.Code as code

@@ -1,5 +1,5 @@
 -- `sja_bits` meets its contract, as each function of C with a handle and two numbers: it calls `bits_of`.
-use Rattle.sja_c.proofs.NumberContract.{meets, asked}
+use Rattle.sja_c.proofs.WithNumbers.NumberContract.{meets, asked}
 use Rattle.sja_c.proofs.bits.bits_of.Met as call_met
 use Rattle.sja_c.proofs.bits.bits_of.Symbol as call_is
 use Rattle.sja_c.proofs.bits.sja_bits.Code as code

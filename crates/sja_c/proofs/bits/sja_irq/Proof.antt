@@ -1,5 +1,5 @@
 -- `sja_irq` meets its contract, as each function of C with a handle and one number: it calls `irq_of`.
-use Rattle.sja_c.proofs.NumberContract.{meets, asked}
+use Rattle.sja_c.proofs.WithNumbers.NumberContract.{meets, asked}
 use Rattle.sja_c.proofs.bits.irq_of.Met as call_met
 use Rattle.sja_c.proofs.bits.irq_of.Symbol as call_is
 use Rattle.sja_c.proofs.bits.sja_irq.Code as code

@@ -1,5 +1,5 @@
 -- `sja_now` meets its contract, as each function of C with a handle and no number: it calls `now_of`.
-use Rattle.sja_c.proofs.NumberContract.{meets, asked}
+use Rattle.sja_c.proofs.WithNumbers.NumberContract.{meets, asked}
 use Rattle.sja_c.proofs.bits.now_of.Met as call_met
 use Rattle.sja_c.proofs.bits.now_of.Symbol as call_is
 use Rattle.sja_c.proofs.bits.sja_now.Code as code

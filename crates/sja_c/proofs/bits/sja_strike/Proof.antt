@@ -1,5 +1,5 @@
 -- `sja_strike` meets its contract, as each function of C with a handle and two numbers: it calls `strike_of`.
-use Rattle.sja_c.proofs.NumberContract.{meets, asked}
+use Rattle.sja_c.proofs.WithNumbers.NumberContract.{meets, asked}
 use Rattle.sja_c.proofs.bits.strike_of.Met as call_met
 use Rattle.sja_c.proofs.bits.strike_of.Symbol as call_is
 use Rattle.sja_c.proofs.bits.sja_strike.Code as code

@@ -1,5 +1,5 @@
 -- `sja_begin` meets its contract, as each function of C with a handle and three numbers: it calls `begin_of`.
-use Rattle.sja_c.proofs.NumberContract.{meets, asked}
+use Rattle.sja_c.proofs.WithNumbers.NumberContract.{meets, asked}
 use Rattle.sja_c.proofs.life.begin_of.Met as call_met
 use Rattle.sja_c.proofs.life.begin_of.Symbol as call_is
 use Rattle.sja_c.proofs.life.sja_begin.Code as code

@@ -1,5 +1,5 @@
 -- `sja_let_go` meets its contract, as each function of C with a handle and no number: it calls `let_go`.
-use Rattle.sja_c.proofs.NumberContract.{meets, asked}
+use Rattle.sja_c.proofs.WithNumbers.NumberContract.{meets, asked}
 use Rattle.sja_c.proofs.life.let_go.Met as call_met
 use Rattle.sja_c.proofs.life.let_go.Symbol as call_is
 use Rattle.sja_c.proofs.life.sja_let_go.Code as code

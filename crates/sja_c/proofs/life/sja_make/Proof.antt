@@ -27,7 +27,7 @@ use denote.Triple.Walked.{Stays, stay_dropped, stay_ref, Goes-dropped, Goes-ref}
 use Rattle.std.proofs.raw_atomic.Walks.{proved, leaves}
 use Rattle.std.proofs.alloc.Global.TheLaws as global_laws
 use Rattle.std.specs.contracts.alloc.Global as global
-use Rattle.sja_c.proofs.MadeParts.{word, ptr_good, made_good, made_out}
+use Rattle.sja_c.proofs.OwnedParts.MadeParts.{word, ptr_good, made_good, made_out}
 use Rattle.sja_c.proofs.answer.SjaAnswer.TheLaws as laws
 use Rattle.sja_c.proofs.made.make.Met as call_met
 use Rattle.sja_c.specs.Exports.{AnswersMake}

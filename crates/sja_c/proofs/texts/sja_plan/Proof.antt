@@ -1,5 +1,5 @@
 -- `sja_plan` meets its contract, as each function of C with a handle and a text: it calls `plan_of`.
-use Rattle.sja_c.proofs.TextCall.{meets, asked}
+use Rattle.sja_c.proofs.WithText.TextCall.{meets, asked}
 use Rattle.sja_c.proofs.texts.plan_of.Met as call_met
 use Rattle.sja_c.proofs.texts.plan_of.Symbol as call_is
 use Rattle.sja_c.proofs.texts.sja_plan.Code as code

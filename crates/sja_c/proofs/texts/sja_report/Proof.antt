@@ -1,5 +1,5 @@
 -- `sja_report` meets its contract, as each function of C with a handle and a text: it calls `report_of`.
-use Rattle.sja_c.proofs.TextCall.{meets, asked}
+use Rattle.sja_c.proofs.WithText.TextCall.{meets, asked}
 use Rattle.sja_c.proofs.texts.report_of.Met as call_met
 use Rattle.sja_c.proofs.texts.report_of.Symbol as call_is
 use Rattle.sja_c.proofs.texts.sja_report.Code as code

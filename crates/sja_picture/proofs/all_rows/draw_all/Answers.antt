@@ -1,6 +1,6 @@
 use Rattle.std.proofs.Common.{◌<◌, length, rules}
 use Rattle.sja_picture.specs.Inside.Drawing.{Draws}
-use Rattle.sja_picture.proofs.Beside.{beside_none, beside_next, beside_all}
+use Rattle.sja_picture.proofs.NodeRows.Beside.{beside_none, beside_next, beside_all}
 use Rattle.sja_picture.proofs.all_rows.draw_all.Goals as goal
 
 pub loop-k-init : goal.loop-k-init

@@ -1,5 +1,5 @@
 use Rattle.sja_picture.specs.Inside.Drawing.{Draws}
-use Rattle.sja_picture.proofs.Beside.{Beside}
+use Rattle.sja_picture.proofs.NodeRows.Beside.{Beside}
 use Rattle.sja_picture.proofs.all_rows.draw_all.Given as goal
 
 -- so many have the bit

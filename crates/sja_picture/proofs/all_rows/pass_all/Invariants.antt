@@ -1,5 +1,5 @@
 use Rattle.sja_picture.specs.Inside.Drawing.{Passes}
-use Rattle.sja_picture.proofs.Beside.{Beside}
+use Rattle.sja_picture.proofs.NodeRows.Beside.{Beside}
 use Rattle.sja_picture.proofs.all_rows.pass_all.Given as goal
 
 -- so many went past the bit

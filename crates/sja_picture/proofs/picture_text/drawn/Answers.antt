@@ -1,9 +1,9 @@
 use Rattle.std.proofs.Common.{ℕ, ◌≤◌, ap, ◌∙◌, arith}
 use Rattle.sja_picture.specs.declared.span.Span.{Span}
 use Rattle.sja_picture.specs.PictureText.{picture_text, end_after}
-use Rattle.sja_picture.proofs.Fresh.{lent_first}
-use Rattle.sja_picture.proofs.Pages.{page_first, page_whole, beside}
-use Rattle.sja_picture.proofs.Stories.{knows_next, knows_underway, knows_all}
+use Rattle.sja_picture.proofs.NodeRows.Fresh.{lent_first}
+use Rattle.sja_picture.proofs.WholePage.Pages.{page_first, page_whole, beside}
+use Rattle.sja_picture.proofs.NodeRows.Stories.{knows_next, knows_underway, knows_all}
 use Rattle.sja_picture.proofs.picture_text.drawn.Goals as goal
 
 pub loop-bit-init : goal.loop-bit-init

@@ -1,5 +1,5 @@
 use Rattle.sja_picture.specs.Inside.Pages.{IsDrawn}
-use Rattle.sja_picture.proofs.Stories.{Knows}
+use Rattle.sja_picture.proofs.NodeRows.Stories.{Knows}
 use Rattle.sja_picture.proofs.picture_text.drawn.Given as goal
 
 -- the bits so far were drawn

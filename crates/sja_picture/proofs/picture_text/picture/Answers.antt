@@ -1,4 +1,4 @@
-use Rattle.sja_picture.proofs.Fresh.{lent_fresh}
+use Rattle.sja_picture.proofs.NodeRows.Fresh.{lent_fresh}
 use Rattle.sja_picture.specs.Inside.Drawing.{IsFresh}
 use Rattle.sja_picture.proofs.picture_text.picture.Goals as goal
 

@@ -1,5 +1,5 @@
 use Rattle.std.proofs.Common.{rules, refl}
-use Rattle.sja_trace.proofs.NodeStories.{begun_none, begun_more, begun_all}
+use Rattle.sja_trace.proofs.Stories.NodeStories.{begun_none, begun_more, begun_all}
 use Rattle.sja_picture.specs.Inside.Pages.{no_plan}
 use Rattle.sja_picture.proofs.picture_text.tellers_of.Goals as goal
 

@@ -1,5 +1,5 @@
 use Rattle.std.proofs.Common.{take}
-use Rattle.sja_trace.proofs.NodeStories.{HaveBegun}
+use Rattle.sja_trace.proofs.Stories.NodeStories.{HaveBegun}
 use Rattle.sja_picture.specs.Inside.Pages.{no_plan}
 use Rattle.sja_picture.proofs.picture_text.tellers_of.Given as goal
 

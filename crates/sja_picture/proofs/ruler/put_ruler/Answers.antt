@@ -1,5 +1,5 @@
 use Rattle.std.proofs.Common.{◌≡◌, ◌-◌, ◌%◌, ◌++◌, ◌∙◌, codes, decimal, string_bytes, ap, arith, rules}
-use Rattle.sja_picture.proofs.RulerNumbers.{ruled_none, ruled_more, ruled_all, ten_is_ascii}
+use Rattle.sja_picture.proofs.WholePage.RulerNumbers.{ruled_none, ruled_more, ruled_all, ten_is_ascii}
 use Rattle.sja_picture.proofs.ruler.put_ruler.Goals as goal
 
 pub loop-number-init : goal.loop-number-init

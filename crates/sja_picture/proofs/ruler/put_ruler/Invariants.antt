@@ -1,5 +1,5 @@
 use Rattle.std.proofs.Common.{◌≡◌, ◌-◌, ◌≤◌, codes, string_bytes}
-use Rattle.sja_picture.proofs.RulerNumbers.{ruled}
+use Rattle.sja_picture.proofs.WholePage.RulerNumbers.{ruled}
 use Rattle.sja_picture.proofs.ruler.put_ruler.Given as goal
 
 -- the columns so far

@@ -1,7 +1,7 @@
 use Rattle.std.proofs.Common.{◌≡◌, false}
 use Rattle.sja_words.specs.Words.{request_of}
 use Rattle.sja_run.specs.Answer.{request_for}
-use Rattle.sja_run.proofs.Requests.{ok_then, once_printed}
+use Rattle.sja_run.proofs.Requested.Requests.{ok_then, once_printed}
 use Rattle.sja_run.proofs.answer.printed.Goals as goal
 
 pub returns-in-Filter-clause-ok : goal.returns-in-Filter-clause-ok

@@ -1,6 +1,6 @@
 use Rattle.std.proofs.Common.{subst}
 use Rattle.sja_run.specs.Check.{IsSaidOf}
-use Rattle.sja_run.proofs.PlanRuns.{said_of_input}
+use Rattle.sja_run.proofs.PlanAnswers.PlanRuns.{said_of_input}
 use Rattle.sja_run.proofs.check.checked.Goals as goal
 
 -- what is said of the bytes that were read

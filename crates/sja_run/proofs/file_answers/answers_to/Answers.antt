@@ -1,6 +1,6 @@
 use Rattle.std.proofs.Common.{arith}
 use Rattle.sja_run.specs.Inside.FileReads.{ComesOf}
-use Rattle.sja_run.proofs.FileReads.{zip_from}
+use Rattle.sja_run.proofs.FilesDone.FileReads.{zip_from}
 use Rattle.sja_run.proofs.file_answers.answers_to.Goals as goal
 
 -- of each of them what comes of it

@@ -1,6 +1,6 @@
 use Rattle.std.proofs.Common.{◌+◌, rules, map, take, sym, subst, arith}
 use Rattle.sja_run.specs.Inside.FileReads.{AreReads}
-use Rattle.sja_run.proofs.FileReads.{reads_more}
+use Rattle.sja_run.proofs.FilesDone.FileReads.{reads_more}
 use Rattle.sja_run.proofs.file_reads.read_files.Goals as goal
 
 pub loop-name-preserved : goal.loop-name-preserved

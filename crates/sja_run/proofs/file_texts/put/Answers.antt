@@ -1,5 +1,5 @@
 use Rattle.std.proofs.Common.{sym}
-use Rattle.sja_run.proofs.FileTexts.{wrote_more, wrote_nothing}
+use Rattle.sja_run.proofs.FilesDone.FileTexts.{wrote_more, wrote_nothing}
 use Rattle.sja_run.proofs.file_texts.put.Goals as goal
 
 pub returns-in-Printed-clause-out : goal.returns-in-Printed-clause-out

@@ -1,7 +1,7 @@
 use Rattle.std.proofs.Common.{◌≡◌, ◌<◌, ◌∙◌, ◌&&◌, ap, ap₂, arith, get_or, length, refl, sym}
 use Rattle.std.proofs.lemmas.List.Folds.{list_all_more}
 use Rattle.sja_run.specs.Files.{is_printed, printed_of, refused_of}
-use Rattle.sja_run.proofs.FileTexts.{wrote_at}
+use Rattle.sja_run.proofs.FilesDone.FileTexts.{wrote_at}
 use Rattle.sja_run.proofs.file_texts.put_all.Goals as goal
 
 pub loop-index-preserved : goal.loop-index-preserved

@@ -1,6 +1,6 @@
 use Rattle.std.proofs.Common.{◌<◌, ◌∙◌, ◌&&◌, ap, arith, length}
 use Rattle.sja_run.specs.Files.{printed_of, refused_of}
-use Rattle.sja_run.proofs.FileTexts.{none_printed, some_name, wrote_refused}
+use Rattle.sja_run.proofs.FilesDone.FileTexts.{none_printed, some_name, wrote_refused}
 use Rattle.sja_run.proofs.file_texts.refuse_all.Goals as goal
 
 pub loop-name-preserved : goal.loop-name-preserved

@@ -1,7 +1,7 @@
 use Rattle.std.proofs.Common.{ap, map, ◌∙◌}
 use Rattle.std.proofs.lemmas.Result.{err_from_is_err_and}
-use Rattle.sja_run.proofs.FileReads.{outcomes_by, refused_unread}
-use Rattle.sja_run.proofs.Requests.{ok_then}
+use Rattle.sja_run.proofs.FilesDone.FileReads.{outcomes_by, refused_unread}
+use Rattle.sja_run.proofs.Requested.Requests.{ok_then}
 use Rattle.sja_run.proofs.files.outcomes_of.Goals as goal
 
 -- what comes of what was read

@@ -1,7 +1,7 @@
 use Rattle.std.proofs.Common.{◌+◌, ◌&&◌, arith, drop, length, map}
 use Rattle.std.specs.Prelude.{nat_lt}
 use Rattle.sja_run.specs.Inside.FileTexts.{AreDone, AreTold}
-use Rattle.sja_run.proofs.FileSteps.{done_more, none_done}
+use Rattle.sja_run.proofs.FilesDone.FileSteps.{done_more, none_done}
 use Rattle.sja_run.proofs.files.reply_files.Goals as goal
 use Rattle.sja_run.proofs.files.reply_files.Goals.{After-put_outcomes-answered}
 

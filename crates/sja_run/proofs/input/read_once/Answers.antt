@@ -1,6 +1,6 @@
 use Rattle.std.proofs.Common.{rules, ◌≤◌, length, take, arith}
 use Rattle.std.proofs.lemmas.Result.{err_from_is_err_and}
-use Rattle.sja_run.proofs.FewBytes.{few_together, read_more}
+use Rattle.sja_run.proofs.BytesRead.FewBytes.{few_together, read_more}
 use Rattle.sja_run.proofs.input.read_once.Goals as goal
 
 -- what was read now finds no room

@@ -1,5 +1,5 @@
 use Rattle.std.specs.Prelude.{Result, Ok, Err, IfErr}
-use Rattle.sja_run.proofs.Requests.{left_printed, left_refused, ok_then}
+use Rattle.sja_run.proofs.Requested.Requests.{left_printed, left_refused, ok_then}
 use Rattle.sja_run.proofs.program.printed_threads.Goals as goal
 
 err_then : {T E : Type 0} {P Q : E → Type 0} (r : Result T E) → ((e : E) → P e → Q e) → IfErr r P → IfErr r Q

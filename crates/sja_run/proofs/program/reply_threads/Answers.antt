@@ -1,4 +1,4 @@
-use Rattle.sja_run.proofs.FewBytes.{few_left_printed, few_left_refused}
+use Rattle.sja_run.proofs.BytesRead.FewBytes.{few_left_printed, few_left_refused}
 use Rattle.sja_run.proofs.program.reply_threads.Goals as goal
 
 -- its text was printed

@@ -3,9 +3,9 @@ use Rattle.std.specs.Io.KnownBytes.{Keeps}
 use Rattle.std.proofs.KnownBytes.{Keeps-refl}
 use Rattle.sja_words.specs.Words.{files, live}
 use Rattle.sja_run.specs.Answer.{AsksForOne, request_left}
-use Rattle.sja_run.proofs.FileSteps.{files_from, files_unread}
-use Rattle.sja_run.proofs.Requests.{asks_left, asks_one, is_left_over, left_shows, one_left, shows_from}
-use Rattle.sja_run.proofs.Talks.{left_talks, talks_from}
+use Rattle.sja_run.proofs.FilesDone.FileSteps.{files_from, files_unread}
+use Rattle.sja_run.proofs.Requested.Requests.{asks_left, asks_one, is_left_over, left_shows, one_left, shows_from}
+use Rattle.sja_run.proofs.Requested.Talks.{left_talks, talks_from}
 use Rattle.sja_run.proofs.program.sja.Goals as goal
 
 -- what is left over isn't answered to be left only where memory was refused

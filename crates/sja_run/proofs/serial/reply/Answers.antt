@@ -1,7 +1,7 @@
 use Rattle.std.proofs.Common.{ap, inl, inr, subst, sym}
 use Rattle.std.specs.Prelude.{◌⊎◌}
 use Rattle.sja_run.specs.Answer.{AsksForRun}
-use Rattle.sja_run.proofs.FewBytes.{few_printed, few_turned_down}
+use Rattle.sja_run.proofs.BytesRead.FewBytes.{few_printed, few_turned_down}
 use Rattle.sja_run.proofs.serial.reply.Goals as goal
 
 -- the task is `check`

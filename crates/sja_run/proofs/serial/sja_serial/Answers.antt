@@ -1,9 +1,9 @@
 use Rattle.std.proofs.Common.{rules, inl, inr, ap, sym, ◌∙◌, Some}
 use Rattle.sja_words.specs.Words.{request_of}
 use Rattle.sja_texts.specs.declared.command_refusal.CommandRefusal.TheVariants as refusal
-use Rattle.sja_run.proofs.FewBytes.{unread}
-use Rattle.sja_run.proofs.RefusedMemory.{memory_refused}
-use Rattle.sja_run.proofs.Requests.{asks_one}
+use Rattle.sja_run.proofs.BytesRead.FewBytes.{unread}
+use Rattle.sja_run.proofs.Requested.RefusedMemory.{memory_refused}
+use Rattle.sja_run.proofs.Requested.Requests.{asks_one}
 use Rattle.sja_run.proofs.serial.sja_serial.Goals as goal
 
 -- words that parse are never turned away

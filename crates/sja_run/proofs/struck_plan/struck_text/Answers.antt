@@ -1,6 +1,6 @@
 use Rattle.std.proofs.Common.{◌≡◌, ◌<◌, length, rules}
 use Rattle.sja_plan.specs.Struck.{struck_at}
-use Rattle.sja_run.proofs.PlanRefusals.{struck_text_is}
+use Rattle.sja_run.proofs.PlanAnswers.PlanRefusals.{struck_text_is}
 use Rattle.sja_run.proofs.struck_plan.struck_text.Goals as goal
 
 -- the text is that of the plan with the strike more

@@ -1,6 +1,6 @@
 use Rattle.std.proofs.Common.{sym}
 use Rattle.std.proofs.lemmas.Result.{err_from_is_err_and}
-use Rattle.sja_run.proofs.PlanRefusals.{plan_refused}
+use Rattle.sja_run.proofs.PlanAnswers.PlanRefusals.{plan_refused}
 use Rattle.sja_run.proofs.sweeps.told_sweep_jobs.Goals as goal
 
 -- the text is that of a sweep of the plan that was read

@@ -1,5 +1,5 @@
 use Rattle.sja_svg.specs.Inside.Drawing.{Draws}
-use Rattle.sja_picture.proofs.Beside.{Beside}
+use Rattle.sja_picture.proofs.NodeRows.Beside.{Beside}
 use Rattle.sja_svg.proofs.all_lanes.draw_all.Given as goal
 
 -- so many have the bit

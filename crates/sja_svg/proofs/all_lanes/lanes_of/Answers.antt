@@ -1,5 +1,5 @@
 use Rattle.std.proofs.Common.{rules}
-use Rattle.sja_picture.proofs.Fresh.{fresh_none, fresh_more, fresh_all}
+use Rattle.sja_picture.proofs.NodeRows.Fresh.{fresh_none, fresh_more, fresh_all}
 use Rattle.sja_svg.specs.Inside.Drawing.{IsFresh}
 use Rattle.sja_svg.proofs.all_lanes.lanes_of.Goals as goal
 

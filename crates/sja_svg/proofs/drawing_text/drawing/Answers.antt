@@ -1,4 +1,4 @@
-use Rattle.sja_picture.proofs.Fresh.{lent_fresh}
+use Rattle.sja_picture.proofs.NodeRows.Fresh.{lent_fresh}
 use Rattle.sja_svg.specs.Inside.Drawing.{IsFresh}
 use Rattle.sja_svg.proofs.drawing_text.drawing.Goals as goal
 

@@ -1,8 +1,8 @@
 use Rattle.std.proofs.Common.{◌≡◌, ℕ, ◌-◌, ap, ◌∙◌, arith}
 use Rattle.sja_picture.specs.declared.span.Span.{Span}
 use Rattle.sja_picture.specs.PictureText.{end_after}
-use Rattle.sja_picture.proofs.Fresh.{lent_first}
-use Rattle.sja_picture.proofs.Stories.{knows_next, knows_underway, knows_all}
+use Rattle.sja_picture.proofs.NodeRows.Fresh.{lent_first}
+use Rattle.sja_picture.proofs.NodeRows.Stories.{knows_next, knows_underway, knows_all}
 use Rattle.sja_svg.specs.DrawingText.{sheet_text}
 use Rattle.sja_svg.proofs.Sheets.{sheet_first, sheet_whole, beside}
 use Rattle.sja_svg.proofs.drawing_text.drawn.Goals as goal

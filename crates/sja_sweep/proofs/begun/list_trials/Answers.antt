@@ -2,7 +2,7 @@ use Rattle.std.proofs.Common.{◌≡◌, ◌*◌, ◌<◌, ◌≤◌, ℕ, false
 use Rattle.sja_sweep.specs.declared.trial.Trial.{Trial}
 use Rattle.sja_sweep.specs.Targets.{trials_of}
 use Rattle.sja_sweep.specs.Inside.Reaching.{IsThere, NamesNodeBelow}
-use Rattle.sja_sweep.proofs.TrialLemmas.{all_there_if}
+use Rattle.sja_sweep.proofs.TriedStrikes.TrialLemmas.{all_there_if}
 use Rattle.sja_sweep.proofs.begun.list_trials.Goals as goal
 
 pub returns-clause-ok : goal.returns-clause-ok

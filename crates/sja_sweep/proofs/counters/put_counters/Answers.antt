@@ -2,7 +2,7 @@ use Rattle.std.proofs.Common.{◌≡◌, ◌<◌, ◌++◌, length, string_bytes
 use Rattle.sja_log.specs.Log.{NodeValue}
 use Rattle.sja_sweep.specs.Nodes.{no_node, node_at}
 use Rattle.sja_sweep.specs.Outcome.{counters_item}
-use Rattle.sja_sweep.proofs.Ranges.{text_more, read_is}
+use Rattle.sja_sweep.proofs.NumberLists.Ranges.{text_more, read_is}
 use Rattle.sja_sweep.proofs.counters.put_counters.Goals as goal
 
 pub loop-number-preserved : goal.loop-number-preserved

@@ -1,6 +1,6 @@
 use Rattle.std.proofs.Common.{◌≡◌, true, false, length, sym, ap₂, ◌∙◌}
 use Rattle.sja_sweep.specs.FirstErrors.{is_new, is_new_at}
-use Rattle.sja_sweep.proofs.Searches.{find_here, find_more}
+use Rattle.sja_sweep.proofs.NumberLists.Searches.{find_here, find_more}
 use Rattle.sja_sweep.proofs.first_error.first_bit.Goals as goal
 
 pub returns-then-is_new : goal.returns-then-is_new

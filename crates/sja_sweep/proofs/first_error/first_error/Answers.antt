@@ -4,7 +4,7 @@ use Rattle.std.specs.List.{range_with_len}
 use Rattle.std.proofs.lemmas.List.FromFn.{map-range_with_len_more}
 use Rattle.std.proofs.lemmas.List.Sums.{fold_push}
 use Rattle.sja_sweep.specs.FirstErrors.{earlier, error_by, errors_of_node, first_bit, first_of_node}
-use Rattle.sja_sweep.proofs.ErrorLemmas.{read_seen}
+use Rattle.sja_sweep.proofs.TriedRuns.ErrorLemmas.{read_seen}
 use Rattle.sja_sweep.proofs.first_error.first_error.Goals as goal
 
 pub loop-node-preserved : goal.loop-node-preserved

@@ -6,8 +6,8 @@ use Rattle.sja_sweep.specs.declared.trial.Trial.{Trial}
 use Rattle.sja_sweep.specs.declared.told.Told.{Told}
 use Rattle.sja_sweep.specs.Inside.Reaching.{ran_value, told_value}
 use Rattle.sja_sweep.specs.Inside.Tried.{AreTried, IsPartTried, ArePartsTried}
-use Rattle.sja_sweep.proofs.TriedLemmas.{tried_both}
-use Rattle.sja_sweep.proofs.JobLemmas.{parts_cover, parts_tried, ok_part}
+use Rattle.sja_sweep.proofs.TriedStrikes.TriedLemmas.{tried_both}
+use Rattle.sja_sweep.proofs.TriedStrikes.JobLemmas.{parts_cover, parts_tried, ok_part}
 use Rattle.sja_sweep.proofs.jobs.tried_in_jobs.Goals as goal
 
 pub loop-part-init : goal.loop-part-init

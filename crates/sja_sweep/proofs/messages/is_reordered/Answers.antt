@@ -1,7 +1,7 @@
 use Rattle.std.proofs.Common.{◌≡◌, not, true, false, length, ap₂, ◌∙◌}
 use Rattle.std.specs.Str.{bytes_eq}
 use Rattle.sja_sweep.specs.Messages.{message_at, is_reordered}
-use Rattle.sja_sweep.proofs.Searches.{any_more}
+use Rattle.sja_sweep.proofs.NumberLists.Searches.{any_more}
 use Rattle.sja_sweep.proofs.messages.is_reordered.Goals as goal
 
 pub loop-place-preserved : goal.loop-place-preserved

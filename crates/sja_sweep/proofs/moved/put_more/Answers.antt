@@ -1,6 +1,6 @@
 use Rattle.std.proofs.Common.{cond, []}
 use Rattle.sja_sweep.specs.Messages.{message_at, message_item, is_more}
-use Rattle.sja_sweep.proofs.Ranges.{text_more, text_all}
+use Rattle.sja_sweep.proofs.NumberLists.Ranges.{text_more, text_all}
 use Rattle.sja_sweep.proofs.moved.put_more.Goals as goal
 
 pub loop-place-preserved : goal.loop-place-preserved

@@ -2,7 +2,7 @@ use Rattle.std.proofs.Common.{◌≡◌, ◌<◌, ◌++◌, length, string_bytes
 use Rattle.sja_log.specs.Log.{NodeValue}
 use Rattle.sja_sweep.specs.Nodes.{no_node, node_at}
 use Rattle.sja_sweep.specs.Changes.{node_items}
-use Rattle.sja_sweep.proofs.Ranges.{text_more, read_is}
+use Rattle.sja_sweep.proofs.NumberLists.Ranges.{text_more, read_is}
 use Rattle.sja_sweep.proofs.nodes.put_nodes.Goals as goal
 
 pub loop-node-preserved : goal.loop-node-preserved

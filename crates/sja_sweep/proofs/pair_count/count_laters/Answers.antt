@@ -4,7 +4,7 @@ use Rattle.std.proofs.lemmas.List.FromFn.{length-map-range_with_len}
 use Rattle.lemmas.specs.Gathering.{gathered}
 use Rattle.sja_sweep.specs.Targets.{pair, least_later}
 use Rattle.sja_sweep.specs.Inside.Asking.{bits_paired}
-use Rattle.sja_sweep.proofs.Gathers.{count_from}
+use Rattle.sja_sweep.proofs.TriedStrikes.Gathers.{count_from}
 use Rattle.sja_sweep.proofs.pair_count.count_laters.Goals as goal
 
 pub loop-later-preserved : goal.loop-later-preserved

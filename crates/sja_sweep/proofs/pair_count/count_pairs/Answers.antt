@@ -2,7 +2,7 @@ use Rattle.std.proofs.Common.{◌≡◌, ◌-◌, ℕ, length, ap, ◌∙◌, ar
 use Rattle.std.specs.List.{range_with_len}
 use Rattle.lemmas.specs.Gathering.{gathered}
 use Rattle.sja_sweep.specs.Inside.Asking.{others_paired}
-use Rattle.sja_sweep.proofs.Gathers.{count_from}
+use Rattle.sja_sweep.proofs.TriedStrikes.Gathers.{count_from}
 use Rattle.sja_sweep.proofs.pair_count.count_pairs.Goals as goal
 
 pub loop-node-preserved : goal.loop-node-preserved

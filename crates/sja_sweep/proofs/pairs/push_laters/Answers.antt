@@ -1,7 +1,7 @@
 use Rattle.std.proofs.Common.{◌+◌, ◌-◌, min, arith}
 use Rattle.sja_sweep.specs.Targets.{least_later}
 use Rattle.sja_sweep.specs.Inside.Asking.{bits_paired}
-use Rattle.sja_sweep.proofs.Gathers.{gather_from, gather_end}
+use Rattle.sja_sweep.proofs.TriedStrikes.Gathers.{gather_from, gather_end}
 use Rattle.sja_sweep.proofs.pairs.push_laters.Goals as goal
 
 pub loop-later-preserved : goal.loop-later-preserved

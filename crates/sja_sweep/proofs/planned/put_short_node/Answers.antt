@@ -2,7 +2,7 @@ use Rattle.std.proofs.Common.{◌<◌, ◌++◌, length, string_bytes, sym, ap, 
 use Rattle.sja_log.specs.Log.{ActivationValue}
 use Rattle.sja_sweep.specs.Nodes.{no_activation, activation_at}
 use Rattle.sja_sweep.specs.SweepText.{short_activation}
-use Rattle.sja_sweep.proofs.Ranges.{text_more, read_is}
+use Rattle.sja_sweep.proofs.NumberLists.Ranges.{text_more, read_is}
 use Rattle.sja_sweep.proofs.planned.put_short_node.Goals as goal
 
 pub loop-place-preserved : goal.loop-place-preserved

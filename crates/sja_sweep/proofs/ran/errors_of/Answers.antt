@@ -1,6 +1,6 @@
 use Rattle.std.proofs.Common.{◌≡◌, ◌+◌, ◌≤◌, ◌++◌, ◌∷◌, [], length, ap, ◌∙◌, arith}
 use Rattle.sja_replay.specs.Replaying.{left_of}
-use Rattle.sja_sweep.proofs.ErrorLemmas.{errors_begun, errors_more, errors_over}
+use Rattle.sja_sweep.proofs.TriedRuns.ErrorLemmas.{errors_begun, errors_more, errors_over}
 use Rattle.sja_sweep.proofs.ran.errors_of.Goals as goal
 
 pub loop-happening-init : goal.loop-happening-init

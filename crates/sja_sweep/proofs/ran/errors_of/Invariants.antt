@@ -1,6 +1,6 @@
 use Rattle.std.proofs.Common.{length}
 use Rattle.sja_replay.specs.Replaying.{left_of}
-use Rattle.sja_sweep.proofs.ErrorLemmas.{AreErrorsSoFar}
+use Rattle.sja_sweep.proofs.TriedRuns.ErrorLemmas.{AreErrorsSoFar}
 use Rattle.sja_sweep.proofs.ran.errors_of.Given as goal
 
 -- the errors of the bits so far

@@ -3,7 +3,7 @@ use Rattle.std.proofs.lemmas.List.{map-append}
 use Rattle.can_node.specs.declared.cause.Cause.{Cause}
 use Rattle.sja_link.specs.declared.entry.Entry.{Entry}
 use Rattle.sja_sweep.specs.Errors.{HasErrors}
-use Rattle.sja_sweep.proofs.ErrorLemmas.{nodes_more}
+use Rattle.sja_sweep.proofs.TriedRuns.ErrorLemmas.{nodes_more}
 use Rattle.sja_sweep.proofs.ran.errors_of_nodes.Goals as goal
 
 pub loop-node-preserved : goal.loop-node-preserved

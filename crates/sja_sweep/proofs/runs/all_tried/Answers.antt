@@ -1,5 +1,5 @@
 use Rattle.sja_sweep.specs.Inside.Reaching.{ran_value}
-use Rattle.sja_sweep.proofs.TriedLemmas.{tried_more}
+use Rattle.sja_sweep.proofs.TriedStrikes.TriedLemmas.{tried_more}
 use Rattle.sja_sweep.proofs.runs.all_tried.Goals as goal
 
 pub loop-trial-preserved : goal.loop-trial-preserved

@@ -1,6 +1,6 @@
 use Rattle.std.proofs.Common.{sym, ◌∙◌}
 use Rattle.std.proofs.lemmas.List.{length-map}
-use Rattle.sja_sweep.proofs.ErrorLemmas.{as_many_errors, as_many_nodes}
+use Rattle.sja_sweep.proofs.TriedRuns.ErrorLemmas.{as_many_errors, as_many_nodes}
 use Rattle.sja_sweep.proofs.runs.tried.Goals as goal
 
 pub told_of-requires-clause-errors : goal.told_of-requires-clause-errors

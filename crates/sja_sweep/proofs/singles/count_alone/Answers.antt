@@ -4,7 +4,7 @@ use Rattle.std.proofs.lemmas.List.FromFn.{length-map-range_with_len}
 use Rattle.lemmas.specs.Gathering.{gathered}
 use Rattle.sja_sweep.specs.Targets.{alone}
 use Rattle.sja_sweep.specs.Inside.Asking.{bits_alone}
-use Rattle.sja_sweep.proofs.Gathers.{count_from}
+use Rattle.sja_sweep.proofs.TriedStrikes.Gathers.{count_from}
 use Rattle.sja_sweep.proofs.singles.count_alone.Goals as goal
 
 pub loop-node-preserved : goal.loop-node-preserved

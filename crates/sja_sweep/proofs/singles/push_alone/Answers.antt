@@ -1,6 +1,6 @@
 use Rattle.std.proofs.Common.{◌-◌, arith}
 use Rattle.sja_sweep.specs.Inside.Asking.{bits_alone}
-use Rattle.sja_sweep.proofs.Gathers.{gather_from, gather_end}
+use Rattle.sja_sweep.proofs.TriedStrikes.Gathers.{gather_from, gather_end}
 use Rattle.sja_sweep.proofs.singles.push_alone.Goals as goal
 
 pub loop-node-preserved : goal.loop-node-preserved

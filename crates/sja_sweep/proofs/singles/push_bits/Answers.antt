@@ -1,6 +1,6 @@
 use Rattle.std.proofs.Common.{arith}
 use Rattle.sja_sweep.specs.Targets.{alone}
-use Rattle.sja_sweep.proofs.Gathers.{map_from, map_end}
+use Rattle.sja_sweep.proofs.TriedStrikes.Gathers.{map_from, map_end}
 use Rattle.sja_sweep.proofs.singles.push_bits.Goals as goal
 
 pub loop-bit-preserved : goal.loop-bit-preserved

@@ -1,6 +1,6 @@
 use Rattle.sja_sweep.specs.SweepText.{row_line}
 use Rattle.sja_sweep.specs.Inside.Reaching.{told_value}
-use Rattle.sja_sweep.proofs.Texts.{seen_text}
+use Rattle.sja_sweep.proofs.NumberLists.Texts.{seen_text}
 use Rattle.sja_sweep.proofs.spans.put_rows.Goals as goal
 
 pub loop-told-preserved : goal.loop-told-preserved

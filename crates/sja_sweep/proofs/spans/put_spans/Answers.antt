@@ -2,7 +2,7 @@ use Rattle.std.proofs.Common.{◌≡◌, ◌+◌, map, drop, string_bytes, ap, �
 use Rattle.sja_sweep.specs.Spans.{SpanValue, before_all, spans}
 use Rattle.sja_sweep.specs.SweepText.{shown_line}
 use Rattle.sja_sweep.specs.Inside.Reaching.{told_value, span_value}
-use Rattle.sja_sweep.proofs.SpanLemmas.{told_next, step_joined, step_apart}
+use Rattle.sja_sweep.proofs.TriedStrikes.SpanLemmas.{told_next, step_joined, step_apart}
 use Rattle.sja_sweep.proofs.spans.put_spans.Goals as goal
 use Rattle.sja_sweep.proofs.spans.put_spans.Goals.{then-goes_on, else-goes_on+in_ok-put_shown}
 

@@ -2,7 +2,7 @@ use Rattle.std.proofs.Common.{◌++◌, string_bytes, ap₂, ◌∙◌, Option}
 use Rattle.std.specs.Prelude.{slice_get}
 use Rattle.sja_script.specs.declared.done.Done.{Done}
 use Rattle.sja_sweep.specs.Steps.{step_item}
-use Rattle.sja_sweep.proofs.Ranges.{text_more}
+use Rattle.sja_sweep.proofs.NumberLists.Ranges.{text_more}
 use Rattle.sja_sweep.proofs.steps.put_steps.Goals as goal
 
 pub loop-place-preserved : goal.loop-place-preserved

@@ -1,6 +1,6 @@
 use Rattle.std.proofs.Common.{map}
 use Rattle.sja_sweep.specs.Inside.Reaching.{ran_value, told_value}
-use Rattle.sja_sweep.proofs.TriedLemmas.{sweep_texts}
+use Rattle.sja_sweep.proofs.TriedStrikes.TriedLemmas.{sweep_texts}
 use Rattle.sja_sweep.proofs.whole_sweep.texts.Goals as goal
 
 pub returns : goal.returns

@@ -1,7 +1,7 @@
 use Rattle.std.proofs.Common.{◌≡◌, ◌+◌, cond, sym, ap, ◌∙◌, arith}
 use Rattle.sja_sweep.specs.SweepText.{changed_in}
 use Rattle.sja_sweep.specs.Inside.Reaching.{told_value}
-use Rattle.sja_sweep.proofs.Texts.{seen_count}
+use Rattle.sja_sweep.proofs.NumberLists.Texts.{seen_count}
 use Rattle.sja_sweep.proofs.written.others_in.Goals as goal
 use Rattle.sja_sweep.proofs.written.others_in.Goals.{then-told, else-told}
 

@@ -1,4 +1,4 @@
-use Rattle.sja_trace.proofs.Sayings.{tells_both}
+use Rattle.sja_trace.proofs.BitSaid.Sayings.{tells_both}
 use Rattle.sja_trace.proofs.events.put_all.Goals as goal
 
 pub returns : goal.returns

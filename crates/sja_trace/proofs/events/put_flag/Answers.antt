@@ -1,5 +1,5 @@
 use Rattle.std.proofs.Common.{sym, ◌∙◌}
-use Rattle.sja_trace.proofs.Sayings.{tells_not, tells_if}
+use Rattle.sja_trace.proofs.BitSaid.Sayings.{tells_not, tells_if}
 use Rattle.sja_trace.proofs.events.put_flag.Goals as goal
 
 pub returns-then-not-flag_begins : goal.returns-then-not-flag_begins

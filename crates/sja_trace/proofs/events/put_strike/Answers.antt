@@ -1,5 +1,5 @@
 use Rattle.std.proofs.Common.{not, sym, ap, ◌∙◌}
-use Rattle.sja_trace.proofs.Sayings.{tells_not, tells_if}
+use Rattle.sja_trace.proofs.BitSaid.Sayings.{tells_not, tells_if}
 use Rattle.sja_trace.proofs.events.put_strike.Goals as goal
 
 pub returns-then-is_same : goal.returns-then-is_same

@@ -1,4 +1,4 @@
-use Rattle.sja_trace.proofs.Lines.{event_written}
+use Rattle.sja_trace.proofs.SoFar.Lines.{event_written}
 use Rattle.sja_trace.proofs.node_lines.put_event_line.Goals as goal
 
 pub returns : goal.returns

@@ -1,5 +1,5 @@
 use Rattle.std.proofs.Common.{◌<◌}
-use Rattle.sja_trace.proofs.StepOrders.{past_more}
+use Rattle.sja_trace.proofs.DriverSteps.StepOrders.{past_more}
 use Rattle.sja_trace.proofs.node_steps.place_past.Goals as goal
 
 pub loop-place-preserved : goal.loop-place-preserved

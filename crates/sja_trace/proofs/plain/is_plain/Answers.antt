@@ -1,5 +1,5 @@
 use Rattle.std.proofs.Common.{sym, ◌∙◌}
-use Rattle.sja_trace.proofs.Shorts.{plain_none}
+use Rattle.sja_trace.proofs.BitSaid.Shorts.{plain_none}
 use Rattle.sja_trace.proofs.plain.is_plain.Goals as goal
 
 pub returns : goal.returns

@@ -1,5 +1,5 @@
 use Rattle.std.proofs.Common.{◌+◌}
-use Rattle.sja_trace.proofs.Lines.{done_end}
+use Rattle.sja_trace.proofs.SoFar.Lines.{done_end}
 use Rattle.sja_trace.proofs.steps.put_steps.Goals as goal
 
 pub returns-else-place-done : goal.returns-else-place-done

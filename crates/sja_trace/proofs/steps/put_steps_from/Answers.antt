@@ -1,5 +1,5 @@
 use Rattle.std.proofs.Common.{◌+◌}
-use Rattle.sja_trace.proofs.StepsFrom.{from_next, from_steps_end, from_done_end}
+use Rattle.sja_trace.proofs.DriverSteps.StepsFrom.{from_next, from_steps_end, from_done_end}
 use Rattle.sja_trace.proofs.steps.put_steps_from.Goals as goal
 
 pub returns-else-place-done : goal.returns-else-place-done

@@ -1,6 +1,6 @@
 use Rattle.std.proofs.Common.{arith, rules, refl}
-use Rattle.sja_trace.proofs.NodeStories.{begun_none, begun_more, begun_all}
-use Rattle.sja_trace.proofs.UpTo.{up_first}
+use Rattle.sja_trace.proofs.Stories.NodeStories.{begun_none, begun_more, begun_all}
+use Rattle.sja_trace.proofs.SoFar.UpTo.{up_first}
 use Rattle.sja_trace.proofs.tellers.tellers_of.Goals as goal
 
 pub loop-node-init : goal.loop-node-init

@@ -1,5 +1,5 @@
 use Rattle.std.proofs.Common.{◌≡◌, take}
-use Rattle.sja_trace.proofs.NodeStories.{HaveBegun}
+use Rattle.sja_trace.proofs.Stories.NodeStories.{HaveBegun}
 use Rattle.sja_trace.proofs.tellers.tellers_of.Given as goal
 
 -- those of the nodes so far

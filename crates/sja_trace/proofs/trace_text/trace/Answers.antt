@@ -1,6 +1,6 @@
 use Rattle.std.proofs.Common.{◌≡◌, ◌+◌, suc, [], length, string_bytes, rules, arith}
-use Rattle.sja_trace.proofs.WrittenBack.{back_more, lent_underway, back_all}
-use Rattle.sja_trace.proofs.Passed.{comes_first}
+use Rattle.sja_trace.proofs.Stories.WrittenBack.{back_more, lent_underway, back_all}
+use Rattle.sja_trace.proofs.Stories.Passed.{comes_first}
 use Rattle.sja_trace.proofs.trace_text.trace.Goals as goal
 
 pub loop-bit-init : goal.loop-bit-init

@@ -1,4 +1,4 @@
-use Rattle.sja_wave.proofs.Written.{scope_written}
+use Rattle.sja_wave.proofs.SoFar.Written.{scope_written}
 use Rattle.sja_wave.proofs.declarations.put_scope.Goals as goal
 
 pub returns : goal.returns

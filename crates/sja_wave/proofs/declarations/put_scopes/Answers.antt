@@ -1,7 +1,7 @@
 use Rattle.std.proofs.Common.{◌≤◌, ◌<◌, length, refl, arith}
 use Rattle.sja_wave.specs.WaveText.{node_scope}
 use Rattle.sja_report.proofs.Written.{numbered_end}
-use Rattle.sja_wave.proofs.Written.{scopes_next}
+use Rattle.sja_wave.proofs.SoFar.Written.{scopes_next}
 use Rattle.sja_wave.proofs.declarations.put_scopes.Goals as goal
 
 pub loop-number-init : goal.loop-number-init

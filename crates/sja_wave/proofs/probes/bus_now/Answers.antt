@@ -1,14 +1,18 @@
-use Rattle.std.proofs.Common.{ap, ◌∙◌}
+use Rattle.std.proofs.Common.{◌≡◌, [], ◌∷◌, ap, ◌∙◌, arith}
+use Rattle.std.proofs.lemmas.Grind.{common_steps}
 use Rattle.can_bits.specs.Fields.{is_recessive}
+use Rattle.sja_wire.specs.Wire.{wired}
 use Rattle.sja_wave.specs.declared.probe.Probe.{Probe}
 use Rattle.sja_report.proofs.BusLevels.{drives_more, all_drive}
 use Rattle.sja_wave.proofs.probes.bus_now.Goals as goal
 
 pub loop-probe-preserved : goal.loop-probe-preserved
 loop-probe-preserved c =
-    drives_more (λ (p : Probe). p.cursor.shows.driven) c.args.probes.now c.loop-probe.probe-index
-    c.probe-item.result c.loop-probe.bus _ _
-    c.loop-probe-test.true c.probe-item.is c.with_node-bus.ensures c.loop-probe.invariant
+    let node = c.probe-item.result in let bus = c.loop-probe.bus in
+    let more : c.with_node-bus.result ≡ wired (bus ∷ node.cursor.shows.driven ∷ []) =
+    let is = c.with_node-bus.ensures in grind (arith, common_steps, is) in
+    drives_more (λ (p : Probe). p.cursor.shows.driven) c.args.probes.now c.loop-probe.probe-index node bus _ _
+    c.loop-probe-test.true c.probe-item.is more c.loop-probe.invariant
 
 pub returns : goal.returns
 returns c =

@@ -1,4 +1,4 @@
-use Rattle.sja_wave.proofs.Going.{begins}
+use Rattle.sja_wave.proofs.BitByBit.Going.{begins}
 use Rattle.sja_wave.proofs.probes.first_of.Goals as goal
 
 pub returns : goal.returns

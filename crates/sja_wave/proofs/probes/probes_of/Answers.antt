@@ -1,5 +1,5 @@
 use Rattle.std.proofs.Common.{rules}
-use Rattle.sja_wave.proofs.Going.{first_none, first_more, first_all}
+use Rattle.sja_wave.proofs.BitByBit.Going.{first_none, first_more, first_all}
 use Rattle.sja_wave.proofs.probes.probes_of.Goals as goal
 
 pub loop-node-init : goal.loop-node-init

@@ -1,5 +1,5 @@
-use Rattle.sja_wave.proofs.Going.{all_reading}
-use Rattle.sja_wave.proofs.UpTo.{all_shown}
+use Rattle.sja_wave.proofs.BitByBit.Going.{all_reading}
+use Rattle.sja_wave.proofs.SoFar.UpTo.{all_shown}
 use Rattle.sja_wave.proofs.wave_text.put_all.Goals as goal
 
 pub finish_all-requires : goal.finish_all-requires

@@ -1,5 +1,5 @@
 use Rattle.std.proofs.Common.{◌≡◌, ℕ, ◌+◌, suc, rules, arith}
-use Rattle.sja_wave.proofs.UpTo.{gone_first, gone_more, no_bits, gone_end}
+use Rattle.sja_wave.proofs.SoFar.UpTo.{gone_first, gone_more, no_bits, gone_end}
 use Rattle.sja_wave.proofs.wave_text.put_bits.Goals as goal
 
 pub returns-then-bits-eq0 : goal.returns-then-bits-eq0

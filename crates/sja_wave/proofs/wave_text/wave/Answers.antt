@@ -1,4 +1,4 @@
-use Rattle.sja_wave.proofs.UpTo.{lent_first, whole_wave}
+use Rattle.sja_wave.proofs.SoFar.UpTo.{lent_first, whole_wave}
 use Rattle.sja_wave.proofs.wave_text.wave.Goals as goal
 
 pub put_all-requires : goal.put_all-requires

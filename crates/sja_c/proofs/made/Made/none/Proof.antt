@@ -14,8 +14,8 @@ use denote.Steps.{nothing}
 use denote.Struct.Laws as declared
 use denote.Triple.Walked.{Stays, stay_dropped, Goes-dropped}
 use Rattle.std.proofs.raw_atomic.Walks.{proved, leaves}
-use Rattle.sja_c.proofs.LooseParts.{both}
-use Rattle.sja_c.proofs.MadeParts.{word, made_good, made_in}
+use Rattle.sja_c.proofs.OwnedParts.LooseParts.{both}
+use Rattle.sja_c.proofs.OwnedParts.MadeParts.{word, made_good, made_in}
 use Rattle.sja_c.proofs.answer.SjaAnswer.TheLaws as laws
 use Rattle.sja_c.specs.Handles.{empty}
 use Rattle.sja_c.specs.contracts.answer.SjaAnswer as answers

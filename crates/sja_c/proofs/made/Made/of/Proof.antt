@@ -24,8 +24,8 @@ use Rattle.std.proofs.raw_atomic.Walks.{proved_at, leaves}
 use Rattle.std.proofs.alloc.Global.TheLaws as global_laws
 use Rattle.std.specs.contracts.alloc.Global as global
 use Rattle.std.specs.contracts.impls.GlobalAllocator.TheImpl.{ghosts}
-use Rattle.sja_c.proofs.LooseParts.{both, loose_good, loose_out}
-use Rattle.sja_c.proofs.MadeParts.{word, made_good, made_in}
+use Rattle.sja_c.proofs.OwnedParts.LooseParts.{both, loose_good, loose_out}
+use Rattle.sja_c.proofs.OwnedParts.MadeParts.{word, made_good, made_in}
 use Rattle.sja_c.proofs.answer.SjaAnswer.TheLaws as laws
 use Rattle.sja_c.specs.contracts.answer.SjaAnswer as answers
 use Rattle.sja_c.specs.contracts.loose.Loose as loose

@@ -1,5 +1,5 @@
 use Rattle.std.proofs.Common.{sym, ◌∙◌}
-use Rattle.sja_picture.proofs.Pages.{page_passed, page_drawn, page_ended}
+use Rattle.sja_picture.proofs.WholePage.Pages.{page_passed, page_drawn, page_ended}
 use Rattle.sja_picture.proofs.page.Page.take.Goals as goal
 
 pub returns-then-bit-span : goal.returns-then-bit-span

@@ -1,4 +1,4 @@
-use Rattle.sja_trace.proofs.Telling.{finish_first, finish_next, finish_last}
+use Rattle.sja_trace.proofs.Stories.Telling.{finish_first, finish_next, finish_last}
 use Rattle.sja_trace.proofs.node_bits.NodeBits.finish.Goals as goal
 
 pub loop-self-init : goal.loop-self-init

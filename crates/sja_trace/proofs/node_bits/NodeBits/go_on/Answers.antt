@@ -1,5 +1,5 @@
 use Rattle.std.proofs.Common.{refl}
-use Rattle.sja_trace.proofs.Telling.{over_on, bit_on, none_on}
+use Rattle.sja_trace.proofs.Stories.Telling.{over_on, bit_on, none_on}
 use Rattle.sja_trace.proofs.node_bits.NodeBits.go_on.Goals as goal
 
 pub returns-then-self : goal.returns-then-self

@@ -1,5 +1,5 @@
 use Rattle.std.proofs.Common.{ap}
-use Rattle.sja_trace.proofs.Telling.{passed_on}
+use Rattle.sja_trace.proofs.Stories.Telling.{passed_on}
 use Rattle.sja_trace.proofs.node_bits.NodeBits.pass.Goals as goal
 
 pub returns : goal.returns

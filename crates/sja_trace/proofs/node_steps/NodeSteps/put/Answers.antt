@@ -1,6 +1,6 @@
 use Rattle.std.proofs.Common.{◌+◌, ◌<◌, false, string_bytes}
-use Rattle.sja_trace.proofs.Lines.{done_end}
-use Rattle.sja_trace.proofs.StepOrders.{put_first, put_early}
+use Rattle.sja_trace.proofs.SoFar.Lines.{done_end}
+use Rattle.sja_trace.proofs.DriverSteps.StepOrders.{put_first, put_early}
 use Rattle.sja_trace.proofs.node_steps.NodeSteps.put.Goals as goal
 
 pub loop-place-init : goal.loop-place-init

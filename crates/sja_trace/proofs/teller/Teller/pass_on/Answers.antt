@@ -1,7 +1,7 @@
 use Rattle.std.proofs.Common.{◌≡◌, None, ap, ◌∙◌, subst, rules}
 use Rattle.sja_trace.specs.declared.node_bits.NodeBits.{NodeBits}
 use Rattle.sja_trace.specs.Inside.Hands.{HandGoesOn, counters_of}
-use Rattle.sja_trace.proofs.Telling.{hand_on}
+use Rattle.sja_trace.proofs.Stories.Telling.{hand_on}
 use Rattle.sja_trace.proofs.teller.Teller.pass_on.Goals as goal
 
 pub returns-then-is_none : goal.returns-then-is_none

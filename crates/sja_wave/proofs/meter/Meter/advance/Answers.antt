@@ -1,5 +1,5 @@
 use Rattle.std.proofs.Common.{refl}
-use Rattle.sja_wave.proofs.Reading.{over_on, bit_on, none_on}
+use Rattle.sja_wave.proofs.BitByBit.Reading.{over_on, bit_on, none_on}
 use Rattle.sja_wave.proofs.meter.Meter.advance.Goals as goal
 
 pub returns-then-self : goal.returns-then-self

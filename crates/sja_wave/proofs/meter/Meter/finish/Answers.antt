@@ -1,4 +1,4 @@
-use Rattle.sja_wave.proofs.Reading.{finish_first, finish_next, finish_last}
+use Rattle.sja_wave.proofs.BitByBit.Reading.{finish_first, finish_next, finish_last}
 use Rattle.sja_wave.proofs.meter.Meter.finish.Goals as goal
 
 pub loop-self-init : goal.loop-self-init

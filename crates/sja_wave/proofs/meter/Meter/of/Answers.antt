@@ -1,5 +1,5 @@
 use Rattle.std.proofs.Common.{refl}
-use Rattle.sja_replay.proofs.Coming.{came_first}
+use Rattle.sja_replay.proofs.Listed.Coming.{came_first}
 use Rattle.sja_wave.proofs.meter.Meter.of.Goals as goal
 
 pub returns : goal.returns

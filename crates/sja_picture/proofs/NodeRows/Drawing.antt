@@ -1,0 +1,176 @@
+-- The rows of nodes, drawn bit by bit.
+use Rattle.std.proofs.Common.{◌≡◌, ℕ, ◌+◌, ◌-◌, ◌<◌, ◌≤◌, zero, suc, Option, List, [], ◌∷◌, ◌++◌, map, take}
+use Rattle.std.proofs.Common.{codes, refl, sym, ap, ap₂, ◌∙◌, append-nil, append_assoc, arith}
+use Rattle.std.specs.Prelude.{slice_get}
+use Rattle.std.specs.List.{range_with_len}
+use Rattle.can_bits.specs.declared.level.Level.{Level}
+use Rattle.lemmas.specs.Gathering.{gathered}
+use Rattle.lemmas.specs.Related.{EachRelated}
+use Rattle.sja_frames.specs.declared.run.Run.{Run}
+use Rattle.sja_replay.specs.declared.happening.Happening.{Happening}
+use Rattle.sja_report.specs.ReportLines.{numbered}
+use Rattle.sja_trace.specs.declared.teller.Teller.{Teller}
+use Rattle.sja_trace.specs.Inside.Coming.{driven_now}
+use Rattle.sja_trace.specs.Telling.{at_hand}
+use Rattle.sja_trace.specs.TraceText.{driven_in}
+use Rattle.sja_wire.specs.Wire.{wired}
+use Rattle.sja_picture.specs.declared.node_rows.NodeRows.{NodeRows}
+use Rattle.sja_picture.specs.PictureText.{node_head, node_rows}
+use Rattle.sja_picture.specs.Rows.{level_sign, bus_in, driven_sign, letter_in}
+use Rattle.sja_picture.specs.Inside.Drawing.{run_past, run_after, letter_after, IsFresh, Passes, Draws, Clears}
+use Rattle.sja_picture.specs.Inside.Drawing.{shown_rows, AreRows, AreShown, EachBeside}
+use Rattle.sja_picture.proofs.NodeRows.Runs.{run_next, letter_is}
+
+-- ---- what a row shows, with one bit more
+
+gathered_last : (f : ℕ → List ℕ) (start many bit : ℕ) → start + many ≡ bit →
+    gathered f (range_with_len start (suc many)) ≡ gathered f (range_with_len start many) ++ f bit
+gathered_last f start zero bit here =
+    let same : start ≡ bit = omega (arith, here) in append-nil (f start) ∙ ap f same
+gathered_last f start (suc many) bit here =
+    ap (λ l. f start ++ l) (gathered_last f (start + 1) many bit (omega (arith, here)))
+    ∙ sym (append_assoc (f start) (gathered f (range_with_len (start + 1) many)) (f bit))
+
+pub shown_more : (f : ℕ → List ℕ) (start bit : ℕ) → start ≤ bit →
+    gathered f (range_with_len start ((bit + 1) - start)) ≡ gathered f (range_with_len start (bit - start)) ++ f bit
+shown_more f start bit reached =
+    let many : (bit + 1) - start ≡ suc (bit - start) = omega (arith, reached) in
+    let here : start + (bit - start) ≡ bit = omega (arith, reached) in
+    ap (λ (n : ℕ). gathered f (range_with_len start n)) many ∙ gathered_last f start (bit - start) bit here
+
+pub gathered_more : (f : ℕ → List ℕ) (n : ℕ) →
+    gathered f (range_with_len 0 (n + 1)) ≡ gathered f (range_with_len 0 n) ++ f n
+gathered_more f n =
+    let one : n + 1 ≡ suc n = omega arith in
+    let here : 0 + n ≡ n = omega arith in
+    ap (λ (m : ℕ). gathered f (range_with_len 0 m)) one ∙ gathered_last f 0 n n here
+
+pub shown_none : (f : ℕ → List ℕ) (start bit : ℕ) → bit ≤ start →
+    gathered f (range_with_len start (bit - start)) ≡ []
+shown_none f start bit before =
+    let none : bit - start ≡ 0 = omega arith in ap (λ (n : ℕ). gathered f (range_with_len start n)) none
+
+-- ---- the rows of a node
+
+pub fresh_rows : (bus : ℕ → Level) (start : ℕ) (hs : List Happening) (rows : NodeRows) → IsFresh rows →
+    AreRows bus start 0 hs rows
+fresh_rows bus start hs rows fresh = record {
+  run = fresh.run;
+  levels = fresh.levels ∙ sym (shown_none (driven_sign hs) start 0 (omega arith));
+  letters = fresh.letters ∙ sym (shown_none (letter_in bus hs) start 0 (omega arith));
+}
+
+run_on_to : (hs : List Happening) (bit : ℕ) (o : Option Happening) (old new : NodeRows) → o ≡ slice_get hs bit →
+    old.run ≡ run_after (take bit hs) → new.run ≡ run_past old.run o → new.run ≡ run_after (take (bit + 1) hs)
+run_on_to hs bit o old new is before past =
+    let one : suc bit ≡ bit + 1 = omega arith in
+    past ∙ ap₂ run_past before is ∙ run_next hs bit ∙ ap (λ (n : ℕ). run_after (take n hs)) one
+
+-- a bit before the first one that is shown
+passed_rows : (bus : ℕ → Level) (start bit : ℕ) (hs : List Happening) (o : Option Happening) (old new : NodeRows) →
+    bit < start → o ≡ slice_get hs bit → AreRows bus start bit hs old → Passes o old new →
+    AreRows bus start (bit + 1) hs new
+passed_rows bus start bit hs o old new before is rows p = record {
+  run = run_on_to hs bit o old new is rows.run p.run;
+  levels = p.levels ∙ rows.levels ∙ shown_none (driven_sign hs) start bit (omega arith)
+      ∙ sym (shown_none (driven_sign hs) start (bit + 1) (omega arith));
+  letters = p.letters ∙ rows.letters ∙ shown_none (letter_in bus hs) start bit (omega arith)
+      ∙ sym (shown_none (letter_in bus hs) start (bit + 1) (omega arith));
+}
+
+-- one that is shown
+drawn_rows : (bus : ℕ → Level) (start bit : ℕ) (hs : List Happening) (o : Option Happening) (level : Level)
+    (old new : NodeRows) → start ≤ bit → o ≡ slice_get hs bit → level ≡ bus bit → AreRows bus start bit hs old →
+    Draws level o old new → AreRows bus start (bit + 1) hs new
+drawn_rows bus start bit hs o level old new reached is same rows d = record {
+  run = run_on_to hs bit o old new is rows.run d.run;
+  levels = d.levels ∙ ap₂ (λ l x. l ++ level_sign (driven_in x)) rows.levels is
+      ∙ sym (shown_more (driven_sign hs) start bit reached);
+  letters = d.letters
+      ∙ ap₂ (λ l (x : List ℕ). l ++ x) rows.letters
+      (ap₂ (λ (b : Level) (r : Option Run). letter_after b r o) same rows.run
+      ∙ ap (λ x. letter_after (bus bit) (run_after (take bit hs)) x) is
+      ∙ letter_is (bus bit) (take bit hs) (slice_get hs bit))
+      ∙ sym (shown_more (letter_in bus hs) start bit reached);
+}
+
+-- a block ended before this bit
+cleared_rows : (bus : ℕ → Level) (start bit : ℕ) (hs : List Happening) (old new : NodeRows) →
+    AreRows bus start bit hs old → Clears old new → AreRows bus bit bit hs new
+cleared_rows bus start bit hs old new rows c = record {
+  run = c.run ∙ rows.run;
+  levels = c.levels ∙ sym (shown_none (driven_sign hs) bit bit (omega arith));
+  letters = c.letters ∙ sym (shown_none (letter_in bus hs) bit bit (omega arith));
+}
+
+-- ---- of all nodes
+
+pub all_passed : (bus : ℕ → Level) (start bit : ℕ) (told : List (List Happening)) (ts : List Teller)
+    (olds news : List NodeRows) → bit < start → AreShown bit ts told → EachBeside Passes ts olds news →
+    EachRelated (AreRows bus start bit) told olds → EachRelated (AreRows bus start (bit + 1)) told news
+all_passed bus start bit [] [] [] [] before shown p rows = tt
+all_passed bus start bit [] [] [] (n ∷ news) before shown p rows = absurd p
+all_passed bus start bit [] [] (o ∷ olds) news before shown p rows = absurd p
+all_passed bus start bit [] (t ∷ ts) olds news before shown p rows = absurd shown
+all_passed bus start bit (hs ∷ told) [] olds news before shown p rows = absurd shown
+all_passed bus start bit (hs ∷ told) (t ∷ ts) [] news before shown p rows = absurd p
+all_passed bus start bit (hs ∷ told) (t ∷ ts) (o ∷ olds) [] before shown p rows = absurd p
+all_passed bus start bit (hs ∷ told) (t ∷ ts) (o ∷ olds) (n ∷ news) before shown p rows = (
+  passed_rows bus start bit hs (at_hand t.bits) o n before shown.0 rows.0 p.0,
+  all_passed bus start bit told ts olds news before shown.1 p.1 rows.1,
+)
+
+pub all_drawn : (bus : ℕ → Level) (start bit : ℕ) (level : Level) (told : List (List Happening)) (ts : List Teller)
+    (olds news : List NodeRows) → start ≤ bit → level ≡ bus bit → AreShown bit ts told →
+    EachBeside (Draws level) ts olds news → EachRelated (AreRows bus start bit) told olds →
+    EachRelated (AreRows bus start (bit + 1)) told news
+all_drawn bus start bit level [] [] [] [] reached same shown d rows = tt
+all_drawn bus start bit level [] [] [] (n ∷ news) reached same shown d rows = absurd d
+all_drawn bus start bit level [] [] (o ∷ olds) news reached same shown d rows = absurd d
+all_drawn bus start bit level [] (t ∷ ts) olds news reached same shown d rows = absurd shown
+all_drawn bus start bit level (hs ∷ told) [] olds news reached same shown d rows = absurd shown
+all_drawn bus start bit level (hs ∷ told) (t ∷ ts) [] news reached same shown d rows = absurd d
+all_drawn bus start bit level (hs ∷ told) (t ∷ ts) (o ∷ olds) [] reached same shown d rows = absurd d
+all_drawn bus start bit level (hs ∷ told) (t ∷ ts) (o ∷ olds) (n ∷ news) reached same shown d rows = (
+  drawn_rows bus start bit hs (at_hand t.bits) level o n reached shown.0 same rows.0 d.0,
+  all_drawn bus start bit level told ts olds news reached same shown.1 d.1 rows.1,
+)
+
+pub all_cleared : (bus : ℕ → Level) (start bit : ℕ) (told : List (List Happening)) (olds news : List NodeRows) →
+    EachRelated (AreRows bus start bit) told olds → EachRelated Clears olds news →
+    EachRelated (AreRows bus bit bit) told news
+all_cleared bus start bit [] [] [] rows c = tt
+all_cleared bus start bit [] [] (n ∷ news) rows c = absurd c
+all_cleared bus start bit [] (o ∷ olds) news rows c = absurd rows
+all_cleared bus start bit (hs ∷ told) [] news rows c = absurd rows
+all_cleared bus start bit (hs ∷ told) (o ∷ olds) [] rows c = absurd c
+all_cleared bus start bit (hs ∷ told) (o ∷ olds) (n ∷ news) rows c =
+    (cleared_rows bus start bit hs o n rows.0 c.0, all_cleared bus start bit told olds news rows.1 c.1)
+
+-- the level of the bus
+levels_shown : (bit : ℕ) (told : List (List Happening)) (ts : List Teller) → AreShown bit ts told →
+    driven_now ts ≡ map (λ (hs : List Happening). driven_in (slice_get hs bit)) told
+levels_shown bit [] [] shown = refl
+levels_shown bit [] (t ∷ ts) shown = absurd shown
+levels_shown bit (hs ∷ told) [] shown = absurd shown
+levels_shown bit (hs ∷ told) (t ∷ ts) shown =
+    ap₂ (λ l r. l ∷ r) (ap driven_in shown.0) (levels_shown bit told ts shown.1)
+
+pub bus_shown : (bit : ℕ) (told : List (List Happening)) (ts : List Teller) → AreShown bit ts told →
+    wired (driven_now ts) ≡ bus_in told bit
+bus_shown bit told ts shown = ap wired (levels_shown bit told ts shown)
+
+-- the text of the rows
+rows_shown : (bus : ℕ → Level) (start bit node : ℕ) (hs : List Happening) (rows : NodeRows) →
+    AreRows bus start bit hs rows → shown_rows node rows ≡ node_rows bus start (bit - start) node hs
+rows_shown bus start bit node hs rows r =
+    ap₂ (λ l m. (node_head node ++ (l ++ 10 ∷ [])) ++ (codes "        " ++ (m ++ 10 ∷ []))) r.levels r.letters
+
+pub all_shown : (bus : ℕ → Level) (start bit node : ℕ) (told : List (List Happening)) (rows : List NodeRows) →
+    EachRelated (AreRows bus start bit) told rows →
+    numbered shown_rows node rows ≡ numbered (node_rows bus start (bit - start)) node told
+all_shown bus start bit node [] [] r = refl
+all_shown bus start bit node [] (o ∷ rows) r = absurd r
+all_shown bus start bit node (hs ∷ told) [] r = absurd r
+all_shown bus start bit node (hs ∷ told) (o ∷ rows) r =
+    ap₂ (λ l m. l ++ m) (rows_shown bus start bit node hs o r.0) (all_shown bus start bit (node + 1) told rows r.1)

@@ -1,0 +1,4 @@
+-- What becomes of files.
+pub mod FileReads
+pub mod FileSteps
+pub mod FileTexts

@@ -1,0 +1,130 @@
+-- Files that are done portion by portion.
+use Rattle.std.proofs.Common.{◌≡◌, ◌≤◌, ◌++◌, ◌&&◌, ◌+◌, ◌-◌, ℕ, Bool, true, false, List, [], Option, length}
+use Rattle.std.proofs.Common.{map, take, drop}
+use Rattle.std.proofs.Common.{refl, sym, ap, ap₂, ◌∙◌, subst, append_assoc, arith, inl, inr, Some}
+use Rattle.std.specs.Prelude.{if◌then◌else◌, nat_lt, slice_range}
+use Rattle.std.specs.Borrow.{Bor}
+use Rattle.std.specs.Io.KnownBytes.{Appends, Keeps}
+use Rattle.std.specs.List.{list_all}
+use Rattle.std.proofs.lemmas.List.{append-nil, drop-drop, map-append, take-append-drop}
+use Rattle.std.proofs.lemmas.List.Folds.{list_all-append}
+use Rattle.sja_words.specs.declared.plan_question.PlanQuestion.{PlanQuestion}
+use Rattle.sja_run.specs.Answer.{IsLeft}
+use Rattle.sja_run.specs.Files.{AreOutcomes, ShowsFiles, is_printed, of_each, printed_of, refused_of}
+use Rattle.sja_run.specs.Inside.FileTexts.{AreDone, AreTold, Wrote}
+use Rattle.sja_run.specs.declared.file_outcome.FileOutcome.{FileOutcome}
+use Rattle.sja_run.proofs.FilesDone.FileReads.{as_many, outcomes_both}
+use Rattle.sja_run.proofs.FilesDone.FileTexts.{of_both, wrote_more, wrote_nothing}
+
+abbrev texts : List (Bor (List ℕ)) → List (List ℕ)
+texts names = map (λ name. name.now) names
+
+-- before the first portion
+pub none_done : (Holds : List ℕ → Option (List ℕ) → Type 0) (q : PlanQuestion) (names : List (List ℕ))
+    (a : Option (List ℕ)) (several out err : Bool) (o e : Option (List ℕ)) →
+    AreDone Holds q names names a a (AreTold several true out out err err o o e e)
+none_done Holds q names a several out err o e = record {
+  done = [];
+  outcomes = [];
+  whole = refl;
+  are = refl;
+  told = (refl, wrote_nothing out o, wrote_nothing err e);
+}
+
+-- the texts of a portion more
+wrote_both : (text : List ℕ → FileOutcome → List ℕ) (ns ms : List (List ℕ)) (os ps : List FileOutcome)
+    (was now is : Bool) (old mid new : Option (List ℕ)) → length os ≡ length ns →
+    Wrote was now old mid (of_each text ns os) → Wrote now is mid new (of_each text ms ps) →
+    Wrote was is old new (of_each text (ns ++ ms) (os ++ ps))
+wrote_both text ns ms os ps was now is old mid new len some more =
+    subst (Wrote was is old new) (sym (of_both text ns ms os ps len))
+    (wrote_more was now is old mid new (of_each text ns os) (of_each text ms ps) some more)
+
+-- the names from one place to another, and those behind them
+cut_names : (names : List (Bor (List ℕ))) (start end : ℕ) → start ≤ end →
+    texts (drop start names) ≡ texts (slice_range names start end) ++ texts (drop end names)
+cut_names names start end order =
+    let on : start + (end - start) ≡ end = omega (arith, order) in
+    let left : drop (end - start) (drop start names) ≡ drop end names =
+    drop-drop (end - start) start names ∙ ap (λ (k : ℕ). drop k names) on in
+    ap texts (sym (take-append-drop (end - start) (drop start names)))
+    ∙ map-append (λ (name : Bor (List ℕ)). name.now) (take (end - start) (drop start names))
+    (drop (end - start) (drop start names))
+    ∙ ap (λ (l : List (Bor (List ℕ))). texts (slice_range names start end) ++ texts l) left
+
+-- a portion of the names more
+pub done_more : (Holds : List ℕ → Option (List ℕ) → Type 0) (q : PlanQuestion) (names : List (Bor (List ℕ)))
+    (start end : ℕ) (a b c : Option (List ℕ)) (several all answered : Bool)
+    (out_was out_now out_is err_was err_now err_is : Bool) (o p r e f h : Option (List ℕ)) (ps : List FileOutcome) →
+    start ≤ end →
+    AreDone Holds q (texts names) (texts (drop start names)) a b
+    (AreTold several all out_was out_now err_was err_now o p e f) →
+    AreOutcomes Holds q (texts (slice_range names start end)) b c ps → answered ≡ list_all is_printed ps →
+    Wrote out_now out_is p r (of_each (printed_of several) (texts (slice_range names start end)) ps) →
+    Wrote err_now err_is f h (of_each (refused_of several) (texts (slice_range names start end)) ps) →
+    AreDone Holds q (texts names) (texts (drop end names)) a c
+    (AreTold several (all && answered) out_was out_is err_was err_is o r e h)
+done_more Holds q names start end a b c several all answered out_was out_now out_is err_was err_now err_is o p r e f h
+    ps order so_far more is out err =
+    let done = so_far.done in
+    let outcomes = so_far.outcomes in
+    let some = texts (slice_range names start end) in
+    let len = as_many Holds q done a b outcomes so_far.are in
+    record {
+      done = done ++ some;
+      outcomes = outcomes ++ ps;
+      whole = so_far.whole ∙ ap (λ (l : List (List ℕ)). done ++ l) (cut_names names start end order)
+          ∙ sym (append_assoc done some (texts (drop end names)));
+      are = outcomes_both Holds q done some a b c outcomes ps so_far.are more;
+      told = (
+        ap₂ (λ (x y : Bool). x && y) so_far.told.0 is ∙ sym (list_all-append is_printed outcomes ps),
+        wrote_both (printed_of several) done some outcomes ps out_was out_now out_is o p r len so_far.told.1 out,
+        wrote_both (refused_of several) done some outcomes ps err_was err_now err_is e f h len so_far.told.2 err,
+      );
+    }
+
+-- texts that are the same of names that are
+named : (text said : List ℕ → FileOutcome → List ℕ) (names done : List (List ℕ)) (old new : Option (List ℕ))
+    (outcomes : List FileOutcome) → text ≡ said → done ≡ names → Appends old new (of_each text done outcomes) →
+    Appends old new (of_each said names outcomes)
+named text said names done old new outcomes same whole wrote =
+    subst (λ (l : List ℕ → FileOutcome → List ℕ). Appends old new (of_each l names outcomes)) same
+    (subst (λ (ns : List (List ℕ)). Appends old new (of_each text ns outcomes)) whole wrote)
+
+-- when no name is left, and no write has failed
+pub all_done : (Holds : List ℕ → Option (List ℕ) → Type 0) (q : PlanQuestion) (names left : List (List ℕ))
+    (a b : Option (List ℕ)) (several all : Bool) (out_was err_was : Bool) (o r e h : Option (List ℕ)) → left ≡ [] →
+    several ≡ nat_lt 1 (length names) →
+    AreDone Holds q names left a b (AreTold several all out_was false err_was false o r e h) →
+    ShowsFiles Holds q names (if all then 0 else 1) a b o r e h
+all_done Holds q names left a b several all out_was err_was o r e h none is so_far =
+    let outcomes = so_far.outcomes in
+    let whole : so_far.done ≡ names =
+    sym (so_far.whole ∙ ap (λ (l : List (List ℕ)). so_far.done ++ l) none ∙ append-nil so_far.done) in
+    inl (
+      outcomes,
+      subst (λ (ns : List (List ℕ)). AreOutcomes Holds q ns a b outcomes) whole so_far.are,
+      ap (λ (t : Bool). if t then 0 else 1) so_far.told.0,
+      named (printed_of several) (printed_of (nat_lt 1 (length names))) names so_far.done o r outcomes
+          (ap printed_of is) whole (so_far.told.1 refl).1,
+      named (refused_of several) (refused_of (nat_lt 1 (length names))) names so_far.done e h outcomes
+          (ap refused_of is) whole (so_far.told.2 refl).1,
+    )
+
+-- ---- of what words ask for
+
+-- memory was refused while the words were read
+pub files_unread : (Holds : List ℕ → Option (List ℕ) → Type 0) (q : PlanQuestion) (names : List (List ℕ)) (status : ℕ)
+    (failed : Bool) (a b o r e h : Option (List ℕ)) → IsLeft (Some status) failed e h → b ≡ a → Keeps o r →
+    failed ≡ false → ShowsFiles Holds q names status a b o r e h
+files_unread Holds q names status failed a b o r e h (inl none) same keeps wrote = cc
+files_unread Holds q names status failed a b o r e h (inr told) same keeps wrote =
+    let is : status ≡ 1 = cc (told.0) in
+    inr (is, same, keeps, told.1 wrote)
+
+-- what is shown from where another call left all as it was
+pub files_from : (Holds : List ℕ → Option (List ℕ) → Type 0) (q p : PlanQuestion) (ns ms : List (List ℕ)) (status : ℕ)
+    (a b c x y z i o e : Option (List ℕ)) → q ≡ p → ns ≡ ms → x ≡ a → y ≡ b → z ≡ c →
+    ShowsFiles Holds p ms status x i y o z e → ShowsFiles Holds q ns status a i b o c e
+files_from Holds q p ns ms status a b c x y z i o e same_q same_n same_in same_out same_err shows =
+    rw (same_q, same_n, sym same_in, sym same_out, sym same_err) shows

@@ -1,0 +1,3 @@
+-- What becomes of a plan.
+pub mod PlanRefusals
+pub mod PlanRuns

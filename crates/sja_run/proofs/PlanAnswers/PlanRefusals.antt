@@ -1,0 +1,99 @@
+-- Why there is no text of a plan, from why there is none of the plan on the input; and that there is one.
+use Rattle.std.proofs.Common.{◌≡◌, ◌≤◌, ◌<◌, ◌∷◌, List, ℕ, [], Option, length, arith, subst}
+use Rattle.std.specs.Prelude.{IfOk, Result, Ok, Err, String, string_bytes}
+use Rattle.std.specs.Global.{Global}
+use Rattle.std.proofs.lemmas.List.Elements.{All-nil, All-cons, All-append}
+use Rattle.sja_plan.specs.Plan.{PlanValue}
+use Rattle.sja_plan.specs.Struck.{one_strike, struck_at}
+use Rattle.sja_plan_text.specs.HasTexts.{HasStrikeText, HasTexts}
+use Rattle.sja_plan_text.specs.Written.{IsPlanText}
+use Rattle.sja_texts.specs.declared.sweep_refusal.SweepRefusal.{SweepRefusal}
+use Rattle.sja_texts.specs.declared.sweep_refusal.SweepRefusal.TheVariants.{NoNode, TooMany, StrikeCount, Bit, TooLong}
+use Rattle.sja_texts.specs.declared.command_refusal.CommandRefusal.{CommandRefusal}
+use Rattle.sja_texts.specs.declared.command_refusal.CommandRefusal.TheVariants as refusal
+use Rattle.sja_run.specs.Input.{ReadsFew}
+use Rattle.sja_run.specs.Run.{HoldsPlan, RefusesRun}
+use Rattle.sja_run.specs.Sweep.{IsLong, IsStruck, RefusesOfPlan, RefusesPlan, RefusesStruck}
+
+-- there is no plan, or memory was refused
+pub of_plan_refused : (May : PlanValue → SweepRefusal → Type 0) (before after : Option (List ℕ)) (r : CommandRefusal) →
+    RefusesRun before after r → RefusesOfPlan May before after r
+of_plan_refused May before after refusal.OutOfMemory h = h
+of_plan_refused May before after refusal.Read h = h
+of_plan_refused May before after (refusal.Plan fault) h = h
+of_plan_refused May before after (refusal.Run fault) h = h
+of_plan_refused May before after refusal.NotHexadecimal h = absurd h
+of_plan_refused May before after refusal.NotALine h = absurd h
+of_plan_refused May before after (refusal.Layout fault) h = absurd h
+of_plan_refused May before after (refusal.Line fault) h = absurd h
+of_plan_refused May before after (refusal.Notation fault) h = absurd h
+of_plan_refused May before after (refusal.Sweep why) h = absurd h
+
+-- there is a plan
+pub plan_refused : (May : PlanValue → SweepRefusal → Type 0) (before after : Option (List ℕ)) (plan : PlanValue)
+    (r : CommandRefusal) → HoldsPlan before after plan → RefusesPlan May plan r → RefusesOfPlan May before after r
+plan_refused May before after plan refusal.OutOfMemory holds h = (holds.0, holds.1.0, holds.1.1)
+plan_refused May before after plan (refusal.Sweep why) holds h = (holds.0, plan, holds.1, holds.2, h)
+plan_refused May before after plan refusal.Read holds h = absurd h
+plan_refused May before after plan (refusal.Plan fault) holds h = absurd h
+plan_refused May before after plan (refusal.Run fault) holds h = absurd h
+plan_refused May before after plan refusal.NotHexadecimal holds h = absurd h
+plan_refused May before after plan refusal.NotALine holds h = absurd h
+plan_refused May before after plan (refusal.Layout fault) holds h = absurd h
+plan_refused May before after plan (refusal.Line fault) holds h = absurd h
+plan_refused May before after plan (refusal.Notation fault) holds h = absurd h
+
+-- whatever of both it is, few bytes were read
+pub few_of_plan : (May : PlanValue → SweepRefusal → Type 0) (before after : Option (List ℕ)) (r : CommandRefusal) →
+    (RefusesRun before after r → ReadsFew before after) → RefusesOfPlan May before after r → ReadsFew before after
+few_of_plan May before after (refusal.Sweep why) few h = (h.0, h.2.0, h.2.1)
+few_of_plan May before after refusal.OutOfMemory few h = few h
+few_of_plan May before after refusal.Read few h = few h
+few_of_plan May before after (refusal.Plan fault) few h = few h
+few_of_plan May before after (refusal.Run fault) few h = few h
+few_of_plan May before after refusal.NotHexadecimal few h = few h
+few_of_plan May before after refusal.NotALine few h = few h
+few_of_plan May before after (refusal.Layout fault) few h = few h
+few_of_plan May before after (refusal.Line fault) few h = few h
+few_of_plan May before after (refusal.Notation fault) few h = few h
+
+-- the document of a plan with a strike more is too long
+pub long_refused : (node bit : ℕ) (plan : PlanValue) (r : CommandRefusal) →
+    RefusesPlan IsLong (struck_at plan node bit) r → RefusesPlan (RefusesStruck node bit) plan r
+long_refused node bit plan refusal.OutOfMemory h = h
+long_refused node bit plan (refusal.Sweep TooLong) h = h
+long_refused node bit plan (refusal.Sweep NoNode) h = absurd h
+long_refused node bit plan (refusal.Sweep (TooMany runs bits)) h = absurd h
+long_refused node bit plan (refusal.Sweep StrikeCount) h = absurd h
+long_refused node bit plan (refusal.Sweep Bit) h = absurd h
+long_refused node bit plan refusal.Read h = absurd h
+long_refused node bit plan (refusal.Plan fault) h = absurd h
+long_refused node bit plan (refusal.Run fault) h = absurd h
+long_refused node bit plan refusal.NotHexadecimal h = absurd h
+long_refused node bit plan refusal.NotALine h = absurd h
+long_refused node bit plan (refusal.Layout fault) h = absurd h
+long_refused node bit plan (refusal.Line fault) h = absurd h
+long_refused node bit plan (refusal.Notation fault) h = absurd h
+
+-- a plan that has texts has them with a strike more
+pub struck_texts : (plan : PlanValue) (node bit : ℕ) → HasTexts plan → node ≤ 9999999 → bit ≤ 9999999 →
+    HasTexts (struck_at plan node bit)
+struck_texts plan node bit has k b = record {
+  step_counts = has.step_counts;
+  steps = has.steps;
+  turns = has.turns;
+  strikes = All-append HasStrikeText plan.strikes (one_strike node bit ∷ []) has.strikes
+      (All-cons HasStrikeText (one_strike node bit) []
+      (record { node = k; bit = b; every = omega arith; times = omega arith }) (All-nil HasStrikeText));
+}
+
+-- the text of the plan with a strike more
+pub struck_text_is : (r : Result (String Global) CommandRefusal) (node bit : ℕ) (plan struck : PlanValue) →
+    node < length plan.nodes → struck ≡ struck_at plan node bit → IfOk r (λ text. IsPlanText struck (string_bytes text))
+    → IfOk r (λ text. IsStruck node bit plan (string_bytes text))
+struck_text_is (Ok text) node bit plan struck there is h =
+    (there, subst (λ p. IsPlanText p (string_bytes text)) is h)
+struck_text_is (Err e) node bit plan struck there is h = tt
+
+-- why there is no text of a plan, whether it is struck or not
+pub ruleset refusals = (of_plan_refused, plan_refused)

@@ -1,0 +1,24 @@
+-- What a request shows, where its text was printed or it was refused.
+use Rattle.std.proofs.Common.{◌≡◌, ℕ, List, ap, inl, inr, subst}
+use Rattle.std.specs.Prelude.{Option, Some}
+use Rattle.std.specs.Io.KnownBytes.{Appends}
+use Rattle.std.proofs.KnownBytes.{Keeps-refl}
+use Rattle.sja_words.specs.Words.{Request}
+use Rattle.sja_texts.specs.declared.command_refusal.CommandRefusal.{CommandRefusal}
+use Rattle.sja_texts.specs.Refusal.{refusal_line}
+use Rattle.sja_run.specs.Answer.{IsPrinted, IsRefused, Shows}
+
+pub shows_printed : (request : Request) (before after out_old out_new err : Option (List ℕ)) (status : ℕ)
+    (text bytes : List ℕ) → IsPrinted request before after text → status ≡ 0 → bytes ≡ text →
+    Appends out_old out_new bytes → Shows request (Some status) before after out_old out_new err err
+shows_printed request before after out_old out_new err status text bytes is ended same written =
+    inl (text, is, ap Some ended, subst (Appends out_old out_new) same written, Keeps-refl err)
+
+pub shows_refused : (request : Request) (before after out err_old err_new : Option (List ℕ)) (status : ℕ)
+    (why : CommandRefusal) → IsRefused request before after why → status ≡ 1 →
+    Appends err_old err_new (refusal_line why) → Shows request (Some status) before after out out err_old err_new
+shows_refused request before after out err_old err_new status why is ended written =
+    inr (inl (why, is, ap Some ended, Keeps-refl out, written))
+
+-- what is printed or refused
+pub ruleset shows = (shows_printed, shows_refused)

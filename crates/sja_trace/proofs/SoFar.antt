@@ -1,0 +1,3 @@
+-- The lines and the text so far.
+pub mod Lines
+pub mod UpTo

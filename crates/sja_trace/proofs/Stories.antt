@@ -1,0 +1,8 @@
+-- What is told of nodes, and which lines come of it.
+pub mod Telling
+pub mod NodeStories
+pub mod LogStories
+pub mod Numbered
+pub mod StoredLines
+pub mod Passed
+pub mod WrittenBack

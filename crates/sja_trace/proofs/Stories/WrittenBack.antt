@@ -1,0 +1,53 @@
+-- Elements that were lent to a call as a slice, and written back.
+use Rattle.std.proofs.Common.{◌≡◌, ℕ, suc, List, ◌++◌, length, take, drop, sym, ap, ◌∙◌, subst, arith}
+use Rattle.std.proofs.lemmas.Grind.{common_steps}
+use Rattle.lemmas.specs.Related.{EachRelated}
+use Rattle.sja_log.specs.Log.{NodeValue, RunValue}
+use Rattle.sja_plan.specs.Plan.{PlanValue}
+use Rattle.sja_report.specs.ReportLines.{numbered}
+use Rattle.sja_trace.specs.declared.teller.Teller.{Teller}
+use Rattle.sja_trace.specs.TraceText.{IsTrace}
+use Rattle.sja_trace.specs.Inside.Coming.{TellerEnds, AreUnderway, late_lines}
+use Rattle.sja_trace.specs.Inside.Passing.{TellerPasses, ComesTo, hands_text}
+use Rattle.sja_trace.proofs.Stories.Passed.{comes_more, comes_underway, comes_all}
+
+-- as many as there were are those that were written
+pub are_back : {A : Type 0} (was now : List A) (n : ℕ) → n ≡ length was → length now ≡ length was →
+    take n (now ++ drop (length now) was) ≡ now
+are_back was now n all len = grind (arith, common_steps)
+
+pub same_count : {A : Type 0} (was lent now : List A) → lent ≡ was → length now ≡ length lent → length now ≡ length was
+same_count was lent now is count = count ∙ ap (λ l. length l) is
+
+-- a bit more
+pub back_more : (plan : PlanValue) (nodes : List NodeValue) (bits next n : ℕ) (was lent now shown : List Teller)
+    (old new : List ℕ) → n ≡ length was → lent ≡ was → length now ≡ length lent →
+    shown ≡ take n (now ++ drop (length now) was) → ComesTo plan nodes bits was old →
+    EachRelated TellerPasses lent now →
+    new ≡ old ++ hands_text bits shown → next ≡ suc bits →
+    ComesTo plan nodes next (take n (now ++ drop (length now) was)) new
+back_more plan nodes bits next n was lent now shown old new all is count seen up on wrote one =
+    let back = are_back was now n all (same_count was lent now is count) in
+    let R : List Teller → Type 0 = λ l. EachRelated TellerPasses l now in
+    let P : List Teller → Type 0 = λ l. ComesTo plan nodes next l new in
+    subst P (sym back) (comes_more plan nodes bits next was now old new up (subst R is on)
+    (wrote ∙ ap (λ (l : List Teller). old ++ hands_text bits l) (seen ∙ back)) one)
+
+-- they are underway
+pub lent_underway : (plan : PlanValue) (nodes : List NodeValue) (bits : ℕ) (was lent : List Teller) (text : List ℕ) →
+    lent ≡ was → ComesTo plan nodes bits was text → AreUnderway lent
+lent_underway plan nodes bits was lent text is up =
+    subst AreUnderway (sym is) (comes_underway plan nodes bits was text up)
+
+-- the rest
+pub back_all : (plan : PlanValue) (log : RunValue) (bits late n : ℕ) (was lent now shown : List Teller)
+    (old new : List ℕ) → bits ≡ log.bits → late ≡ log.bits → n ≡ length was → lent ≡ was → length now ≡ length lent →
+    shown ≡ take n (now ++ drop (length now) was) → ComesTo plan log.nodes bits was old →
+    EachRelated TellerEnds lent now → new ≡ old ++ numbered (late_lines late) 0 shown → IsTrace plan log new
+back_all plan log bits late n was lent now shown old new ends behind all is count seen up on wrote =
+    let back = are_back was now n all (same_count was lent now is count) in
+    let R : List Teller → Type 0 = λ l. EachRelated TellerEnds l now in
+    let P : ℕ → Type 0 = λ b. ComesTo plan log.nodes b was old in
+    comes_all plan log was now old new (subst P ends up) (subst R is on)
+    (wrote ∙ ap (λ (b : ℕ). old ++ numbered (late_lines b) 0 shown) behind
+    ∙ ap (λ (l : List Teller). old ++ numbered (late_lines log.bits) 0 l) (seen ∙ back))

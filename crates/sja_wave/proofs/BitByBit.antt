@@ -1,0 +1,6 @@
+-- What the signals of nodes show, bit by bit.
+pub mod PastBits
+pub mod NextSignals
+pub mod ViewsIn
+pub mod Reading
+pub mod Going

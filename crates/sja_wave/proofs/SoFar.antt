@@ -1,0 +1,3 @@
+-- The text so far.
+pub mod Written
+pub mod UpTo
