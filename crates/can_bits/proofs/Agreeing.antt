@@ -4,13 +4,14 @@ use Rattle.std.proofs.Common.{Option, Some, None, ap, sym, subst, ◌∙◌, ari
 use Rattle.std.proofs.Math.Nat.{div-eq_of_lt}
 use Rattle.std.proofs.lemmas.Bool.{cases_lt}
 use Rattle.std.proofs.lemmas.Nat.{shr-shr}
+use Rattle.lemmas.proofs.Numbers.{same_from_xor}
 use Rattle.can_bits.specs.declared.level.Level.{Level}
 use Rattle.can_bits.specs.declared.sent_body.SentBody.{SentBody}
 use Rattle.can_bits.specs.Digits.{digit, level_of}
 use Rattle.can_bits.specs.Sending.{AgreeFor, BothHave, packed_level}
 use Rattle.can_bits.proofs.Values.{level-digit}
 use native.Mathlib.Nat.{div-lt_iff_lt-mul, lt_of_lt_of_le, pow-suc}
-use lib.Bits.{bit_xor, xor_lt, xor_shr, xor_self, xor_assoc, xor_zero_l, xor_zero_r}
+use lib.Bits.{bit_xor, xor_lt, xor_shr, xor_self}
 use lib.Count.{count_leading_zeros, leading_length}
 use lib.Pow.{pow_mono, pow_pos}
 
@@ -26,12 +27,6 @@ IsTopOf s x = (place : ℕ) → place < s.length → s.length ≤ 128 → packed
 abbrev digit_in : Option Level → ℕ
 digit_in (Some level) = digit level
 digit_in None = 0
-
--- numbers that differ in no digit are the same
-same_of_xor : (x y : ℕ) → bit_xor x y ≡ 0 → x ≡ y
-same_of_xor x y none =
-    sym (xor_zero_r x) ∙ ap (bit_xor x) (sym (xor_self y)) ∙ sym (xor_assoc x y y) ∙ ap (λ n. bit_xor n y) none
-    ∙ xor_zero_l y
 
 -- what more digits write, by what one less write and the last one
 with_last : (x n : ℕ) → n < 128 → x / 2 ^ (127 - n) / 2 ≡ x / 2 ^ (128 - n)
@@ -98,7 +93,7 @@ agreement_of_zeros a b x y n top_a top_b room_x room_y both zeros place before =
     let count = t.1 in
     let below : z < 2 ^ k = lt_of_lt_of_le t.2 (pow_mono (omega (arith, count, zeros))) in
     let same : x / 2 ^ k ≡ y / 2 ^ k =
-    same_of_xor (x / 2 ^ k) (y / 2 ^ k) (sym (xor_shr x y k) ∙ div-eq_of_lt below) in
+    same_from_xor (x / 2 ^ k) (y / 2 ^ k) (sym (xor_shr x y k) ∙ div-eq_of_lt below) in
     let j = n - 1 - place in
     let place_is : k + j ≡ 127 - place = omega (arith, before, one, fits) in
     let read : (v : ℕ) → v / 2 ^ (127 - place) ≡ v / 2 ^ k / 2 ^ j =

@@ -1,7 +1,8 @@
 -- When an ACK is due, and when a whole line has come.
-use Rattle.std.proofs.Common.{◌≡◌, inl, inr, ◌↔◌, IsTrue, ℕ, Bool, Option, None, List, [], ◌∷◌, ◌++◌}
+use Rattle.std.proofs.Common.{◌≡◌, ◌+◌, inl, inr, ◌↔◌, IsTrue, ℕ, Bool, Option, None, List, [], ◌∷◌, ◌++◌}
 use Rattle.std.proofs.Common.{length, replicate, take, refl, ap, sym, subst, ◌∙◌, arith, append_assoc}
-use Rattle.std.proofs.lemmas.List.{append-nil, length-take-le, length_push, nil_from_length, same_from_push}
+use Rattle.std.proofs.lemmas.List.{append-nil, length-append, length-take-le, length_push}
+use Rattle.std.proofs.lemmas.List.{nil_from_length, same_from_push}
 use Rattle.can_frame.specs.Frame.{FrameValue}
 use Rattle.can_bits.specs.declared.level.Level.{Level}
 use Rattle.can_bits.specs.declared.level.Level.TheVariants.{Dominant, Recessive}
@@ -41,6 +42,12 @@ past_count n l part after h k whole =
     let same = same_part t after h.is_part k both in
     let rest : t ≡ after = append-cancel part t after (ap (λ p. p ++ t) (sym same) ∙ both) in
     sym (length-take-le n (tail h.ack) h.within) ∙ ap length rest
+
+-- how many levels there are then
+pub past_length : {g : Gathered} {came n : ℕ} (l : List Level) (h : IsPast n g came l) → length l ≡ length h.part + n
+past_length {n = n} l h =
+    let within = h.within in
+    omega (arith, ap length h.whole, length-append h.part (take n (tail h.ack)), length-take-le n (tail h.ack) within)
 
 -- a reader past the stuffed part
 pub past_now : (s : Shift) (l : List Level) (n : ℕ) → s.wrong ≡ None → s.frame_part ≡ FixedForm n → StandsFor s l →

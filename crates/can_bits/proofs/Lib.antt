@@ -1,6 +1,5 @@
 -- Lists, digits and runs of levels.
 pub mod Values
-pub mod Ranges
 pub mod Runs
 -- The CRC sequence.
 pub mod Products
@@ -14,6 +13,7 @@ pub mod Parts
 pub mod Going
 pub mod Ending
 pub mod OneStuffing
+pub mod Computed
 -- Whole lines.
 pub mod Whole
 pub mod LineLaws
@@ -26,5 +26,6 @@ pub mod DueLemmas
 pub mod PlaceLemmas
 pub mod PlaceLaws
 pub mod NextLevels
+pub mod NextOnce
 pub mod PackedLevels
 pub mod Agreeing

@@ -3,6 +3,7 @@ use Rattle.std.proofs.Common.{◌≡◌, ◌-◌, ◌&&◌, ℕ, Bool, true, fal
 use Rattle.std.proofs.Common.{List, reverse, length, refl, ap, sym, subst, ◌∙◌, arith, ◌↔◌, inl, inr}
 use Rattle.std.proofs.lemmas.Bool.{cases_Bool, le-leb, leb-true, ltb-true, and_from, lt-ltb}
 use Rattle.std.proofs.lemmas.List.{length-reverse, reverse-reverse}
+use Rattle.std.proofs.lemmas.Option.{same_Some}
 use Rattle.can_bits.specs.declared.level.Level.{Level}
 use Rattle.can_bits.specs.Fields.{rtr_place}
 use Rattle.can_bits.specs.Stuffing.{IsUnstuffed, EndsInEqual}
@@ -42,10 +43,6 @@ some_plain l =
     let P : List Level → Type 0 = λ m. IsUnstuffed w m in
     (w, subst P (reverse-reverse l) (is_unstuffed (reverse l)))
 
--- two codes in one answer are one
-some_one : (n m : ℕ) → Some n ≡ Some m → n ≡ m
-some_one n m e = cc
-
 -- a code, and where it comes from
 from_code : (ext : Bool) (l : List Level) (code : ℕ) → place_code ext l ≡ Some code → IsAtPlace ext l code
 from_code ext l code e =
@@ -58,7 +55,7 @@ from_code ext l code e =
           let t : (nat_lt 0 n && nat_le n (rtr_place ext)) ≡ true =
           and_from (nat_lt 0 n) (nat_le n (rtr_place ext)) some (le-leb n (rtr_place ext) early.1) in
           let is : place_code ext l ≡ Some (n - 1) = rw (early.0, t) refl in
-          let one : n - 1 ≡ code = some_one (n - 1) code (sym is ∙ e) in
+          let one : n - 1 ≡ code = same_Some (n - 1) code (sym is ∙ e) in
           let few = ltb-true 0 n some in
           record {
             plain = there.0;

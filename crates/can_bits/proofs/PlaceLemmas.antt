@@ -2,7 +2,7 @@
 use Rattle.std.proofs.Common.{◌≡◌, ◌-◌, ◌&&◌, ◌<◌, ◌≤◌, inl, inr, ℕ, Bool, true, false}
 use Rattle.std.proofs.Common.{IsTrue, if◌then◌else◌, nat_le, nat_lt, Some, None, List, [], ◌∷◌}
 use Rattle.std.proofs.Common.{◌++◌, reverse, length, refl, ap, sym, ◌∙◌, arith, append_assoc}
-use Rattle.std.proofs.lemmas.Bool.{cases_Bool, cases_lt, le-leb, lt-leb, leb-true, and_parts}
+use Rattle.std.proofs.lemmas.Bool.{cases_Bool, cases_lt, le-leb, lt-leb, leb-true, and_parts, and_right}
 use Rattle.std.proofs.lemmas.List.{append-nil, length-append, length-reverse, reverse-append}
 use Rattle.can_bits.specs.declared.level.Level.{Level}
 use Rattle.can_bits.specs.declared.level.Level.TheVariants.{Dominant, Recessive}
@@ -139,12 +139,7 @@ late_no_code ext l late =
     let n = plain_count l in
     none_by (is_full l) (nat_lt 0 n) (nat_le n (rtr_place ext)) (n - 1) (lt-leb n (rtr_place ext) late)
 
--- both of two bits, where the second isn't set
-not_both : (a b : Bool) → b ≡ false → (a && b) ≡ false
-not_both false b e = refl
-not_both true b e = e
-
 -- nor is a stuff bit early there
 pub late_no_stuff : (ext : Bool) (l : List Level) → rtr_place ext < plain_count l → is_early_stuff ext l ≡ false
 late_no_stuff ext l late =
-    not_both (is_full l) (nat_le (plain_count l) (rtr_place ext)) (lt-leb (plain_count l) (rtr_place ext) late)
+    and_right (is_full l) (nat_le (plain_count l) (rtr_place ext)) (lt-leb (plain_count l) (rtr_place ext) late)

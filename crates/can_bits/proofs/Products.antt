@@ -3,6 +3,7 @@ use Rattle.std.proofs.Common.{◌≡◌, ◌+◌, ◌*◌, ◌/◌, ◌^◌, ◌
 use Rattle.std.proofs.Common.{true, false, List, [], ◌∷◌, refl, ap, sym, ◌∙◌, arith}
 use Rattle.std.specs.Prelude.{bit_xor}
 use Rattle.std.specs.Int.Bits.{xor_block, xor_comm, xor_assoc, xor_lt, xor_self, xor_shr, xor_zero_l, xor_zero_r}
+use Rattle.lemmas.proofs.Numbers.{same_from_xor}
 use Rattle.can_bits.specs.Check.{generator, scaled, product, IsMultiple}
 
 -- the sum of two elements
@@ -81,12 +82,6 @@ product-large (false ∷ q) =
     elim (product-large q) [ inl h ↦ inl (e ∙ omega (arith, h)) | inr h ↦ inr (omega (arith, e, h)) ]
 product-large (true ∷ q) = inr (elim (product-large q) [ inl h ↦ with_none q h | inr h ↦ with_more q h ])
 
--- equal terms: their sum is 0
-xor-zero-same : (a b : ℕ) → bit_xor a b ≡ 0 → a ≡ b
-xor-zero-same a b h =
-    sym (xor_zero_r a) ∙ ap (λ x. bit_xor a x) (sym (xor_self b)) ∙ sym (xor_assoc a b b) ∙ ap (λ x. bit_xor x b) h
-    ∙ xor_zero_l b
-
 -- multiples that differ in their lowest 15 digits alone don't differ
 pub multiples_agree : (v c d : ℕ) → c < 2 ^ 15 → d < 2 ^ 15 → IsMultiple (v * 2 ^ 15 + c) →
     IsMultiple (v * 2 ^ 15 + d) → c ≡ d
@@ -96,7 +91,7 @@ multiples_agree v c d hc hd mc md =
     let both = IsMultiple-xor (v * 2 ^ 15 + c) (v * 2 ^ 15 + d) mc md in
     let small = xor_lt 15 c d hc hd in
     elim (product-large both.0) [
-      | inl h ↦ xor-zero-same c d (sym e ∙ both.1 ∙ h)
+      | inl h ↦ same_from_xor c d (sym e ∙ both.1 ∙ h)
       | inr h ↦ absurd (omega (arith, h, e, both.1, small))
     ]
 

@@ -1,14 +1,10 @@
 -- The frame in a transmit buffer that begins with a message is the message's.
 use Rattle.std.proofs.Common.{◌≡◌, ◌==◌, ◌+◌, ◌*◌, ◌/◌, ◌%◌, ◌<◌, ℕ, Bool, true}
 use Rattle.std.proofs.Common.{false, List, ◌∷◌, ◌++◌, length, take, refl, ap, arith}
-use Rattle.std.proofs.Math.Seq.{take-append_seam}
+use Rattle.std.proofs.lemmas.List.{take_at}
 use Rattle.can_frame.specs.Frame.{data_count, id_limit}
 use Rattle.can_frame.specs.Message.{bit, message, head_of, IsMessage}
 use Rattle.can_frame.specs.Buffer.{frame_in}
-
--- data bytes, with others after them
-front : (n : ℕ) (bytes rest : List ℕ) → length bytes ≡ n → take n (bytes ++ rest) ≡ bytes
-front n bytes rest h = rw (← h) (take-append_seam bytes rest)
 
 -- a number that is a bit says whether the bit is 1
 is_bit : (n : ℕ) (b : Bool) → n ≡ bit b → (n == 1) ≡ b
@@ -16,7 +12,7 @@ is_bit n true h = ap (λ k. k == 1) h
 is_bit n false h = ap (λ k. k == 1) h
 
 -- a bit is at most 1
-bit_small : (b : Bool) → bit b < 2
+pub bit_small : (b : Bool) → bit b < 2
 bit_small true = omega arith
 bit_small false = omega arith
 
@@ -30,7 +26,7 @@ standard id dlc rtr bytes rest hid hdlc count =
     let rtr_is : ((64 * bit rtr + dlc) / 64 % 2 == 1) ≡ rtr = is_bit _ rtr (omega (arith, b)) in
     let dlc_is : (64 * bit rtr + dlc) % 16 ≡ dlc = omega (arith, b) in
     let id_is : id / 8 * 8 + (32 * (id % 8) + 16 * bit rtr) / 32 ≡ id = omega (arith, b) in
-    let bytes_are : take (data_count rtr dlc) (bytes ++ rest) ≡ bytes = front _ bytes rest count in
+    let bytes_are : take (data_count rtr dlc) (bytes ++ rest) ≡ bytes = take_at bytes rest _ count in
     rw (ext_is, rtr_is, dlc_is, id_is, bytes_are) refl
 
 -- an extended frame's head and data
@@ -48,7 +44,7 @@ extended id dlc rtr bytes rest hid hdlc count =
     let id_is : id / 2097152 * 2097152 + id / 8192 % 256 * 8192 + id / 32 % 256 * 32 + (8 * (id % 32) + 4 * bit rtr) / 8
     ≡ id =
     omega (arith, b) in
-    let bytes_are : take (data_count rtr dlc) (bytes ++ rest) ≡ bytes = front _ bytes rest count in
+    let bytes_are : take (data_count rtr dlc) (bytes ++ rest) ≡ bytes = take_at bytes rest _ count in
     rw (ext_is, rtr_is, dlc_is, id_is, bytes_are) refl
 
 -- a frame's message, by the format, with anything after it

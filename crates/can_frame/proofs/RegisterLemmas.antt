@@ -1,12 +1,18 @@
 -- A register is compared with a number all at once, which says the same as bit by bit.
 use Rattle.std.proofs.Common.{◌≡◌, ◌+◌, ◌-◌, ◌/◌, ◌%◌, ◌^◌, ◌<◌, ◌≤◌, ◌↔◌, IsTrue, ℕ, ◌⊎◌}
-use Rattle.std.proofs.Common.{inl, inr, min, nat_eq, bit_and, bit_xor, sym, ◌∙◌, ap, arith, w8}
+use Rattle.std.proofs.Common.{Bool, true, false, inl, inr, min, nat_eq, bit_and, bit_xor, refl, sym, ◌∙◌, ap, arith, w8}
 use Rattle.std.specs.Int.{bit_at}
 use Rattle.std.proofs.lemmas.Bool.{cases_lt, eqb-true, eq-eqb}
 use Rattle.std.proofs.lemmas.Nat.{shr-shr}
 use Rattle.std.proofs.lemmas.Nat.Bits.{bit_at_and, bit_at_xor, bit_at_not, bit_at_ones}
 use Rattle.std.proofs.lemmas.Nat.Bits.{bit_at_ones_above, bit_at-lt, bit_at-zero, same_from_bits}
 use Rattle.can_frame.specs.Filter.{Matches}
+use Rattle.can_frame.specs.Message.{bit}
+
+-- what is 1 as a bit is true
+pub is_true : (b : Bool) → 1 ≤ bit b → IsTrue b
+is_true true h = refl
+is_true false h = absurd (omega arith)
 
 -- the bits, among the lowest `count`, in which a number isn't the code from bit `low` on and is compared with it
 abbrev pub differing : ℕ → ℕ → ℕ → ℕ → ℕ → ℕ

@@ -41,12 +41,8 @@ impl Register {
 pub(crate) fn halves_match(high: Register, low: Register, byte: Option<u8>) -> bool
     ensures { IsTrue result ↔ MatchesHalves high.code high.mask low.code low.mask byte }
 {
-    match byte {
-        Some(byte) => {
-            let above = high.matches(0, 4, u32::from(byte >> 4));
-            let below = low.matches(0, 4, u32::from(byte));
-            above && below
-        }
-        None => true,
-    }
+    let Some(byte) = byte else { return true };
+    let above = high.matches(0, 4, u32::from(byte >> 4));
+    let below = low.matches(0, 4, u32::from(byte));
+    above && below
 }

@@ -1,7 +1,5 @@
 -- lists of bits: what was seen and driven, the segment of the next one, places of a frame
 pub mod Seen
 pub mod DrivenAlike
-pub mod Nexts
 pub mod Slots
 pub mod FramePlaces
-pub mod Computed

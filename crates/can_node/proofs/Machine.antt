@@ -19,6 +19,7 @@ pub mod Segments
 pub mod Shown
 pub mod Along
 pub mod Quiet
+pub mod QuietOutside
 pub mod QuietReceiver
 pub mod QuietTransmitter
 pub mod QuietPlaces

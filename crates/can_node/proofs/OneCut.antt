@@ -10,3 +10,4 @@ pub mod Through
 pub mod GoOn
 pub mod Longer
 pub mod Slices
+pub mod SameCuts

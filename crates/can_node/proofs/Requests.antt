@@ -3,3 +3,4 @@ pub mod Cuts
 pub mod Requests
 pub mod OneMore
 pub mod OnceOff
+pub mod FramesReceived

@@ -55,9 +55,8 @@ impl Node {
     pub(crate) fn acknowledgement(&self) -> Level
         ensures { (l : List Bus) → StandsFor self.now.shift l → Acknowledges self.now.context.listen l result }
     {
-        if self.context.listen {
-            Level::Recessive
-        } else if self.shift.ack_is_due() {
+        let due = self.shift.ack_is_due();
+        if due && !self.context.listen {
             Level::Dominant
         } else {
             Level::Recessive

@@ -1,4 +1,4 @@
-//! Fault confinement: all rules of the error counters (Bosch CAN 2.0 part A section 7, ISO 11898-1).
+//! Fault confinement: the rules of the error counters up to bus-off (Bosch CAN 2.0 part A section 7, ISO 11898-1).
 use super::cause::Cause;
 use super::context::Context;
 use super::counters::{Counters, ERROR_PASSIVE};
@@ -14,25 +14,16 @@ const ERROR_STEP: u8 = 8;
 const RECEIVER_STEP: u8 = 1;
 /// REC after an acknowledged frame that found it error passive (this project's own place and value).
 const REC_ACKNOWLEDGED: u8 = 127;
-/// TEC from bus-off on; REC is 0 then (SJA1000 data sheet, 6.4.12).
-const TEC_BUS_OFF: u16 = 127;
-/// How often eleven recessive levels end bus-off.
-const BUS_OFF_COUNT: u8 = 128;
-/// TXERR written so asks for a bus-off, and the highest value that doesn't (SJA1000 data sheet, 6.4.12).
-const TEC_FORCES_OFF: u8 = 255;
-
-const TEC_HIGHEST: u8 = 254;
 
 /// The counters' steps. TEC never comes far above 256, where the node goes bus-off.
 impl Context {
     ghost use Rattle.std.specs.Prelude.{◌≡◌, ◌<◌, ◌+◌, ◌%◌, ◌==◌, ◌&&◌, List, [], fold, length};
     ghost use Rattle.can_node.specs.declared.request.Request.{Request};
     ghost use Rattle.can_node.specs.Bits.{Bit, seen_of};
-    ghost use Rattle.can_node.specs.Context.{integration_count, is_passive};
+    ghost use Rattle.can_node.specs.Context.{is_passive};
     ghost use Rattle.can_node.specs.Pieces.Piece.{Integration, Transmission};
     ghost use Rattle.can_node.specs.Counting.{more_rec, more_tec, more_by, integration_bit, next_run, if_ack_step_owed};
     ghost use Rattle.can_node.specs.Counting.{delimiter_level, are_dominant, after_error_flag, if_acknowledged};
-    ghost use Rattle.can_node.specs.Effects.{with_off, with_tec, with_rec, recounted};
     ghost use Rattle.can_node.specs.Effects.{own_step, fault_step, transmitter_fault};
     ghost use Rattle.can_node.specs.Inside.Standing.{context_of, is_nil};
     ghost use Rattle.can_node.specs.Inside.Turns.{piece_of};
@@ -215,67 +206,5 @@ impl Context {
             }
             Cause::Bit | Cause::Form | Cause::Crc => self.more_tec(ERROR_STEP),
         }
-    }
-
-    // ---- bus-off
-
-    /// Goes bus-off: the request is dropped, TEC reads 127 and REC 0.
-    pub(crate) fn go_off(&mut self)
-        ensures { context_of self.new ≡ with_off (context_of self.old) }
-    {
-        self.stop();
-        self.counters = Counters {
-            tec: TEC_BUS_OFF,
-            rec: 0,
-            off: true,
-        };
-    }
-
-    /// While bus-off stands a start makes the count of 128 begin anew, unless the node only listens.
-    pub(crate) fn recount(&mut self)
-        ensures { context_of self.new ≡ recounted (context_of self.old) }
-    {
-        if self.counters.off && !self.listen {
-            self.counters.tec = TEC_BUS_OFF;
-            self.counters.rec = 0;
-        }
-    }
-
-    /// A start takes the TEC that was written in reset mode, if one was: 255 is a bus-off, and any other value ends one
-    /// (SJA1000 data sheet, 6.4.12).
-    pub fn take_tec(&mut self, tec: Option<u8>)
-        ensures { context_of self.new ≡ with_tec tec (context_of self.old) }
-    {
-        if let Some(n) = tec {
-            if n == TEC_FORCES_OFF {
-                self.counters = Counters {
-                    tec: TEC_BUS_OFF,
-                    rec: 0,
-                    off: true,
-                };
-            } else {
-                self.counters.tec = u16::from(n.min(TEC_HIGHEST));
-                self.counters.off = false;
-            }
-        }
-    }
-
-    /// A start takes the REC that was written in reset mode, if one was, unless bus-off stands (SJA1000 data sheet,
-    /// 6.4.11).
-    pub fn take_rec(&mut self, rec: Option<u8>)
-        ensures { context_of self.new ≡ with_rec rec (context_of self.old) }
-    {
-        if let Some(n) = rec {
-            if !self.counters.off {
-                self.counters.rec = n;
-            }
-        }
-    }
-
-    /// How often eleven recessive levels are waited for after a start.
-    pub(crate) fn integration_count(&self) -> u8
-        ensures { result ≡ integration_count (context_of self.now) }
-    {
-        if self.counters.off { BUS_OFF_COUNT } else { 1 }
     }
 }

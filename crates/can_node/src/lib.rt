@@ -18,6 +18,7 @@ mod arbitration_field;
 mod bit;
 mod bit_events;
 mod bus_integration;
+mod bus_off;
 mod cause;
 mod config;
 mod contention;

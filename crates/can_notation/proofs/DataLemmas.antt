@@ -4,9 +4,10 @@ use Rattle.std.proofs.Common.{List, [], ◌∷◌, ◌++◌, length, take, drop,
 use Rattle.std.proofs.lemmas.List.{length-map, length-take, length-drop, map-append, flat_map_more, take-map, drop-map}
 use Rattle.std.proofs.Math.Seq.{take-add}
 use Rattle.std.proofs.lemmas.List.Elements.{All-head, All-tail, All-push}
+use Rattle.lemmas.proofs.Lists.{append-split}
 use Rattle.can_notation.specs.Digits.{digits_of, capital, capitals}
 use Rattle.can_notation.specs.Text.{data_text}
-use Rattle.can_notation.proofs.DigitLemmas.{split_alike, digits_of-injective, capitals-digits_of}
+use Rattle.can_notation.proofs.DigitLemmas.{digits_of-injective, capitals-digits_of}
 
 -- each one is a byte
 abbrev pub AreBytes : List ℕ → Type 0
@@ -43,7 +44,7 @@ data_text-injective [] [] hx hy e = refl
 data_text-injective [] (c ∷ ys) hx hy e = cc e
 data_text-injective (b ∷ xs) [] hx hy e = cc e
 data_text-injective (b ∷ xs) (c ∷ ys) hx hy e =
-    let (pair, rest) = split_alike (digits_of 2 b) (digits_of 2 c) (data_text xs) (data_text ys) refl e in
+    let (pair, rest) = append-split (digits_of 2 b) (data_text xs) (digits_of 2 c) (data_text ys) refl e in
     let first : b ≡ c = digits_of-injective 2 b c (All-head (λ byte. byte < 256) b xs hx)
     (All-head (λ byte. byte < 256) c ys hy) pair in
     ap₂ (λ h t. h ∷ t) first (data_text-injective xs ys (All-tail (λ byte. byte < 256) b xs hx)

@@ -1,20 +1,12 @@
 -- Digits, and the texts that they make: their length, their capitals, and that a text of digits has one number.
-use Rattle.std.proofs.Common.{◌≡◌, ◌≢◌, ◌+◌, ◌*◌, ◌/◌, ◌%◌, ◌^◌, ◌<◌, ◌≤◌, ◌∙◌, ℕ, zero, suc, inl, inr}
-use Rattle.std.proofs.Common.{List, [], ◌∷◌, ◌++◌, length, take, drop, get_or, refl, sym, ap, ap₂, add-one, arith}
-use Rattle.std.proofs.Common.{append_assoc}
+use Rattle.std.proofs.Common.{◌≡◌, ◌≢◌, ◌+◌, ◌*◌, ◌/◌, ◌%◌, ◌^◌, ◌<◌, ◌≤◌, ◌∙◌, ℕ, zero, suc, inl, inr, List, [], ◌∷◌}
+use Rattle.std.proofs.Common.{◌++◌, length, take, get_or, refl, sym, ap, ap₂, add-one, arith, append_assoc}
 use Rattle.std.proofs.lemmas.Bool.Decides.{nat_tests}
 use Rattle.std.proofs.lemmas.Bool.{cases_lt}
-use Rattle.std.proofs.lemmas.List.{take_at, drop_at, map_more, map-append, length-append}
-use Rattle.std.proofs.lemmas.List.{get_or_append_left, get_or_push, get_or-map}
+use Rattle.std.proofs.lemmas.List.{map_more, map-append, length-append, get_or_append_left, get_or_push, get_or-map}
 use Rattle.std.proofs.Math.Nat.{pow-le-pow_right}
+use Rattle.lemmas.proofs.Lists.{append-split}
 use Rattle.can_notation.specs.Digits.{digit_of, digits_of, capital, capitals}
-
--- two lists that begin with equally long ones
-pub split_alike : (xs ys us vs : List ℕ) → length xs ≡ length ys → xs ++ us ≡ ys ++ vs → (xs ≡ ys) × (us ≡ vs)
-split_alike xs ys us vs same e = (
-  sym (take_at xs us (length xs) refl) ∙ ap (take (length xs)) e ∙ take_at ys vs (length xs) (sym same),
-  sym (drop_at xs us (length xs) refl) ∙ ap (drop (length xs)) e ∙ drop_at ys vs (length xs) (sym same),
-)
 
 -- a digit is that of one number
 pub digit_of-injective : (m n : ℕ) → m < 16 → n < 16 → digit_of m ≡ digit_of n → m ≡ n
@@ -50,7 +42,7 @@ digits_of-injective zero m n hm hn e = omega arith
 digits_of-injective (suc count) m n hm hn e =
     let same : length (digits_of count (m / 16)) ≡ length (digits_of count (n / 16)) =
     length-digits_of count (m / 16) ∙ sym (length-digits_of count (n / 16)) in
-    let (front, last) = split_alike (digits_of count (m / 16)) (digits_of count (n / 16)) (digit_of (m % 16) ∷ [])
+    let (front, last) = append-split (digits_of count (m / 16)) (digit_of (m % 16) ∷ []) (digits_of count (n / 16))
     (digit_of (n % 16) ∷ []) same e in
     let high : m / 16 ≡ n / 16 =
     digits_of-injective count (m / 16) (n / 16) (omega arith) (omega arith) front in

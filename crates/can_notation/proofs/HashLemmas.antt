@@ -2,7 +2,7 @@
 use Rattle.std.proofs.Common.{◌≡◌, ◌==◌, ◌+◌, ◌<◌, ◌∙◌, ℕ, Bool, true, false, None, Some}
 use Rattle.std.proofs.Common.{List, ◌∷◌, ◌++◌, length, take, drop, get_or, sym, ap, ap₂, inl, inr, arith}
 use Rattle.std.specs.List.{position, position_or_len}
-use Rattle.std.proofs.lemmas.Bool.{cases_lt, eqb-true, false≢true}
+use Rattle.std.proofs.lemmas.Bool.{cases_lt, eq-eqb, eqb-true, false≢true}
 use Rattle.std.proofs.lemmas.Bool.Decides.{nat_tests}
 use Rattle.std.proofs.lemmas.List.{length-append, length-map, map-append, take-map, drop-map, drop-drop, get_or-map}
 use Rattle.std.proofs.lemmas.List.{take_at, drop_at, get_or_at, get_or_append_left}
@@ -25,17 +25,13 @@ digit_no_hash c v small e = grind (arith, nat_tests)
 hash_from_capital : (c : ℕ) → capital c ≡ 35 → c ≡ 35
 hash_from_capital c e = grind (arith, nat_tests)
 
--- and it passes the test
-is_hash : (c : ℕ) → c ≡ 35 → (c == 35) ≡ true
-is_hash c e = grind (arith, nat_tests)
-
 -- a text with a `#` has a first one
 pub first_hash : (said : List ℕ) → HasHash said → hash_place said < length said
 first_hash said (k, within, is) = elim (cases_lt (hash_place said) (length said)) [
   | inl inside ↦ inside
   | inr past ↦
       let fails = fails_before_first (λ c. c == hash) said k hash (omega arith) in
-      absurd (false≢true (sym fails ∙ is_hash _ is))
+      absurd (false≢true (sym fails ∙ eq-eqb _ hash is))
 ]
 
 -- what a place that was found says
@@ -90,7 +86,7 @@ module _ (said : List ℕ) (ext : Bool) (id : ℕ) (rest : List ℕ)
   -- so it is the first
   place : hash_place said ≡ identifier_digits ext
   place = position_or_len_is (λ c. c == hash) said (identifier_digits ext) 0 (omega (arith, room)) no_hash_before
-      (λ _. is_hash _ (at_hash 0))
+      (λ _. eq-eqb _ hash (at_hash 0))
 
   -- the identifier stands before it
   front : capitals (before_hash said) ≡ identifier_text ext id

@@ -5,7 +5,7 @@ use Rattle.std.specs.Prelude.{if◌then◌else◌}
 use Rattle.std.proofs.lemmas.Bool.{cases_lt, cases_eq, false≢true}
 use Rattle.std.proofs.lemmas.Bool.Decides.{nat_tests}
 use Rattle.std.proofs.lemmas.List.{length-append, length-map, length-take-le, map-append, append-nil, take-append-drop}
-use Rattle.std.proofs.lemmas.List.{take_at, drop_at, take_rest, take-map, drop-map}
+use Rattle.std.proofs.lemmas.List.{take_at, drop_at, take_rest, take-map, drop-map, nil_from_length}
 use Rattle.can_frame.specs.Frame.{data_count}
 use Rattle.can_notation.specs.Digits.{digit_of, capital, capitals}
 use Rattle.can_notation.specs.Text.{data_text, count_text, long_dlc_text, dlc_mark, rest_text}
@@ -149,11 +149,6 @@ remote-injective : (m n : ℕ) → m < 16 → n < 16 →
     count_text (min m 8) ++ long_dlc_text m ≡ count_text (min n 8) ++ long_dlc_text n → m ≡ n
 remote-injective m n hm hn e = sym (dlc_in-written m hm) ∙ ap dlc_in e ∙ dlc_in-written n hn
 
--- no bytes
-no_bytes : (bytes : List ℕ) → length bytes ≡ 0 → bytes ≡ []
-no_bytes [] h = refl
-no_bytes (b ∷ bytes) h = absurd (omega arith)
-
 -- the rests of two data frames, with 18 characters or not
 data-injective : (behind : List ℕ) (m n : ℕ) (xs ys : List ℕ) → IsRest false m xs → IsRest false n ys →
     capitals behind ≡ rest_text false m xs → capitals behind ≡ rest_text false n ys → (m ≡ n) × (xs ≡ ys)
@@ -184,7 +179,7 @@ rest-injective behind true b m n xs ys is_m is_n em en =
     let none : length ys ≡ 0 = is_n.count ∙ ap (λ k. data_count k n) kind in (
       sym kind,
       remote-injective m n is_m.dlc_small is_n.dlc_small (sym tail_m ∙ tail_n),
-      no_bytes xs is_m.count ∙ sym (no_bytes ys none),
+      nil_from_length xs is_m.count ∙ sym (nil_from_length ys none),
     )
 rest-injective behind false true m n xs ys is_m is_n em en =
     let (kind, _) = remote_rest behind (begins_remote behind n ys en) false m xs is_m em in

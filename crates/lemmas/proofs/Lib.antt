@@ -1,4 +1,10 @@
 pub mod Lists
+pub mod Elements
+pub mod Ranges
 pub mod Related
 pub mod Gathered
+pub mod Picking
+pub mod Numbers
 pub mod Results
+pub mod ChangedInTurn
+pub mod ChangedByNumber

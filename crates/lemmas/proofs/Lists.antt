@@ -15,12 +15,10 @@ reverse-cons x l = reverse-append (x ∷ []) l
 pub reverse-push : {A : Type 0} (l : List A) (x : A) → reverse (l ++ x ∷ []) ≡ x ∷ reverse l
 reverse-push l x = reverse-append l (x ∷ [])
 
--- the last place of a list with one more at its end
-pub push_here : {A : Type 0} (l : List A) (x d : A) (i : ℕ) → i ≡ length l → get_or (l ++ x ∷ []) i d ≡ x
-push_here [] x d zero e = refl
-push_here [] x d (suc i) e = absurd (omega arith)
-push_here (y ∷ l) x d zero e = absurd (omega arith)
-push_here (y ∷ l) x d (suc i) e = push_here l x d i (omega arith)
+-- an element of a list that has one
+pub some_of : {A : Type 0} (l : List A) (i : ℕ) → i < length l → A
+some_of [] i less = absurd (omega (arith, less))
+some_of (x ∷ l) i less = x
 
 -- copies of one element, reversed
 pub reverse-replicate : {A : Type 0} (n : ℕ) (x : A) → reverse (replicate n x) ≡ replicate n x

@@ -1,19 +1,10 @@
 -- What holds of a result.
 use Rattle.std.proofs.Common.{◌≡◌, sym, subst}
-use Rattle.std.specs.Prelude.{Result, Ok, Err, OnOk, OnErr, IfErr}
+use Rattle.std.specs.Prelude.{Result, Ok, Err, OnErr, IfErr}
 
--- what holds of an answer that is Ok
-pub ok_map : {A X P Q : Type 0} (r : Result A X) → (P → Q) → OnOk r P → OnOk r Q
-ok_map (Ok a) f p = f p
-ok_map (Err x) f p = tt
-
--- and of one that is Err
+-- what holds of an answer that is Err
 pub err_is : {A X : Type 0} (P : X → Type 0) (r : Result A X) (x : X) → r ≡ Err x → P x → IfErr r P
 err_is P r x is p = let Q : Result _ _ → Type 0 = λ z. IfErr z P in subst Q (sym is) p
-
-pub err_map : {A X : Type 0} {P Q : X → Type 0} (r : Result A X) → ((x : X) → P x → Q x) → IfErr r P → IfErr r Q
-err_map (Ok a) f p = tt
-err_map (Err x) f p = f x p
 
 pub err_both : {A X : Type 0} {P : Type 0} {Q R : X → Type 0} (r : Result A X) → (P → (x : X) → Q x → R x) → OnErr r P →
     IfErr r Q → IfErr r R

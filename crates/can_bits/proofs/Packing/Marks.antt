@@ -23,7 +23,7 @@ mark_early w h = rw (lt-ltb (length w) 19 h) refl
 mark_head : (w : List Level) → 19 ≤ length w → length w < data_place w → mark_of w ≡ data_place w
 mark_head w h k = rw (le-ltb (length w) 19 h, lt-ltb (length w) (data_place w) k) refl
 
-mark_said : (w : List Level) → data_place w ≤ length w → mark_of w ≡ says_count w
+pub mark_said : (w : List Level) → data_place w ≤ length w → mark_of w ≡ says_count w
 mark_said w h =
     rw (le-ltb (length w) 19 (omega (arith, head_least (says_ext w))), le-ltb (length w) (data_place w) h) refl
 

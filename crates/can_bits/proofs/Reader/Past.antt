@@ -2,7 +2,7 @@
 use Rattle.std.proofs.Common.{◌≡◌, ◌≢◌, ◌+◌, ◌<◌, ◌≤◌, inl, inr, ℕ, zero, suc, false, Some, None, List, [], ◌∷◌}
 use Rattle.std.proofs.Common.{◌++◌, length, take, drop, get_or, refl, ap, sym, subst, ◌∙◌, arith, append_assoc}
 use Rattle.std.proofs.lemmas.Bool.{cases_eq}
-use Rattle.std.proofs.lemmas.List.{append-nil, length-append, length-drop, length-take-le}
+use Rattle.std.proofs.lemmas.List.{append-nil, length-append, length-drop, length-take-le, get_or_push}
 use Rattle.std.proofs.lemmas.List.{length_push, take_more, take-append-drop, get_or_append_left}
 use Rattle.can_frame.specs.Frame.{FrameValue}
 use Rattle.can_bits.specs.declared.level.Level.{Level}
@@ -16,7 +16,6 @@ use Rattle.can_bits.specs.Segments.{IsNext, segment_after}
 use Rattle.can_bits.specs.Segments.IsNext.{after_part}
 use Rattle.can_bits.specs.Streaming.{IsReadable, IsLineButFor, BreaksWith, ShowsFrame, ShowsFrameBut}
 use Rattle.can_bits.specs.Inside.FrameParts.{IsPast}
-use Rattle.can_bits.proofs.Ranges.{at_push}
 use Rattle.can_bits.proofs.Ending.{line_at}
 
 -- the segment of the next level
@@ -158,7 +157,7 @@ past_form n l x h few other dominant = (
       let many : length t ≡ n = length-take-le n (tail h.ack) h.within in
       let here : get_or ((t ++ x ∷ []) ++ begun.rest) n Dominant ≡ x =
       get_or_append_left (t ++ x ∷ []) begun.rest Dominant n (omega (arith, many, length_push t x))
-      ∙ at_push t x Dominant n (sym many) in
+      ∙ get_or_push t x Dominant n many in
       let there : get_or (tail begun.ack) n Dominant ≡ Recessive = tail_next n begun.ack few other in
       let both : Recessive ≡ Dominant = sym there ∙ ap (λ m. get_or m n Dominant) on.tails ∙ here ∙ dominant in
       cc),

@@ -14,7 +14,8 @@ use Rattle.can_bits.specs.Fields.{dlc_place, says_rtr, four_from, says_dlc, IsWh
 use Rattle.can_bits.specs.Data.{id_by, says_id, data_place, says_bytes, data_levels}
 use Rattle.can_bits.specs.Spelling.{Spells}
 use Rattle.lemmas.proofs.Lists.{append-split, length_range}
-use Rattle.can_bits.proofs.Values.{length-bits, digit-lt, value-append, value-lt, bits-value, bits-split}
+use Rattle.can_bits.proofs.Values.{length-bits, digit-lt, value-append, value-lt, bits-value, bits-split, dominant_by}
+use Rattle.can_bits.proofs.Values.{recessive_by}
 use Rattle.can_bits.proofs.Whole.Bytes.{Writes, bytes_of}
 use Rattle.can_bits.proofs.FieldLemmas.{four-same, four-value}
 use Rattle.can_bits.proofs.SaidCounts.{whole_has_fields}
@@ -23,15 +24,6 @@ use Rattle.can_bits.proofs.SaidCounts.{whole_has_fields}
 level-recessive : (x : Level) → level_of (is_recessive x) ≡ x
 level-recessive Dominant = refl
 level-recessive Recessive = refl
-
--- a level that isn't recessive is dominant
-dominant-level : (x : Level) → is_recessive x ≡ false → x ≡ Dominant
-dominant-level Dominant h = refl
-dominant-level Recessive h = cc
-
-recessive-is : (x : Level) → is_recessive x ≡ true → x ≡ Recessive
-recessive-is Dominant h = cc
-recessive-is Recessive h = refl
 
 -- the number that four levels write
 pub four_is : (w : List Level) (p : ℕ) → p + 4 ≤ length w → four_from w p ≡ value (slice_range w p (p + 4))
@@ -82,7 +74,7 @@ head_read : (e : Bool) (w : List Level) → level_at w 0 ≡ Dominant → says_e
 head_read false w begins ext h =
     let i : List Level = slice_range w 1 12 in
     let written : bits 11 (value i) ≡ i = bits-value 11 i (length_range w 1 12 (omega arith) (omega arith)) in
-    let ide : level_at w 13 ≡ Dominant = dominant-level (level_at w 13) ext in
+    let ide : level_at w 13 ≡ Dominant = dominant_by (level_at w 13) ext in
     let rtr = level-recessive (level_at w 12) in
     let after : List Level = level_of (is_recessive (level_at w 12)) ∷ Dominant ∷ level_at w 14 ∷ [] in
     let d0 : w ≡ level_at w 0 ∷ drop 1 w = drop_more w 0 Dominant (omega arith) in
@@ -100,7 +92,7 @@ head_read true w begins ext h =
     let id : ℕ = value i * 2 ^ 18 + value j in
     let (high, low) =
     id_parts i j (length_range w 1 12 (omega arith) (omega arith)) (length_range w 14 32 (omega arith) (omega arith)) in
-    let ide : level_at w 13 ≡ Recessive = recessive-is (level_at w 13) ext in
+    let ide : level_at w 13 ≡ Recessive = recessive_by (level_at w 13) ext in
     let rtr = level-recessive (level_at w 32) in
     let last : List Level = level_of (is_recessive (level_at w 32)) ∷ level_at w 33 ∷ level_at w 34 ∷ [] in
     let middle : List Level = bits 18 id ++ last in

@@ -18,9 +18,8 @@ use Rattle.can_bits.specs.Inside.FrameParts.{IsPast}
 use Rattle.lemmas.proofs.Lists.{cases_list}
 use Rattle.can_bits.proofs.Ending.{line_at}
 use Rattle.can_bits.proofs.Reader.Past.{past_with}
-use Rattle.can_bits.proofs.Readables.{wrong_whole}
+use Rattle.can_bits.proofs.Readables.{wrong_whole, faultless_readable, readable_but}
 use Rattle.can_bits.proofs.DueLemmas.{over_part}
-use Rattle.can_bits.proofs.Readables.{faultless_readable, readable_but}
 use Rattle.can_bits.proofs.Whole.Faultless.{faultless_check, faultless_ack}
 
 -- where a line is over its stuffed part has come

@@ -46,11 +46,6 @@ pub seen_received : (l : List Level) → seen_of (recessive_bits l) ≡ l
 seen_received [] = refl
 seen_received (u ∷ l) = ap (λ t. u ∷ t) (seen_received l)
 
--- what is seen in two lists of bits
-pub seen_both : (a b : List Bit) → seen_of (a ++ b) ≡ seen_of a ++ seen_of b
-seen_both [] b = refl
-seen_both (y ∷ a) b = ap (λ t. y.seen ∷ t) (seen_both a b)
-
 -- more bits in which it drives recessive
 pub receives_on : (bits : List Bit) (l k m : List Level) → bits ≡ recessive_bits l → l ++ k ≡ m →
     bits ++ recessive_bits k ≡ recessive_bits m

@@ -16,7 +16,7 @@ use Rattle.can_bits.proofs.Values.{value-injective}
 use Rattle.can_bits.proofs.Checks.{Crc_exists}
 use Rattle.can_bits.proofs.Ending.{line_at, same_part, same_spelling}
 use Rattle.can_node.specs.Frames.{IsWithin}
-use Rattle.can_node.proofs.Bits.Nexts.{after_once}
+use Rattle.can_bits.proofs.NextOnce.{after_once}
 
 -- whether 15 levels are the CRC sequence of a body can be told
 pub right_or_wrong : (b c : List Level) → length c ≡ 15 → Crc b c ⊎ (Crc b c → ⊥)

@@ -1,5 +1,5 @@
 -- What becomes of frames whose transmitters start together.
-use Rattle.std.proofs.Common.{◌≡◌, ◌≢◌, ◌<◌, ◌+◌, ℕ, zero, suc, List, [], ◌∷◌, ◌++◌, length, take, get_or}
+use Rattle.std.proofs.Common.{◌≡◌, ◌≢◌, ◌<◌, ◌+◌, ℕ, zero, suc, List, [], ◌∷◌, length, take, get_or}
 use Rattle.std.proofs.Common.{MatchOption, Contains, Option, Some, None, refl, ap, sym, subst, arith, inl, inr}
 use Rattle.std.specs.List.{AllZip}
 use Rattle.std.proofs.lemmas.List.Elements.{All-contains, All-cons, All-weaker, All-more, All-nil}
@@ -98,15 +98,6 @@ pub next_least : (fs : List FrameValue) (i n : ℕ) (f g : FrameValue) → i < l
     LosesAt (arbitration_field f) (arbitration_field g) n → IsLeast (take (i + 1) fs) g
 next_least fs i n f g within is least loses =
     stays_least fs i g g within is (overtakes (take i fs) g f n least loses) (stands_itself g)
-
--- one frame more at the end of lists
-pub zip_push : {A B : Type 0} (R : A → B → Type 0) (xs : List A) (ys : List B) (x : A) (y : B) → AllZip R xs ys →
-    R x y →
-    AllZip R (xs ++ x ∷ []) (ys ++ y ∷ [])
-zip_push R [] [] x y h r = (r, tt)
-zip_push R [] (b ∷ ys) x y h r = absurd h
-zip_push R (a ∷ xs) [] x y h r = absurd h
-zip_push R (a ∷ xs) (b ∷ ys) x y h r = (h.0, zip_push R xs ys x y h.1 r)
 
 -- among some frames one is least
 pub least_exists : (fs : List FrameValue) → fs ≢ [] → (f : FrameValue) × Contains fs f × IsLeast fs f

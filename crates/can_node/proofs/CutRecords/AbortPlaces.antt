@@ -49,7 +49,7 @@ none_open k c end place last entries rest found (on {entries = x ∷ first} {mor
 
 -- ---- an abort behind what is open
 
-no_outer_abort : (entry : RecordEntry) → IsOuter entry → entry ≡ Abort → ⊥
+pub no_outer_abort : (entry : RecordEntry) → IsOuter entry → entry ≡ Abort → ⊥
 no_outer_abort entry (start config) e = cc
 no_outer_abort entry stop e = cc
 no_outer_abort entry off e = cc

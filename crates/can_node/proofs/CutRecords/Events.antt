@@ -1,6 +1,5 @@
 -- What a bit tells follows from the piece that it finished, and from the role after it.
-use Rattle.std.proofs.Common.{◌≡◌, ◌&&◌, not, nat_le, Some, None, List, refl, sym, ap, ◌∙◌}
-use Rattle.std.proofs.Common.{if◌then◌else◌}
+use Rattle.std.proofs.Common.{◌≡◌, ◌&&◌, not, nat_le, Some, None, List, refl, sym, ap, ◌∙◌, if◌then◌else◌}
 use Rattle.std.specs.Prelude.{slice_index_or}
 use Rattle.can_node.specs.declared.outcome.Outcome.TheVariants.{Sent, Failed}
 use Rattle.can_node.specs.Bits.{Bit}

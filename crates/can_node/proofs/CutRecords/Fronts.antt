@@ -1,7 +1,6 @@
 -- A record that has a cut has one without its last entry too, where that is a start, a stop, a request or an abort.
-use Rattle.std.proofs.Common.{◌≡◌, inl, inr, Bool, true, false, None}
-use Rattle.std.proofs.Common.{List, [], ◌∷◌, ◌++◌}
-use Rattle.std.proofs.Common.{map, refl, sym, ap, ◌∙◌, subst, arith, append_assoc, append-nil, if◌then◌else◌}
+use Rattle.std.proofs.Common.{◌≡◌, inl, inr, Bool, true, false, None, List, [], ◌∷◌, ◌++◌, map, refl, sym, ap, ◌∙◌}
+use Rattle.std.proofs.Common.{subst, arith, append_assoc, append-nil, if◌then◌else◌}
 use Rattle.std.proofs.lemmas.List.{same_from_push}
 use Rattle.lemmas.proofs.Lists.{last_of}
 use Rattle.can_bits.specs.declared.level.Level.{Level}

@@ -1,7 +1,6 @@
 -- The segment of a node's next bit, by the cut of its record: there is one, or none where no frame is under way.
 use Rattle.std.proofs.Common.{◌≡◌, ◌⊎◌, ◌-◌, inl, inr, Bool, true, false, Option, Some, None, List, [], ◌∷◌, ◌++◌}
-use Rattle.std.proofs.Common.{length, reverse, nat_le, refl, sym, ap, ◌∙◌, subst, append_assoc}
-use Rattle.std.proofs.Common.{append-nil}
+use Rattle.std.proofs.Common.{length, reverse, nat_le, refl, sym, ap, ◌∙◌, subst, append_assoc, append-nil}
 use Rattle.std.proofs.lemmas.Bool.{cases_Bool, le-leb, leb-true}
 use Rattle.std.proofs.lemmas.List.{reverse-reverse}
 use Rattle.can_bits.specs.declared.level.Level.{Level}
@@ -32,7 +31,7 @@ use Rattle.can_node.specs.Pieces.Place.{AtInterframeSpace}
 use Rattle.can_node.specs.Record.{RecordEntry, bits_in}
 use Rattle.can_node.specs.Table.{Row}
 use Rattle.can_node.specs.Table.Row.{idle, other, own, other_begun, own_begun}
-use Rattle.can_node.proofs.Bits.DrivenAlike.{seen_both}
+use Rattle.can_node.proofs.Bits.Seen.{seen-append}
 use Rattle.can_node.proofs.OneCut.Entries.{some_not_none}
 use Rattle.can_node.proofs.Reception.Beginnings.{receives_after_sof}
 use Rattle.can_node.proofs.Reception.Breaking.{past_or_not}
@@ -88,7 +87,7 @@ seen_before : (l : List Level) (m y : List Bit) → Begins (l ++ seen_of (m ++ y
 seen_before l m y begins =
     let P : List Level → Type 0 = λ x. Begins x in
     begins_front (l ++ seen_of m) (seen_of y)
-    (subst P (ap (λ x. l ++ x) (seen_both m y) ∙ sym (append_assoc l (seen_of m) (seen_of y))) begins)
+    (subst P (ap (λ x. l ++ x) (seen-append m y) ∙ sym (append_assoc l (seen_of m) (seen_of y))) begins)
 
 -- a receiver, before the last bit of its piece
 receives_begins : (listen : Bool) (l : List Level) (all m rest : List Bit) (b : Bit) (p : Piece) (n : Place) →
@@ -138,7 +137,7 @@ transmits_begins st r all m rest b p n (lost k) e =
         let here : m ≡ k.before ++ recessive_bit Dominant ∷ y = split ∙ ap (λ v. k.before ++ v ∷ y) is in
         let seen : (seen_of k.before ++ Dominant ∷ []) ++ seen_of y ≡ seen_of m =
         append_assoc (seen_of k.before) (Dominant ∷ []) (seen_of y)
-        ∙ sym (seen_both k.before (recessive_bit Dominant ∷ y)) ∙ ap (λ (l : List Bit). seen_of l) (sym here) in
+        ∙ sym (seen-append k.before (recessive_bit Dominant ∷ y)) ∙ ap (λ (l : List Bit). seen_of l) (sym here) in
         let P : List Level → Type 0 = λ l. Begins l in
         subst P seen
         (receives_begins false (seen_of k.before ++ Dominant ∷ []) k.more y rest b p n k.goes_on behind)

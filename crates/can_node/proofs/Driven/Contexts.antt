@@ -1,7 +1,7 @@
 -- The context at each place of a record that has a cut.
-use Rattle.std.proofs.Common.{◌≡◌, Bool, true, false, not, Option, Some, None, List}
-use Rattle.std.proofs.Common.{refl, sym, ap, ◌∙◌, if◌then◌else◌}
+use Rattle.std.proofs.Common.{◌≡◌, Bool, true, false, not, Option, Some, None, List, refl, sym, ap, ◌∙◌, if◌then◌else◌}
 use Rattle.std.specs.Prelude.{◌&&◌, ◌||◌}
+use Rattle.std.proofs.lemmas.Bool.{and_parts}
 use Rattle.can_node.specs.declared.request.Request.{Request}
 use Rattle.can_node.specs.declared.role.Role.TheVariants.{Transmitter, Receiver}
 use Rattle.can_node.specs.Context.{ContextValue, is_transmitter, is_held, owes_suspension}
@@ -27,11 +27,6 @@ IsRight c AtFlag = Unit {0}
 IsRight c AtDelimiter = Unit {0}
 IsRight c AtInterframeSpace = Unit {0}
 
-and_both : (a b : Bool) → (a && b) ≡ true → (a ≡ true) × (b ≡ true)
-and_both true true e = (refl, refl)
-and_both true false e = absurd cc
-and_both false b e = absurd cc
-
 held_some : (held : Option Request) → is_held held ≡ true → (r : Request) × (held ≡ Some r)
 held_some None e = absurd cc
 held_some (Some r) e = (r, refl)
@@ -48,7 +43,7 @@ sof_right c e = by (is_held c.held && not (c.listen || owes_suspension c)) refl
     by : (t : Bool) → (is_held c.held && not (c.listen || owes_suspension c)) ≡ t →
         ((r : Request) × (c.held ≡ Some r)) × (c.listen ≡ false)
     by true is =
-        let both = and_both (is_held c.held) (not (c.listen || owes_suspension c)) is in
+        let both = and_parts (is_held c.held) (not (c.listen || owes_suspension c)) is in
         (held_some c.held both.0, speaks c.listen (owes_suspension c) both.1)
     by false is =
         let no : Receiver ≡ Transmitter = sym (ap (λ t. if t then Transmitter else Receiver) is) ∙ e in absurd cc

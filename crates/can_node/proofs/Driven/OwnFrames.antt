@@ -15,7 +15,7 @@ use Rattle.can_node.specs.Frames.{Acknowledges, AllAcknowledge, Receives, SentPa
 use Rattle.can_node.specs.Frames.Receives.{reception, broken}
 use Rattle.can_node.specs.Frames.Transmits.{sending, failed, lost}
 use Rattle.can_node.specs.Pieces.{Place, Piece}
-use Rattle.can_node.proofs.Bits.DrivenAlike.{seen_both}
+use Rattle.can_node.proofs.Bits.Seen.{seen-append}
 use Rattle.can_node.proofs.Transmission.SentBits.{well_front, lost_not_well}
 use Rattle.can_node.proofs.Driven.Lost.{LostIn}
 
@@ -131,7 +131,7 @@ module _ (st : Bool) (r : Request) (bits : List Bit) (p : Piece) (n : Place) (k 
       let here : done ≡ k.before ++ recessive_bit Dominant ∷ ys = split ∙ ap (λ v. k.before ++ v ∷ ys) is in
       let seen : (seen_of k.before ++ Dominant ∷ []) ++ seen_of ys ≡ seen_of done =
       append_assoc (seen_of k.before) (Dominant ∷ []) (seen_of ys)
-      ∙ sym (seen_both k.before (recessive_bit Dominant ∷ ys)) ∙ ap (λ (l : List Bit). seen_of l) (sym here) in
+      ∙ sym (seen-append k.before (recessive_bit Dominant ∷ ys)) ∙ ap (λ (l : List Bit). seen_of l) (sym here) in
       let P : List Level → Type 0 = λ l. Acknowledges false l b.driven in
       inr (record {
         lost = record { before = k.before; more = ys; code = k.code; whole = here; loses = k.loses };

@@ -29,7 +29,7 @@ use Rattle.can_node.specs.Cut.{Move, IsCut}
 use Rattle.can_node.specs.Cut.IsOpenAt.{nothing}
 use Rattle.can_node.specs.Cut.Move.{started, sent}
 use Rattle.can_node.specs.Cut.From.{here, on}
-use Rattle.can_node.proofs.Bits.Computed.{stuffed_by}
+use Rattle.can_bits.proofs.Computed.{stuffed_by}
 use Rattle.can_node.proofs.Rules.Given.{asked}
 use Rattle.can_node.proofs.OneCut.Slices.{by_bits, integrates}
 use Rattle.can_node.proofs.Transmission.SentLines.{sent_part_by}

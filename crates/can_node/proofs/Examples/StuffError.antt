@@ -32,7 +32,7 @@ use Rattle.can_node.specs.FinishedPieces.{FinishedPiece}
 use Rattle.can_node.specs.Cut.{Move, IsCut}
 use Rattle.can_node.specs.Cut.IsOpenAt.{nothing}
 use Rattle.can_node.specs.Cut.From.{here, on}
-use Rattle.can_node.proofs.Bits.Computed.{short_by}
+use Rattle.can_bits.proofs.Computed.{short_by}
 use Rattle.can_node.proofs.Reception.StuffFaults.{stuff_fault}
 use Rattle.can_node.proofs.Reception.Completing.{inside_within}
 use Rattle.can_node.proofs.OneCut.Slices.{by_bits, begins_idle}

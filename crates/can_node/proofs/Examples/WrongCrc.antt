@@ -36,7 +36,7 @@ use Rattle.can_node.specs.Cut.From.{here, on}
 use Rattle.can_node.specs.WorkedReception.{five}
 use Rattle.can_node.proofs.Bits.Seen.{acknowledges_none, acknowledges_cons}
 use Rattle.can_node.proofs.Reception.Breaking.{breaks_off_now}
-use Rattle.can_node.proofs.Bits.Computed.{stuffed_by}
+use Rattle.can_bits.proofs.Computed.{stuffed_by}
 use Rattle.can_node.proofs.Bits.DrivenAlike.{never_dominant}
 use Rattle.can_node.proofs.OneCut.Slices.{by_bits, begins_idle}
 use Rattle.can_node.proofs.Examples.LoneSender.{asked, zeros, part_sent}

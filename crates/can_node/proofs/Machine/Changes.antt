@@ -1,7 +1,6 @@
 -- What one bit, or the end of a piece, may change in the context.
-use Rattle.std.proofs.Common.{◌≡◌, ◌%◌, ◌+◌, ◌==◌, ◌&&◌, ◌||◌, ◌⊎◌, not, fold, length, Bool, true, false}
-use Rattle.std.proofs.Common.{Option, Some, None, is_some, ℕ, min, ◌-◌, List, [], ◌∷◌, inl, inr, refl, ◌∙◌}
-use Rattle.std.proofs.Common.{if◌then◌else◌}
+use Rattle.std.proofs.Common.{◌≡◌, ◌%◌, ◌+◌, ◌==◌, ◌&&◌, ◌||◌, ◌⊎◌, not, fold, length, Bool, true, false, Option, Some}
+use Rattle.std.proofs.Common.{None, is_some, ℕ, min, ◌-◌, List, [], ◌∷◌, inl, inr, refl, ◌∙◌, if◌then◌else◌}
 use Rattle.can_bits.specs.declared.level.Level.{Level}
 use Rattle.can_bits.specs.declared.level.Level.TheVariants.{Dominant, Recessive}
 use Rattle.can_node.specs.declared.cause.Cause.{Cause}

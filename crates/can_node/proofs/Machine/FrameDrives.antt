@@ -1,10 +1,8 @@
 -- What a node drives in a frame, and what it knows of its next bit.
-use Rattle.std.proofs.Common.{◌≡◌, ◌↔◌, ℕ, length, IsTrue, Bool, true, false, Option}
-use Rattle.std.proofs.Common.{Some, List, ◌∷◌, ◌++◌, refl, ap, sym, subst, ◌∙◌}
+use Rattle.std.proofs.Common.{◌≡◌, ℕ, length, Bool, Option, Some, List, ◌∷◌, ◌++◌, ap, sym, subst, ◌∙◌}
 use Rattle.can_bits.specs.declared.level.Level.{Level}
 use Rattle.can_bits.specs.declared.level.Level.TheVariants.{Dominant, Recessive}
 use Rattle.can_bits.specs.declared.shift.Shift.{Shift}
-use Rattle.can_bits.specs.Acknowledging.{IsAckDue}
 use Rattle.can_bits.specs.Body.{sent_body}
 use Rattle.can_bits.specs.Check.{Crc}
 use Rattle.can_bits.specs.Line.{StuffedPart, tail}
@@ -93,20 +91,3 @@ pub receiving_drives : (shift : Shift) (c now : ContextValue) (place : Place) (b
 receiving_drives shift c now place bits x receiver reading f =
     let Driving : Role → Type 0 = λ r. FrameDrives r now (frame_bits place bits) x in
     drives_frame now place bits x reading.site (subst Driving (sym receiver) (f reading.stands))
-
--- its answer where it is due
-pub acknowledges_due : (listen due : Bool) (l : List Level) → listen ≡ false → due ≡ true → (IsTrue due ↔ IsAckDue l) →
-    Acknowledges listen l Dominant
-acknowledges_due true due l e d h = absurd cc
-acknowledges_due false due l e d h = h.0 d
-
--- where it isn't
-pub acknowledges_none : (listen due : Bool) (l : List Level) → listen ≡ false → due ≡ false →
-    (IsTrue due ↔ IsAckDue l) → Acknowledges listen l Recessive
-acknowledges_none true due l e d h = absurd cc
-acknowledges_none false due l e d h = λ ack. let yes : due ≡ true = h.1 ack in absurd cc
-
--- and where the node only listens
-pub acknowledges_listening : (listen : Bool) (l : List Level) → listen ≡ true → Acknowledges listen l Recessive
-acknowledges_listening true l e = refl
-acknowledges_listening false l e = absurd cc

@@ -1,7 +1,5 @@
 -- A bit takes no request: one that is held after it was held before it.
-use Rattle.std.proofs.Common.{◌≡◌, Bool, true, false, nat_le}
-use Rattle.std.proofs.Common.{Some, None, List, inl, inr, sym, ◌∙◌}
-use Rattle.std.proofs.Common.{if◌then◌else◌}
+use Rattle.std.proofs.Common.{◌≡◌, Bool, true, false, nat_le, Some, None, List, inl, inr, sym, ◌∙◌, if◌then◌else◌}
 use Rattle.can_node.specs.declared.after_bit.AfterBit.{AfterBit}
 use Rattle.can_node.specs.declared.after_bit.AfterBit.TheVariants.{InPiece, Ended}
 use Rattle.can_node.specs.declared.ending.Ending.{Ending}

@@ -1,7 +1,7 @@
 -- The quick way of a bit outside a frame.
 use Rattle.std.proofs.Common.{◌≡◌, ◌==◌, ◌&&◌, ◌||◌, ◌+◌, ◌-◌, not, ℕ, Bool, true, false, Some, None}
 use Rattle.std.proofs.Common.{fold, List, [], ◌∷◌, ◌++◌, refl, ap, sym, subst, ◌∙◌, if◌then◌else◌}
-use Rattle.std.proofs.lemmas.Bool.{ne_eqb}
+use Rattle.std.proofs.lemmas.Bool.{ne_eqb, and_right, or_parts}
 use Rattle.can_bits.specs.declared.level.Level.{Level}
 use Rattle.can_bits.specs.declared.level.Level.TheVariants.{Dominant, Recessive}
 use Rattle.can_bits.specs.declared.shift.Shift.{Shift}
@@ -74,11 +74,6 @@ counts_there : (now : ContextValue) (place s : Place) (bits : List Bit) (b : Bit
     now ≡ at_bit now s bits b → now ≡ at_bit now place bits b
 counts_there now place s bits b e h = let P : Place → Type 0 = λ z. now ≡ at_bit now z bits b in subst P (sym e) h
 
--- a test that doesn't hold
-both_not : (t u : Bool) → u ≡ false → (t && u) ≡ false
-both_not true u e = e
-both_not false u e = refl
-
 -- ---- in reset
 
 reset_at : (stage : Stage) (shift : Shift) (c now : ContextValue) (place : Place) (bits more : List Bit) →
@@ -110,7 +105,7 @@ no_step : (now : ContextValue) (run : ℕ) (seen : Level) → (run ≡ 10 → �
 no_step now run seen short done b count e =
     let none = not_eleven (fold next_run 0 (seen_of done)) b.seen (λ ten. short (sym count ∙ ten)) in
     sym (ap (λ t. if t then record now { tec = now.tec - 1 } else now)
-    (both_not (now.off && not now.listen) (ends_eleven (fold next_run 0 (seen_of done)) b.seen) none))
+    (and_right (now.off && not now.listen) (ends_eleven (fold next_run 0 (seen_of done)) b.seen) none))
 
 pub integrates_quietly : (left run : ℕ) (stage to : Stage) (turn : AfterBit) (shift : Shift) (c now : ContextValue)
     (place : Place) (bits : List Bit) (driven seen : Level) →
@@ -142,15 +137,6 @@ flags_quietly n like stage to turn shift c now place bits driven seen e owes h g
 
 -- ---- after a flag
 
--- neither holds
-or_first : (t u : Bool) → (t || u) ≡ false → t ≡ false
-or_first true u e = absurd cc
-or_first false u e = refl
-
-or_second : (t u : Bool) → (t || u) ≡ false → u ≡ false
-or_second true u e = absurd cc
-or_second false u e = e
-
 -- a level that isn't the first
 later_level : (bits : List Bit) (role : Role) (flag : FlagKind) (now : ContextValue) → is_nil bits ≡ false →
     after_error_flag bits role flag now ≡ now
@@ -168,8 +154,8 @@ uncounted : (d r : ℕ) (bits : List Bit) (seen : Level) (now : ContextValue) �
 uncounted d r bits Recessive now h e = refl
 uncounted d r bits Dominant now h e =
     let first = later_level bits now.role now.flag now
-    (sym (first_bit_is d r bits h) ∙ or_first (d == 0 && r == 0) (r == 0 && d == 7) e) in
-    let eighth = eighth_is d r bits h ∙ or_second (d == 0 && r == 0) (r == 0 && d == 7) e in
+    (sym (first_bit_is d r bits h) ∙ (or_parts (d == 0 && r == 0) (r == 0 && d == 7) e).0) in
+    let eighth = eighth_is d r bits h ∙ (or_parts (d == 0 && r == 0) (r == 0 && d == 7) e).1 in
     sym (ap (λ k. unless_listening now (if_eighth bits k)) first
     ∙ ap (λ t. unless_listening now (if t then more_by now.role 8 8 now else now)) eighth ∙ either now.listen now)
 

@@ -13,7 +13,7 @@ use Rattle.can_node.specs.declared.stage.Stage.TheVariants.{InDelimiter as Stage
 use Rattle.can_node.specs.declared.stage.Stage.TheVariants.{InInterframeSpace as StageInInterframeSpace}
 use Rattle.can_node.specs.declared.node.Node.{Node}
 use Rattle.can_node.specs.Bits.{Bit}
-use Rattle.can_node.specs.Context.{ContextValue, is_transmitter}
+use Rattle.can_node.specs.Context.{ContextValue, is_transmitter, is_held}
 use Rattle.can_node.specs.Pieces.{Place}
 use Rattle.can_node.specs.Pieces.Place.{AtReset}
 use Rattle.can_node.specs.Record.{RecordEntry, bits_in}
@@ -56,6 +56,10 @@ awake_now node entries found h off =
 pub none_held : (held : Option Request) → is_some held ≡ false → held ≡ None
 none_held None e = refl
 none_held (Some request) e = absurd cc
+
+pub nothing_held : (held : Option Request) → is_held held ≡ false → held ≡ None
+nothing_held None e = refl
+nothing_held (Some request) e = absurd cc
 
 -- it was held by the node's own fields
 pub held_now : (node : Node) (entries : List RecordEntry) (found : List FinishedPiece) (h : StandsAt node entries found)

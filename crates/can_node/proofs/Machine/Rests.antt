@@ -26,7 +26,6 @@ use Rattle.can_node.specs.Cut.IsOpenAt.{rests}
 use Rattle.can_node.specs.Cut.From.{here, on}
 use Rattle.can_node.specs.Events.{Step, received_in}
 use Rattle.can_node.specs.Events.Step.{Within, Finishes}
-use Rattle.can_node.specs.Driving.{Drives}
 use Rattle.can_node.specs.NextBit.{now_in, DrivesIn}
 use Rattle.can_node.specs.Inside.Stages.{At, IsInFrame}
 use Rattle.can_node.specs.Stands.{StandsAt, Leads, InReset, Rests, closed_by}
@@ -39,6 +38,7 @@ use Rattle.can_node.proofs.OneCut.Ways.Way.{finishes, comes, closes}
 use Rattle.can_node.proofs.OneCut.Ways.Closing.{by_start, by_stop, by_off, by_off_after}
 use Rattle.can_node.proofs.OneCut.CutOnce.{move_or_open}
 use Rattle.can_node.proofs.OneCut.Through.{Through, goes_through}
+use Rattle.can_node.proofs.Machine.Sampling.{rest_drives}
 
 -- ---- in reset
 
@@ -112,11 +112,6 @@ rest_stage (StageInInterframeSpace n) shift c now place bits e h = let at = h.0 
 
 -- ---- a bit in reset
 
--- what it drives there
-drives_rest : (c : ContextValue) (place : Place) (bits : List Bit) (x : Level) → place ≡ AtReset →
-    Drives c place bits x → x ≡ Recessive
-drives_rest c place bits x e h = let P : Place → Type 0 = λ s. Drives c s bits x in subst P e h
-
 more_bits : (l : List Level) (seen : Level) →
     map OneBit (recessive_bits l) ++ OneBit (recessive_bit seen) ∷ [] ≡ map OneBit (recessive_bits (l ++ seen ∷ []))
 more_bits [] seen = refl
@@ -130,7 +125,7 @@ module _ (old new : Node) (entries : List RecordEntry) (found : List FinishedPie
   at = rest_place old.stage old.shift h.cut.context (now_in h.cut) h.cut.place (bits_in h.cut.rest) reset h.at
 
   recessive : x ≡ Recessive
-  recessive = drives_rest (now_in h.cut) h.cut.place (bits_in h.cut.rest) x at drives
+  recessive = rest_drives (now_in h.cut) h.cut.place (bits_in h.cut.rest) x at drives
 
   opened : (l : List Level) × (h.cut.rest ≡ map OneBit (recessive_bits l))
   opened = let P : Place → Type 0 =

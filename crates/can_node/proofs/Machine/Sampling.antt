@@ -109,7 +109,7 @@ resting_or AtDelimiter = inr (λ e. cc)
 resting_or AtInterframeSpace = inr (λ e. cc)
 
 -- what is driven in a rest
-rest_drives : (now : ContextValue) (place : Place) (bits : List Bit) (x : Level) → place ≡ AtReset →
+pub rest_drives : (now : ContextValue) (place : Place) (bits : List Bit) (x : Level) → place ≡ AtReset →
     Drives now place bits x → x ≡ Recessive
 rest_drives now place bits x e h = let P : Place → Type 0 = λ s. Drives now s bits x in subst P e h
 

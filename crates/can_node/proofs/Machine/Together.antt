@@ -13,8 +13,7 @@ use Rattle.can_node.specs.declared.stage.Stage.TheVariants.{InReset, Integrating
 use Rattle.can_node.specs.declared.stage.Stage.TheVariants.{InDelimiter, InInterframeSpace}
 use Rattle.can_node.specs.Context.{is_transmitter}
 use Rattle.can_node.specs.Stands.{Samples, ShowsSame, is_receiving, nothing}
-use Rattle.can_node.specs.Together.{SendsBit, is_in_frame, is_sending, kept_level, reader_of}
-use Rattle.can_node.specs.Together.{reading_as}
+use Rattle.can_node.specs.Together.{SendsBit, is_in_frame, is_sending, kept_level, reader_of, reading_as}
 use Rattle.can_node.proofs.Machine.Quiet.{quietly}
 use Rattle.can_node.proofs.Machine.QuietReceiver.{receives_inside}
 use Rattle.can_node.proofs.Machine.QuietTransmitter.{transmits_inside}

@@ -77,8 +77,8 @@ open_no_piece c place next p a b m begins row whole (begun inner first unfinishe
     less_no_slice c place next p a b m row whole unfinished
 
 -- a request or an abort isn't a bit
-between_no_bit : (c next : ContextValue) (place : Place) (entry : RecordEntry) (b : Bit) → Between c place entry next →
-    entry ≡ OneBit b → ⊥
+pub between_no_bit : (c next : ContextValue) (place : Place) (entry : RecordEntry) (b : Bit) →
+    Between c place entry next → entry ≡ OneBit b → ⊥
 between_no_bit c next place entry b (send request) e = cc
 between_no_bit c next place entry b abort e = cc
 

@@ -12,10 +12,9 @@ use Rattle.can_node.specs.Frames.{Transmits}
 use Rattle.can_node.specs.Table.{Row}
 use Rattle.can_node.specs.Table.Row.{idle, other, own, other_begun, own_begun}
 use Rattle.can_node.proofs.Bits.DrivenAlike.{recessive-other}
-use Rattle.can_node.proofs.OneCut.Apart.{AreOne, integrating_once, after_reception_once}
-use Rattle.can_node.proofs.OneCut.Apart.{flagging_once, after_flag_once}
+use Rattle.can_node.proofs.OneCut.Apart.{AreOne, integrating_once, after_reception_once, flagging_once, after_flag_once}
 use Rattle.can_node.proofs.OneCut.InterframeSpaces.{interframe_once}
-use Rattle.can_node.proofs.Bits.Nexts.{IsNext-unique}
+use Rattle.can_bits.proofs.NextOnce.{IsNext-unique}
 use Rattle.can_node.proofs.Reception.ReceptionOnce.{receives_once}
 use Rattle.can_node.proofs.Transmission.TransmissionOnce.{sends_once}
 

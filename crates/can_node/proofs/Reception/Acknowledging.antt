@@ -21,8 +21,9 @@ use Rattle.can_node.specs.Frames.{Acknowledges, AllAcknowledge, AckFits, Receive
 use Rattle.can_node.specs.Frames.Receives.{reception}
 use Rattle.can_node.specs.Table.{Row}
 use Rattle.can_node.specs.Table.Row.{other}
-use Rattle.can_node.proofs.Bits.Nexts.{after_once}
+use Rattle.can_bits.proofs.NextOnce.{after_once}
 use Rattle.can_node.proofs.Bits.Seen.{seen-append, acknowledges_none, acknowledges_cons}
+use Rattle.can_node.proofs.Bits.DrivenAlike.{seen_received}
 
 -- one line has one ACK slot
 pub ack_due_once : (l rest : List Level) → IsAckDue l → IsAckDue (l ++ rest) → rest ≡ []
@@ -80,11 +81,6 @@ quiet_after listen l x u (y ∷ v) due =
     (quiet listen (l ++ x ∷ u) (λ late. let none = ack_due_once l (x ∷ u) due late in cc))
     (subst P (sym (append_assoc l (x ∷ u) (y ∷ []))) (quiet_after listen l x (u ++ y ∷ []) v due))
 
--- what was seen where recessive was driven
-seen-receives : (l : List Level) → seen_of (recessive_bits l) ≡ l
-seen-receives [] = refl
-seen-receives (x ∷ l) = ap (λ m. x ∷ m) (seen-receives l)
-
 -- the bit of the ACK slot where this level is seen: a node that only listens leaves it recessive
 abbrev pub slot_bit : Bool → Level → Bit
 slot_bit true x = recessive_bit x
@@ -117,7 +113,7 @@ line_received {f = f} {b = b} {c = c} listen l u part ack h right fits e =
     acknowledges_cons listen (l ++ u) slot later (slot_acknowledges listen (l ++ u) ack due)
     (subst P (sym (slot_seen listen ack)) (quiet_after listen (l ++ u) ack [] (replicate 7 Recessive) due)) in
     let seen : seen_of (reception_bits listen ack u) ≡ u ++ ack ∷ replicate 7 Recessive =
-    seen-append (recessive_bits u) (slot ∷ later) ∙ ap (λ m. m ++ seen_of (slot ∷ later)) (seen-receives u)
+    seen-append (recessive_bits u) (slot ∷ later) ∙ ap (λ m. m ++ seen_of (slot ∷ later)) (seen_received u)
     ∙ ap (λ x. u ++ x ∷ replicate 7 Recessive) (slot_seen listen ack) in
     let whole : (l ++ seen_of (reception_bits listen ack u)) ++ Recessive ∷ [] ≡ part ++ tail ack =
     ap (λ m. (l ++ m) ++ Recessive ∷ []) seen

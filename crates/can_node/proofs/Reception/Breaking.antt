@@ -21,7 +21,7 @@ use Rattle.can_node.specs.Bits.{Bit, recessive_bit, dominant_bit, seen_of}
 use Rattle.can_node.specs.Frames.{Acknowledges, AllAcknowledge, IsWithin, FitsNoLine, Breaks, BreaksOff}
 use Rattle.can_node.specs.Frames.Breaks.{stuff, form, check, own_ack}
 use Rattle.can_node.specs.Inside.Stages.{AllRight}
-use Rattle.can_node.proofs.Bits.Nexts.{past_here, after_once}
+use Rattle.can_bits.proofs.NextOnce.{past_here, after_once}
 use Rattle.can_node.proofs.Bits.Seen.{seen_split}
 use Rattle.can_node.proofs.Reception.ReceiverFaults.{more_after}
 

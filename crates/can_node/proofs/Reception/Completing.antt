@@ -20,7 +20,7 @@ use Rattle.can_node.specs.Pieces.Piece.{Reception}
 use Rattle.can_bits.specs.Acknowledging.{IsAckDue}
 use Rattle.can_node.specs.Frames.{Acknowledges, AllAcknowledge, AckFits, IsWithin, Receives}
 use Rattle.can_node.specs.Frames.Receives.{reception}
-use Rattle.can_node.proofs.Bits.Nexts.{past_here}
+use Rattle.can_bits.proofs.NextOnce.{past_here}
 use Rattle.can_node.specs.Inside.Stages.{AllRight}
 
 -- what is readable and isn't a line but for its last level, nor a whole one, has two levels more at least

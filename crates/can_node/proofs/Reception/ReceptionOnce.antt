@@ -17,7 +17,7 @@ use Rattle.can_node.specs.declared.fault_site.FaultSite.TheVariants.{InReception
 use Rattle.can_node.specs.Pieces.Piece.{Reception, Fault}
 use Rattle.can_node.specs.Frames.{BreaksOff, IsReception, Receives}
 use Rattle.can_node.specs.Frames.Receives.{reception, broken}
-use Rattle.can_node.proofs.Bits.Nexts.{IsNext-unique}
+use Rattle.can_bits.proofs.NextOnce.{IsNext-unique}
 use Rattle.can_node.proofs.Bits.Seen.{seen_split}
 use Rattle.can_node.proofs.Reception.ReceiverFaults.{breaks_at, wrong_once, line_not_wrong}
 

@@ -1,7 +1,8 @@
 -- A receiver in a frame has seen its SOF.
 use Rattle.std.proofs.Common.{◌≡◌, ◌≢◌, Bool, false, List, [], ◌∷◌, ◌++◌, length}
 use Rattle.std.proofs.Common.{replicate, refl, ap, sym, subst, ◌∙◌, arith}
-use Rattle.std.proofs.lemmas.List.{length-append, nil_from_length}
+use Rattle.std.proofs.lemmas.List.{length-append}
+use Rattle.lemmas.proofs.Lists.{none_front}
 use Rattle.can_bits.specs.declared.level.Level.{Level}
 use Rattle.can_bits.specs.declared.level.Level.TheVariants.{Dominant, Recessive}
 use Rattle.can_bits.specs.declared.segment.Segment.{Segment}
@@ -93,10 +94,6 @@ no_bits AtFlag bits e = (nothing_seen bits e, λ wrong. cc)
 no_bits AtDelimiter bits e = (nothing_seen bits e, λ wrong. cc)
 no_bits AtInterframeSpace bits e = (nothing_seen bits e, λ wrong. cc)
 
--- the front of two lists that are empty together is empty
-nothing_before : {A : Type 0} (a b : List A) → a ++ b ≡ [] → a ≡ []
-nothing_before a b e = nil_from_length a (omega (arith, ap length e, length-append a b))
-
 -- a recessive level at SOF is a fault for whoever waits for one there
 wrong_start : (listen : Bool) (l : List Level) → l ≡ [] → IsWithin l → ¬ IsPastPart l →
     Receives listen l (recessive_bit Recessive ∷ []) (Fault InReception StuffError (segment_at [] 0)) AtFlag
@@ -115,8 +112,8 @@ pub receiving_begun : (c : ContextValue) (place : Place) (bits : List Bit) → I
     seen_of (frame_bits place bits) ≢ []
 receiving_begun c place bits h none =
     let there = no_bits place bits none in
-    let levels : h.levels ≡ [] = nothing_before h.levels (seen_of h.more) (sym h.seen ∙ none) in
-    let before : h.before ≡ [] = nothing_before h.before h.more (sym h.whole ∙ there.0) in
+    let levels : h.levels ≡ [] = none_front h.levels (seen_of h.more) (sym h.seen ∙ none) in
+    let before : h.before ≡ [] = none_front h.before h.more (sym h.whole ∙ there.0) in
     let P : List Level → Type 0 = λ l. IsWithin l in
     let within : IsWithin h.levels = subst P (sym h.seen ∙ none ∙ sym levels) h.within in
     not_row c place AtFlag (h.before ++ recessive_bit Recessive ∷ []) (Fault InReception StuffError (segment_at [] 0))

@@ -12,8 +12,8 @@ use Rattle.can_bits.proofs.Ending.{begins_front}
 use Rattle.can_node.specs.declared.cause.Cause.{Cause}
 use Rattle.can_node.specs.declared.cause.Cause.TheVariants.{Stuff as StuffError}
 use Rattle.can_node.specs.Bits.{Bit, recessive_bit, dominant_bit, recessive_bits, seen_of}
-use Rattle.can_node.proofs.Bits.Seen.{acknowledges_none, acknowledges_cons}
-use Rattle.can_node.proofs.Bits.DrivenAlike.{never_dominant, seen_received, seen_both}
+use Rattle.can_node.proofs.Bits.Seen.{acknowledges_none, acknowledges_cons, seen-append}
+use Rattle.can_node.proofs.Bits.DrivenAlike.{never_dominant, seen_received}
 use Rattle.can_bits.specs.Acknowledging.{IsAckDue}
 use Rattle.can_node.specs.Frames.{Acknowledges, AllAcknowledge, IsWithin, Breaks, BreaksOff}
 use Rattle.can_node.specs.Frames.Breaks.{stuff, form, check, own_ack}
@@ -64,7 +64,7 @@ joined : (l before : List Level) (front rest : List Bit) → recessive_bits befo
     l ++ before ≡ (l ++ seen_of front) ++ seen_of rest
 joined l before front rest e =
     let same : before ≡ seen_of front ++ seen_of rest =
-    sym (seen_received before) ∙ ap (λ (t : List Bit). seen_of t) e ∙ seen_both front rest in
+    sym (seen_received before) ∙ ap (λ (t : List Bit). seen_of t) e ∙ seen-append front rest in
     ap (λ t. l ++ t) same ∙ sym (append_assoc l (seen_of front) (seen_of rest))
 
 -- nothing is wrong in levels with which a line begins, and of which none is past its stuffed part

@@ -24,7 +24,7 @@ use Rattle.can_node.specs.Table.{Row}
 use Rattle.can_node.specs.Cut.{IsUnfinished}
 use Rattle.can_node.specs.Inside.Stages.{IsReceiving, frame_bits}
 use Rattle.can_node.proofs.Reception.Acknowledging.{quiet}
-use Rattle.can_node.proofs.Bits.Nexts.{past_here}
+use Rattle.can_bits.proofs.NextOnce.{past_here}
 use Rattle.can_node.proofs.Reception.ReceiverBits.{fault_row, frame_push, receiving_next, receiving_push}
 use Rattle.can_node.proofs.Reception.ReceiverBits.{receiving_within, not_lost_driven, not_lost_seen}
 use Rattle.can_node.proofs.Reception.Beginnings.{front_good}

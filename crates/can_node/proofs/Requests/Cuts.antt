@@ -1,6 +1,5 @@
 -- What a start, a request or a stop at the end of a record leaves held, by every cut.
-use Rattle.std.proofs.Common.{◌≡◌, true, false, List, [], ◌∷◌, ◌++◌, map, refl, sym, ap, ◌∙◌}
-use Rattle.std.proofs.Common.{inl, inr}
+use Rattle.std.proofs.Common.{◌≡◌, true, false, List, [], ◌∷◌, ◌++◌, map, refl, sym, ap, ◌∙◌, inl, inr}
 use Rattle.std.specs.Prelude.{Option, Some, None}
 use Rattle.can_node.specs.declared.config.Config.{Config}
 use Rattle.can_node.specs.declared.phase.Phase.TheVariants.{Reset}

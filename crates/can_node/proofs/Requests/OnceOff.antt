@@ -153,7 +153,7 @@ is_on : (b : Bool) → (b ≡ true → ⊥) → left b ≡ 1
 is_on true h = absurd (h refl)
 is_on false h = refl
 
-no_reset_row : (c : ContextValue) (place next : Place) (bits : List Bit) (p : Piece) → Row c place bits p next →
+pub no_reset_row : (c : ContextValue) (place next : Place) (bits : List Bit) (p : Piece) → Row c place bits p next →
     place ≡ AtReset → ⊥
 no_reset_row c place next bits p row e = let P : Place → Type 0 = λ s. Row c s bits p next in no_rest_piece
     (subst P e row)

@@ -25,6 +25,8 @@ use Rattle.can_node.proofs.OneCut.Through.{goes_through}
 use Rattle.can_node.proofs.OneCut.Ways.{Between, Way, way_of}
 use Rattle.can_node.proofs.OneCut.Ways.Between.{send, abort}
 use Rattle.can_node.proofs.OneCut.Ways.Way.{finishes, comes, closes}
+use Rattle.can_node.proofs.OneCut.MoveOnce.{between_no_bit}
+use Rattle.can_node.proofs.CutRecords.AbortPlaces.{no_outer_abort}
 
 -- ---- an entry more
 
@@ -101,11 +103,6 @@ no_outer_bit entry b (start config) e = cc
 no_outer_bit entry b stop e = cc
 no_outer_bit entry b off e = cc
 
-no_between_bit : (c next : ContextValue) (place : Place) (entry : RecordEntry) (b : Bit) → Between c place entry next →
-    entry ≡ OneBit b → ⊥
-no_between_bit c next place entry b (send request) e = cc
-no_between_bit c next place entry b abort e = cc
-
 bit_way : (k : Count) (c next : ContextValue) (place site : Place) (slice all : List RecordEntry) (b : Bit)
     (ps : List Piece) →
     Way c place all ps next site → all ≡ slice ++ OneBit b ∷ [] → BitMore k c place slice b
@@ -116,7 +113,7 @@ bit_way k c next place site slice all b ps (finishes {next = n} {p = p} s h row 
   pieces = ap (λ l. tagged (counted k l) (p ∷ [])) e;
 }
 bit_way k c next place site slice all b ps (comes entry between) e =
-    absurd (no_between_bit c next place entry b between (same_from_push [] slice entry (OneBit b) e).1)
+    absurd (between_no_bit c next place entry b between (same_from_push [] slice entry (OneBit b) e).1)
 bit_way k c next place site slice all b ps (closes s entry part out closing) e =
     absurd (no_outer_bit entry b out (same_from_push s slice entry (OneBit b) e).1)
 
@@ -156,11 +153,6 @@ bit_more entries all found others b h k e =
     }
 
 -- ---- an abort more
-
-no_outer_abort : (entry : RecordEntry) → IsOuter entry → entry ≡ Abort → ⊥
-no_outer_abort entry (start config) e = cc
-no_outer_abort entry stop e = cc
-no_outer_abort entry off e = cc
 
 abort_between : (c next : ContextValue) (place : Place) (entry : RecordEntry) (slice : List RecordEntry) →
     Between c place entry next → entry ≡ Abort → slice ≡ [] →

@@ -1,7 +1,6 @@
 -- What a bit does to the request that a node holds: it stays with its mark, or it ends.
-use Rattle.std.proofs.Common.{◌≡◌, ◌&&◌, ◌||◌, not, Bool, true, false, nat_le}
-use Rattle.std.proofs.Common.{Some, None, is_some, List, inl, inr, refl, sym, ap, ◌∙◌}
-use Rattle.std.proofs.Common.{if◌then◌else◌}
+use Rattle.std.proofs.Common.{◌≡◌, ◌&&◌, ◌||◌, not, Bool, true, false, nat_le, Some, None, is_some, List, inl, inr}
+use Rattle.std.proofs.Common.{refl, sym, ap, ◌∙◌, if◌then◌else◌}
 use Rattle.std.specs.Prelude.{slice_index_or}
 use Rattle.can_node.specs.declared.outcome.Outcome.TheVariants.{Sent, Failed}
 use Rattle.can_node.specs.Bits.{Bit}

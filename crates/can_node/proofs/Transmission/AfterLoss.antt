@@ -18,7 +18,7 @@ use Rattle.can_node.proofs.Bits.Seen.{acknowledges_none}
 use Rattle.can_node.proofs.Reception.Breaking.{right_nothing}
 use Rattle.can_node.proofs.Bits.FramePlaces.{row_own, frame_more, frame_seen}
 use Rattle.can_node.proofs.Transmission.Losing.{lost_inside, lost_open, open_within}
-use Rattle.can_node.proofs.Bits.Nexts.{past_here}
+use Rattle.can_bits.proofs.NextOnce.{past_here}
 
 -- a bit from its two levels
 lost_bit : (x : Bit) → x.driven ≡ Recessive → x.seen ≡ Dominant → x ≡ recessive_bit Dominant

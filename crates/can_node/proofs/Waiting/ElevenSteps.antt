@@ -17,7 +17,8 @@ use Rattle.can_node.specs.Table.{EndsInEleven, Elevens}
 use Rattle.can_node.specs.Table.Elevens.{none_left, one_more}
 use Rattle.can_node.specs.Counting.{next_run, ends_eleven, integration_bit}
 use Rattle.can_node.specs.Effects.{along}
-use Rattle.can_node.proofs.Bits.DrivenAlike.{dominant-other, seen_both}
+use Rattle.can_node.proofs.Bits.DrivenAlike.{dominant-other}
+use Rattle.can_node.proofs.Bits.Seen.{seen-append}
 use Rattle.can_node.proofs.Waiting.Firsts.{ends_as}
 
 -- one, or none
@@ -50,7 +51,7 @@ bit_step c done x r off speaks run =
 
 run_after : (done : List Bit) (x : Level) (r : ℕ) → fold next_run 0 (seen_of done) ≡ r →
     fold next_run 0 (seen_of (done ++ recessive_bit x ∷ [])) ≡ next_run r x
-run_after done x r run = ap (λ l. fold next_run 0 l) (seen_both done (recessive_bit x ∷ []))
+run_after done x r run = ap (λ l. fold next_run 0 l) (seen-append done (recessive_bit x ∷ []))
     ∙ fold_push next_run 0 (seen_of done) x ∙ ap (λ n. next_run n x) run
 
 taken : (c : ContextValue) (a b : ℕ) → record c { tec = (c.tec - a) - b } ≡ record c { tec = c.tec - (a + b) }

@@ -16,7 +16,8 @@ use Rattle.can_node.specs.Table.Elevens.{none_left, one_more}
 use Rattle.can_node.specs.Table.Row.{integration}
 use Rattle.can_node.specs.Cut.{IsUnfinished}
 use Rattle.can_node.specs.Inside.Stages.{IsIntegrating}
-use Rattle.can_node.proofs.Bits.DrivenAlike.{receives_on, seen_both, dominant-other}
+use Rattle.can_node.proofs.Bits.DrivenAlike.{receives_on, dominant-other}
+use Rattle.can_node.proofs.Bits.Seen.{seen-append}
 use Rattle.can_node.proofs.Waiting.Firsts.{no_front_yet, one_on, last_on, first_run, ends_as}
 use Rattle.can_node.proofs.OneCut.Slices.{first_eleven}
 
@@ -66,7 +67,7 @@ integrates_from c some = record {
 run_on : (bits : List Bit) (run next : ℕ) (seen x : Level) → seen ≡ x → next ≡ next_run run x →
     fold next_run 0 (seen_of bits) ≡ run → fold next_run 0 (seen_of (bits ++ recessive_bit seen ∷ [])) ≡ next
 run_on bits run next seen x same e counted =
-    ap (λ l. fold next_run 0 l) (seen_both bits (recessive_bit seen ∷ [])) ∙ fold_push next_run 0 (seen_of bits) seen
+    ap (λ l. fold next_run 0 l) (seen-append bits (recessive_bit seen ∷ [])) ∙ fold_push next_run 0 (seen_of bits) seen
     ∙ ap (λ n. next_run n seen) counted ∙ ap (λ v. next_run run v) same ∙ sym e
 
 -- the bits with it
@@ -134,17 +135,16 @@ integration_more left run c bits h most =
     elevens_push h.done h.front (h.begun ++ Recessive ∷ []) h.elevens
     (last_on EndsInEleven h.begun (11 - run) Recessive (omega arith) h.waits)
 
--- another eleven is waited for
-pub integration_again : (left run next : ℕ) (seen : Level) (c : ContextValue) (bits : List Bit) → seen ≡ Recessive →
-    10 ≤ run →
-    1 < left → left ≡ next + 1 → IsIntegrating left run c bits →
-    IsIntegrating next 0 c (bits ++ recessive_bit seen ∷ [])
-integration_again left run next seen c bits level most many e h =
+-- another eleven is waited for, and none of it came
+pub integration_again : (left run next none : ℕ) (seen : Level) (c : ContextValue) (bits : List Bit) →
+    seen ≡ Recessive → 10 ≤ run → 1 < left → left ≡ next + 1 → none ≡ 0 → IsIntegrating left run c bits →
+    IsIntegrating next none c (bits ++ recessive_bit seen ∷ [])
+integration_again left run next none seen c bits level most many e anew h =
     let less = h.few in
     let count = h.count in
     let line : List Level = h.front ++ (h.begun ++ Recessive ∷ []) in
     let ten : run ≡ 10 = omega arith in
-    let now : 0 ≡ next_run run Recessive = rw ten refl in
+    let now : none ≡ next_run run Recessive = rw (ten, anew) refl in
     record {
       done = h.done + 1;
       front = line;
@@ -154,8 +154,8 @@ integration_again left run next seen c bits level most many e h =
       count = omega arith;
       some = omega arith;
       few = omega arith;
-      waits = first_eleven;
-      counted = run_on bits run 0 seen Recessive level now h.counted;
+      waits = rw anew first_eleven;
+      counted = run_on bits run none seen Recessive level now h.counted;
     }
 
 -- it was the last one

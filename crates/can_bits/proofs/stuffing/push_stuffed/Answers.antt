@@ -1,4 +1,4 @@
-use Rattle.std.proofs.Common.{◌≡◌, ◌≢◌, ◌≤◌, List, ◌++◌, ◌∷◌, [], take, get_or, subst, arith, rules}
+use Rattle.std.proofs.Common.{◌≡◌, ◌≢◌, ◌≤◌, ◌<◌, List, ◌++◌, ◌∷◌, [], take, get_or, subst, arith, rules}
 use Rattle.std.proofs.lemmas.List.{take_more, take_all}
 use Rattle.can_bits.specs.declared.level.Level.{Level}
 use Rattle.can_bits.specs.declared.level.Level.TheVariants.{Dominant}
@@ -22,6 +22,11 @@ loop-level-preserved c =
           rw b.run-is (Stands-other w s last x c.loop-level.run was small other)
     ] in
     let few : c.if-eq.run ≤ 5 = elim c.if-eq.branch [ then-eq b ↦ omega arith | else-eq b ↦ omega arith ] in
+    let short : c.if-run-eq-RUN.run < 5 =
+    elim c.if-run-eq-RUN.branch [
+      | then-run-eq-RUN b ↦ omega arith
+      | else-run-eq-RUN b ↦ omega (arith, b.if-run-eq-RUN.false)
+    ] in
     elim c.if-run-eq-RUN.branch [
       | then-run-eq-RUN b ↦ record {
         stands = rw (
@@ -34,12 +39,12 @@ loop-level-preserved c =
           b.opposite-last.ensures,
         )
             (Stands-stuffed (w ++ x ∷ []) (s ++ x ∷ []) x (rw (← b.if-run-eq-RUN.true) kept));
-        small = omega arith;
+        small = short;
         room = search rules;
       }
       | else-run-eq-RUN b ↦ record {
         stands = rw (more, b.line-is, b.last-is, b.run-is, c.push_reserved.ensures.items) kept;
-        small = omega (arith, b.if-run-eq-RUN.false);
+        small = short;
         room = search rules;
       }
     ]

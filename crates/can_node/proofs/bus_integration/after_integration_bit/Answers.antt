@@ -17,8 +17,8 @@ returns-then-run-lt-LAST_OF_ELEVEN c shift before now bits h = (
 pub returns-then-left-gt1 : goal.returns-then-left-gt1
 returns-then-left-gt1 c shift before now bits h = (
   refl,
-  integration_again c.args.left c.args.run _ c.args.seen before bits c.in-Recessive.is (omega arith) c.if-left-gt1.true
-      (omega arith) h,
+  integration_again c.args.left c.args.run _ _ c.args.seen before bits c.in-Recessive.is (omega arith)
+      c.if-left-gt1.true (omega arith) (omega arith) h,
 )
 
 pub returns-else-left-gt1 : goal.returns-else-left-gt1

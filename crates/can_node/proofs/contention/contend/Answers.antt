@@ -3,9 +3,10 @@ use Rattle.std.proofs.Common.{length, take, refl, sym, ap, subst, ◌∙◌, ari
 use Rattle.std.specs.List.{AllZip}
 use Rattle.std.proofs.lemmas.List.{take_more}
 use Rattle.std.proofs.lemmas.Option.{slice_get_read}
+use Rattle.lemmas.proofs.Related.{related_push}
 use Rattle.can_frame.specs.Frame.{FrameValue}
 use Rattle.can_node.specs.Contending.{Fares}
-use Rattle.can_node.proofs.Contending.Winning.{fares_by, zip_push}
+use Rattle.can_node.proofs.Contending.Winning.{fares_by}
 use Rattle.can_node.proofs.contention.contend.Goals as goal
 
 pub loop-frame-preserved : goal.loop-frame-preserved
@@ -22,7 +23,7 @@ loop-frame-preserved c =
     let told = c.loop-frame.places.items in
     let fares = fares_by fs frame least.result lost (c.least_of.result, inside, sym least.is) is_least
     c.place_lost.ensures in
-    let longer = zip_push (Fares fs) (take i fs) told frame lost c.loop-frame.invariant.answered fares in
+    let longer = related_push (Fares fs) (take i fs) told frame lost c.loop-frame.invariant.answered fares in
     let front = take_more fs i frame within ∙ ap (λ f. take i fs ++ f ∷ []) (sym c.frame-item.is) in
     let P : List FrameValue → Type 0 = λ l. AllZip (Fares fs) l (told ++ lost ∷ []) in
     let Q : List (Option ℕ) → Type 0 = λ l. AllZip (Fares fs) (take (i + 1) fs) l in

@@ -1,4 +1,4 @@
-use Rattle.std.proofs.Common.{◌≡◌, ◌+◌, ◌/◌, ◌%◌, ◌^◌, ◌<◌, ◌∙◌, ◌++◌, ◌∷◌, [], ℕ}
+use Rattle.std.proofs.Common.{◌≡◌, ◌+◌, ◌*◌, ◌/◌, ◌%◌, ◌^◌, ◌<◌, ◌∙◌, ◌++◌, ◌∷◌, [], ℕ}
 use Rattle.std.proofs.Common.{true, false, List, length, ap, refl, sym, subst, arith}
 use Rattle.std.proofs.lemmas.List.{length-append}
 use Rattle.can_frame.specs.Frame.{id_limit}
@@ -7,7 +7,7 @@ use Rattle.can_bits.specs.declared.level.Level.TheVariants.{Dominant, Recessive}
 use Rattle.can_bits.specs.Digits.{digit, level_of, bits}
 use Rattle.can_bits.specs.Body.{head_bits}
 use Rattle.can_bits.specs.Packing.{Packs}
-use Rattle.can_bits.proofs.Values.{digit-lt, length-bits}
+use Rattle.can_bits.proofs.Values.{digit-lt, length-bits, value-append-bits}
 use Rattle.can_bits.proofs.Packing.Bodies.{packs_start, bits_digit, head_standard, head_extended}
 use Rattle.can_bits.proofs.sent_body.SentBody.head_of.Goals as goal
 
@@ -15,13 +15,21 @@ use Rattle.can_bits.proofs.sent_body.SentBody.head_of.Goals as goal
 longer : (b : List Level) (n x m : ℕ) → length b ≡ m → length (b ++ bits n x) ≡ m + n
 longer b n x m h = omega (arith, h, length-append b (bits n x), length-bits n x)
 
+-- the word with some digits more
+packed_more : {word place more there : ℕ} {b : List Level} (n x : ℕ) → Packs word place b →
+    Packs more there (b ++ bits n x) → x < 2 ^ n → more ≡ word * 2 ^ n + x
+packed_more {b = b} n x before after small =
+    after.word_is ∙ value-append-bits n b x small ∙ ap (λ m. m * 2 ^ n + x) (sym before.word_is)
+
+-- `srr` proves nothing here: by it a wrong body is refused with values
 pub returns-then-ext : goal.returns-then-ext
 returns-then-ext c =
     let f = c.args.frame.now in
     let rtr : Level = level_of f.rtr in
     let r = c.from-rtr.result in
-    let bit : r ≡ digit rtr =
-    c.from-rtr.ensures ∙ c.digit.ensures.value ∙ ap digit (c.of.ensures ∙ ap level_of c.rtr.ensures) in
+    let sent = ap digit c.of.ensures in
+    let said = ap (λ b. digit (level_of b)) c.rtr.ensures in
+    let bit : r ≡ digit rtr = omega (arith, c.from-rtr.ensures, c.digit.ensures.value, sent, said) in
     let extended : f.ext ≡ true = sym c.ext.ensures ∙ c.if-ext.true in
     let small : f.id < 2 ^ 29 = subst (λ e. f.id < id_limit e) extended c.id.ensures.valid.id in
     let value = c.id.ensures.value in
@@ -37,6 +45,8 @@ returns-then-ext c =
     let n4 : length w4 ≡ 33 = longer w3 1 r 32 n3 in
     let p1 = c.followed_by.ensures w0 packs_start (omega arith) (omega (arith, small, value)) in
     let p2 = c.followed_by-base.ensures w1 p1 (omega (arith, n1)) (omega arith) in
+    let srr : c.followed_by-base.result.word ≡ c.followed_by.result.word * 4 + 3 =
+    omega (arith, packed_more _ _ p1 p2 (omega arith)) in
     let p3 = c.followed_by-then-ext.ensures w2 p2 (omega (arith, n2)) (omega arith) in
     let p4 = c.followed_by-then-ext-2.ensures w3 p3 (omega (arith, n3)) (omega (arith, bit, digit-lt rtr)) in
     let p5 = c.followed_by-then-ext-3.ensures w4 p4 (omega (arith, n4)) (omega arith) in
@@ -57,8 +67,9 @@ returns-else-ext c =
     let f = c.args.frame.now in
     let rtr : Level = level_of f.rtr in
     let r = c.from-rtr.result in
-    let bit : r ≡ digit rtr =
-    c.from-rtr.ensures ∙ c.digit.ensures.value ∙ ap digit (c.of.ensures ∙ ap level_of c.rtr.ensures) in
+    let sent = ap digit c.of.ensures in
+    let said = ap (λ b. digit (level_of b)) c.rtr.ensures in
+    let bit : r ≡ digit rtr = omega (arith, c.from-rtr.ensures, c.digit.ensures.value, sent, said) in
     let standard : f.ext ≡ false = sym c.ext.ensures ∙ c.if-ext.false in
     let small : f.id < 2 ^ 11 = subst (λ e. f.id < id_limit e) standard c.id-else-ext.ensures.valid.id in
     let value = c.id-else-ext.ensures.value in

@@ -1,7 +1,8 @@
-use Rattle.std.proofs.Common.{◌≡◌, ◌++◌, ◌∷◌, [], true, false, refl, sym, subst, ◌∙◌, arith, append_assoc}
+use Rattle.std.proofs.Common.{◌≡◌, ◌+◌, ◌++◌, ◌∷◌, [], length, true, false, refl, sym, subst, ◌∙◌, arith, append_assoc}
 use Rattle.std.proofs.lemmas.List.{same_from_push}
 use Rattle.can_bits.specs.declared.level.Level.TheVariants.{Recessive}
 use Rattle.can_bits.specs.Reading.{SaysWhetherRight}
+use Rattle.can_bits.proofs.DueLemmas.{past_length}
 use Rattle.can_bits.proofs.Values.{recessive_by, dominant_by}
 use Rattle.can_bits.proofs.Whole.Faultless.{faultless_next, tail_left}
 use Rattle.can_bits.proofs.Whole.FirstFault.{wrong_check_here, no_ack_here, right_check_here}
@@ -9,19 +10,23 @@ use Rattle.can_bits.proofs.shift.Shift.judge_answered.Goals.{else-is_past-2-via-
 use Rattle.can_bits.proofs.shift.Shift.judge_answered.Goals.{else-is_past-2-via-else-is_past-2}
 use Rattle.can_bits.proofs.shift.Shift.judge_answered.Goals as goal
 
+-- `first` proves nothing here: by it a wrong body is refused with values
 pub returns-then-check_is_right-clause-good : goal.returns-then-check_is_right-clause-good
 returns-then-check_is_right-clause-good c l h readable good =
     let x = c.args.level in
     let one = c.is_past.ensures.yes (l ++ x ∷ []) h c.if-is_past.true in
+    let first : length (l ++ x ∷ []) ≡ length one.part + 1 = omega (arith, past_length (l ++ x ∷ []) one) in
     let says = c.check_is_right.ensures (one.body ++ one.check) one.body one.check one.gathers refl one.is_part.check in
     let right = subst (λ r. SaysWhetherRight r one.body one.check) c.if-check_is_right.true says in
     let (check, nine) = right_check_here (l ++ x ∷ []) one right readable.begun in
     faultless_next l x good readable.begun (λ _. check) (λ eight. absurd (omega (arith, eight, nine)))
 
+-- `first` proves nothing here: by it a wrong body is refused with values
 pub returns-else-check_is_right-clause-fault : goal.returns-else-check_is_right-clause-fault
 returns-else-check_is_right-clause-fault c l later h readable good =
     let x = c.args.level in
     let one = c.is_past.ensures.yes (l ++ x ∷ []) h c.if-is_past.true in
+    let first : length (l ++ x ∷ []) ≡ length one.part + 1 = omega (arith, past_length (l ++ x ∷ []) one) in
     let says = c.check_is_right.ensures (one.body ++ one.check) one.body one.check one.gathers refl one.is_part.check in
     let wrong = subst (λ r. SaysWhetherRight r one.body one.check) c.if-check_is_right.false says in
     wrong_check_here l later x one wrong

@@ -1,16 +1,8 @@
-use Rattle.can_node.proofs.Machine.FrameDrives.{acknowledges_listening, acknowledges_due, acknowledges_none}
+use Rattle.std.proofs.Common.{◌≡◌, true, arith}
 use Rattle.can_node.proofs.node.Node.acknowledgement.Goals as goal
 
--- src/drive.rt
-pub returns-then-self : goal.returns-then-self
-returns-then-self c = λ l stands. acknowledges_listening c.args.self.now.context.listen l c.if-self.true
-
-pub returns-then-ack_is_due : goal.returns-then-ack_is_due
-returns-then-ack_is_due c = λ l stands.
-    acknowledges_due c.args.self.now.context.listen c.ack_is_due.result l c.if-self.false c.if-ack_is_due.true
-    (c.ack_is_due.ensures l stands)
-
-pub returns-else-ack_is_due : goal.returns-else-ack_is_due
-returns-else-ack_is_due c = λ l stands.
-    acknowledges_none c.args.self.now.context.listen c.ack_is_due.result l c.if-self.false c.if-ack_is_due.false
-    (c.ack_is_due.ensures l stands)
+-- src/drive.rt: `due` by `grind`, so that another acknowledgement is refused by values
+pub returns-then-not-self : goal.returns-then-not-self
+returns-then-not-self c =
+    let due : c.ack_is_due-due.result ≡ true = grind arith in
+    λ l stands. rw c.if-not-self.true ((c.ack_is_due-due.ensures l stands).0 due)

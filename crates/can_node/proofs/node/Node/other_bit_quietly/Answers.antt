@@ -1,5 +1,6 @@
 use Rattle.std.proofs.Common.{refl}
-use Rattle.can_node.proofs.Machine.Quiet.{quietly, goes_outside}
+use Rattle.can_node.proofs.Machine.Quiet.{quietly}
+use Rattle.can_node.proofs.Machine.QuietOutside.{goes_outside}
 use Rattle.can_node.proofs.node.Node.other_bit_quietly.Goals as goal
 
 -- src/quiet.rt

@@ -1,12 +1,12 @@
-use Rattle.std.proofs.Common.{ap, nat_le, subst, sym}
+use Rattle.std.proofs.Common.{◌≡◌, not, ap, nat_le, subst, sym, arith}
 use Rattle.can_node.specs.declared.node.Node.{Node}
 use Rattle.can_node.specs.declared.bit_events.BitEvents.{BitEvents}
 use Rattle.can_node.specs.Inside.Standing.{context_of}
-use Rattle.can_node.specs.Stands.{Samples}
+use Rattle.can_node.specs.Stands.{Samples, nothing}
 use Rattle.can_node.proofs.Machine.SampleSteps.{Counts, sampled}
 use Rattle.can_node.proofs.node.Node.sample_fully_with.Goals as goal
 
--- src/bit.rt
+-- src/bit.rt: `events` by `grind`, so that another role is refused by values
 pub returns-clause-samples : goal.returns-clause-samples
 returns-clause-samples c =
     let old = c.args.self.now in
@@ -14,6 +14,7 @@ returns-clause-samples c =
     let context = c.step_bit.new.self in
     let stepped : Node = record c.after_bit-after.new.self { context = context } in
     let last = c.go_off.new.self in
+    let events : c.nothing-events.result ≡ nothing (not c.is_transmitter-receiving.result) = grind arith in
     let Counted : Node → Type 0 = λ m. Counts m.context m.stage (context_of context) old.next c.args.level
     c.is_some-loses.result in
     let Told : BitEvents → Type 0 = λ e. Samples old (record last { next = c.next_level-self.result }) c.args.level
@@ -25,7 +26,7 @@ returns-clause-samples c =
       went_off = nat_le 256 c.go_to.new.self.context.counters.tec;
       recovered = c.recovers.result;
     }) in
-    subst Told (sym c.nothing-events.ensures) (λ entries found h x drives.
+    subst Told (sym events) (λ entries found h x drives.
     sampled old stepped c.go_to.new.self (record last { next = c.next_level-self.result }) entries found h x
     c.args.level c.after_bit-after.result
     c.received-events.result c.ended-events.result c.lost_arbitration-lost.result c.fault-events.result

@@ -1,6 +1,6 @@
 use Rattle.std.proofs.Common.{sym, ◌∙◌}
 use Rattle.can_bits.proofs.Values.{recessive_by}
-use Rattle.can_node.proofs.Machine.Quiet.{idle_quietly}
+use Rattle.can_node.proofs.Machine.QuietOutside.{idle_quietly}
 use Rattle.can_node.proofs.node.Node.sample_quietly.Goals as goal
 
 -- src/quiet.rt
