@@ -5,4 +5,5 @@ pub mod Moments
 pub mod Ordering
 pub mod Stepping
 pub mod Timings
+pub mod AbortsDue
 pub mod Waiting

@@ -4,7 +4,7 @@ use Rattle.sja_link.specs.declared.entry.Entry.{Entry}
 use Rattle.sja_link.specs.Deques.{Deques, Lies}
 use Rattle.sja_link.specs.Looking.{one_if}
 use Rattle.sja_link.specs.Places.{place_of}
-use Rattle.sja_wire.specs.Links.{per_node, stops_of}
+use Rattle.sja_link.specs.Links.{per_node, stops_of}
 use Rattle.sja_driver.specs.declared.logged_driver.LoggedDriver.{LoggedDriver}
 use Rattle.sja_driver.specs.Deeds.{Deed, opened_by, is_active}
 use Rattle.sja_driver.specs.Holding.{HoldsBy}

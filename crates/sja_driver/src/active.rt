@@ -1,6 +1,6 @@
 //! A driver out of reset: its stop, its look, its window and its release.
 
-ghost use Rattle.std.specs.Prelude.{◌≡◌, ℕ, List, [], length, true, false, Err, OnOk, OnErr, IfOk};
+ghost use Rattle.std.specs.Prelude.{◌≡◌, ℕ, List, [], length, true, false, is_err, Err, OnOk, OnErr, IfOk};
 ghost use Rattle.sja_link.specs.declared.release_fault.ReleaseFault.TheVariants.{Stopped as FaultStopped};
 ghost use Rattle.sja_link.specs.declared.release_fault.ReleaseFault.TheVariants.{Empty, Busy as ReleaseBusy};
 ghost use Rattle.sja_link.specs.DriverLedgers.{link_of, held_by, knows_bus_off};
@@ -84,7 +84,7 @@ impl Driver<Active> {
         ensures ledger { IfOk result (λ r. r.1 ≡ self.state.ledger) }
         ensures ends { Ends E.stands E.full end.old end.new port.old port.new self result }
     {
-        if end.give(Up::Stop).is_err() {
+        if came_back(end.give(Up::Stop)) {
             return Err(self);
         }
         port.enter_reset();
@@ -168,4 +168,11 @@ impl Driver<Active> {
     {
         self.state.ledger.release_message(end)
     }
+}
+
+/// Whether the end gave the stop back.
+fn came_back(given: Result<(), Up>) -> bool
+    ensures { result ≡ is_err given }
+{
+    given.is_err()
 }

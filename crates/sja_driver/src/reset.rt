@@ -1,6 +1,7 @@
 //! A driver in reset.
 
-ghost use Rattle.std.specs.Prelude.{◌≡◌, ◌⊎◌, ◌<◌, ◌≤◌, [], ◌∷◌, false, Some, None, OnOk, OnErr, IfOk, IfErr};
+ghost use Rattle.std.specs.Prelude.{◌≡◌, ◌⊎◌, ◌<◌, ◌≤◌, [], ◌∷◌, false, nat_le, Some, None};
+ghost use Rattle.std.specs.Prelude.{OnOk, OnErr, IfOk, IfErr};
 ghost use Rattle.sja_link.specs.Sizes.{most_activations};
 ghost use Rattle.sja_link.specs.declared.up.Up.TheVariants.{Start};
 ghost use Rattle.sja_regs.specs.Addresses.{register_at};
@@ -89,7 +90,7 @@ impl Driver<Reset> {
         ensures busy { IfErr result (λ e. (most_activations port.old.version ≤ started_in self)
             ⊎ (e.1 ≡ Busy) × E.full end.old) }
     {
-        if self.state.activation >= most_activations(port.version()) {
+        if none_left(self.state.activation, port.version()) {
             return Err((self, StartFault::NoActivationLeft));
         }
         if end.give(Up::Start(port.config())).is_err() {
@@ -129,4 +130,11 @@ impl Driver<Reset> {
     {
         port.write(addr, value)
     }
+}
+
+/// Whether as many activations were started as a node has in a run of this version.
+fn none_left(started: u8, version: u8) -> bool
+    ensures { result ≡ nat_le (most_activations version) started }
+{
+    started >= most_activations(version)
 }

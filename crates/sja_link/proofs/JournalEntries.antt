@@ -3,6 +3,7 @@ pub mod Entering
 pub mod Openings
 pub mod ListCounts
 pub mod Decoding
+pub mod CodeRoom
 pub mod Coded
 pub mod Endings
 pub mod Searching
@@ -12,6 +13,6 @@ pub mod Counting
 pub mod Keeping
 pub mod Skipping
 pub mod Blocks
-pub mod FramesReceived
 pub mod Begun
 pub mod Orders
+pub mod EachInPart

@@ -1,3 +1,5 @@
 pub mod JournalEntries
 pub mod Ledger
 pub mod WorldSteps
+pub mod Growing
+pub mod LastBits

@@ -20,4 +20,13 @@ pub mod LookingBack
 pub mod World
 pub mod WorldEvents
 pub mod Budget
+-- ---- the links of a node, and what the bus enters in its journal, item by item and bit by bit
+pub mod Links
+pub mod NewLinks
+pub mod Opening
+pub mod OutOfOrder
+pub mod Aborting
+pub mod Orderly
+pub mod BitEntries
+-- ---- how the code keeps a journal and its ledgers: definitions of the private contracts alone
 pub mod Inside

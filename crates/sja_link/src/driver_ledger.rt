@@ -70,7 +70,7 @@ impl DriverLedger {
         ensures stopped { OnErr result (knows_bus_off self.new ≡ true) }
     {
         self.pull(end);
-        if self.off { Err(Stopped) } else { Ok(()) }
+        self.shown()
     }
 
     /// Takes in all that the link shows, and shows the first message that was got and not released, or none. A driver
@@ -173,6 +173,16 @@ impl DriverLedger {
         ensures { result.now ≡ held_by self.now }
     {
         self.held.as_slice()
+    }
+
+    /// Says whether the window is there.
+    ///
+    /// Error: [`Stopped`] where bus-off is known.
+    fn shown(&self) -> Result<(), Stopped>
+        ensures on { OnOk result (knows_bus_off self.now ≡ false) }
+        ensures stopped { OnErr result (knows_bus_off self.now ≡ true) }
+    {
+        if self.off { Err(Stopped) } else { Ok(()) }
     }
 
     /// Takes in all that the link shows, until 22 messages are held or bus-off is known.

@@ -1,5 +1,2 @@
-pub mod Keeping
-pub mod Chain
-pub mod ModeBytes
-pub mod CommandBytes
-pub mod ReadBack
+pub mod Bytes
+pub mod Steps

@@ -1,6 +1,6 @@
 //! Writes of CMR.
 
-ghost use Rattle.std.specs.Prelude.{◌≡◌, ◌&&◌, not, ◌<◌, false};
+ghost use Rattle.std.specs.Prelude.{◌≡◌, ◌||◌, ◌&&◌, not, ◌<◌, false};
 ghost use Rattle.sja_raw.specs.CommandWrites.{command_byte, doable, may_request, releases, command_steps};
 ghost use Rattle.sja_raw.specs.RawDrivers.{Writes};
 ghost use Rattle.sja_raw.specs.Trying.{MayTry, Keeps};
@@ -90,7 +90,15 @@ fn may_request(port: &Port, command: Command) -> bool
     requires { port.now.mode.rm ≡ false }
     ensures { result ≡ may_request port.now command }
 {
-    (command.tr || port.version() != FIRST_VERSION) && is_free(port)
+    can_be_made(command, port.version() == FIRST_VERSION, is_free(port))
+}
+
+/// Whether the request of a command can be made, in version 1 (`first`) or a later one, where a transmission can be
+/// requested (`free`) or not.
+fn can_be_made(command: Command, first: bool, free: bool) -> bool
+    ensures { result ≡ ((command.tr || not first) && free) }
+{
+    (command.tr || !first) && free
 }
 
 /// Whether a transmission can be requested: not in listen only mode, and where TBS is 1.

@@ -1,6 +1,2 @@
-pub mod KeepLemmas
-pub mod CallLemmas
-pub mod HistoryLemmas
-pub mod TurnLemmas
-pub mod SaysTheSame
-pub mod Untouched
+pub mod Calls
+pub mod BusTurns

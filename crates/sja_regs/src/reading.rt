@@ -26,7 +26,7 @@ impl Port {
             return Err(RegFault::NoRegister);
         };
         let value = self.value(register, seen);
-        self.look(register);
+        self.registers.look(register);
         value.ok_or(RegFault::NoRegister)
     }
 
@@ -53,15 +53,17 @@ impl Port {
             Register::ReceiveMessageCounter => Some(seen.count),
         }
     }
+}
 
+impl Registers {
     /// What reading a register leaves.
     fn look(&mut self, register: Register)
         ensures { self.new ≡ after_reading self.old register }
     {
         match register {
-            Register::Interrupt => self.registers.pending = Interrupts::none(),
-            Register::ArbitrationLostCapture => self.registers.alc.was_read = true,
-            Register::ErrorCodeCapture => self.registers.ecc.was_read = true,
+            Register::Interrupt => self.pending = Interrupts::none(),
+            Register::ArbitrationLostCapture => self.alc.was_read = true,
+            Register::ErrorCodeCapture => self.ecc.was_read = true,
             _ => {}
         }
     }

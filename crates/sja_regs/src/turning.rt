@@ -13,6 +13,7 @@ use super::capture::Capture;
 use super::error_capture::error_code;
 use super::interrupts::Interrupts;
 use super::port::Port;
+use super::registers::Registers;
 use can_bits::Segment;
 use can_node::{BitEvents, Cause, Outcome, Phase};
 
@@ -22,7 +23,7 @@ impl Port {
     /// In reset mode, or where the turn is of an activation that was left, the driver's transmission and what was
     /// captured stay as they are: RM, TBS, TCS, DOS, ALC, ECC and the interrupts TI, DOI, ALI and BEI. A turn that
     /// brings nothing and says what the port shows already changes nothing.
-    #[tactic(auto, using(crate::proofs::TurnLemmas::only_enabled, crate::proofs::TurnLemmas::nothing_else))]
+    #[tactic(auto, using(crate::proofs::BusTurns::TurnLemmas::whole_turn))]
     pub fn bus_turn(&mut self, turn: &BusTurn)
         ensures turn { self.new ≡ after_turn self.old turn.now }
         ensures enabled { OnlyEnabled self.old self.new }
@@ -40,8 +41,8 @@ impl Port {
     fn take_news(&mut self, turn: &BusTurn)
         ensures { self.new ≡ with_news self.old turn.now }
     {
-        if self.is_live(turn) {
-            let activity = self.activity(turn);
+        if self.registers.is_live(turn) {
+            let activity = self.registers.activity(turn);
             self.raise(activity);
             self.capture(&turn.events);
             self.settle(turn);
@@ -59,35 +60,6 @@ impl Port {
             .registers
             .pending
             .raised(self.registers.enabled, causes);
-    }
-
-    /// Whether the turn is of the present activation, which goes on.
-    fn is_live(&self, turn: &BusTurn) -> bool
-        ensures { result ≡ is_live self.now turn.now }
-    {
-        !self.registers.mode.rm && turn.activation == self.registers.activation
-    }
-
-    /// Which of the activation's interrupts have a cause: TI, DOI, ALI and BEI.
-    fn activity(&self, turn: &BusTurn) -> Interrupts
-        requires { is_live self.now turn.now ≡ true }
-        ensures { result ≡ activity self.now turn.now }
-    {
-        let events = &turn.events;
-        Interrupts {
-            ti: (events.ended.is_some() | turn.aborted) & !self.registers.tbs,
-            doi: turn.overrun & !self.registers.dos & !events.went_off,
-            ali: events.lost.is_some() & self.may_tell(self.registers.alc),
-            bei: events.fault.is_some() & self.may_tell(self.registers.ecc),
-            ..Interrupts::none()
-        }
-    }
-
-    /// Whether an event gives its interrupt, by the register that captures it.
-    fn may_tell(&self, capture: Capture) -> bool
-        ensures { result ≡ may_tell self.now capture }
-    {
-        capture.was_read || !self.registers.is_raw()
     }
 
     /// RS and TS, which are the node's in every turn, but where they stand still.
@@ -173,11 +145,42 @@ impl Port {
         let registers = &mut self.registers;
         registers.dos = turn.overrun | registers.dos;
         registers.tbs = ended | registers.tbs;
-        registers.tcs = is_sent(turn.events.ended) | registers.tcs;
+        registers.tcs = is_sent(turn) | registers.tcs;
         registers.abort = !ended & registers.abort;
         if turn.events.went_off {
             self.enter_reset();
         }
+    }
+}
+
+impl Registers {
+    /// Whether the turn is of the present activation, which goes on.
+    fn is_live(&self, turn: &BusTurn) -> bool
+        ensures { result ≡ is_live self.now turn.now }
+    {
+        !self.mode.rm && turn.activation == self.activation
+    }
+
+    /// Which of the activation's interrupts have a cause: TI, DOI, ALI and BEI.
+    fn activity(&self, turn: &BusTurn) -> Interrupts
+        requires { is_live self.now turn.now ≡ true }
+        ensures { result ≡ activity self.now turn.now }
+    {
+        let events = &turn.events;
+        Interrupts {
+            ti: (events.ended.is_some() | turn.aborted) & !self.tbs,
+            doi: turn.overrun & !self.dos & !events.went_off,
+            ali: events.lost.is_some() & self.may_tell(self.alc),
+            bei: events.fault.is_some() & self.may_tell(self.ecc),
+            ..Interrupts::none()
+        }
+    }
+
+    /// Whether an event gives its interrupt, by the register that captures it.
+    fn may_tell(&self, capture: Capture) -> bool
+        ensures { result ≡ may_tell self.now capture }
+    {
+        capture.was_read || !self.is_raw()
     }
 }
 
@@ -190,10 +193,10 @@ fn code_of_fault(fault: Option<(Cause, Segment)>, receiving: bool) -> Option<u8>
 }
 
 /// Whether a request was sent.
-fn is_sent(ended: Option<Outcome>) -> bool
-    ensures { result ≡ is_sent ended }
+fn is_sent(turn: &BusTurn) -> bool
+    ensures { result ≡ is_sent turn.now.events.ended }
 {
-    matches!(ended, Some(Outcome::Sent))
+    matches!(turn.events.ended, Some(Outcome::Sent))
 }
 
 /// Whether a turn brought something to its activation: the end of a request, a lost arbitration, a fault, an overrun or

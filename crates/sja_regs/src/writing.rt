@@ -15,7 +15,7 @@ use super::mode::Mode;
 use super::port::Port;
 use super::reg_fault::RegFault;
 use super::register::Register;
-use super::registers::FORCES_OFF;
+use super::registers::{FORCES_OFF, Registers};
 use can_frame::Message;
 
 impl Port {
@@ -69,17 +69,11 @@ impl Port {
         ensures unchanged { OnErr result (self.new ≡ self.old) }
         ensures enabled { OnlyEnabled self.old self.new }
     {
+        if let Some(fault) = self.registers.mode_fault(mode) {
+            return Err(fault);
+        }
         let forced = self.registers.is_forced();
         let registers = &mut self.registers;
-        if differ(registers.mode.rm, mode.rm) & !forced {
-            return Err(RegFault::UseTyped);
-        }
-        if registers.is_first_version() && (mode.lom || mode.stm) {
-            return Err(RegFault::NotInVersion);
-        }
-        if !registers.mode.rm && registers.mode.is_other(mode) {
-            return Err(RegFault::ResetOnly);
-        }
         registers.mode = mode;
         if forced & !mode.rm {
             registers.mode.rm = true;
@@ -160,13 +154,7 @@ impl Port {
         if let Some(fault) = self.counter_fault() {
             return Err(fault);
         }
-        let registers = &mut self.registers;
-        registers.txerr = value;
-        registers.set_tec = Some(value);
-        if value != FORCES_OFF {
-            registers.rxerr = registers.set_rec.unwrap_or(registers.rxerr);
-            registers.bs = false;
-        }
+        self.registers.set_txerr(value);
         Ok(())
     }
 
@@ -202,5 +190,34 @@ impl Port {
         }
         self.registers.buffer = message.buffer();
         Ok(())
+    }
+}
+
+impl Registers {
+    /// Why a mode isn't written.
+    fn mode_fault(&self, mode: Mode) -> Option<RegFault>
+        ensures { result ≡ first_fault (mode_faults self.now mode) }
+    {
+        if differ(self.mode.rm, mode.rm) & !self.is_forced() {
+            Some(RegFault::UseTyped)
+        } else if self.is_first_version() && (mode.lom || mode.stm) {
+            Some(RegFault::NotInVersion)
+        } else if !self.mode.rm & self.mode.is_other(mode) {
+            Some(RegFault::ResetOnly)
+        } else {
+            None
+        }
+    }
+
+    /// TXERR is written: each value but 255 ends bus-off.
+    fn set_txerr(&mut self, value: u8)
+        ensures { self.new ≡ with_txerr self.old value }
+    {
+        self.txerr = value;
+        self.set_tec = Some(value);
+        if value != FORCES_OFF {
+            self.rxerr = self.set_rec.unwrap_or(self.rxerr);
+            self.bs = false;
+        }
     }
 }

@@ -1,3 +1,1 @@
-pub mod Journal
-pub mod Moving
 pub mod Wires

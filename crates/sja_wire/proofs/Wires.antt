@@ -3,8 +3,7 @@ use Rattle.std.proofs.Common.{◌≡◌, ℕ, zero, suc, ◌+◌, ◌<◌, List,
 use Rattle.std.proofs.Common.{arith, inl, inr}
 use Rattle.std.specs.Prelude.{slice_index_or, replicate}
 use Rattle.std.proofs.lemmas.Bool.{cases_lt}
-use Rattle.std.proofs.lemmas.List.{length-append, get_or_append_left}
-use Rattle.lemmas.proofs.Lists.{push_here}
+use Rattle.std.proofs.lemmas.List.{length-append, get_or_append_left, get_or_push}
 use Rattle.can_bits.specs.declared.level.Level.{Level}
 use Rattle.can_bits.specs.declared.level.Level.TheVariants.{Recessive}
 use Rattle.can_node.specs.Bits.{Bit, recessive_bit}
@@ -100,8 +99,8 @@ wired_bit script n before after bits len all adds sees h = record {
         (recessive_bit Recessive)
     last node few =
         ap (λ (l : List Bit). slice_index_or l n (recessive_bit Recessive)) (adds node few)
-        ∙ push_here (bits_of (journal_at before node)) (slice_index_or bits node (recessive_bit Recessive))
-        (recessive_bit Recessive) n (sym (h.count node few))
+        ∙ get_or_push (bits_of (journal_at before node)) (slice_index_or bits node (recessive_bit Recessive))
+        (recessive_bit Recessive) n (h.count node few)
 
 -- entries without a bit
 pub wired_same : (script : List Strike) (n : ℕ) (before after : List (List Entry)) → length after ≡ length before →

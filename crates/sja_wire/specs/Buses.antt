@@ -12,8 +12,9 @@ use Rattle.sja_regs.specs.declared.orders.Orders.{Orders}
 use Rattle.sja_regs.specs.declared.bus_turn.BusTurn.{BusTurn}
 use Rattle.sja_wire.specs.declared.bus_fault.BusFault.{BusFault}
 use Rattle.sja_wire.specs.Wire.{wired, IsSeen, journal_at}
-use Rattle.sja_wire.specs.Links.{per_node, Kept, stops_of}
-use Rattle.sja_wire.specs.OneBit.{Opens, HasBit}
+use Rattle.sja_link.specs.Links.{per_node, Kept, stops_of}
+use Rattle.sja_wire.specs.Opens.{Opens}
+use Rattle.sja_link.specs.BitEntries.{HasBit}
 use Rattle.sja_wire.specs.Telling.{IsTurn, IsPassedOver, IsUntold}
 
 -- what a contract sees of a bus: its script, for how many steps of each driver it has room, the bits that were run and

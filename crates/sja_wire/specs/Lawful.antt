@@ -7,7 +7,7 @@ use Rattle.sja_link.specs.declared.entry.Entry.{Entry}
 use Rattle.sja_link.specs.Records.{record_of}
 use Rattle.sja_link.specs.Verdicts.{IsLawful}
 use Rattle.sja_script.specs.declared.strike.Strike.{Strike}
-use Rattle.sja_wire.specs.Orderly.{AreOrderly}
+use Rattle.sja_link.specs.Orderly.{AreOrderly}
 use Rattle.sja_wire.specs.Wire.{IsWired, journal_at}
 
 -- by every cut of the journal's record these are the error counters at its end

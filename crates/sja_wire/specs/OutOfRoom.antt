@@ -3,8 +3,8 @@ use Rattle.std.specs.Prelude.{◌≤◌, ℕ, List, ◌∷◌, ◌++◌, length}
 use Rattle.can_bits.specs.declared.level.Level.{Level}
 use Rattle.sja_link.specs.declared.entry.Entry.{Entry}
 use Rattle.sja_link.specs.Verdicts.{IsLawful}
-use Rattle.sja_wire.specs.Links.{Grows}
-use Rattle.sja_wire.specs.OneBit.{HasBit}
+use Rattle.sja_link.specs.Links.{Grows}
+use Rattle.sja_link.specs.BitEntries.{HasBit}
 
 -- a journal with so many reserved entries, which was `before` as the bit began, has them all used, and one more entry
 -- of the same bit is due: the bit itself, what came of a frame that was received with it, or bus-off. With that entry,

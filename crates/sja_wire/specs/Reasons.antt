@@ -13,10 +13,11 @@ use Rattle.sja_regs.specs.declared.orders.Orders.{Orders}
 use Rattle.sja_wire.specs.declared.bus_fault.BusFault.{BusFault}
 use Rattle.sja_wire.specs.declared.bus_fault.BusFault.TheVariants.{BitsSpent, BadCredit, Stuck, BadOrder, JournalFull}
 use Rattle.sja_wire.specs.Wire.{journal_at}
-use Rattle.sja_wire.specs.Links.{per_node, Kept, stops_of}
-use Rattle.sja_wire.specs.Aborting.{IsApplied}
-use Rattle.sja_wire.specs.OneBit.{MayHaveItems, Opens, off_as}
-use Rattle.sja_wire.specs.OutOfOrder.{read_in, IsBadCredit, IsOutOfOrder, MayCome, HasOff}
+use Rattle.sja_link.specs.Links.{per_node, Kept, stops_of}
+use Rattle.sja_link.specs.Aborting.{IsApplied}
+use Rattle.sja_wire.specs.Opens.{Opens}
+use Rattle.sja_link.specs.BitEntries.{MayHaveItems, off_as}
+use Rattle.sja_link.specs.OutOfOrder.{read_in, IsBadCredit, IsOutOfOrder, MayCome, HasOff}
 use Rattle.sja_wire.specs.OutOfRoom.{IsOutOfRoom}
 use Rattle.sja_wire.specs.Buses.{BusValue}
 

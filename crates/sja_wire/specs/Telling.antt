@@ -12,7 +12,7 @@ use Rattle.sja_link.specs.declared.entry.Entry.{Entry}
 use Rattle.sja_link.specs.Places.{place_of}
 use Rattle.sja_link.specs.Records.{record_of}
 use Rattle.sja_regs.specs.declared.bus_turn.BusTurn.{BusTurn}
-use Rattle.sja_wire.specs.OneBit.{HasBit}
+use Rattle.sja_link.specs.BitEntries.{HasBit}
 
 -- the turn says what stands at the end of this journal's record: the activation, the error counters, whether bus-off
 -- stands, the phase and the role

@@ -5,10 +5,10 @@ use Rattle.sja_link.specs.declared.up.Up.{Up}
 use Rattle.sja_link.specs.declared.entry.Entry.{Entry}
 use Rattle.sja_link.specs.Parts.{part}
 use Rattle.sja_link.specs.Carried.{taken_of}
-use Rattle.sja_wire.specs.OneBit.{entries_of_items, MayHaveItems}
+use Rattle.sja_link.specs.BitEntries.{entries_of_items, MayHaveItems}
 use Rattle.sja_driver.proofs.Account.Own.{AreOwn, own_taken}
 use Rattle.lemmas.proofs.Lists.{none_front}
-use Rattle.sja_wire.proofs.Journal.Taking.{adds, taken_adds, no_adds}
+use Rattle.sja_link.proofs.Growing.Taking.{adds, taken_adds, no_adds}
 
 none_more : (xs ys : List Up) → xs ≡ xs ++ ys → ys ≡ []
 none_more xs ys e = sym (append_cancel_left xs [] ys (append-nil xs ∙ e))

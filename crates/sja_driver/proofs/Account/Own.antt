@@ -10,7 +10,7 @@ use Rattle.sja_link.specs.Carried.{taken_in, taken_of}
 use Rattle.sja_link.specs.World.{is_send}
 use Rattle.sja_link.proofs.JournalEntries.Entering.{place_push, past_rises, of_part_none, part_here}
 use Rattle.lemmas.proofs.Gathered.{total_push}
-use Rattle.sja_wire.specs.Links.{stops_in, stops_of}
+use Rattle.sja_link.specs.Links.{stops_in, stops_of}
 use Rattle.sja_driver.specs.Aborting.{sends_taken}
 use Rattle.sja_driver.specs.Timing.{taken_when, timed}
 use Rattle.sja_driver.specs.Windows.{put_by}

@@ -1,15 +1,9 @@
 -- The deeds of a driver are the first steps of its plan, with one more.
-use Rattle.std.proofs.Common.{◌≡◌, ℕ, zero, suc, ◌<◌, List, [], ◌∷◌, ◌++◌, length, map, refl, sym, ap, ◌∙◌, arith}
+use Rattle.std.proofs.Common.{◌≡◌, suc, ◌<◌, List, [], ◌∷◌, ◌++◌, length, map, sym, ap, ◌∙◌, arith, take-suc}
 use Rattle.std.specs.Prelude.{slice_index_or, take}
 use Rattle.std.proofs.lemmas.List.{length-append, map-append}
 use Rattle.sja_script.specs.declared.step.Step.{Step}
 use Rattle.sja_driver.specs.Deeds.{Deed}
-
-take_one : {A : Type 0} (xs : List A) (n : ℕ) (d : A) → n < length xs → take (suc n) xs ≡ take n xs ++ slice_index_or xs
-    n d ∷ []
-take_one [] n d less = absurd (omega arith)
-take_one (x ∷ xs) zero d less = refl
-take_one (x ∷ xs) (suc n) d less = ap (λ l. x ∷ l) (take_one xs n d (omega arith))
 
 pub first_more : (steps : List Step) (deeds : List Deed) (d : Deed) (e : Step) → length deeds < length steps →
     d.step ≡ slice_index_or steps (length deeds) e → map (λ (x : Deed). x.step) deeds ≡ take (length deeds) steps →
@@ -18,4 +12,4 @@ first_more steps deeds d e less is h =
     let n : length (deeds ++ d ∷ []) ≡ suc (length deeds) = length-append deeds (d ∷ []) ∙ omega arith in
     map-append (λ (x : Deed). x.step) deeds (d ∷ []) ∙ ap (λ l. l ++ d.step ∷ []) h
     ∙ ap (λ s. take (length deeds) steps ++ s ∷ []) is
-    ∙ sym (take_one steps (length deeds) e less) ∙ ap (λ m. take m steps) (sym n)
+    ∙ sym (take-suc steps (length deeds) e less) ∙ ap (λ m. take m steps) (sym n)

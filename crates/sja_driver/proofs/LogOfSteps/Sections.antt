@@ -4,8 +4,7 @@ use Rattle.std.proofs.Common.{append-nil, append_assoc, add_assoc, zero-add, inl
 use Rattle.std.specs.Prelude.{◌⊎◌, ◌==◌, if◌then◌else◌}
 use Rattle.std.proofs.lemmas.Bool.{cases_eq, eq-eqb, ne_eqb}
 use Rattle.lemmas.specs.Gathering.{gathered, total}
-use Rattle.lemmas.proofs.Gathered.{gathered_append}
-use Rattle.lemmas.proofs.Gathered.{total_push}
+use Rattle.lemmas.proofs.Gathered.{gathered_append, total_push}
 use Rattle.sja_driver.specs.Deeds.{Deed, opens_by, opened_by, section_from, deeds_of, active_after, active_from}
 
 section_push : {X : Type 0} (o : X → ℕ) (n : ℕ) (xs : List X) (y : X) (a : ℕ) →

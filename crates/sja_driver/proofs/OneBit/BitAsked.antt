@@ -30,10 +30,9 @@ use Rattle.sja_regs.specs.declared.registers.Registers.{Registers}
 use Rattle.sja_driver.proofs.Registers.TbsAndAbort.{TbsIsRight}
 use Rattle.sja_regs.specs.Turns.{is_live, after_turn}
 use Rattle.sja_wire.specs.Buses.{IsNodeBit}
-use Rattle.sja_wire.specs.OneBit.{HasBit, abort_as, judged_as, off_as}
+use Rattle.sja_link.specs.BitEntries.{HasBit, abort_as, judged_as, off_as, off_left}
 use Rattle.sja_wire.specs.Telling.{IsTurn}
-use Rattle.sja_wire.specs.OneBit.{off_left}
-use Rattle.sja_wire.proofs.Journal.BitRecords.{record_bit}
+use Rattle.sja_link.proofs.Growing.BitRecords.{record_bit}
 use Rattle.sja_driver.specs.Asking.{IsAsked}
 use Rattle.can_node.proofs.Requests.OneMore.{bit_more, abort_more}
 use Rattle.can_node.proofs.Requests.OnceOff.{off_more}
@@ -51,7 +50,7 @@ pub place_abort : (j : List Entry) (changed : Bool) → place_of (j ++ abort_as 
 place_abort j true = place_push j Abort
 place_abort j false = ap place_of (append-nil j)
 
-place_judged : (j : List Entry) (v : Option (Verdict × List ℕ)) → place_of (j ++ judged_as v) ≡ place_of j
+pub place_judged : (j : List Entry) (v : Option (Verdict × List ℕ)) → place_of (j ++ judged_as v) ≡ place_of j
 place_judged j None = ap place_of (append-nil j)
 place_judged j (Some (ToStore, m)) = place_push j (Stored m)
 place_judged j (Some (ToLose, m)) = place_push j (Overrun m)

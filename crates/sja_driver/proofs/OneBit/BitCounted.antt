@@ -26,10 +26,10 @@ use Rattle.sja_regs.specs.declared.bus_turn.BusTurn.{BusTurn}
 use Rattle.sja_regs.specs.declared.orders.Orders.{Orders}
 use Rattle.sja_regs.specs.declared.registers.Registers.{Registers}
 use Rattle.sja_regs.specs.Turns.{ends, goes_off, after_turn}
-use Rattle.sja_wire.specs.Aborting.{abort_in as abort_at, changes, IsApplied}
+use Rattle.sja_link.specs.Aborting.{abort_in as abort_at, changes, IsApplied}
 use Rattle.sja_wire.specs.Buses.{IsNodeBit}
-use Rattle.sja_wire.specs.Links.{stops_of}
-use Rattle.sja_wire.specs.OneBit.{HasBit, abort_as, judged_as, off_as}
+use Rattle.sja_link.specs.Links.{stops_of}
+use Rattle.sja_link.specs.BitEntries.{HasBit, abort_as, judged_as, off_as}
 use Rattle.sja_driver.specs.Deeds.{Deed}
 use Rattle.sja_driver.specs.Counted.{item_in, verdict_in, off_in, abort_in, asks_by, changes_left, pending, off_left}
 use Rattle.sja_driver.specs.Counted.{IsCounted}

@@ -1,7 +1,7 @@
 -- The port of a node after a bit.
 use Rattle.std.proofs.Common.{◌≡◌, ℕ, ◌≤◌, Bool, true, false, List, refl, sym, ap, ◌∙◌, subst, arith, inl, inr}
 use Rattle.std.specs.Prelude.{◌⊎◌, ◌||◌, ◌&&◌, ◌==◌, not, if◌then◌else◌, is_some}
-use Rattle.std.proofs.lemmas.Bool.{eq-eqb}
+use Rattle.std.proofs.lemmas.Bool.{eq-eqb, and_parts}
 use Rattle.can_bits.specs.declared.level.Level.{Level}
 use Rattle.can_node.specs.declared.bit_events.BitEvents.{BitEvents}
 use Rattle.sja_link.specs.declared.entry.Entry.{Entry}
@@ -10,7 +10,7 @@ use Rattle.sja_regs.specs.declared.bus_turn.BusTurn.{BusTurn}
 use Rattle.sja_regs.specs.declared.registers.Registers.{Registers}
 use Rattle.sja_regs.specs.Registers.{is_raw}
 use Rattle.sja_regs.specs.Turns.{after_turn}
-use Rattle.sja_wire.specs.OneBit.{HasBit}
+use Rattle.sja_link.specs.BitEntries.{HasBit}
 use Rattle.sja_wire.specs.Telling.{IsTurn, IsPassedOver}
 use Rattle.sja_driver.specs.Deeds.{Deed, opened_by, is_active}
 use Rattle.sja_driver.specs.Aborting.{sends_taken}
@@ -19,7 +19,7 @@ use Rattle.sja_driver.specs.Windows.{off_by}
 use Rattle.sja_driver.specs.Alike.{AreAlike}
 use Rattle.sja_driver.specs.Porting.{IsPorted}
 use Rattle.sja_driver.proofs.OneNode.Settings.{set_alike, alike_set}
-use Rattle.std.proofs.lemmas.Bool.{and_parts}
+use Rattle.std.proofs.Math.Bool.{or-false, or_assoc}
 
 -- whether a bus-off is asked for stays: once TXERR was written it isn't the node's
 asked_on : (raw same tec rec : Bool) (told was : ℕ) →
@@ -44,14 +44,6 @@ off_or false true true false e f = absurd cc
 off_or false true false true e f = absurd cc
 off_or false false went off e f = absurd cc
 
-or_none : (a : Bool) → (a || false) ≡ a
-or_none true = refl
-or_none false = refl
-
-or_both : (a b c : Bool) → ((a || b) || c) ≡ (a || (b || c))
-or_both true b c = refl
-or_both false b c = refl
-
 -- the turn of a bit, which the port was told, or for which it was passed over
 module _ (untold changed : Bool) (j opened k : List Entry) (driven seen : Level) (bit : HasBit opened driven seen k)
     (turn : BusTurn) (is_turn : IsTurn changed opened driven seen k bit turn) (p q : Registers)
@@ -65,7 +57,7 @@ module _ (untold changed : Bool) (j opened k : List Entry) (driven seen : Level)
         ap (λ (r : Registers). r.mode.rm) told
         ∙ off_or p.mode.rm (turn.activation == p.activation) turn.events.went_off bit.off
         (eq-eqb turn.activation p.activation (is_turn.says.activation ∙ sym at)) is_turn.off
-    | inr over ↦ ap (λ (r : Registers). r.mode.rm) over.kept ∙ sym (or_none p.mode.rm)
+    | inr over ↦ ap (λ (r : Registers). r.mode.rm) over.kept ∙ sym (or-false p.mode.rm)
         ∙ ap (λ (b : Bool). p.mode.rm || b) (sym (none_off over))
   ]
 
@@ -99,7 +91,7 @@ module _ (untold changed : Bool) (j opened k : List Entry) (driven seen : Level)
     set = subst (λ (r : Registers). AreAlike q r) (sym settings) (set_now (settings_of version j deeds) h.set);
     reset =
         reset_now (h.activation ∙ sym at) ∙ ap (λ (b : Bool). b || bit.off) h.reset
-        ∙ or_both (not (is_active deeds)) (off_by (place_of j).bits j (opened_by deeds)) bit.off
+        ∙ or_assoc (not (is_active deeds)) (off_by (place_of j).bits j (opened_by deeds)) bit.off
         ∙ ap (λ (b : Bool). not (is_active deeds) || b) (sym offs);
     activation = kept (λ (r : Registers). r.activation) refl ∙ h.activation;
     unclosed = kept (λ (r : Registers). r.closed) refl ∙ h.unclosed;

@@ -1,7 +1,6 @@
 -- What a step leaves in the registers, beside what the deeds have set.
 use Rattle.std.proofs.Common.{◌≡◌, ℕ, Bool, true, false, [], ◌∷◌, refl, ap}
-use Rattle.std.specs.Prelude.{◌==◌, ◌&&◌, not, nat_le, if◌then◌else◌, Option, Some, None, is_some, slice_set}
-use Rattle.std.specs.Prelude.{unwrap_or}
+use Rattle.std.specs.Prelude.{◌==◌, ◌&&◌, not, nat_le, if◌then◌else◌, Option, Some, None, is_some, slice_set, unwrap_or}
 use Rattle.sja_link.specs.declared.up.Up.TheVariants.{Start as StartItem}
 use Rattle.can_frame.specs.Buffer.{frame_in}
 use Rattle.sja_regs.specs.declared.register.Register.{Register}

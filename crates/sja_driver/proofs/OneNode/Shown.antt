@@ -1,6 +1,5 @@
 -- A port that was told all shows what its node's record says, and so a turn that brings nothing leaves it as it is.
-use Rattle.std.proofs.Common.{◌≡◌, ℕ, Bool, true, false, List, [], ◌∷◌, ◌++◌, refl, sym, ap, ◌∙◌, subst}
-use Rattle.std.proofs.Common.{inl, inr}
+use Rattle.std.proofs.Common.{◌≡◌, ℕ, Bool, true, false, List, [], ◌∷◌, ◌++◌, refl, sym, ap, ◌∙◌, subst, inl, inr}
 use Rattle.std.specs.Prelude.{◌⊎◌, ◌==◌, ◌||◌, ◌&&◌, not, if◌then◌else◌}
 use Rattle.std.proofs.lemmas.Bool.{and_parts}
 use Rattle.can_bits.specs.declared.level.Level.{Level}
@@ -21,11 +20,10 @@ use Rattle.sja_regs.specs.declared.registers.Registers.{Registers}
 use Rattle.sja_regs.specs.Registers.{is_raw, at_power_on}
 use Rattle.sja_regs.specs.Turns.{is_live, goes_off, role_bit, rs_told, ts_told, stands_still, follows_node}
 use Rattle.sja_regs.specs.Turns.{rxerr_after, txerr_after, bs_after, after_turn}
-use Rattle.sja_wire.specs.OneBit.{HasBit}
+use Rattle.sja_link.specs.BitEntries.{HasBit, off_left}
 use Rattle.sja_wire.specs.Telling.{Says, IsTurn, IsPassedOver}
-use Rattle.sja_wire.specs.OneBit.{off_left}
-use Rattle.sja_regs.proofs.SaysTheSame.{says_same}
-use Rattle.sja_wire.proofs.Journal.BitRecords.{record_bit}
+use Rattle.sja_regs.proofs.BusTurns.SaysTheSame.{says_same}
+use Rattle.sja_link.proofs.Growing.BitRecords.{record_bit}
 use Rattle.sja_driver.specs.Shown.{ShowsRecord}
 use Rattle.can_node.proofs.Requests.Cuts.{now_first, reset_first}
 use Rattle.can_node.proofs.Requests.OnceOff.{off_resets}

@@ -10,13 +10,11 @@ use Rattle.lemmas.proofs.Related.{each_at}
 use Rattle.sja_link.specs.declared.entry.Entry.{Entry}
 use Rattle.sja_link.specs.Accounts.{account}
 use Rattle.sja_link.specs.Deques.{Deques, Lies}
-use Rattle.sja_wire.specs.Links.{per_node, Numbered}
+use Rattle.sja_link.specs.Links.{per_node, Numbered}
 use Rattle.sja_driver.specs.declared.release.Release.{Release}
-use Rattle.sja_driver.specs.Deeds.{Deed, given_in, deeds_of}
+use Rattle.sja_driver.specs.Deeds.{Deed, given_in, deeds_of, with_deeds, deeds_at}
 use Rattle.sja_driver.specs.Holding.{Holds, place_after}
 use Rattle.sja_driver.proofs.LogOfSteps.Logged.{min_less}
-use Rattle.sja_driver.specs.Deeds.{with_deeds}
-use Rattle.sja_driver.specs.Deeds.{deeds_at}
 
 -- places of two nodes' links differ
 pub apart : (m node a ended : ℕ) → (m ≡ node → ⊥) → a < 64 → 64 * m + a ≡ place_after (64 * node) ended → ⊥

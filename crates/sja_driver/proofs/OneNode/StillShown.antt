@@ -1,6 +1,7 @@
 -- A port after a step that gave nothing to the bus shows what its node's record says, where it did before.
 use Rattle.std.proofs.Common.{◌≡◌, ℕ, Bool, true, false, Option, Some, None, List, [], ◌∷◌, refl, sym, ap, ◌∙◌, subst}
 use Rattle.std.specs.Prelude.{◌==◌, ◌||◌, ◌&&◌, not, if◌then◌else◌, is_some, unwrap_or}
+use Rattle.std.proofs.Math.Bool.{or-true}
 use Rattle.can_frame.specs.declared.seen.Seen.{Seen}
 use Rattle.sja_link.specs.declared.entry.Entry.{Entry}
 use Rattle.sja_regs.specs.declared.bus_turn.BusTurn.{BusTurn}
@@ -18,8 +19,7 @@ use Rattle.sja_regs.specs.Reading.{after_reading_at}
 use Rattle.sja_regs.specs.Modes.{mode_of}
 use Rattle.sja_regs.specs.Refusals.{first_fault}
 use Rattle.sja_regs.specs.Registers.{is_raw, asks_off, is_forced}
-use Rattle.sja_regs.specs.Turns.{rs_told, ts_told, stands_still, follows_node}
-use Rattle.sja_regs.specs.Turns.{rxerr_after, txerr_after, bs_after}
+use Rattle.sja_regs.specs.Turns.{rs_told, ts_told, stands_still, follows_node, rxerr_after, txerr_after, bs_after}
 use Rattle.sja_regs.specs.Writing.{after_forced_off, write_faults_at, after_writing_at}
 use Rattle.sja_script.specs.declared.step.Step.{Step}
 use Rattle.sja_script.specs.declared.step.Step.TheVariants.{Start, Stop, Window, Release, Read}
@@ -29,7 +29,6 @@ use Rattle.sja_script.specs.declared.step_answer.StepAnswer.TheVariants.{Done}
 use Rattle.sja_driver.specs.Answers.{done_unless}
 use Rattle.sja_driver.specs.Carried.{Tells, carried, ported}
 use Rattle.sja_driver.proofs.Step.Modes.{write_rm}
-use Rattle.sja_link.proofs.Ledger.Small.{or_true}
 use Rattle.sja_driver.specs.Shown.{ShowsRecord}
 
 -- counters and BS of q are those of p and the node's in the same turns, or they are the node's in no turn
@@ -137,7 +136,7 @@ write_alike (Some ErrorWarningLimit) v p h =
 write_alike (Some ReceiveErrorCounter) v p h =
     record {
       counts = own_counts (λ t. unfollowed (is_raw p) (t.activation == p.activation) (is_some p.set_tec || true)
-          (raw_written (is_raw p) ((not p.mode.rm, ResetOnly) ∷ []) h) (or_true (is_some p.set_tec)));
+          (raw_written (is_raw p) ((not p.mode.rm, ResetOnly) ∷ []) h) (or-true (is_some p.set_tec)));
       rs = refl;
       ts = refl;
       still = λ t. refl;

@@ -11,7 +11,7 @@ use Rattle.sja_script.specs.declared.step_answer.StepAnswer.{StepAnswer}
 use Rattle.sja_script.specs.declared.step_answer.StepAnswer.TheVariants.{Done}
 use Rattle.sja_driver.specs.Carried.{ported}
 use Rattle.sja_driver.specs.Deeds.{opened}
-use Rattle.sja_regs.proofs.Untouched.{read_leaves, write_leaves}
+use Rattle.sja_regs.proofs.Calls.Untouched.{read_leaves, write_leaves}
 
 min_few : (n : ℕ) → n < 64 → min 255 (n + 1) ≡ n + 1
 min_few n few = grind arith

@@ -25,7 +25,7 @@ use Rattle.sja_driver.specs.Answers.{done_unless}
 use Rattle.sja_driver.specs.Carried.{Tells, carried, ported, asks_abort}
 use Rattle.sja_driver.specs.Deeds.{FitsState}
 use Rattle.sja_driver.specs.Ports.{send_of}
-use Rattle.sja_regs.proofs.Untouched.{read_leaves, write_leaves}
+use Rattle.sja_regs.proofs.Calls.Untouched.{read_leaves, write_leaves}
 
 -- ---- TBS
 

@@ -1,7 +1,7 @@
 -- Registers and driver after a step that was tried.
-use Rattle.std.proofs.Common.{◌≡◌, ◌≤◌, ◌&&◌, not, ℕ, Bool, true, false, List, [], ◌∷◌, length, refl, sym, ap, ◌∙◌}
-use Rattle.std.proofs.Common.{subst, arith}
+use Rattle.std.proofs.Common.{◌≡◌, ◌≤◌, ◌&&◌, not, ℕ, Bool, true, false, List, length, refl, sym, ap, ◌∙◌, subst, arith}
 use Rattle.std.specs.Prelude.{if◌then◌else◌}
+use Rattle.lemmas.proofs.Lists.{some_of}
 use Rattle.sja_link.specs.Lists.{Lists}
 use Rattle.sja_regs.specs.declared.registers.Registers.{Registers}
 use Rattle.sja_regs.specs.declared.mode.Mode.{Mode}
@@ -23,11 +23,6 @@ use Rattle.sja_driver.specs.Deeds.{FitsState}
 use Rattle.sja_driver.specs.LoggedDrivers.{driver_of, Steps}
 use Rattle.sja_driver.specs.Tries.{Tried, is_met, is_out_after}
 use Rattle.sja_driver.specs.Tries.Tried.{Unmet, Answered, Released, Ended}
-
--- a list that has an element
-pub some_of : {E : Type 0} (xs : List E) → 1 ≤ length xs → E
-some_of [] h = absurd (omega (arith, h))
-some_of (x ∷ xs) h = x
 
 -- steps of other kinds aren't equal
 abbrev kind_of : Step → ℕ
@@ -57,7 +52,7 @@ pub unmet : {E : Type 0} {alike : E → E → Type 0} {stands : E → Lists → 
     {was now : LoggedDriver} {links links_now : List E} {base bits : ℕ} {p q : Registers} {step : Step} {done : Bool} →
     Steps alike stands dry full was now links links_now base p q step bits done → done ≡ false → 1 ≤ length links →
     (q ≡ p) × (is_out (driver_of now) ≡ is_out (driver_of was))
-unmet {step = step} s e n = let d = some_of _ n in unmet_by step s.tried (sym s.met ∙ e) (s.acts d d)
+unmet {step = step} s e n = let d = some_of _ 0 n in unmet_by step s.tried (sym s.met ∙ e) (s.acts d d)
 
 -- ---- a stop out of reset enters reset mode
 
@@ -75,7 +70,7 @@ pub stopped : {E : Type 0} {alike : E → E → Type 0} {stands : E → Lists �
     {was now : LoggedDriver} {links links_now : List E} {base bits : ℕ} {p q : Registers} {done : Bool} →
     Steps alike stands dry full was now links links_now base p q Stop bits done → done ≡ true → 1 ≤ length links →
     is_out (driver_of was) ≡ true → (q ≡ after_entering_reset p) × (is_out (driver_of now) ≡ false)
-stopped s e n out = let d = some_of _ n in stopped_by s.tried (sym s.met ∙ e) out (s.acts d d)
+stopped s e n out = let d = some_of _ 0 n in stopped_by s.tried (sym s.met ∙ e) out (s.acts d d)
 
 -- ---- whether a bus-off is asked for hangs on no other bit of MOD
 
@@ -131,7 +126,7 @@ pub written : {E : Type 0} {alike : E → E → Type 0} {stands : E → Lists �
     1 ≤ length links → (mode_of value).rm ≡ true → StaysInReset p →
     StaysInReset q × (is_out (driver_of now) ≡ is_out (driver_of was))
 written {value = value} s e n new h =
-    let d = some_of _ n in written_by value s.tried (sym s.met ∙ e) new h (s.acts d d)
+    let d = some_of _ 0 n in written_by value s.tried (sym s.met ∙ e) new h (s.acts d d)
 
 -- ---- a command leaves MOD as it is
 
@@ -156,4 +151,4 @@ pub commanded : {E : Type 0} {alike : E → E → Type 0} {stands : E → Lists 
     {was now : LoggedDriver} {links links_now : List E} {base bits : ℕ} {p q : Registers} {value : ℕ} {done : Bool} →
     Steps alike stands dry full was now links links_now base p q (Command value) bits done → 1 ≤ length links →
     q.mode ≡ p.mode
-commanded {value = value} s n = let d = some_of _ n in commanded_by value s.tried (s.acts d d)
+commanded {value = value} s n = let d = some_of _ 0 n in commanded_by value s.tried (s.acts d d)

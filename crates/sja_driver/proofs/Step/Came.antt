@@ -29,8 +29,7 @@ use Rattle.sja_driver.specs.Tries.Tried.{Unmet, Answered, Released, Ended}
 use Rattle.sja_driver.proofs.Step.Giving.{gives_carried}
 use Rattle.sja_driver.proofs.LogOfSteps.Going.{holds_deed, gave_of}
 use Rattle.sja_driver.proofs.Step.Left.{leaves_last, leaves_before, leaves_else, leaves_more, released_same}
-use Rattle.sja_driver.proofs.Step.Left.{released_one}
-use Rattle.sja_driver.proofs.Step.Left.{released_none}
+use Rattle.sja_driver.proofs.Step.Left.{released_one, released_none}
 use Rattle.sja_driver.proofs.LogOfSteps.Sections.{deeds_here, deeds_else}
 use Rattle.sja_driver.proofs.LogOfSteps.Stepping.{left_count}
 use Rattle.sja_driver.proofs.LogOfSteps.Traced.{lengths, traces_deed, stands_answered, stands_released, stands_ended}

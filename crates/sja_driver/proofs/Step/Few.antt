@@ -26,7 +26,7 @@ use Rattle.sja_link.proofs.Ledger.Holding.{told_stored}
 use Rattle.sja_link.proofs.Ledger.Judging.{kept_stored}
 use Rattle.sja_driver.specs.Deeds.{Deed, opens_by, Gives, given_in, released_lengths, section_from, deeds_of}
 use Rattle.sja_driver.proofs.Step.CreditsGiven.{credits_in}
-use Rattle.sja_link.proofs.JournalEntries.FramesReceived.{AreFrames, all_frames, message_fits}
+use Rattle.can_node.proofs.Requests.FramesReceived.{AreFrames, all_frames, message_fits}
 
 -- ---- a message has 3 to 13 bytes
 

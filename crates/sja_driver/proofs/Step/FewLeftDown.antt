@@ -27,8 +27,7 @@ use Rattle.sja_link.proofs.JournalEntries.Counting.{messages_few}
 use Rattle.sja_link.proofs.JournalEntries.ListCounts.{messages_both}
 use Rattle.sja_link.specs.World.{is_off, bytes_of}
 use Rattle.sja_driver.specs.Deeds.{Deed, Gives, given_in, released_lengths, deeds_of}
-use Rattle.sja_driver.proofs.Step.Few.{all_of, room_all, bytes_stored, credits_taken, credits_section}
-use Rattle.sja_driver.proofs.Step.Few.{bytes_lengths}
+use Rattle.sja_driver.proofs.Step.Few.{all_of, room_all, bytes_stored, credits_taken, credits_section, bytes_lengths}
 
 -- ---- a message has at least 3 bytes, whatever frame it is of
 

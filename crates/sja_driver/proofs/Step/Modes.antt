@@ -14,7 +14,7 @@ use Rattle.sja_regs.specs.Modes.{mode_of}
 use Rattle.sja_regs.specs.Refusals.{first_fault}
 use Rattle.sja_regs.specs.Registers.{after_leaving_reset, asks_off, is_forced}
 use Rattle.sja_regs.specs.Writing.{write_faults_at, after_forced_off, after_writing_at}
-use Rattle.sja_regs.proofs.KeepLemmas.{read_keeps, write_keeps, leaving_keeps}
+use Rattle.sja_regs.proofs.Calls.KeepLemmas.{read_keeps, write_keeps, leaving_keeps}
 use Rattle.sja_script.specs.declared.step.Step.{Step}
 use Rattle.sja_script.specs.declared.step.Step.TheVariants.{Start, Stop, Window, Release, Read, Write, Load, Command}
 use Rattle.sja_script.specs.declared.step.Step.TheVariants.{Await, Sent, Interrupt}

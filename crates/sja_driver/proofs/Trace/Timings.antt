@@ -11,22 +11,18 @@ use Rattle.sja_link.specs.declared.down.Down.{Down}
 use Rattle.sja_link.specs.declared.up.Up.{Up}
 use Rattle.sja_link.specs.declared.up.Up.TheVariants.{Stop}
 use Rattle.sja_link.specs.declared.entry.Entry.{Entry}
-use Rattle.sja_link.specs.declared.entry.Entry.TheVariants.{Bit, Up as Item, Abort, Stored, Overrun, Off}
+use Rattle.sja_link.specs.declared.entry.Entry.TheVariants.{Bit, Up as Item}
 use Rattle.lemmas.specs.Gathering.{gathered}
 use Rattle.sja_link.specs.Places.{JournalPlace, first_place, past, past_all, place_of, Placed, placed_from}
 use Rattle.sja_link.specs.Parts.{in_part, entry_at, part}
 use Rattle.sja_link.specs.Carried.{taken_in, put_in, taken_of, put_of}
-use Rattle.lemmas.specs.Picking.{EachAfter}
 use Rattle.sja_link.proofs.JournalEntries.Entering.{place_push, of_part_here, of_part_else, of_part_none, part_here}
 use Rattle.sja_link.proofs.JournalEntries.Entering.{part_else, all_rise}
 use Rattle.lemmas.proofs.Gathered.{gathered_push}
-use Rattle.sja_link.proofs.Ledger.Judging.{each_push}
-use Rattle.sja_driver.specs.Deeds.{Deed}
 use Rattle.sja_driver.specs.Timing.{Timed, timed, taken_when}
 use Rattle.sja_driver.proofs.Trace.Waiting.{WaitsInTime}
 use Rattle.sja_link.proofs.JournalEntries.Orders.{HasStop, GivesInOrder, TakesInOrder}
 use Rattle.sja_driver.specs.Windows.{put_by}
-use Rattle.sja_driver.specs.Aborting.{IsCommanded, AbortIsDue}
 
 -- ---- when
 
@@ -222,34 +218,3 @@ pub put_now : (j : List Entry) (a : ℕ) → put_by (place_of j).bits j a ≡ pu
 put_now j a = all_put (place_of j).bits first_place j a (omega arith)
 
 -- ---- aborts
-
--- a log that goes on keeps what was commanded
-pub commanded_on : (steps : List Deed) (d : Deed) (before : List Entry) → IsCommanded steps before →
-    IsCommanded (steps ++ d ∷ []) before
-commanded_on steps d before h = record {
-  early = h.early;
-  command = h.command;
-  late = h.late ++ d ∷ [];
-  whole = ap (λ l. l ++ d ∷ []) h.whole ∙ append_assoc h.early (h.command ∷ h.late) (d ∷ []);
-  is_abort = h.is_abort;
-  by_then = h.by_then;
-  later = h.later;
-}
-
-due_on : (steps : List Deed) (d : Deed) (before : List Entry) (e : Entry) → AbortIsDue steps before e →
-    AbortIsDue (steps ++ d ∷ []) before e
-due_on steps d before Abort h = commanded_on steps d before h
-due_on steps d before (Bit driven seen) h = tt
-due_on steps d before (Item u) h = tt
-due_on steps d before (Stored m) h = tt
-due_on steps d before (Overrun m) h = tt
-due_on steps d before Off h = tt
-
-pub aborts_on : (steps : List Deed) (d : Deed) (before es : List Entry) → EachAfter (AbortIsDue steps) before es →
-    EachAfter (AbortIsDue (steps ++ d ∷ [])) before es
-aborts_on steps d before [] h = tt
-aborts_on steps d before (e ∷ es) h = (due_on steps d before e h.0, aborts_on steps d (before ++ e ∷ []) es h.1)
-
-pub aborts_push : (steps : List Deed) (j : List Entry) (e : Entry) → EachAfter (AbortIsDue steps) [] j →
-    AbortIsDue steps j e → EachAfter (AbortIsDue steps) [] (j ++ e ∷ [])
-aborts_push steps j e h due = each_push (AbortIsDue steps) [] j e h due

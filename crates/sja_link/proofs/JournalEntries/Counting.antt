@@ -1,5 +1,5 @@
 -- Whether an element of a list counts.
-use Rattle.std.proofs.Common.{◌≡◌, ◌≢◌, ℕ, ◌<◌, ◌≤◌, List, [], ◌∷◌, length, get_or, take, drop, zero, suc, arith, refl}
+use Rattle.std.proofs.Common.{◌≡◌, ◌≢◌, ℕ, ◌<◌, ◌≤◌, List, [], ◌∷◌, length, get_or, drop, zero, suc, arith, refl}
 use Rattle.std.proofs.Common.{sym, ap, ◌∙◌, subst}
 use Rattle.std.proofs.lemmas.List.{drop_all}
 use Rattle.can_node.specs.declared.config.Config.{Config}
@@ -9,37 +9,10 @@ use Rattle.sja_link.specs.declared.down.Down.TheVariants.{Message, Off}
 use Rattle.sja_link.specs.declared.up.Up.{Up}
 use Rattle.sja_link.specs.declared.up.Up.TheVariants.{Start, Credit, Send, Stop}
 use Rattle.lemmas.specs.Gathering.{total}
+use Rattle.lemmas.proofs.Gathered.{counted_here}
 use Rattle.sja_link.specs.Lists.{messages}
 use Rattle.sja_link.specs.World.{is_start, is_send, is_stop, is_off}
 use Rattle.sja_link.specs.WorldEvents.{first_credit}
-
-counted : {A : Type 0} (f : A → ℕ) (xs : List A) (k : ℕ) (d : A) → k < length xs →
-    1 ≤ f (get_or xs k d) → 1 ≤ total f xs
-counted f [] k d less some = absurd (omega (arith, less))
-counted f (x ∷ xs) zero d less some = omega (arith, some)
-counted f (x ∷ xs) (suc k) d less some = let n = counted f xs k d (omega (arith, less)) some in omega (arith, n)
-
-not_counted : {A : Type 0} (f : A → ℕ) (xs : List A) (k : ℕ) (d : A) → k < length xs → f (get_or xs k d) ≡ 0 →
-    total f (take k xs) ≡ 0 →
-    total f (take (suc k) xs) ≡ 0
-not_counted f [] k d less none before = absurd (omega (arith, less))
-not_counted f (x ∷ xs) zero d less none before = omega (arith, none)
-not_counted f (x ∷ xs) (suc k) d less none before =
-    let n = not_counted f xs k d (omega (arith, less)) none (omega (arith, before)) in omega (arith, n, before)
-
--- the element at this place counts
-pub counted_here : {A : Type 0} (f : A → ℕ) (xs : List A) (k : ℕ) (x y : A) → k < length xs → x ≡ get_or xs k x →
-    x ≡ y → f y ≡ 1 → total f xs ≢ 0
-counted_here f xs k x y less here same one none =
-    let P : _ → Type 0 = λ z. 1 ≤ f z in
-    let some : 1 ≤ f x = subst P (sym same) (omega (arith, one)) in
-    let n = counted f xs k x less (subst P here some) in omega (arith, n, none)
-
--- it doesn't, and none before it does
-pub not_counted_here : {A : Type 0} (f : A → ℕ) (xs : List A) (k : ℕ) (x : A) → k < length xs → x ≡ get_or xs k x →
-    f x ≡ 0 → total f (take k xs) ≡ 0 →
-    total f (take (suc k) xs) ≡ 0
-not_counted_here f xs k x less here none before = not_counted f xs k x less (subst (λ z. f z ≡ 0) here none) before
 
 pub not_start : (x : Up) → ((config : Config) → x ≢ Start config) → is_start x ≡ 0
 not_start (Start config) h = absurd (h config refl)

@@ -1,6 +1,6 @@
 -- Verdicts of a journal with an entry more.
-use Rattle.std.proofs.Common.{◌≡◌, ℕ, ◌+◌, ◌<◌, ◌≤◌, Bool, true, false, Option, List, [], ◌∷◌, ◌++◌, map, refl, sym, ap}
-use Rattle.std.proofs.Common.{ap₂, cond, ◌∙◌, subst, append_assoc, append-nil, arith, inl, inr}
+use Rattle.std.proofs.Common.{◌≡◌, ℕ, ◌+◌, ◌<◌, ◌≤◌, Bool, true, false, Option, List, [], ◌∷◌, ◌++◌, refl, sym, ap}
+use Rattle.std.proofs.Common.{ap₂, cond, ◌∙◌, subst, append-nil, arith, inl, inr}
 use Rattle.std.specs.Prelude.{◌==◌}
 use Rattle.std.proofs.lemmas.Bool.{cases_eq}
 use Rattle.can_frame.specs.declared.filter.Filter.{Filter}
@@ -20,24 +20,14 @@ use Rattle.sja_link.specs.Lists.{messages}
 use Rattle.sja_link.specs.Judged.{Judged, judged_after, judged_at, judged_in, kept_in, kept}
 use Rattle.sja_link.specs.Verdicts.{filter_of, PassesAny, IsAccepted, IsOn, IsDue, HasVerdicts, entry_of}
 use Rattle.lemmas.specs.Picking.{Picks, EachAfter}
-use Rattle.lemmas.specs.Picking.Picks.{nothing, picked, left}
+use Rattle.lemmas.specs.Picking.Picks.{nothing, left}
 use Rattle.lemmas.proofs.Gathered.{gathered_append}
+use Rattle.lemmas.proofs.Picking.{picks_push, leaves_push}
+pub use Rattle.lemmas.proofs.Picking.{each_push}
 use Rattle.sja_link.proofs.JournalEntries.Entering.{of_part_here, of_part_else, of_part_none, of_part_later}
 use Rattle.sja_link.proofs.JournalEntries.Entering.{part_here, part_else}
 
 -- ---- what is picked
-
-pub picks_push : {A B : Type 0} {P : A → Type 0} {R : A → B → Type 0} {xs : List A} {ys : List B} (x : A) (y : B) →
-    P x → R x y → Picks P R xs ys → Picks P R (xs ++ x ∷ []) (ys ++ y ∷ [])
-picks_push x y h r nothing = picked x y h r nothing
-picks_push x y h r (picked v w g q more) = picked v w g q (picks_push x y h r more)
-picks_push x y h r (left v g more) = left v g (picks_push x y h r more)
-
-pub leaves_push : {A B : Type 0} {P : A → Type 0} {R : A → B → Type 0} {xs : List A} {ys : List B} (x : A) → (P x → ⊥) →
-    Picks P R xs ys → Picks P R (xs ++ x ∷ []) ys
-leaves_push x h nothing = left x h nothing
-leaves_push x h (picked v w g q more) = picked v w g q (leaves_push x h more)
-leaves_push x h (left v g more) = left v g (leaves_push x h more)
 
 -- nothing is picked where none has the property
 pub data None_of {A : Type 0} (P : A → Type 0) : List A → Type 0 where
@@ -47,25 +37,6 @@ pub data None_of {A : Type 0} (P : A → Type 0) : List A → Type 0 where
 pub picks_none : {A B : Type 0} {P : A → Type 0} {R : A → B → Type 0} {xs : List A} → None_of P xs → Picks P R xs []
 picks_none no_more = nothing
 picks_none (not_this x h more) = left x h (picks_none more)
-
--- what is picked is one list, as far as the partners are alike
-pub picks_once : {A B C : Type 0} {P : A → Type 0} {R : A → B → Type 0} (g : B → C) →
-    ((x : A) (y z : B) → R x y → R x z → g y ≡ g z) → {xs : List A} {ys zs : List B} →
-    Picks P R xs ys → Picks P R xs zs → map g ys ≡ map g zs
-picks_once g one nothing nothing = refl
-picks_once g one (picked x y h r more) (picked _ z k q others) =
-    ap₂ (λ v l. v ∷ l) (one x y z r q) (picks_once g one more others)
-picks_once g one (picked x y h r more) (left _ k others) = absurd (k h)
-picks_once g one (left x h more) (picked _ z k q others) = absurd (h k)
-picks_once g one (left x h more) (left _ k others) = picks_once g one more others
-
--- ---- what stands before each entry
-
-pub each_push : {X : Type 0} (P : List X → X → Type 0) (before xs : List X) (x : X) → EachAfter P before xs →
-    P (before ++ xs) x → EachAfter P before (xs ++ x ∷ [])
-each_push P before [] x h p = (subst (λ b. P b x) (append-nil before) p, tt)
-each_push P before (y ∷ xs) x h p =
-    (h.0, each_push P (before ++ y ∷ []) xs x h.1 (subst (λ b. P b x) (sym (append_assoc before (y ∷ []) xs)) p))
 
 -- ---- the filter of a part
 

@@ -1,16 +1,11 @@
 -- Small facts of truth values and of lists of one item.
-use Rattle.std.proofs.Common.{◌≡◌, Bool, true, false, [], ◌∷◌, refl}
-use Rattle.std.specs.Prelude.{◌||◌}
+use Rattle.std.proofs.Common.{◌≡◌, Bool, true, false, [], ◌∷◌}
 pub use Rattle.std.proofs.lemmas.Bool.{false_from_ne_true as not_true, true_from_ne_false as not_false}
 use Rattle.sja_link.specs.declared.up.Up.{Up}
 
 pub neither : (b : Bool) → b ≡ true → b ≡ false → ⊥
 neither true e f = cc
 neither false e f = cc
-
-pub or_true : (b : Bool) → (b || true) ≡ true
-or_true true = refl
-or_true false = refl
 
 pub no_item : (u : Up) → u ∷ [] ≡ [] → ⊥
 no_item u e = cc

@@ -12,7 +12,7 @@ use Rattle.lemmas.specs.Picking.Picks.{nothing, picked, left}
 use Rattle.sja_link.specs.Records.{record_of}
 use Rattle.sja_link.specs.Verdicts.{IsOn, IsLawful}
 use Rattle.sja_link.proofs.Ledger.Judging.{kept_stored}
-use Rattle.sja_link.proofs.JournalEntries.FramesReceived.{AreFrames, all_frames}
+use Rattle.can_node.proofs.Requests.FramesReceived.{AreFrames, all_frames}
 
 -- each of them is
 abbrev pub AreMessages : List (List ℕ) → Type 0

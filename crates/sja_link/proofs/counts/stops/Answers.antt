@@ -1,6 +1,7 @@
 use Rattle.std.proofs.Common.{refl, add-one}
+use Rattle.lemmas.proofs.Gathered.{counted_here, not_counted_here}
 use Rattle.sja_link.specs.World.{is_stop}
-use Rattle.sja_link.proofs.JournalEntries.Counting.{counted_here, not_counted_here, not_stop}
+use Rattle.sja_link.proofs.JournalEntries.Counting.{not_stop}
 use Rattle.sja_link.proofs.counts.stops.Goals as goal
 
 pub returns-in-Stop-clause-yes : goal.returns-in-Stop-clause-yes

@@ -1,6 +1,7 @@
 use Rattle.std.proofs.Common.{refl, add-one}
+use Rattle.lemmas.proofs.Gathered.{counted_here, not_counted_here}
 use Rattle.sja_link.specs.World.{is_send}
-use Rattle.sja_link.proofs.JournalEntries.Counting.{counted_here, not_counted_here, not_send}
+use Rattle.sja_link.proofs.JournalEntries.Counting.{not_send}
 use Rattle.sja_link.proofs.counts.waits.Goals as goal
 
 pub returns-in-Send-clause-yes : goal.returns-in-Send-clause-yes

@@ -1,7 +1,7 @@
 use Rattle.sja_driver.specs.AnyDrivers.{is_out}
 use Rattle.sja_driver.specs.LoggedDrivers.{driver_of}
-use Rattle.sja_raw.proofs.Chain.{nothing_left, releases_so}
-use Rattle.sja_raw.proofs.Keeping.{keeps_none}
+use Rattle.sja_raw.proofs.Steps.Chain.{nothing_left, releases_so}
+use Rattle.sja_raw.proofs.Steps.Keeping.{keeps_none}
 use Rattle.sja_raw.proofs.command_write.release_if.Goals as goal
 
 pub returns-then-rrb-clause-writes : goal.returns-then-rrb-clause-writes

@@ -4,9 +4,9 @@ use Rattle.sja_regs.specs.declared.mode.Mode.{Mode}
 use Rattle.sja_regs.specs.Commands.{command_of}
 use Rattle.sja_raw.specs.CommandWrites.{releases, command_byte, command_steps}
 use Rattle.sja_driver.proofs.Step.After.{commanded}
-use Rattle.sja_raw.proofs.CommandBytes.{command_back}
-use Rattle.sja_raw.proofs.Chain.{nothing_left, waits_at, then_at, commands_so, commands_off}
-use Rattle.sja_raw.proofs.Keeping.{keeps_none, keeps_of_two, keeps_then}
+use Rattle.sja_raw.proofs.Bytes.CommandBytes.{command_back}
+use Rattle.sja_raw.proofs.Steps.Chain.{nothing_left, waits_at, then_at, commands_so, commands_off}
+use Rattle.sja_raw.proofs.Steps.Keeping.{keeps_none, keeps_of_two, keeps_then}
 use Rattle.sja_raw.proofs.command_write.write_command.Goals as goal
 
 pub returns-then-is_reset-clause-keeps : goal.returns-then-is_reset-clause-keeps

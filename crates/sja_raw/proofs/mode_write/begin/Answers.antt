@@ -4,9 +4,9 @@ use Rattle.sja_regs.specs.declared.mode.Mode.{Mode}
 use Rattle.sja_regs.specs.Modes.{mode_of}
 use Rattle.sja_regs.specs.Writing.{is_other_mode}
 use Rattle.sja_driver.proofs.Step.After.{written}
-use Rattle.sja_raw.proofs.Chain.{waits_at, then_at, both_left, takes}
-use Rattle.sja_raw.proofs.Keeping.{keeps_of_two, keeps_then, may_less}
-use Rattle.sja_raw.proofs.ModeBytes.{reset_back}
+use Rattle.sja_raw.proofs.Steps.Chain.{waits_at, then_at, both_left, takes}
+use Rattle.sja_raw.proofs.Steps.Keeping.{keeps_of_two, keeps_then, may_less}
+use Rattle.sja_raw.proofs.Bytes.ModeBytes.{reset_back}
 use Rattle.sja_raw.proofs.mode_write.begin.Goals as goal
 
 pub start-requires-clause-room : goal.start-requires-clause-room

@@ -1,6 +1,6 @@
 use Rattle.sja_driver.specs.AnyDrivers.{is_out}
 use Rattle.sja_driver.specs.LoggedDrivers.{driver_of}
-use Rattle.sja_raw.proofs.Chain.{started}
+use Rattle.sja_raw.proofs.Steps.Chain.{started}
 use Rattle.sja_raw.proofs.mode_write.start.Goals as goal
 
 pub returns-clause-writes : goal.returns-clause-writes

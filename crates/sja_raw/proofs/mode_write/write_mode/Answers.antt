@@ -5,8 +5,8 @@ use Rattle.sja_driver.specs.AnyDrivers.{is_out}
 use Rattle.sja_driver.specs.LoggedDrivers.{driver_of}
 use Rattle.sja_raw.specs.ModeWrites.{closing, leaving}
 use Rattle.sja_driver.proofs.Step.After.{stopped, entered_again}
-use Rattle.sja_raw.proofs.Chain.{waits_at, then_at, all_left, stays_so, enters_so, leaves_as}
-use Rattle.sja_raw.proofs.Keeping.{keeps_more, keeps_then, may_less}
+use Rattle.sja_raw.proofs.Steps.Chain.{waits_at, then_at, all_left, stays_so, enters_so, leaves_as}
+use Rattle.sja_raw.proofs.Steps.Keeping.{keeps_more, keeps_then, may_less}
 use Rattle.sja_raw.proofs.mode_write.write_mode.Goals as goal
 
 pub try_step-requires : goal.try_step-requires

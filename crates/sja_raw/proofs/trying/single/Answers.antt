@@ -1,5 +1,5 @@
 use Rattle.std.proofs.Common.{[], arith}
-use Rattle.sja_raw.proofs.Chain.{nothing_left, waits_at, then_at}
+use Rattle.sja_raw.proofs.Steps.Chain.{nothing_left, waits_at, then_at}
 use Rattle.sja_raw.proofs.trying.single.Goals as goal
 
 pub returns-then-try_step-clause-writes : goal.returns-then-try_step-clause-writes

@@ -1,4 +1,4 @@
-use Rattle.sja_raw.proofs.Keeping.{keeps_one, may_step}
+use Rattle.sja_raw.proofs.Steps.Keeping.{keeps_one, may_step}
 use Rattle.sja_raw.proofs.trying.try_step.Goals as goal
 
 pub step-requires : goal.step-requires

@@ -4,8 +4,8 @@ use Rattle.sja_driver.specs.AnyDrivers.{is_out}
 use Rattle.sja_driver.specs.LoggedDrivers.{driver_of}
 use Rattle.sja_raw.specs.CommandWrites.{command_steps}
 use Rattle.sja_raw.specs.RawDrivers.{Writes}
-use Rattle.sja_raw.proofs.Chain.{others_so}
-use Rattle.sja_raw.proofs.Keeping.{keeps_more, may_less}
+use Rattle.sja_raw.proofs.Steps.Chain.{others_so}
+use Rattle.sja_raw.proofs.Steps.Keeping.{keeps_more, may_less}
 use Rattle.sja_raw.proofs.writing.write_typed.Goals as goal
 
 pub write_command-requires : goal.write_command-requires

@@ -1,4 +1,4 @@
-use Rattle.sja_regs.proofs.HistoryLemmas.{ecc_keeps_first}
+use Rattle.sja_regs.proofs.Calls.HistoryLemmas.{ecc_keeps_first}
 use Rattle.sja_regs.proofs.laws.ecc_keeps_the_first_fault.Goals as goal
 
 pub returns : goal.returns

@@ -1,4 +1,4 @@
-use Rattle.sja_regs.proofs.HistoryLemmas.{pending_latched, keep_pending}
+use Rattle.sja_regs.proofs.Calls.HistoryLemmas.{pending_latched, keep_pending}
 use Rattle.sja_regs.proofs.laws.ir_keeps_what_was_raised.Goals as goal
 
 pub returns-clause-kept : goal.returns-clause-kept

@@ -1,4 +1,4 @@
-use Rattle.sja_regs.proofs.HistoryLemmas.{tbs_waits}
+use Rattle.sja_regs.proofs.Calls.HistoryLemmas.{tbs_waits}
 use Rattle.sja_regs.proofs.laws.tbs_waits_for_the_end.Goals as goal
 
 pub returns : goal.returns

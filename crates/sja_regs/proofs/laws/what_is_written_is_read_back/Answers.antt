@@ -1,5 +1,4 @@
-use Rattle.std.proofs.Common.{rules, arith, ◌≡◌, ◌<◌, ◌+◌, ◌%◌, ◌&&◌, not, ℕ, Bool, true, false}
-use Rattle.std.proofs.Common.{Some, if◌then◌else◌}
+use Rattle.std.proofs.Common.{rules, arith, ◌≡◌, ◌<◌, ◌+◌, ◌%◌, ◌&&◌, not, ℕ, Bool, true, false, Some, if◌then◌else◌}
 use Rattle.std.proofs.Common.{refl, ap, ◌∙◌}
 use Rattle.sja_regs.specs.Addresses.{IsPlace}
 use Rattle.sja_regs.specs.Facts.{RegisterFacts}

@@ -1,5 +1,6 @@
 use Rattle.std.proofs.Common.{arith}
-use Rattle.sja_link.proofs.JournalEntries.Decoding.{codes_fit, whole_push, decoded_push}
+use Rattle.sja_link.proofs.JournalEntries.Decoding.{whole_push, decoded_push}
+use Rattle.sja_link.proofs.JournalEntries.CodeRoom.{codes_fit}
 use Rattle.sja_link.proofs.journal.Journal.push.Goals as goal
 
 pub push_reserved-requires : goal.push_reserved-requires

@@ -1,6 +1,7 @@
 use Rattle.std.proofs.Common.{arith, ◌++◌, ◌∷◌, []}
 use Rattle.std.proofs.lemmas.List.{length-append}
-use Rattle.sja_link.proofs.JournalEntries.Decoding.{codes_fit, messages_fit, whole_push, decoded_push_message}
+use Rattle.sja_link.proofs.JournalEntries.Decoding.{whole_push, decoded_push_message}
+use Rattle.sja_link.proofs.JournalEntries.CodeRoom.{codes_fit, messages_fit}
 use Rattle.sja_link.proofs.journal.Journal.push_message.Goals as goal
 
 pub push_reserved-requires : goal.push_reserved-requires

@@ -1,7 +1,8 @@
 use Rattle.std.proofs.Common.{arith, ◌++◌, ◌∷◌, []}
 use Rattle.std.proofs.lemmas.List.{length-append}
 use Rattle.sja_link.specs.declared.code.Code.TheVariants.{Send}
-use Rattle.sja_link.proofs.JournalEntries.Decoding.{codes_fit, requests_fit, whole_push, decoded_push_request}
+use Rattle.sja_link.proofs.JournalEntries.Decoding.{whole_push, decoded_push_request}
+use Rattle.sja_link.proofs.JournalEntries.CodeRoom.{codes_fit, requests_fit}
 use Rattle.sja_link.proofs.journal.Journal.push_request.Goals as goal
 
 pub push_reserved-requires : goal.push_reserved-requires

@@ -1,7 +1,8 @@
 use Rattle.std.proofs.Common.{arith, ◌++◌, ◌∷◌, []}
 use Rattle.std.proofs.lemmas.List.{length-append}
 use Rattle.sja_link.specs.declared.code.Code.TheVariants.{Start}
-use Rattle.sja_link.proofs.JournalEntries.Decoding.{codes_fit, starts_fit, whole_push, decoded_push_start}
+use Rattle.sja_link.proofs.JournalEntries.Decoding.{whole_push, decoded_push_start}
+use Rattle.sja_link.proofs.JournalEntries.CodeRoom.{codes_fit, starts_fit}
 use Rattle.sja_link.proofs.journal.Journal.push_start.Goals as goal
 
 pub push_reserved-requires-2 : goal.push_reserved-requires-2

@@ -1,4 +1,4 @@
-use Rattle.sja_raw.proofs.Keeping.{keeps_look, may_observe}
+use Rattle.sja_raw.proofs.Steps.Keeping.{keeps_look, may_observe}
 use Rattle.sja_raw.proofs.raw_driver.RawDriver.irq.Goals as goal
 
 pub irq-requires : goal.irq-requires

@@ -1,7 +1,8 @@
-use Rattle.std.proofs.Common.{ap, ◌∙◌, arith}
+use Rattle.std.proofs.Common.{◌≡◌, ap, ◌∙◌, arith}
 use Rattle.sja_driver.specs.Logs.{done_in}
-use Rattle.sja_raw.proofs.Keeping.{keeps_one, may_step}
-use Rattle.sja_raw.proofs.ReadBack.{told, steps_met, value_read}
+use Rattle.sja_raw.specs.Kept.{kept_at}
+use Rattle.sja_raw.proofs.Steps.Keeping.{keeps_one, may_step}
+use Rattle.sja_raw.proofs.Steps.ReadBack.{told, steps_met, value_read}
 use Rattle.sja_raw.proofs.raw_driver.RawDriver.read.Goals as goal
 
 pub step-requires : goal.step-requires
@@ -13,8 +14,9 @@ returns-clause-steps g c = let room = c.requires.eight in steps_met c.step.ensur
 pub returns-clause-value : goal.returns-clause-value
 returns-clause-value g c =
     let room = c.requires.eight in
+    let other : c.read-other.result ≡ kept_at c.args.self.now.kept c.args.address = omega arith in
     value_read c.step.ensures.steps (omega (arith, room)) c.args.self.now.kept c.read-other.result c.last_value.result
-    c.done.result.now c.read-other.ensures (c.done.ensures ∙ ap (λ l. done_in l) c.log.ensures) c.last_value.ensures
+    c.done.result.now other (c.done.ensures ∙ ap (λ l. done_in l) c.log.ensures) c.last_value.ensures
 
 pub returns-clause-after : goal.returns-clause-after
 returns-clause-after g c = let room = c.requires.eight in (told c.step.ensures.steps (omega (arith, room))).after

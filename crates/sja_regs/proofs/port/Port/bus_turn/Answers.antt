@@ -1,6 +1,6 @@
 use Rattle.std.proofs.Common.{ap, ◌∙◌}
 use Rattle.sja_regs.specs.Inside.TurnParts.{with_counters}
-use Rattle.sja_regs.proofs.TurnLemmas.{nothing_said}
+use Rattle.sja_regs.proofs.BusTurns.TurnLemmas.{nothing_said}
 use Rattle.sja_regs.proofs.port.Port.bus_turn.Goals as goal
 
 pub returns-else-brings_news-clause-same : goal.returns-else-brings_news-clause-same

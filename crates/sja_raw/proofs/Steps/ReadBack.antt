@@ -3,6 +3,7 @@ use Rattle.std.proofs.Common.{◌≡◌, ◌≤◌, ◌-◌, ℕ, Bool, true, Op
 use Rattle.std.proofs.Common.{length, refl, sym, ap, ◌∙◌, subst, arith}
 use Rattle.std.proofs.lemmas.List.{length-append}
 use Rattle.std.specs.Prelude.{slice_get, unwrap_or}
+use Rattle.lemmas.proofs.Lists.{some_of}
 use Rattle.sja_link.specs.Lists.{Lists}
 use Rattle.sja_regs.specs.declared.registers.Registers.{Registers}
 use Rattle.sja_regs.specs.Addresses.{register_at}
@@ -24,7 +25,6 @@ use Rattle.sja_raw.specs.declared.kept_bytes.KeptBytes.{KeptBytes}
 use Rattle.sja_raw.specs.Reads.{raw_value}
 use Rattle.sja_raw.specs.Inside.Answered.{value_or}
 use Rattle.sja_raw.specs.Kept.{kept_at}
-use Rattle.sja_driver.proofs.Step.After.{some_of}
 
 -- a read is no other step
 abbrev IsRead : Step → Type 0
@@ -65,7 +65,7 @@ pub told : {E : Type 0} {alike : E → E → Type 0} {stands : E → Lists → T
     Steps alike stands dry full was now links links_now base p q (Read address) bits done → 1 ≤ length links →
     Told p q address bits was now done
 told {E} {alike} {stands} {dry} {full} {was} {now} {links} {links_now} {base} {bits} {address} {p} {q} {done} s n =
-    let d = some_of links n in
+    let d = some_of links 0 n in
     told_by alike stands dry full _ _ was now p q address bits s.tried done s.met (s.acts d d) s.logged
 
 pub steps_met : {E : Type 0} {alike : E → E → Type 0} {stands : E → Lists → Type 0} {dry full : E → Type 0}

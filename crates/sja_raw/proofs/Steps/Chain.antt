@@ -1,8 +1,8 @@
 -- Steps that are tried one after the other, and the byte that is left.
 use Rattle.std.proofs.Common.{◌≡◌, ◌≤◌, ℕ, Bool, true, false, Option, Some, None, List, [], ◌∷◌, ◌++◌, length}
 use Rattle.std.proofs.Common.{refl, sym, ap, ◌∙◌, subst, arith}
-use Rattle.std.specs.Prelude.{◌==◌, ◌||◌, not, nat_eq, if◌then◌else◌}
-use Rattle.std.proofs.lemmas.Bool.{and_parts}
+use Rattle.std.specs.Prelude.{◌==◌, ◌||◌, not, if◌then◌else◌}
+use Rattle.std.proofs.lemmas.Bool.{and_parts, ne_eqb}
 use Rattle.sja_link.specs.Lists.{Lists}
 use Rattle.sja_regs.specs.declared.command.Command.{Command as CommandBits}
 use Rattle.sja_regs.specs.declared.mode.Mode.{Mode}
@@ -23,7 +23,7 @@ use Rattle.sja_raw.specs.RawDrivers.{Writes}
 use Rattle.sja_raw.specs.Trying.Tries.{none, waits, done}
 use Rattle.sja_raw.specs.Writes.{write_steps}
 use Rattle.sja_driver.proofs.Step.After.{unmet}
-use Rattle.sja_raw.proofs.ModeBytes.{mode_back, same_mode}
+use Rattle.sja_raw.proofs.Bytes.ModeBytes.{mode_back, same_mode}
 
 -- nothing is to be done
 pub nothing_left : {E : Type 0} {alike : E → E → Type 0} {stands : E → Lists → Type 0} {dry full : E → Type 0}
@@ -187,18 +187,15 @@ leaves_as p out value new written of told is rm =
     (closing out ++ leaving p.mode (mode_of value)) (told ∙ ap (λ (m : Mode). is_written p m) of) is
     (ap (λ (m : Mode). m.rm) (sym of) ∙ rm))
 
-not_at : (n m : ℕ) → (n ≡ m → ⊥) → nat_eq n m ≡ false
-not_at n m h = grind (arith, h)
-
 -- any other address than those of MOD and CMR
 pub others_so : (p : Registers) (out : Bool) (address value : ℕ) → (address ≡ 0 → ⊥) → (address ≡ 1 → ⊥) →
     write_steps p out address value ≡ Write address value ∷ []
 others_so p out address value not_mode not_command =
     ap (λ (b : Bool). if b then mode_steps p.mode (is_forced p) out value
     else if address == 1 then command_steps p (command_of value) else Write address value ∷ [])
-    (not_at address 0 not_mode)
+    (ne_eqb address 0 not_mode)
     ∙ ap (λ (b : Bool). if b then command_steps p (command_of value) else Write address value ∷ [])
-    (not_at address 1 not_command)
+    (ne_eqb address 1 not_command)
 
 -- RRB alone, out of reset mode
 pub releases_so : (p : Registers) (out : Bool) → p.mode.rm ≡ false → write_steps p out 1 4 ≡ Release ∷ []
@@ -210,7 +207,7 @@ pub commands_so : (p : Registers) (c : CommandBits) (n : ℕ) → p.mode.rm ≡ 
 commands_so p c n rm told some =
     ap (λ (b : Bool). if b then [] else commands (command_byte (doable p c)) ++ releases c.rrb) rm
     ∙ ap (λ m. commands m ++ releases c.rrb) (sym told)
-    ∙ ap (λ (b : Bool). (if b then [] else Command n ∷ []) ++ releases c.rrb) (not_at n 0 some)
+    ∙ ap (λ (b : Bool). (if b then [] else Command n ∷ []) ++ releases c.rrb) (ne_eqb n 0 some)
 
 pub commands_none : (p : Registers) (c : CommandBits) (n : ℕ) → p.mode.rm ≡ false → n ≡ command_byte (doable p c) →
     n ≡ 0 → command_steps p c ≡ releases c.rrb

@@ -5,7 +5,7 @@ use Rattle.sja_regs.specs.declared.register.Register.{Register}
 use Rattle.sja_regs.specs.declared.registers.Registers.{Registers}
 use Rattle.sja_regs.specs.Reading.{after_reading_at}
 use Rattle.sja_regs.specs.Writing.{after_writing_at}
-use Rattle.sja_regs.proofs.KeepLemmas.{read_keeps, write_keeps}
+use Rattle.sja_regs.proofs.Calls.KeepLemmas.{read_keeps, write_keeps}
 
 -- these registers are the same
 pub record LeavesRest (p q : Registers) : Type 0 where

@@ -1,8 +1,7 @@
--- What one bit adds to the journal of a node (this project's own rule).
+-- What the bus enters in the journal of a node in one bit (this project's own rule).
 use Rattle.std.specs.Prelude.{◌≡◌, ◌<◌, ℕ, suc, Bool, true, false, if◌then◌else◌, Option, Some, None}
 use Rattle.std.specs.Prelude.{List, [], ◌∷◌, ◌++◌, map}
 use Rattle.can_bits.specs.declared.level.Level.{Level}
-use Rattle.sja_regs.specs.declared.orders.Orders.{Orders}
 use Rattle.sja_link.specs.declared.up.Up.{Up}
 use Rattle.sja_link.specs.declared.verdict.Verdict.{Verdict}
 use Rattle.sja_link.specs.declared.entry.Entry.{Entry}
@@ -10,9 +9,8 @@ use Rattle.sja_link.specs.declared.entry.Entry.TheVariants.{Bit, Up as Item, Abo
 use Rattle.sja_link.specs.NodeWords.{NodeEntry, NodeWentOff}
 use Rattle.sja_link.specs.Places.{past, place_of}
 use Rattle.sja_link.specs.Verdicts.{entry_of}
-use Rattle.sja_wire.specs.Links.{per_node, stops_of}
-use Rattle.sja_wire.specs.OutOfOrder.{IsOutOfOrder}
-use Rattle.sja_wire.specs.Aborting.{IsApplied}
+use Rattle.sja_link.specs.Links.{per_node, stops_of}
+use Rattle.sja_link.specs.OutOfOrder.{IsOutOfOrder}
 
 -- the entries of items that were taken
 abbrev pub entries_of_items : List Up → List Entry
@@ -55,17 +53,6 @@ pub record MayHaveAbort (j k : List Entry) : Type 0 where
   pub changed : Bool
   pub whole : k ≡ j ++ abort_as changed
 
--- the items that were taken, and then an abort or none: none where the port doesn't order one, and where it does as an
--- abort changes the node there
-pub record Opens (has_orders : Orders → Type 0) (j k : List Entry) : Type 0 where
-  pub taken : List Entry
-  pub items : MayHaveItems j taken
-  pub aborts : MayHaveAbort taken k
-  pub orders : Orders
-  pub are_orders : has_orders orders
-  pub unasked : orders.abort ≡ false → aborts.changed ≡ false
-  pub applied : orders.abort ≡ true → IsApplied taken aborts.changed
-
 -- the entry of what came of a message, or none
 abbrev pub judged_as : Option (Verdict × List ℕ) → List Entry
 judged_as None = []
@@ -90,3 +77,10 @@ pub record HasBit (j : List Entry) (driven seen : Level) (k : List Entry) : Type
   pub verdict : Option (Verdict × List ℕ)
   pub off : Bool
   pub whole : k ≡ ((j ++ Bit driven seen ∷ []) ++ judged_as verdict) ++ off_as off
+
+-- a journal has one bit more: an abort that changed the node or none, the bit, and what came of it. No item was taken
+pub record HasOneBit (j k : List Entry) : Type 0 where
+  pub changed : Bool
+  pub driven : Level
+  pub seen : Level
+  pub bit : HasBit (j ++ abort_as changed) driven seen k

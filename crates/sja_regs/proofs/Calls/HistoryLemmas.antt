@@ -13,7 +13,7 @@ use Rattle.sja_regs.specs.Histories.{IsUnread, IsNoRequest, or_else, lost_by, fi
 use Rattle.sja_regs.specs.Histories.{either, both, causes_by, enabled_causes, enters_reset, KeepPending, IsEarlier}
 use Rattle.sja_regs.specs.Histories.{releases, some_release}
 use Rattle.sja_regs.specs.Registers.{is_raw}
-use Rattle.sja_regs.proofs.CallLemmas.{alc_by, ecc_by, pending_by, earlier_by, tbs_by}
+use Rattle.sja_regs.proofs.Calls.CallLemmas.{alc_by, ecc_by, pending_by, earlier_by, tbs_by}
 
 -- the first call, and those after it
 first_unread : (register : Register) (call : Call) (calls : List Call) → IsUnread register (call ∷ calls) →

@@ -11,14 +11,13 @@ use Rattle.sja_link.specs.Parts.{part}
 use Rattle.lemmas.specs.Picking.{EachAfter}
 use Rattle.sja_link.specs.Places.{past, place_of}
 use Rattle.sja_link.specs.World.{is_off, is_start, is_stop}
-use Rattle.lemmas.proofs.Gathered.{gathered_push}
+use Rattle.lemmas.proofs.Gathered.{gathered_push, total_append, total_push}
 use Rattle.sja_link.proofs.JournalEntries.Entering.{part_here, part_else}
-use Rattle.lemmas.proofs.Gathered.{total_append, total_push}
-use Rattle.sja_link.proofs.Ledger.Judging.{each_push}
+use Rattle.lemmas.proofs.Picking.{each_push}
 use Rattle.sja_link.proofs.JournalEntries.Openings.{part_opens}
-use Rattle.sja_wire.specs.Links.{stops_in}
-use Rattle.sja_wire.specs.OutOfOrder.{HasOff}
-use Rattle.sja_wire.specs.Orderly.{IsRunning, IsOrderly, AreOrderly}
+use Rattle.sja_link.specs.Links.{stops_in}
+use Rattle.sja_link.specs.OutOfOrder.{HasOff}
+use Rattle.sja_link.specs.Orderly.{IsRunning, IsOrderly, AreOrderly}
 
 -- an entry more of this activation
 pub orderly_here : (j : List Entry) (e : Entry) (a : ℕ) → AreOrderly j → (past (place_of j) e).activation ≡ a →

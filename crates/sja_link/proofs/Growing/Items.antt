@@ -3,7 +3,7 @@ use Rattle.std.proofs.Common.{◌≡◌, List, [], ◌∷◌, refl, sym, append-
 use Rattle.sja_link.specs.declared.up.Up.{Up}
 use Rattle.sja_link.specs.declared.entry.Entry.{Entry}
 use Rattle.sja_link.specs.Carried.{bits_of}
-use Rattle.sja_wire.specs.OneBit.{MayHaveItems, entries_of_items}
+use Rattle.sja_link.specs.BitEntries.{MayHaveItems, entries_of_items}
 
 -- items are no bits
 pub items_bits : (us : List Up) → bits_of (entries_of_items us) ≡ []

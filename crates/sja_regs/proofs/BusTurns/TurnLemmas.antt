@@ -2,6 +2,7 @@
 use Rattle.std.proofs.Common.{◌≡◌, ◌||◌, ◌&&◌, not, is_some, Bool, true, false}
 use Rattle.std.proofs.Common.{if◌then◌else◌, Option, None, refl, ap, sym, ◌∙◌}
 use Rattle.std.proofs.lemmas.Bool.{and_right}
+use Rattle.std.proofs.Math.Bool.{not-and_self}
 use Rattle.sja_regs.specs.declared.bus_turn.BusTurn.{BusTurn}
 use Rattle.sja_regs.specs.declared.registers.Registers.{Registers}
 use Rattle.sja_regs.specs.Captures.{after_capture}
@@ -10,8 +11,7 @@ use Rattle.sja_regs.specs.Bits.{differ}
 use Rattle.sja_regs.specs.declared.interrupts.Interrupts.{Interrupts}
 use Rattle.sja_regs.specs.Registers.{is_raw, shown_state, error_causes, pending_in_reset}
 use Rattle.sja_regs.specs.Turns.{is_live, is_sent, ends, goes_off, may_tell, dos_after, tbs_after, abort_after}
-use Rattle.sja_regs.specs.Turns.{with_node}
-use Rattle.sja_regs.specs.Turns.{code_of_fault, lost_in, fault_in, causes, after_turn}
+use Rattle.sja_regs.specs.Turns.{with_node, code_of_fault, lost_in, fault_in, causes, after_turn}
 use Rattle.sja_regs.specs.Keeping.{OnlyEnabled, BringsNoNews, SaysTheSame}
 use Rattle.sja_regs.specs.Inside.TurnParts.{activity, with_counters, with_role, with_news}
 
@@ -76,10 +76,6 @@ only_enabled p q turn h = rw h (turn_enabled p turn)
 
 -- ---- a turn that brought nothing to its activation
 
-not_and : (a : Bool) → (not a && a) ≡ false
-not_and true = refl
-not_and false = refl
-
 none_if : {A : Type 0} (a : Bool) (o : Option A) → o ≡ None → (if a then o else None) ≡ None
 none_if true o e = e
 none_if false o e = refl
@@ -119,7 +115,7 @@ no_activity : (p : Registers) (turn : BusTurn) → BringsNoNews turn →
 no_activity p turn h = λ i. record p.pending {
   ti = ap (λ e. (e && not p.tbs) && p.enabled.ti || p.pending.ti) (no_end p turn h) i;
   doi = (ap (λ d. (not p.dos && d) && p.enabled.doi || p.pending.doi) (keeps_dos p turn h)
-      ∙ ap (λ d. d && p.enabled.doi || p.pending.doi) (not_and p.dos)) i;
+      ∙ ap (λ d. d && p.enabled.doi || p.pending.doi) (not-and_self p.dos)) i;
   ali = ap (λ l. (l && may_tell p p.alc) && p.enabled.ali || p.pending.ali)
       (and_right (is_live p turn) (is_some turn.events.lost) (ap is_some h.lost)) i;
   bei = ap (λ f. (f && may_tell p p.ecc) && p.enabled.bei || p.pending.bei)
@@ -193,3 +189,6 @@ counted p turn h = λ i. record p {
 pub nothing_said : (p : Registers) (turn : BusTurn) → SaysTheSame p turn → with_counters (with_role p turn) turn ≡ p
 nothing_said p turn h =
     ap (λ r. with_counters r turn) (λ i. record p { rs = h.rs i; ts = h.ts i }) ∙ counted p turn h
+
+-- what is said of a whole turn
+pub ruleset whole_turn = (only_enabled, nothing_else)

@@ -12,8 +12,8 @@ use Rattle.sja_link.specs.Carried.{taken_in, taken_of}
 use Rattle.lemmas.proofs.Gathered.{gathered_push}
 use Rattle.lemmas.proofs.Lists.{none_front, none_back}
 use Rattle.sja_link.proofs.JournalEntries.Entering.{part_here, part_else}
-use Rattle.sja_wire.specs.Links.{stops_of}
-use Rattle.sja_wire.specs.OneBit.{entries_of_items, IsRead, AreRead}
+use Rattle.sja_link.specs.Links.{stops_of}
+use Rattle.sja_link.specs.BitEntries.{entries_of_items, IsRead, AreRead}
 
 -- the items that are of an activation
 abbrev pub adds : List Entry → List Up → ℕ → List Up

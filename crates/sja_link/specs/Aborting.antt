@@ -9,7 +9,7 @@ use Rattle.sja_link.specs.NodeWords.{NodeEntry, FinishedPiece, IsCut}
 use Rattle.sja_link.specs.declared.entry.Entry.{Entry}
 use Rattle.sja_link.specs.Places.{place_of}
 use Rattle.sja_link.specs.Records.{record_of}
-use Rattle.sja_wire.specs.Opening.{IsOpen}
+use Rattle.sja_link.specs.Opening.{IsOpen}
 
 -- what an abort at the end of a record does, by its cut
 abbrev pub abort_in : {entries : List NodeEntry} {found : List FinishedPiece} → IsCut entries found → Aborted

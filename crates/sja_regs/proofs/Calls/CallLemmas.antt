@@ -28,7 +28,7 @@ use Rattle.sja_regs.specs.Calls.{Call, Turn, Read, Write, Load, Give, LeaveReset
 use Rattle.sja_regs.specs.Calls.{EnterReset, Restore, Close, Finish, unless_refused, after_call}
 use Rattle.sja_regs.specs.Histories.{IsNoRequest, lost_by, fault_by, either, both, if_done, causes_by, enters_reset}
 use Rattle.sja_regs.specs.Histories.{IsEarlier, releases}
-use Rattle.sja_regs.proofs.KeepLemmas.{read_keeps, write_keeps, leaving_keeps}
+use Rattle.sja_regs.proofs.Calls.KeepLemmas.{read_keeps, write_keeps, leaving_keeps}
 
 -- a refused call keeps what a call keeps that is done
 unless_keeps : {A : Type 0} (f : Registers → A) (fault : Option RegFault) (p q : Registers) → f q ≡ f p →

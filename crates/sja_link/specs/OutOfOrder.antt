@@ -12,8 +12,8 @@ use Rattle.sja_link.specs.Places.{place_of}
 use Rattle.sja_link.specs.Parts.{part}
 use Rattle.sja_link.specs.Records.{record_of}
 use Rattle.sja_link.specs.Free.{IsFree}
-use Rattle.sja_wire.specs.Links.{stops_of}
-use Rattle.sja_wire.specs.Opening.{IsOpen, IsBetween}
+use Rattle.sja_link.specs.Links.{stops_of}
+use Rattle.sja_link.specs.Opening.{IsOpen, IsBetween}
 
 -- the activation whose link is read: the next one after those that have ended
 abbrev pub read_in : List Entry → ℕ

@@ -6,7 +6,7 @@ use Rattle.can_node.specs.Cut.{IsCut}
 use Rattle.can_node.specs.FinishedPieces.{FinishedPiece}
 use Rattle.sja_link.specs.declared.entry.Entry.{Entry}
 use Rattle.sja_link.specs.Places.{place_of}
-use Rattle.sja_wire.specs.Aborting.{abort_in, changes, IsApplied}
+use Rattle.sja_link.specs.Aborting.{abort_in, changes, IsApplied}
 use Rattle.sja_link.specs.Records.{record_of}
 
 same_changes : (changed : Bool) (a : Aborted) → changed ≡ changes a → a ≡ Unchanged → changed ≡ false

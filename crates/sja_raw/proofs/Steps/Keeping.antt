@@ -1,7 +1,8 @@
 -- What steps of a driver leave in order.
 use Rattle.std.proofs.Common.{◌≡◌, ◌+◌, ◌<◌, ◌≤◌, ℕ, Bool, List, refl, ◌∙◌, subst, arith, inl, inr}
-use Rattle.std.specs.Prelude.{◌⊎◌, false, min}
+use Rattle.std.specs.Prelude.{◌⊎◌, false}
 use Rattle.std.proofs.lemmas.Slice.Zip.{AllZip-long}
+use Rattle.std.proofs.Math.Nat.{min-le_right}
 use Rattle.lemmas.proofs.Related.{each_refl, each_trans}
 use Rattle.sja_link.specs.declared.link_id.LinkId.{LinkId}
 use Rattle.sja_driver.specs.declared.logged_driver.LoggedDriver.{LoggedDriver}
@@ -32,13 +33,10 @@ pub may_observe : {E : Type 0} {link : E → LinkId} {was : LoggedDriver} {links
     MayTry link was links base 0 → MayObserve link was links base
 may_observe h = record { lawful = h.lawful; eight = h.eight; ids = h.ids }
 
-min_last : (n : ℕ) → min n 63 ≤ 63
-min_last n = grind arith
-
 -- a link of another node isn't that of the present activation
 elsewhere : (i base ended : ℕ) → (i < base) ⊎ (base + 64 ≤ i) → i ≡ place_after base ended → ⊥
-elsewhere i base ended (inl less) e = let m = min_last ended in omega (arith, less, e, m)
-elsewhere i base ended (inr more) e = let m = min_last ended in omega (arith, more, e, m)
+elsewhere i base ended (inl less) e = let m = min-le_right ended 63 in omega (arith, less, e, m)
+elsewhere i base ended (inr more) e = let m = min-le_right ended 63 in omega (arith, more, e, m)
 
 -- one step
 pub keeps_one : {E : Type 0} (link : E → LinkId) (alike : E → E → Type 0) (was now : LoggedDriver)

@@ -2,7 +2,7 @@
 use Rattle.std.specs.Prelude.{◌≡◌, suc, List}
 use Rattle.sja_link.specs.declared.entry.Entry.{Entry}
 use Rattle.sja_link.specs.Places.{place_of}
-use Rattle.sja_wire.specs.Links.{stops_of}
+use Rattle.sja_link.specs.Links.{stops_of}
 
 -- one is: it has begun, and wasn't stopped
 abbrev pub IsOpen : List Entry → Type 0

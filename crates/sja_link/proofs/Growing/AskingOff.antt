@@ -6,7 +6,7 @@ use Rattle.can_node.specs.declared.request.Request.{Request}
 use Rattle.sja_link.specs.declared.up.Up.TheVariants.{Send}
 use Rattle.sja_link.specs.declared.entry.Entry.{Entry}
 use Rattle.sja_link.specs.declared.entry.Entry.TheVariants.{Up as Item, Off}
-use Rattle.sja_wire.specs.OutOfOrder.{HasOff, HasAskedOff}
+use Rattle.sja_link.specs.OutOfOrder.{HasOff, HasAskedOff}
 
 -- an element of a list with one more is the last one, or stood there before
 abbrev Split : {A : Type 0} → List A → A → A → List A → List A → Type 0

@@ -1,0 +1,3 @@
+-- The last bit of a journal.
+pub mod LastBit
+pub mod EndsOnce

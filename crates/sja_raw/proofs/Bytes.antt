@@ -1,0 +1,3 @@
+-- MOD and CMR as bytes.
+pub mod ModeBytes
+pub mod CommandBytes
