@@ -5,7 +5,7 @@ use Rattle.std.proofs.lemmas.Bool.{cases_eq}
 use Rattle.std.proofs.lemmas.List.{length-set, get_or_default as or_same}
 use Rattle.std.proofs.lemmas.List.{get_or-set_same as set_here, get_or-set_other as set_there}
 use Rattle.sja_link.specs.Deques.{Deques}
-use Rattle.sja_wire.specs.Links.{Numbered}
+use Rattle.sja_link.specs.Links.{Numbered}
 
 -- one changed, and is that link still
 pub numbered_still : (links : List Deques) (place : ℕ) (x new : Deques) → place < length links →

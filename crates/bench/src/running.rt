@@ -1,7 +1,7 @@
 //! Bits of a bus in one thread.
 
 ghost use Rattle.std.specs.Prelude.{◌≡◌, ◌≤◌, ◌*◌, length};
-ghost use Rattle.sja_wire.specs.Links.{Numbered};
+ghost use Rattle.sja_link.specs.Links.{Numbered};
 
 use sja_bus::{Bus, SerialBoard};
 use sja_link::DequeLink;

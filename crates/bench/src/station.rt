@@ -1,7 +1,7 @@
 //! [`Station`]: a bus in one thread with a driver out of reset for each node.
 
 ghost use Rattle.std.specs.Prelude.{◌≡◌, ◌≤◌, ◌*◌, length, IfOk};
-ghost use Rattle.sja_wire.specs.Links.{Numbered};
+ghost use Rattle.sja_link.specs.Links.{Numbered};
 
 use super::running::run_bits;
 use can_frame::{Message, OutOfMemory};

@@ -2,14 +2,11 @@
 pub mod StrikesByBit
 -- ---- what holds of every bus
 pub mod Resting
--- ---- where a journal is full
--- ---- the links and ports of the nodes
-pub mod NewLinks
+-- ---- the ports of the nodes
 pub mod Boards
 -- ---- all nodes of a bus
 pub mod TakingAll
 pub mod Moment
--- ---- why a bus stops
 -- ---- bits that are run at once, and one after another
 pub mod Stretches
 pub mod Several

@@ -12,7 +12,7 @@ use Rattle.sja_regs.specs.declared.bus_turn.BusTurn.{BusTurn}
 use Rattle.sja_wire.specs.declared.bus_fault.BusFault.{BusFault}
 use Rattle.sja_wire.specs.declared.bus_fault.BusFault.TheVariants.{JournalFull}
 use Rattle.sja_wire.specs.Wire.{journal_at}
-use Rattle.sja_wire.specs.OneBit.{MayHaveItems}
+use Rattle.sja_link.specs.BitEntries.{MayHaveItems}
 use Rattle.sja_wire.specs.Buses.{BusValue, EachJournal, KeepsAll, untold_at, IsBit}
 use Rattle.sja_wire.specs.Reasons.{room_for}
 use Rattle.sja_bus.specs.Resting.{RestsAs}

@@ -8,7 +8,7 @@ use Rattle.lemmas.specs.Related.{EachRelated}
 use Rattle.sja_link.specs.Parts.{part}
 use Rattle.sja_link.specs.Carried.{taken_of}
 use Rattle.sja_wire.specs.Wire.{journal_at}
-use Rattle.sja_wire.specs.Links.{per_node, Kept}
+use Rattle.sja_link.specs.Links.{per_node, Kept}
 use Rattle.sja_wire.specs.Buses.{AllDry}
 
 -- the lists of the link of an activation where nothing was put on it since the first journal, and what was taken from

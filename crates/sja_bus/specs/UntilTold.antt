@@ -1,9 +1,10 @@
 -- Bits of a bus up to the first in which a port is told its turn (this project's own rule).
-use Rattle.std.specs.Prelude.{◌≡◌, ◌+◌, ◌<◌, ◌≤◌, ℕ, Bool, true, List, [], ◌∷◌, ◌++◌, length}
+use Rattle.std.specs.Prelude.{◌≡◌, ◌+◌, ◌<◌, ◌≤◌, ℕ, Bool, true, false, List, [], ◌∷◌, ◌++◌, length}
 use Rattle.can_bits.specs.declared.level.Level.{Level}
 use Rattle.sja_link.specs.declared.entry.Entry.{Entry}
 use Rattle.sja_link.specs.declared.entry.Entry.TheVariants.{Bit}
 use Rattle.sja_link.specs.declared.bus_end.BusEnd.{Ghosts as Ends}
+use Rattle.sja_regs.specs.declared.bus_turn.BusTurn.{BusTurn}
 use Rattle.sja_regs.specs.declared.orders.Orders.{Orders}
 use Rattle.sja_script.specs.Striking.{Strikes}
 use Rattle.sja_bus.specs.declared.board.Board.{Ghosts as Ports}
@@ -12,6 +13,8 @@ use Rattle.sja_bus.specs.Moment.{Moment, OneBit}
 use Rattle.sja_wire.specs.Reasons.{room_for}
 use Rattle.sja_bus.specs.Several.{AllRest, AreBits, BreaksOff, WorksIf}
 use Rattle.sja_wire.specs.declared.bus_fault.BusFault.{BusFault}
+use Rattle.sja_link.specs.BitEntries.{HasBit}
+use Rattle.sja_wire.specs.Telling.{IsTurn}
 use Rattle.sja_wire.specs.Wire.{journal_at}
 
 -- a journal has bits more and nothing else: no item was taken, nothing aborted, no message judged, and the node didn't
@@ -38,18 +41,44 @@ abbrev pub StopsUntilTold : {E B : Type 0} → Ends E → Ports B → Bool → �
 StopsUntilTold e b to_rest count was =
     BreaksOff e.stands e.full b.orders_are (λ k. OneBit e b) (WorksUntold to_rest was) count was
 
--- why no such bit was run, of so many that were asked for: none was asked for, or none is left; or every node is at
--- rest, and it was asked that some work; or the script strikes one of eight nodes in the next bit; or something is
--- untold of a node, or its port wants an abort, or the reserved entries of its journal are used
+-- the turn is that of the last bit of this journal, before which nothing was taken and nothing aborted
+pub record IsLastTurn (journal : List Entry) (turn : BusTurn) : Type 0 where
+  pub before : List Entry
+  pub driven : Level
+  pub seen : Level
+  pub bit : HasBit before driven seen journal
+  pub is : IsTurn false before driven seen journal bit turn
+
+-- why no bit more is run, of so many that were asked for, after n of them
+pub data NoMore (to_rest : Bool) (count n : ℕ) (bus : BusValue) : Type 0 where
+  -- they were all that were asked for
+  all_run : n ≡ count → NoMore to_rest count n bus
+  -- none is left
+  spent : bus.left ≡ 0 → NoMore to_rest count n bus
+  -- every node is at rest, and it was asked that some work
+  rests : to_rest ≡ true → AllRest bus.journals → NoMore to_rest count n bus
+  -- the script strikes one of eight nodes in the next bit
+  struck : (node : ℕ) → node < 8 → Strikes bus.script bus.run node → NoMore to_rest count n bus
+  -- the reserved entries of some node's journal are used
+  full : (node : ℕ) → node < length bus.journals →
+      room_for (bus.run + bus.left) bus.steps node ≤ length (journal_at bus.journals node) → NoMore to_rest count n bus
+
+-- why such bits ended with the last one of n, of so many that were asked for
+pub data EndsUntilTold {E B : Type 0} (b : Ports B) (to_rest : Bool) (count : ℕ) (was : Moment E B) (n : ℕ)
+    (now : Moment E B) : Type 0 where
+  -- no bit more is run
+  no_more : NoMore to_rest count n now.bus → EndsUntilTold b to_rest count was n now
+  -- the port of some node was told the turn of that bit
+  told : (node : ℕ) (turn : BusTurn) → node < length now.bus.journals → b.told was.board now.board node turn →
+      IsLastTurn (journal_at now.bus.journals node) turn → EndsUntilTold b to_rest count was n now
+
+-- why no such bit was run, of so many that were asked for
 pub data RunsNone (orders_are : ℕ → Orders → Type 0) (to_rest : Bool) (count : ℕ) (bus : BusValue) : Type 0 where
-  rests : to_rest ≡ true → AllRest bus.journals → RunsNone orders_are to_rest count bus
-  none_asked : count ≡ 0 → RunsNone orders_are to_rest count bus
-  spent : bus.left ≡ 0 → RunsNone orders_are to_rest count bus
-  struck : (node : ℕ) → node < 8 → Strikes bus.script bus.run node → RunsNone orders_are to_rest count bus
+  -- no bit is run after none of them
+  no_more : NoMore to_rest count 0 bus → RunsNone orders_are to_rest count bus
+  -- something is untold of a node
   untold : (node : ℕ) → node < length bus.journals → untold_at bus.untold node ≡ true →
       RunsNone orders_are to_rest count bus
+  -- the port of a node wants an abort
   aborts : (node : ℕ) (o : Orders) → node < length bus.journals → orders_are node o → o.abort ≡ true →
-      RunsNone orders_are to_rest count bus
-  full : (node : ℕ) → node < length bus.journals →
-      room_for (bus.run + bus.left) bus.steps node ≤ length (journal_at bus.journals node) →
       RunsNone orders_are to_rest count bus

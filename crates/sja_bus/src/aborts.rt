@@ -12,7 +12,7 @@ impl Seat {
     ghost use Rattle.std.specs.Prelude.{OnErr, IfErr};
     ghost use Rattle.sja_link.specs.BusLedgers.{free_in};
     ghost use Rattle.sja_link.specs.declared.entry.Entry.TheVariants.{Abort as AbortEntry};
-    ghost use Rattle.sja_wire.specs.Aborting.{IsApplied};
+    ghost use Rattle.sja_link.specs.Aborting.{IsApplied};
     ghost use Rattle.sja_bus.specs.Inside.Following.{Follows, Reads};
     ghost use Rattle.sja_bus.specs.Inside.Seats.{IsSeat, IsReady};
     ghost use Rattle.sja_bus.specs.Inside.Taking.{Applies, IsFull};

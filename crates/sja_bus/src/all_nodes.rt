@@ -1,20 +1,22 @@
 //! What all nodes of a bus do in one bit, node after node.
 
-ghost use Rattle.std.specs.Prelude.{◌≡◌, ◌*◌, ◌<◌, ◌≤◌, ℕ, List, suc, false};
+ghost use Rattle.std.specs.Prelude.{◌≡◌, ◌*◌, ◌<◌, ◌≤◌, ℕ, List, suc, true, false, slice_index_or};
 ghost use Rattle.std.specs.Prelude.{length, IfOk, OnOk, IfErr, ◌⊎◌};
 ghost use Rattle.lemmas.specs.Related.{EachRelated};
 ghost use Rattle.sja_wire.specs.Wire.{wired};
-ghost use Rattle.sja_wire.specs.Links.{Numbered};
+ghost use Rattle.sja_link.specs.Links.{Numbered};
 ghost use Rattle.sja_bus.specs.Inside.Rows.{AreReady, AreSeated, AreTold, EachSeat, SeatTakes, SeatUntold};
 ghost use Rattle.sja_bus.specs.Inside.Rows.{SeatHasBits, SeatOpens, SeatOpensUntold, SeatTurns, GoesAll, AllRead};
 ghost use Rattle.sja_bus.specs.Inside.Rows.{driven_by};
 ghost use Rattle.sja_bus.specs.Boards.{KeepsOthers};
 ghost use Rattle.sja_bus.specs.declared.seat.Seat.{Seat as Seated};
+ghost use Rattle.sja_bus.specs.declared.untold.Untold.TheVariants.{Nothing};
 ghost use Rattle.sja_bus.specs.Inside.Underway.{IsUnderway};
 ghost use Rattle.sja_bus.specs.Inside.Whole.{IsRowBit};
 ghost use Rattle.sja_bus.specs.Inside.RowTakes.{RowTakesAll};
 ghost use Rattle.sja_bus.specs.Inside.Refusing.{HaveRoom, AreFree, SeatRefuses, SeatFull, SeatBreaks};
 ghost use Rattle.sja_bus.specs.Inside.Refusing.{SeatStops};
+ghost use Rattle.sja_bus.specs.Inside.RunningOn.{SomeTold};
 
 use super::bit_end::BitEnd;
 use super::board::Board;
@@ -72,7 +74,8 @@ pub(crate) fn bit_of_all<E: BusEnd, B: Board>(
 {
     open_all(seats, links, board)?;
     let level = level_of(seats);
-    sample_from(seats, links, level, struck, board, 0)?;
+    let mut row = RowFrame::none();
+    sample_from(seats, links, level, struck, board, 0, &mut row)?;
     Ok(())
 }
 
@@ -115,10 +118,47 @@ fn sample_from<E: BusEnd, B: Board>(
     struck: StruckNodes,
     board: &mut B,
     first: usize,
+    row: &mut RowFrame,
 ) -> Result<(), BusFault>
     requires seated { AreSeated E.link seats.old links.old (B.ports board.old) }
     ensures sames { EachRelated E.same links.old links.new }
     ensures board { KeepsOthers B.ports B.kept (length seats.old) board.old board.new }
+    ensures before { OnOk result ((m : ℕ) → m < first → B.kept board.old board.new m
+        × ((s : Seated) → slice_index_or seats.new m s ≡ slice_index_or seats.old m s)) }
+    ensures row { OnOk result ((before : List Seated) (given : List E) (was : B) →
+        IsUnderway E.same E.stands B.ports B.told B.kept struck level before given was first
+        seats.old links.old board.old →
+        (k : ℕ) × (length seats.new ≤ k)
+        × IsUnderway E.same E.stands B.ports B.told B.kept struck level before given was k
+        seats.new links.new board.new) }
+    ensures broken { IfErr result (λ f. (before : List Seated) (given : List E) (was : B) →
+        IsUnderway E.same E.stands B.ports B.told B.kept struck level before given was first
+        seats.old links.old board.old →
+        SeatBreaks E.stands E.full before seats.new given f) }
+{
+    for k in first..seats.len() {
+        let sees = seen(level, struck.has(k));
+        seats[k].sample(links, first_link(k), sees, board, row)?;
+    }
+    Ok(())
+}
+
+/// The same, where something may happen to the first of them, whose port is told all: it is told of the bit.
+#[inline(never)]
+fn tell_from<E: BusEnd, B: Board>(
+    seats: &mut [Seat],
+    links: &mut [E],
+    level: Level,
+    struck: StruckNodes,
+    board: &mut B,
+    first: usize,
+) -> Result<(), BusFault>
+    requires seated { AreSeated E.link seats.old links.old (B.ports board.old) }
+    requires few { first < length seats.old }
+    requires told { (s : Seated) → (slice_index_or seats.old first s).untold ≡ Nothing }
+    ensures sames { EachRelated E.same links.old links.new }
+    ensures board { KeepsOthers B.ports B.kept (length seats.old) board.old board.new }
+    ensures told { OnOk result (SomeTold (B.told board.old board.new) seats.new) }
     ensures row { OnOk result ((before : List Seated) (given : List E) (was : B) →
         IsUnderway E.same E.stands B.ports B.told B.kept struck level before given was first
         seats.old links.old board.old →
@@ -131,11 +171,9 @@ fn sample_from<E: BusEnd, B: Board>(
         SeatBreaks E.stands E.full before seats.new given f) }
 {
     let mut row = RowFrame::none();
-    for k in first..seats.len() {
-        let sees = seen(level, struck.has(k));
-        seats[k].sample(links, first_link(k), sees, board, &mut row)?;
-    }
-    Ok(())
+    let sees = seen(level, struck.has(first));
+    seats[first].sample_and_tell(links, first_link(first), sees, board, &mut row)?;
+    sample_from(seats, links, level, struck, board, first + 1, &mut row)
 }
 
 /// Each node has its bit, and sees this level, or the other one where it is struck. Its port is told of it where there
@@ -162,13 +200,14 @@ pub(crate) fn sample_all<E: BusEnd, B: Board>(
     ensures untold { IfOk result (λ end. end.told ≡ false → board.new ≡ board.old) }
     ensures quiet { IfOk result (λ end. end.told ≡ false → EachSeat SeatHasBits seats.old seats.new) }
     ensures free { IfOk result (λ end. end.told ≡ false → (n : ℕ) → AreFree (suc n) seats.old → AreFree n seats.new) }
+    ensures told { IfOk result (λ end. end.told ≡ true → SomeTold (B.told board.old board.new) seats.new) }
     ensures broken { IfErr result (λ f. SeatBreaks E.stands E.full seats.old seats.new links.old f) }
 {
     let mut next = Level::Recessive;
     for k in 0..seats.len() {
         let sees = seen(level, struck.has(k));
         if !seats[k].sample_quietly(sees) {
-            sample_from(seats, links, level, struck, board, k)?;
+            tell_from(seats, links, level, struck, board, k)?;
             return Ok(BitEnd {
                 level: level_of(seats),
                 told: true,

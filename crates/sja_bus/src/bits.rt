@@ -1,6 +1,6 @@
 //! Bits of a bus, one after another.
 
-ghost use Rattle.std.specs.Prelude.{◌≡◌, ◌+◌, ◌<◌, ◌≤◌, ℕ, true, false, length, slice_index_or, IfOk};
+ghost use Rattle.std.specs.Prelude.{◌≡◌, ◌+◌, ◌-◌, ◌<◌, ◌≤◌, ℕ, true, length, slice_index_or, IfOk};
 ghost use Rattle.std.specs.Prelude.{◌⊎◌, false, IfErr, MatchResult};
 ghost use Rattle.can_node.specs.Stands.{ShowsRest};
 ghost use Rattle.lemmas.specs.Related.{EachRelated};
@@ -11,7 +11,7 @@ ghost use Rattle.sja_bus.specs.Inside.Refusing.{AreFree};
 ghost use Rattle.sja_wire.specs.Wire.{wired};
 ghost use Rattle.sja_bus.specs.Inside.Rows.{AreReady, AreSeated, IsBus, driven_by};
 ghost use Rattle.sja_bus.specs.Inside.RunningOn.{MayRunOn, RowsRun, RowsRunNone, RowsStop};
-ghost use Rattle.sja_bus.specs.Inside.RunningOn.{AllAtRest, SomeAborts, SomeFull, SomeStruck, SomeUntold};
+ghost use Rattle.sja_bus.specs.Inside.RunningOn.{AllAtRest, SomeAborts, SomeFull, SomeStruck, SomeTold, SomeUntold};
 
 use super::all_nodes::sample_all;
 use super::board::Board;
@@ -32,7 +32,7 @@ impl Bus {
     ghost use Rattle.std.specs.Prelude.{◌≡◌, ◌*◌, ◌≤◌, ◌⊎◌, None, Some, Err, true, length, OnOk, IfOk};
     ghost use Rattle.std.specs.Prelude.{IfErr};
     ghost use Rattle.sja_wire.specs.declared.bus_fault.BusFault.{BusFault as Fault};
-    ghost use Rattle.sja_wire.specs.Links.{Numbered};
+    ghost use Rattle.sja_link.specs.Links.{Numbered};
     ghost use Rattle.sja_wire.specs.Buses.{IsStill};
     ghost use Rattle.sja_bus.specs.Moment.{moment, Keeps};
     ghost use Rattle.sja_bus.specs.Several.{AllRest, RunsBits, StopsBits, WorksIf};
@@ -167,6 +167,8 @@ pub(crate) fn untaken_bits<E: BusEnd, B: Board>(
     ensures others { KeepsOthers B.ports B.kept (length seats.old) board.old board.new }
     ensures most { MatchResult result (λ n. n ≤ most) (λ f. f.after < most) }
     ensures none { IfOk result (λ n. n ≡ 0 → RowsRunNone to_rest struck.now.script from most seats.old) }
+    ensures ends { IfOk result (λ n. RowsRunNone to_rest struck.now.script (from + n) (most - n) seats.new
+        ⊎ SomeTold (B.told board.old board.new) seats.new) }
     ensures runs { IfOk result (λ n. RowsRun E.BusEnd B.Board to_rest struck.now.script from most
         seats.old seats.new links.old links.new board.old board.new n) }
     ensures breaks { IfErr result (λ f. RowsStop E.BusEnd B.Board to_rest struck.now.script from most

@@ -61,8 +61,8 @@ impl Bus {
     ghost use Rattle.std.specs.Prelude.{true, false, length, map, slice_index_or, OnOk, IfOk, IfErr};
     ghost use Rattle.sja_wire.specs.declared.bus_fault.BusFault.{BusFault as Fault};
     ghost use Rattle.sja_wire.specs.declared.bus_fault.BusFault.TheVariants.{BitsSpent};
-    ghost use Rattle.sja_wire.specs.Links.{Numbered};
-    ghost use Rattle.sja_wire.specs.OneBit.{MayHaveItems};
+    ghost use Rattle.sja_link.specs.Links.{Numbered};
+    ghost use Rattle.sja_link.specs.BitEntries.{MayHaveItems};
     ghost use Rattle.lemmas.specs.Related.{EachRelated};
     ghost use Rattle.sja_wire.specs.declared.node_log.NodeLog.{NodeLog as Log};
     ghost use Rattle.sja_wire.specs.Lawful.{IsBusRun, CountersAre};

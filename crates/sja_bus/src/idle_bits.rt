@@ -19,8 +19,8 @@ impl Bus {
     ghost use Rattle.std.specs.Prelude.{IfErr, true, false};
     ghost use Rattle.lemmas.specs.Related.{EachRelated};
     ghost use Rattle.sja_wire.specs.declared.bus_fault.BusFault.{BusFault as Fault};
-    ghost use Rattle.sja_wire.specs.Links.{Numbered};
-    ghost use Rattle.sja_wire.specs.OneBit.{MayHaveItems};
+    ghost use Rattle.sja_link.specs.Links.{Numbered};
+    ghost use Rattle.sja_link.specs.BitEntries.{MayHaveItems};
     ghost use Rattle.sja_wire.specs.Buses.{EachJournal, EachUntold, KeepsAll, AllDry, AllTold};
     ghost use Rattle.sja_wire.specs.Reasons.{IsTakenAndRefused};
     ghost use Rattle.sja_bus.specs.Stretches.{IsStretch, EndsStretch, IsOutOfEntries, IsFullInStretch};
@@ -164,8 +164,8 @@ impl Seat {
     ghost use Rattle.std.specs.Prelude.{IfErr, true, false};
     ghost use Rattle.lemmas.specs.Related.{EachRelated};
     ghost use Rattle.sja_wire.specs.declared.bus_fault.BusFault.{BusFault as Fault};
-    ghost use Rattle.sja_wire.specs.Links.{Numbered};
-    ghost use Rattle.sja_wire.specs.OneBit.{MayHaveItems};
+    ghost use Rattle.sja_link.specs.Links.{Numbered};
+    ghost use Rattle.sja_link.specs.BitEntries.{MayHaveItems};
     ghost use Rattle.sja_wire.specs.Buses.{EachJournal, EachUntold, KeepsAll, AllDry, AllTold};
     ghost use Rattle.sja_wire.specs.Reasons.{IsTakenAndRefused};
     ghost use Rattle.sja_bus.specs.Stretches.{IsStretch, EndsStretch, IsOutOfEntries, IsFullInStretch};

@@ -13,8 +13,9 @@ impl Seat {
     ghost use Rattle.std.specs.Prelude.{IfErr, ◌⊎◌, ◌≤◌, ℕ, suc, Ok, false};
     ghost use Rattle.sja_link.specs.BusLedgers.{link_of};
     ghost use Rattle.sja_link.specs.declared.entry.Entry.TheVariants.{Up as Item};
-    ghost use Rattle.sja_wire.specs.Links.{Goes, Moves};
-    ghost use Rattle.sja_wire.specs.OneBit.{MayHaveItems, Opens};
+    ghost use Rattle.sja_link.specs.Links.{Goes, Moves};
+    ghost use Rattle.sja_wire.specs.Opens.{Opens};
+    ghost use Rattle.sja_link.specs.BitEntries.{MayHaveItems};
     ghost use Rattle.sja_wire.specs.Reasons.{RefusesItem};
     ghost use Rattle.sja_bus.specs.Inside.Seats.{IsSeat, IsReady, IsOwed};
     ghost use Rattle.sja_bus.specs.Inside.AtLinks.{HasLinks, KeepsLinks};
@@ -24,7 +25,7 @@ impl Seat {
     ghost use Rattle.sja_link.specs.declared.up.Up.{Up as Given};
     ghost use Rattle.sja_link.specs.Places.{past, place_of};
     ghost use Rattle.sja_bus.specs.declared.untold.Untold.TheVariants.{Changed};
-    ghost use Rattle.sja_wire.specs.OutOfOrder.{IsOutOfOrder};
+    ghost use Rattle.sja_link.specs.OutOfOrder.{IsOutOfOrder};
 
     /// Takes all that the links show, and then applies an abort that stands.
     #[inline(always)]

@@ -13,7 +13,7 @@ impl Bus {
     ghost use Rattle.sja_link.specs.Parts.{part};
     ghost use Rattle.sja_link.specs.Places.{place_of};
     ghost use Rattle.sja_link.specs.Records.{record_of};
-    ghost use Rattle.sja_wire.specs.Links.{stops_of};
+    ghost use Rattle.sja_link.specs.Links.{stops_of};
     ghost use Rattle.can_node.specs.Stands.{StandsAt};
     ghost use Rattle.sja_wire.specs.Lawful.{IsBusRun};
     ghost use Rattle.sja_wire.specs.Wire.{journal_at};

@@ -12,11 +12,10 @@ use sja_link::{BusEnd, Entry};
 use sja_wire::BusFault;
 
 impl Seat {
-    ghost use Rattle.std.specs.Prelude.{◌≡◌, ◌≢◌, ◌<◌, ℕ, true, false, length, OnOk, IfOk, IfErr, suc};
-    ghost use Rattle.std.specs.Prelude.{[], ◌∷◌, ◌++◌};
+    ghost use Rattle.std.specs.Prelude.{◌≡◌, ◌≢◌, ◌<◌, ℕ, true, false, length, OnOk, IfOk, IfErr, suc, [], ◌∷◌, ◌++◌};
     ghost use Rattle.can_node.specs.Stands.{Samples, InReset};
     ghost use Rattle.sja_link.specs.BusLedgers.{link_of};
-    ghost use Rattle.sja_wire.specs.Links.{Goes, Moves};
+    ghost use Rattle.sja_link.specs.Links.{Goes, Moves};
     ghost use Rattle.sja_wire.specs.Reasons.{IsBrokenFor};
     ghost use Rattle.sja_bus.specs.Inside.Seats.{IsSound, IsSeat, IsReady, IsMid};
     ghost use Rattle.sja_bus.specs.Inside.AtLinks.{HasLinks, KeepsLinks};
@@ -55,6 +54,33 @@ impl Seat {
         if self.may_sample_quietly() && self.sample_quietly(seen) {
             return Ok(());
         }
+        self.sample_and_tell(links, base, seen, board, row)
+    }
+
+    /// One bit of the node, in which something may happen. Its port is told of it.
+    #[inline(always)]
+    pub(crate) fn sample_and_tell<E: BusEnd, B: Board>(
+        &mut self,
+        links: &mut [E],
+        base: usize,
+        seen: Level,
+        board: &mut B,
+        row: &mut RowFrame,
+    ) -> Result<(), BusFault>
+        requires at { HasLinks E.link self.old links.old base }
+        requires port { (link_of self.old.ledger).node < B.ports board.old }
+        ensures stays { KeepsLinks E.same self.old self.new links.old links.new }
+        ensures ready { OnOk result (IsReady self.new) }
+        ensures goes { OnOk result
+            (Goes E.same E.stands self.old.journal.entries self.new.journal.entries links.old links.new base) }
+        ensures ports { B.ports board.new ≡ B.ports board.old }
+        ensures others { (k : ℕ) → k ≢ (link_of self.old.ledger).node → B.kept board.old board.new k }
+        ensures turns { OnOk result (Turns (B.told board.old board.new (link_of self.old.ledger).node) ⊥ seen self.old
+            self.new) }
+        ensures broken { IfErr result (λ f.
+            IsBrokenFor E.stands E.full (link_of self.old.ledger).node self.old.journal.room
+            self.old.journal.entries self.new.journal.entries links.old base f) }
+    {
         let outcome = self.sample_fully(links, base, seen, row)?;
         self.drives = self.node.drive();
         self.tell(board, outcome);

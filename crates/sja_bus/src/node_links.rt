@@ -1,8 +1,8 @@
 //! The links of a bus, 64 a node: those of one in one thread, and whether given ones are of that kind.
 
 ghost use Rattle.std.specs.Prelude.{◌≡◌, ◌*◌, ◌<◌, ◌/◌, ◌%◌, suc, true, false, length, IfOk};
-ghost use Rattle.sja_wire.specs.Links.{Numbered};
-ghost use Rattle.sja_bus.specs.NewLinks.{AreNewLinks};
+ghost use Rattle.sja_link.specs.Links.{Numbered};
+ghost use Rattle.sja_link.specs.NewLinks.{AreNewLinks};
 
 use can_frame::OutOfMemory;
 use sja_link::{BusEnd, DequeLink, LINKS_PER_NODE, LinkId, first_link};

@@ -3,7 +3,6 @@
 use super::bus::Bus;
 use can_frame::OutOfMemory;
 use sja_script::Strike;
-use std::alloc::Global;
 
 impl Bus {
     ghost use Rattle.std.specs.Prelude.{◌≡◌, ◌≤◌, ◌<◌, ◌↔◌, ◌++◌, ℕ, [], ◌∷◌, OnOk, OnErr};
@@ -13,7 +12,7 @@ impl Bus {
     /// script too.
     ///
     /// Error: [`OutOfMemory`] where memory was refused; nothing changed.
-    pub fn strike(&mut self, alloc: Global, strike: Strike) -> Result<(), OutOfMemory>
+    pub fn strike(&mut self, strike: Strike) -> Result<(), OutOfMemory>
         requires later { self.old.run ≤ strike.bit }
         ensures struck { OnOk result (self.new
             ≡ record self.old { script = self.old.script ++ strike ∷ [] }) }

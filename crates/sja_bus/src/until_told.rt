@@ -7,14 +7,15 @@ use sja_link::BusEnd;
 use sja_wire::BusFault;
 
 impl Bus {
-    ghost use Rattle.std.specs.Prelude.{◌≡◌, ◌+◌, ◌*◌, ◌<◌, ◌≤◌, ℕ, false, None, Some, Ok, Err, length};
+    ghost use Rattle.std.specs.Prelude.{◌≡◌, ◌≢◌, ◌+◌, ◌*◌, ◌<◌, ◌≤◌, ℕ, false, None, Some, Ok, Err, length};
     ghost use Rattle.std.specs.Prelude.{OnOk, IfOk, IfErr};
     ghost use Rattle.sja_script.specs.Striking.{Strikes};
     ghost use Rattle.sja_wire.specs.declared.bus_fault.BusFault.{BusFault as Fault};
-    ghost use Rattle.sja_wire.specs.Links.{Numbered};
+    ghost use Rattle.sja_link.specs.Links.{Numbered};
     ghost use Rattle.sja_wire.specs.Buses.{IsStill};
     ghost use Rattle.sja_bus.specs.Moment.{moment, Keeps};
-    ghost use Rattle.sja_bus.specs.UntilTold.{RunsUntilTold, StopsUntilTold, RunsNone, WorksUntold};
+    ghost use Rattle.sja_bus.specs.UntilTold.{RunsUntilTold, StopsUntilTold, EndsUntilTold, RunsNone};
+    ghost use Rattle.sja_bus.specs.UntilTold.{WorksUntold};
     ghost use Rattle.sja_bus.specs.Inside.RunningOn.{AnyBit, IsSoFar, IsStopped, MayRunBits};
 
     /// Bits one after another up to the first in which a port is told its turn: at most so many, and as many as are
@@ -22,8 +23,10 @@ impl Bus {
     /// node works. Answers how many they were.
     ///
     /// They are what as many calls of [`bit`](Bus::bit) are that find nothing on any link. In none of them but the last
-    /// one a port is told anything, a message is judged, or a node goes bus-off. Where none was run though some were
-    /// asked for and are left, the next bit takes a call of `bit`. `links` are 64 a node, by node and activation.
+    /// one a port is told anything, a message is judged, or a node goes bus-off. They end where a port was told in the
+    /// last one, and else only where none more is asked for or left, every node is at rest and `to_rest` is set, a
+    /// strike falls in the next one, or a journal is full. Where none was run though some were asked for and are left,
+    /// the next bit takes a call of `bit`. `links` are 64 a node, by node and activation.
     ///
     /// Error: after some of these bits, [`BusFault::Stuck`] or [`BusFault::JournalFull`], and then the same always. The
     /// bits before it count.
@@ -45,6 +48,8 @@ impl Bus {
         ensures unstruck { IfOk result (λ n. (i node : ℕ) → i < n → node < 8 →
             Strikes self.old.script (self.old.run + i) node → ⊥) }
         ensures none { result ≡ Ok 0 → RunsNone (B.orders_are board.old) to_rest count self.old }
+        ensures longest { IfOk result (λ n. n ≢ 0 → EndsUntilTold B.Board to_rest count
+            (moment self.old links.old board.old) n (moment self.new links.new board.new)) }
         ensures right { OnOk result (self.new.fault ≡ None) }
         ensures fault { IfErr result (λ f. self.new.fault ≡ Some f) }
         ensures reason { IfErr result (λ f. self.old.fault ≡ None → StopsUntilTold E.BusEnd B.Board to_rest count
@@ -73,6 +78,8 @@ impl Bus {
         ensures unstruck { IfOk result (λ n. (i node : ℕ) → i < n → node < 8 →
             Strikes self.old.script (self.old.run + i) node → ⊥) }
         ensures none { result ≡ Ok 0 → RunsNone (B.orders_are board.old) to_rest most self.old }
+        ensures longest { IfOk result (λ n. n ≢ 0 → EndsUntilTold B.Board to_rest most
+            (moment self.old links.old board.old) n (moment self.new links.new board.new)) }
         ensures stops { IfErr result (λ f. IsStopped E.BusEnd B.Board
             (WorksUntold to_rest (moment self.old links.old board.old)) most
             (moment self.old links.old board.old) (moment self.new links.new board.new) f) }

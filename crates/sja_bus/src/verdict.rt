@@ -29,9 +29,9 @@ impl Seat {
     ghost use Rattle.std.specs.Prelude.{IfErr};
     ghost use Rattle.sja_link.specs.Parts.{part};
     ghost use Rattle.sja_link.specs.Verdicts.{IsLawful};
-    ghost use Rattle.sja_wire.specs.OutOfOrder.{HasOff};
+    ghost use Rattle.sja_link.specs.OutOfOrder.{HasOff};
     ghost use Rattle.sja_link.specs.BusLedgers.{link_of, free_in};
-    ghost use Rattle.sja_wire.specs.Links.{Moves};
+    ghost use Rattle.sja_link.specs.Links.{Moves};
     ghost use Rattle.sja_bus.specs.Inside.Following.{Reads, open_in};
     ghost use Rattle.sja_bus.specs.Inside.Seats.{IsSeat, IsJudged};
     ghost use Rattle.sja_bus.specs.Inside.Taking.{BreaksBy, IsJudgedShort};

@@ -3,3 +3,4 @@ pub mod Logs
 pub mod Adding
 pub mod Logging
 pub mod NodeEnds
+pub mod Onward

@@ -11,3 +11,5 @@ pub mod InOrder
 pub mod Registers
 pub mod RegistersInBits
 pub mod Taken
+pub mod Newly
+pub mod BitOn

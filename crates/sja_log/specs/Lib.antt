@@ -3,13 +3,13 @@ pub mod Log
 -- ---- the headline, and what it is by
 pub mod Headline
 pub mod Settling
--- ---- runs
+-- ---- runs, from the drivers before their first step on
+pub mod NewDrivers
 pub mod Turns
 pub mod Registering
 pub mod Runs
--- ---- when deeds were done
+pub mod Waiting
 -- ---- what a log is made of
 pub mod Finishing
 pub mod LogWith
 pub mod Nodes
-pub mod Waiting

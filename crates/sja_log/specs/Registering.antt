@@ -10,8 +10,8 @@ use Rattle.sja_regs.specs.declared.registers.Registers.{Registers}
 use Rattle.sja_regs.specs.InterruptLine.{is_line_active}
 use Rattle.sja_regs.specs.Registers.{at_power_on}
 use Rattle.sja_regs.specs.Turns.{after_turn}
-use Rattle.sja_wire.specs.Aborting.{IsApplied}
-use Rattle.sja_wire.specs.OneBit.{HasBit, abort_as, entries_of_items}
+use Rattle.sja_link.specs.Aborting.{IsApplied}
+use Rattle.sja_link.specs.BitEntries.{HasBit, abort_as, entries_of_items}
 use Rattle.sja_wire.specs.Telling.{IsTurn}
 use Rattle.sja_driver.specs.Carried.{Tells, carried, ported}
 use Rattle.sja_driver.specs.Deeds.{Deed, opened_by, is_active}

@@ -1,5 +1,4 @@
 -- A run from its beginning to its log.
-pub mod Onward
 pub mod GoingOn
 pub mod AfterBusTurn
 pub mod AfterNodeTurn

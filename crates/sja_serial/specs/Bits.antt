@@ -1,21 +1,12 @@
 -- What bits do to a run in one thread (this project's own rule).
-use Rattle.std.specs.Prelude.{◌≡◌, ◌≢◌, ◌+◌, ◌<◌, ◌≤◌, ◌++◌, ℕ, suc, true, false, Bool, List, length}
-use Rattle.can_bits.specs.declared.level.Level.{Level}
-use Rattle.sja_link.specs.declared.entry.Entry.{Entry}
+use Rattle.std.specs.Prelude.{◌≡◌, ◌≢◌, ◌+◌, ◌<◌, ◌≤◌, ℕ, suc, true, false, Bool, List, length}
 use Rattle.sja_link.specs.Records.{record_of}
-use Rattle.sja_wire.specs.OneBit.{abort_as, HasBit}
+use Rattle.sja_link.specs.BitEntries.{HasOneBit}
 use Rattle.sja_bus.specs.Resting.{RestsAs}
 use Rattle.sja_wire.specs.Wire.{journal_at}
 use Rattle.sja_plan.specs.Plan.{PlanValue}
 use Rattle.sja_driver.specs.Deeds.{Deed}
 use Rattle.sja_serial.specs.Serial.{SerialValue, StandsAt}
-
--- a journal has one bit more: an abort that changed the node or none, the bit, and what came of it. No item was taken
-pub record HasOneBit (j k : List Entry) : Type 0 where
-  pub changed : Bool
-  pub driven : Level
-  pub seen : Level
-  pub bit : HasBit (j ++ abort_as changed) driven seen k
 
 -- one bit of a run, whose drivers did these deeds and nothing more
 pub record TakesBit (plan : PlanValue) (deeds : List (List Deed)) (was now : SerialValue) : Type 0 where

@@ -1,12 +1,9 @@
 -- A run in one thread, between two turns (this project's own rule).
-use Rattle.std.specs.Prelude.{◌≡◌, ◌≢◌, ◌+◌, ◌*◌, ◌<◌, ◌≤◌, ◌++◌, ◌⊎◌, ℕ, false, Option, None, List}
-use Rattle.std.specs.Prelude.{length, slice_index_or}
-use Rattle.sja_link.specs.declared.up.Up.{Up}
-use Rattle.sja_link.specs.declared.entry.Entry.{Entry}
+use Rattle.std.specs.Prelude.{◌≡◌, ◌≢◌, ◌+◌, ◌*◌, ◌<◌, ◌≤◌, ◌⊎◌, ℕ, false, Option, None, List, length, slice_index_or}
 use Rattle.sja_link.specs.Deques.{Deques}
 use Rattle.sja_wire.specs.Buses.{BusValue, untold_at}
-use Rattle.sja_wire.specs.Links.{Numbered}
-use Rattle.sja_wire.specs.OneBit.{HasMore}
+use Rattle.sja_link.specs.Links.{Numbered}
+use Rattle.sja_link.specs.BitEntries.{HasMore}
 use Rattle.sja_wire.specs.Wire.{journal_at}
 use Rattle.sja_plan.specs.Plan.{PlanValue, steps_at}
 use Rattle.sja_regs.specs.declared.bus_turn.BusTurn.{BusTurn}

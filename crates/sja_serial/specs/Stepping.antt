@@ -1,6 +1,6 @@
 -- A try of the next step of a node, in a run in one thread (this project's own rule).
 use Rattle.std.specs.Prelude.{◌≡◌, ◌≢◌, ◌<◌, ◌++◌, ℕ, List, [], ◌∷◌, length, slice_index_or, slice_set}
-use Rattle.sja_wire.specs.OneBit.{entries_of_items}
+use Rattle.sja_link.specs.BitEntries.{entries_of_items}
 use Rattle.sja_wire.specs.Wire.{journal_at}
 use Rattle.sja_plan.specs.Plan.{PlanValue, steps_at}
 use Rattle.sja_regs.specs.declared.registers.Registers.{Registers}

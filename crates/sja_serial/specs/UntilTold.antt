@@ -2,7 +2,8 @@
 use Rattle.std.specs.Prelude.{◌≡◌, ◌<◌, ℕ, suc, Bool, true, Some, List, length}
 use Rattle.sja_bus.specs.Boards.{HasOrders, WasTold, WasKept, turn_at}
 use Rattle.sja_wire.specs.Buses.{EachJournal, IsBit}
-use Rattle.sja_bus.specs.UntilTold.{HasBitsMore}
+use Rattle.sja_wire.specs.Wire.{journal_at}
+use Rattle.sja_bus.specs.UntilTold.{HasBitsMore, IsLastTurn, NoMore, RunsNone}
 use Rattle.sja_plan.specs.Plan.{PlanValue}
 use Rattle.sja_driver.specs.Deeds.{Deed}
 use Rattle.sja_regs.specs.declared.bus_turn.BusTurn.{BusTurn}
@@ -50,3 +51,13 @@ WorksUntold plan to_rest was m = (to_rest ≡ true → SomeWorks plan m) × None
 -- so many bits, before each of which that held: so no port is told its turn in any of them but the last
 abbrev pub TakesUntilTold : PlanValue → List (List Deed) → Bool → SerialValue → ℕ → SerialValue → Type 0
 TakesUntilTold plan deeds to_rest was = TellsBits plan deeds (WorksUntold plan to_rest was) was
+
+-- why these bits ended with the last one of n, of so many that were asked for
+pub data EndsUntilTold (to_rest : Bool) (count : ℕ) (was : SerialValue) (n : ℕ) (now : SerialValue) : Type 0 where
+  -- no bit more is run of them
+  no_more : NoMore to_rest count n now.bus → EndsUntilTold to_rest count was n now
+  -- the port of some node was told the turn of that bit, and it is noted
+  told : (node : ℕ) (turn : BusTurn) → node < length now.bus.journals → NotesTurn was now node turn →
+      IsLastTurn (journal_at now.bus.journals node) turn → EndsUntilTold to_rest count was n now
+  -- it is one bit alone, before which something stood in the way of more
+  alone : n ≡ 1 → RunsNone (HasOrders was.ports) to_rest count was.bus → EndsUntilTold to_rest count was n now

@@ -3,7 +3,6 @@
 use super::serial_run::SerialRun;
 use can_frame::OutOfMemory;
 use sja_script::Strike;
-use std::alloc::Global;
 
 impl SerialRun {
     ghost use Rattle.std.specs.Prelude.{◌≡◌, ◌≤◌, List, OnOk, OnErr};
@@ -17,13 +16,13 @@ impl SerialRun {
     /// this strike too. Nothing else changes, and no bit is run.
     ///
     /// Error: [`OutOfMemory`] where memory was refused; nothing changed.
-    pub fn strike(&mut self, alloc: Global, strike: Strike) -> Result<(), OutOfMemory>
+    pub fn strike(&mut self, strike: Strike) -> Result<(), OutOfMemory>
         requires later { self.old.bus.run ≤ strike.bit }
         ensures struck { OnOk result (self.new ≡ struck_run self.old strike) }
         ensures stands { OnOk result ((plan : PlanValue) (deeds : List (List Deed)) →
             StandsAt plan self.old deeds → StandsAt (with_strike plan strike) self.new deeds) }
         ensures kept { OnErr result (self.new ≡ self.old) }
     {
-        self.bus.strike(alloc, strike)
+        self.bus.strike(strike)
     }
 }

@@ -4,14 +4,16 @@ use super::serial_run::SerialRun;
 use sja_plan::Plan;
 
 impl SerialRun {
-    ghost use Rattle.std.specs.Prelude.{◌≡◌, ◌+◌, ◌<◌, ◌≤◌, ℕ, true, false, List};
+    ghost use Rattle.std.specs.Prelude.{◌≡◌, ◌≢◌, ◌+◌, ◌<◌, ◌≤◌, ℕ, true, false, List};
     ghost use Rattle.sja_script.specs.Striking.{Strikes};
     ghost use Rattle.sja_wire.specs.Lawful.{IsBusRun};
     ghost use Rattle.sja_plan.specs.Plan.{IsInLimits};
     ghost use Rattle.sja_driver.specs.Deeds.{Deed};
     ghost use Rattle.sja_serial.specs.Serial.{StandsAt, IsRunOf};
     ghost use Rattle.sja_serial.specs.Bits.{SomeWorks};
-    ghost use Rattle.sja_serial.specs.UntilTold.{TakesUntilTold};
+    ghost use Rattle.sja_bus.specs.Boards.{HasOrders};
+    ghost use Rattle.sja_bus.specs.UntilTold.{RunsNone};
+    ghost use Rattle.sja_serial.specs.UntilTold.{EndsUntilTold, TakesUntilTold};
 
     /// The next bits, at most so many and as many as are left, up to the first in which a port is told its turn, or to
     /// the last one before a struck one; a struck bit is one alone, and so is each before which something is untold, a
@@ -26,6 +28,7 @@ impl SerialRun {
             Strikes self.old.bus.script (self.old.bus.run + i) node → ⊥ }
         ensures bits { (deeds : List (List Deed)) → StandsAt plan.now self.old deeds →
             TakesUntilTold plan.now deeds false self.old result self.new }
+        ensures longest { result ≢ 0 → EndsUntilTold false count self.old result self.new }
         ensures stays { IsRunOf plan.now self.new }
     {
         let most = count.min(self.bits_left(plan));
@@ -50,6 +53,7 @@ impl SerialRun {
             Strikes self.old.bus.script (self.old.bus.run + i) node → ⊥ }
         ensures bits { (deeds : List (List Deed)) → StandsAt plan.now self.old deeds →
             TakesUntilTold plan.now deeds true self.old result self.new }
+        ensures longest { result ≢ 0 → EndsUntilTold true self.old.bus.left self.old result self.new }
         ensures stays { IsRunOf plan.now self.new }
     {
         let most = self.bits_left(plan);
@@ -75,6 +79,8 @@ impl SerialRun {
             Strikes self.old.bus.script (self.old.bus.run + i) node → ⊥ }
         ensures bits { (deeds : List (List Deed)) → StandsAt plan.now self.old deeds →
             TakesUntilTold plan.now deeds to_rest self.old result self.new }
+        ensures longest { result ≢ 0 → EndsUntilTold to_rest count self.old result self.new }
+        ensures none { result ≡ 0 → RunsNone (HasOrders self.old.ports) to_rest count self.old.bus }
     {
         match self
             .bus

@@ -16,7 +16,7 @@ impl SerialRun {
     ghost use Rattle.sja_link.specs.Free.{IsFree};
     ghost use Rattle.sja_link.specs.Parts.{part};
     ghost use Rattle.sja_link.specs.Records.{record_of};
-    ghost use Rattle.sja_wire.specs.Links.{stops_of};
+    ghost use Rattle.sja_link.specs.Links.{stops_of};
     ghost use Rattle.sja_wire.specs.Wire.{journal_at};
     ghost use Rattle.sja_serial.specs.Serial.{IsRunOf};
 

@@ -27,7 +27,7 @@ pub(crate) struct BusThread {
 
 impl BusThread {
     ghost use Rattle.std.specs.Prelude.{◌≡◌, ◌≤◌, ◌+◌, ◌*◌, true, length, Ok, IfOk, IfErr, OnOk};
-    ghost use Rattle.sja_wire.specs.Links.{Numbered};
+    ghost use Rattle.sja_link.specs.Links.{Numbered};
     ghost use Rattle.sja_plan.specs.Plan.{PlanValue};
     ghost use Rattle.sja_rings.specs.Ends.{link_of_bus};
     ghost use Rattle.sja_threads.specs.declared.round.Round.TheVariants.{Ran, Rests, Spent};

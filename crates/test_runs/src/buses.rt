@@ -65,7 +65,7 @@ fn refused_memory_refuses_a_strike(rt: HostRuntime) {
         times: 1,
     };
     if let Ok(mut bus) = Bus::new(rt.alloc(), 100, steps, script) {
-        match bus.strike(rt.alloc(), strike) {
+        match bus.strike(strike) {
             Ok(()) => assert!(rt; bus.bits_run() == 0),
             Err(refused) => assert!(rt; refused == OutOfMemory),
         }

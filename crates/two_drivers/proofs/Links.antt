@@ -7,8 +7,8 @@ use Rattle.lemmas.specs.Related.{EachRelated}
 use Rattle.lemmas.proofs.Related.{each_one}
 use Rattle.sja_link.specs.Deques.{Deques}
 use Rattle.sja_link.specs.declared.link_id.LinkId.{LinkId}
-use Rattle.sja_wire.specs.Links.{Numbered}
-use Rattle.sja_bus.specs.NewLinks.{AreNewLinks}
+use Rattle.sja_link.specs.Links.{Numbered}
+use Rattle.sja_link.specs.NewLinks.{AreNewLinks}
 use Rattle.sja_bus.proofs.AllNodes.Many.{numbered_kept}
 
 abbrev number : Deques → LinkId

@@ -15,8 +15,9 @@ use Rattle.sja_bus.specs.declared.struck_nodes.StruckNodes.{StruckNodes}
 use Rattle.sja_bus.specs.declared.seat.Seat.{Seat}
 use Rattle.sja_bus.specs.StrikesByBit.{IsAmong}
 use Rattle.sja_wire.specs.Wire.{wired, journal_at, IsWired}
-use Rattle.sja_wire.specs.Links.{Kept, stops_of}
-use Rattle.sja_wire.specs.OneBit.{MayHaveItems, Opens}
+use Rattle.sja_link.specs.Links.{Kept, stops_of}
+use Rattle.sja_wire.specs.Opens.{Opens}
+use Rattle.sja_link.specs.BitEntries.{MayHaveItems}
 use Rattle.sja_wire.specs.Telling.{SaysAlone, IsPassedOver, IsUntold}
 use Rattle.sja_wire.specs.Buses.{EachJournal, EachUntold, KeepsAll, AllDry, untold_at, IsNodeBit, IsBit}
 use Rattle.sja_bus.specs.declared.untold.Untold.TheVariants.{Nothing, Changed, Dropped}

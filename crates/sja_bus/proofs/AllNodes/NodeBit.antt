@@ -19,17 +19,16 @@ use Rattle.sja_link.specs.Parts.{part}
 use Rattle.sja_link.specs.Carried.{bits_of, bit_in}
 use Rattle.sja_link.specs.Verdicts.{filter_of, PassesAny, IsDue, entry_of}
 use Rattle.lemmas.specs.Gathering.{total}
-use Rattle.lemmas.proofs.Gathered.{total_append}
-use Rattle.lemmas.proofs.Gathered.{gathered_push, gathered_append}
-use Rattle.sja_wire.specs.OneBit.{IsRead, AreRead, MayHaveItems, MayHaveAbort, abort_as, entries_of_items, judged_as}
-use Rattle.sja_wire.specs.OneBit.{off_as, HasBit, AreInOrder}
-use Rattle.sja_wire.specs.OutOfOrder.{IsOutOfOrder}
+use Rattle.lemmas.proofs.Gathered.{total_append, gathered_push, gathered_append}
+use Rattle.sja_link.specs.BitEntries.{IsRead, AreRead, MayHaveItems, MayHaveAbort, abort_as, entries_of_items}
+use Rattle.sja_link.specs.BitEntries.{judged_as, off_as, HasBit, AreInOrder}
+use Rattle.sja_link.specs.OutOfOrder.{IsOutOfOrder}
 use Rattle.sja_bus.specs.Inside.Following.{Follows, FollowsBit}
 use Rattle.sja_bus.specs.declared.bit_outcome.BitOutcome.{BitOutcome}
 use Rattle.sja_bus.specs.Inside.Turning.{BringsVerdict, Brings}
 use Rattle.sja_bus.specs.Inside.Seats.{IsPassing, IsJudged}
 use Rattle.sja_bus.proofs.Journal.BitSteps.{follows_bit, follows_stopped, follows_judged}
-use Rattle.sja_wire.proofs.Journal.Items.{items_bits}
+use Rattle.sja_link.proofs.Growing.Items.{items_bits}
 
 -- nothing is to be judged
 pub received_quiet : (old new : Node) (j : List Entry) (x seen : Level) (e : BitEvents) (filter : Filter) (a : ℕ) →

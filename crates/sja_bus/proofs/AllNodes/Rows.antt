@@ -5,7 +5,7 @@ use Rattle.sja_link.specs.declared.link_id.LinkId.{LinkId}
 use Rattle.sja_link.specs.Lists.{Lists}
 use Rattle.sja_bus.specs.declared.seat.Seat.{Seat}
 use Rattle.lemmas.specs.Related.{EachRelated}
-use Rattle.sja_wire.specs.Links.{Goes, Numbered}
+use Rattle.sja_link.specs.Links.{Goes, Numbered}
 use Rattle.sja_bus.specs.Inside.Seats.{IsReady}
 use Rattle.sja_bus.specs.Inside.AtLinks.{HasLinks, KeepsLinks}
 use Rattle.sja_bus.specs.Inside.Rows.{AreReady, GoesAll, Done}

@@ -20,7 +20,7 @@ use Rattle.sja_bus.specs.StrikesByBit.{IsAmong}
 use Rattle.sja_bus.specs.declared.seat.Seat.{Seat}
 use Rattle.sja_wire.specs.Wire.{wired, IsSeen, journal_at, IsWired}
 use Rattle.sja_wire.specs.Lawful.{IsBusRun}
-use Rattle.sja_wire.specs.Orderly.{AreOrderly}
+use Rattle.sja_link.specs.Orderly.{AreOrderly}
 use Rattle.sja_regs.specs.declared.bus_turn.BusTurn.{BusTurn}
 use Rattle.sja_bus.specs.Inside.Turning.{is_untold}
 use Rattle.sja_bus.specs.Inside.Rows.{EachSeat, SeatTakes, SeatOpens, SeatTurns, seen_by, journals_of, untold_of}

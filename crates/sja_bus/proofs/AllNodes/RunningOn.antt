@@ -12,12 +12,12 @@ use Rattle.sja_bus.specs.declared.struck_nodes.StruckNodes.{StruckNodes}
 use Rattle.sja_bus.specs.declared.seat.Seat.{Seat}
 use Rattle.sja_bus.specs.StrikesByBit.{IsAmong}
 use Rattle.sja_wire.specs.Wire.{wired}
-use Rattle.sja_wire.specs.OneBit.{Opens}
+use Rattle.sja_wire.specs.Opens.{Opens}
 use Rattle.sja_bus.specs.Inside.Rows.{AreReady, EachSeat, SeatTurns, IsBus, driven_by}
 use Rattle.sja_bus.specs.Inside.RunningOn.{NoneAborts}
 use Rattle.sja_bus.specs.Inside.Whole.{IsRowBit}
 use Rattle.sja_bus.proofs.Resting.AtRest.{untold_none}
-use Rattle.sja_wire.proofs.Journal.Items.{items_none}
+use Rattle.sja_link.proofs.Growing.Items.{items_none}
 use Rattle.sja_bus.proofs.AllNodes.Journals.{all_told, wired_row}
 use Rattle.sja_bus.proofs.WholeBus.Logs.{calm_by}
 

@@ -20,6 +20,12 @@ pub each_count : {P Q : ℕ → Type 0} (r : Result ℕ BusFault) → ((n : ℕ)
 each_count (Ok n) f p = f n p
 each_count (Err x) f p = tt
 
+-- and what follows of two facts
+pub both_counts : {P Q R : ℕ → Type 0} (r : Result ℕ BusFault) → ((n : ℕ) → P n → Q n → R n) → IfOk r P → IfOk r Q →
+    IfOk r R
+both_counts (Ok n) f p q = f n p q
+both_counts (Err x) f p q = tt
+
 -- the ports from a number on are as they were, over two times
 pub others_trans : {B : Type 0} (ports : B → ℕ) (kept : B → B → ℕ → Type 0) →
     ((a b c : B) (k : ℕ) → kept a b k → kept b c k → kept a c k) → (nodes same : ℕ) (a b c : B) → same ≡ nodes →

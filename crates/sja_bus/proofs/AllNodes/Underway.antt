@@ -8,7 +8,7 @@ use Rattle.sja_link.specs.BusLedgers.{link_of}
 use Rattle.sja_regs.specs.declared.bus_turn.BusTurn.{BusTurn}
 use Rattle.sja_bus.specs.declared.struck_nodes.StruckNodes.{StruckNodes}
 use Rattle.sja_bus.specs.declared.seat.Seat.{Seat}
-use Rattle.sja_wire.specs.Links.{Goes}
+use Rattle.sja_link.specs.Links.{Goes}
 use Rattle.sja_bus.specs.Inside.Seats.{IsReady}
 use Rattle.sja_bus.specs.Inside.Turning.{Turns}
 use Rattle.sja_bus.specs.Inside.Rows.{AreReady, SeatTurns, seen_by}

@@ -1,5 +1,5 @@
 -- Bits before each of which no port was told anything: the journals have bits alone more.
-use Rattle.std.proofs.Common.{◌≡◌, ℕ, ◌+◌, ◌<◌, ◌≤◌, Bool, true, List, [], ◌∷◌, ◌++◌, length, inl, inr}
+use Rattle.std.proofs.Common.{◌≡◌, ℕ, ◌+◌, ◌-◌, ◌<◌, ◌≤◌, Bool, true, None, List, [], ◌∷◌, ◌++◌, length, inl, inr}
 use Rattle.std.proofs.Common.{sym, ◌∙◌, subst, arith}
 use Rattle.std.specs.Prelude.{◌⊎◌, Option, slice_index_or}
 use Rattle.can_bits.specs.declared.level.Level.{Level}
@@ -7,17 +7,21 @@ use Rattle.sja_link.specs.declared.entry.Entry.{Entry}
 use Rattle.sja_link.specs.declared.entry.Entry.TheVariants.{Bit}
 use Rattle.sja_regs.specs.declared.orders.Orders.{Orders}
 use Rattle.sja_script.specs.declared.strike.Strike.{Strike}
+use Rattle.sja_bus.specs.declared.board.Board.{Ghosts as Ports}
 use Rattle.sja_wire.specs.declared.bus_fault.BusFault.{BusFault}
 use Rattle.sja_wire.specs.Wire.{wired, journal_at}
 use Rattle.sja_bus.specs.declared.seat.Seat.{Seat}
 use Rattle.sja_wire.specs.Buses.{BusValue}
 use Rattle.sja_wire.specs.Reasons.{room_for}
-use Rattle.sja_bus.specs.UntilTold.{HasBitsMore, NoneTold, RunsNone}
+use Rattle.sja_bus.specs.Moment.{Moment}
+use Rattle.sja_bus.specs.UntilTold.{EndsUntilTold, HasBitsMore, IsLastTurn, NoMore, NoneTold, RunsNone}
+use Rattle.sja_bus.specs.UntilTold.EndsUntilTold.{no_more as by_none, told as by_told}
 use Rattle.sja_bus.specs.UntilTold.HasBitsMore.{none, one_more}
-use Rattle.sja_bus.specs.UntilTold.RunsNone.{rests, none_asked, spent, struck, untold, aborts, full}
+use Rattle.sja_bus.specs.UntilTold.NoMore.{all_run, spent, rests, struck, full}
+use Rattle.sja_bus.specs.UntilTold.RunsNone.{no_more, untold, aborts}
 use Rattle.sja_bus.specs.Inside.Refusing.{HaveRoom}
 use Rattle.sja_bus.specs.Inside.Rows.{AreReady, EachSeat, SeatHasBits, driven_by, journals_of}
-use Rattle.sja_bus.specs.Inside.RunningOn.{RowsRunNone, SomeAborts, SomeUntold, moment_of}
+use Rattle.sja_bus.specs.Inside.RunningOn.{RowsRunNone, SomeAborts, SomeTold, SomeUntold, moment_of}
 use Rattle.sja_bus.specs.Inside.Together.{IsQuietRow}
 use Rattle.sja_bus.proofs.AllNodes.RanOn.{bus_with}
 use Rattle.sja_bus.proofs.AllNodes.Running.{count_is, journal_is, untold_is}
@@ -70,43 +74,79 @@ none_told script steps from run left less begun seats given links first board st
         (subst (λ (j : List Entry). HasBitsMore (slice_index_or begun node s).journal.entries j)
         (sym (journal_is seats node s (omega (arith, few, count)))) (more node s few))
 
--- ---- why none of them was run
+-- ---- why none of them was run, and why no more
 
-module _ (orders_are : ℕ → Orders → Type 0) (to_rest : Bool) (count : ℕ) (script : List Strike) (steps : List ℕ)
-    (run left : ℕ) (fault : Option BusFault) (seats : List Seat) where
-  abbrev Why : Type 0
-  Why = RunsNone orders_are to_rest count (bus_with script steps run left fault seats)
-
+-- why no more are run of so many, after n of them: by how many were asked for, by a journal, by the script, or as all
+-- nodes are at rest
+module _ (to_rest : Bool) (count : ℕ) (script : List Strike) (steps : List ℕ) (run left : ℕ) (fault : Option BusFault)
+    (seats : List Seat) where
   inside : (k : ℕ) → k < length seats → k < length (journals_of seats)
   inside k few = let c = count_is seats in omega (arith, few, c)
 
-  -- by a port
-  pub held_by_port : SomeAborts orders_are (length seats) ⊎ SomeUntold seats → Why
-  held_by_port (inl some) = aborts some.0 some.1 (inside some.0 some.2) some.3 some.4
-  held_by_port (inr some) = let s = seat_at seats some.0 some.1 in
-      untold some.0 (inside some.0 some.1) (untold_is seats some.0 s some.1 ∙ some.2 s)
-
-  -- by how many were asked for, by a journal, by the script, or as all nodes are at rest
-  pub held_by_rows : AreReady seats → HaveRoom (room_for (run + left) steps) seats →
-      RowsRunNone to_rest script run count seats → Why
-  held_by_rows ready rooms (inl zero) = none_asked zero
-  held_by_rows ready rooms (inr (inl some)) =
+  none_after : (n more : ℕ) → (more ≡ 0 → n ≡ count) → AreReady seats → HaveRoom (room_for (run + left) steps) seats →
+      RowsRunNone to_rest script run more seats → NoMore to_rest count n (bus_with script steps run left fault seats)
+  none_after n more all ready rooms (inl zero) = all_run (all zero)
+  none_after n more all ready rooms (inr (inl some)) =
       let s = seat_at seats some.0 some.1 in let room = rooms some.0 s some.1 in let free = some.2 s in
       let P : List Entry → Type 0 = λ j. room_for (run + left) steps some.0 ≤ length j in
       full some.0 (inside some.0 some.1) (subst P (sym (journal_is seats some.0 s some.1)) (omega (arith, room, free)))
-  held_by_rows ready rooms (inr (inr (inl some))) = struck some.0 some.1 some.2
-  held_by_rows ready rooms (inr (inr (inr some))) = rests some.0 (λ k few.
+  none_after n more all ready rooms (inr (inr (inl some))) = struck some.0 some.1 some.2
+  none_after n more all ready rooms (inr (inr (inr some))) = rests some.0 (λ k few.
       let c = count_is seats in let near : k < length seats = omega (arith, few, c) in
       rests_at seats true k ready few (λ s. some.1 k s near))
 
+  module _ (orders_are : ℕ → Orders → Type 0) where
+    -- none was run: by a port
+    pub held_by_port : SomeAborts orders_are (length seats) ⊎ SomeUntold seats →
+        RunsNone orders_are to_rest count (bus_with script steps run left fault seats)
+    held_by_port (inl some) = aborts some.0 some.1 (inside some.0 some.2) some.3 some.4
+    held_by_port (inr some) = let s = seat_at seats some.0 some.1 in
+        untold some.0 (inside some.0 some.1) (untold_is seats some.0 s some.1 ∙ some.2 s)
+
+    -- by the rest
+    pub held_by_rows : AreReady seats → HaveRoom (room_for (run + left) steps) seats →
+        RowsRunNone to_rest script run count seats →
+        RunsNone orders_are to_rest count (bus_with script steps run left fault seats)
+    held_by_rows ready rooms why = no_more (none_after 0 count (λ zero. sym zero) ready rooms why)
+
+-- some were run, and no more, or a port was told in the last one
+pub ended : {E B : Type 0} (b : Ports B) (to_rest : Bool) (most n : ℕ) (script : List Strike) (steps : List ℕ)
+    (run left : ℕ) (seats : List Seat) (was : Moment E B) (links : List E) (board : B) → n ≤ most → AreReady seats →
+    HaveRoom (room_for (run + left) steps) seats →
+    RowsRunNone to_rest script run (most - n) seats ⊎ SomeTold (b.told was.board board) seats →
+    EndsUntilTold b to_rest most was n (moment_of script steps run left seats links board)
+ended b to_rest most n script steps run left seats was links board few ready rooms (inl why) =
+    by_none (none_after to_rest most script steps run left None seats n (most - n) (λ zero. omega (arith, zero, few))
+    ready rooms why)
+ended b to_rest most n script steps run left seats was links board few ready rooms (inr some) =
+    let s = seat_at seats some.node some.few in let P : List Entry → Type 0 = λ j. IsLastTurn j some.turn in
+    by_told some.node some.turn (inside to_rest most script steps run left None seats some.node some.few) some.told
+    (subst P (sym (journal_is seats some.node s some.few)) (some.last s))
+
 -- of as many as are left of those that were asked for
+pub none_of : (to_rest : Bool) (most count n : ℕ) (bus : BusValue) → (most ≡ count) ⊎ (most ≡ bus.left + n) →
+    NoMore to_rest most n bus → NoMore to_rest count n bus
+none_of to_rest most count n bus (inl all) (all_run is) = all_run (is ∙ all)
+none_of to_rest most count n bus (inr few) (all_run is) = spent (omega (arith, few, is))
+none_of to_rest most count n bus which (spent zero) = spent zero
+none_of to_rest most count n bus which (rests asked all) = rests asked all
+none_of to_rest most count n bus which (struck node low strikes) = struck node low strikes
+none_of to_rest most count n bus which (full node few is) = full node few is
+
 pub held_of : (orders_are : ℕ → Orders → Type 0) (to_rest : Bool) (most count : ℕ) (bus : BusValue) →
     (most ≡ count) ⊎ (most ≡ bus.left) → RunsNone orders_are to_rest most bus → RunsNone orders_are to_rest count bus
-held_of orders_are to_rest most count bus which (rests asked all) = rests asked all
-held_of orders_are to_rest most count bus (inl all) (none_asked zero) = none_asked (sym all ∙ zero)
-held_of orders_are to_rest most count bus (inr few) (none_asked zero) = spent (sym few ∙ zero)
-held_of orders_are to_rest most count bus which (spent zero) = spent zero
-held_of orders_are to_rest most count bus which (struck node low strikes) = struck node low strikes
+held_of orders_are to_rest most count bus (inl all) (no_more why) =
+    no_more (none_of to_rest most count 0 bus (inl all) why)
+held_of orders_are to_rest most count bus (inr few) (no_more why) =
+    no_more (none_of to_rest most count 0 bus (inr (omega (arith, few))) why)
 held_of orders_are to_rest most count bus which (untold node few is) = untold node few is
 held_of orders_are to_rest most count bus which (aborts node o few are wants) = aborts node o few are wants
-held_of orders_are to_rest most count bus which (full node few is) = full node few is
+
+pub ended_of : {E B : Type 0} (b : Ports B) (to_rest : Bool) (most count n : ℕ) (was now : Moment E B) →
+    (most ≡ count) ⊎ (most ≡ was.bus.left) → now.bus.left + n ≡ was.bus.left →
+    EndsUntilTold b to_rest most was n now → EndsUntilTold b to_rest count was n now
+ended_of b to_rest most count n was now (inl all) left (by_none why) =
+    by_none (none_of to_rest most count n now.bus (inl all) why)
+ended_of b to_rest most count n was now (inr few) left (by_none why) =
+    by_none (none_of to_rest most count n now.bus (inr (omega (arith, few, left))) why)
+ended_of b to_rest most count n was now which left (by_told node turn few is last) = by_told node turn few is last

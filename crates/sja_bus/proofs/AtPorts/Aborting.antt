@@ -28,7 +28,7 @@ use Rattle.sja_link.specs.Records.{record_of}
 use Rattle.sja_link.proofs.JournalEntries.Entering.{record_push}
 use Rattle.sja_bus.specs.Inside.Following.{Follows}
 use Rattle.sja_bus.specs.Inside.Turning.{Drops}
-use Rattle.sja_bus.proofs.WholeBus.Lawfuls.{now_once}
+use Rattle.can_node.proofs.OneCut.SameCuts.{same_now}
 
 -- ---- the cut of a record with an abort more
 
@@ -123,7 +123,7 @@ leaves node j h left request held is found cut =
     let Q : List Event → Type 0 = λ r. (k : IsCut r found) → is_held (now_in k).held ≡ left in
     let same : (k : IsCut (record_of j ++ AbortedNow ∷ []) found) → is_held (now_in k).held ≡ left =
     λ k. ap (λ (d : ContextValue). is_held d.held) (sym
-    (now_once (record_of j ++ AbortedNow ∷ []) h.found found made.cut k) ∙ made.now) ∙ is in
+    (same_now (record_of j ++ AbortedNow ∷ []) h.found found made.cut k) ∙ made.now) ∙ is in
     ap not (sym (subst Q (sym one) same cut))
 
 pub marked_leaves : (old new : Node) (j : List Entry) → Aborts old new Marked → Follows old j →

@@ -16,10 +16,10 @@ use Rattle.sja_link.specs.declared.entry.Entry.TheVariants.{Abort}
 use Rattle.sja_link.specs.Records.{record_of}
 use Rattle.sja_bus.specs.declared.activity.Activity.{Activity}
 use Rattle.sja_bus.specs.declared.activity.Activity.TheVariants.{Between, Running, Off, OffAndAsked}
-use Rattle.sja_wire.specs.Aborting.{abort_in, changes, IsApplied}
+use Rattle.sja_link.specs.Aborting.{abort_in, changes, IsApplied}
 use Rattle.sja_bus.specs.Inside.Following.{Follows, Reads}
 use Rattle.sja_bus.specs.Inside.Taking.{Applies}
-use Rattle.sja_bus.proofs.WholeBus.Lawfuls.{now_once}
+use Rattle.can_node.proofs.OneCut.SameCuts.{same_now}
 use Rattle.sja_bus.proofs.Links.Seating.{open_by}
 
 -- two cuts of a record say the same of an abort
@@ -29,7 +29,7 @@ abort_once entries found others h k =
     let place : h.place ≡ k.place = (whole_once entries found others h k).2 in
     ap (λ p. abort_of (is_in_progress (now_in h) p) (now_in h).held (now_in h).aborted) place
     ∙ ap (λ (c : ContextValue). abort_of (is_in_progress c k.place) c.held c.aborted)
-    (now_once entries found others h k)
+    (same_now entries found others h k)
 
 -- the node answered so
 pub applied_running : (old new : Node) (j : List Entry) (ended free : ℕ) (activity : Activity) (filter : _)

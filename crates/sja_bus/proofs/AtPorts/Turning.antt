@@ -1,6 +1,5 @@
 -- The turn of a bit.
-use Rattle.std.proofs.Common.{◌≡◌, ◌+◌, Bool, false, List, [], ◌∷◌, ◌++◌}
-use Rattle.std.proofs.Common.{refl, sym, ap, ◌∙◌, subst}
+use Rattle.std.proofs.Common.{◌≡◌, ◌+◌, Bool, false, List, [], ◌∷◌, ◌++◌, refl, sym, ap, ◌∙◌, subst}
 use Rattle.std.specs.Prelude.{not}
 use Rattle.can_bits.specs.declared.level.Level.{Level}
 use Rattle.can_node.specs.declared.bit_events.BitEvents.{BitEvents}
@@ -21,12 +20,11 @@ use Rattle.sja_link.specs.Places.{place_of}
 use Rattle.sja_link.specs.Records.{record_of}
 use Rattle.sja_link.proofs.JournalEntries.Entering.{place_push}
 use Rattle.sja_regs.specs.declared.bus_turn.BusTurn.{BusTurn}
-use Rattle.sja_wire.specs.OneBit.{HasBit}
+use Rattle.sja_link.specs.BitEntries.{HasBit, off_left}
 use Rattle.sja_wire.specs.Telling.{SaysAlone, IsTurn, is_overrun}
 use Rattle.sja_bus.specs.Inside.Following.{Follows}
-use Rattle.sja_wire.specs.OneBit.{off_left}
 use Rattle.sja_bus.specs.Inside.Turning.{Drops}
-use Rattle.sja_wire.proofs.Journal.BitRecords.{entries_split, record_bit}
+use Rattle.sja_link.proofs.Growing.BitRecords.{entries_split, record_bit}
 
 -- ---- the turn
 

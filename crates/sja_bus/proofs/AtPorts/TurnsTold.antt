@@ -9,12 +9,13 @@ use Rattle.sja_link.specs.declared.up.Up.{Up}
 use Rattle.sja_link.specs.declared.entry.Entry.TheVariants.{Bit, Up as Item, Abort}
 use Rattle.sja_link.specs.Places.{place_of}
 use Rattle.sja_regs.specs.declared.bus_turn.BusTurn.{BusTurn}
-use Rattle.sja_wire.specs.OneBit.{MayHaveItems, HasBit}
+use Rattle.sja_link.specs.BitEntries.{MayHaveItems, HasBit}
 use Rattle.sja_wire.specs.Telling.{SaysAlone}
 use Rattle.sja_bus.specs.declared.untold.Untold.{Untold}
 use Rattle.sja_bus.specs.declared.untold.Untold.TheVariants.{Nothing, Changed, Dropped}
 use Rattle.sja_bus.specs.declared.seat.Seat.{Seat}
 use Rattle.sja_bus.specs.declared.bit_outcome.BitOutcome.{BitOutcome}
+use Rattle.sja_bus.specs.UntilTold.{IsLastTurn}
 use Rattle.sja_bus.specs.Inside.Following.{open_in}
 use Rattle.sja_bus.specs.Inside.Seats.{IsReady}
 use Rattle.sja_bus.specs.Inside.Turning.{IsQuietBit, Drops, TakesUntold, AbortsUntold, OpensUntold, Brings, TurnOf}
@@ -123,6 +124,28 @@ full_turns was_told was_kept seen old s outcome turn told ready untold samples b
   port = inl told;
   told = refl;
 }
+
+-- the port of a seat of which nothing was untold was told the turn of the last bit, where it wasn't passed over
+pub turn_told : {was_told : BusTurn → Type 0} {seen : Level} {old new : Seat} → old.untold ≡ Nothing →
+    Turns was_told ⊥ seen old new → (turn : BusTurn) × was_told turn × IsLastTurn new.journal.entries turn
+turn_told {was_told = was_told} {seen = seen} {old = old} calm h = (
+  h.turn,
+  told h.port,
+  record {
+    before = old.journal.entries;
+    driven = old.drives;
+    seen = seen;
+    bit = h.bit;
+    is = h.is_turn false (drops_none old.journal.entries old.untold dropped);
+  },
+)
+  where
+    told : was_told h.turn ⊎ (⊥ × (old.untold ≡ Nothing) × SaysAlone old.journal.entries h.turn) → was_told h.turn
+    told (inl is) = is
+    told (inr none) = absurd none.0
+
+    dropped : old.untold ≢ Dropped
+    dropped e = let wrong : Nothing ≡ Dropped = sym calm ∙ e in cc
 
 -- the same by what else was done at the ports
 pub turns_by : {was_told had_told : BusTurn → Type 0} {was_kept had_kept : Type 0} {seen : Level} {old new : Seat} →

@@ -1,6 +1,5 @@
 -- A bit that broke off, of one node and of all.
-use Rattle.std.proofs.Common.{◌≡◌, ℕ, suc, true, ◌+◌, ◌<◌, ◌≤◌, List, length, refl, sym}
-use Rattle.std.proofs.Common.{ap, ◌∙◌, subst, arith}
+use Rattle.std.proofs.Common.{◌≡◌, ℕ, suc, true, ◌+◌, ◌<◌, ◌≤◌, List, length, refl, sym, ap, ◌∙◌, subst, arith}
 use Rattle.std.specs.Prelude.{slice_index_or}
 use Rattle.sja_regs.specs.declared.orders.Orders.{Orders}
 use Rattle.sja_link.specs.declared.entry.Entry.{Entry}
@@ -11,10 +10,10 @@ use Rattle.sja_link.specs.BusLedgers.{link_of}
 use Rattle.sja_wire.specs.declared.bus_fault.BusFault.{BusFault}
 use Rattle.sja_wire.specs.declared.bus_fault.BusFault.TheVariants.{BitsSpent, BadCredit, Stuck, BadOrder, JournalFull}
 use Rattle.sja_bus.specs.declared.seat.Seat.{Seat}
-use Rattle.sja_wire.specs.Links.{Kept, Goes, Moves}
-use Rattle.sja_wire.specs.OutOfOrder.{HasOff}
-use Rattle.sja_wire.specs.Aborting.{IsApplied}
-use Rattle.sja_wire.specs.OneBit.{MayHaveItems}
+use Rattle.sja_link.specs.Links.{Kept, Goes, Moves}
+use Rattle.sja_link.specs.OutOfOrder.{HasOff}
+use Rattle.sja_link.specs.Aborting.{IsApplied}
+use Rattle.sja_link.specs.BitEntries.{MayHaveItems}
 use Rattle.sja_wire.specs.OutOfRoom.{IsOutOfRoom}
 use Rattle.sja_wire.specs.Reasons.{IsBrokenFor}
 use Rattle.sja_bus.specs.Inside.Taking.{BreaksHere, BreaksBy, IsFull, FullForAbort}

@@ -12,9 +12,10 @@ use Rattle.sja_wire.specs.declared.bus_fault.BusFault.{BusFault}
 use Rattle.sja_wire.specs.declared.bus_fault.BusFault.TheVariants.{JournalFull}
 use Rattle.sja_bus.specs.declared.seat.Seat.{Seat}
 use Rattle.sja_wire.specs.Wire.{journal_at}
-use Rattle.sja_wire.specs.Links.{Kept}
-use Rattle.sja_wire.specs.Aborting.{IsApplied}
-use Rattle.sja_wire.specs.OneBit.{MayHaveItems, Opens}
+use Rattle.sja_link.specs.Links.{Kept}
+use Rattle.sja_link.specs.Aborting.{IsApplied}
+use Rattle.sja_wire.specs.Opens.{Opens}
+use Rattle.sja_link.specs.BitEntries.{MayHaveItems}
 use Rattle.sja_wire.specs.Reasons.{IsBrokenFor, IsTakenAndRefused, IsNotAborted, IsBrokenOff, StopsBit, room_for}
 use Rattle.sja_wire.specs.Reasons.StopsBit.{not_taken as not_taken_bit, not_aborted as not_aborted_bit}
 use Rattle.sja_wire.specs.Reasons.StopsBit.{broken_off as broken_off_bit}

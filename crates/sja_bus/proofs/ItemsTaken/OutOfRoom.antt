@@ -9,7 +9,7 @@ use Rattle.sja_link.specs.declared.entry.Entry.TheVariants.{Bit, Off}
 use Rattle.sja_link.specs.declared.verdict.Verdict.{Verdict}
 use Rattle.sja_link.specs.Parts.{part}
 use Rattle.sja_link.specs.Verdicts.{IsDue, IsLawful, entry_of}
-use Rattle.sja_wire.specs.OneBit.{MayHaveVerdict, judged_as, off_as}
+use Rattle.sja_link.specs.BitEntries.{MayHaveVerdict, judged_as, off_as}
 use Rattle.sja_wire.specs.OutOfRoom.{IsOutOfRoom}
 use Rattle.sja_wire.specs.Telling.{is_overrun}
 use Rattle.sja_bus.specs.Inside.Following.{FollowsBit}

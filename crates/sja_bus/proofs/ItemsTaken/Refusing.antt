@@ -5,7 +5,7 @@ use Rattle.std.specs.Prelude.{slice_index_or, slice_set}
 use Rattle.std.proofs.Math.ListN.{length-set}
 use Rattle.std.proofs.lemmas.Bool.{cases_eq}
 use Rattle.std.proofs.lemmas.List.{length-append, get_or-set_same as set_here, get_or-set_other as set_else}
-use Rattle.std.proofs.lemmas.List.{get_or_append_left, get_or_default as or_same}
+use Rattle.std.proofs.lemmas.List.{get_or_append_left, get_or_default as or_same, get_or_push}
 use Rattle.sja_link.specs.declared.entry.Entry.{Entry}
 use Rattle.sja_link.specs.Lists.{Lists, with_taken}
 use Rattle.sja_link.specs.Accounts.{Account, account}
@@ -13,15 +13,14 @@ use Rattle.sja_link.specs.BusLedgers.{link_of}
 use Rattle.sja_wire.specs.declared.bus_fault.BusFault.{BusFault}
 use Rattle.sja_bus.specs.declared.seat.Seat.{Seat}
 use Rattle.sja_wire.specs.Wire.{journal_at}
-use Rattle.sja_wire.specs.Links.{Kept, Goes}
-use Rattle.sja_wire.specs.OneBit.{MayHaveItems}
+use Rattle.sja_link.specs.Links.{Kept, Goes}
+use Rattle.sja_link.specs.BitEntries.{MayHaveItems}
 use Rattle.sja_wire.specs.Reasons.{IsRefusedFor, RefusesItem, IsTakenAndRefused, room_for}
 use Rattle.sja_bus.specs.Inside.Seats.{IsSound}
 use Rattle.sja_bus.specs.Inside.Taking.{RefusesHere}
 use Rattle.sja_bus.specs.Inside.Refusing.{HaveRoom, AreFree, SeatRefuses}
 use Rattle.sja_bus.specs.Inside.Rows.{AreReady, GoesAll, Done, journals_of}
 use Rattle.sja_bus.proofs.AllNodes.Running.{journal_is, count_is}
-use Rattle.lemmas.proofs.Lists.{push_here}
 
 -- an item that the link of the activation read showed, after other items
 pub refuses_link : {E : Type 0} (same : E → E → Type 0) (stands : E → Lists → Type 0) (before : List Entry)
@@ -140,7 +139,7 @@ free_one n k x was seats s new few first same more room before free m t near = e
 pub rooms_push : (n : ℕ → ℕ) (seats : List Seat) (x : Seat) → x.journal.room ≡ n (length seats) → HaveRoom n seats →
     HaveRoom n (seats ++ x ∷ [])
 rooms_push n seats x is was k s few = elim (cases_eq k (length seats)) [
-  | inl e ↦ ap (λ (y : Seat). y.journal.room) (push_here seats x s k e) ∙ is ∙ ap n (sym e)
+  | inl e ↦ ap (λ (y : Seat). y.journal.room) (get_or_push seats x s k (sym e)) ∙ is ∙ ap n (sym e)
   | inr ne ↦
       let near : k < length seats = let l = length-append seats (x ∷ []) in omega (arith, l, few, ne) in
       ap (λ (y : Seat). y.journal.room) (get_or_append_left seats (x ∷ []) s k near) ∙ was k s near

@@ -15,16 +15,16 @@ use Rattle.lemmas.specs.Gathering.{gathered}
 use Rattle.sja_link.specs.Parts.{part}
 use Rattle.sja_link.specs.Places.{past, place_of}
 use Rattle.sja_link.specs.Carried.{taken_in, taken_of, put_in, put_of}
-use Rattle.lemmas.proofs.Gathered.{gathered_push}
+use Rattle.lemmas.proofs.Gathered.{gathered_push, total_push}
 use Rattle.sja_link.proofs.JournalEntries.Entering.{part_here, part_else}
-use Rattle.lemmas.proofs.Gathered.{total_push}
 use Rattle.sja_regs.specs.declared.orders.Orders.{Orders}
 use Rattle.sja_regs.specs.declared.bus_turn.BusTurn.{BusTurn}
 use Rattle.sja_bus.specs.declared.struck_nodes.StruckNodes.{StruckNodes}
 use Rattle.sja_bus.specs.declared.seat.Seat.{Seat}
 use Rattle.sja_wire.specs.Wire.{journal_at}
-use Rattle.sja_wire.specs.Links.{Kept, stops_in, stops_of}
-use Rattle.sja_wire.specs.OneBit.{HasBit, Opens, judged_as, off_as, abort_as, entries_of_items}
+use Rattle.sja_link.specs.Links.{Kept, stops_in, stops_of}
+use Rattle.sja_wire.specs.Opens.{Opens}
+use Rattle.sja_link.specs.BitEntries.{HasBit, judged_as, off_as, abort_as, entries_of_items}
 use Rattle.sja_bus.specs.TakingAll.{HasTaken, TakesAll}
 use Rattle.sja_bus.specs.Inside.Rows.{AreReady, EachSeat, SeatOpens, SeatTurns, GoesAll, AllRead, journals_of}
 use Rattle.sja_bus.specs.Inside.RowTakes.{RowTakesAll}

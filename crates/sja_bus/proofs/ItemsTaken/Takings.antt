@@ -26,12 +26,12 @@ use Rattle.sja_link.specs.Places.{past, place_of}
 use Rattle.sja_wire.specs.declared.bus_fault.BusFault.{BusFault}
 use Rattle.sja_wire.specs.declared.bus_fault.BusFault.TheVariants.{JournalFull}
 use Rattle.sja_bus.specs.declared.seat.Seat.{Seat}
-use Rattle.sja_wire.specs.OutOfOrder.{HasAskedOff, IsOutOfOrder, IsAskedWrongly, MayCome}
-use Rattle.sja_wire.specs.OutOfOrder.IsAskedWrongly.{outside, while_held, again_off}
+use Rattle.sja_link.specs.OutOfOrder.{HasAskedOff, IsOutOfOrder, IsAskedWrongly, MayCome}
+use Rattle.sja_link.specs.OutOfOrder.IsAskedWrongly.{outside, while_held, again_off}
 use Rattle.sja_bus.specs.Inside.Following.{Follows, Reads, open_in, is_on}
 use Rattle.sja_bus.specs.Inside.Seats.{IsSound, IsSeat, Pays}
 use Rattle.sja_bus.specs.Inside.Taking.{Takes, Refuses, IsFull}
-use Rattle.sja_bus.proofs.WholeBus.Lawfuls.{now_once}
+use Rattle.can_node.proofs.OneCut.SameCuts.{same_now}
 use Rattle.sja_bus.proofs.Journal.OnBus.{cut_away}
 use Rattle.sja_bus.proofs.Links.Seating.{open_by}
 
@@ -137,7 +137,7 @@ held_by old new j request back on follows refused found cut =
     elim (refused.2 (record_of j) follows.found follows.stands) [
       | inl reset ↦ absurd (cut_away (record_of j) follows.found follows.stands.cut on reset)
       | inr held ↦ ap (λ (c : ContextValue). is_held c.held)
-          (now_once (record_of j) found follows.found cut follows.stands.cut) ∙ held
+          (same_now (record_of j) found follows.found cut follows.stands.cut) ∙ held
     ]
 
 -- the seat runs in an open activation

@@ -21,12 +21,10 @@ use Rattle.sja_link.specs.Parts.{part}
 use Rattle.sja_link.specs.Records.{told, record_of}
 use Rattle.sja_link.specs.Verdicts.{filter_of, PassesAny, IsDue, HasVerdicts, entry_of}
 use Rattle.sja_link.proofs.JournalEntries.Entering.{record_push, record_counted, place_push}
-use Rattle.sja_link.proofs.Ledger.Judging.{filter_push, verdicts_quiet}
-use Rattle.sja_link.proofs.Ledger.Judging.{verdicts_passed_by}
-use Rattle.sja_link.proofs.Ledger.Judging.{verdicts_judged}
+use Rattle.sja_link.proofs.Ledger.Judging.{filter_push, verdicts_quiet, verdicts_passed_by, verdicts_judged}
 use Rattle.sja_bus.specs.Inside.Following.{Follows, FollowsBit}
-use Rattle.sja_wire.specs.OneBit.{off_left}
-use Rattle.sja_wire.proofs.Journal.BitRecords.{entries_split}
+use Rattle.sja_link.specs.BitEntries.{off_left}
+use Rattle.sja_link.proofs.Growing.BitRecords.{entries_split}
 use Rattle.can_node.proofs.OneCut.Longer.{received_more}
 
 -- a frame that a bit at the end of this journal finished

@@ -14,7 +14,7 @@ use Rattle.sja_link.specs.Free.{IsFree}
 use Rattle.sja_link.specs.Verdicts.{EndsInBit, IsPrompt, IsFair, IsDue, entry_of}
 use Rattle.sja_link.proofs.JournalEntries.Entering.{part_here}
 use Rattle.sja_link.proofs.Ledger.Freeing.{free_same}
-use Rattle.sja_wire.specs.Orderly.{IsRunning, IsOrderly}
+use Rattle.sja_link.specs.Orderly.{IsRunning, IsOrderly}
 use Rattle.sja_bus.proofs.Journal.Parted.{marks_in}
 
 -- after a bit a verdict is due that is fair by what is free

@@ -17,12 +17,12 @@ use Rattle.sja_link.proofs.Ledger.Freeing.{free_push}
 use Rattle.sja_link.proofs.Ledger.Judging.{StaysIn, filter_push}
 use Rattle.sja_bus.specs.declared.activity.Activity.{Activity}
 use Rattle.sja_bus.specs.declared.activity.Activity.TheVariants.{Between, Running, Off as IsOff, OffAndAsked}
-use Rattle.sja_wire.specs.Links.{stops_in, stops_of}
-use Rattle.sja_wire.specs.OutOfOrder.{HasOff, HasAskedOff}
+use Rattle.sja_link.specs.Links.{stops_in, stops_of}
+use Rattle.sja_link.specs.OutOfOrder.{HasOff, HasAskedOff}
 use Rattle.sja_bus.specs.Inside.Following.{is_on, IsActive}
-use Rattle.sja_wire.proofs.Journal.Orders.{acts_in}
+use Rattle.sja_link.proofs.Growing.Ordered.{acts_in}
 use Rattle.sja_bus.proofs.Journal.OnBus.{on_both}
-use Rattle.sja_wire.proofs.Journal.AskingOff.{off_before, asked_before}
+use Rattle.sja_link.proofs.Growing.AskingOff.{off_before, asked_before}
 
 -- an entry that is no stop
 pub stopped_same : (j : List Entry) (e : Entry) (n : ℕ) → stops_in e ≡ 0 → stops_of j ≡ n → stops_of (j ++ e ∷ []) ≡ n

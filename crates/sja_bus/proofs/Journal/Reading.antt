@@ -22,14 +22,14 @@ use Rattle.lemmas.proofs.Gathered.{total_push}
 use Rattle.sja_link.proofs.Ledger.Judging.{StaysIn, filter_push}
 use Rattle.sja_bus.specs.declared.activity.Activity.{Activity}
 use Rattle.sja_bus.specs.declared.activity.Activity.TheVariants.{Between, Running, Off as IsOff, OffAndAsked}
-use Rattle.sja_wire.specs.Links.{stops_in}
+use Rattle.sja_link.specs.Links.{stops_in}
 use Rattle.sja_bus.specs.Inside.Seats.{Pays}
-use Rattle.sja_wire.specs.OutOfOrder.{HasOff, HasAskedOff}
+use Rattle.sja_link.specs.OutOfOrder.{HasOff, HasAskedOff}
 use Rattle.sja_bus.specs.Inside.Following.{open_in, is_on, IsActive, Reads}
-use Rattle.sja_wire.specs.Orderly.{IsRunning, IsOrderly}
-use Rattle.sja_wire.proofs.Journal.Orders.{orderly_here, acts_in, quiet_orderly, stopless_with, runs_now, no_off_put}
+use Rattle.sja_link.specs.Orderly.{IsRunning, IsOrderly}
+use Rattle.sja_link.proofs.Growing.Ordered.{orderly_here, acts_in, quiet_orderly, stopless_with, runs_now, no_off_put}
 use Rattle.sja_bus.proofs.Journal.OnBus.{on_both}
-use Rattle.sja_wire.proofs.Journal.AskingOff.{off_before, off_of_asked, none_off}
+use Rattle.sja_link.proofs.Growing.AskingOff.{off_before, off_of_asked, none_off}
 use Rattle.sja_bus.proofs.Journal.Parted.{stopped_same, free_on, marks_in, no_stop, no_mark, stays_of}
 use Rattle.sja_bus.proofs.Journal.Parted.{off_same, begun_same, on_same, off_less, asked_less, active_same}
 

@@ -1,6 +1,5 @@
 -- A node follows its journal, with each thing that the bus does.
-use Rattle.std.proofs.Common.{◌≡◌, ◌≢◌, ℕ, true, false, List, [], ◌∷◌, ◌++◌, refl, sym, ap}
-use Rattle.std.proofs.Common.{◌∙◌, subst, append-nil}
+use Rattle.std.proofs.Common.{◌≡◌, ◌≢◌, ℕ, true, false, List, [], ◌∷◌, ◌++◌, refl, sym, ap, ◌∙◌, subst, append-nil}
 use Rattle.std.specs.Prelude.{Ok}
 use Rattle.can_node.specs.declared.config.Config.{Config}
 use Rattle.can_node.specs.declared.request.Request.{Request}
@@ -8,8 +7,7 @@ use Rattle.can_node.specs.declared.aborted.Aborted.{Aborted}
 use Rattle.can_node.specs.declared.aborted.Aborted.TheVariants.{Unchanged, Marked, Dropped}
 use Rattle.can_node.specs.declared.node.Node.{Node}
 use Rattle.can_node.specs.Record.{RecordEntry as Event}
-use Rattle.can_node.specs.Record.RecordEntry.{Start as Started, Stop as Stopped, Send as Asked}
-use Rattle.can_node.specs.Record.RecordEntry.{Abort as AbortedNow}
+use Rattle.can_node.specs.Record.RecordEntry.{Start as Started, Stop as Stopped, Send as Asked, Abort as AbortedNow}
 use Rattle.can_node.specs.FinishedPieces.{Count, received}
 use Rattle.can_node.specs.Stands.{StandsAt, Enters, Requests, Aborts}
 use Rattle.sja_link.specs.declared.up.Up.TheVariants.{Start, Credit, Send, Stop}

@@ -9,7 +9,7 @@ use Rattle.sja_link.specs.Deques.{Deques}
 use Rattle.sja_link.specs.declared.link_id.LinkId.{LinkId}
 use Rattle.sja_link.specs.declared.down.Down.{Down}
 use Rattle.sja_link.specs.declared.up.Up.{Up}
-use Rattle.sja_bus.specs.NewLinks.{new_link}
+use Rattle.sja_link.specs.NewLinks.{new_link}
 
 -- a link with this number and nothing on it
 pub is_new : (link : Deques) (node activation : ℕ) → link.link ≡ record { node = node; activation = activation } →

@@ -7,7 +7,7 @@ use Rattle.sja_link.specs.BusLedgers.{free_in}
 use Rattle.sja_bus.specs.declared.activity.Activity.{Activity}
 use Rattle.sja_bus.specs.declared.activity.Activity.TheVariants.{Between, Running, Off, OffAndAsked}
 use Rattle.sja_bus.specs.declared.seat.Seat.{Seat}
-use Rattle.sja_wire.specs.Opening.{IsOpen}
+use Rattle.sja_link.specs.Opening.{IsOpen}
 use Rattle.sja_bus.specs.Inside.Following.{Follows, FollowsBit, Reads, IsActive, open_in}
 use Rattle.sja_bus.specs.Inside.Seats.{IsSound}
 

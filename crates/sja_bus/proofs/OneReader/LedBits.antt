@@ -1,6 +1,5 @@
 -- One bit of a node that sends, and of one that has read just what it has.
-use Rattle.std.proofs.Common.{◌≡◌, true, false, List, [], ◌∷◌, ◌++◌, map}
-use Rattle.std.proofs.Common.{refl, sym, ap, ◌∙◌, subst, append_assoc}
+use Rattle.std.proofs.Common.{◌≡◌, true, false, List, [], ◌∷◌, ◌++◌, map, refl, sym, ap, ◌∙◌, subst, append_assoc}
 use Rattle.std.proofs.lemmas.List.{map-append}
 use Rattle.can_bits.specs.declared.level.Level.{Level}
 use Rattle.can_bits.specs.declared.level.Level.TheVariants.{Recessive}
@@ -11,8 +10,7 @@ use Rattle.can_node.specs.Context.{is_held}
 use Rattle.can_node.specs.NextBit.{now_in, open_bits, rests_in}
 use Rattle.can_node.specs.Stands.{DrivesNext, Samples, ShowsRest, is_receiving, nothing, phase_of_stage}
 use Rattle.can_bits.specs.Sending.{TakesInside}
-use Rattle.can_node.specs.Together.{HasReadAs, SendsBit, is_sending, kept_level}
-use Rattle.can_node.specs.Together.{reading_as}
+use Rattle.can_node.specs.Together.{HasReadAs, SendsBit, is_sending, kept_level, reading_as}
 use Rattle.can_node.proofs.Machine.Shown.{phase_shown}
 use Rattle.can_node.proofs.Machine.Told.{drives_once}
 use Rattle.can_node.proofs.Machine.Together.{reads_one, reads_same, sends_in_frame}
@@ -22,8 +20,7 @@ use Rattle.sja_link.specs.Records.{record_of}
 use Rattle.sja_bus.specs.declared.seat.Seat.{Seat}
 use Rattle.sja_bus.specs.declared.untold.Untold.TheVariants.{Nothing}
 use Rattle.sja_bus.specs.Inside.Seats.{IsReady}
-use Rattle.sja_bus.specs.Inside.Together.{after_reading, after_sending}
-use Rattle.sja_bus.specs.Inside.Together.{read_bits}
+use Rattle.sja_bus.specs.Inside.Together.{after_reading, after_sending, read_bits}
 use Rattle.sja_bus.specs.Inside.Turning.{IsQuietBit}
 use Rattle.sja_bus.proofs.Journal.Quiet.{quiet_sound}
 

@@ -2,7 +2,7 @@
 use Rattle.std.proofs.Common.{◌≡◌, ◌≢◌, ◌⊎◌, ℕ, suc, ◌<◌, Bool, false, List, [], ◌∷◌, ◌++◌, length}
 use Rattle.std.proofs.Common.{refl, sym, ap, ◌∙◌, subst, arith, inl, inr, append-nil}
 use Rattle.std.specs.Prelude.{slice_index_or}
-use Rattle.std.proofs.lemmas.List.{length-append}
+use Rattle.std.proofs.lemmas.List.{length-append, same_lists}
 use Rattle.can_bits.specs.declared.level.Level.{Level}
 use Rattle.can_bits.specs.declared.level.Level.TheVariants.{Recessive}
 use Rattle.can_bits.specs.declared.shift.Shift.{Shift}
@@ -18,7 +18,6 @@ use Rattle.sja_bus.specs.Inside.Rows.{IsOf, AreReady, AreTold, EachSeat, driven_
 use Rattle.sja_bus.specs.Inside.Together.{AreQuietRows, IsQuietRow, after_reading, after_sending}
 use Rattle.sja_bus.specs.Inside.Together.AreQuietRows.{no_row, one_more}
 use Rattle.sja_bus.specs.Inside.Turning.{IsQuietBit}
-use Rattle.sja_bus.proofs.Resting.QuietBits.{lists_same}
 use Rattle.sja_bus.proofs.OneReader.Places.{Between, between, one_drives}
 use Rattle.sja_bus.proofs.OneReader.LedBits.{drives_kept, kept_is, reader_quiet, reader_ready, sender_drives}
 use Rattle.sja_bus.proofs.OneReader.LedBits.{sender_quiet, sender_ready, works}
@@ -140,20 +139,13 @@ module _ (to_rest : Bool) (seats : List Seat) (lead : ℕ) (sender : Node) (few 
         works = λ yes. (lead, omega (arith, few, n), λ s. ((back.each lead s few).leads refl).1);
       }
 
-  by_places : (xs ys : List Seat) → length ys ≡ length xs →
-      ((m : ℕ) (s : Seat) → m < length xs → slice_index_or ys m s ≡ slice_index_or xs m s) → ys ≡ xs
-  by_places [] [] len each = refl
-  by_places [] (y ∷ ys) len each = absurd (omega (arith, len))
-  by_places (x ∷ xs) [] len each = absurd (omega (arith, len))
-  by_places (x ∷ xs) (y ∷ ys) len each = lists_same x (x ∷ xs) (y ∷ ys) len (λ m few. each m x few)
-
   -- all their bits, as many as a node sent, and the seats after them are ready
   pub rows_gone : (node : Node) (xs : List Level) (new : Node) → SendsBits node xs new → (after : List Seat) →
       length after ≡ length seats → HaveGone xs after →
       AreQuietRows to_rest seats (length xs) after × AreReady after
   rows_gone node _ _ no_bit after count gone =
-      let e = sym (by_places seats after count
-      (λ m s near. one_still lead sender m (slice_index_or seats m s) (slice_index_or after m s) (ready m s near)
+      let e = same_lists seats after (sym count)
+      (λ m s near. sym (one_still lead sender m (slice_index_or seats m s) (slice_index_or after m s) (ready m s near)
       (gone m s near))) in
       let P : List Seat → Type 0 = λ l. AreQuietRows to_rest seats 0 l in
       let Q : List Seat → Type 0 = λ l. AreReady l in

@@ -1,13 +1,11 @@
 -- What the code leaves of all nodes, of which one sent and the others went on with it.
-use Rattle.std.proofs.Common.{◌≡◌, ◌≢◌, ℕ, zero, suc, ◌<◌, Bool, List, [], ◌∷◌, ◌++◌, length}
-use Rattle.std.proofs.Common.{refl, sym, ap, ◌∙◌, subst, arith, inl, inr}
-use Rattle.std.proofs.Common.{◌≤◌, ◌-◌, take, replicate}
+use Rattle.std.proofs.Common.{◌≡◌, ◌≢◌, ℕ, zero, suc, ◌<◌, Bool, List, [], ◌∷◌, ◌++◌, length, refl, sym, ap, ◌∙◌, subst}
+use Rattle.std.proofs.Common.{arith, inl, inr, ◌≤◌, ◌-◌, take, replicate}
 use Rattle.std.specs.Prelude.{slice_index_or, slice_set}
 use Rattle.std.specs.Simd.Lanes.{zip2}
 use Rattle.std.proofs.lemmas.Bool.{cases_eq}
-use Rattle.std.proofs.lemmas.List.{length-set, set-get_or as set_same}
-use Rattle.std.proofs.lemmas.List.{get_or-set_same as set_here, get_or-set_other as set_there}
-use Rattle.std.proofs.lemmas.List.{get_or_default as or_same}
+use Rattle.std.proofs.lemmas.List.{length-set, set-get_or as set_same, get_or-set_same as set_here}
+use Rattle.std.proofs.lemmas.List.{get_or-set_other as set_there, get_or_default as or_same}
 use Rattle.can_bits.specs.declared.level.Level.{Level}
 use Rattle.can_bits.specs.declared.level.Level.TheVariants.{Recessive}
 use Rattle.can_bits.specs.declared.shift.Shift.{Shift}

@@ -31,7 +31,7 @@ use Rattle.sja_bus.proofs.AllNodes.RunningOn.{passes}
 use Rattle.sja_bus.proofs.AllNodes.BitAfterBit.{bits_on, some_work}
 use Rattle.sja_bus.proofs.AllNodes.UntilTold.{none_told, row_bits}
 use Rattle.sja_bus.proofs.AtPorts.TurnsTold.{quiet_turns}
-use Rattle.sja_wire.proofs.Moving.{goes_quiet}
+use Rattle.sja_link.proofs.Growing.Moving.{goes_quiet}
 use Rattle.sja_bus.proofs.Resting.WholeStretches.{nobody, not_among}
 use Rattle.lemmas.proofs.Related.{each_refl}
 

@@ -1,12 +1,11 @@
 -- A node at rest: a recessive bit changes nothing of it, and an abort finds no request.
-use Rattle.std.proofs.Common.{◌≡◌, ℕ, zero, suc, Bool, true, false, Option, Some, None, List, [], ◌∷◌, ◌++◌}
+use Rattle.std.proofs.Common.{◌≡◌, ℕ, zero, suc, Bool, true, false, None, List, [], ◌∷◌, ◌++◌}
 use Rattle.std.proofs.Common.{inl, inr, refl, sym, ap, ◌∙◌, subst, append_assoc, append-nil}
 use Rattle.std.specs.Prelude.{◌⊎◌, if◌then◌else◌, nat_lt}
 use Rattle.can_bits.specs.declared.level.Level.{Level}
 use Rattle.can_bits.specs.declared.level.Level.TheVariants.{Recessive}
 use Rattle.can_node.specs.declared.node.Node.{Node}
 use Rattle.can_node.specs.declared.phase.Phase.TheVariants.{Intermission, Suspension}
-use Rattle.can_node.specs.declared.request.Request.{Request}
 use Rattle.can_node.specs.declared.stage.Stage.{Stage}
 use Rattle.can_node.specs.declared.stage.Stage.TheVariants.{InReset as StageInReset, Integrating as StageIntegrating}
 use Rattle.can_node.specs.declared.stage.Stage.TheVariants.{BusIdle as StageBusIdle, InFrame as StageInFrame}
@@ -26,7 +25,8 @@ use Rattle.can_node.specs.Inside.Stages.{At}
 use Rattle.can_node.specs.Stands.{DrivesNext, Samples, ShowsRest, ShowsSame, abort_of, nothing, is_receiving}
 use Rattle.can_node.specs.Stands.{phase_of_stage}
 use Rattle.can_node.proofs.Machine.Ats.{at_is}
-use Rattle.can_node.proofs.Machine.Quiet.{IsQuiet, quietly, idle_quietly}
+use Rattle.can_node.proofs.Machine.Quiet.{IsQuiet, quietly}
+use Rattle.can_node.proofs.Machine.QuietOutside.{idle_quietly}
 use Rattle.can_node.proofs.Machine.Shown.{phase_shown}
 use Rattle.can_node.proofs.Machine.Told.{drives_once}
 use Rattle.sja_link.specs.declared.entry.Entry.{Entry}
@@ -35,17 +35,19 @@ use Rattle.sja_link.specs.Records.{record_of}
 use Rattle.sja_regs.specs.declared.orders.Orders.{Orders}
 use Rattle.sja_regs.specs.declared.bus_turn.BusTurn.{BusTurn}
 use Rattle.sja_bus.specs.declared.seat.Seat.{Seat}
-use Rattle.sja_wire.specs.Aborting.{changes, IsApplied}
-use Rattle.sja_wire.specs.OneBit.{MayHaveAbort, Opens}
+use Rattle.sja_link.specs.Aborting.{changes, IsApplied}
+use Rattle.sja_wire.specs.Opens.{Opens}
+use Rattle.sja_link.specs.BitEntries.{MayHaveAbort}
 use Rattle.sja_bus.specs.Stretches.{recessive_bits}
 use Rattle.sja_bus.specs.Inside.Following.{Follows}
 use Rattle.sja_bus.specs.Inside.Seats.{IsSound, IsReady}
 use Rattle.sja_bus.specs.Inside.Turning.{IsQuietBit, OpensUntold, Turns}
 use Rattle.sja_bus.specs.Inside.Idling.{IsResting, after_bits}
-use Rattle.sja_wire.proofs.Journal.Items.{items_none}
-use Rattle.sja_bus.proofs.WholeBus.Lawfuls.{now_once}
+use Rattle.sja_link.proofs.Growing.Items.{items_none}
+use Rattle.can_node.proofs.OneCut.SameCuts.{same_now}
 use Rattle.sja_bus.proofs.Journal.Quiet.{quiet_sound}
 use Rattle.sja_bus.proofs.AtPorts.TurnsTold.{quiet_turns, drops_none}
+use Rattle.can_node.proofs.Machine.Requests.{nothing_held}
 
 -- ---- where it stands
 
@@ -65,10 +67,6 @@ rest_stage (StageInFlag bits last) held h = absurd cc
 rest_stage (StageInDelimiter dominant recessive) held h = absurd cc
 rest_stage (StageInInterframeSpace bits) held h = absurd (pausing (nat_lt bits 3) held h)
 
-none_held : (o : Option Request) → is_held o ≡ false → o ≡ None
-none_held None e = refl
-none_held (Some request) e = absurd cc
-
 -- in reset, or idle with no request
 resting_stage : (node : Node) (j : List Entry) → ShowsRest node true → (h : Follows node j) →
     (node.stage ≡ StageInReset) ⊎ ((node.stage ≡ StageBusIdle) × (is_held (now_in h.stands.cut).held ≡ false))
@@ -83,7 +81,7 @@ resting_held : (node : Node) (j : List Entry) → ShowsRest node true → (h : F
 resting_held node j rests h = elim (resting_stage node j rests h) [
   | inl reset ↦ (at_is StageInReset node.stage node.shift h.stands.cut.context (now_in h.stands.cut) h.stands.cut.place
       (open_bits h.stands.cut) reset h.stands.at).1
-  | inr idle ↦ none_held (now_in h.stands.cut).held idle.1
+  | inr idle ↦ nothing_held (now_in h.stands.cut).held idle.1
 ]
 
 -- an abort changes nothing, by every cut
@@ -91,7 +89,7 @@ pub applied_at_rest : (node : Node) (j : List Entry) → ShowsRest node true →
 applied_at_rest node j rests h = record {
   runs = λ opened on found cut.
       let none : (now_in cut).held ≡ None =
-      ap (λ (c : ContextValue). c.held) (sym (now_once (record_of j) h.found found h.stands.cut cut))
+      ap (λ (c : ContextValue). c.held) (sym (same_now (record_of j) h.found found h.stands.cut cut))
       ∙ resting_held node j rests h in
       sym (ap (λ o. changes (abort_of (is_in_progress (now_in cut) cut.place) o (now_in cut).aborted)) none);
   rests = λ no. refl;

@@ -2,7 +2,7 @@
 use Rattle.std.proofs.Common.{◌≡◌, ℕ, zero, suc, ◌+◌, ◌*◌, ◌<◌, Bool, true, false, List, [], ◌∷◌, ◌++◌, length, refl}
 use Rattle.std.proofs.Common.{sym, ap, ◌∙◌, subst, append-nil, arith}
 use Rattle.std.specs.Prelude.{◌≢◌, slice_index_or, Result, Ok, Err, OnOk, IfOk}
-use Rattle.std.proofs.lemmas.List.{length-map, length-append}
+use Rattle.std.proofs.lemmas.List.{length-map, length-append, ext_get_or}
 use Rattle.can_bits.specs.declared.level.Level.TheVariants.{Recessive}
 use Rattle.sja_link.specs.declared.entry.Entry.{Entry}
 use Rattle.sja_link.specs.declared.entry.Entry.TheVariants.{Bit}
@@ -14,27 +14,16 @@ use Rattle.sja_regs.specs.declared.orders.Orders.{Orders}
 use Rattle.sja_regs.specs.declared.bus_turn.BusTurn.{BusTurn}
 use Rattle.sja_script.specs.declared.strike.Strike.{Strike}
 use Rattle.sja_wire.specs.Wire.{journal_at}
-use Rattle.sja_wire.specs.Links.{Kept, stops_in, stops_of}
+use Rattle.sja_link.specs.Links.{Kept, stops_in, stops_of}
 use Rattle.sja_wire.specs.declared.bus_fault.BusFault.{BusFault}
-use Rattle.sja_wire.specs.OneBit.{MayHaveItems, entries_of_items}
+use Rattle.sja_link.specs.BitEntries.{MayHaveItems, entries_of_items}
 use Rattle.sja_wire.specs.Telling.{IsUntold}
 use Rattle.sja_wire.specs.Buses.{EachJournal, EachUntold, KeepsAll, AllDry, untold_at, IsNodeBit, IsBit}
 use Rattle.sja_bus.specs.Stretches.{recessive_bits, with_recessive, IsStretch}
-use Rattle.sja_wire.proofs.Moving.{account_quiet}
+use Rattle.sja_link.proofs.Growing.Moving.{account_quiet}
 use Rattle.sja_bus.proofs.Resting.AtRest.{one_more}
 
 -- ---- by journals
-
--- lists that agree at each place
-pub lists_same : {A : Type 0} (d : A) (xs ys : List A) → length ys ≡ length xs →
-    ((i : ℕ) → i < length xs → slice_index_or ys i d ≡ slice_index_or xs i d) → ys ≡ xs
-lists_same d [] [] len each = refl
-lists_same d [] (y ∷ ys) len each = absurd (omega arith)
-lists_same d (x ∷ xs) [] len each = absurd (omega arith)
-lists_same d (x ∷ xs) (y ∷ ys) len each =
-    let first : y ≡ x = each 0 (omega arith) in
-    ap (λ z. z ∷ ys) first ∙ ap (λ l. x ∷ l) (lists_same d xs ys (omega (arith, len))
-    (λ i few. each (suc i) (omega (arith, few))))
 
 -- nothing was taken where nothing is untold
 none_taken : (j k : List Entry) (before now : Bool) → MayHaveItems j k → IsUntold before now j k → now ≡ false → k ≡ j
@@ -79,9 +68,10 @@ pub stretch_taken : (orders_are : ℕ → Orders → Type 0) (was_told : ℕ →
     IsStretch orders_are was_told was_kept script run count untold before after
 stretch_taken orders_are was_told was_kept script run count untold now before mid after len items tells h =
     let same : mid ≡ before =
-    lists_same [] before mid len
-    (λ i few. none_taken (journal_at before i) (journal_at mid i) (untold_at untold i) (untold_at now i) (items i few)
-    (tells i few) (h.told i (omega (arith, few, len)))) in
+    ext_get_or [] mid before len
+    (λ i few. let within : i < length before = omega (arith, few, len) in
+    none_taken (journal_at before i) (journal_at mid i) (untold_at untold i) (untold_at now i) (items i within)
+    (tells i within) (h.told i few)) in
     let told : (node : ℕ) → node < length before → untold_at untold node ≡ false =
     λ node few. was_told_before (untold_at untold node) (untold_at now node) (tells node few).stays
     (h.told node (omega (arith, few, len))) in record {

@@ -1,8 +1,7 @@
 -- A node at rest, or not, by every cut of its record.
-use Rattle.std.proofs.Common.{◌≡◌, ◌≢◌, ℕ, ◌+◌, ◌<◌, Bool, true, false, Option, Some, None, List, [], ◌∷◌, refl, sym}
+use Rattle.std.proofs.Common.{◌≡◌, ◌≢◌, ℕ, ◌<◌, Bool, true, false, Option, Some, None, List, [], ◌∷◌, refl, sym}
 use Rattle.std.proofs.Common.{ap, ◌∙◌, subst, arith, inl, inr, length}
-use Rattle.std.specs.Prelude.{◌⊎◌, if◌then◌else◌, slice_index_or}
-use Rattle.std.proofs.lemmas.Bool.{cases_eq}
+use Rattle.std.specs.Prelude.{if◌then◌else◌, slice_index_or}
 use Rattle.std.proofs.lemmas.List.{get_or_default as or_same}
 use Rattle.can_bits.specs.declared.level.Level.{Level}
 use Rattle.can_bits.specs.declared.level.Level.TheVariants.{Recessive}
@@ -67,12 +66,6 @@ rests_at (s ∷ seats) b k ready few shows =
     let P : List Entry → Type 0 = λ j. RestsAs (record_of j) b in
     subst P (sym (journal_is all k s near)) (rests_here seat.node seat.journal.entries b
     (ready k s near).ready.sound.follows (shows s))
-
-pub earlier_or_now : (m k : ℕ) → m < k + 1 → (m < k) ⊎ (m ≡ k)
-earlier_or_now m k h = elim (cases_eq m k) [
-  | inl same ↦ inr same
-  | inr other ↦ inl (omega (arith, h, other))
-]
 
 -- ---- a node at rest drives recessive
 

@@ -1,14 +1,8 @@
 -- Bits in none of which a script strikes one of eight nodes, and more of them.
-use Rattle.std.proofs.Common.{◌≡◌, ℕ, ◌+◌, ◌-◌, ◌<◌, ◌≤◌, ◌⊎◌, List, true, false, ltb, ltb-true, ltb-false, inl, inr}
-use Rattle.std.proofs.Common.{arith, refl, subst}
+use Rattle.std.proofs.Common.{◌≡◌, ℕ, ◌+◌, ◌-◌, ◌<◌, List, inl, inr, arith, subst}
+use Rattle.std.proofs.lemmas.Bool.{cases_lt}
 use Rattle.sja_script.specs.declared.strike.Strike.{Strike}
 use Rattle.sja_script.specs.Striking.{Strikes}
-
-before_or_later : (i n : ℕ) → (i < n) ⊎ (n ≤ i)
-before_or_later i n = elim (ltb i n) as (λ b. ltb i n ≡ b → (i < n) ⊎ (n ≤ i)) [
-  | true ↦ λ e. inl (ltb-true i n e)
-  | false ↦ λ e. inr (ltb-false i n e)
-] refl
 
 -- one bit in which none is struck
 pub none_now : (script : List Strike) (from run : ℕ) →
@@ -23,7 +17,7 @@ pub none_more : (script : List Strike) (from run n : ℕ) →
     ((i node : ℕ) → i < run → node < 8 → Strikes script (from + i) node → ⊥) →
     ((i node : ℕ) → i < n → node < 8 → Strikes script (from + (run + i)) node → ⊥) →
     (i node : ℕ) → i < run + n → node < 8 → Strikes script (from + i) node → ⊥
-none_more script from run n before more i node low few strikes = elim (before_or_later i run) [
+none_more script from run n before more i node low few strikes = elim (cases_lt i run) [
   | inl early ↦ before i node early few strikes
   | inr late ↦ let at : from + i ≡ from + (run + (i - run)) = omega (arith, late) in
       more (i - run) node (omega (arith, late, low)) few (subst (λ b. Strikes script b node) at strikes)

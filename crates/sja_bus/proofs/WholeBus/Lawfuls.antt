@@ -1,20 +1,18 @@
 -- Every cut of a journal's record.
-use Rattle.std.proofs.Common.{◌≡◌, List, [], ap, ◌∙◌, subst}
+use Rattle.std.proofs.Common.{◌≡◌, List, ap, ◌∙◌, subst}
 use Rattle.can_node.specs.declared.node.Node.{Node}
 use Rattle.can_node.specs.declared.counters.Counters.{Counters}
 use Rattle.can_node.specs.Context.{ContextValue}
-use Rattle.can_node.specs.Record.{RecordEntry as Event}
 use Rattle.can_node.specs.FinishedPieces.{FinishedPiece, received}
-use Rattle.can_node.specs.Cut.{IsCut}
 use Rattle.can_node.specs.NextBit.{now_in}
-use Rattle.can_node.specs.Effects.{along}
 use Rattle.can_node.specs.Stands.{ShowsCounters}
-use Rattle.can_node.proofs.OneCut.CutOnce.{cut_once, whole_once}
+use Rattle.can_node.proofs.OneCut.CutOnce.{cut_once}
 use Rattle.sja_link.specs.declared.entry.Entry.{Entry}
 use Rattle.sja_link.specs.Records.{record_of}
 use Rattle.sja_link.specs.Verdicts.{HasVerdicts, IsLawful}
 use Rattle.sja_bus.specs.Inside.Following.{Follows}
 use Rattle.sja_wire.specs.Lawful.{CountersAre}
+use Rattle.can_node.proofs.OneCut.SameCuts.{same_now}
 
 pub lawful_of : (node : Node) (j : List Entry) → Follows node j → IsLawful j
 lawful_of node j h = record {
@@ -24,18 +22,10 @@ lawful_of node j h = record {
       (cut_once (record_of j) h.found others h.stands.cut cut) h.verdicts;
 }
 
--- the context of the next bit is the same by every cut
-pub now_once : (entries : List Event) (found others : List FinishedPiece) (h : IsCut entries found)
-    (k : IsCut entries others) → now_in h ≡ now_in k
-now_once entries found others h k =
-    let once = whole_once entries found others h k in
-    ap (λ d. along d h.place [] h.rest) once.1 ∙ ap (λ p. along k.context p [] h.rest) once.2
-    ∙ ap (λ l. along k.context k.place [] l) once.3
-
 -- the counters that the node shows, by every cut
 pub counters_of : (node : Node) (j : List Entry) (counters : Counters) → ShowsCounters node counters → Follows node j →
     CountersAre j counters.tec counters.rec
 counters_of node j counters shows h found cut =
     let s = shows (record_of j) h.found h.stands in
-    let same : now_in h.stands.cut ≡ now_in cut = now_once (record_of j) h.found found h.stands.cut cut in
+    let same : now_in h.stands.cut ≡ now_in cut = same_now (record_of j) h.found found h.stands.cut cut in
     (s.0 ∙ ap (λ (d : ContextValue). d.tec) same, s.1 ∙ ap (λ (d : ContextValue). d.rec) same)

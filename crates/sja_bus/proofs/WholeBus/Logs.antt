@@ -3,7 +3,7 @@ use Rattle.std.proofs.Common.{◌≡◌, ℕ, zero, suc, ◌+◌, ◌<◌, false
 use Rattle.std.proofs.Common.{subst, append_assoc, append-nil, arith, inl, inr}
 use Rattle.std.specs.Prelude.{slice_index_or, replicate}
 use Rattle.std.proofs.lemmas.Bool.{cases_eq}
-use Rattle.std.proofs.lemmas.List.{get_or_append_left}
+use Rattle.std.proofs.lemmas.List.{get_or_append_left, get_or_push}
 use Rattle.sja_link.specs.declared.entry.Entry.{Entry}
 use Rattle.lemmas.specs.Related.{EachRelated}
 use Rattle.sja_script.specs.declared.strike.Strike.{Strike}
@@ -15,7 +15,6 @@ use Rattle.sja_bus.specs.Inside.Ending.{IsLog}
 use Rattle.sja_bus.specs.declared.untold.Untold.TheVariants.{Nothing, Dropped}
 use Rattle.sja_bus.specs.Inside.Turning.{is_untold}
 use Rattle.sja_bus.specs.Inside.Rows.{IsOf, AreReady, AreCalm, journals_of, untold_of, IsBus}
-use Rattle.lemmas.proofs.Lists.{push_here}
 use Rattle.lemmas.proofs.Related.{related_push}
 use Rattle.sja_wire.proofs.Wires.{wired_none}
 use Rattle.sja_bus.proofs.AllNodes.Running.{journal_is, count_is}
@@ -37,7 +36,7 @@ new_push n seats x len new was k s few = elim (cases_eq k n) [
   | inl e ↦
       let P : Seat → Type 0 = λ y. IsNew y k in
       let Q : ℕ → Type 0 = λ m. IsNew x m in
-      subst P (sym (push_here seats x s k (e ∙ sym len))) (subst Q (sym e) new)
+      subst P (sym (get_or_push seats x s k (len ∙ sym e))) (subst Q (sym e) new)
   | inr ne ↦
       let P : Seat → Type 0 = λ y. IsNew y k in
       subst P (sym (get_or_append_left seats (x ∷ []) s k (omega (arith, len, few, ne))))

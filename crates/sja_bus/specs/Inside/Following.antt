@@ -1,5 +1,5 @@
 -- What the bus knows of a node and its journal.
-use Rattle.std.specs.Prelude.{◌≡◌, ◌+◌, ℕ, suc, Bool, true, false, if◌then◌else◌, Some, List, [], ◌∷◌, ◌++◌}
+use Rattle.std.specs.Prelude.{◌≡◌, ◌+◌, ℕ, suc, Bool, true, false, Some, List, [], ◌∷◌, ◌++◌}
 use Rattle.can_node.specs.declared.node.Node.{Node}
 use Rattle.can_node.specs.Stands.{StandsAt, InReset}
 use Rattle.sja_link.specs.NodeWords.{NodeEntry, NodeStarted, NodeStopped, NodeTook, NodeAsked}
@@ -13,10 +13,10 @@ use Rattle.lemmas.specs.Gathering.{total}
 use Rattle.sja_link.specs.Carried.{taken_of}
 use Rattle.sja_link.specs.World.{is_stop}
 use Rattle.sja_link.specs.Verdicts.{filter_of, HasVerdicts}
-use Rattle.sja_wire.specs.Links.{stops_of}
-use Rattle.sja_wire.specs.OneBit.{off_left}
-use Rattle.sja_wire.specs.OutOfOrder.{HasOff, HasAskedOff}
-use Rattle.sja_wire.specs.Orderly.{AreOrderly}
+use Rattle.sja_link.specs.Links.{stops_of}
+use Rattle.sja_link.specs.BitEntries.{off_left}
+use Rattle.sja_link.specs.OutOfOrder.{HasOff, HasAskedOff}
+use Rattle.sja_link.specs.Orderly.{AreOrderly}
 use Rattle.sja_bus.specs.declared.activity.Activity.{Activity}
 use Rattle.sja_bus.specs.declared.activity.Activity.TheVariants.{Between, Running, Off, OffAndAsked}
 

@@ -5,7 +5,7 @@ use Rattle.sja_regs.specs.declared.orders.Orders.{Orders}
 use Rattle.sja_wire.specs.declared.bus_fault.BusFault.{BusFault}
 use Rattle.sja_wire.specs.declared.bus_fault.BusFault.TheVariants.{JournalFull}
 use Rattle.sja_bus.specs.declared.seat.Seat.{Seat}
-use Rattle.sja_wire.specs.Links.{per_node}
+use Rattle.sja_link.specs.Links.{per_node}
 use Rattle.sja_wire.specs.Reasons.{RefusesItem, IsBrokenFor}
 use Rattle.sja_bus.specs.Inside.Taking.{FullForAbort}
 use Rattle.sja_bus.specs.Inside.Rows.{EachSeat, SeatOpens, GoesAll}

@@ -4,7 +4,7 @@ use Rattle.sja_link.specs.declared.bus_end.BusEnd.{Ghosts as Ends}
 use Rattle.sja_link.specs.Accounts.{Account}
 use Rattle.lemmas.specs.Related.{EachRelated}
 use Rattle.sja_bus.specs.declared.seat.Seat.{Seat}
-use Rattle.sja_wire.specs.Links.{per_node, Kept}
+use Rattle.sja_link.specs.Links.{per_node, Kept}
 use Rattle.sja_bus.specs.TakingAll.{HasTaken}
 use Rattle.sja_bus.specs.Inside.Rows.{AllRead}
 

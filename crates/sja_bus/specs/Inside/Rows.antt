@@ -18,8 +18,9 @@ use Rattle.sja_bus.specs.declared.untold.Untold.TheVariants.{Nothing, Dropped}
 use Rattle.sja_bus.specs.declared.seat.Seat.{Seat}
 use Rattle.sja_bus.specs.UntilTold.{HasBitsMore}
 use Rattle.sja_wire.specs.Wire.{IsWired}
-use Rattle.sja_wire.specs.Links.{per_node, Kept, Grows, Numbered}
-use Rattle.sja_wire.specs.OneBit.{MayHaveItems, Opens}
+use Rattle.sja_link.specs.Links.{per_node, Kept, Grows, Numbered}
+use Rattle.sja_wire.specs.Opens.{Opens}
+use Rattle.sja_link.specs.BitEntries.{MayHaveItems}
 use Rattle.sja_bus.specs.Inside.Seats.{IsReady}
 use Rattle.sja_bus.specs.Inside.Turning.{is_untold, TakesUntold, OpensUntold, Turns}
 

@@ -4,6 +4,7 @@ use Rattle.std.specs.Prelude.{slice_index_or}
 use Rattle.sja_link.specs.declared.bus_end.BusEnd.{Ghosts as Ends}
 use Rattle.sja_link.specs.declared.link_id.LinkId.{LinkId}
 use Rattle.can_node.specs.Stands.{ShowsRest}
+use Rattle.sja_regs.specs.declared.bus_turn.BusTurn.{BusTurn}
 use Rattle.sja_regs.specs.declared.orders.Orders.{Orders}
 use Rattle.sja_script.specs.declared.strike.Strike.{Strike}
 use Rattle.sja_script.specs.Striking.{Strikes}
@@ -14,11 +15,11 @@ use Rattle.sja_bus.specs.declared.seat.Seat.{Seat}
 use Rattle.sja_bus.specs.declared.struck_nodes.StruckNodes.{StruckNodes}
 use Rattle.sja_bus.specs.StrikesByBit.{IsAmong}
 use Rattle.sja_wire.specs.Buses.{BusValue}
-use Rattle.sja_wire.specs.Links.{Numbered}
+use Rattle.sja_link.specs.Links.{Numbered}
 use Rattle.sja_wire.specs.Reasons.{room_for}
 use Rattle.sja_bus.specs.Moment.{Moment, Keeps, OneBit}
 use Rattle.sja_bus.specs.Several.{AreBits, BreaksOff}
-use Rattle.sja_bus.specs.UntilTold.{WorksUntold}
+use Rattle.sja_bus.specs.UntilTold.{IsLastTurn, WorksUntold}
 use Rattle.sja_bus.specs.Inside.Refusing.{HaveRoom}
 use Rattle.sja_bus.specs.Inside.Turning.{is_untold}
 use Rattle.sja_bus.specs.Inside.Rows.{AreTold, IsBus, journals_of, untold_of}
@@ -34,6 +35,14 @@ SomeAborts orders_are nodes = (node : ℕ) × (o : Orders) × (node < nodes) × 
 -- some port is to be told something
 abbrev pub SomeUntold : List Seat → Type 0
 SomeUntold seats = (k : ℕ) × (k < length seats) × ((s : Seat) → is_untold (slice_index_or seats k s).untold ≡ true)
+
+-- the port of one of these nodes was told the turn of the last bit in its journal
+pub record SomeTold (was_told : ℕ → BusTurn → Type 0) (seats : List Seat) : Type 0 where
+  pub node : ℕ
+  pub turn : BusTurn
+  pub few : node < length seats
+  pub told : was_told node turn
+  pub last : (s : Seat) → IsLastTurn (slice_index_or seats node s).journal.entries turn
 
 -- each of these nodes is at rest
 abbrev pub AllAtRest : List Seat → Type 0

@@ -14,7 +14,7 @@ use Rattle.sja_bus.specs.declared.bit_outcome.BitOutcome.{BitOutcome}
 use Rattle.sja_bus.specs.declared.untold.Untold.{Untold}
 use Rattle.sja_bus.specs.declared.untold.Untold.TheVariants.{Nothing, Changed, Dropped}
 use Rattle.sja_bus.specs.declared.seat.Seat.{Seat}
-use Rattle.sja_wire.specs.OneBit.{MayHaveItems, MayHaveAbort, MayHaveVerdict, HasBit}
+use Rattle.sja_link.specs.BitEntries.{MayHaveItems, MayHaveAbort, MayHaveVerdict, HasBit}
 use Rattle.sja_wire.specs.Telling.{IsTurn, SaysAlone, is_overrun}
 use Rattle.sja_bus.specs.Inside.Following.{open_in}
 

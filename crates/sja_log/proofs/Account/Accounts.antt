@@ -1,14 +1,11 @@
 -- The headline, by what bus, link and driver keep.
-use Rattle.std.proofs.Common.{◌≡◌, ℕ, ◌+◌, ◌-◌, ◌<◌, ◌≤◌, Option, List, ◌∷◌, ◌++◌, length, refl, sym, ap, ◌∙◌, subst}
-use Rattle.std.proofs.Common.{arith}
-use Rattle.std.specs.Prelude.{take, slice_index_or}
+use Rattle.std.proofs.Common.{◌≡◌, ℕ, ◌+◌, ◌≤◌, Option, List, ◌++◌, length, sym, ap, ◌∙◌, subst, arith}
+use Rattle.std.specs.Prelude.{slice_index_or}
 use Rattle.can_frame.specs.declared.filter.Filter.{Filter}
 use Rattle.sja_link.specs.NodeWords.{FinishedPiece, received}
 use Rattle.sja_link.specs.declared.entry.Entry.{Entry}
 use Rattle.sja_link.specs.Places.{place_of}
 use Rattle.sja_link.specs.Parts.{part}
-use Rattle.sja_link.specs.Carried.{put_of, taken_of}
-use Rattle.sja_link.specs.Accounts.{Account}
 use Rattle.sja_link.specs.Judged.{judged_in, kept}
 use Rattle.lemmas.specs.Picking.{Picks}
 use Rattle.sja_link.specs.Verdicts.{IsAccepted, IsOn, HasVerdicts, IsLawful}

@@ -12,13 +12,12 @@ use Rattle.sja_link.specs.declared.entry.Entry.TheVariants.{Up as Item}
 use Rattle.lemmas.specs.Gathering.{total}
 use Rattle.sja_link.specs.Lists.{messages}
 use Rattle.sja_link.specs.Looking.{off_among}
-use Rattle.lemmas.specs.Picking.{EachAfter}
 use Rattle.sja_link.specs.Places.{JournalPlace, past, place_of}
 use Rattle.sja_link.specs.Carried.{taken_in}
 use Rattle.sja_link.specs.World.{is_send}
 use Rattle.sja_link.proofs.JournalEntries.Entering.{place_push, item_bits}
 use Rattle.lemmas.proofs.Gathered.{total_push}
-use Rattle.sja_wire.specs.Links.{stops_in, stops_of}
+use Rattle.sja_link.specs.Links.{stops_in, stops_of}
 use Rattle.sja_driver.specs.Carried.{Sees}
 use Rattle.sja_driver.specs.Deeds.{Deed, opens_by, opened_by, active_after, active_from, is_active, deeds_of}
 use Rattle.sja_driver.specs.Deeds.{released_lengths}
@@ -67,11 +66,6 @@ sees_same j k same true before d h =
     (subst (λ (w : List (List ℕ)). Sees d.step (off_by d.bits j (opened_by before)) w d.answer)
     (sym (window_same j k same before d.bits)) h)
 sees_same j k same false before d h = tt
-
-pub each_map : {X : Type 0} (P Q : List X → X → Type 0) → ((before : List X) (x : X) → P before x → Q before x) →
-    (before xs : List X) → EachAfter P before xs → EachAfter Q before xs
-each_map P Q f before [] h = tt
-each_map P Q f before (x ∷ xs) h = (f before x h.0, each_map P Q f (before ++ x ∷ []) xs h.1)
 
 -- ---- what was set
 

@@ -14,10 +14,10 @@ use Rattle.sja_driver.specs.declared.any_driver.AnyDriver.TheVariants.{InReset, 
 use Rattle.sja_driver.specs.Acting.{IfLooking}
 use Rattle.sja_driver.specs.AnyDrivers.{is_out, held_of, off_of, seen_by}
 use Rattle.sja_driver.specs.Carried.{Tells}
-use Rattle.sja_driver.specs.Deeds.{Deed, active_after, opened_by}
+use Rattle.sja_driver.specs.Deeds.{Deed, active_after}
 use Rattle.sja_driver.specs.Drivers.{nothing_seen}
 use Rattle.sja_log.specs.Registering.{seen_now}
-use Rattle.sja_driver.specs.Windows.{off_by, window_of}
+use Rattle.sja_driver.specs.Windows.{window_of}
 use Rattle.sja_log.proofs.Account.Looks.{IsShown}
 
 -- out of reset by what is known of bus-off and by the window, in reset nothing

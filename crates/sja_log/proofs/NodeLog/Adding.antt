@@ -17,11 +17,12 @@ use Rattle.sja_link.specs.Carried.{put_in, put_of}
 use Rattle.lemmas.proofs.Gathered.{gathered_append}
 use Rattle.sja_link.proofs.JournalEntries.Entering.{place_push}
 use Rattle.sja_link.proofs.Ledger.Pullings.{off_both}
-use Rattle.sja_wire.specs.OneBit.{abort_as, judged_as, off_as, HasBit}
+use Rattle.sja_link.specs.BitEntries.{abort_as, judged_as, off_as, HasBit}
 use Rattle.sja_driver.specs.Deeds.{Deed}
 use Rattle.sja_driver.specs.Aborting.{IsCommanded, AbortIsDue}
 use Rattle.sja_driver.specs.Windows.{put_by, off_by}
-use Rattle.sja_driver.proofs.Trace.Timings.{aborts_push, put_now}
+use Rattle.sja_driver.proofs.Trace.Timings.{put_now}
+use Rattle.sja_driver.proofs.Trace.AbortsDue.{aborts_push}
 use Rattle.sja_log.proofs.Trace.Windows.{put_quiet}
 use Rattle.sja_driver.proofs.Trace.Later.{SameBy}
 use Rattle.sja_driver.proofs.Account.Own.{AreOwn, own_part, own_late}

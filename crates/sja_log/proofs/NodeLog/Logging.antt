@@ -3,7 +3,7 @@ use Rattle.std.proofs.Common.{◌≡◌, ℕ, zero, suc, ◌+◌, ◌*◌, ◌<�
 use Rattle.std.proofs.Common.{◌∙◌, subst, arith, inl, inr}
 use Rattle.std.specs.Prelude.{slice_index_or}
 use Rattle.std.proofs.lemmas.Bool.{cases_eq}
-use Rattle.std.proofs.lemmas.List.{length-append, length-map, get_or_append_left}
+use Rattle.std.proofs.lemmas.List.{length-append, length-map, get_or_append_left, get_or-map, get_or_push}
 use Rattle.sja_link.specs.declared.driver_ledger.DriverLedger.{DriverLedger}
 use Rattle.sja_link.specs.declared.down.Down.{Down}
 use Rattle.sja_link.specs.DriverLedgers.{held_by}
@@ -11,9 +11,7 @@ use Rattle.sja_wire.specs.declared.node_log.NodeLog.{NodeLog}
 use Rattle.sja_driver.specs.declared.logged_driver.LoggedDriver.{LoggedDriver}
 use Rattle.sja_driver.specs.Logs.{leaves}
 use Rattle.sja_log.specs.Log.{ActivationValue, NodeValue}
-use Rattle.sja_log.proofs.NodeLog.Logs.{index_map}
 use Rattle.sja_log.specs.Finishing.{activation_after, AreActivations, IsNodeEnd, AreNodeEnds}
-use Rattle.lemmas.proofs.Lists.{push_here}
 
 -- what an activation that ended left, and what the present one holds
 pub leaves_ended : (left : List DriverLedger) (held : List (List ℕ)) (a : ℕ) (d : DriverLedger) → a < length left →
@@ -21,13 +19,13 @@ pub leaves_ended : (left : List DriverLedger) (held : List (List ℕ)) (a : ℕ)
 leaves_ended left held a d less =
     let n = length-map left (λ (l : DriverLedger). held_by l) in
     get_or_append_left (map (λ (l : DriverLedger). held_by l) left) (held ∷ []) [] a (omega (arith, n, less))
-    ∙ index_map (λ (l : DriverLedger). held_by l) left a d [] less
+    ∙ get_or-map (λ (l : DriverLedger). held_by l) left a d [] less
 
 pub leaves_held : (left : List DriverLedger) (held : List (List ℕ)) (a : ℕ) → a ≡ length left → slice_index_or
     (leaves left held) a [] ≡ held
 leaves_held left held a e =
     let n = length-map left (λ (l : DriverLedger). held_by l) in
-    push_here (map (λ (l : DriverLedger). held_by l) left) held [] a (e ∙ sym n)
+    get_or_push (map (λ (l : DriverLedger). held_by l) left) held [] a (n ∙ sym e)
 
 -- no activation yet, and one more
 pub no_activations : (driver : LoggedDriver) (links : List (List Down)) (base : ℕ) →
@@ -42,7 +40,7 @@ activations_push driver links base n logs x h is = record {
   count_is = let c = h.count_is in let e = length-append logs (x ∷ []) in omega (arith, c, e);
   each = λ a d l less. elim (cases_eq n a) [
     | inl e ↦
-        push_here logs x d a (sym (h.count_is ∙ e)) ∙ is l
+        get_or_push logs x d a (h.count_is ∙ e) ∙ is l
         ∙ ap (λ m. activation_after driver (slice_index_or links (base + m) l) m) e
     | inr differ ↦
         let c = h.count_is in
@@ -64,7 +62,7 @@ nodes_push logs drivers links n nodes x h is = record {
   count_is = let c = h.count_is in let e = length-append nodes (x ∷ []) in omega (arith, c, e);
   each = λ k g d y less. elim (cases_eq n k) [
     | inl e ↦
-        let at : slice_index_or (nodes ++ x ∷ []) k y ≡ x = push_here nodes x y k (sym (h.count_is ∙ e)) in
+        let at : slice_index_or (nodes ++ x ∷ []) k y ≡ x = get_or_push nodes x y k (h.count_is ∙ e) in
         subst (λ (z : NodeValue). IsNodeEnd (slice_index_or logs k g) (slice_index_or drivers k d) links (64 * k) z)
         (sym at)
         (subst (λ (m : ℕ). IsNodeEnd (slice_index_or logs m g) (slice_index_or drivers m d) links (64 * m) x) e (is g

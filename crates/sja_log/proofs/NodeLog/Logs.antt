@@ -1,6 +1,6 @@
 -- What every run promises, from what its bus and its drivers promise.
-use Rattle.std.proofs.Common.{◌≡◌, ℕ, zero, suc, ◌+◌, ◌<◌, ◌≤◌, List, [], ◌∷◌, length, map, refl, subst, arith}
-use Rattle.std.proofs.lemmas.List.{length-map}
+use Rattle.std.proofs.Common.{◌≡◌, ℕ, ◌<◌, ◌≤◌, List, [], length, map, subst, arith}
+use Rattle.std.proofs.lemmas.List.{length-map, get_or-map}
 use Rattle.std.specs.Prelude.{slice_index_or}
 use Rattle.sja_link.specs.declared.entry.Entry.{Entry}
 use Rattle.sja_link.specs.Places.{place_of}
@@ -15,15 +15,9 @@ use Rattle.sja_log.specs.Settling.{AreSettled}
 use Rattle.sja_log.proofs.Account.Accounts.{account_of}
 use Rattle.sja_driver.proofs.Trace.Stepping.{opened_begun}
 
-pub index_map : {A B : Type 0} (f : A → B) (xs : List A) (k : ℕ) (d : A) (e : B) → k < length xs →
-    slice_index_or (map f xs) k e ≡ f (slice_index_or xs k d)
-index_map f [] k d e less = absurd (omega (arith, less))
-index_map f (x ∷ xs) zero d e less = refl
-index_map f (x ∷ xs) (suc k) d e less = index_map f xs k d e (omega (arith, less))
-
 pub journal_there : (nodes : List NodeValue) (k : ℕ) (d : NodeValue) → k < length nodes →
     journal_at (map (λ (n : NodeValue). n.journal) nodes) k ≡ (slice_index_or nodes k d).journal
-journal_there nodes k d less = index_map (λ (n : NodeValue). n.journal) nodes k d [] less
+journal_there nodes k d less = get_or-map (λ (n : NodeValue). n.journal) nodes k d [] less
 
 -- a node's activations have begun in its journal
 pub begun_by : (version : ℕ) (node : NodeValue) (deeds : List Deed) (steps : List _) →

@@ -1,8 +1,8 @@
 -- The log of a run, by what its bus leaves, its drivers, and what lay on their links.
-use Rattle.std.proofs.Common.{◌≡◌, ℕ, suc, ◌+◌, ◌*◌, ◌<◌, ◌≤◌, List, [], ◌∷◌, length, map, refl, sym, ap, ap₂, ◌∙◌}
-use Rattle.std.proofs.Common.{subst, arith}
+use Rattle.std.proofs.Common.{◌≡◌, ℕ, ◌+◌, ◌*◌, ◌<◌, ◌≤◌, List, [], length, map, sym, ap, ◌∙◌, subst, arith}
 use Rattle.std.specs.Prelude.{slice_index_or}
-use Rattle.std.proofs.lemmas.List.{length-map}
+use Rattle.std.proofs.lemmas.List.{length-map, get_or-map, ext_get_or}
+use Rattle.lemmas.proofs.Lists.{some_of}
 use Rattle.sja_link.specs.declared.entry.Entry.{Entry}
 use Rattle.sja_link.specs.declared.down.Down.{Down}
 use Rattle.sja_link.specs.declared.link_id.LinkId.{LinkId}
@@ -11,38 +11,21 @@ use Rattle.sja_link.specs.Parts.{part}
 use Rattle.sja_wire.specs.declared.node_log.NodeLog.{NodeLog}
 use Rattle.sja_wire.specs.Lawful.{CountersAre, IsBusRun}
 use Rattle.sja_wire.specs.Wire.{journal_at}
-use Rattle.sja_plan.specs.Plan.{PlanValue}
+use Rattle.sja_plan.specs.Plan.{PlanValue, steps_at}
 use Rattle.sja_script.specs.declared.step.Step.{Step}
 use Rattle.sja_script.specs.declared.strike.Strike.{Strike}
 use Rattle.sja_driver.specs.declared.any_driver.AnyDriver.{AnyDriver}
 use Rattle.sja_driver.specs.declared.any_driver.AnyDriver.TheVariants.{InReset, InActive}
 use Rattle.sja_driver.specs.declared.logged_driver.LoggedDriver.{LoggedDriver}
 use Rattle.sja_driver.specs.AnyDrivers.{opened_of, IsDriverOf}
-use Rattle.sja_driver.specs.Deeds.{Deed, AreDeeds, given_in, deeds_of}
+use Rattle.sja_driver.specs.Deeds.{Deed, AreDeeds, given_in, deeds_of, deeds_at}
 use Rattle.sja_driver.specs.LoggedDrivers.{node_of, driver_of, log_of, ended_of, IsLawful}
 use Rattle.sja_driver.specs.Logs.{Traces}
 use Rattle.sja_log.specs.Log.{ActivationValue, NodeValue, RunValue, journals_in}
 use Rattle.sja_log.specs.Runs.{IsTrace, IsRun}
 use Rattle.sja_log.specs.Settling.{IsSettled, AreSettled}
-use Rattle.sja_log.proofs.NodeLog.Logs.{index_map, journal_there, run_of}
-use Rattle.sja_driver.specs.Deeds.{deeds_at}
-use Rattle.sja_plan.specs.Plan.{steps_at}
+use Rattle.sja_log.proofs.NodeLog.Logs.{journal_there, run_of}
 use Rattle.sja_log.specs.Finishing.{activation_after, IsNodeEnd, AreNodeEnds}
-
--- any element of a list that has one
-pub any_of : {A : Type 0} (xs : List A) → 0 < length xs → A
-any_of [] h = absurd (omega (arith, h))
-any_of (x ∷ xs) h = x
-
--- lists with the same elements at their places
-pub same_by : {A : Type 0} (d : A) (xs ys : List A) → length xs ≡ length ys →
-    ((k : ℕ) → k < length xs → slice_index_or xs k d ≡ slice_index_or ys k d) → xs ≡ ys
-same_by d [] [] e h = refl
-same_by d [] (y ∷ ys) e h = absurd (omega (arith, e))
-same_by d (x ∷ xs) [] e h = absurd (omega (arith, e))
-same_by d (x ∷ xs) (y ∷ ys) e h =
-    ap₂ (λ a b. a ∷ b) (h 0 (omega arith))
-    (same_by d xs ys (omega (arith, e)) (λ k less. h (suc k) (omega (arith, less))))
 
 -- a driver opened at most as many activations as its node has links, and at most one after those that ended
 pub opened_few : (node ended : ℕ) (d : AnyDriver) → IsDriverOf node ended d →
@@ -109,10 +92,10 @@ module _ (plan : PlanValue) (log : RunValue) (logs : List NodeLog) (journals : L
     in_plan = let c = nodes_count in omega (arith, c, less)
 
     pub some_log : NodeLog
-    some_log = let c = logs_count in let i = in_plan in any_of logs (omega (arith, c, i))
+    some_log = let c = logs_count in let i = in_plan in some_of logs 0 (omega (arith, c, i))
 
     pub some_driver : LoggedDriver
-    some_driver = let c = h.drivers_count in let i = in_plan in any_of drivers (omega (arith, c, i))
+    some_driver = let c = h.drivers_count in let i = in_plan in some_of drivers 0 (omega (arith, c, i))
 
     pub node_end : IsNodeEnd (slice_index_or logs k some_log) (slice_index_or drivers k some_driver) left_down (64 * k)
         (slice_index_or log.nodes k n)
@@ -123,7 +106,7 @@ module _ (plan : PlanValue) (log : RunValue) (logs : List NodeLog) (journals : L
     journal_is =
         let c = logs_count in let i = in_plan in
         node_end.journal
-        ∙ sym (index_map (λ (g : NodeLog). g.journal.entries) logs k some_log [] (omega (arith, c, i)))
+        ∙ sym (get_or-map (λ (g : NodeLog). g.journal.entries) logs k some_log [] (omega (arith, c, i)))
         ∙ ap (λ (l : List (List Entry)). journal_at l k) h.journals_are
 
     counters_at : CountersAre (slice_index_or log.nodes k n).journal (slice_index_or log.nodes k n).txerr
@@ -140,8 +123,9 @@ module _ (plan : PlanValue) (log : RunValue) (logs : List NodeLog) (journals : L
   journals_in_log =
       let many = length-map log.nodes (λ (n : NodeValue). n.journal) in let c = nodes_count in
       let e = h.journals_count in
-      same_by [] (journals_in log) journals (omega (arith, many, c, e)) (λ k less.
-      let few : k < length log.nodes = omega (arith, many, less) in let some = any_of log.nodes (omega (arith, few)) in
+      ext_get_or [] (journals_in log) journals (omega (arith, many, c, e)) (λ k less.
+      let few : k < length log.nodes = omega (arith, many, less) in
+      let some = some_of log.nodes 0 (omega (arith, few)) in
       journal_there log.nodes k some few ∙ journal_is k some few)
 
   -- with the trace of each driver, and with activations that are settled, it is what every run promises

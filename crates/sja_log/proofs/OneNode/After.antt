@@ -12,9 +12,9 @@ use Rattle.sja_link.specs.Places.{JournalPlace, past, place_of}
 use Rattle.sja_link.specs.World.{is_send}
 use Rattle.sja_link.proofs.JournalEntries.Entering.{place_push}
 use Rattle.lemmas.proofs.Gathered.{total_push}
-use Rattle.sja_link.proofs.Ledger.Judging.{each_push}
-use Rattle.sja_wire.specs.Links.{stops_in}
-use Rattle.sja_wire.specs.OneBit.{entries_of_items}
+use Rattle.lemmas.proofs.Picking.{each_push, each_map}
+use Rattle.sja_link.specs.Links.{stops_in}
+use Rattle.sja_link.specs.BitEntries.{entries_of_items}
 use Rattle.sja_regs.specs.declared.registers.Registers.{Registers}
 use Rattle.sja_script.specs.declared.refusal.Refusal.TheVariants.{Closed}
 use Rattle.sja_script.specs.declared.step_answer.StepAnswer.TheVariants.{Refused}
@@ -27,13 +27,13 @@ use Rattle.sja_driver.specs.Settings.{settings_of}
 use Rattle.sja_driver.specs.Timing.{given_when, taken_when}
 use Rattle.sja_driver.specs.Windows.{put_by, SeesIf}
 use Rattle.sja_driver.proofs.Trace.Later.{done_push}
-use Rattle.sja_driver.proofs.Trace.Timings.{aborts_on, aborts_push}
+use Rattle.sja_driver.proofs.Trace.AbortsDue.{aborts_on, aborts_push}
 use Rattle.sja_driver.specs.Dated.{AreDone}
 use Rattle.sja_driver.specs.Linking.{IsLevel}
 use Rattle.sja_driver.specs.Porting.{IsPorted}
 use Rattle.sja_driver.proofs.Step.GivenKinds.{Kind}
 use Rattle.sja_driver.proofs.Step.GivenKinds.Kind.{quiet, starts, credits, sends, stops}
-use Rattle.sja_log.proofs.Account.Items.{bits_same, stops_push, sends_push, put_item, SamePut, sees_same, each_map}
+use Rattle.sja_log.proofs.Account.Items.{bits_same, stops_push, sends_push, put_item, SamePut, sees_same}
 use Rattle.sja_log.proofs.Account.Items.{settings_same, when_item, when_none}
 use Rattle.sja_driver.proofs.OneNode.Ports.{carried_alike}
 use Rattle.sja_log.proofs.OneNode.Trying.{IsNext}

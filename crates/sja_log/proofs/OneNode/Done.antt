@@ -10,7 +10,7 @@ use Rattle.sja_link.specs.Parts.{part}
 use Rattle.sja_link.specs.Carried.{taken_of}
 use Rattle.sja_link.specs.Places.{place_of}
 use Rattle.sja_link.specs.Verdicts.{IsLawful as IsLawfulJournal}
-use Rattle.sja_wire.specs.Links.{stops_of}
+use Rattle.sja_link.specs.Links.{stops_of}
 use Rattle.sja_regs.specs.declared.registers.Registers.{Registers}
 use Rattle.sja_script.specs.declared.step.Step.{Step}
 use Rattle.sja_script.specs.declared.step_answer.StepAnswer.{StepAnswer}
@@ -29,10 +29,9 @@ use Rattle.sja_driver.specs.Linking.{IsLevel}
 use Rattle.sja_log.specs.Nodes.{IsNode}
 use Rattle.sja_driver.proofs.Step.GivenKinds.{Kind, kind_of}
 use Rattle.sja_driver.proofs.Step.GivenKinds.Kind.{quiet, starts, credits, sends, stops}
-use Rattle.sja_wire.proofs.Journal.Taking.{waiting, AtMostOne}
-use Rattle.sja_log.proofs.OneNode.StepTried.{Comes}
+use Rattle.sja_link.proofs.Growing.Taking.{waiting, AtMostOne}
+use Rattle.sja_log.proofs.OneNode.StepTried.{Comes, comes}
 use Rattle.sja_log.proofs.OneNode.Trying.{alike, shows_none, takes_none}
-use Rattle.sja_log.proofs.OneNode.StepTried.{comes}
 
 -- ---- what a deed gives
 

@@ -8,8 +8,8 @@ use Rattle.sja_link.specs.Accounts.{Account, account}
 use Rattle.sja_link.specs.Deques.{Deques, Lies}
 use Rattle.sja_link.specs.Parts.{part}
 use Rattle.sja_link.specs.Carried.{taken_of}
-use Rattle.sja_wire.specs.Links.{stops_of, Kept}
-use Rattle.sja_wire.specs.OneBit.{entries_of_items, MayHaveItems}
+use Rattle.sja_link.specs.Links.{stops_of, Kept}
+use Rattle.sja_link.specs.BitEntries.{entries_of_items, MayHaveItems}
 use Rattle.sja_regs.specs.declared.registers.Registers.{Registers}
 use Rattle.sja_script.specs.declared.step.Step.{Step}
 use Rattle.sja_driver.specs.declared.logged_driver.LoggedDriver.{LoggedDriver}
@@ -20,7 +20,7 @@ use Rattle.sja_driver.specs.LoggedDrivers.{driver_of, log_of}
 use Rattle.sja_driver.specs.Linking.{IsLevel, IsLinked}
 use Rattle.sja_log.specs.Nodes.{IsNode}
 use Rattle.sja_driver.specs.Tracing.{IsTraced}
-use Rattle.sja_wire.proofs.Journal.Taking.{waiting, adds, taken_adds, AtMostOne, just_taken}
+use Rattle.sja_link.proofs.Growing.Taking.{waiting, adds, taken_adds, AtMostOne, just_taken}
 
 none_more : {A : Type 0} (xs ys : List A) → xs ≡ xs ++ ys → ys ≡ []
 none_more xs ys e = sym (append_cancel_left xs [] ys (append-nil xs ∙ e))

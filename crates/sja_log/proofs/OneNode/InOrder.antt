@@ -11,11 +11,11 @@ use Rattle.sja_link.specs.Places.{place_of}
 use Rattle.sja_link.specs.Verdicts.{IsLawful as IsLawfulJournal}
 use Rattle.sja_wire.specs.declared.bus_fault.BusFault.{BusFault}
 use Rattle.sja_wire.specs.declared.bus_fault.BusFault.TheVariants.{BitsSpent, BadCredit, Stuck, BadOrder, JournalFull}
-use Rattle.sja_wire.specs.Links.{stops_of}
-use Rattle.sja_wire.specs.OneBit.{entries_of_items}
-use Rattle.sja_wire.specs.Opening.{IsOpen, IsBetween}
-use Rattle.sja_wire.specs.OutOfOrder.{IsBadCredit, IsOutOfOrder, IsAskedWrongly}
-use Rattle.sja_wire.specs.OutOfOrder.IsAskedWrongly.{outside, while_held, again_off}
+use Rattle.sja_link.specs.Links.{stops_of}
+use Rattle.sja_link.specs.BitEntries.{entries_of_items}
+use Rattle.sja_link.specs.Opening.{IsOpen, IsBetween}
+use Rattle.sja_link.specs.OutOfOrder.{IsBadCredit, IsOutOfOrder, IsAskedWrongly}
+use Rattle.sja_link.specs.OutOfOrder.IsAskedWrongly.{outside, while_held, again_off}
 use Rattle.sja_wire.specs.Reasons.{IsRefusedFor}
 use Rattle.sja_regs.specs.declared.registers.Registers.{Registers}
 use Rattle.sja_driver.specs.Deeds.{Deed, opened_by, is_active}

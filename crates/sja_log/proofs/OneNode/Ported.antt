@@ -3,6 +3,7 @@ use Rattle.std.proofs.Common.{◌≡◌, ℕ, ◌+◌, ◌<◌, Bool, true, fals
 use Rattle.std.proofs.Common.{append_assoc, arith, inl, inr}
 use Rattle.std.specs.Prelude.{◌⊎◌, ◌||◌, not}
 use Rattle.std.proofs.lemmas.Bool.{false_from_ne_true, true_from_ne_false}
+use Rattle.std.proofs.Math.Bool.{or-true}
 use Rattle.can_node.specs.declared.request.Request.{Request}
 use Rattle.sja_link.specs.declared.up.Up.{Up}
 use Rattle.sja_link.specs.declared.up.Up.TheVariants.{Start as StartItem, Credit, Send as SendItem, Stop as StopItem}
@@ -40,7 +41,7 @@ use Rattle.sja_driver.proofs.Step.GivenKinds.Kind.{quiet, starts, credits, sends
 use Rattle.sja_log.proofs.Account.Items.{off_same, settings_same, settings_push}
 use Rattle.sja_driver.proofs.Step.Modes.{rm_step, closed_step, version_step, abort_step}
 use Rattle.sja_driver.proofs.OneNode.Ports.{alike_step}
-use Rattle.sja_link.proofs.Ledger.Small.{neither, or_true, no_item, one_item}
+use Rattle.sja_link.proofs.Ledger.Small.{neither, no_item, one_item}
 use Rattle.sja_log.proofs.OneNode.Trying.{IsNext}
 
 module _ (version : ℕ) (j k : List Entry) (deeds : List Deed) (d : Deed) (p q : Registers) (e : Enters j k deeds d)
@@ -181,7 +182,7 @@ module _ (version : ℕ) (j k : List Entry) (deeds : List Deed) (d : Deed) (p q 
       let known : off_by (place_of j).bits j (opened_by deeds) ≡ true =
       ap (λ (a : ℕ). off_by (place_of j).bits j a) (sym before.begun) ∙ off_known j off in
       let rm : p.mode.rm ≡ true = h.reset ∙ ap (λ (b : Bool). not (is_active deeds) || b) known
-      ∙ or_true (not (is_active deeds)) in
+      ∙ or-true (not (is_active deeds)) in
       neither p.mode.rm rm (was_on request gave).0)
 
   pub asked_after : IsAsked j p → IsLawful j → IsAsked k q

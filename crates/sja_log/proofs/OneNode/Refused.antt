@@ -12,16 +12,15 @@ use Rattle.sja_link.specs.Deques.{Deques, Lies}
 use Rattle.sja_link.specs.Parts.{part}
 use Rattle.sja_link.specs.Carried.{taken_of}
 use Rattle.sja_wire.specs.declared.bus_fault.BusFault.{BusFault}
-use Rattle.sja_wire.specs.Links.{stops_of}
-use Rattle.sja_wire.specs.OneBit.{entries_of_items, AreRead}
+use Rattle.sja_link.specs.Links.{stops_of}
+use Rattle.sja_link.specs.BitEntries.{entries_of_items, AreRead}
 use Rattle.sja_wire.specs.Reasons.{RefusesItem}
 use Rattle.sja_driver.specs.declared.release.Release.{Release}
 use Rattle.sja_driver.specs.Deeds.{Deed, given_in, deeds_of}
 use Rattle.sja_driver.specs.Holding.{Holds}
 use Rattle.sja_log.proofs.OneNode.Gathered.{no_link}
 use Rattle.lemmas.proofs.Lists.{none_front, none_back}
-use Rattle.sja_wire.proofs.Journal.Taking.{waiting, adds, taken_adds, AtMostOne, some_none}
-use Rattle.sja_wire.proofs.Journal.Taking.{adds_first, one_is}
+use Rattle.sja_link.proofs.Growing.Taking.{waiting, adds, taken_adds, AtMostOne, some_none, adds_first, one_is}
 
 -- nothing waits elsewhere
 none_waits : (b s : ℕ) (gave : List Up) → (b ≡ suc s → ⊥) → waiting b gave (suc s) ≡ []

@@ -3,6 +3,7 @@
 use Rattle.std.proofs.Common.{◌≡◌, ℕ, ◌+◌, Bool, true, false, not, List, [], ◌∷◌}
 use Rattle.std.proofs.Common.{◌++◌, refl, sym, ap, ◌∙◌, subst, arith, append-nil}
 use Rattle.std.specs.Prelude.{◌||◌}
+use Rattle.std.proofs.Math.Bool.{or-true}
 use Rattle.can_node.specs.declared.config.Config.{Config}
 use Rattle.can_node.specs.declared.request.Request.{Request}
 use Rattle.can_node.specs.Context.{is_held}
@@ -18,10 +19,10 @@ use Rattle.sja_link.specs.Places.{JournalPlace, place_of, past}
 use Rattle.sja_link.specs.Records.{told, record_of}
 use Rattle.sja_link.specs.World.{is_send}
 use Rattle.sja_link.proofs.JournalEntries.Entering.{place_push, record_push}
-use Rattle.sja_link.proofs.Ledger.Small.{not_true, not_false, neither, or_true}
+use Rattle.sja_link.proofs.Ledger.Small.{not_true, not_false, neither}
 use Rattle.sja_regs.specs.declared.registers.Registers.{Registers}
 use Rattle.sja_regs.specs.Registers.{at_power_on}
-use Rattle.sja_wire.specs.OneBit.{entries_of_items}
+use Rattle.sja_link.specs.BitEntries.{entries_of_items}
 use Rattle.sja_driver.specs.Carried.{Tells, carried, ported}
 use Rattle.sja_driver.specs.Deeds.{Deed, FitsState, Gives, opens_by, opened_by, active_after, is_active}
 use Rattle.sja_driver.proofs.LogOfSteps.Sections.{active_push, opened_push}
@@ -121,7 +122,7 @@ module _ (version : ℕ) (j k : List Entry) (deeds : List Deed) (d : Deed) (p q 
         inactive = λ e. rm ∙ ap (λ (b : Bool). not b || p.mode.rm) (sym active_now ∙ e);
         off = λ e. rm ∙ ap (λ (b : Bool). not (active_after (is_active deeds) d.step d.answer) || b)
             (h.off (sym (ap (λ (x : JournalPlace). x.off) same) ∙ e))
-            ∙ or_true (not (active_after (is_active deeds) d.step d.answer));
+            ∙ or-true (not (active_after (is_active deeds) d.step d.answer));
         activation = omega (arith, act, was, place, o);
         opened = omega (arith, begun, place, more, o);
         buffer = buffer_now;

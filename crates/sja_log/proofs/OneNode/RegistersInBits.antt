@@ -1,35 +1,26 @@
 -- A port beside the journal of its node, past a bit and after a deed more.
-use Rattle.std.proofs.Common.{◌≡◌, ◌⊎◌, inl, inr, ℕ, ◌+◌, Bool, true, false, not, Option, Some, None, List, [], ◌∷◌}
+use Rattle.std.proofs.Common.{◌≡◌, ◌⊎◌, inl, inr, Bool, true, false, not, List, [], ◌∷◌}
 use Rattle.std.proofs.Common.{◌++◌, refl, sym, ap, ◌∙◌, subst, append-nil}
 use Rattle.std.specs.Prelude.{◌||◌, ◌&&◌, ◌==◌}
 use Rattle.std.proofs.lemmas.Bool.{eq-eqb}
+use Rattle.std.proofs.Math.Bool.{or-true}
 use Rattle.can_bits.specs.declared.level.Level.{Level}
 use Rattle.sja_link.specs.declared.entry.Entry.{Entry}
-use Rattle.sja_link.specs.declared.entry.Entry.TheVariants.{Bit, Stored, Overrun}
-use Rattle.sja_link.specs.declared.verdict.Verdict.{Verdict}
-use Rattle.sja_link.specs.declared.verdict.Verdict.TheVariants.{Stored as ToStore, Overrun as ToLose}
+use Rattle.sja_link.specs.declared.entry.Entry.TheVariants.{Bit}
 use Rattle.sja_link.specs.Places.{JournalPlace, place_of}
-use Rattle.sja_link.specs.Records.{told}
 use Rattle.sja_link.proofs.JournalEntries.Entering.{place_push}
-use Rattle.sja_link.proofs.Ledger.Small.{or_true}
 use Rattle.sja_regs.specs.declared.bus_turn.BusTurn.{BusTurn}
 use Rattle.sja_regs.specs.declared.orders.Orders.{Orders}
 use Rattle.sja_regs.specs.declared.registers.Registers.{Registers}
 use Rattle.sja_regs.specs.Turns.{goes_off, after_turn}
-use Rattle.sja_wire.specs.OneBit.{HasBit, abort_as, judged_as, off_as}
+use Rattle.sja_link.specs.BitEntries.{HasBit, abort_as, judged_as, off_as}
 use Rattle.sja_driver.specs.Deeds.{Deed}
 use Rattle.sja_driver.proofs.Registers.TbsAndAbort.{TbsIsRight, tbs_after_turn}
 use Rattle.sja_wire.specs.Buses.{IsNodeBit}
 use Rattle.sja_log.specs.Registering.{IsPortBit}
 use Rattle.sja_driver.specs.Asking.{IsAsked}
-use Rattle.sja_driver.proofs.OneBit.BitAsked.{HasCut, place_abort, place_bit, bit_asked}
+use Rattle.sja_driver.proofs.OneBit.BitAsked.{HasCut, place_abort, place_bit, bit_asked, place_judged}
 use Rattle.sja_log.proofs.OneNode.Registers.{IsPort}
-
--- bus-off stands after a bit where it came with it, or stood before
-off_judged : (j : List Entry) (v : Option (Verdict × List ℕ)) → place_of (j ++ judged_as v) ≡ place_of j
-off_judged j None = ap place_of (append-nil j)
-off_judged j (Some (ToStore, m)) = place_push j (Stored m)
-off_judged j (Some (ToLose, m)) = place_push j (Overrun m)
 
 off_after : (j k : List Entry) (off : Bool) → k ≡ j ++ off_as off → (place_of k).off ≡ true →
     (off ≡ true) ⊎ ((place_of j).off ≡ true)
@@ -42,7 +33,8 @@ off_bit j k driven seen b is =
     let l : List Entry = j ++ Bit driven seen ∷ [] in
     elim (off_after (l ++ judged_as b.verdict) k b.off b.whole is) [
       | inl off ↦ inl off
-      | inr was ↦ inr (sym (ap (λ (x : JournalPlace). x.off) (off_judged l b.verdict ∙ place_push j (Bit driven seen)))
+      | inr was ↦ inr (sym (ap (λ (x : JournalPlace). x.off)
+          (place_judged l b.verdict ∙ place_push j (Bit driven seen)))
           ∙ was)
     ]
 
@@ -73,12 +65,12 @@ module _ (j k : List Entry) (deeds : List Deed) (p q : Registers) (h : IsPort j 
         (b.is_turn.off ∙ off)
     | inr was ↦ rm_now ∙ ap (λ (r : Bool). goes_off p b.turn || r)
         (h.off (sym (ap (λ (x : JournalPlace). x.off) (place_abort j b.changed)) ∙ was))
-        ∙ or_true (goes_off p b.turn)
+        ∙ or-true (goes_off p b.turn)
   ]
 
   pub port_bit : IsPort k deeds q
   port_bit = record {
-    inactive = λ e. rm_now ∙ ap (λ (r : Bool). goes_off p b.turn || r) (h.inactive e) ∙ or_true (goes_off p b.turn);
+    inactive = λ e. rm_now ∙ ap (λ (r : Bool). goes_off p b.turn || r) (h.inactive e) ∙ or-true (goes_off p b.turn);
     off = off_now;
     activation = ap (λ (r : Registers). r.activation) b.told ∙ h.activation ∙ sym activation_same;
     opened = activation_same ∙ h.opened;

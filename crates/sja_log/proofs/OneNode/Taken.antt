@@ -10,8 +10,8 @@ use Rattle.sja_link.specs.Carried.{taken_of}
 use Rattle.sja_link.specs.Places.{place_of}
 use Rattle.sja_link.specs.Verdicts.{IsLawful as IsLawfulJournal}
 use Rattle.sja_wire.specs.declared.bus_fault.BusFault.{BusFault}
-use Rattle.sja_wire.specs.Links.{stops_of}
-use Rattle.sja_wire.specs.OutOfOrder.{IsBadCredit}
+use Rattle.sja_link.specs.Links.{stops_of}
+use Rattle.sja_link.specs.OutOfOrder.{IsBadCredit}
 use Rattle.sja_wire.specs.Reasons.{IsRefusedFor, RefusesItem}
 use Rattle.sja_regs.specs.declared.registers.Registers.{Registers}
 use Rattle.sja_script.specs.declared.step.Step.{Step}
@@ -30,7 +30,7 @@ use Rattle.sja_link.proofs.Ledger.Small.{no_item}
 use Rattle.sja_log.proofs.OneNode.Gathered.{no_link}
 use Rattle.sja_log.proofs.OneNode.Refused.{refused_is}
 use Rattle.sja_driver.proofs.OneNode.Room.{has_room}
-use Rattle.sja_wire.proofs.Journal.Taking.{no_wait}
+use Rattle.sja_link.proofs.Growing.Taking.{no_wait}
 use Rattle.sja_log.proofs.OneNode.Trying.{alike, shows_none, takes_none}
 use Rattle.sja_log.proofs.Trace.TbsAndAbort.{tbs_right}
 use Rattle.sja_log.proofs.OneNode.Done.{at_most_one, is_read, opened_most, doing}

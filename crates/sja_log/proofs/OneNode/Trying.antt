@@ -1,6 +1,5 @@
 -- What comes of a try of a step, beside the journal.
-use Rattle.std.proofs.Common.{◌≡◌, ◌≢◌, List, []}
-use Rattle.std.proofs.Common.{length}
+use Rattle.std.proofs.Common.{◌≡◌, ◌≢◌, List, [], length}
 use Rattle.sja_link.specs.declared.entry.Entry.{Entry}
 use Rattle.sja_link.specs.Deques.{Deques}
 use Rattle.sja_link.specs.Places.{place_of}

@@ -10,7 +10,7 @@ use Rattle.sja_link.specs.Parts.{part}
 use Rattle.sja_link.specs.Carried.{taken_of}
 use Rattle.sja_link.specs.Places.{place_of}
 use Rattle.sja_link.specs.Verdicts.{IsLawful as IsLawfulJournal}
-use Rattle.sja_wire.specs.OneBit.{entries_of_items}
+use Rattle.sja_link.specs.BitEntries.{entries_of_items}
 use Rattle.sja_regs.specs.declared.registers.Registers.{Registers}
 use Rattle.sja_script.specs.declared.step.Step.{Step}
 use Rattle.sja_driver.specs.declared.logged_driver.LoggedDriver.{LoggedDriver}
@@ -30,7 +30,7 @@ use Rattle.sja_driver.specs.Linking.{IsLevel, IsLinked}
 use Rattle.sja_log.specs.Nodes.{IsNode}
 use Rattle.sja_driver.specs.Shown.{ShowsRecord}
 use Rattle.sja_log.specs.Waiting.{HasToWait}
-use Rattle.sja_wire.proofs.Journal.Taking.{no_wait}
+use Rattle.sja_link.proofs.Growing.Taking.{no_wait}
 use Rattle.sja_log.proofs.OneNode.Trying.{alike, shows_none, takes_none}
 use Rattle.sja_log.proofs.OneNode.StepTried.{waits}
 use Rattle.sja_log.proofs.OneNode.After.{done_after, enters, level_after, in_time_after}

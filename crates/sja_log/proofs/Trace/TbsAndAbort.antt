@@ -1,20 +1,13 @@
 -- Registers that entries and deeds have led to: TBS is 1 in reset mode, and 0 as long as an abort stands.
-use Rattle.std.proofs.Common.{◌≡◌, ℕ, true, false, List, [], ◌∷◌, ◌++◌, refl, sym, subst, append_assoc, append-nil}
+use Rattle.std.proofs.Common.{ℕ, List, [], refl, sym, subst}
 use Rattle.sja_link.specs.declared.entry.Entry.{Entry}
 use Rattle.lemmas.specs.Picking.{EachAfter}
+use Rattle.lemmas.proofs.Picking.{each_front}
 use Rattle.sja_regs.specs.declared.registers.Registers.{Registers}
 use Rattle.sja_driver.specs.Deeds.{Deed, FitsState, is_active, opened_by}
 use Rattle.sja_driver.proofs.Registers.TbsAndAbort.{TbsIsRight, tbs_after_step, tbs_after_turn}
 use Rattle.sja_log.specs.Registering.{LeadTo, seen_now}
 use Rattle.sja_log.specs.Registering.LeadTo.{power_on, step, bit}
-
--- what holds of each element holds of those before the last one, and of that
-pub each_front : {X : Type 0} (P : List X → X → Type 0) (before xs : List X) (x : X) →
-    EachAfter P before (xs ++ x ∷ []) → EachAfter P before xs × P (before ++ xs) x
-each_front P before [] x h = (tt, subst (λ l. P l x) (sym (append-nil before)) h.0)
-each_front P before (y ∷ xs) x h =
-    let rest = each_front P (before ++ y ∷ []) xs x h.1 in
-    ((h.0, rest.0), subst (λ l. P l x) (append_assoc before (y ∷ []) xs) rest.1)
 
 pub tbs_right : (version : ℕ) (j : List Entry) (deeds : List Deed) (p : Registers) → LeadTo version j deeds p →
     EachAfter (λ before (d : Deed). FitsState version (is_active before) (opened_by before) d.step d.answer) [] deeds →

@@ -1,8 +1,8 @@
 -- What a driver holds, beside what was put for it.
 use Rattle.std.proofs.Common.{◌≡◌, ℕ, suc, ◌+◌, ◌<◌, Bool, true, false, List, [], ◌∷◌, ◌++◌, length, map, drop, refl}
-use Rattle.std.proofs.Common.{sym, ap, ◌∙◌, subst, append_assoc, append-nil, arith}
+use Rattle.std.proofs.Common.{sym, ap, ◌∙◌, subst, append-nil, arith}
 use Rattle.std.specs.Prelude.{if◌then◌else◌, slice_index_or}
-use Rattle.std.proofs.lemmas.List.{length-map}
+use Rattle.std.proofs.lemmas.List.{length-map, drop_at}
 use Rattle.sja_link.specs.declared.down.Down.{Down}
 use Rattle.sja_link.specs.declared.entry.Entry.{Entry}
 use Rattle.sja_link.specs.Lists.{messages}
@@ -13,7 +13,7 @@ use Rattle.sja_link.specs.Places.{place_of}
 use Rattle.sja_link.specs.Parts.{part}
 use Rattle.sja_link.specs.Carried.{put_in, put_of, taken_of}
 use Rattle.sja_link.proofs.JournalEntries.Entering.{of_part_none}
-use Rattle.sja_wire.specs.Links.{per_node, Kept}
+use Rattle.sja_link.specs.Links.{per_node, Kept}
 use Rattle.sja_driver.specs.Deeds.{Deed, opened_by, released_lengths, deeds_of}
 use Rattle.sja_driver.specs.Windows.{put_by, off_by, window_of}
 use Rattle.sja_log.specs.Settling.{IsSettled}
@@ -44,13 +44,6 @@ settled_kept j links base h d kept a released held few empty got =
     settled_by j (a + 1) (h a) link released held (subst (λ (n : ℕ). Lies link (account j n (h a))) e
     (kept a d few)) empty got
 
-drop_front : {A : Type 0} (a b : List A) (n : ℕ) → n ≡ length a → drop n (a ++ b) ≡ b
-drop_front a b n e = ap (λ k. drop k (a ++ b)) e ∙ over a
-  where
-    over : (c : List _) → drop (length c) (c ++ b) ≡ b
-    over [] = refl
-    over (x ∷ c) = over c
-
 -- where a step has taken in all that was put, its window is what it holds
 pub window_now : (j : List Entry) (deeds : List Deed) (got : List Down) (released held : List (List ℕ)) →
     got ≡ put_of (part j (opened_by deeds)) → Holds got released held →
@@ -61,7 +54,7 @@ window_now j deeds got released held all h lengths =
     let n : length (released_lengths (deeds_of deeds a)) ≡ length released = ap (λ l. length l) lengths
     ∙ length-map released (λ (m : List ℕ). length m) in
     ap (λ l. drop (length (released_lengths (deeds_of deeds a))) (messages l)) (put_now j a ∙ sym all)
-    ∙ ap (λ l. drop (length (released_lengths (deeds_of deeds a))) l) h ∙ drop_front released held _ n
+    ∙ ap (λ l. drop (length (released_lengths (deeds_of deeds a))) l) h ∙ drop_at released held _ (sym n)
 
 -- and it knows of bus-off exactly then
 pub off_now : (j : List Entry) (a : ℕ) (got : List Down) → got ≡ put_of (part j a) →

@@ -3,34 +3,26 @@ use Rattle.std.proofs.Common.{◌≡◌, ℕ, zero, suc, ◌+◌, ◌-◌, ◌<�
 use Rattle.std.proofs.Common.{subst, append_assoc, append-nil, arith, inl, inr}
 use Rattle.std.specs.Prelude.{◌≢◌, slice_index_or, slice_set}
 use Rattle.std.proofs.lemmas.Bool.{cases_lt}
-use Rattle.std.proofs.lemmas.List.{length-append, length-map, map-append, get_or-set_same}
+use Rattle.std.proofs.lemmas.List.{length-append, length-map, map-append, get_or-set_same, set-set}
 use Rattle.sja_link.specs.declared.entry.Entry.{Entry}
 use Rattle.sja_link.specs.declared.entry.Entry.TheVariants.{Up as Item}
-use Rattle.sja_wire.specs.OneBit.{entries_of_items}
+use Rattle.sja_link.specs.BitEntries.{entries_of_items, HasMore}
 use Rattle.sja_wire.specs.Wire.{journal_at}
 use Rattle.sja_plan.specs.Plan.{PlanValue}
 use Rattle.sja_regs.specs.declared.registers.Registers.{Registers}
 use Rattle.sja_driver.specs.declared.logged_driver.LoggedDriver.{LoggedDriver}
-use Rattle.sja_driver.specs.Deeds.{Deed, done_of}
+use Rattle.sja_driver.specs.Deeds.{Deed, done_of, with_deeds, deeds_at}
 use Rattle.sja_driver.specs.LoggedDrivers.{log_of}
 use Rattle.sja_driver.specs.Logs.{done_in}
 use Rattle.sja_serial.specs.Serial.{SerialValue, StandsAt, NodeDoes, CannotStep, TakesTurn}
-use Rattle.sja_wire.specs.OneBit.{HasMore}
-use Rattle.sja_driver.specs.Deeds.{with_deeds}
-use Rattle.sja_driver.specs.Deeds.{deeds_at}
 use Rattle.sja_driver.proofs.OneNode.Slices.{no_deeds}
-
-set_twice : {A : Type 0} (xs : List A) (i : ℕ) (y z : A) → slice_set (slice_set xs i y) i z ≡ slice_set xs i z
-set_twice [] i y z = refl
-set_twice (x ∷ xs) zero y z = refl
-set_twice (x ∷ xs) (suc i) y z = ap (λ l. x ∷ l) (set_twice xs i y z)
 
 pub deeds_twice : (deeds : List (List Deed)) (node : ℕ) (xs ys : List Deed) → node < length deeds →
     with_deeds (with_deeds deeds node xs) node ys ≡ with_deeds deeds node (xs ++ ys)
 deeds_twice deeds node xs ys there =
     ap (λ l. slice_set (with_deeds deeds node xs) node (l ++ ys))
     (get_or-set_same deeds node (deeds_at deeds node ++ xs) [] there)
-    ∙ set_twice deeds node (deeds_at deeds node ++ xs) ((deeds_at deeds node ++ xs) ++ ys)
+    ∙ set-set deeds node (deeds_at deeds node ++ xs) ((deeds_at deeds node ++ xs) ++ ys)
     ∙ ap (slice_set deeds node) (append_assoc (deeds_at deeds node) xs ys)
 
 front_at : (xs ys : List Deed) (i : ℕ) (d : Deed) → i < length xs →

@@ -2,27 +2,26 @@
 use Rattle.std.proofs.Common.{◌≡◌, ℕ, zero, suc, ◌+◌, ◌-◌, ◌*◌, ◌<◌, ◌≤◌}
 use Rattle.std.proofs.Common.{List, [], length, refl, sym, ◌∙◌, subst, arith}
 use Rattle.std.specs.Prelude.{◌≢◌, None, slice_index_or}
+use Rattle.std.proofs.lemmas.List.{ext_get_or}
 use Rattle.sja_link.specs.declared.entry.Entry.{Entry}
 use Rattle.sja_link.specs.Accounts.{Account}
 use Rattle.sja_link.specs.Deques.{Deques, Lies}
 use Rattle.lemmas.specs.Related.{EachRelated}
+use Rattle.lemmas.proofs.Lists.{some_of}
 use Rattle.sja_regs.specs.Registers.{at_power_on}
 use Rattle.sja_bus.specs.Boards.{HasOrders}
 use Rattle.sja_wire.specs.Buses.{EachJournal, KeepsAll, EachUntold}
 use Rattle.sja_wire.specs.Lawful.{IsBusRun}
-use Rattle.sja_wire.specs.OneBit.{MayHaveItems}
-use Rattle.sja_wire.specs.Links.{per_node, Kept}
+use Rattle.sja_link.specs.BitEntries.{MayHaveItems}
+use Rattle.sja_link.specs.Links.{per_node, Kept}
 use Rattle.sja_bus.specs.Stretches.{with_recessive, IsStretch}
 use Rattle.sja_wire.specs.Wire.{journal_at}
-use Rattle.sja_bus.proofs.Resting.QuietBits.{lists_same}
 use Rattle.sja_plan.specs.Plan.{PlanValue}
-use Rattle.sja_driver.specs.Deeds.{Deed, given_in, deeds_of}
+use Rattle.sja_driver.specs.Deeds.{Deed, given_in, deeds_of, deeds_at}
 use Rattle.sja_driver.proofs.Trace.Stepping.{given_taken}
 use Rattle.sja_serial.specs.Bits.{TakesBits, TakesAtOnce}
 use Rattle.sja_serial.specs.Serial.{SerialValue, StandsAt, run_now}
 use Rattle.sja_serial.specs.UntilTold.{NotesTurn, KeepsTurn}
-use Rattle.sja_driver.specs.Deeds.{deeds_at}
-use Rattle.sja_serial.proofs.OneBit.BitRun.{some_of}
 use Rattle.sja_log.proofs.OneNode.Gathered.{no_link}
 use Rattle.sja_driver.proofs.Account.Dry.{none_taken}
 use Rattle.sja_serial.proofs.WholeRun.GoingOn.{stands_bits}
@@ -38,7 +37,7 @@ module _ (plan : PlanValue) (r n : SerialValue) (deeds : List (List Deed)) (h : 
     (was : IsBusRun r.bus.script r.bus.run r.bus.journals) where
   -- no item waited
   none_came : EachJournal MayHaveItems r.bus.journals n.bus.journals → n.bus.journals ≡ r.bus.journals
-  none_came items = lists_same [] r.bus.journals n.bus.journals journals (λ m few.
+  none_came items = sym (ext_get_or [] r.bus.journals n.bus.journals (sym journals) (λ m few. sym (
       let c = h.count.journals in let less : m < length plan.nodes = omega (arith, c, few) in
       let d = some_of r.drivers m (let k = h.count.drivers in omega (arith, k, less)) in
       let j = journal_at r.bus.journals m in let ds = deeds_at deeds m in
@@ -47,7 +46,7 @@ module _ (plan : PlanValue) (r n : SerialValue) (deeds : List (List Deed)) (h : 
       none_taken j (journal_at n.bus.journals m) (items m few) (λ a. given_in (deeds_of ds (suc a)))
       (λ a small. given_taken ds j (suc a) (node.in_time.when (suc a)))
       (λ a. (slice_index_or n.links (64 * m + a) no_link).up)
-      (λ a small. (kept m acc few node.linked.holds.kept a no_link small).1))
+      (λ a small. (kept m acc few node.linked.holds.kept a no_link small).1))))
 
   -- the links stand for the journals as they were
   kept_back : (count : ℕ) → n.bus.journals ≡ with_recessive count r.bus.journals →

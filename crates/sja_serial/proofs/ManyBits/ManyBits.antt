@@ -21,7 +21,7 @@ use Rattle.sja_serial.specs.Serial.{SerialValue, StandsAt, IsRunOf, run_now}
 use Rattle.sja_serial.specs.UntilTold.{TellsBit, TellsBits, WorksUntold as WorksUntoldInRun}
 use Rattle.sja_serial.specs.UntilTold.TellsBits.{no_bit, one_more}
 use Rattle.sja_bus.proofs.AtPorts.OtherWords.{noted_bit}
-use Rattle.sja_serial.proofs.OneBit.BitRun.{cuts_of, tells_bit}
+use Rattle.sja_serial.proofs.ManyBits.BitRun.{cuts_of, tells_bit}
 use Rattle.sja_serial.proofs.WholeRun.GoingOn.{bits_run}
 use Rattle.sja_serial.proofs.ManyBits.Borrowed.{run_is, lawful_there}
 use Rattle.sja_serial.proofs.ManyBits.SomeBits.{some_works}

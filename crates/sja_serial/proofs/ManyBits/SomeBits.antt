@@ -12,8 +12,8 @@ use Rattle.sja_wire.specs.Lawful.{IsBusRun}
 use Rattle.sja_wire.specs.Wire.{journal_at}
 use Rattle.sja_plan.specs.Plan.{PlanValue}
 use Rattle.sja_driver.specs.Deeds.{Deed}
-use Rattle.sja_serial.specs.Bits.{HasOneBit, TakesBit, TakesBits, TakesAtOnce, AllRestIn, SomeWorks, TakesBusTurn}
-use Rattle.sja_serial.specs.Bits.{TakesRest}
+use Rattle.sja_serial.specs.Bits.{TakesBit, TakesBits, TakesAtOnce, AllRestIn, SomeWorks, TakesBusTurn, TakesRest}
+use Rattle.sja_link.specs.BitEntries.{HasOneBit}
 use Rattle.sja_serial.specs.Bits.TakesBits.{no_bit, one_more}
 use Rattle.sja_serial.specs.Serial.{SerialValue, StandsAt}
 use Rattle.sja_serial.proofs.WholeRun.GoingOn.{bits_run, stands_bits}

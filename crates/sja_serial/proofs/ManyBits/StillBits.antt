@@ -14,25 +14,24 @@ use Rattle.sja_regs.specs.declared.registers.Registers.{Registers}
 use Rattle.sja_bus.specs.Boards.{HasOrders}
 use Rattle.sja_wire.specs.Buses.{KeepsAll, untold_at}
 use Rattle.sja_wire.specs.Lawful.{IsBusRun}
-use Rattle.sja_wire.specs.Links.{per_node, Kept}
+use Rattle.sja_link.specs.Links.{per_node, Kept}
 use Rattle.sja_bus.specs.Stretches.{recessive_bits, with_recessive, IsStretch}
 use Rattle.sja_wire.specs.Wire.{journal_at}
 use Rattle.sja_bus.proofs.Resting.QuietBits.{longer_at, account_still}
-use Rattle.sja_plan.specs.Plan.{PlanValue}
+use Rattle.sja_plan.specs.Plan.{PlanValue, steps_at}
 use Rattle.sja_driver.specs.declared.logged_driver.LoggedDriver.{LoggedDriver}
-use Rattle.sja_driver.specs.Deeds.{Deed}
+use Rattle.sja_driver.specs.Deeds.{Deed, deeds_at}
 use Rattle.sja_driver.proofs.Trace.Stepping.{given_taken}
-use Rattle.sja_serial.specs.Bits.{HasOneBit, TakesBit, TakesBits}
+use Rattle.sja_serial.specs.Bits.{TakesBit, TakesBits}
+use Rattle.sja_link.specs.BitEntries.{HasOneBit}
 use Rattle.sja_serial.specs.Bits.TakesBits.{no_bit, one_more}
 use Rattle.sja_log.specs.Nodes.{IsNode}
 use Rattle.sja_serial.specs.Serial.{SerialValue, StandsAt, run_now}
-use Rattle.sja_driver.specs.Deeds.{deeds_at}
-use Rattle.sja_plan.specs.Plan.{steps_at}
 use Rattle.sja_driver.specs.Shown.{ShowsRecord}
 use Rattle.sja_serial.specs.UntilTold.{NotesTurn, KeepsTurn}
 use Rattle.sja_driver.proofs.OneNode.Slices.{numbered_still}
 use Rattle.sja_driver.proofs.OneBit.BitAsked.{HasCut}
-use Rattle.sja_serial.proofs.OneBit.BitRun.{cuts_of, takes_bit}
+use Rattle.sja_serial.proofs.ManyBits.BitRun.{cuts_of, takes_bit}
 use Rattle.sja_log.proofs.OneNode.Gathered.{linked_after, node_with}
 
 -- ---- recessive bits and what the links stand for

@@ -22,27 +22,24 @@ use Rattle.sja_wire.specs.declared.bus_fault.BusFault.{BusFault}
 use Rattle.sja_wire.specs.declared.bus_fault.BusFault.TheVariants.{BitsSpent, BadCredit, Stuck, BadOrder, JournalFull}
 use Rattle.sja_wire.specs.Buses.{BusValue}
 use Rattle.sja_wire.specs.Lawful.{IsBusRun}
-use Rattle.sja_wire.specs.Links.{Kept, stops_of}
-use Rattle.sja_wire.specs.OneBit.{MayHaveItems, abort_as}
+use Rattle.sja_link.specs.Links.{Kept, stops_of}
+use Rattle.sja_link.specs.BitEntries.{MayHaveItems, abort_as}
 use Rattle.sja_bus.proofs.ItemsTaken.OutOfRoom.{short_few}
 use Rattle.sja_wire.specs.Reasons.{GivesBack, IsTakenAndRefused, IsNotAborted, IsBrokenOff, IsBrokenFor, StopsBit}
 use Rattle.sja_wire.specs.Reasons.{room_for}
 use Rattle.sja_wire.specs.Reasons.StopsBit.{spent, not_taken, not_aborted, broken_off}
 use Rattle.sja_bus.specs.Stretches.{recessive_bits, IsFullInStretch}
 use Rattle.sja_wire.specs.Wire.{journal_at}
-use Rattle.sja_plan.specs.Plan.{PlanValue, IsInLimits}
+use Rattle.sja_plan.specs.Plan.{PlanValue, IsInLimits, steps_at}
 use Rattle.sja_driver.specs.declared.logged_driver.LoggedDriver.{LoggedDriver}
-use Rattle.sja_driver.specs.Deeds.{Deed, given_in, deeds_of}
+use Rattle.sja_driver.specs.Deeds.{Deed, given_in, deeds_of, deeds_at}
 use Rattle.sja_driver.specs.AnyDrivers.{held_of}
 use Rattle.sja_driver.specs.LoggedDrivers.{node_of, driver_of, log_of, ended_of}
 use Rattle.sja_driver.specs.Logs.{left_in, leaves, released_of, releases_in}
 use Rattle.sja_driver.proofs.Trace.Stepping.{given_taken}
 use Rattle.sja_log.specs.Nodes.{IsNode}
 use Rattle.sja_serial.specs.Serial.{SerialValue, StandsAt, IsRunOf, run_now}
-use Rattle.sja_driver.specs.Deeds.{deeds_at}
-use Rattle.sja_plan.specs.Plan.{steps_at}
 use Rattle.sja_log.proofs.NodeLog.Adding.{one_abort}
-use Rattle.sja_serial.proofs.OneBit.BitRun.{some_of}
 use Rattle.sja_log.proofs.OneNode.Gathered.{no_link}
 use Rattle.sja_driver.proofs.Account.Dry.{none_beyond, none_taken, none_taken_own}
 use Rattle.sja_driver.proofs.Step.FewLeftDown.{few_left_down}
@@ -50,9 +47,9 @@ use Rattle.sja_driver.proofs.Account.Own.{AreOwn}
 use Rattle.sja_serial.proofs.ManyBits.Borrowed.{stands_there, left_there, lawful_there}
 use Rattle.sja_driver.proofs.OneNode.Room.{has_room}
 use Rattle.sja_log.proofs.OneNode.Done.{opened_most}
-use Rattle.lemmas.proofs.Lists.{none_back}
-use Rattle.sja_wire.proofs.Journal.Taking.{adds, some_none}
-use Rattle.sja_wire.proofs.Journal.Orders.{no_off_put}
+use Rattle.lemmas.proofs.Lists.{none_back, some_of}
+use Rattle.sja_link.proofs.Growing.Taking.{adds, some_none}
+use Rattle.sja_link.proofs.Growing.Ordered.{no_off_put}
 
 abort_own : (changed : Bool) → AreOwn (abort_as changed)
 abort_own true = (tt, tt)

@@ -11,7 +11,7 @@ use Rattle.sja_regs.specs.Registers.{at_power_on}
 use Rattle.sja_script.specs.declared.step.Step.{Step}
 use Rattle.sja_wire.specs.declared.bus_fault.BusFault.{BusFault}
 use Rattle.sja_wire.specs.Lawful.{IsBusRun}
-use Rattle.sja_wire.specs.OneBit.{MayHaveItems}
+use Rattle.sja_link.specs.BitEntries.{MayHaveItems}
 use Rattle.sja_wire.specs.Wire.{journal_at}
 use Rattle.sja_wire.specs.Buses.{BusValue, KeepsAll, EachJournal, AllDry, EachUntold, untold_at}
 use Rattle.sja_wire.specs.Reasons.{IsTakenAndRefused}
@@ -25,7 +25,7 @@ use Rattle.sja_log.specs.Nodes.{IsNode}
 use Rattle.sja_serial.specs.Serial.{SerialValue, run_now, StandsAt}
 use Rattle.sja_serial.proofs.ManyBits.Borrowed.{stands_there, put_back}
 use Rattle.sja_serial.proofs.AllNodes.Several.{done_count}
-use Rattle.sja_wire.proofs.Journal.Items.{items_none}
+use Rattle.sja_link.proofs.Growing.Items.{items_none}
 use Rattle.sja_serial.proofs.OneNode.Quiet.{as_untold, all_dry}
 use Rattle.sja_serial.proofs.OneNode.Standing.{Tries, node_there}
 use Rattle.sja_serial.proofs.OneNode.Tried.{IsTried, next_tried, place}

@@ -10,7 +10,7 @@ use Rattle.sja_link.specs.Accounts.{account}
 use Rattle.sja_link.specs.Deques.{Deques, Lies}
 use Rattle.sja_link.specs.Lists.{Lists}
 use Rattle.sja_wire.specs.Buses.{AllDry}
-use Rattle.sja_wire.specs.Links.{stops_of}
+use Rattle.sja_link.specs.Links.{stops_of}
 use Rattle.sja_wire.specs.Telling.{IsUntold}
 use Rattle.sja_wire.specs.Wire.{journal_at}
 use Rattle.sja_plan.specs.Plan.{PlanValue, steps_at}

@@ -8,8 +8,8 @@ use Rattle.sja_link.specs.declared.entry.Entry.{Entry}
 use Rattle.sja_link.specs.declared.up.Up.{Up}
 use Rattle.sja_link.specs.Deques.{Deques, Lies}
 use Rattle.sja_wire.specs.Buses.{BusValue, KeepsAll, EachJournal, AllDry, EachUntold, untold_at}
-use Rattle.sja_wire.specs.Links.{per_node}
-use Rattle.sja_wire.specs.OneBit.{MayHaveItems, entries_of_items}
+use Rattle.sja_link.specs.Links.{per_node}
+use Rattle.sja_link.specs.BitEntries.{MayHaveItems, entries_of_items}
 use Rattle.sja_wire.specs.Telling.{IsUntold}
 use Rattle.sja_wire.specs.Wire.{journal_at}
 use Rattle.lemmas.specs.Related.{EachRelated}
@@ -18,11 +18,10 @@ use Rattle.sja_plan.specs.Plan.{PlanValue, steps_at}
 use Rattle.sja_regs.specs.declared.registers.Registers.{Registers}
 use Rattle.sja_script.specs.declared.step.Step.{Step}
 use Rattle.sja_driver.specs.declared.logged_driver.LoggedDriver.{LoggedDriver}
-use Rattle.sja_driver.specs.Deeds.{Deed, deeds_at}
+use Rattle.sja_driver.specs.Deeds.{Deed, deeds_at, with_deeds}
 use Rattle.sja_driver.specs.LoggedDrivers.{node_of, ended_of, StaysLawful, Steps}
 use Rattle.sja_log.specs.Nodes.{IsNode}
 use Rattle.sja_serial.specs.Serial.{SerialValue, StandsAt, run_now}
-use Rattle.sja_driver.specs.Deeds.{with_deeds}
 use Rattle.sja_driver.specs.Shown.{ShowsRecord}
 use Rattle.sja_driver.proofs.OneNode.Slices.{apart, each_set, each_other}
 use Rattle.sja_log.proofs.OneNode.Gathered.{no_link, Gathers}

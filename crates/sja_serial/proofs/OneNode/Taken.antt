@@ -10,18 +10,16 @@ use Rattle.sja_link.specs.Verdicts.{IsLawful as IsLawfulJournal}
 use Rattle.sja_wire.specs.declared.bus_fault.BusFault.{BusFault}
 use Rattle.sja_wire.specs.Reasons.{RefusesItem, IsTakenAndRefused, room_for}
 use Rattle.sja_wire.specs.Wire.{journal_at}
-use Rattle.sja_plan.specs.Plan.{PlanValue}
+use Rattle.sja_plan.specs.Plan.{PlanValue, steps_at}
 use Rattle.sja_regs.specs.declared.registers.Registers.{Registers}
 use Rattle.sja_script.specs.declared.step.Step.{Step}
 use Rattle.sja_driver.specs.declared.logged_driver.LoggedDriver.{LoggedDriver}
-use Rattle.sja_driver.specs.Deeds.{Deed}
+use Rattle.sja_driver.specs.Deeds.{Deed, deeds_at}
 use Rattle.sja_driver.specs.Holding.{place_after}
 use Rattle.sja_driver.specs.LoggedDrivers.{ended_of, Steps}
 use Rattle.sja_driver.proofs.Trace.Stepping.{given_taken}
 use Rattle.sja_log.specs.Nodes.{IsNode}
 use Rattle.sja_serial.specs.Serial.{SerialValue, StandsAt}
-use Rattle.sja_driver.specs.Deeds.{deeds_at}
-use Rattle.sja_plan.specs.Plan.{steps_at}
 use Rattle.sja_driver.proofs.OneNode.Slices.{apart, each_other}
 use Rattle.sja_log.proofs.OneNode.Trying.{alike, shows_none, takes_none}
 use Rattle.sja_log.proofs.OneNode.Taken.{none_taken, done_taken, waits_taken}

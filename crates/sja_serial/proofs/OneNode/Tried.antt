@@ -21,7 +21,7 @@ use Rattle.sja_driver.specs.LoggedDrivers.{Steps}
 use Rattle.sja_log.specs.Registering.{seen_now}
 use Rattle.sja_log.specs.Nodes.{IsNode}
 use Rattle.sja_serial.specs.Serial.{SerialValue, StandsAt}
-use Rattle.sja_wire.specs.OneBit.{HasMore}
+use Rattle.sja_link.specs.BitEntries.{HasMore}
 use Rattle.sja_serial.specs.Stepping.{DoesNext, DoesNothing}
 use Rattle.sja_driver.specs.Shown.{ShowsRecord}
 use Rattle.sja_log.specs.Waiting.{HasToWait}

@@ -10,7 +10,7 @@ use Rattle.sja_wire.specs.Wire.{journal_at}
 use Rattle.sja_plan.specs.Plan.{PlanValue}
 use Rattle.sja_plan.specs.declared.turn.Turn.{Turn}
 use Rattle.sja_plan.specs.declared.turn.Turn.TheVariants.{Bus, Rest}
-use Rattle.sja_driver.specs.Deeds.{Deed}
+use Rattle.sja_driver.specs.Deeds.{Deed, deeds_at}
 use Rattle.sja_log.specs.declared.end.End.{End}
 use Rattle.sja_log.specs.declared.end.End.TheVariants.{Bits as BitsSpent}
 use Rattle.sja_driver.specs.Moments.{record_at}
@@ -21,7 +21,6 @@ use Rattle.sja_serial.specs.Bits.{TakesBits, SomeWorks, TakesBusTurn, TakesRest}
 use Rattle.sja_serial.specs.Bits.TakesBits.{no_bit, one_more}
 use Rattle.sja_serial.specs.Ending.{progress}
 use Rattle.sja_serial.specs.Serial.{SerialValue, StandsAt}
-use Rattle.sja_driver.specs.Deeds.{deeds_at}
 use Rattle.sja_serial.proofs.ManyBits.SomeBits.{bits_within}
 use Rattle.sja_serial.proofs.WholeRun.GoingOn.{acts_of, GoesOn, ArePresent, deeds_then, record_then}
 use Rattle.sja_serial.proofs.WholeRun.GoingOn.{back_bit, present_bits, bits_run, stands_bits}

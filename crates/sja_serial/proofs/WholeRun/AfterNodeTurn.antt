@@ -8,7 +8,7 @@ use Rattle.sja_link.specs.declared.entry.Entry.{Entry}
 use Rattle.sja_link.specs.Places.{place_of}
 use Rattle.sja_link.proofs.JournalEntries.Entering.{bits_counted}
 use Rattle.sja_wire.specs.Wire.{journal_at}
-use Rattle.sja_plan.specs.Plan.{PlanValue}
+use Rattle.sja_plan.specs.Plan.{PlanValue, steps_at}
 use Rattle.sja_plan.specs.declared.turn.Turn.{Turn}
 use Rattle.sja_plan.specs.declared.turn.Turn.TheVariants.{Node}
 use Rattle.sja_regs.specs.declared.registers.Registers.{Registers}
@@ -17,7 +17,7 @@ use Rattle.sja_regs.specs.Registers.{at_power_on}
 use Rattle.sja_script.specs.declared.step.Step.{Step}
 use Rattle.sja_script.specs.declared.step.Step.TheVariants.{Start, Stop, Window, Release, Read}
 use Rattle.sja_script.specs.declared.step.Step.TheVariants.{Write, Load, Command, Await, Sent, Interrupt}
-use Rattle.sja_driver.specs.Deeds.{Deed, is_active, opened_by}
+use Rattle.sja_driver.specs.Deeds.{Deed, is_active, opened_by, deeds_at, with_deeds}
 use Rattle.sja_log.specs.declared.end.End.{End}
 use Rattle.sja_log.specs.Registering.{LeadTo, seen_now}
 use Rattle.sja_driver.specs.Resting.{IsHolding}
@@ -25,15 +25,10 @@ use Rattle.sja_log.specs.Turns.{Progress, with_steps, IsUnmet, IsStuck, DoesStep
 use Rattle.sja_log.specs.Turns.RunsTo.{node}
 use Rattle.sja_driver.specs.Windows.{off_by, window_of}
 use Rattle.sja_serial.specs.Ending.{progress}
-use Rattle.sja_serial.specs.Serial.{SerialValue, StandsAt}
-use Rattle.sja_driver.specs.Deeds.{deeds_at}
-use Rattle.sja_plan.specs.Plan.{steps_at}
-use Rattle.sja_serial.specs.Serial.{TakesTurn, CannotStep}
-use Rattle.sja_driver.specs.Deeds.{with_deeds}
+use Rattle.sja_serial.specs.Serial.{SerialValue, StandsAt, TakesTurn, CannotStep}
 use Rattle.sja_log.specs.Waiting.{HasToWait}
-use Rattle.sja_serial.proofs.WholeRun.GoingOn.{acts_of, GoesOn, ArePresent, length_at, lengths_set}
-use Rattle.sja_serial.proofs.WholeRun.GoingOn.{deeds_then, entries_then, record_then, registers_then}
-use Rattle.sja_serial.proofs.WholeRun.GoingOn.{window_then, off_then}
+use Rattle.sja_serial.proofs.WholeRun.GoingOn.{acts_of, GoesOn, ArePresent, length_at, lengths_set, deeds_then}
+use Rattle.sja_serial.proofs.WholeRun.GoingOn.{entries_then, record_then, registers_then, window_then, off_then}
 
 -- the deeds in between
 middle_at : (xs more after : List Deed) (i n : ℕ) (d : Deed) → n ≡ length xs + i → i < length more →

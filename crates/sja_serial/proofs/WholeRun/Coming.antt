@@ -12,7 +12,7 @@ use Rattle.sja_wire.proofs.Wires.{no_journal}
 use Rattle.sja_plan.specs.Plan.{PlanValue, NamesNode, step_counts}
 use Rattle.sja_plan.specs.declared.turn.Turn.{Turn}
 use Rattle.sja_plan.specs.declared.turn.Turn.TheVariants.{Bus, Rest, Node}
-use Rattle.sja_driver.specs.Deeds.{Deed}
+use Rattle.sja_driver.specs.Deeds.{Deed, with_deeds, deeds_at}
 use Rattle.sja_log.specs.declared.end.End.{End}
 use Rattle.sja_log.specs.declared.end.End.TheVariants.{Turns as TurnsDone, Bits as BitsSpent}
 use Rattle.sja_log.specs.Turns.{Progress, RunsTo}
@@ -20,9 +20,7 @@ use Rattle.sja_log.specs.Turns.RunsTo.{all_done}
 use Rattle.sja_serial.specs.Bits.{TakesBusTurn, TakesRest}
 use Rattle.sja_serial.specs.Ending.{progress, TakesTurns, TakesOne}
 use Rattle.sja_serial.specs.Serial.{SerialValue, StandsAt, TakesTurn}
-use Rattle.sja_driver.specs.Deeds.{with_deeds}
-use Rattle.sja_driver.specs.Deeds.{deeds_at}
-use Rattle.sja_serial.proofs.WholeRun.Onward.{extends_none, extends_items, bits_items, aborts_items}
+use Rattle.sja_log.proofs.NodeLog.Onward.{extends_none, extends_items, bits_items, aborts_items}
 use Rattle.sja_serial.proofs.WholeRun.GoingOn.{acts_of, GoesOn, IsPresent, ArePresent, present_bits, back_bits}
 use Rattle.sja_serial.proofs.WholeRun.GoingOn.{stands_bits}
 use Rattle.sja_serial.proofs.WholeRun.AfterBusTurn.{bus_whole, bus_short, rest_whole, rest_short}

@@ -9,12 +9,12 @@ use Rattle.sja_link.specs.Deques.{Deques}
 use Rattle.sja_wire.specs.declared.node_log.NodeLog.{NodeLog}
 use Rattle.sja_wire.specs.Lawful.{CountersAre, IsBusRun}
 use Rattle.sja_wire.specs.Wire.{journal_at}
-use Rattle.sja_plan.specs.Plan.{PlanValue}
+use Rattle.sja_plan.specs.Plan.{PlanValue, steps_at}
 use Rattle.sja_regs.specs.declared.registers.Registers.{Registers}
 use Rattle.sja_regs.specs.Registers.{at_power_on}
 use Rattle.sja_script.specs.declared.step.Step.{Step}
 use Rattle.sja_driver.specs.declared.logged_driver.LoggedDriver.{LoggedDriver}
-use Rattle.sja_driver.specs.Deeds.{Deed, given_in, deeds_of}
+use Rattle.sja_driver.specs.Deeds.{Deed, given_in, deeds_of, deeds_at}
 use Rattle.sja_driver.specs.LoggedDrivers.{log_of}
 use Rattle.sja_driver.specs.Logs.{releases_in, released_of}
 use Rattle.sja_log.specs.declared.end.End.{End}
@@ -28,13 +28,10 @@ use Rattle.sja_log.proofs.Trace.Windows.{settled_kept}
 use Rattle.sja_log.proofs.OneNode.Gathered.{no_link}
 use Rattle.sja_log.specs.Nodes.{IsNode}
 use Rattle.sja_serial.specs.Serial.{SerialValue, StandsAt}
-use Rattle.sja_driver.specs.Deeds.{deeds_at}
-use Rattle.sja_plan.specs.Plan.{steps_at}
 use Rattle.sja_log.specs.Finishing.{all_down, held_after, activation_after, IsNodeEnd, AreNodeEnds}
 use Rattle.sja_serial.specs.Ending.{IsLogOf}
 use Rattle.sja_log.proofs.NodeLog.NodeEnds.{AreEnds, trace_of, settled_of, nodes_count, some_driver, node_end}
-use Rattle.sja_log.proofs.NodeLog.NodeEnds.{journal_is}
-use Rattle.sja_log.proofs.NodeLog.NodeEnds.{journals_in_log, run_of_ends}
+use Rattle.sja_log.proofs.NodeLog.NodeEnds.{journal_is, journals_in_log, run_of_ends}
 
 -- what lies downward on one of these links
 down_at : (links : List Deques) (k : ℕ) (d : Deques) →

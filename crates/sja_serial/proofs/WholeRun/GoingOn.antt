@@ -12,7 +12,7 @@ use Rattle.sja_plan.specs.Plan.{PlanValue}
 use Rattle.sja_regs.specs.declared.registers.Registers.{Registers}
 use Rattle.sja_regs.specs.Registers.{at_power_on}
 use Rattle.sja_driver.specs.declared.logged_driver.LoggedDriver.{LoggedDriver}
-use Rattle.sja_driver.specs.Deeds.{Deed, given_in, opened_by}
+use Rattle.sja_driver.specs.Deeds.{Deed, given_in, opened_by, deeds_at}
 use Rattle.sja_log.specs.Turns.{Acts}
 use Rattle.sja_driver.specs.Moments.{at_moment, record_at}
 use Rattle.sja_log.specs.Registering.{LeadTo}
@@ -24,9 +24,8 @@ use Rattle.sja_driver.specs.InTime.{IsInTime}
 use Rattle.sja_serial.specs.Bits.{TakesBit, TakesBits}
 use Rattle.sja_serial.specs.Bits.TakesBits.{no_bit, one_more}
 use Rattle.sja_serial.specs.Serial.{SerialValue, StandsAt}
-use Rattle.sja_driver.specs.Deeds.{deeds_at}
 use Rattle.sja_driver.proofs.Account.Counts.{as_many}
-use Rattle.sja_serial.proofs.WholeRun.Onward.{Extends, moment_then, put_then, extends_bit, bits_bit, aborts_bit}
+use Rattle.sja_log.proofs.NodeLog.Onward.{Extends, moment_then, put_then, extends_bit, bits_bit, aborts_bit}
 
 -- a run of the plan with these journals and deeds
 abbrev pub acts_of : PlanValue → List (List Entry) → List (List Deed) → Acts

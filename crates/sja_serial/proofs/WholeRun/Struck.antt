@@ -1,7 +1,7 @@
 -- A run with other strikes stands at the same deeds of the plan with those strikes.
 use Rattle.std.proofs.Common.{◌≡◌, List, [], ◌∷◌, ◌++◌, refl, sym, subst}
 use Rattle.std.specs.Prelude.{Result, OnOk}
-use Rattle.lemmas.proofs.Results.{ok_map}
+use Rattle.std.proofs.lemmas.Result.{on_ok_weaker}
 use Rattle.sja_script.specs.declared.strike.Strike.{Strike}
 use Rattle.sja_plan.specs.Growing.{with_strike}
 use Rattle.sja_plan.specs.Plan.{PlanValue}
@@ -47,6 +47,6 @@ stands_struck plan r deeds strike h =
 pub stands_if_struck : {A X : Type 0} (was now : SerialValue) (strike : Strike) (r : Result A X) →
     OnOk r (now ≡ struck_run was strike) → OnOk r ((plan : PlanValue) (deeds : List (List Deed)) →
     StandsAt plan was deeds → StandsAt (with_strike plan strike) now deeds)
-stands_if_struck was now strike r is = ok_map r (λ e plan deeds h.
+stands_if_struck was now strike r is = on_ok_weaker r (λ e plan deeds h.
     subst (λ (x : SerialValue). StandsAt (with_strike plan strike) x deeds) (sym e)
     (stands_struck plan was deeds strike h)) is

@@ -1,19 +1,17 @@
 -- A whole run in one thread, by its turns and by its log.
 use Rattle.std.proofs.Common.{◌≡◌, ◌<◌, List, [], length, map, sym, ap, ◌∙◌, subst, arith}
 use Rattle.std.specs.Prelude.{replicate}
-use Rattle.std.proofs.lemmas.List.{length-map}
+use Rattle.std.proofs.lemmas.List.{length-map, get_or-map, ext_get_or}
+use Rattle.lemmas.proofs.Lists.{some_of}
 use Rattle.sja_link.specs.declared.entry.Entry.{Entry}
 use Rattle.sja_plan.specs.Plan.{PlanValue}
-use Rattle.sja_driver.specs.Deeds.{Deed, done_of}
+use Rattle.sja_driver.specs.Deeds.{Deed, done_of, deeds_at}
 use Rattle.sja_log.specs.declared.end.End.{End}
 use Rattle.sja_log.specs.Log.{NodeValue, RunValue}
 use Rattle.sja_log.specs.Runs.{IsSerialRun}
 use Rattle.sja_log.specs.Turns.{Acts, Progress, RunsTo}
-use Rattle.sja_log.proofs.NodeLog.Logs.{index_map}
 use Rattle.sja_serial.specs.Serial.{SerialValue}
-use Rattle.sja_driver.specs.Deeds.{deeds_at}
 use Rattle.sja_serial.specs.Ending.{IsLogOf, TakesTurns, progress}
-use Rattle.sja_log.proofs.NodeLog.NodeEnds.{any_of, same_by}
 
 module _ (plan : PlanValue) (r : SerialValue) (end : End) (log : RunValue) (t : TakesTurns plan r end)
     (l : IsLogOf plan r t.deeds end log) where
@@ -23,14 +21,14 @@ module _ (plan : PlanValue) (r : SerialValue) (end : End) (log : RunValue) (t : 
       let m = length-map t.deeds (λ (ds : List Deed). length ds) in
       let n = length-map log.nodes (λ (x : NodeValue). length x.done) in
       let c = t.stands.deeds_count in let e = l.run.count in
-      same_by 0 (map (λ (ds : List Deed). length ds) t.deeds) (map (λ (x : NodeValue). length x.done) log.nodes)
+      ext_get_or 0 (map (λ (ds : List Deed). length ds) t.deeds) (map (λ (x : NodeValue). length x.done) log.nodes)
       (omega (arith, m, n, c, e)) (λ k less.
       let there : k < length t.deeds = omega (arith, m, less) in
       let few : k < length log.nodes = omega (arith, there, c, e) in
-      let some = any_of log.nodes (omega (arith, few)) in
-      index_map (λ (ds : List Deed). length ds) t.deeds k [] 0 there
+      let some = some_of log.nodes 0 (omega (arith, few)) in
+      get_or-map (λ (ds : List Deed). length ds) t.deeds k [] 0 there
       ∙ sym (length-map (deeds_at t.deeds k) done_of) ∙ ap (λ ds. length ds) (l.run.nodes k some few).trace.done
-      ∙ sym (index_map (λ (x : NodeValue). length x.done) log.nodes k some 0 few))
+      ∙ sym (get_or-map (λ (x : NodeValue). length x.done) log.nodes k some 0 few))
 
   ends_there : progress r t.deeds ≡ record { bits = log.bits; done = map (λ (n : NodeValue). length n.done) log.nodes }
   ends_there = λ i. let p : Progress = record { bits = sym l.bits i; done = steps_same i } in p

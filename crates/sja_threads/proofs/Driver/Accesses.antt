@@ -1,7 +1,6 @@
 -- Steps of a driver in a thread of its own that knows addresses and bytes alone, one after the other.
-use Rattle.std.proofs.Common.{◌≡◌, ◌≤◌, ◌+◌, ◌++◌, ℕ, Bool, true, false, Option, Some, None, List, [], ◌∷◌}
-use Rattle.std.proofs.Common.{length, map, take, refl, sym, ap, ◌∙◌, subst, arith}
-use Rattle.std.proofs.Common.{append_assoc, ◌<◌, drop, slice_index_or}
+use Rattle.std.proofs.Common.{◌≡◌, ◌≤◌, ◌+◌, ◌++◌, ℕ, Bool, true, false, Option, Some, None, List, [], ◌∷◌, length, map}
+use Rattle.std.proofs.Common.{take, refl, sym, ap, ◌∙◌, subst, arith, append_assoc, ◌<◌, drop, slice_index_or}
 use Rattle.std.proofs.lemmas.List.{length-append, length-map, take_more, take-append-drop}
 use Rattle.sja_link.specs.Showing.{seen_of}
 use Rattle.sja_link.specs.declared.driver_end.DriverEnd.{Ghosts as Ends}

@@ -1,7 +1,6 @@
 -- One step of such a script, and the whole of it.
-use Rattle.std.proofs.Common.{◌≡◌, ◌≤◌, ◌+◌, ◌*◌, ◌++◌, ◌⊎◌, ℕ, Bool, true, false, Some, List, [], ◌∷◌}
-use Rattle.std.proofs.Common.{Vec, Global, vec_capacity, length, map, take, refl, sym, ap, ◌∙◌, subst, arith, inl, inr}
-use Rattle.std.proofs.Common.{append-nil}
+use Rattle.std.proofs.Common.{◌≡◌, ◌≤◌, ◌+◌, ◌*◌, ◌++◌, ◌⊎◌, ℕ, Bool, true, false, Some, List, [], ◌∷◌, Vec, Global}
+use Rattle.std.proofs.Common.{vec_capacity, length, map, take, refl, sym, ap, ◌∙◌, subst, arith, inl, inr, append-nil}
 use Rattle.std.proofs.lemmas.List.{length-append, length-map}
 use Rattle.std.proofs.Math.Seq.{take-length}
 use Rattle.sja_link.specs.declared.driver_end.DriverEnd.{Ghosts as Ends}

@@ -17,8 +17,7 @@ use Rattle.sja_threads.specs.declared.raw_thread.RawThread.{RawThread}
 use Rattle.sja_threads.specs.Accessing.{Access, IsAccess, IsBrokenOff, done_of}
 use Rattle.sja_threads.specs.Accessing.IsBrokenOff.{not_begun, begun}
 use Rattle.sja_threads.specs.Accessing.LeadToAccesses.{access_done}
-use Rattle.sja_threads.specs.Inside.Accesses.{Writes, HasDone}
-use Rattle.sja_threads.specs.Inside.Accesses.{HasEnded}
+use Rattle.sja_threads.specs.Inside.Accesses.{Writes, HasDone, HasEnded}
 use Rattle.sja_threads.specs.Inside.Steps.{DoesSteps}
 use Rattle.sja_threads.proofs.Driver.Steps.{does_more}
 

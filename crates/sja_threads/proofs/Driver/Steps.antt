@@ -5,6 +5,7 @@ use Rattle.std.proofs.lemmas.List.{length-append, map-append}
 use Rattle.std.proofs.lemmas.Slice.Zip.{AllZip-long}
 use Rattle.sja_link.specs.declared.driver_end.DriverEnd.{Ghosts as Ends}
 use Rattle.lemmas.proofs.Related.{each_refl, each_trans}
+use Rattle.lemmas.proofs.Lists.{some_of}
 use Rattle.sja_regs.specs.declared.registers.Registers.{Registers}
 use Rattle.sja_regs.specs.DriverSettings.{SettingsValue, settings_in, HasSettings}
 use Rattle.sja_script.specs.declared.step.Step.{Step}
@@ -21,11 +22,6 @@ use Rattle.sja_threads.specs.declared.driver_thread.DriverThread.{DriverThread}
 use Rattle.sja_threads.specs.Accessing.LeadOn.{nothing_more}
 use Rattle.sja_threads.specs.Inside.Steps.{MayWork, DoesSteps, step_if}
 use Rattle.sja_threads.proofs.Driver.Settings.{leads_try, lead_more}
-
--- one of these
-any_of : {A : Type 0} (xs : List A) → 64 ≤ length xs → A
-any_of [] many = absurd (omega (arith, many))
-any_of (x ∷ xs) many = x
 
 -- a try leaves the version of its port
 version_after : (p : Registers) (which : Step) (o : Tried) → (port_after p which o).version ≡ p.version
@@ -141,7 +137,7 @@ module _ {E : Type 0} (e : Ends E) where
     goes = subst (λ (n : ℕ). Goes e.stands n (driver_of a.driver) (driver_of b.driver) (log_of a.driver)
         (log_of b.driver) a.links.items b.links.items 0 (deeds_by p which steps.tried 0)) has.version steps.goes;
     leads = λ before w.
-        let end = any_of a.links.items enough in
+        let end = some_of a.links.items 0 (omega (arith, enough)) in
         leads_try e _ _ p q which (driver_of a.driver) (driver_of b.driver) 0 a.set b.set refl has steps.tried
         (λ k. met (steps.met ∙ k)) (λ k. unmet (steps.met ∙ k)) (steps.acts end end) before
         (ap is_active (append-nil before) ∙ w.out);
@@ -172,7 +168,7 @@ module _ {E : Type 0} (e : Ends E) where
       -- no step changes the port's version
       port_is : q.version ≡ p.version
       port_is =
-          let end = any_of a.links.items enough in
+          let end = some_of a.links.items 0 (omega (arith, enough)) in
           ap (λ (r : Registers). r.version) (steps.acts end end).port ∙ version_after p which steps.tried
 
       version_is : (k : Bool) → done ≡ k → b.set.version ≡ a.set.version

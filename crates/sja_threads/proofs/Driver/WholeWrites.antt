@@ -1,6 +1,5 @@
 -- A write of such a driver from its beginning.
-use Rattle.std.proofs.Common.{◌≡◌, ◌≤◌, ◌+◌, ◌++◌, ℕ, Option, Some, None, List}
-use Rattle.std.proofs.Common.{length, sym, subst, arith}
+use Rattle.std.proofs.Common.{◌≡◌, ◌≤◌, ◌+◌, ◌++◌, ℕ, Option, Some, None, List, length, sym, subst, arith}
 use Rattle.std.proofs.lemmas.List.{length-append}
 use Rattle.sja_link.specs.declared.driver_end.DriverEnd.{Ghosts as Ends}
 use Rattle.sja_regs.specs.declared.registers.Registers.{Registers}
@@ -12,8 +11,7 @@ use Rattle.sja_raw.specs.declared.write_steps.WriteSteps.{WriteSteps}
 use Rattle.sja_raw.specs.WriteLists.{listed, steps_in}
 use Rattle.sja_raw.specs.Writes.{write_steps}
 use Rattle.sja_threads.specs.declared.raw_thread.RawThread.{RawThread}
-use Rattle.sja_threads.specs.Inside.Accesses.{DoesFirst, Writes}
-use Rattle.sja_threads.specs.Inside.Accesses.{with_written}
+use Rattle.sja_threads.specs.Inside.Accesses.{DoesFirst, Writes, with_written}
 use Rattle.sja_threads.specs.Inside.Steps.{MayWork}
 use Rattle.sja_threads.proofs.Driver.Steps.{may_less}
 use Rattle.sja_threads.proofs.Driver.Accesses.{first_none, first_wide, first_more, first_able}

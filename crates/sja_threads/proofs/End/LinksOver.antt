@@ -3,6 +3,7 @@ use Rattle.std.proofs.Common.{◌≡◌, ℕ, zero, suc, ◌+◌, ◌*◌, ◌<�
 use Rattle.std.specs.Prelude.{slice_index_or}
 use Rattle.std.proofs.lemmas.Bool.{cases_lt}
 use Rattle.std.proofs.lemmas.List.{get_or-map, length-map}
+use Rattle.lemmas.proofs.Lists.{some_of}
 use Rattle.sja_rings.specs.declared.ring_bus.RingBus.{RingBus}
 use Rattle.sja_rings.specs.declared.ring_driver.RingDriver.{RingDriver}
 use Rattle.sja_rings.specs.Ends.{OneLink}
@@ -11,7 +12,6 @@ use Rattle.sja_plan.specs.Plan.{PlanValue}
 use Rattle.sja_driver.specs.declared.logged_driver.LoggedDriver.{LoggedDriver}
 use Rattle.sja_driver.specs.Deeds.{Deed}
 use Rattle.sja_driver.specs.LoggedDrivers.{IsLawful}
-use Rattle.sja_log.proofs.NodeLog.NodeEnds.{any_of}
 use Rattle.sja_threads.specs.declared.worked.Worked.{Worked}
 use Rattle.sja_threads.specs.Inside.Ended.{IsOver}
 use Rattle.sja_threads.specs.Inside.Settling.{all_drivers, all_ends}
@@ -55,7 +55,7 @@ module _ (plan : PlanValue) (bus : BusValue) (links : List RingBus) (workeds : L
       let few : p.node < length plan.nodes =
       in_nodes p.node (length plan.nodes) p.place (length links) here h.links_count in
       let there : p.node < length workeds = let c = h.workeds_count in omega (arith, c, few) in
-      let w = any_of workeds (omega (arith, there)) in
+      let w = some_of workeds 0 (omega (arith, there)) in
       subst (λ (n : ℕ). OneLink (slice_index_or links n b) (slice_index_or (all_ends workeds) n d)) (sym p.is)
       (subst (λ (x : RingDriver). OneLink (slice_index_or links (64 * p.node + p.place) b) x)
       (sym (enough_at (λ (x : Worked RingDriver). x.links.items) workeds all_enough p.node p.place w d there p.few))
@@ -66,7 +66,7 @@ module _ (plan : PlanValue) (bus : BusValue) (links : List RingBus) (workeds : L
   all_lawful k d less =
       let many = length-map workeds (λ (w : Worked RingDriver). w.driver) in
       let there : k < length workeds = omega (arith, many, less) in
-      let c = h.workeds_count in let w = any_of workeds (omega (arith, there)) in
+      let c = h.workeds_count in let w = some_of workeds 0 (omega (arith, there)) in
       subst (λ (x : LoggedDriver). IsLawful x)
       (sym (get_or-map (λ (x : Worked RingDriver). x.driver) workeds k w d there))
       (h.nodes k w (omega (arith, c, there))).lawful

@@ -2,6 +2,7 @@
 use Rattle.std.proofs.Common.{◌≡◌, ℕ, ◌+◌, ◌*◌, ◌<◌, List, [], length, map, sym, ap, ◌∙◌, subst, arith}
 use Rattle.std.specs.Prelude.{slice_index_or}
 use Rattle.std.proofs.lemmas.List.{get_or-map, length-map}
+use Rattle.lemmas.proofs.Lists.{some_of}
 use Rattle.sja_link.specs.declared.entry.Entry.{Entry}
 use Rattle.sja_link.specs.declared.down.Down.{Down}
 use Rattle.sja_link.specs.Verdicts.{IsLawful as IsLawfulJournal}
@@ -10,7 +11,7 @@ use Rattle.sja_rings.specs.declared.ring_driver.RingDriver.{RingDriver}
 use Rattle.sja_wire.specs.declared.node_log.NodeLog.{NodeLog}
 use Rattle.sja_wire.specs.Buses.{BusValue}
 use Rattle.sja_wire.specs.Lawful.{CountersAre, IsBusRun}
-use Rattle.sja_wire.specs.Orderly.{AreOrderly}
+use Rattle.sja_link.specs.Orderly.{AreOrderly}
 use Rattle.sja_wire.specs.Wire.{journal_at}
 use Rattle.sja_regs.specs.DriverSettings.{settings_in}
 use Rattle.sja_regs.specs.Registers.{at_power_on}
@@ -24,7 +25,7 @@ use Rattle.sja_log.specs.Log.{NodeValue, RunValue}
 use Rattle.sja_log.specs.Runs.{IsTrace, IsRun}
 use Rattle.sja_log.specs.Settling.{AreSettled}
 use Rattle.sja_log.specs.Finishing.{IsNodeEnd, AreNodeEnds}
-use Rattle.sja_log.proofs.NodeLog.NodeEnds.{AreEnds, any_of, trace_of, settled_of, nodes_count, some_log, some_driver}
+use Rattle.sja_log.proofs.NodeLog.NodeEnds.{AreEnds, trace_of, settled_of, nodes_count, some_log, some_driver}
 use Rattle.sja_log.proofs.NodeLog.NodeEnds.{node_end, journal_is, journals_in_log, run_of_ends}
 use Rattle.sja_threads.specs.declared.worked.Worked.{Worked}
 use Rattle.sja_threads.specs.Inside.Ended.{IsOverAt, IsOver}
@@ -70,7 +71,7 @@ module _ (plan : PlanValue) (bus : BusValue) (links : List RingBus) (workeds : L
     in_workeds = let c = h.workeds_count in let i = in_plan in omega (arith, c, i)
 
     some : Worked RingDriver
-    some = let i = in_workeds in any_of workeds (omega (arith, i))
+    some = let i = in_workeds in some_of workeds 0 (omega (arith, i))
 
     abbrev handed : Worked RingDriver
     handed = slice_index_or workeds k some
@@ -80,10 +81,10 @@ module _ (plan : PlanValue) (bus : BusValue) (links : List RingBus) (workeds : L
     over = h.nodes k some in_plan
 
     some_bus : RingBus
-    some_bus = let i = in_plan in let c = h.links_count in any_of links (omega (arith, i, c))
+    some_bus = let i = in_plan in let c = h.links_count in some_of links 0 (omega (arith, i, c))
 
     some_end : RingDriver
-    some_end = let e = over.enough in any_of handed.links.items (omega (arith, e))
+    some_end = let e = over.enough in some_of handed.links.items 0 (omega (arith, e))
 
     left_there : (a : ℕ) → a < 64 → IsLeftOn (slice_index_or links (64 * k + a) some_bus)
         (slice_index_or handed.links.items a some_end) (slice_index_or left_down (64 * k + a) [])

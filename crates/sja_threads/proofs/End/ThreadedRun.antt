@@ -5,6 +5,7 @@ use Rattle.std.specs.Prelude.{Result, Ok, Err, IfOk, slice_index_or, All}
 use Rattle.std.proofs.lemmas.List.{get_or-map, length-map}
 use Rattle.sja_link.specs.declared.entry.Entry.{Entry}
 use Rattle.lemmas.specs.Related.{EachRelated}
+use Rattle.lemmas.proofs.Lists.{some_of}
 use Rattle.sja_rings.specs.declared.ring_driver.RingDriver.{RingDriver}
 use Rattle.sja_regs.specs.DriverSettings.{settings_in}
 use Rattle.sja_regs.specs.Registers.{at_power_on}
@@ -17,15 +18,13 @@ use Rattle.sja_driver.specs.Logs.{done_in}
 use Rattle.sja_log.specs.declared.end.End.{End}
 use Rattle.sja_log.specs.Log.{RunValue, journals_in}
 use Rattle.sja_log.specs.Runs.{IsRun}
-use Rattle.sja_log.proofs.NodeLog.NodeEnds.{any_of}
 use Rattle.sja_threads.specs.declared.bus_thread.BusThread.{BusThread}
 use Rattle.sja_threads.specs.declared.joined_run.JoinedRun.{JoinedRun}
 use Rattle.sja_threads.specs.declared.thread_start.ThreadStart.{ThreadStart}
 use Rattle.sja_threads.specs.declared.worked.Worked.{Worked}
 use Rattle.sja_threads.specs.Accessing.{HasAccessed}
-use Rattle.sja_threads.specs.AccessRuns.{IsAccessRun, with_steps}
+use Rattle.sja_threads.specs.AccessRuns.{IsAccessRun, with_steps, rooms}
 use Rattle.sja_threads.specs.Needed.{AllDue, EndsDuly}
-use Rattle.sja_threads.specs.AccessRuns.{rooms}
 use Rattle.sja_threads.specs.Threads.{IsThreadedRun}
 use Rattle.sja_threads.specs.Inside.Ended.{IsOver}
 use Rattle.sja_threads.specs.Inside.JoinedRun.{IsEnding, IsEnded}
@@ -87,7 +86,7 @@ module _ (quits : Bool) (plan : PlanValue) (j : JoinedRun) (t : BusThread) (end 
   run = runs ending.typed ending.deeds over
 
   some : (node : ℕ) → node < length ending.typed → Worked RingDriver
-  some node few = any_of j.workeds.items (let e = over.workeds_count in omega (arith, few, e))
+  some node few = some_of j.workeds.items 0 (let e = over.workeds_count in omega (arith, few, e))
 
   -- of the typed steps
   threaded : (breaks : Bool) → (breaks ≡ false → (node : ℕ) (w : Worked RingDriver) → node < length plan.nodes →

@@ -14,7 +14,7 @@ use Rattle.sja_link.proofs.Ledger.StoredMessages.{AreMessages, stored_real}
 use Rattle.sja_script.specs.declared.step.Step.{Step}
 use Rattle.sja_driver.specs.Deeds.{Deed}
 use Rattle.sja_driver.proofs.Step.CreditsGiven.{credits_in}
-use Rattle.sja_wire.specs.Orderly.{IsOrderly, AreOrderly}
+use Rattle.sja_link.specs.Orderly.{IsOrderly, AreOrderly}
 use Rattle.sja_log.specs.Log.{ActivationValue, NodeValue}
 use Rattle.sja_log.specs.Runs.{IsTrace}
 use Rattle.sja_log.specs.Settling.{IsSettled}

@@ -8,7 +8,7 @@ use Rattle.sja_link.specs.Carried.{put_of, taken_in, taken_of}
 use Rattle.lemmas.specs.Gathering.{total}
 use Rattle.lemmas.specs.Picking.{EachAfter}
 use Rattle.sja_link.specs.World.{is_stop}
-use Rattle.sja_wire.specs.Orderly.{IsRunning, IsOrderly}
+use Rattle.sja_link.specs.Orderly.{IsRunning, IsOrderly}
 use Rattle.sja_threads.specs.Linked.{IsLinked}
 use Rattle.sja_threads.proofs.Events.Comes.{world}
 use Rattle.sja_threads.proofs.Events.Order.{Order, with_quiet, taken_same, next_whole}

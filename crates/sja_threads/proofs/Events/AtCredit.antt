@@ -13,10 +13,9 @@ use Rattle.sja_link.specs.Carried.{put_in, put_of, taken_in, taken_of}
 use Rattle.lemmas.specs.Gathering.{gathered, total}
 use Rattle.sja_link.specs.Lists.{messages}
 use Rattle.sja_link.specs.World.{is_off, is_stop, bytes_of, credits_of}
-use Rattle.lemmas.proofs.Gathered.{gathered_append, gathered_push}
-use Rattle.lemmas.proofs.Gathered.{total_append, total_push}
+use Rattle.lemmas.proofs.Gathered.{gathered_append, gathered_push, total_append, total_push}
 use Rattle.sja_link.proofs.JournalEntries.ListCounts.{messages_both, credits_both}
-use Rattle.sja_wire.specs.Orderly.{IsOrderly}
+use Rattle.sja_link.specs.Orderly.{IsOrderly}
 use Rattle.sja_threads.specs.Linked.{event_in}
 use Rattle.sja_threads.proofs.Events.Comes.{world, Comes, comes_get, comes_gets, comes_release}
 use Rattle.sja_driver.proofs.Step.NextItem.{bytes_put, bytes_paid, IsOffLast, next_message}

@@ -14,10 +14,9 @@ use Rattle.sja_link.specs.Free.{free_of}
 use Rattle.lemmas.specs.Gathering.{gathered, total}
 use Rattle.sja_link.specs.Lists.{messages}
 use Rattle.sja_link.specs.World.{is_off, credits_of, free}
-use Rattle.lemmas.proofs.Gathered.{gathered_push}
-use Rattle.lemmas.proofs.Gathered.{total_append}
+use Rattle.lemmas.proofs.Gathered.{gathered_push, total_append}
 use Rattle.sja_link.proofs.JournalEntries.ListCounts.{credits_both}
-use Rattle.sja_wire.specs.Orderly.{IsOrderly}
+use Rattle.sja_link.specs.Orderly.{IsOrderly}
 use Rattle.sja_threads.specs.Linked.{event_in}
 use Rattle.sja_threads.proofs.Events.Comes.{world, comes_act}
 use Rattle.sja_driver.proofs.Step.NextItem.{bytes_put, IsOffLast, off_last_push}

@@ -2,6 +2,7 @@
 use Rattle.std.proofs.Common.{◌≡◌, ◌≢◌, ℕ, ◌<◌, Bool, true, false, List, [], ◌∷◌, ◌++◌, length, take, drop, refl, sym}
 use Rattle.std.proofs.Common.{ap, ap₂, ◌∙◌, subst, arith, append_assoc, append-nil}
 use Rattle.std.proofs.lemmas.List.{length-append}
+use Rattle.std.proofs.Math.Seq.{drop-length}
 use Rattle.can_node.specs.declared.config.Config.{Config}
 use Rattle.can_node.specs.declared.request.Request.{Request}
 use Rattle.sja_link.specs.declared.down.Down.{Down}
@@ -51,10 +52,6 @@ comes_own acts w e own c is allowed =
 pub next_in : {A : Type 0} (xs ys : List A) (y : A) → take 1 (drop (length xs) (xs ++ y ∷ ys)) ≡ y ∷ []
 next_in [] ys y = refl
 next_in (x ∷ xs) ys y = next_in xs ys y
-
-pub none_after : {A : Type 0} (xs : List A) → drop (length xs) xs ≡ []
-none_after [] = refl
-none_after (x ∷ xs) = none_after xs
 
 less_than : {A : Type 0} (xs ys : List A) (y : A) → length xs < length (xs ++ y ∷ ys)
 less_than xs ys y = let e = length-append xs (y ∷ ys) in omega (arith, e)
@@ -139,7 +136,7 @@ module _ (acts : List Event) (put : List Down) (given : List Up) (got : List Dow
   may_send_again : send ≡ false → Comes acts (world put given got given true)
   may_send_again busy =
       comes_own acts (world put given got given send) SendDone refl c tt
-      (busy, ap (total is_send) (none_after given))
+      (busy, ap (total is_send) (drop-length given))
 
 -- a request: the one before it is done, if there was one
 pub comes_send : (acts : List Event) (put : List Down) (given : List Up) (got : List Down) (send : Bool)

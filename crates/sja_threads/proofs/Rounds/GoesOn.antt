@@ -17,7 +17,7 @@ use Rattle.sja_bus.specs.Resting.{RestsAs}
 use Rattle.sja_bus.proofs.AllNodes.Many.{numbered_kept}
 use Rattle.sja_wire.specs.declared.bus_fault.BusFault.{BusFault}
 use Rattle.sja_wire.specs.Lawful.{IsBusRun}
-use Rattle.sja_wire.specs.OneBit.{MayHaveItems}
+use Rattle.sja_link.specs.BitEntries.{MayHaveItems}
 use Rattle.sja_wire.specs.Wire.{journal_at}
 use Rattle.sja_threads.specs.declared.bus_thread.BusThread.{BusThread}
 use Rattle.sja_threads.specs.Needed.{IsBitDue, AllDue, AllAtRest}

@@ -1,11 +1,11 @@
 -- Bits that were due stay so as the journals grow.
 use Rattle.std.proofs.Common.{◌≡◌, ℕ, ◌+◌, ◌<◌, false, List, [], ◌++◌, length, sym, ap, ◌∙◌, append_assoc, append-nil}
 use Rattle.std.proofs.Common.{arith, inl, inr}
-use Rattle.std.specs.Prelude.{◌⊎◌}
+use Rattle.lemmas.proofs.Numbers.{earlier_or_last}
 use Rattle.sja_link.specs.declared.entry.Entry.{Entry}
 use Rattle.sja_link.specs.Carried.{bits_of}
 use Rattle.sja_link.specs.Records.{record_of}
-use Rattle.sja_wire.specs.Links.{Grows}
+use Rattle.sja_link.specs.Links.{Grows}
 use Rattle.sja_bus.specs.Resting.{RestsAs}
 use Rattle.sja_wire.specs.Wire.{journal_at}
 use Rattle.sja_threads.specs.Needed.{WorksAt, IsBitDue, AllDue}
@@ -50,9 +50,6 @@ due_now bits journals node few many busy = (
     works = (busy.found, busy.cut, busy.is);
   },
 )
-
-earlier_or_last : (i n : ℕ) → i < n + 1 → (i < n) ⊎ (i ≡ n)
-earlier_or_last i n h = grind arith
 
 -- a bit more, before which a node wasn't at rest
 pub due_more : (bits : ℕ) (old new : List (List Entry)) (node : ℕ) → length new ≡ length old → AllGrow old new →

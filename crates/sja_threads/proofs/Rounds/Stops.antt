@@ -13,7 +13,7 @@ use Rattle.sja_wire.specs.Buses.{BusValue}
 use Rattle.sja_wire.specs.Lawful.{IsBusRun}
 use Rattle.sja_wire.specs.Reasons.{IsRefusedFor, IsBrokenFor, IsTakenAndRefused, StopsBit, room_for}
 use Rattle.sja_wire.specs.Reasons.StopsBit.{spent, not_taken, not_aborted, broken_off}
-use Rattle.sja_wire.specs.Links.{per_node}
+use Rattle.sja_link.specs.Links.{per_node}
 use Rattle.sja_wire.specs.Wire.{journal_at}
 use Rattle.sja_threads.specs.declared.bus_thread.BusThread.{BusThread}
 use Rattle.sja_threads.specs.Stopping.{HasNoPlace, any_orders, StopsWith}

@@ -13,11 +13,11 @@ use Rattle.sja_link.specs.Carried.{taken_of}
 use Rattle.sja_regs.specs.declared.bus_turn.BusTurn.{BusTurn}
 use Rattle.sja_regs.specs.declared.orders.Orders.{Orders}
 use Rattle.sja_wire.specs.Buses.{IsNodeBit}
-use Rattle.sja_wire.specs.Links.{stops_of, Grows}
-use Rattle.sja_wire.specs.OneBit.{AreRead, MayHaveItems, abort_as, entries_of_items}
+use Rattle.sja_link.specs.Links.{stops_of, Grows}
+use Rattle.sja_link.specs.BitEntries.{AreRead, MayHaveItems, abort_as, entries_of_items}
 use Rattle.sja_log.proofs.NodeLog.Adding.{added, added_own, bit_whole}
 use Rattle.sja_driver.proofs.Account.Own.{own_taken}
-use Rattle.sja_wire.proofs.Journal.Taking.{adds, taken_adds}
+use Rattle.sja_link.proofs.Growing.Taking.{adds, taken_adds}
 use Rattle.sja_threads.specs.Inside.Rounds.{TakesWithin}
 
 -- an activation that is read is none of these

@@ -1,8 +1,8 @@
 -- The bus of a run in threads before its first round.
-use Rattle.std.proofs.Common.{◌≡◌, ℕ, suc, ◌+◌, ◌*◌, ◌<◌, false, List, [], length, sym, ap, ◌∙◌}
-use Rattle.std.proofs.Common.{subst, arith}
+use Rattle.std.proofs.Common.{◌≡◌, ℕ, suc, ◌+◌, ◌*◌, ◌<◌, false, List, [], length, sym, ap, ◌∙◌, subst, arith}
 use Rattle.std.specs.Prelude.{slice_index_or}
 use Rattle.std.proofs.lemmas.List.{length-replicate}
+use Rattle.lemmas.proofs.Lists.{some_of}
 use Rattle.sja_link.specs.declared.entry.Entry.{Entry}
 use Rattle.sja_link.specs.Accounts.{account}
 use Rattle.sja_link.specs.Carried.{taken_of}
@@ -12,7 +12,6 @@ use Rattle.sja_plan.specs.Plan.{PlanValue}
 use Rattle.sja_wire.specs.Buses.{BusValue, new_bus}
 use Rattle.sja_wire.specs.Wire.{journal_at}
 use Rattle.sja_wire.proofs.Wires.{no_journal}
-use Rattle.sja_log.proofs.NodeLog.NodeEnds.{any_of}
 use Rattle.sja_threads.specs.declared.bus_thread.BusThread.{BusThread}
 use Rattle.sja_threads.specs.declared.thread_start.ThreadStart.{ThreadStart}
 use Rattle.sja_threads.specs.Inside.Making.{AreNewEnds, AreMade}
@@ -45,6 +44,6 @@ begins {G} plan t starts counts is count run spent many made = record {
     empty node = ap (λ (b : BusValue). journal_at b.journals node) is ∙ no_journal (length plan.nodes) node
 
     at : (node : ℕ) (few : node < length plan.nodes) →
-        let s : ThreadStart G = any_of starts (omega (arith, few, many)) in
+        let s : ThreadStart G = some_of starts 0 (omega (arith, few, many)) in
         AreNewEnds 64 node t.links.items (slice_index_or starts node s).links.items (64 * node)
-    at node few = (made node (any_of starts (omega (arith, few, many))) few).links
+    at node few = (made node (some_of starts 0 (omega (arith, few, many))) few).links

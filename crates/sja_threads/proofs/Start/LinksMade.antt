@@ -1,6 +1,6 @@
 -- The links of a run, made one after another.
 use Rattle.std.proofs.Common.{◌≡◌, ℕ, suc, ◌+◌, ◌*◌, ◌<◌, List, [], ◌∷◌, ◌++◌, length, inl, inr, sym, ap, ◌∙◌, subst}
-use Rattle.std.proofs.Common.{arith}
+use Rattle.std.proofs.Common.{arith, zero-add, add-one}
 use Rattle.std.specs.Prelude.{slice_index_or}
 use Rattle.std.proofs.Math.Seq.{get_or-append_seam}
 use Rattle.std.proofs.lemmas.Bool.{cases_eq}
@@ -34,17 +34,14 @@ each_push {A} P count xs base x long so new a y less = elim (cases_eq a count) [
       subst (λ (z : A). P a z) (sym (get_or_append_left xs (x ∷ []) y (base + a) within)) (so a y before)
 ]
 
-no_base : (a : ℕ) → 0 + a ≡ a
-no_base a = omega arith
-
 -- the same from the first place on
 first_push : {A : Type 0} (P : ℕ → A → Type 0) (count : ℕ) (xs : List A) (x : A) → length xs ≡ count →
     ((a : ℕ) (y : A) → a < count → P a (slice_index_or xs a y)) → P count x →
     (a : ℕ) (y : A) → a < count + 1 → P a (slice_index_or (xs ++ x ∷ []) a y)
 first_push P count xs x long so new a y less =
-    subst (λ (n : ℕ). P a (slice_index_or (xs ++ x ∷ []) n y)) (no_base a)
+    subst (λ (n : ℕ). P a (slice_index_or (xs ++ x ∷ []) n y)) (zero-add a)
     (each_push P count xs 0 x (omega (arith, long))
-    (λ b z few. subst (λ (n : ℕ). P b (slice_index_or xs n z)) (sym (no_base b)) (so b z few)) new a y less)
+    (λ b z few. subst (λ (n : ℕ). P b (slice_index_or xs n z)) (sym (zero-add b)) (so b z few)) new a y less)
 
 -- one link more
 pub links_push : (count node : ℕ) (buses : List RingBus) (drivers : List RingDriver) (base : ℕ) (b : RingBus)
@@ -106,13 +103,10 @@ made_push {G} plan count starts buses after s many long same so new =
 
 -- ---- a pair as it was made
 
-next_is : (n : ℕ) → n + 1 ≡ suc n
-next_is n = omega arith
-
 numbered : (node place : ℕ) (id : LinkId) → id ≡ record { node = node; activation = place + 1 } →
     id ≡ record { node = node; activation = suc place }
 numbered node place id is =
-    subst (λ (n : ℕ). id ≡ record { node = node; activation = n }) (next_is place) is
+    subst (λ (n : ℕ). id ≡ record { node = node; activation = n }) (add-one place) is
 
 pub new_bus : (node place : ℕ) (b : RingBus) → link_of_bus b ≡ record { node = node; activation = place + 1 } →
     BusLists b nothing_yet → IsNewBus node (suc place) b

@@ -1,7 +1,8 @@
 -- What the drivers' threads begin with, and what they hand back.
-use Rattle.std.proofs.Common.{◌≡◌, ℕ, suc, ◌+◌, ◌<◌, Bool, List, [], ◌∷◌, length, sym, ap, ◌∙◌, subst}
+use Rattle.std.proofs.Common.{◌≡◌, ℕ, suc, ◌+◌, ◌<◌, Bool, List, [], ◌∷◌, length, sym, ap, ◌∙◌, subst, zero-add}
 use Rattle.std.proofs.Common.{Option, Some, None, Vec, Global, false, refl, arith}
 use Rattle.std.specs.Prelude.{All, slice_index_or}
+use Rattle.std.proofs.Math.Numerals.{suc-eq-add-one}
 use Rattle.sja_link.specs.declared.link_id.LinkId.{LinkId}
 use Rattle.lemmas.specs.Related.{EachRelated}
 use Rattle.sja_rings.specs.declared.ring_bus.RingBus.{RingBus}
@@ -24,12 +25,6 @@ use Rattle.sja_threads.specs.Inside.Started.{IsThreadStart, HandsBack, HasAnswer
 use Rattle.sja_threads.specs.Inside.Started.{IsOfScript, IsWorkedBy}
 use Rattle.sja_threads.specs.Working.{HasWorked}
 
-no_base : (a : ℕ) → 0 + a ≡ a
-no_base a = omega arith
-
-next_is : (a : ℕ) → suc a ≡ a + 1
-next_is a = omega arith
-
 module _ {G : Type 0} (plan : PlanValue) where
   -- what was made for a node is what its thread may begin with
   start_of : (node : ℕ) (s : ThreadStart G) (buses : List RingBus) → node < length plan.nodes →
@@ -47,9 +42,9 @@ module _ {G : Type 0} (plan : PlanValue) where
       numbered : NumberedFrom link_of_driver s.links.items 0 node
       numbered a d less =
           let id : LinkId = record { node = node; activation = a + 1 } in
-          subst (λ (i : ℕ). link_of_driver (slice_index_or s.links.items i d) ≡ id) (sym (no_base a))
+          subst (λ (i : ℕ). link_of_driver (slice_index_or s.links.items i d) ≡ id) (sym (zero-add a))
           ((m.links.drivers_new a d less).link
-          ∙ ap (λ (n : ℕ). record { node = node; activation = n }) (next_is a))
+          ∙ ap (λ (n : ℕ). record { node = node; activation = n }) (suc-eq-add-one a))
 
   -- the same of all
   pub all_starts : (starts : List (ThreadStart G)) (buses : List RingBus) → length starts ≡ length plan.nodes →

@@ -16,7 +16,7 @@ use Rattle.sja_driver.specs.Holding.{HoldsBy}
 use Rattle.sja_driver.specs.LoggedDrivers.{node_of, driver_of, log_of, IsLawful}
 use Rattle.sja_driver.specs.Logs.{Traces}
 use Rattle.sja_wire.specs.Buses.{BusValue}
-use Rattle.sja_wire.specs.Links.{Kept}
+use Rattle.sja_link.specs.Links.{Kept}
 use Rattle.sja_wire.specs.Wire.{journal_at}
 use Rattle.sja_threads.specs.declared.worked.Worked.{Worked}
 use Rattle.sja_threads.specs.Setting.{LeadToSettings}

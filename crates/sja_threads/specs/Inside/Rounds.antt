@@ -7,7 +7,7 @@ use Rattle.sja_link.specs.Carried.{taken_of}
 use Rattle.lemmas.specs.Related.{EachRelated}
 use Rattle.sja_rings.specs.Ends.{BusLists, SameBus, link_of_bus}
 use Rattle.sja_plan.specs.Plan.{PlanValue}
-use Rattle.sja_wire.specs.Links.{Kept, Numbered}
+use Rattle.sja_link.specs.Links.{Kept, Numbered}
 use Rattle.sja_wire.specs.Wire.{journal_at}
 use Rattle.sja_log.specs.declared.end.End.{End}
 use Rattle.sja_threads.specs.declared.bus_thread.BusThread.{BusThread}

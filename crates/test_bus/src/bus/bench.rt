@@ -88,7 +88,7 @@ impl Bench {
 
     /// Asks something of the bus, or of what is left of it.
     fn asks(&mut self, words: &[&str], name: &str, rest: &[&str]) {
-        let (alloc, told) = (self.alloc, &mut self.told);
+        let told = &mut self.told;
         match &mut self.bus {
             None => of_left(told, self.left.as_slice(), name, rest),
             Some(Begun::Driven(rig)) => match name {
@@ -105,11 +105,11 @@ impl Bench {
                 | "rounds"
                 | "sends"
                 | "severals" => of_driver(told, rig, name, rest),
-                _ => of_bus(alloc, told, &mut rig.bus, words),
+                _ => of_bus(told, &mut rig.bus, words),
             },
             Some(Begun::Lawless(bus)) => match name {
                 "shows" | "waits" | "back" | "tries" => of_end(told, bus, name, rest),
-                _ => of_bus(alloc, told, bus, words),
+                _ => of_bus(told, bus, words),
             },
         }
     }

@@ -5,7 +5,6 @@ use super::told::Told;
 use super::wired::Wired;
 use super::words::{number, small, strike_of};
 use sja_link::BusEnd;
-use std::alloc::Global;
 
 /// Does a call of a bus, and says what it answers.
 ///
@@ -16,12 +15,7 @@ use std::alloc::Global;
 /// fault; `rest`, bits until every node is at rest, and how many they are, and `settle`, the same with nothing said;
 /// `rests`, whether every node is at rest; `started 1`, whether a start of this node was taken; and `strike 1/60/1/1`,
 /// whether a strike more is taken. Others are of [`of_looks`].
-pub fn of_bus<E: BusEnd + Drop>(
-    alloc: Global,
-    told: &mut Told,
-    bus: &mut Wired<E>,
-    words: &[&str],
-) {
+pub fn of_bus<E: BusEnd + Drop>(told: &mut Told, bus: &mut Wired<E>, words: &[&str]) {
     match words {
         ["gather"] => told.done(bus.gather()),
         ["bit"] => told.done(bus.bit()),
@@ -36,7 +30,7 @@ pub fn of_bus<E: BusEnd + Drop>(
             None => told.unread(),
         },
         ["strike", row] => match strike_of(row) {
-            Some(strike) => told.said(bus.strike(alloc, strike)),
+            Some(strike) => told.said(bus.strike(strike)),
             None => told.unread(),
         },
         [

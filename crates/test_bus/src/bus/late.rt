@@ -11,7 +11,7 @@ use std::alloc::Global;
 pub fn leaves_the_same(alloc: Global, after: &str, row: &str) -> Option<bool> {
     let (after, strike) = (number(after)?, strike_of(row)?);
     let mut late = asked(alloc, 200, &[])?;
-    let struck = is_struck_late(alloc, &mut late, after, strike);
+    let struck = is_struck_late(&mut late, after, strike);
     let left = late.finish();
     let mut early = asked(alloc, 200, &[row])?;
     let rested = comes_to_rest(&mut early);
@@ -19,8 +19,8 @@ pub fn leaves_the_same(alloc: Global, after: &str, row: &str) -> Option<bool> {
 }
 
 /// Whether a bus takes a strike after so many bits, and comes to rest.
-fn is_struck_late(alloc: Global, rig: &mut Rig, after: u32, strike: Strike) -> bool {
-    rig.bus.bits(after) == Some(Ok(())) && rig.bus.strike(alloc, strike) && comes_to_rest(rig)
+fn is_struck_late(rig: &mut Rig, after: u32, strike: Strike) -> bool {
+    rig.bus.bits(after) == Some(Ok(())) && rig.bus.strike(strike) && comes_to_rest(rig)
 }
 
 /// Whether a bus comes to rest.

@@ -129,11 +129,11 @@ impl<E: BusEnd + Drop> Wired<E> {
     }
 
     /// Takes a strike more; whether it was taken, which it isn't where its bit has run.
-    pub fn strike(&mut self, alloc: Global, strike: Strike) -> bool {
+    pub fn strike(&mut self, strike: Strike) -> bool {
         if strike.bit < self.bus.bits_run() {
             return false;
         }
-        match self.bus.strike(alloc, strike) {
+        match self.bus.strike(strike) {
             Ok(()) => true,
             Err(_) => false,
         }

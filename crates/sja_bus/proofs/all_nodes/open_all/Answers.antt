@@ -2,17 +2,17 @@ use Rattle.std.proofs.Common.{◌≡◌, ℕ, ◌<◌, ◌≤◌, ◌+◌, lengt
 use Rattle.std.specs.Prelude.{◌⊎◌, Err, slice_index_or, slice_set}
 use Rattle.sja_link.specs.BusLedgers.{link_of}
 use Rattle.lemmas.proofs.Related.{each_trans}
-use Rattle.sja_wire.specs.Links.{Goes}
+use Rattle.sja_link.specs.Links.{Goes}
 use Rattle.sja_wire.specs.Reasons.{RefusesItem}
 use Rattle.sja_bus.specs.Inside.Taking.{FullForAbort}
 use Rattle.sja_bus.specs.Inside.Rows.{SeatOpens, SeatOpensUntold}
 use Rattle.sja_bus.specs.Inside.Refusing.{SeatRefuses, SeatFull}
 use Rattle.sja_bus.proofs.AllNodes.Many.{done_all}
 use Rattle.sja_bus.proofs.AllNodes.Rows.{has_links, taken_none, taken_one}
-use Rattle.sja_bus.proofs.Resting.Rests.{earlier_or_now}
 use Rattle.sja_bus.proofs.ItemsTaken.Refusing.{refuses_seat}
 use Rattle.sja_bus.proofs.ItemsTaken.BreakingSeats.{full_seat}
 use Rattle.lemmas.proofs.Results.{err_is}
+use Rattle.lemmas.proofs.Numbers.{earlier_or_last}
 use Rattle.sja_bus.proofs.all_nodes.open_all.Goals as goal
 
 pub loop-k-init : goal.loop-k-init
@@ -53,7 +53,7 @@ loop-k-preserved g c =
       taken = taken_one E.same E.stands E.dry g.met.E.BusEnd.same_trans O SeatOpensUntold c.args.seats.now
           c.loop-k.seats c.args.links.now c.loop-k.links c.open_bit.new.links k s new here c.loop-k.auto.seats did.stays
           did.ready goes dry opens did.untold c.loop-k.invariant.taken;
-      facts = λ m less. elim (earlier_or_now m k less) [
+      facts = λ m less. elim (earlier_or_last m k less) [
         | inl before ↦ c.loop-k.invariant.facts m before
         | inr now ↦ subst F (sym now) fact
       ];

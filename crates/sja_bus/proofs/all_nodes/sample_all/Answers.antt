@@ -7,14 +7,15 @@ use Rattle.sja_link.specs.BusLedgers.{link_of}
 use Rattle.lemmas.specs.Related.{EachRelated}
 use Rattle.sja_bus.specs.declared.seat.Seat.{Seat}
 use Rattle.sja_wire.specs.Wire.{wired}
-use Rattle.sja_wire.specs.Links.{Goes}
+use Rattle.sja_link.specs.Links.{Goes}
 use Rattle.sja_bus.specs.UntilTold.HasBitsMore.{none}
 use Rattle.sja_bus.specs.Inside.Rows.{SeatHasBits, SeatTurns, seen_by, driven_by}
 use Rattle.sja_bus.specs.Inside.Refusing.{SeatBreaks}
+use Rattle.sja_bus.specs.Inside.RunningOn.{SomeTold}
 use Rattle.sja_bus.specs.Inside.Underway.{IsUnderway}
 use Rattle.sja_bus.proofs.AllNodes.Levels.{level_now}
 use Rattle.sja_bus.proofs.AllNodes.Many.{done_all, done_none, done_one}
-use Rattle.sja_wire.proofs.Moving.{goes_quiet}
+use Rattle.sja_link.proofs.Growing.Moving.{goes_quiet}
 use Rattle.sja_bus.proofs.ItemsTaken.Refusing.{free_one}
 use Rattle.sja_bus.proofs.AllNodes.Running.{seen_is}
 use Rattle.sja_bus.proofs.AtPorts.TurnsTold.{quiet_turns}
@@ -104,11 +105,12 @@ row_so_far g c happens =
     c.loop-k.seats (slice_set c.loop-k.seats k c.sample_quietly.new.self) c.args.links.now c.loop-k.links
     c.args.board.now c.loop-k.board k same inv.links inv.board inv.row
 
-pub sample_from-requires : goal.sample_from-requires
-sample_from-requires g c =
-    let B = g.B.Board in let inv = c.loop-k.invariant in
-    let row = row_so_far g (goal.at.sample_from-requires g c).After-sample_quietly (search rules) in
-    let h = c.requires.seated in
+pub tell_from-requires : goal.tell_from-requires
+tell_from-requires g c =
+    let B = g.B.Board in let inv = c.loop-k.invariant in let k = c.loop-k.k in
+    let row = row_so_far g (goal.at.tell_from-requires g c).After-sample_quietly (search rules) in
+    let h = c.requires.seated in let set = length-set c.loop-k.seats k c.sample_quietly.new.self in
+    let here : k < length c.loop-k.seats = search rules in let was : k < length c.args.seats.now = search rules in
     let seats = c.loop-k.auto.seats in let links = c.loop-k.auto.links in let few = h.few in let count = h.count in
     let ports = h.ports in let p = ap B.ports inv.board in record {
       seated = record {
@@ -118,6 +120,8 @@ sample_from-requires g c =
         ready = row.ready;
         ports = omega (arith, ports, seats, p);
       };
+      few = omega (arith, here, set);
+      told = λ s. ap (λ (x : Seat). x.untold) ((row.done k s was).1 (omega arith)) ∙ c.requires.told k s was;
     }
 
 pub returns-clause-sames : goal.returns-clause-sames
@@ -165,60 +169,65 @@ returns-clause-quiet g c = λ untold.
 
 pub returns-then-not-sample_quietly-clause-sames : goal.returns-then-not-sample_quietly-clause-sames
 returns-then-not-sample_quietly-clause-sames g c =
-    subst (λ x. EachRelated g.E.BusEnd.same x c.sample_from.new.links) c.loop-k.invariant.links
-    c.sample_from.ensures.sames
+    subst (λ x. EachRelated g.E.BusEnd.same x c.tell_from.new.links) c.loop-k.invariant.links
+    c.tell_from.ensures.sames
 
 pub returns-then-not-sample_quietly-clause-board : goal.returns-then-not-sample_quietly-clause-board
 returns-then-not-sample_quietly-clause-board g c =
     let b = c.loop-k.invariant.board in let few = c.loop-k.auto.seats in let set =
     length-set c.loop-k.seats c.loop-k.k c.sample_quietly.new.self in
-    rw (sym b) (c.sample_from.ensures.board.0, λ m far. c.sample_from.ensures.board.1 m (omega (arith, far, few, set)))
+    rw (sym b) (c.tell_from.ensures.board.0, λ m far. c.tell_from.ensures.board.1 m (omega (arith, far, few, set)))
 
 pub returns-then-not-sample_quietly-clause-ready : goal.returns-then-not-sample_quietly-clause-ready
 returns-then-not-sample_quietly-clause-ready g c =
     let at = (goal.at.returns-then-not-sample_quietly-clause-ready g c).After-sample_quietly in
-    (c.in_ok-sample_from.ensures.row c.args.seats.now c.args.links.now c.args.board.now
+    (c.in_ok-tell_from.ensures.row c.args.seats.now c.args.links.now c.args.board.now
     (row_so_far g at (search rules))).2.ready
 
 pub returns-then-not-sample_quietly-clause-goes : goal.returns-then-not-sample_quietly-clause-goes
 returns-then-not-sample_quietly-clause-goes g c =
     let at = (goal.at.returns-then-not-sample_quietly-clause-goes g c).After-sample_quietly in
-    (c.in_ok-sample_from.ensures.row c.args.seats.now c.args.links.now c.args.board.now
+    (c.in_ok-tell_from.ensures.row c.args.seats.now c.args.links.now c.args.board.now
     (row_so_far g at (search rules))).2.goes
 
 pub returns-then-not-sample_quietly-clause-rooms : goal.returns-then-not-sample_quietly-clause-rooms
 returns-then-not-sample_quietly-clause-rooms g c =
     let at = (goal.at.returns-then-not-sample_quietly-clause-rooms g c).After-sample_quietly in
-    (c.in_ok-sample_from.ensures.row c.args.seats.now c.args.links.now c.args.board.now
+    (c.in_ok-tell_from.ensures.row c.args.seats.now c.args.links.now c.args.board.now
     (row_so_far g at (search rules))).2.rooms
 
 pub returns-then-not-sample_quietly-clause-turns : goal.returns-then-not-sample_quietly-clause-turns
 returns-then-not-sample_quietly-clause-turns g c =
     let B = g.B.Board in let at = (goal.at.returns-then-not-sample_quietly-clause-turns g c).After-sample_quietly in
     let row = row_so_far g at (search rules) in
-    let did = c.in_ok-sample_from.ensures.row c.args.seats.now c.args.links.now c.args.board.now row in
+    let did = c.in_ok-tell_from.ensures.row c.args.seats.now c.args.links.now c.args.board.now row in
     let u = did.2 in let all = did.1 in let count = u.count in
-    done_all (SeatTurns (B.told c.args.board.now c.sample_from.new.board)
-    (B.kept c.args.board.now c.sample_from.new.board) c.args.struck c.args.level) did.0 c.args.seats.now
-    c.sample_from.new.seats (omega (arith, all, count)) u.done
+    done_all (SeatTurns (B.told c.args.board.now c.tell_from.new.board)
+    (B.kept c.args.board.now c.tell_from.new.board) c.args.struck c.args.level) did.0 c.args.seats.now
+    c.tell_from.new.seats (omega (arith, all, count)) u.done
 
-pub returns-in_err-sample_from-clause-sames : goal.returns-in_err-sample_from-clause-sames
-returns-in_err-sample_from-clause-sames g c =
-    subst (λ x. EachRelated g.E.BusEnd.same x c.sample_from.new.links) c.loop-k.invariant.links
-    c.sample_from.ensures.sames
+pub returns-then-not-sample_quietly-clause-told : goal.returns-then-not-sample_quietly-clause-told
+returns-then-not-sample_quietly-clause-told g c = λ yes.
+    let P : _ → Type 0 = λ b. SomeTold (g.B.Board.told b c.tell_from.new.board) c.tell_from.new.seats in
+    subst P c.loop-k.invariant.board c.in_ok-tell_from.ensures.told
 
-pub returns-in_err-sample_from-clause-board : goal.returns-in_err-sample_from-clause-board
-returns-in_err-sample_from-clause-board g c =
+pub returns-in_err-tell_from-clause-sames : goal.returns-in_err-tell_from-clause-sames
+returns-in_err-tell_from-clause-sames g c =
+    subst (λ x. EachRelated g.E.BusEnd.same x c.tell_from.new.links) c.loop-k.invariant.links
+    c.tell_from.ensures.sames
+
+pub returns-in_err-tell_from-clause-board : goal.returns-in_err-tell_from-clause-board
+returns-in_err-tell_from-clause-board g c =
     let b = c.loop-k.invariant.board in let few = c.loop-k.auto.seats in let set =
     length-set c.loop-k.seats c.loop-k.k c.sample_quietly.new.self in
-    rw (sym b) (c.sample_from.ensures.board.0, λ m far. c.sample_from.ensures.board.1 m (omega (arith, far, few, set)))
+    rw (sym b) (c.tell_from.ensures.board.0, λ m far. c.tell_from.ensures.board.1 m (omega (arith, far, few, set)))
 
-pub returns-in_err-sample_from-clause-broken : goal.returns-in_err-sample_from-clause-broken
-returns-in_err-sample_from-clause-broken g c =
+pub returns-in_err-tell_from-clause-broken : goal.returns-in_err-tell_from-clause-broken
+returns-in_err-tell_from-clause-broken g c =
     let E = g.E.BusEnd in
-    let row = row_so_far g (goal.at.returns-in_err-sample_from-clause-broken g c).After-sample_quietly (search rules) in
-    let f = c.in_err-sample_from.field-0.0 in
+    let row = row_so_far g (goal.at.returns-in_err-tell_from-clause-broken g c).After-sample_quietly (search rules) in
+    let f = c.in_err-tell_from.field-0.0 in
     let is : c.from_residual.result ≡ Err f = search rules in
-    let P : _ → Type 0 = λ x. SeatBreaks E.stands E.full c.args.seats.now c.sample_from.new.seats c.args.links.now x in
-    err_is P c.from_residual.result f is (c.in_err-sample_from.ensures.broken c.args.seats.now
+    let P : _ → Type 0 = λ x. SeatBreaks E.stands E.full c.args.seats.now c.tell_from.new.seats c.args.links.now x in
+    err_is P c.from_residual.result f is (c.in_err-tell_from.ensures.broken c.args.seats.now
     c.args.links.now c.args.board.now row)

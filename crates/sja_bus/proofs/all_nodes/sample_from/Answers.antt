@@ -1,7 +1,8 @@
-use Rattle.std.proofs.Common.{◌≡◌, ◌<◌, ℕ, length, rules, arith, refl, ◌∙◌, subst}
+use Rattle.std.proofs.Common.{◌≡◌, ◌<◌, ◌≤◌, ℕ, length, rules, arith, refl, ◌∙◌, subst}
 use Rattle.std.specs.Prelude.{Err, slice_set, slice_index_or}
+use Rattle.std.proofs.lemmas.List.{get_or-set_other as set_else}
 use Rattle.sja_link.specs.BusLedgers.{link_of}
-use Rattle.sja_wire.specs.Links.{Goes}
+use Rattle.sja_link.specs.Links.{Goes}
 use Rattle.sja_wire.specs.Reasons.{IsBrokenFor}
 use Rattle.sja_bus.specs.Inside.Rows.{SeatTurns, seen_by}
 use Rattle.sja_bus.specs.Inside.Refusing.{SeatBreaks}
@@ -20,6 +21,7 @@ loop-k-init g c = record {
   sames = each_refl g.E.BusEnd.same g.met.E.BusEnd.same_refl c.args.links.now;
   ports = refl;
   others = λ m far. g.met.B.Board.kept_refl c.args.board.now m;
+  before = λ m low. (g.met.B.Board.kept_refl c.args.board.now m, λ s. refl);
   row = λ before given was u. u;
 }
 
@@ -53,6 +55,11 @@ loop-k-preserved g c =
       ports = did.ports ∙ c.loop-k.invariant.ports;
       others = λ m l. met.kept_trans a b z m (c.loop-k.invariant.others m l)
           (did.others m (λ e. omega (arith, e, n, l, was)));
+      before = λ m low.
+          let was = c.loop-k.invariant.before m low in let from : c.args.first ≤ k = search rules in (
+            met.kept_trans a b z m was.0 (did.others m (λ e. omega (arith, e, n, low, from))),
+            λ s. set_else c.loop-k.seats k m c.sample.new.self s (λ e. omega (arith, e, low, from)) ∙ was.1 s,
+          );
       row = λ before given then u.
           underway_one E.same E.stands g.met.E.BusEnd.same_trans B.ports B.told B.kept met.kept_trans met.told_first
           met.told_last c.args.struck c.args.level c.seen-sees.result before c.loop-k.seats
@@ -85,6 +92,9 @@ returns-in_err-sample-clause-board g c =
 
 pub returns-clause-board : goal.returns-clause-board
 returns-clause-board g c = (c.loop-k.invariant.ports, c.loop-k.invariant.others)
+
+pub returns-clause-before : goal.returns-clause-before
+returns-clause-before g c = c.loop-k.invariant.before
 
 pub returns-clause-row : goal.returns-clause-row
 returns-clause-row g c = λ before given was u. (c.loop-k.k, search rules, c.loop-k.invariant.row before given was u)

@@ -1,4 +1,5 @@
-use Rattle.std.proofs.Common.{◌≡◌, ℕ, ◌≤◌, List, length}
+use Rattle.std.proofs.Common.{◌≡◌, ℕ, ◌<◌, ◌≤◌, List, length}
+use Rattle.std.specs.Prelude.{slice_index_or}
 use Rattle.lemmas.specs.Related.{EachRelated}
 use Rattle.sja_bus.specs.declared.seat.Seat.{Seat}
 use Rattle.sja_bus.specs.Inside.Rows.{AreReady}
@@ -12,6 +13,8 @@ invariant-loop-k g l = record {
   sames : EachRelated g.E.BusEnd.same l.initial.links l.links;
   ports : g.B.Board.ports l.board ≡ g.B.Board.ports l.initial.board;
   others : (m : ℕ) → length l.initial.seats ≤ m → g.B.Board.kept l.initial.board l.board m;
+  before : (m : ℕ) → m < l.first → g.B.Board.kept l.initial.board l.board m
+      × ((s : Seat) → slice_index_or l.seats m s ≡ slice_index_or l.initial.seats m s);
   row : (before : List Seat) (given : List g.row.E.Denot) (was : g.row.B.Denot) →
       IsUnderway g.E.BusEnd.same g.E.BusEnd.stands g.B.Board.ports g.B.Board.told g.B.Board.kept l.struck l.level before
       given was l.first l.initial.seats l.initial.links l.initial.board →

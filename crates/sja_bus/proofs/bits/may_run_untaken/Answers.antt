@@ -1,7 +1,7 @@
 use Rattle.std.proofs.Common.{◌≡◌, ℕ, ◌<◌, false, length, rules, sym, ap, subst, ◌∙◌, inl, inr}
+use Rattle.lemmas.proofs.Numbers.{earlier_or_last}
 use Rattle.sja_link.specs.BusLedgers.{link_of}
 use Rattle.sja_bus.specs.declared.seat.Seat.{Seat}
-use Rattle.sja_bus.proofs.Resting.Rests.{earlier_or_now}
 use Rattle.sja_bus.proofs.bits.may_run_untaken.Goals as goal
 
 pub loop-k-preserved : goal.loop-k-preserved
@@ -17,11 +17,11 @@ loop-k-preserved g c =
     let fact : F k = subst F node c.orders.ensures.facts in
     let none : c.orders.result.abort ≡ false = search rules in
     record {
-      orders = λ m h. elim (earlier_or_now m k h) [
+      orders = λ m h. elim (earlier_or_last m k h) [
         | inl before ↦ c.loop-k.invariant.orders m before
         | inr now ↦ (c.orders.result, subst O (sym now) asked, none)
       ];
-      facts = λ m h. elim (earlier_or_now m k h) [
+      facts = λ m h. elim (earlier_or_last m k h) [
         | inl before ↦ c.loop-k.invariant.facts m before
         | inr now ↦ subst F (sym now) fact
       ];

@@ -2,9 +2,9 @@ use Rattle.std.proofs.Common.{◌≡◌, ℕ, ◌-◌, ◌<◌, ◌≤◌, lengt
 use Rattle.std.specs.Prelude.{◌⊎◌, slice_index_or}
 use Rattle.std.proofs.lemmas.Bool.{cases_lt}
 use Rattle.std.proofs.lemmas.List.{get_or_default as or_same}
+use Rattle.lemmas.proofs.Numbers.{earlier_or_last}
 use Rattle.sja_bus.specs.declared.seat.Seat.{Seat}
 use Rattle.sja_bus.specs.Inside.RunningOn.{SomeFull}
-use Rattle.sja_bus.proofs.Resting.Rests.{earlier_or_now}
 use Rattle.sja_bus.proofs.bits.room_of.Goals as goal
 
 pub loop-k-preserved : goal.loop-k-preserved
@@ -25,7 +25,7 @@ loop-k-preserved c =
         | inr enough ↦ let free : c.min-free.result ≡ c.loop-k.free = omega (arith, less, enough) in
             let Q : ℕ → Type 0 = λ n. (n ≡ c.args.most) ⊎ SomeFull n c.args.seats.now in subst Q (sym free) inv.least
       ];
-      free = λ m s before few. elim (earlier_or_now m k before) [
+      free = λ m s before few. elim (earlier_or_last m k before) [
         | inl earlier ↦ let room = inv.free m s earlier few in omega (arith, room, less)
         | inr now ↦
             let P : Seat → Type 0 = λ x. c.min-free.result ≤ x.journal.room - length x.journal.entries in

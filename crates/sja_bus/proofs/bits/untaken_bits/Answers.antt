@@ -12,11 +12,12 @@ use Rattle.sja_bus.specs.StrikesByBit.{IsAmong}
 use Rattle.sja_bus.specs.Inside.Refusing.{AreFree}
 use Rattle.sja_bus.specs.Inside.Rows.{AreTold, IsBus, driven_by}
 use Rattle.sja_bus.specs.UntilTold.{WorksUntold}
-use Rattle.sja_bus.specs.Inside.RunningOn.{moment_of, AllAtRest, AnyBit, RowsRun, SomeFull}
+use Rattle.sja_bus.specs.Inside.RunningOn.{moment_of, AnyBit, RowsRun, SomeFull, SomeTold}
 use Rattle.sja_bus.proofs.AllNodes.Many.{numbered_kept}
 use Rattle.sja_bus.proofs.AllNodes.RunningOn.{passes, none_still}
 use Rattle.sja_bus.proofs.AllNodes.BitAfterBit.{facts_of_bit, some_work, none_yet, bits_on, stops_on}
 use Rattle.sja_bus.proofs.AllNodes.UntilTold.{none_told, seats_then}
+use Rattle.sja_bus.proofs.OneReader.Ending.{ends_full, ends_held, full_on, none_first}
 use Rattle.sja_bus.proofs.OneReader.QuietRows.{free_after, have_room_after, none_run, part_at, part_left}
 use Rattle.sja_bus.proofs.OneReader.QuietRows.{rooms_after, rows_on, told_after}
 use Rattle.sja_bus.proofs.Resting.Unstruck.{none_more, none_now}
@@ -91,6 +92,11 @@ loop-run-init g c =
       unstruck = λ i node low few strikes. absurd (omega (arith, low));
       free = λ k s here. let room = c.room_of.ensures.free k s here in let count = c.part-marks.ensures.count in
           omega (arith, room, count);
+      used = let count = c.part-marks.ensures.count in elim c.room_of.ensures.least [
+        | inl all ↦ inl (omega (arith, all, count))
+        | inr full ↦ let is : c.room_of.result ≡ length c.part-marks.result.now - 0 = omega (arith, count) in
+            let F : ℕ → Type 0 = λ n. SomeFull n c.args.seats.now in inr (subst F is full)
+      ];
       more = λ k s here. none;
       bits = λ steps left enough. none_yet (AnyBit E B) (WorksUntold c.args.to_rest
           (moment_of script steps c.args.from left c.args.seats.now c.args.links.now c.args.board.now)) script steps
@@ -199,6 +205,8 @@ loop-run-preserved g c =
           inv.sames c.sample_all.ensures.sames;
       rooms = λ r h. have_room_after one now n stay r (c.in-Ok.ensures.rooms r (inv.rooms r h));
       free = subst F rest (free_after one now n (length marks - (run + 1)) stay (free_now g at untold));
+      used = full_on c.none.result c.loop-run.level c.args.to_rest c.loop-run.seats one n now c.args.most
+          (length marks) run size c.in-Ok.ensures.turns c.in-Ok.ensures.rooms rows inv.used;
       fresh = λ zero. absurd (omega (arith, zero));
       unstruck = none_more script from (run + 1) n more.unstruck unstruck;
       more = far.more;
@@ -235,25 +243,39 @@ returns-in-Err-clause-breaks g c = λ steps left later enough rooms journals run
       left_so_far = left_is;
     }
 
+-- ---- why they ended
+
+pub returns-after-loop-run-clause-ends : goal.returns-after-loop-run-clause-ends
+returns-after-loop-run-clause-ends g c =
+    let past = c.loop-run-test.false in let within = c.loop-run.invariant.within in
+    inl (ends_full c.args.to_rest c.args.struck.now.script c.args.from c.args.most (length c.part-marks.result.now)
+    c.loop-run.run c.loop-run.seats c.loop-run.invariant.used (omega (arith, past, within)))
+
 pub returns-after-loop-run-clause-none : goal.returns-after-loop-run-clause-none
 returns-after-loop-run-clause-none g c = λ none.
-    let past = c.loop-run-test.false in let count = c.part-marks.ensures.count in
-    let zero : c.room_of.result ≡ 0 = omega (arith, none, past, count) in elim c.room_of.ensures.least [
-      | inl all ↦ inl (omega (arith, all, zero))
-      | inr full ↦ let P : ℕ → Type 0 = λ n. SomeFull n c.args.seats.now in inr (inl (subst P zero full))
-    ]
+    let past = c.loop-run-test.false in let within = c.loop-run.invariant.within in
+    let script = c.args.struck.now.script in
+    none_first c.args.to_rest script c.args.from c.args.most c.loop-run.run c.loop-run.seats c.args.seats.now none
+    (c.loop-run.invariant.fresh none)
+    (ends_full c.args.to_rest script c.args.from c.args.most (length c.part-marks.result.now) c.loop-run.run
+    c.loop-run.seats c.loop-run.invariant.used (omega (arith, past, within)))
+
+pub returns-else-goes_on-clause-ends : goal.returns-else-goes_on-clause-ends
+returns-else-goes_on-clause-ends g c =
+    inl (ends_held c.args.to_rest c.args.struck.now.script c.args.from c.args.most c.loop-run.run c.loop-run.seats _
+    (λ node few. (c.part-marks.ensures.struck c.loop-run.run node _ c.loop-run-test.true few).0)
+    (c.goes_on.ensures.no c.if-goes_on.false))
 
 pub returns-else-goes_on-clause-none : goal.returns-else-goes_on-clause-none
 returns-else-goes_on-clause-none g c = λ none.
-    let at : c.args.from + c.loop-run.run ≡ c.args.from = omega (arith, none) in
-    elim (c.goes_on.ensures.no c.if-goes_on.false) [
-      | inl hit ↦ let P : ℕ → Type 0 = λ n. Strikes c.args.struck.now.script n hit.0 in
-          inr (inr (inl (
-            hit.0,
-            hit.1,
-            subst P at
-                ((c.part-marks.ensures.struck c.loop-run.run hit.0 _ c.loop-run-test.true hit.1).0 hit.2),
-          )))
-      | inr all ↦ let P : List Seat → Type 0 = λ l. AllAtRest l in
-          inr (inr (inr (all.0, subst P (c.loop-run.invariant.fresh none) all.1)))
-    ]
+    let script = c.args.struck.now.script in
+    none_first c.args.to_rest script c.args.from c.args.most c.loop-run.run c.loop-run.seats c.args.seats.now none
+    (c.loop-run.invariant.fresh none)
+    (ends_held c.args.to_rest script c.args.from c.args.most c.loop-run.run c.loop-run.seats _
+    (λ node few. (c.part-marks.ensures.struck c.loop-run.run node _ c.loop-run-test.true few).0)
+    (c.goes_on.ensures.no c.if-goes_on.false))
+
+pub returns-then-end-clause-ends : goal.returns-then-end-clause-ends
+returns-then-end-clause-ends g c =
+    let P : _ → Type 0 = λ b. SomeTold (g.B.Board.told b c.sample_all.new.board) c.sample_all.new.seats in
+    inr (subst P c.loop-run.invariant.board (c.in-Ok.ensures.told c.if-end.true))

@@ -1,4 +1,5 @@
 use Rattle.std.proofs.Common.{◌≡◌, ℕ, ◌+◌, ◌-◌, ◌<◌, ◌≤◌, List, length}
+use Rattle.std.specs.Prelude.{◌⊎◌}
 use Rattle.sja_script.specs.Striking.{Strikes}
 use Rattle.lemmas.specs.Related.{EachRelated}
 use Rattle.sja_bus.specs.Several.{AreBits}
@@ -6,7 +7,7 @@ use Rattle.sja_wire.specs.Wire.{wired}
 use Rattle.sja_bus.specs.Inside.Refusing.{HaveRoom, AreFree}
 use Rattle.sja_bus.specs.Inside.Rows.{AreTold, EachSeat, IsBus, SeatHasBits, driven_by}
 use Rattle.sja_bus.specs.UntilTold.{WorksUntold}
-use Rattle.sja_bus.specs.Inside.RunningOn.{moment_of, AnyBit}
+use Rattle.sja_bus.specs.Inside.RunningOn.{moment_of, AnyBit, SomeFull}
 use Rattle.sja_bus.proofs.bits.untaken_bits.Given as goal
 
 -- the bits so far, in none of which a port was told anything
@@ -22,6 +23,7 @@ invariant-loop-run g l = record {
   fresh : l.run ≡ 0 → l.seats ≡ l.initial.seats;
   unstruck : (i node : ℕ) → i < l.run → node < 8 → Strikes l.struck.script (l.from + i) node → ⊥;
   free : AreFree (length l.marks - l.run) l.seats;
+  used : (l.most ≡ length l.marks) ⊎ SomeFull (length l.marks - l.run) l.seats;
   more : EachSeat SeatHasBits l.initial.seats l.seats;
   bits : (steps : List ℕ) (left : ℕ) → l.most ≤ left →
       AreBits (AnyBit g.E.BusEnd g.B.Board) (WorksUntold l.to_rest

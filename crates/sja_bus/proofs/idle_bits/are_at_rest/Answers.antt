@@ -1,9 +1,9 @@
 use Rattle.std.proofs.Common.{◌≡◌, ℕ, ◌<◌, Bool, true, false, length, rules, arith, sym, subst, inl, inr}
 use Rattle.std.specs.Prelude.{slice_index_or}
 use Rattle.std.proofs.lemmas.List.{get_or_default as or_same}
+use Rattle.lemmas.proofs.Numbers.{earlier_or_last}
 use Rattle.can_node.specs.Stands.{ShowsRest}
 use Rattle.sja_bus.specs.declared.seat.Seat.{Seat}
-use Rattle.sja_bus.proofs.Resting.Rests.{earlier_or_now}
 use Rattle.sja_bus.proofs.idle_bits.are_at_rest.Goals as goal
 
 pub returns-then-not-at_rest-clause-busy : goal.returns-then-not-at_rest-clause-busy
@@ -23,7 +23,7 @@ loop-k-preserved c =
     let is : c.at_rest.result ≡ true = search rules in
     let shows : ShowsRest here.node true = subst (λ (b : Bool). ShowsRest here.node b) is c.at_rest.ensures in
     record {
-      rest = λ m s h. elim (earlier_or_now m k h) [
+      rest = λ m s h. elim (earlier_or_last m k h) [
         | inl before ↦ c.loop-k.invariant.rest m s before
         | inr now ↦ subst (λ (n : ℕ). ShowsRest (slice_index_or seats n s).node true) (sym now)
             (subst (λ (x : Seat). ShowsRest x.node true) (or_same seats k c.index-seats-k.result s few) shows)

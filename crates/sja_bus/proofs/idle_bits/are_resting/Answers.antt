@@ -1,9 +1,9 @@
 use Rattle.std.proofs.Common.{◌≡◌, ℕ, ◌<◌, true, false, length, rules, sym, subst, inl, inr}
 use Rattle.std.specs.Prelude.{slice_index_or}
 use Rattle.std.proofs.lemmas.List.{get_or_default as or_same}
+use Rattle.lemmas.proofs.Numbers.{earlier_or_last}
 use Rattle.sja_bus.specs.declared.seat.Seat.{Seat}
 use Rattle.sja_bus.specs.Inside.Idling.{IsResting, IsAwake}
-use Rattle.sja_bus.proofs.Resting.Rests.{earlier_or_now}
 use Rattle.sja_bus.proofs.idle_bits.are_resting.Goals as goal
 
 pub loop-k-preserved : goal.loop-k-preserved
@@ -13,7 +13,7 @@ loop-k-preserved c =
     let here : Seat = slice_index_or seats k d in
     let is : c.is_resting.result ≡ true = search rules in
     let rests : IsResting here = subst (λ (x : Seat). IsResting x) c.index-seats-k.is (c.is_resting.ensures.yes is) in
-    λ m s h. elim (earlier_or_now m k h) [
+    λ m s h. elim (earlier_or_last m k h) [
       | inl before ↦ c.loop-k.invariant m s before
       | inr now ↦ subst (λ (n : ℕ). IsResting (slice_index_or seats n s)) (sym now)
           (subst (λ (x : Seat). IsResting x) (or_same seats k d s few) rests)

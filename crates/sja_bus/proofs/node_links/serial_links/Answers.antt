@@ -1,6 +1,6 @@
 use Rattle.std.proofs.Common.{◌≡◌, ◌/◌, ◌%◌, ◌+◌, ◌∙◌, List, suc, rules, subst, sym}
 use Rattle.sja_link.specs.Deques.{Deques}
-use Rattle.sja_bus.specs.NewLinks.{new_link}
+use Rattle.sja_link.specs.NewLinks.{new_link}
 use Rattle.sja_bus.proofs.Links.Linking.{AreLinked, is_new, linked_more}
 use Rattle.sja_bus.proofs.node_links.serial_links.Goals as goal
 

@@ -1,11 +1,11 @@
 use Rattle.std.proofs.Common.{◌≡◌, ◌<◌, ◌≤◌, ℕ, length, rules, arith, sym, ap, ◌∙◌, subst, inl, inr}
 use Rattle.std.specs.Prelude.{slice_index_or}
 use Rattle.std.proofs.lemmas.List.{get_or_default as or_same}
+use Rattle.lemmas.proofs.Numbers.{earlier_or_last}
 use Rattle.can_node.specs.declared.node.Node.{Node}
 use Rattle.can_node.specs.Together.{GoesWith}
 use Rattle.can_node.specs.Together.GoesWith.{receives, sends}
 use Rattle.sja_bus.specs.declared.seat.Seat.{Seat}
-use Rattle.sja_bus.proofs.Resting.Rests.{earlier_or_now}
 use Rattle.sja_bus.proofs.together.others_go.Goals.{then-k-lead+else-most-eq0, else-k-lead}
 use Rattle.sja_bus.proofs.together.others_go.Goals as goal
 
@@ -28,7 +28,7 @@ loop-k-preserved c = record {
       λ few before. fewer from now c.if-k-lead.most c.loop-k.most few (c.loop-k.invariant.go m s t before other) in
       elim c.if-k-lead.branch [
         | then-k-lead+else-most-eq0 w ↦
-            let most = w.min-most.ensures in let is = w.most-is in elim (earlier_or_now m k low) [
+            let most = w.min-most.ensures in let is = w.most-is in elim (earlier_or_last m k low) [
               | inl before ↦ less (omega (arith, most, is)) before
               | inr here ↦
                   let few : k < length seats = search rules in
@@ -42,7 +42,7 @@ loop-k-preserved c = record {
                   (fewer (slice_index_or seats lead a).node (slice_index_or seats k b).node c.if-k-lead.most
                   w.goes_with.result (omega (arith, most, is)) (w.goes_with.ensures.goes some)))
             ]
-        | else-k-lead w ↦ let is = w.most-is in elim (earlier_or_now m k low) [
+        | else-k-lead w ↦ let is = w.most-is in elim (earlier_or_last m k low) [
           | inl before ↦ less (omega (arith, is)) before
           | inr here ↦ absurd (other (here ∙ w.if-k-lead.false))
         ]

@@ -4,7 +4,7 @@ use Rattle.std.specs.Prelude.{vec_capacity}
 use Rattle.lemmas.proofs.Related.{each_refl}
 use Rattle.sja_bus.specs.declared.seat.Seat.{Seat}
 use Rattle.sja_wire.specs.Lawful.{IsBusRun}
-use Rattle.sja_wire.specs.OneBit.{MayHaveItems}
+use Rattle.sja_link.specs.BitEntries.{MayHaveItems}
 use Rattle.sja_wire.specs.Buses.{BusValue, EachJournal, EachUntold, AllDry}
 use Rattle.sja_bus.specs.Inside.Rows.{journals_of, untold_of, EachSeat, SeatTakes, SeatUntold}
 use Rattle.sja_bus.specs.Inside.Whole.{IsWhole}

@@ -1,11 +1,11 @@
 use Rattle.std.proofs.Common.{◌≡◌, ◌≢◌, ap, ◌+◌, ◌∙◌, ℕ, List, refl, sym, subst, inr}
 use Rattle.std.specs.Prelude.{Result, Ok, IfOk}
+use Rattle.std.proofs.lemmas.Result.{IfErr-weaker}
 use Rattle.sja_wire.specs.declared.bus_fault.BusFault.{BusFault}
-use Rattle.sja_wire.specs.OneBit.{MayHaveItems}
+use Rattle.sja_link.specs.BitEntries.{MayHaveItems}
 use Rattle.sja_wire.specs.Buses.{BusValue, AllTold, EachJournal, EachUntold}
 use Rattle.sja_bus.specs.Stretches.{IsStretch, IsOutOfEntries}
 use Rattle.sja_bus.specs.Inside.AtOnce.{RunsAtOnce}
-use Rattle.lemmas.proofs.Results.{err_map}
 use Rattle.sja_bus.proofs.AllNodes.SoFar.{each_count}
 use Rattle.sja_bus.proofs.Resting.QuietBits.{keeps_rest, dry_rest, stretch_rest}
 use Rattle.sja_bus.proofs.bus.Bus.quiet_bits.Goals.{After-run_idle_bits}
@@ -91,7 +91,7 @@ pub returns-clause-reason : goal.returns-clause-reason
 returns-clause-reason g c =
     let old = c.args.self.now in let mid = c.gather.new.self in let did = c.gather.ensures in
     let took = c.in_ok-gather.ensures in
-    err_map c.run_idle_bits.result
+    IfErr-weaker c.run_idle_bits.result _ _
     (λ f out right. inr (record {
       taken = mid.journals;
       count = did.nodes;

@@ -18,9 +18,7 @@ use Rattle.sja_bus.proofs.AllNodes.RanOn.{bus_with}
 use Rattle.sja_bus.proofs.AllNodes.Running.{count_is}
 use Rattle.sja_bus.proofs.Resting.Rests.{ends_awake}
 use Rattle.sja_bus.proofs.Resting.Stretches.{after_untold, room_after}
-use Rattle.sja_bus.proofs.Resting.WholeStretches.{bus_after, stretch_after}
-use Rattle.sja_bus.proofs.Resting.WholeStretches.{ends_quiet}
-use Rattle.sja_bus.proofs.Resting.WholeStretches.{out_of_entries}
+use Rattle.sja_bus.proofs.Resting.WholeStretches.{bus_after, stretch_after, ends_quiet, out_of_entries}
 use Rattle.sja_bus.proofs.bus.Bus.run_idle_bits.Goals.{After-all_enter_idle_bits, In-Ok}
 use Rattle.sja_bus.proofs.bus.Bus.run_idle_bits.Goals.{then-bits-eq0-via-then-bits-eq0}
 use Rattle.sja_bus.proofs.bus.Bus.run_idle_bits.Goals.{then-bits-eq0-via-else-bits-eq0+then-not-are_resting}

@@ -10,13 +10,13 @@ use Rattle.sja_bus.specs.Moment.{moment}
 use Rattle.sja_wire.specs.Reasons.{room_for}
 use Rattle.sja_bus.specs.Inside.Refusing.{HaveRoom}
 use Rattle.sja_bus.specs.Inside.Rows.{AreSeated, journals_of}
-use Rattle.sja_bus.specs.UntilTold.{RunsNone, WorksUntold}
+use Rattle.sja_bus.specs.UntilTold.{EndsUntilTold, RunsNone, WorksUntold}
 use Rattle.sja_bus.specs.Inside.RunningOn.{bus_of, AnyBit, MayRunOn, RowsRunNone, SomeAborts, SomeUntold}
 use Rattle.sja_bus.specs.Inside.Whole.{IsWhole}
 use Rattle.sja_bus.proofs.AllNodes.RanOn.{bus_is, ran, stopped}
 use Rattle.sja_bus.proofs.AllNodes.Running.{count_is}
 use Rattle.sja_bus.proofs.AllNodes.SoFar.{none_yet}
-use Rattle.sja_bus.proofs.AllNodes.UntilTold.{held_by_port, held_by_rows}
+use Rattle.sja_bus.proofs.AllNodes.UntilTold.{ended, held_by_port, held_by_rows}
 use Rattle.sja_bus.proofs.bus.Bus.run_until_told.Goals.{After-untaken_bits}
 use Rattle.sja_bus.proofs.bus.Bus.run_until_told.Goals as goal
 
@@ -55,7 +55,7 @@ returns-then-not-may_run_untaken-clause-none g c = λ zero.
     let b = c.self.inside in let asked = g.B.Board.orders_are c.args.board.now in
     let Q : List Seat → Type 0 = λ l. SomeAborts asked (length l) ⊎ SomeUntold l in
     subst (RunsNone asked c.args.to_rest c.args.most) c.self.view_is
-    (held_by_port asked c.args.to_rest c.args.most b.struck.script b.steps.items b.run b.left b.fault b.seats.items
+    (held_by_port c.args.to_rest c.args.most b.struck.script b.steps.items b.run b.left b.fault b.seats.items asked
     (subst Q c.as_slice.ensures.value (c.may_run_untaken.ensures.no (search rules))))
 
 pub returns-in-Ok-clause-none : goal.returns-in-Ok-clause-none
@@ -66,13 +66,35 @@ returns-in-Ok-clause-none g c = λ zero.
     let N : ℕ → Type 0 = λ m. HaveRoom (room_for m b.steps.items) b.seats.items in
     let Q : List Seat → Type 0 = RowsRunNone c.args.to_rest b.struck.script b.run c.args.most in
     subst (RunsNone asked c.args.to_rest c.args.most) c.self.view_is
-    (held_by_rows asked c.args.to_rest c.args.most b.struck.script b.steps.items b.run b.left b.fault b.seats.items
+    (held_by_rows c.args.to_rest c.args.most b.struck.script b.steps.items b.run b.left b.fault b.seats.items asked
     (whole.bus (right g at)).ready (subst N (sym whole.bits) (whole.rooms (right g at)))
     (subst Q c.as_mut_slice-seats.ensures.value (c.in-Ok.ensures.none none)))
   where
     count_in : Result ℕ BusFault → ℕ
     count_in (Ok n) = n
     count_in (Err f) = 0
+
+pub returns-then-not-may_run_untaken-clause-longest : goal.returns-then-not-may_run_untaken-clause-longest
+returns-then-not-may_run_untaken-clause-longest g c = λ some. absurd (some refl)
+
+pub returns-in-Ok-clause-longest : goal.returns-in-Ok-clause-longest
+returns-in-Ok-clause-longest g c = λ some.
+    let at = (goal.at.returns-in-Ok-clause-longest g c).After-untaken_bits in
+    let b = c.self.inside in let n = c.in-Ok.bits in let now = c.untaken_bits.new.seats in
+    let whole = c.self.invariant.0 in let bits = whole.bits in let enough = enough_left g at in
+    let most = c.in-Ok.ensures.most in let runs = c.in-Ok.ensures.runs in
+    let was = moment c.args.self.now c.args.links.now c.args.board.now in
+    let all : b.struck.bits ≡ (b.run + n) + (b.left - n) = omega (arith, bits, most, enough) in
+    let H : List Seat → Type 0 = λ l. (m : ℕ → ℕ) → HaveRoom m l → HaveRoom m now in
+    let N : ℕ → Type 0 = λ m. HaveRoom (room_for m b.steps.items) now in
+    let P : BusValue → Type 0 = λ w. EndsUntilTold g.B.Board c.args.to_rest c.args.most was n
+    (moment w c.untaken_bits.new.links c.untaken_bits.new.board) in
+    subst P (bus_is b.struck.script b.steps.items (b.run + n) (b.left - n) b.fault _ now _
+    (sym (are_back g at)) (right g at) refl)
+    (ended g.B.Board c.args.to_rest c.args.most n b.struck.script b.steps.items (b.run + n) (b.left - n) now was
+    c.untaken_bits.new.links c.untaken_bits.new.board most runs.bus.ready
+    (subst N all (subst H c.as_mut_slice-seats.ensures.value runs.rooms (room_for b.struck.bits b.steps.items)
+    (whole.rooms (right g at)))) c.in-Ok.ensures.ends)
 
 pub untaken_bits-requires-clause-seated : goal.untaken_bits-requires-clause-seated
 untaken_bits-requires-clause-seated g c =

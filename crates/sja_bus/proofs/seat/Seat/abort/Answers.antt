@@ -1,16 +1,17 @@
 use Rattle.std.proofs.Common.{refl}
+use Rattle.std.proofs.lemmas.Result.{on_ok_weaker}
 use Rattle.can_node.specs.declared.aborted.Aborted.{Aborted}
 use Rattle.can_node.specs.declared.aborted.Aborted.TheVariants.{Unchanged, Marked, Dropped}
 use Rattle.can_node.specs.Stands.{Aborts}
 use Rattle.sja_link.specs.BusLedgers.{free_in}
-use Rattle.sja_wire.specs.Aborting.{changes, IsApplied}
+use Rattle.sja_link.specs.Aborting.{changes, IsApplied}
 use Rattle.sja_bus.proofs.AtPorts.Applying.{applied_running, applied_resting, applies_none, applies_one}
 use Rattle.sja_bus.proofs.Journal.Steps.{follows_abort}
 use Rattle.sja_bus.specs.declared.untold.Untold.TheVariants.{Changed, Dropped as DroppedUntold}
 use Rattle.sja_bus.proofs.AtPorts.Aborting.{marked_leaves, dropped_leaves}
 use Rattle.sja_bus.proofs.AtPorts.TurnsTold.{aborts_none, aborts_one}
 use Rattle.sja_bus.proofs.Journal.Reading.{reads_abort}
-use Rattle.lemmas.proofs.Results.{ok_map, err_on}
+use Rattle.lemmas.proofs.Results.{err_on}
 use Rattle.sja_bus.proofs.seat.Seat.abort.Goals.{After-abort}
 use Rattle.sja_bus.proofs.seat.Seat.abort.Goals as goal
 
@@ -50,14 +51,15 @@ pub returns-in-Marked-clause-aborts : goal.returns-in-Marked-clause-aborts
 returns-in-Marked-clause-aborts c =
     let is = applied (goal.at.returns-in-Marked-clause-aborts c).After-abort Marked c.in-Marked.ensures in
     let j = c.args.self.now.journal.entries in
-    ok_map c.enter_abort.result (λ e. applies_one j c.enter_abort.new.self.journal.entries e is)
+    on_ok_weaker c.enter_abort.result (λ e. applies_one j c.enter_abort.new.self.journal.entries e is)
     c.enter_abort.ensures.entered
 
 pub returns-in-Dropped-clause-aborts : goal.returns-in-Dropped-clause-aborts
 returns-in-Dropped-clause-aborts c =
     let is = applied (goal.at.returns-in-Dropped-clause-aborts c).After-abort Dropped c.in-Dropped.ensures in
     let j = c.args.self.now.journal.entries in
-    ok_map c.enter_abort-in-Dropped.result (λ e. applies_one j c.enter_abort-in-Dropped.new.self.journal.entries e is)
+    on_ok_weaker c.enter_abort-in-Dropped.result
+    (λ e. applies_one j c.enter_abort-in-Dropped.new.self.journal.entries e is)
     c.enter_abort-in-Dropped.ensures.entered
 
 pub returns-in-Unchanged-clause-aborts : goal.returns-in-Unchanged-clause-aborts
@@ -81,14 +83,14 @@ pub returns-in-Marked-clause-untold : goal.returns-in-Marked-clause-untold
 returns-in-Marked-clause-untold c =
     let was = c.args.self.now in let drops = marked_leaves was.node c.abort.new.self was.journal.entries
     c.in-Marked.ensures c.requires.ready.sound.follows in
-    ok_map c.enter_abort.result (λ e. aborts_one was c.enter_abort.new.self Changed c.enter_abort.ensures.untold
+    on_ok_weaker c.enter_abort.result (λ e. aborts_one was c.enter_abort.new.self Changed c.enter_abort.ensures.untold
     (λ n. cc) e drops) c.enter_abort.ensures.entered
 
 pub returns-in-Dropped-clause-untold : goal.returns-in-Dropped-clause-untold
 returns-in-Dropped-clause-untold c =
     let was = c.args.self.now in let drops = dropped_leaves was.node c.abort.new.self was.journal.entries
     c.in-Dropped.ensures c.requires.ready.sound.follows in
-    ok_map c.enter_abort-in-Dropped.result (λ e. aborts_one was c.enter_abort-in-Dropped.new.self DroppedUntold
+    on_ok_weaker c.enter_abort-in-Dropped.result (λ e. aborts_one was c.enter_abort-in-Dropped.new.self DroppedUntold
     c.enter_abort-in-Dropped.ensures.untold (λ n. cc) e drops) c.enter_abort-in-Dropped.ensures.entered
 
 pub returns-in-Marked-clause-due : goal.returns-in-Marked-clause-due

@@ -9,8 +9,7 @@ use Rattle.sja_bus.proofs.Journal.Steps.{follows_send, follows_drop}
 use Rattle.sja_bus.proofs.Journal.Reading.{reads_ask, reads_drop, here_in}
 use Rattle.sja_bus.specs.declared.seat.Seat.{Seat}
 use Rattle.sja_bus.proofs.ItemsTaken.Takings.{seat_entered, takes_entered, held_wrongly, taken_right, dropped_right}
-use Rattle.sja_bus.proofs.ItemsTaken.Takings.{may_come}
-use Rattle.sja_bus.proofs.ItemsTaken.Takings.{refused_full}
+use Rattle.sja_bus.proofs.ItemsTaken.Takings.{may_come, refused_full}
 use Rattle.sja_bus.proofs.seat.Seat.ask.Goals as goal
 
 pub returns-in-Ok-clause-takes : goal.returns-in-Ok-clause-takes

@@ -5,8 +5,8 @@ use Rattle.sja_link.specs.declared.up.Up.TheVariants.{Credit}
 use Rattle.sja_link.specs.declared.entry.Entry.TheVariants.{Up as Item}
 use Rattle.sja_bus.proofs.Journal.Steps.{follows_credit}
 use Rattle.sja_bus.proofs.Journal.Reading.{reads_here, here_in, reads_running}
-use Rattle.sja_wire.specs.Orderly.{IsOrderly}
-use Rattle.sja_wire.proofs.Journal.Orders.{paid_now}
+use Rattle.sja_link.specs.Orderly.{IsOrderly}
+use Rattle.sja_link.proofs.Growing.Ordered.{paid_now}
 use Rattle.sja_bus.proofs.ItemsTaken.Takings.{seat_entered, takes_entered, credit_open, credit_good, refused_full}
 use Rattle.sja_bus.proofs.seat.Seat.credited.Goals as goal
 

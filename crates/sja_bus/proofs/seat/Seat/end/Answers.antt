@@ -4,7 +4,7 @@ use Rattle.sja_link.specs.declared.entry.Entry.TheVariants.{Up as Item}
 use Rattle.sja_link.specs.declared.link_id.LinkId.{LinkId}
 use Rattle.sja_link.specs.BusLedgers.{link_of}
 use Rattle.sja_bus.specs.declared.activity.Activity.TheVariants.{Between}
-use Rattle.sja_bus.specs.Inside.Following.{Reads}
+use Rattle.sja_bus.specs.Inside.Following.{Reads, open_in}
 use Rattle.sja_bus.proofs.Links.Seating.{open_else}
 use Rattle.sja_bus.proofs.Journal.Steps.{follows_stop}
 use Rattle.sja_bus.proofs.Journal.Reading.{reads_stop, here_in}
@@ -12,10 +12,13 @@ use Rattle.sja_bus.specs.declared.seat.Seat.{Seat}
 use Rattle.sja_bus.proofs.ItemsTaken.Takings.{seat_entered, takes_entered, may_come, refused_full}
 use Rattle.sja_bus.proofs.seat.Seat.end.Goals as goal
 
+-- `none` proves nothing here: by it a wrong body is refused with values
 pub returns-clause-takes : goal.returns-clause-takes
 returns-clause-takes c =
     let was = c.args.self.now in let j = was.journal.entries in let owed = c.requires.owed in
     let new = c.enter.new.self in let ledger = c.new-self.result in
+    let ended = ap (λ (s : Seat). open_in s.activity) c.enter.ensures.others in
+    let none : open_in new.activity ≡ 0 = omega (arith, ended) in
     let runs = open_else was.activity c.in_default.not-Between in
     let s = reads_stop was.node c.stop.new.self j was.ended was.activity owed.free runs
     c.stop.ensures.reset owed.reads in

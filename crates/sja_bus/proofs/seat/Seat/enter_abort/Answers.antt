@@ -1,8 +1,8 @@
 use Rattle.std.proofs.Common.{sym, subst}
+use Rattle.std.proofs.lemmas.Result.{on_ok_weaker}
 use Rattle.can_node.specs.Stands.{DrivesNext}
 use Rattle.sja_bus.specs.declared.seat.Seat.{Seat}
 use Rattle.sja_bus.specs.Inside.Seats.{IsSeat}
-use Rattle.lemmas.proofs.Results.{ok_map}
 use Rattle.sja_bus.proofs.seat.Seat.enter_abort.Goals as goal
 
 pub returns-clause-ready : goal.returns-clause-ready
@@ -14,7 +14,7 @@ returns-clause-ready c =
     let R : Seat → Type 0 = λ s. IsSeat (record s { journal = c.enter.new.self.journal }) in
     let seat : IsSeat (record was { journal = c.enter.new.self.journal }) =
     record { own = c.requires.seat.own; few = c.requires.seat.few; runs = c.requires.seat.runs } in
-    ok_map c.enter.result
+    on_ok_weaker c.enter.result
     (λ f. record {
       sound = f c.requires.follows c.requires.reads;
       seat = subst P (sym o) seat;

@@ -5,9 +5,9 @@ use Rattle.lemmas.proofs.Related.{each_at}
 use Rattle.sja_wire.specs.Reasons.{RefusesItem}
 use Rattle.lemmas.proofs.Results.{err_is}
 use Rattle.sja_bus.proofs.Links.AtLinks.{stays_refl, stays_trans, stays_one}
-use Rattle.sja_wire.proofs.Moving.{goes_refl, goes_trans, goes_one}
+use Rattle.sja_link.proofs.Growing.Moving.{goes_refl, goes_trans, goes_one}
 use Rattle.sja_bus.proofs.ItemsTaken.Refusing.{refuses_link}
-use Rattle.sja_wire.proofs.Journal.Items.{items_none}
+use Rattle.sja_link.proofs.Growing.Items.{items_none}
 use Rattle.sja_bus.proofs.AllNodes.NodeBit.{items_push}
 use Rattle.sja_bus.proofs.AtPorts.TurnsTold.{takes_one}
 use Rattle.sja_bus.proofs.seat.Seat.gather.Goals as goal

@@ -1,6 +1,6 @@
 use Rattle.std.proofs.Common.{◌-◌, length}
-use Rattle.sja_wire.specs.Links.{Goes}
-use Rattle.sja_wire.specs.OneBit.{MayHaveItems}
+use Rattle.sja_link.specs.Links.{Goes}
+use Rattle.sja_link.specs.BitEntries.{MayHaveItems}
 use Rattle.sja_bus.specs.Inside.Seats.{IsReady}
 use Rattle.sja_bus.specs.Inside.AtLinks.{KeepsLinks}
 use Rattle.sja_bus.specs.Inside.Turning.{TakesUntold}

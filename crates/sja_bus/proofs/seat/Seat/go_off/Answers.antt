@@ -1,4 +1,5 @@
 use Rattle.std.proofs.Common.{suc, true, List, [], ◌∷◌, ◌++◌, refl, sym, ap, ◌∙◌, subst, rules}
+use Rattle.std.proofs.lemmas.Result.{on_ok_weaker}
 use Rattle.can_node.specs.Record.{RecordEntry as Event}
 use Rattle.can_node.specs.Cut.{IsCut}
 use Rattle.sja_link.specs.declared.entry.Entry.TheVariants.{Off}
@@ -13,8 +14,7 @@ use Rattle.sja_bus.specs.Inside.Taking.{GaveBack}
 use Rattle.sja_bus.proofs.Journal.BitSteps.{follows_off}
 use Rattle.sja_bus.proofs.Journal.Parted.{stands_at}
 use Rattle.sja_bus.proofs.Journal.Reading.{reads_off, runs_at}
-use Rattle.sja_wire.proofs.Moving.{moves_push}
-use Rattle.lemmas.proofs.Results.{ok_map}
+use Rattle.sja_link.proofs.Growing.Moving.{moves_push}
 use Rattle.sja_bus.proofs.seat.Seat.go_off.Goals as goal
 
 pub returns-in-Ok-clause-sound : goal.returns-in-Ok-clause-sound
@@ -25,7 +25,7 @@ returns-in-Ok-clause-sound g c =
     let F : Seat → Type 0 = λ s. Follows s.node (s.journal.entries ++ Off ∷ []) in
     let R : Seat → Type 0 = λ s. Reads s.node (s.journal.entries ++ Off ∷ []) s.ended ActivityOff (free_in s.ledger) in
     let reads = subst P c.requires.runs.1 mid.reads in
-    ok_map c.enter.result
+    on_ok_weaker c.enter.result
     (λ f. f (subst F (sym same) (follows_off was.node j mid.follows)) (rw c.off.ensures.ledger (subst R (sym same)
     (reads_off was.node j was.ended c.requires.runs.0 (free_in was.ledger) c.requires.reset reads))))
     c.enter.ensures.sound
@@ -36,7 +36,7 @@ returns-in-Ok-clause-moves g c =
     let opened = ap open_in c.requires.runs.1 in
     let at = stands_at j Off (suc was.ended) (λ p. refl)
     (runs_at was.activity was.node j was.ended (free_in was.ledger) opened c.requires.mid.reads) in
-    ok_map c.enter.result
+    on_ok_weaker c.enter.result
     (λ e. rw (e.0 ∙ ap (λ (s : Seat). s.journal.entries ++ Off ∷ []) inv.seat)
     (moves_push g.E.BusEnd.stands c.args.end.now c.off.new.end j Off (suc was.ended) at
     (λ l stood. c.in-Ok.ensures.puts l (inv.put.stands l stood))))

@@ -13,8 +13,8 @@ use Rattle.sja_bus.proofs.Links.Seating.{reads_by}
 use Rattle.sja_bus.proofs.Journal.Parted.{stays_of, stands_at, place_same, off_less}
 use Rattle.sja_bus.proofs.Journal.Reading.{reads_quiet, reads_here, runs_at, reads_running}
 use Rattle.sja_bus.proofs.Journal.Judging.{due_now, verdict_stays, verdict_no_stop, verdict_orderly}
-use Rattle.sja_wire.proofs.Journal.Orders.{no_off_put}
-use Rattle.sja_wire.proofs.Moving.{moves_push, moves_quiet, moves_trans}
+use Rattle.sja_link.proofs.Growing.Ordered.{no_off_put}
+use Rattle.sja_link.proofs.Growing.Moving.{moves_push, moves_quiet, moves_trans}
 use Rattle.sja_bus.proofs.ItemsTaken.OutOfRoom.{bit_unjudged, verdict_unjudged}
 use Rattle.lemmas.proofs.Results.{err_is}
 use Rattle.sja_bus.proofs.seat.Seat.judge.Goals as goal

@@ -1,9 +1,11 @@
-use Rattle.std.proofs.Common.{append-nil, ◌≡◌, ℕ, true, false, refl, sym, ◌∙◌, subst, inr}
+use Rattle.std.proofs.Common.{append-nil, arith, ◌≡◌, ◌<◌, ℕ, true, false, refl, sym, ap, ◌∙◌, subst, inr}
+use Rattle.can_frame.specs.Message.{bit}
+use Rattle.std.proofs.lemmas.Result.{on_ok_weaker}
 use Rattle.sja_bus.proofs.ItemsTaken.Breaking.{full_for_abort}
-use Rattle.sja_wire.proofs.Moving.{goes_trans, goes_aborted}
+use Rattle.sja_link.proofs.Growing.Moving.{goes_trans, goes_aborted}
 use Rattle.sja_bus.proofs.AtPorts.TurnsTold.{aborts_none, takes_then}
 use Rattle.sja_link.specs.BusLedgers.{link_of}
-use Rattle.lemmas.proofs.Results.{ok_map, err_both}
+use Rattle.lemmas.proofs.Results.{err_both}
 use Rattle.sja_bus.proofs.seat.Seat.open_bit.Goals as goal
 
 pub returns-then-ordered-clause-goes : goal.returns-then-ordered-clause-goes
@@ -11,18 +13,20 @@ returns-then-ordered-clause-goes g c =
     let E = g.E.BusEnd in let met = g.met.E.BusEnd in
     let j = c.args.self.now.journal.entries in let k = c.gather.new.self.journal.entries in let l =
     c.abort.new.self.journal.entries in
-    ok_map c.abort.result
+    on_ok_weaker c.abort.result
     (λ a. goes_trans E.same E.stands met.same_trans j k l c.args.links.now c.gather.new.links c.gather.new.links
     c.args.base c.in_ok-gather.ensures.goes
     (goes_aborted E.same E.stands met.same_refl k l c.gather.new.links c.args.base a.aborts))
     c.abort.ensures.aborts
 
+-- `asked` proves nothing here: by it a wrong body is refused with values
 pub returns-then-ordered-clause-opens : goal.returns-then-ordered-clause-opens
 returns-then-ordered-clause-opens g c =
     let P : ℕ → Type 0 = λ n. g.B.Board.orders_are c.args.board.now n c.orders-ordered.result in
     let are = subst P (c.number.ensures ∙ c.gather.ensures.stays.node) c.orders-ordered.ensures.orders in
+    let one = ap bit c.if-ordered.true in let asked : 0 < bit c.orders-ordered.result.abort = omega (arith, one) in
     let yes : c.orders-ordered.result.abort ≡ true = c.if-ordered.true in
-    ok_map c.abort.result (λ a. record {
+    on_ok_weaker c.abort.result (λ a. record {
       taken = c.gather.new.self.journal.entries;
       items =
           c.in_ok-gather.ensures.items;
@@ -53,7 +57,7 @@ returns-else-ordered-clause-opens g c =
 
 pub returns-then-ordered-clause-untold : goal.returns-then-ordered-clause-untold
 returns-then-ordered-clause-untold g c =
-    ok_map c.abort.result (λ a. takes_then c.args.self.now c.gather.new.self c.abort.new.self
+    on_ok_weaker c.abort.result (λ a. takes_then c.args.self.now c.gather.new.self c.abort.new.self
     c.in_ok-gather.ensures.untold c.in_ok-gather.ensures.items a) c.abort.ensures.untold
 
 pub returns-else-ordered-clause-untold : goal.returns-else-ordered-clause-untold
@@ -78,7 +82,8 @@ returns-then-ordered-clause-stops g c =
 pub returns-then-ordered-clause-facts : goal.returns-then-ordered-clause-facts
 returns-then-ordered-clause-facts g c =
     let F : ℕ → Type 0 = λ n. g.B.Board.facts c.args.board.now n in
-    ok_map c.abort.result (λ a. subst F (c.number.ensures ∙ c.gather.ensures.stays.node) c.orders-ordered.ensures.facts)
+    on_ok_weaker c.abort.result
+    (λ a. subst F (c.number.ensures ∙ c.gather.ensures.stays.node) c.orders-ordered.ensures.facts)
     c.abort.ensures.aborts
 
 pub returns-else-ordered-clause-facts : goal.returns-else-ordered-clause-facts

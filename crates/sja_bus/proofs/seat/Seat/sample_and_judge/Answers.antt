@@ -1,5 +1,10 @@
-use Rattle.std.proofs.Common.{◌≡◌, suc, [], ◌∷◌, ◌++◌, rules, refl, sym, ap, subst}
+use Rattle.std.proofs.Common.{◌≡◌, ℕ, suc, Bool, List, ◌+◌, [], ◌∷◌, ◌++◌, length, arith, rules, refl, sym, ap, subst}
+use Rattle.std.proofs.lemmas.List.{length-append}
+use Rattle.can_bits.specs.declared.level.Level.{Level}
+use Rattle.sja_link.specs.declared.entry.Entry.{Entry}
 use Rattle.sja_link.specs.declared.entry.Entry.TheVariants.{Bit}
+use Rattle.sja_link.specs.Verdicts.{entry_of}
+use Rattle.sja_bus.specs.Inside.Seats.{IsJudged}
 use Rattle.sja_link.specs.BusLedgers.{free_in}
 use Rattle.sja_bus.specs.declared.activity.Activity.{Activity}
 use Rattle.sja_bus.specs.declared.activity.Activity.TheVariants.{Running}
@@ -11,7 +16,7 @@ use Rattle.sja_bus.proofs.Links.Seating.{reads_by, follows_by}
 use Rattle.sja_bus.proofs.AllNodes.NodeBit.{received_quiet, received_judged, has_alone, has_judged}
 use Rattle.sja_bus.proofs.Journal.Parted.{stands_at}
 use Rattle.sja_bus.proofs.Journal.Reading.{reads_quiet, reads_swap, runs_at}
-use Rattle.sja_wire.proofs.Moving.{moves_quiet}
+use Rattle.sja_link.proofs.Growing.Moving.{moves_quiet}
 use Rattle.std.specs.Prelude.{Err}
 use Rattle.sja_bus.specs.Inside.Taking.{BreaksHere, IsJudgedShort}
 use Rattle.sja_bus.proofs.ItemsTaken.Breaking.{breaks_by}
@@ -100,8 +105,19 @@ returns-in_ok-overrun-in-Some-clause-off g c = λ went.
     let P : Node → Type 0 = λ n. InReset n in
     subst P (sym c.judge.ensures.kept.0) (c.sample_fully_with-events.ensures.off (search rules))
 
+-- a bit and its verdict are two entries
+judged_length : {j k : List Entry} {driven seen : Level} {a : ℕ} {m : List ℕ} {overrun : Bool} →
+    IsJudged j driven seen a m overrun k → length k ≡ length j + 2
+judged_length {j} {k} {driven} {seen} {a} {m} {overrun} h =
+    let whole = ap (λ (l : List Entry). length l) h.whole in let bit = length-append j (Bit driven seen ∷ []) in
+    let both = length-append (j ++ Bit driven seen ∷ []) (entry_of h.verdict m ∷ []) in omega (arith, whole, bit, both)
+
+-- `two` proves nothing here: by it a wrong body is refused with values
 pub returns-in_ok-overrun-in-Some-clause-verdict : goal.returns-in_ok-overrun-in-Some-clause-verdict
 returns-in_ok-overrun-in-Some-clause-verdict g c =
+    let grown = judged_length c.in_ok-overrun-in-Some.ensures.judged in
+    let was = c.args.self.now.journal.entries in
+    let two : length c.judge.new.self.journal.entries ≡ length was + 2 = omega (arith, grown) in
     has_judged c.args.self.now.journal.entries c.judge.new.self.journal.entries c.args.self.now.drives c.args.seen
     (suc c.args.self.now.ended) c.in-Some.message c.in_ok-overrun-in-Some.overrun
     c.in_ok-overrun-in-Some.ensures.judged

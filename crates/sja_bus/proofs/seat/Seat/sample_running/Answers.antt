@@ -1,10 +1,10 @@
 use Rattle.std.proofs.Common.{◌≡◌, ◌≤◌, ℕ, suc, length, Bool, true, false, rules, subst, ap}
 use Rattle.std.specs.Prelude.{Err}
 use Rattle.sja_bus.specs.Inside.Following.{FollowsBit}
-use Rattle.sja_wire.specs.Links.{Moves}
+use Rattle.sja_link.specs.Links.{Moves}
 use Rattle.sja_bus.specs.Inside.Seats.{IsMid}
 use Rattle.sja_bus.specs.Inside.Taking.{BreaksHere}
-use Rattle.sja_wire.proofs.Moving.{moves_trans}
+use Rattle.sja_link.proofs.Growing.Moving.{moves_trans}
 use Rattle.sja_bus.proofs.ItemsTaken.Breaking.{breaks_after}
 use Rattle.sja_bus.proofs.ItemsTaken.OutOfRoom.{off_short}
 use Rattle.sja_bus.proofs.Journal.BitSteps.{follows_on}

@@ -1,10 +1,11 @@
-use Rattle.std.proofs.Common.{rules, ◌≡◌, Ok, Err, true, suc, subst}
+use Rattle.std.proofs.Common.{arith, rules, ◌≡◌, ◌<◌, ◌≤◌, ◌+◌, Err, suc, subst}
 use Rattle.sja_wire.specs.declared.bus_fault.BusFault.{BusFault}
 use Rattle.sja_link.specs.declared.link_id.LinkId.{LinkId}
 use Rattle.sja_wire.specs.Reasons.{IsRefusedFor}
 use Rattle.sja_bus.specs.Inside.Taking.{RefusesHere}
 use Rattle.sja_link.specs.declared.entry.Entry.TheVariants.{Up as Item}
-use Rattle.sja_wire.proofs.Moving.{moves_push}
+use Rattle.sja_link.specs.BusLedgers.{free_in}
+use Rattle.sja_link.proofs.Growing.Moving.{moves_push}
 use Rattle.lemmas.proofs.Results.{err_is}
 use Rattle.sja_bus.proofs.seat.Seat.take.Goals as goal
 
@@ -42,4 +43,12 @@ returns-in_err-note-in-Ok-Some-clause-refused g c =
     err_is P c.from_residual.result f is here
 
 pub returns-in-Err-clause-untold : goal.returns-in-Err-clause-untold
-returns-in-Err-clause-untold g c = λ taken. let e : Err _ ≡ Ok true = taken in absurd cc
+returns-in-Err-clause-untold g c = λ taken. grind (arith, taken)
+
+-- `lifts` proves nothing here: by it a wrong body is refused with values
+pub returns-in-Err-clause-refused : goal.returns-in-Err-clause-refused
+returns-in-Err-clause-refused g c =
+    let bytes = c.in-Err.field-0.0 in let bad = c.in-Err.ensures.bad.1 in
+    let lifts : 3 ≤ bytes → bytes ≤ 13 → 64 < free_in c.args.self.now.ledger + bytes =
+    λ low high. omega (arith, low, high, bad) in
+    search rules

@@ -1,4 +1,4 @@
-use Rattle.std.proofs.Common.{◌≡◌, rules, refl, ◌∙◌}
+use Rattle.std.proofs.Common.{◌≡◌, arith, rules, refl, ◌∙◌}
 use Rattle.sja_link.specs.Records.{record_of}
 use Rattle.sja_bus.proofs.seat.Seat.turn_of.Goals as goal
 
@@ -14,5 +14,5 @@ returns c =
       counters = λ entries found h. let s = counts entries found h in (same ∙ s.0, s.1, s.2);
       phase = c.phase.ensures.phase;
       aborted = c.has_dropped.ensures;
-      overrun_is = refl;
+      overrun_is = grind arith;
     }

@@ -1,5 +1,8 @@
-use Rattle.std.proofs.Common.{rules, ◌≡◌, arith}
+use Rattle.std.proofs.Common.{rules, ◌≡◌, ◌+◌, inl, inr, arith}
+use Rattle.std.specs.Prelude.{◌⊎◌}
+use Rattle.std.proofs.lemmas.Bool.{cases_lt}
 use Rattle.sja_serial.specs.UntilTold.TellsBits.{no_bit}
+use Rattle.sja_serial.proofs.ManyBits.Ending.{ended_alone, ended_of}
 use Rattle.sja_serial.proofs.ManyBits.Telling.{run_told, lawful_still, left_still, one_told, run_one}
 use Rattle.sja_serial.proofs.serial_run.SerialRun.bits_until_told.Goals as goal
 
@@ -31,3 +34,25 @@ returns-then-bits-eq0-clause-stays c = let none : c.run_untold_bits-bits.result 
 
 pub returns-clause-stays : goal.returns-clause-stays
 returns-clause-stays c = run_told c.requires.run c.run_untold_bits-bits.ensures.bits
+
+-- ---- why they ended
+
+pub returns-then-bits-eq0-clause-longest : goal.returns-then-bits-eq0-clause-longest
+returns-then-bits-eq0-clause-longest c = λ some. let left = c.bits_left.ensures.left in let most = c.min-most.ensures in
+    let which : (c.min-most.result ≡ c.args.count) ⊎ (c.args.self.now.bits + c.min-most.result ≡ c.args.plan.now.bits) =
+    elim (cases_lt c.args.count c.bits_left.result) [
+      | inl fewer ↦ inl (omega (arith, most, fewer))
+      | inr enough ↦ inr (omega (arith, most, enough, left))
+    ] in
+    let none : c.run_untold_bits-bits.result ≡ 0 = search rules in
+    ended_alone c.requires.run c.min-most.result c.args.count which (c.run_untold_bits-bits.ensures.none none)
+
+pub returns-clause-longest : goal.returns-clause-longest
+returns-clause-longest c = λ some. let left = c.bits_left.ensures.left in let most = c.min-most.ensures in
+    let which : (c.min-most.result ≡ c.args.count) ⊎ (c.args.self.now.bits + c.min-most.result ≡ c.args.plan.now.bits) =
+    elim (cases_lt c.args.count c.bits_left.result) [
+      | inl fewer ↦ inl (omega (arith, most, fewer))
+      | inr enough ↦ inr (omega (arith, most, enough, left))
+    ] in
+    ended_of c.requires.run c.min-most.result c.args.count which c.run_untold_bits-bits.ensures.bits
+    (c.run_untold_bits-bits.ensures.longest some)

@@ -1,8 +1,7 @@
 use Rattle.std.proofs.Common.{rules, ◌≡◌, ◌+◌, arith}
 use Rattle.sja_serial.specs.Bits.{SomeWorks}
 use Rattle.sja_serial.specs.Serial.{SerialValue}
-use Rattle.sja_serial.proofs.ManyBits.SomeBits.{bits_none, bits_freely, some_then, some_since, bus_all}
-use Rattle.sja_serial.proofs.ManyBits.SomeBits.{bus_spent}
+use Rattle.sja_serial.proofs.ManyBits.SomeBits.{bits_none, bits_freely, some_then, some_since, bus_all, bus_spent}
 use Rattle.sja_serial.proofs.serial_run.SerialRun.bus_turn.Goals as goal
 
 pub loop-run-init : goal.loop-run-init

@@ -1,7 +1,6 @@
 use Rattle.std.proofs.Common.{rules, ◌≡◌, ◌<◌, List, length, true, false, arith}
-use Rattle.sja_driver.specs.Deeds.{Deed}
+use Rattle.sja_driver.specs.Deeds.{Deed, with_deeds}
 use Rattle.sja_serial.specs.Serial.{StandsAt, TakesTurn}
-use Rattle.sja_driver.specs.Deeds.{with_deeds}
 use Rattle.sja_serial.proofs.AllNodes.Several.{so_far_none, so_far_one, turn_waits, turn_done}
 use Rattle.sja_serial.proofs.serial_run.SerialRun.node_turn.Goals as goal
 

@@ -1,6 +1,7 @@
-use Rattle.std.proofs.Common.{rules, ◌≡◌, arith}
+use Rattle.std.proofs.Common.{rules, ◌≡◌, inl, arith}
 use Rattle.sja_serial.specs.UntilTold.TellsBits.{no_bit}
 use Rattle.sja_serial.proofs.ManyBits.SomeBits.{not_both}
+use Rattle.sja_serial.proofs.ManyBits.Ending.{ended_alone, ended_of}
 use Rattle.sja_serial.proofs.ManyBits.Telling.{run_told, lawful_still, left_still, one_told, run_one}
 use Rattle.sja_serial.proofs.serial_run.SerialRun.rest_until_told.Goals.{then-most-eq0-via-then-most-eq0}
 use Rattle.sja_serial.proofs.serial_run.SerialRun.rest_until_told.Goals.{then-most-eq0-via-else-most-eq0+then-at_rest}
@@ -43,3 +44,18 @@ returns-then-bits-eq0-clause-stays c = let none : c.run_untold_bits-bits.result 
 
 pub returns-clause-stays : goal.returns-clause-stays
 returns-clause-stays c = run_told c.requires.run c.run_untold_bits-bits.ensures.bits
+
+-- ---- why they ended
+
+pub returns-then-bits-eq0-clause-longest : goal.returns-then-bits-eq0-clause-longest
+returns-then-bits-eq0-clause-longest c = λ some.
+    let left = c.bits_left-most.ensures.left in let at = c.requires.run.1.bits in let all = c.requires.run.1.all_bits in
+    let none : c.run_untold_bits-bits.result ≡ 0 = search rules in
+    ended_alone c.requires.run c.bits_left-most.result c.args.self.now.bus.left (inl (omega (arith, left, at, all)))
+    (c.run_untold_bits-bits.ensures.none none)
+
+pub returns-clause-longest : goal.returns-clause-longest
+returns-clause-longest c = λ some.
+    let left = c.bits_left-most.ensures.left in let at = c.requires.run.1.bits in let all = c.requires.run.1.all_bits in
+    ended_of c.requires.run c.bits_left-most.result c.args.self.now.bus.left (inl (omega (arith, left, at, all)))
+    c.run_untold_bits-bits.ensures.bits (c.run_untold_bits-bits.ensures.longest some)

@@ -4,7 +4,7 @@ use Rattle.sja_bus.specs.Boards.{HasOrders}
 use Rattle.sja_serial.specs.Serial.{run_now}
 use Rattle.sja_serial.specs.UntilTold.{TellsBit}
 use Rattle.sja_bus.proofs.AtPorts.OtherWords.{noted_bit}
-use Rattle.sja_serial.proofs.OneBit.BitRun.{cuts_of, tells_bit}
+use Rattle.sja_serial.proofs.ManyBits.BitRun.{cuts_of, tells_bit}
 use Rattle.sja_serial.proofs.ManyBits.Borrowed.{stands_there, lawful_there, put_back}
 use Rattle.sja_serial.proofs.ManyBits.Unstopped.{never_stops_there}
 use Rattle.sja_serial.proofs.serial_run.SerialRun.run_one_bit.Goals as goal

@@ -1,8 +1,12 @@
-use Rattle.std.proofs.Common.{◌+◌, arith, sym, subst}
+use Rattle.std.proofs.Common.{◌≡◌, ◌+◌, arith, rules, sym, subst}
+use Rattle.std.specs.Prelude.{Ok}
 use Rattle.std.proofs.lemmas.List.{with_items_is}
 use Rattle.sja_script.specs.Striking.{Strikes}
+use Rattle.sja_bus.specs.Boards.{HasOrders}
 use Rattle.sja_bus.specs.Moment.{moment}
+use Rattle.sja_bus.specs.UntilTold.{RunsNone}
 use Rattle.sja_serial.specs.Serial.{SerialValue}
+use Rattle.sja_serial.proofs.ManyBits.Ending.{ended_told}
 use Rattle.sja_serial.proofs.ManyBits.ManyBits.{untold, no_break, bits_told}
 use Rattle.sja_serial.proofs.serial_run.SerialRun.run_untold_bits.Goals as goal
 
@@ -27,3 +31,15 @@ pub returns-clause-unstruck : goal.returns-clause-unstruck
 returns-clause-unstruck c = λ i node less few strikes.
     let P : SerialValue → Type 0 = λ x. Strikes x.bus.script (x.bus.run + i) node in
     c.in-Ok.ensures.unstruck i node less few (subst P (sym c.self.view_is) strikes)
+
+pub returns-clause-longest : goal.returns-clause-longest
+returns-clause-longest c = λ some. let b = c.self.inside in
+    ended_told c.args.to_rest c.args.count c.in-Ok.bits (moment b.bus c.as_mut_slice.result.now b.board)
+    (moment c.bits_until_told.new.self c.bits_until_told.new.links c.bits_until_told.new.board) b.drivers.items
+    b.links.items _ b.bits _ c.args.self.now c.self.view_is (c.in-Ok.ensures.longest some)
+
+pub returns-clause-none : goal.returns-clause-none
+returns-clause-none c = λ zero.
+    let is : c.bits_until_told.result ≡ Ok 0 = search rules in
+    let P : SerialValue → Type 0 = λ x. RunsNone (HasOrders x.ports) c.args.to_rest c.args.count x.bus in
+    subst P c.self.view_is (c.bits_until_told.ensures.none is)

@@ -13,8 +13,7 @@ use Rattle.sja_serial.proofs.OneNode.NextStep.{is_tried_quietly}
 use Rattle.sja_serial.proofs.OneNode.Tried.{IsTried}
 use Rattle.sja_serial.proofs.AllNodes.Several.{does_none}
 use Rattle.sja_serial.proofs.serial_run.SerialRun.try_next.Goals.{After-done-next, After-first_link, After-step-done}
-use Rattle.sja_serial.proofs.serial_run.SerialRun.try_next.Goals.{In-Ok}
-use Rattle.sja_serial.proofs.serial_run.SerialRun.try_next.Goals.{Then-gave_nothing}
+use Rattle.sja_serial.proofs.serial_run.SerialRun.try_next.Goals.{In-Ok, Then-gave_nothing}
 use Rattle.sja_serial.proofs.serial_run.SerialRun.try_next.Goals as goal
 
 -- ---- the node, and how many steps of its driver are done
@@ -137,44 +136,26 @@ pub returns-then-gave_nothing-clause-done : goal.returns-then-gave_nothing-claus
 returns-then-gave_nothing-clause-done c =
     let same : tried_at c.step-done.ensures.steps ≡ c.index_mut-port.result.now = grind arith in λ yes deeds h.
     let a = goal.at.returns-then-gave_nothing-clause-done c in let at = a.After-done-next in
-    (did_quietly a.Then-gave_nothing same c.bits_run.ensures.lawful (
-      h,
-      there at,
-      node_is at,
-      left at deeds h c.if-next-steps.false,
-      is_next a.After-first_link deeds (many_done at deeds h),
-    )).0 yes
+    let n = is_next a.After-first_link deeds (many_done at deeds h) in
+    (did_quietly a.Then-gave_nothing same c.bits_run.ensures.lawful
+    (h, there at, node_is at, left at deeds h c.if-next-steps.false, n)).0 yes
 
 pub returns-then-gave_nothing-clause-waits : goal.returns-then-gave_nothing-clause-waits
 returns-then-gave_nothing-clause-waits c =
     let same : tried_at c.step-done.ensures.steps ≡ c.index_mut-port.result.now = grind arith in λ no deeds h.
     let a = goal.at.returns-then-gave_nothing-clause-waits c in let at = a.After-done-next in
-    (did_quietly a.Then-gave_nothing same c.bits_run.ensures.lawful (
-      h,
-      there at,
-      node_is at,
-      left at deeds h c.if-next-steps.false,
-      is_next a.After-first_link deeds (many_done at deeds h),
-    )).1 no
+    let n = is_next a.After-first_link deeds (many_done at deeds h) in
+    (did_quietly a.Then-gave_nothing same c.bits_run.ensures.lawful
+    (h, there at, node_is at, left at deeds h c.if-next-steps.false, n)).1 no
 
 pub returns-clause-done : goal.returns-clause-done
 returns-clause-done c = λ yes deeds h.
     let a = goal.at.returns-clause-done c in let at = a.After-done-next in
-    (did a.In-Ok (as_lent a.After-step-done) (
-      h,
-      there at,
-      node_is at,
-      left at deeds h c.if-next-steps.false,
-      is_next a.After-first_link deeds (many_done at deeds h),
-    )).0 yes
+    let n = is_next a.After-first_link deeds (many_done at deeds h) in
+    (did a.In-Ok (as_lent a.After-step-done) (h, there at, node_is at, left at deeds h c.if-next-steps.false, n)).0 yes
 
 pub returns-clause-waits : goal.returns-clause-waits
 returns-clause-waits c = λ no deeds h.
     let a = goal.at.returns-clause-waits c in let at = a.After-done-next in
-    (did a.In-Ok (as_lent a.After-step-done) (
-      h,
-      there at,
-      node_is at,
-      left at deeds h c.if-next-steps.false,
-      is_next a.After-first_link deeds (many_done at deeds h),
-    )).1 no
+    let n = is_next a.After-first_link deeds (many_done at deeds h) in
+    (did a.In-Ok (as_lent a.After-step-done) (h, there at, node_is at, left at deeds h c.if-next-steps.false, n)).1 no

@@ -1,6 +1,6 @@
 use Rattle.std.proofs.Common.{arith}
 use Rattle.sja_raw.specs.RawDrivers.{typed_of}
-use Rattle.sja_raw.proofs.Keeping.{keeps_more, may_less}
+use Rattle.sja_raw.proofs.Steps.Keeping.{keeps_more, may_less}
 use Rattle.test_bus.proofs.raw.access.read_at.Goals as goal
 
 pub read-requires : goal.read-requires

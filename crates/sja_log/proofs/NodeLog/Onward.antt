@@ -19,13 +19,11 @@ use Rattle.sja_link.specs.Carried.{bits_of, taken_of, put_in}
 use Rattle.sja_link.specs.Verdicts.{entry_of}
 use Rattle.lemmas.proofs.Gathered.{gathered_append}
 use Rattle.sja_link.proofs.JournalEntries.Entering.{past_rises, item_bits, placed_append}
-use Rattle.sja_wire.proofs.Journal.Items.{items_bits}
-use Rattle.sja_wire.specs.OneBit.{entries_of_items, abort_as, judged_as, off_as}
+use Rattle.sja_link.proofs.Growing.Items.{items_bits}
+use Rattle.sja_link.specs.BitEntries.{entries_of_items, abort_as, judged_as, off_as, HasMore, HasOneBit}
 use Rattle.sja_driver.specs.Moments.{at_moment}
 use Rattle.sja_driver.specs.Windows.{put_by}
 use Rattle.sja_driver.proofs.Trace.Moments.{HasBitsAfterAborts, at_moment-now}
-use Rattle.sja_serial.specs.Bits.{HasOneBit}
-use Rattle.sja_wire.specs.OneBit.{HasMore}
 
 -- these entries put nothing before their first bit
 abbrev pub PutsLater : List Entry → Type 0

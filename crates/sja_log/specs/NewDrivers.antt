@@ -1,11 +1,10 @@
 -- The drivers of a run before its first turn (this project's own rule).
 use Rattle.std.specs.Prelude.{◌≡◌, ◌<◌, ℕ, false, List, [], length, slice_index_or}
-use Rattle.sja_plan.specs.Plan.{PlanValue}
+use Rattle.sja_plan.specs.Plan.{PlanValue, steps_at}
 use Rattle.sja_driver.specs.declared.logged_driver.LoggedDriver.{LoggedDriver}
 use Rattle.sja_driver.specs.AnyDrivers.{is_out}
 use Rattle.sja_driver.specs.LoggedDrivers.{node_of, driver_of, log_of, IsLawful}
 use Rattle.sja_driver.specs.Logs.{IsEmpty, HasRoom, Traces}
-use Rattle.sja_plan.specs.Plan.{steps_at}
 
 -- the driver of this node, in reset, that did nothing and has room for so many steps
 pub record IsNewDriver (node steps : ℕ) (d : LoggedDriver) : Type 0 where

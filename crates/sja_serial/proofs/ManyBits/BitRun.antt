@@ -1,5 +1,5 @@
 -- A run after a bit.
-use Rattle.std.proofs.Common.{◌≡◌, ℕ, ◌+◌, ◌*◌, ◌<◌, ◌≤◌, List, [], ◌∷◌, length, sym, ap, ◌∙◌, subst, arith}
+use Rattle.std.proofs.Common.{◌≡◌, ℕ, ◌+◌, ◌*◌, ◌<◌, ◌≤◌, List, length, sym, ap, ◌∙◌, subst, arith}
 use Rattle.std.specs.Prelude.{None, slice_index_or}
 use Rattle.std.proofs.lemmas.Slice.Zip.{AllZip-long}
 use Rattle.can_bits.specs.declared.level.Level.TheVariants.{Recessive}
@@ -7,40 +7,35 @@ use Rattle.sja_link.specs.declared.entry.Entry.{Entry}
 use Rattle.sja_link.specs.Accounts.{Account}
 use Rattle.sja_link.specs.Deques.{Deques, Lies}
 use Rattle.lemmas.specs.Related.{EachRelated}
+use Rattle.lemmas.proofs.Lists.{some_of}
 use Rattle.sja_regs.specs.declared.registers.Registers.{Registers}
 use Rattle.sja_regs.specs.Registers.{at_power_on}
 use Rattle.sja_regs.specs.Turns.{after_turn}
 use Rattle.sja_bus.specs.Boards.{HasOrders}
 use Rattle.sja_wire.specs.Buses.{KeepsAll, IsBit, untold_at}
 use Rattle.sja_wire.specs.Lawful.{IsBusRun}
-use Rattle.sja_wire.specs.Links.{Kept}
+use Rattle.sja_link.specs.Links.{Kept}
 use Rattle.sja_wire.specs.Wire.{journal_at}
 use Rattle.sja_script.specs.declared.strike.Strike.{Strike}
-use Rattle.sja_plan.specs.Plan.{PlanValue}
+use Rattle.sja_plan.specs.Plan.{PlanValue, steps_at}
 use Rattle.sja_driver.specs.declared.logged_driver.LoggedDriver.{LoggedDriver}
-use Rattle.sja_driver.specs.Deeds.{Deed}
+use Rattle.sja_driver.specs.Deeds.{Deed, deeds_at}
 use Rattle.sja_driver.specs.LoggedDrivers.{node_of}
-use Rattle.sja_serial.specs.Bits.{HasOneBit, TakesBit}
+use Rattle.sja_serial.specs.Bits.{TakesBit}
+use Rattle.sja_link.specs.BitEntries.{HasOneBit}
 use Rattle.sja_log.specs.Nodes.{IsNode}
 use Rattle.sja_serial.specs.Serial.{SerialValue, StandsAt}
-use Rattle.sja_driver.specs.Deeds.{deeds_at}
-use Rattle.sja_plan.specs.Plan.{steps_at}
 use Rattle.sja_driver.specs.Shown.{ShowsRecord}
 use Rattle.sja_serial.specs.UntilTold.{NotesTurn, KeepsTurn, TellsBit}
 use Rattle.sja_driver.proofs.OneNode.Slices.{numbered_still}
 use Rattle.sja_driver.proofs.OneBit.BitAsked.{HasCut}
-use Rattle.sja_serial.proofs.OneBit.Bit.{BitOf, OrdersOf, after_one_bit, one_bit, shows}
+use Rattle.sja_log.proofs.OneNode.BitOn.{BitOf, OrdersOf, after_one_bit, one_bit, shows}
 use Rattle.sja_bus.proofs.AtPorts.OtherWords.{other_node_bit}
 
 -- each journal of a lawful bus has a cut
 pub cuts_of : {script : List Strike} {run : ℕ} {journals : List (List Entry)} → IsBusRun script run journals →
     (m : ℕ) → m < length journals → HasCut (journal_at journals m)
 cuts_of h m less = let l = h.lawful m less in record { found = l.found; cut = l.cut }
-
--- some element
-pub some_of : {A : Type 0} (xs : List A) (i : ℕ) → i < length xs → A
-some_of [] i less = absurd (omega (arith, less))
-some_of (x ∷ xs) i less = x
 
 module _ (plan : PlanValue) (r n : SerialValue) (deeds : List (List Deed)) (h : StandsAt plan r deeds)
     (right : n.bus.fault ≡ None) (script : n.bus.script ≡ r.bus.script)

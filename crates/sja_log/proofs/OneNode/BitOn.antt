@@ -13,10 +13,10 @@ use Rattle.sja_link.specs.Places.{place_of}
 use Rattle.sja_regs.specs.declared.orders.Orders.{Orders}
 use Rattle.sja_regs.specs.declared.registers.Registers.{Registers}
 use Rattle.sja_regs.specs.Turns.{after_turn}
-use Rattle.sja_wire.specs.Aborting.{IsApplied}
+use Rattle.sja_link.specs.Aborting.{IsApplied}
 use Rattle.sja_wire.specs.Buses.{IsNodeBit}
-use Rattle.sja_wire.specs.Links.{Kept, stops_of}
-use Rattle.sja_wire.specs.OneBit.{HasBit, abort_as}
+use Rattle.sja_link.specs.Links.{Kept, stops_of}
+use Rattle.sja_link.specs.BitEntries.{HasBit, abort_as, HasOneBit}
 use Rattle.sja_wire.specs.Telling.{IsTurn}
 use Rattle.sja_script.specs.declared.step.Step.{Step}
 use Rattle.sja_driver.specs.declared.logged_driver.LoggedDriver.{LoggedDriver}
@@ -28,7 +28,6 @@ use Rattle.sja_log.specs.Registering.LeadTo.{bit}
 use Rattle.sja_driver.specs.Timing.{taken_when}
 use Rattle.sja_driver.specs.Windows.{put_by, off_by}
 use Rattle.sja_driver.proofs.Trace.Stepping.{given_taken}
-use Rattle.sja_serial.specs.Bits.{HasOneBit}
 use Rattle.sja_driver.specs.Linking.{IsLevel}
 use Rattle.sja_log.specs.Nodes.{IsNode}
 use Rattle.sja_driver.specs.Porting.{IsPorted}

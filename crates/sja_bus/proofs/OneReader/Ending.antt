@@ -1,0 +1,98 @@
+-- Why bits in which nothing happens end: how many more find room, and what stands in the way of the next one.
+use Rattle.std.proofs.Common.{◌≡◌, ℕ, ◌+◌, ◌-◌, ◌<◌, Bool, true, List, [], ◌∷◌, ◌++◌, length, ap, subst, arith}
+use Rattle.std.proofs.Common.{inl, inr}
+use Rattle.std.specs.Prelude.{◌⊎◌, slice_index_or}
+use Rattle.std.proofs.lemmas.List.{get_or_default as or_same, length-append}
+use Rattle.can_bits.specs.declared.level.Level.{Level}
+use Rattle.sja_link.specs.declared.entry.Entry.{Entry}
+use Rattle.sja_link.specs.declared.entry.Entry.TheVariants.{Bit}
+use Rattle.sja_regs.specs.declared.bus_turn.BusTurn.{BusTurn}
+use Rattle.sja_script.specs.declared.strike.Strike.{Strike}
+use Rattle.sja_script.specs.Striking.{Strikes}
+use Rattle.sja_link.specs.BitEntries.{judged_as, off_as}
+use Rattle.sja_bus.specs.declared.seat.Seat.{Seat}
+use Rattle.sja_bus.specs.declared.struck_nodes.StruckNodes.{StruckNodes}
+use Rattle.sja_bus.specs.StrikesByBit.{IsAmong}
+use Rattle.sja_bus.specs.Inside.Refusing.{HaveRoom}
+use Rattle.sja_bus.specs.Inside.Rows.{EachSeat, SeatTurns, seen_by}
+use Rattle.sja_bus.specs.Inside.RunningOn.{AllAtRest, RowsRunNone, SomeFull, SomeStruck}
+use Rattle.sja_bus.specs.Inside.Together.{AreQuietRows}
+use Rattle.sja_bus.proofs.OneReader.QuietRows.{rooms_after}
+
+-- ---- one journal has no room for more than so many entries, and then for fewer
+
+-- after one bit of each, whatever happened in it
+full_turn : {was_told : ℕ → BusTurn → Type 0} {was_kept : ℕ → Type 0} (struck : StruckNodes) (level : Level)
+    (seats after : List Seat) (n : ℕ) → length after ≡ length seats →
+    EachSeat (SeatTurns was_told was_kept struck level) seats after →
+    ((r : ℕ → ℕ) → HaveRoom r seats → HaveRoom r after) → SomeFull n seats → SomeFull (n - 1) after
+full_turn struck level seats after n count turns rooms (k, few, full) = (
+  k,
+  omega (arith, few, count),
+  λ s.
+      let old = slice_index_or seats k s in let bit = (turns k s few).bit in
+      let long = ap (λ (l : List Entry). length l) bit.whole in
+      let one = Bit old.drives (seen_by struck level k) ∷ [] in
+      let a = length-append ((old.journal.entries ++ one) ++ judged_as bit.verdict) (off_as bit.off) in
+      let b = length-append (old.journal.entries ++ one) (judged_as bit.verdict) in
+      let c = length-append old.journal.entries one in
+      let room = rooms (λ m. (slice_index_or seats m s).journal.room)
+      (λ m t low. ap (λ (x : Seat). x.journal.room) (or_same seats m t s low)) k s (omega (arith, few, count)) in
+      let free = full s in omega (arith, long, a, b, c, room, free),
+)
+
+-- after so many quiet ones
+full_after : (to_rest : Bool) (seats : List Seat) (n m : ℕ) (after : List Seat) →
+    AreQuietRows to_rest seats n after → SomeFull m seats → SomeFull (m - n) after
+full_after to_rest seats n m after rows (k, few, full) =
+    let stay = rooms_after to_rest seats n after rows in let c = stay.count in (
+      k,
+      omega (arith, few, c),
+      λ s.
+          let room = stay.rooms k s few in let used = stay.used k s few in let free = full s in
+          omega (arith, room, used, free),
+    )
+
+-- after one and then so many, of those that find room: these are all that are asked for, or one journal is full then
+pub full_on : {was_told : ℕ → BusTurn → Type 0} {was_kept : ℕ → Type 0} (struck : StruckNodes) (level : Level)
+    (to_rest : Bool) (seats one : List Seat) (n : ℕ) (after : List Seat) (most fit run : ℕ) →
+    length one ≡ length seats → EachSeat (SeatTurns was_told was_kept struck level) seats one →
+    ((r : ℕ → ℕ) → HaveRoom r seats → HaveRoom r one) → AreQuietRows to_rest one n after →
+    (most ≡ fit) ⊎ SomeFull (fit - run) seats → (most ≡ fit) ⊎ SomeFull (fit - (run + 1 + n)) after
+full_on struck level to_rest seats one n after most fit run count turns rooms rows (inl all) = inl all
+full_on struck level to_rest seats one n after most fit run count turns rooms rows (inr full) =
+    let is : fit - run - 1 - n ≡ fit - (run + 1 + n) = omega arith in
+    let P : ℕ → Type 0 = λ m. SomeFull m after in
+    inr (subst P is (full_after to_rest one n (fit - run - 1) after rows
+    (full_turn struck level seats one (fit - run) count turns rooms full)))
+
+-- ---- why no more are run
+
+-- as many were run as find room
+pub ends_full : (to_rest : Bool) (script : List Strike) (from most fit run : ℕ) (seats : List Seat) →
+    (most ≡ fit) ⊎ SomeFull (fit - run) seats → run ≡ fit →
+    RowsRunNone to_rest script (from + run) (most - run) seats
+ends_full to_rest script from most fit run seats (inl all) past = inl (omega (arith, all, past))
+ends_full to_rest script from most fit run seats (inr full) past =
+    let none : fit - run ≡ 0 = omega (arith, past) in
+    let P : ℕ → Type 0 = λ n. SomeFull n seats in inr (inl (subst P none full))
+
+-- a node is struck in the next one, or all are at rest
+pub ends_held : (to_rest : Bool) (script : List Strike) (from most run : ℕ) (seats : List Seat) (struck : StruckNodes) →
+    ((node : ℕ) → node < 8 → IsAmong node struck → Strikes script (from + run) node) →
+    SomeStruck struck ⊎ ((to_rest ≡ true) × AllAtRest seats) →
+    RowsRunNone to_rest script (from + run) (most - run) seats
+ends_held to_rest script from most run seats struck strikes (inl hit) =
+    inr (inr (inl (hit.0, hit.1, strikes hit.0 hit.1 hit.2)))
+ends_held to_rest script from most run seats struck strikes (inr all) = inr (inr (inr all))
+
+-- none was run so far
+pub none_first : (to_rest : Bool) (script : List Strike) (from most run : ℕ) (seats first : List Seat) → run ≡ 0 →
+    seats ≡ first → RowsRunNone to_rest script (from + run) (most - run) seats →
+    RowsRunNone to_rest script from most first
+none_first to_rest script from most run seats first none same why =
+    let at : from + run ≡ from = omega (arith, none) in let left : most - run ≡ most = omega (arith, none) in
+    let P : ℕ → Type 0 = λ n. RowsRunNone to_rest script n (most - run) seats in
+    let Q : ℕ → Type 0 = λ n. RowsRunNone to_rest script from n seats in
+    let R : List Seat → Type 0 = λ l. RowsRunNone to_rest script from most l in
+    subst R same (subst Q left (subst P at why))

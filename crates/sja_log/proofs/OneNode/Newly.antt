@@ -1,0 +1,95 @@
+-- A driver before its first step, and its node.
+use Rattle.std.proofs.Common.{◌≡◌, ℕ, suc, ◌+◌, ◌<◌, List, [], ◌∷◌, ◌++◌, length, refl, sym}
+use Rattle.std.proofs.Common.{ap, ◌∙◌, subst, arith, inl, inr}
+use Rattle.std.specs.Prelude.{not, slice_index_or}
+use Rattle.std.proofs.lemmas.List.{get_or_append_left, get_or_push}
+use Rattle.std.proofs.lemmas.Bool.{cases_eq}
+use Rattle.sja_link.specs.Accounts.{account}
+use Rattle.sja_link.specs.Deques.{Deques, Lies}
+use Rattle.sja_link.specs.NewLinks.{new_link}
+use Rattle.sja_plan.specs.Plan.{PlanValue, steps_at}
+use Rattle.sja_regs.specs.Registers.{at_power_on}
+use Rattle.sja_script.specs.declared.step.Step.{Step}
+use Rattle.sja_driver.specs.declared.logged_driver.LoggedDriver.{LoggedDriver}
+use Rattle.sja_driver.specs.Deeds.{given_in, deeds_of}
+use Rattle.sja_driver.specs.LoggedDrivers.{driver_of, log_of}
+use Rattle.sja_log.specs.Registering.LeadTo.{power_on}
+use Rattle.sja_log.specs.NewDrivers.{IsNewDriver, AreNew}
+use Rattle.sja_log.specs.Nodes.{IsNode}
+use Rattle.sja_driver.proofs.Step.NothingDone.{nothing_known, nothing_told}
+use Rattle.sja_driver.proofs.LogOfSteps.Logged.{room_less}
+use Rattle.can_node.proofs.Requests.Cuts.{none_held_first}
+
+-- one driver more
+pub new_push : (plan : PlanValue) (n : ℕ) (ds : List LoggedDriver) (x : LoggedDriver) → length ds ≡ n →
+    AreNew plan n ds → IsNewDriver n (length (steps_at plan n)) x → AreNew plan (n + 1) (ds ++ x ∷ [])
+new_push plan n ds x len made is node d less = elim (cases_eq n node) [
+  | inl e ↦
+      let at : slice_index_or (ds ++ x ∷ []) node d ≡ x = get_or_push ds x d node (len ∙ e) in
+      subst (λ (y : LoggedDriver). IsNewDriver node (length (steps_at plan node)) y) (sym at)
+      (subst (λ (m : ℕ). IsNewDriver m (length (steps_at plan m)) x) e is)
+  | inr differ ↦
+      subst (λ (y : LoggedDriver). IsNewDriver node (length (steps_at plan node)) y)
+      (sym (get_or_append_left ds (x ∷ []) d node (omega (arith, len, less, differ))))
+      (made node d (omega (arith, less, differ)))
+]
+
+-- ---- a node
+
+pub new_node : (version node : ℕ) (steps : List Step) (x : LoggedDriver) (links : List Deques) (base : ℕ) →
+    IsNewDriver node (length steps) x →
+    ((a : ℕ) (d : Deques) → a < 64 → slice_index_or links (base + a) d ≡ new_link node (suc a)) →
+    IsNode version steps [] [] x (at_power_on version) links base
+new_node version node steps x links base new fresh = record {
+  traced = record {
+    lawful = new.lawful;
+    traces = new.traces version;
+    within = omega arith;
+    first = refl;
+    room =
+        λ k l. room_less k (length steps) (log_of x) (omega (arith, l)) new.room;
+  };
+  linked = record {
+    holds = record {
+      got = λ a. [];
+      kept = λ a d few. subst (λ (s : Deques). Lies s (account [] (suc a) (record {
+        got = [];
+        given = given_in (deeds_of [] (suc a));
+      }))) (sym (fresh a d few)) (refl, refl);
+      told = λ a few. sym (nothing_told (driver_of x) (log_of x) a new.empty new.reset);
+      off_is = nothing_known (driver_of x) new.reset;
+      later = λ a less. refl;
+    };
+    taken = λ a d few. ap (λ (s : Deques). s.up) (fresh a d few);
+    level = record { begun = refl; ended = refl; asked = refl };
+  };
+  ported = record {
+    version_is = refl;
+    set = record {
+      version = refl;
+      lom = refl;
+      stm = refl;
+      afm = refl;
+      acr = refl;
+      amr = refl;
+      buffer = refl;
+      set_tec = refl;
+      set_rec = refl;
+      asks = refl;
+    };
+    reset = refl;
+    activation = refl;
+    unclosed = refl;
+    commanded = λ e. absurd cc;
+  };
+  asked = λ found cut. ap not (sym (none_held_first found cut));
+  counted = record {
+    items = omega arith;
+    verdicts = omega arith;
+    offs = omega arith;
+    aborts = λ found cut. omega arith;
+  };
+  done = tt;
+  in_time = record { when = λ a. refl; sees = tt; carries = tt; aborts = tt; patient = tt };
+  registers = power_on;
+}

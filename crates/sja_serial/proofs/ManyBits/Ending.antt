@@ -1,0 +1,65 @@
+-- Why bits up to the first that a port is told of ended.
+use Rattle.std.proofs.Common.{◌≡◌, ◌+◌, ℕ, Bool, List, inl, inr, refl, subst, arith}
+use Rattle.std.specs.Prelude.{◌⊎◌}
+use Rattle.sja_link.specs.Deques.{Deques}
+use Rattle.sja_bus.specs.Boards.{HasOrders}
+use Rattle.sja_bus.specs.UntilTold.{EndsUntilTold as EndsOnBus, RunsNone}
+use Rattle.sja_bus.specs.UntilTold.EndsUntilTold.{no_more as none_on_bus, told as told_on_bus}
+use Rattle.sja_bus.proofs.AllNodes.UntilTold.{held_of, none_of}
+use Rattle.sja_plan.specs.Plan.{PlanValue}
+use Rattle.sja_driver.specs.declared.logged_driver.LoggedDriver.{LoggedDriver}
+use Rattle.sja_driver.specs.Deeds.{Deed}
+use Rattle.sja_serial.specs.Serial.{SerialValue, StandsAt, IsRunOf, run_now}
+use Rattle.sja_serial.specs.UntilTold.{EndsUntilTold, TakesUntilTold, WorksUntold}
+use Rattle.sja_serial.specs.UntilTold.EndsUntilTold.{no_more, told, alone}
+use Rattle.sja_serial.proofs.ManyBits.ManyBits.{SerialMoment, ports}
+use Rattle.sja_serial.proofs.ManyBits.Telling.{run_told, takes_of}
+use Rattle.sja_serial.proofs.WholeRun.GoingOn.{bits_run}
+
+-- as those of the bus did
+pub ended_told : (to_rest : Bool) (count n : ℕ) (was now : SerialMoment) (drivers : List LoggedDriver)
+    (links back : List Deques) (bits run : ℕ) (r : SerialValue) →
+    run_now was.bus drivers was.board.board.ports.items was.board.turns.items links bits ≡ r →
+    EndsOnBus ports to_rest count was n now → EndsUntilTold to_rest count r n
+    (run_now now.bus drivers now.board.board.ports.items now.board.turns.items back run)
+ended_told to_rest count n was now drivers links back bits run r view ends =
+    subst (λ (x : SerialValue). EndsUntilTold to_rest count x n
+    (run_now now.bus drivers now.board.board.ports.items now.board.turns.items back run)) view (by_bus ends)
+  where
+    by_bus : EndsOnBus ports to_rest count was n now → EndsUntilTold to_rest count
+        (run_now was.bus drivers was.board.board.ports.items was.board.turns.items links bits) n
+        (run_now now.bus drivers now.board.board.ports.items now.board.turns.items back run)
+    by_bus (none_on_bus why) = no_more why
+    by_bus (told_on_bus node turn few is last) = told node turn few (is.port, is.noted) last
+
+-- ---- of as many as are left of those that were asked for
+
+module _ {plan : PlanValue} {was : SerialValue} (run : IsRunOf plan was) (most count : ℕ) where
+  left_there : (most ≡ count) ⊎ (was.bits + most ≡ plan.bits) → (most ≡ count) ⊎ (most ≡ was.bus.left)
+  left_there (inl all) = inl all
+  left_there (inr few) = let left = run.1.all_bits in let bits = run.1.bits in inr (omega (arith, few, left, bits))
+
+  -- one alone, where none of those was run
+  pub ended_alone : {to_rest : Bool} {after : SerialValue} → (most ≡ count) ⊎ (was.bits + most ≡ plan.bits) →
+      RunsNone (HasOrders was.ports) to_rest most was.bus → EndsUntilTold to_rest count was 1 after
+  ended_alone {to_rest} {after} which why =
+      alone refl (held_of (HasOrders was.ports) to_rest most count was.bus (left_there which) why)
+
+  -- and those that were run
+  pub ended_of : {to_rest : Bool} {now : SerialValue} {n : ℕ} → (most ≡ count) ⊎ (was.bits + most ≡ plan.bits) →
+      ((deeds : List (List Deed)) → StandsAt plan was deeds → TakesUntilTold plan deeds to_rest was n now) →
+      EndsUntilTold to_rest most was n now → EndsUntilTold to_rest count was n now
+  ended_of {to_rest} {now} {n} which bits (no_more why) =
+      no_more (none_of to_rest most count n now.bus (left_now (left_there which)) why)
+    where
+      left_now : (most ≡ count) ⊎ (most ≡ was.bus.left) → (most ≡ count) ⊎ (most ≡ now.bus.left + n)
+      left_now (inl all) = inl all
+      left_now (inr few) =
+          let before = run.1 in let after = (run_told run bits).1 in
+          let more = bits_run plan run.0 (WorksUntold plan to_rest was) was now n
+          (takes_of plan run.0 (WorksUntold plan to_rest was) was now n (bits run.0 run.1)) in
+          let a = before.all_bits in let b = before.bits in let c = after.all_bits in let d = after.bits in
+          inr (omega (arith, few, more, a, b, c, d))
+  ended_of which bits (told node turn few is last) = told node turn few is last
+  ended_of {to_rest} which bits (alone one why) =
+      alone one (held_of (HasOrders was.ports) to_rest most count was.bus (left_there which) why)
