@@ -1,5 +1,2 @@
-pub mod Bits
-pub mod Walks
-pub mod Nodes
-pub mod Orders
-pub mod Stuffs
+pub mod Fields
+pub mod FrameLines

@@ -52,7 +52,7 @@ impl NodeRows {
     }
 
     /// Both rows behind a text.
-    #[tactic(auto, using(sja_report::proofs::Written::two_texts))]
+    #[tactic(auto, using(sja_report::proofs::WrittenLines::Written::two_texts))]
     pub(crate) fn put(&self, text: &mut String, node: usize) -> Result<(), AllocError>
         ensures { OnOk result (string_bytes text.new ≡ string_bytes text.old ++ shown_rows node self.now) }
     {

@@ -1,17 +1,4 @@
-mod Items
-mod Keys
-mod Words
-mod Numbers
-mod StrikeWords
-mod Texts
-mod Nodes
-mod StrikeCounts
-pub mod WithinLimits
-pub mod ByVersion
-mod PassedOn
-mod OneMeaning
-mod OnePlan
-mod FirstBad
-mod DocumentFaults
-mod OneFault
-mod SetSteps
+pub mod Spelling
+pub mod PlanLimits
+pub mod OneReading
+pub mod Parts

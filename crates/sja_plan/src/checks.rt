@@ -23,7 +23,7 @@ use sja_script::{Step, Strike};
 use std::alloc::Global;
 
 /// The plan that a document is.
-#[tactic(auto, using(crate::proofs::ByVersion::version_is))]
+#[tactic(auto, using(crate::proofs::PlanLimits::ByVersion::version_is))]
 pub(crate) fn judge(alloc: Global, document: &Document) -> Result<Plan, PlanFault>
     ensures ok { IfOk result (λ p. SaysPlan (document_view document.now) p) }
     ensures err { IfErr result (IsDocumentFault (document_view document.now)) }

@@ -13,19 +13,19 @@ use super::turn::Turn;
 use sja_script::{Step, Strike};
 
 /// In a version a text says one step at most.
-#[tactic(auto, using(crate::proofs::OneMeaning::one_step))]
+#[tactic(auto, using(crate::proofs::OneReading::OneMeaning::one_step))]
 pub fn a_text_says_one_step()
     ensures { (version : ℕ) (text : Text) (s t : Step) → SaysStep version text s → SaysStep version text t → s ≡ t }
 {}
 
 /// A text says one turn at most.
-#[tactic(auto, using(crate::proofs::OneMeaning::one_turn))]
+#[tactic(auto, using(crate::proofs::OneReading::OneMeaning::one_turn))]
 pub fn a_text_says_one_turn()
     ensures { (nodes : ℕ) (text : Text) (t u : Turn) → SaysTurn nodes text t → SaysTurn nodes text u → t ≡ u }
 {}
 
 /// A text says one strike at most.
-#[tactic(auto, using(crate::proofs::OneMeaning::one_strike))]
+#[tactic(auto, using(crate::proofs::OneReading::OneMeaning::one_strike))]
 pub fn a_text_says_one_strike()
     ensures { (nodes : ℕ) (text : Text) (s t : Strike) → SaysStrike nodes text s → SaysStrike nodes text t → s ≡ t }
 {}
@@ -36,7 +36,7 @@ pub fn bytes_are_one_plan()
 {}
 
 /// Bytes have one first fault at most, but for refused memory.
-#[tactic(auto, using(crate::proofs::OneFault::one_fault))]
+#[tactic(auto, using(crate::proofs::OneReading::OneFault::one_fault))]
 pub fn bytes_have_one_first_fault()
     ensures { (bytes : List ℕ) (e f : PlanFault) → e ≢ PlanFault.Memory → f ≢ PlanFault.Memory
         → IsFirstFault bytes e → IsFirstFault bytes f → e ≡ f }

@@ -15,7 +15,7 @@ use toml::table_from_str;
 ///
 /// Errors: the first check that fails, in the order of [`PlanFault`]'s variants. Where the bytes are more than
 /// [`most_bytes`] only their number and their first line are looked at.
-#[tactic(auto, using(crate::proofs::PassedOn::shape_fault, crate::proofs::PassedOn::document_fault))]
+#[tactic(auto, using(crate::proofs::OneReading::PassedOn::passed_on))]
 pub fn read_plan(alloc: Global, bytes: &[u8]) -> Result<Plan, PlanFault>
     ensures ok { IfOk result (IsPlanOf bytes.now) }
     ensures err { IfErr result (IsFirstFault bytes.now) }

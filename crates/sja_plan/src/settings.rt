@@ -19,7 +19,7 @@ pub(crate) struct Settings {
 }
 
 /// The version and the number of bits, where they are known and within the limits.
-#[tactic(auto, using(crate::proofs::ByVersion::version_is))]
+#[tactic(auto, using(crate::proofs::PlanLimits::ByVersion::version_is))]
 pub(crate) fn settings_of(document: &Document) -> Result<Settings, PlanFault>
     ensures version { IfOk result (λ s. ((document_view document.now).version ≡ pos s.version)
         × (1 ≤ s.version) × (s.version ≤ 3)) }

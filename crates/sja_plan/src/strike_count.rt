@@ -1,6 +1,7 @@
 //! For how many strikes texts count.
 
-ghost use Rattle.std.specs.Prelude.{◌≡◌, ◌<◌, ◌≤◌, [], ◌∷◌, nat_le, map, IfOk};
+ghost use Rattle.std.specs.Prelude.{◌≡◌, ◌<◌, ◌≤◌, [], ◌∷◌, nat_le, map, unwrap_or, if◌then◌else◌};
+ghost use Rattle.std.specs.Prelude.{IfOk, IfSome};
 ghost use Rattle.sja_plan.specs.StrikeTexts.{strike_count, count_of, strikes_in};
 
 use super::word::{find_words, number};
@@ -47,8 +48,18 @@ fn last_of(node: &str, bit: &str, every: &str, times: &str) -> u32
     ensures value { result ≡ strike_count (node.now ∷ bit.now ∷ every.now ∷ times.now ∷ []) }
     ensures small { result < 10000000 }
 {
-    match (number(node), number(bit), number(every), number(times)) {
-        (Some(_), Some(_), Some(_), Some(times)) => times,
+    let others = number(node).is_some() && number(bit).is_some() && number(every).is_some();
+    times_or_one(others, number(times))
+}
+
+/// The times, where they are a number and the others are too, and else 1.
+fn times_or_one(others: bool, times: Option<u32>) -> u32
+    requires { IfSome times (λ n. n < 10000000) }
+    ensures value { result ≡ (if others then unwrap_or times 1 else 1) }
+    ensures small { result < 10000000 }
+{
+    match times {
+        Some(times) if others => times,
         _ => 1,
     }
 }

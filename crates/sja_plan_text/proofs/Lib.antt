@@ -1,13 +1,3 @@
-mod Words
-mod Messages
-mod Steps
-mod Turns
-mod Strikes
-mod Lists
-mod ReadPlans
-mod Values
-mod Shapes
-mod Plans
-mod Lines
-mod Parsed
-mod Alike
+pub mod Spelling
+pub mod Tables
+pub mod Documents

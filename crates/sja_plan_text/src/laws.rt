@@ -16,37 +16,37 @@ use sja_plan::Turn;
 use sja_script::{Step, Strike};
 
 /// In each version the text of a step says it, where a text can.
-#[tactic(auto, using(crate::proofs::Steps::step_said))]
+#[tactic(auto, using(crate::proofs::Spelling::Steps::step_said))]
 pub fn a_step_has_a_text()
     ensures { (version : ℕ) (s : Step) → HasStepText version s → SaysStep version (step_text s) s }
 {}
 
 /// A step that a text says is one that has a text.
-#[tactic(auto, using(crate::proofs::Steps::has_step_text))]
+#[tactic(auto, using(crate::proofs::Spelling::Steps::has_step_text))]
 pub fn said_steps_have_texts()
     ensures { (version : ℕ) (text : Text) (s : Step) → SaysStep version text s → HasStepText version s }
 {}
 
 /// The text of a turn says it, where a text can, in a plan that has its node.
-#[tactic(auto, using(crate::proofs::Turns::turn_said))]
+#[tactic(auto, using(crate::proofs::Spelling::Turns::turn_said))]
 pub fn a_turn_has_a_text()
     ensures { (nodes : ℕ) (t : Turn) → NamesNode nodes t → HasTurnText t → SaysTurn nodes (turn_text t) t }
 {}
 
 /// A turn that a text says is one that has a text.
-#[tactic(auto, using(crate::proofs::Turns::has_turn_text))]
+#[tactic(auto, using(crate::proofs::Spelling::Turns::has_turn_text))]
 pub fn said_turns_have_texts()
     ensures { (nodes : ℕ) (text : Text) (t : Turn) → SaysTurn nodes text t → NamesNode nodes t × HasTurnText t }
 {}
 
 /// The text of a strike says it, where a text can, in a plan that has its node.
-#[tactic(auto, using(crate::proofs::Strikes::strike_said))]
+#[tactic(auto, using(crate::proofs::Spelling::Strikes::strike_said))]
 pub fn a_strike_has_a_text()
     ensures { (nodes : ℕ) (s : Strike) → IsStrikeOn nodes s → HasStrikeText s → SaysStrike nodes (strike_text s) s }
 {}
 
 /// A strike that a text says is one that has a text.
-#[tactic(auto, using(crate::proofs::Strikes::has_strike_text))]
+#[tactic(auto, using(crate::proofs::Spelling::Strikes::has_strike_text))]
 pub fn said_strikes_have_texts()
     ensures { (nodes : ℕ) (text : Text) (s : Strike) → SaysStrike nodes text s → IsStrikeOn nodes s × HasStrikeText s }
 {}

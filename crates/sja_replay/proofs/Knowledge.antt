@@ -1,6 +1,5 @@
 -- What a replay knows of a journal, with an entry more.
 pub mod Places
-pub mod Cuts
 pub mod Knowing
 pub mod Entering
 pub mod SomeViews

@@ -1,5 +1,2 @@
-pub mod Texts
-pub mod PartTallies
-pub mod Written
-pub mod BusLevels
-pub mod Parts
+pub mod NodeTallies
+pub mod WrittenLines

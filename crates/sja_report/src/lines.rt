@@ -29,7 +29,7 @@ pub(crate) fn put_node_line(
 }
 
 /// A line for each step that was done.
-#[tactic(auto, using(crate::proofs::Texts::lines_both))]
+#[tactic(auto, using(crate::proofs::WrittenLines::Texts::lines_both))]
 pub(crate) fn put_steps(text: &mut String, done: &[Done]) -> Result<(), AllocError>
     ensures { OnOk result (string_bytes text.new ≡ string_bytes text.old
         ++ lines_text (numbered step_lines 1 done.now)) }

@@ -38,7 +38,7 @@ fn put_run_line(text: &mut String, version: u8, bits: u32, end: End) -> Result<(
 }
 
 /// The lines of each node.
-#[tactic(auto, using(crate::proofs::Texts::lines_both))]
+#[tactic(auto, using(crate::proofs::WrittenLines::Texts::lines_both))]
 fn put_nodes(alloc: Global, text: &mut String, nodes: &[NodeRun]) -> Result<(), AllocError>
     ensures { OnOk result (string_bytes text.new ≡ string_bytes text.old
         ++ lines_text (numbered node_lines 0 nodes.now)) }
@@ -52,7 +52,7 @@ fn put_nodes(alloc: Global, text: &mut String, nodes: &[NodeRun]) -> Result<(), 
 }
 
 /// The lines of a node.
-#[tactic(auto, using(crate::proofs::Texts::lines_both))]
+#[tactic(auto, using(crate::proofs::WrittenLines::Texts::lines_both))]
 fn put_node(
     alloc: Global,
     text: &mut String,
@@ -68,7 +68,7 @@ fn put_node(
 }
 
 /// The lines of each activation.
-#[tactic(auto, using(crate::proofs::PartTallies::tallied_right))]
+#[tactic(auto, using(crate::proofs::NodeTallies::PartTallies::tallied_right))]
 fn put_activations(alloc: Global, text: &mut String, node: &NodeRun) -> Result<(), AllocError>
     ensures { OnOk result (string_bytes text.new ≡ string_bytes text.old
         ++ lines_text (numbered (activation_lines node.now.journal) 1 node.now.activations)) }
@@ -79,7 +79,7 @@ fn put_activations(alloc: Global, text: &mut String, node: &NodeRun) -> Result<(
 }
 
 /// The lines of each activation, by what the entries before the first start and those of each activation come to.
-#[tactic(auto, using(crate::proofs::Texts::lines_both))]
+#[tactic(auto, using(crate::proofs::WrittenLines::Texts::lines_both))]
 fn put_tallied(
     text: &mut String,
     tallies: &[Tally],

@@ -1,20 +1,20 @@
 -- The lanes of nodes, drawn bit by bit.
-use Rattle.std.proofs.Common.{◌≡◌, ℕ, ◌+◌, ◌-◌, ◌<◌, ◌≤◌, suc, Option, List, [], ◌∷◌, ◌++◌, length, take}
+use Rattle.std.proofs.Common.{◌≡◌, ℕ, ◌+◌, ◌-◌, ◌<◌, ◌≤◌, suc, Option, List, [], ◌∷◌, ◌++◌, take}
 use Rattle.std.proofs.Common.{string_bytes, refl, sym, ap, ap₂, ◌∙◌, arith}
 use Rattle.std.specs.Prelude.{slice_get}
 use Rattle.std.specs.List.{range_with_len}
 use Rattle.can_bits.specs.declared.level.Level.{Level}
 use Rattle.lemmas.specs.Gathering.{gathered}
 use Rattle.lemmas.specs.Related.{EachRelated}
+use Rattle.lemmas.proofs.Ranges.{gathered_from, gathered_before}
 use Rattle.sja_frames.specs.declared.run.Run.{Run}
 use Rattle.sja_picture.specs.EqualLevels.{from_start}
 use Rattle.sja_picture.specs.Inside.Drawing.{run_past, run_after, is_full, AreShown, EachBeside}
-use Rattle.sja_picture.proofs.NodeRows.Drawing.{shown_more, shown_none}
 use Rattle.sja_picture.proofs.NodeRows.Runs.{run_next, full_is}
 use Rattle.sja_replay.specs.declared.happening.Happening.{Happening}
 use Rattle.sja_report.specs.ReportLines.{numbered}
 use Rattle.sja_trace.specs.Telling.{at_hand}
-use Rattle.sja_report.proofs.Written.{three_texts}
+use Rattle.sja_report.proofs.WrittenLines.Written.{three_texts}
 use Rattle.sja_trace.specs.TraceText.{driven_in}
 use Rattle.sja_trace.specs.declared.teller.Teller.{Teller}
 use Rattle.sja_svg.specs.declared.lane.Lane.{Lane}
@@ -28,19 +28,19 @@ use Rattle.sja_svg.specs.Inside.Drawing.{IsFresh, Passes, Draws, IsLane, shown_l
 
 pub none_yet : (f : ℕ → List ℕ) (first : ℕ) (text : List ℕ) → text ≡ [] →
     text ≡ gathered f (range_with_len first (0 - first))
-none_yet f first text none = none ∙ sym (shown_none f first 0 (omega arith))
+none_yet f first text none = none ∙ sym (gathered_before f first 0 (omega arith))
 
 pub still_none : (f : ℕ → List ℕ) (first bit : ℕ) (old new : List ℕ) → bit < first → new ≡ old →
     old ≡ gathered f (range_with_len first (bit - first)) → new ≡ gathered f (range_with_len first ((bit + 1) - first))
 still_none f first bit old new before same is =
-    same ∙ is ∙ shown_none f first bit (omega (arith, before))
-    ∙ sym (shown_none f first (bit + 1) (omega (arith, before)))
+    same ∙ is ∙ gathered_before f first bit (omega (arith, before))
+    ∙ sym (gathered_before f first (bit + 1) (omega (arith, before)))
 
 pub one_more : (f : ℕ → List ℕ) (first bit : ℕ) (old new more : List ℕ) → first ≤ bit → new ≡ old ++ more →
     more ≡ f bit → old ≡ gathered f (range_with_len first (bit - first)) →
     new ≡ gathered f (range_with_len first ((bit + 1) - first))
 one_more f first bit old new more reached wrote same is =
-    wrote ∙ ap₂ (λ (l m : List ℕ). l ++ m) is same ∙ sym (shown_more f first bit reached)
+    wrote ∙ ap₂ (λ (l m : List ℕ). l ++ m) is same ∙ sym (gathered_from f first bit reached)
 
 -- ---- the lane of a node
 
@@ -114,14 +114,6 @@ each_shown R P Q bit goes (hs ∷ told) (t ∷ ts) [] news shown r p = absurd r
 each_shown R P Q bit goes (hs ∷ told) (t ∷ ts) (o ∷ olds) [] shown r p = absurd r
 each_shown R P Q bit goes (hs ∷ told) (t ∷ ts) (o ∷ olds) (n ∷ news) shown r p =
     (goes hs (at_hand t.bits) o n shown.0 p.0 r.0, each_shown R P Q bit goes told ts olds news shown.1 r.1 p.1)
-
--- as many
-pub same_length : {A B : Type 0} (R : A → B → Type 0) (xs : List A) (ys : List B) → EachRelated R xs ys →
-    length ys ≡ length xs
-same_length R [] [] r = refl
-same_length R [] (y ∷ ys) r = absurd r
-same_length R (x ∷ xs) [] r = absurd r
-same_length R (x ∷ xs) (y ∷ ys) r = ap suc (same_length R xs ys r.1)
 
 -- the text of the lanes
 bits_shown : (b c l m s t : List ℕ) → b ≡ c → l ≡ m → s ≡ t → lane_bits b l s ≡ lane_bits c m t

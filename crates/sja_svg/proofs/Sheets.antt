@@ -1,6 +1,7 @@
 -- A drawing, bit by bit.
 use Rattle.std.proofs.Common.{◌≡◌, ℕ, ◌+◌, ◌-◌, ◌<◌, ◌≤◌, List, [], ◌++◌, length, string_bytes}
 use Rattle.std.proofs.Common.{refl, ap, ap₂, ◌∙◌, subst}
+use Rattle.std.proofs.lemmas.Slice.Zip.{AllZip-long}
 use Rattle.can_bits.specs.declared.level.Level.{Level}
 use Rattle.sja_log.specs.Log.{NodeValue}
 use Rattle.sja_picture.specs.Rows.{bus_in}
@@ -13,7 +14,7 @@ use Rattle.sja_replay.specs.declared.happening.Happening.{Happening}
 use Rattle.sja_report.specs.ReportLines.{numbered}
 use Rattle.sja_trace.specs.declared.teller.Teller.{Teller}
 use Rattle.sja_trace.specs.Inside.Coming.{driven_now}
-use Rattle.sja_report.proofs.Written.{three_texts}
+use Rattle.sja_report.proofs.WrittenLines.Written.{three_texts}
 use Rattle.sja_wire.specs.Wire.{wired}
 use Rattle.sja_svg.specs.declared.lane.Lane.{Lane}
 use Rattle.sja_svg.specs.declared.sheet.Sheet.{Sheet}
@@ -25,7 +26,7 @@ use Rattle.sja_svg.specs.DrawingText.{sheet_text}
 use Rattle.sja_svg.specs.Inside.Drawing.{IsFresh, AreFresh, Passes, Draws, IsLane, shown_lane}
 use Rattle.sja_svg.specs.Inside.Going.{DrawsBit, IsDrawn, TakesBit, shown_sheet}
 use Rattle.sja_svg.proofs.Lanes.{none_yet, still_none, one_more, fresh_lane, passed_lane, drawn_lane, each_shown}
-use Rattle.sja_svg.proofs.Lanes.{same_length, all_shown}
+use Rattle.sja_svg.proofs.Lanes.{all_shown}
 
 -- ---- before the first bit
 
@@ -67,7 +68,7 @@ pub sheet_drawn : (first bit : ℕ) (ts : List Teller) (olds news : List Lane) (
 sheet_drawn first bit ts olds news old new reached draws told shown d =
     let same = bus_shown bit told ts shown in
     let x = place_in first bit in
-    let many = same_length (IsLane (bus_in told) first bit) told olds d.lanes_are in
+    let many = AllZip-long (IsLane (bus_in told) first bit) told olds d.lanes_are in
     let level = wired (driven_now ts) in
     record {
       marks_are = one_more (mark_in (length told) first) first bit _ _ _ reached draws.marks
@@ -85,7 +86,7 @@ pub sheet_whole : (first end bit many : ℕ) (sheet : Sheet) (lanes : List Lane)
     (text : List ℕ) → text ≡ shown_sheet many sheet lanes → bit ≡ end → many ≡ end - first →
     IsDrawn first bit sheet lanes told → text ≡ sheet_text told first (end - first)
 sheet_whole first end bit many sheet lanes told text written is so_many d =
-    let count = same_length (IsLane (bus_in told) first bit) told lanes d.lanes_are in
+    let count = AllZip-long (IsLane (bus_in told) first bit) told lanes d.lanes_are in
     let P : ℕ → Type 0 = λ e. shown_sheet (e - first) sheet lanes ≡ sheet_text told first (e - first) in
     written ∙ ap (λ (m : ℕ). shown_sheet m sheet lanes) so_many
     ∙ subst P is

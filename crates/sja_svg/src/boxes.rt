@@ -59,7 +59,7 @@ pub(crate) fn put_box_if(
 }
 
 /// The box of a bit, which was this.
-#[tactic(auto, using(sja_report::proofs::Written::two_texts))]
+#[tactic(auto, using(sja_report::proofs::WrittenLines::Written::two_texts))]
 fn put_box(text: &mut String, x: u64, kind: Kind, bit: &Happening) -> Result<(), AllocError>
     ensures { OnOk result (string_bytes text.new ≡ string_bytes text.old ++ box_of x kind bit.now) }
 {

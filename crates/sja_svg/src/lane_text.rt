@@ -41,7 +41,7 @@ pub(crate) fn put_bits(
 }
 
 /// Its counters.
-#[tactic(auto, using(sja_report::proofs::Written::three_texts))]
+#[tactic(auto, using(sja_report::proofs::WrittenLines::Written::three_texts))]
 pub(crate) fn put_counters(
     text: &mut String,
     width: u64,

@@ -14,7 +14,7 @@ const BUS_HEAD: &str =
     "<g transform='translate(72 28)'>\n<text class='name' x='-64' y='17'>bus</text>\n";
 
 /// All that stands above the lanes of so many nodes.
-#[tactic(auto, using(sja_report::proofs::Written::three_texts))]
+#[tactic(auto, using(sja_report::proofs::WrittenLines::Written::three_texts))]
 pub(crate) fn put_top(
     text: &mut String,
     nodes: usize,
@@ -32,7 +32,7 @@ pub(crate) fn put_top(
 }
 
 /// The head.
-#[tactic(auto, using(sja_report::proofs::Written::two_texts))]
+#[tactic(auto, using(sja_report::proofs::WrittenLines::Written::two_texts))]
 fn put_head(text: &mut String, nodes: usize, many: u32) -> Result<(), AllocError>
     requires { nodes < 2 ^ 56 }
     ensures { OnOk result (string_bytes text.new ≡ string_bytes text.old ++ head nodes many) }
@@ -63,7 +63,7 @@ fn put_ruler(text: &mut String, marks: &str) -> Result<(), AllocError>
 }
 
 /// The bus.
-#[tactic(auto, using(sja_report::proofs::Written::two_texts))]
+#[tactic(auto, using(sja_report::proofs::WrittenLines::Written::two_texts))]
 fn put_bus(text: &mut String, levels: &str) -> Result<(), AllocError>
     ensures { OnOk result (string_bytes text.new ≡ string_bytes text.old ++ bus_lane levels.now) }
 {
@@ -80,7 +80,7 @@ fn put_level(text: &mut String, levels: &str) -> Result<(), AllocError>
 }
 
 /// The legend below the lanes of so many nodes, and the end.
-#[tactic(auto, using(sja_report::proofs::Written::two_texts))]
+#[tactic(auto, using(sja_report::proofs::WrittenLines::Written::two_texts))]
 pub(crate) fn put_foot(text: &mut String, nodes: usize) -> Result<(), AllocError>
     requires { nodes < 2 ^ 56 }
     ensures { OnOk result (string_bytes text.new ≡ string_bytes text.old ++ foot nodes) }

@@ -29,7 +29,7 @@ pub(crate) fn put_signs_if(
 }
 
 /// The signs of this bit.
-#[tactic(auto, using(sja_report::proofs::Written::two_texts))]
+#[tactic(auto, using(sja_report::proofs::WrittenLines::Written::two_texts))]
 fn put_signs(text: &mut String, x: u64, bus: Level, bit: &Happening) -> Result<(), AllocError>
     ensures { OnOk result (string_bytes text.new ≡ string_bytes text.old
         ++ (strike_if x bit.now.bit (is_struck bus bit.now)

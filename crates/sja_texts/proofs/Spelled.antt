@@ -7,7 +7,7 @@ use Rattle.std.proofs.lemmas.List.{map-append, map_more}
 use Rattle.can_frame.specs.Frame.{FrameValue, IsFrame}
 use Rattle.can_frame.specs.Message.{message}
 use Rattle.lemmas.proofs.Lists.{split_at}
-use Rattle.can_node.proofs.Contending.Winning.{zip_push}
+use Rattle.lemmas.proofs.Related.{related_push}
 use Rattle.sja_texts.specs.declared.command_refusal.CommandRefusal.{CommandRefusal}
 use Rattle.sja_texts.specs.Arbitrate.{SpellsFrame, RefusesFirst}
 use Rattle.sja_texts.specs.Message.{ReadsAs, RefusesMessage}
@@ -28,7 +28,8 @@ pub frames_more : (messages : List (Bor (List ℕ))) (frames : List FrameValue) 
 frames_more messages frames i d f within spelled this =
     let more = map_more (λ (digits : Bor (List ℕ)). digits.now) messages i d within in
     let P : List (List ℕ) → Type 0 = λ l. AllZip SpellsFrame l (frames ++ f ∷ []) in
-    subst P (sym more) (zip_push SpellsFrame (texts (take i messages)) frames (get_or messages i d).now f spelled this)
+    subst P (sym more)
+    (related_push SpellsFrame (texts (take i messages)) frames (get_or messages i d).now f spelled this)
 
 -- the first that is refused
 pub first_refused : (messages : List (Bor (List ℕ))) (frames : List FrameValue) (i : ℕ) (d : Bor (List ℕ))

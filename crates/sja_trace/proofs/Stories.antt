@@ -2,7 +2,6 @@
 pub mod Telling
 pub mod NodeStories
 pub mod LogStories
-pub mod Numbered
 pub mod StoredLines
 pub mod Passed
 pub mod WrittenBack

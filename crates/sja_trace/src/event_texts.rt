@@ -44,7 +44,7 @@ pub(crate) fn put_start_text(
 }
 
 /// Of SOF of an own frame.
-#[tactic(auto, using(sja_report::proofs::Written::two_texts))]
+#[tactic(auto, using(sja_report::proofs::WrittenLines::Written::two_texts))]
 fn put_own_start(text: &mut String, frame: &Frame) -> Result<(), AllocError>
     ensures { OnOk result (string_bytes text.new ≡ string_bytes text.old ++ own_start_text frame.now) }
 {
@@ -54,7 +54,7 @@ fn put_own_start(text: &mut String, frame: &Frame) -> Result<(), AllocError>
 }
 
 /// Of a level that isn't that of the bus.
-#[tactic(auto, using(sja_report::proofs::Written::three_texts))]
+#[tactic(auto, using(sja_report::proofs::WrittenLines::Written::three_texts))]
 pub(crate) fn put_strike_text(text: &mut String, bit: &Happening) -> Result<(), AllocError>
     ensures { OnOk result (string_bytes text.new ≡ string_bytes text.old ++ strike_text bit.now) }
 {
@@ -76,7 +76,7 @@ pub(crate) fn put_loss_text(text: &mut String, code: u8) -> Result<(), AllocErro
 }
 
 /// Of a fault.
-#[tactic(auto, using(sja_report::proofs::Written::two_texts))]
+#[tactic(auto, using(sja_report::proofs::WrittenLines::Written::two_texts))]
 pub(crate) fn put_fault_text(
     text: &mut String,
     cause: Cause,
@@ -113,7 +113,7 @@ pub(crate) fn put_flag_text(text: &mut String, flag: FlagKind) -> Result<(), All
 }
 
 /// Of a frame that was received.
-#[tactic(auto, using(sja_report::proofs::Written::three_texts))]
+#[tactic(auto, using(sja_report::proofs::WrittenLines::Written::three_texts))]
 pub(crate) fn put_reception_text(
     text: &mut String,
     frame: &Frame,
@@ -141,7 +141,7 @@ fn put_fate(text: &mut String, fate: Option<Fate>) -> Result<(), AllocError>
 }
 
 /// Of a request that ended.
-#[tactic(auto, using(sja_report::proofs::Written::two_texts))]
+#[tactic(auto, using(sja_report::proofs::WrittenLines::Written::two_texts))]
 pub(crate) fn put_end_text(
     text: &mut String,
     outcome: &Outcome,

@@ -21,7 +21,7 @@ use std::alloc::{AllocError, Global};
 use std::fmt::Write;
 
 /// The lines of the steps before this bit, in which the bus had this level, and then its own.
-#[tactic(auto, using(sja_report::proofs::Written::two_texts))]
+#[tactic(auto, using(sja_report::proofs::WrittenLines::Written::two_texts))]
 pub(crate) fn put_node(
     alloc: Global,
     text: &mut String,
@@ -136,7 +136,7 @@ fn put_line(text: &mut String, told: &Told, node: usize, bit: u32) -> Result<(),
 }
 
 /// What a line begins with.
-#[tactic(auto, using(sja_report::proofs::Written::five_texts))]
+#[tactic(auto, using(sja_report::proofs::WrittenLines::Written::five_texts))]
 fn put_opening(text: &mut String, node: usize, bit: u32) -> Result<(), AllocError>
     ensures { OnOk result (string_bytes text.new ≡ string_bytes text.old ++ line_opening bit node) }
 {

@@ -96,7 +96,7 @@ pub(crate) fn put_where(text: &mut String, view: &View) -> Result<(), AllocError
 }
 
 /// The segment, and whose frame it is.
-#[tactic(auto, using(sja_report::proofs::Written::two_texts))]
+#[tactic(auto, using(sja_report::proofs::WrittenLines::Written::two_texts))]
 fn put_in_frame(
     text: &mut String,
     segment: Option<Segment>,

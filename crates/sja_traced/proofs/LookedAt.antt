@@ -1,5 +1,4 @@
 -- What is looked at before bits and after them, node by node.
-pub mod SoFar
 pub mod OneByOne
 pub mod Looks
 pub mod Ahead

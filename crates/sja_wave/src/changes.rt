@@ -13,7 +13,7 @@ use super::values::{is_struck, put_bus, put_number, put_value};
 use std::alloc::AllocError;
 
 /// The values of all signals that changed.
-#[tactic(auto, using(sja_report::proofs::Written::two_texts))]
+#[tactic(auto, using(sja_report::proofs::WrittenLines::Written::two_texts))]
 pub(crate) fn put_changes(text: &mut String, probes: &[Probe<'_>]) -> Result<(), AllocError>
     ensures { OnOk result (string_bytes text.new ≡ string_bytes text.old ++ all_changes probes.now) }
 {
@@ -53,7 +53,7 @@ fn put_bus_change(text: &mut String, before: bool, now: bool) -> Result<(), Allo
 }
 
 /// The values of the signals of a node that changed.
-#[tactic(auto, using(sja_report::proofs::Written::two_texts))]
+#[tactic(auto, using(sja_report::proofs::WrittenLines::Written::two_texts))]
 fn put_node_changes(
     text: &mut String,
     number: usize,

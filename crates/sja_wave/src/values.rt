@@ -49,7 +49,7 @@ pub(crate) fn put_bus(text: &mut String, value: bool) -> Result<(), AllocError>
 }
 
 /// The values of the signals of a node.
-#[tactic(auto, using(sja_report::proofs::Written::two_texts))]
+#[tactic(auto, using(sja_report::proofs::WrittenLines::Written::two_texts))]
 fn put_node_values(
     text: &mut String,
     number: usize,

@@ -91,7 +91,7 @@ fn put_next(
 }
 
 /// The end of the last bit, after so many bits, and what changed after it.
-#[tactic(auto, using(sja_report::proofs::Written::two_texts))]
+#[tactic(auto, using(sja_report::proofs::WrittenLines::Written::two_texts))]
 fn put_end(text: &mut String, probes: &mut [Probe<'_>], bits: u32) -> Result<(), AllocError>
     ensures probes { OnOk result (EachRelated GoesOn probes.old probes.new) }
     ensures text { OnOk result (string_bytes text.new ≡ string_bytes text.old

@@ -1,11 +1,10 @@
 -- The rows of nodes, drawn bit by bit.
-use Rattle.std.proofs.Common.{◌≡◌, ℕ, ◌+◌, ◌-◌, ◌<◌, ◌≤◌, zero, suc, Option, List, [], ◌∷◌, ◌++◌, map, take}
-use Rattle.std.proofs.Common.{codes, refl, sym, ap, ap₂, ◌∙◌, append-nil, append_assoc, arith}
+use Rattle.std.proofs.Common.{◌≡◌, ℕ, ◌+◌, ◌-◌, ◌<◌, ◌≤◌, suc, Option, List, [], ◌∷◌, ◌++◌, map, take}
+use Rattle.std.proofs.Common.{codes, refl, sym, ap, ap₂, ◌∙◌, arith}
 use Rattle.std.specs.Prelude.{slice_get}
-use Rattle.std.specs.List.{range_with_len}
 use Rattle.can_bits.specs.declared.level.Level.{Level}
-use Rattle.lemmas.specs.Gathering.{gathered}
 use Rattle.lemmas.specs.Related.{EachRelated}
+use Rattle.lemmas.proofs.Ranges.{gathered_from, gathered_before}
 use Rattle.sja_frames.specs.declared.run.Run.{Run}
 use Rattle.sja_replay.specs.declared.happening.Happening.{Happening}
 use Rattle.sja_report.specs.ReportLines.{numbered}
@@ -21,43 +20,14 @@ use Rattle.sja_picture.specs.Inside.Drawing.{run_past, run_after, letter_after, 
 use Rattle.sja_picture.specs.Inside.Drawing.{shown_rows, AreRows, AreShown, EachBeside}
 use Rattle.sja_picture.proofs.NodeRows.Runs.{run_next, letter_is}
 
--- ---- what a row shows, with one bit more
-
-gathered_last : (f : ℕ → List ℕ) (start many bit : ℕ) → start + many ≡ bit →
-    gathered f (range_with_len start (suc many)) ≡ gathered f (range_with_len start many) ++ f bit
-gathered_last f start zero bit here =
-    let same : start ≡ bit = omega (arith, here) in append-nil (f start) ∙ ap f same
-gathered_last f start (suc many) bit here =
-    ap (λ l. f start ++ l) (gathered_last f (start + 1) many bit (omega (arith, here)))
-    ∙ sym (append_assoc (f start) (gathered f (range_with_len (start + 1) many)) (f bit))
-
-pub shown_more : (f : ℕ → List ℕ) (start bit : ℕ) → start ≤ bit →
-    gathered f (range_with_len start ((bit + 1) - start)) ≡ gathered f (range_with_len start (bit - start)) ++ f bit
-shown_more f start bit reached =
-    let many : (bit + 1) - start ≡ suc (bit - start) = omega (arith, reached) in
-    let here : start + (bit - start) ≡ bit = omega (arith, reached) in
-    ap (λ (n : ℕ). gathered f (range_with_len start n)) many ∙ gathered_last f start (bit - start) bit here
-
-pub gathered_more : (f : ℕ → List ℕ) (n : ℕ) →
-    gathered f (range_with_len 0 (n + 1)) ≡ gathered f (range_with_len 0 n) ++ f n
-gathered_more f n =
-    let one : n + 1 ≡ suc n = omega arith in
-    let here : 0 + n ≡ n = omega arith in
-    ap (λ (m : ℕ). gathered f (range_with_len 0 m)) one ∙ gathered_last f 0 n n here
-
-pub shown_none : (f : ℕ → List ℕ) (start bit : ℕ) → bit ≤ start →
-    gathered f (range_with_len start (bit - start)) ≡ []
-shown_none f start bit before =
-    let none : bit - start ≡ 0 = omega arith in ap (λ (n : ℕ). gathered f (range_with_len start n)) none
-
 -- ---- the rows of a node
 
 pub fresh_rows : (bus : ℕ → Level) (start : ℕ) (hs : List Happening) (rows : NodeRows) → IsFresh rows →
     AreRows bus start 0 hs rows
 fresh_rows bus start hs rows fresh = record {
   run = fresh.run;
-  levels = fresh.levels ∙ sym (shown_none (driven_sign hs) start 0 (omega arith));
-  letters = fresh.letters ∙ sym (shown_none (letter_in bus hs) start 0 (omega arith));
+  levels = fresh.levels ∙ sym (gathered_before (driven_sign hs) start 0 (omega arith));
+  letters = fresh.letters ∙ sym (gathered_before (letter_in bus hs) start 0 (omega arith));
 }
 
 run_on_to : (hs : List Happening) (bit : ℕ) (o : Option Happening) (old new : NodeRows) → o ≡ slice_get hs bit →
@@ -72,10 +42,10 @@ passed_rows : (bus : ℕ → Level) (start bit : ℕ) (hs : List Happening) (o :
     AreRows bus start (bit + 1) hs new
 passed_rows bus start bit hs o old new before is rows p = record {
   run = run_on_to hs bit o old new is rows.run p.run;
-  levels = p.levels ∙ rows.levels ∙ shown_none (driven_sign hs) start bit (omega arith)
-      ∙ sym (shown_none (driven_sign hs) start (bit + 1) (omega arith));
-  letters = p.letters ∙ rows.letters ∙ shown_none (letter_in bus hs) start bit (omega arith)
-      ∙ sym (shown_none (letter_in bus hs) start (bit + 1) (omega arith));
+  levels = p.levels ∙ rows.levels ∙ gathered_before (driven_sign hs) start bit (omega arith)
+      ∙ sym (gathered_before (driven_sign hs) start (bit + 1) (omega arith));
+  letters = p.letters ∙ rows.letters ∙ gathered_before (letter_in bus hs) start bit (omega arith)
+      ∙ sym (gathered_before (letter_in bus hs) start (bit + 1) (omega arith));
 }
 
 -- one that is shown
@@ -85,13 +55,13 @@ drawn_rows : (bus : ℕ → Level) (start bit : ℕ) (hs : List Happening) (o : 
 drawn_rows bus start bit hs o level old new reached is same rows d = record {
   run = run_on_to hs bit o old new is rows.run d.run;
   levels = d.levels ∙ ap₂ (λ l x. l ++ level_sign (driven_in x)) rows.levels is
-      ∙ sym (shown_more (driven_sign hs) start bit reached);
+      ∙ sym (gathered_from (driven_sign hs) start bit reached);
   letters = d.letters
       ∙ ap₂ (λ l (x : List ℕ). l ++ x) rows.letters
       (ap₂ (λ (b : Level) (r : Option Run). letter_after b r o) same rows.run
       ∙ ap (λ x. letter_after (bus bit) (run_after (take bit hs)) x) is
       ∙ letter_is (bus bit) (take bit hs) (slice_get hs bit))
-      ∙ sym (shown_more (letter_in bus hs) start bit reached);
+      ∙ sym (gathered_from (letter_in bus hs) start bit reached);
 }
 
 -- a block ended before this bit
@@ -99,8 +69,8 @@ cleared_rows : (bus : ℕ → Level) (start bit : ℕ) (hs : List Happening) (ol
     AreRows bus start bit hs old → Clears old new → AreRows bus bit bit hs new
 cleared_rows bus start bit hs old new rows c = record {
   run = c.run ∙ rows.run;
-  levels = c.levels ∙ sym (shown_none (driven_sign hs) bit bit (omega arith));
-  letters = c.letters ∙ sym (shown_none (letter_in bus hs) bit bit (omega arith));
+  levels = c.levels ∙ sym (gathered_before (driven_sign hs) bit bit (omega arith));
+  letters = c.letters ∙ sym (gathered_before (letter_in bus hs) bit bit (omega arith));
 }
 
 -- ---- of all nodes

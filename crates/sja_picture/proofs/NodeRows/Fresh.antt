@@ -4,7 +4,7 @@ use Rattle.std.proofs.Common.{sym, ap, ◌∙◌, subst, append_assoc, arith}
 use Rattle.std.proofs.lemmas.List.{take_all}
 use Rattle.lemmas.specs.Related.{EachRelated}
 use Rattle.sja_log.specs.Log.{NodeValue}
-use Rattle.sja_report.proofs.Written.{four_texts}
+use Rattle.sja_report.proofs.WrittenLines.Written.{four_texts}
 use Rattle.sja_trace.specs.declared.teller.Teller.{Teller}
 use Rattle.sja_picture.specs.Inside.Pages.{AreFirst}
 

@@ -3,7 +3,7 @@ use Rattle.std.proofs.Common.{◌≡◌, inl, inr, ℕ, zero, suc, Bool, true, f
 use Rattle.std.proofs.Common.{Option, Some, None, List, [], ◌∷◌, ◌++◌, map, take, refl, sym, ap, ◌∙◌}
 use Rattle.std.specs.Prelude.{slice_get, option_map}
 use Rattle.std.specs.List.{list_any}
-use Rattle.std.proofs.lemmas.Bool.{cases_Bool}
+use Rattle.std.proofs.lemmas.Bool.{cases_Bool, or_right}
 use Rattle.can_bits.specs.declared.level.Level.{Level}
 use Rattle.sja_frames.specs.declared.run.Run.{Run}
 use Rattle.sja_frames.specs.FrameBits.{one_level, run_on, run_of}
@@ -20,13 +20,9 @@ abbrev behind_start : List Happening → Happening → List Happening
 behind_start [] h = []
 behind_start (sof ∷ hs) h = sof ∷ (hs ++ h ∷ [])
 
-or_true : (b : Bool) → (b || true) ≡ true
-or_true true = refl
-or_true false = refl
-
 any_yes : (hs : List Happening) (h : Happening) → is_start h ≡ true → list_any is_start (hs ++ h ∷ []) ≡ true
 any_yes [] h holds = ap (λ (b : Bool). b || false) holds
-any_yes (x ∷ hs) h holds = ap (λ (b : Bool). is_start x || b) (any_yes hs h holds) ∙ or_true (is_start x)
+any_yes (x ∷ hs) h holds = ap (λ (b : Bool). is_start x || b) (any_yes hs h holds) ∙ or_right (is_start x) true refl
 
 any_no : (hs : List Happening) (h : Happening) → is_start h ≡ false →
     list_any is_start (hs ++ h ∷ []) ≡ list_any is_start hs

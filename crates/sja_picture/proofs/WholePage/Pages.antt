@@ -5,6 +5,7 @@ use Rattle.std.specs.Prelude.{nat_le, nat_lt}
 use Rattle.std.specs.List.{range_with_len}
 use Rattle.lemmas.specs.Gathering.{gathered}
 use Rattle.lemmas.specs.Related.{EachRelated}
+use Rattle.lemmas.proofs.Ranges.{gathered_from, gathered_to, gathered_before}
 use Rattle.sja_log.specs.Log.{NodeValue}
 use Rattle.sja_replay.specs.declared.happening.Happening.{Happening}
 use Rattle.sja_trace.specs.declared.teller.Teller.{Teller}
@@ -15,17 +16,13 @@ use Rattle.sja_picture.specs.declared.node_rows.NodeRows.{NodeRows}
 use Rattle.sja_picture.specs.declared.page.Page.{Page}
 use Rattle.sja_picture.specs.declared.span.Span.{Span}
 use Rattle.sja_picture.specs.Rows.{level_sign, ruler_in, bus_in, bus_sign}
-use Rattle.sja_picture.specs.PictureText.{row, to_ten, length_of, block_text, block_in}
-use Rattle.sja_picture.specs.PictureText.{picture_text}
+use Rattle.sja_picture.specs.PictureText.{row, to_ten, length_of, block_text, block_in, picture_text}
 use Rattle.sja_picture.specs.Inside.Drawing.{Passes, IsFresh, AreFresh, AreRows, AreShown, EachBeside}
 use Rattle.sja_picture.specs.Inside.Pages.{DrawsBit, EndsBlock, space_if, shown_block, IsAt, IsDrawn}
 use Rattle.sja_picture.specs.Inside.Pages.{TakesBit, no_plan, AreFirst}
-use Rattle.sja_picture.proofs.WholePage.Places.{at_passed, at_drawn, at_ended, first_at, going, ending, later}
-use Rattle.sja_picture.proofs.WholePage.Places.{length_is}
+use Rattle.sja_picture.proofs.WholePage.Places.{at_passed, at_drawn, at_ended, first_at, going, ending, length_is}
 use Rattle.sja_picture.proofs.WholePage.Places.{space_is}
-use Rattle.sja_picture.proofs.NodeRows.Drawing.{shown_more, shown_none, gathered_more, all_passed, all_drawn}
-use Rattle.sja_picture.proofs.NodeRows.Drawing.{all_cleared}
-use Rattle.sja_picture.proofs.NodeRows.Drawing.{all_shown, bus_shown, fresh_rows}
+use Rattle.sja_picture.proofs.NodeRows.Drawing.{all_passed, all_drawn, all_cleared, all_shown, bus_shown, fresh_rows}
 use Rattle.sja_picture.proofs.NodeRows.Stories.{Begin, Knows, knows_first}
 
 -- ---- a block
@@ -70,7 +67,7 @@ page_first nodes span ts rows page first fresh text start bus =
       block = 0;
       at = subst P (sym start) (first_at span.first span.end);
       text_is = text;
-      bus_is = bus ∙ sym (shown_none (bus_sign told) page.start 0 (omega arith));
+      bus_is = bus ∙ sym (gathered_before (bus_sign told) page.start 0 (omega arith));
       rows_are = first_each (λ (n : NodeValue) (r : NodeRows). IsFresh r) (AreRows (bus_in told) page.start 0)
           (λ n hs r f. fresh_rows (bus_in told) page.start hs r f) 0 nodes ts first.stories told rows first.have begin
           fresh;
@@ -107,8 +104,8 @@ page_passed span bit ts olds news page before within p told shown d =
       block = d.block;
       at = at_passed span.first span.end bit page.start d.block before within d.at;
       text_is = d.text_is;
-      bus_is = d.bus_is ∙ shown_none (bus_sign told) page.start bit (omega (arith, behind))
-          ∙ sym (shown_none (bus_sign told) page.start (bit + 1) (omega (arith, behind)));
+      bus_is = d.bus_is ∙ gathered_before (bus_sign told) page.start bit (omega (arith, behind))
+          ∙ sym (gathered_before (bus_sign told) page.start (bit + 1) (omega (arith, behind)));
       rows_are = all_passed (bus_in told) page.start bit told ts olds news behind shown p d.rows_are;
     }
 
@@ -124,7 +121,7 @@ has_drawn span bit ts olds news old new told reached shown d draws =
     let same = bus_shown bit told ts shown in
     record {
       bus_is = draws.bus ∙ ap₂ (λ l b. l ++ level_sign b) d.bus_is same
-          ∙ sym (shown_more (bus_sign told) old.start bit reached);
+          ∙ sym (gathered_from (bus_sign told) old.start bit reached);
       rows_are = all_drawn (bus_in told) old.start bit (wired (driven_now ts)) told ts olds news reached same shown
           draws.rows d.rows_are;
     }
@@ -181,8 +178,8 @@ page_ended span bit ts olds mids news old mid new from within draws over ends to
           (space_is span.first old.start d.block is)
           (block_is told old.start (bit + 1) (string_bytes mid.bus) mids h.bus_is h.rows_are
           ∙ ap₂ (λ (s n : ℕ). block_text told s n) is many)
-          ∙ sym (gathered_more (block_in told span.first span.end) d.block);
-      bus_is = ends.bus ∙ sym (shown_none (bus_sign told) new.start (bit + 1) (later ends.start));
+          ∙ sym (gathered_to (block_in told span.first span.end) d.block);
+      bus_is = ends.bus ∙ sym (gathered_before (bus_sign told) new.start (bit + 1) (omega (arith, ends.start)));
       rows_are = subst Q (sym ends.start)
           (all_cleared (bus_in told) old.start (bit + 1) told mids news h.rows_are ends.rows);
     }

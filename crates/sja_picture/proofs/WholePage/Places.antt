@@ -69,9 +69,6 @@ pub ending : (end stop start : ℕ) → (nat_le end stop || nat_le 120 (stop - s
     (end ≤ stop) ⊎ (120 ≤ stop - start)
 ending end stop start over = grind (arith, nat_tests)
 
-pub later : {a b : ℕ} → a ≡ b → b ≤ a
-later is = omega arith
-
 -- ---- a block
 
 pub length_is : (first end bit start block : ℕ) → start ≡ start_of first block → bit < start + 120 → bit < end →

@@ -6,9 +6,9 @@ use Rattle.std.specs.List.{range_with_len}
 use Rattle.std.specs.Str.{IsAscii}
 use Rattle.std.proofs.lemmas.Fmt.{IsAscii-decimal}
 use Rattle.lemmas.specs.Gathering.{gathered}
+use Rattle.lemmas.proofs.Ranges.{gathered_from, gathered_before}
 use Rattle.sja_picture.specs.Rows.{character_if, ruler_in}
 use Rattle.sja_picture.specs.PictureText.{row, to_ten, end_of_ten}
-use Rattle.sja_picture.proofs.NodeRows.Drawing.{shown_more, shown_none}
 
 -- the columns of these bits, behind a text and a head
 abbrev pub ruled : List ℕ → List ℕ → ℕ → ℕ → List ℕ
@@ -18,7 +18,7 @@ ruled old head bit number = old ++ (head ++ gathered ruler_in (range_with_len bi
 pub ruled_none : (old head new : List ℕ) (bit : ℕ) → new ≡ old ++ head → new ≡ ruled old head bit bit
 ruled_none old head new bit wrote =
     wrote ∙ ap (λ l. old ++ l) (sym (append-nil head))
-    ∙ ap (λ l. old ++ (head ++ l)) (sym (shown_none ruler_in bit bit (omega arith)))
+    ∙ ap (λ l. old ++ (head ++ l)) (sym (gathered_before ruler_in bit bit (omega arith)))
 
 -- one more
 pub ruled_more : (old head text new ten : List ℕ) (bit number : ℕ) → bit ≤ number →
@@ -29,7 +29,7 @@ ruled_more old head text new ten bit number from is wrote so_far =
     wrote ∙ ap₂ (λ l t. l ++ character_if (slice_get t (number % 10))) so_far is
     ∙ append_assoc old (head ++ shown) (ruler_in number)
     ∙ ap (λ l. old ++ l) (append_assoc head shown (ruler_in number))
-    ∙ ap (λ l. old ++ (head ++ l)) (sym (shown_more ruler_in bit number from))
+    ∙ ap (λ l. old ++ (head ++ l)) (sym (gathered_from ruler_in bit number from))
 
 -- all
 pub ruled_all : (old head text new : List ℕ) (bit many number : ℕ) → end_of_ten ((bit + many) - 1) ≤ number →

@@ -25,7 +25,7 @@ use Rattle.sja_replay.specs.Inside.Walking.{HasLooked, IsClosed, IsBrought, Clos
 use Rattle.sja_replay.specs.Replaying.{with_ahead, left_of, IsAt}
 use Rattle.sja_replay.specs.Taking.{last_part}
 use Rattle.sja_replay.specs.Viewing.{Shows}
-use Rattle.sja_replay.proofs.Knowledge.Cuts.{drives_same}
+use Rattle.can_node.proofs.OneCut.SameCuts.{drives_same}
 use Rattle.sja_replay.proofs.BitTaken.Closings.{brought_behind, bit_told, off_told}
 use Rattle.sja_replay.proofs.Knowledge.Places.{ends_push, free_on}
 

@@ -12,8 +12,7 @@ use Rattle.sja_replay.specs.declared.fate.Fate.{Fate}
 use Rattle.sja_replay.specs.declared.misfit.Misfit.{Misfit}
 use Rattle.sja_replay.specs.declared.replay.Replay.{Replay}
 use Rattle.sja_replay.specs.Closing.{Judges, HasFate, Closes, off_if}
-use Rattle.sja_replay.specs.Inside.Walking.{HasLooked, IsSame, IsTakenFrom, IsJudged, IsVerdictTaken, GoesOff}
-use Rattle.sja_replay.specs.Inside.Walking.{IsClosed}
+use Rattle.sja_replay.specs.Inside.Walking.{HasLooked, IsSame, IsTakenFrom, IsJudged, IsVerdictTaken, GoesOff, IsClosed}
 use Rattle.sja_replay.specs.Replaying.{with_ahead, left_of}
 use Rattle.sja_replay.proofs.BitTaken.Closings.{IsVerdict, verdict_of}
 use Rattle.sja_replay.proofs.BitTaken.Closings.IsVerdict.{none, stored, overrun}

@@ -13,8 +13,7 @@ use Rattle.can_node.specs.Pieces.{Place}
 use Rattle.can_node.specs.Effects.{is_in_progress}
 use Rattle.can_node.specs.NextBit.{now_in}
 use Rattle.can_node.specs.Stands.{StandsAt, Enters as NodeEnters, Requests, Aborts, ShowsPhase, abort_of}
-use Rattle.sja_link.specs.NodeWords.{NodeEntry, NodeStarted, NodeStopped, NodeAsked, NodeAborted}
-use Rattle.sja_link.specs.NodeWords.{FinishedPiece, IsCut}
+use Rattle.sja_link.specs.NodeWords.{NodeEntry, NodeStarted, NodeStopped, NodeAsked, NodeAborted, FinishedPiece, IsCut}
 use Rattle.sja_link.specs.declared.up.Up.TheVariants.{Start, Credit, Send, Stop}
 use Rattle.sja_link.specs.declared.entry.Entry.{Entry}
 use Rattle.sja_link.specs.declared.entry.Entry.TheVariants.{Up as Item, Abort}
@@ -25,7 +24,7 @@ use Rattle.sja_replay.specs.declared.replay.Replay.{Replay}
 use Rattle.sja_replay.specs.Replaying.{IsAt}
 use Rattle.sja_link.specs.LookingBack.{is_abort}
 use Rattle.sja_replay.specs.Taking.{TakesRequest, IsTaken, last_part}
-use Rattle.sja_replay.proofs.Knowledge.Cuts.{same_now, same_phase, same_place}
+use Rattle.can_node.proofs.OneCut.SameCuts.{same_now, same_phase, same_place}
 use Rattle.sja_replay.proofs.Knowledge.Places.{at_next, free_on, free_new}
 
 -- no entry is passed, and no bit

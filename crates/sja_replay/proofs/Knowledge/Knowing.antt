@@ -12,7 +12,7 @@ use Rattle.sja_link.specs.declared.entry.Entry.{Entry}
 use Rattle.sja_link.specs.Records.{record_of}
 use Rattle.sja_replay.specs.declared.view.View.{View}
 use Rattle.sja_replay.specs.Viewing.{IsView, Shows}
-use Rattle.sja_replay.proofs.Knowledge.Cuts.{same_now, same_place, same_bits, same_phase}
+use Rattle.can_node.proofs.OneCut.SameCuts.{same_now, same_place, same_bits, same_phase}
 use Rattle.sja_replay.proofs.Once.Views.{view_once}
 use Rattle.sja_replay.specs.Knowing.{Knows, KnowsPlace}
 

@@ -1,6 +1,5 @@
 -- What a replay knows of a journal, with an entry more.
-use Rattle.std.proofs.Common.{◌≡◌, ℕ, ◌+◌, None, List, [], ◌∷◌, ◌++◌, refl, sym, ap}
-use Rattle.std.proofs.Common.{◌∙◌, subst, arith}
+use Rattle.std.proofs.Common.{◌≡◌, ℕ, ◌+◌, None, List, [], ◌∷◌, ◌++◌, refl, sym, ap, ◌∙◌, subst, arith}
 use Rattle.lemmas.proofs.Gathered.{total_push}
 use Rattle.can_node.specs.declared.config.Config.{Config}
 use Rattle.can_node.specs.Stands.{StandsAt}

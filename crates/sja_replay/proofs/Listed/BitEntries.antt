@@ -6,8 +6,7 @@ use Rattle.can_frame.specs.Frame.{FrameValue}
 use Rattle.can_frame.specs.Message.{message}
 use Rattle.can_node.specs.declared.bit_events.BitEvents.{BitEvents}
 use Rattle.can_node.specs.Stands.{closed_by, entries_of}
-use Rattle.sja_link.specs.NodeWords.{NodeEntry, NodeTook, received, IsCut}
-use Rattle.sja_link.specs.NodeWords.{none_yet, counted}
+use Rattle.sja_link.specs.NodeWords.{NodeEntry, NodeTook, received, IsCut, none_yet, counted}
 use Rattle.sja_link.specs.declared.entry.Entry.{Entry}
 use Rattle.sja_link.specs.declared.entry.Entry.TheVariants.{Bit, Up as Item, Abort, Stored as StoredEntry}
 use Rattle.sja_link.specs.declared.entry.Entry.TheVariants.{Overrun as OverrunEntry, Off}
@@ -15,10 +14,8 @@ use Rattle.sja_link.specs.declared.verdict.Verdict.{Verdict}
 use Rattle.sja_link.specs.declared.verdict.Verdict.TheVariants.{Stored as ToStore, Overrun as ToLose}
 use Rattle.sja_link.specs.Free.{free_of}
 use Rattle.sja_link.specs.Records.{record_of}
-use Rattle.sja_wire.proofs.Journal.BitRecords.{record_bit}
-use Rattle.sja_wire.proofs.Journal.BitRecords.{entries_split}
-use Rattle.sja_wire.specs.OneBit.{off_left}
-use Rattle.sja_wire.specs.OneBit.{HasBit, judged_as, off_as}
+use Rattle.sja_link.proofs.Growing.BitRecords.{record_bit, entries_split}
+use Rattle.sja_link.specs.BitEntries.{off_left, HasBit, judged_as, off_as}
 use Rattle.sja_wire.specs.Telling.{IsTurn}
 use Rattle.sja_regs.specs.declared.bus_turn.BusTurn.{BusTurn}
 use Rattle.sja_replay.specs.declared.fate.Fate.{Fate}
@@ -31,7 +28,7 @@ use Rattle.sja_replay.specs.Quiet.{IsQuiet}
 
 -- ---- the entries that a bit brings
 
-off_alike : (off : Bool) → off_as off ≡ off_if off
+pub off_alike : (off : Bool) → off_as off ≡ off_if off
 off_alike true = refl
 off_alike false = refl
 

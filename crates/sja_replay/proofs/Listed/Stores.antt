@@ -8,13 +8,12 @@ use Rattle.can_bits.specs.declared.level.Level.{Level}
 use Rattle.can_node.proofs.Contending.FieldLevels.{get-append_left, get-append_right}
 use Rattle.can_node.proofs.OneCut.Entries.{some_not_none}
 use Rattle.sja_link.specs.declared.entry.Entry.{Entry}
-use Rattle.sja_link.specs.declared.entry.Entry.TheVariants.{Bit, Stored as StoredEntry}
-use Rattle.sja_link.specs.declared.entry.Entry.TheVariants.{Overrun as OverrunEntry, Off}
+use Rattle.sja_link.specs.declared.entry.Entry.TheVariants.{Bit, Stored as StoredEntry, Overrun as OverrunEntry, Off}
 use Rattle.sja_link.specs.declared.verdict.Verdict.{Verdict}
 use Rattle.sja_link.specs.declared.verdict.Verdict.TheVariants.{Stored as ToStore, Overrun as ToLose}
 use Rattle.sja_link.specs.Places.{JournalPlace, place_of}
 use Rattle.sja_link.proofs.JournalEntries.Entering.{place_push}
-use Rattle.sja_wire.specs.OneBit.{HasBit, judged_as, off_as}
+use Rattle.sja_link.specs.BitEntries.{HasBit, judged_as, off_as}
 use Rattle.sja_replay.specs.declared.happening.Happening.{Happening}
 use Rattle.sja_replay.specs.Stored.{IsStoredIn, AllStored}
 use Rattle.sja_replay.proofs.Listed.BitEntries.{StoresIn}

@@ -15,7 +15,7 @@ use Rattle.sja_link.specs.declared.entry.Entry.{Entry}
 use Rattle.sja_link.specs.Records.{record_of}
 use Rattle.sja_replay.specs.declared.happening.Happening.{Happening}
 use Rattle.sja_replay.specs.Happening.{Brings, bit_of}
-use Rattle.sja_replay.proofs.Knowledge.Cuts.{same_now, same_place, same_bits}
+use Rattle.can_node.proofs.OneCut.SameCuts.{same_now, same_place, same_bits}
 use Rattle.sja_replay.proofs.Once.Views.{view_once}
 
 -- the role by cuts of two records that are one

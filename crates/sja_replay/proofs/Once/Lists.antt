@@ -18,7 +18,7 @@ use Rattle.sja_replay.specs.Happened.IsUntold.{misdriven, misfits, uncounted}
 use Rattle.sja_replay.specs.Happened.Happened.{over, between, bit, refused, untold}
 use Rattle.sja_replay.specs.Happening.{Brings}
 use Rattle.sja_replay.specs.Taking.{last_part}
-use Rattle.sja_replay.proofs.Knowledge.Cuts.{drives_by}
+use Rattle.can_node.proofs.OneCut.SameCuts.{drives_by}
 use Rattle.sja_replay.proofs.Once.Bits.{AreAlike, brings_once}
 
 -- ---- what a bit brought

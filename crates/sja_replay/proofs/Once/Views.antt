@@ -9,11 +9,11 @@ use Rattle.can_node.specs.Pieces.Place.{AtReset, AtIntegration, AtIdle, AfterSof
 use Rattle.can_node.specs.Pieces.Place.{AtLastEofBit, AtFlag, AtDelimiter, AtInterframeSpace}
 use Rattle.can_node.specs.NextBit.{open_bits}
 use Rattle.can_node.specs.NextField.{IsInSegment, SegmentAt}
-use Rattle.can_node.proofs.Bits.Nexts.{IsNext-unique}
+use Rattle.can_bits.proofs.NextOnce.{IsNext-unique}
 use Rattle.sja_link.specs.NodeWords.{NodeEntry, FinishedPiece, IsCut}
 use Rattle.sja_replay.specs.declared.view.View.{View}
 use Rattle.sja_replay.specs.Viewing.{IsView}
-use Rattle.sja_replay.proofs.Knowledge.Cuts.{same_now, same_place, same_bits, same_phase}
+use Rattle.can_node.proofs.OneCut.SameCuts.{same_now, same_place, same_bits, same_phase}
 
 -- ---- the segment
 

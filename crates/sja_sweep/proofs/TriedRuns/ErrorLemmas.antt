@@ -1,9 +1,9 @@
 -- The errors of a journal, bit by bit.
-use Rattle.std.proofs.Common.{◌≡◌, ◌+◌, ◌<◌, ◌++◌, ◌∷◌, ℕ, suc, List, [], Option, length, map, take, get_or, refl}
-use Rattle.std.proofs.Common.{sym, ap}
-use Rattle.std.proofs.Common.{◌∙◌, subst, zero, append_assoc, arith}
-use Rattle.std.specs.List.{AllZip}
-use Rattle.std.proofs.lemmas.List.{append-nil, map-append, take_more}
+use Rattle.std.proofs.Common.{◌≡◌, ◌+◌, ◌<◌, ◌++◌, ◌∷◌, ℕ, List, [], Option, length, map, take, get_or, sym, ap, ◌∙◌}
+use Rattle.std.proofs.Common.{subst, append_assoc}
+use Rattle.std.proofs.lemmas.List.{append-nil, map-append, take_more, get_or-map}
+use Rattle.std.proofs.lemmas.Slice.Zip.{AllZip-long}
+use Rattle.lemmas.proofs.Related.{related_push}
 use Rattle.can_node.specs.declared.cause.Cause.{Cause}
 use Rattle.sja_link.specs.declared.entry.Entry.{Entry}
 use Rattle.sja_replay.specs.declared.happening.Happening.{Happening}
@@ -15,7 +15,6 @@ use Rattle.sja_plan.specs.Plan.{PlanValue}
 use Rattle.sja_sweep.specs.Errors.{error_in, HasErrors, RanValue, IsRan}
 use Rattle.sja_sweep.specs.Inside.Reaching.{HaveErrors}
 use Rattle.sja_sweep.proofs.TriedRuns.RunNodes.{nodes_many}
-use Rattle.sja_sweep.proofs.TriedStrikes.TriedLemmas.{zip_push}
 
 -- a replay has come through the journal up to an entry, and these are the errors of the bits so far
 pub record AreErrorsSoFar (journal : List Entry) (r : Replay) (errors : List (Option Cause)) : Type 0 where
@@ -71,15 +70,9 @@ nodes_more nodes old new i n errors less is pushed so_far one =
     take_more nodes i n less ∙ ap (λ m. take i nodes ++ m ∷ []) (sym is) in
     let P : List NodeValue → Type 0 = λ l. HaveErrors l new in
     let Q : List (List (Option Cause)) → Type 0 = λ l. HaveErrors (take i nodes ++ n ∷ []) l in
-    subst P (sym there) (subst Q (sym pushed) (zip_push One (take i nodes) old n errors so_far one))
+    subst P (sym there) (subst Q (sym pushed) (related_push One (take i nodes) old n errors so_far one))
 
 -- two runs of plans with as many nodes
-zip_length : {A B : Type 0} (R : A → B → Type 0) (xs : List A) (ys : List B) → AllZip R xs ys → length xs ≡ length ys
-zip_length R [] [] all = refl
-zip_length R [] (y ∷ ys) all = absurd all
-zip_length R (x ∷ xs) [] all = absurd all
-zip_length R (x ∷ xs) (y ∷ ys) all = ap (λ n. suc n) (zip_length R xs ys all.1)
-
 pub as_many_nodes : (p q : PlanValue) (a b : RanValue) → IsRan p a → IsRan q b → length p.nodes ≡ length q.nodes →
     length a.log.nodes ≡ length b.log.nodes
 as_many_nodes p q a b ran other same = nodes_many p a.log ran.run ∙ same ∙ sym (nodes_many q b.log other.run)
@@ -88,12 +81,10 @@ pub as_many_errors : (p q : PlanValue) (a b : RanValue) → IsRan p a → IsRan 
     length a.errors ≡ length b.errors
 as_many_errors p q a b ran other same =
     let One : NodeValue → List (Option Cause) → Type 0 = λ m es. HasErrors m.journal es in
-    sym (zip_length One a.log.nodes a.errors ran.errors) ∙ as_many_nodes p q a b ran other same
-    ∙ zip_length One b.log.nodes b.errors other.errors
+    AllZip-long One a.log.nodes a.errors ran.errors ∙ as_many_nodes p q a b ran other same
+    ∙ sym (AllZip-long One b.log.nodes b.errors other.errors)
 
 -- an element that was read, as it's seen
 pub read_seen : {A B : Type 0} (g : A → B) (xs : List A) (k : ℕ) (x : A) (d : B) → k < length xs →
     x ≡ get_or xs k x → g x ≡ get_or (map g xs) k d
-read_seen g [] k x d less is = absurd (omega (arith, less))
-read_seen g (y ∷ ys) zero x d less is = ap g is
-read_seen g (y ∷ ys) (suc k) x d less is = read_seen g ys k x d (omega (arith, less)) is
+read_seen g xs k x d less is = ap g is ∙ sym (get_or-map g xs k x d less)

@@ -1,13 +1,12 @@
 -- What came of the parts of a list of trials.
-use Rattle.std.proofs.Common.{◌≡◌, ℕ, ◌+◌, ◌*◌, ◌/◌, ◌%◌, ◌<◌, ◌≤◌, min, zero, suc, List, [], ◌∷◌, ◌++◌}
-use Rattle.std.proofs.Common.{length, take, drop}
-use Rattle.std.proofs.Common.{get_or, refl, sym, ap, ◌∙◌, subst, arith, Result, Ok, map}
+use Rattle.std.proofs.Common.{◌≡◌, ℕ, ◌+◌, ◌*◌, ◌/◌, ◌%◌, ◌<◌, ◌≤◌, min, suc, List, [], ◌∷◌, length, take}
+use Rattle.std.proofs.Common.{drop, get_or, refl, sym, ap, ◌∙◌, subst, arith, Result, Ok, map}
 use mathlib.Core.Logic.{⊎_elim}
 use native.Mathlib.Nat.{add-mul, one-mul, suc-mul, zero-mul}
 use Rattle.std.proofs.lemmas.Bool.{cases_lt}
 use Rattle.std.proofs.lemmas.Nat.{div-add-mod', mod_below}
 use Rattle.std.specs.Fork.{slice_chunk}
-use Rattle.std.proofs.lemmas.List.{drop-drop, length-drop, take-append-drop}
+use Rattle.std.proofs.lemmas.List.{drop-drop, length-drop}
 use Rattle.sja_plan.specs.Plan.{PlanValue}
 use Rattle.sja_sweep.specs.Errors.{RanValue}
 use Rattle.sja_sweep.specs.declared.sweep_fault.SweepFault.{SweepFault}

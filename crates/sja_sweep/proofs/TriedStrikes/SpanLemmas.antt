@@ -1,27 +1,21 @@
 -- Runs of bits, one strike after another.
-use Rattle.std.proofs.Common.{◌≡◌, ℕ, ◌+◌, Bool, true, false, cond, ◌&&◌, List, [], ◌∷◌, ◌++◌}
-use Rattle.std.proofs.Common.{refl, sym, ap, ap₂, ◌∙◌, append-nil, append_assoc}
+use Rattle.std.proofs.Common.{◌≡◌, ℕ, ◌+◌, Bool, true, false, cond, ◌&&◌, List, [], ◌∷◌, ◌++◌, refl, sym, ap, ap₂, ◌∙◌}
+use Rattle.std.proofs.Common.{append-nil, append_assoc, ◌<◌, length, map, drop, get_or}
 use Rattle.std.specs.Str.{bytes_eq}
 use Rattle.std.proofs.lemmas.Slice.Eq.{bytes_eq-Decides}
 use Rattle.lemmas.specs.Gathering.{gathered}
-use Rattle.std.proofs.Common.{◌<◌, length, map, drop, get_or}
 use Rattle.std.proofs.lemmas.List.{drop_more}
+use Rattle.std.proofs.lemmas.Bool.{and_parts}
 use Rattle.sja_sweep.specs.declared.told.Told.{Told}
 use Rattle.sja_sweep.specs.Inside.Reaching.{told_value}
-use Rattle.sja_sweep.specs.Outcome.{Outcome}
 use Rattle.sja_sweep.specs.Spans.{SpanValue, is_next, are_next, span_of, goes_on, joined, before_all, spans}
-
--- the last one of two tests that hold together
-last_holds : (x z : Bool) → (x && z) ≡ true → z ≡ true
-last_holds true z h = h
-last_holds false z h = cc
 
 -- where one goes on in another, both have one outcome
 same_words : (a b : SpanValue) → goes_on a b ≡ true → a.words ≡ b.words
 same_words a b h =
     (bytes_eq-Decides a.words b.words).0
-    (last_holds (is_next a.last.first b.first.first && are_next a.last.second b.first.second)
-    (bytes_eq a.words b.words) h)
+    (and_parts (is_next a.last.first b.first.first && are_next a.last.second b.first.second)
+    (bytes_eq a.words b.words) h).1
 
 -- whether one goes on in two that are joined is whether it goes on in the first of them
 joined_front : (o a b : SpanValue) → goes_on a b ≡ true → goes_on o (joined a b) ≡ goes_on o a

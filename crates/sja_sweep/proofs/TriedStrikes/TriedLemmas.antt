@@ -10,21 +10,14 @@ use Rattle.sja_sweep.specs.SweepText.{sweep_text, sweep_rows}
 use Rattle.sja_sweep.specs.Sweeps.{strikes_tried, IsSweep}
 use Rattle.sja_sweep.specs.Inside.Reaching.{told_value}
 use Rattle.std.specs.List.{AllZip}
+use Rattle.lemmas.proofs.Related.{related_push}
 use Rattle.sja_plan.specs.Limits.{most_strikes}
 use Rattle.sja_plan.specs.Plan.{PlanValue, times_in}
 use Rattle.sja_sweep.specs.Errors.{RanValue, IsRan}
 use Rattle.sja_sweep.specs.declared.trial.Trial.{Trial}
 use Rattle.sja_sweep.specs.Targets.{strikes_a_run, struck_by}
-use Rattle.sja_sweep.specs.Outcome.{Outcome, outcome_of, outcomes_of}
+use Rattle.sja_sweep.specs.Outcome.{Outcome, outcomes_of}
 use Rattle.sja_sweep.specs.Inside.Tried.{IsTried, AreTried, IsBegun}
-
--- one more at the end of each list
-pub zip_push : {A B : Type 0} (R : A → B → Type 0) (xs : List A) (ys : List B) (x : A) (y : B) → AllZip R xs ys →
-    R x y → AllZip R (xs ++ x ∷ []) (ys ++ y ∷ [])
-zip_push R [] [] x y all here = (here, tt)
-zip_push R [] (b ∷ ys) x y all here = absurd all
-zip_push R (a ∷ xs) [] x y all here = absurd all
-zip_push R (a ∷ xs) (b ∷ ys) x y all here = (all.0, zip_push R xs ys x y all.1 here)
 
 -- the runs of strikes that were tried
 pub record HaveRuns (plan : PlanValue) (planned : RanValue) (ts : List Trial) (os : List Outcome) : Type 0 where
@@ -58,7 +51,7 @@ tried_more plan planned targets old new i d told less pushed so_far one =
     let P : List Trial → Type 0 = λ l. AreTried plan planned l (map told_value new) in
     let Q : List Outcome → Type 0 = λ l. AreTried plan planned (take i targets ++ item ∷ []) l in
     subst P (sym ts) (subst Q (sym os)
-    (zip_push (IsTried plan planned) (take i targets) (map told_value old) item (told_value told) so_far one))
+    (related_push (IsTried plan planned) (take i targets) (map told_value old) item (told_value told) so_far one))
 
 -- the trials of two parts, one after the other
 zip_append : {A B : Type 0} (R : A → B → Type 0) (xs xs' : List A) (ys ys' : List B) → AllZip R xs ys →

@@ -8,7 +8,7 @@ use Rattle.sja_link.specs.Places.{place_of}
 use Rattle.sja_link.specs.Verdicts.{IsLawful}
 use Rattle.sja_link.proofs.JournalEntries.Entering.{bits_counted}
 use Rattle.sja_plan.specs.Plan.{PlanValue}
-use Rattle.sja_wire.specs.Orderly.{AreOrderly}
+use Rattle.sja_link.specs.Orderly.{AreOrderly}
 use Rattle.sja_log.specs.Log.{NodeValue, RunValue, journals_in}
 use Rattle.sja_log.specs.Runs.{IsSerialRun}
 use Rattle.sja_log.proofs.NodeLog.Logs.{journal_there}

@@ -1,7 +1,6 @@
 -- An item of a journal may come where it stands, by the cut of the record before it.
-use Rattle.std.proofs.Common.{◌≡◌, ◌+◌, ℕ, Bool, true, false, not, Option, Some, None, List}
-use Rattle.std.proofs.Common.{[], ◌∷◌, ◌++◌}
-use Rattle.std.proofs.Common.{refl, sym, ap, ◌∙◌, subst, append_assoc, append-nil}
+use Rattle.std.proofs.Common.{◌≡◌, ◌+◌, ℕ, Bool, true, false, not, Option, Some, None, List, [], ◌∷◌, ◌++◌, refl, sym}
+use Rattle.std.proofs.Common.{ap, ◌∙◌, subst, append_assoc, append-nil}
 use Rattle.std.specs.Prelude.{if◌then◌else◌}
 use Rattle.can_node.specs.declared.config.Config.{Config}
 use Rattle.can_node.specs.declared.request.Request.{Request}
@@ -10,8 +9,7 @@ use Rattle.can_node.specs.NextBit.{now_in}
 use Rattle.can_node.specs.BetweenBits.{IsBetweenBits}
 use Rattle.can_node.proofs.CutRecords.Fronts.{cut_front}
 use Rattle.can_node.proofs.CutRecords.Comings.{start_resets, send_away}
-use Rattle.sja_link.specs.NodeWords.{NodeEntry, NodeStarted, NodeStopped, NodeAsked}
-use Rattle.sja_link.specs.NodeWords.{IsCut}
+use Rattle.sja_link.specs.NodeWords.{NodeEntry, NodeStarted, NodeStopped, NodeAsked, IsCut}
 use Rattle.sja_link.specs.declared.up.Up.{Up}
 use Rattle.sja_link.specs.declared.up.Up.TheVariants.{Start as StartItem, Credit, Send as SendItem, Stop as StopItem}
 use Rattle.sja_link.specs.declared.entry.Entry.{Entry}
@@ -20,12 +18,12 @@ use Rattle.sja_link.specs.Places.{place_of}
 use Rattle.sja_link.specs.Records.{told, record_of}
 use Rattle.sja_link.proofs.JournalEntries.Entering.{record_push}
 use Rattle.sja_regs.specs.declared.registers.Registers.{Registers}
-use Rattle.sja_wire.specs.Orderly.{IsOrderly, AreOrderly}
+use Rattle.sja_link.specs.Orderly.{IsOrderly, AreOrderly}
 use Rattle.sja_replay.specs.Taking.{TakesRequest, IsTaken, last_part}
 use Rattle.sja_driver.specs.Asking.{IsAsked}
 use Rattle.sja_driver.proofs.OneBit.BitAsked.{HasCut}
 use Rattle.sja_told.proofs.Told.ToldBits.{split}
-use Rattle.sja_replay.proofs.Listed.Parts.{each_part}
+use Rattle.sja_link.proofs.JournalEntries.EachInPart.{each_part}
 
 pub cut_by : (j k : List Entry) (e : NodeEntry) → IsBetweenBits e → record_of k ≡ record_of j ++ e ∷ [] → HasCut k →
     HasCut j

@@ -1,11 +1,10 @@
 -- Along the steps and bits that have led to a journal each of its bits is told.
-use Rattle.std.proofs.Common.{◌≡◌, ◌≢◌, ◌<◌, ◌+◌, ◌^◌, ℕ, Bool, true, false, List}
-use Rattle.std.proofs.Common.{[], ◌∷◌, ◌++◌}
-use Rattle.std.proofs.Common.{length, length-append, refl, sym, ap, ◌∙◌, subst, arith, append_assoc, append-nil}
+use Rattle.std.proofs.Common.{◌≡◌, ◌≢◌, ◌<◌, ◌+◌, ◌^◌, ℕ, Bool, true, false, List, [], ◌∷◌, ◌++◌, length, length-append}
+use Rattle.std.proofs.Common.{refl, sym, ap, ◌∙◌, subst, arith, append_assoc, append-nil}
 use Rattle.can_node.specs.declared.aborted.Aborted.TheVariants.{Unchanged}
 use Rattle.lemmas.specs.Picking.{EachAfter}
-use Rattle.sja_link.specs.NodeWords.{NodeAborted}
-use Rattle.sja_link.specs.NodeWords.{FinishedPiece, received, IsCut}
+use Rattle.lemmas.proofs.Picking.{each_front}
+use Rattle.sja_link.specs.NodeWords.{NodeAborted, FinishedPiece, received, IsCut}
 use Rattle.sja_link.specs.declared.up.Up.{Up}
 use Rattle.sja_link.specs.declared.up.Up.TheVariants.{Start as StartItem, Credit, Send as SendItem, Stop as StopItem}
 use Rattle.sja_link.specs.declared.entry.Entry.{Entry}
@@ -15,15 +14,14 @@ use Rattle.sja_link.specs.Records.{record_of}
 use Rattle.sja_link.specs.Verdicts.{HasVerdicts}
 use Rattle.sja_link.proofs.JournalEntries.Entering.{record_push}
 use Rattle.sja_regs.specs.declared.registers.Registers.{Registers}
-use Rattle.sja_wire.specs.Aborting.{abort_in, IsApplied}
-use Rattle.sja_wire.specs.OneBit.{abort_as, entries_of_items}
-use Rattle.sja_wire.specs.Orderly.{AreOrderly}
+use Rattle.sja_link.specs.Aborting.{abort_in, IsApplied}
+use Rattle.sja_link.specs.BitEntries.{abort_as, entries_of_items}
+use Rattle.sja_link.specs.Orderly.{AreOrderly}
 use Rattle.sja_driver.specs.Deeds.{Deed, FitsState, opened_by, is_active}
 use Rattle.sja_driver.proofs.Step.GivenKinds.{Kind}
 use Rattle.sja_driver.proofs.Step.GivenKinds.Kind.{quiet, starts, credits, sends, stops}
 use Rattle.sja_log.specs.Registering.{IsPortBit, LeadTo}
 use Rattle.sja_log.specs.Registering.LeadTo.{power_on, step, bit}
-use Rattle.sja_log.proofs.Trace.TbsAndAbort.{each_front}
 use Rattle.sja_replay.specs.declared.happening.Happening.{Happening}
 use Rattle.sja_replay.specs.Happened.{Happened}
 use Rattle.sja_replay.specs.Happened.Happened.{over}
@@ -34,7 +32,7 @@ use Rattle.sja_log.proofs.OneNode.Registers.{IsPort, port_first, asked_first, ki
 use Rattle.sja_log.proofs.OneNode.RegistersInBits.{port_bit, asked_bit}
 use Rattle.sja_replay.specs.Quiet.{IsQuiet}
 use Rattle.sja_told.proofs.Told.ToldBits.{behind, split, past_bit, with_more}
-use Rattle.sja_wire.proofs.Journal.Aborts.{abort_changes}
+use Rattle.sja_link.proofs.Growing.Aborts.{abort_changes}
 use Rattle.sja_replay.specs.Stored.{AllStored}
 use Rattle.sja_replay.proofs.Listed.Stores.{stored_none, stored_bit}
 use Rattle.sja_replay.proofs.Listed.FrontsPassed.{none_more, Passes, Leads, passes_item, leads_item, passes_abort}

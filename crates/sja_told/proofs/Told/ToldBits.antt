@@ -10,11 +10,9 @@ use Rattle.can_node.proofs.Driven.Records.{a_bit_is_driven}
 use Rattle.can_node.proofs.CutRecords.Receptions.{partner_of, received_there}
 use Rattle.lemmas.specs.Gathering.{gathered}
 use Rattle.lemmas.specs.Picking.{EachAfter}
-use Rattle.sja_link.specs.NodeWords.{NodeEntry, NodeTook, FinishedPiece, received, IsCut}
-use Rattle.sja_link.specs.NodeWords.{Count, none_yet, counted}
+use Rattle.sja_link.specs.NodeWords.{NodeEntry, NodeTook, FinishedPiece, received, IsCut, Count, none_yet, counted}
 use Rattle.sja_link.specs.declared.entry.Entry.{Entry}
-use Rattle.sja_link.specs.declared.entry.Entry.TheVariants.{Bit, Stored as StoredEntry}
-use Rattle.sja_link.specs.declared.entry.Entry.TheVariants.{Overrun as OverrunEntry}
+use Rattle.sja_link.specs.declared.entry.Entry.TheVariants.{Bit, Stored as StoredEntry, Overrun as OverrunEntry}
 use Rattle.sja_link.specs.declared.verdict.Verdict.{Verdict}
 use Rattle.sja_link.specs.declared.verdict.Verdict.TheVariants.{Stored as ToStore, Overrun as ToLose}
 use Rattle.sja_link.specs.LookingBack.{ends_in_abort}
@@ -24,7 +22,7 @@ use Rattle.sja_link.specs.Places.{JournalPlace, past, place_of, placed_from}
 use Rattle.sja_link.specs.Records.{told_at, record_of}
 use Rattle.sja_link.specs.Verdicts.{HasVerdicts, IsAccepted, IsOn, IsDue, filter_of}
 use Rattle.sja_link.proofs.JournalEntries.Entering.{all_rise, place_push, record_counted}
-use Rattle.sja_wire.specs.OneBit.{HasBit, judged_as, off_as}
+use Rattle.sja_link.specs.BitEntries.{HasBit, judged_as, off_as}
 use Rattle.sja_wire.specs.Telling.{IsTurn}
 use Rattle.sja_regs.specs.declared.bus_turn.BusTurn.{BusTurn}
 use Rattle.sja_replay.specs.declared.fate.Fate.{Fate}
@@ -38,7 +36,7 @@ use Rattle.sja_replay.proofs.Once.Bits.{tells, events_once}
 use Rattle.sja_driver.proofs.OneBit.BitAsked.{place_bit}
 use Rattle.sja_replay.specs.Quiet.{IsQuiet}
 use Rattle.sja_replay.proofs.Knowledge.SomeViews.{view_there}
-use Rattle.sja_replay.proofs.Listed.Parts.{of_part_at, each_part, record_both, place_both}
+use Rattle.sja_link.proofs.JournalEntries.EachInPart.{of_part_at, each_part, record_both, place_both}
 use Rattle.sja_replay.proofs.Listed.PastBits.{bit_on}
 use Rattle.sja_replay.proofs.Listed.BitEntries.{IsRightFor, closes_by, StoresIn, stores_by, tells_turn}
 

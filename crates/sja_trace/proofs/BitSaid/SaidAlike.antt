@@ -1,6 +1,7 @@
 -- Of two bits that are alike the same is said.
 use Rattle.std.proofs.Common.{◌≡◌, ◌&&◌, ◌||◌, not, ℕ, Bool, true, false, List, [], ◌∷◌, ◌++◌}
-use Rattle.std.proofs.Common.{if◌then◌else◌, codes, refl, sym, ap, ap₂, ◌∙◌}
+use Rattle.std.proofs.Common.{if◌then◌else◌, codes, refl, ap, ap₂, ◌∙◌}
+use Rattle.std.proofs.lemmas.Bool.{not-true}
 use Rattle.can_bits.specs.declared.level.Level.{Level}
 use Rattle.can_bits.specs.Places.{are_same}
 use Rattle.can_node.specs.declared.counters.Counters.{Counters}
@@ -15,8 +16,7 @@ use Rattle.sja_trace.specs.Events.{is_frame, is_dominant, is_start_in, loss_in, 
 use Rattle.sja_trace.specs.Events.{is_flag, has_fault, flag_begins, flag_said, reception_in, end_in}
 use Rattle.sja_trace.specs.Names.{flag_name, level_name}
 use Rattle.sja_trace.specs.Places.{where_text}
-use Rattle.sja_trace.specs.BitEvents.{begins_suspension, confinement_said, have_same, counters_text}
-use Rattle.sja_trace.specs.BitEvents.{all_said}
+use Rattle.sja_trace.specs.BitEvents.{begins_suspension, confinement_said, have_same, counters_text, all_said}
 use Rattle.sja_trace.specs.SayingAlike.{SaysAlike}
 
 -- ---- whether a frame begins
@@ -38,10 +38,6 @@ said_alike : {A : Type 0} (b c : Bool) (text : A → List ℕ) (x y : A) → b �
     said_if b (text x) ≡ said_if c (text y)
 said_alike true c text x y same alike = ap₂ (λ d z. said_if d (text z)) same (alike refl)
 said_alike false c text x y same alike = ap (λ d. said_if d (text y)) same
-
-opposed : (b : Bool) → not b ≡ true → b ≡ false
-opposed true e = sym e
-opposed false e = refl
 
 -- ---- event by event
 
@@ -73,7 +69,7 @@ module _ (bus : Level) (h g : Happening) (s : SaysAlike bus h g) where
       ap (λ l. said_if (not (are_same l bus))
       (codes "struck: sees " ++ (level_name l ++ codes " (") ++ where_text g.before ++ codes ")")) s.seen in
       said_alike (not (are_same h.seen bus)) (not (are_same h.seen bus)) text (where_text h.before)
-      (where_text g.before) refl (λ e. struck_place (opposed (are_same h.seen bus) e)) ∙ seen
+      (where_text g.before) refl (λ e. struck_place (not-true (are_same h.seen bus) e)) ∙ seen
 
   flags : flag_said h ≡ flag_said g
   flags =

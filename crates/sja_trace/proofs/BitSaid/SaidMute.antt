@@ -1,5 +1,6 @@
 -- Of a bit that told nothing the same is said as of one in short.
 use Rattle.std.proofs.Common.{◌≡◌, ◌&&◌, not, true, false, [], refl, sym, ap, ◌∙◌}
+use Rattle.std.proofs.lemmas.Bool.{true≢false}
 use Rattle.can_bits.specs.declared.level.Level.{Level}
 use Rattle.can_bits.specs.declared.level.Level.TheVariants.{Dominant, Recessive}
 use Rattle.can_bits.specs.Places.{are_same}
@@ -65,9 +66,6 @@ mute_none bus left v driven seen h m whole kept idle silent =
 
 -- ---- the same is said as of another one in short
 
-never : true ≡ false → ⊥
-never e = cc
-
 module _ (bus : Level) (v : View) (driven seen : Level) (h : Happening) (q : ShortBit)
     (s : IsShortOf bus v driven seen h q) where
   abbrev own : ShortBit
@@ -87,7 +85,7 @@ module _ (bus : Level) (v : View) (driven seen : Level) (h : Happening) (q : Sho
     phase_after = sym s.phase_is;
     transmits_after = sym s.transmits_is;
     counters_after = sym s.counters_are;
-    flag = λ begins. absurd (never (sym begins ∙ no_flag (is_flag v.phase)));
+    flag = λ begins. absurd (true≢false (sym begins ∙ no_flag (is_flag v.phase)));
     fate = refl;
     struck = s.struck;
   }

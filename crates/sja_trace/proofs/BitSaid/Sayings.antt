@@ -1,6 +1,8 @@
 -- Events that are written one after another.
 use Rattle.std.proofs.Common.{◌≡◌, ◌||◌, ℕ, Bool, true, false, List, [], ◌∷◌, ◌++◌, codes, string_bytes}
 use Rattle.std.proofs.Common.{◌&&◌, not, refl, sym, ap, ap₂, ◌∙◌, subst, append-nil, append_assoc}
+use Rattle.std.proofs.Math.Bool.{or-false}
+use Rattle.std.proofs.lemmas.Bool.{or_right}
 use Rattle.can_node.specs.declared.counters.Counters.{Counters}
 use Rattle.can_node.specs.declared.state.State.{State}
 use Rattle.can_node.specs.declared.state.State.TheVariants.{Active, Passive, BusOff}
@@ -10,7 +12,7 @@ use Rattle.sja_trace.specs.Events.{said_if}
 use Rattle.sja_trace.specs.TraceText.{behind, joined}
 use Rattle.sja_trace.specs.declared.told.Told.{Told}
 use Rattle.sja_trace.specs.Inside.Saying.{separator, said_after, is_any, Tells}
-use Rattle.sja_report.proofs.Written.{two_texts}
+use Rattle.sja_report.proofs.WrittenLines.Written.{two_texts}
 
 -- events behind others
 behind_both : (es fs : List (List ℕ)) → behind (es ++ fs) ≡ behind es ++ behind fs
@@ -42,10 +44,6 @@ tells_both {a} {b} {c} {es} {fs} one two = record {
 }
 
 -- no event
-alone : (b : Bool) → b ≡ (b || false)
-alone true = refl
-alone false = refl
-
 nothing_said : (b : Bool) → said_after b [] ≡ []
 nothing_said true = refl
 nothing_said false = refl
@@ -53,7 +51,7 @@ nothing_said false = refl
 pub tells_none : (t : Told) → Tells t t []
 tells_none t = record {
   text = sym (append-nil (string_bytes t.text)) ∙ ap (λ x. string_bytes t.text ++ x) (sym (nothing_said t.begun));
-  begun = alone t.begun;
+  begun = sym (or-false t.begun);
 }
 
 -- where the counters are as they were no state changes
@@ -81,17 +79,13 @@ one_said : (b : Bool) (e : List ℕ) → separator b ++ e ≡ said_after b (e �
 one_said true e = ap (λ t. codes "; " ++ t) (sym (append-nil e))
 one_said false e = sym (append-nil e)
 
-begun_now : (b : Bool) → true ≡ (b || true)
-begun_now true = refl
-begun_now false = refl
-
 pub tells_one : (old new : Told) (between e : List ℕ) → between ≡ string_bytes old.text ++ separator old.begun →
     string_bytes new.text ≡ between ++ e → new.begun ≡ true → Tells old new (e ∷ [])
 tells_one old new between e before wrote begins = record {
   text =
       two_texts (string_bytes old.text) between (string_bytes new.text) (separator old.begun) e before wrote
       ∙ ap (λ t. string_bytes old.text ++ t) (one_said old.begun e);
-  begun = begins ∙ begun_now old.begun;
+  begun = begins ∙ sym (or_right old.begun true refl);
 }
 
 -- where a test says whether there is one

@@ -22,11 +22,10 @@ use Rattle.sja_trace.specs.Events.{fault_in, fault_said, is_flag, has_fault, fla
 use Rattle.sja_trace.specs.Events.{end_in, end_said}
 use Rattle.sja_trace.specs.Names.{flag_name, level_name}
 use Rattle.sja_trace.specs.Places.{phase_text, where_text, segment_text, owner_text}
-use Rattle.sja_trace.specs.BitEvents.{begins_suspension, suspension_said, confinement_said}
-use Rattle.sja_trace.specs.BitEvents.{states_said, have_same, counters_text, counters_said, restart_said, all_said}
+use Rattle.sja_trace.specs.BitEvents.{begins_suspension, suspension_said, confinement_said, states_said, have_same}
+use Rattle.sja_trace.specs.BitEvents.{counters_text, counters_said, restart_said, all_said, counters_after}
 use Rattle.sja_trace.specs.Inside.Hands.{view_of, happening_of, hand_line, IsHand, counters_of, driven_of}
 use Rattle.sja_trace.proofs.BitSaid.Sayings.{confinement_none}
-use Rattle.sja_trace.specs.BitEvents.{counters_after}
 use Rattle.sja_trace.specs.TraceText.{driven_in, event_line, bit_line}
 
 none_both : {A : Type 0} (a b : List A) → a ≡ [] → b ≡ [] → a ++ b ≡ []
@@ -67,7 +66,7 @@ no_start Intermission h idle stays = ap is_frame stays
 no_start Suspension h idle stays = ap is_frame stays
 
 -- nor do counters change where they stay
-same_counters : (k : Counters) → have_same k k ≡ true
+pub same_counters : (k : Counters) → have_same k k ≡ true
 same_counters k = ap₂ (λ a b. a && b) (eq-eqb k.tec k.tec refl) (eq-eqb k.rec k.rec refl)
 
 -- ---- the place

@@ -7,7 +7,7 @@ use Rattle.sja_script.specs.declared.done.Done.{Done}
 use Rattle.sja_script.specs.declared.step.Step.{Step}
 use Rattle.sja_trace.specs.TraceText.{is_due, line_where, step_line, steps_due}
 use Rattle.sja_trace.specs.Inside.StepOrder.{Ascends, ArePast}
-use Rattle.sja_report.proofs.Written.{rest_is}
+use Rattle.sja_report.proofs.WrittenLines.Written.{rest_is}
 
 -- ---- those before a place
 

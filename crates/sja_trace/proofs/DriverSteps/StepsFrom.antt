@@ -2,7 +2,7 @@
 use Rattle.std.proofs.Common.{◌≡◌, ℕ, ◌+◌, ◌<◌, ◌≤◌, List, [], ◌∷◌, ◌++◌, length}
 use Rattle.std.proofs.Common.{drop, get_or, refl, sym, ap, ap₂, ◌∙◌, append-nil, append_assoc}
 use Rattle.std.proofs.Math.ListN.{drop_of_length-le}
-use Rattle.sja_report.proofs.Written.{rest_is}
+use Rattle.sja_report.proofs.WrittenLines.Written.{rest_is}
 use Rattle.sja_script.specs.declared.done.Done.{Done}
 use Rattle.sja_script.specs.declared.step.Step.{Step}
 use Rattle.sja_trace.specs.TraceText.{step_line, steps_from}

@@ -7,7 +7,7 @@ use Rattle.can_bits.specs.declared.level.Level.{Level}
 use Rattle.can_node.specs.declared.counters.Counters.{Counters}
 use Rattle.sja_replay.specs.declared.happening.Happening.{Happening}
 use Rattle.sja_replay.specs.declared.short_bit.ShortBit.{ShortBit}
-use Rattle.sja_report.proofs.Written.{rest_is}
+use Rattle.sja_report.proofs.WrittenLines.Written.{rest_is}
 use Rattle.sja_script.specs.declared.done.Done.{Done}
 use Rattle.sja_script.specs.declared.step.Step.{Step}
 use Rattle.sja_trace.specs.TraceText.{joined, bit_line, step_line, is_due, line_where, steps_due}

@@ -2,7 +2,7 @@
 use Rattle.std.proofs.Common.{◌≡◌, ℕ, ◌+◌, ◌<◌, ◌≤◌, zero, suc, List, [], ◌∷◌, ◌++◌, length, take, get_or}
 use Rattle.std.proofs.Common.{refl, sym, ap, ◌∙◌, subst, arith}
 use Rattle.std.specs.Prelude.{slice_index_or}
-use Rattle.std.proofs.lemmas.List.{length-take-le, take_more, take_all}
+use Rattle.std.proofs.lemmas.List.{length-take-le, take_more, take_all, get_or_past}
 use Rattle.lemmas.specs.Related.{EachRelated}
 use Rattle.sja_log.specs.Log.{NodeValue}
 use Rattle.sja_plan.specs.Plan.{PlanValue, steps_at}
@@ -17,13 +17,8 @@ use Rattle.sja_trace.proofs.Stories.Telling.{before_same}
 
 -- ---- the steps of a node that isn't there
 
-past_all : {A : Type 0} (xs : List (List A)) (i : ℕ) → length xs ≤ i → [] ≡ slice_index_or xs i []
-past_all [] i h = refl
-past_all (x ∷ xs) zero h = absurd (omega (arith, h))
-past_all (x ∷ xs) (suc i) h = past_all xs i (omega (arith, h))
-
 pub no_steps : (plan : PlanValue) (node : ℕ) → length plan.nodes ≤ node → [] ≡ steps_at plan node
-no_steps plan node h = past_all plan.nodes node h
+no_steps plan node h = sym (get_or_past plan.nodes node [] h)
 
 -- ---- before the first bit
 

@@ -18,7 +18,7 @@ use Rattle.sja_trace.specs.TraceText.{behind, joined, told_line, bit_line, steps
 use Rattle.sja_trace.specs.TraceText.{NodeStory, counters_left, bit_lines, lines_to, late_steps, stories_text}
 use Rattle.sja_trace.specs.StoredLines.{stored_text, HasStoredLine}
 use Rattle.sja_trace.proofs.Stories.LogStories.{StoryAt}
-use Rattle.sja_trace.proofs.Stories.Numbered.{numbered_both}
+use Rattle.sja_report.proofs.WrittenLines.Numbered.{numbered_both}
 
 -- texts that stand somewhere in another one
 pub record Holds (whole part : List ℕ) : Type 0 where

@@ -3,7 +3,6 @@ use Rattle.std.proofs.Common.{◌≡◌, ◌∷◌, ◌++◌, not, ℕ, Bool, tr
 use Rattle.std.proofs.Common.{sym, ap, ◌∙◌, append-nil, append_assoc}
 use Rattle.can_bits.specs.declared.level.Level.{Level}
 use Rattle.can_node.specs.declared.bit_events.BitEvents.{BitEvents}
-use Rattle.can_node.specs.declared.request.Request.{Request}
 use Rattle.can_node.specs.Context.{ContextValue, is_held}
 use Rattle.can_node.specs.Stands.{entries_of}
 use Rattle.can_node.proofs.Machine.Changes.{KeepsRequest}
@@ -13,9 +12,8 @@ use Rattle.sja_link.specs.declared.entry.Entry.TheVariants.{Bit, Stored as Store
 use Rattle.sja_link.specs.declared.verdict.Verdict.{Verdict}
 use Rattle.sja_link.specs.declared.verdict.Verdict.TheVariants.{Stored as ToStore, Overrun as ToLose}
 use Rattle.sja_link.specs.Records.{record_of}
-use Rattle.sja_wire.proofs.Journal.BitRecords.{record_bit}
-use Rattle.sja_wire.proofs.Journal.BitRecords.{entries_split}
-use Rattle.sja_wire.specs.OneBit.{off_left}
+use Rattle.sja_link.proofs.Growing.BitRecords.{record_bit, entries_split}
+use Rattle.sja_link.specs.BitEntries.{off_left, HasBit, judged_as, off_as}
 use Rattle.sja_regs.specs.declared.bus_turn.BusTurn.{BusTurn}
 use Rattle.sja_replay.specs.declared.happening.Happening.{Happening}
 use Rattle.sja_replay.specs.declared.view.View.{View}
@@ -24,10 +22,10 @@ use Rattle.sja_link.specs.LookingBack.{ends_in_abort}
 use Rattle.sja_replay.proofs.Once.Bits.{tells, events_once}
 use Rattle.sja_replay.proofs.Knowledge.Places.{ends_push}
 use Rattle.sja_replay.proofs.Listed.BitEntries.{tells_turn}
-use Rattle.sja_wire.specs.OneBit.{HasBit, judged_as, off_as}
 use Rattle.sja_wire.specs.Telling.{IsTurn}
 use Rattle.sja_replay.specs.Knowing.{Knows}
 use Rattle.sja_replay.proofs.Knowledge.Knowing.{LookAlike, shows_known}
+use Rattle.can_node.proofs.Machine.Requests.{nothing_held}
 
 -- ---- a journal with a bit more
 
@@ -92,11 +90,6 @@ same_not false false e = refl
 same_not true false e = sym e
 same_not false true e = sym e
 
--- no request is gone where one is held as before
-none_held : (o : Option Request) → is_held o ≡ false → o ≡ None
-none_held None e = refl
-none_held (Some request) e = absurd cc
-
 pub held_stays : (c d : ContextValue) → KeepsRequest c d → is_held c.held ≡ is_held d.held → c.held ≡ d.held
-held_stays c d (inl none) e = none_held c.held (e ∙ ap is_held none) ∙ sym none
+held_stays c d (inl none) e = nothing_held c.held (e ∙ ap is_held none) ∙ sym none
 held_stays c d (inr h) e = sym h.0

@@ -1,6 +1,5 @@
 -- A bit that told nothing, in the happenings of a whole journal.
-use Rattle.std.proofs.Common.{◌≡◌, ◌||◌, ◌∷◌, ◌++◌, not, false, is_some, Option, Some, List, [], sym}
-use Rattle.std.proofs.Common.{ap, ◌∙◌, subst}
+use Rattle.std.proofs.Common.{◌≡◌, ◌||◌, ◌∷◌, ◌++◌, not, false, is_some, Option, Some, List, [], sym, ap, ◌∙◌, subst}
 use Rattle.std.specs.Prelude.{slice_get}
 use Rattle.can_bits.specs.declared.level.Level.{Level}
 use Rattle.can_frame.specs.Frame.{FrameValue}
@@ -18,9 +17,9 @@ use Rattle.sja_replay.specs.declared.view.View.{View}
 use Rattle.sja_replay.specs.Closing.{HasFate}
 use Rattle.sja_replay.specs.Taking.{last_part}
 use Rattle.sja_link.specs.LookingBack.{ends_in_abort}
-use Rattle.sja_replay.proofs.Knowledge.Cuts.{same_now, same_phase}
+use Rattle.can_node.proofs.OneCut.SameCuts.{same_now, same_phase}
 use Rattle.sja_driver.proofs.OneBit.BitAsked.{bit_keeps, bit_told}
-use Rattle.sja_wire.specs.OneBit.{HasBit, judged_as, off_as}
+use Rattle.sja_link.specs.BitEntries.{HasBit, judged_as, off_as}
 use Rattle.sja_wire.specs.Telling.{IsTurn, SaysAlone}
 use Rattle.can_node.specs.NextField.{SegmentIn}
 use Rattle.sja_replay.specs.Knowing.{KnowsPlace, Knows, AreAll}

@@ -27,14 +27,14 @@ use Rattle.sja_replay.specs.Closing.{HasFate}
 use Rattle.sja_replay.specs.Taking.{last_part}
 use Rattle.sja_link.specs.LookingBack.{ends_in_abort}
 use Rattle.sja_replay.specs.Viewing.{IsView}
-use Rattle.sja_replay.proofs.Knowledge.Cuts.{same_now}
+use Rattle.can_node.proofs.OneCut.SameCuts.{same_now}
 use Rattle.sja_replay.proofs.Once.Lists.{judges_once}
 use Rattle.sja_replay.proofs.Once.Views.{view_once}
 use Rattle.sja_driver.proofs.OneBit.BitAsked.{place_abort}
 use Rattle.sja_replay.specs.Quiet.{IsQuiet}
 use Rattle.sja_replay.proofs.Listed.BitEntries.{IsRightFor, stops_off}
 use Rattle.sja_told.proofs.Told.ToldBits.{right}
-use Rattle.sja_wire.specs.OneBit.{HasBit, abort_as, judged_as, off_as}
+use Rattle.sja_link.specs.BitEntries.{HasBit, abort_as, judged_as, off_as}
 use Rattle.sja_wire.specs.Telling.{IsTurn}
 use Rattle.sja_replay.specs.Knowing.{Knows, AreAll, KnowsPlace}
 use Rattle.sja_trace.specs.SayingAlike.{SaysAlike}

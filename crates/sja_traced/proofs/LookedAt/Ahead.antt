@@ -14,7 +14,7 @@ use Rattle.sja_replay.specs.Viewing.{Shows}
 use Rattle.sja_script.specs.Striking.{Strikes}
 use Rattle.sja_serial.specs.Serial.{SerialValue}
 use Rattle.sja_replay.proofs.Knowledge.Knowing.{shown_known, shown_place}
-use Rattle.sja_traced.proofs.LookedAt.SoFar.{SoFar, so_far_all}
+use Rattle.lemmas.proofs.ChangedByNumber.{SoFar, so_far_all}
 use Rattle.sja_traced.specs.Inside.Bits.{HasLooked}
 use Rattle.sja_traced.specs.Inside.Tracing.{AreTold, IsKnown, IsTraced, done_at}
 use Rattle.sja_replay.specs.Knowing.{Knows, KnowsPlace}

@@ -1,6 +1,5 @@
 -- What a journal tells of its last bit is what the bit brought.
-use Rattle.std.proofs.Common.{◌≡◌, ℕ, Bool, true, false, Option, Some, None, List, ◌++◌}
-use Rattle.std.proofs.Common.{refl, sym, ap, ◌∙◌}
+use Rattle.std.proofs.Common.{◌≡◌, ℕ, Bool, true, false, Option, Some, None, List, ◌++◌, refl, sym, ap, ◌∙◌}
 use Rattle.can_bits.specs.declared.level.Level.{Level}
 use Rattle.sja_link.specs.declared.entry.Entry.{Entry}
 use Rattle.sja_link.specs.declared.last_bit.LastBit.{LastBit}
@@ -8,10 +7,10 @@ use Rattle.sja_link.specs.declared.verdict.Verdict.{Verdict}
 use Rattle.sja_link.specs.declared.verdict.Verdict.TheVariants.{Stored as ToStore, Overrun as ToLose}
 use Rattle.sja_link.specs.LookingBack.{EndsWith, ends_in_abort, off_if}
 use Rattle.sja_traced.specs.KnownBits.{kind_of}
-use Rattle.sja_replay.proofs.Once.EndsOnce.{verdict_in, behind, whole_is}
-use Rattle.sja_replay.proofs.Once.LastBits.{last_once}
+use Rattle.sja_link.proofs.LastBits.EndsOnce.{verdict_in, behind, whole_is}
+use Rattle.sja_link.proofs.LastBits.LastBit.{last_once}
 use Rattle.sja_traced.proofs.RunOfBits.NodeBits.{behind_bit, behind_no_bits, whole_bit}
-use Rattle.sja_wire.specs.OneBit.{HasBit, judged_as, off_as}
+use Rattle.sja_link.specs.BitEntries.{HasBit, judged_as, off_as}
 
 -- ---- what stands behind the bit
 

@@ -19,13 +19,12 @@ use Rattle.sja_regs.specs.declared.bus_turn.BusTurn.{BusTurn}
 use Rattle.sja_replay.specs.declared.view.View.{View}
 use Rattle.sja_replay.specs.Viewing.{Shows}
 use Rattle.sja_serial.specs.Serial.{SerialValue}
-use Rattle.sja_replay.proofs.Once.EndsOnce.{ends_once}
+use Rattle.sja_link.proofs.LastBits.EndsOnce.{ends_once}
 use Rattle.sja_replay.proofs.Knowledge.Knowing.{shown_by}
 use Rattle.sja_traced.specs.declared.node_trace.NodeTrace.{NodeTrace}
 use Rattle.sja_traced.specs.Inside.Bits.IsAtLast.{untold, told}
-use Rattle.sja_traced.specs.Inside.Bits.{told_of}
-use Rattle.sja_traced.specs.Inside.Bits.{IsAtLast, IsMuteAt}
-use Rattle.sja_wire.specs.Links.{stops_of}
+use Rattle.sja_traced.specs.Inside.Bits.{told_of, IsAtLast, IsMuteAt}
+use Rattle.sja_link.specs.Links.{stops_of}
 use Rattle.sja_wire.specs.Wire.{journal_at}
 
 -- ---- a bit that told nothing is at hand, if there is one

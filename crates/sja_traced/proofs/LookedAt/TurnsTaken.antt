@@ -6,7 +6,7 @@ use Rattle.sja_driver.specs.Deeds.{Deed}
 use Rattle.sja_plan.specs.Plan.{PlanValue}
 use Rattle.sja_regs.specs.declared.bus_turn.BusTurn.{BusTurn}
 use Rattle.sja_serial.specs.Serial.{IsRunOf, SerialValue, StandsAt, run_now}
-use Rattle.sja_traced.proofs.LookedAt.SoFar.{SoFar, so_far_all, so_far_next}
+use Rattle.lemmas.proofs.ChangedByNumber.{SoFar, so_far_all, so_far_next}
 
 -- no turn is noted any more
 abbrev pub IsTaken : ℕ → Option BusTurn → Option BusTurn → Type 0

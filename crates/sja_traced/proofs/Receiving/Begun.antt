@@ -1,11 +1,11 @@
 -- A node receives a frame only where its record has begun an activation that it didn't stop.
 use Rattle.std.proofs.Common.{◌≡◌, ◌∷◌, ◌++◌, ℕ, Bool, true, false, Some, List, []}
-use Rattle.std.proofs.Common.{map, refl, sym, ap, ◌∙◌, subst, arith, append-nil, append_assoc}
+use Rattle.std.proofs.Common.{map, refl, sym, ap, ◌∙◌, arith, append-nil, append_assoc}
 use Rattle.std.proofs.lemmas.List.{append_cancel_left}
 use Rattle.can_bits.specs.declared.level.Level.{Level}
 use Rattle.can_frame.specs.Frame.{FrameValue}
 use Rattle.can_node.specs.declared.bit_events.BitEvents.{BitEvents}
-use Rattle.can_node.specs.Bits.{Bit, recessive_bits}
+use Rattle.can_node.specs.Bits.{recessive_bits}
 use Rattle.can_node.specs.Context.{ContextValue, fresh}
 use Rattle.can_node.specs.Cut.{IsOpenAt, Move, From}
 use Rattle.can_node.specs.Cut.From.{here, on}
@@ -20,20 +20,19 @@ use Rattle.can_node.specs.Record.{RecordEntry, Inner}
 use Rattle.can_node.specs.Record.RecordEntry.{Start, Stop, OneBit, Send, Abort, BusOff}
 use Rattle.can_node.specs.Record.Inner.{none_left, samples, sends, aborts}
 use Rattle.can_node.specs.Stands.{closed_by}
-use Rattle.can_node.specs.Table.{Row}
-use Rattle.can_node.proofs.OneCut.GoOn.{no_rest_piece, open_end}
+use Rattle.can_node.proofs.OneCut.GoOn.{open_end}
 use Rattle.can_node.proofs.OneCut.Through.{goes_through}
 use Rattle.lemmas.specs.Gathering.{total}
 use Rattle.lemmas.proofs.Gathered.{total_append, total_push}
-use Rattle.sja_wire.proofs.Journal.BitRecords.{record_bit}
-use Rattle.sja_wire.specs.OneBit.{off_left}
+use Rattle.sja_link.proofs.Growing.BitRecords.{record_bit}
+use Rattle.sja_link.specs.BitEntries.{off_left, HasBit, abort_as}
 use Rattle.sja_link.specs.declared.entry.Entry.{Entry}
 use Rattle.sja_link.specs.declared.entry.Entry.TheVariants.{Abort as AbortEntry}
 use Rattle.sja_link.specs.Records.{record_of}
 use Rattle.sja_link.proofs.JournalEntries.Entering.{record_push}
 use Rattle.sja_regs.specs.declared.bus_turn.BusTurn.{BusTurn}
-use Rattle.sja_wire.specs.OneBit.{HasBit, abort_as}
 use Rattle.sja_wire.specs.Telling.{IsTurn}
+use Rattle.can_node.proofs.Requests.OnceOff.{no_reset_row}
 
 -- ---- whether a record has begun an activation that it didn't stop
 
@@ -85,14 +84,10 @@ plain_open b (begun inner begins unfinished) = plain_inner b inner
 
 -- ---- where none is begun the node is in reset
 
-no_row : {c : ContextValue} {place next : Place} {bits : List Bit} {p : Piece} → Row c place bits p next →
-    place ≡ AtReset → ⊥
-no_row {c = c} {next = next} {bits = bits} {p = p} row at =
-    let P : Place → Type 0 = λ s. Row c s bits p next in no_rest_piece (subst P at row)
-
 reset_move : {c next : ContextValue} {place site : Place} {entries : List RecordEntry} {ps : List Piece} (b : Bool) →
     Move c place entries ps next site → (b ≡ false → place ≡ AtReset) → is_begun b entries ≡ false → site ≡ AtReset
-reset_move b (piece slice is row stays) at e = absurd (no_row row (at (sym (plain_inner b is.inner).0 ∙ e)))
+reset_move b (piece slice is row stays) at e =
+    absurd (no_reset_row _ _ _ _ _ row (at (sym (plain_inner b is.inner).0 ∙ e)))
 reset_move b (sent request away) at e = at e
 reset_move b (aborted away) at e = at e
 reset_move b (started config l) at e =
@@ -114,7 +109,7 @@ none_from : {k : Count} {c end : ContextValue} {place last : Place} {entries res
     {found : List FinishedPiece} → From k c place entries found end last rest → place ≡ AtReset →
     total starts_in entries ≡ 0 → found ≡ []
 none_from (here opened stays) at none = refl
-none_from (on (piece slice is row stays) from) at none = absurd (no_row row at)
+none_from (on (piece slice is row stays) from) at none = absurd (no_reset_row _ _ _ _ _ row at)
 none_from (on (sent request away) from) at none = absurd (away at)
 none_from (on (aborted away) from) at none = absurd (away at)
 none_from (on {more = more} (started config l) from) at none =
@@ -125,8 +120,9 @@ none_from (on {more = more} (stopped slice opened stays) from) at none =
     let all = total_append starts_in (slice ++ Stop ∷ []) more in
     none_from from refl (omega (arith, none, all))
 none_from (on (off_within slice before last whole stays is unfinished full) from) at none =
-    absurd (no_row unfinished.lawful at)
-none_from (on (off_after slice before last whole stays is row full) from) at none = absurd (no_row row at)
+    absurd (no_reset_row _ _ _ _ _ unfinished.lawful at)
+none_from (on (off_after slice before last whole stays is row full) from) at none =
+    absurd (no_reset_row _ _ _ _ _ row at)
 
 -- ---- a bit
 

@@ -1,6 +1,6 @@
 -- The bytes that were free with a bit whose message found no room are those that are free after it.
 use Rattle.std.proofs.Common.{◌≡◌, ◌∷◌, ◌++◌, ℕ, suc, Bool, true, false, Option, Some, None, List, [], refl, sym}
-use Rattle.std.proofs.Common.{subst, arith, append-nil}
+use Rattle.std.proofs.Common.{subst, append-nil}
 use Rattle.can_bits.specs.declared.level.Level.{Level}
 use Rattle.sja_link.specs.declared.entry.Entry.{Entry}
 use Rattle.sja_link.specs.declared.entry.Entry.TheVariants.{Bit, Overrun as OverrunEntry, Off}
@@ -10,10 +10,11 @@ use Rattle.sja_link.specs.Free.{free_of, IsFree}
 use Rattle.sja_link.specs.Parts.{part}
 use Rattle.sja_replay.specs.Taking.{last_part}
 use Rattle.sja_replay.proofs.Knowledge.Places.{free_before}
-use Rattle.sja_wire.specs.Links.{stops_of}
-use Rattle.sja_wire.specs.OneBit.{HasBit, judged_as, off_as}
-use Rattle.sja_wire.specs.Opening.{IsOpen}
+use Rattle.sja_link.specs.Links.{stops_of}
+use Rattle.sja_link.specs.BitEntries.{HasBit, judged_as, off_as}
+use Rattle.sja_link.specs.Opening.{IsOpen}
 use Rattle.sja_wire.specs.Telling.{is_overrun}
+use Rattle.sja_link.proofs.Ledger.Freeing.{free_is}
 
 before_off : (j : List Entry) (off : Bool) (n : ℕ) → IsFree (last_part (j ++ off_as off)) n → IsFree (last_part j) n
 before_off j true n h = free_before j Off n refl refl refl h
@@ -24,9 +25,6 @@ before_loss : (j : List Entry) (v : Option (Verdict × List ℕ)) (n : ℕ) → 
 before_loss j None n lost h = absurd cc
 before_loss j (Some (ToStore, m)) n lost h = absurd cc
 before_loss j (Some (ToLose, m)) n lost h = free_before j (OverrunEntry m) n refl refl refl h
-
-free_is : (p : List Entry) (n : ℕ) → IsFree p n → n ≡ free_of p
-free_is p n h = omega (arith, h)
 
 -- the activation in which the bit was is open after it
 pub free_then : (opened k : List Entry) (driven seen : Level) (b : HasBit opened driven seen k) → IsOpen k →

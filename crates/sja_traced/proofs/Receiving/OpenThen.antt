@@ -6,6 +6,7 @@ use Rattle.can_bits.specs.declared.level.Level.{Level}
 use Rattle.can_frame.specs.Frame.{FrameValue}
 use Rattle.can_frame.specs.Message.{message}
 use Rattle.lemmas.specs.Picking.{EachAfter}
+use Rattle.lemmas.proofs.Picking.{each_front}
 use Rattle.sja_driver.specs.Deeds.{Deed, FitsState, active_after, deeds_at, is_active, opened_by}
 use Rattle.sja_driver.proofs.LogOfSteps.Sections.{active_push}
 use Rattle.sja_driver.proofs.Step.GivenKinds.{Kind}
@@ -24,7 +25,6 @@ use Rattle.sja_link.specs.Records.{record_of}
 use Rattle.sja_link.proofs.JournalEntries.Entering.{record_push}
 use Rattle.sja_log.specs.Registering.{LeadTo}
 use Rattle.sja_log.specs.Registering.LeadTo.{power_on, step, bit}
-use Rattle.sja_log.proofs.Trace.TbsAndAbort.{each_front}
 use Rattle.sja_plan.specs.Plan.{PlanValue}
 use Rattle.sja_regs.specs.declared.bus_turn.BusTurn.{BusTurn}
 use Rattle.sja_regs.specs.declared.registers.Registers.{Registers}
@@ -36,11 +36,12 @@ use Rattle.sja_log.proofs.OneNode.Registers.{kind_by}
 use Rattle.sja_traced.specs.KnownBits.{fate_by, kind_of}
 use Rattle.sja_traced.proofs.Receiving.Begun.{begun_abort, begun_bit, begun_both, begun_then, is_begun}
 use Rattle.sja_traced.proofs.Receiving.FreeThen.{free_then}
-use Rattle.sja_wire.specs.Links.{stops_of}
-use Rattle.sja_wire.specs.OneBit.{HasBit, abort_as, entries_of_items}
-use Rattle.sja_wire.specs.Opening.{IsOpen}
+use Rattle.sja_link.specs.Links.{stops_of}
+use Rattle.sja_link.specs.BitEntries.{HasBit, abort_as, entries_of_items}
+use Rattle.sja_link.specs.Opening.{IsOpen}
 use Rattle.sja_wire.specs.Telling.{IsTurn, is_overrun}
 use Rattle.sja_wire.specs.Wire.{journal_at}
+use Rattle.lemmas.proofs.Lists.{some_of}
 
 -- ---- a driver is active where its node has begun an activation and wasn't stopped
 
@@ -78,10 +79,6 @@ active_by version k deeds q (step j _ before d p _ lead now tells gave entered l
         absurd cc
 
 -- ---- the activation is open
-
-some_of : {X : Type 0} (xs : List X) (i : ℕ) → i < length xs → X
-some_of [] i less = absurd (omega (arith, less))
-some_of (x ∷ xs) i less = x
 
 module _ (plan : PlanValue) (deeds : List (List Deed)) (n : SerialValue) (stands : StandsAt plan n deeds) (i : ℕ)
     (less : i < length plan.nodes) (changed : Bool) (opened : List Entry) (driven seen : Level)

@@ -8,7 +8,7 @@ use Rattle.sja_link.specs.declared.entry.Entry.{Entry}
 use Rattle.sja_link.specs.declared.entry.Entry.TheVariants.{Bit}
 use Rattle.sja_link.specs.Places.{JournalPlace, place_of}
 use Rattle.sja_plan.specs.Plan.{PlanValue}
-use Rattle.sja_serial.specs.Bits.{HasOneBit}
+use Rattle.sja_link.specs.BitEntries.{HasOneBit, abort_as}
 use Rattle.sja_serial.specs.Serial.{SerialValue}
 use Rattle.sja_driver.proofs.OneBit.BitAsked.{place_abort, place_bit}
 use Rattle.sja_traced.specs.Inside.Bits.{HasRun}
@@ -17,7 +17,6 @@ use Rattle.sja_traced.proofs.RunOfBits.Chain.{all_run, before_at, none_run}
 use Rattle.sja_traced.proofs.RunOfBits.NodeBits.{behind_bit, whole_bit}
 use Rattle.sja_replay.proofs.Listed.Reached.{bits_push}
 use Rattle.sja_traced.proofs.RunOfBits.Rounds.{after, bit, driven, passed, seen}
-use Rattle.sja_wire.specs.OneBit.{abort_as}
 use Rattle.sja_wire.specs.Wire.{journal_at}
 
 -- ---- bits alone

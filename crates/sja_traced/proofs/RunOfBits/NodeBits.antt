@@ -11,9 +11,8 @@ use Rattle.sja_link.specs.declared.verdict.Verdict.{Verdict}
 use Rattle.sja_link.specs.declared.verdict.Verdict.TheVariants.{Stored as ToStore, Overrun as ToLose}
 use Rattle.sja_regs.specs.declared.bus_turn.BusTurn.{BusTurn}
 use Rattle.sja_regs.specs.declared.orders.Orders.{Orders}
-use Rattle.sja_serial.specs.Bits.{HasOneBit}
-use Rattle.sja_replay.proofs.Once.LastBits.{AreNoBits, SameBit, last_once}
-use Rattle.sja_wire.specs.OneBit.{HasBit, abort_as, entries_of_items, judged_as, off_as}
+use Rattle.sja_link.specs.BitEntries.{HasOneBit, HasBit, abort_as, entries_of_items, judged_as, off_as}
+use Rattle.sja_link.proofs.LastBits.LastBit.{AreNoBits, SameBit, last_once}
 use Rattle.sja_wire.specs.Telling.{IsTurn, IsPassedOver, SaysAlone}
 
 -- ---- what stands behind a bit

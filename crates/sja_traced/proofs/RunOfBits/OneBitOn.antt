@@ -1,6 +1,5 @@
 -- A log that begins as a run goes after a bit begins as the run went before it.
-use Rattle.std.proofs.Common.{◌≡◌, ℕ, ◌≤◌, Bool, true, false, List, [], ◌∷◌, ◌++◌, map}
-use Rattle.std.proofs.Common.{ap, ◌∙◌, arith, append_assoc}
+use Rattle.std.proofs.Common.{◌≡◌, ℕ, ◌≤◌, Bool, true, false, List, [], ◌∷◌, ◌++◌, map, ap, ◌∙◌, arith, append_assoc}
 use Rattle.std.specs.Prelude.{slice_index_or}
 use Rattle.can_bits.specs.declared.level.Level.{Level}
 use Rattle.sja_driver.specs.declared.logged_driver.LoggedDriver.{LoggedDriver}
@@ -12,12 +11,11 @@ use Rattle.sja_link.specs.declared.entry.Entry.TheVariants.{Bit}
 use Rattle.sja_log.specs.Log.{RunValue}
 use Rattle.sja_plan.specs.Plan.{PlanValue}
 use Rattle.sja_script.specs.declared.done.Done.{Done}
-use Rattle.sja_serial.specs.Bits.{HasOneBit}
+use Rattle.sja_link.specs.BitEntries.{HasOneBit, abort_as, judged_as, off_as}
 use Rattle.sja_serial.specs.Serial.{SerialValue}
 use Rattle.sja_serial.specs.UntilTold.{TellsBit}
 use Rattle.sja_replay.specs.Quiet.{IsQuiet}
 use Rattle.sja_traced.specs.Inside.Tracing.{BeginsAs, DoesOn, GoesOn, done_at}
-use Rattle.sja_wire.specs.OneBit.{abort_as, judged_as, off_as}
 use Rattle.sja_wire.specs.Wire.{journal_at}
 
 -- ---- a journal

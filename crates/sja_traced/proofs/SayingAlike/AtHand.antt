@@ -39,7 +39,7 @@ use Rattle.sja_traced.proofs.KnownNode.Muted.{knows_on, mute}
 use Rattle.sja_traced.proofs.RunOfBits.NodeBits.{IsPassed}
 use Rattle.sja_traced.proofs.KnownNode.Opened.{opened_ends}
 use Rattle.sja_traced.proofs.KnownNode.ToldBits.{knows_after, told}
-use Rattle.sja_wire.specs.OneBit.{HasBit, abort_as}
+use Rattle.sja_link.specs.BitEntries.{HasBit, abort_as}
 use Rattle.sja_wire.specs.Telling.{IsTurn}
 use Rattle.sja_wire.specs.Wire.{journal_at}
 

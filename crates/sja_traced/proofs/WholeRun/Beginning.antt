@@ -5,7 +5,8 @@ use Rattle.std.proofs.Math.ListN.{length-append, get_or-append}
 use Rattle.std.proofs.Math.Seq.{get_or-append_right}
 use Rattle.std.proofs.lemmas.Bool.{cases_lt, cases_eq}
 use Rattle.std.proofs.lemmas.List.{get_or-map, get_or-set_other, get_or-set_same, length-map, map-append}
-use Rattle.sja_driver.specs.Deeds.{Deed, deeds_at, done_of}
+use Rattle.lemmas.proofs.Lists.{some_of}
+use Rattle.sja_driver.specs.Deeds.{Deed, deeds_at, done_of, with_deeds}
 use Rattle.sja_link.specs.declared.entry.Entry.{Entry}
 use Rattle.sja_link.specs.declared.entry.Entry.TheVariants.{Bit, Up as Item, Abort, Stored, Overrun, Off}
 use Rattle.sja_link.specs.declared.up.Up.{Up}
@@ -13,12 +14,10 @@ use Rattle.sja_log.specs.Log.{RunValue}
 use Rattle.sja_plan.specs.Plan.{PlanValue}
 use Rattle.sja_script.specs.declared.done.Done.{Done}
 use Rattle.sja_serial.specs.Serial.{SerialValue, StandsAt, TakesTurn}
-use Rattle.sja_wire.specs.OneBit.{HasMore}
-use Rattle.sja_driver.specs.Deeds.{with_deeds}
+use Rattle.sja_link.specs.BitEntries.{HasMore, entries_of_items}
 use Rattle.sja_replay.specs.Quiet.{IsQuiet}
-use Rattle.sja_traced.proofs.WholeRun.Drivers.{done_of_deeds, some_of}
+use Rattle.sja_traced.proofs.WholeRun.Drivers.{done_of_deeds}
 use Rattle.sja_traced.specs.Inside.Tracing.{BeginsAs, DoesOn, GoesOn, done_at}
-use Rattle.sja_wire.specs.OneBit.{entries_of_items}
 use Rattle.sja_wire.specs.Wire.{journal_at}
 
 -- ---- one after another

@@ -1,6 +1,7 @@
 -- The steps that a driver of a run has done.
-use Rattle.std.proofs.Common.{◌≡◌, ℕ, ◌<◌, List, [], ◌∷◌, length, map, slice_index_or, ap, sym, ◌∙◌, arith}
+use Rattle.std.proofs.Common.{◌≡◌, ℕ, ◌<◌, List, [], length, map, slice_index_or, ap, sym, ◌∙◌, arith}
 use Rattle.std.proofs.lemmas.List.{get_or-map}
+use Rattle.lemmas.proofs.Lists.{some_of}
 use Rattle.sja_driver.specs.declared.logged_driver.LoggedDriver.{LoggedDriver}
 use Rattle.sja_driver.specs.Deeds.{Deed, deeds_at, done_of}
 use Rattle.sja_driver.specs.LoggedDrivers.{log_of}
@@ -15,11 +16,6 @@ pub done_is : (r : SerialValue) (k : ℕ) (d : LoggedDriver) → k < length r.dr
 done_is r k d less is =
     let f = λ (x : LoggedDriver). done_in (log_of x) in
     ap f is ∙ sym (get_or-map f r.drivers k d [] less)
-
--- some element of a list that isn't empty
-pub some_of : {A : Type 0} (xs : List A) (k : ℕ) → k < length xs → A
-some_of [] k less = absurd (omega (arith, less))
-some_of (x ∷ xs) k less = x
 
 -- and those of its deeds
 pub done_of_deeds : (plan : PlanValue) (r : SerialValue) (deeds : List (List Deed)) (k : ℕ) → StandsAt plan r deeds →

@@ -10,9 +10,8 @@ use Rattle.sja_driver.specs.Deeds.{Deed}
 use Rattle.sja_link.specs.declared.entry.Entry.{Entry}
 use Rattle.sja_link.specs.declared.entry.Entry.TheVariants.{Up as Item}
 use Rattle.sja_link.specs.declared.up.Up.{Up}
-use Rattle.sja_link.specs.declared.up.Up.TheVariants.{Start, Credit, Send, Stop}
 use Rattle.sja_link.specs.Places.{JournalPlace, past, past_all, place_of}
-use Rattle.sja_replay.proofs.Listed.Parts.{place_both}
+use Rattle.sja_link.proofs.JournalEntries.EachInPart.{place_both}
 use Rattle.sja_link.specs.LookingBack.{ends_in_abort}
 use Rattle.sja_plan.specs.Plan.{PlanValue}
 use Rattle.sja_replay.specs.declared.view.View.{View}
@@ -24,8 +23,9 @@ use Rattle.sja_traced.specs.Inside.Tracing.{AreTold, IsKnown, IsTraced, done_at}
 use Rattle.sja_replay.specs.Knowing.{Knows}
 use Rattle.sja_traced.specs.declared.node_trace.NodeTrace.{NodeTrace}
 use Rattle.sja_traced.specs.declared.run_trace.RunTrace.{RunTrace}
-use Rattle.sja_wire.specs.OneBit.{entries_of_items}
+use Rattle.sja_link.specs.BitEntries.{entries_of_items}
 use Rattle.sja_wire.specs.Wire.{journal_at}
+use Rattle.sja_link.proofs.JournalEntries.Entering.{item_bits}
 
 -- ---- no abort comes last
 
@@ -43,15 +43,9 @@ calm_behind (e ∷ f ∷ j) items calm = calm_behind (f ∷ j) items calm
 
 -- ---- nor any bit
 
-past_item : (p : JournalPlace) (u : Up) → (past p (Item u)).bits ≡ p.bits
-past_item p (Start config) = refl
-past_item p (Credit n) = refl
-past_item p (Send request) = refl
-past_item p Stop = refl
-
 past_items : (p : JournalPlace) (items : List Up) → (past_all p (entries_of_items items)).bits ≡ p.bits
 past_items p [] = refl
-past_items p (u ∷ items) = past_items (past p (Item u)) items ∙ past_item p u
+past_items p (u ∷ items) = past_items (past p (Item u)) items ∙ item_bits p u
 
 bits_behind : (j : List Entry) (items : List Up) → (place_of (j ++ entries_of_items items)).bits ≡ (place_of j).bits
 bits_behind j items =

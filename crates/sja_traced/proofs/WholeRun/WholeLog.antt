@@ -1,8 +1,8 @@
 -- The log of a run that is traced begins as the run goes, and its trace is the text.
-use Rattle.std.proofs.Common.{◌≡◌, ℕ, ◌+◌, ◌<◌, ◌^◌, true, List, [], ◌++◌, length, drop}
-use Rattle.std.proofs.Common.{slice_index_or}
-use Rattle.std.proofs.Common.{string_bytes, sym, ap, ap₂, ◌∙◌, arith, append-nil}
+use Rattle.std.proofs.Common.{◌≡◌, ℕ, ◌+◌, ◌<◌, ◌^◌, true, List, [], ◌++◌, length, drop, slice_index_or, string_bytes}
+use Rattle.std.proofs.Common.{sym, ap, ap₂, ◌∙◌, arith, append-nil}
 use Rattle.std.proofs.lemmas.List.{get_or-map}
+use Rattle.lemmas.proofs.Lists.{some_of}
 use Rattle.sja_driver.specs.Deeds.{Deed}
 use Rattle.sja_link.specs.declared.entry.Entry.{Entry}
 use Rattle.sja_link.specs.Places.{place_of}
@@ -18,9 +18,9 @@ use Rattle.sja_serial.specs.Serial.{SerialValue, StandsAt}
 use Rattle.sja_told.proofs.Told.AllRuns.{bits_told, told_there}
 use Rattle.sja_trace.specs.TraceText.{NodeStory, AreStories, IsTrace, late_steps, lines_to, steps_due}
 use Rattle.sja_trace.specs.TraceText.{steps_from, stories_text}
-use Rattle.sja_traced.proofs.WholeRun.Drivers.{done_of_deeds, some_of}
+use Rattle.sja_traced.proofs.WholeRun.Drivers.{done_of_deeds}
 use Rattle.sja_traced.proofs.Writing.LateLines.{late_lines}
-use Rattle.sja_trace.proofs.Stories.Numbered.{numbered_alike}
+use Rattle.sja_report.proofs.WrittenLines.Numbered.{numbered_alike}
 use Rattle.sja_trace.proofs.Stories.LogStories.{story_at, stories_count, stories_there}
 use Rattle.sja_traced.specs.Inside.Bits.{late_text}
 use Rattle.sja_traced.specs.Inside.Tracing.{BeginsAs, HasStories, IsTraced, done_at}

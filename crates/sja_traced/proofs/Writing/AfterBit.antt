@@ -3,6 +3,7 @@ use Rattle.std.proofs.Common.{◌≡◌, ℕ, suc, ◌+◌, ◌<◌, false, Opti
 use Rattle.std.proofs.Common.{drop, length, sym, ap, ap₂, ◌∙◌, subst, arith, inl, inr}
 use Rattle.std.specs.Prelude.{slice_get, slice_index_or, string_bytes}
 use Rattle.std.proofs.lemmas.Bool.{cases_lt}
+use Rattle.lemmas.proofs.Elements.{map_alike}
 use Rattle.can_bits.specs.declared.level.Level.{Level}
 use Rattle.can_node.specs.declared.counters.Counters.{Counters}
 use Rattle.sja_driver.specs.Deeds.{Deed}
@@ -15,7 +16,7 @@ use Rattle.sja_report.specs.ReportLines.{numbered}
 use Rattle.sja_script.specs.declared.done.Done.{Done}
 use Rattle.sja_serial.specs.Serial.{SerialValue}
 use Rattle.sja_serial.specs.UntilTold.{TellsBit}
-use Rattle.sja_driver.proofs.OneBit.BitAsked.{place_bit}
+use Rattle.sja_driver.proofs.OneBit.BitAsked.{place_bit, place_abort}
 use Rattle.sja_trace.specs.BitEvents.{all_said, counters_after}
 use Rattle.sja_trace.specs.TraceText.{NodeStory, steps_due, event_line, bit_line, node_lines, driven_in, bus_in}
 use Rattle.sja_trace.specs.TraceText.{bit_lines, counters_left, lines_to, steps_from}
@@ -26,13 +27,12 @@ use Rattle.sja_traced.specs.Inside.Tracing.{AreTold, BeginsAs, CountSame, DoesOn
 use Rattle.sja_traced.specs.Inside.Tracing.{done_at}
 use Rattle.sja_traced.specs.declared.node_trace.NodeTrace.{NodeTrace}
 use Rattle.sja_traced.specs.declared.run_trace.RunTrace.{RunTrace}
-use Rattle.sja_driver.proofs.OneBit.BitAsked.{place_abort}
 use Rattle.sja_traced.proofs.SayingAlike.Hands.{IsRight, left_same, line_said}
 use Rattle.sja_trace.proofs.Stories.LogStories.{stories_count, story_at}
-use Rattle.sja_trace.proofs.Stories.Numbered.{map_alike, numbered_alike}
+use Rattle.sja_report.proofs.WrittenLines.Numbered.{numbered_alike}
 use Rattle.sja_traced.proofs.RunOfBits.OneBitOn.{begins_before, same_done}
 use Rattle.sja_traced.proofs.Writing.StepLines.{new_lines}
-use Rattle.sja_wire.specs.OneBit.{abort_as}
+use Rattle.sja_link.specs.BitEntries.{abort_as}
 use Rattle.sja_wire.specs.Wire.{wired, journal_at}
 
 -- what a node has at hand is the bit from one run to the other, whatever comes

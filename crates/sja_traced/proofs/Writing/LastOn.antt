@@ -1,7 +1,8 @@
 -- The last one of several bits, of which a port may be told.
-use Rattle.std.proofs.Common.{◌≡◌, ℕ, ◌+◌, ◌<◌, Bool, true, false, Option, Some, None, List, [], ◌∷◌, ◌++◌}
+use Rattle.std.proofs.Common.{◌≡◌, ℕ, ◌+◌, ◌<◌, false, Option, Some, None, List, [], ◌∷◌, ◌++◌}
 use Rattle.std.proofs.Common.{length, refl, sym, ap, ◌∙◌, subst, arith, inl, inr}
 use Rattle.std.specs.Prelude.{replicate, slice_index_or, string_bytes}
+use Rattle.lemmas.proofs.Elements.{map_is}
 use Rattle.can_bits.specs.declared.level.Level.{Level}
 use Rattle.can_bits.specs.declared.level.Level.TheVariants.{Recessive}
 use Rattle.can_bits.specs.Places.{are_same}
@@ -12,7 +13,7 @@ use Rattle.sja_link.specs.declared.entry.Entry.TheVariants.{Bit}
 use Rattle.sja_link.specs.declared.last_bit.LastBit.{LastBit}
 use Rattle.sja_link.specs.declared.verdict.Verdict.{Verdict}
 use Rattle.sja_link.specs.declared.verdict.Verdict.TheVariants.{Stored as ToStore, Overrun as ToLose}
-use Rattle.sja_link.specs.LookingBack.{EndsWith, IsJudgedAs, ends_in_abort, off_if}
+use Rattle.sja_link.specs.LookingBack.{EndsWith, IsJudgedAs, ends_in_abort}
 use Rattle.sja_link.specs.Places.{place_of}
 use Rattle.sja_log.specs.Log.{RunValue}
 use Rattle.sja_plan.specs.Plan.{PlanValue}
@@ -24,9 +25,8 @@ use Rattle.sja_trace.specs.TraceText.{counters_left, lines_to}
 use Rattle.sja_trace.specs.Inside.Hands.{driven_of}
 use Rattle.sja_replay.specs.Knowing.{Knows, KnowsPlace}
 use Rattle.sja_traced.specs.KnownBits.{kind_of}
-use Rattle.sja_traced.specs.Inside.Bits.{AreAtLast, HasRun, IsAtLast, PutsBit}
+use Rattle.sja_traced.specs.Inside.Bits.{AreAtLast, HasRun, IsAtLast, PutsBit, levels_driven, node_text, told_of}
 use Rattle.sja_traced.specs.Inside.Bits.IsAtLast.{untold, told}
-use Rattle.sja_traced.specs.Inside.Bits.{levels_driven, node_text, told_of}
 use Rattle.sja_traced.specs.Inside.Tracing.{AreTold, BeginsAs, CountSame, DoesOn, GoesOn, IsKnown, IsTraced, done_at}
 use Rattle.sja_traced.specs.declared.node_trace.NodeTrace.{NodeTrace}
 use Rattle.sja_traced.specs.declared.run_trace.RunTrace.{RunTrace}
@@ -34,7 +34,6 @@ use Rattle.sja_traced.proofs.Writing.AfterBit.{HandAt, known_after, text_after}
 use Rattle.sja_traced.proofs.SayingAlike.AtHand.{hand_mute, hand_told}
 use Rattle.sja_traced.proofs.RunOfBits.Chain.{all_run}
 use Rattle.sja_traced.proofs.RunOfBits.NodeBits.{opened_is}
-use Rattle.sja_trace.proofs.Stories.Numbered.{map_is}
 use Rattle.sja_traced.proofs.RunOfBits.OneBitOn.{same_done}
 use Rattle.sja_traced.proofs.Receiving.OpenThen.{fate_then}
 use Rattle.sja_traced.specs.Inside.Rounds.{RoundAt}
@@ -42,8 +41,9 @@ use Rattle.sja_traced.proofs.Writing.PutMute.{mute_driven}
 use Rattle.sja_traced.proofs.RunOfBits.Rounds.{after, bit, driven, never, node, none_at, none_noted, passed_where, seen}
 use Rattle.sja_traced.proofs.RunOfBits.Rounds.{stands_at}
 use Rattle.sja_traced.proofs.RunOfBits.Struck.{struck_place}
-use Rattle.sja_wire.specs.OneBit.{HasBit, abort_as, judged_as, off_as}
+use Rattle.sja_link.specs.BitEntries.{HasBit, abort_as, judged_as}
 use Rattle.sja_wire.specs.Wire.{wired, journal_at}
+use Rattle.sja_replay.proofs.Listed.BitEntries.{off_alike}
 
 -- ---- a run from which the turns were taken
 
@@ -84,10 +84,6 @@ judged_so None = refl
 judged_so (Some (ToStore, m)) = (m, refl)
 judged_so (Some (ToLose, m)) = (m, refl)
 
-off_so : (off : Bool) → off_as off ≡ off_if off
-off_so true = refl
-off_so false = refl
-
 abbrev last_of : (opened k : List Entry) (driven seen : Level) → HasBit opened driven seen k → LastBit
 last_of opened k driven seen b = record {
   driven = driven;
@@ -104,7 +100,7 @@ ends_so opened k driven seen b = record {
   judged = judged_as b.verdict;
   verdict = judged_so b.verdict;
   off = b.off;
-  whole = b.whole ∙ ap (λ l. ((opened ++ Bit driven seen ∷ []) ++ judged_as b.verdict) ++ l) (off_so b.off);
+  whole = b.whole ∙ ap (λ l. ((opened ++ Bit driven seen ∷ []) ++ judged_as b.verdict) ++ l) (off_alike b.off);
 }
 
 one_turn : (s t : BusTurn) → Some s ≡ Some t → s ≡ t

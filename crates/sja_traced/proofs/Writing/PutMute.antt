@@ -1,18 +1,12 @@
 -- A bit at hand that told nothing: what it leaves of a node, and the lines that are put of it.
-use Rattle.std.proofs.Common.{◌≡◌, ℕ, ◌+◌, ◌-◌, true, List, length}
-use Rattle.std.proofs.Common.{refl, ap, ap₂, ◌∙◌}
-use Rattle.std.specs.Prelude.{◌&&◌, ◌++◌, string_bytes}
-use Rattle.std.proofs.lemmas.Bool.{eq-eqb}
+use Rattle.std.proofs.Common.{◌≡◌, ℕ, ◌+◌, ◌-◌, List, length, ap, ◌∙◌}
+use Rattle.std.specs.Prelude.{◌++◌, string_bytes}
 use Rattle.can_bits.specs.declared.level.Level.{Level}
-use Rattle.can_node.specs.declared.counters.Counters.{Counters}
 use Rattle.sja_plan.specs.Plan.{PlanValue}
 use Rattle.sja_report.specs.ReportLines.{numbered}
 use Rattle.sja_serial.specs.Serial.{SerialValue}
-use Rattle.sja_trace.specs.BitEvents.{have_same}
 use Rattle.sja_trace.specs.Inside.Hands.{driven_of}
-use Rattle.sja_traced.specs.Inside.Bits.{AreAtMute, IsMuteAt}
-use Rattle.sja_traced.specs.Inside.Bits.{PutsBit, PutsMute}
-use Rattle.sja_traced.specs.Inside.Bits.{levels_driven, node_text}
+use Rattle.sja_traced.specs.Inside.Bits.{AreAtMute, IsMuteAt, PutsBit, PutsMute, levels_driven, node_text}
 use Rattle.sja_traced.specs.Inside.Bits.IsMuteAt.{in_short, in_full}
 use Rattle.sja_traced.specs.declared.node_trace.NodeTrace.{NodeTrace}
 use Rattle.sja_traced.specs.declared.run_trace.RunTrace.{RunTrace}
@@ -28,9 +22,6 @@ pub mute_entries : (b : ℕ) (d s : Level) (old hand : NodeTrace) → IsMuteAt b
     hand.entries ≡ old.entries
 mute_entries b d s old hand (in_short quiet is) = ap (λ (t : NodeTrace). t.entries) is
 mute_entries b d s old hand (in_full is) = ap (λ (t : NodeTrace). t.entries) is
-
-pub reads_alike : (c : Counters) → have_same c c ≡ true
-reads_alike c = ap₂ (λ t r. t && r) (eq-eqb c.tec c.tec refl) (eq-eqb c.rec c.rec refl)
 
 -- of a trace with the same text before it
 pub puts_same : (plan : PlanValue) (r : SerialValue) (number : ℕ) (nodes : List NodeTrace) (old mid new : RunTrace) →

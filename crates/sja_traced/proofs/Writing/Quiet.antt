@@ -3,6 +3,7 @@ use Rattle.std.proofs.Common.{◌≡◌, ℕ, suc, ◌+◌, ◌<◌, ◌≤◌, 
 use Rattle.std.proofs.Common.{sym, ap, ap₂, ◌∙◌, subst, arith, append-nil}
 use Rattle.std.specs.Prelude.{◌==◌, slice_get, slice_index_or}
 use Rattle.std.proofs.lemmas.Bool.{eqb-true, and_parts}
+use Rattle.lemmas.proofs.Elements.{map_is}
 use Rattle.can_bits.specs.declared.level.Level.{Level}
 use Rattle.can_bits.specs.declared.level.Level.TheVariants.{Recessive}
 use Rattle.can_node.specs.declared.counters.Counters.{Counters}
@@ -25,13 +26,13 @@ use Rattle.sja_traced.proofs.SayingAlike.AtHand.{some_node}
 use Rattle.sja_traced.proofs.KnownNode.Known.{bit_quiet}
 use Rattle.sja_traced.proofs.KnownNode.Muted.{Muted, knows_on, mute}
 use Rattle.sja_trace.proofs.Stories.LogStories.{stories_count, story_at}
-use Rattle.sja_trace.proofs.Stories.Numbered.{map_is, numbered_none}
+use Rattle.sja_report.proofs.WrittenLines.Numbered.{numbered_none}
 use Rattle.sja_traced.proofs.RunOfBits.OneBitOn.{begins_before, same_done}
 use Rattle.sja_traced.proofs.RunOfBits.Rounds.{after, bit, driven, none_noted, passed, seen, stands_at}
 use Rattle.sja_trace.proofs.BitSaid.SaidMute.{mute_none}
 use Rattle.sja_traced.proofs.Writing.StepLines.{no_new_lines}
 use Rattle.sja_traced.proofs.RunOfBits.Struck.{seen_of_several}
-use Rattle.sja_wire.specs.OneBit.{abort_as}
+use Rattle.sja_link.specs.BitEntries.{abort_as}
 use Rattle.sja_wire.specs.Wire.{wired, journal_at}
 
 -- ---- counters

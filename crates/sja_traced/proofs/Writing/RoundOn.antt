@@ -1,7 +1,7 @@
 -- The lines of the bits of a run that tell nothing but in the last one: how far they were written.
-use Rattle.std.proofs.Common.{◌≡◌, ℕ, zero, suc, ◌+◌, ◌-◌, ◌<◌, ◌≤◌, List, length}
-use Rattle.std.proofs.Common.{refl, sym, ap, ◌∙◌, subst, arith}
+use Rattle.std.proofs.Common.{◌≡◌, ℕ, zero, suc, ◌+◌, ◌-◌, ◌<◌, ◌≤◌, List, length, refl, sym, ap, ◌∙◌, subst, arith}
 use Rattle.std.specs.Prelude.{◌++◌, Some, slice_get, slice_index_or, string_bytes}
+use Rattle.lemmas.proofs.Elements.{map_is}
 use Rattle.can_bits.specs.declared.level.Level.TheVariants.{Recessive}
 use Rattle.can_bits.specs.Places.{are_same}
 use Rattle.sja_link.specs.declared.entry.Entry.TheVariants.{Bit}
@@ -10,8 +10,7 @@ use Rattle.sja_report.specs.ReportLines.{numbered}
 use Rattle.sja_serial.specs.Serial.{SerialValue}
 use Rattle.sja_trace.specs.BitEvents.{have_same}
 use Rattle.sja_trace.specs.Inside.Hands.{driven_of}
-use Rattle.sja_traced.specs.Inside.Bits.{AllPlain, HasRun, HaveEntries, IsMuteAt, IsPlain, NothingNew}
-use Rattle.sja_traced.specs.Inside.Bits.{PutsMute}
+use Rattle.sja_traced.specs.Inside.Bits.{AllPlain, HasRun, HaveEntries, IsMuteAt, IsPlain, NothingNew, PutsMute}
 use Rattle.sja_traced.specs.Inside.Bits.{levels_driven, node_text, view_after}
 use Rattle.sja_traced.specs.Inside.Rounds.{IsOn, RoundAt}
 use Rattle.sja_traced.specs.Inside.Tracing.{IsKnown, IsTraced}
@@ -21,13 +20,13 @@ use Rattle.sja_traced.proofs.Writing.AfterBit.{HandAt, known_after, text_after}
 use Rattle.sja_traced.proofs.SayingAlike.AtHand.{hand_mute}
 use Rattle.sja_traced.proofs.RunOfBits.Chain.{all_run, none_run}
 use Rattle.sja_traced.proofs.RunOfBits.Growing.{entries_so_far, entry_there, grows, length_both}
-use Rattle.sja_trace.proofs.Stories.Numbered.{map_is}
 use Rattle.sja_traced.proofs.RunOfBits.OneBitOn.{same_done}
 use Rattle.sja_traced.proofs.Writing.Quiet.{traced_on, still_nothing}
 use Rattle.sja_traced.proofs.RunOfBits.Rounds.{after, bit, bits_after, driven, none_noted, passed, seen, stands_at}
 use Rattle.sja_traced.proofs.RunOfBits.Struck.{struck_place}
 use Rattle.sja_wire.specs.Wire.{wired, journal_at}
-use Rattle.sja_traced.proofs.Writing.PutMute.{mute_driven, mute_entries, reads_alike}
+use Rattle.sja_traced.proofs.Writing.PutMute.{mute_driven, mute_entries}
+use Rattle.sja_trace.proofs.BitSaid.Shorts.{same_counters}
 
 module _ (plan : PlanValue) (t0 : RunTrace) (now : SerialValue) (bits : ℕ) (h : HasRun plan t0 now bits) where
   pub round_first : RoundAt plan t0 now bits h 0 t0
@@ -178,7 +177,7 @@ module _ (plan : PlanValue) (t0 : RunTrace) (now : SerialValue) (bits : ℕ) (h 
                 let done = ap (λ l. length l) (same_done n now k drivers_is) in
                 let steps = ap (λ (t : NodeTrace). t.steps) is in (
                   omega (arith, done, steps),
-                  ap (λ (t : NodeTrace). have_same t.left t.view.counters) is ∙ reads_alike
+                  ap (λ (t : NodeTrace). have_same t.left t.view.counters) is ∙ same_counters
                       (view_after (slice_index_or puts.nodes k d).view (slice_index_or puts.nodes k d).bit).counters,
                 ),
           )

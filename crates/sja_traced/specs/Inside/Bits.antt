@@ -35,7 +35,7 @@ use Rattle.sja_traced.specs.KnownBits.{held_before, fate_by}
 use Rattle.sja_traced.specs.declared.node_trace.NodeTrace.{NodeTrace}
 use Rattle.sja_traced.specs.declared.run_trace.RunTrace.{RunTrace}
 use Rattle.sja_traced.specs.Inside.Tracing.{IsTraced, done_at}
-use Rattle.sja_wire.specs.Links.{stops_of}
+use Rattle.sja_link.specs.Links.{stops_of}
 use Rattle.sja_wire.specs.Wire.{wired, journal_at}
 
 -- ---- of what bits nothing is said

@@ -10,8 +10,7 @@ use Rattle.sja_replay.specs.Replaying.{left_of, IsAt, GoesOn}
 use Rattle.sja_replay.proofs.Listed.Coming.{came_on, came_all}
 use Rattle.sja_wave.specs.declared.meter.Meter.{Meter}
 use Rattle.sja_wave.specs.Views.{view_in}
-use Rattle.sja_wave.specs.Inside.Meters.{gauges_of, IsReading}
-use Rattle.sja_wave.specs.Inside.Meters.{ReadsOn, IsFinishing, ReadsAll}
+use Rattle.sja_wave.specs.Inside.Meters.{gauges_of, IsReading, ReadsOn, IsFinishing, ReadsAll}
 use Rattle.sja_wave.proofs.BitByBit.ViewsIn.{view_front, view_next, view_after, view_past}
 
 -- ---- a meter goes on

@@ -1,6 +1,5 @@
 -- The text of all bits so far.
-use Rattle.std.proofs.Common.{◌≡◌, ℕ, suc, List, [], ◌++◌, length, sym, ap, ◌∙◌, subst, arith}
-use Rattle.std.proofs.Common.{append-nil, append_assoc}
+use Rattle.std.proofs.Common.{◌≡◌, ℕ, suc, List, [], ◌++◌, length, sym, ap, ◌∙◌, subst, arith, append-nil, append_assoc}
 use Rattle.std.proofs.lemmas.Slice.Zip.{AllZip-long}
 use Rattle.lemmas.specs.Related.{EachRelated}
 use Rattle.lemmas.proofs.Related.{each_refl, each_trans}

@@ -1,8 +1,7 @@
 -- What is written of all nodes.
-use Rattle.std.proofs.Common.{◌≡◌, ℕ, ◌+◌, ◌<◌, zero, suc, Bool, List, [], ◌∷◌, ◌++◌, length, map}
+use Rattle.std.proofs.Common.{◌≡◌, ℕ, ◌+◌, ◌<◌, suc, List, [], ◌∷◌, ◌++◌, length, map}
 use Rattle.std.proofs.Common.{drop, get_or, codes, decimal, refl, sym, ap, ap₂, ◌∙◌, append-nil, append_assoc}
 use Rattle.std.proofs.lemmas.List.{drop_more}
-use Rattle.can_bits.specs.declared.level.Level.{Level}
 use Rattle.can_bits.specs.Fields.{is_recessive}
 use Rattle.lemmas.proofs.Gathered.{gathered_append}
 use Rattle.lemmas.specs.Gathering.{gathered}
@@ -13,7 +12,7 @@ use Rattle.sja_report.specs.ReportLines.{numbered}
 use Rattle.sja_wave.specs.declared.cursor.Cursor.{Cursor}
 use Rattle.sja_wave.specs.declared.gauges.Gauges.{Gauges}
 use Rattle.sja_wave.specs.declared.probe.Probe.{Probe}
-use Rattle.sja_wave.specs.AllSignals.{Signal, told_signals, node_signals, all_signals}
+use Rattle.sja_wave.specs.AllSignals.{Signal, told_signals, node_signals}
 use Rattle.sja_wave.specs.AllSignals.Signal.{wire, number}
 use Rattle.sja_wave.specs.Numbers.{node_number}
 use Rattle.sja_wave.specs.Signals.{last_bit, shows_driven, shows_seen, shows_active}
@@ -28,7 +27,7 @@ use Rattle.sja_wave.specs.Inside.Changes.{node_changes, driven_before, driven_no
 use Rattle.sja_wave.specs.Inside.Changes.{all_changes}
 use Rattle.sja_wave.specs.Inside.Cursors.{cursor_at}
 use Rattle.sja_wave.specs.Inside.Probes.{Shows}
-use Rattle.sja_report.proofs.Written.{two_texts}
+use Rattle.sja_report.proofs.WrittenLines.Written.{two_texts}
 
 -- ---- the levels that all drive
 

@@ -1,6 +1,7 @@
 -- A text that doesn't begin with `-` is a plain word to the parser.
-use Rattle.std.proofs.Common.{◌≡◌, ◌||◌, List, Bool, [], ◌∷◌, None, refl, true, false}
+use Rattle.std.proofs.Common.{◌≡◌, List, [], ◌∷◌, None, refl, false}
 use Rattle.std.specs.Str.{bytes_eq}
+use Rattle.std.proofs.lemmas.Bool.{or_parts}
 use Rattle.clap.specs.Lexer.{strip_byte}
 use Rattle.clap.specs.Words.{Text}
 use Rattle.sja_words.specs.Words.{HasNoFlag, begins_with_hyphen}
@@ -15,12 +16,7 @@ pub no_dashes : (text : Text) → begins_with_hyphen text ≡ false → bytes_eq
 no_dashes [] h = refl
 no_dashes (x ∷ rest) h = simp h
 
--- neither of two tests that give false together
-neither : (a b : Bool) → (a || b) ≡ false → (a ≡ false) × (b ≡ false)
-neither true b h = cc
-neither false b h = (refl, h)
-
 -- the first of such texts, and the others
 pub each_of : (text : Text) (texts : List Text) → HasNoFlag (text ∷ texts) →
     (begins_with_hyphen text ≡ false) × HasNoFlag texts
-each_of text texts h = neither _ _ h
+each_of text texts h = or_parts _ _ h

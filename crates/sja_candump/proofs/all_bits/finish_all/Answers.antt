@@ -1,5 +1,5 @@
 use Rattle.std.proofs.Common.{◌<◌, length, rules, sym, subst}
-use Rattle.sja_report.proofs.Parts.{part_none, part_at, part_next, part_all}
+use Rattle.lemmas.proofs.ChangedInTurn.{part_none, part_at, part_next, part_all}
 use Rattle.sja_trace.specs.Telling.{TellsAll, IsUnderway}
 use Rattle.sja_candump.proofs.Stories.{underway_at}
 use Rattle.sja_candump.proofs.all_bits.finish_all.Goals as goal

@@ -1,4 +1,4 @@
-use Rattle.sja_report.proofs.Parts.{Part}
+use Rattle.lemmas.proofs.ChangedInTurn.{Part}
 use Rattle.sja_trace.specs.Telling.{TellsAll}
 use Rattle.sja_candump.proofs.all_bits.finish_all.Given as goal
 

@@ -1,5 +1,5 @@
 use Rattle.std.proofs.Common.{◌<◌, length, rules}
-use Rattle.sja_report.proofs.Parts.{part_none, part_next, part_all}
+use Rattle.lemmas.proofs.ChangedInTurn.{part_none, part_next, part_all}
 use Rattle.sja_trace.specs.Telling.{TellsOn}
 use Rattle.sja_candump.proofs.all_bits.go_on_all.Goals as goal
 

@@ -1,4 +1,4 @@
-use Rattle.sja_report.proofs.Parts.{Part}
+use Rattle.lemmas.proofs.ChangedInTurn.{Part}
 use Rattle.sja_trace.specs.Telling.{TellsOn}
 use Rattle.sja_candump.proofs.all_bits.go_on_all.Given as goal
 

@@ -1,4 +1,4 @@
-use Rattle.sja_report.proofs.Written.{four_texts}
+use Rattle.sja_report.proofs.WrittenLines.Written.{four_texts}
 use Rattle.sja_candump.proofs.bit_lines.put_errors_after.Goals as goal
 
 pub returns : goal.returns

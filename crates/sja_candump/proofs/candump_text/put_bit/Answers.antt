@@ -1,5 +1,5 @@
 use Rattle.std.proofs.Common.{arith}
-use Rattle.sja_report.proofs.Written.{numbered_next, numbered_end}
+use Rattle.sja_report.proofs.WrittenLines.Written.{numbered_next, numbered_end}
 use Rattle.sja_candump.specs.Inside.Coming.{hand_lines}
 use Rattle.sja_candump.proofs.candump_text.put_bit.Goals as goal
 

@@ -1,7 +1,7 @@
 use Rattle.std.proofs.Common.{true, [], ◌∷◌, string_bytes}
 use Rattle.can_notation.specs.Text.{hash, identifier_text, data_text}
 use Rattle.sja_candump.specs.ErrorFrames.{error_identifier, error_bytes}
-use Rattle.sja_report.proofs.Written.{two_texts}
+use Rattle.sja_report.proofs.WrittenLines.Written.{two_texts}
 use Rattle.sja_candump.proofs.frame_lines.put_error.Goals as goal
 
 pub returns : goal.returns

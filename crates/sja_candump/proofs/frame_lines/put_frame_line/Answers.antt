@@ -1,4 +1,4 @@
-use Rattle.sja_report.proofs.Written.{three_texts}
+use Rattle.sja_report.proofs.WrittenLines.Written.{three_texts}
 use Rattle.sja_candump.proofs.frame_lines.put_frame_line.Goals as goal
 
 pub returns : goal.returns

@@ -1,4 +1,4 @@
-use Rattle.sja_frames.proofs.Bits.{last_more}
+use Rattle.sja_frames.proofs.Fields.Bits.{last_more}
 use Rattle.sja_frames.proofs.field_texts.last_number.Goals as goal
 
 pub loop-bit-preserved : goal.loop-bit-preserved

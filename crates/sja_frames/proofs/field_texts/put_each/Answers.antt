@@ -1,5 +1,5 @@
 use Rattle.sja_frames.specs.FieldTexts.{field_among}
-use Rattle.sja_frames.proofs.Bits.{gathered_at, gathered_end}
+use Rattle.sja_frames.proofs.Fields.Bits.{gathered_at, gathered_end}
 use Rattle.sja_frames.proofs.field_texts.put_each.Goals as goal
 
 pub loop-field-preserved : goal.loop-field-preserved

@@ -1,5 +1,5 @@
 use Rattle.sja_frames.specs.FieldTexts.{number_behind}
-use Rattle.sja_frames.proofs.Bits.{gathered_at, gathered_end}
+use Rattle.sja_frames.proofs.Fields.Bits.{gathered_at, gathered_end}
 use Rattle.sja_frames.proofs.field_texts.put_numbers_behind.Goals as goal
 
 pub loop-bit-preserved : goal.loop-bit-preserved

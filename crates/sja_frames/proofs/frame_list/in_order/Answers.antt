@@ -2,7 +2,7 @@ use Rattle.std.proofs.Common.{rules}
 use Rattle.std.proofs.lemmas.List.Sorted.{IsPermutation-map, answers_always}
 use Rattle.sja_frames.specs.declared.frame_line.FrameLine.{FrameLine}
 use Rattle.sja_frames.specs.Inside.Walking.{value_of}
-use Rattle.sja_frames.proofs.Orders.{sorted_values}
+use Rattle.sja_frames.proofs.FrameLines.Orders.{sorted_values}
 use Rattle.sja_frames.proofs.frame_list.in_order.Goals as goal
 
 pub returns-clause-same : goal.returns-clause-same

@@ -1,5 +1,5 @@
 use Rattle.std.proofs.Common.{arith, refl, rules}
-use Rattle.sja_frames.proofs.Nodes.{some_none, some_more, some_all}
+use Rattle.sja_frames.proofs.FrameLines.Nodes.{some_none, some_more, some_all}
 use Rattle.sja_frames.proofs.frame_list.lines_of.Goals as goal
 
 pub loop-node-init : goal.loop-node-init

@@ -1,5 +1,5 @@
 use Rattle.std.proofs.Common.{◌≡◌, take}
-use Rattle.sja_frames.proofs.Nodes.{HaveSome}
+use Rattle.sja_frames.proofs.FrameLines.Nodes.{HaveSome}
 use Rattle.sja_frames.proofs.frame_list.lines_of.Given as goal
 
 -- those of the nodes so far

@@ -1,4 +1,4 @@
-use Rattle.sja_frames.proofs.Walks.{goes_on, goes_anew}
+use Rattle.sja_frames.proofs.FrameLines.Walks.{goes_on, goes_anew}
 use Rattle.sja_frames.proofs.walk.go_on.Goals as goal
 
 pub returns-in_ok-next-in-Some : goal.returns-in_ok-next-in-Some

@@ -1,4 +1,4 @@
-use Rattle.sja_frames.proofs.Walks.{walk_first, walk_next, walk_shorter, walk_last}
+use Rattle.sja_frames.proofs.FrameLines.Walks.{walk_first, walk_next, walk_shorter, walk_last}
 use Rattle.sja_frames.proofs.walk.put_lines.Goals as goal
 
 pub loop-bit-init : goal.loop-bit-init

@@ -1,6 +1,6 @@
 use Rattle.std.proofs.Common.{length}
 use Rattle.sja_replay.specs.Replaying.{left_of}
-use Rattle.sja_frames.proofs.Walks.{IsWalking}
+use Rattle.sja_frames.proofs.FrameLines.Walks.{IsWalking}
 use Rattle.sja_frames.proofs.walk.put_lines.Given as goal
 
 -- the bits so far were gone over

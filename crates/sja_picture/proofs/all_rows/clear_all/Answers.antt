@@ -1,5 +1,5 @@
 use Rattle.std.proofs.Common.{◌<◌, length, rules}
-use Rattle.sja_report.proofs.Parts.{part_none, part_next, part_all}
+use Rattle.lemmas.proofs.ChangedInTurn.{part_none, part_next, part_all}
 use Rattle.sja_picture.specs.Inside.Drawing.{Clears}
 use Rattle.sja_picture.proofs.all_rows.clear_all.Goals as goal
 

@@ -1,4 +1,4 @@
-use Rattle.sja_report.proofs.Parts.{Part}
+use Rattle.lemmas.proofs.ChangedInTurn.{Part}
 use Rattle.sja_picture.specs.Inside.Drawing.{Clears}
 use Rattle.sja_picture.proofs.all_rows.clear_all.Given as goal
 

@@ -1,5 +1,5 @@
 use Rattle.std.proofs.Common.{arith}
-use Rattle.sja_report.proofs.Written.{numbered_next, numbered_end}
+use Rattle.sja_report.proofs.WrittenLines.Written.{numbered_next, numbered_end}
 use Rattle.sja_picture.specs.Inside.Drawing.{shown_rows}
 use Rattle.sja_picture.proofs.all_rows.put_all.Goals as goal
 

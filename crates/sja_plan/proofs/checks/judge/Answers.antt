@@ -1,21 +1,21 @@
 use Rattle.std.proofs.Common.{rules, ◌≡◌, ◌≤◌, ℕ, pos, List, map, arith}
 use Rattle.std.specs.List.{AllZip}
+use Rattle.std.proofs.lemmas.Slice.Zip.{AllZip-long}
 use Rattle.sja_script.specs.declared.step.Step.{Step}
 use Rattle.sja_plan.specs.StepTexts.{SaysStep}
 use Rattle.sja_plan.specs.Document.{DocumentValue}
 use Rattle.sja_plan.specs.Limits.{most_bits, most_steps_told}
 use Rattle.sja_plan.specs.Checks.{HasVersion, HasNodes, HasFewSteps, BeforeTurnCount}
 use Rattle.sja_plan.specs.Inside.Views.{document_view}
-use Rattle.sja_plan.proofs.Texts.{zip_length}
-use Rattle.sja_plan.proofs.WithinLimits.{few_read, name_nodes, times_counted, strike_nodes}
-use Rattle.sja_plan.proofs.ByVersion.{version_is, steps_told_fit, has_bits, has_steps}
+use Rattle.sja_plan.proofs.PlanLimits.WithinLimits.{few_read, name_nodes, times_counted, strike_nodes}
+use Rattle.sja_plan.proofs.PlanLimits.ByVersion.{version_is, steps_told_fit, has_bits, has_steps}
 use Rattle.sja_plan.proofs.checks.judge.Goals as goal
 
 pub invariant_of-result : goal.invariant_of-result
 invariant_of-result c =
     let (nodes, few) = c.in_ok-counts.ensures.ok in
-    let count = zip_length _ _ _ c.in_ok-nodes.ensures.ok in
-    let turns = zip_length _ _ _ c.in_ok-turns.ensures.ok in
+    let count = AllZip-long _ _ _ c.in_ok-nodes.ensures.ok in
+    let turns = AllZip-long _ _ _ c.in_ok-turns.ensures.ok in
     let version = c.in_ok-settings.settings.version in
     let is = version_is (document_view c.args.document.now) version c.in_ok-settings.ensures.version.0 in
     record {

@@ -1,7 +1,7 @@
 use Rattle.std.proofs.Common.{rules, ◌≡◌, length, map, sym, subst, arith}
 use Rattle.sja_plan.specs.StepTexts.{SaysStep}
 use Rattle.sja_plan.specs.Texts.{IsFirstBadIn}
-use Rattle.sja_plan.proofs.Nodes.{node_texts, node_more, first_bad_step}
+use Rattle.sja_plan.proofs.Parts.Nodes.{node_texts, node_more, first_bad_step}
 use Rattle.sja_plan.proofs.checks.steps.Goals as goal
 
 pub returns-in-Err-Bad-clause-err : goal.returns-in-Err-Bad-clause-err

@@ -1,7 +1,7 @@
 use Rattle.std.proofs.Common.{map, take}
 use Rattle.std.specs.List.{AllZip}
 use Rattle.sja_plan.specs.StepTexts.{SaysStep}
-use Rattle.sja_plan.proofs.Nodes.{node_texts}
+use Rattle.sja_plan.proofs.Parts.Nodes.{node_texts}
 use Rattle.sja_plan.proofs.checks.steps.Given as goal
 
 -- the nodes so far say the steps that were found

@@ -1,4 +1,4 @@
-use Rattle.sja_plan.proofs.OneFault.{no_fault}
+use Rattle.sja_plan.proofs.OneReading.OneFault.{no_fault}
 use Rattle.sja_plan.proofs.laws.a_plan_has_no_fault.Goals as goal
 
 pub returns : goal.returns

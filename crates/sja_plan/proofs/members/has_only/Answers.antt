@@ -1,7 +1,7 @@
 use Rattle.std.proofs.Common.{rules, ◌≡◌, ◌∙◌, true, false}
 use Rattle.std.specs.List.{list_all}
 use Rattle.std.specs.Map.{keys_of}
-use Rattle.sja_plan.proofs.Keys.{is_allowed, knows-entries}
+use Rattle.sja_plan.proofs.Spelling.Keys.{is_allowed, knows-entries}
 use Rattle.sja_plan.proofs.members.has_only.Goals as goal
 
 pub returns : goal.returns

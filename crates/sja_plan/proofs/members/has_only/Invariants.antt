@@ -1,7 +1,7 @@
 use Rattle.std.proofs.Common.{◌≡◌}
 use Rattle.std.specs.List.{list_all}
 use Rattle.std.specs.Map.{keys_of}
-use Rattle.sja_plan.proofs.Keys.{is_allowed}
+use Rattle.sja_plan.proofs.Spelling.Keys.{is_allowed}
 use Rattle.sja_plan.proofs.members.has_only.Given as goal
 
 -- the keys that are left decide

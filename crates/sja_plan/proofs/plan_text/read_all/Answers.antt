@@ -1,7 +1,7 @@
 use Rattle.std.proofs.Common.{rules, ◌≡◌, ◌+◌, length, sym, subst, slice_index_or, Bor, [], arith}
 use Rattle.sja_plan.specs.Words.{Text}
 use Rattle.sja_plan.specs.Texts.{IsFirstBad}
-use Rattle.sja_plan.proofs.Texts.{bytes_of, read_more, first_bad, read_count}
+use Rattle.sja_plan.proofs.Spelling.Texts.{bytes_of, read_more, first_bad, read_count}
 use Rattle.sja_plan.proofs.plan_text.read_all.Goals as goal
 
 abbrev none_there : Bor Text

@@ -2,9 +2,9 @@ use Rattle.std.proofs.Common.{rules, ◌<◌, ◌≤◌, ◌≡◌, ◌∙◌, L
 use Rattle.std.proofs.lemmas.List.{take_all}
 use Rattle.sja_plan.specs.Words.{Text}
 use Rattle.sja_plan.specs.Limits.{most_steps_told}
-use Rattle.sja_plan.specs.Checks.{version_of, HasFewSteps}
+use Rattle.sja_plan.specs.Checks.{version_of}
 use Rattle.sja_plan.specs.Inside.Views.{document_view}
-use Rattle.sja_plan.proofs.Nodes.{node_texts, all_few, not_few}
+use Rattle.sja_plan.proofs.Parts.Nodes.{node_texts, all_few, not_few}
 use Rattle.sja_plan.proofs.settings.has_few_steps.Goals as goal
 
 pub returns-then-len-most_steps_told : goal.returns-then-len-most_steps_told

@@ -1,5 +1,5 @@
 use Rattle.std.proofs.Common.{arith, []}
-use Rattle.sja_plan.proofs.StrikeCounts.{too_many}
+use Rattle.sja_plan.proofs.Spelling.StrikeCounts.{too_many}
 use Rattle.sja_plan.proofs.strike_count.strikes_are_few.Goals as goal
 
 pub returns-then-total-most : goal.returns-then-total-most

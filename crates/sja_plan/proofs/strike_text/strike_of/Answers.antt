@@ -1,7 +1,7 @@
 use Rattle.std.proofs.Common.{refl, arith, Bor}
 use Rattle.std.proofs.lemmas.List.{length-map}
 use Rattle.sja_plan.specs.Words.{Text}
-use Rattle.sja_plan.proofs.StrikeWords.{no_strike, four_words}
+use Rattle.sja_plan.proofs.Spelling.StrikeWords.{no_strike, four_words}
 use Rattle.sja_plan.proofs.strike_text.strike_of.Goals as goal
 
 pub returns-in-len4-clause-err : goal.returns-in-len4-clause-err

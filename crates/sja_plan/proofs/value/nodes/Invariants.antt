@@ -1,7 +1,7 @@
 use Rattle.std.proofs.Common.{◌≡◌, map, drop}
 use Rattle.toml.specs.View.{items_view}
 use Rattle.sja_plan.specs.Document.{nodes_of}
-use Rattle.sja_plan.proofs.Items.{joined}
+use Rattle.sja_plan.proofs.Spelling.Items.{joined}
 use Rattle.sja_plan.proofs.value.nodes.Given as goal
 
 -- what is found, and what the rest gives, are what the whole gives

@@ -1,6 +1,6 @@
 use Rattle.std.proofs.Common.{rules, arith}
 use Rattle.std.proofs.lemmas.Str.Pattern.{split_once_first}
-use Rattle.sja_plan.proofs.Words.{words_more, words_last}
+use Rattle.sja_plan.proofs.Spelling.Words.{words_more, words_last}
 use Rattle.sja_plan.proofs.word.find_words.Goals as goal
 
 pub loop-word-preserved : goal.loop-word-preserved

@@ -1,6 +1,6 @@
 use Rattle.std.proofs.Common.{◌≡◌, ◌≢◌, ◌==◌, ◌<◌, ◌∙◌, ℕ, Option, IfSome, get_or, slice_index, sym, subst, arith}
 use Rattle.std.proofs.lemmas.Bool.Decides.{nat_tests}
-use Rattle.sja_plan.proofs.Numbers.{parsed_number, number_of_small}
+use Rattle.sja_plan.proofs.Spelling.Numbers.{parsed_number, number_of_small}
 use Rattle.sja_plan.proofs.word.number.Goals as goal
 
 pub returns-clause-value : goal.returns-clause-value

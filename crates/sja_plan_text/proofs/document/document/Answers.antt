@@ -1,7 +1,7 @@
 use Rattle.std.proofs.Common.{map, string_bytes}
 use Rattle.sja_plan_text.specs.Texts.{turn_text}
-use Rattle.sja_plan_text.proofs.Parsed.{lines_written, written_read}
-use Rattle.sja_plan_text.proofs.Plans.{is_document}
+use Rattle.sja_plan_text.proofs.Documents.Parsed.{lines_written, written_read}
+use Rattle.sja_plan_text.proofs.Tables.Plans.{is_document}
 use Rattle.sja_plan_text.proofs.document.document.Goals as goal
 
 pub returns : goal.returns

@@ -7,7 +7,7 @@ use Rattle.sja_plan.specs.Limits.{most_bytes}
 use Rattle.sja_plan.specs.Plan.{PlanValue}
 use Rattle.sja_plan_text.specs.Document.{IsDocumentOf}
 use Rattle.sja_plan_text.specs.Written.{IsWritten, IsLong}
-use Rattle.sja_plan_text.proofs.Plans.{is_plan}
+use Rattle.sja_plan_text.proofs.Tables.Plans.{is_plan}
 use Rattle.sja_plan_text.proofs.document.plan_text.Goals as goal
 
 -- a text is as long as it may be, or longer, by what was read of it

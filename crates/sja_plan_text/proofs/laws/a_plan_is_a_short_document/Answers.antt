@@ -1,4 +1,4 @@
-use Rattle.sja_plan_text.proofs.Plans.{is_plan, is_short_document}
+use Rattle.sja_plan_text.proofs.Tables.Plans.{is_plan, is_short_document}
 use Rattle.sja_plan_text.proofs.laws.a_plan_is_a_short_document.Goals as goal
 
 pub returns : goal.returns

@@ -1,4 +1,4 @@
-use Rattle.sja_plan_text.proofs.Alike.{one_is_written}
+use Rattle.sja_plan_text.proofs.Documents.Alike.{one_is_written}
 use Rattle.sja_plan_text.proofs.laws.one_text_is_written.Goals as goal
 
 pub returns : goal.returns

@@ -3,7 +3,7 @@ use Rattle.std.proofs.lemmas.List.Elements.{All-more}
 use Rattle.sja_script.specs.declared.step.Step.{Step}
 use Rattle.sja_plan.specs.Limits.{most_steps_told}
 use Rattle.sja_plan_text.specs.HasTexts.{HasStepText}
-use Rattle.sja_plan_text.proofs.Lists.{all_taken}
+use Rattle.sja_plan_text.proofs.Tables.Lists.{all_taken}
 use Rattle.sja_plan_text.proofs.writable.has_texts.Goals as goal
 
 pub loop-node-preserved : goal.loop-node-preserved

@@ -1,7 +1,7 @@
 use Rattle.std.proofs.Common.{rules, ◌≤◌, length, refl, IsTrue, subst, arith}
 use Rattle.std.proofs.lemmas.List.Elements.{All-more}
 use Rattle.sja_plan_text.specs.HasTexts.{HasStepText}
-use Rattle.sja_plan_text.proofs.Lists.{all_taken}
+use Rattle.sja_plan_text.proofs.Tables.Lists.{all_taken}
 use Rattle.sja_plan_text.proofs.writable.steps_have_texts.Goals as goal
 
 pub loop-step-preserved : goal.loop-step-preserved

@@ -1,7 +1,7 @@
 use Rattle.std.proofs.Common.{rules, ◌≤◌, length, refl, IsTrue, arith}
 use Rattle.std.proofs.lemmas.List.Elements.{All-more}
 use Rattle.sja_plan_text.specs.HasTexts.{HasStrikeText}
-use Rattle.sja_plan_text.proofs.Lists.{all_taken}
+use Rattle.sja_plan_text.proofs.Tables.Lists.{all_taken}
 use Rattle.sja_plan_text.proofs.writable.strikes_have_texts.Goals as goal
 
 pub loop-strike-preserved : goal.loop-strike-preserved

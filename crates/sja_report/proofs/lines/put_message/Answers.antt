@@ -1,5 +1,5 @@
 use Rattle.sja_report.specs.ReportWords.{message_words}
-use Rattle.sja_report.proofs.Texts.{line_whole}
+use Rattle.sja_report.proofs.WrittenLines.Texts.{line_whole}
 use Rattle.sja_report.proofs.lines.put_message.Goals as goal
 
 pub returns : goal.returns

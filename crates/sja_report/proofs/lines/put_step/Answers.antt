@@ -1,6 +1,6 @@
 use Rattle.std.specs.Prelude.{codes, decimal, ◌++◌}
 use Rattle.sja_report.specs.ReportWords.{answer_words}
-use Rattle.sja_report.proofs.Texts.{line_whole}
+use Rattle.sja_report.proofs.WrittenLines.Texts.{line_whole}
 use Rattle.sja_report.proofs.lines.put_step.Goals as goal
 
 pub returns : goal.returns

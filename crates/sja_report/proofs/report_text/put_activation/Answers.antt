@@ -1,7 +1,7 @@
 use Rattle.std.specs.Prelude.{length, codes}
 use Rattle.sja_report.specs.ReportLines.{counts_line, message_lines}
 use Rattle.sja_report.specs.Inside.Tallies.{tally_value, free_by}
-use Rattle.sja_report.proofs.Texts.{activation_text}
+use Rattle.sja_report.proofs.WrittenLines.Texts.{activation_text}
 use Rattle.sja_report.proofs.report_text.put_activation.Goals as goal
 
 pub returns : goal.returns

@@ -1,7 +1,7 @@
 use Rattle.std.proofs.Common.{arith, map, ap, ◌∙◌, ◌+◌, ◌++◌, string_bytes}
 use Rattle.sja_report.specs.ReportLines.{lines_text}
 use Rattle.sja_report.specs.Inside.Tallies.{tally_value, activation_lines_of, tallied_lines}
-use Rattle.sja_report.proofs.Texts.{numbered_more}
+use Rattle.sja_report.proofs.WrittenLines.Texts.{numbered_more}
 use Rattle.sja_report.proofs.report_text.put_tallied.Goals as goal
 
 pub loop-activation-preserved : goal.loop-activation-preserved

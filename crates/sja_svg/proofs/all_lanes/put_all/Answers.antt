@@ -1,5 +1,5 @@
 use Rattle.std.proofs.Common.{arith}
-use Rattle.sja_report.proofs.Written.{numbered_next, numbered_end}
+use Rattle.sja_report.proofs.WrittenLines.Written.{numbered_next, numbered_end}
 use Rattle.sja_svg.specs.Inside.Drawing.{shown_lane}
 use Rattle.sja_svg.proofs.all_lanes.put_all.Goals as goal
 

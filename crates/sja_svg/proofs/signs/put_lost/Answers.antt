@@ -1,5 +1,5 @@
 use Rattle.std.proofs.Common.{◌++◌, codes, decimal, string_bytes, append_assoc}
-use Rattle.sja_report.proofs.Written.{three_texts}
+use Rattle.sja_report.proofs.WrittenLines.Written.{three_texts}
 use Rattle.sja_svg.proofs.signs.put_lost.Goals as goal
 
 pub returns : goal.returns

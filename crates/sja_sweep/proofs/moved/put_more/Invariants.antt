@@ -1,7 +1,6 @@
-use Rattle.std.proofs.Common.{◌≡◌, ◌++◌, string_bytes}
+use Rattle.std.proofs.Common.{◌≡◌, ◌++◌, string_bytes, cond, []}
 use Rattle.std.specs.List.{range_with_len}
 use Rattle.lemmas.specs.Gathering.{gathered}
-use Rattle.std.proofs.Common.{cond, []}
 use Rattle.sja_sweep.specs.Messages.{message_at, message_item, is_more}
 use Rattle.sja_sweep.proofs.moved.put_more.Given as goal
 

@@ -1,8 +1,9 @@
-use Rattle.std.proofs.Common.{◌≡◌, ◌<◌, ◌++◌, length, string_bytes, arith, sym, ap₂, ◌∙◌}
+use Rattle.std.proofs.Common.{◌<◌, ◌++◌, length, string_bytes, arith, ap₂, ◌∙◌}
+use Rattle.std.proofs.lemmas.List.{get_or_read}
 use Rattle.sja_log.specs.Log.{NodeValue}
 use Rattle.sja_sweep.specs.Nodes.{no_node, node_at}
 use Rattle.sja_sweep.specs.Changes.{node_items}
-use Rattle.sja_sweep.proofs.NumberLists.Ranges.{text_more, read_is}
+use Rattle.sja_sweep.proofs.NumberLists.Ranges.{text_more}
 use Rattle.sja_sweep.proofs.nodes.put_nodes.Goals as goal
 
 pub loop-node-preserved : goal.loop-node-preserved
@@ -13,6 +14,6 @@ loop-node-preserved c =
     text_more (λ n. node_items n (node_at c.args.without.now n) (node_at c.args.now.now n)) k _ _ _
     c.loop-node.invariant
     (c.in_ok-put_node.ensures
-    ∙ sym (ap₂ (λ (a b : NodeValue). string_bytes c.loop-node.text ++ node_items k a b)
-    (read_is c.args.without.now k c.index-without-node.result no_node there c.index-without-node.is)
-    (read_is c.args.now.now k c.index-now-node.result no_node less c.index-now-node.is)))
+    ∙ ap₂ (λ (a b : NodeValue). string_bytes c.loop-node.text ++ node_items k a b)
+    (get_or_read c.args.without.now k c.index-without-node.result there c.index-without-node.is no_node)
+    (get_or_read c.args.now.now k c.index-now-node.result less c.index-now-node.is no_node))

@@ -1,4 +1,4 @@
-use Rattle.sja_report.proofs.Written.{four_texts}
+use Rattle.sja_report.proofs.WrittenLines.Written.{four_texts}
 use Rattle.sja_sweep.proofs.planned.put_planned.Goals as goal
 
 pub returns : goal.returns

@@ -1,6 +1,6 @@
 use Rattle.std.proofs.Common.{◌≡◌}
 use Rattle.sja_regs.specs.Captures.{error_code}
-use Rattle.sja_report.proofs.Written.{two_texts}
+use Rattle.sja_report.proofs.WrittenLines.Written.{two_texts}
 use Rattle.sja_trace.proofs.event_texts.put_fault_text.Goals as goal
 
 pub returns : goal.returns

@@ -1,4 +1,4 @@
-use Rattle.sja_report.proofs.Written.{four_texts}
+use Rattle.sja_report.proofs.WrittenLines.Written.{four_texts}
 use Rattle.sja_trace.proofs.event_texts.put_loss_text.Goals as goal
 
 pub returns : goal.returns

@@ -1,7 +1,7 @@
 use Rattle.sja_trace.specs.declared.teller.Teller.{Teller}
 use Rattle.sja_trace.specs.Telling.{at_hand}
 use Rattle.sja_trace.specs.TraceText.{driven_in}
-use Rattle.sja_report.proofs.BusLevels.{drives_more, all_drive}
+use Rattle.sja_report.proofs.NodeTallies.BusLevels.{drives_more, all_drive}
 use Rattle.sja_trace.proofs.tellers.bus_of.Goals as goal
 
 pub loop-teller-preserved : goal.loop-teller-preserved

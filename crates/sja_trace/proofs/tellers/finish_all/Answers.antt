@@ -3,7 +3,7 @@ use Rattle.sja_trace.specs.Inside.Coming.{TellerEnds}
 use Rattle.sja_trace.specs.Telling.{IsUnderway}
 use Rattle.sja_trace.specs.declared.teller.Teller.{Teller}
 use Rattle.sja_trace.proofs.Stories.NodeStories.{underway_at}
-use Rattle.sja_report.proofs.Parts.{part_none, part_at, part_next, part_all}
+use Rattle.lemmas.proofs.ChangedInTurn.{part_none, part_at, part_next, part_all}
 use Rattle.sja_trace.proofs.tellers.finish_all.Goals as goal
 
 pub loop-k-init : goal.loop-k-init

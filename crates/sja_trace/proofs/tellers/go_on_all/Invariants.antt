@@ -1,5 +1,5 @@
 use Rattle.sja_trace.specs.Inside.Coming.{TellerGoesOn}
-use Rattle.sja_report.proofs.Parts.{Part}
+use Rattle.lemmas.proofs.ChangedInTurn.{Part}
 use Rattle.sja_trace.proofs.tellers.go_on_all.Given as goal
 
 -- so many went on

@@ -1,7 +1,7 @@
 use Rattle.std.proofs.Common.{arith}
 use Rattle.sja_wire.specs.Wire.{wired}
 use Rattle.sja_trace.specs.Inside.Passing.{told_lines, hands_driven}
-use Rattle.sja_report.proofs.Written.{numbered_next, numbered_end}
+use Rattle.sja_report.proofs.WrittenLines.Written.{numbered_next, numbered_end}
 use Rattle.sja_trace.proofs.trace_text.put_bit.Goals as goal
 
 pub loop-teller-preserved : goal.loop-teller-preserved

@@ -1,6 +1,6 @@
 use Rattle.std.proofs.Common.{arith}
 use Rattle.sja_trace.specs.Inside.Coming.{late_lines}
-use Rattle.sja_report.proofs.Written.{numbered_next, numbered_end}
+use Rattle.sja_report.proofs.WrittenLines.Written.{numbered_next, numbered_end}
 use Rattle.sja_trace.proofs.trace_text.put_late_steps.Goals as goal
 
 pub loop-teller-preserved : goal.loop-teller-preserved

@@ -4,7 +4,7 @@ use Rattle.sja_traced.specs.declared.node_trace.NodeTrace.{NodeTrace}
 use Rattle.sja_traced.specs.Inside.Bits.{gone_on}
 use Rattle.sja_traced.specs.Inside.Tracing.{done_at}
 use Rattle.sja_traced.proofs.WholeRun.Drivers.{done_is}
-use Rattle.sja_traced.proofs.LookedAt.SoFar.{so_far_none, so_far_next, so_far_all}
+use Rattle.lemmas.proofs.ChangedByNumber.{so_far_none, so_far_next, so_far_all}
 use Rattle.sja_traced.proofs.lines.all_go_on.Goals as goal
 
 pub loop-k-init : goal.loop-k-init

@@ -2,7 +2,7 @@ use Rattle.std.proofs.Common.{◌≡◌, ℕ, length}
 use Rattle.sja_traced.specs.declared.node_trace.NodeTrace.{NodeTrace}
 use Rattle.sja_traced.specs.Inside.Bits.{gone_on}
 use Rattle.sja_traced.specs.Inside.Tracing.{done_at}
-use Rattle.sja_traced.proofs.LookedAt.SoFar.{SoFar}
+use Rattle.lemmas.proofs.ChangedByNumber.{SoFar}
 use Rattle.sja_traced.proofs.lines.all_go_on.Given as goal
 
 -- so many nodes went on

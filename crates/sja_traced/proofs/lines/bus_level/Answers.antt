@@ -1,6 +1,6 @@
 use Rattle.sja_traced.specs.declared.node_trace.NodeTrace.{NodeTrace}
 use Rattle.sja_trace.specs.Inside.Hands.{driven_of}
-use Rattle.sja_report.proofs.BusLevels.{drives_more, all_drive}
+use Rattle.sja_report.proofs.NodeTallies.BusLevels.{drives_more, all_drive}
 use Rattle.sja_traced.proofs.lines.bus_level.Goals as goal
 
 pub loop-known-preserved : goal.loop-known-preserved

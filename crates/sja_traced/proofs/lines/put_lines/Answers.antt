@@ -1,5 +1,5 @@
 use Rattle.std.proofs.Common.{arith}
-use Rattle.sja_report.proofs.Written.{numbered_next, numbered_end, two_texts}
+use Rattle.sja_report.proofs.WrittenLines.Written.{numbered_next, numbered_end, two_texts}
 use Rattle.sja_traced.specs.Inside.Bits.{node_text}
 use Rattle.sja_traced.proofs.lines.put_lines.Goals as goal
 

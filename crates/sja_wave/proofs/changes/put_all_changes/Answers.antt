@@ -1,6 +1,6 @@
 use Rattle.std.proofs.Common.{arith}
 use Rattle.sja_wave.specs.Inside.Changes.{node_changes}
-use Rattle.sja_report.proofs.Written.{numbered_next, numbered_end}
+use Rattle.sja_report.proofs.WrittenLines.Written.{numbered_next, numbered_end}
 use Rattle.sja_wave.proofs.changes.put_all_changes.Goals as goal
 
 pub loop-probe-preserved : goal.loop-probe-preserved

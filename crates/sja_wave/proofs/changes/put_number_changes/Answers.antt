@@ -1,4 +1,4 @@
-use Rattle.sja_report.proofs.Written.{four_texts}
+use Rattle.sja_report.proofs.WrittenLines.Written.{four_texts}
 use Rattle.sja_wave.proofs.changes.put_number_changes.Goals as goal
 
 pub returns : goal.returns

@@ -1,6 +1,6 @@
 use Rattle.sja_wave.specs.Stories.{nodes_of}
 use Rattle.sja_wave.specs.Wires.{bus_wire}
-use Rattle.sja_report.proofs.Written.{six_texts}
+use Rattle.sja_report.proofs.WrittenLines.Written.{six_texts}
 use Rattle.sja_wave.proofs.declarations.put_declarations.Goals as goal
 
 pub returns : goal.returns

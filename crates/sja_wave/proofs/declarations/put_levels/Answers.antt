@@ -1,5 +1,5 @@
 use Rattle.sja_wave.specs.WaveText.{var_line}
-use Rattle.sja_report.proofs.Written.{six_texts}
+use Rattle.sja_report.proofs.WrittenLines.Written.{six_texts}
 use Rattle.sja_wave.proofs.SoFar.Written.{levels_written}
 use Rattle.sja_wave.proofs.declarations.put_levels.Goals as goal
 

@@ -1,5 +1,5 @@
 use Rattle.sja_wave.specs.WaveText.{var_line}
-use Rattle.sja_report.proofs.Written.{four_texts}
+use Rattle.sja_report.proofs.WrittenLines.Written.{four_texts}
 use Rattle.sja_wave.proofs.SoFar.Written.{told_written}
 use Rattle.sja_wave.proofs.declarations.put_numbers.Goals as goal
 

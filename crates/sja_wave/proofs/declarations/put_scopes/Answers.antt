@@ -1,6 +1,6 @@
 use Rattle.std.proofs.Common.{◌≤◌, ◌<◌, length, refl, arith}
 use Rattle.sja_wave.specs.WaveText.{node_scope}
-use Rattle.sja_report.proofs.Written.{numbered_end}
+use Rattle.sja_report.proofs.WrittenLines.Written.{numbered_end}
 use Rattle.sja_wave.proofs.SoFar.Written.{scopes_next}
 use Rattle.sja_wave.proofs.declarations.put_scopes.Goals as goal
 

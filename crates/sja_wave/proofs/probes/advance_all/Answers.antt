@@ -1,6 +1,6 @@
 use Rattle.std.proofs.Common.{◌<◌, length, rules}
 use Rattle.sja_wave.specs.Inside.Probes.{GoesOn}
-use Rattle.sja_report.proofs.Parts.{part_none, part_next, part_all}
+use Rattle.lemmas.proofs.ChangedInTurn.{part_none, part_next, part_all}
 use Rattle.sja_wave.proofs.probes.advance_all.Goals as goal
 
 pub loop-k-init : goal.loop-k-init

@@ -1,5 +1,5 @@
 use Rattle.sja_wave.specs.Inside.Probes.{GoesOn}
-use Rattle.sja_report.proofs.Parts.{Part}
+use Rattle.lemmas.proofs.ChangedInTurn.{Part}
 use Rattle.sja_wave.proofs.probes.advance_all.Given as goal
 
 -- so many went on

@@ -1,7 +1,7 @@
 use Rattle.std.proofs.Common.{ap, ◌∙◌}
 use Rattle.can_bits.specs.Fields.{is_recessive}
 use Rattle.sja_wave.specs.declared.probe.Probe.{Probe}
-use Rattle.sja_report.proofs.BusLevels.{drives_more, all_drive}
+use Rattle.sja_report.proofs.NodeTallies.BusLevels.{drives_more, all_drive}
 use Rattle.sja_wave.proofs.probes.bus_before.Goals as goal
 
 pub loop-probe-preserved : goal.loop-probe-preserved

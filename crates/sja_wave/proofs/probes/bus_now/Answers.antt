@@ -3,7 +3,7 @@ use Rattle.std.proofs.lemmas.Grind.{common_steps}
 use Rattle.can_bits.specs.Fields.{is_recessive}
 use Rattle.sja_wire.specs.Wire.{wired}
 use Rattle.sja_wave.specs.declared.probe.Probe.{Probe}
-use Rattle.sja_report.proofs.BusLevels.{drives_more, all_drive}
+use Rattle.sja_report.proofs.NodeTallies.BusLevels.{drives_more, all_drive}
 use Rattle.sja_wave.proofs.probes.bus_now.Goals as goal
 
 pub loop-probe-preserved : goal.loop-probe-preserved

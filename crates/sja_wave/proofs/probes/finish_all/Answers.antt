@@ -3,7 +3,7 @@ use Rattle.sja_wave.specs.declared.probe.Probe.{Probe}
 use Rattle.sja_wave.specs.Inside.Meters.{IsReading}
 use Rattle.sja_wave.specs.Inside.Probes.{Finishes}
 use Rattle.sja_wave.proofs.BitByBit.Going.{reading_at}
-use Rattle.sja_report.proofs.Parts.{part_none, part_at, part_next, part_all}
+use Rattle.lemmas.proofs.ChangedInTurn.{part_none, part_at, part_next, part_all}
 use Rattle.sja_wave.proofs.probes.finish_all.Goals as goal
 
 pub loop-k-init : goal.loop-k-init

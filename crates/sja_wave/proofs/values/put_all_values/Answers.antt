@@ -1,6 +1,6 @@
 use Rattle.std.proofs.Common.{arith}
 use Rattle.sja_wave.specs.Inside.Changes.{node_values}
-use Rattle.sja_report.proofs.Written.{numbered_next, numbered_end}
+use Rattle.sja_report.proofs.WrittenLines.Written.{numbered_next, numbered_end}
 use Rattle.sja_wave.proofs.values.put_all_values.Goals as goal
 
 pub loop-probe-preserved : goal.loop-probe-preserved

@@ -1,4 +1,4 @@
-use Rattle.sja_report.proofs.Written.{six_texts}
+use Rattle.sja_report.proofs.WrittenLines.Written.{six_texts}
 use Rattle.sja_wave.proofs.values.put_level_values.Goals as goal
 
 pub returns : goal.returns

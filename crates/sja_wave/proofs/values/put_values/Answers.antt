@@ -1,4 +1,4 @@
-use Rattle.sja_report.proofs.Written.{five_texts}
+use Rattle.sja_report.proofs.WrittenLines.Written.{five_texts}
 use Rattle.sja_wave.proofs.values.put_values.Goals as goal
 
 pub returns : goal.returns

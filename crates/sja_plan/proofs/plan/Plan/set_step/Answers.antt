@@ -6,7 +6,7 @@ use Rattle.sja_script.specs.declared.step.Step.{Step}
 use Rattle.sja_plan.specs.Growing.{with_step}
 use Rattle.sja_plan.specs.Limits.{most_steps}
 use Rattle.sja_plan.specs.Plan.{PlanValue, NamesNode, IsStrikeOn}
-use Rattle.sja_plan.proofs.SetSteps.{nodes_set, few_set}
+use Rattle.sja_plan.proofs.Parts.SetSteps.{nodes_set, few_set}
 use Rattle.sja_plan.proofs.plan.Plan.set_step.Goals.{After-index_mut-2}
 use Rattle.sja_plan.proofs.plan.Plan.set_step.Goals as goal
 

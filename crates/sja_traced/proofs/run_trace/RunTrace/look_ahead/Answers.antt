@@ -1,7 +1,7 @@
 use Rattle.std.proofs.Common.{◌<◌, length, arith, ap, ◌∙◌}
 use Rattle.std.specs.Prelude.{string_bytes}
 use Rattle.sja_traced.proofs.LookedAt.Ahead.{LooksAhead, looked_ahead, looks_ahead, traced_ahead}
-use Rattle.sja_traced.proofs.LookedAt.SoFar.{so_far_step}
+use Rattle.lemmas.proofs.ChangedByNumber.{so_far_step}
 use Rattle.sja_traced.proofs.run_trace.RunTrace.look_ahead.Goals as goal
 
 pub loop-node-preserved : goal.loop-node-preserved

@@ -1,6 +1,6 @@
 use Rattle.std.proofs.Common.{◌≡◌}
 use Rattle.sja_traced.proofs.LookedAt.Ahead.{LooksAhead}
-use Rattle.sja_traced.proofs.LookedAt.SoFar.{SoFar}
+use Rattle.lemmas.proofs.ChangedByNumber.{SoFar}
 use Rattle.sja_traced.proofs.run_trace.RunTrace.look_ahead.Given as goal
 
 -- so many nodes were looked at

@@ -1,7 +1,7 @@
 use Rattle.std.proofs.Common.{◌≡◌, ◌+◌, length, None, arith, ◌∙◌, slice_index_or}
 use Rattle.sja_bus.specs.Boards.{turn_at}
 use Rattle.sja_traced.proofs.LookedAt.Looks.{AtLast, last_none, told_taken, untold_taken}
-use Rattle.sja_traced.proofs.LookedAt.SoFar.{so_far_all, so_far_same, so_far_step}
+use Rattle.lemmas.proofs.ChangedByNumber.{so_far_all, so_far_same, so_far_step}
 use Rattle.sja_traced.proofs.LookedAt.TurnsTaken.{HaveTaken, taken_all, taken_next}
 use Rattle.sja_traced.proofs.run_trace.RunTrace.look_at_last.Goals.{After-take_turn-turn}
 use Rattle.sja_traced.proofs.run_trace.RunTrace.look_at_last.Goals as goal

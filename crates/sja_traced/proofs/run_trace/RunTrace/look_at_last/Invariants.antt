@@ -1,7 +1,7 @@
 use Rattle.std.proofs.Common.{◌≡◌}
 use Rattle.sja_serial.specs.Serial.{IsRunOf}
 use Rattle.sja_traced.proofs.LookedAt.Looks.{AtLast}
-use Rattle.sja_traced.proofs.LookedAt.SoFar.{SoFar}
+use Rattle.lemmas.proofs.ChangedByNumber.{SoFar}
 use Rattle.sja_traced.proofs.LookedAt.TurnsTaken.{IsTaken}
 use Rattle.sja_traced.proofs.run_trace.RunTrace.look_at_last.Given as goal
 

@@ -1,6 +1,6 @@
 use Rattle.std.proofs.Common.{◌≡◌, ◌<◌, None, length, arith, rules}
 use Rattle.sja_traced.proofs.LookedAt.Looks.{AtMute, mute_none, mute_taken}
-use Rattle.sja_traced.proofs.LookedAt.SoFar.{so_far_all, so_far_same, so_far_step}
+use Rattle.lemmas.proofs.ChangedByNumber.{so_far_all, so_far_same, so_far_step}
 use Rattle.sja_traced.proofs.run_trace.RunTrace.look_at_mute.Goals as goal
 
 pub loop-node-preserved : goal.loop-node-preserved

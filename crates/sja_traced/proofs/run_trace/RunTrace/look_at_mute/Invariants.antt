@@ -1,6 +1,6 @@
 use Rattle.std.proofs.Common.{◌≡◌}
 use Rattle.sja_traced.proofs.LookedAt.Looks.{AtMute}
-use Rattle.sja_traced.proofs.LookedAt.SoFar.{SoFar}
+use Rattle.lemmas.proofs.ChangedByNumber.{SoFar}
 use Rattle.sja_traced.proofs.run_trace.RunTrace.look_at_mute.Given as goal
 
 -- of so many nodes the bit is at hand

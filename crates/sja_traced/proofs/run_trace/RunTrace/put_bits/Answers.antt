@@ -1,5 +1,5 @@
 use Rattle.std.proofs.Common.{◌-◌, sym, ap, ◌∙◌, arith}
-use Rattle.lemmas.proofs.Results.{ok_map}
+use Rattle.std.proofs.lemmas.Result.{on_ok_weaker}
 use Rattle.sja_serial.specs.Serial.{SerialValue}
 use Rattle.sja_traced.proofs.RunOfBits.Chain.{all_run}
 use Rattle.sja_traced.proofs.Writing.LastOn.{last_on}
@@ -38,7 +38,7 @@ returns-clause-traced c =
     (omega arith) in
     let before = bits_after plan t0 now bits h (bits - 1) (omega arith) in
     let is = c.bits.ensures in
-    ok_map c.put_bit.result (λ puts.
+    on_ok_weaker c.put_bit.result (λ puts.
     last_on plan t0 now bits h (bits - 1) trace x (omega (arith, some)) _ mid.nodes.items looked.count looked.nodes
     (omega (arith, all, before, some, is)) c.look_at_last.new.run looked.run c.put_bit.new.self
     (puts_same plan c.look_at_last.new.run _ mid.nodes.items trace mid c.put_bit.new.self looked.text.0 puts))

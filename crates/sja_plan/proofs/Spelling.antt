@@ -1,0 +1,8 @@
+-- Words, keys and items of a document, and what they spell.
+pub mod Words
+pub mod Numbers
+pub mod Items
+pub mod Keys
+pub mod Texts
+pub mod StrikeWords
+pub mod StrikeCounts
