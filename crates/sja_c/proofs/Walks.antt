@@ -14,9 +14,8 @@ pub use prog.Wired.{Wired}
 pub use prog.Wp.{WpFn}
 pub use types.Logic.{Logic, sem}
 pub use types.SemTy.{Body}
-pub use types.Kit.{Item, ⋆, ‵, raw, ◌⊛◌, some, later, at_ret, ◌$◌, ◌∵◌, !, qed, by, done, move, keep, drop, show}
-pub use types.Kit.{use0, use1, use2, use3, split, split3, join, fsplit, fjoin, feq_l, pick, await}
-pub use types.Kit.{group}
+pub use types.Kit.{Item, ⋆, ‵, raw, ◌⊛◌, some, later, at_ret, ◌$◌, ◌∵◌, !, qed, by, done, move, keep, drop, show, use0}
+pub use types.Kit.{use1, use2, use3, split, split3, join, fsplit, fjoin, feq_l, pick, await, group}
 pub use types.Tokens.{lft_new, lft_end}
 pub use types.Part.{whole, sub, agg}
 pub use types.Run.{enter, of_opd, lit, bin, addr, from, fld, hop, stop, no_more, and_then, first, branches, skips, exec}

@@ -13,7 +13,6 @@ use super::numbers::{node_in, watched_by};
 use super::state::State;
 use sja_driver_session::DriverSession;
 use sja_session::{StrikeFault, Watched};
-use std::alloc::Global;
 
 impl Held {
     ghost use Rattle.std.specs.Prelude.{◌≡◌, IfOk, IfErr, OnOk, OnErr};
@@ -60,9 +59,8 @@ impl Held {
         ensures err { IfErr result (IsRefusal self.old.state (IsStrikeFault node bit)) }
         ensures kept { OnErr result (self.new ≡ self.old) }
     {
-        let alloc = self.alloc;
         match &mut self.state {
-            State::Going(session) => strike_by(alloc, session, node, bit),
+            State::Going(session) => strike_by(session, node, bit),
             State::Ended(_, _) => Err(CallFault::Ended),
             State::Lost => Err(CallFault::Ended),
         }
@@ -121,12 +119,7 @@ fn irq_by(session: &mut DriverSession, node: u32) -> Result<bool, CallFault>
 }
 
 /// Has a node see the other level in a bit.
-fn strike_by(
-    alloc: Global,
-    session: &mut DriverSession,
-    node: u32,
-    bit: u32,
-) -> Result<(), CallFault>
+fn strike_by(session: &mut DriverSession, node: u32, bit: u32) -> Result<(), CallFault>
     ensures struck { OnOk result ((deeds : List (List Deed)) → StandsIn session.old deeds →
         StrikesIn session.old session.new node bit deeds) }
     ensures may { OnOk result (MayStrike (session_of session.old) node bit) }
@@ -136,7 +129,7 @@ fn strike_by(
     let Some(node) = node_in(session, node) else {
         return Err(CallFault::NoNode);
     };
-    match session.strike(alloc, node, bit) {
+    match session.strike(node, bit) {
         Ok(()) => Ok(()),
         Err(StrikeFault::NoNode) => Err(CallFault::NoNode),
         Err(StrikeFault::NoBit) => Err(CallFault::NoBit),

@@ -2,7 +2,6 @@
 
 use super::driver_session::DriverSession;
 use sja_session::{Rested, StrikeFault, TurnsUsed, Watched};
-use std::alloc::Global;
 
 impl DriverSession {
     ghost use Rattle.std.specs.Prelude.{◌≡◌, List, IfOk, OnOk, OnErr};
@@ -88,7 +87,7 @@ impl DriverSession {
     /// as a strike of the plan. Nothing else changes.
     ///
     /// Errors: those of [`Session::strike`](sja_session::Session::strike), and nothing changed.
-    pub fn strike(&mut self, alloc: Global, node: u8, bit: u32) -> Result<(), StrikeFault>
+    pub fn strike(&mut self, node: u8, bit: u32) -> Result<(), StrikeFault>
         ensures struck { OnOk result ((deeds : List (List Deed)) → StandsIn self.old deeds →
             StrikesIn self.old self.new node bit deeds) }
         ensures may { OnOk result (MayStrike (session_of self.old) node bit) }
@@ -96,8 +95,8 @@ impl DriverSession {
         ensures kept { OnErr result (self.new ≡ self.old) }
     {
         match self {
-            DriverSession::Typed(session) => session.strike(alloc, node, bit),
-            DriverSession::Accesses(session) => session.strike(alloc, node, bit),
+            DriverSession::Typed(session) => session.strike(node, bit),
+            DriverSession::Accesses(session) => session.strike(node, bit),
         }
     }
 }

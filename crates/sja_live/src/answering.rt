@@ -43,7 +43,7 @@ pub(crate) fn answered(
         LiveCommand::Run(count) => Ok(ran(session, count)),
         LiveCommand::Rest => Ok(rested(session)),
         LiveCommand::Line => Ok(looked(session)),
-        LiveCommand::Strike(node, bit) => struck(alloc, session, node, bit),
+        LiveCommand::Strike(node, bit) => struck(session, node, bit),
         LiveCommand::Answer(node) => Ok(last_answer(session, node)),
         LiveCommand::Bits => Ok(bits_so_far(session)),
         LiveCommand::Plan => plan_answer(alloc, session),
@@ -71,18 +71,13 @@ fn bits_so_far(session: &DriverSession) -> LiveAnswer
 ///
 /// Error: [`OutOfMemory`] where memory was refused; nothing changed.
 #[tactic(auto, using(crate::proofs::Replies::Asked::strikes))]
-fn struck(
-    alloc: Global,
-    session: &mut DriverSession,
-    node: u8,
-    bit: u32,
-) -> Result<LiveAnswer, OutOfMemory>
+fn struck(session: &mut DriverSession, node: u8, bit: u32) -> Result<LiveAnswer, OutOfMemory>
     requires there { node < node_count session.old }
     requires spelled { bit ≤ greatest }
     ensures answers { IfOk result (IsAnswered session.old session.new (Strike node bit)) }
     ensures kept { OnErr result (session.new ≡ session.old) }
 {
-    match session.strike(alloc, node, bit) {
+    match session.strike(node, bit) {
         Ok(()) => Ok(LiveAnswer::Told(StepAnswer::Done)),
         Err(StrikeFault::NoBit) => Ok(LiveAnswer::NoBit),
         Err(StrikeFault::Past) => Ok(LiveAnswer::NoBit),

@@ -2,7 +2,6 @@
 
 use super::plan_session::PlanSession;
 use sja_session::StrikeFault;
-use std::alloc::Global;
 
 impl PlanSession {
     ghost use Rattle.std.specs.Prelude.{◌≡◌, List, IfErr, OnOk, OnErr};
@@ -16,13 +15,13 @@ impl PlanSession {
     ///
     /// Errors: those of [`Session::strike`](sja_session::Session::strike), and nothing changed.
     #[tactic(auto, using(crate::proofs::AfterCalls::Ran::strike_kept, crate::proofs::AfterCalls::Ran::strikes_in))]
-    pub fn strike(&mut self, alloc: Global, node: u8, bit: u32) -> Result<(), StrikeFault>
+    pub fn strike(&mut self, node: u8, bit: u32) -> Result<(), StrikeFault>
         ensures struck { OnOk result ((deeds : List (List Deed)) → IsAt self.old.raw.session deeds →
             Strikes self.old self.new node bit deeds) }
         ensures may { OnOk result (MayStrike self.old.raw.session node bit) }
         ensures err { IfErr result (IsStrikeFault self.old.raw.session node bit) }
         ensures kept { OnErr result (self.new ≡ self.old) }
     {
-        self.raw.strike(alloc, node, bit)
+        self.raw.strike(node, bit)
     }
 }

@@ -8,7 +8,6 @@ use super::session::Session;
 use super::strike_fault::StrikeFault;
 use sja_plan::PlanFault;
 use sja_script::Strike;
-use std::alloc::Global;
 
 impl Session {
     ghost use Rattle.std.specs.Prelude.{◌≡◌, ◌<◌, ◌≤◌, List, length, IfErr, OnOk, OnErr};
@@ -24,7 +23,7 @@ impl Session {
     /// [`StrikeFault::NoBit`] where the session's bits end before this one; [`StrikeFault::Past`] where it has run;
     /// [`StrikeFault::StrikesUsed`] where the strikes so far strike as many bits as those of a plan of its version may;
     /// [`StrikeFault::Memory`] where memory was refused.
-    pub fn strike(&mut self, alloc: Global, node: u8, bit: u32) -> Result<(), StrikeFault>
+    pub fn strike(&mut self, node: u8, bit: u32) -> Result<(), StrikeFault>
         ensures struck { OnOk result ((deeds : List (List Deed)) → IsAt self.old deeds →
             IsStruck self.old self.new node bit deeds) }
         ensures may { OnOk result (MayStrike self.old node bit) }
@@ -37,7 +36,7 @@ impl Session {
             Err(PlanFault::StrikeCount) => return Err(StrikeFault::StrikesUsed),
             Err(_) => return Err(StrikeFault::Memory),
         }
-        match self.run.strike(alloc, one_strike(node, bit)) {
+        match self.run.strike(one_strike(node, bit)) {
             Ok(()) => Ok(()),
             Err(refused) => {
                 self.plan.unstrike();
@@ -88,7 +87,7 @@ impl RawSession {
     /// Has a node see the other level in a bit that hasn't run, as [`Session::strike`] does.
     ///
     /// Errors: those of [`Session::strike`].
-    pub fn strike(&mut self, alloc: Global, node: u8, bit: u32) -> Result<(), StrikeFault>
+    pub fn strike(&mut self, node: u8, bit: u32) -> Result<(), StrikeFault>
         ensures struck { OnOk result ((deeds : List (List Deed)) → IsAt self.old.session deeds →
             IsStruck self.old.session self.new.session node bit deeds) }
         ensures may { OnOk result (MayStrike self.old.session node bit) }
@@ -96,6 +95,6 @@ impl RawSession {
         ensures still { self.new.kept ≡ self.old.kept }
         ensures kept { OnErr result (self.new ≡ self.old) }
     {
-        self.session.strike(alloc, node, bit)
+        self.session.strike(node, bit)
     }
 }

@@ -60,7 +60,7 @@ impl Bench {
     /// Does a call of the session.
     fn calls(&mut self, text: &mut String, words: &[&str]) -> Result<(), AllocError> {
         match &mut self.held {
-            Some(held) => say_asked(self.alloc, text, called(self.alloc, held, words)),
+            Some(held) => say_asked(self.alloc, text, called(held, words)),
             None => text.push_str(" ?"),
         }
     }

@@ -24,15 +24,15 @@ pub fn node_of(word: &str) -> Option<u8> {
 /// `bits 7`, `rest`, `watch 400 0 1` with the nodes that are watched, `rises 400 1` the same with whose line rose
 /// alone, `now`, `room`, `irq 0`, `answer 0`, `kept 0`, `strike 1 51`, `mask 1 IR 02` a read and of it these bits, a
 /// step behind its node as `0 read SR`, and those of `many`.
-pub fn called(alloc: Global, held: &mut Held, words: &[&str]) -> Option<Answer> {
+pub fn called(held: &mut Held, words: &[&str]) -> Option<Answer> {
     let [name, rest @ ..] = words else {
         return None;
     };
     match *name {
-        "reads" | "starts" | "strikes" => many(alloc, held, name, rest),
+        "reads" | "starts" | "strikes" => many(held, name, rest),
         "watch" | "rises" => watched(held, name, rest),
         "irq" | "answer" | "kept" => of_node(held, name, rest),
-        "strike" => struck(alloc, held, rest),
+        "strike" => struck(held, rest),
         _ if rest.is_empty() => of_session(held, name),
         "mask" => masked(held, rest),
         "bits" => runs(held, rest),
@@ -106,11 +106,11 @@ fn flags_of(nodes: &[&str]) -> Option<[bool; 8]> {
 }
 
 /// Strikes a bit.
-fn struck(alloc: Global, held: &mut Held, rest: &[&str]) -> Option<Answer> {
+fn struck(held: &mut Held, rest: &[&str]) -> Option<Answer> {
     let [node, bit] = rest else {
         return None;
     };
-    Some(match held.strike(alloc, node_of(node)?, number(bit)?) {
+    Some(match held.strike(node_of(node)?, number(bit)?) {
         Ok(()) => Answer::Done,
         Err(fault) => Answer::NoStrike(fault),
     })

@@ -74,10 +74,10 @@ impl Held {
     }
 
     /// Strikes a bit.
-    pub fn strike(&mut self, alloc: Global, node: u8, bit: u32) -> Result<(), StrikeFault> {
+    pub fn strike(&mut self, node: u8, bit: u32) -> Result<(), StrikeFault> {
         match self {
-            Held::Typed(session) => session.strike(alloc, node, bit),
-            Held::Raw(session) => session.strike(alloc, node, bit),
+            Held::Typed(session) => session.strike(node, bit),
+            Held::Raw(session) => session.strike(node, bit),
         }
     }
 

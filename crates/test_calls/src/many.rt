@@ -5,7 +5,6 @@ use super::calls::{number, step};
 use super::held::Held;
 use sja_regs::address::SR;
 use sja_script::{Step, StepAnswer};
-use std::alloc::Global;
 
 /// When a bit is run with each call.
 #[derive(Clone, Copy, PartialEq, Eq)]
@@ -20,7 +19,7 @@ enum Bit {
 /// `reads 0 1000`, so many reads of SR by node 0 with one value; `reads 0 1000 before`, each with a bit before it, and
 /// `reads 0 1000 after`, behind it; `starts 1 8`, so many starts of node 1, each with a stop behind it; and
 /// `strikes 600 1000`, so many strikes of node 0 in one bit after the other from bit 600 on.
-pub fn many(alloc: Global, held: &mut Held, name: &str, rest: &[&str]) -> Option<Answer> {
+pub fn many(held: &mut Held, name: &str, rest: &[&str]) -> Option<Answer> {
     let [first, second, when @ ..] = rest else {
         return None;
     };
@@ -28,7 +27,7 @@ pub fn many(alloc: Global, held: &mut Held, name: &str, rest: &[&str]) -> Option
     match name {
         "reads" => reads(held, u8::try_from(first).ok()?, second, bit_of(when)?),
         "starts" => starts(held, u8::try_from(first).ok()?, second),
-        _ => strikes(alloc, held, first, second),
+        _ => strikes(held, first, second),
     }
 }
 
@@ -102,10 +101,10 @@ pub fn is_done(answer: &Answer) -> bool {
 }
 
 /// So many strikes of node 0, one bit after the other; how many were taken before one wasn't.
-fn strikes(alloc: Global, held: &mut Held, from: u32, count: u32) -> Option<Answer> {
+fn strikes(held: &mut Held, from: u32, count: u32) -> Option<Answer> {
     let mut done = 0u32;
     for bit in 0..count {
-        if held.strike(alloc, 0, from.saturating_add(bit)).is_err() {
+        if held.strike(0, from.saturating_add(bit)).is_err() {
             break;
         }
         done = done.saturating_add(1);

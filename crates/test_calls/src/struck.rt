@@ -101,7 +101,7 @@ fn texts_of(
     node: u8,
     bit: u32,
 ) -> Result<Option<(String, String)>, AllocError> {
-    if is_struck(alloc, &mut held, after, node, bit) {
+    if is_struck(&mut held, after, node, bit) {
         finished(alloc, held)
     } else {
         Ok(None)
@@ -109,9 +109,9 @@ fn texts_of(
 }
 
 /// Whether a session is struck after so many bits, comes to rest, and node 1 releases what it has then.
-fn is_struck(alloc: Global, held: &mut Held, after: u32, node: u8, bit: u32) -> bool {
+fn is_struck(held: &mut Held, after: u32, node: u8, bit: u32) -> bool {
     is_begun(held, after)
-        && held.strike(alloc, node, bit).is_ok()
+        && held.strike(node, bit).is_ok()
         && held.rest().is_ok()
         && releases(held)
         && releases(held)

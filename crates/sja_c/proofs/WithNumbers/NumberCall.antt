@@ -23,8 +23,7 @@ use Rattle.sja_c.proofs.AtHandle.LentCall.{Taken, Back, Lent}
 use Rattle.sja_c.proofs.AtHandle.NoHandle.{none_answer, Nothing, Answered, answers_none}
 use Rattle.sja_c.proofs.WithNumbers.NumberCode as template
 use Rattle.sja_c.proofs.WithNumbers.NumberLocals.{count, Typed, Blocks, homes, cells, allocates, fills, clears, behind}
-use Rattle.sja_c.proofs.WithNumbers.NumberLocals.{stand}
-use Rattle.sja_c.proofs.WithNumbers.NumberLocals.{others, Stand, found, copied, followed, reads_at}
+use Rattle.sja_c.proofs.WithNumbers.NumberLocals.{stand, others, Stand, found, copied, followed, reads_at}
 use Rattle.sja_c.proofs.answer.no_handle.Symbol as none_is
 use Rattle.sja_c.specs.Handles.{is_handle, AtHandle}
 use Rattle.sja_c.specs.contracts.answer.SjaAnswer.{the_row as Out}

@@ -3,8 +3,7 @@ use mathlib.Core.List.{[], ◌∷◌}
 use Prim.Native.Nat.{ℕ}
 use mir.Syntax.{Body, Callee, Fn, Place, Ty, seq, assign, cond, skip, return, call, place, copy, int, op2, ptr_eq}
 use mir.Syntax.{addr_of, aggregate, rv_opd, field, deref, local, value_local, ty_ptr, ty_bool, ty_int, ty_ref}
-use mir.Syntax.{ty_struct}
-use mir.Syntax.{tcons, tnil, named, erased, mut, w8, w64, Lifetime}
+use mir.Syntax.{ty_struct, tcons, tnil, named, erased, mut, w8, w64, Lifetime}
 use denote.Memory.{lone, pointee}
 use denote.Slice.{slice_name}
 use Rattle.sja_c.specs.contracts.answer.SjaAnswer.{the_row as Out}

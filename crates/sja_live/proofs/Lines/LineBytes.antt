@@ -4,8 +4,7 @@ use Rattle.std.proofs.Common.{sym, ap, ◌∙◌, subst, arith, ne_eqb}
 use Rattle.std.proofs.Math.Seq.{take-nil}
 use Rattle.std.specs.Prelude.{◌==◌, if◌then◌else◌, Option, Some, None, IsUtf8}
 use Rattle.std.proofs.lemmas.List.{append_assoc, append-nil, length-append, take_all}
-use Rattle.sja_live.specs.Inside.Reading.{HasRead, IsLine, IsLineOf, IsLineReadable, IsWithin, TakesByte}
-use Rattle.sja_live.specs.Inside.Reading.{TakesLine}
+use Rattle.sja_live.specs.Inside.Reading.{HasRead, IsLine, IsLineOf, IsLineReadable, IsWithin, TakesByte, TakesLine}
 use Rattle.sja_live.specs.Lines.{most_line, first_line, behind_line, HasNoFeed, IsReadable}
 use Rattle.sja_live.specs.declared.next_line.Line.{Line}
 use Rattle.sja_live.specs.declared.next_line.Line.TheVariants.{Text as LineOf, Long, NoText, Over}

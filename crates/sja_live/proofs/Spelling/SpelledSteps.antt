@@ -1,11 +1,9 @@
 -- What a session wrote has texts after its steps and accesses.
-use Rattle.std.proofs.Common.{◌≡◌, ℕ, ◌+◌, ◌<◌, ◌≤◌, List, [], ◌∷◌, ◌++◌, length}
-use Rattle.std.proofs.Common.{All, refl, sym, ap, ◌∙◌, subst, arith}
+use Rattle.std.proofs.Common.{◌≡◌, ℕ, ◌+◌, ◌<◌, ◌≤◌, List, [], ◌∷◌, ◌++◌, length, All, refl, sym, ap, ◌∙◌, subst, arith}
 use Rattle.std.specs.Prelude.{slice_index_or}
-use Rattle.std.proofs.lemmas.List.{length-append, length-set}
-use Rattle.std.proofs.lemmas.List.{get_or-set_same}
+use Rattle.std.proofs.lemmas.List.{length-append, length-set, get_or-set_same}
 use Rattle.std.proofs.lemmas.List.Elements.{All-head, All-tail, All-push, All-set}
-use Rattle.sja_driver.specs.Deeds.{Deed, deeds_at, is_active}
+use Rattle.sja_driver.specs.Deeds.{Deed, deeds_at, is_active, with_deeds}
 use Rattle.sja_driver_session.proofs.Grown.{Grown, typed_grown, step_grown, read_grown, write_grown, there_of}
 use Rattle.sja_driver_session.specs.DriverSessions.{StandsIn, version_of, written}
 use Rattle.sja_driver_session.specs.Steps.{MayStepIn, MayWriteIn, StepsIn, ReadsIn, WritesIn}
@@ -20,7 +18,6 @@ use Rattle.sja_plan_text.specs.HasTexts.{HasStepText}
 use Rattle.sja_script.specs.declared.step.Step.{Step}
 use Rattle.sja_script.specs.declared.step.Step.TheVariants.{Read as ReadStep, Write as WriteStep}
 use Rattle.sja_script.specs.declared.step_answer.StepAnswer.{StepAnswer}
-use Rattle.sja_driver.specs.Deeds.{with_deeds}
 use Rattle.sja_session.specs.RawSessions.{RawValue, DoesSteps, steps_of as steps_of_write}
 use Rattle.sja_session.specs.RawSessions.DoesSteps.{none as no_step, more}
 use Rattle.sja_session.specs.Sessions.{SessionValue, IsAt, written as written_typed}

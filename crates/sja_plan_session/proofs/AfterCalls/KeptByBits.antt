@@ -1,7 +1,5 @@
 -- What holds of every session of version 3 holds of it after bits.
-use Rattle.std.proofs.Common.{◌≡◌, ℕ, zero, suc, ◌<◌, ◌≤◌, List, []}
-use Rattle.std.proofs.Common.{length}
-use Rattle.std.proofs.Common.{refl, sym, ap, ◌∙◌, subst, arith}
+use Rattle.std.proofs.Common.{◌≡◌, ℕ, zero, suc, ◌<◌, ◌≤◌, List, [], length, refl, sym, ap, ◌∙◌, subst, arith}
 use Rattle.std.specs.Prelude.{reverse, slice_index_or}
 use Rattle.sja_driver.specs.Deeds.{Deed}
 use Rattle.sja_plan.specs.Plan.{PlanValue}

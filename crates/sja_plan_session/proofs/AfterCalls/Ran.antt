@@ -19,8 +19,7 @@ use Rattle.sja_session.proofs.WatchedBits.QuietBits.{nodes_same}
 use Rattle.sja_plan_session.specs.Accessing.{IsUnwritten, WaitsFor}
 use Rattle.sja_plan_session.specs.History.{Came}
 use Rattle.sja_plan_session.specs.History.Came.{bits as ran, rest as rested, watch as watched_on, strike as struck_on}
-use Rattle.sja_plan_session.specs.History.Came.{look as looked}
-use Rattle.sja_plan_session.specs.History.Came.{waits as waited}
+use Rattle.sja_plan_session.specs.History.Came.{look as looked, waits as waited}
 use Rattle.sja_plan_session.specs.Keeping.{IsPlanSession}
 use Rattle.sja_plan_session.specs.Looking.{LooksIn}
 use Rattle.sja_plan_session.specs.PlanSessions.{PlanSessionValue, steps_of}

@@ -3,7 +3,8 @@ use Rattle.std.proofs.Common.{◌≡◌, ℕ, suc, ◌+◌, ◌<◌, ◌≤◌, 
 use Rattle.std.proofs.Common.{refl, sym, ap, ◌∙◌, subst, arith, inl, inr}
 use Rattle.std.specs.Prelude.{◌==◌, if◌then◌else◌, reverse, slice_index_or}
 use Rattle.std.proofs.lemmas.List.{length-append, length-set, get_or-set_same, get_or-set_other}
-use Rattle.sja_driver.specs.Deeds.{Deed, deeds_at, is_active}
+use Rattle.std.proofs.lemmas.Bool.{eq-eqb}
+use Rattle.sja_driver.specs.Deeds.{Deed, deeds_at, is_active, with_deeds}
 use Rattle.sja_plan.specs.Plan.{PlanValue}
 use Rattle.sja_plan.specs.declared.turn.Turn.{Turn}
 use Rattle.sja_plan.specs.declared.turn.Turn.TheVariants.{Node}
@@ -20,9 +21,7 @@ use Rattle.sja_regs.specs.declared.registers.Registers.{Registers}
 use Rattle.sja_script.specs.declared.step.Step.{Step}
 use Rattle.sja_script.specs.declared.step.Step.TheVariants.{Read, Write, Start, Stop, Command, Release}
 use Rattle.sja_script.specs.declared.step_answer.StepAnswer.{StepAnswer}
-use Rattle.sja_driver.specs.Deeds.{with_deeds}
-use Rattle.sja_session.specs.RawSessions.{RawValue, DoesSteps, HasTurnFor, IsAccessFault, IsWriteFault, MayDo}
-use Rattle.sja_session.specs.RawSessions.{Writes}
+use Rattle.sja_session.specs.RawSessions.{RawValue, DoesSteps, HasTurnFor, IsAccessFault, IsWriteFault, MayDo, Writes}
 use Rattle.sja_session.specs.RawSessions.DoesSteps.{none, more}
 use Rattle.sja_session.specs.Sessions.{SessionValue, IsAt}
 use Rattle.sja_session.specs.Stepping.{DoesStep, HasTurn, MayStep, steps_done_of}
@@ -34,7 +33,7 @@ use Rattle.sja_session.proofs.WrittenPlan.Written.{count_at}
 use Rattle.sja_plan_session.specs.Accessing.{Does}
 use Rattle.sja_plan_session.specs.Accessing.Does.{read, write, typed}
 use Rattle.sja_plan_session.specs.Keeping.{AreFewer}
-use Rattle.sja_plan_session.proofs.WrittenPlan.Fewer.{fewer_written, fewer_again, fewer_both, on_itself, own_node}
+use Rattle.sja_plan_session.proofs.WrittenPlan.Fewer.{fewer_written, fewer_again, fewer_both, on_itself}
 
 -- ---- a write is at most three of them
 
@@ -155,7 +154,7 @@ fewer_then us goes f none = f
 fewer_then {node} {was} {now} {deeds} us goes f (more {mid = mid} {step = step} {answer = answer} does rest) =
     let e = turns_step was mid node step answer deeds does in
     fewer_then us (subst (λ l. goes_on_latest l (Node node 1) ≡ true) (sym e)
-    (on_itself (reverse was.turns) (Node node 1) (own_node node)))
+    (on_itself (reverse was.turns) (Node node 1) (eq-eqb node node refl)))
     (subst (λ l. AreFewer l us) (sym e) (fewer_again (reverse was.turns) us (Node node 1) goes f)) rest
 
 pub fewer_steps : {node : ℕ} {was now : SessionValue} {deeds after : List (List Deed)} {steps : List Step}
@@ -166,9 +165,9 @@ fewer_steps {node} {was} {now} us f none = fewer_written (reverse was.turns) us 
 fewer_steps {node} {was} {now} {deeds} us f (more {mid = mid} {step = step} {answer = answer} does rest) =
     let e = turns_step was mid node step answer deeds does in
     fewer_then (on_latest (Node node 1) us) (subst (λ l. goes_on_latest l (Node node 1) ≡ true) (sym e)
-    (on_itself (reverse was.turns) (Node node 1) (own_node node)))
+    (on_itself (reverse was.turns) (Node node 1) (eq-eqb node node refl)))
     (subst (λ l. AreFewer l (on_latest (Node node 1) us)) (sym e)
-    (fewer_both (Node node 1) (own_node node) (reverse was.turns) us f)) rest
+    (fewer_both (Node node 1) (eq-eqb node node refl) (reverse was.turns) us f)) rest
 
 -- ---- a step of a plan of version 3
 

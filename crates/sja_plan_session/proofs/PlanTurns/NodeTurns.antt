@@ -1,8 +1,9 @@
 -- How a session takes a turn of a node.
 use Rattle.std.proofs.Common.{◌≡◌, ℕ, ◌+◌, ◌<◌, ◌≤◌, true, List, [], length, sym}
-use Rattle.std.proofs.Common.{ap, ◌∙◌, subst, All, arith, inl, inr}
+use Rattle.std.proofs.Common.{refl, ap, ◌∙◌, subst, All, arith, inl, inr}
 use Rattle.std.proofs.lemmas.Option.{slice_get-get_or, slice_get_past}
 use Rattle.std.specs.Prelude.{◌⊎◌, ◌-◌, Some, None, reverse, slice_get, slice_index_or}
+use Rattle.std.proofs.lemmas.Bool.{eq-eqb}
 use Rattle.sja_driver.specs.Deeds.{Deed}
 use Rattle.sja_plan.specs.Plan.{PlanValue}
 use Rattle.sja_plan.specs.declared.turn.Turn.{Turn}
@@ -18,7 +19,7 @@ use Rattle.sja_plan_session.specs.Inside.Following.{Follows, LeadsOn}
 use Rattle.sja_plan_session.specs.PlanSessions.{PlanSessionValue, done_of, node_count}
 use Rattle.sja_plan_session.specs.RawRuns.{DoesSteps, next_step}
 use Rattle.sja_plan_session.specs.RawRuns.DoesSteps.{all, over, waits, more}
-use Rattle.sja_plan_session.proofs.WrittenPlan.Fewer.{on_itself, own_node}
+use Rattle.sja_plan_session.proofs.WrittenPlan.Fewer.{on_itself}
 use Rattle.sja_plan_session.proofs.AfterCalls.Typed.{chain_of, led_by}
 
 -- ---- the turns that are written within a turn of a node
@@ -44,7 +45,7 @@ on_after was mid now k wrote on = inr (
   few on,
   subst (λ l. goes_on_latest l (Node k 1) ≡ true)
       (sym (ap (λ (l : List Turn). reverse l) wrote ∙ latest_of mid.turns (Node k 1)))
-      (on_itself (reverse mid.turns) (Node k 1) (own_node k)),
+      (on_itself (reverse mid.turns) (Node k 1) (eq-eqb k k refl)),
 )
   where
     few : IsOnTurn was mid k → length now.turns ≤ length was.turns + 1

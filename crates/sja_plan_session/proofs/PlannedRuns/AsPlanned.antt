@@ -1,7 +1,6 @@
 -- A run of the plan that a session wrote comes through the states of the session: turns that went on are one turn of
 -- it, and the strikes that were taken on the way are there before.
-use Rattle.std.proofs.Common.{◌≡◌, ℕ, ◌<◌, List, [], length, sym, ap, ◌∙◌, subst, arith}
-use Rattle.std.proofs.Common.{replicate}
+use Rattle.std.proofs.Common.{◌≡◌, ℕ, ◌<◌, List, [], length, sym, ap, ◌∙◌, subst, arith, replicate}
 use Rattle.std.specs.Prelude.{reverse}
 use Rattle.std.proofs.lemmas.List.{length-replicate}
 use Rattle.sja_driver.specs.Deeds.{Deed}
@@ -21,8 +20,7 @@ use Rattle.sja_plan_session.specs.PlanSessions.{PlanSessionValue, node_count}
 use Rattle.sja_plan_session.proofs.AfterCalls.Begun.{at_first, done_none, nodes_are, steps_none}
 use Rattle.sja_plan_session.proofs.AfterCalls.Bits.{rests_led, runs_led, watches_led}
 use Rattle.sja_plan_session.proofs.PlannedRuns.Covered.{Covers, covers_bits, covers_step, covers_unwritten, keeps}
-use Rattle.sja_plan_session.proofs.PlannedRuns.Covered.{names}
-use Rattle.sja_plan_session.proofs.PlannedRuns.Covered.{next_there, told_step}
+use Rattle.sja_plan_session.proofs.PlannedRuns.Covered.{names, next_there, told_step}
 use Rattle.sja_plan_session.proofs.PlannedRuns.Joined.{TookTurns, step_on}
 use Rattle.sja_plan_session.proofs.PlannedRuns.Joined.TookTurns.{begun}
 use Rattle.sja_session.proofs.StruckBefore.Replayed.{replays_own, struck_with}

@@ -2,7 +2,7 @@
 use Rattle.std.proofs.Common.{◌≡◌, ℕ, zero, suc, ◌+◌, ◌<◌, Bool, true, false, List, [], ◌∷◌, ◌++◌, length, append-nil}
 use Rattle.std.proofs.Common.{append_assoc, refl, sym, ap, ◌∙◌, subst, arith, inl, inr}
 use Rattle.std.specs.Prelude.{◌==◌, if◌then◌else◌, Some, reverse, slice_get, slice_index_or}
-use Rattle.std.proofs.lemmas.Bool.{cases_eq}
+use Rattle.std.proofs.lemmas.Bool.{cases_eq, eqb-true}
 use Rattle.std.proofs.lemmas.List.{length-append, length-set}
 use Rattle.sja_driver.specs.Deeds.{Deed, deeds_at}
 use Rattle.sja_plan.specs.Plan.{PlanValue, steps_at}
@@ -24,7 +24,6 @@ use Rattle.sja_plan_session.specs.Writing.{with_more}
 use Rattle.sja_plan_session.proofs.AfterCalls.Bits.{BitsLed, bits_led}
 use Rattle.sja_plan_session.proofs.WrittenPlan.OneMore.{more_long, more_other, more_same}
 use Rattle.sja_plan_session.proofs.AfterCalls.Typed.{chain_of}
-use Rattle.sja_plan_session.proofs.WrittenPlan.Within.{same_node}
 
 -- ---- a plan has what a session has written so far
 
@@ -43,7 +42,7 @@ named_step nodes k (Node j n ∷ l) h = by (j == k) refl h
   where
     by : (b : Bool) → (j == k) ≡ b → AreNamed nodes (if b then Node j (n + 1) ∷ l else Node k 1 ∷ Node j n ∷ l) →
         (k < nodes) × AreNamed nodes (Node j n ∷ l)
-    by true goes named = (subst (λ i. i < nodes) (same_node j k goes) named.0, (named.0, named.1))
+    by true goes named = (subst (λ i. i < nodes) (eqb-true j k goes) named.0, (named.0, named.1))
     by false stays named = (named.0, named.1)
 
 named_bits : (nodes n : ℕ) (l : List Turn) → AreNamed nodes (on_latest (Bus n) l) → AreNamed nodes l

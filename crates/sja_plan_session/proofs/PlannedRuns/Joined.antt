@@ -1,9 +1,9 @@
 -- Turns of a plan that were taken whole, and a step or bits more: they go on with the last turn, or are one of their
 -- own.
 use Rattle.std.proofs.Common.{◌≡◌, ℕ, ◌+◌, ◌≤◌, Bool, true, false, List, [], ◌∷◌, ◌++◌, refl, sym, ap, ◌∙◌}
-use Rattle.std.proofs.Common.{append_assoc, subst, arith, inl}
+use Rattle.std.proofs.Common.{subst, arith, inl}
 use Rattle.std.specs.Prelude.{◌==◌, if◌then◌else◌, Some, reverse}
-use Rattle.std.proofs.lemmas.List.{reverse-append}
+use Rattle.std.proofs.lemmas.Bool.{eqb-true}
 use Rattle.sja_driver.specs.Deeds.{Deed}
 use Rattle.sja_log.specs.declared.end.End.{End}
 use Rattle.sja_plan.specs.Plan.{PlanValue}
@@ -24,7 +24,7 @@ use Rattle.sja_plan_session.specs.RawRuns.DoesTurns.{bus as does_bus, node as do
 use Rattle.sja_plan_session.specs.Running.{Runs, with_bits}
 use Rattle.sja_plan_session.proofs.AfterCalls.Bits.{bits_more, told_more}
 use Rattle.sja_session.proofs.StruckBefore.ReplayedBits.{AnyTime, takes_both}
-use Rattle.sja_plan_session.proofs.WrittenPlan.Within.{same_node}
+use Rattle.sja_session.proofs.WrittenPlan.Taken.{turned}
 
 -- ---- what was taken
 
@@ -95,7 +95,7 @@ step_on {plan} {first} {was} {now} {start} {deeds} {after} k step answer
     by : (b : Bool) → (j == k) ≡ b → TookTurns plan first start
         (if b then Node j (n + 1) ∷ turns else Node k 1 ∷ Node j n ∷ turns) now after
     by true goes =
-        let same = sym (same_node j k goes) in
+        let same = sym (eqb-true j k goes) in
         node earlier (onward step answer steps (subst (λ i. next_step plan was i ≡ Some step) same next)
         (subst (λ i. DoesStep was now i step answer deeds after) same does))
     by false stays = node (node earlier steps) (onward step answer nothing next does)
@@ -116,10 +116,6 @@ steps_whole : {plan : PlanValue} {k n : ℕ} {was now : PlanSessionValue} {deeds
     DidSteps plan k n was deeds now after → DoesSteps plan k n was deeds now after
 steps_whole {plan} {k} {n} {was} {now} {deeds} {after} steps =
     subst (λ i. DoesSteps plan k i was deeds now after) (let e : 0 + n ≡ n = omega arith in e) (steps_lead steps all)
-
-turned : (t : Turn) (earlier later : List Turn) → reverse (t ∷ earlier) ++ later ≡ reverse earlier ++ (t ∷ later)
-turned t earlier later = ap (λ l. l ++ later) (reverse-append (t ∷ []) earlier)
-    ∙ append_assoc (reverse earlier) (t ∷ []) later
 
 pub turns_lead : {plan : PlanValue} {first : PlanSessionValue} {start : List (List Deed)} {now last : PlanSessionValue}
     {deeds after : List (List Deed)} {l later : List Turn} {end : End} → TookTurns plan first start l now deeds →

@@ -28,8 +28,7 @@ use Rattle.sja_plan_session.proofs.PlannedRuns.Reached.{IsReached}
 use Rattle.sja_plan_session.proofs.AfterCalls.Begun.{nodes_are}
 use Rattle.sja_plan_session.proofs.PlannedRuns.Covered.{Covers}
 use Rattle.sja_plan_session.proofs.PlannedRuns.Joined.{turns_lead}
-use Rattle.sja_session.proofs.StruckBefore.Replayed.{Replays, at_replayed, replayed, replays_own, restruck}
-use Rattle.sja_session.proofs.StruckBefore.Replayed.{struck_with}
+use Rattle.sja_session.proofs.StruckBefore.Replayed.{Replays, at_replayed, replayed, replays_own, restruck, struck_with}
 use Rattle.sja_session.proofs.StruckBefore.Replayed.{written_replayed}
 use Rattle.sja_plan_session.proofs.PlannedRuns.ReplayedSteps.{planned}
 

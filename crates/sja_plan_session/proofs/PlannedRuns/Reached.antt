@@ -1,9 +1,8 @@
 -- Where a run stands of the plan that a session wrote, after calls that write nothing down and after bits.
-use Rattle.std.proofs.Common.{◌≡◌, ℕ, zero, suc, List, [], refl, sym, ap, ◌∙◌, subst, arith, inl}
-use Rattle.std.proofs.Common.{replicate}
+use Rattle.std.proofs.Common.{◌≡◌, ℕ, zero, suc, List, [], refl, sym, ap, ◌∙◌, subst, arith, inl, replicate}
 use Rattle.std.specs.Prelude.{reverse}
+use Rattle.std.proofs.lemmas.List.{ext_get_or}
 use Rattle.sja_driver.specs.Deeds.{Deed}
-use Rattle.sja_log.proofs.NodeLog.NodeEnds.{same_by}
 use Rattle.sja_plan.specs.Plan.{PlanValue}
 use Rattle.sja_plan.specs.declared.turn.Turn.{Turn}
 use Rattle.sja_plan.specs.declared.turn.Turn.TheVariants.{Bus}
@@ -100,8 +99,8 @@ same_wait strikes was now node one deeds h w = record {
   journals =
       let first = h.stands.count.journals in let then_ = w.waits.at.stands.count.journals in
       let nodes = nodes_same h w.waits.at in
-      same_by [] now.raw.session.run.bus.journals was.raw.session.run.bus.journals (omega (arith, first, then_, nodes))
-      (λ k less. w.waits.journals k (omega (arith, less, then_, nodes)));
+      ext_get_or [] now.raw.session.run.bus.journals was.raw.session.run.bus.journals
+      (omega (arith, first, then_, nodes)) (λ k less. w.waits.journals k (omega (arith, less, then_, nodes)));
   ports = w.waits.ports;
   turns_told = w.waits.turns;
   room = w.waits.room;

@@ -2,7 +2,7 @@
 use Rattle.std.proofs.Common.{ℕ, List, [], ◌∷◌, ◌++◌, sym, ap, ◌∙◌, subst, arith}
 use Rattle.std.specs.Prelude.{slice_index_or, slice_set}
 use Rattle.sja_driver.specs.Carried.{Tells, carried, ported}
-use Rattle.sja_driver.specs.Deeds.{Deed, deeds_at, is_active}
+use Rattle.sja_driver.specs.Deeds.{Deed, deeds_at, is_active, with_deeds}
 use Rattle.sja_link.specs.declared.entry.Entry.{Entry}
 use Rattle.sja_log.specs.Registering.{seen_now}
 use Rattle.sja_driver.specs.Windows.{SeesIf}
@@ -16,20 +16,18 @@ use Rattle.sja_script.specs.declared.step.Step.{Step}
 use Rattle.sja_script.specs.declared.step_answer.StepAnswer.{StepAnswer}
 use Rattle.sja_script.specs.declared.strike.Strike.{Strike}
 use Rattle.sja_serial.specs.Serial.{SerialValue}
-use Rattle.sja_driver.specs.Deeds.{with_deeds}
 use Rattle.sja_session.specs.RawSessions.{RawValue, DoesSteps, kept_in, moved_by}
 use Rattle.sja_session.specs.RawSessions.DoesSteps.{none, more}
 use Rattle.sja_session.specs.Sessions.{SessionValue, IsAt}
 use Rattle.sja_session.specs.Stepping.{DoesStep as DoesOne}
 use Rattle.sja_session.specs.Writing.{with_step_done}
-use Rattle.sja_wire.specs.OneBit.{entries_of_items}
+use Rattle.sja_link.specs.BitEntries.{entries_of_items}
 use Rattle.sja_wire.specs.Wire.{journal_at}
 use Rattle.sja_plan_session.specs.Accessing.{Does, DoesStep}
 use Rattle.sja_plan_session.specs.Accessing.Does.{read, write, typed}
 use Rattle.sja_plan_session.specs.PlanSessions.{PlanSessionValue}
 use Rattle.sja_plan_session.specs.Writing.{with_more}
-use Rattle.sja_session.proofs.StruckBefore.Replayed.{Replays, at_replayed, done_nodes, replayed, replays_own}
-use Rattle.sja_session.proofs.StruckBefore.Replayed.{restruck}
+use Rattle.sja_session.proofs.StruckBefore.Replayed.{Replays, at_replayed, done_nodes, replayed, replays_own, restruck}
 use Rattle.sja_session.proofs.StruckBefore.Replayed.{struck_with, written_replayed}
 
 -- ---- a typed step

@@ -2,17 +2,14 @@
 use Rattle.std.proofs.Common.{◌≡◌, ℕ, suc, ◌<◌, Bool, true, false, List, [], ◌∷◌, length}
 use Rattle.std.proofs.Common.{refl, sym, ap, ◌∙◌, subst, arith, inl, inr}
 use Rattle.std.specs.Prelude.{◌==◌, if◌then◌else◌}
-use Rattle.std.proofs.lemmas.Bool.{cases_eq}
+use Rattle.std.proofs.lemmas.Bool.{cases_eq, eq-eqb, eqb-true}
 use Rattle.sja_plan.specs.declared.turn.Turn.{Turn}
 use Rattle.sja_plan.specs.declared.turn.Turn.TheVariants.{Bus, Rest, Node}
 use Rattle.sja_session.specs.Turning.{goes_on, size_of, enlarged, on_latest, goes_on_latest}
 use Rattle.sja_plan_session.specs.Keeping.{EndAlike, AreFewer}
-use Rattle.sja_plan_session.proofs.WrittenPlan.Within.{same_node}
+use Rattle.sja_session.proofs.WrittenPlan.Turned.{by_choice}
 
 -- ---- what goes on with what
-
-pub own_node : (k : ℕ) → (k == k) ≡ true
-own_node k = grind arith
 
 -- whether a turn goes on hangs on no number
 later_size : (t u : Turn) (n : ℕ) → goes_on t (enlarged u n) ≡ goes_on t u
@@ -42,7 +39,7 @@ goes_back (Bus x) (Bus y) goes = refl
 goes_back (Bus x) (Node k y) goes = absurd cc
 goes_back (Bus x) Rest goes = absurd cc
 goes_back (Node j x) (Bus y) goes = absurd cc
-goes_back (Node j x) (Node k y) goes = subst (λ n. (k == n) ≡ true) (sym (same_node j k goes)) (own_node k)
+goes_back (Node j x) (Node k y) goes = subst (λ n. (k == n) ≡ true) (sym (eqb-true j k goes)) (eq-eqb k k refl)
 goes_back (Node j x) Rest goes = absurd cc
 goes_back Rest (Bus y) goes = absurd cc
 goes_back Rest (Node k y) goes = absurd cc
@@ -62,7 +59,7 @@ goes_through (Node j x) (Node k y) v first second = goes_node v second
   where
     goes_node : (v : Turn) → goes_on (Node k y) v ≡ true → goes_on (Node j x) v ≡ true
     goes_node (Bus z) e = absurd cc
-    goes_node (Node i z) e = subst (λ n. (n == i) ≡ true) (sym (same_node j k first)) e
+    goes_node (Node i z) e = subst (λ n. (n == i) ≡ true) (sym (eqb-true j k first)) e
     goes_node Rest e = absurd cc
 goes_through (Node j x) Rest v first second = absurd cc
 goes_through Rest (Bus y) v first second = absurd cc
@@ -80,11 +77,6 @@ on_itself (u ∷ earlier) t own = by (goes_on u t) refl
     by false e = own
 
 -- ---- one more turn
-
-by_choice : (P : List Turn → Type 0) (b : Bool) (xs ys : List Turn) → (b ≡ true → P xs) → (b ≡ false → P ys) →
-    P (if b then xs else ys)
-by_choice P true xs ys goes stays = goes refl
-by_choice P false xs ys goes stays = stays refl
 
 -- the latest of those that are written is enlarged
 alike_enlarged : (ts us : List Turn) (u : Turn) (n : ℕ) → EndAlike ts (u ∷ us) → EndAlike ts (enlarged u n ∷ us)

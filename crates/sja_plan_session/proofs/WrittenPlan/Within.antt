@@ -2,15 +2,13 @@
 use Rattle.std.proofs.Common.{◌≡◌, ℕ, zero, suc, ◌+◌, ◌<◌, ◌≤◌, Bool, true, false, List, [], ◌∷◌, length}
 use Rattle.std.proofs.Common.{refl, sym, subst, arith}
 use Rattle.std.specs.Prelude.{◌==◌, if◌then◌else◌, slice_index_or}
+use Rattle.std.proofs.lemmas.Bool.{eqb-true}
 use Rattle.sja_plan.specs.declared.turn.Turn.{Turn}
 use Rattle.sja_plan.specs.declared.turn.Turn.TheVariants.{Bus, Rest, Node}
 use Rattle.sja_script.specs.declared.step.Step.{Step}
 use Rattle.sja_session.specs.Turning.{on_latest, latest_size}
 use Rattle.sja_plan_session.specs.Keeping.{AreWithin}
 use Rattle.sja_plan_session.specs.PlanSessions.{PlanSessionValue, bits_of, steps_of}
-
-pub same_node : (j k : ℕ) → (j == k) ≡ true → j ≡ k
-same_node j k goes = grind arith
 
 module _ (was now : PlanSessionValue) (steps : (k : ℕ) → length (steps_of was k) ≤ length (steps_of now k)) where
   pub all_same : bits_of was ≤ bits_of now → (l : List Turn) → AreWithin was l → AreWithin now l
@@ -35,8 +33,8 @@ module _ (was now : PlanSessionValue) (steps : (k : ℕ) → length (steps_of wa
       by : (b : Bool) → (k == node) ≡ b →
           AreWithin now (if b then Node k (n + 1) ∷ l else Node node 1 ∷ Node k n ∷ l)
       by true goes =
-          let own = subst (λ m. n ≤ length (steps_of was m)) (same_node k node goes) first in (
-            subst (λ m. n + 1 ≤ length (steps_of now m)) (sym (same_node k node goes)) (omega (arith, own, e)),
+          let own = subst (λ m. n ≤ length (steps_of was m)) (eqb-true k node goes) first in (
+            subst (λ m. n + 1 ≤ length (steps_of now m)) (sym (eqb-true k node goes)) (omega (arith, own, e)),
             all_same b l h,
           )
       by false stays = (omega (arith, e), all_same b (Node k n ∷ l) (first, h))

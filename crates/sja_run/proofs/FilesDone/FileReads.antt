@@ -1,7 +1,6 @@
 -- Plans that are read under names and then answered, as outcomes of files.
-use Rattle.std.proofs.Common.{◌≡◌, ◌<◌, ◌++◌, ℕ, List, [], ◌∷◌, Option, Result, Ok, Err, IfOk, length, get_or}
-use Rattle.std.proofs.Common.{refl, suc, sym, ap, subst, arith, inl, inr}
-use Rattle.std.proofs.Common.{◌+◌, map, take}
+use Rattle.std.proofs.Common.{◌≡◌, ◌<◌, ◌++◌, ℕ, List, [], ◌∷◌, Option, Result, Ok, Err, IfOk, length, get_or, refl}
+use Rattle.std.proofs.Common.{suc, sym, ap, subst, arith, inl, inr, ◌+◌, map, take}
 use Rattle.std.proofs.lemmas.List.{map_more}
 use Rattle.std.specs.Borrow.{Bor}
 use Rattle.std.specs.List.{AllZip}

@@ -1,7 +1,6 @@
 -- Files that are done portion by portion.
-use Rattle.std.proofs.Common.{◌≡◌, ◌≤◌, ◌++◌, ◌&&◌, ◌+◌, ◌-◌, ℕ, Bool, true, false, List, [], Option, length}
-use Rattle.std.proofs.Common.{map, take, drop}
-use Rattle.std.proofs.Common.{refl, sym, ap, ap₂, ◌∙◌, subst, append_assoc, arith, inl, inr, Some}
+use Rattle.std.proofs.Common.{◌≡◌, ◌≤◌, ◌++◌, ◌&&◌, ◌+◌, ◌-◌, ℕ, Bool, true, false, List, [], Option, length, map, take}
+use Rattle.std.proofs.Common.{drop, refl, sym, ap, ap₂, ◌∙◌, subst, append_assoc, arith, inl, inr, Some}
 use Rattle.std.specs.Prelude.{if◌then◌else◌, nat_lt, slice_range}
 use Rattle.std.specs.Borrow.{Bor}
 use Rattle.std.specs.Io.KnownBytes.{Appends, Keeps}

@@ -55,11 +55,6 @@ first_each [] (o ∷ os) (suc i) len = absurd (omega (arith, len))
 first_each (n ∷ ns) [] (suc i) len = absurd (omega (arith, len))
 first_each (n ∷ ns) (o ∷ os) (suc i) len = ap suc (first_each ns os i (omega (arith, len)))
 
--- a name, where there is one
-pub some_name : (names : List (Bor (List ℕ))) (i : ℕ) → i < length names → Bor (List ℕ)
-some_name [] i less = absurd (omega (arith, less))
-some_name (n ∷ ns) i less = n
-
 -- what was written of the first files, and then of one more
 wrote_one : (text : List ℕ → FileOutcome → List ℕ) (names : List (Bor (List ℕ))) (os : List FileOutcome) (i : ℕ)
     (d : Bor (List ℕ)) (e : FileOutcome) (was now is : Bool) (old mid new : Option (List ℕ)) → i < length names →

@@ -1,6 +1,5 @@
 -- What words ask for, and what becomes of what is left to threads.
 use Rattle.std.proofs.Common.{◌≡◌, ◌⊎◌, ℕ, Bool, List, Option, Some, true, false, sym, subst, inl, inr}
-use Rattle.std.proofs.Common.{Result, Ok, Err, IfOk}
 use Rattle.std.proofs.Math.Decide.{dec_lt}
 use Rattle.std.specs.Io.KnownBytes.{Keeps}
 use Rattle.sja_words.specs.Words.{Request, ParsesAs, encode, decode, filter, arbitrate, message, run, wave}
@@ -130,11 +129,6 @@ pub once_refused : (r : Request) (what : RunText) (before after : Option (List �
     r ≡ request_for false what → RefusesRun before after why → IsRefused r before after why
 once_refused r what before after why asks has =
     subst (λ q. IsRefused q before after why) (sym asks) (once_denied what before after why has)
-
--- what follows of a value follows of a result's
-pub ok_then : {T E : Type 0} {P Q : T → Type 0} (r : Result T E) → ((t : T) → P t → Q t) → IfOk r P → IfOk r Q
-ok_then (Ok t) follows has = follows t has
-ok_then (Err e) follows has = has
 
 -- what is left to threads, and isn't left, since memory was refused
 pub left_shows : (r : Request) (status : ℕ) (failed : Bool)

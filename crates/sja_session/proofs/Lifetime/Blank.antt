@@ -8,7 +8,7 @@ use Rattle.sja_plan.specs.declared.turn.Turn.{Turn}
 use Rattle.sja_plan.specs.Growing.{plan_of}
 use Rattle.sja_plan.specs.Limits.{most_bits, most_turns}
 use Rattle.sja_plan.specs.Plan.{PlanValue, steps_at, step_counts}
-use Rattle.sja_plan.proofs.ByVersion.{bits_most, steps_most}
+use Rattle.sja_plan.proofs.PlanLimits.ByVersion.{bits_most, steps_most}
 use Rattle.sja_script.specs.declared.step.Step.{Step}
 use Rattle.sja_script.specs.declared.step.Step.TheVariants.{Window}
 use Rattle.sja_script.specs.declared.strike.Strike.{Strike}

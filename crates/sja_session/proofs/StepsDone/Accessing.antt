@@ -1,9 +1,9 @@
 -- Steps that are done one after the other, and what is left for more.
 use Rattle.std.proofs.Common.{◌≡◌, ℕ, zero, suc, ◌+◌, ◌<◌, Bool, true, false, List, [], ◌∷◌, ◌++◌, length}
 use Rattle.std.proofs.Common.{refl, sym, ap, ◌∙◌, subst, arith, inl, inr}
-use Rattle.std.specs.Prelude.{◌==◌, nat_eq, if◌then◌else◌, reverse, slice_index_or, slice_set}
-use Rattle.std.specs.Prelude.{Result, Ok, Err, IfOk, OnErr}
+use Rattle.std.specs.Prelude.{nat_eq, if◌then◌else◌, reverse, slice_index_or, slice_set, Result, Ok, Err, IfOk, OnErr}
 use Rattle.std.proofs.lemmas.List.{length-append, length-set, set-get_or, get_or-set_same}
+use Rattle.std.proofs.lemmas.Bool.{eq-eqb}
 use Rattle.sja_plan.specs.declared.turn.Turn.{Turn}
 use Rattle.sja_plan.specs.declared.turn.Turn.TheVariants.{Bus, Rest, Node}
 use Rattle.sja_plan.specs.Plan.{PlanValue}
@@ -16,8 +16,7 @@ use Rattle.sja_raw.specs.Writes.{write_steps}
 use Rattle.sja_script.specs.declared.step.Step.{Step}
 use Rattle.sja_script.specs.declared.step.Step.TheVariants.{Command, Release}
 use Rattle.sja_script.specs.declared.step_answer.StepAnswer.{StepAnswer}
-use Rattle.sja_driver.specs.Deeds.{Deed, deeds_at}
-use Rattle.sja_driver.specs.Deeds.{with_deeds}
+use Rattle.sja_driver.specs.Deeds.{Deed, deeds_at, with_deeds}
 use Rattle.sja_session.specs.Inside.Accessing.{Does, IsRaw}
 use Rattle.sja_session.specs.RawSessions.{RawValue, DoesSteps, MayDo, HasTurnFor, kept_in, moved_by}
 use Rattle.sja_session.specs.RawSessions.DoesSteps.{none, more}
@@ -40,17 +39,14 @@ enlarged_on (Bus x) k m n goes = goes
 enlarged_on (Node j x) k m n goes = goes
 enlarged_on Rest k m n goes = goes
 
-same_node : (k : ℕ) → (k == k) ≡ true
-same_node k = grind arith
-
 on_itself : (l : List Turn) (k m : ℕ) → goes_on_latest (on_latest (Node k m) l) (Node k m) ≡ true
-on_itself [] k m = same_node k
+on_itself [] k m = eq-eqb k k refl
 on_itself (u ∷ earlier) k m = by (goes_on u (Node k m)) refl
   where
     by : (b : Bool) → goes_on u (Node k m) ≡ b →
         goes_on_latest (if b then enlarged u m ∷ earlier else Node k m ∷ u ∷ earlier) (Node k m) ≡ true
     by true e = enlarged_on u k m m e
-    by false e = same_node k
+    by false e = eq-eqb k k refl
 
 -- ---- after a step of a node
 

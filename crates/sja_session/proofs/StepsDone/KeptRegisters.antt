@@ -8,8 +8,7 @@ use Rattle.sja_raw.specs.Kept.{at_power_on, kept_after, moved_by_answer}
 use Rattle.sja_regs.specs.declared.registers.Registers.{Registers}
 use Rattle.sja_script.specs.declared.step.Step.{Step}
 use Rattle.sja_script.specs.declared.step_answer.StepAnswer.{StepAnswer}
-use Rattle.sja_driver.specs.Deeds.{Deed}
-use Rattle.sja_driver.specs.Deeds.{with_deeds}
+use Rattle.sja_driver.specs.Deeds.{Deed, with_deeds}
 use Rattle.sja_session.specs.Inside.Accessing.{AreSteps}
 use Rattle.sja_session.specs.RawSessions.{RawValue, DoesSteps, Writes, kept_in}
 use Rattle.sja_session.specs.RawSessions.DoesSteps.{none, more}

@@ -15,13 +15,12 @@ use Rattle.sja_script.specs.declared.step.Step.{Step}
 use Rattle.sja_script.specs.declared.step_answer.StepAnswer.{StepAnswer}
 use Rattle.sja_driver.specs.declared.logged_driver.LoggedDriver.{LoggedDriver}
 use Rattle.sja_driver.specs.Carried.{Tells, carried, ported}
-use Rattle.sja_driver.specs.Deeds.{Deed, deeds_at, opened_by, is_active, FitsState, done_of}
+use Rattle.sja_driver.specs.Deeds.{Deed, deeds_at, opened_by, is_active, FitsState, done_of, with_deeds}
 use Rattle.sja_driver.specs.LoggedDrivers.{log_of}
 use Rattle.sja_driver.specs.Logs.{done_in}
 use Rattle.sja_log.specs.Registering.{seen_now}
 use Rattle.sja_serial.specs.Ending.{progress}
 use Rattle.sja_serial.specs.Serial.{SerialValue, StandsAt, CannotStep}
-use Rattle.sja_driver.specs.Deeds.{with_deeds}
 use Rattle.sja_serial.specs.Stepping.{DoesNext, DoesNothing}
 use Rattle.sja_log.specs.Waiting.{HasToWait}
 use Rattle.sja_driver.proofs.OneNode.Slices.{no_deeds}

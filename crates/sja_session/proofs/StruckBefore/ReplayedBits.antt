@@ -1,13 +1,13 @@
 -- Bits of a session as a run has them that was given all strikes of its plan before.
-use Rattle.std.proofs.Common.{◌≡◌, ℕ, zero, suc, ◌+◌, Bool, List, [], refl, sym, ap, ◌∙◌}
-use Rattle.std.proofs.Common.{subst, arith}
+use Rattle.std.proofs.Common.{◌≡◌, ℕ, zero, suc, ◌+◌, Bool, List, [], refl, sym, ap, ◌∙◌, subst, arith}
 use Rattle.std.specs.Prelude.{Option, Some, None}
 use Rattle.sja_driver.specs.Deeds.{Deed}
 use Rattle.sja_link.specs.declared.entry.Entry.{Entry}
 use Rattle.sja_plan.specs.Growing.{plan_of}
 use Rattle.sja_plan.specs.Plan.{PlanValue}
 use Rattle.sja_script.specs.declared.strike.Strike.{Strike}
-use Rattle.sja_serial.specs.Bits.{HasOneBit, TakesBits}
+use Rattle.sja_serial.specs.Bits.{TakesBits}
+use Rattle.sja_link.specs.BitEntries.{HasOneBit}
 use Rattle.sja_serial.specs.Bits.TakesBits.{no_bit, one_more}
 use Rattle.sja_serial.specs.Serial.{SerialValue, StandsAt}
 use Rattle.sja_session.specs.Lines.{IsStill}

@@ -36,8 +36,7 @@ use Rattle.sja_session.specs.Running.{RunsBits}
 use Rattle.sja_session.specs.Sessions.{SessionValue, session_of, IsAt}
 use Rattle.sja_session.specs.Turning.{with_turn, with_bits}
 use Rattle.sja_session.specs.Watching.{NoneRose, rise}
-use Rattle.sja_session.specs.Watching.NoneRose.{bit}
-use Rattle.sja_session.specs.Watching.NoneRose.{none as none_rose}
+use Rattle.sja_session.specs.Watching.NoneRose.{bit, none as none_rose}
 use Rattle.sja_session.proofs.BitsDone.BitsRun.{runs}
 use Rattle.sja_session.proofs.WatchedBits.QuietBits.{quiet_at, still_same}
 use Rattle.sja_session.proofs.WrittenPlan.Turned.{bits_twice}

@@ -9,15 +9,13 @@ use Rattle.sja_link.specs.declared.entry.Entry.{Entry}
 use Rattle.sja_plan.specs.declared.turn.Turn.{Turn}
 use Rattle.sja_plan.specs.declared.turn.Turn.TheVariants.{Bus, Node}
 use Rattle.sja_plan.specs.Plan.{PlanValue}
-use Rattle.sja_driver.specs.Deeds.{Deed, deeds_at}
+use Rattle.sja_driver.specs.Deeds.{Deed, deeds_at, with_deeds}
 use Rattle.sja_log.specs.declared.end.End.{End}
 use Rattle.sja_log.specs.declared.end.End.TheVariants.{Turns as TurnsDone}
 use Rattle.sja_log.specs.Turns.{Progress, DoesSteps, RunsTo, with_bits, with_steps, steps_done}
-use Rattle.sja_log.specs.Turns.RunsTo.{all_done}
-use Rattle.sja_log.specs.Turns.RunsTo.{bus as runs_bus, node as runs_node}
+use Rattle.sja_log.specs.Turns.RunsTo.{all_done, bus as runs_bus, node as runs_node}
 use Rattle.sja_serial.specs.Ending.{progress}
 use Rattle.sja_serial.specs.Serial.{SerialValue}
-use Rattle.sja_driver.specs.Deeds.{with_deeds}
 use Rattle.sja_serial.proofs.WholeRun.GoingOn.{acts_of, length_at, lengths_set}
 use Rattle.sja_session.specs.Sessions.{Took, start_of}
 use Rattle.sja_session.specs.Sessions.Took.{none, bus, node}
@@ -120,7 +118,7 @@ took_same deeds first turns was now is h = subst (λ (p : Progress). Took deeds 
 
 -- ---- all turns
 
-turned : (t : Turn) (earlier later : List Turn) → reverse (t ∷ earlier) ++ later ≡ reverse earlier ++ (t ∷ later)
+pub turned : (t : Turn) (earlier later : List Turn) → reverse (t ∷ earlier) ++ later ≡ reverse earlier ++ (t ∷ later)
 turned t earlier later = ap (λ l. l ++ later) (reverse-append (t ∷ []) earlier)
     ∙ append_assoc (reverse earlier) (t ∷ []) later
 

@@ -1,9 +1,10 @@
 -- Turns with one more, and where they led.
-use Rattle.std.proofs.Common.{◌≡◌, ℕ, zero, suc, ◌+◌, ◌-◌, ◌<◌, ◌≤◌, Bool, true, false, List, [], ◌∷◌, length}
+use Rattle.std.proofs.Common.{◌≡◌, ℕ, ◌+◌, ◌-◌, ◌<◌, ◌≤◌, Bool, true, false, List, [], ◌∷◌, length}
 use Rattle.std.proofs.Common.{refl, sym, ap, ◌∙◌, subst, All, arith, inl, inr}
-use Rattle.std.specs.Prelude.{◌⊎◌, ◌==◌, if◌then◌else◌, reverse, set, slice_index_or}
-use Rattle.std.proofs.lemmas.Bool.{cases_lt}
+use Rattle.std.specs.Prelude.{◌⊎◌, if◌then◌else◌, reverse, set, slice_index_or}
+use Rattle.std.proofs.lemmas.Bool.{cases_lt, eqb-true}
 use Rattle.std.proofs.lemmas.List.{length-set, length-reverse, get_or-set_same, reverse-append, reverse-reverse}
+use Rattle.std.proofs.lemmas.List.{set-set}
 use Rattle.std.proofs.lemmas.List.Elements.{All-push}
 use Rattle.sja_plan.specs.declared.turn.Turn.{Turn}
 use Rattle.sja_plan.specs.declared.turn.Turn.TheVariants.{Bus, Rest, Node}
@@ -20,7 +21,7 @@ latest_of turns t = reverse-reverse (on_latest t (reverse turns))
 
 -- ---- how many there are, and whose they are
 
-by_choice : (P : List Turn → Type 0) (b : Bool) (xs ys : List Turn) → (b ≡ true → P xs) → (b ≡ false → P ys) →
+pub by_choice : (P : List Turn → Type 0) (b : Bool) (xs ys : List Turn) → (b ≡ true → P xs) → (b ≡ false → P ys) →
     P (if b then xs else ys)
 by_choice P true xs ys goes stays = goes refl
 by_choice P false xs ys goes stays = stays refl
@@ -122,11 +123,6 @@ ends deeds first l p none = tt
 ends deeds first l p (bus earlier q n h) = (q, h, refl)
 ends deeds first l p (node earlier q k n h exist now) = (q, h, exist, now, refl)
 
-set_twice : (xs : List ℕ) (i y z : ℕ) → set (set xs i y) i z ≡ set xs i z
-set_twice [] i y z = refl
-set_twice (x ∷ xs) zero y z = refl
-set_twice (x ∷ xs) (suc i) y z = ap (λ l. x ∷ l) (set_twice xs i y z)
-
 -- a turn of the bus that goes on
 more_bits : (deeds : List (List Deed)) (first : Progress) (earlier : List Turn) (p : Progress) (n m : ℕ) →
     Took deeds first (Bus m ∷ Bus n ∷ earlier) p → Took deeds first (Bus (n + m) ∷ earlier) p
@@ -172,7 +168,7 @@ more_steps deeds first earlier p k n m there h =
             let sum : steps_done mid k + m ≡ steps_done q k + (n + m) = let s = so_far in omega (arith, s) in
             let done : set mid.done k (steps_done mid k + m) ≡ set q.done k (steps_done q k + (n + m)) =
             ap (λ (z : Progress). set z.done k (steps_done mid k + m)) from
-            ∙ set_twice q.done k (steps_done q k + n) (steps_done mid k + m)
+            ∙ set-set q.done k (steps_done q k + n) (steps_done mid k + m)
             ∙ ap (λ s. set q.done k s) sum in
             let bits : mid.bits ≡ q.bits = ap (λ (z : Progress). z.bits) from in
             to ∙ (λ i. let z : Progress = record { bits = bits i; done = done i } in z)
@@ -188,15 +184,12 @@ more_steps deeds first earlier p k n m there h =
               ∙ now (i - n) d (omega (arith, less, more)) ∙ ap (λ (z : Progress). z.bits) from
         ]
 
-same_node : (j k : ℕ) → (j == k) ≡ true → j ≡ k
-same_node j k goes = grind arith
-
 joins : (deeds : List (List Deed)) (first : Progress) (t u : Turn) (earlier : List Turn) (p : Progress) →
     ((k n : ℕ) → t ≡ Node k n → k < length p.done) → goes_on u t ≡ true → Took deeds first (t ∷ u ∷ earlier) p →
     Took deeds first (enlarged u (size_of t) ∷ earlier) p
 joins deeds first (Bus m) (Bus n) earlier p there goes h = more_bits deeds first earlier p n m h
 joins deeds first (Node k m) (Node j n) earlier p there goes h =
-    let e = same_node j k goes in
+    let e = eqb-true j k goes in
     subst (λ x. Took deeds first (Node x (n + m) ∷ earlier) p) (sym e)
     (more_steps deeds first earlier p k n m (there k m refl)
     (subst (λ x. Took deeds first (Node k m ∷ Node x n ∷ earlier) p) e h))

@@ -2,7 +2,8 @@
 use Rattle.std.proofs.Common.{◌≡◌, ℕ, zero, suc, ◌<◌, ◌≤◌, List, [], ◌∷◌, ◌++◌, length, map, take, replicate, refl}
 use Rattle.std.proofs.Common.{sym, ap, ◌∙◌, All, arith}
 use Rattle.std.specs.Prelude.{set, slice_index, slice_index_or}
-use Rattle.std.proofs.lemmas.List.{length-take, length-map, take-set-le}
+use Rattle.std.proofs.lemmas.List.{length-take, length-map, take-set-le, get_or-map, ext_get_or}
+use Rattle.lemmas.proofs.Lists.{some_of}
 use Rattle.sja_plan.specs.Plan.{PlanValue}
 use Rattle.sja_regs.specs.Registers.{at_power_on}
 use Rattle.sja_script.specs.declared.step.Step.{Step}
@@ -10,8 +11,6 @@ use Rattle.sja_driver.specs.declared.logged_driver.LoggedDriver.{LoggedDriver}
 use Rattle.sja_driver.specs.Deeds.{Deed, deeds_at}
 use Rattle.sja_driver.specs.LoggedDrivers.{log_of}
 use Rattle.sja_driver.specs.Logs.{done_in}
-use Rattle.sja_log.proofs.NodeLog.Logs.{index_map}
-use Rattle.sja_log.proofs.NodeLog.NodeEnds.{any_of, same_by}
 use Rattle.sja_serial.specs.Serial.{SerialValue, StandsAt}
 use Rattle.sja_serial.proofs.AllNodes.Several.{done_count}
 use Rattle.sja_serial.proofs.WholeRun.GoingOn.{length_at}
@@ -92,12 +91,12 @@ counts_are plan r deeds h =
     let m = length-map r.drivers (λ (d : LoggedDriver). length (done_in (log_of d))) in
     let n = length-map deeds (λ (l : List Deed). length l) in
     let c = h.count.drivers in let e = h.deeds_count in
-    same_by 0 (done_counts r) (map (λ (l : List Deed). length l) deeds) (omega (arith, m, n, c, e)) (λ k less.
+    ext_get_or 0 (done_counts r) (map (λ (l : List Deed). length l) deeds) (omega (arith, m, n, c, e)) (λ k less.
     let there : k < length r.drivers = omega (arith, m, less) in
-    let some = any_of r.drivers (omega (arith, there)) in
-    index_map (λ (d : LoggedDriver). length (done_in (log_of d))) r.drivers k some 0 there
+    let some = some_of r.drivers 0 (omega (arith, there)) in
+    get_or-map (λ (d : LoggedDriver). length (done_in (log_of d))) r.drivers k some 0 there
     ∙ done_count plan r deeds k some (at_power_on 1) h (omega (arith, there, c))
-    ∙ sym (index_map (λ (l : List Deed). length l) deeds k [] 0 (omega (arith, there, c, e))))
+    ∙ sym (get_or-map (λ (l : List Deed). length l) deeds k [] 0 (omega (arith, there, c, e))))
 
 -- of one node
 pub count_at : (plan : PlanValue) (r : SerialValue) (deeds : List (List Deed)) → StandsAt plan r deeds → (k : ℕ) →

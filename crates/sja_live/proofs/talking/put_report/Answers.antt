@@ -1,6 +1,6 @@
 use Rattle.std.proofs.Common.{◌≡◌, subst}
 use Rattle.std.specs.Io.KnownBytes.{Appends}
-use Rattle.lemmas.proofs.Results.{ok_map}
+use Rattle.std.proofs.lemmas.Result.{on_ok_weaker}
 use Rattle.sja_driver_session.specs.Ending.{IsRunIn}
 use Rattle.sja_plan.specs.Plan.{PlanValue}
 use Rattle.sja_report.specs.ReportLines.{report_text}
@@ -11,7 +11,7 @@ pub returns-clause-told : goal.returns-clause-told
 returns-clause-told g c =
     let both = c.in_ok-_plan in let log = both.log in
     let text : c.as_str.result.now ≡ report_text log = cc (c.in_ok-text.ensures) in
-    ok_map c.put.result (λ wrote deeds at. (
+    on_ok_weaker c.put.result (λ wrote deeds at. (
       log,
       record {
         own = both.ensures.own deeds at.at;

@@ -1,5 +1,5 @@
 use Rattle.std.specs.Prelude.{Result, Ok, Err, IfErr}
-use Rattle.lemmas.proofs.Results.{ok_map}
+use Rattle.std.proofs.lemmas.Result.{on_ok_weaker}
 use Rattle.sja_live.proofs.Talks.BreakingOff.{talk_unanswered}
 use Rattle.sja_live.proofs.Talks.GoingOn.{talk_ends}
 use Rattle.sja_live.proofs.talking.talk_on.Goals as goal
@@ -12,7 +12,7 @@ err_two (Err x) f p q = f x p q
 -- the talk is over
 pub returns-in-Ok-clause-told : goal.returns-in-Ok-clause-told
 returns-in-Ok-clause-told g c =
-    ok_map c.put_report.result (λ wrote before begun.
+    on_ok_weaker c.put_report.result (λ wrote before begun.
     let o = c.in-Ok.ensures.over before begun in
     talk_ends _ _ _ _ _ _ o.last c.answer_lines.new.session o.goes o.ends wrote) c.put_report.ensures.told
 

@@ -1,7 +1,6 @@
-use Rattle.std.proofs.Common.{arith}
+use Rattle.std.proofs.Common.{arith, subst}
 use Rattle.sja_plan_session.specs.Rooms.{LacksAccessRoom}
 use Rattle.sja_session.specs.declared.session_fault.SessionFault.{SessionFault}
-use Rattle.std.proofs.Common.{subst}
 use Rattle.sja_plan_session.proofs.AfterCalls.Begun.{follows_new}
 use Rattle.sja_plan_session.proofs.raw_run.run_raw.Goals as goal
 

@@ -1,7 +1,8 @@
 use Rattle.std.proofs.Common.{◌≡◌, false}
+use Rattle.std.proofs.lemmas.Result.{IfOk-weaker}
 use Rattle.sja_words.specs.Words.{request_of}
 use Rattle.sja_run.specs.Answer.{request_for}
-use Rattle.sja_run.proofs.Requested.Requests.{ok_then, once_printed}
+use Rattle.sja_run.proofs.Requested.Requests.{once_printed}
 use Rattle.sja_run.proofs.answer.printed.Goals as goal
 
 pub returns-in-Filter-clause-ok : goal.returns-in-Filter-clause-ok
@@ -15,7 +16,8 @@ pub returns-in_default-clause-ok : goal.returns-in_default-clause-ok
 returns-in_default-clause-ok g c =
     let asks : request_of c.args.task ≡ request_for false c.text_asked.result =
     cc (c.text_asked.ensures, c.in_default.of_run-is) in
-    ok_then c.written.result (λ text has. once_printed _ c.text_asked.result _ _ _ asks has) c.written.ensures.ok
+    IfOk-weaker c.written.result _ _ (λ text has. once_printed _ c.text_asked.result _ _ _ asks has)
+    c.written.ensures.ok
 
 -- what asks about no plan
 pub returns-in-Encode-clause-ok : goal.returns-in-Encode-clause-ok

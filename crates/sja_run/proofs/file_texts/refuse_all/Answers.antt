@@ -1,6 +1,7 @@
 use Rattle.std.proofs.Common.{◌<◌, ◌∙◌, ◌&&◌, ap, arith, length}
+use Rattle.lemmas.proofs.Lists.{some_of}
 use Rattle.sja_run.specs.Files.{printed_of, refused_of}
-use Rattle.sja_run.proofs.FilesDone.FileTexts.{none_printed, some_name, wrote_refused}
+use Rattle.sja_run.proofs.FilesDone.FileTexts.{none_printed, wrote_refused}
 use Rattle.sja_run.proofs.file_texts.refuse_all.Goals as goal
 
 pub loop-name-preserved : goal.loop-name-preserved
@@ -8,7 +9,7 @@ loop-name-preserved g c =
     let names = c.args.names.now in
     let i = c.loop-name.name-index in
     let within : i < length names = omega arith in
-    let any = some_name names i within in
+    let any = some_of names i within in
     let so_far = c.loop-name.invariant in
     let told = c.put-answered.ensures in
     record {

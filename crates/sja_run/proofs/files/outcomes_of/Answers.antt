@@ -1,7 +1,6 @@
 use Rattle.std.proofs.Common.{ap, map, ◌∙◌}
-use Rattle.std.proofs.lemmas.Result.{err_from_is_err_and}
+use Rattle.std.proofs.lemmas.Result.{err_from_is_err_and, IfOk-weaker}
 use Rattle.sja_run.proofs.FilesDone.FileReads.{outcomes_by, refused_unread}
-use Rattle.sja_run.proofs.Requested.Requests.{ok_then}
 use Rattle.sja_run.proofs.files.outcomes_of.Goals as goal
 
 -- what comes of what was read
@@ -14,7 +13,7 @@ returns-clause-are g c =
 
 pub returns-clause-len : goal.returns-clause-len
 returns-clause-len g c =
-    ok_then c.answers_to.result (λ outcomes same. same ∙ c.in_ok-reads.ensures.len) c.answers_to.ensures.len
+    IfOk-weaker c.answers_to.result _ _ (λ outcomes same. same ∙ c.in_ok-reads.ensures.len) c.answers_to.ensures.len
 
 -- nothing was read
 pub returns-in_err-reads-clause-are : goal.returns-in_err-reads-clause-are

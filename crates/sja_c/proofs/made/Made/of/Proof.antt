@@ -6,8 +6,7 @@ use base.Fml.{ftrue}
 use contract.Monad.{fact, fact_i}
 use contract.Running.{tables}
 use prog.Wp.{WpFn}
-use types.Kit.{‵, raw, ◌⊛◌, prop, ◌$◌, ◌∵◌, !, qed, by, move, drop, use0, split, fsplit, fjoin}
-use types.Kit.{regoal, rewrite}
+use types.Kit.{‵, raw, ◌⊛◌, prop, ◌$◌, ◌∵◌, !, qed, by, move, drop, use0, split, fsplit, fjoin, regoal, rewrite}
 use types.Part.{agg, sub, whole}
 use types.Run.{stop, fld, of_opd, no_more, and_then, returns, enter}
 use types.ByLocal.{alloc_all, pass_all, free_all, look_at, get, get_in, sets}

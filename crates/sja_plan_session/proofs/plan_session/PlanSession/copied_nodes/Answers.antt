@@ -1,7 +1,6 @@
 use Rattle.std.proofs.Common.{rules, ◌≡◌, ◌<◌, ◌++◌, ◌∷◌, [], List, length, map, take, Vec, Global, sym, ap, ◌∙◌, arith}
 use Rattle.std.specs.Prelude.{slice_index_or}
-use Rattle.std.proofs.lemmas.List.{length-map, map-append, take_more}
-use Rattle.sja_log.proofs.NodeLog.Logs.{index_map}
+use Rattle.std.proofs.lemmas.List.{length-map, map-append, take_more, get_or-map}
 use Rattle.sja_script.specs.declared.step.Step.{Step}
 use Rattle.sja_plan_session.specs.PlanSessions.{PlanSessionValue}
 use Rattle.sja_plan_session.proofs.plan_session.PlanSession.copied_nodes.Goals as goal
@@ -18,7 +17,7 @@ loop-steps-preserved c =
     (let n = length-map lists f in let e = ap (λ (l : List (List Step)). length l) all in omega (arith, n, e, less)) in
     let here : x.items ≡ slice_index_or steps i [] =
     c.in_ok-copied_steps.ensures ∙ c.as_slice.ensures.value ∙ ap f c.steps-item.is
-    ∙ sym (index_map f lists i c.steps-item.result [] less)
+    ∙ sym (get_or-map f lists i c.steps-item.result [] less)
     ∙ ap (λ (l : List (List Step)). slice_index_or l i []) all in
     record {
       items = ap (λ l. map f l) c.push_reserved.ensures.items ∙ map-append f made (x ∷ [])

@@ -1,6 +1,6 @@
 use Rattle.std.proofs.Common.{replicate, length, sym, ap, ◌∙◌, [], subst, arith}
 use Rattle.sja_plan.specs.Growing.{plan_of}
-use Rattle.sja_plan.proofs.ByVersion.{bits_most}
+use Rattle.sja_plan.proofs.PlanLimits.ByVersion.{bits_most}
 use Rattle.sja_plan_session.specs.History.{IsNew}
 use Rattle.sja_plan_session.specs.Inside.Beginning.{IsNewBelow}
 use Rattle.sja_plan_session.proofs.plan_session.PlanSession.of_plan.Goals as goal

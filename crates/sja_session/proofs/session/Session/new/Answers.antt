@@ -1,6 +1,6 @@
 use Rattle.std.proofs.Common.{◌≡◌, [], replicate, subst}
 use Rattle.std.specs.Prelude.{IfOk, IfErr}
-use Rattle.lemmas.proofs.Results.{ok_map}
+use Rattle.std.proofs.lemmas.Result.{on_ok_weaker}
 use Rattle.sja_wire.specs.Buses.{new_bus}
 use Rattle.sja_session.specs.Beginning.{IsSessionFault}
 use Rattle.sja_session.specs.declared.session_room.SessionRoom.{SessionRoom}
@@ -17,7 +17,7 @@ returns-clause-room c =
     c.with_room.ensures.room
 
 pub returns-clause-limits : goal.returns-clause-limits
-returns-clause-limits c = ok_map c.with_room.result (λ both. both.0) c.with_room.ensures.limits
+returns-clause-limits c = on_ok_weaker c.with_room.result (λ both. both.0) c.with_room.ensures.limits
 
 pub returns-clause-err : goal.returns-clause-err
 returns-clause-err c =

@@ -1,5 +1,4 @@
-use Rattle.std.proofs.Common.{rules, ◌≡◌, ◌<◌, ℕ, List, length, vec_capacity, sym, ap, ◌∙◌, subst}
-use Rattle.std.proofs.Common.{arith}
+use Rattle.std.proofs.Common.{rules, ◌≡◌, ◌<◌, ℕ, List, length, vec_capacity, sym, ap, ◌∙◌, subst, arith}
 use Rattle.std.specs.Prelude.{Option, Result, Ok, Err, slice_index_or, unwrap_or}
 use Rattle.sja_plan.specs.declared.turn.Turn.{Turn}
 use Rattle.sja_plan.specs.Growing.{with_step}
@@ -13,8 +12,7 @@ use Rattle.sja_serial.specs.Serial.{SerialValue, StandsAt}
 use Rattle.sja_serial.specs.Stepping.{DoesNext, DoesNothing}
 use Rattle.sja_serial.proofs.WholeRun.GoingOn.{first_driver}
 use Rattle.sja_session.specs.declared.answered.Answered.{Answered}
-use Rattle.sja_session.specs.declared.answered.Answered.TheVariants.{Answer}
-use Rattle.sja_session.specs.declared.answered.Answered.TheVariants.{Waits as HasToWait}
+use Rattle.sja_session.specs.declared.answered.Answered.TheVariants.{Answer, Waits as HasToWait}
 use Rattle.sja_session.specs.declared.step_fault.StepFault.{StepFault}
 use Rattle.sja_session.specs.Answering.{last_of}
 use Rattle.sja_session.specs.Sessions.{SessionValue, session_of, IsAt, IsSession}

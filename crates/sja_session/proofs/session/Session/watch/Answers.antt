@@ -1,5 +1,4 @@
-use Rattle.std.proofs.Common.{rules, ◌≤◌, List, length, sym, ◌∙◌, subst, arith}
-use Rattle.std.proofs.Common.{inr}
+use Rattle.std.proofs.Common.{rules, ◌≤◌, List, length, sym, ◌∙◌, subst, arith, inr}
 use Rattle.sja_driver.specs.Deeds.{Deed}
 use Rattle.sja_session.specs.Running.{MayRun}
 use Rattle.sja_session.specs.Sessions.{SessionValue, IsAt}
