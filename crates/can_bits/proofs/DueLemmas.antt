@@ -13,7 +13,7 @@ use Rattle.can_bits.specs.declared.shift.Shift.{Shift}
 use Rattle.can_bits.specs.declared.shift_fault.ShiftFault.{ShiftFault}
 use Rattle.can_bits.specs.Check.{Crc}
 use Rattle.can_bits.specs.Line.{StuffedPart, tail}
-use Rattle.can_bits.specs.Reading.{SaysWhetherRight}
+use Rattle.can_bits.specs.Inside.Gathering.{SaysWhetherRight}
 use Rattle.can_bits.specs.Streaming.{IsReadable, IsLineButFor, IsOver}
 use Rattle.can_bits.specs.Acknowledging.{IsAckDue}
 use Rattle.can_bits.specs.Inside.FrameParts.{IsInside, IsPast, ReadsAt}

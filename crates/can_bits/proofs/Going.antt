@@ -7,7 +7,8 @@ use Rattle.can_frame.specs.Frame.{FrameValue}
 use Rattle.can_bits.specs.declared.level.Level.{Level}
 use Rattle.can_bits.specs.declared.level.Level.TheVariants.{Dominant}
 use Rattle.can_bits.specs.Digits.{opposite}
-use Rattle.can_bits.specs.Fields.{level_at, says_count, IsWhole}
+use Rattle.can_bits.specs.Fields.{level_at, says_count}
+use Rattle.can_bits.specs.Inside.Data.{IsWhole}
 use Rattle.can_bits.specs.Line.{StuffedPart, Line, tail}
 use Rattle.can_bits.specs.Reading.{Begins, IsOpen}
 use Rattle.can_bits.specs.Stuffing.{Stuffed}

@@ -27,7 +27,7 @@ use Rattle.can_bits.proofs.Packing.Numbers.{digit-level}
 use Rattle.can_bits.proofs.Products.{multiples_agree}
 use Rattle.can_bits.proofs.Packing.Registers.{shifted_up}
 use Rattle.can_bits.proofs.Runs.{run}
-use Rattle.can_bits.proofs.Stuffs.{unstuffed, lead-same}
+use Rattle.can_bits.proofs.Stuffs.{unstuffed, lead-same, other-opposite}
 use Rattle.can_bits.proofs.Parts.{plain, plain-part, unstuffed-next}
 use Rattle.can_bits.proofs.Ending.{same_part, six_in_part}
 use Rattle.can_bits.proofs.Reader.Inside.{holds_by}
@@ -81,13 +81,6 @@ none_past b n none =
 
 -- ---- in the stuffed part
 
--- a level that isn't another one is its opposite
-not_same : (x y : Level) → x ≢ y → opposite y ≡ x
-not_same Dominant Dominant h = absurd (h refl)
-not_same Recessive Recessive h = absurd (h refl)
-not_same Dominant Recessive h = refl
-not_same Recessive Dominant h = refl
-
 -- after five equal levels the other one comes
 pub stuff_next : {f : FrameValue} {b c l w part : List Level} {last : Level} {n : ℕ} (t : List Level) (x : Level) →
     BeginsPart l w last n → n ≡ 5 →
@@ -95,10 +88,10 @@ pub stuff_next : {f : FrameValue} {b c l w part : List Level} {last : Level} {n 
 stuff_next {f = f} {b = b} {c = c} {l = l} {last = last} {n = n} t x h five part whole =
     let leads = (holds_by h.so_far).leads in
     let P : List Level → Type 0 = λ p. StuffedPart f b c p in
-    not_same x last (λ like.
+    sym (other-opposite x last (λ like.
     let six : run (x ∷ reverse l) ≡ 6 =
     ap (λ y. run (y ∷ reverse l)) like ∙ lead-same last n (reverse l) leads ∙ omega (arith, five) in
-    six_in_part l x t (subst P (whole ∙ sym (append_assoc l (x ∷ []) t)) part) (omega (arith, six)))
+    six_in_part l x t (subst P (whole ∙ sym (append_assoc l (x ∷ []) t)) part) (omega (arith, six))))
 
 -- and else the next level of body and CRC sequence
 pub plain_next : {f : FrameValue} {b c l w part : List Level} {last : Level} {n : ℕ} (t : List Level) (x : Level) →

@@ -1,17 +1,18 @@
 -- A list has one stuffing, and a frame one sent line.
-use Rattle.std.proofs.Common.{◌≡◌, ◌≢◌, ◌<◌, ◌≤◌, inl, inr, if◌then◌else◌, nat_le, suc}
+use Rattle.std.proofs.Common.{◌≡◌, ◌<◌, ◌≤◌, inl, inr, if◌then◌else◌, nat_le, suc}
 use Rattle.std.proofs.Common.{List, [], ◌∷◌, ◌++◌, reverse, refl, ap, sym, subst, ◌∙◌, arith}
 use Rattle.std.proofs.lemmas.Bool.{cases_lt, le-leb, lt-leb}
 use Rattle.std.proofs.lemmas.List.{reverse-reverse}
 use Rattle.can_frame.specs.Frame.{FrameValue}
 use Rattle.can_bits.specs.declared.level.Level.{Level}
-use Rattle.can_bits.specs.declared.level.Level.TheVariants.{Dominant, Recessive}
+use Rattle.can_bits.specs.declared.level.Level.TheVariants.{Recessive}
 use Rattle.can_bits.specs.Digits.{opposite}
 use Rattle.can_bits.specs.Body.{sent_body}
 use Rattle.can_bits.specs.Stuffing.{Stuffed}
 use Rattle.can_bits.specs.Line.{tail, IsSentLine}
 use Rattle.can_bits.proofs.Runs.{run, run-same, run-other, IsShort}
-use Rattle.can_bits.proofs.Stuffs.{unstuffed, unstuffed-kept, unstuffed-dropped, stuffed_to, opposite-other}
+use Rattle.can_bits.proofs.Stuffs.{unstuffed, unstuffed-kept, unstuffed-dropped, stuffed_to}
+use Rattle.can_bits.proofs.Stuffs.{opposite-other, other-opposite}
 use Rattle.can_bits.proofs.Checks.{Crc-unique}
 
 -- a stuff bit after these levels, where one is due
@@ -34,13 +35,6 @@ close-many x past many = rw (le-leb 5 (run (x ∷ past)) many) refl
 stuffing : List Level → List Level
 stuffing [] = []
 stuffing (x ∷ rest) = close (x ∷ stuffing rest)
-
--- another level is the opposite one
-other-opposite : (x y : Level) → x ≢ y → x ≡ opposite y
-other-opposite Dominant Dominant h = absurd (h refl)
-other-opposite Dominant Recessive h = refl
-other-opposite Recessive Dominant h = refl
-other-opposite Recessive Recessive h = absurd (h refl)
 
 -- after five equal levels, where no six are equal, the opposite one stands
 stuff_level : (x y : Level) (past : List Level) → run (x ∷ y ∷ past) ≤ 5 → 5 ≤ run (y ∷ past) → x ≡ opposite y

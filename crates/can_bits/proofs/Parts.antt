@@ -5,7 +5,8 @@ use Rattle.std.proofs.lemmas.Bool.{cases_lt}
 use Rattle.std.proofs.lemmas.List.{append-nil, reverse-append, reverse-reverse, length-append}
 use Rattle.can_frame.specs.Frame.{FrameValue}
 use Rattle.can_bits.specs.declared.level.Level.{Level}
-use Rattle.can_bits.specs.Fields.{says_count, IsWhole}
+use Rattle.can_bits.specs.Fields.{says_count}
+use Rattle.can_bits.specs.Inside.Data.{IsWhole}
 use Rattle.can_bits.specs.Spelling.{Spells}
 use Rattle.can_bits.specs.Line.{StuffedPart}
 use Rattle.lemmas.proofs.Lists.{reverse-cons, fronts}

@@ -11,7 +11,8 @@ use Rattle.can_bits.specs.declared.level.Level.TheVariants.{Dominant, Recessive}
 use Rattle.can_bits.specs.Digits.{level_of, bits}
 use Rattle.can_bits.specs.Body.{head_bits, IsBody}
 use Rattle.can_bits.specs.Fields.{level_at, is_recessive, says_ext, rtr_place, dlc_place}
-use Rattle.can_bits.specs.Fields.{says_rtr, four_from, says_dlc, says_count, IsWhole}
+use Rattle.can_bits.specs.Fields.{says_rtr, four_from, says_dlc, says_count}
+use Rattle.can_bits.specs.Inside.Data.{IsWhole}
 use Rattle.can_bits.specs.Spelling.{Spells}
 use Rattle.can_bits.proofs.Values.{length-bits}
 use Rattle.can_bits.proofs.Whole.Bytes.{length_bytes}

@@ -99,6 +99,13 @@ pub opposite-other : (x : Level) → opposite x ≢ x
 opposite-other Dominant h = cc
 opposite-other Recessive h = cc
 
+-- another level is the opposite one
+pub other-opposite : (x y : Level) → x ≢ y → x ≡ opposite y
+other-opposite Dominant Dominant h = absurd (h refl)
+other-opposite Dominant Recessive h = refl
+other-opposite Recessive Dominant h = refl
+other-opposite Recessive Recessive h = absurd (h refl)
+
 -- a list is led by n levels like this one
 abbrev pub Leads : Level → ℕ → List Level → Type 0
 Leads x n [] = n ≡ 0

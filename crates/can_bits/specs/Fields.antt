@@ -1,7 +1,7 @@
 -- Where the fields of a body stand, told from a body and its CRC sequence, or a beginning of them (Bosch CAN 2.0 part B
 -- section 3.2). A level that hasn't come yet counts as dominant: a beginning without its DLC says more levels than it
 -- has all the same.
-use Rattle.std.specs.Prelude.{◌≡◌, ◌+◌, ◌*◌, ℕ, Bool, true, false, List, length, slice_index_or}
+use Rattle.std.specs.Prelude.{◌+◌, ◌*◌, ℕ, Bool, true, false, List, slice_index_or}
 use Rattle.can_frame.specs.Frame.{data_count}
 use Rattle.can_bits.specs.declared.level.Level.{Level}
 use Rattle.can_bits.specs.declared.level.Level.TheVariants.{Dominant, Recessive}
@@ -47,8 +47,3 @@ says_dlc w = four_from w (dlc_place (says_ext w))
 -- how many levels the body and its CRC sequence have, by what they say: up to the DLC, its 4, the data, 15
 abbrev pub says_count : List Level → ℕ
 says_count w = dlc_place (says_ext w) + 19 + 8 * data_count (says_rtr w) (says_dlc w)
-
--- w begins with SOF and has as many levels as it says: these are the bodies with a CRC sequence of any frame
-pub record IsWhole (w : List Level) : Type 0 where
-  pub begins : level_at w 0 ≡ Dominant
-  pub count : length w ≡ says_count w

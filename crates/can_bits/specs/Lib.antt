@@ -6,7 +6,6 @@ pub mod Stuffing
 pub mod Line
 -- What levels say: where the fields stand, what they are, and of which frame a whole body is.
 pub mod Fields
-pub mod Data
 pub mod Spelling
 -- Lines read: a whole list of levels, or one level at a time.
 pub mod Reading

@@ -1,5 +1,5 @@
 -- What levels say when they are read as a line (Bosch CAN 2.0 part A section 6.1; their order is this project's own).
-use Rattle.std.specs.Prelude.{Bool, true, false, ◌≡◌, ◌≢◌, ◌≤◌, List, [], ◌∷◌, ◌++◌, length}
+use Rattle.std.specs.Prelude.{◌≡◌, ◌≢◌, ◌≤◌, List, [], ◌∷◌, ◌++◌, length}
 use Rattle.can_frame.specs.Frame.{FrameValue}
 use Rattle.can_bits.specs.declared.level.Level.{Level}
 use Rattle.can_bits.specs.declared.level.Level.TheVariants.{Dominant, Recessive}
@@ -91,11 +91,6 @@ IsFirstFault l CheckFault = HasWrongCheck l
 IsFirstFault l NoAck = IsNotAcknowledged l
 IsFirstFault l Truncated = IsOpen l
 IsFirstFault l (Trailing at) = (front : List Level) × GoesOnAfter front l × (length front ≡ at)
-
--- a bool that says whether the CRC sequence is right
-abbrev pub SaysWhetherRight : Bool → List Level → List Level → Type 0
-SaysWhetherRight true b c = Crc b c
-SaysWhetherRight false b c = ¬ Crc b c
 
 -- the levels begin with a dominant one, as far as they have come: there is none, or the first is dominant
 abbrev pub BeginsDominant : List Level → Type 0

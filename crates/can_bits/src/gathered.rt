@@ -31,11 +31,10 @@ impl Gathered {
     ghost use Rattle.can_bits.specs.declared.level.Level.{Level as Bus};
     ghost use Rattle.can_bits.specs.Check.{IsMultiple};
     ghost use Rattle.can_bits.specs.Digits.{value};
-    ghost use Rattle.can_bits.specs.Data.{data_place};
+    ghost use Rattle.can_bits.specs.Inside.Data.{data_place};
     ghost use Rattle.can_bits.specs.Fields.{says_count};
-    ghost use Rattle.can_bits.specs.Reading.{SaysWhetherRight};
     ghost use Rattle.can_bits.specs.Packing.{Packs};
-    ghost use Rattle.can_bits.specs.Inside.Gathering.{Gathers, mark_of};
+    ghost use Rattle.can_bits.specs.Inside.Gathering.{Gathers, SaysWhetherRight, mark_of};
 
     /// Nothing has come.
     pub(crate) fn new() -> Gathered

@@ -1,3 +1,4 @@
+pub mod FrameLemmas
 pub mod MessageLemmas
 pub mod RegisterLemmas
 pub mod BufferLemmas

@@ -1,7 +1,6 @@
 -- A node that stands at a record, and what its calls do (this project's own rule).
 use Rattle.std.specs.Prelude.{⊤, ◌≡◌, ◌≢◌, ◌⊎◌, ◌||◌, not, Bool, true, false, nat_le, nat_lt}
 use Rattle.std.specs.Prelude.{if◌then◌else◌, Option, Some, None, Result, Ok, Err, List, [], ◌∷◌, ◌++◌}
-use Rattle.can_frame.specs.Frame.{FrameValue}
 use Rattle.can_bits.specs.declared.level.Level.{Level}
 use Rattle.can_node.specs.declared.request.Request.{Request}
 use Rattle.can_node.specs.declared.aborted.Aborted.{Aborted}
@@ -27,7 +26,7 @@ use Rattle.can_node.specs.Pieces.Place.{AtReset}
 use Rattle.can_node.specs.Record.{RecordEntry}
 use Rattle.can_node.specs.Record.RecordEntry.{OneBit, Send, Abort, BusOff}
 use Rattle.can_node.specs.Effects.{is_in_progress}
-use Rattle.can_node.specs.Cut.{FinishedPiece, IsCut, ReceivedFrame, received, Count, none_yet, counted, tagged}
+use Rattle.can_node.specs.Cut.{FinishedPiece, IsCut, Count, none_yet, counted, tagged}
 use Rattle.can_node.specs.Events.{Step, events_of}
 use Rattle.can_node.specs.Events.Step.{Within, Finishes}
 use Rattle.can_node.specs.NextBit.{now_in, open_bits, phase_in, DrivesIn, is_at_rest}
@@ -72,20 +71,6 @@ pub record Leads (node new : Node) (entries : List RecordEntry) (found : List Fi
 -- the node is in reset
 abbrev pub InReset : Node → Type 0
 InReset node = node.stage ≡ StageInReset
-
--- the frame that a bit tells, as the cut has it
-abbrev pub received_now : Option FrameValue → Count → List ReceivedFrame
-received_now None k = []
-received_now (Some f) k = (record { frame = f; activation = k.starts; bits = k.bits }) ∷ []
-
--- after a bit the node stands at the record with it, and the frames received are those before and the one that it tells
-pub record TakesBit (new : Node) (entries : List RecordEntry) (found : List FinishedPiece) (b : Bit)
-    (e : BitEvents) : Type 0
-  where
-    pub more : List FinishedPiece
-    pub stands : StandsAt new (entries ++ entries_of b e) (found ++ more)
-    pub received : received (found ++ more)
-        ≡ received found ++ received_now e.received (counted none_yet (entries ++ OneBit b ∷ []))
 
 -- in reset a bit brings nothing: no frame is received, bus-off doesn't come, and the node stays in reset
 pub record Rests (new : Node) (e : BitEvents) : Type 0 where

@@ -1,19 +1,15 @@
 -- The text of a frame is ASCII.
 use Rattle.std.proofs.Common.{◌≡◌, ◌<◌, ◌/◌, ◌%◌, ℕ, zero, suc, Bool, true, false, min, nat_lt}
-use Rattle.std.proofs.Common.{List, [], ◌∷◌, ◌++◌, arith, sym, subst}
+use Rattle.std.proofs.Common.{List, [], ◌∷◌, arith, sym, subst}
 use Rattle.std.specs.Prelude.{◌==◌, if◌then◌else◌}
 use Rattle.std.specs.Str.{IsAscii}
+use Rattle.std.proofs.lemmas.Str.{IsAscii-append}
 use Rattle.std.proofs.lemmas.Str.Ascii.{IsAscii-nil, IsAscii-cons, IsAscii-push}
 use Rattle.can_frame.specs.Frame.{FrameValue, IsFrame}
 use Rattle.can_notation.specs.Digits.{digit_of, digits_of}
 use Rattle.can_notation.specs.Text.{hash, remote_mark, dlc_mark, identifier_digits, data_text, count_text}
 use Rattle.can_notation.specs.Text.{long_dlc_text, body_text, rest_text, text}
 use Rattle.can_notation.proofs.DigitLemmas.{digit_of-small}
-
--- one text behind another
-both : (xs ys : List ℕ) → IsAscii xs → IsAscii ys → IsAscii (xs ++ ys)
-both [] ys h k = k
-both (x ∷ xs) ys h k = IsAscii-cons x (xs ++ ys) (h 0) (both xs ys (λ i. h (suc i)) k)
 
 -- a digit
 small_digit : (n : ℕ) → n < 16 → digit_of n < 128
@@ -32,7 +28,7 @@ digits (suc count) n =
 -- data bytes
 data_bytes : (bytes : List ℕ) → IsAscii (data_text bytes)
 data_bytes [] = IsAscii-nil
-data_bytes (b ∷ bytes) = both (digits_of 2 b) (data_text bytes) (digits 2 b) (data_bytes bytes)
+data_bytes (b ∷ bytes) = IsAscii-append (digits_of 2 b) (data_text bytes) (digits 2 b) (data_bytes bytes)
 
 -- how many a remote frame asks for
 unless_true : (test : Bool) (said : List ℕ) → IsAscii said → IsAscii (if test then [] else said)
@@ -65,9 +61,10 @@ body true dlc bytes h =
 text_is_ascii : (f : FrameValue) → f.dlc < 16 → IsAscii (text f)
 text_is_ascii f h =
     let rest = rest_text f.rtr f.dlc f.bytes in
-    both (digits_of (identifier_digits f.ext) f.id) (hash ∷ rest) (digits (identifier_digits f.ext) f.id)
+    IsAscii-append (digits_of (identifier_digits f.ext) f.id) (hash ∷ rest) (digits (identifier_digits f.ext) f.id)
     (IsAscii-cons hash rest (omega arith)
-    (both (body_text f.rtr f.dlc f.bytes) (long_dlc_text f.dlc) (body f.rtr f.dlc f.bytes h) (long_dlc f.dlc h)))
+    (IsAscii-append (body_text f.rtr f.dlc f.bytes) (long_dlc_text f.dlc) (body f.rtr f.dlc f.bytes h)
+    (long_dlc f.dlc h)))
 
 -- characters that are the text of a frame
 pub ascii_text : (f : FrameValue) (characters : List ℕ) → IsFrame f → characters ≡ text f → IsAscii characters

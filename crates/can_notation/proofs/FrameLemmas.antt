@@ -5,20 +5,12 @@ use Rattle.can_frame.specs.Frame.{FrameValue, IsFrame, id_limit}
 use Rattle.can_notation.specs.Digits.{capitals}
 use Rattle.can_notation.specs.Text.{identifier_text, rest_text, Says}
 use Rattle.can_notation.specs.Faults.{HasHash, HasIdentifier, HasRest, before_hash, behind_hash}
-use Rattle.can_notation.specs.Rest.{IsRest}
+use Rattle.can_notation.specs.Inside.Rest.{IsRest}
 use Rattle.can_notation.proofs.HashLemmas.{joined}
 
 -- the frame of five values
 abbrev pub frame_of : Bool → ℕ → Bool → ℕ → List ℕ → FrameValue
 frame_of ext id rtr dlc bytes = record { ext = ext; id = id; rtr = rtr; dlc = dlc; bytes = bytes }
-
--- two frames that say the same are one
-pub same_frame : (f g : FrameValue) → f.ext ≡ g.ext → f.id ≡ g.id → f.rtr ≡ g.rtr → f.dlc ≡ g.dlc →
-    f.bytes ≡ g.bytes → f ≡ g
-same_frame f g ext id rtr dlc bytes =
-    ap (λ x. frame_of x f.id f.rtr f.dlc f.bytes) ext ∙ ap (λ x. frame_of g.ext x f.rtr f.dlc f.bytes) id
-    ∙ ap (λ x. frame_of g.ext g.id x f.dlc f.bytes) rtr ∙ ap (λ x. frame_of g.ext g.id g.rtr x f.bytes) dlc
-    ∙ ap (λ x. frame_of g.ext g.id g.rtr g.dlc x) bytes
 
 -- an identifier and a rest are those of a frame
 is_frame : (ext : Bool) (id : ℕ) (rtr : Bool) (dlc : ℕ) (bytes : List ℕ) → id < id_limit ext → IsRest rtr dlc bytes →

@@ -1,8 +1,8 @@
 -- Parts of lists, and lists from their last element.
-use Rattle.std.proofs.Common.{◌<◌, ◌≤◌, ◌+◌, ◌-◌, length, take, drop, get_or, slice_range, ◌≡◌, ◌≢◌, sym, ℕ, zero, suc}
+use Rattle.std.proofs.Common.{◌<◌, ◌≤◌, ◌+◌, ◌-◌, length, take, drop, slice_range, ◌≡◌, ◌≢◌, sym, ℕ, zero, suc}
 use Rattle.std.proofs.Common.{List, [], ◌∷◌, ◌++◌, reverse, replicate, refl, ap, ◌∙◌, add-one, arith, ◌⊎◌, inl, inr}
 use Rattle.std.proofs.lemmas.List.{reverse-append, replicate_more, append_cancel_left, append-nil}
-use Rattle.std.proofs.lemmas.List.{take-append-drop, drop_more, take_at, drop_at, length-take-le, length-drop}
+use Rattle.std.proofs.lemmas.List.{take_at, drop_at, length-take-le, length-drop}
 use Rattle.std.proofs.Math.Seq.{take-add}
 -- the rest of a list after a front of it
 pub use Rattle.std.proofs.lemmas.List.{append_cancel_left as append-cancel}
@@ -57,12 +57,6 @@ cases_list (x ∷ l) = inr (x, l, refl)
 -- a list with something after it isn't itself
 pub longer_not : {A : Type 0} (l : List A) (x : A) (rest : List A) → l ++ x ∷ rest ≢ l
 longer_not l x rest h = let none = append_cancel_left l (x ∷ rest) [] (h ∙ sym (append-nil l)) in cc
-
--- a list at one of its places
-pub split_at : {A : Type 0} (l : List A) (i : ℕ) (d : A) → i < length l → l ≡ take i l ++ get_or l i d ∷ drop (suc i) l
-split_at l i d h =
-    sym (take-append-drop i l) ∙ ap (λ r. take i l ++ r)
-    (drop_more l i d h ∙ ap (λ n. get_or l i d ∷ drop n l) (add-one i))
 
 -- of two lists that are none together each is none
 pub none_front : {A : Type 0} (a b : List A) → a ++ b ≡ [] → a ≡ []

@@ -8,7 +8,7 @@ use Rattle.std.proofs.lemmas.Grind.{flat_map-append}
 use Rattle.can_frame.specs.Frame.{FrameValue, data_count}
 use Rattle.can_bits.specs.declared.level.Level.{Level}
 use Rattle.can_bits.specs.Digits.{bits, value}
-use Rattle.can_bits.specs.Data.{data_place, says_bytes, data_levels}
+use Rattle.can_bits.specs.Inside.Data.{data_place, says_bytes, data_levels}
 use Rattle.can_bits.specs.Spelling.{Spells}
 use Rattle.lemmas.proofs.Lists.{append-split, length_range}
 use Rattle.can_bits.proofs.Values.{bits-value, value-lt}

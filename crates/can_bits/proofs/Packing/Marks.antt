@@ -6,7 +6,7 @@ use Rattle.std.proofs.lemmas.List.{length_push, get_or_append_left}
 use Rattle.can_bits.specs.declared.level.Level.{Level}
 use Rattle.can_bits.specs.declared.level.Level.TheVariants.{Dominant}
 use Rattle.can_bits.specs.Fields.{is_recessive, says_ext, says_count, dlc_place}
-use Rattle.can_bits.specs.Data.{data_place}
+use Rattle.can_bits.specs.Inside.Data.{data_place}
 use Rattle.can_bits.specs.Segments.{segment_in, segments_of, segment_at}
 use Rattle.can_bits.specs.Inside.Gathering.{mark_of}
 use Rattle.can_bits.proofs.SaidCounts.{says_count-more}

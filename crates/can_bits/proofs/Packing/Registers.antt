@@ -8,7 +8,7 @@ use Rattle.std.specs.Int.Bits.{xor_block, xor_zero_l}
 use Rattle.can_bits.specs.declared.level.Level.{Level}
 use Rattle.can_bits.specs.Digits.{value}
 use Rattle.can_bits.specs.Check.{generator, product, IsMultiple, Crc}
-use Rattle.can_bits.specs.Reading.{SaysWhetherRight}
+use Rattle.can_bits.specs.Inside.Gathering.{SaysWhetherRight}
 use Rattle.can_bits.proofs.Products.{IsMultiple-double, multiples_agree}
 
 -- the generator and a double: their sum is odd

@@ -11,7 +11,8 @@ use Rattle.can_bits.specs.declared.shift_event.ShiftEvent.{ShiftEvent}
 use Rattle.can_bits.specs.declared.shift_fault.ShiftFault.{ShiftFault}
 use Rattle.can_bits.specs.Check.{Crc}
 use Rattle.can_bits.specs.Line.{StuffedPart, tail}
-use Rattle.can_bits.specs.Reading.{IsPastPart, SaysWhetherRight}
+use Rattle.can_bits.specs.Reading.{IsPastPart}
+use Rattle.can_bits.specs.Inside.Gathering.{SaysWhetherRight}
 use Rattle.can_bits.specs.Segments.{IsNext}
 use Rattle.can_bits.specs.Streaming.{IsReadable, BreaksWith, ShowsFrame, IsEventOf, Tells, TellsCheck}
 use Rattle.can_bits.specs.Inside.FrameParts.{IsInside, IsPast, ReadsAt}

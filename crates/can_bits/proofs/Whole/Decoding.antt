@@ -10,8 +10,8 @@ use Rattle.can_bits.specs.declared.level.Level.TheVariants.{Dominant, Recessive}
 use Rattle.can_bits.specs.Digits.{level_of, bits, value}
 use Rattle.can_bits.specs.Body.{head_bits}
 use Rattle.can_bits.specs.Fields.{level_at, is_recessive, says_ext, rtr_place}
-use Rattle.can_bits.specs.Fields.{dlc_place, says_rtr, four_from, says_dlc, IsWhole}
-use Rattle.can_bits.specs.Data.{id_by, says_id, data_place, says_bytes, data_levels}
+use Rattle.can_bits.specs.Fields.{dlc_place, says_rtr, four_from, says_dlc}
+use Rattle.can_bits.specs.Inside.Data.{id_by, says_id, data_place, says_bytes, data_levels, IsWhole}
 use Rattle.can_bits.specs.Spelling.{Spells}
 use Rattle.lemmas.proofs.Lists.{append-split, length_range}
 use Rattle.can_bits.proofs.Values.{length-bits, digit-lt, value-append, value-lt, bits-value, bits-split, dominant_by}

@@ -1,6 +1,6 @@
 -- The first fault after levels with which nothing is wrong.
 use Rattle.std.proofs.Common.{◌≡◌, inl, inr, ℕ, List, [], ◌∷◌, ◌++◌, length, replicate, refl, ap}
-use Rattle.std.proofs.Common.{sym, subst, ◌∙◌, arith, append_assoc, Result, Ok, Err, OnOk, IfErr}
+use Rattle.std.proofs.Common.{sym, subst, ◌∙◌, arith, append_assoc}
 use Rattle.std.proofs.lemmas.List.{same_from_push}
 use Rattle.can_frame.specs.Frame.{FrameValue}
 use Rattle.can_bits.specs.declared.level.Level.{Level}
@@ -143,12 +143,3 @@ right_check_here l h right b =
     let on = line_at h.part (Recessive ∷ []) b.rest h.is_part (subst P h.whole b.line) in
     let count = ap length on.tails in
     (subst (λ m. Crc m b.check) on.body (subst (λ c. Crc h.body c) on.check right), omega (arith, count))
-
--- what follows of an answer
-pub on_ok : {A E : Type 0} {P Q : Type 0} (r : Result A E) → (P → Q) → OnOk r P → OnOk r Q
-on_ok (Ok a) f h = f h
-on_ok (Err e) f h = h
-
-pub if_err : {A E : Type 0} {P Q : E → Type 0} (r : Result A E) → ((e : E) → P e → Q e) → IfErr r P → IfErr r Q
-if_err (Ok a) f h = h
-if_err (Err e) f h = f e h

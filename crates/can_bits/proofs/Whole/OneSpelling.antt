@@ -10,6 +10,7 @@ use Rattle.can_bits.specs.Digits.{level_of, bits}
 use Rattle.can_bits.specs.Body.{head_bits, IsBody}
 use Rattle.can_bits.specs.Fields.{dlc_place}
 use Rattle.can_bits.specs.Spelling.{Spells}
+use Rattle.can_frame.proofs.FrameLemmas.{same_frame}
 use Rattle.lemmas.proofs.Lists.{append-split}
 use Rattle.can_bits.proofs.Values.{length-bits, bits-injective, bits-split}
 use Rattle.can_bits.proofs.Whole.Bytes.{bytes-injective}
@@ -38,14 +39,6 @@ head-id true x y r s a b c k l m hx hy h =
     bits-injective 29 x y hx hy (bits-split 11 18 x ∙ ap (λ t. t ++ bits 18 x) high
     ∙ ap (λ t. bits 11 (y / 2 ^ 18) ++ t) low ∙ sym (bits-split 11 18 y))
 
--- a frame is what its five fields say
-frame-same : (f g : FrameValue) → f.ext ≡ g.ext → f.id ≡ g.id → f.rtr ≡ g.rtr → f.dlc ≡ g.dlc → f.bytes ≡ g.bytes →
-    f ≡ g
-frame-same f g ext id rtr dlc bytes =
-    let all : FrameValue = record { ext = f.ext; id = f.id; rtr = f.rtr; dlc = f.dlc; bytes = f.bytes } in
-    let others : FrameValue = record { ext = g.ext; id = g.id; rtr = g.rtr; dlc = g.dlc; bytes = g.bytes } in
-    let same : all ≡ others = cc in same
-
 -- a body is that of one frame, where two frames agree in format, kind and code
 body-same : (f g : FrameValue) (b : List Level) → IsFrame f → IsFrame g → IsBody f b → IsBody g b →
     f.ext ≡ g.ext → f.rtr ≡ g.rtr → f.dlc ≡ g.dlc → f ≡ g
@@ -65,7 +58,7 @@ body-same f g b hf hg (a, l, m, e) (a', l', m', e') ext rtr dlc =
     let id : f.id ≡ g.id =
     head-id f.ext f.id g.id f.rtr g.rtr a l m a' l' m' hf.id limit
     (head ∙ ap (λ x. head_bits x g.id g.rtr a' l' m') (sym ext)) in
-    frame-same f g ext id rtr dlc (bytes-injective f.bytes g.bytes hf.bytes hg.bytes counts filled)
+    same_frame f g ext id rtr dlc (bytes-injective f.bytes g.bytes hf.bytes hg.bytes counts filled)
 
 -- levels spell one frame, with one body and one CRC sequence
 pub Spells-unique : (f g : FrameValue) (b c d e w : List Level) → Spells f b c w → Spells g d e w →

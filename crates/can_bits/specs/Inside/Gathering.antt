@@ -1,11 +1,11 @@
 -- What is kept of a body and its CRC sequence while their levels come.
-use Rattle.std.specs.Prelude.{◌≡◌, ◌+◌, ◌*◌, ◌<◌, ◌^◌, ℕ, nat_lt, if◌then◌else◌, List, length}
+use Rattle.std.specs.Prelude.{◌≡◌, ◌+◌, ◌*◌, ◌<◌, ◌^◌, ℕ, Bool, true, false, nat_lt, if◌then◌else◌, List, length}
 use Rattle.can_bits.specs.declared.level.Level.{Level}
 use Rattle.can_bits.specs.declared.gathered.Gathered.{Gathered}
 use Rattle.can_bits.specs.Digits.{value}
-use Rattle.can_bits.specs.Check.{IsMultiple}
+use Rattle.can_bits.specs.Check.{IsMultiple, Crc}
 use Rattle.can_bits.specs.Fields.{says_count}
-use Rattle.can_bits.specs.Data.{data_place}
+use Rattle.can_bits.specs.Inside.Data.{data_place}
 use Rattle.can_bits.specs.Packing.{Packs}
 
 -- at how many levels more is known: at the end of a standard frame's DLC, where the format is known; at the end of an
@@ -19,3 +19,8 @@ pub record Gathers (g : Gathered) (w : List Level) : Type 0 where
   pub mark : g.mark ≡ mark_of w
   pub fits : g.register < 2 ^ 15
   pub divides : IsMultiple (value w * 2 ^ 15 + g.register)
+
+-- a bool that says whether the CRC sequence is right
+abbrev pub SaysWhetherRight : Bool → List Level → List Level → Type 0
+SaysWhetherRight true b c = Crc b c
+SaysWhetherRight false b c = ¬ Crc b c

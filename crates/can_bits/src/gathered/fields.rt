@@ -12,8 +12,8 @@ impl Gathered {
     ghost use Rattle.can_frame.specs.Frame.{FrameValue};
     ghost use Rattle.can_bits.specs.declared.level.Level.{Level as Bus};
     ghost use Rattle.can_bits.specs.Digits.{bits, value};
-    ghost use Rattle.can_bits.specs.Fields.{level_at, says_ext, says_rtr, says_dlc, says_count, dlc_place, IsWhole};
-    ghost use Rattle.can_bits.specs.Data.{says_id, says_bytes, data_place, data_levels};
+    ghost use Rattle.can_bits.specs.Fields.{level_at, says_ext, says_rtr, says_dlc, says_count, dlc_place};
+    ghost use Rattle.can_bits.specs.Inside.Data.{says_id, says_bytes, data_place, data_levels, IsWhole};
     ghost use Rattle.can_bits.specs.Spelling.{Spells};
     ghost use Rattle.can_bits.specs.Packing.{Packs};
     ghost use Rattle.can_bits.specs.Inside.Gathering.{Gathers};

@@ -20,10 +20,10 @@ use Rattle.can_node.specs.Pieces.{Place, Piece, received_by}
 use Rattle.can_node.specs.Pieces.Place.{AtReset}
 use Rattle.can_node.specs.Record.{RecordEntry}
 use Rattle.can_node.specs.Record.RecordEntry.{OneBit, BusOff}
-use Rattle.can_node.specs.Stands.{closed_by, received_now}
+use Rattle.can_node.specs.Stands.{closed_by}
 use Rattle.can_node.proofs.OneCut.CutOnce.{move_or_open}
 use Rattle.can_node.proofs.OneCut.GoOn.{counted_both, open_end}
-use Rattle.can_node.proofs.OneCut.Longer.{received_both, received_more, bits_within, EndsBy, ends_within}
+use Rattle.can_node.proofs.OneCut.Longer.{received_now, received_both, received_more, bits_within, EndsBy, ends_within}
 use Rattle.can_node.proofs.OneCut.MoveOnce.{open_no_piece}
 use Rattle.can_node.proofs.OneCut.Through.{goes_through}
 

@@ -1,13 +1,8 @@
--- What a longer record adds: the frames received of more pieces, the counts of more entries, and what one bit of a node
--- adds to both.
+-- What a longer record adds: the frames received of more pieces, and the counts of more entries.
 use Rattle.std.proofs.Common.{◌≡◌, ◌≤◌, ℕ, Option, Some, None, List, [], ◌∷◌}
 use Rattle.std.proofs.Common.{◌++◌, All, refl, ap, sym, subst, ◌∙◌, arith}
 use Rattle.std.proofs.lemmas.List.Elements.{All-append, All-nil, All-cons}
 use Rattle.can_frame.specs.Frame.{FrameValue}
-use Rattle.can_bits.specs.declared.level.Level.{Level}
-use Rattle.can_node.specs.declared.node.Node.{Node}
-use Rattle.can_node.specs.declared.bit_events.BitEvents.{BitEvents}
-use Rattle.can_node.specs.Bits.{Bit}
 use Rattle.can_node.specs.Context.{ContextValue, fresh}
 use Rattle.can_node.specs.Record.{RecordEntry}
 use Rattle.can_node.specs.Record.RecordEntry.{OneBit, Start, Send, Abort, Stop, BusOff}
@@ -19,7 +14,7 @@ use Rattle.can_node.specs.Cut.{IsCut, From}
 use Rattle.can_node.specs.Cut.From.{here, on}
 use Rattle.can_node.specs.Events.{Step, received_in}
 use Rattle.can_node.specs.Events.Step.{Within, Finishes}
-use Rattle.can_node.specs.Stands.{StandsAt, DrivesNext, Samples, TakesBit, received_now, closed_by}
+use Rattle.can_node.specs.Stands.{closed_by}
 use Rattle.can_node.proofs.OneCut.GoOn.{counted_both}
 
 -- ---- the frames received
@@ -33,6 +28,11 @@ pub received_both : (a b : List FinishedPiece) → received (a ++ b) ≡ receive
 received_both [] b = refl
 received_both (x ∷ a) b = ap (received_if (received_by x.piece) x) (received_both a b)
     ∙ received_if-both (received_by x.piece) x (received a) (received b)
+
+-- the frame that a bit tells, as the cut has it
+abbrev pub received_now : Option FrameValue → Count → List ReceivedFrame
+received_now None k = []
+received_now (Some f) k = (record { frame = f; activation = k.starts; bits = k.bits }) ∷ []
 
 received_one : (f : Option FrameValue) (p : Piece) (k : Count) →
     received_if f (record { piece = p; activation = k.starts; bits = k.bits }) [] ≡ received_now f k
@@ -90,21 +90,3 @@ tags_within k c end place last entries rest found
 pub ends_within : (entries : List RecordEntry) (found : List FinishedPiece) → IsCut entries found →
     All (EndsBy (counted none_yet entries).bits) found
 ends_within entries found cut = tags_within none_yet fresh cut.context AtReset cut.place entries cut.rest found cut.from
-
--- ---- one bit
-
--- what a node drives and then makes of a level, together
-pub one_bit : (old new : Node) (driven seen : Level) (e : BitEvents) (entries : List RecordEntry)
-    (found : List FinishedPiece) →
-    DrivesNext old driven → Samples old new seen e → StandsAt old entries found →
-    TakesBit new entries found (record { driven = driven; seen = seen }) e
-one_bit old new driven seen e entries found drives samples h =
-    let b : Bit = record { driven = driven; seen = seen } in
-    let k = samples entries found h driven (drives entries found h) in
-    let count = counted none_yet (entries ++ OneBit b ∷ []) in
-    record {
-      more = closed_by count k.step;
-      stands = k.stands;
-      received = received_more found count k.step
-          ∙ ap (λ f. received found ++ received_now f count) (sym (ap (λ (x : BitEvents). x.received) k.told));
-    }

@@ -18,18 +18,11 @@ use Rattle.can_bits.proofs.NextOnce.{IsNext-unique}
 use Rattle.can_node.proofs.Reception.ReceptionOnce.{receives_once}
 use Rattle.can_node.proofs.Transmission.TransmissionOnce.{sends_once}
 
--- a list that begins with two first bits begins with one
-heads : (s t : Bit) (x y : List Bit) → s ∷ x ≡ t ∷ y → s ≡ t
-heads s t x y e = cc
-
--- and what follows it is one list
-rests : (s t : Bit) (x y : List Bit) → s ∷ x ≡ t ∷ y → x ≡ y
-rests s t x y e = cc
-
 -- an idle bit isn't the first one of another node's frame
 idle_no_frame : (x y : List Bit) → recessive_bit Recessive ∷ x ≡ recessive_bit Dominant ∷ y → ⊥
-idle_no_frame x y e = recessive-other
-    (ap (λ (b : Bit). b.seen) (heads (recessive_bit Recessive) (recessive_bit Dominant) x y e))
+idle_no_frame x y e =
+    let same : recessive_bit Recessive ≡ recessive_bit Dominant = cc in
+    recessive-other (ap (λ (b : Bit). b.seen) same)
 
 -- no request is sent where one is
 none_or_some : (sent : Option Request) (request : Request) → sent ≡ None → sent ≡ Some request → ⊥
@@ -66,7 +59,7 @@ at_idle_once c a b x y p q n m (other none h) (own {request = r} some s) e =
 at_idle_once c a b x y p q n m (own {request = r} some s) (other none h) e =
     absurd (none_or_some (sent_at c AtIdle) r none some)
 at_idle_once c a b x y p q n m (other {bits = l} none h) (other {bits = k} nothing g) e =
-    let rest = rests (recessive_bit Dominant) (recessive_bit Dominant) (l ++ x) (k ++ y) e in
+    let rest : l ++ x ≡ k ++ y = cc in
     let same = receives_once c.listen (Dominant ∷ []) l k x y p q n m h g rest in
     (ap (λ t. recessive_bit Dominant ∷ t) same.0, same.1, same.2)
 at_idle_once c a b x y p q n m (own {request = r} some s) (own {request = u} one t) e =
@@ -85,7 +78,9 @@ sof_seen_once c a b x y p q n m (own_begun {request = r} some s) (own_begun {req
     let whole = ap (λ l. dominant_bit Dominant ∷ l) e in
     let same = sends_alike c AfterSof r u (dominant_bit Dominant ∷ a) (dominant_bit Dominant ∷ b) x y p q n m some one s
     t whole in
-    (rests (dominant_bit Dominant) (dominant_bit Dominant) a b same.0, same.1, same.2)
+    let begun = same.0 in
+    let rest : a ≡ b = cc in
+    (rest, same.1, same.2)
 
 -- of two pieces that are lawful at one place in one context neither is a proper front of the other, and equal lists are
 -- one piece and lead to one place

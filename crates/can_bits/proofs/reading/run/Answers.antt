@@ -4,7 +4,7 @@ use Rattle.can_bits.specs.declared.level.Level.{Level}
 use Rattle.can_bits.specs.declared.level.Level.TheVariants.{Dominant}
 use Rattle.can_bits.specs.Reading.{IsFaultless, IsFirstFault}
 use Rattle.can_bits.specs.Shifts.{StandsFor}
-use Rattle.lemmas.proofs.Lists.{split_at}
+use Rattle.std.proofs.Math.Seq.{split_at}
 use Rattle.can_bits.proofs.Readables.{faultless_readable}
 use Rattle.can_bits.proofs.Whole.Faultless.{faultless_nothing}
 use Rattle.can_bits.proofs.Whole.FirstFault.{faultless_open, faultless_received}

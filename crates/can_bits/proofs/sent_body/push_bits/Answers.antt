@@ -1,19 +1,14 @@
-use Rattle.std.proofs.Common.{◌≡◌, ◌<◌, ◌-◌, ◌/◌, ◌%◌, ◌^◌, ◌==◌, ◌++◌, ◌∷◌, [], ℕ, zero, suc}
-use Rattle.std.proofs.Common.{length, refl, sym, ap, ◌∙◌, arith, append_assoc, lit<}
+use Rattle.std.proofs.Common.{◌≡◌, ◌-◌, ◌/◌, ◌%◌, ◌^◌, ◌==◌, ◌++◌, ◌∷◌, [], ℕ}
+use Rattle.std.proofs.Common.{length, sym, ap, ◌∙◌, arith, append_assoc, lit<}
 use Rattle.std.proofs.lemmas.List.{append-nil, length-append}
 use Rattle.can_bits.specs.declared.level.Level.{Level}
 use Rattle.can_bits.specs.Digits.{bits, digit, level_of}
-use Rattle.can_bits.proofs.Values.{bits-more, bits-nothing, length-bits}
+use Rattle.can_bits.proofs.Values.{bits-more, bits-nothing, length-bits, level-digit}
 use Rattle.can_bits.proofs.sent_body.push_bits.Goals as goal
 
 -- which digit a level is
-digit_at : (t : ℕ) → t < 2 → digit (level_of (t == 1)) ≡ t
-digit_at zero h = refl
-digit_at (suc zero) h = refl
-digit_at (suc (suc t)) h = absurd (omega arith)
-
 digit_is : {x : Level} (n : ℕ) → x ≡ level_of (n % 2 == 1) → digit x ≡ n % 2
-digit_is n h = ap digit h ∙ digit_at (n % 2) (omega arith)
+digit_is n h = ap digit h ∙ level-digit (n % 2) (omega arith)
 
 pub loop-k-init : goal.loop-k-init
 loop-k-init c = rw (bits-nothing (c.args.number / 2 ^ (c.args.count - 0))) (sym (append-nil c.args.body.now.items))

@@ -1,12 +1,12 @@
 use Rattle.std.proofs.Common.{sym, ◌∙◌}
 use Rattle.can_frame.specs.Frame.{FrameValue, IsFrame}
+use Rattle.can_frame.proofs.FrameLemmas.{same_frame}
 use Rattle.can_notation.specs.Text.{rest_text}
 use Rattle.can_notation.specs.Faults.{behind_hash}
-use Rattle.can_notation.specs.Rest.{IsRest}
+use Rattle.can_notation.specs.Inside.Rest.{IsRest}
 use Rattle.can_notation.proofs.IdentifierLemmas.{fits_digits, identifier_text-injective}
 use Rattle.can_notation.proofs.RestLemmas.{rest-injective}
 use Rattle.can_notation.proofs.HashLemmas.{parts}
-use Rattle.can_notation.proofs.FrameLemmas.{same_frame}
 use Rattle.can_notation.proofs.laws.a_text_says_one_frame.Goals as goal
 
 -- kind, DLC and data bytes of a frame

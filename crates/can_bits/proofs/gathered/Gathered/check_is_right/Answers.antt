@@ -1,5 +1,5 @@
 use Rattle.std.proofs.Common.{Bool, subst, arith}
-use Rattle.can_bits.specs.Reading.{SaysWhetherRight}
+use Rattle.can_bits.specs.Inside.Gathering.{SaysWhetherRight}
 use Rattle.can_bits.proofs.Packing.Registers.{register_says}
 use Rattle.can_bits.proofs.gathered.Gathered.check_is_right.Goals as goal
 

@@ -1,6 +1,6 @@
 use Rattle.std.proofs.Common.{◌≡◌, ◌<◌, List, length, All}
 use Rattle.can_bits.specs.declared.level.Level.{Level}
-use Rattle.can_bits.specs.Fields.{IsWhole}
+use Rattle.can_bits.specs.Inside.Data.{IsWhole}
 use Rattle.can_bits.specs.Packing.{Packs}
 use Rattle.can_bits.proofs.Whole.Bytes.{Writes}
 use Rattle.can_bits.proofs.Packing.Frames.{first_levels}

@@ -1,5 +1,6 @@
+use Rattle.std.proofs.lemmas.Result.{on_ok_weaker, IfErr-weaker}
 use Rattle.can_bits.proofs.Readables.{faultless_readable}
-use Rattle.can_bits.proofs.Whole.FirstFault.{first_fault, on_ok, if_err}
+use Rattle.can_bits.proofs.Whole.FirstFault.{first_fault}
 use Rattle.can_bits.proofs.shift.Shift.advance_answered.Goals as goal
 
 pub returns-in-Some-clause-fault : goal.returns-in-Some-clause-fault
@@ -9,14 +10,14 @@ returns-in-Some-clause-fault c l later h good =
 
 pub returns-in-None-clause-good : goal.returns-in-None-clause-good
 returns-in-None-clause-good c =
-    on_ok c.judge_answered.result
+    on_ok_weaker c.judge_answered.result
     (λ judged l h good. judged l (c.advance.ensures.stands l h)
     (c.in-None.ensures.judged l h (faultless_readable l good)) good)
     c.judge_answered.ensures.good
 
 pub returns-in-None-clause-fault : goal.returns-in-None-clause-fault
 returns-in-None-clause-fault c =
-    if_err c.judge_answered.result
+    IfErr-weaker c.judge_answered.result _ _
     (λ e judged l later h good.
     judged l later (c.advance.ensures.stands l h) (c.in-None.ensures.judged l h (faultless_readable l good)) good)
     c.judge_answered.ensures.fault

@@ -1,6 +1,6 @@
 use Rattle.std.proofs.Common.{◌≡◌, ◌+◌, ◌∙◌, ◌++◌, ◌∷◌, [], ℕ, refl, sym, subst, arith}
 use Rattle.can_bits.specs.Check.{Crc}
-use Rattle.can_bits.specs.Reading.{SaysWhetherRight}
+use Rattle.can_bits.specs.Inside.Gathering.{SaysWhetherRight}
 use Rattle.can_bits.specs.Inside.FrameParts.{IsPast}
 use Rattle.can_bits.proofs.Values.{recessive_by, dominant_by}
 use Rattle.can_bits.proofs.Reader.Past.{past_slot, past_form, past_recessive, past_wrong, past_trailing}

@@ -1,7 +1,7 @@
 use Rattle.std.proofs.Common.{◌≡◌, ◌+◌, ◌++◌, ◌∷◌, [], length, true, false, refl, sym, subst, ◌∙◌, arith, append_assoc}
 use Rattle.std.proofs.lemmas.List.{same_from_push}
 use Rattle.can_bits.specs.declared.level.Level.TheVariants.{Recessive}
-use Rattle.can_bits.specs.Reading.{SaysWhetherRight}
+use Rattle.can_bits.specs.Inside.Gathering.{SaysWhetherRight}
 use Rattle.can_bits.proofs.DueLemmas.{past_length}
 use Rattle.can_bits.proofs.Values.{recessive_by, dominant_by}
 use Rattle.can_bits.proofs.Whole.Faultless.{faultless_next, tail_left}

@@ -1,9 +1,10 @@
--- The identifier and the data, told from a body itself (Bosch CAN 2.0 part B section 3.2).
-use Rattle.std.specs.Prelude.{◌+◌, ◌*◌, ◌^◌, ℕ, Bool, true, false, List, slice_range}
+-- The identifier, the data and whether all has come, told from a body itself (Bosch CAN 2.0 part B section 3.2).
+use Rattle.std.specs.Prelude.{◌≡◌, ◌+◌, ◌*◌, ◌^◌, ℕ, Bool, true, false, List, length, slice_range}
 use Rattle.can_frame.specs.Frame.{data_count}
 use Rattle.can_bits.specs.declared.level.Level.{Level}
+use Rattle.can_bits.specs.declared.level.Level.TheVariants.{Dominant}
 use Rattle.can_bits.specs.Digits.{value}
-use Rattle.can_bits.specs.Fields.{says_ext, says_rtr, says_dlc, dlc_place}
+use Rattle.can_bits.specs.Fields.{level_at, says_ext, says_rtr, says_dlc, says_count, dlc_place}
 
 -- the identifier by the format: ID.28 to ID.18, and in an extended frame ID.17 to ID.0 after IDE
 abbrev pub id_by : Bool → List Level → ℕ
@@ -25,3 +26,8 @@ says_bytes w = data_count (says_rtr w) (says_dlc w)
 -- the levels of the data
 abbrev pub data_levels : List Level → List Level
 data_levels w = slice_range w (data_place w) (data_place w + 8 * says_bytes w)
+
+-- w begins with SOF and has as many levels as it says: these are the bodies with a CRC sequence of any frame
+pub record IsWhole (w : List Level) : Type 0 where
+  pub begins : level_at w 0 ≡ Dominant
+  pub count : length w ≡ says_count w

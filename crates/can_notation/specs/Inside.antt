@@ -1,0 +1,2 @@
+-- Definitions of private contracts alone.
+pub mod Rest
