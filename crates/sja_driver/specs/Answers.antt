@@ -18,12 +18,7 @@ refusal_of fault.NotInVersion = refusal.NotInVersion
 refusal_of fault.ActiveOnly = refusal.ActiveOnly
 refusal_of fault.ListenOnly = refusal.ListenOnly
 
--- a step that the port does, or refuses
-abbrev pub done_answer : {A : Type 0} → Result A RegFault → StepAnswer
-done_answer (Ok x) = Done
-done_answer (Err f) = Refused (refusal_of f)
-
--- the same by the refusal, if there is one
+-- a step that the port does, or refuses, by the refusal if there is one
 abbrev pub done_unless : Option RegFault → StepAnswer
 done_unless None = Done
 done_unless (Some f) = Refused (refusal_of f)

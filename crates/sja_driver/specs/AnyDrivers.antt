@@ -1,11 +1,10 @@
 -- A driver in either state (this project's own rule).
 use Rattle.std.specs.Prelude.{◌≡◌, ◌<◌, ◌≤◌, ◌+◌, ℕ, Bool, true, false, List, []}
 use Rattle.can_frame.specs.declared.seen.Seen.{Seen}
-use Rattle.sja_link.specs.declared.link_id.LinkId.{LinkId}
 use Rattle.sja_link.specs.Showing.{seen_of}
 use Rattle.sja_driver.specs.declared.any_driver.AnyDriver.{AnyDriver}
 use Rattle.sja_driver.specs.declared.any_driver.AnyDriver.TheVariants.{InReset, InActive}
-use Rattle.sja_driver.specs.Drivers.{node_in, started_in, next_link, link_in, held_in, off_in, nothing_seen}
+use Rattle.sja_driver.specs.Drivers.{node_in, started_in, link_in, held_in, off_in, nothing_seen}
 
 -- it is out of reset
 abbrev pub is_out : AnyDriver → Bool
@@ -35,8 +34,3 @@ seen_by (InActive d) = seen_of (off_in d) (held_in d)
 abbrev pub IsDriverOf : ℕ → ℕ → AnyDriver → Type 0
 IsDriverOf node ended (InReset d) = (node_in d ≡ node) × (started_in d ≡ ended) × (ended ≤ 64)
 IsDriverOf node ended (InActive d) = (link_in d ≡ record { node = node; activation = ended + 1 }) × (ended < 64)
-
--- the end is that of its present activation; in reset that of the next one, and any once all were used
-abbrev pub FitsEnd : {E : Type 0} → (E → LinkId) → E → AnyDriver → Type 0
-FitsEnd link e (InReset d) = started_in d < 64 → link e ≡ next_link d
-FitsEnd link e (InActive d) = link e ≡ link_in d

@@ -28,4 +28,3 @@ pub mod Porting
 pub mod Asking
 pub mod Shown
 pub mod Counted
-pub mod GivenNothing

@@ -1,5 +1,5 @@
 -- What comes of a try of a step (this project's own rule).
-use Rattle.std.specs.Prelude.{◌≡◌, ◌+◌, ◌++◌, ℕ, Bool, true, false, Result, Ok, Err, List, [], ◌∷◌, length}
+use Rattle.std.specs.Prelude.{◌≡◌, ◌+◌, ◌++◌, ℕ, Bool, true, false, List, [], ◌∷◌, length}
 use Rattle.sja_link.specs.declared.driver_ledger.DriverLedger.{DriverLedger}
 use Rattle.sja_link.specs.declared.up.Up.{Up}
 use Rattle.sja_link.specs.DriverLedgers.{held_by, knows_bus_off}
@@ -10,9 +10,6 @@ use Rattle.sja_script.specs.declared.step_answer.StepAnswer.{StepAnswer}
 use Rattle.sja_script.specs.declared.step_answer.StepAnswer.TheVariants.{Done as DoneAnswer, Released as ReleasedAnswer}
 use Rattle.sja_driver.specs.declared.any_driver.AnyDriver.{AnyDriver}
 use Rattle.sja_driver.specs.declared.any_driver.AnyDriver.TheVariants.{InReset, InActive}
-use Rattle.sja_driver.specs.declared.attempt.Attempt.{Attempt}
-use Rattle.sja_driver.specs.declared.attempt.Attempt.TheVariants.{Unmet as UnmetAttempt, Answered as AnsweredAttempt}
-use Rattle.sja_driver.specs.declared.attempt.Attempt.TheVariants.{Released as ReleasedAttempt}
 use Rattle.sja_driver.specs.AnyDrivers.{held_of, off_of}
 use Rattle.sja_driver.specs.Carried.{carried, ported}
 use Rattle.sja_driver.specs.Deeds.{length_in, opened, active_after}
@@ -27,17 +24,6 @@ pub data Tried : Type 0 where
   Released : List ℕ → Tried
   -- it is done: it ended the activation that had this ledger
   Ended : DriverLedger → Tried
-
--- what came of a try that ended no activation
-abbrev pub tried_of : Attempt → Tried
-tried_of UnmetAttempt = Unmet
-tried_of (AnsweredAttempt answer) = Answered answer
-tried_of (ReleasedAttempt m) = Released m
-
--- what came of a stop: the ledger of the activation that it ended, or a try that ended none
-abbrev pub stopped_by : Result DriverLedger Attempt → Tried
-stopped_by (Ok ledger) = Ended ledger
-stopped_by (Err attempt) = tried_of attempt
 
 -- P of the answer, if the step is done
 abbrev pub IfAnswered : Tried → (StepAnswer → Type 0) → Type 0

@@ -4,8 +4,7 @@ ghost use Rattle.std.specs.Prelude.{◌≡◌};
 ghost use Rattle.sja_regs.specs.declared.registers.Registers.{Registers};
 ghost use Rattle.sja_script.specs.declared.step.Step.TheVariants.{Window, Release, Load, Command, Await, Sent};
 ghost use Rattle.sja_driver.specs.Acting.{Acts};
-ghost use Rattle.sja_driver.specs.AnyDrivers.{FitsEnd};
-ghost use Rattle.sja_driver.specs.Tries.{tried_of};
+ghost use Rattle.sja_driver.specs.Inside.Attempts.{FitsEnd, tried_of};
 
 use super::answers::{done_answer, refusal_of, shows_released};
 use super::any_driver::AnyDriver;

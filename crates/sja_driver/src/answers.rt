@@ -4,7 +4,8 @@ ghost use Rattle.std.specs.Prelude.{◌≡◌, Ok};
 ghost use Rattle.sja_regs.specs.declared.status.Status.{Status as StatusBits};
 ghost use Rattle.sja_regs.specs.Refusals.{fault_of};
 ghost use Rattle.sja_regs.specs.Statuses.{status_byte};
-ghost use Rattle.sja_driver.specs.Answers.{refusal_of, done_answer, done_unless, value_answer};
+ghost use Rattle.sja_driver.specs.Answers.{refusal_of, done_unless, value_answer};
+ghost use Rattle.sja_driver.specs.Inside.Attempts.{done_answer};
 
 use sja_regs::bits::is_set;
 use sja_regs::{RegFault, letters};

@@ -2,8 +2,7 @@
 
 ghost use Rattle.sja_script.specs.declared.step.Step.TheVariants.{Start, Stop};
 ghost use Rattle.sja_driver.specs.Acting.{Acts};
-ghost use Rattle.sja_driver.specs.AnyDrivers.{FitsEnd};
-ghost use Rattle.sja_driver.specs.Tries.{tried_of, stopped_by};
+ghost use Rattle.sja_driver.specs.Inside.Attempts.{FitsEnd, tried_of, stopped_by};
 
 use super::active::Active;
 use super::any_driver::AnyDriver;

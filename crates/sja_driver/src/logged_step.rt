@@ -4,9 +4,8 @@ ghost use Rattle.std.specs.Prelude.{◌≡◌, ◌≢◌, min};
 ghost use Rattle.sja_regs.specs.declared.registers.Registers.{Registers};
 ghost use Rattle.sja_script.specs.declared.step.Step.TheVariants.{Stop, Window, Release};
 ghost use Rattle.sja_driver.specs.Acting.{Acts};
-ghost use Rattle.sja_driver.specs.AnyDrivers.{FitsEnd};
+ghost use Rattle.sja_driver.specs.Inside.Attempts.{FitsEnd, tried_of};
 ghost use Rattle.sja_driver.specs.LoggedDrivers.{ended_of, MayStep, StaysLawful, Steps};
-ghost use Rattle.sja_driver.specs.Tries.{tried_of};
 
 use super::active_steps::{
     await_step, command_step, load_step, release_step, sent_step, window_step,

@@ -2,7 +2,8 @@
 
 ghost use Rattle.std.specs.Prelude.{◌≡◌, false};
 ghost use Rattle.sja_regs.specs.InterruptLine.{is_line_active};
-ghost use Rattle.sja_driver.specs.AnyDrivers.{FitsEnd, seen_by};
+ghost use Rattle.sja_driver.specs.AnyDrivers.{seen_by};
+ghost use Rattle.sja_driver.specs.Inside.Attempts.{FitsEnd};
 ghost use Rattle.sja_driver.specs.LoggedDrivers.{driver_of, StaysLawful};
 ghost use Rattle.sja_driver.specs.Observing.{MayObserve, Observes, Looked};
 

@@ -2,8 +2,7 @@
 
 ghost use Rattle.sja_script.specs.declared.step.Step.TheVariants.{Read, Write, Interrupt};
 ghost use Rattle.sja_driver.specs.Acting.{Acts};
-ghost use Rattle.sja_driver.specs.AnyDrivers.{FitsEnd};
-ghost use Rattle.sja_driver.specs.Tries.{tried_of};
+ghost use Rattle.sja_driver.specs.Inside.Attempts.{FitsEnd, tried_of};
 
 use super::answers::{done_answer, value_answer};
 use super::any_driver::AnyDriver;

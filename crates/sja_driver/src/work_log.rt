@@ -4,7 +4,8 @@ ghost use Rattle.std.specs.Prelude.{◌≡◌, ◌+◌, ◌<◌, ◌≤◌, ◌+
 ghost use Rattle.sja_driver.specs.Logs.{done_in, releases_in, left_in, done_room};
 ghost use Rattle.sja_driver.specs.Logs.{IsEmpty, HasRoom};
 ghost use Rattle.sja_driver.specs.Inside.Entering.{Enters};
-ghost use Rattle.sja_driver.specs.Tries.{tried_of, stopped_by, ended_by};
+ghost use Rattle.sja_driver.specs.Tries.{ended_by};
+ghost use Rattle.sja_driver.specs.Inside.Attempts.{tried_of, stopped_by};
 
 use super::attempt::Attempt;
 use super::release::Release;

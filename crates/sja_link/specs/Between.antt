@@ -16,13 +16,3 @@ unless_bit Off = Off ∷ []
 -- the entries that are no bits, in order
 abbrev pub between_bits : List Entry → List Entry
 between_bits = gathered unless_bit
-
--- the entries from the first one on that is no bit
-abbrev pub past_bits : List Entry → List Entry
-past_bits [] = []
-past_bits (Bit driven seen ∷ es) = past_bits es
-past_bits (Item u ∷ es) = Item u ∷ es
-past_bits (Abort ∷ es) = Abort ∷ es
-past_bits (Stored m ∷ es) = Stored m ∷ es
-past_bits (Overrun m ∷ es) = Overrun m ∷ es
-past_bits (Off ∷ es) = Off ∷ es

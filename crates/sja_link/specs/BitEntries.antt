@@ -1,12 +1,11 @@
 -- What the bus enters in the journal of a node in one bit (this project's own rule).
-use Rattle.std.specs.Prelude.{◌≡◌, ◌<◌, ℕ, suc, Bool, true, false, if◌then◌else◌, Option, Some, None}
+use Rattle.std.specs.Prelude.{◌≡◌, ◌<◌, ℕ, suc, Bool, true, false, Option, Some, None}
 use Rattle.std.specs.Prelude.{List, [], ◌∷◌, ◌++◌, map}
 use Rattle.can_bits.specs.declared.level.Level.{Level}
 use Rattle.sja_link.specs.declared.up.Up.{Up}
 use Rattle.sja_link.specs.declared.verdict.Verdict.{Verdict}
 use Rattle.sja_link.specs.declared.entry.Entry.{Entry}
 use Rattle.sja_link.specs.declared.entry.Entry.TheVariants.{Bit, Up as Item, Abort, Off}
-use Rattle.sja_link.specs.NodeWords.{NodeEntry, NodeWentOff}
 use Rattle.sja_link.specs.Places.{past, place_of}
 use Rattle.sja_link.specs.Verdicts.{entry_of}
 use Rattle.sja_link.specs.Links.{per_node, stops_of}
@@ -62,10 +61,6 @@ judged_as (Some v) = entry_of (v.0) (v.1) ∷ []
 abbrev pub off_as : Bool → List Entry
 off_as true = Off ∷ []
 off_as false = []
-
--- the entry of bus-off in the record of the node, or none
-abbrev pub off_left : Bool → List NodeEntry
-off_left went = if went then NodeWentOff ∷ [] else []
 
 -- the journal has a bit more, and then what came of a frame that was received with it
 pub record MayHaveVerdict (j : List Entry) (driven seen : Level) (k : List Entry) : Type 0 where

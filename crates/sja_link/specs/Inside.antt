@@ -1,3 +1,5 @@
--- How journals and worlds are kept (this project's own rule).
+-- How journals and worlds are kept, and how links go along with a journal (this project's own rule).
 pub mod Codes
+pub mod Entries
 pub mod Fields
+pub mod Moving

@@ -1,13 +1,11 @@
 -- What the links of a node stand for (this project's own rule).
-use Rattle.std.specs.Prelude.{◌≡◌, ◌+◌, ◌*◌, ◌<◌, ◌≤◌, ◌⊎◌, ℕ, suc, List, ◌++◌, length, slice_index_or}
+use Rattle.std.specs.Prelude.{◌≡◌, ◌+◌, ◌*◌, ◌<◌, ℕ, suc, List, ◌++◌, length, slice_index_or}
 use Rattle.sja_link.specs.declared.up.Up.TheVariants.{Start, Credit, Send, Stop}
 use Rattle.sja_link.specs.declared.entry.Entry.{Entry}
 use Rattle.sja_link.specs.declared.entry.Entry.TheVariants.{Bit, Up as Item, Abort, Stored, Overrun, Off}
 use Rattle.sja_link.specs.declared.link_id.LinkId.{LinkId}
 use Rattle.lemmas.specs.Gathering.{total}
 use Rattle.sja_link.specs.Lists.{Lists}
-use Rattle.sja_link.specs.Parts.{part}
-use Rattle.lemmas.specs.Related.{EachRelated}
 use Rattle.sja_link.specs.Accounts.{Account, account}
 
 -- how many links, and so activations, a node has
@@ -34,31 +32,10 @@ stops_of = total stops_in
 abbrev pub Grows : List Entry → List Entry → Type 0
 Grows j k = (rest : List Entry) × (k ≡ j ++ rest)
 
--- as the journal grew the link of this activation kept to its part, and no other part changed
-pub record Moves {E : Type 0} (stands : E → Lists → Type 0) (old new : E) (j k : List Entry) (a : ℕ) : Type 0 where
-  pub here : (h : Account) → stands old (account j a h) → stands new (account k a h)
-  pub others : (b : ℕ) → (a ≡ b → ⊥) → part k b ≡ part j b
-  pub grows : Grows j k
-
 -- the links of a node, from this place on, stand for the parts of its journal, whatever its driver got and gave
 abbrev pub Kept : {E : Type 0} → (E → Lists → Type 0) → List Entry → List E → ℕ → (ℕ → Account) → Type 0
 Kept {E} stands j links base h =
     (a : ℕ) (d : E) → a < per_node → stands (slice_index_or links (base + a) d) (account j (suc a) (h a))
-
--- the links of a node moved with its journal; every other link is as it was
-pub record Goes {E : Type 0} (same : E → E → Type 0) (stands : E → Lists → Type 0) (j k : List Entry)
-    (links after : List E) (base : ℕ) : Type 0 where
-  pub sames : EachRelated same links after
-  pub kept : (h : ℕ → Account) → Kept stands j links base h → Kept stands k after base h
-  pub others : (i : ℕ) (d : E) → (i < base) ⊎ (base + per_node ≤ i) →
-      slice_index_or after i d ≡ slice_index_or links i d
-  pub grows : Grows j k
-
--- the links from this place on are those of this node
-abbrev pub AreOf : {E : Type 0} → (E → LinkId) → ℕ → List E → ℕ → Type 0
-AreOf {E} link node links base =
-    (a : ℕ) (d : E) → a < per_node →
-    link (slice_index_or links (base + a) d) ≡ record { node = node; activation = suc a }
 
 -- the links are those of the nodes in order, 64 of each
 abbrev pub Numbered : {E : Type 0} → (E → LinkId) → List E → Type 0

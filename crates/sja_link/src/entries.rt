@@ -35,7 +35,7 @@ impl<'a> Model for Entries<'a> {
 }
 
 impl<'a> Entries<'a> {
-    ghost use Rattle.sja_link.specs.Between.{past_bits};
+    ghost use Rattle.sja_link.specs.Inside.Entries.{past_bits};
 
     /// The entries of a journal.
     pub(crate) fn of(journal: &'a Journal) -> Entries<'a>

@@ -3,6 +3,7 @@ pub mod After
 pub mod Done
 pub mod Gathered
 pub mod Ported
+pub mod AskedAndCounted
 pub mod StepTried
 pub mod Trying
 pub mod Turned

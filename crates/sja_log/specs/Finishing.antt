@@ -1,7 +1,6 @@
 -- What the log of a run is made of (this project's own rule).
-use Rattle.std.specs.Prelude.{◌≡◌, ◌+◌, ◌*◌, ◌<◌, ◌++◌, ℕ, List, [], length, map, slice_index_or}
+use Rattle.std.specs.Prelude.{◌≡◌, ◌+◌, ◌*◌, ◌<◌, ◌++◌, ℕ, List, [], length, slice_index_or}
 use Rattle.sja_link.specs.declared.down.Down.{Down}
-use Rattle.sja_link.specs.Deques.{Deques}
 use Rattle.sja_link.specs.Lists.{messages}
 use Rattle.sja_wire.specs.declared.node_log.NodeLog.{NodeLog}
 use Rattle.sja_driver.specs.declared.logged_driver.LoggedDriver.{LoggedDriver}
@@ -9,10 +8,6 @@ use Rattle.sja_driver.specs.AnyDrivers.{held_of, opened_of}
 use Rattle.sja_driver.specs.LoggedDrivers.{driver_of, log_of}
 use Rattle.sja_driver.specs.Logs.{done_in, releases_in, left_in, released_of, leaves}
 use Rattle.sja_log.specs.Log.{ActivationValue, NodeValue}
-
--- what lies downward on each of these links
-abbrev pub all_down : List Deques → List (List Down)
-all_down links = map (λ (s : Deques). s.down) links
 
 -- the messages that a driver holds, or held at the end, in the activation after so many
 abbrev pub held_after : LoggedDriver → ℕ → List (List ℕ)

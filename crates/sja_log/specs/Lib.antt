@@ -3,8 +3,7 @@ pub mod Log
 -- ---- the headline, and what it is by
 pub mod Headline
 pub mod Settling
--- ---- runs, from the drivers before their first step on
-pub mod NewDrivers
+-- ---- runs, from their first step on
 pub mod Turns
 pub mod Registering
 pub mod Runs
@@ -13,3 +12,5 @@ pub mod Waiting
 pub mod Finishing
 pub mod LogWith
 pub mod Nodes
+-- ---- definitions of private contracts alone
+pub mod Inside

@@ -24,10 +24,6 @@ blank_plan version bits nodes steps = plan_of version bits (replicate nodes (rep
 abbrev pub with_step : PlanValue → ℕ → ℕ → Step → PlanValue
 with_step p node at step = record p { nodes = set p.nodes node (set (steps_at p node) at step) }
 
--- with these turns in place of its own
-abbrev pub with_turns : PlanValue → List Turn → PlanValue
-with_turns p turns = record p { turns = turns }
-
 -- with one strike more
 abbrev pub with_strike : PlanValue → Strike → PlanValue
 with_strike p strike = record p { strikes = p.strikes ++ strike ∷ [] }

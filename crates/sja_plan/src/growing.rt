@@ -1,6 +1,6 @@
 //! Plans that are written while a run of them goes on: made blank, and then set step by step.
 
-ghost use Rattle.std.specs.Prelude.{◌≡◌, replicate, IfOk};
+ghost use Rattle.std.specs.Prelude.{◌≡◌, map, replicate, IfOk};
 ghost use Rattle.sja_script.specs.declared.step.Step.TheVariants.{Window};
 
 use super::plan::Plan;
@@ -8,6 +8,20 @@ use super::turn::Turn;
 use can_frame::OutOfMemory;
 use sja_script::{Step, Strike};
 use std::alloc::Global;
+
+/// Of so many nodes, each so many steps that look at the window.
+///
+/// Error: [`OutOfMemory`] where memory was refused.
+pub fn blank_nodes(alloc: Global, nodes: usize, steps: u32) -> Result<Vec<Vec<Step>>, OutOfMemory>
+    ensures { IfOk result (λ lists. map (λ steps. steps.items) lists.items
+        ≡ replicate nodes (replicate steps Window)) }
+{
+    let mut lists = Vec::with_capacity(alloc, nodes)?;
+    for _ in 0..nodes {
+        lists.push_reserved(blank_steps(alloc, steps)?);
+    }
+    Ok(lists)
+}
 
 /// So many steps that look at the window.
 ///
@@ -66,14 +80,10 @@ impl Plan {
         requires steps { steps ≤ most_steps version }
         ensures { IfOk result (λ p. p ≡ blank_plan version bits nodes steps) }
     {
-        let mut lists = Vec::with_capacity(alloc, usize::from(nodes))?;
-        for _ in 0..nodes {
-            lists.push_reserved(blank_steps(alloc, steps)?);
-        }
         Ok(Plan {
             version,
             bits,
-            nodes: lists,
+            nodes: blank_nodes(alloc, usize::from(nodes), steps)?,
             turns: Vec::new(alloc),
             strikes: Vec::new(alloc),
         })

@@ -1,9 +1,10 @@
 -- The text in which a plan is written, of which there is one at most (this project's own rule): lines of a TOML
 -- document (TOML 1.0.0), each of them ended by a line feed.
 use Rattle.std.specs.Prelude.{◌≡◌, ◌⊎◌, ◌<◌, ℕ, pos, Bool, true, false, List, [], ◌∷◌, ◌++◌, length, codes, map}
-use Rattle.toml.specs.Data.{Data, integer}
+use Rattle.toml.specs.Data.{Data, string, integer, array}
 use Rattle.toml.specs.Tables.{Expression, key_value, array_table}
 use Rattle.toml.specs.Text.{IsLinesText}
+use Rattle.toml.specs.View.{items_of}
 use Rattle.sja_plan.specs.Faults.{IsPlanOf}
 use Rattle.sja_plan.specs.Limits.{most_bytes}
 use Rattle.sja_plan.specs.Plan.{PlanValue}
@@ -11,9 +12,12 @@ use Rattle.sja_plan.specs.Words.{Text}
 use Rattle.sja_script.specs.declared.step.Step.{Step}
 use Rattle.sja_script.specs.declared.strike.Strike.{Strike}
 use Rattle.sja_plan_text.specs.Texts.{step_text, turn_text, strike_text}
-use Rattle.sja_plan_text.specs.Inside.Table.{texts_data}
 
 -- ---- its lines
+
+-- a list of texts
+abbrev pub texts_data : List Text → Data
+texts_data texts = array (items_of (map (λ (t : Text). string t) texts))
 
 -- a key and its value
 abbrev pub pair : Text → Data → Expression

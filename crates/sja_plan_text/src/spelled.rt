@@ -2,7 +2,7 @@
 
 ghost use Rattle.std.specs.Prelude.{◌≡◌, IfOk, map};
 ghost use Rattle.toml.specs.View.{view};
-ghost use Rattle.sja_plan_text.specs.Inside.Table.{texts_data};
+ghost use Rattle.sja_plan_text.specs.Written.{texts_data};
 
 use super::texts::{step_text, strike_text, turn_text};
 use can_frame::OutOfMemory;

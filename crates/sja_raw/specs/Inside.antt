@@ -1,2 +1,3 @@
 -- What functions of this crate say of one another, and nobody else needs.
 pub mod Answered
+pub mod Modes

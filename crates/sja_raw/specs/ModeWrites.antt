@@ -1,20 +1,14 @@
 -- The steps of a typed driver that a write of MOD is (SJA1000 data sheet, 6.4.3).
-use Rattle.std.specs.Prelude.{◌++◌, ◌||◌, not, ℕ, Bool, true, false, if◌then◌else◌, List, [], ◌∷◌}
+use Rattle.std.specs.Prelude.{◌++◌, ◌||◌, ℕ, Bool, true, if◌then◌else◌, List, [], ◌∷◌}
 use Rattle.sja_regs.specs.declared.mode.Mode.{Mode}
-use Rattle.sja_regs.specs.declared.registers.Registers.{Registers}
-use Rattle.sja_regs.specs.Bits.{differ}
 use Rattle.sja_regs.specs.Modes.{mode_of, mode_byte}
-use Rattle.sja_regs.specs.Registers.{is_forced}
 use Rattle.sja_regs.specs.Writing.{is_other_mode}
 use Rattle.sja_script.specs.declared.step.Step.{Step}
 use Rattle.sja_script.specs.declared.step.Step.TheVariants.{Start, Stop, Write}
 
--- the byte of MOD with RM at 1, and with RM at 0, whose other bits are these
+-- the byte of MOD with RM at 1 whose other bits are these
 abbrev pub reset_byte : Mode → ℕ
 reset_byte mode = mode_byte (record mode { rm = true })
-
-abbrev pub operating_byte : Mode → ℕ
-operating_byte mode = mode_byte (record mode { rm = false })
 
 -- the activation that bus-off ended is closed, where the driver hasn't done that (this project's own rule)
 abbrev pub closing : Bool → List Step
@@ -36,7 +30,3 @@ mode_steps now forced out value =
     if now.rm
     then if (mode_of value).rm || forced then Write 0 value ∷ [] else closing out ++ leaving now (mode_of value)
     else if (mode_of value).rm then Stop ∷ [] else Write 0 value ∷ []
-
--- RM is written as it is, or a bus-off is asked for: the write is that of the typed driver
-abbrev pub is_written : Registers → Mode → Bool
-is_written p new = not (differ p.mode.rm new.rm) || is_forced p

@@ -6,7 +6,8 @@ ghost use Rattle.sja_regs.specs.Writing.{is_other_mode};
 ghost use Rattle.sja_script.specs.declared.step.Step.TheVariants.{Start, Write};
 ghost use Rattle.sja_driver.specs.AnyDrivers.{is_out};
 ghost use Rattle.sja_driver.specs.LoggedDrivers.{driver_of};
-ghost use Rattle.sja_raw.specs.ModeWrites.{is_written, reset_byte, operating_byte, leaving, mode_steps};
+ghost use Rattle.sja_raw.specs.ModeWrites.{reset_byte, leaving, mode_steps};
+ghost use Rattle.sja_raw.specs.Inside.Modes.{is_written, operating_byte};
 ghost use Rattle.sja_raw.specs.RawDrivers.{Writes};
 ghost use Rattle.sja_raw.specs.Trying.{MayTry, Keeps};
 

@@ -6,14 +6,12 @@ pub mod Closing
 -- ---- what a bit brought, and the bits of a whole journal
 pub mod Happening
 pub mod Happened
--- ---- what is known of a node between two bits
-pub mod Knowing
 -- ---- a replay, and the journal that it has come through
 pub mod Replaying
 pub mod Coming
--- ---- how a replay goes from entry to entry: definitions of private contracts alone
-pub mod Inside
 -- ---- a bit that told nothing, in short
 pub mod Short
 pub mod Stored
-pub mod Quiet
+-- ---- how a replay goes from entry to entry, and what is known of a node between two bits: definitions of private
+-- contracts and of proofs alone
+pub mod Inside

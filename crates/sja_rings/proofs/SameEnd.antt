@@ -2,7 +2,7 @@
 use Rattle.std.proofs.Common.{refl, ◌∙◌, le_refl, le_trans}
 use Rattle.sja_rings.specs.declared.ring_bus.RingBus.{RingBus}
 use Rattle.sja_rings.specs.Ends.{SameBus, reach_down}
-use Rattle.sja_rings.specs.Carrying.{same_producer, same_producer_trans, same_consumer, same_consumer_trans}
+use Rattle.sja_rings.specs.Inside.Carrying.{same_producer, same_producer_trans, same_consumer, same_consumer_trans}
 
 pub bus_refl : (b : RingBus) → SameBus b b
 bus_refl b = (refl, same_producer b.down, same_consumer b.up, le_refl (reach_down b))

@@ -1,4 +1,4 @@
 pub mod Ends
-pub mod Carrying
 pub mod Ended
 pub mod Left
+pub mod Inside

@@ -23,7 +23,8 @@ impl DriverEnd for RingDriver {
     ghost use Rattle.std.specs.Prelude.{◌≡◌, [], refl};
     ghost use Rattle.sja_rings.specs.Ends.{link_of_driver, DriverLists, SameDriver, places_up, reach_up, shown_down};
     ghost use Rattle.std.proofs.Common.{◌∙◌, le_refl, le_trans};
-    ghost use Rattle.sja_rings.specs.Carrying.{same_producer, same_producer_trans, same_consumer, same_consumer_trans};
+    ghost use Rattle.sja_rings.specs.Inside.Carrying.{same_producer, same_producer_trans};
+    ghost use Rattle.sja_rings.specs.Inside.Carrying.{same_consumer, same_consumer_trans};
 
     ghost link = { link_of_driver };
 

@@ -3,7 +3,8 @@ use Rattle.std.proofs.Common.{◌≡◌, ℕ, zero, suc, ◌+◌, ◌<◌, List,
 use Rattle.std.proofs.Common.{arith, inl, inr}
 use Rattle.std.specs.Prelude.{slice_index_or, replicate}
 use Rattle.std.proofs.lemmas.Bool.{cases_lt}
-use Rattle.std.proofs.lemmas.List.{length-append, get_or_append_left, get_or_push}
+use Rattle.std.proofs.lemmas.List.{length-append, get_or_append_left, get_or_push, get_or_default}
+use Rattle.lemmas.proofs.Elements.{map_alike}
 use Rattle.can_bits.specs.declared.level.Level.{Level}
 use Rattle.can_bits.specs.declared.level.Level.TheVariants.{Recessive}
 use Rattle.can_node.specs.Bits.{Bit, recessive_bit}
@@ -15,17 +16,11 @@ use Rattle.sja_wire.specs.Wire.{wired, IsSeen, journal_at, bit_at, driven_at, Is
 
 -- ---- lists by their places
 
--- two lists that agree at each place under f and g
-map_alike : {A B C : Type 0} (f : A → C) (g : B → C) (xs : List A) (ys : List B) (d : A) (e : B) →
-    length xs ≡ length ys →
+-- two lists that agree at each place under f and g, where these stand for what is beyond them
+agree : {A B C : Type 0} (f : A → C) (g : B → C) (xs : List A) (ys : List B) (d : A) (e : B) → length xs ≡ length ys →
     ((i : ℕ) → i < length xs → f (slice_index_or xs i d) ≡ g (slice_index_or ys i e)) → map f xs ≡ map g ys
-map_alike f g [] [] d e len h = refl
-map_alike f g [] (y ∷ ys) d e len h = absurd (omega arith)
-map_alike f g (x ∷ xs) [] d e len h = absurd (omega arith)
-map_alike f g (x ∷ xs) (y ∷ ys) d e len h =
-    let first : f x ≡ g y = h 0 (omega arith) in
-    let rest : map f xs ≡ map g ys = map_alike f g xs ys d e (omega arith) (λ i few. h (suc i) (omega arith)) in
-    ap (λ z. z ∷ map f xs) first ∙ ap (λ l. g y ∷ l) rest
+agree f g xs ys d e len h = map_alike f g xs ys len (λ k x y few.
+    ap f (get_or_default xs k x d few) ∙ h k few ∙ ap g (get_or_default ys k e y (omega (arith, len, few))))
 
 -- of empty journals each is empty
 pub no_journal : (n k : ℕ) → journal_at (replicate n []) k ≡ []
@@ -67,7 +62,7 @@ wired_bit script n before after bits len all adds sees h = record {
         let Q : List Level → Type 0 = λ l. IsSeen (Strikes script i node) (wired l)
         (bit_at i (journal_at before node)).seen in
         let levels : driven_at i before ≡ driven_at i after =
-        map_alike (λ j. (bit_at i j).driven) (λ j. (bit_at i j).driven) before after [] [] (sym len)
+        agree (λ j. (bit_at i j).driven) (λ j. (bit_at i j).driven) before after [] [] (sym len)
         (λ k near. ap (λ (b : Bit). b.driven) (sym (same i k old near))) in
         subst P (ap (λ (b : Bit). b.seen) (sym (same i node old (omega (arith, len, few))))) (subst Q levels was)
     | inr now ↦
@@ -77,7 +72,7 @@ wired_bit script n before after bits len all adds sees h = record {
         let Q : List Level → Type 0 = λ l. IsSeen (Strikes script n node) (wired l)
         (slice_index_or bits node (recessive_bit Recessive)).seen in
         let levels : map (λ (b : Bit). b.driven) bits ≡ driven_at n after =
-        map_alike (λ (b : Bit). b.driven) (λ j. (bit_at n j).driven) bits after
+        agree (λ (b : Bit). b.driven) (λ j. (bit_at n j).driven) bits after
         (recessive_bit Recessive) [] (all ∙ sym len)
         (λ k near. ap (λ (b : Bit). b.driven) (sym (last k (omega (arith, all, near))))) in
         let R : ℕ → Type 0 = λ k. IsSeen (Strikes script k node) (wired (driven_at k after))
@@ -114,7 +109,7 @@ wired_same script n before after len same h = record {
       let Q : List Level → Type 0 = λ l. IsSeen (Strikes script i node) (wired l)
       (bit_at i (journal_at before node)).seen in
       let levels : driven_at i before ≡ driven_at i after =
-      map_alike (λ j. (bit_at i j).driven) (λ j. (bit_at i j).driven) before after [] [] (sym len)
+      agree (λ j. (bit_at i j).driven) (λ j. (bit_at i j).driven) before after [] [] (sym len)
       (λ k near. ap (λ (l : List Bit). (slice_index_or l i (recessive_bit Recessive)).driven) (sym (same k near))) in
       subst P (ap (λ (l : List Bit). (slice_index_or l i (recessive_bit Recessive)).seen)
       (sym (same node (omega (arith, len, few))))) (subst Q levels (h.seen i node early (omega (arith, len, few))));

@@ -10,9 +10,6 @@ use Rattle.sja_driver.proofs.Account.Own.{AreOwn, own_taken}
 use Rattle.lemmas.proofs.Lists.{none_front}
 use Rattle.sja_link.proofs.Growing.Taking.{adds, taken_adds, no_adds}
 
-none_more : (xs ys : List Up) → xs ≡ xs ++ ys → ys ≡ []
-none_more xs ys e = sym (append_cancel_left xs [] ys (append-nil xs ∙ e))
-
 -- what each activation has of these items, and what follows
 module _ (j t : List Entry) (items : MayHaveItems j t) (given : ℕ → List Up)
     (before : (a : ℕ) → a < 64 → given a ≡ taken_of (part j (suc a))) where
@@ -22,9 +19,10 @@ module _ (j t : List Entry) (items : MayHaveItems j t) (given : ℕ → List Up)
   pub none_beyond : (a : ℕ) (more : List Up) → a < 64 → given a ≡ taken_of (part t (suc a)) ++ more →
       adds j items.items (suc a) ++ more ≡ []
   none_beyond a more few after =
-      none_more (taken_of (part j (suc a))) (adds j items.items (suc a) ++ more)
-      (sym (before a few) ∙ after ∙ ap (λ (l : List Up). l ++ more) (taken_now a)
-      ∙ append_assoc (taken_of (part j (suc a))) (adds j items.items (suc a)) more)
+      sym (append_cancel_left (taken_of (part j (suc a))) [] (adds j items.items (suc a) ++ more)
+      (append-nil (taken_of (part j (suc a))) ∙ sym (before a few) ∙ after
+      ∙ ap (λ (l : List Up). l ++ more) (taken_now a)
+      ∙ append_assoc (taken_of (part j (suc a))) (adds j items.items (suc a)) more))
 
   pub none_taken : (up : ℕ → List Up) → ((a : ℕ) → a < 64 → given a ≡ taken_of (part t (suc a)) ++ up a) → t ≡ j
   none_taken up after =

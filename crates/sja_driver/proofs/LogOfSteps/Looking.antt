@@ -1,11 +1,10 @@
 -- A look at the present link: log and links go on with no deed.
-use Rattle.std.proofs.Common.{◌≡◌, ◌+◌, ◌<◌, ◌≤◌, ℕ, List, [], ◌++◌, length, refl, sym, ap, ◌∙◌, subst, append-nil}
+use Rattle.std.proofs.Common.{◌≡◌, ◌+◌, ◌<◌, ◌≤◌, ℕ, List, [], length, refl, sym, ap, ◌∙◌, subst, append-nil}
 use Rattle.std.proofs.Common.{arith}
 use Rattle.std.proofs.lemmas.List.{get_or-set_same, get_or-set_other, get_or_default, set-get_or}
 use Rattle.std.specs.Prelude.{min, false, slice_index_or, slice_set}
 use Rattle.lemmas.proofs.Related.{each_one, each_at}
 use Rattle.sja_link.specs.declared.link_id.LinkId.{LinkId}
-use Rattle.sja_link.specs.declared.up.Up.{Up}
 use Rattle.sja_link.specs.Lists.{Lists}
 use Rattle.sja_regs.specs.declared.registers.Registers.{Registers}
 use Rattle.sja_regs.specs.Registers.{at_power_on}
@@ -19,6 +18,7 @@ use Rattle.sja_driver.specs.Acting.{Acts}
 use Rattle.sja_driver.specs.AnyDrivers.{IsDriverOf}
 use Rattle.sja_driver.specs.Calls.{TakesIn}
 use Rattle.sja_driver.specs.Deeds.{Deed}
+use Rattle.sja_driver.specs.Drivers.{held_in, off_in}
 use Rattle.sja_driver.specs.Holding.{Goes, HoldsBy, place_after}
 use Rattle.sja_driver.specs.Logs.{Traces, left_in}
 use Rattle.sja_driver.specs.LoggedDrivers.{node_of, driver_of, log_of, ended_of, StaysLawful}
@@ -26,6 +26,7 @@ use Rattle.sja_driver.specs.Observing.{MayObserve, Observes, Looked}
 use Rattle.sja_driver.specs.Tries.Tried.{Unmet}
 use Rattle.sja_driver.proofs.LogOfSteps.Goes.{goes_step}
 use Rattle.sja_driver.proofs.LogOfSteps.Logged.{min_few, min_less, inside}
+use Rattle.sja_driver.proofs.Step.Releasing.{does_pull}
 
 -- out of reset a look is what a wait does that isn't met: at registers with TBS 0, over an end of which nothing more is
 -- asked
@@ -38,13 +39,7 @@ waits_as : {E : Type 0} (version : ℕ) (stands : E → Lists → Type 0) (dry :
     Acts (λ a b. Unit {0}) stands dry (λ e. Unit {0}) old new (waiting version) (waiting version)
     Sent (InActive was) (InActive now) Unmet
 waits_as version stands dry old new was now t = record {
-  does = record {
-    got = t.got.got;
-    lists = λ l s. subst (λ (xs : List Up). stands new (record l { got = l.got ++ t.got.got; given = xs }))
-        (sym (append-nil l.given)) (t.got.lists l s);
-    told = t.got.told;
-    off_is = t.got.off_is;
-  };
+  does = does_pull stands old new (held_in was) (held_in now) (off_in was) (off_in now) t.got;
   still = tt;
   port = refl;
   fits = tt;

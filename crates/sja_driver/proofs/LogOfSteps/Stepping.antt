@@ -4,7 +4,8 @@ use Rattle.sja_link.specs.declared.link_id.LinkId.{LinkId}
 use Rattle.sja_link.specs.declared.driver_ledger.DriverLedger.{DriverLedger}
 use Rattle.sja_driver.specs.declared.any_driver.AnyDriver.{AnyDriver}
 use Rattle.sja_driver.specs.declared.any_driver.AnyDriver.TheVariants.{InReset, InActive}
-use Rattle.sja_driver.specs.AnyDrivers.{IsDriverOf, FitsEnd}
+use Rattle.sja_driver.specs.AnyDrivers.{IsDriverOf}
+use Rattle.sja_driver.specs.Inside.Attempts.{FitsEnd}
 use Rattle.sja_driver.specs.Logs.{left_by}
 use Rattle.sja_driver.specs.Tries.{Tried, ended_by}
 use Rattle.sja_driver.specs.Tries.Tried.{Unmet, Answered, Released, Ended}

@@ -30,7 +30,8 @@ use Rattle.sja_regs.specs.declared.registers.Registers.{Registers}
 use Rattle.sja_driver.proofs.Registers.TbsAndAbort.{TbsIsRight}
 use Rattle.sja_regs.specs.Turns.{is_live, after_turn}
 use Rattle.sja_wire.specs.Buses.{IsNodeBit}
-use Rattle.sja_link.specs.BitEntries.{HasBit, abort_as, judged_as, off_as, off_left}
+use Rattle.sja_link.specs.BitEntries.{HasBit, abort_as, judged_as, off_as}
+use Rattle.sja_link.specs.Inside.Entries.{off_left}
 use Rattle.sja_wire.specs.Telling.{IsTurn}
 use Rattle.sja_link.proofs.Growing.BitRecords.{record_bit}
 use Rattle.sja_driver.specs.Asking.{IsAsked}

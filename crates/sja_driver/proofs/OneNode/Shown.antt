@@ -20,7 +20,8 @@ use Rattle.sja_regs.specs.declared.registers.Registers.{Registers}
 use Rattle.sja_regs.specs.Registers.{is_raw, at_power_on}
 use Rattle.sja_regs.specs.Turns.{is_live, goes_off, role_bit, rs_told, ts_told, stands_still, follows_node}
 use Rattle.sja_regs.specs.Turns.{rxerr_after, txerr_after, bs_after, after_turn}
-use Rattle.sja_link.specs.BitEntries.{HasBit, off_left}
+use Rattle.sja_link.specs.BitEntries.{HasBit}
+use Rattle.sja_link.specs.Inside.Entries.{off_left}
 use Rattle.sja_wire.specs.Telling.{Says, IsTurn, IsPassedOver}
 use Rattle.sja_regs.proofs.BusTurns.SaysTheSame.{says_same}
 use Rattle.sja_link.proofs.Growing.BitRecords.{record_bit}

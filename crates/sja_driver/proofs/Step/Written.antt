@@ -12,7 +12,8 @@ use Rattle.sja_driver.specs.declared.any_driver.AnyDriver.{AnyDriver}
 use Rattle.sja_driver.specs.declared.any_driver.AnyDriver.TheVariants.{InReset, InActive}
 use Rattle.sja_driver.specs.Acting.{Acts, Does, IfOut}
 use Rattle.sja_driver.specs.AnyDrivers.{IsDriverOf, is_out, held_of, off_of, opened_of}
-use Rattle.sja_driver.specs.Answers.{done_answer, done_unless}
+use Rattle.sja_driver.specs.Answers.{done_unless}
+use Rattle.sja_driver.specs.Inside.Attempts.{done_answer}
 use Rattle.sja_driver.specs.Calls.{Writes}
 use Rattle.sja_driver.specs.Carried.{ported}
 use Rattle.sja_driver.specs.Deeds.{FitsState}

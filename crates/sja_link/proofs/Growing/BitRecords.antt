@@ -12,7 +12,8 @@ use Rattle.sja_link.specs.declared.entry.Entry.{Entry}
 use Rattle.sja_link.specs.declared.entry.Entry.TheVariants.{Bit, Stored, Overrun, Off}
 use Rattle.sja_link.specs.Records.{record_of}
 use Rattle.sja_link.proofs.JournalEntries.Entering.{record_push}
-use Rattle.sja_link.specs.BitEntries.{HasBit, judged_as, off_as, off_left}
+use Rattle.sja_link.specs.BitEntries.{HasBit, judged_as, off_as}
+use Rattle.sja_link.specs.Inside.Entries.{off_left}
 
 judged_silent : (l : List Entry) (v : Option (Verdict × List ℕ)) → record_of (l ++ judged_as v) ≡ record_of l
 judged_silent l None = ap record_of (append-nil l)

@@ -12,7 +12,8 @@ use Rattle.sja_link.specs.Parts.{part}
 use Rattle.sja_link.specs.Accounts.{Account, account, with_entry}
 use Rattle.sja_link.proofs.JournalEntries.Entering.{account_here, account_else, part_else}
 use Rattle.lemmas.proofs.Related.{each_refl, each_trans, each_one}
-use Rattle.sja_link.specs.Links.{Moves, Goes, Grows}
+use Rattle.sja_link.specs.Links.{Grows}
+use Rattle.sja_link.specs.Inside.Moving.{Moves, Goes}
 use Rattle.sja_link.specs.BitEntries.{MayHaveAbort, abort_as}
 
 pub grows_refl : (j : List Entry) → Grows j j

@@ -103,3 +103,9 @@ module _ (codes : List Code) (s : List Config) (c : List ℕ) (r : List Request)
   pub messages_fit : len ≡ length m → len < cap
   messages_fit is = let n = decoded_length codes s c r m h in let few = messages_few codes in let are =
       h.messages_are in omega (arith, n, few, are, is, less, fits)
+
+-- a journal with other codes: they are whole beside what it keeps, and there is room for them
+pub with_codes : {Before Now Had Has Starts Credits Requests Messages : Type 0} →
+    Before × Had × Starts × Credits × Requests × Messages → Now → Has →
+    Now × Has × Starts × Credits × Requests × Messages
+with_codes old whole room = (whole, room, old.2, old.3, old.4, old.5)

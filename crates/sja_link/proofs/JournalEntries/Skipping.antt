@@ -11,7 +11,8 @@ use Rattle.sja_link.specs.declared.code.Code.{Code}
 use Rattle.sja_link.specs.declared.code.Code.TheVariants.{DominantAsDriven, DominantSeenRecessive}
 use Rattle.sja_link.specs.declared.code.Code.TheVariants.{RecessiveSeenDominant, RecessiveAsDriven, Start, Credit, Send}
 use Rattle.sja_link.specs.declared.code.Code.TheVariants.{Stop, Abort, Stored, Overrun, Off}
-use Rattle.sja_link.specs.Between.{between_bits, past_bits}
+use Rattle.sja_link.specs.Between.{between_bits}
+use Rattle.sja_link.specs.Inside.Entries.{past_bits}
 use Rattle.sja_link.specs.Inside.Codes.{decoded, bits_before, AreWhole}
 use Rattle.sja_link.proofs.JournalEntries.Decoding.{plain, plain_rest}
 

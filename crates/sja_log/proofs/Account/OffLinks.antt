@@ -3,7 +3,7 @@ use Rattle.std.proofs.Common.{◌≡◌, List, [], ◌∷◌, ◌++◌, refl, sy
 use Rattle.sja_link.specs.declared.down.Down.{Down}
 use Rattle.sja_link.specs.Deques.{Deques, Lies}
 use Rattle.sja_link.specs.Lists.{Lists, with_got}
-use Rattle.sja_log.specs.Finishing.{all_down}
+use Rattle.sja_log.specs.Inside.LeftDown.{all_down}
 
 -- lists for which a link stands where nothing was got or taken
 abbrev lists_now : Deques → Lists

@@ -22,9 +22,6 @@ use Rattle.sja_log.specs.Nodes.{IsNode}
 use Rattle.sja_driver.specs.Tracing.{IsTraced}
 use Rattle.sja_link.proofs.Growing.Taking.{waiting, adds, taken_adds, AtMostOne, just_taken}
 
-none_more : {A : Type 0} (xs ys : List A) → xs ≡ xs ++ ys → ys ≡ []
-none_more xs ys e = sym (append_cancel_left xs [] ys (append-nil xs ∙ e))
-
 -- what is nowhere in a list of links
 abbrev pub no_link : Deques
 no_link = record { link = record { node = 0; activation = 0 }; down = []; up = [] }
@@ -73,8 +70,8 @@ pub linked_after : {j k : List Entry} {deeds : List Deed} {links after : List De
 linked_after {k = k} {after = after} {base} driver holds kept given level =
     let lies = lies_after k after holds kept in record {
       holds = record { got = holds.got; kept = lies; told = holds.told; off_is = holds.off_is; later = holds.later };
-      taken = λ a d less. none_more (taken_of (part k (suc a))) (slice_index_or after (base + a) d).up
-          (sym (given (suc a)) ∙ (lies a d less).1);
+      taken = λ a d less. sym (append_cancel_left (taken_of (part k (suc a))) [] (slice_index_or after (base + a) d).up
+          (append-nil (taken_of (part k (suc a))) ∙ sym (given (suc a)) ∙ (lies a d less).1));
       level = level;
     }
 

@@ -26,7 +26,7 @@ use Rattle.sja_driver.specs.Porting.{IsPorted}
 use Rattle.sja_driver.proofs.Step.GivenKinds.{Kind}
 use Rattle.sja_driver.proofs.Step.GivenKinds.Kind.{quiet, starts, credits, sends, stops}
 use Rattle.sja_log.proofs.OneNode.After.{enters, level_after}
-use Rattle.sja_log.proofs.OneNode.Ported.{was_on, on_bus}
+use Rattle.sja_log.proofs.OneNode.AskedAndCounted.{was_on, on_bus}
 use Rattle.sja_link.proofs.Ledger.Small.{no_item, one_item, neither}
 use Rattle.sja_log.proofs.OneNode.Trying.{IsNext}
 

@@ -14,7 +14,7 @@ use Rattle.sja_driver.specs.declared.logged_driver.LoggedDriver.{LoggedDriver}
 use Rattle.sja_driver.specs.Deeds.{given_in, deeds_of}
 use Rattle.sja_driver.specs.LoggedDrivers.{driver_of, log_of}
 use Rattle.sja_log.specs.Registering.LeadTo.{power_on}
-use Rattle.sja_log.specs.NewDrivers.{IsNewDriver, AreNew}
+use Rattle.sja_log.specs.Inside.NewDrivers.{IsNewDriver, AreNew}
 use Rattle.sja_log.specs.Nodes.{IsNode}
 use Rattle.sja_driver.proofs.Step.NothingDone.{nothing_known, nothing_told}
 use Rattle.sja_driver.proofs.LogOfSteps.Logged.{room_less}

@@ -34,7 +34,8 @@ use Rattle.sja_link.proofs.Growing.Taking.{no_wait}
 use Rattle.sja_log.proofs.OneNode.Trying.{alike, shows_none, takes_none}
 use Rattle.sja_log.proofs.OneNode.StepTried.{waits}
 use Rattle.sja_log.proofs.OneNode.After.{done_after, enters, level_after, in_time_after}
-use Rattle.sja_log.proofs.OneNode.Ported.{ported_after, asked_after, counted_after}
+use Rattle.sja_log.proofs.OneNode.Ported.{ported_after}
+use Rattle.sja_log.proofs.OneNode.AskedAndCounted.{asked_after, counted_after}
 use Rattle.sja_driver.proofs.Deeds.FirstSteps.{first_more}
 use Rattle.sja_log.proofs.OneNode.Gathered.{no_link, Gathers, items_are, linked_after, node_with}
 use Rattle.sja_log.proofs.Trace.TbsAndAbort.{tbs_right}

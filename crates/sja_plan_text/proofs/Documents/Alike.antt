@@ -13,7 +13,7 @@ use Rattle.sja_plan.specs.Words.{Text}
 use Rattle.sja_script.specs.declared.step.Step.{Step}
 use Rattle.sja_script.specs.declared.strike.Strike.{Strike}
 use Rattle.sja_plan_text.specs.Texts.{step_text, turn_text, strike_text}
-use Rattle.sja_plan_text.specs.Inside.Table.{texts_data}
+use Rattle.sja_plan_text.specs.Written.{texts_data}
 use Rattle.sja_plan_text.specs.Written.{pair, strike_lines, node_lines, plan_lines, IsWritten, IsLong, IsPlanText}
 use Rattle.sja_plan_text.specs.Written.{IsTooLong, EndsInFeed}
 use Rattle.sja_plan_text.proofs.Tables.Plans.{is_short_document}

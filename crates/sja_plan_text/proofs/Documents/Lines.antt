@@ -9,8 +9,8 @@ use Rattle.sja_plan.specs.Words.{Text}
 use Rattle.sja_script.specs.declared.step.Step.{Step}
 use Rattle.sja_script.specs.declared.strike.Strike.{Strike}
 use Rattle.sja_plan_text.specs.Texts.{step_text, strike_text}
-use Rattle.sja_plan_text.specs.Written.{pair, strike_lines, node_lines, front_lines}
-use Rattle.sja_plan_text.specs.Inside.Table.{texts_data, nodes_data, with_strikes}
+use Rattle.sja_plan_text.specs.Written.{pair, strike_lines, node_lines, front_lines, texts_data}
+use Rattle.sja_plan_text.specs.Inside.Table.{nodes_data, with_strikes}
 use Rattle.sja_plan_text.proofs.Tables.Values.{node_items, texts_flat, texts_dated, nodes_are_tables}
 
 -- the header of a node

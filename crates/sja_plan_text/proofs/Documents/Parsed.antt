@@ -14,9 +14,9 @@ use Rattle.toml.proofs.Filled.{fill_filled}
 use Rattle.sja_plan.specs.Words.{Text}
 use Rattle.sja_script.specs.declared.step.Step.{Step}
 use Rattle.sja_script.specs.declared.strike.Strike.{Strike}
-use Rattle.sja_plan_text.specs.Inside.Table.{texts_data, nodes_data, with_strikes, members_of, Adds}
+use Rattle.sja_plan_text.specs.Inside.Table.{nodes_data, with_strikes, members_of, Adds}
+use Rattle.sja_plan_text.specs.Written.{texts_data, pair, strike_lines, node_lines, front_lines}
 use Rattle.sja_plan_text.proofs.Tables.Values.{texts_sorted, nodes_sorted, nodes_are_tables}
-use Rattle.sja_plan_text.specs.Written.{pair, strike_lines, node_lines, front_lines}
 use Rattle.sja_plan_text.proofs.Documents.Lines.{element_lines, elements_are, all_lines, all_printed}
 
 from_roots : (o : Option Document) (n : Nodes) → roots o ≡ Some n → (doc : Document) × (o ≡ Some doc) × (doc.0 ≡ n)

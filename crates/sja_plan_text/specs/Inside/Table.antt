@@ -1,6 +1,6 @@
 -- The table that a plan's document is, and its lines as they are written.
 use Rattle.std.specs.Prelude.{◌≡◌, ℕ, Bool, pos, List, [], ◌∷◌, ◌++◌, codes, map}
-use Rattle.toml.specs.Data.{Data, string, integer, array, table, Members, no_members, member}
+use Rattle.toml.specs.Data.{Data, integer, array, table, Members, no_members, member}
 use Rattle.toml.specs.Text.{IsDocumentText}
 use Rattle.toml.specs.View.{items_of}
 use Rattle.sja_plan.specs.Words.{Text}
@@ -9,10 +9,7 @@ use Rattle.sja_plan.specs.Plan.{PlanValue}
 use Rattle.sja_script.specs.declared.step.Step.{Step}
 use Rattle.sja_script.specs.declared.strike.Strike.{Strike}
 use Rattle.sja_plan_text.specs.Texts.{step_text, turn_text, strike_text}
-
--- a list of texts
-abbrev pub texts_data : List Text → Data
-texts_data texts = array (items_of (map (λ (t : Text). string t) texts))
+use Rattle.sja_plan_text.specs.Written.{texts_data}
 
 -- the members of a node: the texts of its steps
 abbrev pub node_members : List Step → Members

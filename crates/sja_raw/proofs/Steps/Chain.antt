@@ -18,7 +18,8 @@ use Rattle.sja_driver.specs.declared.logged_driver.LoggedDriver.{LoggedDriver}
 use Rattle.sja_driver.specs.AnyDrivers.{is_out}
 use Rattle.sja_driver.specs.LoggedDrivers.{driver_of, Steps}
 use Rattle.sja_raw.specs.CommandWrites.{command_byte, doable, commands, releases, command_steps}
-use Rattle.sja_raw.specs.ModeWrites.{is_written, reset_byte, operating_byte, closing, leaving, mode_steps}
+use Rattle.sja_raw.specs.ModeWrites.{reset_byte, closing, leaving, mode_steps}
+use Rattle.sja_raw.specs.Inside.Modes.{is_written, operating_byte}
 use Rattle.sja_raw.specs.RawDrivers.{Writes}
 use Rattle.sja_raw.specs.Trying.Tries.{none, waits, done}
 use Rattle.sja_raw.specs.Writes.{write_steps}

@@ -4,6 +4,7 @@ use Rattle.std.proofs.Common.{length, refl, sym, ap, ◌∙◌, subst, arith}
 use Rattle.std.proofs.lemmas.List.{length-append}
 use Rattle.std.specs.Prelude.{slice_get, unwrap_or}
 use Rattle.lemmas.proofs.Lists.{some_of}
+use Rattle.can_node.proofs.Contending.FieldLevels.{get-append_right}
 use Rattle.sja_link.specs.Lists.{Lists}
 use Rattle.sja_regs.specs.declared.registers.Registers.{Registers}
 use Rattle.sja_regs.specs.Addresses.{register_at}
@@ -76,15 +77,12 @@ steps_met {E} {alike} {stands} {dry} {full} {was} {now} {links} {links_now} {bas
     subst (λ (b : Bool). Steps alike stands dry full was now links links_now base p q (Read address) bits b)
     (told s n).met s
 
-last_at : (was : List Done) (d : Done) → slice_get (was ++ d ∷ []) (length was) ≡ Some d
-last_at [] d = refl
-last_at (x ∷ was) d = last_at was d
-
 last_is : (xs was : List Done) (d : Done) → xs ≡ was ++ d ∷ [] → slice_get xs (length xs - 1) ≡ Some d
 last_is xs was d e =
     let count : length xs - 1 ≡ length was = let l = ap length e in omega (arith, l, length-append was (d ∷ [])) in
     subst (λ (n : ℕ). slice_get xs n ≡ Some d) (sym count)
-    (subst (λ (l : List Done). slice_get l (length was) ≡ Some d) (sym e) (last_at was d))
+    (subst (λ (l : List Done). slice_get l (length was) ≡ Some d) (sym e)
+    (get-append_right was (d ∷ []) (length was) (length was) 0 refl (omega arith)))
 
 pub value_is : (v : Option ℕ) (other : ℕ) → value_or (value_answer (or_no_register v)) other ≡ unwrap_or v other
 value_is None other = refl

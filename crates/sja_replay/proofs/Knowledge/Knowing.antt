@@ -14,7 +14,7 @@ use Rattle.sja_replay.specs.declared.view.View.{View}
 use Rattle.sja_replay.specs.Viewing.{IsView, Shows}
 use Rattle.can_node.proofs.OneCut.SameCuts.{same_now, same_place, same_bits, same_phase}
 use Rattle.sja_replay.proofs.Once.Views.{view_once}
-use Rattle.sja_replay.specs.Knowing.{Knows, KnowsPlace}
+use Rattle.sja_replay.specs.Inside.Knowing.{Knows, KnowsPlace}
 
 -- by one cut it is by another
 pub view_by : (entries : List NodeEntry) (found others : List FinishedPiece) (h : IsCut entries found)

@@ -15,7 +15,8 @@ use Rattle.sja_link.specs.declared.verdict.Verdict.TheVariants.{Stored as ToStor
 use Rattle.sja_link.specs.Free.{free_of}
 use Rattle.sja_link.specs.Records.{record_of}
 use Rattle.sja_link.proofs.Growing.BitRecords.{record_bit, entries_split}
-use Rattle.sja_link.specs.BitEntries.{off_left, HasBit, judged_as, off_as}
+use Rattle.sja_link.specs.BitEntries.{HasBit, judged_as, off_as}
+use Rattle.sja_link.specs.Inside.Entries.{off_left}
 use Rattle.sja_wire.specs.Telling.{IsTurn}
 use Rattle.sja_regs.specs.declared.bus_turn.BusTurn.{BusTurn}
 use Rattle.sja_replay.specs.declared.fate.Fate.{Fate}
@@ -24,7 +25,7 @@ use Rattle.sja_replay.specs.declared.happening.Happening.{Happening}
 use Rattle.sja_replay.specs.Closing.{Judges, HasFate, Closes, off_if}
 use Rattle.sja_replay.specs.Happening.{bit_of}
 use Rattle.sja_replay.proofs.Once.Bits.{Tells, role_same}
-use Rattle.sja_replay.specs.Quiet.{IsQuiet}
+use Rattle.sja_replay.specs.Inside.Quiet.{IsQuiet}
 
 -- ---- the entries that a bit brings
 

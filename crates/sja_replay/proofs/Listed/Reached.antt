@@ -19,7 +19,7 @@ use Rattle.sja_replay.specs.Happened.Happened.{over, between, bit, refused, unto
 use Rattle.sja_replay.specs.Happening.{Brings}
 use Rattle.sja_replay.specs.Taking.{Takes, last_part}
 use Rattle.sja_replay.proofs.BitTaken.Closings.{brought_behind}
-use Rattle.sja_replay.specs.Knowing.{AreAll}
+use Rattle.sja_replay.specs.Inside.Knowing.{AreAll}
 use Rattle.sja_link.proofs.JournalEntries.EachInPart.{place_both}
 
 -- ---- how many bits a journal has

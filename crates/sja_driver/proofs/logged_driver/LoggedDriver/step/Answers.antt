@@ -1,5 +1,5 @@
 use Rattle.std.proofs.Common.{refl}
-use Rattle.sja_driver.specs.Tries.{tried_of}
+use Rattle.sja_driver.specs.Inside.Attempts.{tried_of}
 use Rattle.sja_driver.proofs.LogOfSteps.Logged.{stays_lawful, steps_of}
 use Rattle.sja_driver.proofs.LogOfSteps.Stepping.{at_most}
 use Rattle.sja_driver.proofs.logged_driver.LoggedDriver.step.Goals as goal

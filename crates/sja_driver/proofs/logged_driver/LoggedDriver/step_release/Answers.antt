@@ -1,7 +1,7 @@
 use Rattle.std.proofs.Common.{refl}
 use Rattle.sja_script.specs.declared.step.Step.TheVariants as step
 use Rattle.sja_regs.specs.Registers.{at_power_on}
-use Rattle.sja_driver.specs.Tries.{tried_of}
+use Rattle.sja_driver.specs.Inside.Attempts.{tried_of}
 use Rattle.sja_driver.proofs.LogOfSteps.Logged.{stays_lawful, steps_of}
 use Rattle.sja_driver.proofs.LogOfSteps.Stepping.{at_most}
 use Rattle.sja_driver.proofs.logged_driver.LoggedDriver.step_release.Goals as goal

@@ -7,6 +7,7 @@ use Rattle.std.proofs.lemmas.Simd.{length-zip2}
 use Rattle.sja_link.specs.declared.code.Code.{Code}
 use Rattle.sja_link.specs.declared.code.Code.TheVariants.{RecessiveAsDriven}
 use Rattle.sja_link.specs.Inside.Codes.{code_of}
+use Rattle.sja_link.proofs.JournalEntries.CodeRoom.{with_codes}
 use Rattle.sja_link.proofs.JournalEntries.Filling.{filled_up, rest_fits, whole_plain, decoded_plain}
 use Rattle.sja_link.proofs.JournalEntries.Writing.{part_length, written, bits_plain, bits_decoded}
 use Rattle.sja_link.proofs.journal.Journal.enter_bits_reserved.Goals.{After-as_mut_slice, After-write_bits}
@@ -61,15 +62,10 @@ pub invariant_of-self : goal.invariant_of-self
 invariant_of-self c =
     let at = goal.at.invariant_of-self c in
     let is = codes_are at.After-write_bits (filled at.After-as_mut_slice) in
-    let f = c.self.inside in let capacity = c.resize.ensures.capacity in let room = c.self.invariant.1 in (
-      rw is (whole_plain (zip2 code_of c.args.driven.now c.args.seen.now) f.codes.items _ _ _ _
-          (bits_plain c.args.driven.now c.args.seen.now) c.self.invariant.0),
-      omega (arith, capacity, room),
-      c.self.invariant.2,
-      c.self.invariant.3,
-      c.self.invariant.4,
-      c.self.invariant.5,
-    )
+    let f = c.self.inside in let capacity = c.resize.ensures.capacity in let room = c.self.invariant.1 in
+    with_codes c.self.invariant
+    (rw is (whole_plain (zip2 code_of c.args.driven.now c.args.seen.now) f.codes.items _ _ _ _
+    (bits_plain c.args.driven.now c.args.seen.now) c.self.invariant.0)) (omega (arith, capacity, room))
 
 pub returns-clause-entries : goal.returns-clause-entries
 returns-clause-entries c =

@@ -1,6 +1,7 @@
 use Rattle.std.proofs.Common.{◌≡◌, ◌++◌, replicate, arith}
 use Rattle.std.specs.Prelude.{is_ok, vec_capacity}
 use Rattle.sja_link.specs.declared.code.Code.TheVariants.{RecessiveAsDriven}
+use Rattle.sja_link.proofs.JournalEntries.CodeRoom.{with_codes}
 use Rattle.sja_link.proofs.JournalEntries.Filling.{filled_up, rest_fits, rest_plain, rest_decoded, whole_plain}
 use Rattle.sja_link.proofs.JournalEntries.Filling.{decoded_plain}
 use Rattle.sja_link.proofs.journal.Journal.enter_rest_reserved.Goals.{After-resize}
@@ -21,14 +22,10 @@ pub invariant_of-self : goal.invariant_of-self
 invariant_of-self c =
     let is = filled (goal.at.invariant_of-self c).After-resize in
     let f = c.self.inside in let n = c.args.count in
-    let capacity = c.resize.ensures.capacity in let room = c.self.invariant.1 in (
-      rw is (whole_plain (replicate n RecessiveAsDriven) f.codes.items _ _ _ _ (rest_plain n) c.self.invariant.0),
-      omega (arith, capacity, room),
-      c.self.invariant.2,
-      c.self.invariant.3,
-      c.self.invariant.4,
-      c.self.invariant.5,
-    )
+    let capacity = c.resize.ensures.capacity in let room = c.self.invariant.1 in
+    with_codes c.self.invariant
+    (rw is (whole_plain (replicate n RecessiveAsDriven) f.codes.items _ _ _ _ (rest_plain n) c.self.invariant.0))
+    (omega (arith, capacity, room))
 
 pub returns-clause-entries : goal.returns-clause-entries
 returns-clause-entries c =

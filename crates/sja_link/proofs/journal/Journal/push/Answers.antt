@@ -1,6 +1,6 @@
 use Rattle.std.proofs.Common.{arith}
 use Rattle.sja_link.proofs.JournalEntries.Decoding.{whole_push, decoded_push}
-use Rattle.sja_link.proofs.JournalEntries.CodeRoom.{codes_fit}
+use Rattle.sja_link.proofs.JournalEntries.CodeRoom.{codes_fit, with_codes}
 use Rattle.sja_link.proofs.journal.Journal.push.Goals as goal
 
 pub push_reserved-requires : goal.push_reserved-requires
@@ -16,14 +16,9 @@ invariant_of-self c =
     f.requests.items f.requests.items f.messages.items f.messages.items c.self.invariant.0
     (let k = own.starts_are in omega (arith, k))
     (let k = own.credits_are in omega (arith, k)) (let k = own.requests_are in omega (arith, k))
-    (let k = own.messages_are in omega (arith, k)) in (
-      rw c.push_reserved.ensures.items whole,
-      rw c.push_reserved.ensures.capacity c.self.invariant.1,
-      c.self.invariant.2,
-      c.self.invariant.3,
-      c.self.invariant.4,
-      c.self.invariant.5,
-    )
+    (let k = own.messages_are in omega (arith, k)) in
+    with_codes c.self.invariant (rw c.push_reserved.ensures.items whole)
+    (rw c.push_reserved.ensures.capacity c.self.invariant.1)
 
 pub returns-clause-entries : goal.returns-clause-entries
 returns-clause-entries c =
