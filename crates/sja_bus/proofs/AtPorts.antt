@@ -3,4 +3,5 @@ pub mod Applying
 pub mod Aborting
 pub mod Turning
 pub mod TurnsTold
+pub mod SeatBits
 pub mod OtherWords

@@ -42,7 +42,7 @@ KeepsOthers {B} ports kept nodes old new = (ports new ≡ ports old) × ((k : �
 
 -- ---- the ports of a board that notes the turns that they were told
 
--- the turn that the port of this node was told last, if it was told one since that was taken
+-- the turn that the port of this node was told last, if it was told one since the one before was taken
 abbrev pub turn_at : List (Option BusTurn) → ℕ → Option BusTurn
 turn_at turns node = slice_index_or turns node None
 
@@ -57,12 +57,13 @@ pub record ShowsNoted (b : NotingBoard) (node : ℕ) (turn : BusTurn) : Type 0 w
   pub port : ShowsTurn b.board.ports.items node turn
   pub noted : node < length b.turns.items → turn_at b.turns.items node ≡ Some turn
 
--- the port was closed, or is as it was, and so is what the board has noted of it
+-- the port was closed, and what the board has noted of it is as it was
 pub record ShutsNoted (old new : NotingBoard) (node : ℕ) : Type 0 where
   pub port : WasClosed old.board.ports.items new.board.ports.items node
   pub count : length new.turns.items ≡ length old.turns.items
   pub noted : turn_at new.turns.items node ≡ turn_at old.turns.items node
 
+-- the port is as it was, and so is what the board has noted of it
 pub record KeepsNoted (old new : NotingBoard) (node : ℕ) : Type 0 where
   pub port : WasKept old.board.ports.items new.board.ports.items node
   pub count : length new.turns.items ≡ length old.turns.items

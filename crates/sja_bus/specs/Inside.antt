@@ -1,10 +1,12 @@
 -- How the code keeps a bus.
+pub mod StrikesByBit
 pub mod Following
 pub mod Seats
 pub mod AtLinks
 pub mod Taking
 pub mod Refusing
 pub mod Turning
+pub mod SeatBits
 pub mod Rows
 pub mod RowTakes
 pub mod Underway

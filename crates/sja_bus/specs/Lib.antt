@@ -1,5 +1,3 @@
--- ---- what strikes the wire
-pub mod StrikesByBit
 -- ---- what holds of every bus
 pub mod Resting
 -- ---- the ports of the nodes

@@ -3,8 +3,8 @@ use Rattle.std.specs.Prelude.{◌≡◌, Bool, List}
 use Rattle.can_node.specs.NextBit.{is_at_rest}
 use Rattle.sja_link.specs.NodeWords.{NodeEntry, FinishedPiece, IsCut}
 
--- at the end of the record the node is at rest, or it isn't: in reset, or idle with no request. There is a cut that
--- says so, and every cut does
+-- at the end of the record the node is at rest, which is in reset or idle with no request, or it isn't. There is a cut
+-- that says so, and every cut does
 pub record RestsAs (entries : List NodeEntry) (rests : Bool) : Type 0 where
   pub found : List FinishedPiece
   pub cut : IsCut entries found

@@ -1,4 +1,5 @@
--- Bits of a bus, one after another: between them no driver is asked for anything (this project's own rule).
+-- Bits of a bus, one after another: each goes on with the bus, the links and the ports that the one before it left
+-- (this project's own rule).
 use Rattle.std.specs.Prelude.{◌≡◌, ◌<◌, ℕ, suc, true, false, Bool, List, length}
 use Rattle.sja_link.specs.declared.entry.Entry.{Entry}
 use Rattle.sja_link.specs.Lists.{Lists}
@@ -13,10 +14,11 @@ use Rattle.sja_bus.specs.Resting.{RestsAs}
 use Rattle.sja_bus.specs.TakingAll.{TakesAll}
 use Rattle.sja_wire.specs.Wire.{journal_at}
 
--- every node is at rest at the end of its journal, and some node isn't
+-- every node is at rest at the end of its journal
 abbrev pub AllRest : List (List Entry) → Type 0
 AllRest journals = (node : ℕ) → node < length journals → RestsAs (record_of (journal_at journals node)) true
 
+-- some node isn't
 abbrev pub SomeWork : List (List Entry) → Type 0
 SomeWork journals =
     (node : ℕ) × (node < length journals) × RestsAs (record_of (journal_at journals node)) false

@@ -41,7 +41,7 @@ abbrev pub StopsUntilTold : {E B : Type 0} → Ends E → Ports B → Bool → �
 StopsUntilTold e b to_rest count was =
     BreaksOff e.stands e.full b.orders_are (λ k. OneBit e b) (WorksUntold to_rest was) count was
 
--- the turn is that of the last bit of this journal, before which nothing was taken and nothing aborted
+-- the turn is that of the last bit of this journal, as of one right before which no abort changed the node
 pub record IsLastTurn (journal : List Entry) (turn : BusTurn) : Type 0 where
   pub before : List Entry
   pub driven : Level
@@ -68,13 +68,14 @@ pub data EndsUntilTold {E B : Type 0} (b : Ports B) (to_rest : Bool) (count : �
     (now : Moment E B) : Type 0 where
   -- no bit more is run
   no_more : NoMore to_rest count n now.bus → EndsUntilTold b to_rest count was n now
-  -- the port of some node was told the turn of that bit
+  -- the port of some node was told the turn of that bit, as the board says it: one that notes the turns which its
+  -- ports were told has noted it; of others a port that shows already what the turn says was told it too
   told : (node : ℕ) (turn : BusTurn) → node < length now.bus.journals → b.told was.board now.board node turn →
       IsLastTurn (journal_at now.bus.journals node) turn → EndsUntilTold b to_rest count was n now
 
 -- why no such bit was run, of so many that were asked for
 pub data RunsNone (orders_are : ℕ → Orders → Type 0) (to_rest : Bool) (count : ℕ) (bus : BusValue) : Type 0 where
-  -- no bit is run after none of them
+  -- one of the reasons holds for which no bit more is run
   no_more : NoMore to_rest count 0 bus → RunsNone orders_are to_rest count bus
   -- something is untold of a node
   untold : (node : ℕ) → node < length bus.journals → untold_at bus.untold node ≡ true →

@@ -1,22 +1,22 @@
 //! What all nodes of a bus do in one bit, node after node.
 
-ghost use Rattle.std.specs.Prelude.{◌≡◌, ◌*◌, ◌<◌, ◌≤◌, ℕ, List, suc, true, false, slice_index_or};
+ghost use Rattle.std.specs.Prelude.{◌≡◌, ◌*◌, ◌<◌, ◌≤◌, ℕ, true, false, slice_index_or};
 ghost use Rattle.std.specs.Prelude.{length, IfOk, OnOk, IfErr, ◌⊎◌};
 ghost use Rattle.lemmas.specs.Related.{EachRelated};
 ghost use Rattle.sja_wire.specs.Wire.{wired};
 ghost use Rattle.sja_link.specs.Links.{Numbered};
 ghost use Rattle.sja_bus.specs.Inside.Rows.{AreReady, AreSeated, AreTold, EachSeat, SeatTakes, SeatUntold};
-ghost use Rattle.sja_bus.specs.Inside.Rows.{SeatHasBits, SeatOpens, SeatOpensUntold, SeatTurns, GoesAll, AllRead};
+ghost use Rattle.sja_bus.specs.Inside.Rows.{SeatOpens, SeatOpensUntold, SeatTurns, GoesAll, AllRead};
 ghost use Rattle.sja_bus.specs.Inside.Rows.{driven_by};
 ghost use Rattle.sja_bus.specs.Boards.{KeepsOthers};
 ghost use Rattle.sja_bus.specs.declared.seat.Seat.{Seat as Seated};
 ghost use Rattle.sja_bus.specs.declared.untold.Untold.TheVariants.{Nothing};
-ghost use Rattle.sja_bus.specs.Inside.Underway.{IsUnderway};
+ghost use Rattle.sja_bus.specs.Inside.Underway.{BreaksUnderway, GoesToAll};
 ghost use Rattle.sja_bus.specs.Inside.Whole.{IsRowBit};
 ghost use Rattle.sja_bus.specs.Inside.RowTakes.{RowTakesAll};
 ghost use Rattle.sja_bus.specs.Inside.Refusing.{HaveRoom, AreFree, SeatRefuses, SeatFull, SeatBreaks};
 ghost use Rattle.sja_bus.specs.Inside.Refusing.{SeatStops};
-ghost use Rattle.sja_bus.specs.Inside.RunningOn.{SomeTold};
+ghost use Rattle.sja_bus.specs.Inside.RunningOn.{SomeTold, TellsNone};
 
 use super::bit_end::BitEnd;
 use super::board::Board;
@@ -125,16 +125,10 @@ fn sample_from<E: BusEnd, B: Board>(
     ensures board { KeepsOthers B.ports B.kept (length seats.old) board.old board.new }
     ensures before { OnOk result ((m : ℕ) → m < first → B.kept board.old board.new m
         × ((s : Seated) → slice_index_or seats.new m s ≡ slice_index_or seats.old m s)) }
-    ensures row { OnOk result ((before : List Seated) (given : List E) (was : B) →
-        IsUnderway E.same E.stands B.ports B.told B.kept struck level before given was first
-        seats.old links.old board.old →
-        (k : ℕ) × (length seats.new ≤ k)
-        × IsUnderway E.same E.stands B.ports B.told B.kept struck level before given was k
-        seats.new links.new board.new) }
-    ensures broken { IfErr result (λ f. (before : List Seated) (given : List E) (was : B) →
-        IsUnderway E.same E.stands B.ports B.told B.kept struck level before given was first
-        seats.old links.old board.old →
-        SeatBreaks E.stands E.full before seats.new given f) }
+    ensures row { OnOk result (GoesToAll E.BusEnd B.Board struck level first
+        seats.old seats.new links.old links.new board.old board.new) }
+    ensures broken { IfErr result (λ f. BreaksUnderway E.BusEnd B.Board struck level first
+        seats.old seats.new links.old board.old f) }
 {
     for k in first..seats.len() {
         let sees = seen(level, struck.has(k));
@@ -159,16 +153,10 @@ fn tell_from<E: BusEnd, B: Board>(
     ensures sames { EachRelated E.same links.old links.new }
     ensures board { KeepsOthers B.ports B.kept (length seats.old) board.old board.new }
     ensures told { OnOk result (SomeTold (B.told board.old board.new) seats.new) }
-    ensures row { OnOk result ((before : List Seated) (given : List E) (was : B) →
-        IsUnderway E.same E.stands B.ports B.told B.kept struck level before given was first
-        seats.old links.old board.old →
-        (k : ℕ) × (length seats.new ≤ k)
-        × IsUnderway E.same E.stands B.ports B.told B.kept struck level before given was k
-        seats.new links.new board.new) }
-    ensures broken { IfErr result (λ f. (before : List Seated) (given : List E) (was : B) →
-        IsUnderway E.same E.stands B.ports B.told B.kept struck level before given was first
-        seats.old links.old board.old →
-        SeatBreaks E.stands E.full before seats.new given f) }
+    ensures row { OnOk result (GoesToAll E.BusEnd B.Board struck level first
+        seats.old seats.new links.old links.new board.old board.new) }
+    ensures broken { IfErr result (λ f. BreaksUnderway E.BusEnd B.Board struck level first
+        seats.old seats.new links.old board.old f) }
 {
     let mut row = RowFrame::none();
     let sees = seen(level, struck.has(first));
@@ -197,9 +185,7 @@ pub(crate) fn sample_all<E: BusEnd, B: Board>(
         (SeatTurns (B.told board.old board.new) (B.kept board.old board.new) struck level) seats.old seats.new) }
     ensures rooms { OnOk result ((n : ℕ → ℕ) → HaveRoom n seats.old → HaveRoom n seats.new) }
     ensures level { IfOk result (λ end. end.level ≡ wired (driven_by seats.new)) }
-    ensures untold { IfOk result (λ end. end.told ≡ false → board.new ≡ board.old) }
-    ensures quiet { IfOk result (λ end. end.told ≡ false → EachSeat SeatHasBits seats.old seats.new) }
-    ensures free { IfOk result (λ end. end.told ≡ false → (n : ℕ) → AreFree (suc n) seats.old → AreFree n seats.new) }
+    ensures untold { IfOk result (λ end. end.told ≡ false → TellsNone seats.old seats.new board.old board.new) }
     ensures told { IfOk result (λ end. end.told ≡ true → SomeTold (B.told board.old board.new) seats.new) }
     ensures broken { IfErr result (λ f. SeatBreaks E.stands E.full seats.old seats.new links.old f) }
 {

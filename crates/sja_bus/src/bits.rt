@@ -1,17 +1,17 @@
 //! Bits of a bus, one after another.
 
-ghost use Rattle.std.specs.Prelude.{◌≡◌, ◌+◌, ◌-◌, ◌<◌, ◌≤◌, ℕ, true, length, slice_index_or, IfOk};
+ghost use Rattle.std.specs.Prelude.{◌≡◌, ◌+◌, ◌<◌, ◌≤◌, ℕ, true, length, slice_index_or, IfOk};
 ghost use Rattle.std.specs.Prelude.{◌⊎◌, false, IfErr, MatchResult};
 ghost use Rattle.can_node.specs.Stands.{ShowsRest};
 ghost use Rattle.lemmas.specs.Related.{EachRelated};
 ghost use Rattle.sja_bus.specs.declared.seat.Seat.{Seat as Seated};
-ghost use Rattle.sja_bus.specs.StrikesByBit.{IsAmong};
+ghost use Rattle.sja_bus.specs.Inside.StrikesByBit.{IsAmong};
 ghost use Rattle.sja_bus.specs.Boards.{KeepsOthers};
 ghost use Rattle.sja_bus.specs.Inside.Refusing.{AreFree};
 ghost use Rattle.sja_wire.specs.Wire.{wired};
 ghost use Rattle.sja_bus.specs.Inside.Rows.{AreReady, AreSeated, IsBus, driven_by};
-ghost use Rattle.sja_bus.specs.Inside.RunningOn.{MayRunOn, RowsRun, RowsRunNone, RowsStop};
-ghost use Rattle.sja_bus.specs.Inside.RunningOn.{AllAtRest, SomeAborts, SomeFull, SomeStruck, SomeTold, SomeUntold};
+ghost use Rattle.sja_bus.specs.Inside.RunningOn.{MayRunOn, RowsEnd, RowsRun, RowsStop};
+ghost use Rattle.sja_bus.specs.Inside.RunningOn.{AllAtRest, SomeAborts, SomeFull, SomeStruck, SomeUntold};
 
 use super::all_nodes::sample_all;
 use super::board::Board;
@@ -166,9 +166,8 @@ pub(crate) fn untaken_bits<E: BusEnd, B: Board>(
     ensures sames { EachRelated E.same links.old links.new }
     ensures others { KeepsOthers B.ports B.kept (length seats.old) board.old board.new }
     ensures most { MatchResult result (λ n. n ≤ most) (λ f. f.after < most) }
-    ensures none { IfOk result (λ n. n ≡ 0 → RowsRunNone to_rest struck.now.script from most seats.old) }
-    ensures ends { IfOk result (λ n. RowsRunNone to_rest struck.now.script (from + n) (most - n) seats.new
-        ⊎ SomeTold (B.told board.old board.new) seats.new) }
+    ensures ends { IfOk result (λ n. RowsEnd (B.told board.old board.new) to_rest struck.now.script from most
+        seats.old seats.new n) }
     ensures runs { IfOk result (λ n. RowsRun E.BusEnd B.Board to_rest struck.now.script from most
         seats.old seats.new links.old links.new board.old board.new n) }
     ensures breaks { IfErr result (λ f. RowsStop E.BusEnd B.Board to_rest struck.now.script from most

@@ -14,7 +14,7 @@ impl Seat {
     ghost use Rattle.sja_link.specs.declared.entry.Entry.TheVariants.{Off as OffEntry};
     ghost use Rattle.sja_link.specs.BusLedgers.{link_of};
     ghost use Rattle.sja_bus.specs.declared.activity.Activity.TheVariants.{Running};
-    ghost use Rattle.sja_link.specs.Links.{Moves};
+    ghost use Rattle.sja_link.specs.Inside.Moving.{Moves};
     ghost use Rattle.sja_bus.specs.Inside.Seats.{IsSound, IsSeat, IsMid};
     ghost use Rattle.sja_bus.specs.Inside.Taking.{BreaksBy};
 

@@ -13,7 +13,7 @@ impl Seat {
     ghost use Rattle.std.specs.Prelude.{IfErr, ◌⊎◌, ◌≤◌, ℕ, suc, Ok, false};
     ghost use Rattle.sja_link.specs.BusLedgers.{link_of};
     ghost use Rattle.sja_link.specs.declared.entry.Entry.TheVariants.{Up as Item};
-    ghost use Rattle.sja_link.specs.Links.{Goes, Moves};
+    ghost use Rattle.sja_link.specs.Inside.Moving.{Goes, Moves};
     ghost use Rattle.sja_wire.specs.Opens.{Opens};
     ghost use Rattle.sja_link.specs.BitEntries.{MayHaveItems};
     ghost use Rattle.sja_wire.specs.Reasons.{RefusesItem};

@@ -12,15 +12,15 @@ use sja_link::{BusEnd, Entry};
 use sja_wire::BusFault;
 
 impl Seat {
-    ghost use Rattle.std.specs.Prelude.{◌≡◌, ◌≢◌, ◌<◌, ℕ, true, false, length, OnOk, IfOk, IfErr, suc, [], ◌∷◌, ◌++◌};
+    ghost use Rattle.std.specs.Prelude.{◌≡◌, ◌<◌, true, false, length, OnOk, IfOk, IfErr, suc, [], ◌∷◌, ◌++◌};
     ghost use Rattle.can_node.specs.Stands.{Samples, InReset};
     ghost use Rattle.sja_link.specs.BusLedgers.{link_of};
-    ghost use Rattle.sja_link.specs.Links.{Goes, Moves};
-    ghost use Rattle.sja_wire.specs.Reasons.{IsBrokenFor};
+    ghost use Rattle.sja_link.specs.Inside.Moving.{Goes, Moves};
     ghost use Rattle.sja_bus.specs.Inside.Seats.{IsSound, IsSeat, IsReady, IsMid};
     ghost use Rattle.sja_bus.specs.Inside.AtLinks.{HasLinks, KeepsLinks};
     ghost use Rattle.sja_bus.specs.declared.untold.Untold.TheVariants.{Nothing};
-    ghost use Rattle.sja_bus.specs.Inside.Turning.{Brings, IsQuietBit, Turns, BringsVerdict};
+    ghost use Rattle.sja_bus.specs.Inside.SeatBits.{BreaksInBit, HadBit, KeepsInBit};
+    ghost use Rattle.sja_bus.specs.Inside.Turning.{Brings, IsQuietBit, BringsVerdict};
     ghost use Rattle.can_frame.specs.declared.filter.Filter.{Filter as Filtering};
     ghost use Rattle.sja_link.specs.declared.entry.Entry.TheVariants.{Bit};
     ghost use Rattle.sja_bus.specs.declared.activity.Activity.TheVariants.{Running};
@@ -39,17 +39,10 @@ impl Seat {
     ) -> Result<(), BusFault>
         requires at { HasLinks E.link self.old links.old base }
         requires port { (link_of self.old.ledger).node < B.ports board.old }
-        ensures stays { KeepsLinks E.same self.old self.new links.old links.new }
-        ensures ready { OnOk result (IsReady self.new) }
-        ensures goes { OnOk result
-            (Goes E.same E.stands self.old.journal.entries self.new.journal.entries links.old links.new base) }
-        ensures ports { B.ports board.new ≡ B.ports board.old }
-        ensures others { (k : ℕ) → k ≢ (link_of self.old.ledger).node → B.kept board.old board.new k }
-        ensures turns { OnOk result (Turns (B.told board.old board.new (link_of self.old.ledger).node)
-            (B.kept board.old board.new (link_of self.old.ledger).node) seen self.old self.new) }
-        ensures broken { IfErr result (λ f.
-            IsBrokenFor E.stands E.full (link_of self.old.ledger).node self.old.journal.room
-            self.old.journal.entries self.new.journal.entries links.old base f) }
+        ensures keeps { KeepsInBit E.BusEnd B.Board self.old self.new links.old links.new board.old board.new }
+        ensures had { OnOk result (HadBit E.BusEnd B.Board (B.kept board.old board.new (link_of self.old.ledger).node)
+            seen self.old self.new links.old links.new base board.old board.new) }
+        ensures broken { IfErr result (λ f. BreaksInBit E.BusEnd self.old self.new links.old base f) }
     {
         if self.may_sample_quietly() && self.sample_quietly(seen) {
             return Ok(());
@@ -69,17 +62,10 @@ impl Seat {
     ) -> Result<(), BusFault>
         requires at { HasLinks E.link self.old links.old base }
         requires port { (link_of self.old.ledger).node < B.ports board.old }
-        ensures stays { KeepsLinks E.same self.old self.new links.old links.new }
-        ensures ready { OnOk result (IsReady self.new) }
-        ensures goes { OnOk result
-            (Goes E.same E.stands self.old.journal.entries self.new.journal.entries links.old links.new base) }
-        ensures ports { B.ports board.new ≡ B.ports board.old }
-        ensures others { (k : ℕ) → k ≢ (link_of self.old.ledger).node → B.kept board.old board.new k }
-        ensures turns { OnOk result (Turns (B.told board.old board.new (link_of self.old.ledger).node) ⊥ seen self.old
-            self.new) }
-        ensures broken { IfErr result (λ f.
-            IsBrokenFor E.stands E.full (link_of self.old.ledger).node self.old.journal.room
-            self.old.journal.entries self.new.journal.entries links.old base f) }
+        ensures keeps { KeepsInBit E.BusEnd B.Board self.old self.new links.old links.new board.old board.new }
+        ensures had { OnOk result (HadBit E.BusEnd B.Board ⊥ seen self.old self.new links.old links.new base
+            board.old board.new) }
+        ensures broken { IfErr result (λ f. BreaksInBit E.BusEnd self.old self.new links.old base f) }
     {
         let outcome = self.sample_fully(links, base, seen, row)?;
         self.drives = self.node.drive();
@@ -140,9 +126,7 @@ impl Seat {
             (Goes E.same E.stands self.old.journal.entries self.new.journal.entries links.old links.new base) }
         ensures brings { IfOk result (λ outcome.
             Brings self.old.journal.entries self.old.drives seen outcome self.new.journal.entries) }
-        ensures broken { IfErr result (λ f.
-            IsBrokenFor E.stands E.full (link_of self.old.ledger).node self.old.journal.room
-            self.old.journal.entries self.new.journal.entries links.old base f) }
+        ensures broken { IfErr result (λ f. BreaksInBit E.BusEnd self.old self.new links.old base f) }
     {
         let Activity::Running(_) = self.activity else {
             return self.sample_in_reset(seen);

@@ -2,7 +2,7 @@
 
 ghost use Rattle.std.specs.Prelude.{◌+◌, ◌*◌, ◌<◌, ◌↔◌, ℕ, []};
 ghost use Rattle.sja_script.specs.Striking.{Hits};
-ghost use Rattle.sja_bus.specs.StrikesByBit.{IsMarked, AreStruck};
+ghost use Rattle.sja_bus.specs.Inside.StrikesByBit.{IsMarked, AreStruck};
 
 use super::struck_nodes::StruckNodes;
 use can_frame::OutOfMemory;
@@ -24,7 +24,7 @@ pub(crate) struct StruckBits {
 
 impl Model for StruckBits {
     ghost use Rattle.std.specs.Prelude.{◌≡◌, ◌<◌, ◌++◌, ◌^◌, length};
-    ghost use Rattle.sja_bus.specs.StrikesByBit.{Scripted, AreStruck};
+    ghost use Rattle.sja_bus.specs.Inside.StrikesByBit.{Scripted, AreStruck};
 
     ghost Value = { Scripted };
 
@@ -37,7 +37,7 @@ impl StruckBits {
     ghost use Rattle.std.specs.Prelude.{◌≡◌, ◌+◌, ◌<◌, ◌≤◌, ◌⊎◌, ◌↔◌, ◌++◌, ℕ, [], ◌∷◌, length};
     ghost use Rattle.std.specs.Prelude.{IfOk, OnOk, OnErr};
     ghost use Rattle.sja_script.specs.Striking.{Strikes};
-    ghost use Rattle.sja_bus.specs.StrikesByBit.{IsAmong, AreStruckFrom};
+    ghost use Rattle.sja_bus.specs.Inside.StrikesByBit.{IsAmong, AreStruckFrom};
 
     /// Whom this script strikes in each of so many bits.
     ///

@@ -8,7 +8,7 @@ pub(crate) struct StruckNodes {
 
 impl StruckNodes {
     ghost use Rattle.std.specs.Prelude.{◌≡◌, ◌⊎◌, ◌↔◌, ◌<◌, ℕ, IsTrue, true, false};
-    ghost use Rattle.sja_bus.specs.StrikesByBit.{IsAmong};
+    ghost use Rattle.sja_bus.specs.Inside.StrikesByBit.{IsAmong};
 
     /// No node.
     pub(crate) fn none() -> StruckNodes

@@ -3,7 +3,7 @@
 
 ghost use Rattle.std.specs.Prelude.{◌≡◌, ◌<◌, ◌≤◌, Bool, true, length, slice_index_or, IfSome};
 ghost use Rattle.sja_bus.specs.declared.seat.Seat.{Seat as Seated};
-ghost use Rattle.sja_bus.specs.StrikesByBit.{AreUnstruck};
+ghost use Rattle.sja_bus.specs.Inside.StrikesByBit.{AreUnstruck};
 ghost use Rattle.sja_bus.specs.Inside.Refusing.{AreFree};
 ghost use Rattle.sja_bus.specs.Inside.Rows.{EachSeat};
 ghost use Rattle.sja_bus.specs.Inside.Together.{AreQuietRows, IsLed, MayRunTogether, OthersGo, RunsTogether};

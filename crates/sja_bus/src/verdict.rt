@@ -31,7 +31,7 @@ impl Seat {
     ghost use Rattle.sja_link.specs.Verdicts.{IsLawful};
     ghost use Rattle.sja_link.specs.OutOfOrder.{HasOff};
     ghost use Rattle.sja_link.specs.BusLedgers.{link_of, free_in};
-    ghost use Rattle.sja_link.specs.Links.{Moves};
+    ghost use Rattle.sja_link.specs.Inside.Moving.{Moves};
     ghost use Rattle.sja_bus.specs.Inside.Following.{Reads, open_in};
     ghost use Rattle.sja_bus.specs.Inside.Seats.{IsSeat, IsJudged};
     ghost use Rattle.sja_bus.specs.Inside.Taking.{BreaksBy, IsJudgedShort};

@@ -13,7 +13,7 @@ use Rattle.sja_script.specs.declared.strike.Strike.{Strike}
 use Rattle.sja_script.specs.Striking.{Strikes}
 use Rattle.sja_bus.specs.declared.struck_nodes.StruckNodes.{StruckNodes}
 use Rattle.sja_bus.specs.declared.seat.Seat.{Seat}
-use Rattle.sja_bus.specs.StrikesByBit.{IsAmong}
+use Rattle.sja_bus.specs.Inside.StrikesByBit.{IsAmong}
 use Rattle.sja_wire.specs.Wire.{wired, journal_at, IsWired}
 use Rattle.sja_link.specs.Links.{Kept, stops_of}
 use Rattle.sja_wire.specs.Opens.{Opens}

@@ -50,10 +50,6 @@ wired_last [] x = refl
 wired_last (Dominant ∷ levels) x = refl
 wired_last (Recessive ∷ levels) x = wired_last levels x
 
-pub wired_alone : (x : Level) → wired (x ∷ []) ≡ x
-wired_alone Dominant = refl
-wired_alone Recessive = refl
-
 -- one more had its bit
 pub level_now : (seats : List Seat) (k : ℕ) (new : Seat) (before now : Level) → k < length seats →
     before ≡ wired (driven_by (take k seats)) → now ≡ wired (before ∷ new.drives ∷ []) →

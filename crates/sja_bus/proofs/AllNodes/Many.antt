@@ -13,7 +13,8 @@ use Rattle.lemmas.specs.Related.{EachRelated}
 use Rattle.lemmas.proofs.Related.{each_refl, each_trans, each_at}
 use Rattle.sja_bus.specs.declared.seat.Seat.{Seat}
 use Rattle.sja_link.proofs.Growing.Moving.{grows_refl, grows_trans}
-use Rattle.sja_link.specs.Links.{Grows, Goes, Kept, Numbered}
+use Rattle.sja_link.specs.Links.{Grows, Kept, Numbered}
+use Rattle.sja_link.specs.Inside.Moving.{Goes}
 use Rattle.sja_bus.specs.Inside.Rows.{IsOf, AreReady, GoesAll, EachSeat, Done}
 
 -- links of another node are as they were

@@ -5,14 +5,15 @@ use Rattle.sja_link.specs.declared.link_id.LinkId.{LinkId}
 use Rattle.sja_link.specs.Lists.{Lists}
 use Rattle.sja_bus.specs.declared.seat.Seat.{Seat}
 use Rattle.lemmas.specs.Related.{EachRelated}
-use Rattle.sja_link.specs.Links.{Goes, Numbered}
+use Rattle.sja_link.specs.Links.{Numbered}
+use Rattle.sja_link.specs.Inside.Moving.{Goes}
 use Rattle.sja_bus.specs.Inside.Seats.{IsReady}
 use Rattle.sja_bus.specs.Inside.AtLinks.{HasLinks, KeepsLinks}
-use Rattle.sja_bus.specs.Inside.Rows.{AreReady, GoesAll, Done}
+use Rattle.sja_bus.specs.Inside.Rows.{AreReady, AreSeated, GoesAll, Done}
 use Rattle.sja_bus.specs.Inside.Refusing.{HaveRoom}
 use Rattle.std.proofs.lemmas.Slice.Zip.{AllZip-long as each_length}
 use Rattle.sja_bus.proofs.AllNodes.Many.{goes_all_refl, goes_all_one, ready_one, numbered_at, dry_one, done_none}
-use Rattle.sja_bus.proofs.AllNodes.Many.{done_one}
+use Rattle.sja_bus.proofs.AllNodes.Many.{done_one, numbered_kept}
 use Rattle.sja_bus.proofs.ItemsTaken.Refusing.{rooms_one}
 
 -- each is ready and stands at its links, as long as every link is the same one still
@@ -26,6 +27,20 @@ has_links link same same_link n seats given links k s count many here sames ids 
       ids = λ a d few. numbered_at link same same_link given links n k count here sames ids a d few
           ∙ sym (ap (λ (m : ℕ). let x : LinkId = record { node = m; activation = suc a } in x) is.own);
       ready = is.ready;
+    }
+
+-- the same nodes later on, at the same links and with as many ports
+pub seated_on : {E : Type 0} (link : E → LinkId) (same : E → E → Type 0) → ((x y : E) → same x y → link y ≡ link x) →
+    (seats after : List Seat) (links now : List E) (n m : ℕ) → length after ≡ length seats →
+    EachRelated same links now → m ≡ n → AreReady after → AreSeated link seats links n → AreSeated link after now m
+seated_on link same same_link seats after links now n m len sames as_many ready h =
+    let few = h.few in let count = h.count in let ports = h.ports in
+    let long = each_length same links now sames in record {
+      few = omega (arith, few, len);
+      count = omega (arith, count, len, long);
+      ids = numbered_kept link same same_link links now sames h.ids;
+      ready = ready;
+      ports = omega (arith, ports, len, as_many);
     }
 
 -- those before this place took what their links show, so that the links that they read show nothing, and the others are

@@ -10,7 +10,7 @@ use Rattle.sja_script.specs.declared.strike.Strike.{Strike}
 use Rattle.sja_script.specs.Striking.{Strikes}
 use Rattle.sja_bus.specs.declared.struck_nodes.StruckNodes.{StruckNodes}
 use Rattle.sja_bus.specs.declared.seat.Seat.{Seat}
-use Rattle.sja_bus.specs.StrikesByBit.{IsAmong}
+use Rattle.sja_bus.specs.Inside.StrikesByBit.{IsAmong}
 use Rattle.sja_wire.specs.Wire.{wired}
 use Rattle.sja_wire.specs.Opens.{Opens}
 use Rattle.sja_bus.specs.Inside.Rows.{AreReady, EachSeat, SeatTurns, IsBus, driven_by}

@@ -4,12 +4,13 @@ use Rattle.std.specs.Prelude.{slice_index_or, slice_set}
 use Rattle.std.proofs.Math.ListN.{length-set}
 use Rattle.can_bits.specs.declared.level.Level.{Level}
 use Rattle.sja_link.specs.Lists.{Lists}
+use Rattle.sja_link.specs.declared.bus_end.BusEnd.{Ghosts as Ends}
 use Rattle.sja_link.specs.BusLedgers.{link_of}
 use Rattle.sja_regs.specs.declared.bus_turn.BusTurn.{BusTurn}
+use Rattle.sja_bus.specs.declared.board.Board.{Ghosts as Ports}
 use Rattle.sja_bus.specs.declared.struck_nodes.StruckNodes.{StruckNodes}
 use Rattle.sja_bus.specs.declared.seat.Seat.{Seat}
-use Rattle.sja_link.specs.Links.{Goes}
-use Rattle.sja_bus.specs.Inside.Seats.{IsReady}
+use Rattle.sja_bus.specs.Inside.SeatBits.{HadBit, KeepsInBit}
 use Rattle.sja_bus.specs.Inside.Turning.{Turns}
 use Rattle.sja_bus.specs.Inside.Rows.{AreReady, SeatTurns, seen_by}
 use Rattle.sja_bus.specs.Inside.Underway.{IsUnderway}
@@ -32,51 +33,43 @@ underway_none same stands same_refl ports told kept kept_refl struck level seats
   others = λ m far. kept_refl board m;
 }
 
--- what one of them does in its bit, at whose end the board is that one
-pub record Ticks {E B : Type 0} (same : E → E → Type 0) (stands : E → Lists → Type 0) (ports : B → ℕ)
-    (told : B → B → ℕ → BusTurn → Type 0) (kept : B → B → ℕ → Type 0) (seen : Level) (old new : Seat) (k : ℕ)
-    (links after : List E) (board now : B) : Type 0 where
-  pub ready : IsReady new
-  pub node : (link_of new.ledger).node ≡ (link_of old.ledger).node
-  pub room : new.journal.room ≡ old.journal.room
-  pub goes : Goes same stands old.journal.entries new.journal.entries links after (64 * k)
-  pub ports_are : ports now ≡ ports board
-  pub others : (m : ℕ) → m ≢ (link_of old.ledger).node → kept board now m
-  pub turns : Turns (told board now (link_of old.ledger).node) (kept board now (link_of old.ledger).node) seen old new
-
-pub underway_one : {E B : Type 0} (same : E → E → Type 0) (stands : E → Lists → Type 0) →
-    ((x y z : E) → same x y → same y z → same x z) → (ports : B → ℕ) (told : B → B → ℕ → BusTurn → Type 0)
-    (kept : B → B → ℕ → Type 0) →
-    ((a b c : B) (m : ℕ) → kept a b m → kept b c m → kept a c m) →
-    ((a b c : B) (m : ℕ) (t : BusTurn) → told a b m t → kept b c m → told a c m t) →
-    ((a b c : B) (m : ℕ) (t : BusTurn) → kept a b m → told b c m t → told a c m t) →
+-- one more had it
+pub underway_one : {E B : Type 0} (e : Ends E) (b : Ports B) →
+    ((x y z : E) → e.same x y → e.same y z → e.same x z) →
+    ((x y z : B) (m : ℕ) → b.kept x y m → b.kept y z m → b.kept x z m) →
+    ((x y z : B) (m : ℕ) (t : BusTurn) → b.told x y m t → b.kept y z m → b.told x z m t) →
+    ((x y z : B) (m : ℕ) (t : BusTurn) → b.kept x y m → b.told y z m t → b.told x z m t) →
     (struck : StruckNodes) (level seen : Level) (before seats : List Seat) (given links after : List E)
     (was board now : B) (k : ℕ) (s new : Seat) → k < length seats → seen ≡ seen_by struck level k →
-    Ticks same stands ports told kept seen (slice_index_or seats k s) new k links after board now →
-    IsUnderway same stands ports told kept struck level before given was k seats links board →
-    IsUnderway same stands ports told kept struck level before given was (k + 1) (slice_set seats k new) after now
-underway_one same stands same_trans ports told kept kept_trans told_first told_last struck level seen before seats given
-    links after was board now k s new here sees did u =
+    KeepsInBit e b (slice_index_or seats k s) new links after board now →
+    HadBit e b (b.kept board now (link_of (slice_index_or seats k s).ledger).node) seen (slice_index_or seats k s) new
+    links after (64 * k) board now →
+    IsUnderway e.same e.stands b.ports b.told b.kept struck level before given was k seats links board →
+    IsUnderway e.same e.stands b.ports b.told b.kept struck level before given was (k + 1) (slice_set seats k new) after
+    now
+underway_one e b same_trans kept_trans told_first told_last struck level seen before seats given links after was board
+    now k s new here sees keeps had u =
     let old = slice_index_or seats k s in
     let n : (link_of old.ledger).node ≡ k = (u.ready k s here).own in
     let count = u.count in
-    let P : ℕ → Type 0 = λ m. Turns (told board now m) (kept board now m) seen old new in
-    let Q : Level → Type 0 = λ x. Turns (told board now k) (kept board now k) x old new in
-    let did_now = turns_by (λ t is. told_last was board now k t (u.others k (omega arith)) is)
+    let P : ℕ → Type 0 = λ m. Turns (b.told board now m) (b.kept board now m) seen old new in
+    let Q : Level → Type 0 = λ x. Turns (b.told board now k) (b.kept board now k) x old new in
+    let turned = turns_by (λ t is. told_last was board now k t (u.others k (omega arith)) is)
     (λ is. kept_trans was board now k (u.others k (omega arith)) is)
-    (subst Q sees (subst P n did.turns)) in
-    let far : (m : ℕ) → m ≢ k → kept board now m = λ m ne. did.others m (λ e. ne (e ∙ n)) in record {
-      ready = ready_one seats k new here u.ready (record { ready = did.ready; own = did.node ∙ n });
+    (subst Q sees (subst P n had.turns)) in
+    let far : (m : ℕ) → m ≢ k → b.kept board now m = λ m ne. keeps.others m (λ is. ne (is ∙ n)) in record {
+      ready = ready_one seats k new here u.ready (record { ready = had.ready; own = keeps.stays.node ∙ n });
       count = length-set seats k new ∙ u.count;
-      goes = goes_all_one same stands same_trans before seats given links after k s new here u.count u.goes did.goes;
-      rooms = λ m h. rooms_one m seats k s new here did.room (u.rooms m h);
-      done = done_one (SeatTurns (told was now) (kept was now) struck level) k before seats s new
-          (omega (arith, here, count)) u.count did_now
+      goes = goes_all_one e.same e.stands same_trans before seats given links after k s new here u.count u.goes
+          had.goes;
+      rooms = λ m h. rooms_one m seats k s new here keeps.stays.room (u.rooms m h);
+      done = done_one (SeatTurns (b.told was now) (b.kept was now) struck level) k before seats s new
+          (omega (arith, here, count)) u.count turned
           (done_before k before seats (λ m near x y.
           turns_by {seen = seen_by struck level m} {old = x} {new = y}
           (λ t is. told_first was board now m t is (far m (omega (arith, near))))
           (λ is. kept_trans was board now m is (far m (omega (arith, near))))) u.done);
-      ports_are = did.ports_are ∙ u.ports_are;
+      ports_are = keeps.ports ∙ u.ports_are;
       others = λ m l. kept_trans was board now m (u.others m (omega (arith, l))) (far m (omega (arith, l)));
     }
 

@@ -1,8 +1,9 @@
 -- Bits before each of which no port was told anything: the journals have bits alone more.
-use Rattle.std.proofs.Common.{◌≡◌, ℕ, ◌+◌, ◌-◌, ◌<◌, ◌≤◌, Bool, true, None, List, [], ◌∷◌, ◌++◌, length, inl, inr}
-use Rattle.std.proofs.Common.{sym, ◌∙◌, subst, arith}
+use Rattle.std.proofs.Common.{◌≡◌, ℕ, ◌+◌, ◌-◌, ◌<◌, ◌≤◌, Bool, false, true, None, List, [], ◌∷◌, ◌++◌, length}
+use Rattle.std.proofs.Common.{inl, inr, sym, ◌∙◌, subst, arith}
 use Rattle.std.specs.Prelude.{◌⊎◌, Option, slice_index_or}
 use Rattle.can_bits.specs.declared.level.Level.{Level}
+use Rattle.can_node.specs.Stands.{ShowsRest}
 use Rattle.sja_link.specs.declared.entry.Entry.{Entry}
 use Rattle.sja_link.specs.declared.entry.Entry.TheVariants.{Bit}
 use Rattle.sja_regs.specs.declared.orders.Orders.{Orders}
@@ -14,7 +15,7 @@ use Rattle.sja_bus.specs.declared.seat.Seat.{Seat}
 use Rattle.sja_wire.specs.Buses.{BusValue}
 use Rattle.sja_wire.specs.Reasons.{room_for}
 use Rattle.sja_bus.specs.Moment.{Moment}
-use Rattle.sja_bus.specs.UntilTold.{EndsUntilTold, HasBitsMore, IsLastTurn, NoMore, NoneTold, RunsNone}
+use Rattle.sja_bus.specs.UntilTold.{EndsUntilTold, HasBitsMore, IsLastTurn, NoMore, NoneTold, RunsNone, WorksUntold}
 use Rattle.sja_bus.specs.UntilTold.EndsUntilTold.{no_more as by_none, told as by_told}
 use Rattle.sja_bus.specs.UntilTold.HasBitsMore.{none, one_more}
 use Rattle.sja_bus.specs.UntilTold.NoMore.{all_run, spent, rests, struck, full}
@@ -23,6 +24,7 @@ use Rattle.sja_bus.specs.Inside.Refusing.{HaveRoom}
 use Rattle.sja_bus.specs.Inside.Rows.{AreReady, EachSeat, SeatHasBits, driven_by, journals_of}
 use Rattle.sja_bus.specs.Inside.RunningOn.{RowsRunNone, SomeAborts, SomeTold, SomeUntold, moment_of}
 use Rattle.sja_bus.specs.Inside.Together.{IsQuietRow}
+use Rattle.sja_bus.proofs.AllNodes.BitAfterBit.{some_work}
 use Rattle.sja_bus.proofs.AllNodes.RanOn.{bus_with}
 use Rattle.sja_bus.proofs.AllNodes.Running.{count_is, journal_is, untold_is}
 use Rattle.sja_bus.proofs.Resting.Rests.{rests_at}
@@ -57,7 +59,7 @@ row_bits to_rest begun seats after count first row m s few =
     old.drives (wired (driven_by seats)) (first m s few) (row.bits m s (omega (arith, few, count))).whole
 
 -- since the bus had these seats no port was told anything
-pub none_told : {E B : Type 0} (script : List Strike) (steps : List ℕ) (from run left less : ℕ)
+none_told : {E B : Type 0} (script : List Strike) (steps : List ℕ) (from run left less : ℕ)
     (begun seats : List Seat) (given links : List E) (first board : B) → board ≡ first →
     length seats ≡ length begun → EachSeat SeatHasBits begun seats →
     NoneTold (moment_of script steps from left begun given first) (moment_of script steps run less seats links board)
@@ -73,6 +75,18 @@ none_told script steps from run left less begun seats given links first board st
         (sym (journal_is begun node s few))
         (subst (λ (j : List Entry). HasBitsMore (slice_index_or begun node s).journal.entries j)
         (sym (journal_is seats node s (omega (arith, few, count)))) (more node s few))
+
+-- and some node works, where that is asked for
+pub works_untold : {E B : Type 0} (to_rest : Bool) (script : List Strike) (steps : List ℕ) (from run left less : ℕ)
+    (begun seats : List Seat) (given links : List E) (first board : B) → AreReady seats →
+    (to_rest ≡ true → (k : ℕ) × (k < length seats) × ((s : Seat) → ShowsRest (slice_index_or seats k s).node false)) →
+    board ≡ first → length seats ≡ length begun → EachSeat SeatHasBits begun seats →
+    WorksUntold to_rest (moment_of script steps from left begun given first)
+    (moment_of script steps run less seats links board)
+works_untold to_rest script steps from run left less begun seats given links first board ready works still len more = (
+  λ yes. some_work seats ready (works yes),
+  none_told script steps from run left less begun seats given links first board still len more,
+)
 
 -- ---- why none of them was run, and why no more
 

@@ -20,7 +20,8 @@ use Rattle.sja_link.specs.Places.{place_of}
 use Rattle.sja_link.specs.Records.{record_of}
 use Rattle.sja_link.proofs.JournalEntries.Entering.{place_push}
 use Rattle.sja_regs.specs.declared.bus_turn.BusTurn.{BusTurn}
-use Rattle.sja_link.specs.BitEntries.{HasBit, off_left}
+use Rattle.sja_link.specs.BitEntries.{HasBit}
+use Rattle.sja_link.specs.Inside.Entries.{off_left}
 use Rattle.sja_wire.specs.Telling.{SaysAlone, IsTurn, is_overrun}
 use Rattle.sja_bus.specs.Inside.Following.{Follows}
 use Rattle.sja_bus.specs.Inside.Turning.{Drops}

@@ -10,7 +10,8 @@ use Rattle.sja_link.specs.BusLedgers.{link_of}
 use Rattle.sja_wire.specs.declared.bus_fault.BusFault.{BusFault}
 use Rattle.sja_wire.specs.declared.bus_fault.BusFault.TheVariants.{BitsSpent, BadCredit, Stuck, BadOrder, JournalFull}
 use Rattle.sja_bus.specs.declared.seat.Seat.{Seat}
-use Rattle.sja_link.specs.Links.{Kept, Goes, Moves}
+use Rattle.sja_link.specs.Links.{Kept}
+use Rattle.sja_link.specs.Inside.Moving.{Goes, Moves}
 use Rattle.sja_link.specs.OutOfOrder.{HasOff}
 use Rattle.sja_link.specs.Aborting.{IsApplied}
 use Rattle.sja_link.specs.BitEntries.{MayHaveItems}

@@ -11,7 +11,8 @@ use Rattle.can_node.specs.Record.{RecordEntry as Event}
 use Rattle.can_node.specs.Record.RecordEntry.{OneBit as Took}
 use Rattle.can_node.specs.FinishedPieces.{Count, FinishedPiece, ReceivedFrame, counted, none_yet, received}
 use Rattle.can_node.specs.Events.{received_in}
-use Rattle.can_node.specs.Stands.{StandsAt, Samples, DrivesNext, closed_by, received_now}
+use Rattle.can_node.specs.Stands.{StandsAt, Samples, DrivesNext, closed_by}
+use Rattle.can_node.proofs.OneCut.Longer.{received_now}
 use Rattle.sja_link.specs.declared.verdict.Verdict.{Verdict}
 use Rattle.sja_link.specs.declared.verdict.Verdict.TheVariants.{Stored as ToStore, Overrun as ToLose}
 use Rattle.sja_link.specs.declared.entry.Entry.{Entry}
@@ -23,7 +24,7 @@ use Rattle.sja_link.specs.Verdicts.{filter_of, PassesAny, IsDue, HasVerdicts, en
 use Rattle.sja_link.proofs.JournalEntries.Entering.{record_push, record_counted, place_push}
 use Rattle.sja_link.proofs.Ledger.Judging.{filter_push, verdicts_quiet, verdicts_passed_by, verdicts_judged}
 use Rattle.sja_bus.specs.Inside.Following.{Follows, FollowsBit}
-use Rattle.sja_link.specs.BitEntries.{off_left}
+use Rattle.sja_link.specs.Inside.Entries.{off_left}
 use Rattle.sja_link.proofs.Growing.BitRecords.{entries_split}
 use Rattle.can_node.proofs.OneCut.Longer.{received_more}
 

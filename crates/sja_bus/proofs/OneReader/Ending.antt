@@ -12,14 +12,22 @@ use Rattle.sja_script.specs.Striking.{Strikes}
 use Rattle.sja_link.specs.BitEntries.{judged_as, off_as}
 use Rattle.sja_bus.specs.declared.seat.Seat.{Seat}
 use Rattle.sja_bus.specs.declared.struck_nodes.StruckNodes.{StruckNodes}
-use Rattle.sja_bus.specs.StrikesByBit.{IsAmong}
+use Rattle.sja_bus.specs.Inside.StrikesByBit.{IsAmong}
 use Rattle.sja_bus.specs.Inside.Refusing.{HaveRoom}
 use Rattle.sja_bus.specs.Inside.Rows.{EachSeat, SeatTurns, seen_by}
-use Rattle.sja_bus.specs.Inside.RunningOn.{AllAtRest, RowsRunNone, SomeFull, SomeStruck}
+use Rattle.sja_bus.specs.Inside.RunningOn.{AllAtRest, RowsEnd, RowsRunNone, SomeFull, SomeStruck}
 use Rattle.sja_bus.specs.Inside.Together.{AreQuietRows}
 use Rattle.sja_bus.proofs.OneReader.QuietRows.{rooms_after}
 
 -- ---- one journal has no room for more than so many entries, and then for fewer
+
+-- at first
+pub full_first : (most fit room : ℕ) (seats : List Seat) → fit ≡ room → (room ≡ most) ⊎ SomeFull room seats →
+    (most ≡ fit) ⊎ SomeFull (fit - 0) seats
+full_first most fit room seats is (inl all) = inl (omega (arith, all, is))
+full_first most fit room seats is (inr full) =
+    let same : room ≡ fit - 0 = omega (arith, is) in
+    let P : ℕ → Type 0 = λ n. SomeFull n seats in inr (subst P same full)
 
 -- after one bit of each, whatever happened in it
 full_turn : {was_told : ℕ → BusTurn → Type 0} {was_kept : ℕ → Type 0} (struck : StruckNodes) (level : Level)
@@ -87,7 +95,7 @@ ends_held to_rest script from most run seats struck strikes (inl hit) =
 ends_held to_rest script from most run seats struck strikes (inr all) = inr (inr (inr all))
 
 -- none was run so far
-pub none_first : (to_rest : Bool) (script : List Strike) (from most run : ℕ) (seats first : List Seat) → run ≡ 0 →
+none_first : (to_rest : Bool) (script : List Strike) (from most run : ℕ) (seats first : List Seat) → run ≡ 0 →
     seats ≡ first → RowsRunNone to_rest script (from + run) (most - run) seats →
     RowsRunNone to_rest script from most first
 none_first to_rest script from most run seats first none same why =
@@ -96,3 +104,13 @@ none_first to_rest script from most run seats first none same why =
     let Q : ℕ → Type 0 = λ n. RowsRunNone to_rest script from n seats in
     let R : List Seat → Type 0 = λ l. RowsRunNone to_rest script from most l in
     subst R same (subst Q left (subst P at why))
+
+-- so after as many as were run, of which no port was told
+pub ends_untold : {was_told : ℕ → BusTurn → Type 0} (to_rest : Bool) (script : List Strike) (from most run : ℕ)
+    (first seats : List Seat) → (run ≡ 0 → seats ≡ first) →
+    RowsRunNone to_rest script (from + run) (most - run) seats →
+    RowsEnd was_told to_rest script from most first seats run
+ends_untold to_rest script from most run first seats same why = record {
+  none = λ none. none_first to_rest script from most run seats first none (same none) why;
+  why = inl why;
+}

@@ -17,7 +17,7 @@ use Rattle.sja_regs.specs.declared.bus_turn.BusTurn.{BusTurn}
 use Rattle.sja_wire.specs.Wire.{wired}
 use Rattle.sja_bus.specs.declared.board.Board.{Ghosts as Ports}
 use Rattle.sja_bus.specs.declared.seat.Seat.{Seat}
-use Rattle.sja_bus.specs.StrikesByBit.{IsAmong}
+use Rattle.sja_bus.specs.Inside.StrikesByBit.{IsAmong}
 use Rattle.sja_bus.specs.Several.{AreBits}
 use Rattle.sja_bus.specs.Inside.Refusing.{AreFree, HaveRoom}
 use Rattle.sja_bus.specs.Inside.Rows.{AreReady, AreTold, EachSeat, GoesAll, IsBus, SeatTurns, driven_by}
@@ -28,8 +28,8 @@ use Rattle.sja_bus.specs.Inside.Together.{AreQuietRows, IsQuietRow}
 use Rattle.sja_bus.specs.Inside.Turning.{IsQuietBit}
 use Rattle.sja_bus.specs.Inside.Together.AreQuietRows.{no_row, one_more}
 use Rattle.sja_bus.proofs.AllNodes.RunningOn.{passes}
-use Rattle.sja_bus.proofs.AllNodes.BitAfterBit.{bits_on, some_work}
-use Rattle.sja_bus.proofs.AllNodes.UntilTold.{none_told, row_bits}
+use Rattle.sja_bus.proofs.AllNodes.BitAfterBit.{bits_on}
+use Rattle.sja_bus.proofs.AllNodes.UntilTold.{row_bits, works_untold}
 use Rattle.sja_bus.proofs.AtPorts.TurnsTold.{quiet_turns}
 use Rattle.sja_link.proofs.Growing.Moving.{goes_quiet}
 use Rattle.sja_bus.proofs.Resting.WholeStretches.{nobody, not_among}
@@ -172,11 +172,9 @@ module _ {E B : Type 0} (e : Ends E) (b : Ports B) (same_refl : (x : E) → e.sa
             links links board board early enough row.count pass.few pass.at pass.row
             (each_refl e.same same_refl links) (refl, λ m far. kept_refl board m)
             (row_goes e.same e.stands same_refl to_rest seats after links row) far.bus next
-            (λ k low. facts k (omega (arith, low, count))) (
-              (λ yes. some_work seats far.bus.ready (row.works yes)),
-              none_told script steps from (from + run) left
-                  (left - run) begun seats given links first board still count far.more,
-            ) (far.bits steps left enough);
+            (λ k low. facts k (omega (arith, low, count)))
+            (works_untold to_rest script steps from (from + run) left (left - run) begun seats given links first board
+            far.bus.ready row.works still count far.more) (far.bits steps left enough);
       }
 
   pub rows_on : (run : ℕ) (seats : List Seat) (n : ℕ) (after : List Seat) → run + n ≤ most →

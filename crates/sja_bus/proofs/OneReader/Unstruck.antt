@@ -1,13 +1,17 @@
 -- Bits in which no node is struck, one after the other.
-use Rattle.std.proofs.Common.{ℕ, ◌+◌, ◌<◌, Bool, List, length, sym, subst, arith, inl, inr}
+use Rattle.std.proofs.Common.{ℕ, ◌+◌, ◌-◌, ◌<◌, ◌≤◌, Bool, List, drop, length, take, sym, subst, arith, inl, inr}
 use Rattle.std.specs.Prelude.{slice_index_or}
 use Rattle.std.proofs.lemmas.List.{get_or_default as or_same}
 use Rattle.lemmas.proofs.Numbers.{earlier_or_last}
+use Rattle.sja_script.specs.declared.strike.Strike.{Strike}
+use Rattle.sja_script.specs.Striking.{Strikes}
 use Rattle.sja_bus.specs.declared.struck_nodes.StruckNodes.{StruckNodes}
-use Rattle.sja_bus.specs.StrikesByBit.{AreUnstruck, IsAmong}
+use Rattle.sja_bus.specs.Inside.StrikesByBit.{AreStruckFrom, AreUnstruck, IsAmong}
 use Rattle.sja_bus.specs.declared.seat.Seat.{Seat}
 use Rattle.sja_bus.specs.Inside.Together.{RunsTogether}
 use Rattle.sja_bus.specs.Inside.Together.AreQuietRows.{no_row}
+use Rattle.sja_bus.proofs.OneReader.QuietRows.{part_at, part_left}
+use Rattle.sja_bus.proofs.Resting.WholeStretches.{nobody}
 
 -- none in those so far, and none in the next one
 pub none_more : (struck : List StruckNodes) (k : ℕ) (e : StruckNodes) → k < length struck →
@@ -26,3 +30,14 @@ pub runs_none : (to_rest : Bool) (struck : List StruckNodes) (seats : List Seat)
     RunsTogether to_rest struck seats 0 seats
 runs_none to_rest struck seats =
     record { few = omega arith; none = λ i node d low. absurd (omega (arith, low)); rows = no_row }
+
+-- nor in so many of the bits of a part behind the first ones
+pub unstruck_behind : (script : List Strike) (from : ℕ) (marks : List StruckNodes) (run n : ℕ) → run ≤ length marks →
+    n ≤ length (take (length marks - run) (drop run marks)) → AreStruckFrom script from marks →
+    AreUnstruck n (take (length marks - run) (drop run marks)) →
+    (i node : ℕ) → i < n → node < 8 → Strikes script (from + (run + i)) node → ⊥
+unstruck_behind script from marks run n within few struck none i node low small strikes =
+    let left = part_left marks run within in let near : run + i < length marks = omega (arith, low, few, left) in
+    let P : StruckNodes → Type 0 = λ x. IsAmong node x in
+    none i node nobody low (subst P (sym (part_at marks run i nobody near))
+    ((struck (run + i) node nobody near small).1 strikes))

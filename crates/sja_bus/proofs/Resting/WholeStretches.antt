@@ -17,7 +17,7 @@ use Rattle.sja_script.specs.Striking.{Strikes}
 use Rattle.sja_bus.specs.declared.struck_nodes.StruckNodes.{StruckNodes}
 use Rattle.sja_bus.specs.declared.untold.Untold.TheVariants.{Nothing, Dropped}
 use Rattle.sja_bus.specs.declared.seat.Seat.{Seat}
-use Rattle.sja_bus.specs.StrikesByBit.{IsAmong}
+use Rattle.sja_bus.specs.Inside.StrikesByBit.{IsAmong}
 use Rattle.sja_wire.specs.Wire.{wired, IsWired}
 use Rattle.sja_wire.specs.Reasons.{room_for}
 use Rattle.sja_wire.specs.declared.bus_fault.BusFault.{BusFault}

@@ -11,7 +11,7 @@ use Rattle.std.proofs.lemmas.List.Elements.{at_from_Contains, Contains-push, Con
 use Rattle.sja_script.specs.declared.strike.Strike.{Strike}
 use Rattle.sja_script.specs.Striking.{Hits, Strikes}
 use Rattle.sja_bus.specs.declared.struck_nodes.StruckNodes.{StruckNodes}
-use Rattle.sja_bus.specs.StrikesByBit.{IsAmong, IsMarked, AreStruck, AreStruckFrom}
+use Rattle.sja_bus.specs.Inside.StrikesByBit.{IsAmong, IsMarked, AreStruck, AreStruckFrom}
 
 -- ---- the times of one strike
 

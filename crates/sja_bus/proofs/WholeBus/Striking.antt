@@ -8,7 +8,7 @@ use Rattle.sja_script.specs.Striking.{Hits, Strikes}
 use Rattle.sja_wire.specs.declared.bus_fault.BusFault.{BusFault}
 use Rattle.sja_wire.specs.Wire.{IsWired}
 use Rattle.sja_bus.specs.declared.seat.Seat.{Seat}
-use Rattle.sja_bus.specs.StrikesByBit.{Scripted}
+use Rattle.sja_bus.specs.Inside.StrikesByBit.{Scripted}
 use Rattle.sja_bus.specs.Inside.Rows.{IsBus, journals_of}
 use Rattle.sja_bus.specs.Inside.Whole.{IsWhole}
 

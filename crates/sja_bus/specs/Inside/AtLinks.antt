@@ -4,7 +4,7 @@ use Rattle.sja_link.specs.declared.link_id.LinkId.{LinkId}
 use Rattle.sja_link.specs.BusLedgers.{link_of}
 use Rattle.sja_bus.specs.declared.seat.Seat.{Seat}
 use Rattle.lemmas.specs.Related.{EachRelated}
-use Rattle.sja_link.specs.Links.{AreOf}
+use Rattle.sja_link.specs.Inside.Moving.{AreOf}
 use Rattle.sja_bus.specs.Inside.Seats.{IsReady}
 
 -- a seat is ready, and the 64 links from this place on are those of its node

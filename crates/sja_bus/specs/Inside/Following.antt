@@ -14,7 +14,7 @@ use Rattle.sja_link.specs.Carried.{taken_of}
 use Rattle.sja_link.specs.World.{is_stop}
 use Rattle.sja_link.specs.Verdicts.{filter_of, HasVerdicts}
 use Rattle.sja_link.specs.Links.{stops_of}
-use Rattle.sja_link.specs.BitEntries.{off_left}
+use Rattle.sja_link.specs.Inside.Entries.{off_left}
 use Rattle.sja_link.specs.OutOfOrder.{HasOff, HasAskedOff}
 use Rattle.sja_link.specs.Orderly.{AreOrderly}
 use Rattle.sja_bus.specs.declared.activity.Activity.{Activity}

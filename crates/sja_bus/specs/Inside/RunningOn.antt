@@ -1,5 +1,5 @@
 -- Bits in which the bus takes nothing and aborts nothing.
-use Rattle.std.specs.Prelude.{◌≡◌, ◌⊎◌, ◌+◌, ◌-◌, ◌*◌, ◌<◌, ◌≤◌, ℕ, true, false, Bool, None, Some, List, length}
+use Rattle.std.specs.Prelude.{◌≡◌, ◌⊎◌, ◌+◌, ◌-◌, ◌*◌, ◌<◌, ◌≤◌, ℕ, suc, true, false, Bool, None, Some, List, length}
 use Rattle.std.specs.Prelude.{slice_index_or}
 use Rattle.sja_link.specs.declared.bus_end.BusEnd.{Ghosts as Ends}
 use Rattle.sja_link.specs.declared.link_id.LinkId.{LinkId}
@@ -13,16 +13,16 @@ use Rattle.sja_bus.specs.declared.broken_off.BrokenOff.{BrokenOff}
 use Rattle.sja_wire.specs.declared.bus_fault.BusFault.{BusFault}
 use Rattle.sja_bus.specs.declared.seat.Seat.{Seat}
 use Rattle.sja_bus.specs.declared.struck_nodes.StruckNodes.{StruckNodes}
-use Rattle.sja_bus.specs.StrikesByBit.{IsAmong}
+use Rattle.sja_bus.specs.Inside.StrikesByBit.{IsAmong}
 use Rattle.sja_wire.specs.Buses.{BusValue}
 use Rattle.sja_link.specs.Links.{Numbered}
 use Rattle.sja_wire.specs.Reasons.{room_for}
 use Rattle.sja_bus.specs.Moment.{Moment, Keeps, OneBit}
 use Rattle.sja_bus.specs.Several.{AreBits, BreaksOff}
 use Rattle.sja_bus.specs.UntilTold.{IsLastTurn, WorksUntold}
-use Rattle.sja_bus.specs.Inside.Refusing.{HaveRoom}
+use Rattle.sja_bus.specs.Inside.Refusing.{AreFree, HaveRoom}
 use Rattle.sja_bus.specs.Inside.Turning.{is_untold}
-use Rattle.sja_bus.specs.Inside.Rows.{AreTold, IsBus, journals_of, untold_of}
+use Rattle.sja_bus.specs.Inside.Rows.{AreTold, EachSeat, IsBus, SeatHasBits, journals_of, untold_of}
 
 -- each of so many ports has orders, and they want no abort
 abbrev pub NoneAborts : (ℕ → Orders → Type 0) → ℕ → Type 0
@@ -43,6 +43,13 @@ pub record SomeTold (was_told : ℕ → BusTurn → Type 0) (seats : List Seat) 
   pub few : node < length seats
   pub told : was_told node turn
   pub last : (s : Seat) → IsLastTurn (slice_index_or seats node s).journal.entries turn
+
+-- no port was told anything of a bit of these nodes: the ports are as they were, and each journal has bits alone more,
+-- and room for one entry less than it had
+pub record TellsNone {B : Type 0} (seats after : List Seat) (was now : B) : Type 0 where
+  pub still : now ≡ was
+  pub bits : EachSeat SeatHasBits seats after
+  pub free : (n : ℕ) → AreFree (suc n) seats → AreFree n after
 
 -- each of these nodes is at rest
 abbrev pub AllAtRest : List Seat → Type 0
@@ -102,6 +109,13 @@ pub record RowsRun {E B : Type 0} (e : Ends E) (b : Ports B) (to_rest : Bool) (s
 abbrev pub RowsRunNone : Bool → List Strike → ℕ → ℕ → List Seat → Type 0
 RowsRunNone to_rest script from most seats = (most ≡ 0) ⊎ SomeFull 0 seats
     ⊎ ((node : ℕ) × (node < 8) × Strikes script from node) ⊎ ((to_rest ≡ true) × AllAtRest seats)
+
+-- why no more than n of so many were run: what stands against the next one, or a port was told in the last one; and
+-- where none was run, what stood against the first
+pub record RowsEnd (was_told : ℕ → BusTurn → Type 0) (to_rest : Bool) (script : List Strike) (from most : ℕ)
+    (was now : List Seat) (n : ℕ) : Type 0 where
+  pub none : n ≡ 0 → RowsRunNone to_rest script from most was
+  pub why : RowsRunNone to_rest script (from + n) (most - n) now ⊎ SomeTold was_told now
 
 -- fewer than so many, and then one that broke off: so for every bus that counts just the bits before it
 abbrev pub RowsStop : {E B : Type 0} → Ends E → Ports B → Bool → List Strike → ℕ → ℕ → List Seat → List Seat → List E →

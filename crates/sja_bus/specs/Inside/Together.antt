@@ -13,7 +13,7 @@ use Rattle.sja_link.specs.declared.entry.Entry.TheVariants.{Bit}
 use Rattle.sja_wire.specs.Wire.{wired}
 use Rattle.sja_bus.specs.declared.seat.Seat.{Seat}
 use Rattle.sja_bus.specs.declared.struck_nodes.StruckNodes.{StruckNodes}
-use Rattle.sja_bus.specs.StrikesByBit.{AreUnstruck}
+use Rattle.sja_bus.specs.Inside.StrikesByBit.{AreUnstruck}
 use Rattle.sja_bus.specs.Inside.Refusing.{AreFree}
 use Rattle.sja_bus.specs.Inside.Rows.{AreReady, AreTold, EachSeat, driven_by}
 use Rattle.sja_bus.specs.Inside.Turning.{IsQuietBit}

@@ -2,10 +2,13 @@
 use Rattle.std.specs.Prelude.{◌≡◌, ◌≤◌, ℕ, List, length}
 use Rattle.can_bits.specs.declared.level.Level.{Level}
 use Rattle.sja_link.specs.Lists.{Lists}
+use Rattle.sja_link.specs.declared.bus_end.BusEnd.{Ghosts as Ends}
 use Rattle.sja_regs.specs.declared.bus_turn.BusTurn.{BusTurn}
+use Rattle.sja_bus.specs.declared.board.Board.{Ghosts as Ports}
+use Rattle.sja_wire.specs.declared.bus_fault.BusFault.{BusFault}
 use Rattle.sja_bus.specs.declared.struck_nodes.StruckNodes.{StruckNodes}
 use Rattle.sja_bus.specs.declared.seat.Seat.{Seat}
-use Rattle.sja_bus.specs.Inside.Refusing.{HaveRoom}
+use Rattle.sja_bus.specs.Inside.Refusing.{HaveRoom, SeatBreaks}
 use Rattle.sja_bus.specs.Inside.Rows.{AreReady, GoesAll, Done, SeatTurns}
 
 -- the seats before this place had the bit, the others are as they were, and so are their ports
@@ -20,3 +23,20 @@ pub record IsUnderway {E B : Type 0} (same : E → E → Type 0) (stands : E →
     pub done : Done (SeatTurns (told was board) (kept was board) struck level) k before seats
     pub ports_are : ports board ≡ ports was
     pub others : (m : ℕ) → k ≤ m → kept was board m
+
+-- where those before this place had the bit, whatever all were before it, then all have it
+abbrev pub GoesToAll : {E B : Type 0} → Ends E → Ports B → StruckNodes → Level → ℕ → List Seat → List Seat → List E →
+    List E → B → B → Type 0
+GoesToAll {E} {B} e b struck level first seats after links links_after board now =
+    (before : List Seat) (given : List E) (was : B) →
+    IsUnderway e.same e.stands b.ports b.told b.kept struck level before given was first seats links board →
+    (k : ℕ) × (length after ≤ k)
+    × IsUnderway e.same e.stands b.ports b.told b.kept struck level before given was k after links_after now
+
+-- where those before this place had it, with this fault the bit of one broke off
+abbrev pub BreaksUnderway : {E B : Type 0} → Ends E → Ports B → StruckNodes → Level → ℕ → List Seat → List Seat →
+    List E → B → BusFault → Type 0
+BreaksUnderway {E} {B} e b struck level first seats after links board f =
+    (before : List Seat) (given : List E) (was : B) →
+    IsUnderway e.same e.stands b.ports b.told b.kept struck level before given was first seats links board →
+    SeatBreaks e.stands e.full before after given f

@@ -3,8 +3,9 @@ use Rattle.std.specs.Prelude.{◌⊎◌, Err}
 use Rattle.lemmas.proofs.Related.{each_trans}
 use Rattle.sja_bus.specs.Inside.Refusing.{SeatRefuses, SeatFull, SeatStops}
 use Rattle.sja_bus.specs.Inside.Rows.{SeatTurns}
-use Rattle.sja_bus.proofs.AllNodes.Many.{goes_all_trans, numbered_kept, done_all}
+use Rattle.sja_bus.proofs.AllNodes.Many.{goes_all_trans, done_all}
 use Rattle.sja_bus.proofs.AllNodes.BitAfterBit.{facts_of_bit}
+use Rattle.sja_bus.proofs.AllNodes.Rows.{seated_on}
 use Rattle.sja_bus.proofs.AllNodes.Underway.{underway_none}
 use Rattle.sja_bus.proofs.ItemsTaken.TakenBefore.{row_takes}
 use Rattle.lemmas.proofs.Results.{err_is}
@@ -12,17 +13,10 @@ use Rattle.sja_bus.proofs.all_nodes.bit_of_all.Goals as goal
 
 pub sample_from-requires : goal.sample_from-requires
 sample_from-requires g c =
-    let h = c.requires.seated in let did = c.in_ok-open_all.ensures in
-    let seats = c.open_all.auto.seats in let links = c.open_all.auto.links in
-    let few = h.few in let count = h.count in let ports = h.ports in record {
-      seated = record {
-        few = omega (arith, few, seats);
-        count = omega (arith, count, seats, links);
-        ids = numbered_kept g.E.BusEnd.link g.E.BusEnd.same g.met.E.BusEnd.same_link c.args.links.now
-            c.open_all.new.links c.open_all.ensures.sames h.ids;
-        ready = did.ready;
-        ports = omega (arith, ports, seats);
-      };
+    let ports = g.B.Board.ports c.args.board.now in record {
+      seated = seated_on g.E.BusEnd.link g.E.BusEnd.same g.met.E.BusEnd.same_link c.args.seats.now c.open_all.new.seats
+          c.args.links.now c.open_all.new.links ports ports c.open_all.auto.seats c.open_all.ensures.sames refl
+          c.in_ok-open_all.ensures.ready c.requires.seated;
     }
 
 pub returns-clause-sames : goal.returns-clause-sames

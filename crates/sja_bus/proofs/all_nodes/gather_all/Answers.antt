@@ -1,7 +1,7 @@
 use Rattle.std.proofs.Common.{◌≡◌, ◌<◌, ◌+◌, ℕ, length, rules, subst}
 use Rattle.std.specs.Prelude.{Err, slice_set, slice_index_or}
 use Rattle.sja_link.specs.BusLedgers.{link_of}
-use Rattle.sja_link.specs.Links.{Goes}
+use Rattle.sja_link.specs.Inside.Moving.{Goes}
 use Rattle.sja_wire.specs.Reasons.{RefusesItem}
 use Rattle.sja_bus.specs.Inside.Rows.{SeatTakes, SeatUntold}
 use Rattle.sja_bus.specs.Inside.Refusing.{SeatRefuses}

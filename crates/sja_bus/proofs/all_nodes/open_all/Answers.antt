@@ -2,7 +2,7 @@ use Rattle.std.proofs.Common.{◌≡◌, ℕ, ◌<◌, ◌≤◌, ◌+◌, lengt
 use Rattle.std.specs.Prelude.{◌⊎◌, Err, slice_index_or, slice_set}
 use Rattle.sja_link.specs.BusLedgers.{link_of}
 use Rattle.lemmas.proofs.Related.{each_trans}
-use Rattle.sja_link.specs.Links.{Goes}
+use Rattle.sja_link.specs.Inside.Moving.{Goes}
 use Rattle.sja_wire.specs.Reasons.{RefusesItem}
 use Rattle.sja_bus.specs.Inside.Taking.{FullForAbort}
 use Rattle.sja_bus.specs.Inside.Rows.{SeatOpens, SeatOpensUntold}

@@ -3,11 +3,9 @@ use Rattle.std.specs.Prelude.{Err, slice_index_or, slice_set}
 use Rattle.std.proofs.Math.ListN.{length-set}
 use Rattle.std.proofs.lemmas.List.{take_all, set-get_or, get_or-set_same as set_here}
 use Rattle.sja_link.specs.declared.entry.Entry.TheVariants.{Bit}
-use Rattle.sja_link.specs.BusLedgers.{link_of}
 use Rattle.lemmas.specs.Related.{EachRelated}
 use Rattle.sja_bus.specs.declared.seat.Seat.{Seat}
 use Rattle.sja_wire.specs.Wire.{wired}
-use Rattle.sja_link.specs.Links.{Goes}
 use Rattle.sja_bus.specs.UntilTold.HasBitsMore.{none}
 use Rattle.sja_bus.specs.Inside.Rows.{SeatHasBits, SeatTurns, seen_by, driven_by}
 use Rattle.sja_bus.specs.Inside.Refusing.{SeatBreaks}
@@ -15,10 +13,9 @@ use Rattle.sja_bus.specs.Inside.RunningOn.{SomeTold}
 use Rattle.sja_bus.specs.Inside.Underway.{IsUnderway}
 use Rattle.sja_bus.proofs.AllNodes.Levels.{level_now}
 use Rattle.sja_bus.proofs.AllNodes.Many.{done_all, done_none, done_one}
-use Rattle.sja_link.proofs.Growing.Moving.{goes_quiet}
 use Rattle.sja_bus.proofs.ItemsTaken.Refusing.{free_one}
 use Rattle.sja_bus.proofs.AllNodes.Running.{seen_is}
-use Rattle.sja_bus.proofs.AtPorts.TurnsTold.{quiet_turns}
+use Rattle.sja_bus.proofs.AtPorts.SeatBits.{had_quiet, keeps_quiet}
 use Rattle.sja_bus.proofs.AllNodes.Underway.{underway_none, underway_one, underway_at}
 use Rattle.sja_bus.proofs.AllNodes.UntilTold.{bit_more}
 use Rattle.lemmas.proofs.Results.{err_is}
@@ -46,26 +43,15 @@ loop-k-preserved g c =
     let was : k < length c.args.seats.now = search rules in
     let old = slice_index_or c.loop-k.seats k s in let new = c.sample_quietly.new.self in
     let quiet = c.sample_quietly.ensures.quiet (search rules) in
-    let node = (link_of old.ledger).node in
+    let same_refl = g.met.E.BusEnd.same_refl in let same_trans = g.met.E.BusEnd.same_trans in
     let sees : c.seen-sees.result ≡ seen_by c.args.struck c.args.level k = c.seen-sees.ensures
-    ∙ seen_is c.has.result c.args.struck c.args.level k c.has.ensures in
-    let goes : Goes E.same E.stands old.journal.entries new.journal.entries links links (64 * k) =
-    rw quiet.whole (goes_quiet E.same E.stands g.met.E.BusEnd.same_refl old.journal.entries
-    (Bit old.drives c.seen-sees.result) links (64 * k) (λ l. refl)) in
-    record {
-      row = underway_one E.same E.stands g.met.E.BusEnd.same_trans B.ports B.told B.kept met.kept_trans met.told_first
-          met.told_last c.args.struck c.args.level c.seen-sees.result c.args.seats.now c.loop-k.seats
-          links links links a a a k s new here sees
-          (record {
-            ready = c.sample_quietly.ensures.ready;
-            node = c.sample_quietly.ensures.node;
-            room = c.sample_quietly.ensures.room;
-            goes = goes;
-            ports_are = refl;
-            others = λ m far. met.kept_refl a m;
-            turns = quiet_turns (B.told a a node) (B.kept a a node) c.seen-sees.result old new (met.kept_refl a node)
-                (inv.row.ready k s here).ready quiet;
-          }) inv.row;
+    ∙ seen_is c.has.result c.args.struck c.args.level k c.has.ensures in record {
+      row = underway_one E B same_trans met.kept_trans met.told_first met.told_last c.args.struck c.args.level
+          c.seen-sees.result c.args.seats.now c.loop-k.seats links links links a a a k s new here sees
+          (keeps_quiet E B same_refl met.kept_refl old new links a c.sample_quietly.ensures.node
+          c.sample_quietly.ensures.room)
+          (had_quiet E B same_refl met.kept_refl c.seen-sees.result old new links (64 * k) a
+          (inv.row.ready k s here).ready c.sample_quietly.ensures.ready quiet) inv.row;
       links = inv.links;
       board = inv.board;
       free = λ n h. free_one n k (Bit old.drives c.seen-sees.result) c.args.seats.now c.loop-k.seats s new here was
@@ -156,16 +142,12 @@ returns-clause-level g c =
     c.loop-k.invariant.level ∙ ap (λ l. wired (driven_by l)) (take_all c.loop-k.k c.loop-k.seats all)
 
 pub returns-clause-untold : goal.returns-clause-untold
-returns-clause-untold g c =
-    λ none. c.loop-k.invariant.board
-
-pub returns-clause-free : goal.returns-clause-free
-returns-clause-free g c = λ none. c.loop-k.invariant.free
-
-pub returns-clause-quiet : goal.returns-clause-quiet
-returns-clause-quiet g c = λ untold.
-    let all : length c.args.seats.now ≤ c.loop-k.k = search rules in
-    done_all SeatHasBits c.loop-k.k c.args.seats.now c.loop-k.seats all c.loop-k.invariant.bits
+returns-clause-untold g c = λ untold.
+    let all : length c.args.seats.now ≤ c.loop-k.k = search rules in record {
+      still = c.loop-k.invariant.board;
+      bits = done_all SeatHasBits c.loop-k.k c.args.seats.now c.loop-k.seats all c.loop-k.invariant.bits;
+      free = c.loop-k.invariant.free;
+    }
 
 pub returns-then-not-sample_quietly-clause-sames : goal.returns-then-not-sample_quietly-clause-sames
 returns-then-not-sample_quietly-clause-sames g c =

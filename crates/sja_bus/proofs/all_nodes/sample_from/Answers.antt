@@ -2,10 +2,9 @@ use Rattle.std.proofs.Common.{◌≡◌, ◌<◌, ◌≤◌, ℕ, length, rules,
 use Rattle.std.specs.Prelude.{Err, slice_set, slice_index_or}
 use Rattle.std.proofs.lemmas.List.{get_or-set_other as set_else}
 use Rattle.sja_link.specs.BusLedgers.{link_of}
-use Rattle.sja_link.specs.Links.{Goes}
-use Rattle.sja_wire.specs.Reasons.{IsBrokenFor}
 use Rattle.sja_bus.specs.Inside.Rows.{SeatTurns, seen_by}
-use Rattle.sja_bus.specs.Inside.Refusing.{SeatBreaks}
+use Rattle.sja_bus.specs.Inside.SeatBits.{BreaksInBit, HadBit}
+use Rattle.sja_bus.specs.Inside.Underway.{BreaksUnderway}
 use Rattle.sja_bus.proofs.ItemsTaken.BreakingSeats.{breaks_seat}
 use Rattle.lemmas.proofs.Related.{each_refl, each_trans}
 use Rattle.lemmas.proofs.Results.{err_is}
@@ -36,58 +35,48 @@ sample-requires-clause-at g c =
 pub loop-k-preserved : goal.loop-k-preserved
 loop-k-preserved g c =
     let E = g.E.BusEnd in let B = g.B.Board in let met = g.met.B.Board in let k = c.loop-k.k in
-    let did = c.in_ok-sample.ensures in
+    let had = c.in_ok-sample.ensures.had in let keeps = c.sample.ensures.keeps in
     let here : k < length c.loop-k.seats = search rules in
     let was : k < length c.args.seats.now = search rules in
     let n = (c.loop-k.invariant.ready k c.index-seats-k.result here).own in
     let a = c.args.board.now in let b = c.loop-k.board in let z = c.sample.new.board in
     let s = slice_index_or c.loop-k.seats k c.index-seats-k.result in
-    let G : ℕ → Type 0 = λ base. Goes E.same E.stands s.journal.entries c.sample.new.self.journal.entries c.loop-k.links
-    c.sample.new.links base in
-    let goes = subst G c.first_link.ensures did.goes in
+    let H : ℕ → Type 0 = λ base. HadBit E B (B.kept b z (link_of s.ledger).node) c.seen-sees.result s c.sample.new.self
+    c.loop-k.links c.sample.new.links base b z in
     let sees : c.seen-sees.result ≡ seen_by c.args.struck c.args.level k = c.seen-sees.ensures
     ∙ seen_is c.has.result c.args.struck c.args.level k c.has.ensures in
     record {
       ready = ready_one c.loop-k.seats k c.sample.new.self here c.loop-k.invariant.ready
-          (record { ready = did.ready; own = did.stays.node ∙ n });
+          (record { ready = had.ready; own = keeps.stays.node ∙ n });
       sames = each_trans E.same g.met.E.BusEnd.same_trans c.args.links.now c.loop-k.links c.sample.new.links
-          c.loop-k.invariant.sames c.sample.ensures.stays.sames;
-      ports = did.ports ∙ c.loop-k.invariant.ports;
+          c.loop-k.invariant.sames keeps.stays.sames;
+      ports = keeps.ports ∙ c.loop-k.invariant.ports;
       others = λ m l. met.kept_trans a b z m (c.loop-k.invariant.others m l)
-          (did.others m (λ e. omega (arith, e, n, l, was)));
+          (keeps.others m (λ e. omega (arith, e, n, l, was)));
       before = λ m low.
           let was = c.loop-k.invariant.before m low in let from : c.args.first ≤ k = search rules in (
-            met.kept_trans a b z m was.0 (did.others m (λ e. omega (arith, e, n, low, from))),
+            met.kept_trans a b z m was.0 (keeps.others m (λ e. omega (arith, e, n, low, from))),
             λ s. set_else c.loop-k.seats k m c.sample.new.self s (λ e. omega (arith, e, low, from)) ∙ was.1 s,
           );
       row = λ before given then u.
-          underway_one E.same E.stands g.met.E.BusEnd.same_trans B.ports B.told B.kept met.kept_trans met.told_first
-          met.told_last c.args.struck c.args.level c.seen-sees.result before c.loop-k.seats
-          given c.loop-k.links c.sample.new.links then b z k c.index-seats-k.result c.sample.new.self here sees
-          (record {
-            ready = did.ready;
-            node = did.stays.node;
-            room = did.stays.room;
-            goes = goes;
-            ports_are = did.ports;
-            others = did.others;
-            turns = did.turns;
-          })
+          underway_one E B g.met.E.BusEnd.same_trans met.kept_trans met.told_first met.told_last c.args.struck
+          c.args.level c.seen-sees.result before c.loop-k.seats given c.loop-k.links c.sample.new.links then b z k
+          c.index-seats-k.result c.sample.new.self here sees keeps (subst H c.first_link.ensures had)
           (c.loop-k.invariant.row before given then u);
     }
 
 pub returns-in_err-sample-clause-sames : goal.returns-in_err-sample-clause-sames
 returns-in_err-sample-clause-sames g c = each_trans g.E.BusEnd.same g.met.E.BusEnd.same_trans c.args.links.now
-    c.loop-k.links c.sample.new.links c.loop-k.invariant.sames c.sample.ensures.stays.sames
+    c.loop-k.links c.sample.new.links c.loop-k.invariant.sames c.sample.ensures.keeps.stays.sames
 
 pub returns-in_err-sample-clause-board : goal.returns-in_err-sample-clause-board
 returns-in_err-sample-clause-board g c =
     let here : c.loop-k.k < length c.args.seats.now = search rules in
     let n = (c.loop-k.invariant.ready c.loop-k.k c.index-seats-k.result (search rules)).own in (
-      c.sample.ensures.ports ∙ c.loop-k.invariant.ports,
+      c.sample.ensures.keeps.ports ∙ c.loop-k.invariant.ports,
       λ m far. g.met.B.Board.kept_trans c.args.board.now c.loop-k.board c.sample.new.board m
           (c.loop-k.invariant.others m far)
-          (c.sample.ensures.others m (λ e. omega (arith, e, n, far, here))),
+          (c.sample.ensures.keeps.others m (λ e. omega (arith, e, n, far, here))),
     )
 
 pub returns-clause-board : goal.returns-clause-board
@@ -107,11 +96,10 @@ returns-in_err-sample-clause-broken g c =
     let near : k < length c.loop-k.seats = search rules in
     let is : c.from_residual.result ≡ Err f = search rules in
     let was = slice_index_or c.loop-k.seats k s in
-    let B : ℕ → Type 0 = λ base. IsBrokenFor E.stands E.full (link_of was.ledger).node was.journal.room
-    was.journal.entries new.journal.entries c.loop-k.links base f in
+    let B : ℕ → Type 0 = λ base. BreaksInBit E was new c.loop-k.links base f in
     let broken = subst B c.first_link.ensures c.in_err-sample.ensures.broken in
-    let P : _ → Type 0 = λ x. (before : _) (given : _) (was : _) → _ →
-    SeatBreaks E.stands E.full before (slice_set c.loop-k.seats k new) given x in
+    let P : _ → Type 0 = λ x. BreaksUnderway E D c.args.struck c.args.level c.args.first c.args.seats.now
+    (slice_set c.loop-k.seats k new) c.args.links.now c.args.board.now x in
     err_is P c.from_residual.result f is
     (λ before given start u.
     let i = inv.row before given start u in let count = i.count in

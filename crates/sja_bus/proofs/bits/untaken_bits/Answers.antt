@@ -1,27 +1,24 @@
 use Rattle.std.proofs.Common.{◌≡◌, ℕ, ◌+◌, ◌-◌, ◌<◌, false, true, List, length, rules, arith, refl, sym, ap, ◌∙◌}
-use Rattle.std.proofs.Common.{subst, inl, inr}
+use Rattle.std.proofs.Common.{subst, inr}
 use Rattle.std.specs.Prelude.{slice_index_or}
 use Rattle.lemmas.proofs.Related.{each_refl, each_trans}
 use Rattle.sja_wire.specs.Wire.{wired}
 use Rattle.sja_wire.specs.Reasons.{room_for}
 use Rattle.sja_bus.specs.UntilTold.HasBitsMore.{none}
-use Rattle.sja_script.specs.Striking.{Strikes}
 use Rattle.sja_bus.specs.declared.seat.Seat.{Seat}
-use Rattle.sja_bus.specs.declared.struck_nodes.StruckNodes.{StruckNodes}
-use Rattle.sja_bus.specs.StrikesByBit.{IsAmong}
 use Rattle.sja_bus.specs.Inside.Refusing.{AreFree}
 use Rattle.sja_bus.specs.Inside.Rows.{AreTold, IsBus, driven_by}
 use Rattle.sja_bus.specs.UntilTold.{WorksUntold}
-use Rattle.sja_bus.specs.Inside.RunningOn.{moment_of, AnyBit, RowsRun, SomeFull, SomeTold}
-use Rattle.sja_bus.proofs.AllNodes.Many.{numbered_kept}
+use Rattle.sja_bus.specs.Inside.RunningOn.{moment_of, AnyBit, RowsRun, SomeTold}
+use Rattle.sja_bus.proofs.AllNodes.Rows.{seated_on}
 use Rattle.sja_bus.proofs.AllNodes.RunningOn.{passes, none_still}
-use Rattle.sja_bus.proofs.AllNodes.BitAfterBit.{facts_of_bit, some_work, none_yet, bits_on, stops_on}
-use Rattle.sja_bus.proofs.AllNodes.UntilTold.{none_told, seats_then}
-use Rattle.sja_bus.proofs.OneReader.Ending.{ends_full, ends_held, full_on, none_first}
-use Rattle.sja_bus.proofs.OneReader.QuietRows.{free_after, have_room_after, none_run, part_at, part_left}
+use Rattle.sja_bus.proofs.AllNodes.BitAfterBit.{facts_of_bit, none_yet, bits_on, stops_on}
+use Rattle.sja_bus.proofs.AllNodes.UntilTold.{seats_then, works_untold}
+use Rattle.sja_bus.proofs.OneReader.Ending.{ends_full, ends_held, ends_untold, full_first, full_on}
+use Rattle.sja_bus.proofs.OneReader.QuietRows.{free_after, have_room_after, none_run, part_left}
 use Rattle.sja_bus.proofs.OneReader.QuietRows.{rooms_after, rows_on, told_after}
+use Rattle.sja_bus.proofs.OneReader.Unstruck.{unstruck_behind}
 use Rattle.sja_bus.proofs.Resting.Unstruck.{none_more, none_now}
-use Rattle.sja_bus.proofs.Resting.WholeStretches.{nobody}
 use Rattle.sja_bus.proofs.bits.untaken_bits.Goals.{In-Ok}
 use Rattle.sja_bus.proofs.bits.untaken_bits.Goals as goal
 
@@ -37,43 +34,36 @@ facts g c =
     subst F (sym before) (c.requires.may.facts k (omega (arith, few, same))))
 
 -- the bits so far, and one more that went well
-runs_more : (g : _) (c : In-Ok g) → RowsRun g.E.BusEnd g.B.Board c.args.to_rest c.args.struck.now.script
-    c.args.from c.args.most
-    c.args.seats.now c.sample_all.new.seats c.args.links.now c.sample_all.new.links c.args.board.now
+runs_more : (g : _) (c : In-Ok g) → RowsRun g.E.BusEnd g.B.Board c.args.to_rest c.args.struck.now.script c.args.from
+    c.args.most c.args.seats.now c.sample_all.new.seats c.args.links.now c.sample_all.new.links c.args.board.now
     c.sample_all.new.board (c.loop-run.run + 1)
 runs_more g c =
-    let E = g.E.BusEnd in
-    let B = g.B.Board in let inv = c.loop-run.invariant in let a = c.loop-run.board in let z = c.sample_all.new.board in
+    let E = g.E.BusEnd in let B = g.B.Board in let inv = c.loop-run.invariant in let did = c.in-Ok.ensures in
+    let script = c.args.struck.now.script in let from = c.args.from in let run = c.loop-run.run in
+    let was = c.loop-run.seats in let now = c.sample_all.new.seats in
+    let a = c.loop-run.board in let z = c.sample_all.new.board in
     let goes : c.goes_on.result ≡ true = search rules in
-    let within : c.loop-run.run < length c.part-marks.result.now = search rules in
+    let within : run < length c.part-marks.result.now = search rules in
     let count = c.part-marks.ensures.count in let all = c.room_of.ensures.most in
-    let early : c.loop-run.run < c.args.most = omega (arith, within, count, all) in
-    let pass = passes B.orders_are (B.told a z) (B.kept a z) c.args.struck.now.script (c.args.from + c.loop-run.run)
-    (length c.args.seats.now) c.none.result (slice_index_or c.part-marks.result.now c.loop-run.run _)
-    c.loop-run.level c.args.board.now a c.loop-run.seats c.sample_all.new.seats
-    c.requires.seated.few c.loop-run.auto.seats c.sample_all.auto.seats inv.board c.requires.may.orders c.none.ensures
-    (c.goes_on.ensures.none goes) (λ node few. c.part-marks.ensures.struck c.loop-run.run node _ within few)
-    inv.level c.in-Ok.ensures.turns c.in-Ok.ensures.ready inv.bus in record {
-      bus = pass.bus (c.args.from + (c.loop-run.run + 1)) (omega arith);
-      rooms = λ n h. c.in-Ok.ensures.rooms n (inv.rooms n h);
-      unstruck = none_more c.args.struck.now.script c.args.from c.loop-run.run 1 inv.unstruck
-          (none_now c.args.struck.now.script c.args.from c.loop-run.run (λ node few strikes.
-          c.goes_on.ensures.none goes node ((c.part-marks.ensures.struck c.loop-run.run node _ within few).1 strikes)));
+    let early : run < c.args.most = omega (arith, within, count, all) in
+    let pass = passes B.orders_are (B.told a z) (B.kept a z) script (from + run) (length c.args.seats.now) c.none.result
+    (slice_index_or c.part-marks.result.now run _) c.loop-run.level c.args.board.now a was now c.requires.seated.few
+    c.loop-run.auto.seats c.sample_all.auto.seats inv.board c.requires.may.orders c.none.ensures
+    (c.goes_on.ensures.none goes) (λ node few. c.part-marks.ensures.struck run node _ within few) inv.level did.turns
+    did.ready inv.bus in
+    let next = pass.bus (from + (run + 1)) (omega arith) in record {
+      bus = next;
+      rooms = λ n h. did.rooms n (inv.rooms n h);
+      unstruck = none_more script from run 1 inv.unstruck (none_now script from run (λ node few strikes.
+          c.goes_on.ensures.none goes node ((c.part-marks.ensures.struck run node _ within few).1 strikes)));
       bits = λ steps left enough.
-          let was = moment_of c.args.struck.now.script steps c.args.from left c.args.seats.now c.args.links.now
-          c.args.board.now in
-          bits_on E B (WorksUntold c.args.to_rest was) was c.args.struck.now.script steps c.args.from
-          c.loop-run.run c.args.most left c.none.result c.loop-run.seats
-          c.sample_all.new.seats c.loop-run.links c.sample_all.new.links a z early enough c.sample_all.auto.seats
-          pass.few pass.at pass.row
-          c.sample_all.ensures.sames c.sample_all.ensures.board c.in-Ok.ensures.goes inv.bus
-          (pass.bus (c.args.from + (c.loop-run.run + 1)) (omega arith)) (facts g c) (
-            (λ yes. some_work c.loop-run.seats inv.bus.ready (c.goes_on.ensures.works goes yes)),
-            none_told
-                c.args.struck.now.script steps c.args.from (c.args.from + c.loop-run.run) left (left - c.loop-run.run)
-                c.args.seats.now c.loop-run.seats c.args.links.now c.loop-run.links c.args.board.now a inv.board
-                c.loop-run.auto.seats inv.more,
-          ) (inv.bits steps left enough);
+          let begun = moment_of script steps from left c.args.seats.now c.args.links.now c.args.board.now in
+          bits_on E B (WorksUntold c.args.to_rest begun) begun script steps from run c.args.most left c.none.result was
+          now c.loop-run.links c.sample_all.new.links a z early enough c.sample_all.auto.seats pass.few pass.at pass.row
+          c.sample_all.ensures.sames c.sample_all.ensures.board did.goes inv.bus next (facts g c)
+          (works_untold c.args.to_rest script steps from (from + run) left (left - run) c.args.seats.now was
+          c.args.links.now c.loop-run.links c.args.board.now a inv.bus.ready (c.goes_on.ensures.works goes) inv.board
+          c.loop-run.auto.seats inv.more) (inv.bits steps left enough);
     }
 
 pub loop-run-init : goal.loop-run-init
@@ -92,11 +82,8 @@ loop-run-init g c =
       unstruck = λ i node low few strikes. absurd (omega (arith, low));
       free = λ k s here. let room = c.room_of.ensures.free k s here in let count = c.part-marks.ensures.count in
           omega (arith, room, count);
-      used = let count = c.part-marks.ensures.count in elim c.room_of.ensures.least [
-        | inl all ↦ inl (omega (arith, all, count))
-        | inr full ↦ let is : c.room_of.result ≡ length c.part-marks.result.now - 0 = omega (arith, count) in
-            let F : ℕ → Type 0 = λ n. SomeFull n c.args.seats.now in inr (subst F is full)
-      ];
+      used = full_first c.args.most (length c.part-marks.result.now) c.room_of.result c.args.seats.now
+          c.part-marks.ensures.count c.room_of.ensures.least;
       more = λ k s here. none;
       bits = λ steps left enough. none_yet (AnyBit E B) (WorksUntold c.args.to_rest
           (moment_of script steps c.args.from left c.args.seats.now c.args.links.now c.args.board.now)) script steps
@@ -105,17 +92,10 @@ loop-run-init g c =
 
 pub sample_all-requires : goal.sample_all-requires
 sample_all-requires g c =
-    let h = c.requires.seated in let inv = c.loop-run.invariant in
-    let seats = c.loop-run.auto.seats in let links = c.loop-run.auto.links in
-    let few = h.few in let count = h.count in let ports = h.ports in let p = ap g.B.Board.ports inv.board in record {
-      seated = record {
-        few = omega (arith, few, seats);
-        count = omega (arith, count, seats, links);
-        ids = numbered_kept g.E.BusEnd.link g.E.BusEnd.same g.met.E.BusEnd.same_link c.args.links.now
-            c.loop-run.links inv.sames h.ids;
-        ready = inv.bus.ready;
-        ports = omega (arith, ports, seats, p);
-      };
+    let inv = c.loop-run.invariant in let ports = g.B.Board.ports in record {
+      seated = seated_on g.E.BusEnd.link g.E.BusEnd.same g.met.E.BusEnd.same_link c.args.seats.now c.loop-run.seats
+          c.args.links.now c.loop-run.links (ports c.args.board.now) (ports c.loop-run.board) c.loop-run.auto.seats
+          inv.sames (ap ports inv.board) inv.bus.ready c.requires.seated;
       told = inv.told;
       free = λ k s here.
           let run : c.loop-run.run < length c.part-marks.result.now = search rules in let room = inv.free k s here in
@@ -144,7 +124,7 @@ free_now : (g : _) (c : In-Ok g) → c.in-Ok.end.told ≡ false →
     AreFree (length c.part-marks.result.now - (c.loop-run.run + 1)) c.sample_all.new.seats
 free_now g c untold =
     let within : c.loop-run.run < length c.part-marks.result.now = search rules in
-    c.in-Ok.ensures.free untold (length c.part-marks.result.now - (c.loop-run.run + 1))
+    (c.in-Ok.ensures.untold untold).free (length c.part-marks.result.now - (c.loop-run.run + 1))
     (λ k s here. let room = c.loop-run.invariant.free k s here in omega (arith, within, room))
 
 pub run_together-together-requires : goal.run_together-together-requires
@@ -169,8 +149,7 @@ loop-run-preserved g c =
     let at = (goal.at.loop-run-preserved g c).In-Ok in
     let E = g.E.BusEnd in let B = g.B.Board in let inv = c.loop-run.invariant in
     let script = c.args.struck.now.script in let from = c.args.from in let run = c.loop-run.run in
-    let marks = c.part-marks.result.now in
-    let more = runs_more g at in
+    let marks = c.part-marks.result.now in let more = runs_more g at in
     let within : run < length marks = search rules in
     let untold : c.in-Ok.end.told ≡ false = c.if-end.false in
     let one = c.sample_all.new.seats in let now = c.run_together-together.new.seats in
@@ -180,14 +159,10 @@ loop-run-preserved g c =
     let few = c.run_together-together.ensures.few in
     let count = c.part-marks.ensures.count in let all = c.room_of.ensures.most in
     let same = c.loop-run.auto.seats in let size = c.sample_all.auto.seats in
-    let still = c.in-Ok.ensures.untold untold ∙ inv.board in
-    let unstruck : (i node : ℕ) → i < n → node < 8 → Strikes script (from + ((run + 1) + i)) node → ⊥ =
-    λ i node low small strikes.
-    let P : StruckNodes → Type 0 = λ x. IsAmong node x in
-    c.run_together-together.ensures.none i node nobody low
-    (subst P (sym (part_at marks (run + 1) i nobody (omega (arith, low, few, left))))
-    ((c.part-marks.ensures.struck ((run + 1) + i) node nobody (omega (arith, low, few, left)) small).1 strikes)) in
-    let begun = seats_then c.args.seats.now c.loop-run.seats one same inv.more (c.in-Ok.ensures.quiet untold) in
+    let none_told = c.in-Ok.ensures.untold untold in let still = none_told.still ∙ inv.board in
+    let unstruck = unstruck_behind script from marks (run + 1) n (omega (arith, within)) few
+    c.part-marks.ensures.struck c.run_together-together.ensures.none in
+    let begun = seats_then c.args.seats.now c.loop-run.seats one same inv.more none_told.bits in
     let far = rows_on E B g.met.E.BusEnd.same_refl g.met.B.Board.kept_refl c.args.to_rest script from c.args.most
     c.args.seats.now c.args.links.now c.args.board.now c.requires.seated.few
     c.sample_all.new.links c.sample_all.new.board still c.requires.may.orders
@@ -229,14 +204,11 @@ returns-in-Err-clause-breaks g c = λ steps left later enough rooms journals run
       run = run;
       early = early;
       bits = inv.bits steps left enough;
-      before = (
-        (λ yes. some_work was inv.bus.ready (c.goes_on.ensures.works goes yes)),
-        none_told script steps from (from + run) left (left - run) c.args.seats.now was c.args.links.now
-            c.loop-run.links c.args.board.now a inv.board c.loop-run.auto.seats inv.more,
-      );
+      before = works_untold c.args.to_rest script steps from (from + run) left (left - run) c.args.seats.now was
+          c.args.links.now c.loop-run.links c.args.board.now a inv.bus.ready (c.goes_on.ensures.works goes) inv.board
+          c.loop-run.auto.seats inv.more;
       stops = stops_on E.same E.stands E.full (B.orders_are a) script steps (from + run) (left - run) (from + left) was
-          now
-          c.loop-run.links c.sample_all.new.links c.in-Err.fault later g.met.E.BusEnd.same_refl journals
+          now c.loop-run.links c.sample_all.new.links c.in-Err.fault later g.met.E.BusEnd.same_refl journals
           (omega (arith, early, enough)) c.sample_all.auto.seats (inv.rooms (room_for (from + left) steps) rooms) none
           c.in-Err.ensures.broken;
       run_so_far = run_is;
@@ -248,34 +220,24 @@ returns-in-Err-clause-breaks g c = λ steps left later enough rooms journals run
 pub returns-after-loop-run-clause-ends : goal.returns-after-loop-run-clause-ends
 returns-after-loop-run-clause-ends g c =
     let past = c.loop-run-test.false in let within = c.loop-run.invariant.within in
-    inl (ends_full c.args.to_rest c.args.struck.now.script c.args.from c.args.most (length c.part-marks.result.now)
-    c.loop-run.run c.loop-run.seats c.loop-run.invariant.used (omega (arith, past, within)))
-
-pub returns-after-loop-run-clause-none : goal.returns-after-loop-run-clause-none
-returns-after-loop-run-clause-none g c = λ none.
-    let past = c.loop-run-test.false in let within = c.loop-run.invariant.within in
-    let script = c.args.struck.now.script in
-    none_first c.args.to_rest script c.args.from c.args.most c.loop-run.run c.loop-run.seats c.args.seats.now none
-    (c.loop-run.invariant.fresh none)
-    (ends_full c.args.to_rest script c.args.from c.args.most (length c.part-marks.result.now) c.loop-run.run
-    c.loop-run.seats c.loop-run.invariant.used (omega (arith, past, within)))
+    let script = c.args.struck.now.script in let seats = c.loop-run.seats in
+    ends_untold c.args.to_rest script c.args.from c.args.most c.loop-run.run c.args.seats.now seats
+    c.loop-run.invariant.fresh
+    (ends_full c.args.to_rest script c.args.from c.args.most (length c.part-marks.result.now) c.loop-run.run seats
+    c.loop-run.invariant.used (omega (arith, past, within)))
 
 pub returns-else-goes_on-clause-ends : goal.returns-else-goes_on-clause-ends
 returns-else-goes_on-clause-ends g c =
-    inl (ends_held c.args.to_rest c.args.struck.now.script c.args.from c.args.most c.loop-run.run c.loop-run.seats _
-    (λ node few. (c.part-marks.ensures.struck c.loop-run.run node _ c.loop-run-test.true few).0)
-    (c.goes_on.ensures.no c.if-goes_on.false))
-
-pub returns-else-goes_on-clause-none : goal.returns-else-goes_on-clause-none
-returns-else-goes_on-clause-none g c = λ none.
-    let script = c.args.struck.now.script in
-    none_first c.args.to_rest script c.args.from c.args.most c.loop-run.run c.loop-run.seats c.args.seats.now none
-    (c.loop-run.invariant.fresh none)
-    (ends_held c.args.to_rest script c.args.from c.args.most c.loop-run.run c.loop-run.seats _
+    let script = c.args.struck.now.script in let seats = c.loop-run.seats in
+    ends_untold c.args.to_rest script c.args.from c.args.most c.loop-run.run c.args.seats.now seats
+    c.loop-run.invariant.fresh
+    (ends_held c.args.to_rest script c.args.from c.args.most c.loop-run.run seats _
     (λ node few. (c.part-marks.ensures.struck c.loop-run.run node _ c.loop-run-test.true few).0)
     (c.goes_on.ensures.no c.if-goes_on.false))
 
 pub returns-then-end-clause-ends : goal.returns-then-end-clause-ends
 returns-then-end-clause-ends g c =
-    let P : _ → Type 0 = λ b. SomeTold (g.B.Board.told b c.sample_all.new.board) c.sample_all.new.seats in
-    inr (subst P c.loop-run.invariant.board (c.in-Ok.ensures.told c.if-end.true))
+    let P : _ → Type 0 = λ b. SomeTold (g.B.Board.told b c.sample_all.new.board) c.sample_all.new.seats in record {
+      none = λ zero. absurd (omega (arith, zero));
+      why = inr (subst P c.loop-run.invariant.board (c.in-Ok.ensures.told c.if-end.true));
+    }

@@ -1,4 +1,4 @@
-use Rattle.sja_bus.specs.StrikesByBit.{IsMarked}
+use Rattle.sja_bus.specs.Inside.StrikesByBit.{IsMarked}
 use Rattle.sja_bus.proofs.struck_bits.mark.Given as goal
 
 -- so many times of the strike are marked

@@ -2,7 +2,7 @@ use Rattle.std.proofs.Common.{◌≡◌, ◌+◌, ◌<◌, ◌++◌, ◌∷◌, 
 use Rattle.std.specs.Prelude.{slice_index_or}
 use Rattle.std.proofs.Math.Seq.{take-suc}
 use Rattle.sja_script.specs.declared.strike.Strike.{Strike}
-use Rattle.sja_bus.specs.StrikesByBit.{AreStruck}
+use Rattle.sja_bus.specs.Inside.StrikesByBit.{AreStruck}
 use Rattle.sja_bus.proofs.WholeBus.Marking.{struck_more}
 use Rattle.sja_bus.proofs.struck_bits.mark_all.Goals as goal
 

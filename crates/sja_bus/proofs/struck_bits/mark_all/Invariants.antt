@@ -1,5 +1,5 @@
 use Rattle.std.specs.Prelude.{take}
-use Rattle.sja_bus.specs.StrikesByBit.{AreStruck}
+use Rattle.sja_bus.specs.Inside.StrikesByBit.{AreStruck}
 use Rattle.sja_bus.proofs.struck_bits.mark_all.Given as goal
 
 -- so many strikes of the script are marked

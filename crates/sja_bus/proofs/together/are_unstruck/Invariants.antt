@@ -1,5 +1,5 @@
 use Rattle.std.proofs.Common.{◌≡◌, true}
-use Rattle.sja_bus.specs.StrikesByBit.{AreUnstruck}
+use Rattle.sja_bus.specs.Inside.StrikesByBit.{AreUnstruck}
 use Rattle.sja_bus.proofs.together.are_unstruck.Given as goal
 
 -- none is struck in the bits so far

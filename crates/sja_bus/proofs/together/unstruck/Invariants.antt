@@ -1,4 +1,4 @@
-use Rattle.sja_bus.specs.StrikesByBit.{AreUnstruck}
+use Rattle.sja_bus.specs.Inside.StrikesByBit.{AreUnstruck}
 use Rattle.sja_bus.proofs.together.unstruck.Given as goal
 
 -- none is struck in the bits so far

@@ -5,7 +5,7 @@ use Rattle.std.proofs.Common.{sym, ap, ◌∙◌, subst, vec_capacity}
 use Rattle.sja_link.specs.declared.entry.Entry.{Entry}
 use Rattle.sja_bus.specs.declared.seat.Seat.{Seat}
 use Rattle.sja_wire.specs.Buses.{BusValue}
-use Rattle.sja_bus.specs.StrikesByBit.{Scripted}
+use Rattle.sja_bus.specs.Inside.StrikesByBit.{Scripted}
 use Rattle.sja_bus.specs.Inside.Rows.{journals_of, untold_of}
 use Rattle.sja_bus.specs.Inside.Whole.{IsWhole}
 use Rattle.sja_wire.specs.Reasons.{room_for}

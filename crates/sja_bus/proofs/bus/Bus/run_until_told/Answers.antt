@@ -68,7 +68,7 @@ returns-in-Ok-clause-none g c = λ zero.
     subst (RunsNone asked c.args.to_rest c.args.most) c.self.view_is
     (held_by_rows c.args.to_rest c.args.most b.struck.script b.steps.items b.run b.left b.fault b.seats.items asked
     (whole.bus (right g at)).ready (subst N (sym whole.bits) (whole.rooms (right g at)))
-    (subst Q c.as_mut_slice-seats.ensures.value (c.in-Ok.ensures.none none)))
+    (subst Q c.as_mut_slice-seats.ensures.value (c.in-Ok.ensures.ends.none none)))
   where
     count_in : Result ℕ BusFault → ℕ
     count_in (Ok n) = n
@@ -94,7 +94,7 @@ returns-in-Ok-clause-longest g c = λ some.
     (ended g.B.Board c.args.to_rest c.args.most n b.struck.script b.steps.items (b.run + n) (b.left - n) now was
     c.untaken_bits.new.links c.untaken_bits.new.board most runs.bus.ready
     (subst N all (subst H c.as_mut_slice-seats.ensures.value runs.rooms (room_for b.struck.bits b.steps.items)
-    (whole.rooms (right g at)))) c.in-Ok.ensures.ends)
+    (whole.rooms (right g at)))) c.in-Ok.ensures.ends.why)
 
 pub untaken_bits-requires-clause-seated : goal.untaken_bits-requires-clause-seated
 untaken_bits-requires-clause-seated g c =

@@ -1,5 +1,5 @@
 use Rattle.std.proofs.Common.{◌-◌, length}
-use Rattle.sja_link.specs.Links.{Goes}
+use Rattle.sja_link.specs.Inside.Moving.{Goes}
 use Rattle.sja_link.specs.BitEntries.{MayHaveItems}
 use Rattle.sja_bus.specs.Inside.Seats.{IsReady}
 use Rattle.sja_bus.specs.Inside.AtLinks.{KeepsLinks}

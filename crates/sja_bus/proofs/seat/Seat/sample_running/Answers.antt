@@ -1,7 +1,7 @@
 use Rattle.std.proofs.Common.{◌≡◌, ◌≤◌, ℕ, suc, length, Bool, true, false, rules, subst, ap}
 use Rattle.std.specs.Prelude.{Err}
 use Rattle.sja_bus.specs.Inside.Following.{FollowsBit}
-use Rattle.sja_link.specs.Links.{Moves}
+use Rattle.sja_link.specs.Inside.Moving.{Moves}
 use Rattle.sja_bus.specs.Inside.Seats.{IsMid}
 use Rattle.sja_bus.specs.Inside.Taking.{BreaksHere}
 use Rattle.sja_link.proofs.Growing.Moving.{moves_trans}

@@ -1,6 +1,6 @@
 use Rattle.std.proofs.Common.{◌≡◌, ◌++◌, ◌+◌, ◌-◌, ◌≤◌, List, length, take, drop, rules, arith, ap, subst}
 use Rattle.sja_script.specs.declared.strike.Strike.{Strike}
-use Rattle.sja_bus.specs.StrikesByBit.{AreStruckFrom}
+use Rattle.sja_bus.specs.Inside.StrikesByBit.{AreStruckFrom}
 use Rattle.sja_bus.proofs.WholeBus.Marking.{struck_from}
 use Rattle.sja_bus.proofs.struck_bits.StruckBits.part.Goals as goal
 

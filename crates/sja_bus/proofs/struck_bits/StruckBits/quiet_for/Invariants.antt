@@ -1,6 +1,6 @@
 use Rattle.std.proofs.Common.{ℕ, ◌≤◌, ◌<◌}
 use Rattle.std.specs.Prelude.{slice_index_or}
-use Rattle.sja_bus.specs.StrikesByBit.{IsAmong}
+use Rattle.sja_bus.specs.Inside.StrikesByBit.{IsAmong}
 use Rattle.sja_bus.proofs.struck_bits.StruckBits.quiet_for.Given as goal
 
 -- nobody is struck in the bits so far

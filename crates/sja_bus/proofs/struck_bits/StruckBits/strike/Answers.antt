@@ -3,7 +3,7 @@ use Rattle.std.proofs.Common.{arith}
 use Rattle.std.proofs.lemmas.Grind.{common_steps}
 use Rattle.sja_script.specs.declared.strike.Strike.{Strike}
 use Rattle.sja_bus.specs.declared.struck_nodes.StruckNodes.{StruckNodes}
-use Rattle.sja_bus.specs.StrikesByBit.{IsMarked, AreStruck}
+use Rattle.sja_bus.specs.Inside.StrikesByBit.{IsMarked, AreStruck}
 use Rattle.sja_bus.proofs.WholeBus.Marking.{struck_more}
 use Rattle.sja_bus.proofs.struck_bits.StruckBits.strike.Goals as goal
 

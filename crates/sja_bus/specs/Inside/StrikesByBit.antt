@@ -9,7 +9,7 @@ use Rattle.sja_bus.specs.declared.struck_nodes.StruckNodes.{StruckNodes}
 abbrev pub IsAmong : ℕ → StruckNodes → Type 0
 IsAmong node nodes = bit_at nodes.mask node ≡ 1
 
--- the nodes that are struck in each bit, after one strike more
+-- after one strike more the nodes that are struck in each bit are those that were, and those that it strikes there
 abbrev pub IsMarked : Strike → List StruckNodes → List StruckNodes → Type 0
 IsMarked strike old new = (bit node : ℕ) (d : StruckNodes) → bit < length old → node < 8 →
     IsAmong node (slice_index_or new bit d) ↔ (IsAmong node (slice_index_or old bit d) ⊎ Hits strike bit node)
