@@ -2,3 +2,4 @@
 pub mod RunNodes
 pub mod ErrorLemmas
 pub mod Entries
+pub mod RunFaults

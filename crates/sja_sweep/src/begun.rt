@@ -30,6 +30,7 @@ pub(crate) struct Begun {
 }
 
 /// Runs the plan as it is, and lists what is to be tried.
+#[tactic(auto, using(crate::proofs::TriedRuns::RunFaults::planned_fails))]
 pub(crate) fn begin(alloc: Global, plan: &Plan, sweeping: &Sweeping) -> Result<Begun, SweepFault>
     ensures ok { IfOk result (λ b. IsBegun plan.now sweeping.now (ran_value b.planned) b.trials.items) }
     ensures err { IfErr result (IsSweepFault plan.now sweeping.now) }

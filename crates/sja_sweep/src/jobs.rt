@@ -27,14 +27,14 @@ pub(crate) fn tried_in_jobs<R: Threads + Sync>(
     requires planned { IsRan plan.now (ran_value planned.now) }
     requires there { All (IsThere plan.now) trials.now }
     ensures ok { IfOk result (λ tolds. AreTold plan.now (ran_value planned.now) trials.now tolds.items) }
-    ensures err { IfErr result IsTrialFault }
+    ensures err { IfErr result (IsTrialFault plan.now) }
 {
     let size = trials.len().div_ceil(jobs.max(1)).max(1);
     let part = |_: usize, trials: &[Trial]| -> Result<Vec<Told>, SweepFault>
         requires { IsRan plan.now (ran_value planned.now) × All (IsThere plan.now) trials.now }
         ensures { IfOk result (λ tolds.
             AreTold plan.entry.now (ran_value planned.entry.now) trials.entry.now tolds.items)
-            × IfErr result IsTrialFault }
+            × IfErr result (IsTrialFault plan.entry.now) }
     { all_tried(alloc, plan, planned, trials) };
     let parts = map_chunks(rt, alloc, trials, size, &part)?;
     let mut rest = parts.into_iter();

@@ -2,6 +2,7 @@
 
 ghost use Rattle.std.specs.Prelude.{◌≡◌, map, IfOk, IfErr};
 ghost use Rattle.std.specs.List.{AllZip};
+ghost use Rattle.sja_plan_session.specs.PlanRuns.{IsPlanRun};
 ghost use Rattle.sja_sweep.specs.Errors.{error_in, HasErrors, IsRan};
 ghost use Rattle.sja_sweep.specs.Inside.Reaching.{ran_value, HaveErrors, IsTrialFault};
 
@@ -10,7 +11,7 @@ use can_node::Cause;
 use sja_link::Journal;
 use sja_log::{NodeRun, RunFault, RunLog};
 use sja_plan::Plan;
-use sja_plan_session::run_plan as run_in_one_thread;
+use sja_plan_session::{RawRunFault, run_plan as run_in_one_thread};
 use sja_replay::{Happening, Replay};
 use std::alloc::{AllocError, Global};
 
@@ -26,13 +27,23 @@ pub(crate) struct Ran {
 /// Runs a plan in one thread, and goes over the journal of each node.
 pub(crate) fn run_plan(alloc: Global, plan: &Plan) -> Result<Ran, SweepFault>
     ensures ok { IfOk result (λ r. IsRan plan.now (ran_value r)) }
-    ensures err { IfErr result IsTrialFault }
+    ensures err { IfErr result (IsTrialFault plan.now) }
 {
-    let Ok(log) = run_in_one_thread(alloc, plan) else {
-        return Err(SweepFault::Run(RunFault::Memory));
-    };
+    let log = log_of(alloc, plan)?;
     let errors = errors_of_nodes(alloc, log.nodes())?;
     Ok(Ran { log, errors })
+}
+
+/// The log of a plan's run in one thread.
+fn log_of(alloc: Global, plan: &Plan) -> Result<RunLog, SweepFault>
+    ensures ok { IfOk result (IsPlanRun plan.now) }
+    ensures err { IfErr result (IsTrialFault plan.now) }
+{
+    match run_in_one_thread(alloc, plan) {
+        Ok(log) => Ok(log),
+        Err(RawRunFault::Steps) => Err(SweepFault::Steps),
+        Err(RawRunFault::Memory) => Err(SweepFault::Run(RunFault::Memory)),
+    }
 }
 
 /// The errors of each node.

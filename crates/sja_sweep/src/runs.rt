@@ -28,7 +28,7 @@ pub(crate) fn all_tried(
     requires planned { IsRan plan.now (ran_value planned.now) }
     requires there { All (IsThere plan.now) trials.now }
     ensures ok { IfOk result (λ tolds. AreTold plan.now (ran_value planned.now) trials.now tolds.items) }
-    ensures err { IfErr result IsTrialFault }
+    ensures err { IfErr result (IsTrialFault plan.now) }
 {
     let mut tolds = Vec::new(alloc);
     for trial in trials {
@@ -38,11 +38,12 @@ pub(crate) fn all_tried(
 }
 
 /// What came of one trial: the plan is run with it, and the run is dropped once its outcome is told.
+#[tactic(auto, using(crate::proofs::TriedRuns::RunFaults::struck_fails))]
 fn tried(alloc: Global, plan: &Plan, planned: &Ran, trial: Trial) -> Result<Told, SweepFault>
     requires planned { IsRan plan.now (ran_value planned.now) }
     requires there { IsThere plan.now trial }
     ensures ok { IfOk result (λ told. IsTried plan.now (ran_value planned.now) trial (told_value told)) }
-    ensures err { IfErr result IsTrialFault }
+    ensures err { IfErr result (IsTrialFault plan.now) }
 {
     let struck = struck_by(alloc, plan, trial)?;
     let now = run_plan(alloc, &struck)?;

@@ -24,11 +24,14 @@ use std::thread::Threads;
 /// The texts are those of just these runs: of their logs, each as [`run_plan`](sja_plan_session::run_plan) promises it,
 /// and of the errors in each bit of each node.
 ///
-/// Errors: [`SweepFault::NoNode`] where a node is asked for that the plan doesn't have; [`SweepFault::TooMany`] where
-/// there are more runs than 20,000, or where these times the plan's bits are more than 2,000,000,000, unless so many
-/// are meant; [`SweepFault::StrikeCount`] where there is a run to make and the plan's strikes, with those of the run
-/// more, strike more bits than they may in its version; [`SweepFault::Run`] where a run failed, and
-/// [`SweepFault::Memory`], where memory was refused.
+/// Errors, the first that holds: [`SweepFault::NoNode`] where a node is asked for that the plan doesn't have;
+/// [`SweepFault::Steps`] where the plan is of version 3 and a node has more steps than a document may have, so that
+/// there is no run of it; [`SweepFault::TooMany`] where there are more runs than 20,000, or where these times the
+/// plan's bits are more than 2,000,000,000, unless so many are meant; [`SweepFault::StrikeCount`] where there is a run
+/// to make and the plan's strikes, with those of the run more, strike more bits than they may in its version.
+/// [`SweepFault::Run`], where memory was refused to a run, and [`SweepFault::Memory`], where it was refused otherwise,
+/// may come at any time once the node was looked for.
+#[tactic(auto, using(crate::proofs::TriedRuns::RunFaults::trial_fails))]
 pub fn sweep(alloc: Global, plan: &Plan, sweeping: &Sweeping) -> Result<Swept, SweepFault>
     ensures ok { IfOk result (λ swept. IsSweep plan.now sweeping.now (string_bytes swept.text)
         (string_bytes swept.rows)) }
@@ -45,6 +48,7 @@ pub fn sweep(alloc: Global, plan: &Plan, sweeping: &Sweeping) -> Result<Swept, S
 ///
 /// A run is dropped once its outcome is told, so that there are no more runs at one time than threads, beside that of
 /// the plan as it is. The errors are those of [`sweep`].
+#[tactic(auto, using(crate::proofs::TriedRuns::RunFaults::trial_fails))]
 pub fn sweep_jobs<R: Threads + Sync>(
     rt: &R,
     alloc: Global,

@@ -18,3 +18,5 @@ mod one_frame;
 mod pairs;
 #[cfg(test)]
 mod refusals;
+#[cfg(test)]
+mod steps;

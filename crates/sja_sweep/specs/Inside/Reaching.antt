@@ -13,7 +13,8 @@ use Rattle.sja_sweep.specs.declared.ran.Ran.{Ran}
 use Rattle.sja_sweep.specs.Errors.{HasErrors, RanValue}
 use Rattle.sja_sweep.specs.declared.span.Span.{Span}
 use Rattle.sja_sweep.specs.declared.sweep_fault.SweepFault.{SweepFault}
-use Rattle.sja_sweep.specs.declared.sweep_fault.SweepFault.TheVariants.{NoNode, TooMany, StrikeCount, Run, Memory}
+use Rattle.sja_sweep.specs.declared.sweep_fault.SweepFault.TheVariants.{NoNode, Steps, TooMany, StrikeCount, Run}
+use Rattle.sja_sweep.specs.declared.sweep_fault.SweepFault.TheVariants.{Memory}
 use Rattle.sja_sweep.specs.declared.sweeping.Sweeping.{Sweeping}
 use Rattle.sja_sweep.specs.declared.told.Told.{Told}
 use Rattle.sja_sweep.specs.declared.target.Target.{Target}
@@ -21,6 +22,7 @@ use Rattle.sja_sweep.specs.declared.trial.Trial.{Trial}
 use Rattle.sja_sweep.specs.Nodes.{node_at}
 use Rattle.sja_sweep.specs.Changes.{node_items}
 use Rattle.sja_sweep.specs.Outcome.{Outcome}
+use Rattle.sja_sweep.specs.Sweeps.{HasTooManySteps}
 use Rattle.sja_sweep.specs.Spans.{SpanValue}
 use Rattle.sja_sweep.specs.SweepText.{short_node}
 
@@ -92,10 +94,11 @@ pub record IsThere (plan : PlanValue) (t : Trial) : Type 0 where
   pub second : IsThereToo (length plan.nodes) t.second
   pub room : times_in plan.strikes + strikes_in t.second ≤ most_strikes plan.version
 
--- why a trial has no outcome
-abbrev pub IsTrialFault : SweepFault → Type 0
-IsTrialFault Memory = Unit {0}
-IsTrialFault (Run f) = f ≡ NoMemory
-IsTrialFault StrikeCount = ⊥
-IsTrialFault NoNode = ⊥
-IsTrialFault (TooMany runs bits) = ⊥
+-- why a run of a plan has no outcome
+abbrev pub IsTrialFault : PlanValue → SweepFault → Type 0
+IsTrialFault plan Memory = Unit {0}
+IsTrialFault plan (Run f) = (f ≡ NoMemory) × ¬ HasTooManySteps plan
+IsTrialFault plan Steps = HasTooManySteps plan
+IsTrialFault plan StrikeCount = ⊥
+IsTrialFault plan NoNode = ⊥
+IsTrialFault plan (TooMany runs bits) = ⊥

@@ -41,7 +41,7 @@ pub record IsBegun (plan : PlanValue) (s : Sweeping) (planned : RanValue) (trial
 abbrev pub IsPartTried : {V : Type 0} → (V → List Told) → PlanValue → RanValue → List Trial → Result V SweepFault →
     Type 0
 IsPartTried items plan planned trials r =
-    IfOk r (λ tolds. AreTold plan planned trials (items tolds)) × IfErr r IsTrialFault
+    IfOk r (λ tolds. AreTold plan planned trials (items tolds)) × IfErr r (IsTrialFault plan)
 
 -- of all parts, each of so many trials but the last one, which may have fewer
 abbrev pub ArePartsTried : {V : Type 0} → (V → List Told) → PlanValue → RanValue → ℕ → List Trial →
