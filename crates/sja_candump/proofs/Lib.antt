@@ -1,3 +1,2 @@
-pub mod FrameTexts
-pub mod Stories
-pub mod UpTo
+pub mod Lines
+pub mod SoFar

@@ -64,7 +64,7 @@ fn put_error_line(
 }
 
 /// Time and device.
-#[tactic(auto, using(crate::proofs::FrameTexts::decimal_zeros))]
+#[tactic(auto, using(crate::proofs::Lines::FrameTexts::decimal_zeros))]
 fn put_head(text: &mut String, bit: u32, node: usize) -> Result<(), AllocError>
     ensures { OnOk result (string_bytes text.new ≡ string_bytes text.old ++ head_text bit node) }
 {
@@ -85,7 +85,7 @@ fn put_error(text: &mut String, error: ErrorFrame) -> Result<(), AllocError>
 }
 
 /// The identifier of the error frames of a class.
-#[tactic(auto, using(crate::proofs::FrameTexts::identifier_digits))]
+#[tactic(auto, using(crate::proofs::Lines::FrameTexts::identifier_digits))]
 fn put_identifier(text: &mut String, class: ErrorClass) -> Result<(), AllocError>
     ensures { OnOk result (string_bytes text.new ≡ string_bytes text.old
         ++ identifier_text true (error_identifier class)) }

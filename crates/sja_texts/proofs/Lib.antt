@@ -1,3 +1,1 @@
-pub mod Symbols
-pub mod Spelled
-pub mod Translations
+pub mod Reading

@@ -1,21 +1,9 @@
 -- The command line of `sja`, as the parser's own description of commands (this project's own rule).
-use Rattle.std.specs.Prelude.{◌≡◌, ℕ, Result, IfOk, codes, true, false, Some}
+use Rattle.std.specs.Prelude.{ℕ, codes, true, Some}
 use Rattle.clap.specs.Lexer.{usize_max}
-use Rattle.clap.specs.Words.{App, Rule, Text, app_of, new_app, new_rule, rule_of, with_rule, with_subcommand}
-use Rattle.clap.specs.declared.builder.arg.Arg.{Arg}
-use Rattle.clap.specs.declared.builder.command.Command.{Command}
-use Rattle.clap.specs.declared.builder.command.Command.TheViews.{out-Command}
+use Rattle.clap.specs.Words.{App, Rule, Text, new_app, new_rule, with_rule, with_subcommand}
 use Rattle.clap.specs.declared.builder.action.ArgAction.TheVariants.{Append, Set, SetTrue}
 use Rattle.clap.specs.declared.builder.value_parser.ValueParser.TheVariants.{Unsigned}
-
--- the parser reads this of the command that was made, where memory wasn't refused, and none of its arguments counts for
--- commands of its own too
-unfoldable pub IsHeldAs : {E : Type 0} → Result Command E → App → Type 0
-IsHeldAs made app = IfOk made (λ command. (app_of command ≡ app) × ((out-Command command).has_globals ≡ false))
-
--- it reads this of the argument, which doesn't count for commands below
-unfoldable pub IsReadAs : Arg → Rule → Type 0
-IsReadAs argument rule = (rule_of argument ≡ rule) × (argument.global ≡ false)
 
 -- a command of this name, which has no argument and no command of its own
 unfoldable pub bare_app : Text → App

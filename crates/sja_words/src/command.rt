@@ -2,10 +2,10 @@
 
 ghost use Rattle.std.specs.Prelude.{◌≡◌, IfOk, codes};
 ghost use Rattle.clap.specs.Words.{app_of};
-ghost use Rattle.sja_words.specs.CommandLine.{arbitrate_app, filter_app, IsHeldAs, IsReadAs, text_app, text_rule};
-ghost use Rattle.sja_words.specs.CommandLine.{empty_app, line_app, frame_app, messages_rule, notation_app};
-ghost use Rattle.sja_words.specs.CommandLine.{flag_rule, threads_app, live_app};
+ghost use Rattle.sja_words.specs.CommandLine.{arbitrate_app, filter_app, text_app, text_rule, empty_app, line_app};
+ghost use Rattle.sja_words.specs.CommandLine.{frame_app, messages_rule, notation_app, flag_rule, threads_app, live_app};
 ghost use Rattle.sja_words.specs.CommandLine.{plan_app, story_app, view_app, sja_app};
+ghost use Rattle.sja_words.specs.Inside.Parser.{IsHeldAs, IsReadAs};
 
 use super::described::{bare_argument, bare_command, with_argument, with_command};
 use super::file_commands::{check_command, run_command, trace_command};
@@ -23,7 +23,7 @@ use std::alloc::{AllocError, Global};
 const VERSION: &str = "0.3.0";
 
 /// An argument without a flag, which must be given and takes one text, with the line of help behind it.
-#[tactic(auto, unfolding(crate::specs::CommandLine::text_rule, crate::specs::CommandLine::IsReadAs))]
+#[tactic(auto, unfolding(crate::specs::CommandLine::text_rule, crate::specs::Inside::Parser::IsReadAs))]
 fn text_argument<'a>(alloc: Global, id: &'a str, help: &'a str) -> Arg<'a>
     ensures { IsReadAs result (text_rule id.entry.now) }
 {
@@ -78,7 +78,7 @@ pub(crate) fn filter_command<'a>(alloc: Global) -> Result<Command<'a>, AllocErro
 }
 
 /// `MESSAGE..`: one to eight messages.
-#[tactic(auto, unfolding(crate::specs::CommandLine::messages_rule, crate::specs::CommandLine::IsReadAs))]
+#[tactic(auto, unfolding(crate::specs::CommandLine::messages_rule, crate::specs::Inside::Parser::IsReadAs))]
 fn messages<'a>(alloc: Global) -> Arg<'a>
     ensures { IsReadAs result messages_rule }
 {
@@ -103,7 +103,7 @@ fn message_command<'a>(alloc: Global) -> Result<Command<'a>, AllocError>
 }
 
 /// The program, which has a version and of which one command has to be given, before it has any.
-#[tactic(auto, unfolding(crate::specs::CommandLine::empty_app, crate::specs::CommandLine::IsHeldAs))]
+#[tactic(auto, unfolding(crate::specs::CommandLine::empty_app, crate::specs::Inside::Parser::IsHeldAs))]
 fn empty_command<'a>(alloc: Global) -> Result<Command<'a>, AllocError>
     ensures { IsHeldAs result empty_app }
 {
@@ -141,7 +141,7 @@ fn notation_command<'a>(alloc: Global) -> Result<Command<'a>, AllocError>
 }
 
 /// A flag of this name, which stands or doesn't, with the line of help behind it.
-#[tactic(auto, unfolding(crate::specs::CommandLine::flag_rule, crate::specs::CommandLine::IsReadAs))]
+#[tactic(auto, unfolding(crate::specs::CommandLine::flag_rule, crate::specs::Inside::Parser::IsReadAs))]
 pub(crate) fn flag<'a>(alloc: Global, name: &'a str, help: &'a str) -> Arg<'a>
     ensures { IsReadAs result (flag_rule name.entry.now) }
 {

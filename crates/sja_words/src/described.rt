@@ -2,13 +2,14 @@
 
 ghost use Rattle.std.specs.Prelude.{◌≡◌, false};
 ghost use Rattle.clap.specs.Words.{App, Rule, new_rule, rule_of};
-ghost use Rattle.sja_words.specs.CommandLine.{IsHeldAs, IsReadAs, and_app, and_rule, bare_app};
+ghost use Rattle.sja_words.specs.CommandLine.{and_app, and_rule, bare_app};
+ghost use Rattle.sja_words.specs.Inside.Parser.{IsHeldAs, IsReadAs};
 
 use clap::{Arg, Command};
 use std::alloc::{AllocError, Global};
 
 /// A command of this name, with this line of help.
-#[tactic(auto, unfolding(crate::specs::CommandLine::IsHeldAs, crate::specs::CommandLine::bare_app))]
+#[tactic(auto, unfolding(crate::specs::Inside::Parser::IsHeldAs, crate::specs::CommandLine::bare_app))]
 pub(crate) fn bare_command<'a>(
     alloc: Global,
     name: &'a str,

@@ -1,8 +1,8 @@
 //! The commands over plans that stand in files, or on the input, as the parser holds them: `run`, `check` and `trace`.
 
 ghost use Rattle.std.specs.Prelude.{codes};
-ghost use Rattle.sja_words.specs.CommandLine.{IsHeldAs, IsReadAs, check_app, file_rule, files_rule, number_rule};
-ghost use Rattle.sja_words.specs.CommandLine.{run_app, trace_app};
+ghost use Rattle.sja_words.specs.CommandLine.{check_app, file_rule, files_rule, number_rule, run_app, trace_app};
+ghost use Rattle.sja_words.specs.Inside.Parser.{IsHeldAs, IsReadAs};
 
 use super::command::threads_command;
 use super::described::{bare_argument, bare_command, with_argument};
@@ -13,7 +13,7 @@ use clap::{Arg, ArgAction, Command};
 use std::alloc::{AllocError, Global};
 
 /// `FILE..`: any number of names, or none.
-#[tactic(auto, unfolding(crate::specs::CommandLine::files_rule, crate::specs::CommandLine::IsReadAs))]
+#[tactic(auto, unfolding(crate::specs::CommandLine::files_rule, crate::specs::Inside::Parser::IsReadAs))]
 fn files<'a>(alloc: Global) -> Arg<'a>
     ensures { IsReadAs result files_rule }
 {
@@ -23,7 +23,7 @@ fn files<'a>(alloc: Global) -> Arg<'a>
 }
 
 /// `FILE`: one name, or none.
-#[tactic(auto, unfolding(crate::specs::CommandLine::file_rule, crate::specs::CommandLine::IsReadAs))]
+#[tactic(auto, unfolding(crate::specs::CommandLine::file_rule, crate::specs::Inside::Parser::IsReadAs))]
 fn file<'a>(alloc: Global) -> Arg<'a>
     ensures { IsReadAs result file_rule }
 {

@@ -2,7 +2,8 @@
 
 ghost use Rattle.std.specs.Prelude.{◌≡◌, IfOk, map, option_map};
 ghost use Rattle.clap.specs.Words.{found_of, rows_of};
-ghost use Rattle.sja_words.specs.Words.{plan_in, request_about, request_of};
+ghost use Rattle.sja_words.specs.Requests.{request_about, request_of};
+ghost use Rattle.sja_words.specs.Commands.{plan_in};
 
 use super::file_words::FileWords;
 use super::found::texts_at;

@@ -2,8 +2,10 @@
 
 ghost use Rattle.std.specs.Prelude.{◌≡◌, IfOk, codes, map, option_map};
 ghost use Rattle.clap.specs.Words.{all_of, first_of, found_of, rows_of, subcommand_rows_of};
-ghost use Rattle.sja_words.specs.Words.{arbitrate_in, decode, encode, filter_in, message, request_by, request_in};
-ghost use Rattle.sja_words.specs.Words.{flag_in, other_by, question_in, request_of, single_in};
+ghost use Rattle.sja_words.specs.Values.{flag_in, single_in};
+ghost use Rattle.sja_words.specs.Requests.{decode, encode, message, request_of};
+ghost use Rattle.sja_words.specs.Commands.{arbitrate_in, filter_in, question_in};
+ghost use Rattle.sja_words.specs.Words.{request_by, request_in, other_by};
 
 use super::files_found::plan_task;
 use super::picture_found::{candump_task, picture_task};

@@ -1,10 +1,12 @@
 //! Laws of the words. Each stands as the contract of a function that does nothing.
 
 ghost use Rattle.std.specs.Prelude.{◌≡◌, ◌==◌, ◌<◌, ◌≤◌, ◌∷◌, ◌^◌, [], ℕ, List, Some, None, codes, false, length, true};
-ghost use Rattle.sja_words.specs.Words.{HasNoFlag, ParsesAs, Request, arbitrate, decode, encode, filter, message};
+ghost use Rattle.sja_words.specs.Values.{HasNoFlag};
+ghost use Rattle.sja_words.specs.Requests.{Request, arbitrate, decode, encode, filter, message, candump, check, files};
+ghost use Rattle.sja_words.specs.Requests.{frames, live, picture, run, struck_plan, sweep, trace, wave};
+ghost use Rattle.sja_words.specs.Sweeping.{all_swept};
+ghost use Rattle.sja_words.specs.Words.{ParsesAs, faults};
 ghost use Rattle.clap.specs.declared.error.kind.ErrorKind.TheVariants.{DisplayVersion};
-ghost use Rattle.sja_words.specs.Words.{all_swept, candump, check, faults, files, frames, live, picture, run};
-ghost use Rattle.sja_words.specs.Words.{struck_plan, sweep, trace, wave};
 ghost use Rattle.sja_words.specs.declared.plan_question.PlanQuestion.TheVariants.{Check, Report, Trace};
 
 /// The program's name, `encode` and a text that doesn't begin with `-` (45) ask for the levels of this message.

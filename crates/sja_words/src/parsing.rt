@@ -3,7 +3,9 @@
 ghost use Rattle.std.specs.Prelude.{◌≡◌, map, IfOk, IfErr, Some};
 ghost use Rattle.clap.specs.Words.{kind_of, subcommand_rows_of};
 ghost use Rattle.clap.specs.declared.error.kind.ErrorKind.TheVariants as kind;
-ghost use Rattle.sja_words.specs.Words.{IsAnswer, ParsesAs, Request, request_in, request_of};
+ghost use Rattle.sja_words.specs.Requests.{Request, request_of};
+ghost use Rattle.sja_words.specs.Words.{ParsesAs, request_in};
+ghost use Rattle.sja_words.specs.Inside.Parser.{IsAnswer};
 
 use super::command::sja_command;
 use super::found::task_of;

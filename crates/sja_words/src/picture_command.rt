@@ -1,6 +1,7 @@
 //! The commands `picture` and `candump` as the parser holds them.
 
-ghost use Rattle.sja_words.specs.CommandLine.{bit_rule, candump_app, IsHeldAs, IsReadAs, picture_app};
+ghost use Rattle.sja_words.specs.CommandLine.{bit_rule, candump_app, picture_app};
+ghost use Rattle.sja_words.specs.Inside.Parser.{IsHeldAs, IsReadAs};
 
 use super::command::flag;
 use super::described::{bare_argument, bare_command, with_argument};
@@ -11,7 +12,7 @@ use clap::{Arg, ArgAction, Command};
 use std::alloc::{AllocError, Global};
 
 /// An argument without a flag, which may be given and takes the number of a bit, with the line of help behind it.
-#[tactic(auto, unfolding(crate::specs::CommandLine::bit_rule, crate::specs::CommandLine::IsReadAs))]
+#[tactic(auto, unfolding(crate::specs::CommandLine::bit_rule, crate::specs::Inside::Parser::IsReadAs))]
 fn bit<'a>(alloc: Global, id: &'a str, help: &'a str) -> Arg<'a>
     ensures { IsReadAs result (bit_rule id.entry.now) }
 {

@@ -2,7 +2,8 @@
 
 ghost use Rattle.std.specs.Prelude.{◌≡◌, option_map, Some};
 ghost use Rattle.clap.specs.Words.{found_of, rows_of};
-ghost use Rattle.sja_words.specs.Words.{candump_in, picture_in, request_of};
+ghost use Rattle.sja_words.specs.Requests.{request_of};
+ghost use Rattle.sja_words.specs.Commands.{candump_in, picture_in};
 
 use super::found::flag_at;
 use super::sweep_found::{number_at, optional_at};

@@ -1,7 +1,7 @@
 //! The command `sweep` as the parser holds it.
 
-ghost use Rattle.sja_words.specs.CommandLine.{IsHeldAs, IsReadAs, number_rule, strike_rule, struck_app, sweep_app};
-ghost use Rattle.sja_words.specs.CommandLine.{told_app};
+ghost use Rattle.sja_words.specs.CommandLine.{number_rule, strike_rule, struck_app, sweep_app, told_app};
+ghost use Rattle.sja_words.specs.Inside.Parser.{IsHeldAs, IsReadAs};
 
 use super::command::flag;
 use super::described::{bare_argument, bare_command, with_argument};
@@ -18,7 +18,7 @@ use std::alloc::{AllocError, Global};
 const STRIKE_NAMES: &[&str] = &["K", "B"];
 
 /// An option of this name, which takes a number from the least to the most one, with the line of help behind it.
-#[tactic(auto, unfolding(crate::specs::CommandLine::number_rule, crate::specs::CommandLine::IsReadAs))]
+#[tactic(auto, unfolding(crate::specs::CommandLine::number_rule, crate::specs::Inside::Parser::IsReadAs))]
 pub(crate) fn number<'a>(
     alloc: Global,
     name: &'a str,
@@ -44,7 +44,7 @@ fn long_number<'a>(alloc: Global, name: &'a str, shown: &'a str, help: &'a str) 
 }
 
 /// `--plan K B`.
-#[tactic(auto, unfolding(crate::specs::CommandLine::strike_rule, crate::specs::CommandLine::IsReadAs))]
+#[tactic(auto, unfolding(crate::specs::CommandLine::strike_rule, crate::specs::Inside::Parser::IsReadAs))]
 fn strike<'a>(alloc: Global) -> Arg<'a>
     ensures { IsReadAs result strike_rule }
 {

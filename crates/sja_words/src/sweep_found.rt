@@ -2,8 +2,9 @@
 
 ghost use Rattle.std.specs.Prelude.{◌≡◌, ◌≤◌, IfSome, codes, option_map};
 ghost use Rattle.clap.specs.Words.{first_of, found_of, rows_of};
-ghost use Rattle.sja_words.specs.Words.{flag_in, has_no_flag, has_no_number, is_alone, number_in, number_or};
-ghost use Rattle.sja_words.specs.Words.{optional_in, request_of, second_of, sweep_in, words_in};
+ghost use Rattle.sja_words.specs.Values.{flag_in, number_in, number_or, optional_in, second_of};
+ghost use Rattle.sja_words.specs.Requests.{request_of};
+ghost use Rattle.sja_words.specs.Sweeping.{has_no_flag, has_no_number, is_alone, sweep_in, words_in};
 
 use super::found::{flag_at, text_at};
 use super::sweep_words::{GREATEST_NUMBER, LAST_NODE, MOST_JOBS, SweepWords};

@@ -4,7 +4,7 @@ use Rattle.std.specs.Str.{bytes_eq}
 use Rattle.std.proofs.lemmas.Bool.{or_parts}
 use Rattle.clap.specs.Lexer.{strip_byte}
 use Rattle.clap.specs.Words.{Text}
-use Rattle.sja_words.specs.Words.{HasNoFlag, begins_with_hyphen}
+use Rattle.sja_words.specs.Values.{HasNoFlag, begins_with_hyphen}
 
 -- it has no first `-` to take off
 pub no_hyphen : (text : Text) → begins_with_hyphen text ≡ false → strip_byte 45 text ≡ None

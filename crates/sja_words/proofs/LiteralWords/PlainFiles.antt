@@ -1,6 +1,7 @@
 -- What some words with names of files ask for, by computing the parser's answer.
 use Rattle.std.proofs.Common.{ℕ, List, [], ◌∷◌, codes, refl, false}
-use Rattle.sja_words.specs.Words.{Request, ParsesAs, asked, faults, files}
+use Rattle.sja_words.specs.Requests.{Request, files}
+use Rattle.sja_words.specs.Words.{ParsesAs, asked, faults}
 use Rattle.sja_words.specs.declared.plan_question.PlanQuestion.TheVariants.{Report, Trace}
 use Rattle.sja_words.proofs.LiteralWords.OnWords.{sja_on_literals}
 

@@ -1,6 +1,7 @@
 -- What the words of `picture` and `candump` ask for, by computing the parser's answer.
 use Rattle.std.proofs.Common.{ℕ, List, [], ◌∷◌, codes, refl, true, false, Some, None}
-use Rattle.sja_words.specs.Words.{Request, ParsesAs, asked, candump, faults, picture}
+use Rattle.sja_words.specs.Requests.{Request, candump, picture}
+use Rattle.sja_words.specs.Words.{ParsesAs, asked, faults}
 use Rattle.sja_words.proofs.LiteralWords.OnWords.{sja_on_literals}
 
 -- nothing behind it

@@ -1,6 +1,8 @@
 -- What the words of `sweep` ask for, by computing the parser's answer.
 use Rattle.std.proofs.Common.{ℕ, List, [], ◌∷◌, codes, refl, true, Some}
-use Rattle.sja_words.specs.Words.{Request, ParsesAs, all_swept, asked, faults, struck_plan, sweep}
+use Rattle.sja_words.specs.Requests.{Request, struck_plan, sweep}
+use Rattle.sja_words.specs.Sweeping.{all_swept}
+use Rattle.sja_words.specs.Words.{ParsesAs, asked, faults}
 use Rattle.sja_words.proofs.LiteralWords.OnWords.{sja_on_literals}
 
 -- nothing behind it

@@ -1,8 +1,8 @@
 -- What some words ask for, by computing the parser's answer.
 use Rattle.std.proofs.Common.{◌≡◌, ◌==◌, ℕ, List, [], ◌∷◌, codes, refl, false, true, Some}
 use Rattle.clap.specs.declared.error.kind.ErrorKind.TheVariants.{DisplayVersion}
-use Rattle.sja_words.specs.Words.{Request, ParsesAs, decode, encode, message, run, wave, trace, frames, check, live}
-use Rattle.sja_words.specs.Words.{asked, faults}
+use Rattle.sja_words.specs.Requests.{Request, decode, encode, message, run, wave, trace, frames, check, live}
+use Rattle.sja_words.specs.Words.{ParsesAs, asked, faults}
 use Rattle.sja_words.proofs.LiteralWords.OnWords.{sja_on_literals}
 
 -- `encode` and the empty text

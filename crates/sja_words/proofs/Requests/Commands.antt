@@ -5,7 +5,8 @@ use Rattle.std.specs.Result.{IsErr}
 use Rattle.clap.specs.Words.{AddsArg, AddsSubcommand, App, Rule, app_of, with_rule, with_subcommand}
 use Rattle.clap.specs.declared.builder.arg.Arg.{Arg}
 use Rattle.clap.specs.declared.builder.command.Command.{Command}
-use Rattle.sja_words.specs.CommandLine.{IsHeldAs, IsReadAs, and_app, and_rule}
+use Rattle.sja_words.specs.CommandLine.{and_app, and_rule}
+use Rattle.sja_words.specs.Inside.Parser.{IsHeldAs, IsReadAs}
 
 -- one argument more
 pub adds_rule : {E : Type 0} (old : Command) (a : Arg) (new made : Result Command E) (app : App) (rule : Rule) →

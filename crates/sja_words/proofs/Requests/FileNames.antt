@@ -10,7 +10,9 @@ use Rattle.clap.specs.Simple.{Shape, built_leaf, names_of}
 use Rattle.clap.specs.Walk.{Walk, settled, finished, nothing_held, positional, walk, walk_from, walked}
 use Rattle.clap.specs.Words.{Text}
 use Rattle.sja_words.specs.CommandLine.{check_app, run_app}
-use Rattle.sja_words.specs.Words.{HasNoFlag, ParsesAs, Request, asked, begins_with_hyphen, faults, files, request_by}
+use Rattle.sja_words.specs.Values.{HasNoFlag, begins_with_hyphen}
+use Rattle.sja_words.specs.Requests.{Request, files}
+use Rattle.sja_words.specs.Words.{ParsesAs, asked, faults, request_by}
 use Rattle.sja_words.specs.declared.plan_question.PlanQuestion.{PlanQuestion}
 use Rattle.sja_words.specs.declared.plan_question.PlanQuestion.TheVariants.{Check, Report}
 use Rattle.sja_words.proofs.Requests.Messages.{asked_in, left_alone, left_over, program, program_ends_with, texts_pass}

@@ -4,7 +4,9 @@ use Rattle.std.specs.Prelude.{option_map}
 use Rattle.std.proofs.lemmas.Slice.Eq.{bytes_eq-Decides}
 use Rattle.std.specs.Str.{bytes_eq}
 use Rattle.clap.specs.Words.{Text}
-use Rattle.sja_words.specs.Words.{HasNoFlag, ParsesAs, Request, begins_with_hyphen, filter, single_in, asked, faults}
+use Rattle.sja_words.specs.Values.{HasNoFlag, begins_with_hyphen, single_in}
+use Rattle.sja_words.specs.Requests.{Request, filter}
+use Rattle.sja_words.specs.Words.{ParsesAs, asked, faults}
 use Rattle.sja_words.proofs.LiteralWords.NoFlag.{each_of, no_dashes, no_hyphen}
 use Rattle.sja_words.proofs.LiteralWords.OnWords.{sja_on_literals}
 

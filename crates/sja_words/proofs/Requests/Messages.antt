@@ -12,8 +12,10 @@ use Rattle.clap.specs.Walk.{Names, Walk, settled, finished, nothing_held, positi
 use Rattle.clap.specs.Words.{App, Rule, Text, all_of}
 use Rattle.clap.specs.declared.builder.value_parser.ValueParser.TheVariants as parser
 use Rattle.sja_words.specs.CommandLine.{arbitrate_app, sja_app}
-use Rattle.sja_words.specs.Words.{HasNoFlag, ParsesAs, Request, arbitrate, arbitrate_in, asked, begins_with_hyphen}
-use Rattle.sja_words.specs.Words.{faults, request_in}
+use Rattle.sja_words.specs.Values.{HasNoFlag, begins_with_hyphen}
+use Rattle.sja_words.specs.Requests.{Request, arbitrate}
+use Rattle.sja_words.specs.Commands.{arbitrate_in}
+use Rattle.sja_words.specs.Words.{ParsesAs, asked, faults, request_in}
 use Rattle.sja_words.proofs.LiteralWords.NoFlag.{each_of, no_dashes, no_hyphen}
 use Rattle.sja_words.proofs.Requests.Several.{arbitrate_asked, not_asked}
 use Rattle.sja_words.proofs.LiteralWords.OnWords.{sja_on_literals}

@@ -6,7 +6,7 @@ use Rattle.clap.specs.Values.{IsUnsignedIn}
 use Rattle.clap.specs.ValueTests.{is_unsigned_in}
 use Rattle.clap.specs.Words.{Text}
 use Rattle.clap.specs.declared.builder.value_parser.ValueParser.TheVariants as vp
-use Rattle.sja_words.specs.Words.{number_in}
+use Rattle.sja_words.specs.Values.{number_in}
 
 -- a numeral within the bounds
 pub is_number : (least most n : ℕ) (text : Text) → n ≡ digits_value 10 (without_leading_plus text) →

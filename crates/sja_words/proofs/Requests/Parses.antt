@@ -8,7 +8,9 @@ use Rattle.clap.specs.declared.error.Error.{Error}
 use Rattle.clap.specs.declared.error.kind.ErrorKind.TheVariants.{OutOfMemory}
 use Rattle.clap.specs.declared.parser.matches.ArgMatches.{ArgMatches}
 use Rattle.sja_words.specs.CommandLine.{sja_app}
-use Rattle.sja_words.specs.Words.{IsAnswer, ParsesAs, Request, asked, faults, request_in}
+use Rattle.sja_words.specs.Requests.{Request}
+use Rattle.sja_words.specs.Words.{ParsesAs, asked, faults, request_in}
+use Rattle.sja_words.specs.Inside.Parser.{IsAnswer}
 use Rattle.sja_words.proofs.LiteralWords.OnWords.{sja_on_literals}
 
 -- the program's commands are such that the parser's answer is known

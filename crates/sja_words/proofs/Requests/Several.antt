@@ -2,7 +2,8 @@
 use Rattle.std.proofs.Common.{◌≡◌, ◌<◌, ◌≤◌, ◌⊎◌, List, Option, Some, None, length, refl, sym, arith, inl, inr}
 use Rattle.std.proofs.lemmas.Bool.{lt-ltb, le-ltb, le-leb, lt-leb, and_left, and_right, and_from, cond-true, cond-false}
 use Rattle.clap.specs.Words.{Text}
-use Rattle.sja_words.specs.Words.{arbitrate, arbitrate_in}
+use Rattle.sja_words.specs.Requests.{arbitrate}
+use Rattle.sja_words.specs.Commands.{arbitrate_in}
 
 -- no message
 pub nothing_asked : (given : Option (List Text)) → given ≡ None → None ≡ arbitrate_in given

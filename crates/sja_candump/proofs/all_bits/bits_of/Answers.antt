@@ -1,6 +1,6 @@
 use Rattle.std.proofs.Common.{rules}
-use Rattle.sja_candump.proofs.Stories.{begun_none, begun_more, begun_all}
-use Rattle.sja_candump.proofs.UpTo.{up_first}
+use Rattle.sja_candump.proofs.SoFar.Stories.{begun_none, begun_more, begun_all}
+use Rattle.sja_candump.proofs.SoFar.UpTo.{up_first}
 use Rattle.sja_candump.proofs.all_bits.bits_of.Goals as goal
 
 pub loop-node-init : goal.loop-node-init

@@ -1,5 +1,5 @@
 use Rattle.std.proofs.Common.{take}
-use Rattle.sja_candump.proofs.Stories.{HaveBegun}
+use Rattle.sja_candump.proofs.SoFar.Stories.{HaveBegun}
 use Rattle.sja_candump.proofs.all_bits.bits_of.Given as goal
 
 -- those of the nodes so far

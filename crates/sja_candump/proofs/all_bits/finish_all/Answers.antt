@@ -1,7 +1,7 @@
 use Rattle.std.proofs.Common.{◌<◌, length, rules, sym, subst}
 use Rattle.lemmas.proofs.ChangedInTurn.{part_none, part_at, part_next, part_all}
 use Rattle.sja_trace.specs.Telling.{TellsAll, IsUnderway}
-use Rattle.sja_candump.proofs.Stories.{underway_at}
+use Rattle.sja_candump.proofs.SoFar.Stories.{underway_at}
 use Rattle.sja_candump.proofs.all_bits.finish_all.Goals as goal
 
 pub loop-k-init : goal.loop-k-init

@@ -1,5 +1,5 @@
 use Rattle.std.proofs.Common.{◌≡◌, ◌+◌, suc, length, rules, arith}
-use Rattle.sja_candump.proofs.UpTo.{back_more, lent_underway, back_all}
+use Rattle.sja_candump.proofs.SoFar.UpTo.{back_more, lent_underway, back_all}
 use Rattle.sja_candump.proofs.candump_text.candump.Goals as goal
 
 pub loop-bit-preserved : goal.loop-bit-preserved

@@ -1,6 +1,6 @@
 use Rattle.std.proofs.Common.{◌≡◌, ◌++◌, ◌<◌, ◌^◌, ◌-◌, [], true, false, get_or, string_bytes, rules}
 use Rattle.std.specs.Fmt.{digits, padded_integral, format_spec}
-use Rattle.sja_candump.proofs.FrameTexts.{byte_next}
+use Rattle.sja_candump.proofs.Lines.FrameTexts.{byte_next}
 use Rattle.sja_candump.proofs.frame_lines.put_bytes.Goals as goal
 
 pub loop-byte-preserved : goal.loop-byte-preserved

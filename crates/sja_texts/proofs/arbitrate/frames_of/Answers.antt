@@ -3,7 +3,7 @@ use Rattle.std.specs.List.{AllZip}
 use Rattle.std.proofs.lemmas.Result.{err_from_is_err_and}
 use Rattle.can_frame.specs.Frame.{FrameValue}
 use Rattle.sja_texts.specs.Arbitrate.{SpellsFrame}
-use Rattle.sja_texts.proofs.Spelled.{texts, spells, frames_more, first_refused}
+use Rattle.sja_texts.proofs.Reading.Spelled.{texts, spells, frames_more, first_refused}
 use Rattle.sja_texts.proofs.arbitrate.frames_of.Goals as goal
 
 pub loop-digits-preserved : goal.loop-digits-preserved

@@ -1,5 +1,5 @@
 use Rattle.std.proofs.Common.{arith, ◌∙◌}
-use Rattle.sja_texts.proofs.Symbols.{no_levels}
+use Rattle.sja_texts.proofs.Reading.Symbols.{no_levels}
 use Rattle.sja_texts.proofs.line_text.levels_of.Goals as goal
 
 -- this character is the digit of no level

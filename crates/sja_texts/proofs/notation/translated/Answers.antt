@@ -2,7 +2,7 @@ use Rattle.std.proofs.Common.{rules, ℕ, List, subst}
 use Rattle.can_notation.specs.declared.notation_fault.NotationFault.TheVariants.{Data}
 use Rattle.sja_texts.specs.declared.command_refusal.CommandRefusal.TheVariants.{Notation}
 use Rattle.sja_texts.specs.Notation.{RefusesTranslation}
-use Rattle.sja_texts.proofs.Translations.{from_notation, no_data}
+use Rattle.sja_texts.proofs.Reading.Translations.{from_notation, no_data}
 use Rattle.sja_texts.proofs.notation.translated.Goals as goal
 
 pub returns-in_ok-text_of_bytes-in-Ok-clause-ok : goal.returns-in_ok-text_of_bytes-in-Ok-clause-ok

@@ -4,7 +4,7 @@ use Rattle.std.specs.Prelude.{option_map}
 use Rattle.std.specs.Result.{is_err, IsOk, OnOk}
 use Rattle.std.proofs.lemmas.Bool.{eqb-true, eqb-false}
 use Rattle.std.proofs.lemmas.List.{length-map}
-use Rattle.sja_words.specs.Words.{request_of, arbitrate}
+use Rattle.sja_words.specs.Requests.{request_of, arbitrate}
 use Rattle.sja_words.proofs.Requests.Rows.{raw_values-rows}
 use Rattle.sja_words.proofs.Requests.Several.{nothing_asked, not_asked, arbitrate_asked}
 use Rattle.sja_words.proofs.found.arbitrate_task.Goals as goal

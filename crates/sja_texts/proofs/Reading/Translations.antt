@@ -4,7 +4,7 @@ use Rattle.can_frame.specs.Frame.{FrameValue, IsFrame}
 use Rattle.can_frame.specs.Message.{message}
 use Rattle.can_notation.specs.Text.{Says}
 use Rattle.can_notation.specs.Faults.{HasHash, HasIdentifier, HasRest}
-use Rattle.can_notation.specs.declared.notation_fault.NotationFault.TheVariants.{Identifier, Data}
+use Rattle.can_notation.specs.declared.notation_fault.NotationFault.TheVariants.{Data}
 use Rattle.sja_texts.specs.declared.command_refusal.CommandRefusal.TheVariants.{Notation}
 use Rattle.sja_texts.specs.BytesText.{bytes_text}
 use Rattle.sja_texts.specs.Notation.{IsTranslation, RefusesTranslation}
@@ -12,10 +12,6 @@ use Rattle.sja_texts.specs.Notation.{IsTranslation, RefusesTranslation}
 pub from_notation : (given printed : List ℕ) (f : FrameValue) → IsFrame f → Says given f →
     printed ≡ bytes_text (message f) → IsTranslation given printed
 from_notation given printed f frame says is = inl (f, frame, says, is)
-
-pub no_identifier : (given : List ℕ) → HasHash given → ¬ HasIdentifier given →
-    RefusesTranslation given (Notation Identifier)
-no_identifier given hash none = inl (Identifier, refl, (hash, none))
 
 pub no_data : (given : List ℕ) → HasHash given → HasIdentifier given → ¬ HasRest given →
     RefusesTranslation given (Notation Data)

@@ -10,7 +10,7 @@ use Rattle.sja_trace.specs.declared.node_bits.NodeBits.{NodeBits}
 use Rattle.sja_trace.specs.Telling.{HaveSame, TellsOn, TellsAll}
 use Rattle.sja_candump.specs.CandumpText.{IsCandump, node_lines, story_lines, lines_to}
 use Rattle.sja_candump.specs.Inside.Coming.{IsShown, AreUnderway, IsUpTo, hand_lines, bit_text}
-use Rattle.sja_candump.proofs.Stories.{HaveBegun, all_more, all_told, all_underway}
+use Rattle.sja_candump.proofs.SoFar.Stories.{HaveBegun, all_more, all_told, all_underway}
 
 -- ---- the bits before are told alike
 

@@ -6,7 +6,7 @@ use Rattle.std.specs.List.{AllZip}
 use Rattle.std.proofs.lemmas.List.{map-append, map_more}
 use Rattle.can_frame.specs.Frame.{FrameValue, IsFrame}
 use Rattle.can_frame.specs.Message.{message}
-use Rattle.lemmas.proofs.Lists.{split_at}
+use Rattle.std.proofs.Math.Seq.{split_at}
 use Rattle.lemmas.proofs.Related.{related_push}
 use Rattle.sja_texts.specs.declared.command_refusal.CommandRefusal.{CommandRefusal}
 use Rattle.sja_texts.specs.Arbitrate.{SpellsFrame, RefusesFirst}

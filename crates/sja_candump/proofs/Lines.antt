@@ -1,0 +1,2 @@
+-- The numbers in a line, as they are written.
+pub mod FrameTexts

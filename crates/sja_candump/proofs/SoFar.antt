@@ -1,0 +1,3 @@
+-- How far the bits of each node came, and the text of their stories so far.
+pub mod Stories
+pub mod UpTo

@@ -1,0 +1,62 @@
+-- What each command but `sweep` asks for, by the values of its arguments (this project's own rule).
+use Rattle.std.specs.Prelude.{◌&&◌, ℕ, Bool, List, length, Option, Some, None, codes, option_map}
+use Rattle.std.specs.Prelude.{if◌then◌else◌, nat_lt, nat_le}
+use Rattle.std.specs.Str.{bytes_eq}
+use Rattle.clap.specs.Words.{Row, Text, all_of, first_of}
+use Rattle.sja_words.specs.declared.plan_question.PlanQuestion.{PlanQuestion}
+use Rattle.sja_words.specs.declared.plan_question.PlanQuestion.TheVariants as question
+use Rattle.sja_words.specs.Values.{flag_in, number_or, optional_in, single_in}
+use Rattle.sja_words.specs.Requests.{Request, request_about, filter, arbitrate, picture, candump, files}
+
+-- what `filter` asks for, by its four arguments, where they are there and the first is a mode
+abbrev pub filter_in : Option Text → Option Text → Option Text → Option Text → Option Request
+filter_in (Some mode) (Some acr) (Some amr) (Some digits) =
+    option_map (λ single. filter single acr amr digits) (single_in mode)
+filter_in (Some mode) (Some acr) (Some amr) None = None
+filter_in (Some mode) (Some acr) None digits = None
+filter_in (Some mode) None amr digits = None
+filter_in None acr amr digits = None
+
+-- what `arbitrate` asks for, by the values of its argument: there are one to eight of them
+abbrev pub arbitrate_in : Option (List Text) → Option Request
+arbitrate_in None = None
+arbitrate_in (Some messages) =
+    if nat_lt 0 (length messages) && nat_le (length messages) 8 then Some (arbitrate messages) else None
+
+-- what `picture` asks for, by the first and the last bit and the flags: where no bit is given from bit 0 on, and up to
+-- the last bit of the run
+abbrev pub picture_by : Option ℕ → Option (Option ℕ) → Bool → Bool → Option Request
+picture_by (Some first) (Some last) svg threads = Some (picture first last svg threads)
+picture_by (Some first) None svg threads = None
+picture_by None last svg threads = None
+
+abbrev pub picture_in : List Row → Option Request
+picture_in rows =
+    picture_by (number_or 0 0 9999999 (first_of (codes "FROM") rows))
+    (optional_in 9999999 (first_of (codes "TO") rows)) (flag_in (first_of (codes "svg") rows))
+    (flag_in (first_of (codes "threads") rows))
+
+-- what `candump` asks for, by its flags
+abbrev pub candump_in : List Row → Option Request
+candump_in rows =
+    Some (candump (flag_in (first_of (codes "errors") rows)) (flag_in (first_of (codes "threads") rows)))
+
+-- the question that a subcommand of this name asks of plans, with threads or without
+abbrev pub question_in : Text → Bool → Option PlanQuestion
+question_in name threads =
+    if bytes_eq name (codes "run") then Some (question.Report threads)
+    else if bytes_eq name (codes "check") then Some question.Check
+    else if bytes_eq name (codes "trace") then Some (question.Trace threads)
+    else None
+
+-- what a question asks for, by the names of files and the number of plans at one time: of each plan in the files that
+-- are named, and of the plan on the input where none is named
+abbrev pub plan_by : PlanQuestion → Option (List Text) → Option ℕ → Option Request
+plan_by asked_of_each None jobs = Some (request_about asked_of_each)
+plan_by asked_of_each (Some names) None = None
+plan_by asked_of_each (Some names) (Some jobs) = Some (files asked_of_each jobs names)
+
+-- by the values of its arguments
+abbrev pub plan_in : PlanQuestion → List Row → Option Request
+plan_in asked_of_each rows =
+    plan_by asked_of_each (all_of (codes "FILE") rows) (number_or 1 1 64 (first_of (codes "jobs") rows))

@@ -1,0 +1,2 @@
+-- What the values of the parser stand for: definitions of private contracts alone.
+pub mod Parser

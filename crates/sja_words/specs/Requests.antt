@@ -1,0 +1,53 @@
+-- What the program can be asked for (this project's own rule).
+use Rattle.std.specs.Prelude.{ℕ, Bool, List, map, Option}
+use Rattle.sja_words.specs.declared.task.Task.{Task}
+use Rattle.sja_words.specs.declared.task.Task.TheVariants.{Encode, Decode, Filter, Arbitrate, Message, Run, Wave}
+use Rattle.sja_words.specs.declared.task.Task.TheVariants.{Trace, Frames, Picture, Candump, Check, Sweep, StruckPlan}
+use Rattle.sja_words.specs.declared.task.Task.TheVariants.{Files, Live}
+use Rattle.sja_words.specs.declared.plan_question.PlanQuestion.{PlanQuestion}
+use Rattle.sja_words.specs.declared.plan_question.PlanQuestion.TheVariants as question
+use Rattle.sja_words.specs.declared.sweep_words.SweepWords.{SweepWords}
+
+-- what the program is asked for, with the texts of its arguments
+pub data Request : Type 0 where
+  encode : List ℕ → Request
+  decode : List ℕ → Request
+  filter : Bool → List ℕ → List ℕ → List ℕ → Request
+  arbitrate : List (List ℕ) → Request
+  message : List ℕ → Request
+  run : Bool → Request
+  wave : Bool → Request
+  trace : Bool → Request
+  frames : Bool → Request
+  picture : ℕ → Option ℕ → Bool → Bool → Request
+  candump : Bool → Bool → Request
+  check : Request
+  sweep : SweepWords → Request
+  struck_plan : ℕ → ℕ → Request
+  files : PlanQuestion → ℕ → List (List ℕ) → Request
+  live : Request
+
+-- a task as what it asks for
+abbrev pub request_of : Task → Request
+request_of (Encode digits) = encode digits.now
+request_of (Decode line) = decode line.now
+request_of (Filter single acr amr digits) = filter single acr.now amr.now digits.now
+request_of (Arbitrate messages) = arbitrate (map (λ digits. digits.now) messages.items)
+request_of (Message text) = message text.now
+request_of (Run threads) = run threads
+request_of (Wave threads) = wave threads
+request_of (Trace threads) = trace threads
+request_of (Frames threads) = frames threads
+request_of (Picture first last svg threads) = picture first last svg threads
+request_of (Candump errors threads) = candump errors threads
+request_of Check = check
+request_of (Files w) = files w.question w.jobs (map (λ name. name.now) w.names.items)
+request_of Live = live
+request_of (Sweep asked_for) = sweep asked_for
+request_of (StruckPlan node bit) = struck_plan node bit
+
+-- what is asked of a plan, as it is asked of the plan on the input
+abbrev pub request_about : PlanQuestion → Request
+request_about (question.Report threads) = run threads
+request_about question.Check = check
+request_about (question.Trace threads) = trace threads
