@@ -1,7 +1,8 @@
 -- Texts that grow, line by line.
 use Rattle.std.proofs.Common.{◌≡◌, ◌≤◌, ◌+◌, ℕ, List, [], ◌∷◌, ◌++◌, sym, subst, arith, All}
 use Rattle.std.proofs.lemmas.List.Elements.{All-push, All-nil}
-use Rattle.sja_check.specs.Lines.{IsPlain, IsLine, AddsLine, AreLines, IsBrief, AreHints}
+use Rattle.sja_check.specs.Lines.{IsPlain, IsLine, AreLines, IsBrief, AreHints}
+use Rattle.sja_check.specs.Inside.Lines.{AddsLine}
 
 -- one character more
 pub plain_more : (line : List ℕ) (c : ℕ) → All IsPlain line → IsPlain c → All IsPlain (line ++ c ∷ [])

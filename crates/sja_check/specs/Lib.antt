@@ -1,1 +1,3 @@
 pub mod Lines
+-- ---- definitions of private contracts alone
+pub mod Inside

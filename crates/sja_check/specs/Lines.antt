@@ -1,5 +1,5 @@
 -- Lines of words (this project's own rule).
-use Rattle.std.specs.Prelude.{◌≡◌, ◌≤◌, ◌+◌, ℕ, List, [], ◌∷◌, ◌++◌, length, All}
+use Rattle.std.specs.Prelude.{◌≤◌, ◌+◌, ℕ, List, [], ◌∷◌, ◌++◌, length, All}
 
 -- a printable character of ASCII, the space too
 abbrev pub IsPlain : ℕ → Type 0
@@ -9,12 +9,6 @@ IsPlain c = (32 ≤ c) × (c ≤ 126)
 pub record IsLine (line : List ℕ) : Type 0 where
   pub few : length line ≤ 100
   pub plain : All IsPlain line
-
--- the text is the old one with such a line and a line feed behind it
-pub record AddsLine (old text : List ℕ) : Type 0 where
-  pub line : List ℕ
-  pub is_line : IsLine line
-  pub text_is : text ≡ old ++ line ++ 10 ∷ []
 
 -- so many lines, each of at most 100 printable characters of ASCII and ended by a line feed
 pub data AreLines : ℕ → List ℕ → Type 0 where

@@ -1,7 +1,8 @@
 //! Lines of at most 100 printable ASCII characters.
 
 ghost use Rattle.std.specs.Prelude.{OnOk, IfOk, string_bytes};
-ghost use Rattle.sja_check.specs.Lines.{AddsLine, IsLine, IsPlain, IsBrief, AreHints};
+ghost use Rattle.sja_check.specs.Lines.{IsLine, IsPlain, IsBrief, AreHints};
+ghost use Rattle.sja_check.specs.Inside.Lines.{AddsLine};
 
 use super::words::Words;
 use std::alloc::{AllocError, Global};

@@ -10,7 +10,6 @@ use Rattle.sja_driver_session.specs.DriverSessions.{answer_of, bits_of, node_cou
 use Rattle.sja_driver_session.specs.Steps.{MayStepIn, IsStepFaultIn, MayWriteIn, IsWriteFaultIn}
 use Rattle.sja_driver_session.specs.Steps.{StepsIn, WaitsIn, ReadsIn, WritesIn}
 use Rattle.sja_driver_session.specs.declared.driver_session.DriverSession.{DriverSession}
-use Rattle.sja_live.specs.Calls.{IsLiveAt}
 use Rattle.sja_live.specs.declared.live_answer.LiveAnswer.{LiveAnswer}
 use Rattle.sja_live.specs.declared.live_answer.LiveAnswer.TheVariants.{Told, Waits, Ran, Rose, Spent, Lines}
 use Rattle.sja_live.specs.declared.live_answer.LiveAnswer.TheVariants.{Bits as Run, Nothing, PlanSoFar, NoBit, Full}
@@ -114,9 +113,3 @@ pub data Answers (was now : DriverSession) (deeds : List (List Deed)) :
   plan : {document : String Global} → IsPlanText (written was) (string_bytes document) → now ≡ was →
       Answers was now deeds Plan (PlanSoFar document) deeds
   no_plan : IsTooLong (written was) → now ≡ was → Answers was now deeds Plan (Full Document) deeds
-
--- a command is answered so, wherever the session stands
-abbrev pub IsAnswered : DriverSession → DriverSession → LiveCommand → LiveAnswer → Type 0
-IsAnswered was now command told =
-    (deeds : List (List Deed)) → IsLiveAt was deeds →
-    (after : List (List Deed)) × Answers was now deeds command told after × IsLiveAt now after

@@ -1,4 +1,5 @@
--- The machine: what its functions promise of one another.
+-- The machine: what its functions promise of one another, and where the session of a talk stands.
+pub mod Standing
 pub mod Reading
 pub mod OfNode
 pub mod Going

@@ -1,5 +1,4 @@
 -- ---- a session, of any version
-pub mod Calls
 pub mod Beginning
 pub mod Ending
 -- ---- lines and answers

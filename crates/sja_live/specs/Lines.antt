@@ -6,7 +6,7 @@ use Rattle.sja_plan.specs.Words.{Text}
 abbrev pub most_line : ℕ
 most_line = 64
 
--- a line that can be read: it isn't too long, and a text
+-- a line that can be read: it isn't too long, and its bytes are UTF-8
 abbrev pub IsReadable : Text → Type 0
 IsReadable line = (length line ≤ most_line) × IsUtf8 line
 

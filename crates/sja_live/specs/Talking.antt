@@ -88,7 +88,7 @@ pub record IsTalk (input output left : Text) : Type 0 where
   pub told : output ≡ said ++ report_text log
   pub behind : left ≡ behind_line rest
 
--- there was no session: the first line, or none where the input is empty, opens none, and that was said
+-- there was no session: the first line opens none, which is without words where the input is empty, and that was said
 pub record IsNoTalk (input output left : Text) : Type 0 where
   pub fault : OpeningFault
   pub is : IsOpeningFault (first_line input) fault
@@ -103,7 +103,7 @@ IsTold Unopened input output left = IsNoTalk input output left
 -- ---- a talk that breaks off
 
 -- how far the lines were read that aren't answered: a line was begun at most; or memory was refused for the answer of
--- the next one, which was read, and no other line was
+-- the next one, which was read, and no other line was. A write that fails tells no such thing, and is left open
 abbrev pub IsLeftUnanswered : TalkFault → Text → Text → Type 0
 IsLeftUnanswered Memory lines left = HasBegun lines left ⊎ (left ≡ behind_line lines)
 IsLeftUnanswered Read lines left = HasBegun lines left

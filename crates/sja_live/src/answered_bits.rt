@@ -1,6 +1,6 @@
 //! What bits are answered.
 
-ghost use Rattle.sja_live.specs.Answering.{IsAnswered};
+ghost use Rattle.sja_live.specs.Inside.Standing.{IsAnswered};
 ghost use Rattle.sja_live.specs.declared.live_command.LiveCommand.TheVariants.{Run, Rest};
 
 use super::interrupt_lines::lines;

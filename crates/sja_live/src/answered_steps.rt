@@ -1,7 +1,8 @@
 //! What steps and accesses are answered.
 
 ghost use Rattle.std.specs.Prelude.{◌<◌, ◌≢◌};
-ghost use Rattle.sja_live.specs.Answering.{IsAnswered, IsUsedUp};
+ghost use Rattle.sja_live.specs.Answering.{IsUsedUp};
+ghost use Rattle.sja_live.specs.Inside.Standing.{IsAnswered};
 ghost use Rattle.sja_driver_session.specs.DriverSessions.{node_count, version_of};
 ghost use Rattle.sja_live.specs.declared.live_command.LiveCommand.TheVariants.{Step as StepOf, Read, Write};
 ghost use Rattle.sja_plan_text.specs.HasTexts.{HasStepText};

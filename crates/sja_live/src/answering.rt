@@ -1,9 +1,8 @@
 //! What a command is answered.
 
 ghost use Rattle.std.specs.Prelude.{◌≡◌, ◌<◌, ◌≤◌, IfOk, OnErr};
-ghost use Rattle.sja_live.specs.Answering.{IsAnswered};
+ghost use Rattle.sja_live.specs.Inside.Standing.{IsAnswered, IsLive};
 ghost use Rattle.sja_driver_session.specs.DriverSessions.{node_count};
-ghost use Rattle.sja_live.specs.Calls.{IsLive};
 ghost use Rattle.sja_live.specs.Inside.OfNode.{IsOfNode};
 ghost use Rattle.sja_plan.specs.Words.{greatest};
 ghost use Rattle.sja_live.specs.declared.live_command.LiveCommand.TheVariants.{Strike, Answer, Plan, Bits, Line};

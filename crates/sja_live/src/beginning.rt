@@ -1,7 +1,8 @@
 //! How the session of a talk begins.
 
 ghost use Rattle.std.specs.Prelude.{IfOk, IfErr, OnOk};
-ghost use Rattle.sja_live.specs.Beginning.{IsNewOf, IsOpening, IsNoSession};
+ghost use Rattle.sja_live.specs.Beginning.{IsNewOf};
+ghost use Rattle.sja_live.specs.Inside.Standing.{IsOpening, IsNoSession};
 
 use super::opening::Opening;
 use sja_driver_session::DriverSession;

@@ -5,7 +5,7 @@ ghost use Rattle.sja_driver.specs.Deeds.{Deed};
 ghost use Rattle.sja_live.specs.Answering.{AreLines};
 ghost use Rattle.sja_driver_session.specs.Bits.{IsStillIn, line_in};
 ghost use Rattle.sja_driver_session.specs.DriverSessions.{node_count};
-ghost use Rattle.sja_live.specs.Calls.{IsLiveAt};
+ghost use Rattle.sja_live.specs.Inside.Standing.{IsLiveAt};
 
 use sja_driver_session::DriverSession;
 

@@ -2,7 +2,7 @@
 
 ghost use Rattle.std.specs.Prelude.{◌≡◌, List, IfOk, IfErr, OnOk};
 ghost use Rattle.sja_driver.specs.Deeds.{Deed};
-ghost use Rattle.sja_live.specs.Calls.{IsLive, IsLiveAt};
+ghost use Rattle.sja_live.specs.Inside.Standing.{IsLive, IsLiveAt};
 ghost use Rattle.sja_live.specs.Inside.Going.{FirstSays, IsNextAnswer, IsAnswerOf};
 ghost use Rattle.sja_live.specs.Inside.Reading.{LeavesLine};
 ghost use Rattle.sja_live.specs.Lines.{IsReadable};

@@ -4,7 +4,7 @@ ghost use Rattle.std.specs.Prelude.{◌≡◌, ◌≢◌, List, Option, IfOk, If
 ghost use Rattle.std.specs.Io.KnownBytes.{Appends};
 ghost use Rattle.sja_driver.specs.Deeds.{Deed};
 ghost use Rattle.sja_live.specs.AnswerTexts.{answer_text, opening_text};
-ghost use Rattle.sja_live.specs.Calls.{IsLive, IsLiveAt};
+ghost use Rattle.sja_live.specs.Inside.Standing.{IsLive, IsLiveAt};
 ghost use Rattle.sja_live.specs.Inside.Going.{AppendsReport, IsBegun, IsOver};
 ghost use Rattle.sja_live.specs.Talking.{IsTold, IsBrokenOff, Speaks};
 ghost use Rattle.sja_live.specs.declared.talk_fault.TalkFault.TheVariants.{Memory as MemoryFault, Write as WriteFault};

@@ -1,10 +1,8 @@
 -- What the program does, by what the words ask for (this project's own rule).
-use Rattle.std.specs.Global.{Global}
 use Rattle.std.specs.Prelude.{◌≡◌, ◌⊎◌, ◌<◌, ℕ, Bool, true, false, List, Option, Some, None, Result, Ok, Err, map}
-use Rattle.std.specs.Prelude.{IfOk, IfErr, Vec}
 use Rattle.std.specs.Io.KnownBytes.{Appends, Keeps}
-use Rattle.sja_words.specs.Words.{Request, encode, decode, filter, arbitrate, message, run, wave}
-use Rattle.sja_words.specs.Words.{trace, frames, picture, candump, check, sweep, struck_plan, files, live}
+use Rattle.sja_words.specs.Requests.{Request, encode, decode, filter, arbitrate, message, run, wave, trace, frames}
+use Rattle.sja_words.specs.Requests.{picture, candump, check, sweep, struck_plan, files, live}
 use Rattle.sja_texts.specs.declared.command_refusal.CommandRefusal.{CommandRefusal}
 use Rattle.sja_texts.specs.declared.command_refusal.CommandRefusal.TheVariants as refusal
 use Rattle.sja_texts.specs.Arbitrate.{IsArbitration, RefusesMessages}
@@ -41,16 +39,6 @@ AsksForRun (struck_plan node bit) = Unit {0}
 AsksForRun (files asked jobs names) = Unit {0}
 AsksForRun live = Unit {0}
 AsksForRun other = ⊥
-
--- a text of a run is asked for, in threads or in one
-abbrev pub AsksForText : Request → Type 0
-AsksForText (run threads) = Unit {0}
-AsksForText (wave threads) = Unit {0}
-AsksForText (trace threads) = Unit {0}
-AsksForText (frames threads) = Unit {0}
-AsksForText (picture first last svg threads) = Unit {0}
-AsksForText (candump errors threads) = Unit {0}
-AsksForText other = ⊥
 
 -- it is left to another call: threads are asked for, for a run with each driver in a thread of its own or for a sweep
 -- in more than one; or plans stand in files, or a session is driven
@@ -142,11 +130,6 @@ IsRefused (struck_plan node bit) before after r = RefusesOfPlan (RefusesStruck n
 IsRefused (files asked jobs names) before after r = (r ≡ refusal.OutOfMemory) × ReadsFew before after
 IsRefused live before after r = (r ≡ refusal.OutOfMemory) × ReadsFew before after
 
--- the same, and the text that answers the request, or why it has no answer
-abbrev pub IsAnswer : Request → Option (List ℕ) → Option (List ℕ) → Result (Vec ℕ Global) CommandRefusal → Type 0
-IsAnswer request before after result =
-    IfOk result (λ text. IsPrinted request before after text.items) × IfErr result (IsRefused request before after)
-
 -- The request, the exit status, and what the input, the output and the error output held before and hold after.
 -- Either the text is on the output and the status is 0; or the refusal's line, or what `check` says of a mistake, is on
 -- the error output and the status is 1. The other writer keeps what it held.
@@ -160,12 +143,6 @@ Shows request status in_old in_new out_old out_new err_old err_new =
     × Appends err_old err_new (refusal_line r))
     ⊎ ((text : List ℕ) × (request ≡ check) × HasMistake in_old in_new text × (status ≡ Some 1) × Keeps out_old out_new
     × Appends err_old err_new text)
-
--- Whether a write to the output and to the error output had failed before, whether one has failed now, and the status:
--- where one failed and none had before, it is 1.
-abbrev pub IsOneWhereFailed : Bool → Bool → Bool → Bool → ℕ → Type 0
-IsOneWhereFailed out_old err_old out_new err_new status =
-    out_old ≡ false → err_old ≡ false → (out_new ≡ true) ⊎ (err_new ≡ true) → status ≡ 1
 
 -- What the words ask for is left to another call: there is no status; or memory was refused, and where no write to the
 -- error output failed it has that refusal's line.

@@ -10,8 +10,6 @@ use Rattle.sja_plan_session.specs.PlanRuns.{IsPlanRun}
 use Rattle.sja_check.specs.Lines.{IsBrief, AreHints}
 use Rattle.sja_texts.specs.Refusal.{refusal_line}
 use Rattle.sja_texts.specs.declared.command_refusal.CommandRefusal.TheVariants as refusal
-use Rattle.sja_run.specs.declared.plan_check.PlanCheck.{PlanCheck}
-use Rattle.sja_run.specs.declared.plan_check.PlanCheck.TheVariants.{Hints, Mistake}
 use Rattle.sja_run.specs.Input.{IsRead}
 
 -- these bytes are a plan, which has a run in one thread, and the text is a line for each hint
@@ -25,11 +23,6 @@ IsExplained bytes text =
     (fault : PlanFault) × (words : List ℕ) × (¬ (fault ≡ Memory)) × IsFirstFault bytes fault
     × (text ≡ refusal_line (refusal.Plan fault) ++ words) × IsBrief words
 
--- which of both is said of these bytes
-abbrev pub IsSaidOf : List ℕ → PlanCheck → Type 0
-IsSaidOf bytes (Hints text) = IsHinted bytes text.items
-IsSaidOf bytes (Mistake text) = IsExplained bytes text.items
-
 -- there are hints of the bytes that were read
 abbrev pub HasHints : Option (List ℕ) → Option (List ℕ) → List ℕ → Type 0
 HasHints before after text = (bytes : List ℕ) × IsRead before after bytes × IsHinted bytes text
@@ -37,8 +30,3 @@ HasHints before after text = (bytes : List ℕ) × IsRead before after bytes × 
 -- there is a mistake in them
 abbrev pub HasMistake : Option (List ℕ) → Option (List ℕ) → List ℕ → Type 0
 HasMistake before after text = (bytes : List ℕ) × IsRead before after bytes × IsExplained bytes text
-
--- which of both it is
-abbrev pub IsChecked : Option (List ℕ) → Option (List ℕ) → PlanCheck → Type 0
-IsChecked before after (Hints text) = HasHints before after text.items
-IsChecked before after (Mistake text) = HasMistake before after text.items

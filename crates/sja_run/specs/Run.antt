@@ -1,6 +1,6 @@
 -- Why there is a text of the plan on the input, and why there is none, by what the input held before and holds after
 -- (this project's own rule).
-use Rattle.std.specs.Prelude.{ℕ, true, false, List, Option}
+use Rattle.std.specs.Prelude.{ℕ, false, List, Option}
 use Rattle.sja_plan.specs.Plan.{PlanValue}
 use Rattle.sja_plan.specs.Faults.{IsPlanOf, IsFirstFault}
 use Rattle.sja_log.specs.declared.run_fault.RunFault.{RunFault}
@@ -8,10 +8,6 @@ use Rattle.sja_texts.specs.declared.command_refusal.CommandRefusal.{CommandRefus
 use Rattle.sja_texts.specs.declared.command_refusal.CommandRefusal.TheVariants as refusal
 use Rattle.sja_run.specs.Input.{IsRead, ReadsFew, BreaksOff}
 use Rattle.sja_run.specs.RunText.{MayFault}
-
--- the bytes that were read are this plan
-abbrev pub HoldsPlan : Option (List ℕ) → Option (List ℕ) → PlanValue → Type 0
-HoldsPlan before after plan = (bytes : List ℕ) × IsRead before after bytes × IsPlanOf bytes plan
 
 -- the text is such a one of the plan that the bytes which were read are
 abbrev pub IsOfPlan : (PlanValue → List ℕ → Type 0) → Option (List ℕ) → Option (List ℕ) → List ℕ → Type 0
@@ -37,7 +33,3 @@ RefusesBy May before after (refusal.Sweep why) = ⊥
 -- of a run in one thread
 abbrev pub RefusesRun : Option (List ℕ) → Option (List ℕ) → CommandRefusal → Type 0
 RefusesRun = RefusesBy (MayFault false)
-
--- and of one in threads; there is a gate for each node
-abbrev pub RefusesThreads : Option (List ℕ) → Option (List ℕ) → CommandRefusal → Type 0
-RefusesThreads = RefusesBy (MayFault true)

@@ -48,26 +48,22 @@ RefusesSwept w plan TooLong = ⊥
 abbrev pub IsStruck : ℕ → ℕ → PlanValue → List ℕ → Type 0
 IsStruck node bit plan text = (node < length plan.nodes) × IsPlanText (struck_at plan node bit) text
 
--- why there is no such text
+-- the node is there, and a strike's text says the bit, whose number has at most seven digits
+abbrev pub NamesBit : ℕ → ℕ → PlanValue → Type 0
+NamesBit node bit plan = (node < length plan.nodes) × (bit ≤ 9999999)
+
+-- why there is no such text, the first of these that holds: the node isn't there; no text says the bit; the plan has
+-- all its strikes; its text would be too long
 abbrev pub RefusesStruck : ℕ → ℕ → PlanValue → SweepRefusal → Type 0
 RefusesStruck node bit plan NoNode = length plan.nodes ≤ node
+RefusesStruck node bit plan Bit = (node < length plan.nodes) × (9999999 < bit)
+RefusesStruck node bit plan StrikeCount =
+    NamesBit node bit plan × (most_strikes plan.version ≤ times_in plan.strikes)
+RefusesStruck node bit plan TooLong =
+    NamesBit node bit plan × (times_in plan.strikes < most_strikes plan.version) × IsTooLong (struck_at plan node bit)
 RefusesStruck node bit plan (TooMany runs bits) = ⊥
-RefusesStruck node bit plan StrikeCount = most_strikes plan.version ≤ times_in plan.strikes
-RefusesStruck node bit plan Bit = 9999999 < bit
-RefusesStruck node bit plan TooLong = IsTooLong (struck_at plan node bit)
-
--- the text of a plan is too long, and nothing else is wrong
-abbrev pub IsLong : PlanValue → SweepRefusal → Type 0
-IsLong plan TooLong = IsTooLong plan
-IsLong plan other = ⊥
 
 -- ---- of the plan on the input
-
--- why there is no text of a plan: this, or memory was refused
-abbrev pub RefusesPlan : (PlanValue → SweepRefusal → Type 0) → PlanValue → CommandRefusal → Type 0
-RefusesPlan May plan refusal.OutOfMemory = Unit {0}
-RefusesPlan May plan (refusal.Sweep why) = May plan why
-RefusesPlan May plan other = ⊥
 
 -- why there is no text of that plan: this, or, as for its run, there is no plan, or memory was refused
 abbrev pub RefusesOfPlan :

@@ -1,8 +1,9 @@
 //! What is written for a task.
 
 ghost use Rattle.std.specs.Prelude.{◌≡◌, ◌⊎◌, IfOk, IfErr, false};
-ghost use Rattle.sja_words.specs.Words.{check, request_of};
-ghost use Rattle.sja_run.specs.Answer.{AsksForRun, AsksForText, IsLeftOver, IsPrinted, IsRefused, request_for};
+ghost use Rattle.sja_words.specs.Requests.{check, request_of};
+ghost use Rattle.sja_run.specs.Answer.{AsksForRun, IsLeftOver, IsPrinted, IsRefused, request_for};
+ghost use Rattle.sja_run.specs.Inside.Answers.{AsksForText};
 
 use super::run_text::{RunText, picture_or_drawing};
 use super::serial_text::written;

@@ -7,7 +7,7 @@ ghost use Rattle.sja_plan_session.specs.PlanRuns.{IsPlanRun};
 ghost use Rattle.sja_check.specs.Lines.{AreHints, IsBrief};
 ghost use Rattle.sja_texts.specs.Refusal.{refusal_line};
 ghost use Rattle.sja_texts.specs.declared.command_refusal.CommandRefusal.TheVariants as refusal;
-ghost use Rattle.sja_run.specs.Check.{IsChecked, IsSaidOf};
+ghost use Rattle.sja_run.specs.Inside.Answers.{IsChecked, IsSaidOf};
 ghost use Rattle.sja_run.specs.Input.{RefusesInput};
 
 use super::input::read_input;

@@ -3,7 +3,8 @@
 ghost use Rattle.std.specs.Prelude.{◌≡◌, ◌<◌, ◌≤◌, ◌+◌, ℕ, List, Option, IfOk, IfErr, OnOk, length};
 ghost use Rattle.std.specs.Io.KnownBytes.{Consumes, IsAtEnd};
 ghost use Rattle.sja_run.specs.Input.{most_read, RefusesInput};
-ghost use Rattle.sja_run.specs.Run.{HoldsPlan, RefusesRun};
+ghost use Rattle.sja_run.specs.Run.{RefusesRun};
+ghost use Rattle.sja_run.specs.Inside.Runs.{HoldsPlan};
 
 use sja_plan::{MOST_RAW_BYTES, Plan, most_bytes, read_plan};
 use sja_texts::CommandRefusal;

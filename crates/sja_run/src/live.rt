@@ -1,7 +1,7 @@
 //! `live`: a session that is driven line by line.
 
 ghost use Rattle.std.specs.Prelude.{◌≡◌, false};
-ghost use Rattle.sja_run.specs.Answer.{IsOneWhereFailed};
+ghost use Rattle.sja_run.specs.Inside.Answers.{IsOneWhereFailed};
 ghost use Rattle.sja_run.specs.Live.{ShowsTalk};
 
 use super::output::Output;

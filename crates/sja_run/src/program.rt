@@ -1,10 +1,11 @@
 //! [`sja`]: the whole program over words, a reader and two writers.
 
 ghost use Rattle.std.specs.Prelude.{◌≡◌, ◌⊎◌, ℕ, List, IfOk, IfErr, Some, false, true, map};
-ghost use Rattle.sja_words.specs.Words.{Request, ParsesAs, files, live};
+ghost use Rattle.sja_words.specs.Requests.{Request, files, live};
+ghost use Rattle.sja_words.specs.Words.{ParsesAs};
 ghost use Rattle.sja_words.specs.declared.plan_question.PlanQuestion.{PlanQuestion};
-ghost use Rattle.sja_run.specs.Answer.{AsksForOne, AsksForRun, IsPrinted, IsRefused, IsTurnedAway, Shows};
-ghost use Rattle.sja_run.specs.Answer.{IsOneWhereFailed, request_left};
+ghost use Rattle.sja_run.specs.Answer.{AsksForOne, AsksForRun, IsPrinted, IsRefused, IsTurnedAway, Shows, request_left};
+ghost use Rattle.sja_run.specs.Inside.Answers.{IsOneWhereFailed};
 ghost use Rattle.sja_run.specs.Files.{ShowsFiles};
 ghost use Rattle.sja_run.specs.Input.{ReadsFew};
 ghost use Rattle.sja_run.specs.Live.{ShowsTalk};

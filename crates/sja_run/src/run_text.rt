@@ -1,7 +1,7 @@
 //! [`RunText`]: what is written of a run.
 
 ghost use Rattle.std.specs.Prelude.{◌≡◌, Bool, IfOk, string_bytes};
-ghost use Rattle.sja_words.specs.Words.{picture};
+ghost use Rattle.sja_words.specs.Requests.{picture};
 ghost use Rattle.sja_run.specs.Answer.{picture_or_drawing, request_for};
 ghost use Rattle.sja_run.specs.RunText.{IsTextOf};
 

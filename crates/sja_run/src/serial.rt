@@ -1,9 +1,10 @@
 //! [`sja_serial`]: the program without threads, over words, a reader and two writers.
 
 ghost use Rattle.std.specs.Prelude.{◌≡◌, ◌⊎◌, Some, IfOk, IfErr, false, true, map};
-ghost use Rattle.sja_words.specs.Words.{Request, ParsesAs, check, request_of};
-ghost use Rattle.sja_run.specs.Answer.{AsksForRun, IsLeftOver, Shows, IsLeft, IsTurnedAway, request_over};
-ghost use Rattle.sja_run.specs.Answer.{IsOneWhereFailed, status_in};
+ghost use Rattle.sja_words.specs.Requests.{Request, check, request_of};
+ghost use Rattle.sja_words.specs.Words.{ParsesAs};
+ghost use Rattle.sja_run.specs.Answer.{AsksForRun, IsLeftOver, Shows, IsLeft, IsTurnedAway, request_over, status_in};
+ghost use Rattle.sja_run.specs.Inside.Answers.{IsOneWhereFailed};
 ghost use Rattle.sja_run.specs.Input.{ReadsFew};
 
 use super::answer::printed;

@@ -4,7 +4,8 @@ ghost use Rattle.std.specs.Prelude.{IfOk, IfErr, string_bytes};
 ghost use Rattle.sja_plan_text.specs.HasTexts.{HasTexts};
 ghost use Rattle.sja_plan_text.specs.Written.{IsPlanText};
 ghost use Rattle.sja_run.specs.Run.{IsOfPlan};
-ghost use Rattle.sja_run.specs.Sweep.{IsLong, IsStruck, RefusesOfPlan, RefusesPlan, RefusesStruck};
+ghost use Rattle.sja_run.specs.Sweep.{IsStruck, RefusesOfPlan, RefusesStruck};
+ghost use Rattle.sja_run.specs.Inside.Refusals.{IsLong, RefusesPlan};
 
 use super::input::plan_of_input;
 use sja_plan::{GREATEST_NUMBER, Plan, PlanFault};
@@ -33,6 +34,9 @@ pub(crate) fn struck<R: Read>(
 }
 
 /// The document of the plan with this strike more.
+///
+/// Errors, the first that holds: [`SweepRefusal::NoNode`]; [`SweepRefusal::Bit`]; [`SweepRefusal::StrikeCount`];
+/// [`SweepRefusal::TooLong`]. Memory may be refused at any time.
 fn struck_text(alloc: Global, node: u32, bit: u32, plan: &Plan) -> Result<String, CommandRefusal>
     requires { HasTexts plan.now }
     ensures ok { IfOk result (λ text. IsStruck node bit plan.now (string_bytes text)) }

@@ -3,9 +3,10 @@
 ghost use Rattle.std.specs.Prelude.{◌≡◌, IfOk, IfErr, string_bytes, if◌then◌else◌};
 ghost use Rattle.sja_plan.specs.Plan.{PlanValue};
 ghost use Rattle.sja_sweep.specs.Sweeps.{IsSweep, IsSweepFault};
-ghost use Rattle.sja_words.specs.Words.{sweep};
-ghost use Rattle.sja_run.specs.Answer.{IsAnswer};
-ghost use Rattle.sja_run.specs.Sweep.{IsSwept, RefusesPlan, RefusesSwept, sweeping_of};
+ghost use Rattle.sja_words.specs.Requests.{sweep};
+ghost use Rattle.sja_run.specs.Inside.Answers.{IsAnswer};
+ghost use Rattle.sja_run.specs.Sweep.{IsSwept, RefusesSwept, sweeping_of};
+ghost use Rattle.sja_run.specs.Inside.Refusals.{RefusesPlan};
 
 use super::input::plan_of_input;
 use sja_plan::Plan;
@@ -62,7 +63,10 @@ fn told(words: SweepWords, swept: Result<Swept, SweepFault>) -> Result<String, C
             runs, bits,
         ))),
         Err(SweepFault::StrikeCount) => Err(CommandRefusal::Sweep(SweepRefusal::StrikeCount)),
-        Err(SweepFault::Run(_) | SweepFault::Memory) => Err(CommandRefusal::OutOfMemory),
+        // A plan that was read has no more steps than a document may have: of it `Steps` isn't told.
+        Err(SweepFault::Steps | SweepFault::Run(_) | SweepFault::Memory) => {
+            Err(CommandRefusal::OutOfMemory)
+        }
     }
 }
 

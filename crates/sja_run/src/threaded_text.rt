@@ -2,7 +2,8 @@
 
 ghost use Rattle.std.specs.Prelude.{◌≡◌, IfOk, IfErr, true, vec_len};
 ghost use Rattle.sja_run.specs.Inside.Runs.{RefusesRunOf};
-ghost use Rattle.sja_run.specs.Run.{IsOfPlan, RefusesThreads};
+ghost use Rattle.sja_run.specs.Run.{IsOfPlan};
+ghost use Rattle.sja_run.specs.Inside.Refusals.{RefusesThreads};
 ghost use Rattle.sja_run.specs.RunText.{IsTextOfRun};
 
 use super::input::plan_of_input;

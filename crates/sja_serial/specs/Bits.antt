@@ -1,5 +1,5 @@
 -- What bits do to a run in one thread (this project's own rule).
-use Rattle.std.specs.Prelude.{◌≡◌, ◌≢◌, ◌+◌, ◌<◌, ◌≤◌, ℕ, suc, true, false, Bool, List, length}
+use Rattle.std.specs.Prelude.{◌≡◌, ◌+◌, ◌<◌, ℕ, suc, true, false, Bool, List, length}
 use Rattle.sja_link.specs.Records.{record_of}
 use Rattle.sja_link.specs.BitEntries.{HasOneBit}
 use Rattle.sja_bus.specs.Resting.{RestsAs}
@@ -22,15 +22,6 @@ pub data TakesBits (plan : PlanValue) (deeds : List (List Deed)) (Before : Seria
   one_more : (was mid now : SerialValue) (n : ℕ) → TakesBits plan deeds Before was n mid → Before mid →
       TakesBit plan deeds mid now → TakesBits plan deeds Before was (suc n) now
 
--- so many bits were run at once, at most as many as were asked for. Where there were none, neither the bits nor a
--- journal changed
-pub record TakesAtOnce (plan : PlanValue) (deeds : List (List Deed)) (was now : SerialValue)
-    (most run : ℕ) : Type 0 where
-  pub within : run ≤ most
-  pub stands : StandsAt plan now deeds
-  pub none : run ≡ 0 → (now.bits ≡ was.bits) × (now.bus.journals ≡ was.bus.journals)
-  pub some : run ≢ 0 → TakesBits plan deeds (λ r. Unit {0}) was run now
-
 -- every node is at rest
 abbrev pub AllRestIn : PlanValue → SerialValue → Type 0
 AllRestIn plan r =
@@ -51,7 +42,7 @@ pub record TakesBusTurn (plan : PlanValue) (deeds : List (List Deed)) (was now :
   pub whole : all ≡ true → run ≡ count
   pub spent : all ≡ false → (run < count) × (now.bits ≡ plan.bits)
 
--- `rest` runs bits until every node is at rest, or the bits are spent
+-- `rest` runs bits until every node is at rest, or until the bits are spent while some node isn't
 pub record TakesRest (plan : PlanValue) (deeds : List (List Deed)) (was now : SerialValue) (rests : Bool) : Type 0 where
   pub run : ℕ
   pub bits : TakesBits plan deeds (SomeWorks plan) was run now

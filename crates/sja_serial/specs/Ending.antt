@@ -1,17 +1,14 @@
 -- The log of a run in one thread, as it stands when it ends (this project's own rule).
-use Rattle.std.specs.Prelude.{◌≡◌, ◌<◌, ℕ, Bool, true, List, [], length, map, replicate, slice_index_or}
+use Rattle.std.specs.Prelude.{◌≡◌, ◌<◌, ℕ, List, [], length, map, slice_index_or}
 use Rattle.sja_plan.specs.Plan.{PlanValue}
-use Rattle.sja_plan.specs.declared.turn.Turn.{Turn}
-use Rattle.sja_plan.specs.declared.turn.Turn.TheVariants.{Bus, Rest, Node}
 use Rattle.sja_driver.specs.Deeds.{Deed}
 use Rattle.sja_log.specs.declared.end.End.{End}
 use Rattle.sja_driver.specs.InTime.{IsInTime}
 use Rattle.sja_log.specs.Log.{NodeValue, RunValue, journals_in}
 use Rattle.sja_log.specs.Registering.{HaveRegisters}
 use Rattle.sja_log.specs.Runs.{IsRun}
-use Rattle.sja_log.specs.Turns.{Progress, RunsTo}
-use Rattle.sja_serial.specs.Bits.{TakesBusTurn, TakesRest}
-use Rattle.sja_serial.specs.Serial.{SerialValue, StandsAt, TakesTurn}
+use Rattle.sja_log.specs.Turns.{Progress}
+use Rattle.sja_serial.specs.Serial.{SerialValue}
 
 -- the log of a run of this plan that stands at these deeds and ends so: what is promised of every run, its bits and
 -- journals are the run's, its drivers are in time, and its ports have registers
@@ -28,17 +25,3 @@ pub record IsLogOf (plan : PlanValue) (r : SerialValue) (deeds : List (List Deed
 -- how far a run has come that stands at these deeds
 abbrev pub progress : SerialValue → List (List Deed) → Progress
 progress r deeds = record { bits = r.bits; done = map (λ (l : List Deed). length l) deeds }
-
--- the turns of the plan were taken, the run stands at these deeds, and so it ends
-pub record TakesTurns (plan : PlanValue) (r : SerialValue) (end : End) : Type 0 where
-  pub deeds : List (List Deed)
-  pub stands : StandsAt plan r deeds
-  pub turns : RunsTo (record { plan = plan; journals = r.bus.journals; deeds = deeds })
-      (record { bits = 0; done = replicate (length plan.nodes) 0 }) plan.turns (progress r deeds) end
-
--- one turn of the plan was taken, as a whole or until the bits were spent
-abbrev pub TakesOne : PlanValue → List (List Deed) → SerialValue → SerialValue → Turn → Bool → Type 0
-TakesOne plan deeds was now (Node node count) all =
-    TakesTurn plan was now node count deeds × (all ≡ true)
-TakesOne plan deeds was now (Bus count) all = TakesBusTurn plan deeds was now count all
-TakesOne plan deeds was now Rest all = TakesRest plan deeds was now all

@@ -7,3 +7,5 @@ pub mod Stepping
 pub mod Striking
 -- ---- its end
 pub mod Ending
+-- ---- definitions of private contracts alone
+pub mod Inside

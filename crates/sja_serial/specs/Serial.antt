@@ -26,17 +26,6 @@ pub record SerialValue : Type 0 where
   pub links : List Deques
   pub bits : ℕ
 
-abbrev pub run_now : BusValue → List LoggedDriver → List Registers → List (Option BusTurn) → List Deques → ℕ →
-    SerialValue
-run_now bus drivers ports turns links bits = record {
-  bus = bus;
-  drivers = drivers;
-  ports = ports;
-  turns = turns;
-  links = links;
-  bits = bits;
-}
-
 -- as many of each as the plan has nodes
 pub record HasNodes (nodes : ℕ) (r : SerialValue) : Type 0 where
   pub journals : length r.bus.journals ≡ nodes

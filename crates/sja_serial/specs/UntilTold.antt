@@ -54,9 +54,10 @@ TakesUntilTold plan deeds to_rest was = TellsBits plan deeds (WorksUntold plan t
 
 -- why these bits ended with the last one of n, of so many that were asked for
 pub data EndsUntilTold (to_rest : Bool) (count : ℕ) (was : SerialValue) (n : ℕ) (now : SerialValue) : Type 0 where
-  -- no bit more is run of them
+  -- no bit more is run
   no_more : NoMore to_rest count n now.bus → EndsUntilTold to_rest count was n now
-  -- the port of some node was told the turn of that bit, and it is noted
+  -- the port of some node was told the turn of that bit, and it is noted. Where the same turn was noted already before
+  -- these bits this says nothing of the bit
   told : (node : ℕ) (turn : BusTurn) → node < length now.bus.journals → NotesTurn was now node turn →
       IsLastTurn (journal_at now.bus.journals node) turn → EndsUntilTold to_rest count was n now
   -- it is one bit alone, before which something stood in the way of more

@@ -8,8 +8,8 @@ impl SerialRun {
     ghost use Rattle.sja_wire.specs.Lawful.{IsBusRun};
     ghost use Rattle.sja_plan.specs.Plan.{IsInLimits};
     ghost use Rattle.sja_driver.specs.Deeds.{Deed};
-    ghost use Rattle.sja_serial.specs.Bits.{TakesBits, TakesAtOnce, AllRestIn};
-    ghost use Rattle.sja_serial.specs.Bits.{SomeWorks, TakesBusTurn, TakesRest};
+    ghost use Rattle.sja_serial.specs.Bits.{TakesBits, AllRestIn, SomeWorks, TakesBusTurn, TakesRest};
+    ghost use Rattle.sja_serial.specs.Inside.Going.{TakesAtOnce};
     ghost use Rattle.sja_serial.specs.Serial.{StandsAt, IsRunOf};
     ghost use Rattle.sja_serial.specs.UntilTold.{TellsBit};
 

@@ -1,7 +1,7 @@
 //! The drivers of a run, as it begins.
 
 ghost use Rattle.std.specs.Prelude.{◌≡◌, length, IfOk};
-ghost use Rattle.sja_log.specs.NewDrivers.{AreNew};
+ghost use Rattle.sja_log.specs.Inside.NewDrivers.{AreNew};
 
 use can_frame::OutOfMemory;
 use sja_driver::{LoggedDriver, WorkLog};

@@ -1,7 +1,7 @@
 //! What was left on the links at the end of a run.
 
 ghost use Rattle.std.specs.Prelude.{◌≡◌, IfOk};
-ghost use Rattle.sja_log.specs.Finishing.{all_down};
+ghost use Rattle.sja_log.specs.Inside.LeftDown.{all_down};
 
 use can_frame::OutOfMemory;
 use sja_link::DequeLink;

@@ -3,7 +3,7 @@
 ghost use Rattle.std.specs.Prelude.{◌≡◌, true};
 ghost use Rattle.sja_driver.specs.LoggedDrivers.{log_of};
 ghost use Rattle.sja_driver.specs.Logs.{done_in};
-ghost use Rattle.sja_driver.specs.GivenNothing.{GaveNothing, GivesNothing};
+ghost use Rattle.sja_driver.specs.Inside.GivenNothing.{GaveNothing, GivesNothing};
 
 use super::serial_run::SerialRun;
 use sja_driver::LoggedDriver;

@@ -7,7 +7,7 @@ ghost use Rattle.sja_plan.specs.Plan.{NamesNode, step_counts};
 ghost use Rattle.sja_log.specs.Headline.{AreAccounts};
 ghost use Rattle.sja_log.specs.Runs.{IsSerialRun};
 ghost use Rattle.sja_log.specs.declared.run_fault.RunFault.TheVariants.{Memory};
-ghost use Rattle.sja_serial.specs.Ending.{TakesTurns, TakesOne};
+ghost use Rattle.sja_serial.specs.Inside.Going.{TakesTurns, TakesOne};
 ghost use Rattle.sja_serial.specs.Serial.{StandsAt, IsRunOf};
 
 use super::serial_run::SerialRun;

@@ -35,12 +35,7 @@ impl SerialRun {
         if most == 0 {
             return 0;
         }
-        let bits = self.run_untold_bits(plan, most, false);
-        if bits == 0 {
-            self.run_one_bit(plan);
-            return 1;
-        }
-        bits
+        self.run_some_bits(plan, most, false)
     }
 
     /// The next bits, as long as some node works and as many as are left, as
@@ -60,7 +55,27 @@ impl SerialRun {
         if most == 0 || self.at_rest(plan) {
             return 0;
         }
-        let bits = self.run_untold_bits(plan, most, true);
+        self.run_some_bits(plan, most, true)
+    }
+
+    /// The same, of so many that are left, one at least: one alone, where something stands in the way of more.
+    fn run_some_bits(&mut self, plan: &Plan, count: u32, to_rest: bool) -> u32
+        requires run { IsRunOf plan.now self.old }
+        requires some { 1 ≤ count }
+        requires left { self.old.bits + count ≤ plan.now.bits }
+        requires works { to_rest ≡ true → SomeWorks plan.now self.old }
+        requires limits { IsInLimits plan.now }
+        requires lawful { IsBusRun self.old.bus.script self.old.bus.run self.old.bus.journals }
+        ensures most { result ≤ count }
+        ensures some { 1 ≤ result }
+        ensures unstruck { 2 ≤ result → (i node : ℕ) → i < result → node < 8 →
+            Strikes self.old.bus.script (self.old.bus.run + i) node → ⊥ }
+        ensures bits { (deeds : List (List Deed)) → StandsAt plan.now self.old deeds →
+            TakesUntilTold plan.now deeds to_rest self.old result self.new }
+        ensures longest { EndsUntilTold to_rest count self.old result self.new }
+        ensures stays { IsRunOf plan.now self.new }
+    {
+        let bits = self.run_untold_bits(plan, count, to_rest);
         if bits == 0 {
             self.run_one_bit(plan);
             return 1;
@@ -68,7 +83,7 @@ impl SerialRun {
         bits
     }
 
-    /// The same, of so many that are left, as far as no strike falls, no port wants an abort and nothing is untold.
+    /// The same, as far as no strike falls, no port wants an abort and nothing is untold.
     fn run_untold_bits(&mut self, plan: &Plan, count: u32, to_rest: bool) -> u32
         requires run { IsRunOf plan.now self.old }
         requires left { self.old.bits + count ≤ plan.now.bits }

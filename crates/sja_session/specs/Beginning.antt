@@ -1,9 +1,6 @@
 -- How a session begins (this project's own rule).
-use Rattle.std.specs.Prelude.{◌≤◌, ◌<◌, ◌⊎◌, ℕ, [], length, replicate}
-use Rattle.sja_plan.specs.Growing.{plan_of}
+use Rattle.std.specs.Prelude.{◌≤◌, ◌<◌, ◌⊎◌, ℕ}
 use Rattle.sja_plan.specs.Limits.{most_bits, most_steps, most_turns}
-use Rattle.sja_plan.specs.Plan.{PlanValue}
-use Rattle.sja_script.specs.declared.step.Step.TheVariants.{Window}
 use Rattle.sja_session.specs.declared.session_fault.SessionFault.{SessionFault}
 use Rattle.sja_session.specs.declared.session_fault.SessionFault.TheVariants.{Version, Bits, NodeCount, Memory}
 use Rattle.sja_session.specs.declared.session_fault.SessionFault.TheVariants.{StepRoom, TurnRoom}
@@ -53,7 +50,3 @@ LacksRoom version room Memory = IsRoom version room
 LacksRoom version room Version = ⊥
 LacksRoom version room Bits = ⊥
 LacksRoom version room NodeCount = ⊥
-
--- a plan of the same version, bits, nodes and strikes as another, whose drivers look at the window so many times
-abbrev pub blank_like : PlanValue → ℕ → PlanValue
-blank_like p steps = plan_of p.version p.bits (replicate (length p.nodes) (replicate steps Window)) [] p.strikes

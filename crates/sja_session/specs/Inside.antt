@@ -5,3 +5,5 @@ pub mod Accessing
 pub mod UntilTold
 -- ---- lines that rose, as they were looked at
 pub mod Risen
+-- ---- what is written of a plan and of turns
+pub mod Written

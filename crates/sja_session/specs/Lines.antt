@@ -1,4 +1,5 @@
--- A look at the interrupt line of a node of a session (this project's own rule).
+-- A look at the interrupt line of a node of a session (the line: SJA1000 data sheet, 6.4.6; the look is this project's
+-- own rule).
 use Rattle.std.specs.Prelude.{◌≡◌, ℕ, Bool, List, slice_index_or}
 use Rattle.sja_wire.specs.Wire.{journal_at}
 use Rattle.sja_regs.specs.declared.registers.Registers.{Registers}

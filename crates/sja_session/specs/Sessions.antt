@@ -21,6 +21,7 @@ pub record SessionValue : Type 0 where
   pub room : SessionRoom
   pub turns : List Turn
 
+-- the session that these are
 abbrev pub session_of : SessionRoom → SerialValue → PlanValue → List Turn → SessionValue
 session_of room run plan turns = record { run = run; plan = plan; room = room; turns = turns }
 

@@ -1,7 +1,6 @@
 -- The turns that a session writes (this project's own rule): what is done of the same node as before, or on the bus as
 -- before, goes on with the last turn.
-use Rattle.std.specs.Prelude.{◌==◌, ◌+◌, ◌<◌, ◌^◌, ℕ, zero, suc, Bool, true, false, if◌then◌else◌, List, [], ◌∷◌}
-use Rattle.std.specs.Prelude.{reverse}
+use Rattle.std.specs.Prelude.{◌==◌, ◌+◌, ◌<◌, ◌^◌, ℕ, Bool, true, false, if◌then◌else◌, List, [], ◌∷◌, reverse}
 use Rattle.sja_plan.specs.declared.turn.Turn.{Turn}
 use Rattle.sja_plan.specs.declared.turn.Turn.TheVariants.{Bus, Rest, Node}
 
@@ -31,11 +30,6 @@ on_latest t (u ∷ earlier) = if goes_on u t then enlarged u (size_of t) ∷ ear
 -- turns, in their order, with one more
 abbrev pub with_turn : List Turn → Turn → List Turn
 with_turn turns t = reverse (on_latest t (reverse turns))
-
--- turns, in their order, and so many bits more: some are a turn of the bus, and none are no turn
-abbrev pub with_bits : List Turn → ℕ → List Turn
-with_bits turns zero = turns
-with_bits turns (suc n) = with_turn turns (Bus (suc n))
 
 -- whether a turn goes on with the latest of these, latest first
 abbrev pub goes_on_latest : List Turn → Turn → Bool

@@ -15,7 +15,7 @@ rise before now = not before && now
 abbrev pub rises : List Bool → SessionValue → SessionValue → List (List Deed) → ℕ → Bool
 rises watched was now deeds k = slice_index_or watched k false && rise (line_at was deeds k) (line_at now deeds k)
 
--- so many bits were run one after the other, and in none of them the line of a watched node rose, of so many nodes.
+-- so many bits were run one after the other, and in none of them the line of a watched one of so many nodes rose.
 -- Before the first of them and after each one the lines may have been looked at, which changes nothing
 pub data NoneRose (watched : List Bool) (nodes : ℕ) (deeds : List (List Deed)) :
     SessionValue → SessionValue → ℕ → Type 0 where

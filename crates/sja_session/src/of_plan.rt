@@ -1,9 +1,8 @@
 //! Sessions that begin as the run of a plan does.
 
-ghost use Rattle.std.specs.Prelude.{◌≡◌, ◌≤◌, replicate, IfOk};
+ghost use Rattle.std.specs.Prelude.{◌≡◌, ◌≤◌, IfOk};
 ghost use Rattle.sja_plan.specs.Limits.{most_steps};
-ghost use Rattle.sja_script.specs.declared.step.Step.TheVariants.{Window};
-ghost use Rattle.sja_session.specs.Beginning.{blank_like};
+ghost use Rattle.sja_session.specs.Inside.Written.{blank_like};
 
 use super::beginning::check_room;
 use super::plan_so_far::copied_strikes;
@@ -12,8 +11,7 @@ use super::session::Session;
 use super::session_fault::SessionFault;
 use super::session_room::SessionRoom;
 use can_frame::OutOfMemory;
-use sja_plan::Plan;
-use sja_script::Step;
+use sja_plan::{Plan, blank_nodes};
 use sja_serial::SerialRun;
 use std::alloc::Global;
 
@@ -93,25 +91,8 @@ fn blank_for(alloc: Global, plan: &Plan, steps: u32) -> Result<Plan, OutOfMemory
     ensures { IfOk result (λ p. p ≡ blank_like plan.now steps) }
 {
     plan.limits();
-    let nodes = plan.nodes();
-    let mut lists = Vec::with_capacity(alloc, nodes)?;
-    for _ in 0..nodes {
-        lists.push_reserved(blank_steps(alloc, steps)?);
-    }
+    let lists = blank_nodes(alloc, plan.nodes(), steps)?;
     let strikes = copied_strikes(alloc, plan.strikes())?;
     let turns = Vec::new(alloc);
     Ok(Plan::of(plan.version(), plan.bits(), lists, turns, strikes))
-}
-
-/// So many steps that look at the window.
-///
-/// Error: [`OutOfMemory`] where memory was refused.
-fn blank_steps(alloc: Global, steps: u32) -> Result<Vec<Step>, OutOfMemory>
-    ensures { IfOk result (λ list. list.items ≡ replicate steps Window) }
-{
-    let mut list = Vec::with_capacity(alloc, steps as usize)?;
-    for _ in 0..steps {
-        list.push_reserved(Step::Window);
-    }
-    Ok(list)
 }

@@ -2,7 +2,8 @@
 
 ghost use Rattle.std.specs.Prelude.{◌≡◌, ◌+◌, ◌<◌, ◌^◌, reverse, vec_len, vec_capacity};
 ghost use Rattle.sja_plan.specs.declared.turn.Turn.TheVariants.{Bus};
-ghost use Rattle.sja_session.specs.Turning.{goes_on, enlarged, size_of, with_turn, with_bits, goes_on_latest, FitsLast};
+ghost use Rattle.sja_session.specs.Turning.{goes_on, enlarged, size_of, with_turn, goes_on_latest, FitsLast};
+ghost use Rattle.sja_session.specs.Inside.Written.{with_bits};
 
 use sja_plan::Turn;
 

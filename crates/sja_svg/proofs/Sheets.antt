@@ -8,7 +8,7 @@ use Rattle.sja_picture.specs.Rows.{bus_in}
 use Rattle.sja_picture.specs.Inside.Drawing.{EachBeside}
 use Rattle.sja_picture.specs.Inside.Pages.{AreFirst}
 use Rattle.sja_picture.proofs.NodeRows.Drawing.{bus_shown}
-use Rattle.sja_picture.proofs.WholePage.Pages.{first_each, same_count}
+use Rattle.sja_picture.proofs.WholePage.Pages.{first_each}
 use Rattle.sja_picture.proofs.NodeRows.Stories.{Knows, knows_first}
 use Rattle.sja_replay.specs.declared.happening.Happening.{Happening}
 use Rattle.sja_report.specs.ReportLines.{numbered}
@@ -42,12 +42,6 @@ sheet_first nodes first ts lanes sheet begun fresh marks bus =
           (λ n hs l f. fresh_lane (bus_in told) first hs l f) 0 nodes ts begun.stories told lanes begun.have begin
           fresh;
     })
-
--- as many lanes as tellers
-pub beside : (nodes : List NodeValue) (ts : List Teller) (lanes : List Lane) → AreFirst nodes ts →
-    AreFresh nodes lanes → length ts ≡ length lanes
-beside nodes ts lanes begun fresh =
-    same_count (λ (n : NodeValue) (l : Lane). IsFresh l) 0 nodes ts begun.stories lanes begun.have fresh
 
 -- ---- bit by bit
 

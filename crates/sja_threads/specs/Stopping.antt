@@ -37,10 +37,6 @@ pub record StopsWith (counts : List ℕ) (plan : PlanValue) (f : BusFault) : Typ
       ⊎ StopsBit BusLists HasNoPlace any_orders was now links after f
   pub not_spent : f ≢ BitsSpent
 
--- the same where each step is a typed one
-abbrev pub StopsFor : PlanValue → BusFault → Type 0
-StopsFor plan f = StopsWith (step_counts plan) plan f
-
 -- what a run of this plan whose drivers may do so many typed steps may answer for want of a log, once its gates are
 -- counted
 abbrev pub IsFaultWith : List ℕ → PlanValue → RunFault → Type 0

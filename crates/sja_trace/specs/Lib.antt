@@ -4,7 +4,6 @@ pub mod Places
 -- ---- the events of a bit
 pub mod Events
 pub mod BitEvents
-pub mod SayingAlike
 -- ---- the bits of a node, one after another
 pub mod Telling
 -- ---- the text

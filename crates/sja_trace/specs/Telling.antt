@@ -1,5 +1,5 @@
 -- The bits of a node that are told one after another (this project's own rule).
-use Rattle.std.specs.Prelude.{◌≡◌, ◌<◌, ◌+◌, ℕ, zero, suc, false, Option, None, List, [], slice_get}
+use Rattle.std.specs.Prelude.{◌≡◌, ◌<◌, ℕ, zero, suc, false, Option, None, List, [], slice_get}
 use Rattle.sja_link.specs.declared.entry.Entry.{Entry}
 use Rattle.sja_replay.specs.declared.happening.Happening.{Happening}
 use Rattle.sja_replay.specs.Coming.{HasCome, left_in}
@@ -41,13 +41,6 @@ pub record ToldMore (journal : List Entry) (bits : ℕ) (old : List Happening) (
   pub bit : at_hand new ≡ slice_get told bits
   pub same : HaveSame bits old told
 
--- several bits more were told of it
-pub record ToldOn (journal : List Entry) (bits : ℕ) (old : List Happening) (new : NodeBits) : Type 0 where
-  pub more : ℕ
-  pub told : List Happening
-  pub come : HasCome new.over journal (bits + more) new.replay told
-  pub same : HaveSame bits old told
-
 -- all of a journal was told
 pub record ToldAll (journal : List Entry) (bits : ℕ) (old : List Happening) : Type 0 where
   pub told : List Happening
@@ -59,12 +52,6 @@ pub record TellsOn (old new : NodeBits) : Type 0 where
   pub fewer : old.over ≡ false → IsUnderway old → left_in new.over new.replay < left_in old.over old.replay
   pub tells : (journal : List Entry) (bits : ℕ) (told : List Happening) →
       HasCome old.over journal bits old.replay told → ToldMore journal bits told new
-
--- several are told
-pub record IsFinishing (old new : NodeBits) : Type 0 where
-  pub underway : IsUnderway new
-  pub tells : (journal : List Entry) (bits : ℕ) (told : List Happening) →
-      HasCome old.over journal bits old.replay told → ToldOn journal bits told new
 
 -- all are told
 pub record TellsAll (old new : NodeBits) : Type 0 where

@@ -1,7 +1,7 @@
 //! What became of a frame that was received.
 
 ghost use Rattle.std.specs.Prelude.{◌≡◌, Some};
-ghost use Rattle.sja_traced.specs.KnownBits.{fate_by};
+ghost use Rattle.sja_traced.specs.Inside.KnownBits.{fate_by};
 
 use can_frame::{Frame, Message};
 use sja_link::Verdict;

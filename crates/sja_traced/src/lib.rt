@@ -7,8 +7,9 @@
 //! the ports, and of what the nodes show before it and after it. Of the others nothing is said but that a receiver
 //! acknowledges, and for that their journals are looked through.
 //!
-//! `specs/Knowing.antt` of `sja_replay` says what is known of a node between two bits, and `specs/SayingAlike.antt` of
-//! `sja_trace` when of two bits the same is said. In `crates/test_plan` each row that is a trace is told both ways.
+//! `specs/Inside/Knowing.antt` of `sja_replay` says what is known of a node between two bits, and
+//! `specs/Inside/SayingAlike.antt` of `sja_trace` when of two bits the same is said. In `crates/test_plan` each row
+//! that is a trace is told both ways.
 #![tactic(auto)]
 
 mod fates;

@@ -13,7 +13,7 @@ impl RunTrace {
     ghost use Rattle.sja_driver.specs.Deeds.{Deed};
     ghost use Rattle.sja_plan.specs.Plan.{NamesNode, step_counts};
     ghost use Rattle.sja_serial.specs.Bits.{TakesBusTurn, TakesRest};
-    ghost use Rattle.sja_serial.specs.Ending.{TakesOne, TakesTurns};
+    ghost use Rattle.sja_serial.specs.Inside.Going.{TakesOne, TakesTurns};
     ghost use Rattle.sja_serial.specs.Serial.{IsRunOf, StandsAt};
     ghost use Rattle.sja_traced.specs.Inside.Tracing.{IsTraced};
 

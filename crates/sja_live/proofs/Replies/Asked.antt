@@ -3,7 +3,8 @@ use Rattle.std.proofs.Common.{◌≡◌, ℕ, List, refl, sym, ◌∙◌, subst,
 use Rattle.std.specs.Prelude.{Option, Some, None, ◌<◌, ◌≤◌, ◌⊎◌, String, string_bytes}
 use Rattle.std.specs.Global.{Global}
 use Rattle.sja_driver.specs.Deeds.{Deed}
-use Rattle.sja_live.specs.Answering.{Answers, IsAnswered, AreLines}
+use Rattle.sja_live.specs.Answering.{Answers, AreLines}
+use Rattle.sja_live.specs.Inside.Standing.{IsAnswered, IsLive, IsLiveAt}
 use Rattle.sja_live.specs.Answering.Answers.{line, strike, no_bit, past, no_strike, nothing, bits, plan, no_plan}
 use Rattle.sja_live.specs.Answering.Answers.{answer as an_answer}
 use Rattle.sja_driver_session.proofs.Grown.{struck_grown}
@@ -11,7 +12,6 @@ use Rattle.sja_driver_session.specs.Bits.{IsStillIn, StrikesIn}
 use Rattle.sja_driver_session.specs.DriverSessions.{StandsIn, answer_of, bits_of, session_of, written}
 use Rattle.sja_driver_session.specs.Ending.{HasLimits}
 use Rattle.sja_driver_session.specs.declared.driver_session.DriverSession.{DriverSession}
-use Rattle.sja_live.specs.Calls.{IsLive, IsLiveAt}
 use Rattle.sja_live.specs.declared.live_answer.LiveAnswer.TheVariants.{Told, Lines, Bits as Run, Nothing, PlanSoFar}
 use Rattle.sja_live.specs.declared.live_answer.LiveAnswer.TheVariants.{NoBit, Full}
 use Rattle.sja_live.specs.declared.live_answer.LiveAnswer.{LiveAnswer}

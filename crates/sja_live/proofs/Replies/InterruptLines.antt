@@ -10,7 +10,7 @@ use Rattle.sja_driver_session.specs.Bits.{IsStillIn, line_in}
 use Rattle.sja_driver_session.specs.DriverSessions.{session_of}
 use Rattle.sja_driver_session.specs.declared.driver_session.DriverSession.{DriverSession}
 use Rattle.sja_live.specs.Answering.{lines_from}
-use Rattle.sja_live.specs.Calls.{IsLiveAt}
+use Rattle.sja_live.specs.Inside.Standing.{IsLiveAt}
 use Rattle.sja_session.proofs.WatchedBits.QuietBits.{line_still, still_same, still_then}
 
 -- ---- lines, one after another, from the last one on

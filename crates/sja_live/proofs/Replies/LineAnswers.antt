@@ -7,9 +7,8 @@ use Rattle.sja_driver.specs.Deeds.{Deed}
 use Rattle.sja_driver_session.specs.declared.driver_session.DriverSession.{DriverSession}
 use Rattle.sja_live.proofs.Replies.Asked.{live_after}
 use Rattle.sja_live.proofs.Replies.Named.{of_node}
-use Rattle.sja_live.specs.Answering.{IsAnswered}
+use Rattle.sja_live.specs.Inside.Standing.{IsAnswered, IsLiveAt}
 use Rattle.sja_driver_session.specs.DriverSessions.{node_count, version_of}
-use Rattle.sja_live.specs.Calls.{IsLiveAt}
 use Rattle.sja_live.specs.Commands.{AsksFor}
 use Rattle.sja_live.specs.Inside.Going.{FirstIs, FirstSays, IsAnswerOf, IsNext, IsNextAnswer}
 use Rattle.sja_live.specs.Inside.Reading.{IsLine, TakesLine}

@@ -2,10 +2,10 @@
 use Rattle.std.proofs.Common.{◌≡◌, ◌≢◌, ℕ, ◌<◌, ◌≤◌, Bool, true, false, List, sym, subst, arith}
 use Rattle.std.specs.Prelude.{Option, Some, None}
 use Rattle.sja_driver.specs.Deeds.{Deed}
-use Rattle.sja_live.specs.Answering.{Answers, IsAnswered, IsUsedUp, AreLines, all_watched}
+use Rattle.sja_live.specs.Answering.{Answers, IsUsedUp, AreLines, all_watched}
+use Rattle.sja_live.specs.Inside.Standing.{IsAnswered, IsLiveAt}
 use Rattle.sja_live.specs.Answering.Answers.{step, waits, no_step, read, no_read, write, no_write, rose, ran, spent}
 use Rattle.sja_live.specs.Answering.Answers.{no_turn, rested, restless, no_rest}
-use Rattle.sja_live.specs.Calls.{IsLiveAt}
 use Rattle.sja_live.specs.declared.live_answer.LiveAnswer.{LiveAnswer}
 use Rattle.sja_live.specs.declared.live_answer.LiveAnswer.TheVariants.{Told, Waits as WaitsAnswer, Ran, Rose, Spent}
 use Rattle.sja_live.specs.declared.live_answer.LiveAnswer.TheVariants.{Full}

@@ -10,7 +10,7 @@ use Rattle.sja_driver_session.specs.DriverSessions.{version_of, written}
 use Rattle.sja_driver_session.specs.Ending.{HasLimits}
 use Rattle.sja_driver_session.specs.declared.driver_session.DriverSession.{DriverSession}
 use Rattle.sja_driver_session.specs.declared.driver_session.DriverSession.TheVariants.{Typed, Accesses}
-use Rattle.sja_live.specs.Calls.{IsSpelledTurn, IsLiveAt, IsFew, AreFew, AreSpelled}
+use Rattle.sja_live.specs.Inside.Standing.{IsSpelledTurn, IsLiveAt, IsFew, AreFew, AreSpelled}
 use Rattle.sja_plan.specs.Limits.{most_steps_told}
 use Rattle.sja_plan.specs.Plan.{PlanValue}
 use Rattle.sja_plan.specs.Struck.{one_strike, struck_at}

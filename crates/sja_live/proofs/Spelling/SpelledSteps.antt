@@ -9,7 +9,7 @@ use Rattle.sja_driver_session.specs.DriverSessions.{StandsIn, version_of, writte
 use Rattle.sja_driver_session.specs.Steps.{MayStepIn, MayWriteIn, StepsIn, ReadsIn, WritesIn}
 use Rattle.sja_driver_session.specs.declared.driver_session.DriverSession.{DriverSession}
 use Rattle.sja_driver_session.specs.declared.driver_session.DriverSession.TheVariants.{Typed, Accesses}
-use Rattle.sja_live.specs.Calls.{IsLiveAt, IsFew, AreFew, AreSpelled}
+use Rattle.sja_live.specs.Inside.Standing.{IsLiveAt, IsFew, AreFew, AreSpelled}
 use Rattle.sja_plan.specs.Limits.{most_steps_told}
 use Rattle.sja_plan.specs.Plan.{PlanValue, steps_at}
 use Rattle.sja_plan.specs.Words.{greatest}

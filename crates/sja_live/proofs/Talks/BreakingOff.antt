@@ -7,7 +7,7 @@ use Rattle.std.proofs.KnownBytes.{Keeps-refl}
 use Rattle.std.proofs.lemmas.List.{append-nil}
 use Rattle.sja_driver.specs.Deeds.{Deed}
 use Rattle.sja_driver_session.specs.declared.driver_session.DriverSession.{DriverSession}
-use Rattle.sja_live.specs.Calls.{IsLiveAt}
+use Rattle.sja_live.specs.Inside.Standing.{IsLiveAt}
 use Rattle.sja_live.specs.Inside.Going.{FirstSays, Goes, IsNext, IsNextAnswer}
 use Rattle.sja_live.specs.Inside.Reading.{HasRead, IsWithin, LeavesLine, TakesLine}
 use Rattle.sja_live.specs.Lines.{behind_line, HasNoFeed}

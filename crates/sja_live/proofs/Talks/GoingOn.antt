@@ -7,7 +7,7 @@ use Rattle.sja_driver.specs.Deeds.{Deed}
 use Rattle.sja_driver_session.specs.declared.driver_session.DriverSession.{DriverSession}
 use Rattle.sja_live.specs.AnswerTexts.{answer_text, opened_text, opening_text}
 use Rattle.sja_live.specs.Beginning.{IsNewOf}
-use Rattle.sja_live.specs.Calls.{IsLiveAt}
+use Rattle.sja_live.specs.Inside.Standing.{IsLiveAt}
 use Rattle.sja_live.specs.Inside.Going.{AppendsReport, FirstSays, Goes, IsNextAnswer}
 use Rattle.sja_live.specs.Lines.{first_line, behind_line, LeadsOn}
 use Rattle.sja_live.specs.Lines.LeadsOn.{none, more}

@@ -4,8 +4,8 @@ use Rattle.std.specs.Prelude.{if◌then◌else◌, nat_lt}
 use Rattle.std.proofs.lemmas.List.Elements.{All-nil, All-replicate}
 use Rattle.sja_driver_session.specs.declared.driver_session.DriverSession.{DriverSession}
 use Rattle.sja_driver_session.specs.declared.driver_session.DriverSession.TheVariants.{Typed, Accesses}
-use Rattle.sja_live.specs.Beginning.{IsNewOf, IsOpening}
-use Rattle.sja_live.specs.Calls.{IsSpelledTurn, IsLive, IsLiveAt, IsFew, AreSpelled}
+use Rattle.sja_live.specs.Beginning.{IsNewOf}
+use Rattle.sja_live.specs.Inside.Standing.{IsOpening, IsSpelledTurn, IsLive, IsLiveAt, IsFew, AreSpelled}
 use Rattle.sja_live.specs.declared.opening.Opening.{Opening}
 use Rattle.sja_plan.specs.Limits.{most_bits, most_steps_told}
 use Rattle.sja_plan.specs.Plan.{PlanValue}

@@ -4,7 +4,7 @@ use Rattle.std.specs.Io.KnownBytes.{Appends}
 use Rattle.sja_driver.specs.Deeds.{Deed}
 use Rattle.sja_driver_session.specs.declared.driver_session.DriverSession.{DriverSession}
 use Rattle.sja_live.specs.Beginning.{IsNewOf}
-use Rattle.sja_live.specs.Calls.{IsLiveAt}
+use Rattle.sja_live.specs.Inside.Standing.{IsLiveAt}
 use Rattle.sja_live.specs.Ending.{IsLastLog}
 use Rattle.sja_live.specs.Lines.{first_line, behind_line, IsReadable}
 use Rattle.sja_live.specs.Opening.{Opens, IsOpeningFault}

@@ -87,10 +87,9 @@ same_count R k (n ∷ nodes) (t ∷ ts) (s ∷ ss) [] have each = absurd each
 same_count R k (n ∷ nodes) (t ∷ ts) (s ∷ ss) (r ∷ rows) have each =
     ap suc (same_count R (k + 1) nodes ts ss rows have.1 each.1)
 
-pub beside : (nodes : List NodeValue) (ts : List Teller) (rows : List NodeRows) → AreFirst nodes ts →
-    AreFresh nodes rows → length ts ≡ length rows
-beside nodes ts rows first fresh =
-    same_count (λ (n : NodeValue) (r : NodeRows). IsFresh r) 0 nodes ts first.stories rows first.have fresh
+pub beside : {A : Type 0} (R : NodeValue → A → Type 0) (nodes : List NodeValue) (ts : List Teller) (rows : List A) →
+    AreFirst nodes ts → EachRelated R nodes rows → length ts ≡ length rows
+beside R nodes ts rows first each = same_count R 0 nodes ts first.stories rows first.have each
 
 -- ---- bit by bit
 

@@ -83,6 +83,11 @@ alike_enlarged : (ts us : List Turn) (u : Turn) (n : ℕ) → EndAlike ts (u ∷
 alike_enlarged [] us u n h = h
 alike_enlarged (t ∷ ts) us u n h = later_size t u n ∙ h
 
+-- or the latest of those that are typed
+enlarged_alike : (t : Turn) (ts us : List Turn) (n : ℕ) → EndAlike (t ∷ ts) us → EndAlike (enlarged t n ∷ ts) us
+enlarged_alike t ts [] n h = h
+enlarged_alike t ts (u ∷ us) n h = earlier_size t u n ∙ h
+
 -- one more that is written alone
 pub fewer_written : (ts us : List Turn) (x : Turn) → AreFewer ts us → AreFewer ts (on_latest x us)
 fewer_written ts [] x f = record {
@@ -105,12 +110,8 @@ pub fewer_again : (ts us : List Turn) (x : Turn) → goes_on_latest ts x ≡ tru
 fewer_again [] us x goes f = absurd cc
 fewer_again (t ∷ ts) us x goes f = by_choice (λ l. AreFewer l us) (goes_on t x) (enlarged t (size_of x) ∷ ts)
     (x ∷ t ∷ ts)
-    (λ on. record { most = f.most; alike = λ e. alike us (f.alike e) })
+    (λ on. record { most = f.most; alike = λ e. enlarged_alike t ts us (size_of x) (f.alike e) })
     (λ stays. absurd cc)
-  where
-    alike : (us : List Turn) → EndAlike (t ∷ ts) us → EndAlike (enlarged t (size_of x) ∷ ts) us
-    alike [] h = h
-    alike (u ∷ us) h = earlier_size t u (size_of x) ∙ h
 
 -- one more of both
 module _ (x : Turn) (own : goes_on x x ≡ true) where
@@ -141,7 +142,8 @@ module _ (x : Turn) (own : goes_on x x ≡ true) where
       (enlarged t (size_of x) ∷ ts) (x ∷ t ∷ ts)
       (λ on. record {
         most = (fewer_written (t ∷ ts) (u ∷ us) x f).most;
-        alike = λ e. first (on_latest x (u ∷ us)) ((fewer_written (t ∷ ts) (u ∷ us) x f).alike e);
+        alike = λ e. enlarged_alike t ts (on_latest x (u ∷ us)) (size_of x)
+            ((fewer_written (t ∷ ts) (u ∷ us) x f).alike e);
       })
       (λ stays. by_choice (λ l. AreFewer (x ∷ t ∷ ts) l) (goes_on u x) (enlarged u (size_of x) ∷ us) (x ∷ u ∷ us)
       (λ goes. let less = both_new t u ts us f stays goes in record {
@@ -149,7 +151,3 @@ module _ (x : Turn) (own : goes_on x x ≡ true) where
         alike = λ e. later_size x u (size_of x) ∙ goes_back u x goes;
       })
       (λ apart. record { most = let m = f.most in omega (arith, m); alike = λ e. own }))
-    where
-      first : (l : List Turn) → EndAlike (t ∷ ts) l → EndAlike (enlarged t (size_of x) ∷ ts) l
-      first [] h = h
-      first (v ∷ l) h = earlier_size t v (size_of x) ∙ h

@@ -4,17 +4,20 @@ use Rattle.std.proofs.Common.{arith, inl, inr, false, true}
 use Rattle.std.specs.Io.KnownBytes.{Consumes}
 use Rattle.std.proofs.KnownBytes.{Consumes-nil, Consumes-trans}
 use Rattle.sja_plan.specs.Plan.{PlanValue}
-use Rattle.sja_words.specs.Words.{Request, ParsesAs, encode, decode, filter, arbitrate, message, run, wave}
-use Rattle.sja_words.specs.Words.{trace, frames, picture, candump, check, sweep, struck_plan, files, live}
+use Rattle.sja_words.specs.Requests.{Request, encode, decode, filter, arbitrate, message, run, wave, trace, frames}
+use Rattle.sja_words.specs.Requests.{picture, candump, check, sweep, struck_plan, files, live}
+use Rattle.sja_words.specs.Words.{ParsesAs}
 use Rattle.sja_log.specs.declared.run_fault.RunFault.{RunFault}
 use Rattle.sja_texts.specs.declared.command_refusal.CommandRefusal.{CommandRefusal}
 use Rattle.sja_texts.specs.declared.command_refusal.CommandRefusal.TheVariants as refusal
 use Rattle.sja_run.specs.Answer.{AsksForRun, IsPrinted, IsRefused, picture_or_drawing, request_left}
-use Rattle.sja_run.specs.Check.{IsChecked, HasHints}
+use Rattle.sja_run.specs.Check.{HasHints}
+use Rattle.sja_run.specs.Inside.Answers.{IsChecked}
 use Rattle.sja_run.specs.declared.plan_check.PlanCheck.{PlanCheck}
 use Rattle.sja_run.specs.declared.plan_check.PlanCheck.TheVariants.{Hints, Mistake}
 use Rattle.sja_run.specs.Input.{most_read, ReadsFew, RefusesInput}
-use Rattle.sja_run.specs.Run.{IsOfPlan, RefusesBy, RefusesRun, RefusesThreads}
+use Rattle.sja_run.specs.Run.{IsOfPlan, RefusesBy, RefusesRun}
+use Rattle.sja_run.specs.Inside.Refusals.{RefusesThreads}
 use Rattle.sja_run.specs.RunText.{IsTextOfRun, MayFault}
 use Rattle.sja_run.specs.Sweep.{IsStruck, IsSwept, RefusesOfPlan, RefusesStruck, RefusesSwept}
 use Rattle.sja_run.specs.declared.threaded.Threaded.{Threaded}

@@ -1,19 +1,22 @@
 -- Why there is no text of a plan, from why there is none of the plan on the input; and that there is one.
 use Rattle.std.proofs.Common.{◌≡◌, ◌≤◌, ◌<◌, ◌∷◌, List, ℕ, [], Option, length, arith, subst}
-use Rattle.std.specs.Prelude.{IfOk, Result, Ok, Err, String, string_bytes}
+use Rattle.std.specs.Prelude.{IfOk, IfErr, Result, Ok, Err, String, string_bytes}
 use Rattle.std.specs.Global.{Global}
 use Rattle.std.proofs.lemmas.List.Elements.{All-nil, All-cons, All-append}
-use Rattle.sja_plan.specs.Plan.{PlanValue}
+use Rattle.sja_plan.specs.Limits.{most_strikes}
+use Rattle.sja_plan.specs.Plan.{PlanValue, times_in}
 use Rattle.sja_plan.specs.Struck.{one_strike, struck_at}
 use Rattle.sja_plan_text.specs.HasTexts.{HasStrikeText, HasTexts}
-use Rattle.sja_plan_text.specs.Written.{IsPlanText}
+use Rattle.sja_plan_text.specs.Written.{IsPlanText, IsTooLong}
 use Rattle.sja_texts.specs.declared.sweep_refusal.SweepRefusal.{SweepRefusal}
 use Rattle.sja_texts.specs.declared.sweep_refusal.SweepRefusal.TheVariants.{NoNode, TooMany, StrikeCount, Bit, TooLong}
 use Rattle.sja_texts.specs.declared.command_refusal.CommandRefusal.{CommandRefusal}
 use Rattle.sja_texts.specs.declared.command_refusal.CommandRefusal.TheVariants as refusal
 use Rattle.sja_run.specs.Input.{ReadsFew}
-use Rattle.sja_run.specs.Run.{HoldsPlan, RefusesRun}
-use Rattle.sja_run.specs.Sweep.{IsLong, IsStruck, RefusesOfPlan, RefusesPlan, RefusesStruck}
+use Rattle.sja_run.specs.Run.{RefusesRun}
+use Rattle.sja_run.specs.Inside.Runs.{HoldsPlan}
+use Rattle.sja_run.specs.Sweep.{IsStruck, RefusesOfPlan, RefusesStruck}
+use Rattle.sja_run.specs.Inside.Refusals.{IsLong, RefusesPlan}
 
 -- there is no plan, or memory was refused
 pub of_plan_refused : (May : PlanValue → SweepRefusal → Type 0) (before after : Option (List ℕ)) (r : CommandRefusal) →
@@ -57,23 +60,33 @@ few_of_plan May before after (refusal.Layout fault) few h = few h
 few_of_plan May before after (refusal.Line fault) few h = few h
 few_of_plan May before after (refusal.Notation fault) few h = few h
 
--- the document of a plan with a strike more is too long
-pub long_refused : (node bit : ℕ) (plan : PlanValue) (r : CommandRefusal) →
-    RefusesPlan IsLong (struck_at plan node bit) r → RefusesPlan (RefusesStruck node bit) plan r
-long_refused node bit plan refusal.OutOfMemory h = h
-long_refused node bit plan (refusal.Sweep TooLong) h = h
-long_refused node bit plan (refusal.Sweep NoNode) h = absurd h
-long_refused node bit plan (refusal.Sweep (TooMany runs bits)) h = absurd h
-long_refused node bit plan (refusal.Sweep StrikeCount) h = absurd h
-long_refused node bit plan (refusal.Sweep Bit) h = absurd h
-long_refused node bit plan refusal.Read h = absurd h
-long_refused node bit plan (refusal.Plan fault) h = absurd h
-long_refused node bit plan (refusal.Run fault) h = absurd h
-long_refused node bit plan refusal.NotHexadecimal h = absurd h
-long_refused node bit plan refusal.NotALine h = absurd h
-long_refused node bit plan (refusal.Layout fault) h = absurd h
-long_refused node bit plan (refusal.Line fault) h = absurd h
-long_refused node bit plan (refusal.Notation fault) h = absurd h
+-- the document of a plan with a strike more is too long, and nothing else is wrong
+long_refused : (node bit : ℕ) (plan struck : PlanValue) (r : CommandRefusal) → node < length plan.nodes →
+    bit ≤ 9999999 → times_in plan.strikes < most_strikes plan.version → struck ≡ struck_at plan node bit →
+    RefusesPlan IsLong struck r → RefusesPlan (RefusesStruck node bit) plan r
+long_refused node bit plan struck refusal.OutOfMemory there low room is h = h
+long_refused node bit plan struck (refusal.Sweep TooLong) there low room is h =
+    ((there, low), room, subst IsTooLong is h)
+long_refused node bit plan struck (refusal.Sweep NoNode) there low room is h = absurd h
+long_refused node bit plan struck (refusal.Sweep (TooMany runs bits)) there low room is h = absurd h
+long_refused node bit plan struck (refusal.Sweep StrikeCount) there low room is h = absurd h
+long_refused node bit plan struck (refusal.Sweep Bit) there low room is h = absurd h
+long_refused node bit plan struck refusal.Read there low room is h = absurd h
+long_refused node bit plan struck (refusal.Plan fault) there low room is h = absurd h
+long_refused node bit plan struck (refusal.Run fault) there low room is h = absurd h
+long_refused node bit plan struck refusal.NotHexadecimal there low room is h = absurd h
+long_refused node bit plan struck refusal.NotALine there low room is h = absurd h
+long_refused node bit plan struck (refusal.Layout fault) there low room is h = absurd h
+long_refused node bit plan struck (refusal.Line fault) there low room is h = absurd h
+long_refused node bit plan struck (refusal.Notation fault) there low room is h = absurd h
+
+pub long_refused_if : (r : Result (String Global) CommandRefusal) (node bit : ℕ) (plan struck : PlanValue) →
+    node < length plan.nodes → bit ≤ 9999999 → times_in plan.strikes < most_strikes plan.version →
+    struck ≡ struck_at plan node bit → IfErr r (RefusesPlan IsLong struck) →
+    IfErr r (RefusesPlan (RefusesStruck node bit) plan)
+long_refused_if (Ok text) node bit plan struck there low room is h = tt
+long_refused_if (Err e) node bit plan struck there low room is h =
+    long_refused node bit plan struck e there low room is h
 
 -- a plan that has texts has them with a strike more
 pub struck_texts : (plan : PlanValue) (node bit : ℕ) → HasTexts plan → node ≤ 9999999 → bit ≤ 9999999 →

@@ -4,11 +4,12 @@ use Rattle.sja_plan.specs.Plan.{PlanValue}
 use Rattle.sja_plan.specs.Faults.{IsPlanOf}
 use Rattle.sja_texts.specs.declared.command_refusal.CommandRefusal.{CommandRefusal}
 use Rattle.sja_texts.specs.declared.command_refusal.CommandRefusal.TheVariants as refusal
-use Rattle.sja_run.specs.Check.{IsChecked, IsSaidOf}
+use Rattle.sja_run.specs.Inside.Answers.{IsChecked, IsSaidOf}
 use Rattle.sja_run.specs.Files.{RefusesBytes}
 use Rattle.sja_run.specs.Input.{IsRead}
-use Rattle.sja_run.specs.Inside.Runs.{RefusesRunOf}
-use Rattle.sja_run.specs.Run.{HoldsPlan, RefusesBy, RefusesRun, RefusesThreads}
+use Rattle.sja_run.specs.Inside.Runs.{RefusesRunOf, HoldsPlan}
+use Rattle.sja_run.specs.Run.{RefusesBy, RefusesRun}
+use Rattle.sja_run.specs.Inside.Refusals.{RefusesThreads}
 use Rattle.sja_run.specs.RunText.{MayFault}
 use Rattle.sja_run.specs.declared.plan_check.PlanCheck.{PlanCheck}
 use Rattle.sja_run.specs.declared.plan_check.PlanCheck.TheVariants.{Hints, Mistake}

@@ -2,13 +2,15 @@
 use Rattle.std.proofs.Common.{◌≡◌, ◌⊎◌, ℕ, Bool, List, Option, Some, true, false, sym, subst, inl, inr}
 use Rattle.std.proofs.Math.Decide.{dec_lt}
 use Rattle.std.specs.Io.KnownBytes.{Keeps}
-use Rattle.sja_words.specs.Words.{Request, ParsesAs, encode, decode, filter, arbitrate, message, run, wave}
-use Rattle.sja_words.specs.Words.{trace, frames, picture, candump, check, sweep, struck_plan, files, live}
+use Rattle.sja_words.specs.Requests.{Request, encode, decode, filter, arbitrate, message, run, wave, trace, frames}
+use Rattle.sja_words.specs.Requests.{picture, candump, check, sweep, struck_plan, files, live}
+use Rattle.sja_words.specs.Words.{ParsesAs}
 use Rattle.sja_texts.specs.declared.command_refusal.CommandRefusal.TheVariants.{OutOfMemory}
 use Rattle.sja_texts.specs.declared.command_refusal.CommandRefusal.{CommandRefusal}
 use Rattle.sja_run.specs.Answer.{AsksForOne, AsksForRun, IsLeftOver, IsPrinted, IsRefused, Shows, IsLeft}
 use Rattle.sja_run.specs.Answer.{request_for, request_left, request_over}
-use Rattle.sja_run.specs.Run.{IsOfPlan, RefusesRun, RefusesThreads}
+use Rattle.sja_run.specs.Run.{IsOfPlan, RefusesRun}
+use Rattle.sja_run.specs.Inside.Refusals.{RefusesThreads}
 use Rattle.sja_run.specs.RunText.{IsTextOfRun}
 use Rattle.sja_run.specs.declared.run_text.RunText.{RunText}
 use Rattle.sja_run.specs.declared.run_text.RunText.TheVariants.{Report, Wave, Trace, Frames, Picture, Drawing, Candump}

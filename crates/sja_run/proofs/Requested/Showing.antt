@@ -3,7 +3,7 @@ use Rattle.std.proofs.Common.{◌≡◌, ℕ, List, ap, inl, inr, subst}
 use Rattle.std.specs.Prelude.{Option, Some}
 use Rattle.std.specs.Io.KnownBytes.{Appends}
 use Rattle.std.proofs.KnownBytes.{Keeps-refl}
-use Rattle.sja_words.specs.Words.{Request}
+use Rattle.sja_words.specs.Requests.{Request}
 use Rattle.sja_texts.specs.declared.command_refusal.CommandRefusal.{CommandRefusal}
 use Rattle.sja_texts.specs.Refusal.{refusal_line}
 use Rattle.sja_run.specs.Answer.{IsPrinted, IsRefused, Shows}

@@ -15,9 +15,10 @@ use Rattle.sja_script.specs.declared.strike.Strike.{Strike}
 use Rattle.sja_script.specs.declared.step.Step.{Step}
 use Rattle.sja_driver.specs.declared.logged_driver.LoggedDriver.{LoggedDriver}
 use Rattle.sja_driver.specs.Deeds.{Deed, deeds_at}
-use Rattle.sja_log.specs.NewDrivers.{AreNew}
+use Rattle.sja_log.specs.Inside.NewDrivers.{AreNew}
 use Rattle.sja_log.specs.Nodes.{IsNode}
-use Rattle.sja_serial.specs.Serial.{run_now, StandsAt}
+use Rattle.sja_serial.specs.Serial.{StandsAt}
+use Rattle.sja_serial.specs.Inside.Going.{run_now}
 use Rattle.sja_driver.specs.Shown.{ShowsRecord}
 use Rattle.sja_driver.proofs.OneNode.Shown.{shows_first}
 use Rattle.sja_log.proofs.OneNode.Newly.{new_node}

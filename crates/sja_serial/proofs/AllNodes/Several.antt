@@ -1,9 +1,10 @@
 -- Deeds of one node, one after another.
-use Rattle.std.proofs.Common.{◌≡◌, ℕ, zero, suc, ◌+◌, ◌-◌, ◌<◌, ◌≤◌, List, [], ◌∷◌, ◌++◌, length, refl, sym, ap, ◌∙◌}
+use Rattle.std.proofs.Common.{◌≡◌, ℕ, ◌+◌, ◌-◌, ◌<◌, ◌≤◌, List, [], ◌∷◌, ◌++◌, length, refl, sym, ap, ◌∙◌}
 use Rattle.std.proofs.Common.{subst, append_assoc, append-nil, arith, inl, inr}
 use Rattle.std.specs.Prelude.{◌≢◌, slice_index_or, slice_set}
 use Rattle.std.proofs.lemmas.Bool.{cases_lt}
 use Rattle.std.proofs.lemmas.List.{length-append, length-map, map-append, get_or-set_same, set-set}
+use Rattle.std.proofs.lemmas.List.{get_or_append_left, get_or-append_right}
 use Rattle.sja_link.specs.declared.entry.Entry.{Entry}
 use Rattle.sja_link.specs.declared.entry.Entry.TheVariants.{Up as Item}
 use Rattle.sja_link.specs.BitEntries.{entries_of_items, HasMore}
@@ -25,35 +26,19 @@ deeds_twice deeds node xs ys there =
     ∙ set-set deeds node (deeds_at deeds node ++ xs) ((deeds_at deeds node ++ xs) ++ ys)
     ∙ ap (slice_set deeds node) (append_assoc (deeds_at deeds node) xs ys)
 
-front_at : (xs ys : List Deed) (i : ℕ) (d : Deed) → i < length xs →
-    slice_index_or (xs ++ ys) i d ≡ slice_index_or xs i d
-front_at [] ys i d less = absurd (omega arith)
-front_at (x ∷ xs) ys zero d less = refl
-front_at (x ∷ xs) ys (suc i) d less = front_at xs ys i d (omega arith)
-
-back_at : (xs ys : List Deed) (i : ℕ) (d : Deed) → length xs ≤ i → (m : ℕ) → i ≡ length xs + m →
-    slice_index_or (xs ++ ys) i d ≡ slice_index_or ys m d
-back_at [] ys i d more m e = ap (λ k. slice_index_or ys k d) (e ∙ zero_plus m)
-  where
-    zero_plus : (k : ℕ) → 0 + k ≡ k
-    zero_plus k = omega arith
-back_at (x ∷ xs) ys zero d more m e = absurd (omega (arith, more))
-back_at (x ∷ xs) ys (suc i) d more m e = back_at xs ys i d (omega (arith, more)) m (omega (arith, e))
-
 both_at : (xs ys : List Deed) (n : ℕ) → ((i : ℕ) (d : Deed) → i < length xs → (slice_index_or xs i d).bits ≡ n) →
     ((i : ℕ) (d : Deed) → i < length ys → (slice_index_or ys i d).bits ≡ n) →
     (i : ℕ) (d : Deed) → i < length (xs ++ ys) → (slice_index_or (xs ++ ys) i d).bits ≡ n
 both_at xs ys n f g i d less =
-    let l = length-append xs ys in
     elim (cases_lt i (length xs)) [
-      | inl front ↦ ap (λ (x : Deed). x.bits) (front_at xs ys i d front) ∙ f i d front
+      | inl front ↦ ap (λ (x : Deed). x.bits) (get_or_append_left xs ys d i front) ∙ f i d front
       | inr back ↦ split back
     ]
   where
     split : length xs ≤ i → (slice_index_or (xs ++ ys) i d).bits ≡ n
     split back =
         let l = length-append xs ys in
-        ap (λ (x : Deed). x.bits) (back_at xs ys i d back (i - length xs) (omega (arith, back)))
+        ap (λ (x : Deed). x.bits) (get_or-append_right xs ys (length xs) i d refl back)
         ∙ g (i - length xs) d (omega (arith, back, less, l))
 
 -- nothing was done

@@ -19,8 +19,9 @@ use Rattle.sja_wire.specs.Wire.{journal_at}
 use Rattle.sja_plan.specs.Plan.{PlanValue}
 use Rattle.sja_driver.specs.Deeds.{Deed, given_in, deeds_of, deeds_at}
 use Rattle.sja_driver.proofs.Trace.Stepping.{given_taken}
-use Rattle.sja_serial.specs.Bits.{TakesBits, TakesAtOnce}
-use Rattle.sja_serial.specs.Serial.{SerialValue, StandsAt, run_now}
+use Rattle.sja_serial.specs.Bits.{TakesBits}
+use Rattle.sja_serial.specs.Inside.Going.{TakesAtOnce, run_now}
+use Rattle.sja_serial.specs.Serial.{SerialValue, StandsAt}
 use Rattle.sja_serial.specs.UntilTold.{NotesTurn, KeepsTurn}
 use Rattle.sja_log.proofs.OneNode.Gathered.{no_link}
 use Rattle.sja_driver.proofs.Account.Dry.{none_taken}

@@ -9,7 +9,8 @@ use Rattle.sja_wire.specs.Lawful.{IsBusRun}
 use Rattle.sja_plan.specs.Plan.{PlanValue}
 use Rattle.sja_driver.specs.declared.logged_driver.LoggedDriver.{LoggedDriver}
 use Rattle.sja_driver.specs.Deeds.{Deed}
-use Rattle.sja_serial.specs.Serial.{SerialValue, StandsAt, run_now}
+use Rattle.sja_serial.specs.Serial.{SerialValue, StandsAt}
+use Rattle.sja_serial.specs.Inside.Going.{run_now}
 
 module _ {bus : BusValue} {drivers : List LoggedDriver} {ports : List Registers} {turns : List (Option BusTurn)}
     {slice links : List Deques} {bits : ℕ} {r : SerialValue} (same : slice ≡ links)

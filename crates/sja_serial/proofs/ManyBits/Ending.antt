@@ -1,15 +1,16 @@
 -- Why bits up to the first that a port is told of ended.
-use Rattle.std.proofs.Common.{◌≡◌, ◌+◌, ℕ, Bool, List, inl, inr, refl, subst, arith}
+use Rattle.std.proofs.Common.{◌≡◌, ◌+◌, ℕ, Bool, List, inl, inr, subst, arith}
 use Rattle.std.specs.Prelude.{◌⊎◌}
 use Rattle.sja_link.specs.Deques.{Deques}
 use Rattle.sja_bus.specs.Boards.{HasOrders}
-use Rattle.sja_bus.specs.UntilTold.{EndsUntilTold as EndsOnBus, RunsNone}
+use Rattle.sja_bus.specs.UntilTold.{EndsUntilTold as EndsOnBus}
 use Rattle.sja_bus.specs.UntilTold.EndsUntilTold.{no_more as none_on_bus, told as told_on_bus}
 use Rattle.sja_bus.proofs.AllNodes.UntilTold.{held_of, none_of}
 use Rattle.sja_plan.specs.Plan.{PlanValue}
 use Rattle.sja_driver.specs.declared.logged_driver.LoggedDriver.{LoggedDriver}
 use Rattle.sja_driver.specs.Deeds.{Deed}
-use Rattle.sja_serial.specs.Serial.{SerialValue, StandsAt, IsRunOf, run_now}
+use Rattle.sja_serial.specs.Serial.{SerialValue, StandsAt, IsRunOf}
+use Rattle.sja_serial.specs.Inside.Going.{run_now}
 use Rattle.sja_serial.specs.UntilTold.{EndsUntilTold, TakesUntilTold, WorksUntold}
 use Rattle.sja_serial.specs.UntilTold.EndsUntilTold.{no_more, told, alone}
 use Rattle.sja_serial.proofs.ManyBits.ManyBits.{SerialMoment, ports}
@@ -39,13 +40,6 @@ module _ {plan : PlanValue} {was : SerialValue} (run : IsRunOf plan was) (most c
   left_there (inl all) = inl all
   left_there (inr few) = let left = run.1.all_bits in let bits = run.1.bits in inr (omega (arith, few, left, bits))
 
-  -- one alone, where none of those was run
-  pub ended_alone : {to_rest : Bool} {after : SerialValue} → (most ≡ count) ⊎ (was.bits + most ≡ plan.bits) →
-      RunsNone (HasOrders was.ports) to_rest most was.bus → EndsUntilTold to_rest count was 1 after
-  ended_alone {to_rest} {after} which why =
-      alone refl (held_of (HasOrders was.ports) to_rest most count was.bus (left_there which) why)
-
-  -- and those that were run
   pub ended_of : {to_rest : Bool} {now : SerialValue} {n : ℕ} → (most ≡ count) ⊎ (was.bits + most ≡ plan.bits) →
       ((deeds : List (List Deed)) → StandsAt plan was deeds → TakesUntilTold plan deeds to_rest was n now) →
       EndsUntilTold to_rest most was n now → EndsUntilTold to_rest count was n now

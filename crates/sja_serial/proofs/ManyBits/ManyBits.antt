@@ -17,7 +17,8 @@ use Rattle.sja_plan.specs.Plan.{PlanValue, IsInLimits}
 use Rattle.sja_driver.specs.declared.logged_driver.LoggedDriver.{LoggedDriver}
 use Rattle.sja_driver.specs.Deeds.{Deed}
 use Rattle.sja_serial.specs.Bits.{TakesBits, SomeWorks}
-use Rattle.sja_serial.specs.Serial.{SerialValue, StandsAt, IsRunOf, run_now}
+use Rattle.sja_serial.specs.Serial.{SerialValue, StandsAt, IsRunOf}
+use Rattle.sja_serial.specs.Inside.Going.{run_now}
 use Rattle.sja_serial.specs.UntilTold.{TellsBit, TellsBits, WorksUntold as WorksUntoldInRun}
 use Rattle.sja_serial.specs.UntilTold.TellsBits.{no_bit, one_more}
 use Rattle.sja_bus.proofs.AtPorts.OtherWords.{noted_bit}

@@ -12,7 +12,8 @@ use Rattle.sja_wire.specs.Lawful.{IsBusRun}
 use Rattle.sja_wire.specs.Wire.{journal_at}
 use Rattle.sja_plan.specs.Plan.{PlanValue}
 use Rattle.sja_driver.specs.Deeds.{Deed}
-use Rattle.sja_serial.specs.Bits.{TakesBit, TakesBits, TakesAtOnce, AllRestIn, SomeWorks, TakesBusTurn, TakesRest}
+use Rattle.sja_serial.specs.Bits.{TakesBit, TakesBits, AllRestIn, SomeWorks, TakesBusTurn, TakesRest}
+use Rattle.sja_serial.specs.Inside.Going.{TakesAtOnce}
 use Rattle.sja_link.specs.BitEntries.{HasOneBit}
 use Rattle.sja_serial.specs.Bits.TakesBits.{no_bit, one_more}
 use Rattle.sja_serial.specs.Serial.{SerialValue, StandsAt}

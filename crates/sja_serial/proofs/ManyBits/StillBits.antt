@@ -26,7 +26,8 @@ use Rattle.sja_serial.specs.Bits.{TakesBit, TakesBits}
 use Rattle.sja_link.specs.BitEntries.{HasOneBit}
 use Rattle.sja_serial.specs.Bits.TakesBits.{no_bit, one_more}
 use Rattle.sja_log.specs.Nodes.{IsNode}
-use Rattle.sja_serial.specs.Serial.{SerialValue, StandsAt, run_now}
+use Rattle.sja_serial.specs.Serial.{SerialValue, StandsAt}
+use Rattle.sja_serial.specs.Inside.Going.{run_now}
 use Rattle.sja_driver.specs.Shown.{ShowsRecord}
 use Rattle.sja_serial.specs.UntilTold.{NotesTurn, KeepsTurn}
 use Rattle.sja_driver.proofs.OneNode.Slices.{numbered_still}

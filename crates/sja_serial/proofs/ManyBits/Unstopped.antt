@@ -38,7 +38,8 @@ use Rattle.sja_driver.specs.LoggedDrivers.{node_of, driver_of, log_of, ended_of}
 use Rattle.sja_driver.specs.Logs.{left_in, leaves, released_of, releases_in}
 use Rattle.sja_driver.proofs.Trace.Stepping.{given_taken}
 use Rattle.sja_log.specs.Nodes.{IsNode}
-use Rattle.sja_serial.specs.Serial.{SerialValue, StandsAt, IsRunOf, run_now}
+use Rattle.sja_serial.specs.Serial.{SerialValue, StandsAt, IsRunOf}
+use Rattle.sja_serial.specs.Inside.Going.{run_now}
 use Rattle.sja_log.proofs.NodeLog.Adding.{one_abort}
 use Rattle.sja_log.proofs.OneNode.Gathered.{no_link}
 use Rattle.sja_driver.proofs.Account.Dry.{none_beyond, none_taken, none_taken_own}

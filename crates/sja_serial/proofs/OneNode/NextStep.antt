@@ -20,9 +20,10 @@ use Rattle.sja_driver.specs.declared.logged_driver.LoggedDriver.{LoggedDriver}
 use Rattle.sja_driver.specs.Deeds.{Deed, deeds_at}
 use Rattle.sja_driver.specs.LoggedDrivers.{log_of, StaysLawful, Steps}
 use Rattle.sja_driver.specs.Logs.{done_in}
-use Rattle.sja_driver.specs.GivenNothing.{GaveNothing}
+use Rattle.sja_driver.specs.Inside.GivenNothing.{GaveNothing}
 use Rattle.sja_log.specs.Nodes.{IsNode}
-use Rattle.sja_serial.specs.Serial.{SerialValue, run_now, StandsAt}
+use Rattle.sja_serial.specs.Serial.{SerialValue, StandsAt}
+use Rattle.sja_serial.specs.Inside.Going.{run_now}
 use Rattle.sja_serial.proofs.ManyBits.Borrowed.{stands_there, put_back}
 use Rattle.sja_serial.proofs.AllNodes.Several.{done_count}
 use Rattle.sja_link.proofs.Growing.Items.{items_none}

@@ -28,7 +28,8 @@ use Rattle.sja_log.specs.Registering.{seen_now}
 use Rattle.sja_log.proofs.Account.Seeing.{seen_shown}
 use Rattle.sja_driver.proofs.Trace.Stepping.{given_taken}
 use Rattle.sja_log.specs.Nodes.{IsNode}
-use Rattle.sja_serial.specs.Serial.{run_now, StandsAt}
+use Rattle.sja_serial.specs.Serial.{StandsAt}
+use Rattle.sja_serial.specs.Inside.Going.{run_now}
 use Rattle.sja_driver.proofs.OneNode.Slices.{apart, each_other, numbered_still}
 use Rattle.sja_log.proofs.OneNode.Gathered.{no_link, linked_after, node_with}
 use Rattle.sja_serial.proofs.OneNode.Standing.{owners}

@@ -1,8 +1,8 @@
 -- What follows a turn of a node in a run follows, with that turn, from where the run stood before.
-use Rattle.std.proofs.Common.{◌≡◌, ℕ, zero, suc, ◌+◌, ◌<◌, false, List, [], ◌∷◌}
-use Rattle.std.proofs.Common.{◌++◌, length, map, take, refl, sym, ap, ◌∙◌, subst, arith, inl, inr}
+use Rattle.std.proofs.Common.{◌≡◌, ℕ, ◌+◌, ◌<◌, false, List, [], ◌∷◌}
+use Rattle.std.proofs.Common.{◌++◌, append_assoc, length, map, take, sym, ap, ◌∙◌, subst, arith, inl, inr}
 use Rattle.std.specs.Prelude.{set, slice_index, slice_index_or}
-use Rattle.std.proofs.lemmas.List.{length-append, get_or-set_same}
+use Rattle.std.proofs.lemmas.List.{length-append, get_or-set_same, get_or-append-add, get_or_append_left}
 use Rattle.sja_link.specs.NodeWords.{NodeEntry}
 use Rattle.sja_link.specs.declared.entry.Entry.{Entry}
 use Rattle.sja_link.specs.Places.{place_of}
@@ -33,18 +33,10 @@ use Rattle.sja_serial.proofs.WholeRun.GoingOn.{entries_then, record_then, regist
 -- the deeds in between
 middle_at : (xs more after : List Deed) (i n : ℕ) (d : Deed) → n ≡ length xs + i → i < length more →
     slice_index_or ((xs ++ more) ++ after) n d ≡ slice_index_or more i d
-middle_at [] more after i n d e less = ap (λ m. slice_index_or (more ++ after) m d) (e ∙ zero_plus i)
-    ∙ front more i less
-  where
-    zero_plus : (k : ℕ) → 0 + k ≡ k
-    zero_plus k = omega arith
-
-    front : (ys : List Deed) (m : ℕ) → m < length ys → slice_index_or (ys ++ after) m d ≡ slice_index_or ys m d
-    front [] m h = absurd (omega (arith, h))
-    front (y ∷ ys) zero h = refl
-    front (y ∷ ys) (suc m) h = front ys m (omega (arith, h))
-middle_at (x ∷ xs) more after i zero d e less = absurd (omega (arith, e))
-middle_at (x ∷ xs) more after i (suc n) d e less = middle_at xs more after i n d (omega (arith, e)) less
+middle_at xs more after i n d e less =
+    ap (λ m. slice_index_or ((xs ++ more) ++ after) m d) e
+    ∙ ap (λ l. slice_index_or l (length xs + i) d) (append_assoc xs more after)
+    ∙ get_or-append-add xs (more ++ after) i d ∙ get_or_append_left more after d i less
 
 module _ (plan : PlanValue) (r : SerialValue) (deeds : List (List Deed)) (journals : List (List Entry))
     (all : List (List Deed)) (h : StandsAt plan r deeds) (present : ArePresent plan r)

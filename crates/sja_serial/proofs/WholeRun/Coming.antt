@@ -18,7 +18,8 @@ use Rattle.sja_log.specs.declared.end.End.TheVariants.{Turns as TurnsDone, Bits 
 use Rattle.sja_log.specs.Turns.{Progress, RunsTo}
 use Rattle.sja_log.specs.Turns.RunsTo.{all_done}
 use Rattle.sja_serial.specs.Bits.{TakesBusTurn, TakesRest}
-use Rattle.sja_serial.specs.Ending.{progress, TakesTurns, TakesOne}
+use Rattle.sja_serial.specs.Ending.{progress}
+use Rattle.sja_serial.specs.Inside.Going.{TakesTurns, TakesOne}
 use Rattle.sja_serial.specs.Serial.{SerialValue, StandsAt, TakesTurn}
 use Rattle.sja_log.proofs.NodeLog.Onward.{extends_none, extends_items, bits_items, aborts_items}
 use Rattle.sja_serial.proofs.WholeRun.GoingOn.{acts_of, GoesOn, IsPresent, ArePresent, present_bits, back_bits}
@@ -42,7 +43,8 @@ pub record HasCome (plan : PlanValue) (turns : List Turn) (r : SerialValue) : Ty
 
 -- ---- at the beginning
 
-no_lengths : (n : ℕ) → map (λ (l : List Deed). length l) (replicate n []) ≡ replicate n 0
+-- of none the deeds are none
+pub no_lengths : (n : ℕ) → map (λ (l : List Deed). length l) (replicate n []) ≡ replicate n 0
 no_lengths zero = refl
 no_lengths (suc n) = ap (λ l. 0 ∷ l) (no_lengths n)
 

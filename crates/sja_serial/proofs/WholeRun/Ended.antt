@@ -28,7 +28,8 @@ use Rattle.sja_log.proofs.Trace.Windows.{settled_kept}
 use Rattle.sja_log.proofs.OneNode.Gathered.{no_link}
 use Rattle.sja_log.specs.Nodes.{IsNode}
 use Rattle.sja_serial.specs.Serial.{SerialValue, StandsAt}
-use Rattle.sja_log.specs.Finishing.{all_down, held_after, activation_after, IsNodeEnd, AreNodeEnds}
+use Rattle.sja_log.specs.Finishing.{held_after, activation_after, IsNodeEnd, AreNodeEnds}
+use Rattle.sja_log.specs.Inside.LeftDown.{all_down}
 use Rattle.sja_serial.specs.Ending.{IsLogOf}
 use Rattle.sja_log.proofs.NodeLog.NodeEnds.{AreEnds, trace_of, settled_of, nodes_count, some_driver, node_end}
 use Rattle.sja_log.proofs.NodeLog.NodeEnds.{journal_is, journals_in_log, run_of_ends}

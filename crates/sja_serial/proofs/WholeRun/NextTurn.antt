@@ -6,7 +6,7 @@ use Rattle.sja_plan.specs.Plan.{PlanValue, NamesNode}
 use Rattle.sja_plan.specs.declared.turn.Turn.{Turn}
 use Rattle.sja_plan.specs.declared.turn.Turn.TheVariants.{Bus}
 use Rattle.sja_log.specs.declared.end.End.TheVariants.{Turns as TurnsDone, Bits as BitsSpent}
-use Rattle.sja_serial.specs.Ending.{TakesTurns, TakesOne}
+use Rattle.sja_serial.specs.Inside.Going.{TakesTurns, TakesOne}
 use Rattle.sja_serial.specs.Serial.{SerialValue}
 use Rattle.sja_serial.proofs.WholeRun.Coming.{HasCome, come_at, come_one, whole_at, end_one, end_all}
 

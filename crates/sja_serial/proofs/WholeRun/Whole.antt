@@ -11,7 +11,8 @@ use Rattle.sja_log.specs.Log.{NodeValue, RunValue}
 use Rattle.sja_log.specs.Runs.{IsSerialRun}
 use Rattle.sja_log.specs.Turns.{Acts, Progress, RunsTo}
 use Rattle.sja_serial.specs.Serial.{SerialValue}
-use Rattle.sja_serial.specs.Ending.{IsLogOf, TakesTurns, progress}
+use Rattle.sja_serial.specs.Ending.{IsLogOf, progress}
+use Rattle.sja_serial.specs.Inside.Going.{TakesTurns}
 
 module _ (plan : PlanValue) (r : SerialValue) (end : End) (log : RunValue) (t : TakesTurns plan r end)
     (l : IsLogOf plan r t.deeds end log) where

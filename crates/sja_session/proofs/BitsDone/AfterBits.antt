@@ -16,7 +16,8 @@ use Rattle.sja_session.specs.declared.session_room.SessionRoom.{SessionRoom}
 use Rattle.sja_session.specs.Running.{MayRun}
 use Rattle.sja_session.specs.Sessions.{SessionValue, session_of, start_of, IsAt, IsSession, written}
 use Rattle.sja_session.specs.Stepping.{HasTurn}
-use Rattle.sja_session.specs.Turning.{FitsLast, with_turn, with_bits}
+use Rattle.sja_session.specs.Turning.{FitsLast, with_turn}
+use Rattle.sja_session.specs.Inside.Written.{with_bits}
 use Rattle.sja_session.specs.Writing.{done_counts, fronts, with_bits_run}
 use Rattle.sja_session.proofs.WrittenPlan.Taken.{took_bits, took_same}
 use Rattle.sja_session.proofs.WrittenPlan.Turned.{took_turn, few_turns, named_turns, bits_go_on}

@@ -8,7 +8,7 @@ use Rattle.sja_serial.specs.Serial.{SerialValue}
 use Rattle.sja_session.specs.Resting.{Rests}
 use Rattle.sja_session.specs.declared.session_room.SessionRoom.{SessionRoom}
 use Rattle.sja_session.specs.Sessions.{session_of, IsAt}
-use Rattle.sja_session.specs.Turning.{with_bits}
+use Rattle.sja_session.specs.Inside.Written.{with_bits}
 use Rattle.sja_session.proofs.BitsDone.AfterBits as after
 
 module _ {room : SessionRoom} {plan : PlanValue} {was now : SerialValue} {turns : List Turn} {deeds : List (List Deed)}

@@ -14,11 +14,12 @@ use Rattle.sja_script.specs.declared.step.Step.TheVariants.{Window}
 use Rattle.sja_script.specs.declared.strike.Strike.{Strike}
 use Rattle.sja_serial.specs.Ending.{progress}
 use Rattle.sja_serial.specs.Serial.{SerialValue, StandsAt}
+use Rattle.sja_serial.proofs.WholeRun.Coming.{no_lengths}
 use Rattle.sja_session.specs.declared.session_room.SessionRoom.{SessionRoom}
 use Rattle.sja_session.specs.Beginning.{IsRoom}
 use Rattle.sja_session.specs.Sessions.{session_of, Took, start_of, IsAt, IsSession, AreNamed, written}
 use Rattle.sja_session.specs.Writing.{done_counts, fronts}
-use Rattle.sja_session.proofs.WrittenPlan.Taken.{took_none, no_lengths}
+use Rattle.sja_session.proofs.WrittenPlan.Taken.{took_none}
 use Rattle.sja_session.proofs.WrittenPlan.Written.{counts_are, no_fronts}
 
 -- each node has so many places

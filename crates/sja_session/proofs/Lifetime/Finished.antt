@@ -3,7 +3,8 @@ use Rattle.std.proofs.Common.{ℕ, List, length, sym, subst, arith}
 use Rattle.sja_driver.specs.Deeds.{Deed}
 use Rattle.sja_log.specs.declared.end.End.TheVariants.{Turns as TurnsDone}
 use Rattle.sja_log.specs.Turns.{RunsTo}
-use Rattle.sja_serial.specs.Ending.{TakesTurns, progress}
+use Rattle.sja_serial.specs.Ending.{progress}
+use Rattle.sja_serial.specs.Inside.Going.{TakesTurns}
 use Rattle.sja_serial.proofs.WholeRun.GoingOn.{acts_of}
 use Rattle.sja_session.specs.Sessions.{SessionValue, IsAt, start_of, written}
 use Rattle.sja_session.proofs.WrittenPlan.Plans.{stands_written}

@@ -34,7 +34,8 @@ use Rattle.sja_session.specs.Inside.UntilTold.{RunsUntilTold}
 use Rattle.sja_session.specs.Lines.{line_at}
 use Rattle.sja_session.specs.Running.{RunsBits}
 use Rattle.sja_session.specs.Sessions.{SessionValue, session_of, IsAt}
-use Rattle.sja_session.specs.Turning.{with_turn, with_bits}
+use Rattle.sja_session.specs.Turning.{with_turn}
+use Rattle.sja_session.specs.Inside.Written.{with_bits}
 use Rattle.sja_session.specs.Watching.{NoneRose, rise}
 use Rattle.sja_session.specs.Watching.NoneRose.{bit, none as none_rose}
 use Rattle.sja_session.proofs.BitsDone.BitsRun.{runs}

@@ -16,6 +16,7 @@ use Rattle.sja_log.specs.Turns.{Progress, DoesSteps, RunsTo, with_bits, with_ste
 use Rattle.sja_log.specs.Turns.RunsTo.{all_done, bus as runs_bus, node as runs_node}
 use Rattle.sja_serial.specs.Ending.{progress}
 use Rattle.sja_serial.specs.Serial.{SerialValue}
+use Rattle.sja_serial.proofs.WholeRun.Coming.{no_lengths}
 use Rattle.sja_serial.proofs.WholeRun.GoingOn.{acts_of, length_at, lengths_set}
 use Rattle.sja_session.specs.Sessions.{Took, start_of}
 use Rattle.sja_session.specs.Sessions.Took.{none, bus, node}
@@ -156,10 +157,6 @@ runs_all plan journals deeds first turns p h few =
     (runs_through plan journals deeds first (reverse turns) p h few [] p TurnsDone (all_done p))
 
 -- ---- at the beginning
-
-pub no_lengths : (n : ℕ) → map (λ (l : List Deed). length l) (replicate n []) ≡ replicate n 0
-no_lengths zero = refl
-no_lengths (suc n) = ap (λ l. 0 ∷ l) (no_lengths n)
 
 pub took_none : (nodes : ℕ) (r : SerialValue) → r.bits ≡ 0 →
     Took (replicate nodes []) (start_of nodes) [] (progress r (replicate nodes []))

@@ -139,12 +139,10 @@ module _ {G : Type 0} (quits : Bool) (plan : PlanValue) (starts : List (ThreadSt
       j : List Entry
       j = journal_at now.bus.journals node
 
-      no_base : (a : ℕ) → 0 + a ≡ a
-      no_base a = omega arith
-
       untouched : AreUntouched DriverLists j s.links.items 0
       untouched a d less =
-          subst (λ (i : ℕ). DriverLists (slice_index_or s.links.items i d) nothing_yet) (sym (no_base a))
+          let base : a ≡ 0 + a = omega arith in
+          subst (λ (i : ℕ). DriverLists (slice_index_or s.links.items i d) nothing_yet) base
           (m.links.drivers_new a d less).lists
 
   -- all of them

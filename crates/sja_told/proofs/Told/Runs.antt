@@ -30,7 +30,7 @@ use Rattle.sja_driver.specs.Asking.{IsAsked}
 use Rattle.sja_driver.proofs.OneBit.BitAsked.{HasCut, place_bit}
 use Rattle.sja_log.proofs.OneNode.Registers.{IsPort, port_first, asked_first, kind_by, port_step, was_free, asked_step}
 use Rattle.sja_log.proofs.OneNode.RegistersInBits.{port_bit, asked_bit}
-use Rattle.sja_replay.specs.Quiet.{IsQuiet}
+use Rattle.sja_replay.specs.Inside.Quiet.{IsQuiet}
 use Rattle.sja_told.proofs.Told.ToldBits.{behind, split, past_bit, with_more}
 use Rattle.sja_link.proofs.Growing.Aborts.{abort_changes}
 use Rattle.sja_replay.specs.Stored.{AllStored}

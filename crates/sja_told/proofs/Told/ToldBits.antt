@@ -34,7 +34,7 @@ use Rattle.sja_replay.specs.Happening.{Brings, bit_of}
 use Rattle.sja_replay.specs.Taking.{last_part}
 use Rattle.sja_replay.proofs.Once.Bits.{tells, events_once}
 use Rattle.sja_driver.proofs.OneBit.BitAsked.{place_bit}
-use Rattle.sja_replay.specs.Quiet.{IsQuiet}
+use Rattle.sja_replay.specs.Inside.Quiet.{IsQuiet}
 use Rattle.sja_replay.proofs.Knowledge.SomeViews.{view_there}
 use Rattle.sja_link.proofs.JournalEntries.EachInPart.{of_part_at, each_part, record_both, place_both}
 use Rattle.sja_replay.proofs.Listed.PastBits.{bit_on}

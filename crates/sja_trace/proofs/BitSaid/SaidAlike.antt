@@ -17,7 +17,7 @@ use Rattle.sja_trace.specs.Events.{is_flag, has_fault, flag_begins, flag_said, r
 use Rattle.sja_trace.specs.Names.{flag_name, level_name}
 use Rattle.sja_trace.specs.Places.{where_text}
 use Rattle.sja_trace.specs.BitEvents.{begins_suspension, confinement_said, have_same, counters_text, all_said}
-use Rattle.sja_trace.specs.SayingAlike.{SaysAlike}
+use Rattle.sja_trace.specs.Inside.SayingAlike.{SaysAlike}
 
 -- ---- whether a frame begins
 

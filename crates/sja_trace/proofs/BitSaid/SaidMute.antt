@@ -15,7 +15,7 @@ use Rattle.sja_trace.specs.BitEvents.{have_same, all_said}
 use Rattle.sja_trace.specs.Events.{is_frame, is_dominant, is_flag}
 use Rattle.sja_trace.specs.Inside.Hands.{happening_of}
 use Rattle.sja_trace.proofs.BitSaid.Shorts.{all_same, no_flag, plain_none}
-use Rattle.sja_trace.specs.SayingAlike.{IsMute, SaysAlike, IsShortOf}
+use Rattle.sja_trace.specs.Inside.SayingAlike.{IsMute, SaysAlike, IsShortOf}
 use Rattle.sja_trace.proofs.BitSaid.SaidAlike.{told_same}
 
 -- ---- a mute bit in short

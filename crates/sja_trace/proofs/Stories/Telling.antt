@@ -14,7 +14,8 @@ use Rattle.sja_replay.specs.Short.{PassesBit}
 use Rattle.sja_replay.specs.Coming.{HasCome, left_in}
 use Rattle.sja_replay.proofs.Listed.Coming.{came_by, came_on, came_all}
 use Rattle.sja_trace.specs.declared.node_bits.NodeBits.{NodeBits}
-use Rattle.sja_trace.specs.Telling.{IsUnderway, HaveSame, bit_before, TellsOn, TellsAll, IsFinishing}
+use Rattle.sja_trace.specs.Telling.{IsUnderway, HaveSame, bit_before, TellsOn, TellsAll}
+use Rattle.sja_trace.specs.Inside.Finishing.{IsFinishing}
 use Rattle.sja_trace.specs.Inside.Hands.{HandGoesOn}
 
 -- ---- one more behind others

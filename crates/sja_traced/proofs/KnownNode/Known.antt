@@ -13,7 +13,8 @@ use Rattle.sja_link.specs.declared.verdict.Verdict.{Verdict}
 use Rattle.sja_link.specs.declared.verdict.Verdict.TheVariants.{Stored as ToStore, Overrun as ToLose}
 use Rattle.sja_link.specs.Records.{record_of}
 use Rattle.sja_link.proofs.Growing.BitRecords.{record_bit, entries_split}
-use Rattle.sja_link.specs.BitEntries.{off_left, HasBit, judged_as, off_as}
+use Rattle.sja_link.specs.BitEntries.{HasBit, judged_as, off_as}
+use Rattle.sja_link.specs.Inside.Entries.{off_left}
 use Rattle.sja_regs.specs.declared.bus_turn.BusTurn.{BusTurn}
 use Rattle.sja_replay.specs.declared.happening.Happening.{Happening}
 use Rattle.sja_replay.specs.declared.view.View.{View}
@@ -23,7 +24,7 @@ use Rattle.sja_replay.proofs.Once.Bits.{tells, events_once}
 use Rattle.sja_replay.proofs.Knowledge.Places.{ends_push}
 use Rattle.sja_replay.proofs.Listed.BitEntries.{tells_turn}
 use Rattle.sja_wire.specs.Telling.{IsTurn}
-use Rattle.sja_replay.specs.Knowing.{Knows}
+use Rattle.sja_replay.specs.Inside.Knowing.{Knows}
 use Rattle.sja_replay.proofs.Knowledge.Knowing.{LookAlike, shows_known}
 use Rattle.can_node.proofs.Machine.Requests.{nothing_held}
 

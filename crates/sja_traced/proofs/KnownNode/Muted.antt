@@ -22,8 +22,8 @@ use Rattle.sja_driver.proofs.OneBit.BitAsked.{bit_keeps, bit_told}
 use Rattle.sja_link.specs.BitEntries.{HasBit, judged_as, off_as}
 use Rattle.sja_wire.specs.Telling.{IsTurn, SaysAlone}
 use Rattle.can_node.specs.NextField.{SegmentIn}
-use Rattle.sja_replay.specs.Knowing.{KnowsPlace, Knows, AreAll}
-use Rattle.sja_trace.specs.SayingAlike.{IsMute}
+use Rattle.sja_replay.specs.Inside.Knowing.{KnowsPlace, Knows, AreAll}
+use Rattle.sja_trace.specs.Inside.SayingAlike.{IsMute}
 use Rattle.sja_traced.proofs.KnownNode.Known.{before_known, after_known, turn_events, split_bit, bit_quiet}
 use Rattle.sja_traced.proofs.KnownNode.Known.{same_not, held_stays}
 use Rattle.sja_replay.proofs.Listed.Reached.{Reached, reached}

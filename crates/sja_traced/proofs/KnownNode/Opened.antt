@@ -19,8 +19,8 @@ use Rattle.sja_link.specs.LookingBack.{ends_in_abort}
 use Rattle.sja_replay.specs.Viewing.{IsView}
 use Rattle.sja_replay.proofs.Knowledge.Places.{ends_push}
 use Rattle.sja_link.specs.BitEntries.{abort_as}
-use Rattle.sja_replay.specs.Knowing.{Knows, KnowsPlace}
-use Rattle.sja_traced.specs.KnownBits.{held_before}
+use Rattle.sja_replay.specs.Inside.Knowing.{Knows, KnowsPlace}
+use Rattle.sja_traced.specs.Inside.KnownBits.{held_before}
 use Rattle.sja_replay.proofs.Knowledge.Knowing.{LookAlike, shows_known}
 
 -- ---- an abort keeps all but the request and its mark

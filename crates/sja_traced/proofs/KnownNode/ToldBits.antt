@@ -31,14 +31,14 @@ use Rattle.can_node.proofs.OneCut.SameCuts.{same_now}
 use Rattle.sja_replay.proofs.Once.Lists.{judges_once}
 use Rattle.sja_replay.proofs.Once.Views.{view_once}
 use Rattle.sja_driver.proofs.OneBit.BitAsked.{place_abort}
-use Rattle.sja_replay.specs.Quiet.{IsQuiet}
+use Rattle.sja_replay.specs.Inside.Quiet.{IsQuiet}
 use Rattle.sja_replay.proofs.Listed.BitEntries.{IsRightFor, stops_off}
 use Rattle.sja_told.proofs.Told.ToldBits.{right}
 use Rattle.sja_link.specs.BitEntries.{HasBit, abort_as, judged_as, off_as}
 use Rattle.sja_wire.specs.Telling.{IsTurn}
-use Rattle.sja_replay.specs.Knowing.{Knows, AreAll, KnowsPlace}
-use Rattle.sja_trace.specs.SayingAlike.{SaysAlike}
-use Rattle.sja_traced.specs.KnownBits.{kind_of, fate_by, IsOfTurn}
+use Rattle.sja_replay.specs.Inside.Knowing.{Knows, AreAll, KnowsPlace}
+use Rattle.sja_trace.specs.Inside.SayingAlike.{SaysAlike}
+use Rattle.sja_traced.specs.Inside.KnownBits.{kind_of, fate_by, IsOfTurn}
 use Rattle.sja_replay.proofs.Knowledge.Knowing.{LookAlike, knows_by, placed_once}
 use Rattle.sja_traced.proofs.KnownNode.Known.{turn_events, record_after, split_bit, bit_quiet}
 use Rattle.sja_traced.proofs.KnownNode.Opened.{opened_view, unchanged_alike, aborted_alike, opened_ends, opened_place}

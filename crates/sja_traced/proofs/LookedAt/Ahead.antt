@@ -17,7 +17,7 @@ use Rattle.sja_replay.proofs.Knowledge.Knowing.{shown_known, shown_place}
 use Rattle.lemmas.proofs.ChangedByNumber.{SoFar, so_far_all}
 use Rattle.sja_traced.specs.Inside.Bits.{HasLooked}
 use Rattle.sja_traced.specs.Inside.Tracing.{AreTold, IsKnown, IsTraced, done_at}
-use Rattle.sja_replay.specs.Knowing.{Knows, KnowsPlace}
+use Rattle.sja_replay.specs.Inside.Knowing.{Knows, KnowsPlace}
 use Rattle.sja_traced.specs.declared.node_trace.NodeTrace.{NodeTrace}
 use Rattle.sja_traced.specs.declared.run_trace.RunTrace.{RunTrace}
 use Rattle.sja_wire.specs.Wire.{journal_at}

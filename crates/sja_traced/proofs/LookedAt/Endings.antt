@@ -6,7 +6,7 @@ use Rattle.sja_link.specs.declared.last_bit.LastBit.{LastBit}
 use Rattle.sja_link.specs.declared.verdict.Verdict.{Verdict}
 use Rattle.sja_link.specs.declared.verdict.Verdict.TheVariants.{Stored as ToStore, Overrun as ToLose}
 use Rattle.sja_link.specs.LookingBack.{EndsWith, ends_in_abort, off_if}
-use Rattle.sja_traced.specs.KnownBits.{kind_of}
+use Rattle.sja_traced.specs.Inside.KnownBits.{kind_of}
 use Rattle.sja_link.proofs.LastBits.EndsOnce.{verdict_in, behind, whole_is}
 use Rattle.sja_link.proofs.LastBits.LastBit.{last_once}
 use Rattle.sja_traced.proofs.RunOfBits.NodeBits.{behind_bit, behind_no_bits, whole_bit}

@@ -7,7 +7,7 @@ use Rattle.sja_link.specs.declared.verdict.Verdict.{Verdict}
 use Rattle.sja_link.specs.declared.verdict.Verdict.TheVariants.{Stored as ToStore, Overrun as ToLose}
 use Rattle.sja_replay.specs.declared.fate.Fate.TheVariants.{Overrun}
 use Rattle.sja_replay.specs.declared.view.View.{View}
-use Rattle.sja_traced.specs.KnownBits.{fate_by}
+use Rattle.sja_traced.specs.Inside.KnownBits.{fate_by}
 use Rattle.sja_traced.specs.Inside.Bits.{gone_on, view_after}
 use Rattle.sja_traced.specs.declared.node_trace.NodeTrace.{NodeTrace}
 

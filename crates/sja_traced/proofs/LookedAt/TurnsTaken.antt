@@ -5,7 +5,8 @@ use Rattle.std.proofs.Math.ListN.{length-set}
 use Rattle.sja_driver.specs.Deeds.{Deed}
 use Rattle.sja_plan.specs.Plan.{PlanValue}
 use Rattle.sja_regs.specs.declared.bus_turn.BusTurn.{BusTurn}
-use Rattle.sja_serial.specs.Serial.{IsRunOf, SerialValue, StandsAt, run_now}
+use Rattle.sja_serial.specs.Serial.{IsRunOf, SerialValue, StandsAt}
+use Rattle.sja_serial.specs.Inside.Going.{run_now}
 use Rattle.lemmas.proofs.ChangedByNumber.{SoFar, so_far_all, so_far_next}
 
 -- no turn is noted any more

@@ -25,7 +25,8 @@ use Rattle.can_node.proofs.OneCut.Through.{goes_through}
 use Rattle.lemmas.specs.Gathering.{total}
 use Rattle.lemmas.proofs.Gathered.{total_append, total_push}
 use Rattle.sja_link.proofs.Growing.BitRecords.{record_bit}
-use Rattle.sja_link.specs.BitEntries.{off_left, HasBit, abort_as}
+use Rattle.sja_link.specs.BitEntries.{HasBit, abort_as}
+use Rattle.sja_link.specs.Inside.Entries.{off_left}
 use Rattle.sja_link.specs.declared.entry.Entry.{Entry}
 use Rattle.sja_link.specs.declared.entry.Entry.TheVariants.{Abort as AbortEntry}
 use Rattle.sja_link.specs.Records.{record_of}

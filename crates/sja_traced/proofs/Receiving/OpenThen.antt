@@ -33,7 +33,7 @@ use Rattle.sja_replay.specs.declared.fate.Fate.TheVariants.{Overrun}
 use Rattle.sja_replay.specs.Taking.{last_part}
 use Rattle.sja_serial.specs.Serial.{SerialValue, StandsAt}
 use Rattle.sja_log.proofs.OneNode.Registers.{kind_by}
-use Rattle.sja_traced.specs.KnownBits.{fate_by, kind_of}
+use Rattle.sja_traced.specs.Inside.KnownBits.{fate_by, kind_of}
 use Rattle.sja_traced.proofs.Receiving.Begun.{begun_abort, begun_bit, begun_both, begun_then, is_begun}
 use Rattle.sja_traced.proofs.Receiving.FreeThen.{free_then}
 use Rattle.sja_link.specs.Links.{stops_of}

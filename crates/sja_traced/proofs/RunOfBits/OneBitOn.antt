@@ -14,7 +14,7 @@ use Rattle.sja_script.specs.declared.done.Done.{Done}
 use Rattle.sja_link.specs.BitEntries.{HasOneBit, abort_as, judged_as, off_as}
 use Rattle.sja_serial.specs.Serial.{SerialValue}
 use Rattle.sja_serial.specs.UntilTold.{TellsBit}
-use Rattle.sja_replay.specs.Quiet.{IsQuiet}
+use Rattle.sja_replay.specs.Inside.Quiet.{IsQuiet}
 use Rattle.sja_traced.specs.Inside.Tracing.{BeginsAs, DoesOn, GoesOn, done_at}
 use Rattle.sja_wire.specs.Wire.{journal_at}
 

@@ -8,7 +8,7 @@ use Rattle.sja_plan.specs.Plan.{PlanValue}
 use Rattle.sja_replay.specs.declared.view.View.{View}
 use Rattle.sja_script.specs.Striking.{Strikes}
 use Rattle.sja_serial.specs.Serial.{SerialValue}
-use Rattle.sja_replay.specs.Knowing.{KnowsPlace}
+use Rattle.sja_replay.specs.Inside.Knowing.{KnowsPlace}
 use Rattle.sja_trace.proofs.BitSaid.SaidMute.{is_same}
 use Rattle.sja_traced.specs.Inside.Bits.{HasRun}
 use Rattle.sja_traced.specs.declared.node_trace.NodeTrace.{NodeTrace}

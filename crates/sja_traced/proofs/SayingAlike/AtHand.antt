@@ -3,6 +3,7 @@ use Rattle.std.proofs.Common.{◌≡◌, ℕ, ◌<◌, Bool, false, Some, None, 
 use Rattle.std.proofs.Common.{length, refl, sym, ap, ◌∙◌, subst, arith}
 use Rattle.std.specs.Prelude.{slice_index_or}
 use Rattle.std.proofs.lemmas.List.{length-map}
+use Rattle.lemmas.proofs.Lists.{some_of}
 use Rattle.sja_link.specs.Carried.{bits_of}
 use Rattle.can_bits.specs.declared.level.Level.{Level}
 use Rattle.can_bits.specs.Places.{are_same}
@@ -25,8 +26,8 @@ use Rattle.sja_replay.specs.Viewing.{IsView}
 use Rattle.sja_replay.specs.declared.happening.Happening.{Happening}
 use Rattle.sja_replay.specs.declared.view.View.{View}
 use Rattle.sja_serial.specs.Serial.{SerialValue}
-use Rattle.sja_replay.specs.Knowing.{Knows, KnowsPlace}
-use Rattle.sja_traced.specs.KnownBits.{IsOfTurn, fate_by, kind_of}
+use Rattle.sja_replay.specs.Inside.Knowing.{Knows, KnowsPlace}
+use Rattle.sja_traced.specs.Inside.KnownBits.{IsOfTurn, fate_by, kind_of}
 use Rattle.sja_traced.specs.Inside.Bits.{IsMuteAt, told_of, view_after}
 use Rattle.sja_traced.specs.Inside.Bits.IsMuteAt.{in_short, in_full}
 use Rattle.sja_traced.specs.Inside.Tracing.{BeginsAs, IsKnown}
@@ -42,11 +43,6 @@ use Rattle.sja_traced.proofs.KnownNode.ToldBits.{knows_after, told}
 use Rattle.sja_link.specs.BitEntries.{HasBit, abort_as}
 use Rattle.sja_wire.specs.Telling.{IsTurn}
 use Rattle.sja_wire.specs.Wire.{journal_at}
-
--- some node of a log
-pub some_node : (nodes : List NodeValue) (k : ℕ) → k < length nodes → NodeValue
-some_node [] k less = absurd (omega (arith, less))
-some_node (n ∷ nodes) k less = n
 
 -- ---- a bit that told nothing
 
@@ -74,7 +70,7 @@ module _ (plan : PlanValue) (r n : SerialValue) (k : ℕ) (less : k < length pla
   kk = journal_at n.bus.journals k
 
   node_in : (log : RunValue) → BeginsAs plan n log → NodeValue
-  node_in log b = let c = b.count in some_node log.nodes k (omega (arith, c, less))
+  node_in log b = let c = b.count in some_of log.nodes k (omega (arith, c, less))
 
   pub hand_mute : (driven seen : Level) → IsPassed j kk driven seen → IsMuteAt r.bits driven seen old hand →
       (are_same seen bus ≡ false → KnowsPlace j old.view) → HandAt plan r n bus k old hand

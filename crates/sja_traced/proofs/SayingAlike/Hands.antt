@@ -17,8 +17,8 @@ use Rattle.sja_trace.specs.BitEvents.{all_said, counters_text, bit_said}
 use Rattle.sja_trace.specs.Events.{is_flag, has_fault, said_if}
 use Rattle.sja_trace.specs.TraceText.{bit_line}
 use Rattle.sja_trace.specs.Inside.Hands.{driven_of, hand_line, happening_of}
-use Rattle.sja_replay.specs.Knowing.{Knows, KnowsPlace}
-use Rattle.sja_trace.specs.SayingAlike.{SaysAlike, IsShortOf}
+use Rattle.sja_replay.specs.Inside.Knowing.{Knows, KnowsPlace}
+use Rattle.sja_trace.specs.Inside.SayingAlike.{SaysAlike, IsShortOf}
 use Rattle.sja_traced.specs.Inside.Bits.{IsMuteAt, short_of, still_of, view_after}
 use Rattle.sja_traced.specs.Inside.Bits.IsMuteAt.{in_short, in_full}
 use Rattle.sja_traced.specs.Inside.Tracing.{CountSame}

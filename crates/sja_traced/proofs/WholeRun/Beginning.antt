@@ -15,7 +15,7 @@ use Rattle.sja_plan.specs.Plan.{PlanValue}
 use Rattle.sja_script.specs.declared.done.Done.{Done}
 use Rattle.sja_serial.specs.Serial.{SerialValue, StandsAt, TakesTurn}
 use Rattle.sja_link.specs.BitEntries.{HasMore, entries_of_items}
-use Rattle.sja_replay.specs.Quiet.{IsQuiet}
+use Rattle.sja_replay.specs.Inside.Quiet.{IsQuiet}
 use Rattle.sja_traced.proofs.WholeRun.Drivers.{done_of_deeds}
 use Rattle.sja_traced.specs.Inside.Tracing.{BeginsAs, DoesOn, GoesOn, done_at}
 use Rattle.sja_wire.specs.Wire.{journal_at}

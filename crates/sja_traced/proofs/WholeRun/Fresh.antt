@@ -23,7 +23,7 @@ use Rattle.sja_serial.specs.Serial.{SerialValue, StandsAt}
 use Rattle.sja_trace.specs.TraceText.{NodeStory, counters_left, lines_to}
 use Rattle.sja_traced.proofs.WholeRun.Drivers.{done_of_deeds}
 use Rattle.sja_traced.specs.Inside.Tracing.{IsKnown, IsTraced, NoneNoted, done_at}
-use Rattle.sja_replay.specs.Knowing.{Knows}
+use Rattle.sja_replay.specs.Inside.Knowing.{Knows}
 use Rattle.sja_traced.specs.declared.node_trace.NodeTrace.{NodeTrace}
 use Rattle.sja_traced.specs.declared.run_trace.RunTrace.{RunTrace}
 use Rattle.sja_wire.specs.Wire.{journal_at}

@@ -20,7 +20,7 @@ use Rattle.sja_serial.specs.Serial.{SerialValue, StandsAt, TakesTurn}
 use Rattle.sja_trace.specs.TraceText.{counters_left, lines_to}
 use Rattle.sja_traced.proofs.WholeRun.Beginning.{begins_before_turn, turn_did}
 use Rattle.sja_traced.specs.Inside.Tracing.{AreTold, IsKnown, IsTraced, done_at}
-use Rattle.sja_replay.specs.Knowing.{Knows}
+use Rattle.sja_replay.specs.Inside.Knowing.{Knows}
 use Rattle.sja_traced.specs.declared.node_trace.NodeTrace.{NodeTrace}
 use Rattle.sja_traced.specs.declared.run_trace.RunTrace.{RunTrace}
 use Rattle.sja_link.specs.BitEntries.{entries_of_items}

@@ -1,9 +1,10 @@
 -- A run is traced after a bit whose lines were written.
-use Rattle.std.proofs.Common.{◌≡◌, ℕ, suc, ◌+◌, ◌<◌, false, Option, Some, List, [], ◌∷◌, ◌++◌}
+use Rattle.std.proofs.Common.{◌≡◌, ℕ, suc, ◌+◌, ◌<◌, false, Option, Some, List, ◌++◌}
 use Rattle.std.proofs.Common.{drop, length, sym, ap, ap₂, ◌∙◌, subst, arith, inl, inr}
 use Rattle.std.specs.Prelude.{slice_get, slice_index_or, string_bytes}
 use Rattle.std.proofs.lemmas.Bool.{cases_lt}
 use Rattle.lemmas.proofs.Elements.{map_alike}
+use Rattle.lemmas.proofs.Lists.{some_of}
 use Rattle.can_bits.specs.declared.level.Level.{Level}
 use Rattle.can_node.specs.declared.counters.Counters.{Counters}
 use Rattle.sja_driver.specs.Deeds.{Deed}
@@ -21,7 +22,7 @@ use Rattle.sja_trace.specs.BitEvents.{all_said, counters_after}
 use Rattle.sja_trace.specs.TraceText.{NodeStory, steps_due, event_line, bit_line, node_lines, driven_in, bus_in}
 use Rattle.sja_trace.specs.TraceText.{bit_lines, counters_left, lines_to, steps_from}
 use Rattle.sja_trace.specs.Inside.Hands.{driven_of, hand_line}
-use Rattle.sja_replay.specs.Knowing.{Knows}
+use Rattle.sja_replay.specs.Inside.Knowing.{Knows}
 use Rattle.sja_traced.specs.Inside.Bits.{gone_on, levels_driven, node_text, view_after}
 use Rattle.sja_traced.specs.Inside.Tracing.{AreTold, BeginsAs, CountSame, DoesOn, HasStories, IsKnown, IsTraced}
 use Rattle.sja_traced.specs.Inside.Tracing.{done_at}
@@ -125,10 +126,6 @@ module _ (plan : PlanValue) (deeds : List (List Deed)) (r n : SerialValue) (t : 
         ∙ sym (line_said bus r.bits k hand.left hand.short hand.bit) in
         ap₂ (λ l m. l ++ m) (sym steps) (sym event)
 
-    some_node : (nodes : List NodeValue) (k : ℕ) → k < length nodes → NodeValue
-    some_node [] k less = absurd (omega (arith, less))
-    some_node (nv ∷ nodes) k less = nv
-
     -- the lines of the bit
     pub lines : numbered (node_text plan x bus r.bits) 0 hands ≡ bit_lines r.bits stories
     lines =
@@ -137,7 +134,7 @@ module _ (plan : PlanValue) (deeds : List (List Deed)) (r n : SerialValue) (t : 
         let same : k ≡ m = omega (arith, is) in
         subst (λ i. node_text plan x bus r.bits i (slice_index_or hands k d)
         ≡ node_lines bus r.bits i (slice_index_or stories k s)) same
-        (node_alike k d s (some_node log.nodes k (omega (arith, less, count, c))) (omega (arith, less, count))))
+        (node_alike k d s (some_of log.nodes k (omega (arith, less, count, c))) (omega (arith, less, count))))
         ∙ ap (λ l. numbered (node_lines l r.bits) 0 stories) (sym levels_alike)
 
   -- the text

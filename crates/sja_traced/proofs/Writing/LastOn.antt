@@ -23,8 +23,8 @@ use Rattle.sja_serial.specs.Serial.{SerialValue}
 use Rattle.sja_serial.specs.UntilTold.{KeepsTurn, NotesTurn}
 use Rattle.sja_trace.specs.TraceText.{counters_left, lines_to}
 use Rattle.sja_trace.specs.Inside.Hands.{driven_of}
-use Rattle.sja_replay.specs.Knowing.{Knows, KnowsPlace}
-use Rattle.sja_traced.specs.KnownBits.{kind_of}
+use Rattle.sja_replay.specs.Inside.Knowing.{Knows, KnowsPlace}
+use Rattle.sja_traced.specs.Inside.KnownBits.{kind_of}
 use Rattle.sja_traced.specs.Inside.Bits.{AreAtLast, HasRun, IsAtLast, PutsBit, levels_driven, node_text, told_of}
 use Rattle.sja_traced.specs.Inside.Bits.IsAtLast.{untold, told}
 use Rattle.sja_traced.specs.Inside.Tracing.{AreTold, BeginsAs, CountSame, DoesOn, GoesOn, IsKnown, IsTraced, done_at}

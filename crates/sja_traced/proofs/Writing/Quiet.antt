@@ -1,9 +1,10 @@
 -- A bit of which nothing is said: the trace is that of the run before it.
-use Rattle.std.proofs.Common.{◌≡◌, ℕ, suc, ◌+◌, ◌<◌, ◌≤◌, ◌&&◌, true, false, Some, List, [], ◌∷◌, ◌++◌, length}
+use Rattle.std.proofs.Common.{◌≡◌, ℕ, suc, ◌+◌, ◌<◌, ◌≤◌, ◌&&◌, true, false, Some, List, [], ◌++◌, length}
 use Rattle.std.proofs.Common.{sym, ap, ap₂, ◌∙◌, subst, arith, append-nil}
 use Rattle.std.specs.Prelude.{◌==◌, slice_get, slice_index_or}
 use Rattle.std.proofs.lemmas.Bool.{eqb-true, and_parts}
 use Rattle.lemmas.proofs.Elements.{map_is}
+use Rattle.lemmas.proofs.Lists.{some_of}
 use Rattle.can_bits.specs.declared.level.Level.{Level}
 use Rattle.can_bits.specs.declared.level.Level.TheVariants.{Recessive}
 use Rattle.can_node.specs.declared.counters.Counters.{Counters}
@@ -22,7 +23,6 @@ use Rattle.sja_traced.specs.Inside.Tracing.{done_at}
 use Rattle.sja_traced.specs.declared.node_trace.NodeTrace.{NodeTrace}
 use Rattle.sja_traced.specs.declared.run_trace.RunTrace.{RunTrace}
 use Rattle.sja_traced.proofs.Writing.AfterBit.{event_said}
-use Rattle.sja_traced.proofs.SayingAlike.AtHand.{some_node}
 use Rattle.sja_traced.proofs.KnownNode.Known.{bit_quiet}
 use Rattle.sja_traced.proofs.KnownNode.Muted.{Muted, knows_on, mute}
 use Rattle.sja_trace.proofs.Stories.LogStories.{stories_count, story_at}
@@ -76,10 +76,6 @@ module _ (plan : PlanValue) (t0 : RunTrace) (now : SerialValue) (bits : ℕ) (h 
   abbrev levels : List Level
   levels = (bit plan t0 now bits h p few).bit.driven
 
-  some_known : (nodes : List NodeTrace) (k : ℕ) → k < length nodes → NodeTrace
-  some_known [] k here = absurd (omega (arith, here))
-  some_known (x ∷ nodes) k here = x
-
   module _ (log : RunValue) (stories : List NodeStory) (b : BeginsAs plan n log)
       (hs : HasStories plan log stories) where
     before : BeginsAs plan r log
@@ -89,10 +85,10 @@ module _ (plan : PlanValue) (t0 : RunTrace) (now : SerialValue) (bits : ℕ) (h 
     stories_are = stories_count 0 plan log.nodes stories hs.are ∙ b.count
 
     node_there : (k : ℕ) → k < length plan.nodes → NodeValue
-    node_there k here = let c = b.count in some_node log.nodes k (omega (arith, c, here))
+    node_there k here = let c = b.count in some_of log.nodes k (omega (arith, c, here))
 
     known_there : (k : ℕ) → k < length plan.nodes → NodeTrace
-    known_there k here = let c = traced.count in some_known trace.nodes.items k (omega (arith, c, here))
+    known_there k here = let c = traced.count in some_of trace.nodes.items k (omega (arith, c, here))
 
     muted : (k : ℕ) (d : NodeTrace) (s : NodeStory) (here : k < length plan.nodes) →
         Muted (slice_index_or trace.nodes.items k d).view (driven plan t0 now bits h p k few here)

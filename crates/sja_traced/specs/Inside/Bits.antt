@@ -30,8 +30,8 @@ use Rattle.sja_trace.specs.BitEvents.{have_same}
 use Rattle.sja_trace.specs.Events.{is_dominant, is_frame}
 use Rattle.sja_trace.specs.TraceText.{steps_from}
 use Rattle.sja_trace.specs.Inside.Hands.{driven_of, hand_line}
-use Rattle.sja_replay.specs.Knowing.{KnowsPlace}
-use Rattle.sja_traced.specs.KnownBits.{held_before, fate_by}
+use Rattle.sja_replay.specs.Inside.Knowing.{KnowsPlace}
+use Rattle.sja_traced.specs.Inside.KnownBits.{held_before, fate_by}
 use Rattle.sja_traced.specs.declared.node_trace.NodeTrace.{NodeTrace}
 use Rattle.sja_traced.specs.declared.run_trace.RunTrace.{RunTrace}
 use Rattle.sja_traced.specs.Inside.Tracing.{IsTraced, done_at}
@@ -40,13 +40,13 @@ use Rattle.sja_wire.specs.Wire.{wired, journal_at}
 
 -- ---- of what bits nothing is said
 
--- neither may a frame begin with such a bit that told nothing, nor is it acknowledged: of a bit with these levels
--- nothing is said then
+-- nothing is said of a bit with these levels that told nothing: on an idle bus both are recessive, so that no frame
+-- begins with it, and in a frame of another the node drives no dominant level, so that it acknowledges nothing
 pub record IsPlain (v : View) (driven seen : Level) : Type 0 where
   pub no_start : v.phase ≡ Idle → (driven ≡ Recessive) × (seen ≡ Recessive)
   pub no_acknowledgement : (is_frame v.phase && not v.transmits && is_dominant driven) ≡ false
 
--- so it is with each bit whose entry has a number from one up to another one
+-- so it is with each bit whose entry in the journal has a number from one up to another one
 abbrev pub ArePlain : View → List Entry → ℕ → ℕ → Type 0
 ArePlain v j from to = (i : ℕ) (driven seen : Level) → from ≤ i → i < to →
     slice_get j i ≡ Some (Bit driven seen) → IsPlain v driven seen

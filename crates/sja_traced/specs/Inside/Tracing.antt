@@ -12,9 +12,9 @@ use Rattle.sja_log.specs.Log.{NodeValue, RunValue, journals_in}
 use Rattle.sja_plan.specs.Plan.{PlanValue}
 use Rattle.sja_script.specs.declared.done.Done.{Done}
 use Rattle.sja_serial.specs.Serial.{SerialValue}
-use Rattle.sja_replay.specs.Quiet.{IsQuiet}
+use Rattle.sja_replay.specs.Inside.Quiet.{IsQuiet}
 use Rattle.sja_trace.specs.TraceText.{NodeStory, AreStories, counters_left, lines_to}
-use Rattle.sja_replay.specs.Knowing.{Knows, AreAll}
+use Rattle.sja_replay.specs.Inside.Knowing.{Knows, AreAll}
 use Rattle.sja_traced.specs.declared.node_trace.NodeTrace.{NodeTrace}
 use Rattle.sja_traced.specs.declared.run_trace.RunTrace.{RunTrace}
 use Rattle.sja_wire.specs.Lawful.{IsBusRun}

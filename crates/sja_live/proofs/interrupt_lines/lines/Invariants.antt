@@ -3,7 +3,7 @@ use Rattle.sja_driver.specs.Deeds.{Deed}
 use Rattle.sja_live.specs.Answering.{lines_from}
 use Rattle.sja_driver_session.specs.Bits.{IsStillIn, line_in}
 use Rattle.sja_driver_session.specs.DriverSessions.{node_count}
-use Rattle.sja_live.specs.Calls.{IsLiveAt}
+use Rattle.sja_live.specs.Inside.Standing.{IsLiveAt}
 use Rattle.sja_live.proofs.interrupt_lines.lines.Given as goal
 
 -- nothing happened, and the lines of so many nodes, the last ones, are told

@@ -1,5 +1,5 @@
 use Rattle.std.specs.Prelude.{Option}
-use Rattle.sja_live.specs.Calls.{IsLive}
+use Rattle.sja_live.specs.Inside.Standing.{IsLive}
 use Rattle.sja_live.specs.Inside.Going.{Goes, IsBegun}
 use Rattle.sja_live.proofs.talking.answer_lines.Given as goal
 use Rattle.sja_plan.specs.Words.{Text}

@@ -1,5 +1,8 @@
 use Rattle.std.proofs.Common.{ℕ, ◌≤◌, ap, ◌∙◌, arith}
+use Rattle.sja_log.specs.Log.{NodeValue}
+use Rattle.sja_picture.specs.declared.node_rows.NodeRows.{NodeRows}
 use Rattle.sja_picture.specs.declared.span.Span.{Span}
+use Rattle.sja_picture.specs.Inside.Drawing.{IsFresh}
 use Rattle.sja_picture.specs.PictureText.{picture_text, end_after}
 use Rattle.sja_picture.proofs.NodeRows.Fresh.{lent_first}
 use Rattle.sja_picture.proofs.WholePage.Pages.{page_first, page_whole, beside}
@@ -22,7 +25,8 @@ finish_all-requires c = knows_underway _ _ _ _ c.loop-bit.invariant
 pub take-requires-clause-beside : goal.take-requires-clause-beside
 take-requires-clause-beside c =
     let begun = lent_first _ _ _ _ c.nodes.ensures c.as_mut_slice-tellers.ensures.value c.in_ok-all.ensures in
-    let same = beside c.args.log.now.nodes _ c.args.rows.now begun c.requires in
+    let same = beside (λ (n : NodeValue) (x : NodeRows). IsFresh x) c.args.log.now.nodes _ c.args.rows.now begun
+    c.requires in
     omega (arith, same)
 
 pub returns : goal.returns

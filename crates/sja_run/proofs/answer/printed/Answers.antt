@@ -1,6 +1,6 @@
 use Rattle.std.proofs.Common.{◌≡◌, false}
 use Rattle.std.proofs.lemmas.Result.{IfOk-weaker}
-use Rattle.sja_words.specs.Words.{request_of}
+use Rattle.sja_words.specs.Requests.{request_of}
 use Rattle.sja_run.specs.Answer.{request_for}
 use Rattle.sja_run.proofs.Requested.Requests.{once_printed}
 use Rattle.sja_run.proofs.answer.printed.Goals as goal

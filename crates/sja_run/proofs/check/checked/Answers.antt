@@ -1,5 +1,5 @@
 use Rattle.std.proofs.Common.{subst}
-use Rattle.sja_run.specs.Check.{IsSaidOf}
+use Rattle.sja_run.specs.Inside.Answers.{IsSaidOf}
 use Rattle.sja_run.proofs.PlanAnswers.PlanRuns.{said_of_input}
 use Rattle.sja_run.proofs.check.checked.Goals as goal
 

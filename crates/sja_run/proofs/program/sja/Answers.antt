@@ -1,7 +1,7 @@
 use Rattle.std.proofs.Common.{◌≡◌, ap, map, subst, sym, inl, inr}
 use Rattle.std.specs.Io.KnownBytes.{Keeps}
 use Rattle.std.proofs.KnownBytes.{Keeps-refl}
-use Rattle.sja_words.specs.Words.{files, live}
+use Rattle.sja_words.specs.Requests.{files, live}
 use Rattle.sja_run.specs.Answer.{AsksForOne, request_left}
 use Rattle.sja_run.proofs.FilesDone.FileSteps.{files_from, files_unread}
 use Rattle.sja_run.proofs.Requested.Requests.{asks_left, asks_one, is_left_over, left_shows, one_left, shows_from}

@@ -1,5 +1,5 @@
 use Rattle.std.proofs.Common.{rules, inl, inr, ap, sym, ◌∙◌, Some}
-use Rattle.sja_words.specs.Words.{request_of}
+use Rattle.sja_words.specs.Requests.{request_of}
 use Rattle.sja_texts.specs.declared.command_refusal.CommandRefusal.TheVariants as refusal
 use Rattle.sja_run.proofs.BytesRead.FewBytes.{unread}
 use Rattle.sja_run.proofs.Requested.RefusedMemory.{memory_refused}

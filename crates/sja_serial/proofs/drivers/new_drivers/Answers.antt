@@ -3,7 +3,7 @@ use Rattle.sja_driver.specs.declared.logged_driver.LoggedDriver.{LoggedDriver}
 use Rattle.sja_driver.specs.declared.work_log.WorkLog.{WorkLog}
 use Rattle.sja_script.specs.declared.step.Step.{Step}
 use Rattle.sja_driver.specs.Logs.{IsEmpty, HasRoom}
-use Rattle.sja_log.specs.NewDrivers.{IsNewDriver, AreNew}
+use Rattle.sja_log.specs.Inside.NewDrivers.{IsNewDriver, AreNew}
 use Rattle.sja_plan.specs.Plan.{steps_at}
 use Rattle.sja_log.proofs.OneNode.Newly.{new_push}
 use Rattle.sja_serial.proofs.drivers.new_drivers.Goals as goal

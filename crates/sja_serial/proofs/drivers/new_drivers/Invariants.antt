@@ -1,5 +1,5 @@
 use Rattle.std.proofs.Common.{◌≡◌, ◌≤◌, vec_capacity, length}
-use Rattle.sja_log.specs.NewDrivers.{AreNew}
+use Rattle.sja_log.specs.Inside.NewDrivers.{AreNew}
 use Rattle.sja_serial.proofs.drivers.new_drivers.Given as goal
 
 abbrev pub invariant-loop-node : goal.invariant-loop-node

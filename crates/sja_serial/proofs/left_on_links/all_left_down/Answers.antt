@@ -1,7 +1,7 @@
 use Rattle.std.proofs.Common.{◌≡◌, ◌++◌, List, subst, sym}
 use Rattle.std.specs.Vec.Iter.{into_iter_items}
 use Rattle.sja_link.specs.declared.down.Down.{Down}
-use Rattle.sja_log.specs.Finishing.{all_down}
+use Rattle.sja_log.specs.Inside.LeftDown.{all_down}
 use Rattle.sja_log.proofs.Account.OffLinks.{down_next, gathers_more}
 use Rattle.sja_serial.proofs.left_on_links.all_left_down.Goals as goal
 

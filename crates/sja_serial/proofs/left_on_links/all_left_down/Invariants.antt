@@ -1,6 +1,6 @@
 use Rattle.std.proofs.Common.{◌≡◌, ◌++◌}
 use Rattle.std.specs.Vec.Iter.{into_iter_items}
-use Rattle.sja_log.specs.Finishing.{all_down}
+use Rattle.sja_log.specs.Inside.LeftDown.{all_down}
 use Rattle.sja_serial.proofs.left_on_links.all_left_down.Given as goal
 
 -- what was gathered, and what lies on the links that are left, are the whole

@@ -1,7 +1,7 @@
 use Rattle.std.proofs.Common.{true, refl, length, sym, subst}
 use Rattle.sja_plan.specs.Plan.{NamesNode}
 use Rattle.sja_plan.specs.declared.turn.Turn.{Turn}
-use Rattle.sja_serial.specs.Ending.{TakesOne}
+use Rattle.sja_serial.specs.Inside.Going.{TakesOne}
 use Rattle.sja_serial.proofs.run.take_one.Goals as goal
 
 pub node_turn-requires-clause-node : goal.node_turn-requires-clause-node

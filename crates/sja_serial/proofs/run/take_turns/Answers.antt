@@ -3,7 +3,7 @@ use Rattle.sja_plan.specs.Plan.{PlanValue}
 use Rattle.sja_plan.specs.declared.turn.Turn.TheVariants.{Bus}
 use Rattle.sja_log.specs.declared.end.End.{End}
 use Rattle.sja_log.specs.declared.end.End.TheVariants.{Turns as TurnsDone, Rest as AtRest, Bits as BitsSpent}
-use Rattle.sja_serial.specs.Ending.{TakesTurns}
+use Rattle.sja_serial.specs.Inside.Going.{TakesTurns}
 use Rattle.sja_serial.specs.Serial.{SerialValue}
 use Rattle.sja_serial.proofs.WholeRun.Coming.{come_first}
 use Rattle.sja_serial.proofs.WholeRun.NextTurn.{come_next, end_next, end_turns}

@@ -1,10 +1,14 @@
 use Rattle.std.proofs.Common.{◌≡◌, ℕ, ◌-◌, ap, ◌∙◌, arith}
 use Rattle.sja_picture.specs.declared.span.Span.{Span}
 use Rattle.sja_picture.specs.PictureText.{end_after}
+use Rattle.sja_log.specs.Log.{NodeValue}
 use Rattle.sja_picture.proofs.NodeRows.Fresh.{lent_first}
+use Rattle.sja_picture.proofs.WholePage.Pages.{beside}
 use Rattle.sja_picture.proofs.NodeRows.Stories.{knows_next, knows_underway, knows_all}
+use Rattle.sja_svg.specs.declared.lane.Lane.{Lane}
 use Rattle.sja_svg.specs.DrawingText.{sheet_text}
-use Rattle.sja_svg.proofs.Sheets.{sheet_first, sheet_whole, beside}
+use Rattle.sja_svg.specs.Inside.Drawing.{IsFresh}
+use Rattle.sja_svg.proofs.Sheets.{sheet_first, sheet_whole}
 use Rattle.sja_svg.proofs.drawing_text.drawn.Goals as goal
 
 pub loop-bit-init : goal.loop-bit-init
@@ -23,7 +27,8 @@ finish_all-requires c = knows_underway _ _ _ _ c.loop-bit.invariant
 pub take-requires : goal.take-requires
 take-requires c =
     let begun = lent_first _ _ _ _ c.nodes.ensures c.as_mut_slice-tellers.ensures.value c.in_ok-all.ensures in
-    let same = beside c.args.log.now.nodes _ c.args.lanes.now begun c.requires in
+    let same = beside (λ (n : NodeValue) (x : Lane). IsFresh x) c.args.log.now.nodes _ c.args.lanes.now begun
+    c.requires in
     omega (arith, same)
 
 pub returns : goal.returns

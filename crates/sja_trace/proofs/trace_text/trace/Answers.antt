@@ -1,7 +1,14 @@
-use Rattle.std.proofs.Common.{◌≡◌, ◌+◌, suc, [], length, string_bytes, rules, arith}
+use Rattle.std.proofs.Common.{◌≡◌, ◌+◌, ◌++◌, ◌∙◌, ℕ, suc, List, [], length, string_bytes, ap, rules, arith}
+use Rattle.sja_trace.specs.declared.teller.Teller.{Teller}
+use Rattle.sja_trace.specs.Inside.Passing.{hands_text}
 use Rattle.sja_trace.proofs.Stories.WrittenBack.{back_more, lent_underway, back_all}
 use Rattle.sja_trace.proofs.Stories.Passed.{comes_first}
 use Rattle.sja_trace.proofs.trace_text.trace.Goals as goal
+
+-- what is written is of this bit
+text_of : (tellers : List Teller) (was now : List ℕ) (n bit : ℕ) → now ≡ was ++ hands_text n tellers → n ≡ bit →
+    now ≡ was ++ hands_text bit tellers
+text_of tellers was now n bit wrote same = wrote ∙ ap (λ k. was ++ hands_text k tellers) same
 
 pub loop-bit-init : goal.loop-bit-init
 loop-bit-init c =
@@ -14,7 +21,8 @@ loop-bit-preserved c =
     let all : t.len ≡ length t.items = search rules in
     back_more _ _ c.loop-bit.bit (c.loop-bit.bit + 1) t.len t.items c.as_mut_slice.result.now c.pass_on_all.new.tellers
     c.as_slice.result.now _ _ all c.as_mut_slice.ensures.value c.pass_on_all.auto.tellers c.as_slice.ensures.value
-    c.loop-bit.invariant c.pass_on_all.ensures c.in_ok-put_bit.ensures.text one
+    c.loop-bit.invariant c.pass_on_all.ensures
+    (text_of c.as_slice.result.now _ _ _ c.loop-bit.bit c.in_ok-put_bit.ensures.text (omega arith)) one
 
 pub finish_all-requires : goal.finish_all-requires
 finish_all-requires c = lent_underway _ _ _ _ _ _ c.as_mut_slice-2.ensures.value c.loop-bit.invariant

@@ -1,6 +1,7 @@
 use Rattle.std.proofs.Common.{sym, subst}
 use Rattle.sja_serial.specs.Bits.{AllRestIn, SomeWorks}
-use Rattle.sja_serial.specs.Serial.{SerialValue, StandsAt, run_now}
+use Rattle.sja_serial.specs.Serial.{SerialValue, StandsAt}
+use Rattle.sja_serial.specs.Inside.Going.{run_now}
 use Rattle.sja_serial.proofs.ManyBits.SomeBits.{all_rest, some_works}
 use Rattle.sja_serial.proofs.serial_run.SerialRun.at_rest.Goals as goal
 

@@ -6,9 +6,11 @@ use Rattle.sja_driver.specs.declared.logged_driver.LoggedDriver.{LoggedDriver}
 use Rattle.sja_driver.specs.Deeds.{Deed}
 use Rattle.sja_driver.specs.LoggedDrivers.{IsLawful}
 use Rattle.sja_log.specs.Log.{NodeValue, RunValue}
-use Rattle.sja_log.specs.Finishing.{all_down, AreNodeEnds}
+use Rattle.sja_log.specs.Finishing.{AreNodeEnds}
+use Rattle.sja_log.specs.Inside.LeftDown.{all_down}
 use Rattle.sja_serial.specs.Ending.{IsLogOf}
-use Rattle.sja_serial.specs.Serial.{SerialValue, StandsAt, run_now}
+use Rattle.sja_serial.specs.Serial.{SerialValue, StandsAt}
+use Rattle.sja_serial.specs.Inside.Going.{run_now}
 use Rattle.sja_serial.proofs.WholeRun.Ended.{log_of_run}
 use Rattle.sja_serial.proofs.serial_run.SerialRun.finish.Goals as goal
 

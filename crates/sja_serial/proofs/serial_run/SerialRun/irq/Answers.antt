@@ -8,7 +8,8 @@ use Rattle.sja_link.specs.Deques.{Deques, Lies}
 use Rattle.sja_log.specs.Registering.{seen_now}
 use Rattle.sja_wire.specs.Wire.{journal_at}
 use Rattle.sja_regs.specs.InterruptLine.{is_line_active}
-use Rattle.sja_serial.specs.Serial.{run_now, StandsAt}
+use Rattle.sja_serial.specs.Serial.{StandsAt}
+use Rattle.sja_serial.specs.Inside.Going.{run_now}
 use Rattle.sja_serial.proofs.ManyBits.Borrowed.{run_is, stands_there}
 use Rattle.sja_serial.proofs.OneNode.Observed.{stands, line_is}
 use Rattle.sja_log.proofs.OneNode.Trying.{alike, shows_none}

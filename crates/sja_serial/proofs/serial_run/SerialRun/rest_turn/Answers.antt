@@ -1,7 +1,8 @@
 use Rattle.std.specs.Prelude.{◌⊎◌}
 use Rattle.std.proofs.Common.{◌≡◌, ◌≤◌, refl, sym, subst, arith, inl, inr}
 use Rattle.sja_serial.specs.Bits.{AllRestIn, SomeWorks}
-use Rattle.sja_serial.specs.Serial.{SerialValue, StandsAt, run_now}
+use Rattle.sja_serial.specs.Serial.{SerialValue, StandsAt}
+use Rattle.sja_serial.specs.Inside.Going.{run_now}
 use Rattle.sja_serial.proofs.WholeRun.GoingOn.{stands_bits}
 use Rattle.sja_serial.proofs.ManyBits.SomeBits.{all_rest, some_works, rest_so}
 use Rattle.sja_serial.proofs.serial_run.SerialRun.rest_turn.Goals as goal

@@ -1,8 +1,8 @@
 use Rattle.std.proofs.Common.{rules, ◌≡◌, ℕ, ◌+◌, refl, ap, ◌∙◌, arith}
 use Rattle.std.specs.Prelude.{Ok}
 use Rattle.std.proofs.lemmas.List.{with_items_is}
-use Rattle.sja_serial.specs.Bits.{TakesAtOnce}
-use Rattle.sja_serial.specs.Serial.{SerialValue, run_now}
+use Rattle.sja_serial.specs.Inside.Going.{TakesAtOnce, run_now}
+use Rattle.sja_serial.specs.Serial.{SerialValue}
 use Rattle.sja_bus.proofs.AtPorts.OtherWords.{noted_stretch}
 use Rattle.sja_serial.proofs.ManyBits.AtOnce.{takes_at_once}
 use Rattle.sja_serial.proofs.ManyBits.Borrowed.{stands_there, lawful_there, put_back}

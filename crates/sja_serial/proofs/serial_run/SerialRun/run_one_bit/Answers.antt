@@ -1,7 +1,7 @@
 use Rattle.std.proofs.Common.{◌+◌, length, refl, arith}
 use Rattle.std.proofs.lemmas.List.{with_items_is}
 use Rattle.sja_bus.specs.Boards.{HasOrders}
-use Rattle.sja_serial.specs.Serial.{run_now}
+use Rattle.sja_serial.specs.Inside.Going.{run_now}
 use Rattle.sja_serial.specs.UntilTold.{TellsBit}
 use Rattle.sja_bus.proofs.AtPorts.OtherWords.{noted_bit}
 use Rattle.sja_serial.proofs.ManyBits.BitRun.{cuts_of, tells_bit}

@@ -7,7 +7,8 @@ use Rattle.sja_plan.specs.Plan.{PlanValue, steps_at}
 use Rattle.sja_script.specs.declared.step.Step.{Step}
 use Rattle.sja_driver.specs.Deeds.{Deed, deeds_at}
 use Rattle.sja_driver.specs.Logs.{done_in}
-use Rattle.sja_serial.specs.Serial.{SerialValue, run_now, StandsAt, CannotStep}
+use Rattle.sja_serial.specs.Serial.{SerialValue, StandsAt, CannotStep}
+use Rattle.sja_serial.specs.Inside.Going.{run_now}
 use Rattle.sja_serial.proofs.OneNode.NextStep.{tried_at, at_port, steps_done, node_at, none_refused, is_tried}
 use Rattle.sja_serial.proofs.OneNode.NextStep.{is_tried_quietly}
 use Rattle.sja_serial.proofs.OneNode.Tried.{IsTried}

@@ -1,7 +1,8 @@
 use Rattle.std.proofs.Common.{◌∙◌, sym, ap, subst}
 use Rattle.sja_plan.specs.Plan.{PlanValue}
 use Rattle.sja_log.specs.declared.end.End.TheVariants.{Turns as TurnsDone}
-use Rattle.sja_serial.specs.Ending.{TakesTurns, IsLogOf}
+use Rattle.sja_serial.specs.Ending.{IsLogOf}
+use Rattle.sja_serial.specs.Inside.Going.{TakesTurns}
 use Rattle.sja_serial.specs.Serial.{StandsAt}
 use Rattle.sja_serial.proofs.WholeRun.Whole.{serial_of}
 use Rattle.sja_session.specs.Sessions.{SessionValue, session_of, IsAt, written}

@@ -1,10 +1,12 @@
-use Rattle.std.proofs.Common.{rules, ◌≡◌, ◌<◌, ℕ, List, length, vec_capacity, sym, ap, ◌∙◌, subst, arith}
+use Rattle.std.proofs.Common.{rules, ◌≡◌, ◌<◌, ◌+◌, ℕ, List, length, vec_capacity, sym, ap, ◌∙◌, subst, arith}
 use Rattle.std.specs.Prelude.{Option, Result, Ok, Err, slice_index_or, unwrap_or}
 use Rattle.sja_plan.specs.declared.turn.Turn.{Turn}
+use Rattle.sja_plan.specs.declared.turn.Turn.TheVariants.{Node}
 use Rattle.sja_plan.specs.Growing.{with_step}
 use Rattle.sja_plan.specs.Plan.{PlanValue, steps_at}
-use Rattle.sja_script.specs.declared.done.Done.{Done}
+use Rattle.sja_script.specs.declared.done.Done.{Done as StepDone}
 use Rattle.sja_script.specs.declared.step_answer.StepAnswer.{StepAnswer}
+use Rattle.sja_script.specs.declared.step_answer.StepAnswer.TheVariants.{Done}
 use Rattle.sja_driver.specs.Deeds.{Deed, deeds_at}
 use Rattle.sja_driver.specs.LoggedDrivers.{log_of}
 use Rattle.sja_driver.specs.Logs.{done_in}
@@ -17,6 +19,7 @@ use Rattle.sja_session.specs.declared.step_fault.StepFault.{StepFault}
 use Rattle.sja_session.specs.Answering.{last_of}
 use Rattle.sja_session.specs.Sessions.{SessionValue, session_of, IsAt, IsSession}
 use Rattle.sja_session.specs.Stepping.{MayStep, DoesStep, Waits, steps_done_of}
+use Rattle.sja_session.specs.Turning.{with_turn}
 use Rattle.sja_session.proofs.WrittenPlan.Plans.{stands_placed}
 use Rattle.sja_session.proofs.StepsDone.Stepped.{answer_is, does_step, waits_step}
 use Rattle.sja_session.proofs.StepsDone.StepAnswered.{after_done, after_waiting}
@@ -30,6 +33,21 @@ abbrev answer_in : Result Answered StepFault → StepAnswer → StepAnswer
 answer_in (Ok (Answer a)) other = a
 answer_in (Ok HasToWait) other = other
 answer_in (Err fault) other = other
+
+-- the number of what a call says: 0 where the step has to wait
+abbrev number_of : StepAnswer → ℕ
+number_of Done = 1
+number_of other = 2
+
+abbrev number_in : Result Answered StepFault → ℕ
+number_in (Ok HasToWait) = 0
+number_in (Ok (Answer a)) = number_of a + 1
+number_in (Err fault) = 0
+
+-- the turn that is taken is one of this node
+turn_of : (was now : List Turn) (n node : ℕ) → now ≡ with_turn was (Node n 1) → n ≡ node →
+    now ≡ with_turn was (Node node 1)
+turn_of was now n node taken own = taken ∙ ap (λ k. with_turn was (Node k 1)) own
 
 -- ---- the session as it was, and the step that was set
 
@@ -151,7 +169,7 @@ invariant_of-self-2 c =
     (vec_capacity c.self.inside.turns)) (sym (set_is at))
     (subst (λ (l : List Turn). IsSession (session_of c.self.inside.room c.try_next.new.self (then at) l)
     (vec_capacity c.self.inside.turns))
-    (sym c.push_turn.ensures.turns)
+    (sym (turn_of c.self.inside.turns.items _ _ c.args.node c.push_turn.ensures.turns (omega arith)))
     (after_done c.self.inside.plan c.self.inside.run c.try_next.new.self c.self.inside.turns.items c.args.node
     c.done-at.result c.args.step (vec_capacity c.self.inside.turns) inv (may at).there
     (at_is at inv.deeds inv.at) (long at) (may at).turn t)))
@@ -166,7 +184,7 @@ returns-clause-done c = λ answer e deeds h.
     let x = first_driver c.self.inside.run.drivers (omega (arith, k, m)) in
     let some = answer_is c.self.inside.plan c.self.inside.run c.try_next.new.self c.self.inside.turns.items deeds
     c.args.node c.done-at.result c.args.step (may at).there (at_is at deeds own) (long at) own t x in
-    let log = λ (n : ℕ). last_of (λ (y : Done). y.answer)
+    let log = λ (n : ℕ). last_of (λ (y : StepDone). y.answer)
     (done_in (log_of (slice_index_or c.try_next.new.self.drivers n x))) in
     let whole = sym some ∙ sym (ap log (node_is at)) ∙ sym (c.last_answer.ensures x) ∙ c.in-Some.is in
     let same : t.deed.answer ≡ answer = ap (λ (o : Option StepAnswer). unwrap_or o answer) whole
@@ -177,11 +195,11 @@ returns-clause-done c = λ answer e deeds h.
     c.push_turn.new.turns.items) c.args.node c.args.step answer deeds) (sym (set_is at))
     (subst (λ (l : List Turn). DoesStep (was at) (session_of c.self.inside.room c.try_next.new.self (then at) l)
     c.args.node c.args.step
-    answer deeds) (sym c.push_turn.ensures.turns)
+    answer deeds)
+    (sym (turn_of c.self.inside.turns.items _ _ c.args.node c.push_turn.ensures.turns (omega arith)))
     (does_step c.self.inside.plan c.self.inside.run c.try_next.new.self c.self.inside.turns.items deeds c.args.node
     c.done-at.result c.args.step (may at).there (at_is at deeds own) (long at) own t answer same)))
 
 -- a step that has to wait has no answer
 pub returns-then-not-try_next-clause-done : goal.returns-then-not-try_next-clause-done
-returns-then-not-try_next-clause-done c = λ answer is.
-    let none : Ok HasToWait ≡ Ok (Answer answer) = is in absurd cc
+returns-then-not-try_next-clause-done c = λ answer is. absurd (omega (arith, ap number_in is))

@@ -1,11 +1,28 @@
-use Rattle.std.proofs.Common.{rules, ◌≤◌, List, length, sym, ◌∙◌, subst, arith, inr}
+use Rattle.std.proofs.Common.{rules, ◌≡◌, ◌≤◌, ◌&&◌, ℕ, Bool, true, false, List, length}
+use Rattle.std.proofs.Common.{refl, sym, ◌∙◌, subst, arith, inr}
+use Rattle.std.specs.Prelude.{slice_index_or}
+use Rattle.can_frame.specs.Message.{bit}
 use Rattle.sja_driver.specs.Deeds.{Deed}
 use Rattle.sja_session.specs.Running.{MayRun}
 use Rattle.sja_session.specs.Sessions.{SessionValue, IsAt}
+use Rattle.sja_session.specs.Inside.Risen.{risen}
+use Rattle.sja_session.specs.Watching.{rise}
 use Rattle.sja_session.specs.Watching.NoneRose.{none as no_bit}
 use Rattle.sja_session.proofs.WatchedBits.QuietBits.{line_still, may_one, may_still, nodes_same, quiet_at, quiet_bits}
 use Rattle.sja_session.proofs.WatchedBits.Stretches.{none_rises, one_rises}
 use Rattle.sja_session.proofs.session.Session.watch.Goals as goal
+
+-- what rose is so now
+is_now : (watched before now : Bool) → (watched && rise before now) ≡ true → bit now ≡ 1
+is_now true false true h = refl
+is_now true false false h = cc
+is_now true true now h = cc
+is_now false before now h = cc
+
+place_now : (watched before now : List Bool) (k : ℕ) → risen watched before now k ≡ true →
+    bit (slice_index_or now k false) ≡ 1
+place_now watched before now k rose =
+    is_now (slice_index_or watched k false) (slice_index_or before k false) (slice_index_or now k false) rose
 
 pub loop-bits-init : goal.loop-bits-init
 loop-bits-init c =
@@ -27,11 +44,14 @@ returns-else-bits-clause-watches c = λ deeds h.
     let spent = subst (λ (s : SessionValue). s.plan.bits ≤ s.run.bits) c.self-in-loop-bits.view_is own in
     let p = quiet_bits q in (q, most, inr (omega (arith, spent, p)))
 
+-- `active` proves nothing here: by it a wrong body is refused with values
 pub returns-in-Some-clause-watches : goal.returns-in-Some-clause-watches
 returns-in-Some-clause-watches c = λ deeds h.
     let inv = c.loop-bits.invariant in let q = inv.ran deeds h in
     let u = c.run_until_told-bits.ensures.ran deeds (quiet_at q) in
     let rose = c.in-Some.ensures in
+    let active : bit (slice_index_or c.lines-now.result c.in-Some.node false) ≡ 1 =
+    omega (arith, place_now _ _ _ c.in-Some.node rose.some.0) in
     let few = c.run_until_told-bits.ensures.most in let most = inv.most in (
       one_rises c.loop-bits.before c.lines-now.result h q u (inv.told deeds h)
           (c.lines-now.ensures.lines deeds u.bit.at) c.lines-now.new.self (c.lines-now.ensures.still deeds u.bit.at)

@@ -1,5 +1,5 @@
 use Rattle.sja_replay.specs.Coming.{left_in}
-use Rattle.sja_trace.specs.Telling.{IsFinishing}
+use Rattle.sja_trace.specs.Inside.Finishing.{IsFinishing}
 use Rattle.sja_trace.proofs.node_bits.NodeBits.finish.Given as goal
 
 -- several bits more were told

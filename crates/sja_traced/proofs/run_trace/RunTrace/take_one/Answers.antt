@@ -3,7 +3,7 @@ use Rattle.std.specs.Prelude.{IfOk}
 use Rattle.sja_driver.specs.Deeds.{Deed}
 use Rattle.sja_plan.specs.Plan.{NamesNode}
 use Rattle.sja_plan.specs.declared.turn.Turn.{Turn}
-use Rattle.sja_serial.specs.Ending.{TakesOne}
+use Rattle.sja_serial.specs.Inside.Going.{TakesOne}
 use Rattle.sja_serial.specs.Serial.{StandsAt}
 use Rattle.sja_traced.proofs.run_trace.RunTrace.take_one.Goals as goal
 

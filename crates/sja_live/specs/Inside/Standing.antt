@@ -5,12 +5,19 @@ use Rattle.sja_driver.specs.Deeds.{Deed}
 use Rattle.sja_driver_session.specs.DriverSessions.{StandsIn, session_of, version_of, written}
 use Rattle.sja_driver_session.specs.declared.driver_session.DriverSession.{DriverSession}
 use Rattle.sja_driver_session.specs.declared.driver_session.DriverSession.TheVariants.{Typed, Accesses}
+use Rattle.sja_live.specs.Answering.{Answers}
+use Rattle.sja_live.specs.declared.live_answer.LiveAnswer.{LiveAnswer}
+use Rattle.sja_live.specs.declared.live_command.LiveCommand.{LiveCommand}
 use Rattle.sja_plan.specs.Limits.{most_steps_told}
 use Rattle.sja_plan.specs.Words.{greatest}
 use Rattle.sja_plan.specs.declared.turn.Turn.{Turn}
 use Rattle.sja_plan.specs.declared.turn.Turn.TheVariants.{Bus, Rest, Node}
 use Rattle.sja_plan_text.specs.HasTexts.{HasStepText, HasStrikeText}
 use Rattle.sja_script.specs.declared.step.Step.{Step}
+use Rattle.sja_driver_session.specs.Beginning.{told_room}
+use Rattle.sja_live.specs.declared.opening.Opening.{Opening}
+use Rattle.sja_session.specs.Beginning.{MayBegin, IsSessionFault}
+use Rattle.sja_session.specs.declared.session_fault.SessionFault.{SessionFault}
 
 -- a turn of the bus has a bit at least, and seven digits spell the number of a node; that they spell the other numbers
 -- follows from the limits of a plan
@@ -45,3 +52,16 @@ pub record IsLiveAt (d : DriverSession) (deeds : List (List Deed)) : Type 0 wher
 -- it does, wherever that is
 abbrev pub IsLive : DriverSession → Type 0
 IsLive d = (deeds : List (List Deed)) × IsLiveAt d deeds
+
+-- a command is answered so, wherever the session stands
+abbrev pub IsAnswered : DriverSession → DriverSession → LiveCommand → LiveAnswer → Type 0
+IsAnswered was now command told =
+    (deeds : List (List Deed)) → IsLiveAt was deeds →
+    (after : List (List Deed)) × Answers was now deeds command told after × IsLiveAt now after
+
+-- version, bits and nodes are those of a session; and why there is none
+abbrev pub IsOpening : Opening → Type 0
+IsOpening o = MayBegin o.version o.bits o.nodes
+
+abbrev pub IsNoSession : Opening → SessionFault → Type 0
+IsNoSession o fault = IsSessionFault o.version o.bits o.nodes (told_room o.version) fault

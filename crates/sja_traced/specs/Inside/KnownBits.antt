@@ -30,7 +30,7 @@ abbrev pub held_before : Bool → Option Request → Option Request
 held_before dropped held = if dropped then None else held
 
 -- the happening is that of a bit with these levels and this turn, before which this was known of the node, and after
--- which the node shows this; right before the bit an abort changed the node or none did
+-- which the node shows this; right before the bit an abort changed the node or none did. Its number is left open
 pub record IsOfTurn (v after : View) (changed : Bool) (driven seen : Level) (turn : BusTurn) (verdict : Option Verdict)
     (free : ℕ) (g : Happening) : Type 0 where
   pub driven_is : g.driven ≡ driven

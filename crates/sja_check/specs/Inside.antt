@@ -1,0 +1,2 @@
+-- A line that is added to a text.
+pub mod Lines
