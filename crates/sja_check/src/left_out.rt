@@ -6,19 +6,20 @@ ghost use Rattle.sja_check.specs.Lines.{AreHints};
 mod cut_off;
 mod late;
 mod of_node;
+mod refused;
 mod remedy;
-mod source;
 mod starts;
 mod undone;
 
+use super::document::Document;
 use super::lines::text_of_hints;
+use super::page::Page;
 use can_frame::OutOfMemory;
 use cut_off::cut_off;
 use late::late_strikes;
 use of_node::node_hints;
 use sja_log::RunLog;
 use sja_plan::Plan;
-use source::Source;
 use std::alloc::Global;
 
 /// What a run in one thread of this plan left out, a line each of at most 100 characters: where the bits were spent and
@@ -30,12 +31,22 @@ use std::alloc::Global;
 pub fn hints(alloc: Global, bytes: &[u8], plan: &Plan, log: &RunLog) -> Result<String, OutOfMemory>
     ensures { IfOk result (λ text. AreHints (string_bytes text)) }
 {
-    let source = Source::of(alloc, bytes)?;
-    let mut found = Vec::new(alloc);
-    cut_off(alloc, &source, plan, log, &mut found)?;
-    for node in 0..plan.nodes() {
-        node_hints(alloc, &source, plan, log, node, &mut found)?;
+    let mut page = Page::new(alloc);
+    match Document::read(alloc, bytes) {
+        Ok(document) => left_out(&mut page, &document, plan, log),
+        Err(_) => page.refused = true,
     }
-    late_strikes(alloc, &source, plan, log.bits(), &mut found)?;
-    Ok(text_of_hints(alloc, found.as_slice())?)
+    if page.refused {
+        return Err(OutOfMemory);
+    }
+    Ok(text_of_hints(alloc, page.lines.as_slice())?)
+}
+
+/// Says what a run of this plan left out.
+fn left_out(page: &mut Page, document: &Document, plan: &Plan, log: &RunLog) {
+    cut_off(page, document, plan, log);
+    for node in 0..plan.nodes() {
+        node_hints(page, document, plan, log, node);
+    }
+    late_strikes(page, document, plan.strikes(), log.bits());
 }

@@ -4,8 +4,7 @@
 //! would be right. [`hints`] says after a run what the run left out without a word: refused steps with their remedies,
 //! steps, turns and strikes that didn't come. `specs/Lines.antt` says how long the words are at most.
 //!
-//! What is wrong with a plan is decided by `sja_plan`; here it is only put into words. The tests are rows that the
-//! program `test_plan` reads.
+//! What is wrong with a plan is decided by `sja_plan`; here it is only put into words.
 #![tactic(auto)]
 
 mod document;
@@ -14,9 +13,8 @@ mod lines;
 mod mistakes;
 mod near;
 mod outline;
-mod phrase;
+mod page;
 mod texts;
-mod words;
 
 pub use left_out::hints;
 pub use mistakes::mistake;

@@ -4,7 +4,6 @@ ghost use Rattle.std.specs.Prelude.{OnOk, IfOk, string_bytes};
 ghost use Rattle.sja_check.specs.Lines.{IsLine, IsPlain, IsBrief, AreHints};
 ghost use Rattle.sja_check.specs.Inside.Lines.{AddsLine};
 
-use super::words::Words;
 use std::alloc::{AllocError, Global};
 
 /// How many characters a line has at most, its line feed left out (this project's own rule).
@@ -13,19 +12,27 @@ pub(crate) const LINE_CHARACTERS: usize = 100;
 /// How many hints are written out (this project's own rule).
 pub(crate) const MOST_HINTS: usize = 20;
 
-/// The text of these words: one line or two.
+/// The text of what is said of a mistake: one line or two.
 ///
 /// Error: memory was refused.
 #[tactic(auto, using(crate::proofs::Growing::brief_one, crate::proofs::Growing::brief_two))]
-pub(crate) fn text_of(alloc: Global, words: &Words) -> Result<String, AllocError>
+pub(crate) fn text_of(alloc: Global, said: &[String]) -> Result<String, AllocError>
     ensures { IfOk result (λ text. IsBrief (string_bytes text)) }
 {
     let mut text = String::new(alloc);
-    push_line(alloc, &mut text, words.first.as_str())?;
-    if let Some(second) = &words.second {
-        push_line(alloc, &mut text, second.as_str())?;
+    push_line(alloc, &mut text, line_in(said, 0))?;
+    if said.len() > 1 {
+        push_line(alloc, &mut text, line_in(said, 1))?;
     }
     Ok(text)
+}
+
+/// The line at this place.
+fn line_in(said: &[String], place: usize) -> &str {
+    match said.get(place) {
+        Some(line) => line.as_str(),
+        None => "",
+    }
 }
 
 /// The text of these hints: a line each, and where there are more than 20 one that says how many more.

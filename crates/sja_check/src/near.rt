@@ -1,5 +1,6 @@
 //! The nearest of several words.
 
+use super::page::Page;
 use std::alloc::{AllocError, Global};
 use strsim::osa_distance;
 
@@ -9,9 +10,24 @@ const MOST_CHARACTERS: usize = 20;
 /// The word of a list that is nearest to a given one, in either case: one edit away, and one more for each four
 /// characters that are given (this project's own rule). Edits are those of `strsim`: a character put in, left out or
 /// changed, or two that change places.
+pub(crate) fn nearest(
+    page: &mut Page,
+    given: &str,
+    words: &[&'static str],
+) -> Option<&'static str> {
+    match in_either_case(page.alloc, given, words) {
+        Ok(found) => found,
+        Err(_) => {
+            page.refused = true;
+            None
+        }
+    }
+}
+
+/// The same.
 ///
 /// Error: memory was refused.
-pub(crate) fn nearest(
+fn in_either_case(
     alloc: Global,
     given: &str,
     words: &[&'static str],
@@ -20,10 +36,21 @@ pub(crate) fn nearest(
         return Ok(None);
     }
     let given = given.to_ascii_lowercase(alloc)?;
+    of_small_letters(alloc, given.as_str(), words)
+}
+
+/// The same of small letters.
+///
+/// Error: memory was refused.
+fn of_small_letters(
+    alloc: Global,
+    given: &str,
+    words: &[&'static str],
+) -> Result<Option<&'static str>, AllocError> {
     let mut least = given.len() / 4 + 2;
     let mut found = None;
     for word in words {
-        let edits = osa_distance(alloc, given.as_str(), word)?;
+        let edits = osa_distance(alloc, given, word)?;
         if edits < least {
             least = edits;
             found = Some(*word);

@@ -3,15 +3,13 @@
 //! It is a reading of TOML of its own, which knows strings, arrays, inline tables, headers and comments, and no more.
 //! It is asked only of documents that `toml` reads; what it doesn't find has no line.
 
-mod entries;
 mod entry;
-mod find;
 mod line;
 mod outline_of;
 mod pieces;
-mod section;
+mod spot;
 mod token;
-mod token_kind;
 
 pub(crate) use line::{column_at, line_at};
 pub(crate) use outline_of::Outline;
+pub(crate) use spot::Spot;

@@ -52,10 +52,10 @@ fn steps(alloc: Global, document: &Document, version: u8) -> Result<Vec<Vec<Step
     ensures err { IfErr result (λ e. BeforeSteps (document_view document.now)
         → IsDocumentFault (document_view document.now) e) }
 {
-    let mut found = Vec::new(alloc);
+    let mut found = Vec::with_capacity(alloc, document.nodes.len())?;
     for texts in document.nodes.as_slice() {
         match read_all::<Step>(alloc, usize::from(version), texts.as_slice()) {
-            Ok(steps) => found.push(steps)?,
+            Ok(steps) => found.push_reserved(steps),
             Err(ListFault::NoMemory) => return Err(PlanFault::Memory),
             Err(ListFault::Bad(number)) => return Err(PlanFault::Step(found.len(), number)),
         }

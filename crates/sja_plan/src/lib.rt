@@ -2,8 +2,7 @@
 //!
 //! [`read_plan`] makes a [`Plan`] of a document's bytes, or tells the first check that fails. Nothing above this crate
 //! sees a type of `toml`. The laws say that a text has one meaning or none, and that bytes are one plan or have one
-//! first fault. [`step_of`], [`number_within`], [`node_within`] and [`byte`] read words as a plan has them. The tests
-//! are rows that the program `test_plan` reads, and `bench` measures the reader.
+//! first fault. [`step_of`], [`number_within`], [`node_within`] and [`byte`] read words as a plan has them.
 #![tactic(auto)]
 
 mod checks;

@@ -1,9 +1,9 @@
 //! Why a list of texts isn't read.
 
-use std::alloc::AllocFailed;
+use std::alloc::AllocError;
 
 /// Why a list of texts isn't read.
-#[derive(Clone, Copy, Debug, PartialEq, Eq)]
+#[derive(Clone, Copy)]
 pub(crate) enum ListFault {
     /// The text of this number, counted from 1, is the first that says nothing.
     Bad(usize),
@@ -11,13 +11,13 @@ pub(crate) enum ListFault {
     NoMemory,
 }
 
-impl<T: Drop> From<AllocFailed<T>> for ListFault {
+impl From<AllocError> for ListFault {
     ghost use Rattle.std.specs.Prelude.{◌≡◌};
     ghost use Rattle.sja_plan.specs.declared.list_fault.ListFault.TheVariants.{NoMemory};
 
     ghost from_gives = { λ _ e. e ≡ NoMemory };
 
-    fn from(_error: AllocFailed<T>) -> ListFault {
+    fn from(_error: AllocError) -> ListFault {
         ListFault::NoMemory
     }
 }

@@ -8,7 +8,6 @@ ghost use Rattle.sja_plan.specs.declared.plan_fault.PlanFault.TheVariants.{Memor
 use super::limits::most_strikes;
 use super::plan::Plan;
 use super::plan_fault::PlanFault;
-use super::turn::Turn;
 use sja_script::{Step, Strike};
 use std::alloc::Global;
 
@@ -81,8 +80,8 @@ impl Plan {
             version: self.version,
             bits: self.bits,
             nodes: all_nodes(alloc, self.nodes.as_slice())?,
-            turns: all_turns(alloc, self.turns.as_slice())?,
-            strikes: all_strikes(alloc, self.strikes.as_slice())?,
+            turns: Vec::from_slice(alloc, self.turns.as_slice())?,
+            strikes: Vec::from_slice(alloc, self.strikes.as_slice())?,
         })
     }
 
@@ -106,38 +105,14 @@ fn times(strikes: &[Strike]) -> u32
     strikes.iter().map(|strike| strike.times).sum()
 }
 
-/// The same strikes.
-fn all_strikes(alloc: Global, strikes: &[Strike]) -> Result<Vec<Strike>, PlanFault>
-    ensures ok { IfOk result (λ list. list.items ≡ strikes.now) }
-    ensures err { IfErr result (λ fault. fault ≡ Memory) }
-{
-    let mut list = Vec::new(alloc);
-    for strike in strikes {
-        list.push(*strike)?;
-    }
-    Ok(list)
-}
-
-/// The same turns.
-fn all_turns(alloc: Global, turns: &[Turn]) -> Result<Vec<Turn>, PlanFault>
-    ensures ok { IfOk result (λ list. list.items ≡ turns.now) }
-    ensures err { IfErr result (λ fault. fault ≡ Memory) }
-{
-    let mut list = Vec::new(alloc);
-    for turn in turns {
-        list.push(*turn)?;
-    }
-    Ok(list)
-}
-
 /// The same steps of each node.
 fn all_nodes(alloc: Global, nodes: &[Vec<Step>]) -> Result<Vec<Vec<Step>>, PlanFault>
     ensures ok { IfOk result (λ list. map (λ steps. steps.items) list.items ≡ map (λ steps. steps.items) nodes.now) }
     ensures err { IfErr result (λ fault. fault ≡ Memory) }
 {
-    let mut list = Vec::new(alloc);
+    let mut list = Vec::with_capacity(alloc, nodes.len())?;
     for steps in nodes {
-        list.push(all_steps(alloc, steps.as_slice())?)?;
+        list.push_reserved(all_steps(alloc, steps.as_slice())?);
     }
     Ok(list)
 }
@@ -147,9 +122,9 @@ fn all_steps(alloc: Global, steps: &[Step]) -> Result<Vec<Step>, PlanFault>
     ensures ok { IfOk result (λ list. list.items ≡ steps.now) }
     ensures err { IfErr result (λ fault. fault ≡ Memory) }
 {
-    let mut list = Vec::new(alloc);
+    let mut list = Vec::with_capacity(alloc, steps.len())?;
     for step in steps {
-        list.push(step.copy())?;
+        list.push_reserved(step.copy());
     }
     Ok(list)
 }

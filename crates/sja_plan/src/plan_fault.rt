@@ -43,34 +43,37 @@ pub enum PlanFault {
 impl fmt::Display for PlanFault {
     fn fmt<W: fmt::Write>(&self, f: &mut fmt::Formatter<W>) -> fmt::Result {
         match *self {
-            PlanFault::TooLong => f.write_str(
-                "the plan has more than 65536 bytes, or than 16777216 where its first line is that of version 3",
-            ),
-            PlanFault::NotText => f.write_str("the plan is no UTF-8"),
-            PlanFault::Toml => f.write_str("the plan is no TOML document"),
-            PlanFault::Key => f.write_str("a key is unknown, missing or of the wrong kind"),
-            PlanFault::Version => f.write_str("the version isn't one from 1 to 3"),
-            PlanFault::Bits => f.write_str(
-                "the number of bits isn't one from 1 to 200000, or to 2000000 in version 3",
-            ),
-            PlanFault::NodeCount => f.write_str("the number of nodes isn't one from 1 to 8"),
-            PlanFault::StepCount => f.write_str(
-                "a node has more than 1000 steps, or 65535 in version 3",
-            ),
             PlanFault::Step(node, number) => write!(
                 f,
                 "step {number} of node {node} can't be read"
             ),
-            PlanFault::TurnCount => f.write_str(
-                "there are more than 10000 turns, or 200000 in version 3",
-            ),
             PlanFault::Turn(number) => write!(f, "turn {number} can't be read"),
-            PlanFault::StrikeCount => f.write_str(
-                "there are more than 1000 strikes, or 100000 in version 3",
-            ),
             PlanFault::Strike(number) => write!(f, "strike {number} can't be read"),
-            PlanFault::Memory => f.write_str("out of memory"),
+            fault => f.write_str(text_of(fault)),
         }
+    }
+}
+
+/// What is said of a fault without its numbers.
+fn text_of(fault: PlanFault) -> &'static str {
+    match fault {
+        PlanFault::TooLong => {
+            "the plan has more than 65536 bytes, or than 16777216 where its first line is that of version 3"
+        }
+        PlanFault::NotText => "the plan is no UTF-8",
+        PlanFault::Toml => "the plan is no TOML document",
+        PlanFault::Key => "a key is unknown, missing or of the wrong kind",
+        PlanFault::Version => "the version isn't one from 1 to 3",
+        PlanFault::Bits =>
+            "the number of bits isn't one from 1 to 200000, or to 2000000 in version 3",
+        PlanFault::NodeCount => "the number of nodes isn't one from 1 to 8",
+        PlanFault::StepCount => "a node has more than 1000 steps, or 65535 in version 3",
+        PlanFault::Step(_, _) => "a step can't be read",
+        PlanFault::TurnCount => "there are more than 10000 turns, or 200000 in version 3",
+        PlanFault::Turn(_) => "a turn can't be read",
+        PlanFault::StrikeCount => "there are more than 1000 strikes, or 100000 in version 3",
+        PlanFault::Strike(_) => "a strike can't be read",
+        PlanFault::Memory => "out of memory",
     }
 }
 

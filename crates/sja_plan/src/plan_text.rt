@@ -36,11 +36,11 @@ pub(crate) fn read_all<T: PlanText>(
     ensures ok { IfOk result (λ v. AllZip (T.says within) (map (λ t. t.now) texts.now) v.items) }
     ensures err { IfErr result (IsListFault (T.says within) (map (λ t. t.now) texts.now)) }
 {
-    let mut found = Vec::new(alloc);
+    let mut found = Vec::with_capacity(alloc, texts.len())?;
     let mut room = Vec::new(alloc);
     for text in texts {
         match T::plan_text(alloc, within, text, &mut room) {
-            Ok(value) => found.push(value)?,
+            Ok(value) => found.push_reserved(value),
             Err(TextFault::NoMemory) => return Err(ListFault::NoMemory),
             Err(TextFault::Bad) => return Err(ListFault::Bad(found.len() + 1)),
         }

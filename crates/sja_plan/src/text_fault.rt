@@ -1,9 +1,9 @@
 //! Why a text of a plan isn't read.
 
-use std::alloc::{AllocError, AllocFailed};
+use std::alloc::AllocError;
 
 /// Why a word or a text of a plan isn't read (this project's own rule).
-#[derive(Clone, Copy, Debug, PartialEq, Eq)]
+#[derive(Clone, Copy)]
 pub enum TextFault {
     /// It says nothing.
     Bad,
@@ -18,17 +18,6 @@ impl From<AllocError> for TextFault {
     ghost from_gives = { λ _ e. e ≡ NoMemory };
 
     fn from(_error: AllocError) -> TextFault {
-        TextFault::NoMemory
-    }
-}
-
-impl<T: Drop> From<AllocFailed<T>> for TextFault {
-    ghost use Rattle.std.specs.Prelude.{◌≡◌};
-    ghost use Rattle.sja_plan.specs.declared.text_fault.TextFault.TheVariants.{NoMemory};
-
-    ghost from_gives = { λ _ e. e ≡ NoMemory };
-
-    fn from(_error: AllocFailed<T>) -> TextFault {
         TextFault::NoMemory
     }
 }

@@ -1,7 +1,7 @@
 //! The turns of a serial run.
 
 /// What happens in one turn of a serial run (this project's own rule).
-#[derive(Clone, Copy, Debug, PartialEq, Eq)]
+#[derive(Clone, Copy, Debug)]
 pub enum Turn {
     /// The bus runs this many bits.
     Bus(u32),

@@ -58,10 +58,10 @@ fn texts<'a>(alloc: Global, values: &'a [Value]) -> Result<Vec<&'a str>, PlanFau
     ensures err { IfErr result (λ e. (e ≡ PlanFault.Memory)
         ⊎ ((e ≡ PlanFault.Key) × (texts_of (items_view values.entry.now) ≡ None))) }
 {
-    let mut found = Vec::new(alloc);
+    let mut found = Vec::with_capacity(alloc, values.len())?;
     for value in values {
         match value.as_str() {
-            Some(text) => found.push(text)?,
+            Some(text) => found.push_reserved(text),
             None => return Err(PlanFault::Key),
         }
     }
@@ -75,9 +75,9 @@ fn nodes<'a>(alloc: Global, values: &'a [Value]) -> Result<Vec<Vec<&'a str>>, Pl
     ensures err { IfErr result (λ e. (e ≡ PlanFault.Memory)
         ⊎ ((e ≡ PlanFault.Key) × (nodes_of (items_view values.entry.now) ≡ None))) }
 {
-    let mut found = Vec::new(alloc);
+    let mut found = Vec::with_capacity(alloc, values.len())?;
     for value in values {
-        found.push(steps(alloc, value)?)?;
+        found.push_reserved(steps(alloc, value)?);
     }
     Ok(found)
 }

@@ -1,6 +1,6 @@
 //! What the words of `run`, `check` and `trace` ask for.
 
-ghost use Rattle.std.specs.Prelude.{◌≡◌, IfOk, map, option_map};
+ghost use Rattle.std.specs.Prelude.{◌≡◌, IfOk, option_map};
 ghost use Rattle.clap.specs.Words.{found_of, rows_of};
 ghost use Rattle.sja_words.specs.Requests.{request_about, request_of};
 ghost use Rattle.sja_words.specs.Commands.{plan_in};
@@ -32,7 +32,7 @@ pub(crate) fn plan_task<'a>(
         Some(jobs) => Ok(Some(Task::Files(FileWords {
             question,
             jobs,
-            names: names_of(alloc, names)?,
+            names: Vec::from_slice(alloc, names)?,
         }))),
         None => Ok(None),
     }
@@ -47,13 +47,4 @@ fn task_about<'a>(question: PlanQuestion) -> Task<'a>
         PlanQuestion::Check => Task::Check,
         PlanQuestion::Trace { threads } => Task::Trace { threads },
     }
-}
-
-/// The names, in order.
-fn names_of<'a>(alloc: Global, names: &[&'a str]) -> Result<Vec<&'a str>, AllocError>
-    ensures { IfOk result (λ held. map (λ name. name.now) held.items ≡ map (λ name. name.now) names.now) }
-{
-    let mut held = Vec::new(alloc);
-    held.extend_from_slice(names)?;
-    Ok(held)
 }

@@ -2,26 +2,25 @@
 //!
 //! [`parse`] takes the words, the program's name first, and answers a [`Task`]. The crate `clap` does the parsing;
 //! none of its types is seen from above.
-//!
-//! Its tests stand with those of the program, in `crates/test_program`.
 #![tactic(auto)]
 
+mod argument;
+mod argument_row;
+mod arguments;
 mod command;
-mod described;
-mod file_commands;
+mod command_row;
+mod commands;
 mod file_words;
 mod files_found;
 mod found;
-mod help;
 mod laws;
 mod parsing;
-mod picture_command;
 mod picture_found;
 mod plan_question;
 mod refused_text;
-mod sweep_command;
 mod sweep_found;
 mod sweep_words;
+mod takes;
 mod task;
 mod words_fault;
 

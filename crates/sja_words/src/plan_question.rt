@@ -1,7 +1,7 @@
 //! [`PlanQuestion`]: what is asked of each plan that stands in a file.
 
 /// What is asked of each plan that stands in a file (this project's own rule).
-#[derive(Clone, Copy, Debug, PartialEq, Eq)]
+#[derive(Clone, Copy, Debug)]
 pub enum PlanQuestion {
     /// `run`: the report of its run.
     Report {

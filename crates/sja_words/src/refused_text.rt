@@ -1,10 +1,9 @@
 //! What is said of words that the parser refuses, or took and that give no task all the same, where it says less than
 //! is wanted: with the usage of the command.
 
-use super::command::filter_command;
-use super::file_commands::{check_command, run_command};
-use super::picture_command::picture_command;
-use super::sweep_command::sweep_command;
+use super::command::command_of;
+use super::command_row::CommandRow;
+use super::commands::{FILTER, SWEEP, commands};
 use clap::error::{Error, ErrorKind};
 use clap::{ArgMatches, Command};
 use std::alloc::{AllocError, Global};
@@ -15,43 +14,42 @@ const BEFORE: &str = "error: ";
 /// What it ends with.
 const BEHIND: &str = "\n\nFor more information, try '--help'.\n";
 
-/// What the parser would say of words that it took, and that give no task all the same.
+/// What is said of an option beside `--plan`.
+const PLAN_SAID: &str = "'--plan <K> <B>' can't be used with another option";
+
+/// What is said of a MODE that is none.
+const MODE_SAID: &str = "MODE is neither 'single' nor 'dual'";
+
+/// What the parser would say of words that it took, and that give no task all the same, under the program's name
+/// `program`.
 pub(crate) fn refused_text<'a>(
     alloc: Global,
     program: &str,
     matches: &ArgMatches<'a>,
 ) -> Result<String, AllocError> {
     match matches.subcommand_name() {
-        Some("sweep") => plan_text(alloc, program),
-        _ => mode_text(alloc, program),
+        Some("sweep") => text_of(
+            alloc,
+            &SWEEP,
+            program,
+            ErrorKind::ArgumentConflict,
+            PLAN_SAID,
+        ),
+        _ => text_of(alloc, &FILTER, program, ErrorKind::InvalidValue, MODE_SAID),
     }
 }
 
-/// What the parser would say, under the program's name `program`, of an option beside `--plan`.
-fn plan_text(alloc: Global, program: &str) -> Result<String, AllocError> {
-    let said = "'--plan <K> <B>' can't be used with another option";
-    let kind = ErrorKind::ArgumentConflict;
-    text_of(alloc, sweep_command(alloc), program, "sweep", kind, said)
-}
-
-/// What the parser would say, under the program's name `program`, of a MODE that is none.
-fn mode_text(alloc: Global, program: &str) -> Result<String, AllocError> {
-    let said = "MODE is neither 'single' nor 'dual'";
-    let kind = ErrorKind::InvalidValue;
-    text_of(alloc, filter_command(alloc), program, "filter", kind, said)
-}
-
-/// The text of such an error of the command `name`, with its usage, under the program's name `program`.
-fn text_of<'a>(
+/// The text of such an error of the command of this row, with its usage, under the program's name `program`.
+fn text_of(
     alloc: Global,
-    command: Result<Command<'a>, AllocError>,
+    row: &CommandRow<'static>,
     program: &str,
-    name: &str,
     kind: ErrorKind,
     said: &str,
 ) -> Result<String, AllocError> {
+    let name = row.name;
     let shown = format!(in alloc; "{program} {name}")?;
-    error_of(command, shown.as_str(), kind, said)?.to_string(alloc)
+    error_of(command_of(alloc, row), shown.as_str(), kind, said)?.to_string(alloc)
 }
 
 /// The error, with the usage of the command, which goes by the name `shown` there.
@@ -73,17 +71,8 @@ pub(crate) fn refused_value(
     error: &Error,
 ) -> Result<String, AllocError> {
     let text = error.to_string(alloc)?;
-    match command_of_values(alloc, name) {
-        Some(command) => {
-            text_of(
-                alloc,
-                command,
-                program,
-                name,
-                error.kind(),
-                said_in(text.as_str()),
-            )
-        }
+    match row_named(name) {
+        Some(row) => text_of(alloc, row, program, error.kind(), said_in(text.as_str())),
         None => Ok(text),
     }
 }
@@ -94,13 +83,12 @@ fn said_in(text: &str) -> &str {
     said.strip_suffix(BEHIND).unwrap_or(said)
 }
 
-/// The command of this name, if it is one whose values the parser judges.
-fn command_of_values<'a>(alloc: Global, name: &str) -> Option<Result<Command<'a>, AllocError>> {
-    match name {
-        "run" => Some(run_command(alloc)),
-        "check" => Some(check_command(alloc)),
-        "picture" => Some(picture_command(alloc)),
-        "sweep" => Some(sweep_command(alloc)),
-        _ => None,
+/// The row of the command of this name; nothing where there is none.
+fn row_named(name: &str) -> Option<&'static CommandRow<'static>> {
+    for row in commands() {
+        if row.name == name {
+            return Some(row);
+        }
     }
+    None
 }

@@ -9,7 +9,7 @@ pub const MOST_MESSAGES: usize = 8;
 
 /// What the program is asked to do. The texts are those of the words that were parsed, not yet judged (this
 /// project's own rule).
-#[derive(Debug, Drop)]
+#[derive(Drop)]
 pub enum Task<'a> {
     /// `encode MESSAGE`: the levels that a transmitter of this message's frame sends.
     Encode(&'a str),

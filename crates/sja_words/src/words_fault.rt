@@ -3,7 +3,7 @@
 use std::alloc::AllocError;
 
 /// Why words give no task (this project's own rule).
-#[derive(Debug, Drop)]
+#[derive(Drop)]
 pub enum WordsFault {
     /// Memory was refused.
     OutOfMemory,

@@ -2,47 +2,53 @@
 
 ghost use Rattle.std.specs.Prelude.{◌<◌, length};
 
-use super::super::phrase::placed;
-use super::source::Source;
+use super::super::document::{Document, text_at};
+use super::super::outline::Spot;
+use super::super::page::{Page, Piece};
+use super::undone::turns_for;
 use sja_log::{End, RunLog};
 use sja_plan::{Plan, Turn};
 use sja_script::Step;
-use std::alloc::{AllocError, Global};
 
-/// Adds that the run was cut off, in which turn, and which turns didn't come, where its bits were spent.
-///
-/// Error: memory was refused.
-pub(crate) fn cut_off(
-    alloc: Global,
-    source: &Source,
-    plan: &Plan,
-    log: &RunLog,
-    found: &mut Vec<String>,
-) -> Result<(), AllocError> {
+/// Says that the run was cut off, in which turn, and which turns didn't come, where its bits were spent.
+pub(crate) fn cut_off(page: &mut Page, document: &Document, plan: &Plan, log: &RunLog) {
     if log.end() != End::Bits {
-        return Ok(());
+        return;
     }
-    let bits = plan.bits();
-    let Some(place) = cut_turn(plan, log) else {
-        let words = format!(in alloc;
-            "the run was cut off: a turn needed bit {bits}, and bits = {bits}"
-        )?;
-        return Ok(found.push(placed(alloc, source.line_of_key("bits"), words.as_str())?)?);
-    };
-    let behind = format!(in alloc; " was cut off: it needed bit {bits}, and bits = {bits}")?;
-    found.push(source.of_item(alloc, "turn", "turns", place, behind.as_str())?)?;
-    let (first, last) = (place.saturating_add(2), plan.turns().len());
-    if first > last {
-        return Ok(());
+    match cut_turn(plan, log) {
+        Some(place) => turn_hints(page, document, plan.bits(), place, plan.turns().len()),
+        None => {
+            let line = document.line(Spot::Key("bits"));
+            let bits = Piece::Number(u64::from(plan.bits()));
+            page.say(
+                "{}the run was cut off: a turn needed bit {}, and bits = {}",
+                &[line, bits, bits],
+            );
+        }
     }
-    let words = if first == last {
-        format!(in alloc; "turn {first} didn't come")?
-    } else {
-        format!(in alloc; "turns {first} to {last} didn't come")?
-    };
-    let line = source.line_of_item("turns", place.saturating_add(1));
-    found.push(placed(alloc, line, words.as_str())?)?;
-    Ok(())
+}
+
+/// Says that this turn of so many was cut off, and which turns didn't come.
+fn turn_hints(page: &mut Page, document: &Document, bits: u32, place: usize, turns: usize) {
+    let bits = Piece::Number(u64::from(bits));
+    let text = Piece::Shown(text_at(document.items("turns"), place));
+    let line = document.line(Spot::Item("turns", place));
+    let number = Piece::Number((place as u64).saturating_add(1));
+    page.say(
+        "{}turn {}: {} was cut off: it needed bit {}, and bits = {}",
+        &[line, number, text, bits, bits],
+    );
+    let behind = place.saturating_add(1);
+    let line = document.line(Spot::Item("turns", behind));
+    let (first, last) = (
+        Piece::Number((behind as u64).saturating_add(1)),
+        Piece::Number(turns as u64),
+    );
+    if behind.saturating_add(1) == turns {
+        page.say("{}turn {} didn't come", &[line, first]);
+    } else if behind < turns {
+        page.say("{}turns {} to {} didn't come", &[line, first, last]);
+    }
 }
 
 /// The turn in which the bits were spent, where it is known: the one turn of `bus` or `rest` behind those that the
@@ -53,34 +59,19 @@ fn cut_turn(plan: &Plan, log: &RunLog) -> Option<usize> {
     let mut known = turns.len();
     for node in 0..plan.nodes() {
         let done = log.nodes().get(node)?.done().len();
-        needed = needed.max(turns_for(turns, node, done as u64));
-        if done < plan.steps(node).len() && !waits(plan.steps(node), done) {
-            known = known.min(turns_for(turns, node, done as u64 + 1).saturating_sub(1));
+        let steps = plan.steps(node);
+        needed = needed.max(turns_for(turns, node, done));
+        if done < steps.len() && !waits(steps, done) {
+            known = known.min(turns_for(turns, node, done.saturating_add(1)).saturating_sub(1));
         }
     }
     one_of_bits(turns, needed, known)
 }
 
-/// The first so many turns have so many steps of a node; all turns where they have fewer.
-fn turns_for(turns: &[Turn], node: usize, steps: u64) -> usize {
-    let mut left = steps;
-    for (place, turn) in turns.iter().enumerate() {
-        if left == 0 {
-            return place;
-        }
-        if let Turn::Node(of, count) = turn
-            && usize::from(*of) == node
-        {
-            left = left.saturating_sub(u64::from(*count));
-        }
-    }
-    turns.len()
-}
-
 /// Whether one of the first so many steps, or the one behind them, waits for something.
 fn waits(steps: &[Step], done: usize) -> bool {
-    for (place, step) in steps.iter().enumerate() {
-        if place <= done && matches!(step, Step::Await(_) | Step::Sent | Step::Interrupt) {
+    for step in steps.get(..done.saturating_add(1)).unwrap_or(steps) {
+        if let Step::Await(_) | Step::Sent | Step::Interrupt = step {
             return true;
         }
     }
@@ -90,13 +81,15 @@ fn waits(steps: &[Step], done: usize) -> bool {
 /// The turn of `bus` or `rest` from one place to before another, where it is the only one.
 fn one_of_bits(turns: &[Turn], first: usize, end: usize) -> Option<usize> {
     let mut found = None;
-    for (place, turn) in turns.iter().enumerate() {
-        if first <= place && place < end && !matches!(turn, Turn::Node(_, _)) {
+    let mut place = first;
+    for turn in turns.get(first..end).unwrap_or(&[]) {
+        if let Turn::Bus(_) | Turn::Rest = turn {
             if found.is_some() {
                 return None;
             }
             found = Some(place);
         }
+        place = place.saturating_add(1);
     }
     found
 }

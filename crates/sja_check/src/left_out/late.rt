@@ -1,44 +1,52 @@
 //! Strikes past the last bit of a run.
 
-use super::super::lines::MOST_HINTS;
-use super::source::Source;
-use sja_plan::Plan;
+use super::super::document::{Document, text_at};
+use super::super::outline::Spot;
+use super::super::page::{Page, Piece};
 use sja_script::Strike;
-use std::alloc::{AllocError, Global};
 
-/// Adds the strikes that strike a bit past the last one of a run of so many bits. Past the hints that are written out
-/// an empty one counts each.
-///
-/// Error: memory was refused.
-pub(crate) fn late_strikes(
-    alloc: Global,
-    source: &Source,
-    plan: &Plan,
-    bits: u32,
-    found: &mut Vec<String>,
-) -> Result<(), AllocError> {
-    for (place, strike) in plan.strikes().iter().enumerate() {
+/// Says which strikes strike a bit past the last one of a run of so many bits.
+pub(crate) fn late_strikes(page: &mut Page, document: &Document, strikes: &[Strike], bits: u32) {
+    for (place, strike) in strikes.iter().enumerate() {
         let came = times_below(strike, bits);
         if came < strike.times {
-            let hint = if found.len() < MOST_HINTS {
-                let behind = late_words(alloc, strike, bits, came)?;
-                source.of_item(alloc, "strike", "faults", place, behind.as_str())?
-            } else {
-                String::new(alloc)
-            };
-            found.push(hint)?;
+            late_hint(page, document, place, strike, [came, bits]);
         }
     }
-    Ok(())
 }
 
-/// What is said of a strike of which so many times came.
-fn late_words(alloc: Global, strike: &Strike, bits: u32, came: u32) -> Result<String, AllocError> {
-    let (bit, times) = (strike.bit, strike.times);
-    if times == 1 {
-        return format!(in alloc; ": bit {bit} didn't come, the run has {bits} bits");
+/// Says of a strike that so many of its bits came, in a run of so many.
+fn late_hint(page: &mut Page, document: &Document, place: usize, strike: &Strike, run: [u32; 2]) {
+    let line = document.line(Spot::Item("faults", place));
+    let number = Piece::Number((place as u64).saturating_add(1));
+    let text = Piece::Shown(text_at(document.items("faults"), place));
+    let [came, bits] = run;
+    let bits = Piece::Number(u64::from(bits));
+    if strike.times == 1 {
+        page.say(
+            "{}strike {}: {}: bit {} didn't come, the run has {} bits",
+            &[
+                line,
+                number,
+                text,
+                Piece::Number(u64::from(strike.bit)),
+                bits,
+            ],
+        );
+    } else {
+        let (came, times) = (u64::from(came), u64::from(strike.times));
+        page.say(
+            "{}strike {}: {}: {} of its {} bits came, the run has {} bits",
+            &[
+                line,
+                number,
+                text,
+                Piece::Number(came),
+                Piece::Number(times),
+                bits,
+            ],
+        );
     }
-    format!(in alloc; ": {came} of its {times} bits came, the run has {bits} bits")
 }
 
 /// How many bits it strikes below this one.

@@ -9,7 +9,7 @@ use sja_script::{Refusal, Step};
 pub(crate) fn remedy_of(
     refusal: Refusal,
     version: u8,
-    step: Option<&Step>,
+    step: &Step,
     starts: Starts,
 ) -> &'static str {
     match refusal {
@@ -31,9 +31,9 @@ pub(crate) fn remedy_of(
 }
 
 /// What to do about a step that needs the other state.
-fn state_remedy(step: Option<&Step>, starts: Starts) -> &'static str {
+fn state_remedy(step: &Step, starts: Starts) -> &'static str {
     match (step, starts) {
-        (Some(Step::Start), _) => "put \"stop\" before it",
+        (Step::Start, _) => "put \"stop\" before it",
         (_, Starts::NoneYet) => "put \"start\" before it",
         (_, Starts::Begun) => "put \"start\" again before it",
         (_, Starts::Spent) => "no start of the node is left",
@@ -41,19 +41,19 @@ fn state_remedy(step: Option<&Step>, starts: Starts) -> &'static str {
 }
 
 /// Which step does what this one tried.
-fn typed_remedy(step: Option<&Step>) -> &'static str {
+fn typed_remedy(step: &Step) -> &'static str {
     match step {
-        Some(Step::Write(0, _)) => "only \"start\" and \"stop\" change bit 0",
-        Some(Step::Write(_, _)) => "write CMR by \"command VALUE\"",
+        Step::Write(0, _) => "only \"start\" and \"stop\" change bit 0",
+        Step::Write(_, _) => "write CMR by \"command VALUE\"",
         _ => "bit 2 of CMR is the step \"release\"",
     }
 }
 
 /// Which registers there are.
-fn register_remedy(step: Option<&Step>) -> &'static str {
+fn register_remedy(step: &Step) -> &'static str {
     match step {
-        Some(Step::Read(1)) => "CMR can't be read",
-        Some(Step::Read(6 | 7 | 8 | 31) | Step::Write(6 | 7 | 8 | 31, _)) =>
+        Step::Read(1) => "CMR can't be read",
+        Step::Read(6 | 7 | 8 | 31) | Step::Write(6 | 7 | 8 | 31, _) =>
             "BTR0, BTR1, OCR, CDR are left out",
         _ => "no register; addresses are decimal",
     }

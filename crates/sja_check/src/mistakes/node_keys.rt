@@ -2,127 +2,81 @@
 
 use super::super::document::{Document, member_of};
 use super::super::near::nearest;
-use super::super::phrase::{placed, quoted};
-use super::super::words::Words;
-use super::keys::KEYS;
-use super::kinds::{kind_of, list_words};
-use std::alloc::{AllocError, Global};
+use super::super::outline::Spot;
+use super::super::page::{Page, Piece};
+use super::keys::{KEYS, kind_of, list_words, other_key};
 use toml::Value;
 
 /// What a node looks like.
 const NODE_IS: &str =
     "write the line [[node]], and below it steps = [\"start\"], once for each node";
 
-/// What is wrong with the key `node`.
-///
-/// Error: memory was refused.
-pub(crate) fn nodes_key_words(
-    alloc: Global,
-    document: &Document,
-) -> Result<Option<Words>, AllocError> {
-    let line = document.outline.line_of_key("node");
-    let Some(value) = document.table.get("node") else {
-        return Ok(Some(Words::fixed(
-            alloc,
-            "the key \"node\" is missing: there is no node",
-            NODE_IS,
-        )?));
-    };
-    match value {
-        Value::Array(items) => items_words(alloc, document, items.as_slice()),
-        Value::Table(_) => no_list(
-            alloc,
-            line,
-            "[node] makes one table, and nodes are a list: [[node]]",
+/// Says what is wrong with the key `node`.
+pub(crate) fn nodes_key_words(page: &mut Page, document: &Document) -> bool {
+    let line = document.line(Spot::Key("node"));
+    match document.value("node") {
+        Some(Value::Array(items)) => return items_words(page, document, items.as_slice()),
+        Some(Value::Table(_)) => page.say(
+            "{}[node] makes one table, and nodes are a list: [[node]]",
+            &[line],
         ),
-        _ => no_list(alloc, line, "node is a list of tables, one for each node"),
-    }
+        Some(_) => page.say("{}node is a list of tables, one for each node", &[line]),
+        None => page.say("the key \"node\" is missing: there is no node", &[]),
+    };
+    page.say(NODE_IS, &[])
 }
 
-/// That the nodes are no list.
-///
-/// Error: memory was refused.
-fn no_list(alloc: Global, line: Option<usize>, first: &str) -> Result<Option<Words>, AllocError> {
-    let first = placed(alloc, line, first)?;
-    Ok(Some(Words::two(first, String::from_str(alloc, NODE_IS)?)))
-}
-
-/// What is wrong with the first node that isn't right.
-///
-/// Error: memory was refused.
-fn items_words(
-    alloc: Global,
-    document: &Document,
-    items: &[Value],
-) -> Result<Option<Words>, AllocError> {
+/// Says what is wrong with the first node that isn't right.
+fn items_words(page: &mut Page, document: &Document, items: &[Value]) -> bool {
     for (node, value) in items.iter().enumerate() {
-        if let Some(words) = node_words(alloc, document, node, value)? {
-            return Ok(Some(words));
+        if node_words(page, document, node, value) {
+            return true;
         }
     }
-    Ok(None)
+    false
 }
 
-/// What is wrong with this node.
-///
-/// Error: memory was refused.
-fn node_words(
-    alloc: Global,
-    document: &Document,
-    node: usize,
-    value: &Value,
-) -> Result<Option<Words>, AllocError> {
-    let line = document.outline.line_of_node(node);
-    let Value::Table(table) = value else {
-        let first = format!(in alloc; "node {node} is a table, and here it is {}", kind_of(value))?;
-        return no_list(alloc, line, first.as_str());
-    };
-    for key in table.keys() {
-        if key.as_str() != "steps" {
-            let line = document.outline.line_of_node_key(node, key.as_str());
-            return Ok(Some(other_key(alloc, line, node, key.as_str())?));
-        }
+/// Says what is wrong with this node.
+fn node_words(page: &mut Page, document: &Document, node: usize, value: &Value) -> bool {
+    let line = document.line(Spot::Node(node));
+    let number = Piece::Number(node as u64);
+    if let Value::Table(table) = value
+        && let Some(key) = other_key(document, table, &["steps"], false)
+    {
+        return key_words(page, document, node, key);
     }
-    let Some(steps) = member_of(value, "steps") else {
-        let first = format!(in alloc; "node {node} has no key \"steps\"")?;
-        return no_list(alloc, line, first.as_str());
+    match member_of(value, "steps") {
+        Some(steps) => {
+            let line = document.line(Spot::NodeKey(node, "steps"));
+            return list_words(page, &[line, Piece::Node(node)], "steps", steps);
+        }
+        None if matches!(value, Value::Table(_)) => page.say(
+            "{}node {} has no key \"steps\"",
+            &[line, number],
+        ),
+        None => page.say(
+            "{}node {} is a table, and here it is {}",
+            &[line, number, Piece::Text(kind_of(value))],
+        ),
     };
-    let line = document.outline.line_of_node_key(node, "steps");
-    let what = format!(in alloc; "node {node}: steps")?;
-    list_words(alloc, line, what.as_str(), "steps", steps)
+    page.say(NODE_IS, &[])
 }
 
-/// That this key of a node isn't `steps`.
-///
-/// Error: memory was refused.
-fn other_key(
-    alloc: Global,
-    line: Option<usize>,
-    node: usize,
-    key: &str,
-) -> Result<Words, AllocError> {
-    let before = format!(in alloc; "node {node} has the key ")?;
-    let before = placed(alloc, line, before.as_str())?;
-    let first = quoted(
-        alloc,
-        before.as_str(),
-        key,
-        ", and a node takes \"steps\" alone",
-    )?;
-    Ok(Words::two(first, advice_on(alloc, key)?))
-}
-
-/// What to do with a key that isn't `steps`.
-///
-/// Error: memory was refused.
-fn advice_on(alloc: Global, key: &str) -> Result<String, AllocError> {
+/// Says that this key of a node isn't `steps`, and what to do with it.
+fn key_words(page: &mut Page, document: &Document, node: usize, key: &str) -> bool {
+    let line = document.line(Spot::NodeKey(node, key));
+    page.say(
+        "{}node {} has the key <{}>, and a node takes \"steps\" alone",
+        &[line, Piece::Number(node as u64), Piece::Text(key)],
+    );
     if KEYS.as_slice().contains(&key) {
-        return format!(in alloc;
-            "what stands below [[node]] is that node's: put {key} above the first [[node]]"
+        return page.say(
+            "what stands below [[node]] is that node's: put {} above the first [[node]]",
+            &[Piece::Text(key)],
         );
     }
-    match nearest(alloc, key, &["steps"])? {
-        Some(_) => String::from_str(alloc, "did you mean \"steps\"?"),
-        None => String::from_str(alloc, "a note goes into a comment, which begins with #"),
+    match nearest(page, key, &["steps"]) {
+        Some(_) => page.say("did you mean \"steps\"?", &[]),
+        None => page.say("a note goes into a comment, which begins with #", &[]),
     }
 }

@@ -1,127 +1,113 @@
 //! Numbers that are out of range, and lists that are too long.
 
 use super::super::document::Document;
-use super::super::phrase::placed;
+use super::super::outline::Spot;
+use super::super::page::{Page, Piece};
 use super::super::texts::strikes_in;
-use super::super::words::Words;
 use sja_plan::{LAST_VERSION, most_bits, most_steps_told, most_strikes, most_turns};
 use sja_script::MOST_NODES;
-use std::alloc::{AllocError, Global};
 
-/// That the version isn't one from 1 to 3.
-///
-/// Error: memory was refused.
-pub(crate) fn version_words(
-    alloc: Global,
-    document: &Document,
-) -> Result<Option<Words>, AllocError> {
-    let Some(version) = document.number("version") else {
-        return Ok(None);
-    };
-    if 1 <= version && version <= i64::from(LAST_VERSION) {
-        return Ok(None);
+/// Says that the version isn't one from 1 to 3.
+pub(crate) fn version_words(page: &mut Page, document: &Document) -> bool {
+    match document.number("version") {
+        Some(version) if version < 1 || version > i64::from(LAST_VERSION) => {
+            let line = document.line(Spot::Key("version"));
+            page.say(
+                "{}version is 1, 2 or 3, and here it is {}",
+                &[line, Piece::Whole(version)],
+            );
+            page.say(
+                "2 has self test, self reception and listen only beside 1; 3 has \"interrupt\" and room for more",
+                &[],
+            )
+        }
+        _ => false,
     }
-    let first = format!(in alloc; "version is 1, 2 or 3, and here it is {version}")?;
-    let first = placed(
-        alloc,
-        document.outline.line_of_key("version"),
-        first.as_str(),
-    )?;
-    let second =
-        "2 has self test, self reception and listen only beside 1; 3 has \"interrupt\" and room for more";
-    Ok(Some(Words::two(first, String::from_str(alloc, second)?)))
 }
 
-/// That the number of bits is out of range.
-///
-/// Error: memory was refused.
-pub(crate) fn bits_words(alloc: Global, document: &Document) -> Result<Option<Words>, AllocError> {
-    let Some(bits) = document.number("bits") else {
-        return Ok(None);
-    };
-    let most = most_bits(document.version());
-    if 1 <= bits && bits <= i64::from(most) {
-        return Ok(None);
+/// Says that the number of bits is out of range.
+pub(crate) fn bits_words(page: &mut Page, document: &Document) -> bool {
+    let most = i64::from(most_bits(document.version()));
+    match document.number("bits") {
+        Some(bits) if bits < 1 || bits > most => page.say(
+            "{}bits is from 1 to {}, and here it is {}",
+            &[
+                document.line(Spot::Key("bits")),
+                Piece::Whole(most),
+                Piece::Whole(bits),
+            ],
+        ),
+        _ => false,
     }
-    let first = format!(in alloc; "bits is from 1 to {most}, and here it is {bits}")?;
-    one_line(alloc, document.outline.line_of_key("bits"), first.as_str())
 }
 
-/// That there is no node, or that there are too many.
-///
-/// Error: memory was refused.
-pub(crate) fn nodes_words(alloc: Global, document: &Document) -> Result<Option<Words>, AllocError> {
+/// Says that there is no node, or that there are too many.
+pub(crate) fn nodes_words(page: &mut Page, document: &Document) -> bool {
     let count = document.items("node").len();
     let most = usize::from(MOST_NODES);
-    if count > most {
-        let first = format!(in alloc;
-            "the first node too many: the plan has {count}, and at most {most}"
-        )?;
-        return one_line(alloc, document.outline.line_of_node(most), first.as_str());
+    if count == 0 {
+        return page.say(
+            "{}the plan has no node, and at least one is needed: [[node]]",
+            &[document.line(Spot::Key("node"))],
+        );
     }
-    if count > 0 {
-        return Ok(None);
-    }
-    let first = "the plan has no node, and at least one is needed: [[node]]";
-    one_line(alloc, document.outline.line_of_key("node"), first)
+    let line = document.line(Spot::Node(most));
+    count > most
+        && page.say(
+            "{}the first node too many: the plan has {}, and at most {}",
+            &[
+                line,
+                Piece::Number(count as u64),
+                Piece::Number(most as u64),
+            ],
+        )
 }
 
-/// That a node has too many steps.
-///
-/// Error: memory was refused.
-pub(crate) fn steps_words(alloc: Global, document: &Document) -> Result<Option<Words>, AllocError> {
+/// Says that a node has too many steps.
+pub(crate) fn steps_words(page: &mut Page, document: &Document) -> bool {
     let most = most_steps_told(document.version());
     for node in 0..document.items("node").len() {
         let count = document.steps(node).len();
         if count > most {
-            let first = format!(in alloc;
-                "node {node} has {count} steps, and a node has at most {most}"
-            )?;
-            let line = document.outline.line_of_node_key(node, "steps");
-            return one_line(alloc, line, first.as_str());
+            return page.say(
+                "{}node {} has {} steps, and a node has at most {}",
+                &[
+                    document.line(Spot::NodeKey(node, "steps")),
+                    Piece::Number(node as u64),
+                    Piece::Number(count as u64),
+                    Piece::Number(most as u64),
+                ],
+            );
         }
     }
-    Ok(None)
+    false
 }
 
-/// That there are too many turns.
-///
-/// Error: memory was refused.
-pub(crate) fn turns_words(alloc: Global, document: &Document) -> Result<Option<Words>, AllocError> {
+/// Says that there are too many turns.
+pub(crate) fn turns_words(page: &mut Page, document: &Document) -> bool {
     let count = document.items("turns").len();
     let most = most_turns(document.version());
-    if count <= most {
-        return Ok(None);
-    }
-    let first = format!(in alloc; "there are {count} turns, and a plan has at most {most}")?;
-    one_line(alloc, document.outline.line_of_key("turns"), first.as_str())
+    let line = document.line(Spot::Key("turns"));
+    count > most
+        && page.say(
+            "{}there are {} turns, and a plan has at most {}",
+            &[
+                line,
+                Piece::Number(count as u64),
+                Piece::Number(most as u64),
+            ],
+        )
 }
 
-/// That the strikes count too many.
-///
-/// Error: memory was refused.
-pub(crate) fn strikes_words(
-    alloc: Global,
-    document: &Document,
-) -> Result<Option<Words>, AllocError> {
+/// Says that the strikes count too many.
+pub(crate) fn strikes_words(page: &mut Page, document: &Document) -> bool {
     let count = strikes_in(document.items("faults"));
-    let most = most_strikes(document.version());
-    if count <= u64::from(most) {
-        return Ok(None);
-    }
-    let first = format!(in alloc; "the strikes count {count}, and at most {most}")?;
-    let first = placed(
-        alloc,
-        document.outline.line_of_key("faults"),
-        first.as_str(),
-    )?;
-    let second = "\"K B E T\" counts T, and any other text counts 1";
-    Ok(Some(Words::two(first, String::from_str(alloc, second)?)))
-}
-
-/// One line of words.
-///
-/// Error: memory was refused.
-fn one_line(alloc: Global, line: Option<usize>, words: &str) -> Result<Option<Words>, AllocError> {
-    Ok(Some(Words::one(placed(alloc, line, words)?)))
+    let most = u64::from(most_strikes(document.version()));
+    let line = document.line(Spot::Key("faults"));
+    count > most
+        && page.say(
+            "{}the strikes count {}, and at most {}",
+            &[line, Piece::Number(count), Piece::Number(most)],
+        )
+        && page.say("\"K B E T\" counts T, and any other text counts 1", &[])
 }

@@ -1,85 +1,122 @@
 //! Text that is no TOML document.
 
 use super::super::outline::{column_at, line_at};
-use super::super::phrase::{escaped, quoted};
-use super::super::words::Words;
-use std::alloc::{AllocError, Global};
+use super::super::page::{Page, Piece};
 use toml::table_from_str;
 
-/// Where the text stops being TOML, and why.
-///
-/// Error: memory was refused.
-pub(crate) fn no_toml(alloc: Global, bytes: &[u8]) -> Result<Option<Words>, AllocError> {
+/// A fault of a document as `toml` names it, short enough for a line, and what to look for.
+struct Fault {
+    message: &'static str,
+    short: &'static str,
+    advice: &'static str,
+}
+
+/// The faults whose names are too long for a line, or that have an advice.
+const FAULTS: [Fault; 9] = [
+    Fault {
+        message: "invalid key, expected letters, numbers, `-`, `_` or a quoted key",
+        short: "a key is expected here",
+        advice: "",
+    },
+    Fault {
+        message: "key with no value, expected `=`",
+        short: "= and a value are expected behind the key",
+        advice: "",
+    },
+    Fault {
+        message: "unexpected key or value, expected newline, `#`",
+        short: "the line has to end here",
+        advice: "",
+    },
+    Fault {
+        message: "missing comma between array elements, expected `,` or `]`",
+        short: "a comma or ] is expected here",
+        advice: "look for a quote or a comma that is missing before: [\"start\", \"release\"]",
+    },
+    Fault {
+        message: "missing comma between key-value pairs, expected `,` or `}`",
+        short: "a comma or } is expected here",
+        advice: "",
+    },
+    Fault {
+        message: "invalid string",
+        short: "the text isn't closed",
+        advice: "a text ends in its line, with the quote that it begins with",
+    },
+    Fault {
+        message: "invalid value, expected a string, number, boolean, date-time, array or inline table",
+        short: "a value is expected here",
+        advice: "a text stands in quotes, and a list in brackets: [\"start\", \"release\"]",
+    },
+    Fault {
+        message: "duplicate key",
+        short: "the key stands there twice",
+        advice: "each key stands once; [[node]], with two brackets, may come again",
+    },
+    Fault {
+        message: "cannot extend a value with a dotted key",
+        short: "cannot extend a value with a dotted key",
+        advice: "a header and a key have the same name",
+    },
+];
+
+/// Says where the text stops being TOML, and why.
+pub(crate) fn no_toml(page: &mut Page, bytes: &[u8]) -> bool {
     let Ok(text) = str::from_utf8(bytes) else {
-        return Ok(None);
+        return false;
     };
-    let Err(error) = table_from_str(alloc, text) else {
-        return Ok(None);
-    };
-    let Some(span) = error.span() else {
-        return Err(AllocError);
-    };
-    let (line, column) = (line_at(bytes, span.start), column_at(bytes, span.start));
-    let fault = fault_in_words(error.message());
-    let first = format!(in alloc; "line {line}, column {column}: no TOML: {fault}")?;
-    Ok(Some(Words::two(first, remedy(alloc, bytes, span.start, error.message())?)))
-}
-
-/// The fault that `toml` names so, short enough for a line.
-fn fault_in_words(message: &str) -> &str {
-    match message {
-        "invalid key, expected letters, numbers, `-`, `_` or a quoted key" =>
-            "a key is expected here",
-        "key with no value, expected `=`" => "= and a value are expected behind the key",
-        "unexpected key or value, expected newline, `#`" => "the line has to end here",
-        "missing comma between array elements, expected `,` or `]`" =>
-            "a comma or ] is expected here",
-        "missing comma between key-value pairs, expected `,` or `}`" =>
-            "a comma or } is expected here",
-        "invalid string" => "the text isn't closed",
-        "invalid value, expected a string, number, boolean, date-time, array or inline table" =>
-            "a value is expected here",
-        "duplicate key" => "the key stands there twice",
-        other => other,
+    match table_from_str(page.alloc, text) {
+        Ok(_) => false,
+        Err(error) => match error.span() {
+            Some(span) => fault_words(page, bytes, span.start, error.message()),
+            None => page.refuse(),
+        },
     }
 }
 
-/// What to look for.
-///
-/// Error: memory was refused.
-fn remedy(alloc: Global, bytes: &[u8], place: usize, message: &str) -> Result<String, AllocError> {
-    let behind = bytes.get(place..).unwrap_or(&[]);
-    if let [b'/', b'/', ..] | [b';', ..] = behind {
-        return String::from_str(alloc, "a comment begins with #");
+/// Says the fault at this place that `toml` names so.
+fn fault_words(page: &mut Page, bytes: &[u8], place: usize, message: &str) -> bool {
+    let (mut short, mut advice) = (message, "");
+    for fault in FAULTS.as_slice() {
+        if fault.message == message {
+            (short, advice) = (fault.short, fault.advice);
+        }
     }
-    let advice = match message {
-        "duplicate key" => "each key stands once; [[node]], with two brackets, may come again",
-        "invalid string" => "a text ends in its line, with the quote that it begins with",
-        "missing comma between array elements, expected `,` or `]`" =>
-            "look for a quote or a comma that is missing before: [\"start\", \"release\"]",
-        "cannot extend a value with a dotted key" => "a header and a key have the same name",
-        "invalid value, expected a string, number, boolean, date-time, array or inline table" =>
-            "a text stands in quotes, and a list in brackets: [\"start\", \"release\"]",
-        _ => return near_text(alloc, behind),
-    };
-    String::from_str(alloc, advice)
+    page.say(
+        "line {}, column {}: no TOML: {}",
+        &[
+            Piece::Number(line_at(bytes, place) as u64),
+            Piece::Number(column_at(bytes, place) as u64),
+            Piece::Text(short),
+        ],
+    );
+    match bytes.get(place..).unwrap_or(&[]) {
+        [b'/', b'/', ..] | [b';', ..] => page.say("a comment begins with #", &[]),
+        behind if advice.is_empty() => near_text(page, behind),
+        _ => page.say(advice, &[]),
+    }
 }
 
-/// What is written at a place.
-///
-/// Error: memory was refused.
-fn near_text(alloc: Global, behind: &[u8]) -> Result<String, AllocError> {
-    let mut end = 0;
-    for (place, byte) in behind.iter().enumerate() {
-        if *byte == b'\n' || *byte == b'\r' || place > 30 {
+/// Says what is written at a place.
+fn near_text(page: &mut Page, behind: &[u8]) -> bool {
+    let near = behind.get(..end_of_near(behind)).unwrap_or(&[]);
+    if near.is_empty() {
+        return page.say("the line ends there", &[]);
+    }
+    match String::from_utf8_lossy(page.alloc, near) {
+        Ok(near) => page.say("there stands <{}>", &[Piece::Text(near.as_str())]),
+        Err(_) => page.refuse(),
+    }
+}
+
+/// How many bytes of the line are shown at a place.
+fn end_of_near(behind: &[u8]) -> usize {
+    let mut end = 0usize;
+    for byte in behind {
+        if *byte == b'\n' || *byte == b'\r' || end > 30 {
             break;
         }
-        end = place + 1;
+        end += 1;
     }
-    let said = String::from_utf8_lossy(alloc, behind.get(..end).unwrap_or(&[]))?;
-    if said.is_empty() {
-        return String::from_str(alloc, "the line ends there");
-    }
-    let said = escaped(alloc, said.as_str())?;
-    quoted(alloc, "there stands ", said.as_str(), "")
+    end
 }

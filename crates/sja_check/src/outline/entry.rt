@@ -1,13 +1,10 @@
 //! [`Entry`]: a key of a document.
 
-use super::section::Section;
-use super::token::Token;
-
-/// A key of a document: above or below which header, its piece, and at which piece its value begins. The name in a
-/// header is a key of the top without a value of its own.
-#[derive(Clone, Copy, Debug, PartialEq, Eq)]
+/// A key of a document: of which node it is, if of one, at which piece it stands, and at which its value begins. The
+/// name in a header is a key of no node, without a value of its own.
+#[derive(Clone, Copy)]
 pub(crate) struct Entry {
-    pub(crate) section: Section,
-    pub(crate) key: Token,
+    pub(crate) node: Option<usize>,
+    pub(crate) key: usize,
     pub(crate) value: Option<usize>,
 }

@@ -1,117 +1,220 @@
 //! [`Outline`]: in which line each key, node and text of a plan's document stands.
 
-use super::entries::entries_of;
 use super::entry::Entry;
-use super::find::{item, member};
 use super::line::line_at;
-use super::pieces::tokens_of;
-use super::section::Section;
+use super::pieces::end_of_piece;
+use super::spot::Spot;
 use super::token::Token;
 use std::alloc::{AllocError, Global};
 
-/// A document with its pieces and its keys. Lines count from 1; nodes and the numbers of texts count from 0.
-#[derive(Debug, Drop)]
+/// A document with its pieces, its keys, and at which pieces the headers of nodes have their names.
+#[derive(Drop)]
 pub(crate) struct Outline<'a> {
     bytes: &'a [u8],
     tokens: Vec<Token>,
     entries: Vec<Entry>,
+    headers: Vec<usize>,
 }
 
 impl<'a> Outline<'a> {
-    /// The outline of a document.
+    /// The outline of a document that isn't read yet.
+    pub(crate) fn new(alloc: Global, bytes: &'a [u8]) -> Outline<'a> {
+        Outline {
+            bytes: match bytes {
+                [0xef, 0xbb, 0xbf, behind @ ..] => behind,
+                _ => bytes,
+            },
+            tokens: Vec::new(alloc),
+            entries: Vec::new(alloc),
+            headers: Vec::new(alloc),
+        }
+    }
+
+    /// Reads the document.
     ///
     /// Error: memory was refused.
-    pub(crate) fn of(alloc: Global, bytes: &'a [u8]) -> Result<Outline<'a>, AllocError> {
-        let bytes = match bytes {
-            [0xef, 0xbb, 0xbf, behind @ ..] => behind,
-            _ => bytes,
-        };
-        let tokens = tokens_of(alloc, bytes)?;
-        let entries = entries_of(alloc, bytes, tokens.as_slice())?;
-        Ok(Outline {
-            bytes,
-            tokens,
-            entries,
-        })
+    pub(crate) fn read(&mut self) -> Result<(), AllocError> {
+        self.read_pieces()?;
+        self.read_keys()
     }
 
-    /// The line of a key above all headers, or of the first header with this name.
-    pub(crate) fn line_of_key(&self, key: &str) -> Option<usize> {
-        Some(self.line(self.entry(Section::Top, key)?.key))
+    /// The line of this.
+    pub(crate) fn line_of(&self, spot: Spot) -> Option<usize> {
+        let place = self.place_of(spot)?;
+        Some(line_at(self.bytes, self.tokens.as_slice().get(place)?.start))
     }
 
-    /// The line of a key of a node.
-    pub(crate) fn line_of_node_key(&self, node: usize, key: &str) -> Option<usize> {
-        match self.entry(Section::Node(node), key) {
-            Some(entry) => Some(self.line(entry.key)),
-            None => self.line_of_node(node),
+    /// Finds the pieces of the document.
+    ///
+    /// Error: memory was refused.
+    fn read_pieces(&mut self) -> Result<(), AllocError> {
+        let bytes = self.bytes;
+        let mut end = 0;
+        for (start, first) in bytes.iter().enumerate() {
+            let first = *first;
+            if start >= end {
+                end = end_of_piece(bytes, start, first);
+                if !b" \t\r#".contains(&first) {
+                    self.tokens.push(Token { first, start, end })?;
+                }
+            }
+        }
+        Ok(())
+    }
+
+    /// Finds the keys of the document: those that begin a line, and the names of headers.
+    ///
+    /// Error: memory was refused.
+    fn read_keys(&mut self) -> Result<(), AllocError> {
+        let mut depth = 0usize;
+        let mut begins = true;
+        let mut is_known = true;
+        let mut node = None;
+        for place in 0..self.tokens.len() {
+            let first = self.first_at(place);
+            if begins && first == b'[' {
+                let behind = place.saturating_add(1);
+                let name = behind.saturating_add(usize::from(self.first_at(behind) == b'['));
+                self.entries.push(Entry {
+                    node: None,
+                    key: name,
+                    value: None,
+                })?;
+                is_known = self.says(name, "node");
+                if is_known {
+                    node = Some(self.headers.len());
+                    self.headers.push(name)?;
+                }
+            } else if begins && is_known && first != b'\n' {
+                let value = self.value_behind(place);
+                self.entries.push(Entry {
+                    node,
+                    key: place,
+                    value,
+                })?;
+            }
+            depth = depth_behind(depth, first);
+            begins = first == b'\n' && depth == 0;
+        }
+        Ok(())
+    }
+
+    /// At which piece this stands.
+    fn place_of(&self, spot: Spot) -> Option<usize> {
+        match spot {
+            Spot::Key(key) => self.key(None, key),
+            Spot::Node(node) => self.node(node),
+            Spot::NodeKey(node, key) => self.key(Some(node), key).or(self.node(node)),
+            Spot::Item(key, number) => self.item(self.value(None, key), number, None),
+            Spot::Step(node, number) => self.item(self.steps(node), number, None),
         }
     }
 
-    /// The line of a node: of its header, or of its inline table.
-    pub(crate) fn line_of_node(&self, node: usize) -> Option<usize> {
-        match self.header(node) {
-            Some(entry) => Some(self.line(entry.key)),
-            None => self.line_of_item("node", node),
+    /// At which piece a node stands.
+    fn node(&self, node: usize) -> Option<usize> {
+        match self.headers.as_slice().get(node) {
+            Some(name) => Some(*name),
+            None => self.item(self.value(None, "node"), node, None),
         }
-    }
-
-    /// The line of an item of the list at a key above all headers.
-    pub(crate) fn line_of_item(&self, key: &str, number: usize) -> Option<usize> {
-        let open = self.entry(Section::Top, key)?.value?;
-        self.line_of_place(item(self.tokens.as_slice(), open, number)?)
-    }
-
-    /// The line of a step of a node.
-    pub(crate) fn line_of_step(&self, node: usize, number: usize) -> Option<usize> {
-        let steps = self.steps(node)?;
-        self.line_of_place(item(self.tokens.as_slice(), steps, number)?)
     }
 
     /// At which piece the steps of a node begin.
     fn steps(&self, node: usize) -> Option<usize> {
-        if let Some(entry) = self.entry(Section::Node(node), "steps") {
-            return entry.value;
+        if self.key(Some(node), "steps").is_some() {
+            return self.value(Some(node), "steps");
         }
-        let tokens = self.tokens.as_slice();
-        let open = self.entry(Section::Top, "node")?.value?;
-        member(self.bytes, tokens, item(tokens, open, node)?, "steps")
+        let table = self.item(self.value(None, "node"), node, None);
+        self.value_behind(self.item(table, 0, Some("steps"))?)
     }
 
-    /// The first key of this name in a section.
-    fn entry(&self, section: Section, key: &str) -> Option<Entry> {
+    /// At which piece a key of a node, or of none, stands.
+    fn key(&self, node: Option<usize>, key: &str) -> Option<usize> {
+        match self.entry(node, key) {
+            Some(entry) => Some(entry.key),
+            None => None,
+        }
+    }
+
+    /// At which piece its value begins.
+    fn value(&self, node: Option<usize>, key: &str) -> Option<usize> {
+        match self.entry(node, key) {
+            Some(entry) => entry.value,
+            None => None,
+        }
+    }
+
+    /// The first key of this name of a node, or of none.
+    fn entry(&self, node: Option<usize>, key: &str) -> Option<Entry> {
         for entry in self.entries.as_slice() {
-            if entry.section == section && entry.key.says(self.bytes, key) {
+            if entry.node == node && self.says(entry.key, key) {
                 return Some(*entry);
             }
         }
         None
     }
 
-    /// The header of a node.
-    fn header(&self, node: usize) -> Option<Entry> {
-        let mut count = 0usize;
-        for entry in self.entries.as_slice() {
-            if entry.value.is_none()
-                && entry.section == Section::Top
-                && entry.key.says(self.bytes, "node")
-            {
-                if count == node {
-                    return Some(*entry);
+    /// At which piece the item of this number, counted from 0, begins in the list or the inline table that begins at
+    /// `open`; of those with this key, where one is given.
+    fn item(&self, open: Option<usize>, number: usize, key: Option<&str>) -> Option<usize> {
+        let open = open?;
+        let mut depth = 0usize;
+        let mut left = number;
+        let mut awaited = false;
+        for place in open..self.tokens.len() {
+            let first = self.first_at(place);
+            if awaited && first != b'\n' && first != b']' {
+                let is_sought = match key {
+                    Some(key) => self.says(place, key),
+                    None => true,
+                };
+                if is_sought {
+                    if left == 0 {
+                        return Some(place);
+                    }
+                    left -= 1;
                 }
-                count = count.saturating_add(1);
+                awaited = false;
             }
+            depth = depth_behind(depth, first);
+            if depth == 0 {
+                return None;
+            }
+            awaited = awaited || (depth == 1 && (first == b',' || place == open));
         }
         None
     }
 
-    /// The line of the piece at this place.
-    fn line_of_place(&self, place: usize) -> Option<usize> {
-        Some(self.line(*self.tokens.as_slice().get(place)?))
+    /// At which piece the value begins of the key at this one.
+    fn value_behind(&self, place: usize) -> Option<usize> {
+        if self.first_at(place.saturating_add(1)) == b'=' {
+            Some(place.saturating_add(2))
+        } else {
+            None
+        }
     }
 
-    /// The line of a piece.
-    fn line(&self, token: Token) -> usize {
-        line_at(self.bytes, token.start)
+    /// The first byte of the piece at this place; a line feed where there is none.
+    fn first_at(&self, place: usize) -> u8 {
+        match self.tokens.as_slice().get(place) {
+            Some(token) => token.first,
+            None => b'\n',
+        }
+    }
+
+    /// Whether the piece at this place is this key.
+    fn says(&self, place: usize, key: &str) -> bool {
+        match self.tokens.as_slice().get(place) {
+            Some(token) => token.says(self.bytes, key),
+            None => false,
+        }
+    }
+}
+
+/// How many brackets and braces are open behind a piece that begins so.
+fn depth_behind(depth: usize, first: u8) -> usize {
+    match first {
+        b'[' | b'{' => depth.saturating_add(1),
+        b']' | b'}' => depth.saturating_sub(1),
+        _ => depth,
     }
 }

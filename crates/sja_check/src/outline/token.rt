@@ -1,11 +1,11 @@
 //! [`Token`]: a piece of a document.
 
-use super::token_kind::TokenKind;
-
-/// A piece of a document: what it is, and from which byte to before which one it stands, counted from 0.
-#[derive(Clone, Copy, Debug, PartialEq, Eq)]
+/// A piece of a document: its first byte, which says what it is, and from which byte to before which one it stands,
+/// counted from 0. A piece is a line feed, a bracket, a brace, `=`, `,`, `.`, a text in quotes, these included, or a
+/// bare word. Blanks and comments are no pieces.
+#[derive(Clone, Copy)]
 pub(crate) struct Token {
-    pub(crate) kind: TokenKind,
+    pub(crate) first: u8,
     pub(crate) start: usize,
     pub(crate) end: usize,
 }
@@ -16,10 +16,9 @@ impl Token {
         let Some(said) = bytes.get(self.start..self.end) else {
             return false;
         };
-        match (self.kind, said) {
-            (TokenKind::Word, _) => said == key.as_bytes(),
-            (TokenKind::Text, [_, inside @ .., _]) => inside == key.as_bytes(),
-            _ => false,
+        match said {
+            [b'"' | b'\'', inside @ .., _] => inside == key.as_bytes(),
+            _ => said == key.as_bytes(),
         }
     }
 }

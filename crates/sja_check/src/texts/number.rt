@@ -1,72 +1,100 @@
-//! Why a word isn't the number that is wanted.
+//! Words that are to be numbers.
 
-use super::super::phrase::quoted;
-use super::reason::{Reason, fixed};
-use sja_plan::MOST_DIGITS;
-use std::alloc::{AllocError, Global};
-
-/// What number is wanted in a text: its name, from where to where it goes, and what stands before and behind it.
-#[derive(Clone, Copy)]
-pub(crate) struct Wanted<'a> {
-    pub(crate) name: &'a str,
-    pub(crate) least: u32,
-    pub(crate) most: u32,
-    pub(crate) before: &'a str,
-    pub(crate) behind: &'a str,
-}
+use super::super::page::{Page, Piece};
+use sja_plan::{GREATEST_NUMBER, MOST_DIGITS, number_within};
 
 /// The number that a word spells with one to seven decimal digits.
 pub(crate) fn number_in(word: &str) -> Option<u32> {
-    if word.len() > MOST_DIGITS || !word.bytes().all(|byte| byte.is_ascii_digit()) {
-        return None;
+    match number_within(word, 0, GREATEST_NUMBER) {
+        Ok(number) => Some(number),
+        Err(_) => None,
     }
-    word.parse::<u32>().ok()
 }
 
-/// Why a word isn't the number that is wanted.
-pub(crate) fn number_reason(alloc: Global, wanted: &Wanted, word: &str) -> Reason {
-    let (name, least, most) = (wanted.name, wanted.least, wanted.most);
+/// The word at this place; none where there are fewer.
+pub(crate) fn word_at<'a>(words: &'a [&'a str], place: usize) -> &'a str {
+    match words.get(place) {
+        Some(word) => word,
+        None => "",
+    }
+}
+
+/// The words before this place, each with a space behind it.
+pub(crate) fn before<'a>(words: &'a [&'a str], place: usize) -> Piece<'a> {
+    Piece::Words("", words.get(..place).unwrap_or(&[]), " ")
+}
+
+/// The words behind this place, each with a space before it.
+pub(crate) fn behind<'a>(words: &'a [&'a str], place: usize) -> Piece<'a> {
+    Piece::Words(" ", words.get(place.saturating_add(1)..).unwrap_or(&[]), "")
+}
+
+/// Says why the word at this place isn't a number of this name, from where to where; false where it is.
+pub(crate) fn number_words<'a>(
+    page: &mut Page,
+    wanted: (&'static str, u32, u32),
+    words: &'a [&'a str],
+    place: usize,
+) -> bool {
+    let (name, least, most) = wanted;
+    let word = word_at(words, place);
+    let (from, to) = (
+        Piece::Number(u64::from(least)),
+        Piece::Number(u64::from(most)),
+    );
     if let Some(number) = number_in(word) {
-        if least <= number && number <= most {
-            return Ok(None);
-        }
-        return Ok(Some(format!(in alloc;
-            "{name} is from {least} to {most}, and here it is {number}"
-        )?));
+        let number_is = Piece::Number(u64::from(number));
+        return (number < least || number > most)
+            && page.say(
+                "{} is from {} to {}, and here it is {}",
+                &[Piece::Text(name), from, to, number_is],
+            );
     }
     if let Some(number) = hexadecimal_in(word) {
-        return decimal_reason(alloc, wanted, number);
+        if number < least || number > most {
+            return page.say("numbers are decimal, without 0x", &[]);
+        }
+        let number = Piece::Number(u64::from(number));
+        return page.say(
+            "numbers are decimal, without 0x: <{}{}{}>",
+            &[before(words, place), number, behind(words, place)],
+        );
     }
-    if !word.is_empty() && word.bytes().all(|byte| byte.is_ascii_digit()) {
-        return fixed(alloc, "a number has one to seven digits");
+    if wrong_digit(word, true).is_none() {
+        return page.say("a number has one to seven digits", &[]);
     }
-    let before = format!(in alloc;
-        "{name} is a number from {least} to {most}, in digits alone, and not "
-    )?;
-    Ok(Some(quoted(alloc, before.as_str(), word, "")?))
-}
-
-/// The same number in decimal digits, where it is within the limits.
-fn decimal_reason(alloc: Global, wanted: &Wanted, number: u32) -> Reason {
-    if number < wanted.least || number > wanted.most {
-        return fixed(alloc, "numbers are decimal, without 0x");
-    }
-    let right = format!(in alloc; "{}{number}{}", wanted.before, wanted.behind)?;
-    Ok(Some(quoted(
-        alloc,
-        "numbers are decimal, without 0x: ",
-        right.as_str(),
-        "",
-    )?))
+    page.say(
+        "{} is a number from {} to {}, in digits alone, and not <{}>",
+        &[Piece::Text(name), from, to, Piece::Text(word)],
+    )
 }
 
 /// The number that a word spells with hexadecimal digits, with or without `0x` before them.
 fn hexadecimal_in(word: &str) -> Option<u32> {
     let digits = without_prefix(word);
-    if digits.len() > MOST_DIGITS || !digits.bytes().all(|byte| byte.is_ascii_hexdigit()) {
+    if digits.len() > MOST_DIGITS || wrong_digit(digits, false).is_some() {
         return None;
     }
     u32::from_str_radix(digits, 16).ok()
+}
+
+/// The first character of a word that is no digit, decimal or hexadecimal.
+pub(crate) fn wrong_digit(word: &str, is_decimal: bool) -> Option<char> {
+    for character in word.chars() {
+        if !is_digit(character, is_decimal) {
+            return Some(character);
+        }
+    }
+    None
+}
+
+/// Whether a character is a digit, decimal or hexadecimal.
+fn is_digit(character: char, is_decimal: bool) -> bool {
+    if is_decimal {
+        character.is_ascii_digit()
+    } else {
+        character.is_ascii_hexdigit()
+    }
 }
 
 /// The word without the `0x` or `0X` that it begins with.
@@ -77,26 +105,48 @@ pub(crate) fn without_prefix(word: &str) -> &str {
     }
 }
 
-/// Why a word names no node of so many, between the words before and behind it.
-pub(crate) fn node_reason(alloc: Global, nodes: usize, word: &str) -> Reason {
+/// Says why a word names no node of so many; false where it does.
+pub(crate) fn node_words(page: &mut Page, nodes: usize, word: &str) -> bool {
     let Some(node) = number_in(word) else {
-        let before = "K is the number of a node, counted from 0, and not ";
-        return Ok(Some(quoted(alloc, before, word, "")?));
+        return page.say(
+            "K is the number of a node, counted from 0, and not <{}>",
+            &[Piece::Text(word)],
+        );
     };
     if (node as usize) < nodes {
-        return Ok(None);
+        return false;
     }
-    let there = nodes_there(alloc, nodes)?;
-    Ok(Some(format!(in alloc; "there is no node {node}: {there}")?))
+    let node = Piece::Number(u64::from(node));
+    if nodes <= 1 {
+        return page.say(
+            "there is no node {}: the plan has one node, and its number is 0",
+            &[node],
+        );
+    }
+    page.say(
+        "there is no node {}: the plan has {} nodes, counted from 0 to {}",
+        &[
+            node,
+            Piece::Number(nodes as u64),
+            Piece::Number(nodes as u64 - 1),
+        ],
+    )
 }
 
-/// Which nodes there are.
-///
-/// Error: memory was refused.
-fn nodes_there(alloc: Global, nodes: usize) -> Result<String, AllocError> {
-    if nodes <= 1 {
-        return String::from_str(alloc, "the plan has one node, and its number is 0");
+/// Says why the word at this place isn't two hexadecimal digits; false where it is.
+pub(crate) fn value_words<'a>(page: &mut Page, words: &'a [&'a str], place: usize) -> bool {
+    let word = word_at(words, place);
+    let digits = without_prefix(word);
+    if wrong_digit(digits, false).is_some() || digits.is_empty() || digits.len() > 2 {
+        return page.say(
+            "a VALUE is two hexadecimal digits, 00 to ff, and not <{}>",
+            &[Piece::Text(word)],
+        );
     }
-    let last = nodes.saturating_sub(1);
-    format!(in alloc; "the plan has {nodes} nodes, counted from 0 to {last}")
+    let zero = if digits.len() == 1 { "0" } else { "" };
+    word.len() != 2
+        && page.say(
+            "a VALUE is two hexadecimal digits without 0x: <{}{}{}>",
+            &[before(words, place), Piece::Text(zero), Piece::Text(digits)],
+        )
 }

@@ -1,27 +1,103 @@
-//! Why a text says no step.
+//! Texts that say no step.
 
-use super::super::near::nearest;
-use super::super::phrase::quoted;
-use super::message::message_reason;
-use super::number::{Wanted, number_reason};
-use super::reason::{Reason, fixed};
-use super::register::register_reason;
-use super::spacing::{spacing_reason, words_in};
-use super::value::value_reason;
+use super::super::page::{Page, Piece};
+use super::argument::Argument;
+use super::form::{Form, form_of};
+use super::judge::{form_words, known_words, near_words};
 use sja_plan::RAW_VERSION;
-use std::alloc::Global;
 
-/// What steps begin with in versions 1 and 2.
-const STEPS: [&str; 10] = [
-    "start", "stop", "window", "release", "read", "write", "load", "command", "await", "sent",
+/// Nothing stands behind the first word.
+const ALONE: [Argument; 2] = [Argument::Nothing, Argument::Nothing];
+
+/// What is said where something does.
+const ALONE_IS: &str = "this step stands alone: <{}>";
+
+/// The forms of steps.
+const STEPS: [Form; 11] = [
+    Form {
+        name: "start",
+        since: 1,
+        words: 1,
+        arguments: ALONE,
+        usage: ALONE_IS,
+    },
+    Form {
+        name: "stop",
+        since: 1,
+        words: 1,
+        arguments: ALONE,
+        usage: ALONE_IS,
+    },
+    Form {
+        name: "window",
+        since: 1,
+        words: 1,
+        arguments: ALONE,
+        usage: ALONE_IS,
+    },
+    Form {
+        name: "release",
+        since: 1,
+        words: 1,
+        arguments: ALONE,
+        usage: ALONE_IS,
+    },
+    Form {
+        name: "read",
+        since: 1,
+        words: 2,
+        arguments: [Argument::Address, Argument::Nothing],
+        usage: "the form is \"read ADDRESS\", the register's address in decimal: \"read 2\"",
+    },
+    Form {
+        name: "write",
+        since: 1,
+        words: 3,
+        arguments: [Argument::Address, Argument::Value],
+        usage: "the form is \"write ADDRESS VALUE\", decimal and two hexadecimal digits: \"write 4 ff\"",
+    },
+    Form {
+        name: "load",
+        since: 1,
+        words: 2,
+        arguments: [Argument::Message, Argument::Nothing],
+        usage: "the form is \"load MESSAGE\", the bytes of the transmit buffer: \"load 000000\"",
+    },
+    Form {
+        name: "command",
+        since: 1,
+        words: 2,
+        arguments: [Argument::Value, Argument::Nothing],
+        usage: "the form is \"command VALUE\", two hexadecimal digits: \"command 01\"",
+    },
+    Form {
+        name: "await",
+        since: 1,
+        words: 2,
+        arguments: [
+            Argument::Number("N of \"await N\"", 1, 21),
+            Argument::Nothing,
+        ],
+        usage: "the form is \"await N\", N messages from 1 to 21: \"await 2\"",
+    },
+    Form {
+        name: "sent",
+        since: 1,
+        words: 1,
+        arguments: ALONE,
+        usage: ALONE_IS,
+    },
+    Form {
+        name: "interrupt",
+        since: RAW_VERSION,
+        words: 1,
+        arguments: ALONE,
+        usage: ALONE_IS,
+    },
 ];
 
-/// The same, in words.
-const STEPS_ARE: &str =
-    "steps are start, stop, window, release, read, write, load, command, await, sent";
-
-/// What steps begin with in version 3.
-const RAW_STEPS: [&str; 11] = [
+/// What steps begin with; version 3 alone has the last.
+const NAMES: [&str; 11] = [
     "start",
     "stop",
     "window",
@@ -35,187 +111,76 @@ const RAW_STEPS: [&str; 11] = [
     "interrupt",
 ];
 
-/// The same, in words.
-const RAW_STEPS_ARE: &str =
-    "steps are start, stop, window, release, read, write, load, command, await, sent, interrupt";
+/// Words that begin no step, with what is said of them.
+const KNOWN: [(&str, &str); 13] = [
+    (
+        "interrupt",
+        "a driver waits for its interrupt line in version 3 alone: version = 3",
+    ),
+    ("send", SENDING),
+    ("transmit", SENDING),
+    ("tx", SENDING),
+    ("receive", RECEIVING),
+    ("recv", RECEIVING),
+    ("rx", RECEIVING),
+    ("bus", TURNS),
+    ("rest", TURNS),
+    ("node", TURNS),
+    ("wait", WAITING),
+    ("sleep", WAITING),
+    ("delay", WAITING),
+];
+
+const SENDING: &str =
+    "a frame is sent by two steps, \"load MESSAGE\" and \"command 01\"; \"sent\" waits for it";
+
+const RECEIVING: &str = "\"await 1\" waits for a message, and \"release\" takes it";
+
+const TURNS: &str = "turns begin so, and stand in the list turns: <{}>";
+
+const WAITING: &str =
+    "a driver doesn't wait for bits: the turns \"bus N\" and \"rest\" let them run";
 
 /// Whether a step of this version begins with this word.
 pub(crate) fn begins_step(version: u8, word: &str) -> bool {
-    STEPS.as_slice().contains(&word) || (version >= RAW_VERSION && word == "interrupt")
+    names_of(version).contains(&word)
 }
 
-/// Why a text says no step of this version, with what would say one; nothing where it says one.
-pub(crate) fn step_reason(alloc: Global, version: u8, text: &str) -> Reason {
-    let words = words_in(alloc, text)?;
-    match words.as_slice() {
-        [] => fixed(alloc, steps_are(version)),
-        [name, rest @ ..] => {
-            if let Some(reason) = form_reason(alloc, version, name, rest)? {
-                return Ok(Some(reason));
-            }
-            spacing_reason(alloc, text, words.as_slice())
-        }
-    }
-}
-
-/// What steps of this version begin with, in words.
-fn steps_are(version: u8) -> &'static str {
-    if version < RAW_VERSION {
-        STEPS_ARE
-    } else {
-        RAW_STEPS_ARE
-    }
-}
-
-/// Why these words are no step: the first one's form isn't kept, or no step begins with it.
-fn form_reason(alloc: Global, version: u8, name: &str, rest: &[&str]) -> Reason {
-    match name {
-        "start" | "stop" | "window" | "release" | "sent" => alone_reason(alloc, name, rest),
-        "interrupt" if version >= RAW_VERSION => alone_reason(alloc, name, rest),
-        "read" => read_reason(alloc, rest),
-        "write" => write_reason(alloc, rest),
-        "load" => message_reason(alloc, rest),
-        "command" => command_reason(alloc, rest),
-        "await" => await_reason(alloc, rest),
-        _ => name_reason(alloc, version, name),
-    }
-}
-
-/// Why words behind a step of one word are too many.
-fn alone_reason(alloc: Global, name: &str, rest: &[&str]) -> Reason {
-    if rest.is_empty() {
-        return Ok(None);
-    }
-    Ok(Some(quoted(alloc, "this step stands alone: ", name, "")?))
-}
-
-/// Why the words behind `read` are no address.
-fn read_reason(alloc: Global, rest: &[&str]) -> Reason {
-    match rest {
-        [address] => address_reason(alloc, "read ", address, ""),
-        _ => fixed(
-            alloc,
-            "the form is \"read ADDRESS\", the register's address in decimal: \"read 2\"",
-        ),
-    }
-}
-
-/// Why the words behind `write` are no address and value.
-fn write_reason(alloc: Global, rest: &[&str]) -> Reason {
-    match rest {
-        [address, value] => {
-            let behind = format!(in alloc; " {value}")?;
-            if let Some(reason) = address_reason(alloc, "write ", address, behind.as_str())? {
-                return Ok(Some(reason));
-            }
-            let before = format!(in alloc; "write {address} ")?;
-            value_reason(alloc, before.as_str(), value)
-        }
-        _ => fixed(
-            alloc,
-            "the form is \"write ADDRESS VALUE\", decimal and two hexadecimal digits: \"write 4 ff\"",
-        ),
-    }
-}
-
-/// Why a word is no address, between what stands before and behind it.
-fn address_reason(alloc: Global, before: &str, address: &str, behind: &str) -> Reason {
-    if let Some(reason) = register_reason(alloc, before, address, behind)? {
-        return Ok(Some(reason));
-    }
-    let wanted = Wanted {
-        name: "ADDRESS",
-        least: 0,
-        most: 255,
-        before,
-        behind,
+/// Says why words say no step of this version, and what would; false where they say one.
+pub(crate) fn step_words<'a>(page: &mut Page, version: u8, words: &'a [&'a str]) -> bool {
+    let Some(name) = words.first() else {
+        return names_words(page, version);
     };
-    number_reason(alloc, &wanted, address)
-}
-
-/// Why the words behind `command` are no value.
-fn command_reason(alloc: Global, rest: &[&str]) -> Reason {
-    match rest {
-        [value] => value_reason(alloc, "command ", value),
-        _ => fixed(
-            alloc,
-            "the form is \"command VALUE\", two hexadecimal digits: \"command 01\"",
-        ),
-    }
-}
-
-/// Why the words behind `await` are no number of messages.
-fn await_reason(alloc: Global, rest: &[&str]) -> Reason {
-    match rest {
-        [count] => {
-            let wanted = Wanted {
-                name: "N of \"await N\"",
-                least: 1,
-                most: 21,
-                before: "await ",
-                behind: "",
-            };
-            number_reason(alloc, &wanted, count)
-        }
-        _ => fixed(
-            alloc,
-            "the form is \"await N\", N messages from 1 to 21: \"await 2\"",
-        ),
-    }
-}
-
-/// Why no step begins with this word, and which step may be meant.
-fn name_reason(alloc: Global, version: u8, name: &str) -> Reason {
-    match name {
-        "interrupt" => {
-            return fixed(
-                alloc,
-                "a driver waits for its interrupt line in version 3 alone: version = 3",
-            );
-        }
-        "send" | "transmit" | "tx" => {
-            return fixed(
-                alloc,
-                "a frame is sent by two steps, \"load MESSAGE\" and \"command 01\"; \"sent\" waits for it",
-            );
-        }
-        "receive" | "recv" | "rx" => {
-            return fixed(
-                alloc,
-                "\"await 1\" waits for a message, and \"release\" takes it",
-            );
-        }
-        "bus" | "rest" | "node" => {
-            return Ok(Some(quoted(
-                alloc,
-                "turns begin so, and stand in the list turns: ",
+    match form_of(STEPS.as_slice(), version, name) {
+        Some(form) => form_words(page, &form, 0, words),
+        None => known_words(page, KNOWN.as_slice(), name)
+            || near_words(
+                page,
+                "no step begins with <{}>, did you mean \"{}\"?",
                 name,
-                "",
-            )?));
-        }
-        "wait" | "sleep" | "delay" => {
-            return fixed(
-                alloc,
-                "a driver doesn't wait for bits: the turns \"bus N\" and \"rest\" let them run",
-            );
-        }
-        _ => {}
+                names_of(version),
+            )
+            || names_words(page, version),
     }
-    near_reason(alloc, version, name)
 }
 
-/// Which step of this version has the nearest name.
-fn near_reason(alloc: Global, version: u8, name: &str) -> Reason {
-    let near = if version < RAW_VERSION {
-        nearest(alloc, name, STEPS.as_slice())?
-    } else {
-        nearest(alloc, name, RAW_STEPS.as_slice())?
-    };
-    match near {
-        Some(near) => {
-            let behind = format!(in alloc; ", did you mean \"{near}\"?")?;
-            Ok(Some(quoted(alloc, "no step begins with ", name, behind.as_str())?))
-        }
-        None => fixed(alloc, steps_are(version)),
+/// What steps of this version begin with.
+fn names_of(version: u8) -> &'static [&'static str] {
+    match NAMES.as_slice() {
+        [names @ .., _] if version < RAW_VERSION => names,
+        names => names,
     }
+}
+
+/// Says what steps of this version begin with.
+fn names_words(page: &mut Page, version: u8) -> bool {
+    let more = if version < RAW_VERSION {
+        ""
+    } else {
+        ", interrupt"
+    };
+    page.say(
+        "steps are start, stop, window, release, read, write, load, command, await, sent{}",
+        &[Piece::Text(more)],
+    )
 }

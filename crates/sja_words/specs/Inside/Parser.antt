@@ -14,6 +14,10 @@ use Rattle.sja_words.specs.Words.{request_in, faults, asked}
 unfoldable pub IsHeldAs : {E : Type 0} → Result Command E → App → Type 0
 IsHeldAs made app = IfOk made (λ command. (app_of command ≡ app) × ((out-Command command).has_globals ≡ false))
 
+-- it reads this of this command, of which the same holds
+unfoldable pub IsHeld : Command → App → Type 0
+IsHeld command app = (app_of command ≡ app) × ((out-Command command).has_globals ≡ false)
+
 -- it reads this of the argument, which doesn't count for commands below
 unfoldable pub IsReadAs : Arg → Rule → Type 0
 IsReadAs argument rule = (rule_of argument ≡ rule) × (argument.global ≡ false)

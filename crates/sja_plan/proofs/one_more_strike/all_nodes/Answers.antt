@@ -1,4 +1,4 @@
-use Rattle.std.proofs.Common.{◌≡◌, ◌+◌, ◌<◌, ◌∙◌, ℕ, List, [], ◌∷◌, ◌++◌, length, map, take, get_or, ap, sym}
+use Rattle.std.proofs.Common.{◌≡◌, ◌+◌, ◌<◌, ◌∙◌, ℕ, List, [], ◌∷◌, ◌++◌, length, map, take, get_or, ap, rules, sym}
 use Rattle.std.proofs.lemmas.List.{map-append, take_more}
 use Rattle.std.proofs.lemmas.Slice.{pushed}
 use Rattle.sja_plan.proofs.one_more_strike.all_nodes.Goals as goal
@@ -16,8 +16,11 @@ looks_alike f old new nodes i item x less is same is_new so_far =
     ∙ sym (ap (map f) (take_more nodes i item less))
 
 pub loop-steps-preserved : goal.loop-steps-preserved
-loop-steps-preserved c =
-    looks_alike (λ steps. steps.items) c.loop-steps.list.items c.push.new.self.items c.args.nodes.now
-    c.loop-steps.steps-index c.steps-item.result c.in_ok-all_steps.field-0
-    c.loop-steps-test.true c.steps-item.is (c.in_ok-all_steps.ensures.ok ∙ c.as_slice.ensures.value)
-    c.in_ok-push.ensures.items c.loop-steps.invariant
+loop-steps-preserved c = record {
+  count = search rules;
+  room = search rules;
+  made = looks_alike (λ steps. steps.items) c.loop-steps.list.items c.push_reserved.new.self.items c.args.nodes.now
+      c.loop-steps.steps-index c.steps-item.result c.in_ok-all_steps.field-0
+      c.loop-steps-test.true c.steps-item.is (c.in_ok-all_steps.ensures.ok ∙ c.as_slice.ensures.value)
+      c.push_reserved.ensures.items c.loop-steps.invariant.made;
+}

@@ -14,17 +14,20 @@ returns-in-Err-Bad-clause-err g c =
     (slice_index_or c.args.texts.now c.loop-text.text-index none_there).now x = search rules in
     subst (λ n. IsFirstBad (g.T.PlanText.says c.args.within) (bytes_of c.args.texts.now) (n + 1)) (sym len)
     (first_bad (g.T.PlanText.says c.args.within) c.args.texts.now c.loop-text.found.items c.loop-text.text-index
-    none_there (omega (arith, c.loop-text-test.true)) c.loop-text.invariant none)
+    none_there (omega (arith, c.loop-text-test.true)) c.loop-text.invariant.made none)
 
 pub loop-text-preserved : goal.loop-text-preserved
-loop-text-preserved g c =
-    rw c.in_ok-push-in-Ok.ensures.items
-    (read_more (g.T.PlanText.says c.args.within) c.args.texts.now c.loop-text.found.items c.loop-text.text-index
-    none_there c.in-Ok.value (omega (arith, c.loop-text-test.true)) c.loop-text.invariant c.in-Ok.ensures.ok)
+loop-text-preserved g c = record {
+  count = search rules;
+  room = search rules;
+  made = rw c.push_reserved.ensures.items
+      (read_more (g.T.PlanText.says c.args.within) c.args.texts.now c.loop-text.found.items c.loop-text.text-index
+      none_there c.in-Ok.value (omega (arith, c.loop-text-test.true)) c.loop-text.invariant.made c.in-Ok.ensures.ok);
+}
 
 pub overflow_add-result : goal.overflow_add-result
 overflow_add-result g c =
     let len : c.len.result ≡ length c.loop-text.found.items = search rules in
     let count = read_count (g.T.PlanText.says c.args.within) c.args.texts.now c.loop-text.found.items
-    c.loop-text.text-index (omega (arith, c.loop-text-test.true)) c.loop-text.invariant in
+    c.loop-text.text-index (omega (arith, c.loop-text-test.true)) c.loop-text.invariant.made in
     search rules

@@ -1,10 +1,9 @@
-use Rattle.sja_words.proofs.Requests.Commands.{read_as}
-use Rattle.sja_words.specs.CommandLine.{sja_app}
+use Rattle.sja_words.specs.CommandLine.{empty_app, sja_app}
+use Rattle.sja_words.specs.Inside.Table.{with_apps}
+use Rattle.sja_words.proofs.Requests.Commands.{whole_read}
 use Rattle.sja_words.proofs.command.sja_command.Goals as goal
 
 pub returns : goal.returns
-unfolding sja_app
 returns c =
-    let checks = c.with_command-command.ensures _ _ c.view_command.ensures c.check_command.ensures in
-    let sweeps = c.with_command-command-2.ensures _ _ checks c.sweep_command.ensures in
-    read_as _ _ (c.with_command.ensures _ _ sweeps c.live_command.ensures)
+    whole_read c.program_of.result (with_apps empty_app c.commands.result.now) sja_app c.program_of.ensures
+    c.commands.ensures

@@ -1,0 +1,73 @@
+//! Steps that were refused.
+
+use super::super::document::{Document, text_at};
+use super::super::outline::Spot;
+use super::super::page::{Page, Piece};
+use super::remedy::remedy_of;
+use super::starts::Starts;
+use sja_plan::RAW_VERSION;
+use sja_script::{Done, Refusal, Step, StepAnswer};
+
+/// Says which steps of a node were refused, with what to do.
+pub(crate) fn refused_hints(
+    page: &mut Page,
+    document: &Document,
+    version: u8,
+    node: usize,
+    steps: &[Step],
+    done: &[Done],
+) {
+    let mut starts = Starts::NoneYet;
+    for (place, one) in done.iter().enumerate() {
+        let Some(step) = steps.get(place) else {
+            return;
+        };
+        if let StepAnswer::Refused(refusal) = &one.answer {
+            let remedy = remedy_of(*refusal, version, step, starts);
+            refused_hint(page, document, [node, place], *refusal, remedy);
+        }
+        starts = starts_after(starts, version, step, &one.answer);
+    }
+}
+
+/// Says that a step, of this node and at this place, was refused, and what to do.
+fn refused_hint(
+    page: &mut Page,
+    document: &Document,
+    step: [usize; 2],
+    refusal: Refusal,
+    remedy: &'static str,
+) {
+    let [node, place] = step;
+    page.say(
+        "{}node {}, step {}: {} was refused {}: {}",
+        &[
+            document.line(Spot::Step(node, place)),
+            Piece::Number(node as u64),
+            Piece::Number((place as u64).saturating_add(1)),
+            Piece::Shown(text_at(document.steps(node), place)),
+            Piece::Refused(refusal),
+            Piece::Text(remedy),
+        ],
+    );
+}
+
+/// What the starts of a node are after a step that was answered so.
+fn starts_after(starts: Starts, version: u8, step: &Step, answer: &StepAnswer) -> Starts {
+    match answer {
+        StepAnswer::Refused(Refusal::NoActivationLeft) => Starts::Spent,
+        StepAnswer::Refused(_) => starts,
+        _ if can_start(version, step) => Starts::Begun,
+        _ => starts,
+    }
+}
+
+/// Whether a step can start a node: `start`, and in version 3 also a write of MOD with RM 0 (SJA1000 data sheet,
+/// 6.4.3).
+pub(crate) fn can_start(version: u8, step: &Step) -> bool {
+    match step {
+        Step::Start => true,
+        Step::Write(0, value) => version >= RAW_VERSION && *value % 2 == 0,
+        _ => false,
+    }
+}

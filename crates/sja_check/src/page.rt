@@ -1,0 +1,48 @@
+//! [`Page`]: the lines that are said.
+
+mod line;
+mod piece;
+
+use super::lines::MOST_HINTS;
+use line::Line;
+pub(crate) use piece::Piece;
+use std::alloc::Global;
+
+/// The lines that are said of a plan. Where memory is refused, that is kept, and nothing more is to be said.
+#[derive(Drop)]
+pub(crate) struct Page {
+    pub(crate) alloc: Global,
+    pub(crate) lines: Vec<String>,
+    pub(crate) refused: bool,
+}
+
+impl Page {
+    /// A page without a line.
+    pub(crate) fn new(alloc: Global) -> Page {
+        Page {
+            alloc,
+            lines: Vec::new(alloc),
+            refused: false,
+        }
+    }
+
+    /// Adds a line: the template, with the pieces in its gaps (`Line`). Past the lines that are written out an empty
+    /// one counts each. It is always true: something is said.
+    pub(crate) fn say(&mut self, template: &str, pieces: &[Piece]) -> bool {
+        let mut line = Line::new(self.alloc);
+        if self.lines.len() < MOST_HINTS {
+            line.fill(template, pieces);
+        }
+        self.refused = self.refused || line.refused;
+        if self.lines.push(line.text).is_err() {
+            self.refused = true;
+        }
+        true
+    }
+
+    /// Keeps that memory was refused.
+    pub(crate) fn refuse(&mut self) -> bool {
+        self.refused = true;
+        true
+    }
+}

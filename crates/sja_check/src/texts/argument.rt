@@ -1,0 +1,18 @@
+//! [`Argument`]: what a word of a text is to be.
+
+/// What a word of a text is to be.
+#[derive(Clone, Copy)]
+pub(crate) enum Argument {
+    /// There is no such word.
+    Nothing,
+    /// The number of a node.
+    Node,
+    /// The address of a register.
+    Address,
+    /// The value of a register.
+    Value,
+    /// The bytes of the transmit buffer.
+    Message,
+    /// A number with this name, from where to where.
+    Number(&'static str, u32, u32),
+}
