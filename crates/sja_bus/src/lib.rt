@@ -6,8 +6,7 @@
 //! Contracts see a bus as its journals: each journal's record has one cut, by which its verdicts are right, and each
 //! level that was seen is the one that all nodes drove together, or the other one where the script strikes.
 //!
-//! `Bus::new`, `Bus::strike`, `serial_links`, `SerialBoard::new` and `NotingBoard::new` alone take memory. The tests
-//! stand in `crates/test_bus`.
+//! `Bus::new`, `Bus::strike`, `serial_links`, `SerialBoard::new` and `NotingBoard::new` alone take memory.
 #![tactic(auto)]
 
 mod aborts;

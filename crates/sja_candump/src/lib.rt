@@ -5,7 +5,7 @@
 //! python-can and Wireshark. What each bit brought is told by the cut of its node's record, as `sja_replay` tells it.
 //!
 //! `specs/ErrorFrames.antt` and `specs/BitErrors.antt` say which error frames a bit brings, and
-//! `specs/CandumpText.antt` the text line by line. The tests stand in `crates/test_plan`.
+//! `specs/CandumpText.antt` the text line by line.
 #![tactic(auto)]
 
 mod all_bits;

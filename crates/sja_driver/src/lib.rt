@@ -13,7 +13,7 @@
 //! it. When it may be made is the record `MayStep`, and what is in order after it, whatever the step, `StaysLawful`.
 //! [`LoggedDriver::irq`] looks at the interrupt line, which is no step: `specs/Observing.antt` says what it takes in.
 //!
-//! `WorkLog::new` alone takes memory. The tests stand in `crates/test_controller`.
+//! `WorkLog::new` alone takes memory.
 #![tactic(auto)]
 
 mod active;

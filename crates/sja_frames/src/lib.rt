@@ -6,7 +6,7 @@
 //! The fields and the runs of equal levels serve `sja_picture` too.
 //!
 //! `specs/FrameBits.antt`, `specs/FrameEnds.antt` and `specs/FrameStories.antt` say which bits a frame has, and
-//! `specs/FramesText.antt` the text line by line. The tests stand in `crates/test_plan`.
+//! `specs/FramesText.antt` the text line by line.
 #![tactic(auto)]
 
 mod ending;

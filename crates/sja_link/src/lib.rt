@@ -10,8 +10,7 @@
 //! [`RECEIVE_FIFO`] are the sizes of all that, [`most_activations`] is how many of a node's links a version uses, and
 //! [`first_link`] is where a node's links begin among those of all.
 //!
-//! `DequeLink::new`, `Journal::new` and `World::step` alone take memory. Its tests stand in
-//! `crates/test_controller/src/links`.
+//! `DequeLink::new`, `Journal::new` and `World::step` alone take memory.
 #![tactic(auto)]
 
 mod bad_credit;

@@ -6,7 +6,7 @@
 //! report with which the talk ends.
 //!
 //! `specs/Calls.antt` says where its session stands, `specs/Answering.antt` what each command is answered, and
-//! `specs/Talking.antt` what a whole talk is. Its talks are rows of `crates/test_program`.
+//! `specs/Talking.antt` what a whole talk is.
 #![tactic(auto)]
 
 mod answer_text;

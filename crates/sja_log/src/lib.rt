@@ -7,8 +7,7 @@
 //!
 //! At the end of a run [`node_runs`] makes the nodes of a log of what the bus left of each node, its driver, and what
 //! lay on its links ([`LeftDown`]); [`script_of`] has the strikes of a plan as a bus takes them. These, `LeftDown::of`
-//! and `LeftDown::on` alone take memory. A [`RunFault`] says why a run has no log. The tests stand in
-//! `crates/test_runs`.
+//! and `LeftDown::on` alone take memory. A [`RunFault`] says why a run has no log.
 #![tactic(auto)]
 
 mod activation_log;

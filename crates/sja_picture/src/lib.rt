@@ -7,7 +7,7 @@
 //! The bits that are shown, [`Span`], the tellers of a log, and the run of equal levels past a bit serve `sja_svg` too.
 //!
 //! `specs/Letters.antt` and `specs/EqualLevels.antt` say which letter a bit has, `specs/Rows.antt` what each row shows
-//! of a bit, and `specs/PictureText.antt` the text row by row. The tests stand in `crates/test_plan`.
+//! of a bit, and `specs/PictureText.antt` the text row by row.
 #![tactic(auto)]
 
 mod all_rows;

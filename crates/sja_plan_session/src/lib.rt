@@ -6,7 +6,7 @@
 //! plan with the log of its run.
 //!
 //! `specs/Accessing.antt` and `specs/Running.antt` say what each call does, and `specs/RawRuns.antt` what a run of a
-//! plan of version 3 is. The tests stand in `crates/test_session`.
+//! plan of version 3 is.
 #![tactic(auto)]
 
 mod access;

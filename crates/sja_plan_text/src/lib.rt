@@ -2,8 +2,7 @@
 //!
 //! [`plan_text`] writes a plan as a TOML document that [`read_plan`](sja_plan::read_plan) reads as this plan;
 //! [`step_text`], [`turn_text`] and [`strike_text`] write what stands in it. [`has_texts`] tells whether a plan has a
-//! document at all: a [`Plan`](sja_plan::Plan) can hold numbers that no text spells. The laws say which those are. The
-//! tests are rows that the program `test_plan` reads.
+//! document at all: a [`Plan`](sja_plan::Plan) can hold numbers that no text spells. The laws say which those are.
 #![tactic(auto)]
 
 mod document;

@@ -8,7 +8,7 @@
 //!
 //! [`KeptBytes`] are the registers that have no effect on the bus, and [`address`] has where they stand.
 //! [`RawDriver::irq`] is the interrupt line, which needs no read. No call takes memory. `docs/REGISTERS.md` has the map
-//! of all registers, and the tests stand in `crates/test_bus`.
+//! of all registers.
 #![tactic(auto)]
 
 pub mod address;

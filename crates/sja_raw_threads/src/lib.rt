@@ -4,7 +4,7 @@
 //! are of any address, in either mode, and no controller refuses them. [`run_plan_threads`] runs a plan of any version
 //! as its drivers are. Both give the log of the run, with the steps of the plan.
 //!
-//! `specs/RawThreadedRuns.antt` says what such a run is. The tests stand in `crates/test_runs`.
+//! `specs/RawThreadedRuns.antt` says what such a run is.
 #![tactic(auto)]
 
 mod raw_run;

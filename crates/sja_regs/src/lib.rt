@@ -6,8 +6,6 @@
 //! The numbers stand in three modules: the address of each register ([`address`]), the bits of each by their letters
 //! ([`letters`]), and what a bit of a byte is ([`bits`]). No call of this crate takes memory, and each is a constant
 //! amount of work.
-//!
-//! Its tests stand in `crates/test_controller/src/registers`.
 #![tactic(auto)]
 
 pub mod address;

@@ -6,8 +6,6 @@
 //! `Happened.antt` which happenings a journal has. A replay keeps no list, and no call of this crate takes memory.
 //! Past a bit that tells nothing it goes in short where that is asked for, as of most bits it can ([`ShortBit`],
 //! `specs/Short.antt`).
-//!
-//! Its tests stand in `crates/test_replay`.
 #![tactic(auto)]
 
 mod fate;

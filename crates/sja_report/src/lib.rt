@@ -2,7 +2,7 @@
 //!
 //! [`report`] makes it of a [`RunLog`](sja_log::RunLog), in one pass over each journal. The text stands line by line in
 //! `specs/ReportLines.antt`. [`put_answer`] and [`put_bytes`] write its words, for other texts of runs, and
-//! [`digit_of`] is a digit of a byte in them. The tests stand in `crates/test_runs`.
+//! [`digit_of`] is a digit of a byte in them.
 #![tactic(auto)]
 
 mod lines;

@@ -5,7 +5,7 @@
 //! ([`end_bus`], [`end_driver`]) [`settle`] tells what was left on the link: what was got and then this is what was
 //! put, and the same upward.
 //!
-//! `ring_pair` alone takes memory, and no call waits. The crate's tests stand in `crates/test_controller/src/rings`.
+//! `ring_pair` alone takes memory, and no call waits.
 #![tactic(auto)]
 
 mod ended_bus;

@@ -12,8 +12,6 @@
 //! to the run ([`sweep`]), by `sja_sweep`, or writes the plan with a strike more ([`plan_text`]), by `sja_plan_text`.
 //! The texts of the other commands, and of each refusal, are those of `sja_texts`. What is left to threads, to be done
 //! file by file ([`Sources`]), or to a talk by `sja_live`, is [`Left`]; [`sja`] does that too.
-//!
-//! Its tests stand in `crates/test_program`.
 #![tactic(auto)]
 
 mod answer;

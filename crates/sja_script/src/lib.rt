@@ -2,7 +2,7 @@
 //!
 //! The types stand in a crate of their own, so that the reader of plans and the writer of reports stand apart from the
 //! drivers that take the steps and from the bus that strikes the levels. A [`Strike`] and a [`FaultScript`] say which
-//! nodes they strike in which bits. The tests are in `crates/test_bus` and `crates/test_controller`.
+//! nodes they strike in which bits.
 #![tactic(auto)]
 
 mod done;

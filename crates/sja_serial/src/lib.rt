@@ -15,7 +15,6 @@
 //! port is as its writes and loads have set it; and all was in time, as `IsInTime` of sja_log has it.
 //!
 //! `SerialRun::new`, `SerialRun::strike` and `SerialRun::finish` alone take memory.
-//! The tests stand in `crates/test_runs`.
 #![tactic(auto)]
 
 mod bus_turns;

@@ -9,8 +9,7 @@
 //!
 //! A call that can't be done is refused with its reason ([`SessionFault`], [`StepFault`], [`StrikeFault`],
 //! [`TurnsUsed`]), and changes nothing. All memory that steps and bits need is reserved by [`Session::new`] and
-//! [`Session::with_room`]; beside these `strike`, `plan` and `finish` alone take memory. The tests stand in
-//! `crates/test_session`.
+//! [`Session::with_room`]; beside these `strike`, `plan` and `finish` alone take memory.
 #![tactic(auto)]
 
 mod accesses;

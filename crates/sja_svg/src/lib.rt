@@ -7,7 +7,7 @@
 //! `sja_replay` tells it.
 //!
 //! `specs/Kinds.antt` says which colour and name a bit has, `specs/Places.antt`, `Elements.antt` and `Lanes.antt` what
-//! stands where in a lane, and `specs/DrawingText.antt` the whole text. The tests stand in `crates/test_plan`.
+//! stands where in a lane, and `specs/DrawingText.antt` the whole text.
 #![tactic(auto)]
 
 mod all_lanes;

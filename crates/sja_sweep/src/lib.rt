@@ -5,7 +5,7 @@
 //! one with a line for each run of successive bits that have one outcome, and one with a row a run.
 //! `specs/Targets.antt` says which strikes are tried, `specs/Changes.antt` what is otherwise, `specs/SweepText.antt`
 //! how the texts say it, and `specs/Sweeps.antt` what is promised of them. A [`Sweeping`] says what is asked for, and a
-//! [`SweepFault`] why there is no answer. The tests stand in `crates/test_sweep`.
+//! [`SweepFault`] why there is no answer.
 #![tactic(auto)]
 
 mod activations;

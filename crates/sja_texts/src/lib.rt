@@ -3,8 +3,6 @@
 //! [`encoded`], [`decoded`], [`filtered`], [`arbitrated`] and [`translated`] make the texts of five commands from the
 //! texts of their arguments. A [`CommandRefusal`] says why a request has no answer, and shows as the text that the
 //! program writes of it.
-//!
-//! Their tests stand in `crates/test_program`.
 #![tactic(auto)]
 
 mod arbitrate;

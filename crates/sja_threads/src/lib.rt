@@ -14,7 +14,7 @@
 //! [`run_accesses`] runs a plan whose drivers know addresses and bytes alone: each step is some steps of a typed
 //! driver, `HasAccessed` of `specs/Accessing.antt`, and the run is one of those ([`EndedRun`]).
 //!
-//! The runs alone take memory, none of it for a bit. The tests stand in `crates/test_runs`.
+//! The runs alone take memory, none of it for a bit.
 #![tactic(auto)]
 
 mod at_gate;

@@ -12,7 +12,7 @@
 //! text as it is: a bit in short is one of several happenings, and of each of them the same is said.
 //!
 //! `specs/Events.antt` and `specs/BitEvents.antt` say which events a bit has and in which words, and
-//! `specs/TraceText.antt` the text line by line. The tests stand in `crates/test_plan`.
+//! `specs/TraceText.antt` the text line by line.
 #![tactic(auto)]
 
 mod counters;

@@ -8,8 +8,7 @@
 //! acknowledges, and for that their journals are looked through.
 //!
 //! `specs/Inside/Knowing.antt` of `sja_replay` says what is known of a node between two bits, and
-//! `specs/Inside/SayingAlike.antt` of `sja_trace` when of two bits the same is said. In `crates/test_plan` each row
-//! that is a trace is told both ways.
+//! `specs/Inside/SayingAlike.antt` of `sja_trace` when of two bits the same is said.
 #![tactic(auto)]
 
 mod fates;

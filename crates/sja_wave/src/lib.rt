@@ -6,7 +6,7 @@
 //! each bit by the cut of the node's record.
 //!
 //! `specs/AllSignals.antt` says which signals there are, `Wires.antt` and `Numbers.antt` what they show, each as a
-//! function of the bit, and `WaveText.antt` what is written of them. The tests stand in `crates/test_runs`.
+//! function of the bit, and `WaveText.antt` what is written of them.
 #![tactic(auto)]
 
 mod changes;

@@ -1,7 +1,77 @@
-//! Links, their numbers, journals, and refused memory. The rows of links in `test_controller_rows` have what
-//! they carry, the ledgers at their ends, and the world of one link.
+//! Links and the ledgers at their ends, and the world of one link: a row is calls of it.
+//!
+//! Numbers are decimal. A row begins with `queues`, a link of two queues, `rings`, one of two rings, or `world`;
+//! [`calls`] and [`worlds`] say what each call is.
 
-pub(crate) mod given;
-mod journals;
-mod numbers;
-mod refused;
+mod answers;
+mod calls;
+mod link;
+mod linked;
+mod rings;
+mod words;
+mod worlds;
+
+use calls::does;
+use link::Link;
+use linked::Linked;
+use rings::Rings;
+use std::alloc::{AllocError, Global};
+use std::io;
+use worlds::allowed;
+
+/// What the calls of a row answer, each behind a blank.
+pub fn answered(alloc: Global, row: &str) -> io::Result<String> {
+    let (kind, calls) = row.split_once("; ").unwrap_or((row, ""));
+    match kind {
+        "queues" => Ok(told_of(alloc, Linked::new(alloc)?, calls)?),
+        "rings" => Ok(told_of(alloc, Rings::new(alloc)?, calls)?),
+        "world" => Ok(allowed(alloc, calls)?),
+        _ => Ok(String::from_str(alloc, " ?")?),
+    }
+}
+
+/// What the calls of a link answer.
+fn told_of<L: Link + Drop>(alloc: Global, link: L, calls: &str) -> Result<String, AllocError> {
+    let mut text = String::new(alloc);
+    push_told(alloc, &mut text, link, calls)?;
+    Ok(text)
+}
+
+/// Writes what the calls of a link answer.
+fn push_told<L: Link + Drop>(
+    alloc: Global,
+    text: &mut String,
+    mut link: L,
+    calls: &str,
+) -> Result<(), AllocError> {
+    let done = does_each(alloc, text, &mut link, calls);
+    if done.is_ok() && calls.ends_with("settle") {
+        link.settle(alloc, text)
+    } else {
+        done
+    }
+}
+
+/// Does the calls of a link.
+fn does_each<L: Link>(
+    alloc: Global,
+    text: &mut String,
+    link: &mut L,
+    calls: &str,
+) -> Result<(), AllocError> {
+    for call in calls.split("; ") {
+        does_call(alloc, text, link, call)?;
+    }
+    Ok(())
+}
+
+/// Does a call.
+fn does_call<L: Link>(
+    alloc: Global,
+    text: &mut String,
+    link: &mut L,
+    call: &str,
+) -> Result<(), AllocError> {
+    let words = call.split(' ').collect::<Vec<&str>>(alloc)?;
+    does(alloc, text, link, words.as_slice())
+}

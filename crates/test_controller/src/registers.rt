@@ -1,6 +1,22 @@
-//! The register file: what each address answers, and bytes as bits and as frames. The rows of ports in
-//! `test_controller_rows` have what their calls answer, one after the other.
+//! The registers of a controller: a row is calls of a port.
+//!
+//! Numbers are hexadecimal; [`call`] says what each call is, and `test_words` how a bit of the bus is written.
 
-mod addresses;
-mod buffering;
-mod bytes;
+mod answer;
+mod bench;
+mod call;
+mod controller;
+
+use bench::Bench;
+use std::alloc::Global;
+use std::io;
+
+/// What the calls of a row answer, each behind a blank.
+pub fn answered(alloc: Global, row: &str) -> io::Result<String> {
+    let mut bench = Bench::new(alloc);
+    for call in row.split("; ") {
+        let words = call.split(' ').collect::<Vec<&str>>(alloc)?;
+        bench.does(words.as_slice())?;
+    }
+    Ok(bench.told())
+}

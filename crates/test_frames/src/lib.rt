@@ -4,7 +4,6 @@
 //!
 //! [`runs`] has plans, reports and waves, [`nodes`] how a node is started, and [`segments`] the names of segments. The
 //! tests of several crates use them.
-#![tactic(auto)]
 
 pub mod nodes;
 pub mod runs;

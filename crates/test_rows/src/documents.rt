@@ -9,35 +9,34 @@ use std::alloc::{AllocError, Global};
 pub fn document(alloc: Global, form: &str, row: &str) -> Result<Vec<u8>, AllocError> {
     let filled = form.replace(alloc, "@", row)?;
     let lines = filled.as_str().replace(alloc, "; ", "\n")?;
-    let text = repeated(alloc, lines.as_str())?;
     let mut bytes = Vec::new(alloc);
-    percent_decode_str(text.as_str()).append_to(&mut bytes)?;
+    for (number, part) in lines.as_str().split('<').enumerate() {
+        if number == 0 {
+            push_decoded(&mut bytes, part)?;
+        } else {
+            push_repeated(alloc, &mut bytes, part)?;
+        }
+    }
     Ok(bytes)
 }
 
-/// The text with each `<3 TEXT>` written out.
-fn repeated(alloc: Global, text: &str) -> Result<String, AllocError> {
-    let mut whole = String::new(alloc);
-    for (number, part) in text.split('<').enumerate() {
-        if number == 0 {
-            whole.push_str(part)?;
-        } else {
-            push_repeated(&mut whole, part)?;
-        }
+/// Writes out what follows a `<`. What is no repeat is written as it is.
+fn push_repeated(alloc: Global, bytes: &mut Vec<u8>, part: &str) -> Result<(), AllocError> {
+    let Some((repeat, behind)) = part.split_once('>') else {
+        return push_decoded(bytes, part);
+    };
+    let Some((count, text)) = repeat.split_once(' ') else {
+        return push_decoded(bytes, part);
+    };
+    let mut item = Vec::new(alloc);
+    push_decoded(&mut item, text)?;
+    for _ in 0..count.parse::<u32>().unwrap_or(0) {
+        bytes.extend_from_slice(item.as_slice())?;
     }
-    Ok(whole)
+    push_decoded(bytes, behind)
 }
 
-/// Writes out what follows a `<`. What is no repeat is written as it is.
-fn push_repeated(whole: &mut String, part: &str) -> Result<(), AllocError> {
-    let Some((repeat, behind)) = part.split_once('>') else {
-        return whole.push_str(part);
-    };
-    let Some((count, item)) = repeat.split_once(' ') else {
-        return whole.push_str(part);
-    };
-    for _ in 0..count.parse::<u32>().unwrap_or(0) {
-        whole.push_str(item)?;
-    }
-    whole.push_str(behind)
+/// Writes a text, with the byte that each `%0a` is.
+fn push_decoded(bytes: &mut Vec<u8>, text: &str) -> Result<(), AllocError> {
+    percent_decode_str(text).append_to(bytes)
 }

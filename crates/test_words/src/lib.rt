@@ -1,11 +1,17 @@
-//! Words in rows of text, for the programs of rows over controllers: bytes, addresses, names of things, messages,
-//! steps ([`step_of`]), what they answer ([`Told`]), and a bit of the bus ([`turn_of`]).
-#![tactic(auto)]
+//! Words in rows of text, for the tests over controllers: bytes, addresses, names of things, messages, steps
+//! ([`step_of`]), what they answer ([`Told`]), and a bit of the bus ([`turn_of`]).
+//!
+//! Beside them stand a link of the tests' own, which gives an item back ([`Returning`]), and whether ends are those of
+//! a driver ([`are_links_of_node`]).
 
+mod ready;
+mod returning;
 mod step;
 mod told;
 mod turn;
 
+pub use ready::are_links_of_node;
+pub use returning::Returning;
 use sja_regs::address::{
     ACR0, ALC, AMR0, BUFFER, CMR, ECC, EWLR, IER, IR, MOD, RMC, RXERR, SR, TXERR,
 };

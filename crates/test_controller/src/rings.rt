@@ -1,7 +1,0 @@
-//! Links of two rings: ends that are gone, ends in two threads, and refused memory. The rows of links in
-//! `test_controller_rows` have what they carry, what is left on them, and the ledgers at their ends.
-
-mod given;
-mod gone;
-mod refused;
-mod threads;

@@ -1,2 +1,0 @@
--- ---- the plans that stand in place of files
-pub mod Shelf

@@ -1,2 +1,0 @@
--- ---- that a driver and its log go together
-pub mod Lawful

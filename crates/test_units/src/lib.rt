@@ -1,0 +1,42 @@
+//! What is tested of the crates above the nodes in functions, since it isn't a list of calls and answers: refused
+//! memory, threads, and logs and links of the tests' own. All else stands in the rows of `test_controller` and
+//! `test_program`.
+//!
+//! | Tests of | Modules |
+//! |---|---|
+//! | `sja_regs`, `sja_link`, `sja_rings`, `sja_driver` | [`registers`], [`links`], [`rings`], [`drivers`] |
+//! | `sja_bus` where memory is refused | [`buses`] |
+//! | whole runs over links of two rings in one thread, by a turn loop of the tests' own | [`ring_runs`] |
+//! | `sja_replay`, `sja_report`, `sja_wave` over logs written by hand | [`replay`], [`reports`], [`waves`] |
+//! | `sja_serial`, `sja_threads` | [`turns`], [`threads`] |
+//! | `sja_sweep` | [`sweeps`] |
+//! | `sja_session`, `sja_plan_session` | [`sessions`] |
+//!
+//! Expected values are written by hand: from the data sheet and the standard, and reports and waves from their formats.
+
+#[cfg(test)]
+mod buses;
+#[cfg(test)]
+mod drivers;
+#[cfg(test)]
+mod links;
+#[cfg(test)]
+mod registers;
+#[cfg(test)]
+mod replay;
+#[cfg(test)]
+mod reports;
+#[cfg(test)]
+mod ring_runs;
+#[cfg(test)]
+mod rings;
+#[cfg(test)]
+mod sessions;
+#[cfg(test)]
+mod sweeps;
+#[cfg(test)]
+mod threads;
+#[cfg(test)]
+mod turns;
+#[cfg(test)]
+mod waves;

@@ -1,0 +1,105 @@
+//! [`Worker`]: the driver of a node with its script and its ends of links of two rings.
+
+use super::told::Told;
+use sja_driver::{LoggedDriver, WorkLog};
+use sja_link::{Down, DriverEnd};
+use sja_regs::Port;
+use sja_rings::RingDriver;
+use sja_script::Step;
+use std::alloc::Global;
+use std::test::Fail;
+use test_words::are_links_of_node;
+
+/// The driver of a node with its ends of links of two rings, and how many steps of its script are done.
+#[derive(Drop)]
+pub struct Worker {
+    driver: LoggedDriver,
+    ends: Vec<RingDriver>,
+    node: u8,
+    done: usize,
+    /// How many steps its log has room for.
+    room: usize,
+}
+
+impl Worker {
+    /// A driver before its first activation, whose script has so many steps.
+    pub fn new(alloc: Global, node: u8, ends: Vec<RingDriver>, steps: u16) -> Result<Worker, Fail> {
+        let log = WorkLog::new(alloc, u32::from(steps))?;
+        Ok(Worker {
+            driver: LoggedDriver::new(node, log),
+            ends,
+            node,
+            done: 0,
+            room: usize::from(steps),
+        })
+    }
+
+    /// Does steps of the script, one after the other, after so many bits: so many, or up to one that has to wait.
+    pub fn steps(
+        &mut self,
+        port: &mut Port,
+        script: &[Step],
+        count: u32,
+        bits: u32,
+    ) -> Result<(), Fail> {
+        for _ in 0..count {
+            let Some(step) = script.get(self.done) else {
+                return Ok(());
+            };
+            if !self.step(port, step, bits)? {
+                return Ok(());
+            }
+        }
+        Ok(())
+    }
+
+    /// Tries a step, after so many bits. Whether it was done.
+    fn step(&mut self, port: &mut Port, step: &Step, bits: u32) -> Result<bool, Fail> {
+        if self.room == 0 || !are_links_of_node(self.ends.as_slice(), self.node) {
+            return Err("no room, or not the driver's links")?;
+        }
+        if !self
+            .driver
+            .step(self.ends.as_mut_slice(), 0, port, step, bits)
+        {
+            return Ok(false);
+        }
+        self.room -= 1;
+        self.done = self.done.saturating_add(1);
+        Ok(true)
+    }
+
+    /// How many steps were done.
+    pub fn done(&self) -> usize {
+        self.done
+    }
+
+    /// What its log and its links tell of this activation.
+    pub fn told(&mut self, alloc: Global, activation: u8) -> Result<Told, Fail> {
+        let mut told = Told::new(alloc);
+        for release in self.driver.log().released() {
+            if release.activation == activation {
+                told.released.push(release.message.copy())?;
+            }
+        }
+        let place = usize::from(activation).saturating_sub(1);
+        if let Some(ledger) = self.driver.log().left().get(place) {
+            for message in ledger.unread() {
+                told.unread.push(message.copy())?;
+            }
+        } else if activation == self.driver.activation() {
+            for message in self.driver.unread() {
+                told.unread.push(message.copy())?;
+            }
+        }
+        if let Some(end) = self.ends.get_mut(place) {
+            // A link carries 22 items down at most.
+            for _ in 0..22 {
+                if let Some(Down::Message(message)) = end.get() {
+                    told.unread.push(message)?;
+                }
+            }
+        }
+        Ok(told)
+    }
+}

@@ -1,0 +1,84 @@
+//! [`Part`]: what the bus does beside a driver that has a thread of its own.
+
+use can_frame::Message;
+use sja_bus::Board;
+use sja_link::{BusEnd, Down, Up};
+use sja_regs::Port;
+use sja_rings::RingBus;
+use sja_threads::LockBoard;
+use std::sync::{Mutex, Wait};
+use std::thread::yield_now;
+use test_words::turn_of;
+
+/// What the bus does once the driver has started.
+#[derive(Drop)]
+pub enum Part {
+    /// It puts this message, and takes a credit and the stop.
+    HandOver(Message),
+    /// Its bits are spent: it closes the port, and waits until the driver has ended.
+    Shut,
+    /// It tells the port of a bit in which the receive error counter comes to its limit, and takes the stop.
+    Warn,
+}
+
+impl Part {
+    /// Does it. Whether the items that came were these.
+    pub fn is_done<R: Wait>(self, rt: &R, ends: Vec<RingBus>, ports: &[Mutex<Port>]) -> bool {
+        let mut ends = ends;
+        let Some(end) = ends.get_mut(0) else {
+            return false;
+        };
+        if ports.len() == 0 {
+            return false;
+        }
+        let starts = matches!(taken(rt, end), Up::Start(_));
+        starts
+            && match self {
+                Part::HandOver(message) => hand_over(rt, end, message),
+                Part::Shut => shut(rt, ports),
+                Part::Warn => warn(rt, end, ports),
+            }
+    }
+}
+
+/// Waits for the next item that the driver gives.
+fn taken(rt: &impl Wait, end: &mut RingBus) -> Up {
+    for _ in rt.forever() {
+        if let Some(item) = end.take() {
+            return item;
+        }
+        yield_now();
+    }
+    unreachable!()
+}
+
+/// Puts the message, and takes a credit and the stop.
+fn hand_over(rt: &impl Wait, end: &mut RingBus, message: Message) -> bool {
+    let puts = end.put(Down::Message(message)).is_ok();
+    let credits = matches!(taken(rt, end), Up::Credit(_));
+    let stops = matches!(taken(rt, end), Up::Stop);
+    puts && credits && stops
+}
+
+/// Closes the port, and waits until the driver has ended.
+fn shut<R: Wait>(rt: &R, ports: &[Mutex<Port>]) -> bool {
+    let mut board = LockBoard { rt, ports };
+    board.close(0);
+    for _ in rt.forever() {
+        if board.orders(0).ended {
+            return true;
+        }
+        yield_now();
+    }
+    unreachable!()
+}
+
+/// Tells the port of a bit in which the receive error counter comes to its limit, and takes the stop.
+fn warn<R: Wait>(rt: &R, end: &mut RingBus, ports: &[Mutex<Port>]) -> bool {
+    let Some(turn) = turn_of(&["rx=60"]) else {
+        return false;
+    };
+    let mut board = LockBoard { rt, ports };
+    board.bus_turn(0, turn);
+    matches!(taken(rt, end), Up::Stop)
+}
