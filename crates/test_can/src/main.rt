@@ -5,6 +5,7 @@
 //! hexadecimal digits; [`bench`] says which file has which calls. The answers that are wanted stand in the file
 //! `stdout`, and are worked by hand from the rules of CAN and from the data sheet; where lists are generated, two ways
 //! have to agree.
+#![tactic(auto)]
 
 mod agreement;
 mod bench;

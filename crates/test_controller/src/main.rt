@@ -6,6 +6,7 @@
 //! bus that know addresses and bytes alone ([`raw`]), or a session ([`sessions`]). One that begins with `== ` is the
 //! title of the rows below it. In a row `; ` stands between calls. The answers that are wanted stand in the file
 //! `stdout`, and are the data sheet's, or worked by hand from the rules of CAN.
+#![tactic(auto)]
 
 mod bus;
 mod links;

@@ -4,6 +4,7 @@
 //!
 //! [`runs`] has plans, reports and waves, [`nodes`] how a node is started, and [`segments`] the names of segments. The
 //! tests of several crates use them.
+#![tactic(auto)]
 
 pub mod nodes;
 pub mod runs;

@@ -9,6 +9,7 @@
 //! The answers that are wanted stand in the file `stdout`, and are worked by hand from the standard, the data sheet,
 //! the rules of the bus, the format of plans and those of the texts. The rows of the file `refused` are tried with
 //! refused memory.
+#![tactic(auto)]
 
 mod plans;
 mod program;

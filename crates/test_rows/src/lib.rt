@@ -4,6 +4,7 @@
 //! them, one that begins with `-- ` is their form, by which a row is made a plan's [`document`], and one that begins
 //! with `++ ` says which [`Bits`] of the plan's run are drawn. Each other line is a row. `docs/CARRY-ON.md` has an
 //! example.
+#![tactic(auto)]
 
 mod bits;
 mod documents;

@@ -13,6 +13,7 @@
 //! | `sja_session`, `sja_plan_session` | [`sessions`] |
 //!
 //! Expected values are written by hand: from the data sheet and the standard, and reports and waves from their formats.
+#![tactic(auto)]
 
 #[cfg(test)]
 mod buses;

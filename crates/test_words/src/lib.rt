@@ -3,6 +3,7 @@
 //!
 //! Beside them stand a link of the tests' own, which gives an item back ([`Returning`]), and whether ends are those of
 //! a driver ([`are_links_of_node`]).
+#![tactic(auto)]
 
 mod ready;
 mod returning;
