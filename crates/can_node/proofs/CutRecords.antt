@@ -2,7 +2,6 @@
 -- and a request, of what a bit tells, of the bit with which a frame is received, and of the segment of the next bit.
 pub mod Fronts
 pub mod BusOff
-pub mod AbortPlaces
 pub mod Comings
 pub mod Events
 pub mod Receptions

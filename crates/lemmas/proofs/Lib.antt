@@ -7,4 +7,3 @@ pub mod Picking
 pub mod Numbers
 pub mod Results
 pub mod ChangedInTurn
-pub mod ChangedByNumber

@@ -1,11 +1,10 @@
 -- The ports of a board, and those of one in one thread, by node (this project's own rule).
-use Rattle.std.specs.Prelude.{◌≡◌, ◌<◌, ◌≤◌, ℕ, true, Option, Some, None, List, length, slice_index_or}
+use Rattle.std.specs.Prelude.{◌≡◌, ◌<◌, ◌≤◌, ℕ, true, List, length, slice_index_or}
 use Rattle.sja_regs.specs.declared.bus_turn.BusTurn.{BusTurn}
 use Rattle.sja_regs.specs.declared.orders.Orders.{Orders}
 use Rattle.sja_regs.specs.declared.registers.Registers.{Registers}
 use Rattle.sja_regs.specs.Facts.{RegisterFacts}
 use Rattle.sja_regs.specs.Turns.{after_turn}
-use Rattle.sja_bus.specs.declared.noting_board.NotingBoard.{NotingBoard}
 
 -- the port of this node, as it was and as it is, is so related
 abbrev pub AtPort : (Registers → Registers → Type 0) → List Registers → List Registers → ℕ → Type 0
@@ -39,32 +38,3 @@ WasKept old new node = AtPort (λ p q. q ≡ p) old new node
 -- a board has as many ports as before, and those from this number on are as they were
 abbrev pub KeepsOthers : {B : Type 0} → (B → ℕ) → (B → B → ℕ → Type 0) → ℕ → B → B → Type 0
 KeepsOthers {B} ports kept nodes old new = (ports new ≡ ports old) × ((k : ℕ) → nodes ≤ k → kept old new k)
-
--- ---- the ports of a board that notes the turns that they were told
-
--- the turn that the port of this node was told last, if it was told one since the one before was taken
-abbrev pub turn_at : List (Option BusTurn) → ℕ → Option BusTurn
-turn_at turns node = slice_index_or turns node None
-
--- the port was told the turn, and the board has noted it
-pub record NotesTurn (old new : NotingBoard) (node : ℕ) (turn : BusTurn) : Type 0 where
-  pub port : WasTold old.board.ports.items new.board.ports.items node turn
-  pub count : length new.turns.items ≡ length old.turns.items
-  pub noted : node < length old.turns.items → turn_at new.turns.items node ≡ Some turn
-
--- it shows already what the turn says, and the board has noted that turn
-pub record ShowsNoted (b : NotingBoard) (node : ℕ) (turn : BusTurn) : Type 0 where
-  pub port : ShowsTurn b.board.ports.items node turn
-  pub noted : node < length b.turns.items → turn_at b.turns.items node ≡ Some turn
-
--- the port was closed, and what the board has noted of it is as it was
-pub record ShutsNoted (old new : NotingBoard) (node : ℕ) : Type 0 where
-  pub port : WasClosed old.board.ports.items new.board.ports.items node
-  pub count : length new.turns.items ≡ length old.turns.items
-  pub noted : turn_at new.turns.items node ≡ turn_at old.turns.items node
-
--- the port is as it was, and so is what the board has noted of it
-pub record KeepsNoted (old new : NotingBoard) (node : ℕ) : Type 0 where
-  pub port : WasKept old.board.ports.items new.board.ports.items node
-  pub count : length new.turns.items ≡ length old.turns.items
-  pub noted : turn_at new.turns.items node ≡ turn_at old.turns.items node

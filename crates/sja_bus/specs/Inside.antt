@@ -17,4 +17,3 @@ pub mod AtOnce
 pub mod RunningOn
 pub mod Together
 pub mod SerialBoards
-pub mod NotingBoards

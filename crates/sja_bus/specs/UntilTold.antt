@@ -68,8 +68,8 @@ pub data EndsUntilTold {E B : Type 0} (b : Ports B) (to_rest : Bool) (count : �
     (now : Moment E B) : Type 0 where
   -- no bit more is run
   no_more : NoMore to_rest count n now.bus → EndsUntilTold b to_rest count was n now
-  -- the port of some node was told the turn of that bit, as the board says it: one that notes the turns which its
-  -- ports were told has noted it; of others a port that shows already what the turn says was told it too
+  -- the port of some node was told the turn of that bit, as the board says it: a port that shows already what the turn
+  -- says counts as told
   told : (node : ℕ) (turn : BusTurn) → node < length now.bus.journals → b.told was.board now.board node turn →
       IsLastTurn (journal_at now.bus.journals node) turn → EndsUntilTold b to_rest count was n now
 

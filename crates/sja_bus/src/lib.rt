@@ -6,7 +6,7 @@
 //! Contracts see a bus as its journals: each journal's record has one cut, by which its verdicts are right, and each
 //! level that was seen is the one that all nodes drove together, or the other one where the script strikes.
 //!
-//! `Bus::new`, `Bus::strike`, `serial_links`, `SerialBoard::new` and `NotingBoard::new` alone take memory.
+//! `Bus::new`, `Bus::strike`, `serial_links` and `SerialBoard::new` alone take memory.
 #![tactic(auto)]
 
 mod aborts;
@@ -27,7 +27,6 @@ mod looking;
 mod node_bit;
 mod node_links;
 mod node_log;
-mod noting_board;
 mod ports;
 mod row_frame;
 mod seat;
@@ -47,6 +46,5 @@ pub use board_laws::{
 };
 pub use bus::Bus;
 pub use node_links::{are_links_of, serial_links};
-pub use noting_board::NotingBoard;
 pub use serial_board::SerialBoard;
 pub use sja_wire::{BusFault, NodeLog};

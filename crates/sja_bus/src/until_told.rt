@@ -25,9 +25,9 @@ impl Bus {
     /// They are what as many calls of [`bit`](Bus::bit) are that find nothing on any link. In none of them but the last
     /// one a port is told anything, a message is judged, or a node goes bus-off. They end where a port was told in the
     /// last one, and else only where none more is asked for or left, every node is at rest and `to_rest` is set, a
-    /// strike falls in the next one, or a journal is full. A board that notes no turns says that a port was told also
-    /// where it shows the turn already, so over such a board the clause says less. Where none was run though some were
-    /// asked for and are left, the next bit takes a call of `bit`. `links` are 64 a node, by node and activation.
+    /// strike falls in the next one, or a journal is full. A port that shows the turn already counts as told. Where
+    /// none was run though some were asked for and are left, the next bit takes a call of `bit`. `links` are 64 a node,
+    /// by node and activation.
     ///
     /// Error: after some of these bits, [`BusFault::Stuck`] or [`BusFault::JournalFull`], and then the same always. The
     /// bits before it count.

@@ -11,4 +11,3 @@ pub mod GivenKinds
 pub mod NextItem
 pub mod CreditsGiven
 pub mod FewLeftDown
-pub mod After

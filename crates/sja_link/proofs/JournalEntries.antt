@@ -4,9 +4,6 @@ pub mod Openings
 pub mod ListCounts
 pub mod Decoding
 pub mod CodeRoom
-pub mod Coded
-pub mod Endings
-pub mod Searching
 pub mod Filling
 pub mod Writing
 pub mod Counting

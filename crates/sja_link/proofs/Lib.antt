@@ -2,4 +2,3 @@ pub mod JournalEntries
 pub mod Ledger
 pub mod WorldSteps
 pub mod Growing
-pub mod LastBits

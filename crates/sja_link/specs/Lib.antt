@@ -16,7 +16,6 @@ pub mod Looking
 pub mod Showing
 pub mod Written
 pub mod Between
-pub mod LookingBack
 pub mod World
 pub mod WorldEvents
 pub mod Budget

@@ -1,12 +1,11 @@
 //! The codes of a journal, one byte an entry.
 
-ghost use Rattle.std.specs.Prelude.{◌≡◌, ◌≤◌, false, None, [], ◌∷◌, length, IfSome};
+ghost use Rattle.std.specs.Prelude.{◌≡◌, ◌≤◌, [], ◌∷◌, length};
 ghost use Rattle.std.specs.List.{list_all};
 ghost use Rattle.sja_link.specs.declared.entry.Entry.TheVariants.{Bit};
-ghost use Rattle.sja_link.specs.Inside.Codes.{bits_before, code_of, is_bit, is_not_dominant, is_rest, leading};
+ghost use Rattle.sja_link.specs.Inside.Codes.{bits_before, code_of, is_bit};
 ghost use Rattle.std.specs.Simd.Lanes.{zip2};
 
-use super::verdict::Verdict;
 use can_bits::Level;
 use std::mem::size_of;
 
@@ -47,9 +46,7 @@ pub(crate) enum Code {
 }
 
 impl Code {
-    ghost use Rattle.std.specs.Prelude.{not};
-    ghost use Rattle.sja_link.specs.Inside.Codes.{code_of, decoded, is_abort, is_bit, is_not_dominant, is_off, is_rest};
-    ghost use Rattle.sja_link.specs.Inside.Codes.{verdict_of, HasContents};
+    ghost use Rattle.sja_link.specs.Inside.Codes.{code_of, decoded, is_bit, HasContents};
 
     /// The code of a bit: the level driven, and the level seen.
     pub(crate) fn of_bit(driven: Level, seen: Level) -> Code
@@ -66,20 +63,6 @@ impl Code {
         }
     }
 
-    /// The levels of a bit: the one driven, and the one seen.
-    pub(crate) fn levels(self) -> Option<(Level, Level)>
-        ensures some { IfSome result (λ l. self ≡ code_of (l.0) (l.1)) }
-        ensures none { result ≡ None → is_bit self ≡ false }
-    {
-        match self {
-            Code::DominantAsDriven => Some((Level::Dominant, Level::Dominant)),
-            Code::DominantSeenRecessive => Some((Level::Dominant, Level::Recessive)),
-            Code::RecessiveSeenDominant => Some((Level::Recessive, Level::Dominant)),
-            Code::RecessiveAsDriven => Some((Level::Recessive, Level::Recessive)),
-            _ => None,
-        }
-    }
-
     /// Whether it is a bit.
     pub(crate) fn is_bit(self) -> bool
         ensures { result ≡ is_bit self }
@@ -91,45 +74,6 @@ impl Code {
                 | Code::RecessiveSeenDominant
                 | Code::RecessiveAsDriven
         )
-    }
-
-    /// Whether it is a bit that was driven dominant.
-    fn is_dominant(self) -> bool
-        ensures { result ≡ not (is_not_dominant self) }
-    {
-        matches!(self, Code::DominantAsDriven | Code::DominantSeenRecessive)
-    }
-
-    /// Whether it is a bit that was driven and seen recessive.
-    fn is_rest(self) -> bool
-        ensures { result ≡ is_rest self }
-    {
-        matches!(self, Code::RecessiveAsDriven)
-    }
-
-    /// Whether it is bus-off.
-    pub(crate) fn is_off(self) -> bool
-        ensures { result ≡ is_off self }
-    {
-        matches!(self, Code::Off)
-    }
-
-    /// Whether it is an abort.
-    pub(crate) fn is_abort(self) -> bool
-        ensures { result ≡ is_abort self }
-    {
-        matches!(self, Code::Abort)
-    }
-
-    /// Which verdict it is, if it is one.
-    pub(crate) fn verdict(self) -> Option<Verdict>
-        ensures { result ≡ verdict_of self }
-    {
-        match self {
-            Code::Stored => Some(Verdict::Stored),
-            Code::Overrun => Some(Verdict::Overrun),
-            _ => None,
-        }
     }
 }
 
@@ -157,31 +101,6 @@ pub(crate) fn leading_bits(codes: &[Code]) -> usize
     bits + bits_one_by_one(&codes[bits..])
 }
 
-/// How many of these codes stand before the first bit that was driven dominant. Whole blocks without one are passed
-/// over first.
-pub(crate) fn before_dominant(codes: &[Code]) -> usize
-    ensures count { result ≡ leading is_not_dominant codes.now }
-    ensures few { result ≤ length codes.now }
-{
-    let mut passed = 0;
-    while codes.len() - passed >= BLOCK && have_no_dominant(&codes[passed..passed + BLOCK]) {
-        passed += BLOCK;
-    }
-    passed + before_dominant_one_by_one(&codes[passed..])
-}
-
-/// Whether all of these codes are bits that were driven and seen recessive. It looks at each of them, so that many can
-/// be compared at once.
-pub(crate) fn are_rest(codes: &[Code]) -> bool
-    ensures { result ≡ list_all is_rest codes.now }
-{
-    let mut all = true;
-    for code in codes {
-        all &= code.is_rest();
-    }
-    all
-}
-
 /// Whether all of these codes are bits. It looks at each of them, so that many can be compared at once.
 fn are_bits(codes: &[Code]) -> bool
     ensures { result ≡ list_all is_bit codes.now }
@@ -191,33 +110,6 @@ fn are_bits(codes: &[Code]) -> bool
         all &= code.is_bit();
     }
     all
-}
-
-/// Whether none of these codes is a bit that was driven dominant. It looks at each of them, so that many can be
-/// compared at once.
-fn have_no_dominant(codes: &[Code]) -> bool
-    ensures { result ≡ list_all is_not_dominant codes.now }
-{
-    let mut all = true;
-    for code in codes {
-        all &= !code.is_dominant();
-    }
-    all
-}
-
-/// How many of these codes stand before the first bit that was driven dominant.
-fn before_dominant_one_by_one(codes: &[Code]) -> usize
-    ensures count { result ≡ leading is_not_dominant codes.now }
-    ensures few { result ≤ length codes.now }
-{
-    let mut passed = 0;
-    for code in codes {
-        if code.is_dominant() {
-            return passed;
-        }
-        passed += 1;
-    }
-    passed
 }
 
 /// How many of these codes stand before the first one that is no bit.

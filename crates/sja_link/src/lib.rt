@@ -29,10 +29,8 @@ mod entry;
 mod event;
 mod full;
 mod journal;
-mod last_bit;
 mod laws;
 mod link_id;
-mod looking_back;
 mod release_fault;
 mod sizes;
 mod stopped;
@@ -54,7 +52,6 @@ pub use entry::Entry;
 pub use event::Event;
 pub use full::Full;
 pub use journal::Journal;
-pub use last_bit::LastBit;
 pub use laws::{
     every_world_keeps_its_budget, what_was_kept_was_stored, what_was_released_and_left_was_stored,
 };

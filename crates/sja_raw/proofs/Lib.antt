@@ -1,2 +1,3 @@
-pub mod Bytes
-pub mod Steps
+pub mod CommandBytes
+pub mod OtherWrites
+pub mod ReadBack

@@ -1,7 +1,6 @@
 -- The registers that are kept for a driver and have no effect on the bus: BTR0, BTR1, OCR and CDR (SJA1000 data sheet,
 -- 6.5.1 to 6.5.4), and RBSA (6.4.17).
-use Rattle.std.specs.Prelude.{◌==◌, ◌&&◌, ◌+◌, ◌%◌, ℕ, Bool, if◌then◌else◌, List}
-use Rattle.sja_driver.specs.declared.release.Release.{Release}
+use Rattle.std.specs.Prelude.{◌==◌, ◌&&◌, ℕ, Bool, if◌then◌else◌}
 use Rattle.sja_script.specs.declared.step_answer.StepAnswer.{StepAnswer}
 use Rattle.sja_script.specs.declared.step_answer.StepAnswer.TheVariants.{Released}
 use Rattle.sja_raw.specs.declared.kept_bytes.KeptBytes.{KeptBytes}
@@ -38,11 +37,7 @@ kept_after kept reset address value =
       cdr = if address == 31 then divider_after kept.cdr reset value else kept.cdr;
     }
 
--- what releases leave of them
-abbrev pub moved : KeptBytes → List Release → KeptBytes
-moved kept releases = record kept { rbsa = start_after kept.rbsa releases }
-
 -- what a step that was answered leaves of them
 abbrev pub moved_by_answer : KeptBytes → StepAnswer → KeptBytes
-moved_by_answer kept (Released length) = record kept { rbsa = (kept.rbsa + length) % 64 }
+moved_by_answer kept (Released length) = record kept { rbsa = start_after kept.rbsa length }
 moved_by_answer kept other = kept

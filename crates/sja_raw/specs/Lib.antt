@@ -6,6 +6,4 @@ pub mod ModeWrites
 pub mod CommandWrites
 pub mod Writes
 pub mod WriteLists
-pub mod Trying
-pub mod RawDrivers
 pub mod Inside

@@ -4,8 +4,8 @@ ghost use Rattle.std.specs.Prelude.{◌≡◌, ◌++◌};
 ghost use Rattle.sja_regs.specs.Commands.{command_of};
 ghost use Rattle.sja_raw.specs.CommandWrites.{commands, releases, command_steps};
 
-use super::command_write::{command_byte, doable};
-use super::trying::is_reset;
+use super::command_bits::{command_byte, doable};
+use super::in_reset::is_reset;
 use sja_regs::{Command, Port};
 
 /// What a write of CMR does: a command, and then a release of the first unread message (SJA1000 data sheet, 6.4.4).

@@ -1,12 +1,11 @@
 //! The registers that are kept for a driver.
 
-ghost use Rattle.std.specs.Prelude.{◌≡◌, ◌%◌, ◌+◌, drop};
+ghost use Rattle.std.specs.Prelude.{◌≡◌};
 ghost use Rattle.sja_raw.specs.ClockDivider.{divider_after};
-ghost use Rattle.sja_raw.specs.Kept.{at_power_on, kept_at, kept_after, moved, moved_by_answer};
+ghost use Rattle.sja_raw.specs.Kept.{at_power_on, kept_at, kept_after, moved_by_answer};
 ghost use Rattle.sja_raw.specs.StartAddress.{start_after};
 
 use super::address::{BTR0, BTR1, CDR, OCR, RBSA};
-use sja_driver::Release;
 use sja_script::StepAnswer;
 
 /// The registers that are kept for a driver and have no effect on the bus (SJA1000 data sheet, 6.4.17 and 6.5.1 to
@@ -73,15 +72,8 @@ impl KeptBytes {
         ensures { self.new ≡ moved_by_answer self.old answer.now }
     {
         if let StepAnswer::Released(length) = answer {
-            self.rbsa = moved_by(self.rbsa, *length);
+            self.rbsa = start_after(self.rbsa, *length);
         }
-    }
-
-    /// Moves RBSA on by the lengths of the messages that were released from that place of the list on.
-    pub(crate) fn move_on(&mut self, released: &[Release], from: usize)
-        ensures { self.new ≡ moved self.old (drop from released.now) }
-    {
-        self.rbsa = start_after(self.rbsa, released, from);
     }
 }
 
@@ -96,20 +88,9 @@ fn divider_after(divider: u8, reset: bool, value: u8) -> u8
     }
 }
 
-/// RBSA after releases, from that place of the list on.
-fn start_after(start: u8, released: &[Release], from: usize) -> u8
-    ensures { result ≡ start_after start (drop from released.now) }
-{
-    let mut start = start;
-    for place in from..released.len() {
-        start = moved_by(start, released[place].message.len() as u8);
-    }
-    start
-}
-
 /// RBSA after a release of a message of this length.
-fn moved_by(start: u8, length: u8) -> u8
-    ensures { result ≡ (start + length) % 64 }
+fn start_after(start: u8, length: u8) -> u8
+    ensures { result ≡ start_after start length }
 {
     ((u16::from(start) + u16::from(length)) % 64) as u8
 }

@@ -12,8 +12,8 @@ ghost use Rattle.sja_raw.specs.Writes.{write_steps};
 ghost use Rattle.sja_script.specs.declared.step.Step.TheVariants.{Start, Stop, Write};
 
 use super::command_steps::written_command;
-use super::mode_write::{is_other_mode, is_written, reset_byte};
-use super::trying::{is_out, is_reset, mode_in};
+use super::in_reset::{is_out, is_reset};
+use super::mode_write::{is_other_mode, is_written, mode_in, reset_byte};
 use sja_driver::LoggedDriver;
 use sja_regs::address::{CMR, MOD};
 use sja_regs::{Mode, Port};
@@ -31,8 +31,7 @@ pub struct WriteSteps {
     pub third: Option<Step>,
 }
 
-/// The steps that a write of a byte to an address is, for this driver at these registers: what
-/// [`RawDriver::write`](super::raw_driver::RawDriver::write) does one after the other.
+/// The steps that a write of a byte to an address is, for this driver at these registers.
 pub fn steps_of_write(typed: &LoggedDriver, port: &Port, address: u8, value: u8) -> WriteSteps
     requires { IsLawful typed.now }
     ensures are { steps_in result ≡ write_steps port.now (is_out (driver_of typed.now)) address value }

@@ -1,5 +1,4 @@
 -- What a replay knows of a journal, with an entry more.
 pub mod Places
-pub mod Knowing
 pub mod Entering
 pub mod SomeViews

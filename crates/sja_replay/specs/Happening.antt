@@ -7,7 +7,7 @@ use Rattle.can_node.specs.NextBit.{now_in, open_bits, DrivesIn}
 use Rattle.can_node.specs.Stands.{closed_by, entries_of}
 use Rattle.sja_link.specs.NodeWords.{NodeBit, NodeTook, FinishedPiece, IsCut, none_yet, counted}
 use Rattle.sja_link.specs.declared.entry.Entry.{Entry}
-use Rattle.sja_link.specs.LookingBack.{ends_in_abort}
+use Rattle.sja_replay.specs.Taking.{ends_in_abort}
 use Rattle.sja_link.specs.Places.{place_of}
 use Rattle.sja_link.specs.Records.{record_of}
 use Rattle.sja_replay.specs.declared.happening.Happening.{Happening}

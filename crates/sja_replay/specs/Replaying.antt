@@ -6,7 +6,7 @@ use Rattle.sja_link.specs.NodeWords.{FinishedPiece}
 use Rattle.sja_link.specs.declared.entry.Entry.{Entry}
 use Rattle.sja_link.specs.declared.entry.Entry.TheVariants.{Bit}
 use Rattle.sja_link.specs.Free.{IsFree}
-use Rattle.sja_link.specs.LookingBack.{ends_in_abort}
+use Rattle.sja_replay.specs.Taking.{ends_in_abort, IsTaken, last_part}
 use Rattle.sja_link.specs.Places.{place_of}
 use Rattle.sja_link.specs.Records.{record_of}
 use Rattle.sja_replay.specs.declared.happening.Happening.{Happening}
@@ -14,7 +14,6 @@ use Rattle.sja_replay.specs.declared.replay.Replay.{Replay}
 use Rattle.sja_replay.specs.Closing.{Closes}
 use Rattle.sja_replay.specs.Happened.{Happened}
 use Rattle.sja_replay.specs.Happening.{Brings}
-use Rattle.sja_replay.specs.Taking.{IsTaken, last_part}
 
 -- the entry that was looked at, before the others
 abbrev pub with_ahead : Option Entry → List Entry → List Entry

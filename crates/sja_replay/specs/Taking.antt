@@ -1,5 +1,5 @@
 -- What a node takes between two bits, by a cut of its record (this project's own rule).
-use Rattle.std.specs.Prelude.{◌≡◌, ◌≢◌, ◌+◌, ◌≤◌, Bool, true, false, None, List}
+use Rattle.std.specs.Prelude.{◌≡◌, ◌≢◌, ◌+◌, ◌≤◌, Bool, true, false, None, List, [], ◌∷◌}
 use Rattle.can_node.specs.declared.aborted.Aborted.TheVariants.{Unchanged}
 use Rattle.can_node.specs.declared.phase.Phase.TheVariants.{Reset}
 use Rattle.can_node.specs.Pieces.Place.{AtReset}
@@ -45,3 +45,17 @@ pub record IsTaken (before : List Entry) (e : Entry) : Type 0 where
   pub found : List FinishedPiece
   pub cut : IsCut (record_of before) found
   pub takes : Takes before cut e
+
+-- whether the last entry is an abort
+abbrev pub is_abort : Entry → Bool
+is_abort Abort = true
+is_abort (Bit driven seen) = false
+is_abort (Item u) = false
+is_abort (Stored m) = false
+is_abort (Overrun m) = false
+is_abort Off = false
+
+abbrev pub ends_in_abort : List Entry → Bool
+ends_in_abort [] = false
+ends_in_abort (e ∷ []) = is_abort e
+ends_in_abort (e ∷ f ∷ es) = ends_in_abort (f ∷ es)

@@ -21,11 +21,10 @@ pub struct View {
 }
 
 impl View {
-    ghost use Rattle.std.specs.Prelude.{◌≡◌};
     ghost use Rattle.sja_replay.specs.Viewing.{Shows};
 
     /// What a node shows.
-    pub fn of(node: &Node) -> View
+    pub(crate) fn of(node: &Node) -> View
         ensures { Shows node.now result }
     {
         View {
@@ -35,20 +34,6 @@ impl View {
             counters: node.counters(),
             held: node.held(),
             flag: node.flag(),
-        }
-    }
-
-    /// An equal view.
-    pub fn copy(&self) -> View
-        ensures { result ≡ self.now }
-    {
-        View {
-            phase: self.phase,
-            segment: self.segment,
-            transmits: self.transmits,
-            counters: self.counters,
-            held: self.held.as_ref().map(Request::copy),
-            flag: self.flag,
         }
     }
 }

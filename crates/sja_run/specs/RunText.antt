@@ -8,7 +8,7 @@ use Rattle.sja_log.specs.declared.run_fault.RunFault.{RunFault}
 use Rattle.sja_log.specs.declared.run_fault.RunFault.TheVariants.{Memory}
 use Rattle.sja_picture.specs.PictureText.{IsPicture}
 use Rattle.sja_plan.specs.Plan.{PlanValue}
-use Rattle.sja_raw_threads.specs.RawThreadedRuns.{IsPlanThreadedRun, is_raw_plan}
+use Rattle.sja_threads.specs.RawThreadedRuns.{IsPlanThreadedRun, is_raw_plan}
 use Rattle.sja_report.specs.ReportLines.{report_text}
 use Rattle.sja_svg.specs.DrawingText.{IsDrawing}
 use Rattle.sja_threads.specs.AccessRuns.{rooms}

@@ -1,7 +1,6 @@
 //! What is written of a run in one thread.
 
-ghost use Rattle.std.specs.Prelude.{◌<◌, IfOk, IfErr, false};
-ghost use Rattle.sja_run.specs.declared.run_text.RunText.TheVariants.{Trace};
+ghost use Rattle.std.specs.Prelude.{IfOk, IfErr, false};
 ghost use Rattle.sja_run.specs.Inside.Runs.{RefusesRunOf};
 ghost use Rattle.sja_run.specs.Run.{IsOfPlan, RefusesRun};
 ghost use Rattle.sja_run.specs.RunText.{IsTextOfRun};
@@ -9,10 +8,9 @@ ghost use Rattle.sja_run.specs.RunText.{IsTextOfRun};
 use super::input::plan_of_input;
 use super::run_text::{RunText, text_of};
 use sja_log::RunFault;
-use sja_plan::{Plan, RAW_VERSION};
+use sja_plan::Plan;
 use sja_plan_session::run_plan;
 use sja_texts::CommandRefusal;
-use sja_traced::run_traced;
 use std::alloc::Global;
 use std::io::Read;
 
@@ -41,26 +39,9 @@ pub(crate) fn written_of(
     ensures ok { IfOk result (λ text. IsTextOfRun false what plan.now text.items) }
     ensures err { IfErr result (RefusesRunOf false plan.now) }
 {
-    if let RunText::Trace = what {
-        if plan.version() < RAW_VERSION {
-            return traced_text(alloc, plan);
-        }
-    }
     let Ok(log) = run_plan(alloc, plan) else {
         return Err(CommandRefusal::Run(RunFault::Memory));
     };
     let text = text_of(alloc, what, plan, &log)?;
     Ok(text)
-}
-
-/// The trace of a run of this plan, whose version is 1 or 2, told as the run goes.
-fn traced_text(alloc: Global, plan: &Plan) -> Result<Vec<u8>, CommandRefusal>
-    requires { plan.now.version < 3 }
-    ensures ok { IfOk result (λ text. IsTextOfRun false Trace plan.now text.items) }
-    ensures err { IfErr result (RefusesRunOf false plan.now) }
-{
-    let Ok(run) = run_traced(alloc, plan) else {
-        return Err(CommandRefusal::Run(RunFault::Memory));
-    };
-    Ok(run.text.into_bytes())
 }

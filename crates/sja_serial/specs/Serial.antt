@@ -1,12 +1,11 @@
 -- A run in one thread, between two turns (this project's own rule).
-use Rattle.std.specs.Prelude.{◌≡◌, ◌≢◌, ◌+◌, ◌*◌, ◌<◌, ◌≤◌, ◌⊎◌, ℕ, false, Option, None, List, length, slice_index_or}
+use Rattle.std.specs.Prelude.{◌≡◌, ◌≢◌, ◌+◌, ◌*◌, ◌<◌, ◌≤◌, ◌⊎◌, ℕ, false, None, List, length, slice_index_or}
 use Rattle.sja_link.specs.Deques.{Deques}
 use Rattle.sja_wire.specs.Buses.{BusValue, untold_at}
 use Rattle.sja_link.specs.Links.{Numbered}
 use Rattle.sja_link.specs.BitEntries.{HasMore}
 use Rattle.sja_wire.specs.Wire.{journal_at}
 use Rattle.sja_plan.specs.Plan.{PlanValue, steps_at}
-use Rattle.sja_regs.specs.declared.bus_turn.BusTurn.{BusTurn}
 use Rattle.sja_regs.specs.declared.registers.Registers.{Registers}
 use Rattle.sja_script.specs.declared.step.Step.{Step}
 use Rattle.sja_driver.specs.declared.logged_driver.LoggedDriver.{LoggedDriver}
@@ -16,13 +15,11 @@ use Rattle.sja_log.specs.Nodes.{IsNode}
 use Rattle.sja_driver.specs.Shown.{ShowsRecord}
 use Rattle.sja_log.specs.Waiting.{HasToWait}
 
--- what a contract sees of a run: its bus; the drivers, their ports, the turn that each port was told last and that
--- wasn't taken yet, and their links, by node; and the bits that were run
+-- what a contract sees of a run: its bus; the drivers, their ports and their links, by node; and the bits that were run
 pub record SerialValue : Type 0 where
   pub bus : BusValue
   pub drivers : List LoggedDriver
   pub ports : List Registers
-  pub turns : List (Option BusTurn)
   pub links : List Deques
   pub bits : ℕ
 
@@ -31,7 +28,6 @@ pub record HasNodes (nodes : ℕ) (r : SerialValue) : Type 0 where
   pub journals : length r.bus.journals ≡ nodes
   pub drivers : length r.drivers ≡ nodes
   pub ports : length r.ports ≡ nodes
-  pub turns : length r.turns ≡ nodes
   pub links : length r.links ≡ 64 * nodes
 
 -- the run of a plan stands where its drivers did these deeds, a list for each node
@@ -57,14 +53,13 @@ pub record StandsAt (plan : PlanValue) (r : SerialValue) (deeds : List (List Dee
 abbrev pub IsRunOf : PlanValue → SerialValue → Type 0
 IsRunOf plan r = (deeds : List (List Deed)) × StandsAt plan r deeds
 
--- these deeds were done then: the driver of this node did them after the bits that had run, and no bit was run, so no
--- port was told a turn; the journals have items more
+-- these deeds were done then: the driver of this node did them after the bits that had run, and no bit was run; the
+-- journals have items more
 pub record NodeDoes (plan : PlanValue) (was now : SerialValue) (node : ℕ) (deeds : List (List Deed))
     (more : List Deed) : Type 0 where
   pub stands : StandsAt plan now (with_deeds deeds node more)
   pub at_once : (i : ℕ) (d : Deed) → i < length more → (slice_index_or more i d).bits ≡ was.bits
   pub bits : now.bits ≡ was.bits
-  pub turns : now.turns ≡ was.turns
   pub items : (m : ℕ) → m < length plan.nodes → HasMore (journal_at was.bus.journals m) (journal_at now.bus.journals m)
 
 -- the driver of a node has no step left, or its next one has to wait

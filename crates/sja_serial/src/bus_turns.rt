@@ -8,10 +8,9 @@ impl SerialRun {
     ghost use Rattle.sja_wire.specs.Lawful.{IsBusRun};
     ghost use Rattle.sja_plan.specs.Plan.{IsInLimits};
     ghost use Rattle.sja_driver.specs.Deeds.{Deed};
-    ghost use Rattle.sja_serial.specs.Bits.{TakesBits, AllRestIn, SomeWorks, TakesBusTurn, TakesRest};
+    ghost use Rattle.sja_serial.specs.Bits.{TakesBit, TakesBits, AllRestIn, SomeWorks, TakesBusTurn, TakesRest};
     ghost use Rattle.sja_serial.specs.Inside.Going.{TakesAtOnce};
     ghost use Rattle.sja_serial.specs.Serial.{StandsAt, IsRunOf};
-    ghost use Rattle.sja_serial.specs.UntilTold.{TellsBit};
 
     /// `bus`: so many bits, or as many as are left. It says whether all were run.
     pub fn bus_turn(&mut self, plan: &Plan, count: u32) -> bool
@@ -108,14 +107,14 @@ impl SerialRun {
     }
 
     /// One bit of the bus. No item is taken, since all that the drivers gave was taken before. Nothing stops it. Each
-    /// port is told its turn or passed over, and that is noted.
+    /// port is told its turn or passed over.
     pub(crate) fn run_one_bit(&mut self, plan: &Plan)
         requires run { IsRunOf plan.now self.old }
         requires left { self.old.bits < plan.now.bits }
         requires limits { IsInLimits plan.now }
         requires lawful { IsBusRun self.old.bus.script self.old.bus.run self.old.bus.journals }
         ensures { (deeds : List (List Deed)) → StandsAt plan.now self.old deeds →
-            TellsBit plan.now deeds self.old self.new }
+            TakesBit plan.now deeds self.old self.new }
     {
         match self.bus.bit(self.links.as_mut_slice(), &mut self.board) {
             Ok(()) => self.bits += 1,

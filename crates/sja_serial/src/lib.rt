@@ -27,7 +27,6 @@ mod run;
 mod serial_run;
 mod striking;
 mod until_told;
-mod watched_nodes;
 
 pub use run::run_serial;
 pub use serial_run::SerialRun;

@@ -29,7 +29,7 @@ impl SerialRun {
         requires { node < length self.now.ports }
         ensures { result.now ≡ slice_index_or self.now.ports node result.now }
     {
-        &self.board.board.ports[node]
+        &self.board.ports[node]
     }
 }
 
@@ -55,7 +55,6 @@ impl SerialRun {
             StandsAt plan.now self.new deeds }
         ensures bus { self.new.bus ≡ self.old.bus }
         ensures ports { self.new.ports ≡ self.old.ports }
-        ensures turns { self.new.turns ≡ self.old.turns }
         ensures bits { self.new.bits ≡ self.old.bits }
     {
         let index = usize::from(node);
@@ -63,7 +62,7 @@ impl SerialRun {
             unreachable!()
         }
         let links = self.links.as_mut_slice();
-        let port = &self.board.board.ports[index];
+        let port = &self.board.ports[index];
         self.drivers[index].irq(links, first_link(index), port)
     }
 }

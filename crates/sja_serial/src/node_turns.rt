@@ -55,7 +55,7 @@ impl SerialRun {
         }
         let step = &steps[next];
         let links = self.links.as_mut_slice();
-        let port = &mut self.board.board.ports[index];
+        let port = &mut self.board.ports[index];
         let driver = &mut self.drivers[index];
         let done = driver.step(links, first_link(index), port, step, self.bits);
         if gave_nothing(driver, step, done) {

@@ -4,13 +4,12 @@ use super::serial_run::SerialRun;
 use sja_plan::Plan;
 
 impl SerialRun {
-    ghost use Rattle.std.specs.Prelude.{◌≡◌, ◌≢◌, ◌+◌, ◌<◌, ◌≤◌, ℕ, true, false, List};
+    ghost use Rattle.std.specs.Prelude.{◌≡◌, ◌≢◌, ◌+◌, ◌<◌, ◌≤◌, ℕ, false, List};
     ghost use Rattle.sja_script.specs.Striking.{Strikes};
     ghost use Rattle.sja_wire.specs.Lawful.{IsBusRun};
     ghost use Rattle.sja_plan.specs.Plan.{IsInLimits};
     ghost use Rattle.sja_driver.specs.Deeds.{Deed};
     ghost use Rattle.sja_serial.specs.Serial.{StandsAt, IsRunOf};
-    ghost use Rattle.sja_serial.specs.Bits.{SomeWorks};
     ghost use Rattle.sja_bus.specs.Boards.{HasOrders};
     ghost use Rattle.sja_bus.specs.UntilTold.{RunsNone};
     ghost use Rattle.sja_serial.specs.UntilTold.{EndsUntilTold, TakesUntilTold};
@@ -27,43 +26,22 @@ impl SerialRun {
         ensures unstruck { 2 ≤ result → (i node : ℕ) → i < result → node < 8 →
             Strikes self.old.bus.script (self.old.bus.run + i) node → ⊥ }
         ensures bits { (deeds : List (List Deed)) → StandsAt plan.now self.old deeds →
-            TakesUntilTold plan.now deeds false self.old result self.new }
-        ensures longest { result ≢ 0 → EndsUntilTold false count self.old result self.new }
+            TakesUntilTold plan.now deeds self.old result self.new }
+        ensures longest { result ≢ 0 → EndsUntilTold count self.old result self.new }
         ensures stays { IsRunOf plan.now self.new }
     {
         let most = count.min(self.bits_left(plan));
         if most == 0 {
             return 0;
         }
-        self.run_some_bits(plan, most, false)
-    }
-
-    /// The next bits, as long as some node works and as many as are left, as
-    /// [`bits_until_told`](SerialRun::bits_until_told) runs them. It says how many: at least one, where some node works
-    /// and a bit is left.
-    pub fn rest_until_told(&mut self, plan: &Plan) -> u32
-        requires run { IsRunOf plan.now self.old }
-        ensures some { SomeWorks plan.now self.old → self.old.bits < plan.now.bits → 1 ≤ result }
-        ensures unstruck { 2 ≤ result → (i node : ℕ) → i < result → node < 8 →
-            Strikes self.old.bus.script (self.old.bus.run + i) node → ⊥ }
-        ensures bits { (deeds : List (List Deed)) → StandsAt plan.now self.old deeds →
-            TakesUntilTold plan.now deeds true self.old result self.new }
-        ensures longest { result ≢ 0 → EndsUntilTold true self.old.bus.left self.old result self.new }
-        ensures stays { IsRunOf plan.now self.new }
-    {
-        let most = self.bits_left(plan);
-        if most == 0 || self.at_rest(plan) {
-            return 0;
-        }
-        self.run_some_bits(plan, most, true)
+        self.run_some_bits(plan, most)
     }
 
     /// The same, of so many that are left, one at least: one alone, where something stands in the way of more.
-    fn run_some_bits(&mut self, plan: &Plan, count: u32, to_rest: bool) -> u32
+    fn run_some_bits(&mut self, plan: &Plan, count: u32) -> u32
         requires run { IsRunOf plan.now self.old }
         requires some { 1 ≤ count }
         requires left { self.old.bits + count ≤ plan.now.bits }
-        requires works { to_rest ≡ true → SomeWorks plan.now self.old }
         requires limits { IsInLimits plan.now }
         requires lawful { IsBusRun self.old.bus.script self.old.bus.run self.old.bus.journals }
         ensures most { result ≤ count }
@@ -71,11 +49,11 @@ impl SerialRun {
         ensures unstruck { 2 ≤ result → (i node : ℕ) → i < result → node < 8 →
             Strikes self.old.bus.script (self.old.bus.run + i) node → ⊥ }
         ensures bits { (deeds : List (List Deed)) → StandsAt plan.now self.old deeds →
-            TakesUntilTold plan.now deeds to_rest self.old result self.new }
-        ensures longest { EndsUntilTold to_rest count self.old result self.new }
+            TakesUntilTold plan.now deeds self.old result self.new }
+        ensures longest { EndsUntilTold count self.old result self.new }
         ensures stays { IsRunOf plan.now self.new }
     {
-        let bits = self.run_untold_bits(plan, count, to_rest);
+        let bits = self.run_untold_bits(plan, count);
         if bits == 0 {
             self.run_one_bit(plan);
             return 1;
@@ -84,7 +62,7 @@ impl SerialRun {
     }
 
     /// The same, as far as no strike falls, no port wants an abort and nothing is untold.
-    fn run_untold_bits(&mut self, plan: &Plan, count: u32, to_rest: bool) -> u32
+    fn run_untold_bits(&mut self, plan: &Plan, count: u32) -> u32
         requires run { IsRunOf plan.now self.old }
         requires left { self.old.bits + count ≤ plan.now.bits }
         requires limits { IsInLimits plan.now }
@@ -93,13 +71,13 @@ impl SerialRun {
         ensures unstruck { (i node : ℕ) → i < result → node < 8 →
             Strikes self.old.bus.script (self.old.bus.run + i) node → ⊥ }
         ensures bits { (deeds : List (List Deed)) → StandsAt plan.now self.old deeds →
-            TakesUntilTold plan.now deeds to_rest self.old result self.new }
-        ensures longest { result ≢ 0 → EndsUntilTold to_rest count self.old result self.new }
-        ensures none { result ≡ 0 → RunsNone (HasOrders self.old.ports) to_rest count self.old.bus }
+            TakesUntilTold plan.now deeds self.old result self.new }
+        ensures longest { result ≢ 0 → EndsUntilTold count self.old result self.new }
+        ensures none { result ≡ 0 → RunsNone (HasOrders self.old.ports) false count self.old.bus }
     {
         match self
             .bus
-            .bits_until_told(self.links.as_mut_slice(), &mut self.board, count, to_rest)
+            .bits_until_told(self.links.as_mut_slice(), &mut self.board, count, false)
         {
             Ok(bits) => {
                 self.bits += bits;

@@ -17,13 +17,12 @@ line_at s deeds node =
     (seen_now (is_active (deeds_at deeds node)) (journal_at s.run.bus.journals node) (deeds_at deeds node))
 
 -- nothing happened that the bus, a port or the plan shows: no deed was done, no bit was run, no port and no journal
--- changed, no turn was noted, and the plan is the same. The driver may have taken in what its link showed, and no more
+-- changed, and the plan is the same. The driver may have taken in what its link showed, and no more
 pub record IsStill (was now : SessionValue) (deeds : List (List Deed)) : Type 0 where
   pub at : IsAt now deeds
   pub bus : now.run.bus ≡ was.run.bus
   pub bits : now.run.bits ≡ was.run.bits
   pub ports : now.run.ports ≡ was.run.ports
-  pub turns : now.run.turns ≡ was.run.turns
   pub room : now.room ≡ was.room
   pub wrote : written now ≡ written was
 

@@ -70,22 +70,19 @@ pub record DoesStep (was now : SessionValue) (node : ℕ) (step : Step) (answer 
       journal_at now.run.bus.journals m ≡ journal_at was.run.bus.journals m
   pub ports : (p : Registers) →
       now.run.ports ≡ slice_set was.run.ports node (ported (slice_index_or was.run.ports node p) step answer)
-  pub turns : now.run.turns ≡ was.run.turns
   pub at : IsAt now (with_deeds deeds node (deed ∷ []))
   pub bits : now.run.bits ≡ was.run.bits
   pub room : now.room ≡ was.room
   pub wrote : written now ≡ with_step_done (written was) node step
 
 -- the step has to wait, and nothing happened that the bus, a port or the plan shows: no deed was done, no bit was run,
--- no port and no journal changed, no turn was noted, and the plan is the same. The driver may have taken in what its
--- link showed, no more
+-- no port and no journal changed, and the plan is the same. The driver may have taken in what its link showed, no more
 pub record Waits (was now : SessionValue) (node : ℕ) (step : Step) (deeds : List (List Deed)) : Type 0 where
   pub why : HasToWait (slice_index_or was.run.ports node (at_power_on 1)) (journal_at was.run.bus.journals node)
       (deeds_at deeds node) step
   pub at : IsAt now deeds
   pub bits : now.run.bits ≡ was.run.bits
   pub ports : now.run.ports ≡ was.run.ports
-  pub turns : now.run.turns ≡ was.run.turns
   pub journals : (m : ℕ) → m < length was.plan.nodes →
       journal_at now.run.bus.journals m ≡ journal_at was.run.bus.journals m
   pub room : now.room ≡ was.room

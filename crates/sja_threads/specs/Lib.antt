@@ -8,5 +8,6 @@ pub mod Stopping
 pub mod Linked
 pub mod Threads
 pub mod AccessRuns
+pub mod RawThreadedRuns
 -- ---- how the code keeps a run: definitions of the private contracts alone
 pub mod Inside

@@ -12,7 +12,9 @@
 //! wait ends, or how a port stands behind its lock.
 //!
 //! [`run_accesses`] runs a plan whose drivers know addresses and bytes alone: each step is some steps of a typed
-//! driver, `HasAccessed` of `specs/Accessing.antt`, and the run is one of those ([`EndedRun`]).
+//! driver, `HasAccessed` of `specs/Accessing.antt`, and the run is one of those ([`EndedRun`]). [`run_raw_threads`]
+//! gives the log of such a run with the steps of the plan, as `specs/RawThreadedRuns.antt` has it, and
+//! [`run_plan_threads`] runs a plan of any version as its drivers are: so in version 3, typed before it.
 //!
 //! The runs alone take memory, none of it for a bit.
 #![tactic(auto)]
@@ -30,6 +32,7 @@ mod let_go;
 mod lock_board;
 mod pass;
 mod raw_answers;
+mod raw_run;
 mod raw_thread;
 mod raw_write;
 mod round;
@@ -47,5 +50,6 @@ pub use gate::Gate;
 pub use laws::a_driver_in_reset_finds_reset_mode;
 pub use lock_board::LockBoard;
 pub use pass::Pass;
+pub use raw_run::{run_plan_threads, run_raw_threads};
 pub use run::{run_accesses, run_threads};
 pub use worked::Worked;

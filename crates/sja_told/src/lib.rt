@@ -1,4 +1,4 @@
-//! Laws of runs in one thread, and of sessions: that each bit of each node is told by a replay of its journal.
+//! Laws of runs in one thread: that each bit of each node is told by a replay of its journal.
 //!
 //! `sja_replay` says which happenings a journal has, and may stop before the end of one that no bus writes. A journal
 //! of a run in one thread is told to its end: what the node drove is what its record says, each start, credit, request,
@@ -9,7 +9,6 @@
 mod laws;
 mod line_laws;
 mod plan_laws;
-mod session_laws;
 
 pub use laws::{
     every_bit_of_a_run_is_told, every_journal_of_a_run_has_happenings, every_stored_message_is_told,
@@ -18,8 +17,4 @@ pub use line_laws::every_stored_message_has_its_line;
 pub use plan_laws::{
     every_bit_of_a_plan_run_is_told, every_journal_of_a_plan_run_has_happenings,
     every_stored_message_of_a_plan_run_has_its_line, every_stored_message_of_a_plan_run_is_told,
-};
-pub use session_laws::{
-    every_bit_of_a_session_is_told, every_journal_of_a_session_has_happenings,
-    every_stored_message_of_a_session_has_its_line, every_stored_message_of_a_session_is_told,
 };

@@ -4,7 +4,5 @@ pub mod StepOrder
 pub mod Coming
 pub mod Hands
 pub mod Passing
--- Of which bits the same is said: of proofs alone, here and in the crates above.
-pub mod SayingAlike
 -- How a teller finishes: of the invariant of that loop.
 pub mod Finishing

@@ -70,12 +70,6 @@ steps_due late bit node number (s ∷ steps) (d ∷ done) =
     line_where (is_due late bit d.bits) (step_line node number s d)
     ++ steps_due late bit node (number + 1) steps done
 
--- the lines of all of them
-abbrev pub steps_from : ℕ → ℕ → List Step → List Done → List ℕ
-steps_from node number [] done = []
-steps_from node number (s ∷ steps) [] = []
-steps_from node number (s ∷ steps) (d ∷ done) = step_line node number s d ++ steps_from node (number + 1) steps done
-
 -- ---- a node in a bit
 
 -- a node: its steps, what they came to, and what its bits brought

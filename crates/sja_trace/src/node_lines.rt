@@ -51,7 +51,7 @@ pub(crate) fn put_node(
 
 /// The line of a bit at hand, in short or else in full, if the node has the bit and it brought anything.
 #[tactic(auto, using(crate::proofs::SoFar::Lines::no_line))]
-pub fn put_hand_line(
+fn put_hand_line(
     text: &mut String,
     told: &mut Told,
     node: usize,

@@ -1,7 +1,7 @@
 //! The lines of steps.
 
-ghost use Rattle.std.specs.Prelude.{◌≡◌, ◌+◌, ◌++◌, drop, string_bytes, OnOk};
-ghost use Rattle.sja_trace.specs.TraceText.{step_line, is_due, line_where, steps_due, steps_from};
+ghost use Rattle.std.specs.Prelude.{◌≡◌, ◌++◌, string_bytes, OnOk};
+ghost use Rattle.sja_trace.specs.TraceText.{step_line, is_due, line_where, steps_due};
 
 use super::due::Due;
 use can_frame::OutOfMemory;
@@ -34,26 +34,6 @@ pub(crate) fn put_steps(
             &done[place],
             due,
         )?;
-        place += 1;
-    }
-    Ok(())
-}
-
-/// The lines of those of a node's steps that were done, from a place on.
-pub fn put_steps_from(
-    alloc: Global,
-    text: &mut String,
-    node: usize,
-    steps: &[Step],
-    done: &[Done],
-    from: usize,
-) -> Result<(), OutOfMemory>
-    ensures { OnOk result (string_bytes text.new ≡ string_bytes text.old
-        ++ steps_from node (from + 1) (drop from steps.now) (drop from done.now)) }
-{
-    let mut place = from;
-    while place < steps.len() && place < done.len() {
-        put_step(alloc, text, node, place + 1, &steps[place], &done[place])?;
         place += 1;
     }
     Ok(())

@@ -4,7 +4,7 @@ use std::alloc::{AllocError, Global};
 
 /// The events of one bit of a node, one behind the other with `; ` between two.
 #[derive(Debug, Drop)]
-pub struct Told {
+pub(crate) struct Told {
     pub(crate) text: String,
     /// Whether there is one.
     begun: bool,
@@ -16,7 +16,7 @@ impl Told {
     ghost use Rattle.sja_trace.specs.Inside.Saying.{separator, Tells};
 
     /// None yet.
-    pub fn new(alloc: Global) -> Told {
+    pub(crate) fn new(alloc: Global) -> Told {
         Told {
             text: String::new(alloc),
             begun: false,

@@ -10,7 +10,6 @@ mod lawless;
 mod lawless_calls;
 mod left;
 mod logs;
-mod looks;
 mod many;
 mod places;
 mod rig;

@@ -2,15 +2,14 @@
 //! printed behind it.
 //!
 //! A line that begins with `## ` names what the calls of the rows below it are of: a port ([`registers`]), a link or
-//! its world ([`links`]), the steps of a driver ([`scripts`]), a bus and its typed drivers ([`bus`]), two drivers on a
-//! bus that know addresses and bytes alone ([`raw`]), or a session ([`sessions`]). One that begins with `== ` is the
-//! title of the rows below it. In a row `; ` stands between calls. The answers that are wanted stand in the file
-//! `stdout`, and are the data sheet's, or worked by hand from the rules of CAN.
+//! its world ([`links`]), the steps of a driver ([`scripts`]), a bus and its typed drivers ([`bus`]), or a session
+//! ([`sessions`]). One that begins with `== ` is the title of the rows below it. In a row `; ` stands between calls.
+//! The answers that are wanted stand in the file `stdout`, and are the data sheet's, or worked by hand from the rules
+//! of CAN.
 #![tactic(auto)]
 
 mod bus;
 mod links;
-mod raw;
 mod registers;
 mod scripts;
 mod sessions;
@@ -31,7 +30,6 @@ impl Rows for ControllerRows {
             "link" => links::answered(alloc, row),
             "script" => scripts::answered(alloc, row),
             "bus" => bus::answered(alloc, row),
-            "raw" => raw::answered(alloc, row),
             "session" => sessions::answered(alloc, row),
             _ => Ok(String::from_str(alloc, " ?")?),
         }

@@ -1,9 +1,10 @@
 //! Sessions: a row is calls of one session, with the report of its log and the document of its plan below it where they
 //! are asked for.
 //!
-//! [`bench`], [`calls`], [`many`] and [`ended`] say what each call is. Bytes are hexadecimal, and nodes, bits and
-//! counts decimal. The reports that are wanted are worked by hand from their format.
+//! [`bench`], [`calls`], [`addresses`], [`many`] and [`ended`] say what each call is. Bytes are hexadecimal, and
+//! nodes, bits and counts decimal. The reports that are wanted are worked by hand from their format.
 
+mod addresses;
 mod answer;
 mod bench;
 mod calls;

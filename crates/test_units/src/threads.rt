@@ -5,6 +5,7 @@ mod configured;
 mod gate_counts;
 mod gates;
 mod given;
+mod given_back;
 mod interrupts;
 mod meeting;
 mod part;

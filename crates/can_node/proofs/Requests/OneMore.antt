@@ -26,7 +26,6 @@ use Rattle.can_node.proofs.OneCut.Ways.{Between, Way, way_of}
 use Rattle.can_node.proofs.OneCut.Ways.Between.{send, abort}
 use Rattle.can_node.proofs.OneCut.Ways.Way.{finishes, comes, closes}
 use Rattle.can_node.proofs.OneCut.MoveOnce.{between_no_bit}
-use Rattle.can_node.proofs.CutRecords.AbortPlaces.{no_outer_abort}
 
 -- ---- an entry more
 
@@ -102,6 +101,11 @@ no_outer_bit : (entry : RecordEntry) (b : Bit) → IsOuter entry → entry ≡ O
 no_outer_bit entry b (start config) e = cc
 no_outer_bit entry b stop e = cc
 no_outer_bit entry b off e = cc
+
+no_outer_abort : (entry : RecordEntry) → IsOuter entry → entry ≡ Abort → ⊥
+no_outer_abort entry (start config) e = cc
+no_outer_abort entry stop e = cc
+no_outer_abort entry off e = cc
 
 bit_way : (k : Count) (c next : ContextValue) (place site : Place) (slice all : List RecordEntry) (b : Bit)
     (ps : List Piece) →

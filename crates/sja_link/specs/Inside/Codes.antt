@@ -1,6 +1,5 @@
 -- How the entries of a journal are kept: one code each, and the contents of some in lists of their own.
-use Rattle.std.specs.Prelude.{◌≡◌, ℕ, suc, Bool, true, false, if◌then◌else◌, Option, Some, None, List, [], ◌∷◌, length}
-use Rattle.std.specs.Prelude.{is_some}
+use Rattle.std.specs.Prelude.{◌≡◌, ℕ, suc, Bool, true, false, if◌then◌else◌, List, [], ◌∷◌, length}
 use Rattle.can_node.specs.declared.config.Config.{Config}
 use Rattle.can_node.specs.declared.request.Request.{Request}
 use Rattle.can_bits.specs.declared.level.Level.{Level}
@@ -14,8 +13,6 @@ use Rattle.sja_link.specs.declared.code.Code.{Code}
 use Rattle.sja_link.specs.declared.code.Code.TheVariants.{DominantAsDriven, DominantSeenRecessive}
 use Rattle.sja_link.specs.declared.code.Code.TheVariants.{RecessiveSeenDominant, RecessiveAsDriven, Start}
 use Rattle.sja_link.specs.declared.code.Code.TheVariants.{Credit, Send, Stop, Abort, Stored, Overrun, Off}
-use Rattle.sja_link.specs.declared.verdict.Verdict.{Verdict}
-use Rattle.sja_link.specs.declared.verdict.Verdict.TheVariants.{Stored as ToStore, Overrun as ToLose}
 use Rattle.lemmas.specs.Gathering.{total}
 
 -- the entries of these codes; a code with contents takes the next ones of its list
@@ -74,48 +71,6 @@ leading passes (code ∷ codes) = if passes code then suc (leading passes codes)
 -- how many stand before the first one that is no bit
 abbrev pub bits_before : List Code → ℕ
 bits_before codes = leading is_bit codes
-
--- whether a code is none of a bit that was driven dominant
-abbrev pub is_not_dominant : Code → Bool
-is_not_dominant DominantAsDriven = false
-is_not_dominant DominantSeenRecessive = false
-is_not_dominant _ = true
-
--- whether it is that of a bit that was driven and seen recessive
-abbrev pub is_rest : Code → Bool
-is_rest RecessiveAsDriven = true
-is_rest _ = false
-
--- ---- the last code
-
--- what is said of the last code, or what is said where there is none
-abbrev pub at_last : {A : Type 0} → (Code → A) → A → List Code → A
-at_last says otherwise [] = otherwise
-at_last says otherwise (code ∷ []) = says code
-at_last says otherwise (code ∷ next ∷ codes) = at_last says otherwise (next ∷ codes)
-
--- the codes without the last one, where that passes a test
-abbrev pub without_last : (Code → Bool) → List Code → List Code
-without_last passes [] = []
-without_last passes (code ∷ []) = if passes code then [] else code ∷ []
-without_last passes (code ∷ next ∷ codes) = code ∷ without_last passes (next ∷ codes)
-
-abbrev pub is_off : Code → Bool
-is_off Off = true
-is_off _ = false
-
-abbrev pub is_abort : Code → Bool
-is_abort Abort = true
-is_abort _ = false
-
--- which verdict a code is, if it is one
-abbrev pub verdict_of : Code → Option Verdict
-verdict_of Stored = Some ToStore
-verdict_of Overrun = Some ToLose
-verdict_of _ = None
-
-abbrev pub is_verdict : Code → Bool
-is_verdict code = is_some (verdict_of code)
 
 -- ---- codes with contents
 

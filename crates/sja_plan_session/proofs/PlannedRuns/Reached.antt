@@ -60,13 +60,12 @@ took_on {plan} {first} {was} {now} {start} {deeds} {l} {m} took turns same =
 
 -- ---- calls that write nothing down
 
--- such a call changes neither bits nor journals, nor ports and what they were told
+-- such a call changes neither bits nor journals nor ports
 pub record IsSame (strikes : List Strike) (was now : PlanSessionValue) (deeds : List (List Deed)) : Type 0 where
   pub at : IsAt now.raw.session deeds
   pub bits : now.raw.session.run.bits ≡ was.raw.session.run.bits
   pub journals : now.raw.session.run.bus.journals ≡ was.raw.session.run.bus.journals
   pub ports : now.raw.session.run.ports ≡ was.raw.session.run.ports
-  pub turns_told : now.raw.session.run.turns ≡ was.raw.session.run.turns
   pub room : now.raw.session.room ≡ was.raw.session.room
   pub plan : done_plan strikes now.raw.session ≡ done_plan strikes was.raw.session
   pub turns : now.raw.session.turns ≡ was.raw.session.turns
@@ -82,7 +81,6 @@ reached_same {plan} {first} {was} {now} {deeds} x s = record {
     bits = x.replays.bits ∙ sym s.bits;
     journals = x.replays.journals ∙ sym s.journals;
     ports = x.replays.ports ∙ sym s.ports;
-    turns = x.replays.turns ∙ sym s.turns_told;
   };
   took = took_on x.took (ap (λ (l : List Turn). reverse l) s.unwritten.turns)
       (same_planned plan.strikes was now x.run x.run refl s.room s.plan s.turns s.kept s.unwritten);
@@ -102,7 +100,6 @@ same_wait strikes was now node one deeds h w = record {
       ext_get_or [] now.raw.session.run.bus.journals was.raw.session.run.bus.journals
       (omega (arith, first, then_, nodes)) (λ k less. w.waits.journals k (omega (arith, less, then_, nodes)));
   ports = w.waits.ports;
-  turns_told = w.waits.turns;
   room = w.waits.room;
   plan = done_still strikes was.raw.session now.raw.session w.waits.wrote;
   turns = ap (λ (p : PlanValue). p.turns) w.waits.wrote;
@@ -117,7 +114,6 @@ same_look strikes was now deeds s = record {
   bits = s.still.bits;
   journals = λ i. (s.still.bus i).journals;
   ports = s.still.ports;
-  turns_told = s.still.turns;
   room = s.still.room;
   plan = done_still strikes was.raw.session now.raw.session s.still.wrote;
   turns = ap (λ (p : PlanValue). p.turns) s.still.wrote;
@@ -132,7 +128,6 @@ same_strike strikes was now node bit deeds s = record {
   bits = ap (λ (x : SessionValue). x.run.bits) s.struck.is;
   journals = ap (λ (x : SessionValue). x.run.bus.journals) s.struck.is;
   ports = ap (λ (x : SessionValue). x.run.ports) s.struck.is;
-  turns_told = ap (λ (x : SessionValue). x.run.turns) s.struck.is;
   room = ap (λ (x : SessionValue). x.room) s.struck.is;
   plan = ap (done_plan strikes) s.struck.is;
   turns = ap (λ (x : SessionValue). x.turns) s.struck.is;

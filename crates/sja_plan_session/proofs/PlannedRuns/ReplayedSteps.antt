@@ -60,7 +60,6 @@ one_replayed strikes was now node step answer deeds r h g does =
       ports = λ p. does.ports p
           ∙ ap (λ (ports : List Registers). slice_set ports node (ported (slice_index_or ports node p) step answer))
           (sym g.ports);
-      turns = does.turns ∙ sym g.turns;
       at = at_replayed strikes now (with_deeds deeds node (does.deed ∷ [])) (struck_with strikes now.run) does.at own;
       bits = does.bits ∙ sym g.bits;
       room = does.room;

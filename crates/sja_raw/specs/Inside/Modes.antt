@@ -1,14 +1,9 @@
 -- Writes of MOD by RM (SJA1000 data sheet, 6.4.3).
-use Rattle.std.specs.Prelude.{◌||◌, not, ℕ, Bool, false}
+use Rattle.std.specs.Prelude.{◌||◌, not, Bool}
 use Rattle.sja_regs.specs.declared.mode.Mode.{Mode}
 use Rattle.sja_regs.specs.declared.registers.Registers.{Registers}
 use Rattle.sja_regs.specs.Bits.{differ}
-use Rattle.sja_regs.specs.Modes.{mode_byte}
 use Rattle.sja_regs.specs.Registers.{is_forced}
-
--- the byte of MOD with RM at 0 whose other bits are these
-abbrev pub operating_byte : Mode → ℕ
-operating_byte mode = mode_byte (record mode { rm = false })
 
 -- RM is written as it is, or a bus-off is asked for: the write is that of the typed driver
 abbrev pub is_written : Registers → Mode → Bool

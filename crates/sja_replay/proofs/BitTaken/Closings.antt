@@ -12,8 +12,7 @@ use Rattle.sja_link.specs.Records.{told, record_of}
 use Rattle.sja_link.proofs.JournalEntries.Entering.{place_push, record_push}
 use Rattle.sja_replay.specs.declared.fate.Fate.{Fate}
 use Rattle.sja_replay.specs.Closing.{Judges, HasFate, Closes, off_if}
-use Rattle.sja_link.specs.LookingBack.{is_abort, ends_in_abort}
-use Rattle.sja_replay.specs.Taking.{last_part}
+use Rattle.sja_replay.specs.Taking.{is_abort, ends_in_abort, last_part}
 use Rattle.sja_replay.proofs.Knowledge.Places.{ends_push, last_part_on}
 
 -- ---- what the node is told of them

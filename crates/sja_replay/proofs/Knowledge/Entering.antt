@@ -22,8 +22,7 @@ use Rattle.sja_link.specs.Places.{place_of, past}
 use Rattle.sja_link.specs.Records.{told, record_of}
 use Rattle.sja_replay.specs.declared.replay.Replay.{Replay}
 use Rattle.sja_replay.specs.Replaying.{IsAt}
-use Rattle.sja_link.specs.LookingBack.{is_abort}
-use Rattle.sja_replay.specs.Taking.{TakesRequest, IsTaken, last_part}
+use Rattle.sja_replay.specs.Taking.{is_abort, TakesRequest, IsTaken, last_part}
 use Rattle.can_node.proofs.OneCut.SameCuts.{same_now, same_phase, same_place}
 use Rattle.sja_replay.proofs.Knowledge.Places.{at_next, free_on, free_new}
 

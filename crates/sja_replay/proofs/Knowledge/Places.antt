@@ -1,6 +1,5 @@
 -- What a replay knows of a journal, with an entry more.
 use Rattle.std.proofs.Common.{◌≡◌, ℕ, ◌+◌, None, List, [], ◌∷◌, ◌++◌, refl, sym, ap, ◌∙◌, subst, arith}
-use Rattle.lemmas.proofs.Gathered.{total_push}
 use Rattle.can_node.specs.declared.config.Config.{Config}
 use Rattle.can_node.specs.Stands.{StandsAt}
 use Rattle.sja_link.specs.NodeWords.{NodeEntry, FinishedPiece}
@@ -15,8 +14,7 @@ use Rattle.sja_link.proofs.JournalEntries.Entering.{place_push, part_here, of_pa
 use Rattle.sja_link.proofs.Ledger.Freeing.{free_push}
 use Rattle.sja_replay.specs.declared.replay.Replay.{Replay}
 use Rattle.sja_replay.specs.Replaying.{IsAt}
-use Rattle.sja_link.specs.LookingBack.{is_abort, ends_in_abort}
-use Rattle.sja_replay.specs.Taking.{last_part}
+use Rattle.sja_replay.specs.Taking.{is_abort, ends_in_abort, last_part}
 
 -- the last entry is an abort where the one that comes is
 pub ends_push : (j : List Entry) (e : Entry) → ends_in_abort (j ++ e ∷ []) ≡ is_abort e
@@ -48,16 +46,6 @@ pub free_on : (j : List Entry) (e : Entry) (n m : ℕ) → (past (place_of j) e)
     m + bytes_in e ≡ n + credit_in e → IsFree (last_part j) n → IsFree (last_part (j ++ e ∷ [])) m
 free_on j e n m same step h =
     subst (λ (p : List Entry). IsFree p m) (sym (last_part_on j e same)) (free_push (last_part j) e n m h step)
-
--- before an entry that stores nothing and gives nothing back they were as many
-pub free_before : (j : List Entry) (e : Entry) (n : ℕ) → (past (place_of j) e).activation ≡ (place_of j).activation →
-    bytes_in e ≡ 0 → credit_in e ≡ 0 → IsFree (last_part (j ++ e ∷ [])) n → IsFree (last_part j) n
-free_before j e n same stores gives h =
-    let p = last_part j in
-    let now = subst (λ (l : List Entry). IsFree l n) (last_part_on j e same) h in
-    let b = total_push bytes_in p e in
-    let c = total_push credit_in p e in
-    omega (arith, now, b, c, stores, gives)
 
 pub free_new : (j : List Entry) (config : Config) → IsFree (last_part (j ++ Item (Start config) ∷ [])) 64
 free_new j config = subst (λ (p : List Entry). IsFree p 64) (sym (last_part_new j config)) refl

@@ -1,6 +1,6 @@
 -- A run before its first turn.
 use Rattle.std.proofs.Common.{◌≡◌, ℕ, ◌*◌, ◌<◌, List, [], length, sym, ap, ◌∙◌, subst, arith}
-use Rattle.std.specs.Prelude.{Option, None, replicate, slice_index_or}
+use Rattle.std.specs.Prelude.{replicate, slice_index_or}
 use Rattle.std.proofs.lemmas.List.{get_or-map, length-replicate, get_or-replicate}
 use Rattle.sja_link.specs.Deques.{Deques}
 use Rattle.sja_link.specs.declared.entry.Entry.{Entry}
@@ -8,7 +8,6 @@ use Rattle.sja_wire.specs.Buses.{BusValue, new_bus}
 use Rattle.sja_link.specs.NewLinks.{AreNewLinks}
 use Rattle.sja_wire.specs.Wire.{journal_at}
 use Rattle.sja_plan.specs.Plan.{PlanValue, steps_at, step_counts}
-use Rattle.sja_regs.specs.declared.bus_turn.BusTurn.{BusTurn}
 use Rattle.sja_regs.specs.declared.registers.Registers.{Registers}
 use Rattle.sja_regs.specs.Registers.{at_power_on}
 use Rattle.sja_script.specs.declared.strike.Strike.{Strike}
@@ -25,16 +24,16 @@ use Rattle.sja_log.proofs.OneNode.Newly.{new_node}
 
 -- a run to which nothing happened stands where no driver did anything
 pub stands_new : (plan : PlanValue) (bus : BusValue) (drivers : List LoggedDriver) (ports : List Registers)
-    (turns : List (Option BusTurn)) (links : List Deques) (nodes bits : ℕ) (steps : List ℕ) (script : List Strike) →
+    (links : List Deques) (nodes bits : ℕ) (steps : List ℕ) (script : List Strike) →
     nodes ≡ length plan.nodes → script
     ≡ plan.strikes →
     bits ≡ plan.bits → bus ≡ new_bus script bits nodes steps → steps ≡ step_counts plan →
     length drivers ≡ length plan.nodes → AreNew plan (length plan.nodes) drivers →
-    ports ≡ replicate nodes (at_power_on plan.version) → turns ≡ replicate nodes None → AreNewLinks nodes links →
-    StandsAt plan (run_now bus drivers ports turns links 0) (replicate (length plan.nodes) [])
-stands_new plan bus drivers ports turns links nodes bits steps script count script_is bits_is bus_is steps_are
+    ports ≡ replicate nodes (at_power_on plan.version) → AreNewLinks nodes links →
+    StandsAt plan (run_now bus drivers ports links 0) (replicate (length plan.nodes) [])
+stands_new plan bus drivers ports links nodes bits steps script count script_is bits_is bus_is steps_are
     driver_count
-    made ports_are turns_are
+    made ports_are
     fresh = record {
       right = ap (λ (b : BusValue). b.fault) bus_is;
       script = ap (λ (b : BusValue). b.script) bus_is ∙ script_is;
@@ -45,7 +44,6 @@ stands_new plan bus drivers ports turns links nodes bits steps script count scri
         journals = ap (λ (b : BusValue). length b.journals) bus_is ∙ length-replicate nodes [] ∙ count;
         drivers = driver_count;
         ports = ap (λ l. length l) ports_are ∙ length-replicate nodes (at_power_on plan.version) ∙ count;
-        turns = ap (λ l. length l) turns_are ∙ length-replicate nodes None ∙ count;
         links = fresh.count ∙ ap (λ n. 64 * n) count;
       };
       deeds_count = length-replicate (length plan.nodes) [];

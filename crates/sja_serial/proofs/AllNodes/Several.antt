@@ -48,7 +48,6 @@ does_none plan r node deeds h = record {
   stands = subst (λ (l : List (List Deed)). StandsAt plan r l) (sym (no_deeds deeds node)) h;
   at_once = λ i d less. absurd (omega (arith, less));
   bits = refl;
-  turns = refl;
   items = λ m less. record { items = []; whole = sym (append-nil (journal_at r.bus.journals m)) };
 }
 
@@ -68,7 +67,6 @@ does_both plan r m n node deeds xs ys there f g = record {
   stands = subst (λ (l : List (List Deed)). StandsAt plan n l) (deeds_twice deeds node xs ys there) g.stands;
   at_once = both_at xs ys r.bits f.at_once (λ i d less. g.at_once i d less ∙ f.bits);
   bits = g.bits ∙ f.bits;
-  turns = g.turns ∙ f.turns;
   items = λ k less. more_both (journal_at r.bus.journals k) (journal_at m.bus.journals k)
       (journal_at n.bus.journals k) (f.items k less) (g.items k less);
 }

@@ -9,7 +9,7 @@ use Rattle.sja_link.specs.Deques.{Deques, Lies}
 use Rattle.lemmas.specs.Related.{EachRelated}
 use Rattle.lemmas.proofs.Lists.{some_of}
 use Rattle.sja_regs.specs.Registers.{at_power_on}
-use Rattle.sja_bus.specs.Boards.{HasOrders}
+use Rattle.sja_bus.specs.Boards.{HasOrders, WasTold, WasKept}
 use Rattle.sja_wire.specs.Buses.{EachJournal, KeepsAll, EachUntold}
 use Rattle.sja_wire.specs.Lawful.{IsBusRun}
 use Rattle.sja_link.specs.BitEntries.{MayHaveItems}
@@ -22,7 +22,6 @@ use Rattle.sja_driver.proofs.Trace.Stepping.{given_taken}
 use Rattle.sja_serial.specs.Bits.{TakesBits}
 use Rattle.sja_serial.specs.Inside.Going.{TakesAtOnce, run_now}
 use Rattle.sja_serial.specs.Serial.{SerialValue, StandsAt}
-use Rattle.sja_serial.specs.UntilTold.{NotesTurn, KeepsTurn}
 use Rattle.sja_log.proofs.OneNode.Gathered.{no_link}
 use Rattle.sja_driver.proofs.Account.Dry.{none_taken}
 use Rattle.sja_serial.proofs.WholeRun.GoingOn.{stands_bits}
@@ -32,7 +31,7 @@ use Rattle.sja_serial.proofs.ManyBits.StillBits.{with_none, keeps_still, run_at,
 module _ (plan : PlanValue) (r n : SerialValue) (deeds : List (List Deed)) (h : StandsAt plan r deeds)
     (right : n.bus.fault ≡ None) (script : n.bus.script ≡ r.bus.script)
     (room : n.bus.steps ≡ r.bus.steps) (journals : length n.bus.journals ≡ length r.bus.journals)
-    (drivers : n.drivers ≡ r.drivers) (ports : n.ports ≡ r.ports) (turns : n.turns ≡ r.turns)
+    (drivers : n.drivers ≡ r.drivers) (ports : n.ports ≡ r.ports)
     (sames : EachRelated (λ (a b : Deques). b.link ≡ a.link) r.links n.links)
     (kept : KeepsAll Lies r.bus.journals n.bus.journals r.links n.links)
     (was : IsBusRun r.bus.script r.bus.run r.bus.journals) where
@@ -70,14 +69,14 @@ module _ (plan : PlanValue) (r n : SerialValue) (deeds : List (List Deed)) (h : 
         fault = (h.right ∙ sym right) i;
         journals = sym grown i;
         untold = n.bus.untold;
-      }) (sym drivers i) (sym ports i) (sym turns i) n.links (sym bits i)
+      }) (sym drivers i) (sym ports i) n.links (sym bits i)
 
   pub takes_at_once : (most count : ℕ) → count ≤ most → n.bus.run ≡ r.bus.run + count →
       n.bus.left + count ≡ r.bus.left → n.bits ≡ r.bits + count →
       (count ≡ 0 → EachJournal MayHaveItems r.bus.journals n.bus.journals) →
       (count ≡ 0 → EachUntold r.bus.untold n.bus.untold r.bus.journals n.bus.journals) →
-      (count ≢ 0 → IsStretch (HasOrders r.ports) (NotesTurn r r) (KeepsTurn r r) r.bus.script r.bus.run count
-      r.bus.untold r.bus.journals n.bus.journals) →
+      (count ≢ 0 → IsStretch (HasOrders r.ports) (WasTold r.ports r.ports) (WasKept r.ports r.ports) r.bus.script
+      r.bus.run count r.bus.untold r.bus.journals n.bus.journals) →
       TakesAtOnce plan deeds r n most count
   takes_at_once most zero within run left bits items untold stretch =
       let same = none_came (items refl) in let grown = same ∙ sym (with_none r.bus.journals) in

@@ -11,7 +11,7 @@ use Rattle.lemmas.proofs.Lists.{some_of}
 use Rattle.sja_regs.specs.declared.registers.Registers.{Registers}
 use Rattle.sja_regs.specs.Registers.{at_power_on}
 use Rattle.sja_regs.specs.Turns.{after_turn}
-use Rattle.sja_bus.specs.Boards.{HasOrders}
+use Rattle.sja_bus.specs.Boards.{HasOrders, WasTold, WasKept}
 use Rattle.sja_wire.specs.Buses.{KeepsAll, IsBit, untold_at}
 use Rattle.sja_wire.specs.Lawful.{IsBusRun}
 use Rattle.sja_link.specs.Links.{Kept}
@@ -26,7 +26,6 @@ use Rattle.sja_link.specs.BitEntries.{HasOneBit}
 use Rattle.sja_log.specs.Nodes.{IsNode}
 use Rattle.sja_serial.specs.Serial.{SerialValue, StandsAt}
 use Rattle.sja_driver.specs.Shown.{ShowsRecord}
-use Rattle.sja_serial.specs.UntilTold.{NotesTurn, KeepsTurn, TellsBit}
 use Rattle.sja_driver.proofs.OneNode.Slices.{numbered_still}
 use Rattle.sja_driver.proofs.OneBit.BitAsked.{HasCut}
 use Rattle.sja_log.proofs.OneNode.BitOn.{BitOf, OrdersOf, after_one_bit, one_bit, shows}
@@ -42,11 +41,11 @@ module _ (plan : PlanValue) (r n : SerialValue) (deeds : List (List Deed)) (h : 
     (room : n.bus.steps ≡ r.bus.steps) (run : n.bus.run ≡ r.bus.run + 1) (left : n.bus.left + 1 ≡ r.bus.left)
     (journals : length n.bus.journals ≡ length r.bus.journals) (drivers_are : n.drivers ≡ r.drivers)
     (bits_are : n.bits ≡ r.bits + 1)
-    (ports : length n.ports ≡ length r.ports) (turns : length n.turns ≡ length r.turns)
+    (ports : length n.ports ≡ length r.ports)
     (kept : KeepsAll Lies r.bus.journals n.bus.journals r.links n.links)
     (sames : EachRelated (λ (a b : Deques). b.link ≡ a.link) r.links n.links)
-    (bit : IsBit (HasOrders r.ports) (NotesTurn r n) (KeepsTurn r n) r.bus.script r.bus.run r.bus.untold r.bus.journals
-    n.bus.journals)
+    (bit : IsBit (HasOrders r.ports) (WasTold r.ports n.ports) (WasKept r.ports n.ports) r.bus.script r.bus.run
+    r.bus.untold r.bus.journals n.bus.journals)
     (cuts : (m : ℕ) → m < length r.bus.journals → HasCut (journal_at r.bus.journals m)) where
   inside : (m : ℕ) → m < length plan.nodes → m < length r.bus.journals
   inside m less = let c = h.count.journals in omega (arith, c, less)
@@ -56,10 +55,10 @@ module _ (plan : PlanValue) (r n : SerialValue) (deeds : List (List Deed)) (h : 
         (journal_at r.bus.journals m) (journal_at n.bus.journals m) (slice_index_or bit.driven m Recessive) (bit.seen m)
     here =
         let p_was = slice_index_or r.ports m p in let p_now = slice_index_or n.ports m p in
-        other_node_bit (HasOrders r.ports m) (OrdersOf p_was) (NotesTurn r n m) (λ t. p_now ≡ after_turn p_was t)
-        (KeepsTurn r n m) (p_now ≡ p_was) (untold_at r.bus.untold m) (journal_at r.bus.journals m)
-        (journal_at n.bus.journals m) (slice_index_or bit.driven m Recessive) (bit.seen m) (λ o x. x p)
-        (λ t x. x.0 p) (λ x. x.0 p) (bit.nodes m (inside m less))
+        other_node_bit (HasOrders r.ports m) (OrdersOf p_was) (WasTold r.ports n.ports m)
+        (λ t. p_now ≡ after_turn p_was t) (WasKept r.ports n.ports m) (p_now ≡ p_was) (untold_at r.bus.untold m)
+        (journal_at r.bus.journals m) (journal_at n.bus.journals m) (slice_index_or bit.driven m Recessive)
+        (bit.seen m) (λ o x. x p) (λ t x. x p) (λ x. x p) (bit.nodes m (inside m less))
 
     keeps : (acc : ℕ → Account) → Kept Lies (journal_at r.bus.journals m) r.links (64 * m) acc →
         Kept Lies (journal_at n.bus.journals m) n.links (64 * m) acc
@@ -88,7 +87,6 @@ module _ (plan : PlanValue) (r n : SerialValue) (deeds : List (List Deed)) (h : 
       journals = journals ∙ h.count.journals;
       drivers = ap (λ l. length l) drivers_are ∙ h.count.drivers;
       ports = ports ∙ h.count.ports;
-      turns = turns ∙ h.count.turns;
       links = AllZip-long (λ (a b : Deques). b.link ≡ a.link) r.links n.links sames ∙ h.count.links;
     };
     deeds_count = h.deeds_count;
@@ -107,7 +105,3 @@ module _ (plan : PlanValue) (r n : SerialValue) (deeds : List (List Deed)) (h : 
     bits = bits_are;
     nodes = λ m less. one m (driver_at m less) (at_power_on plan.version) less;
   }
-
-  -- and it tells what was noted
-  pub tells_bit : TellsBit plan deeds r n
-  tells_bit = record { takes = takes_bit; drivers = drivers_are; bit = bit }

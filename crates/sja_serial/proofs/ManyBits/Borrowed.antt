@@ -1,8 +1,6 @@
 -- A run whose links a call has as a slice.
 use Rattle.std.proofs.Common.{◌≡◌, ℕ, ◌<◌, List, sym, ◌∙◌, subst}
 use Rattle.sja_link.specs.Deques.{Deques}
-use Rattle.std.specs.Prelude.{Option}
-use Rattle.sja_regs.specs.declared.bus_turn.BusTurn.{BusTurn}
 use Rattle.sja_regs.specs.declared.registers.Registers.{Registers}
 use Rattle.sja_wire.specs.Buses.{BusValue}
 use Rattle.sja_wire.specs.Lawful.{IsBusRun}
@@ -12,16 +10,16 @@ use Rattle.sja_driver.specs.Deeds.{Deed}
 use Rattle.sja_serial.specs.Serial.{SerialValue, StandsAt}
 use Rattle.sja_serial.specs.Inside.Going.{run_now}
 
-module _ {bus : BusValue} {drivers : List LoggedDriver} {ports : List Registers} {turns : List (Option BusTurn)}
+module _ {bus : BusValue} {drivers : List LoggedDriver} {ports : List Registers}
     {slice links : List Deques} {bits : ℕ} {r : SerialValue} (same : slice ≡ links)
-    (view : run_now bus drivers ports turns links bits ≡ r) where
+    (view : run_now bus drivers ports links bits ≡ r) where
   -- it is that run
-  pub run_is : run_now bus drivers ports turns slice bits ≡ r
-  run_is = (λ i. run_now bus drivers ports turns (same i) bits) ∙ view
+  pub run_is : run_now bus drivers ports slice bits ≡ r
+  run_is = (λ i. run_now bus drivers ports (same i) bits) ∙ view
 
   -- it stands where that run does, and has bits left where that has
   pub stands_there : (plan : PlanValue) (deeds : List (List Deed)) → StandsAt plan r deeds →
-      StandsAt plan (run_now bus drivers ports turns slice bits) deeds
+      StandsAt plan (run_now bus drivers ports slice bits) deeds
   stands_there plan deeds = subst (λ (x : SerialValue). StandsAt plan x deeds) (sym run_is)
 
   pub left_there : (plan : PlanValue) → r.bits < plan.bits → bits < plan.bits
@@ -33,10 +31,10 @@ module _ {bus : BusValue} {drivers : List LoggedDriver} {ports : List Registers}
 
   -- what comes of it is what comes of that run, whose links are put back
   pub put_back : (P : SerialValue → SerialValue → Type 0) (now : BusValue) (drivers_now : List LoggedDriver)
-      (ports_now : List Registers) (turns_now : List (Option BusTurn)) (after back : List Deques) (bits_now : ℕ) →
-      back ≡ after → P (run_now bus drivers ports turns slice bits)
-      (run_now now drivers_now ports_now turns_now after bits_now) →
-      P r (run_now now drivers_now ports_now turns_now back bits_now)
-  put_back P now drivers_now ports_now turns_now after back bits_now is h =
-      subst (λ (l : List Deques). P r (run_now now drivers_now ports_now turns_now l bits_now)) (sym is)
-      (subst (λ (x : SerialValue). P x (run_now now drivers_now ports_now turns_now after bits_now)) run_is h)
+      (ports_now : List Registers) (after back : List Deques) (bits_now : ℕ) →
+      back ≡ after → P (run_now bus drivers ports slice bits)
+      (run_now now drivers_now ports_now after bits_now) →
+      P r (run_now now drivers_now ports_now back bits_now)
+  put_back P now drivers_now ports_now after back bits_now is h =
+      subst (λ (l : List Deques). P r (run_now now drivers_now ports_now l bits_now)) (sym is)
+      (subst (λ (x : SerialValue). P x (run_now now drivers_now ports_now after bits_now)) run_is h)

@@ -1,5 +1,5 @@
 -- Why bits up to the first that a port is told of ended.
-use Rattle.std.proofs.Common.{◌≡◌, ◌+◌, ℕ, Bool, List, inl, inr, subst, arith}
+use Rattle.std.proofs.Common.{◌≡◌, ◌+◌, ℕ, false, List, inl, inr, subst, arith}
 use Rattle.std.specs.Prelude.{◌⊎◌}
 use Rattle.sja_link.specs.Deques.{Deques}
 use Rattle.sja_bus.specs.Boards.{HasOrders}
@@ -11,27 +11,27 @@ use Rattle.sja_driver.specs.declared.logged_driver.LoggedDriver.{LoggedDriver}
 use Rattle.sja_driver.specs.Deeds.{Deed}
 use Rattle.sja_serial.specs.Serial.{SerialValue, StandsAt, IsRunOf}
 use Rattle.sja_serial.specs.Inside.Going.{run_now}
-use Rattle.sja_serial.specs.UntilTold.{EndsUntilTold, TakesUntilTold, WorksUntold}
+use Rattle.sja_serial.specs.UntilTold.{EndsUntilTold, TakesUntilTold, NoneTold}
 use Rattle.sja_serial.specs.UntilTold.EndsUntilTold.{no_more, told, alone}
 use Rattle.sja_serial.proofs.ManyBits.ManyBits.{SerialMoment, ports}
-use Rattle.sja_serial.proofs.ManyBits.Telling.{run_told, takes_of}
+use Rattle.sja_serial.proofs.ManyBits.Telling.{run_told}
 use Rattle.sja_serial.proofs.WholeRun.GoingOn.{bits_run}
 
 -- as those of the bus did
-pub ended_told : (to_rest : Bool) (count n : ℕ) (was now : SerialMoment) (drivers : List LoggedDriver)
+pub ended_told : (count n : ℕ) (was now : SerialMoment) (drivers : List LoggedDriver)
     (links back : List Deques) (bits run : ℕ) (r : SerialValue) →
-    run_now was.bus drivers was.board.board.ports.items was.board.turns.items links bits ≡ r →
-    EndsOnBus ports to_rest count was n now → EndsUntilTold to_rest count r n
-    (run_now now.bus drivers now.board.board.ports.items now.board.turns.items back run)
-ended_told to_rest count n was now drivers links back bits run r view ends =
-    subst (λ (x : SerialValue). EndsUntilTold to_rest count x n
-    (run_now now.bus drivers now.board.board.ports.items now.board.turns.items back run)) view (by_bus ends)
+    run_now was.bus drivers was.board.ports.items links bits ≡ r →
+    EndsOnBus ports false count was n now → EndsUntilTold count r n
+    (run_now now.bus drivers now.board.ports.items back run)
+ended_told count n was now drivers links back bits run r view ends =
+    subst (λ (x : SerialValue). EndsUntilTold count x n
+    (run_now now.bus drivers now.board.ports.items back run)) view (by_bus ends)
   where
-    by_bus : EndsOnBus ports to_rest count was n now → EndsUntilTold to_rest count
-        (run_now was.bus drivers was.board.board.ports.items was.board.turns.items links bits) n
-        (run_now now.bus drivers now.board.board.ports.items now.board.turns.items back run)
+    by_bus : EndsOnBus ports false count was n now → EndsUntilTold count
+        (run_now was.bus drivers was.board.ports.items links bits) n
+        (run_now now.bus drivers now.board.ports.items back run)
     by_bus (none_on_bus why) = no_more why
-    by_bus (told_on_bus node turn few is last) = told node turn few (is.port, is.noted) last
+    by_bus (told_on_bus node turn few is last) = told node turn few is last
 
 -- ---- of as many as are left of those that were asked for
 
@@ -40,20 +40,19 @@ module _ {plan : PlanValue} {was : SerialValue} (run : IsRunOf plan was) (most c
   left_there (inl all) = inl all
   left_there (inr few) = let left = run.1.all_bits in let bits = run.1.bits in inr (omega (arith, few, left, bits))
 
-  pub ended_of : {to_rest : Bool} {now : SerialValue} {n : ℕ} → (most ≡ count) ⊎ (was.bits + most ≡ plan.bits) →
-      ((deeds : List (List Deed)) → StandsAt plan was deeds → TakesUntilTold plan deeds to_rest was n now) →
-      EndsUntilTold to_rest most was n now → EndsUntilTold to_rest count was n now
-  ended_of {to_rest} {now} {n} which bits (no_more why) =
-      no_more (none_of to_rest most count n now.bus (left_now (left_there which)) why)
+  pub ended_of : {now : SerialValue} {n : ℕ} → (most ≡ count) ⊎ (was.bits + most ≡ plan.bits) →
+      ((deeds : List (List Deed)) → StandsAt plan was deeds → TakesUntilTold plan deeds was n now) →
+      EndsUntilTold most was n now → EndsUntilTold count was n now
+  ended_of {now} {n} which bits (no_more why) =
+      no_more (none_of false most count n now.bus (left_now (left_there which)) why)
     where
       left_now : (most ≡ count) ⊎ (most ≡ was.bus.left) → (most ≡ count) ⊎ (most ≡ now.bus.left + n)
       left_now (inl all) = inl all
       left_now (inr few) =
           let before = run.1 in let after = (run_told run bits).1 in
-          let more = bits_run plan run.0 (WorksUntold plan to_rest was) was now n
-          (takes_of plan run.0 (WorksUntold plan to_rest was) was now n (bits run.0 run.1)) in
+          let more = bits_run plan run.0 (NoneTold was) was now n (bits run.0 run.1) in
           let a = before.all_bits in let b = before.bits in let c = after.all_bits in let d = after.bits in
           inr (omega (arith, few, more, a, b, c, d))
   ended_of which bits (told node turn few is last) = told node turn few is last
-  ended_of {to_rest} which bits (alone one why) =
-      alone one (held_of (HasOrders was.ports) to_rest most count was.bus (left_there which) why)
+  ended_of which bits (alone one why) =
+      alone one (held_of (HasOrders was.ports) false most count was.bus (left_there which) why)

@@ -5,8 +5,8 @@ use Rattle.sja_link.specs.declared.bus_end.BusEnd.{Ghosts as Ends}
 use Rattle.sja_link.specs.Deques.{Deques, Lies}
 use Rattle.sja_bus.specs.declared.board.Board.{Ghosts as Ports}
 use Rattle.sja_wire.specs.declared.bus_fault.BusFault.{BusFault}
-use Rattle.sja_bus.specs.declared.noting_board.NotingBoard.{NotingBoard}
-use Rattle.sja_bus.specs.Boards.{HasOrders, HasFacts, NotesTurn, ShowsNoted, ShutsNoted, KeepsNoted}
+use Rattle.sja_bus.specs.declared.serial_board.SerialBoard.{SerialBoard}
+use Rattle.sja_bus.specs.Boards.{HasOrders, HasFacts, ShowsTurn, WasTold, WasClosed, WasKept}
 use Rattle.sja_wire.specs.Lawful.{IsBusRun}
 use Rattle.sja_wire.specs.Buses.{BusValue}
 use Rattle.sja_bus.specs.Moment.{Moment, OneBit, moment}
@@ -16,22 +16,20 @@ use Rattle.sja_bus.specs.UntilTold.{WorksUntold}
 use Rattle.sja_plan.specs.Plan.{PlanValue, IsInLimits}
 use Rattle.sja_driver.specs.declared.logged_driver.LoggedDriver.{LoggedDriver}
 use Rattle.sja_driver.specs.Deeds.{Deed}
-use Rattle.sja_serial.specs.Bits.{TakesBits, SomeWorks}
+use Rattle.sja_serial.specs.Bits.{TakesBit, TakesBits, SomeWorks}
 use Rattle.sja_serial.specs.Serial.{SerialValue, StandsAt, IsRunOf}
 use Rattle.sja_serial.specs.Inside.Going.{run_now}
-use Rattle.sja_serial.specs.UntilTold.{TellsBit, TellsBits, WorksUntold as WorksUntoldInRun}
-use Rattle.sja_serial.specs.UntilTold.TellsBits.{no_bit, one_more}
-use Rattle.sja_bus.proofs.AtPorts.OtherWords.{noted_bit}
-use Rattle.sja_serial.proofs.ManyBits.BitRun.{cuts_of, tells_bit}
+use Rattle.sja_serial.specs.UntilTold.{NoneTold}
+use Rattle.sja_serial.specs.Bits.TakesBits.{no_bit, one_more}
+use Rattle.sja_serial.proofs.ManyBits.BitRun.{cuts_of, takes_bit}
 use Rattle.sja_serial.proofs.WholeRun.GoingOn.{bits_run}
 use Rattle.sja_serial.proofs.ManyBits.Borrowed.{run_is, lawful_there}
 use Rattle.sja_serial.proofs.ManyBits.SomeBits.{some_works}
-use Rattle.sja_serial.proofs.ManyBits.Telling.{takes_of}
 use Rattle.sja_serial.proofs.ManyBits.Unstopped.{never_stops}
 
 -- a moment of a bus in one thread
 abbrev pub SerialMoment : Type 0
-SerialMoment = Moment Deques NotingBoard
+SerialMoment = Moment Deques SerialBoard
 
 -- the ends of its links, and its ports
 abbrev pub ends : Ends Deques
@@ -43,15 +41,15 @@ ends = record {
   dry = λ (s : Deques). s.up ≡ [];
 }
 
-abbrev pub ports : Ports NotingBoard
+abbrev pub ports : Ports SerialBoard
 ports = record {
-  ports = λ (b : NotingBoard). length b.board.ports.items;
-  orders_are = λ (b : NotingBoard). HasOrders b.board.ports.items;
-  shows = ShowsNoted;
-  told = NotesTurn;
-  shut = ShutsNoted;
-  kept = KeepsNoted;
-  facts = λ (b : NotingBoard). HasFacts b.board.ports.items;
+  ports = λ (b : SerialBoard). length b.ports.items;
+  orders_are = λ (b : SerialBoard). HasOrders b.ports.items;
+  shows = λ (b : SerialBoard). ShowsTurn b.ports.items;
+  told = λ (a b : SerialBoard). WasTold a.ports.items b.ports.items;
+  shut = λ (a b : SerialBoard). WasClosed a.ports.items b.ports.items;
+  kept = λ (a b : SerialBoard). WasKept a.ports.items b.ports.items;
+  facts = λ (b : SerialBoard). HasFacts b.ports.items;
 }
 
 -- the bit of this number of one call
@@ -60,7 +58,7 @@ NthBit = BitInOrder ends ports
 
 -- the run with these drivers at that moment
 abbrev pub run_then : List LoggedDriver → SerialMoment → SerialValue
-run_then drivers m = run_now m.bus drivers m.board.board.ports.items m.board.turns.items m.links m.bus.run
+run_then drivers m = run_now m.bus drivers m.board.ports.items m.links m.bus.run
 
 -- ---- kinds of bits
 
@@ -98,19 +96,14 @@ abbrev pub asked_in : {E B : Type 0} {One : ℕ → Moment E B → Moment E B �
     {was now : Moment E B} {n : ℕ} → AreBits One (WorksIf to_rest) was n now → Bool
 asked_in to_rest bits = to_rest
 
--- those before which some node works, where that is asked for, and no port was told anything since the first
-pub untold : (plan : PlanValue) (to_rest : Bool) →
-    IsKind plan (λ k. OneBit ends ports) (WorksUntold to_rest) (WorksUntoldInRun plan to_rest)
-untold plan to_rest = record {
+-- those before which no port was told anything since the first
+pub untold : (plan : PlanValue) → IsKind plan (λ k. OneBit ends ports) (WorksUntold false) NoneTold
+untold plan = record {
   bit = λ k was now one. one;
-  holds = λ deeds drivers first m stands both. (
-    (λ asked. some_works plan (run_then drivers m) deeds stands (both.0 asked)),
-    record {
-      ports = ap (λ (b : NotingBoard). b.board.ports.items) both.1.board;
-      turns = ap (λ (b : NotingBoard). b.turns.items) both.1.board;
-      journals = both.1.journals;
-    },
-  );
+  holds = λ deeds drivers first m stands both. record {
+    ports = ap (λ (b : SerialBoard). b.ports.items) both.1.board;
+    journals = both.1.journals;
+  };
 }
 
 module _ (plan : PlanValue) (deeds : List (List Deed)) (drivers : List LoggedDriver) where
@@ -120,37 +113,35 @@ module _ (plan : PlanValue) (deeds : List (List Deed)) (drivers : List LoggedDri
     pub lawful : IsBusRun m.bus.script m.bus.run m.bus.journals
 
   one_bit : (was now : SerialMoment) → IsThere was → OneBit ends ports was now →
-      TellsBit plan deeds (run_then drivers was) (run_then drivers now)
+      TakesBit plan deeds (run_then drivers was) (run_then drivers now)
   one_bit was now t b =
-      tells_bit plan (run_then drivers was) (run_then drivers now) deeds t.stands b.right b.keeps.script
-      b.keeps.steps b.run b.left b.keeps.nodes refl b.run b.keeps.others.0
-      (b.keeps.others.1 (length was.bus.journals) (omega arith)).count b.kept b.keeps.sames
-      (noted_bit was.board now.board was.bus.script was.bus.run was.bus.untold was.bus.journals now.bus.journals b.bit)
-      (cuts_of t.lawful)
+      takes_bit plan (run_then drivers was) (run_then drivers now) deeds t.stands b.right b.keeps.script
+      b.keeps.steps b.run b.left b.keeps.nodes refl b.run b.keeps.others.0 b.kept b.keeps.sames
+      b.bit (cuts_of t.lawful)
 
   module _ {One : ℕ → SerialMoment → SerialMoment → Type 0} {Before : SerialMoment → SerialMoment → Type 0}
       {After : SerialValue → SerialValue → Type 0} (kind : IsKind plan One Before After) (first : SerialMoment) where
     there_still : (was now : SerialMoment) (n : ℕ) → AreBits One (Before first) was n now → IsThere was → IsThere now
     there_still was now n (none_run _) t = t
     there_still was now n (one_run _ mid _ k bits before one) t = let b = kind.bit k mid now one in record {
-      stands = (one_bit mid now (there_still was mid k bits t) b).takes.stands;
+      stands = (one_bit mid now (there_still was mid k bits t) b).stands;
       lawful = b.lawful;
     }
 
-    -- each of them is a bit of the run, and tells what was noted
-    tells_bits : (was now : SerialMoment) (n : ℕ) → AreBits One (Before first) was n now → IsThere was →
-        TellsBits plan deeds (After (run_then drivers first)) (run_then drivers was) n (run_then drivers now)
-    tells_bits was now n (none_run _) t = no_bit (run_then drivers was)
-    tells_bits was now n (one_run _ mid _ k bits before one) t =
+    -- each of them is a bit of the run
+    takes_bits : (was now : SerialMoment) (n : ℕ) → AreBits One (Before first) was n now → IsThere was →
+        TakesBits plan deeds (After (run_then drivers first)) (run_then drivers was) n (run_then drivers now)
+    takes_bits was now n (none_run _) t = no_bit (run_then drivers was)
+    takes_bits was now n (one_run _ mid _ k bits before one) t =
         let m = there_still was mid k bits t in
-        one_more (run_then drivers was) (run_then drivers mid) (run_then drivers now) k (tells_bits was mid k bits t)
+        one_more (run_then drivers was) (run_then drivers mid) (run_then drivers now) k (takes_bits was mid k bits t)
         (kind.holds deeds drivers first mid m.stands before) (one_bit mid now m (kind.bit k mid now one))
 
     many_run : (was now : SerialMoment) (n : ℕ) → AreBits One (Before first) was n now → IsThere was →
         now.bus.run ≡ was.bus.run + n
     many_run was now n bits t = let After_first = After (run_then drivers first) in
         bits_run plan deeds After_first (run_then drivers was) (run_then drivers now) n
-        (takes_of plan deeds After_first (run_then drivers was) (run_then drivers now) n (tells_bits was now n bits t))
+        (takes_bits was now n bits t)
 
     -- none of them broke off, where no more were asked for than are left
     never_breaks : (was now : SerialMoment) (count : ℕ) (f : BusFault) → IsThere was → IsInLimits plan →
@@ -161,12 +152,12 @@ module _ (plan : PlanValue) (deeds : List (List Deed)) (drivers : List LoggedDri
         let run = many_run was b.mid b.run b.bits t in
         let early = b.early in
         never_stops plan (run_then drivers b.mid) deeds m.stands (omega (arith, run, early, few)) m.lawful limits
-        (HasOrders b.mid.board.board.ports.items) now.bus now.links f b.stops
+        (HasOrders b.mid.board.ports.items) now.bus now.links f b.stops
 
 -- ---- a call that runs them, over a slice of the links of a run that has so many left
 
-module _ (bus : BusValue) (drivers : List LoggedDriver) (board : NotingBoard) (slice links : List Deques) (bits : ℕ)
-    (r : SerialValue) (same : slice ≡ links) (view : run_now bus drivers board.board.ports.items board.turns.items links
+module _ (bus : BusValue) (drivers : List LoggedDriver) (board : SerialBoard) (slice links : List Deques) (bits : ℕ)
+    (r : SerialValue) (same : slice ≡ links) (view : run_now bus drivers board.ports.items links
     bits ≡ r)
     (plan : PlanValue) (run : IsRunOf plan r) (lawful : IsBusRun r.bus.script r.bus.run r.bus.journals) (most : ℕ)
     (few : r.bits + most ≤ plan.bits) {One : ℕ → SerialMoment → SerialMoment → Type 0}
@@ -179,7 +170,7 @@ module _ (bus : BusValue) (drivers : List LoggedDriver) (board : NotingBoard) (s
   bits_are = subst (λ (x : SerialValue). x.bits ≡ x.bus.run) (sym view) run.1.bits
 
   was_is : run_then drivers was ≡ r
-  was_is = (λ i. run_now bus drivers board.board.ports.items board.turns.items slice (sym bits_are i))
+  was_is = (λ i. run_now bus drivers board.ports.items slice (sym bits_are i))
       ∙ run_is same view
 
   there : (deeds : List (List Deed)) → StandsAt plan r deeds → IsThere plan deeds drivers was
@@ -196,23 +187,14 @@ module _ (bus : BusValue) (drivers : List LoggedDriver) (board : NotingBoard) (s
       never_breaks plan run.0 drivers kind was was now most f t limits
       (subst (λ (x : SerialValue). x.bits + most ≤ plan.bits) (sym was_is) few) (breaks t.stands.right)
 
-  -- those that it ran are bits of the run, into which the links are put back, and tell what was noted
-  pub bits_told : (now : SerialMoment) (back : List Deques) → back ≡ now.links → (many : ℕ) →
-      AreBits One (Before was) was many now → (deeds : List (List Deed)) → StandsAt plan r deeds →
-      TellsBits plan deeds (After r) r many (run_now now.bus drivers now.board.board.ports.items now.board.turns.items
-      back (bits + many))
-  bits_told now back back_is many are deeds h =
-      let t = tells_bits plan deeds drivers kind was was now many are (there deeds h) in
-      let b = many_run plan deeds drivers kind was was now many are (there deeds h) in
-      let e = bits_are in let bits_now : now.bus.run ≡ bits + many = omega (arith, e, b) in
-      subst (λ (x : SerialValue). TellsBits plan deeds (After r) r many x)
-      (λ i. run_now now.bus drivers now.board.board.ports.items now.board.turns.items (sym back_is i) (bits_now i))
-      (subst (λ (x : SerialValue). TellsBits plan deeds (After x) x many (run_then drivers now)) was_is t)
-
+  -- those that it ran are bits of the run, into which the links are put back
   pub bits_taken : (now : SerialMoment) (back : List Deques) → back ≡ now.links → (many : ℕ) →
       AreBits One (Before was) was many now → (deeds : List (List Deed)) → StandsAt plan r deeds →
-      TakesBits plan deeds (After r) r many (run_now now.bus drivers now.board.board.ports.items now.board.turns.items
-      back (bits + many))
-  bits_taken now back back_is many are deeds h = takes_of plan deeds (After r) r (run_now now.bus drivers
-      now.board.board.ports.items now.board.turns.items back (bits + many)) many
-      (bits_told now back back_is many are deeds h)
+      TakesBits plan deeds (After r) r many (run_now now.bus drivers now.board.ports.items back (bits + many))
+  bits_taken now back back_is many are deeds h =
+      let t = takes_bits plan deeds drivers kind was was now many are (there deeds h) in
+      let b = many_run plan deeds drivers kind was was now many are (there deeds h) in
+      let e = bits_are in let bits_now : now.bus.run ≡ bits + many = omega (arith, e, b) in
+      subst (λ (x : SerialValue). TakesBits plan deeds (After r) r many x)
+      (λ i. run_now now.bus drivers now.board.ports.items (sym back_is i) (bits_now i))
+      (subst (λ (x : SerialValue). TakesBits plan deeds (After x) x many (run_then drivers now)) was_is t)

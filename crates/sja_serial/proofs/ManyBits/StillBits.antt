@@ -11,7 +11,7 @@ use Rattle.sja_link.specs.Lists.{Lists}
 use Rattle.lemmas.specs.Related.{EachRelated}
 use Rattle.lemmas.proofs.Related.{each_refl}
 use Rattle.sja_regs.specs.declared.registers.Registers.{Registers}
-use Rattle.sja_bus.specs.Boards.{HasOrders}
+use Rattle.sja_bus.specs.Boards.{HasOrders, WasTold, WasKept}
 use Rattle.sja_wire.specs.Buses.{KeepsAll, untold_at}
 use Rattle.sja_wire.specs.Lawful.{IsBusRun}
 use Rattle.sja_link.specs.Links.{per_node, Kept}
@@ -29,7 +29,6 @@ use Rattle.sja_log.specs.Nodes.{IsNode}
 use Rattle.sja_serial.specs.Serial.{SerialValue, StandsAt}
 use Rattle.sja_serial.specs.Inside.Going.{run_now}
 use Rattle.sja_driver.specs.Shown.{ShowsRecord}
-use Rattle.sja_serial.specs.UntilTold.{NotesTurn, KeepsTurn}
 use Rattle.sja_driver.proofs.OneNode.Slices.{numbered_still}
 use Rattle.sja_driver.proofs.OneBit.BitAsked.{HasCut}
 use Rattle.sja_serial.proofs.ManyBits.BitRun.{cuts_of, takes_bit}
@@ -65,7 +64,7 @@ run_at r links untold i = run_now (record {
   fault = r.bus.fault;
   journals = with_recessive i r.bus.journals;
   untold = untold;
-}) r.drivers r.ports r.turns links (r.bits + i)
+}) r.drivers r.ports links (r.bits + i)
 
 -- ---- a run whose links were looked at, and nothing was taken
 
@@ -102,7 +101,6 @@ module _ (plan : PlanValue) (r : SerialValue) (deeds : List (List Deed)) (h : St
       journals = ap (λ l. length l) (with_none r.bus.journals) ∙ h.count.journals;
       drivers = h.count.drivers;
       ports = h.count.ports;
-      turns = h.count.turns;
       links = AllZip-long (λ (a b : Deques). b.link ≡ a.link) r.links links sames ∙ h.count.links;
     };
     deeds_count = h.deeds_count;
@@ -120,8 +118,8 @@ module _ (plan : PlanValue) (r : SerialValue) (deeds : List (List Deed)) (h : St
 
   module _ (count : ℕ) (after : List (List Entry)) (most : count ≤ r.bus.left)
       (was : IsBusRun r.bus.script r.bus.run r.bus.journals)
-      (stretch : IsStretch (HasOrders r.ports) (NotesTurn r r) (KeepsTurn r r) r.bus.script r.bus.run count r.bus.untold
-      r.bus.journals after) where
+      (stretch : IsStretch (HasOrders r.ports) (WasTold r.ports r.ports) (WasKept r.ports r.ports) r.bus.script
+      r.bus.run count r.bus.untold r.bus.journals after) where
     abbrev at : List Bool → ℕ → SerialValue
     at untold i = run_at r links untold i
 
@@ -148,7 +146,7 @@ module _ (plan : PlanValue) (r : SerialValue) (deeds : List (List Deed)) (h : St
         let a = length-map r.bus.journals (λ j. j ++ recessive_bits i) in
         let b = length-map r.bus.journals (λ j. j ++ recessive_bits (suc i)) in
         takes_bit plan (at r.bus.untold i) (at untold (suc i)) deeds stood h.right refl refl (omega arith)
-        (omega (arith, early, most)) (omega (arith, a, b)) refl (omega arith) refl refl
+        (omega (arith, early, most)) (omega (arith, a, b)) refl (omega arith) refl
         (λ m acc few kept. keeps_still i (suc i) r.bus.journals links m acc (inside i m few) kept)
         (each_refl (λ (x y : Deques). y.link ≡ x.link) (λ x. refl) links) (stretch.bits i early)
         (cuts i (omega (arith, early)))

@@ -1,7 +1,7 @@
 -- No bit of a run breaks off: nothing waits to be taken, no journal is full, and no link gives back what is put there.
 use Rattle.std.proofs.Common.{◌≡◌, ℕ, suc, ◌+◌, ◌*◌, ◌<◌, ◌≤◌, Bool, true, false, List, [], ◌∷◌, ◌++◌, length, sym}
 use Rattle.std.proofs.Common.{ap, ◌∙◌, append_assoc, inl, inr, arith}
-use Rattle.std.specs.Prelude.{◌⊎◌, Option, None, slice_index_or}
+use Rattle.std.specs.Prelude.{◌⊎◌, None, slice_index_or}
 use Rattle.std.proofs.lemmas.List.{length-append, length-replicate}
 use Rattle.can_bits.specs.declared.level.Level.TheVariants.{Recessive}
 use Rattle.sja_link.specs.NodeWords.{received}
@@ -14,7 +14,6 @@ use Rattle.sja_link.specs.Parts.{part}
 use Rattle.sja_link.specs.Carried.{taken_of}
 use Rattle.sja_link.specs.Places.{place_of}
 use Rattle.sja_link.proofs.JournalEntries.Entering.{bits_counted}
-use Rattle.sja_regs.specs.declared.bus_turn.BusTurn.{BusTurn}
 use Rattle.sja_regs.specs.declared.orders.Orders.{Orders}
 use Rattle.sja_regs.specs.declared.registers.Registers.{Registers}
 use Rattle.sja_regs.specs.Registers.{at_power_on}
@@ -215,17 +214,17 @@ module _ (plan : PlanValue) (r : SerialValue) (deeds : List (List Deed)) (h : St
   never_refused now after f (inr x) = never_full now after f x
 
 -- the same of a run whose links a call has as a slice
-module _ {bus : BusValue} {drivers : List LoggedDriver} {ports : List Registers} {turns : List (Option BusTurn)}
+module _ {bus : BusValue} {drivers : List LoggedDriver} {ports : List Registers}
     {slice links : List Deques} {bits : ℕ} {r : SerialValue} (same : slice ≡ links)
-    (view : run_now bus drivers ports turns links bits ≡ r) (plan : PlanValue) (run : IsRunOf plan r)
+    (view : run_now bus drivers ports links bits ≡ r) (plan : PlanValue) (run : IsRunOf plan r)
     (left : r.bits < plan.bits) (was : IsBusRun r.bus.script r.bus.run r.bus.journals) (limits : IsInLimits plan) where
-  there : StandsAt plan (run_now bus drivers ports turns slice bits) run.0
+  there : StandsAt plan (run_now bus drivers ports slice bits) run.0
   there = stands_there same view plan run.0 run.1
 
   pub never_stops_there : (orders_are : ℕ → Orders → Type 0) (now : BusValue) (after : List Deques) (f : BusFault) →
       (bus.fault ≡ None → StopsBit Lies (λ (s : Deques). length s.down ≡ 22) orders_are bus now slice after f) → ⊥
   never_stops_there orders_are now after f stops =
-      never_stops plan (run_now bus drivers ports turns slice bits) run.0 there (left_there same view plan left)
+      never_stops plan (run_now bus drivers ports slice bits) run.0 there (left_there same view plan left)
       (lawful_there same view was) limits orders_are now after f (stops there.right)
 
   pub never_refused_there : (now : BusValue) (after : List Deques) (f : BusFault) →
@@ -233,5 +232,5 @@ module _ {bus : BusValue} {drivers : List LoggedDriver} {ports : List Registers}
       IsTakenAndRefused Lies (bus.run + bus.left) bus.steps bus.journals now.journals slice after f
       ⊎ IsFullInStretch Lies (bus.run + bus.left) bus.steps bus.left bus.journals now.journals slice after f) → ⊥
   never_refused_there now after f refused =
-      never_refused plan (run_now bus drivers ports turns slice bits) run.0 there (left_there same view plan left)
+      never_refused plan (run_now bus drivers ports slice bits) run.0 there (left_there same view plan left)
       (lawful_there same view was) limits now after f (refused there.right)

@@ -1,11 +1,10 @@
 -- A run in which the next step of a node's driver is tried, and what it gave is taken.
 use Rattle.std.proofs.Common.{◌≡◌, ◌+◌, ◌*◌, ◌<◌, ℕ, Bool, List, [], length, refl, ap, ◌∙◌, subst, arith}
-use Rattle.std.specs.Prelude.{Option, None, slice_index_or, slice_set}
+use Rattle.std.specs.Prelude.{None, slice_index_or, slice_set}
 use Rattle.sja_link.specs.declared.entry.Entry.{Entry}
 use Rattle.sja_link.specs.Deques.{Deques, Lies}
 use Rattle.lemmas.proofs.Related.{each_refl}
 use Rattle.lemmas.specs.Related.{EachRelated}
-use Rattle.sja_regs.specs.declared.bus_turn.BusTurn.{BusTurn}
 use Rattle.sja_regs.specs.declared.registers.Registers.{Registers}
 use Rattle.sja_regs.specs.Registers.{at_power_on}
 use Rattle.sja_script.specs.declared.step.Step.{Step}
@@ -49,11 +48,11 @@ at_port {was} {now} {slice} {given} {base} {p} {r} {q} {one} {bits} {done} same 
 
 -- a run, which stands at these deeds, and the links of which a call has as a slice
 module _ {plan : PlanValue} {bus : BusValue} {drivers : List LoggedDriver} {ports : List Registers}
-    {turns : List (Option BusTurn)} {slice links : List Deques} {bits : ℕ} {self : SerialValue} (same : slice ≡ links)
-    (view : run_now bus drivers ports turns links bits ≡ self) {deeds : List (List Deed)} (h : StandsAt plan self deeds)
+    {slice links : List Deques} {bits : ℕ} {self : SerialValue} (same : slice ≡ links)
+    (view : run_now bus drivers ports links bits ≡ self) {deeds : List (List Deed)} (h : StandsAt plan self deeds)
     {i : ℕ} (there : i < length plan.nodes) where
   abbrev run : SerialValue
-  run = run_now bus drivers ports turns slice bits
+  run = run_now bus drivers ports slice bits
 
   stood : StandsAt plan run deeds
   stood = stands_there same view plan deeds h
@@ -97,12 +96,12 @@ module _ {plan : PlanValue} {bus : BusValue} {drivers : List LoggedDriver} {port
       -- the run into which the links are put back
       module _ {node : ℕ} (node_is : i ≡ node) {back after : List Deques} (back_is : back ≡ after) where
         tried : (n : BusValue) → Tries run i was now p q one done given n after →
-            IsTried plan self (run_now n (slice_set drivers i now) (slice_set ports i q) turns back bits) node deeds
+            IsTried plan self (run_now n (slice_set drivers i now) (slice_set ports i q) back bits) node deeds
             done
-        tried n t = subst (λ (m : ℕ). IsTried plan self (run_now n (slice_set drivers i now) (slice_set ports i q) turns
+        tried n t = subst (λ (m : ℕ). IsTried plan self (run_now n (slice_set drivers i now) (slice_set ports i q)
             back bits) m deeds done) node_is
             (put_back same view (λ x y. IsTried plan x y i deeds done) n (slice_set drivers i now) (slice_set ports i q)
-            turns after back bits back_is (next_tried stood there (laws stood.right) left is done t))
+            after back bits back_is (next_tried stood there (laws stood.right) left is done t))
 
         pub is_tried : (n : BusValue) → n.fault ≡ None → n.run ≡ bus.run → n.script ≡ bus.script →
             n.steps ≡ bus.steps → n.left ≡ bus.left → length n.journals ≡ length bus.journals →
@@ -110,7 +109,7 @@ module _ {plan : PlanValue} {bus : BusValue} {drivers : List LoggedDriver} {port
             EachUntold bus.untold n.untold bus.journals n.journals →
             AllDry (λ (s : Deques). s.up ≡ []) n.journals after → EachRelated alike given after →
             length after ≡ length slice →
-            IsTried plan self (run_now n (slice_set drivers i now) (slice_set ports i q) turns back bits) node deeds
+            IsTried plan self (run_now n (slice_set drivers i now) (slice_set ports i q) back bits) node deeds
             done
         is_tried n right ran script room over count kept items untold dry sames many = tried n (record {
           was_is = was_is;
@@ -134,7 +133,7 @@ module _ {plan : PlanValue} {bus : BusValue} {drivers : List LoggedDriver} {port
       -- the step gave nothing, and nothing was taken
       pub is_tried_quietly : {node : ℕ} → i ≡ node → {back : List Deques} → back ≡ given →
           GaveNothing one done (done_in (log_of now)) → length given ≡ length slice →
-          IsTried plan self (run_now bus (slice_set drivers i now) (slice_set ports i q) turns back bits) node deeds
+          IsTried plan self (run_now bus (slice_set drivers i now) (slice_set ports i q) back bits) node deeds
           done
       is_tried_quietly node_is back_is quiet many =
           is_tried node_is back_is bus stood.right refl refl refl refl refl (λ node acc less kept. kept)

@@ -1,7 +1,7 @@
 -- A run in which what has come for one node's driver was taken in, and no step was tried.
 use Rattle.std.proofs.Common.{◌≡◌, ◌≢◌, ◌+◌, ◌*◌, ◌<◌, ℕ, false, List, length, refl, sym, ap}
 use Rattle.std.proofs.Common.{◌∙◌, subst, append-nil, arith, inl, inr}
-use Rattle.std.specs.Prelude.{Option, slice_index_or, slice_set}
+use Rattle.std.specs.Prelude.{slice_index_or, slice_set}
 use Rattle.std.proofs.lemmas.Bool.{cases_eq}
 use Rattle.std.proofs.lemmas.List.{get_or-set_same, get_or-set_other, length-set}
 use Rattle.lemmas.proofs.Related.{each_at}
@@ -11,7 +11,6 @@ use Rattle.sja_wire.specs.Lawful.{IsBusRun}
 use Rattle.sja_wire.specs.Wire.{journal_at}
 use Rattle.sja_wire.specs.Buses.{BusValue}
 use Rattle.sja_plan.specs.Plan.{PlanValue, steps_at}
-use Rattle.sja_regs.specs.declared.bus_turn.BusTurn.{BusTurn}
 use Rattle.sja_regs.specs.declared.registers.Registers.{Registers}
 use Rattle.sja_regs.specs.InterruptLine.{is_line_active}
 use Rattle.sja_script.specs.declared.step.Step.TheVariants.{Read}
@@ -37,8 +36,8 @@ use Rattle.sja_log.proofs.OneNode.Trying.{alike, shows_none}
 use Rattle.sja_log.proofs.OneNode.StepTried.{looked}
 
 module _ {plan : PlanValue} {bus : BusValue} {drivers : List LoggedDriver} {ports : List Registers}
-    {turns : List (Option BusTurn)} {slice after : List Deques} {bits : ℕ} {deeds : List (List Deed)}
-    (h : StandsAt plan (run_now bus drivers ports turns slice bits) deeds) {i : ℕ} (there : i < length plan.nodes)
+    {slice after : List Deques} {bits : ℕ} {deeds : List (List Deed)}
+    (h : StandsAt plan (run_now bus drivers ports slice bits) deeds) {i : ℕ} (there : i < length plan.nodes)
     {was now : LoggedDriver} (was_is : was ≡ slice_index_or drivers i was)
     (observed : Looked Lies shows_none was now slice after (64 * i))
     (stays : StaysLawful (λ (s : Deques). s.link) alike was now slice after (64 * i) false)
@@ -105,7 +104,7 @@ module _ {plan : PlanValue} {bus : BusValue} {drivers : List LoggedDriver} {port
         (sym (get_or-set_other drivers i m now d other)) (other_node m d p other less)
   ]
 
-  pub stands : StandsAt plan (run_now bus (slice_set drivers i now) ports turns after bits) deeds
+  pub stands : StandsAt plan (run_now bus (slice_set drivers i now) ports after bits) deeds
   stands = record {
     right = h.right;
     script = h.script;
@@ -115,7 +114,6 @@ module _ {plan : PlanValue} {bus : BusValue} {drivers : List LoggedDriver} {port
       journals = h.count.journals;
       drivers = length-set drivers i now ∙ h.count.drivers;
       ports = h.count.ports;
-      turns = h.count.turns;
       links = many ∙ h.count.links;
     };
     deeds_count = h.deeds_count;

@@ -48,7 +48,7 @@ none_untold {before} {now} {j} {k} items untold told = (over before refl, by ite
 -- a run with another driver, another port, bus and links
 abbrev pub run_tried : SerialValue → ℕ → LoggedDriver → Registers → BusValue → List Deques → SerialValue
 run_tried r node now q bus after =
-    run_now bus (slice_set r.drivers node now) (slice_set r.ports node q) r.turns after r.bits
+    run_now bus (slice_set r.drivers node now) (slice_set r.ports node q) after r.bits
 
 -- a step of a node was tried at its driver and port, which left the links as given; and then all was taken, which left
 -- this bus and the links after
@@ -162,7 +162,6 @@ module _ {plan : PlanValue} {r : SerialValue} {deeds : List (List Deed)} {node :
       journals = t.journals ∙ h.count.journals;
       drivers = length-set r.drivers node now ∙ h.count.drivers;
       ports = length-set r.ports node q ∙ h.count.ports;
-      turns = h.count.turns;
       links = t.many ∙ h.count.links;
     };
     room = λ m less. subst (λ (l : List ℕ). length (steps_at plan m) ≤ slice_index_or l m 0) (sym t.room)

@@ -81,7 +81,6 @@ module _ {plan : PlanValue} {r : SerialValue} {deeds : List (List Deed)} {node :
           stands = stands_after h there t (d ∷ []) s.node s.shows;
           at_once = λ i e less. only d i e (s.bits ∙ place) less;
           bits = refl;
-          turns = refl;
           items = more_items t;
         };
         step = λ x. s.step_is ∙ step_is x;
@@ -115,7 +114,6 @@ module _ {plan : PlanValue} {r : SerialValue} {deeds : List (List Deed)} {node :
               (subst (λ (l : List Entry). ShowsRecord l p) (sym same) shown));
           at_once = λ i d less. absurd (omega (arith, less));
           bits = refl;
-          turns = refl;
           items = more_items t;
         };
         why = inr (λ x g.

@@ -25,7 +25,6 @@ stands_with plan turns strikes r deeds h = record {
     journals = h.count.journals;
     drivers = h.count.drivers;
     ports = h.count.ports;
-    turns = h.count.turns;
     links = h.count.links;
   };
   deeds_count = h.deeds_count;

@@ -1,5 +1,5 @@
 -- How a run in one thread goes on from turn to turn (this project's own rule).
-use Rattle.std.specs.Prelude.{◌≡◌, ◌≢◌, ◌≤◌, ℕ, List, Bool, true, length, replicate, Option}
+use Rattle.std.specs.Prelude.{◌≡◌, ◌≢◌, ◌≤◌, ℕ, List, Bool, true, length, replicate}
 use Rattle.sja_plan.specs.Plan.{PlanValue}
 use Rattle.sja_driver.specs.Deeds.{Deed}
 use Rattle.sja_serial.specs.Serial.{SerialValue, StandsAt, TakesTurn}
@@ -11,7 +11,6 @@ use Rattle.sja_log.specs.Turns.{RunsTo}
 use Rattle.sja_serial.specs.Ending.{progress}
 use Rattle.sja_link.specs.Deques.{Deques}
 use Rattle.sja_wire.specs.Buses.{BusValue}
-use Rattle.sja_regs.specs.declared.bus_turn.BusTurn.{BusTurn}
 use Rattle.sja_regs.specs.declared.registers.Registers.{Registers}
 use Rattle.sja_driver.specs.declared.logged_driver.LoggedDriver.{LoggedDriver}
 
@@ -39,13 +38,11 @@ TakesOne plan deeds was now (Bus count) all = TakesBusTurn plan deeds was now co
 TakesOne plan deeds was now Rest all = TakesRest plan deeds was now all
 
 -- the run that these are
-abbrev pub run_now : BusValue → List LoggedDriver → List Registers → List (Option BusTurn) → List Deques → ℕ →
-    SerialValue
-run_now bus drivers ports turns links bits = record {
+abbrev pub run_now : BusValue → List LoggedDriver → List Registers → List Deques → ℕ → SerialValue
+run_now bus drivers ports links bits = record {
   bus = bus;
   drivers = drivers;
   ports = ports;
-  turns = turns;
   links = links;
   bits = bits;
 }

@@ -30,18 +30,17 @@ module _ {room : SessionRoom} (plan : PlanValue) (was now : SerialValue) (turns 
   }
 
   pub looks : (node : ℕ) (line : Bool) (deeds : List (List Deed)) → IsAt (session_of room was plan turns) deeds →
-      now.bus ≡ was.bus → now.ports ≡ was.ports → now.turns ≡ was.turns →
+      now.bus ≡ was.bus → now.ports ≡ was.ports →
       ((p : Registers) → line ≡ is_line_active (slice_index_or was.ports node p)
       (seen_now (is_active (deeds_at deeds node)) (journal_at was.bus.journals node) (deeds_at deeds node))) →
       Looks (session_of room was plan turns) (session_of room now plan turns) node line deeds
-  looks node line deeds h bus ports turned is = record {
+  looks node line deeds h bus ports is = record {
     is = is;
     still = record {
       at = still_at deeds h;
       bus = bus;
       bits = bits;
       ports = ports;
-      turns = turned;
       room = refl;
       wrote = ap (λ l. plan_of plan.version plan.bits (fronts l plan.nodes) turns plan.strikes)
           (counts_are plan now deeds (stands deeds h.stands) ∙ sym (counts_are plan was deeds h.stands));

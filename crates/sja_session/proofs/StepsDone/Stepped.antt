@@ -158,7 +158,6 @@ module _ {room : SessionRoom} (plan : PlanValue) (was now : SerialValue) (turns 
       others = λ m less differ. t.others m (let n = nodes_same in omega (arith, n, less)) differ;
       ports = λ p. t.ports p
           ∙ (λ i. slice_set was.ports node (ported (slice_index_or was.ports node p) (step_is i) (same i)));
-      turns = t.does.turns;
       at = at_it;
       bits = t.does.bits;
       room = refl;
@@ -209,7 +208,6 @@ module _ {room : SessionRoom} (plan : PlanValue) (was now : SerialValue) (turns 
       at = still_at;
       bits = t.does.bits;
       ports = t.ports;
-      turns = t.does.turns;
       journals = λ m less. t.journals m (let n = nodes_same in omega (arith, n, less));
       room = refl;
       wrote = wrote_same;

@@ -1,5 +1,5 @@
 -- The session below as a run has it that was given all strikes of its plan before: it stands at the same deeds, with
--- the same bits, journals, ports and turns, and its plan has the typed steps that are done.
+-- the same bits, journals and ports, and its plan has the typed steps that are done.
 use Rattle.std.proofs.Common.{◌≡◌, ℕ, List, [], ◌∷◌, length, refl, sym, ap, ◌∙◌, subst, arith}
 use Rattle.std.specs.Prelude.{reverse}
 use Rattle.std.proofs.lemmas.List.{take-take}
@@ -42,7 +42,6 @@ pub record Replays (strikes : List Strike) (s : SessionValue) (deeds : List (Lis
   pub bits : r.bits ≡ s.run.bits
   pub journals : r.bus.journals ≡ s.run.bus.journals
   pub ports : r.ports ≡ s.run.ports
-  pub turns : r.turns ≡ s.run.turns
 
 -- ---- where it stands
 
@@ -65,7 +64,6 @@ replays_own strikes s deeds h = record {
   bits = refl;
   journals = refl;
   ports = refl;
-  turns = refl;
 }
 
 pub done_nodes : (strikes : List Strike) (s : SessionValue) (deeds : List (List Deed)) → IsAt s deeds →

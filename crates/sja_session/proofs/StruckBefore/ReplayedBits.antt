@@ -55,32 +55,29 @@ record TakesAs (plan : PlanValue) (deeds : List (List Deed)) (now : SerialValue)
   bits : run.bits ≡ now.bits
   journals : run.bus.journals ≡ now.bus.journals
   ports : run.ports ≡ now.ports
-  turns : run.turns ≡ now.turns
   takes : TakesBits plan deeds AnyTime r n run
 
 taken_as : (strikes : List Strike) (was : SessionValue) (deeds : List (List Deed)) (Before : SerialValue → Type 0)
     (first now : SerialValue) (n : ℕ) (r : SerialValue) → IsAt was deeds → StandsAt (done_plan strikes was) r deeds →
-    r.bits ≡ first.bits → r.bus.journals ≡ first.bus.journals → r.ports ≡ first.ports → r.turns ≡ first.turns →
+    r.bits ≡ first.bits → r.bus.journals ≡ first.bus.journals → r.ports ≡ first.ports →
     TakesBits was.plan deeds Before first n now → TakesAs (done_plan strikes was) deeds now n r
-taken_as strikes was deeds Before first now n r h stands bits journals ports turns (no_bit _) = record {
+taken_as strikes was deeds Before first now n r h stands bits journals ports (no_bit _) = record {
   run = r;
   stands = stands;
   bits = bits;
   journals = journals;
   ports = ports;
-  turns = turns;
   takes = no_bit r;
 }
-taken_as strikes was deeds Before first now n r h stands bits journals ports turns
+taken_as strikes was deeds Before first now n r h stands bits journals ports
     (one_more _ mid _ m before holds one) =
-    let x = taken_as strikes was deeds Before first mid m r h stands bits journals ports turns before in
+    let x = taken_as strikes was deeds Before first mid m r h stands bits journals ports before in
     let there = stands_done strikes was now deeds h.stands one.stands in record {
       run = struck_with strikes now;
       stands = there;
       bits = refl;
       journals = refl;
       ports = refl;
-      turns = refl;
       takes = one_more r x.run (struck_with strikes now) m x.takes tt (record {
         stands = there;
         bits = one.bits ∙ ap (λ b. b + 1) (sym x.bits);
@@ -95,7 +92,7 @@ took_as : (strikes : List Strike) (was now : SessionValue) (deeds : List (List D
     TakesBits was.plan deeds Before was.run n now.run → done_plan strikes now ≡ done_plan strikes was →
     BitsAs strikes was now deeds n r
 took_as strikes was now deeds Before n r h g takes same =
-    let x = taken_as strikes was deeds Before was.run now.run n r h g.stands g.bits g.journals g.ports g.turns
+    let x = taken_as strikes was deeds Before was.run now.run n r h g.stands g.bits g.journals g.ports
     takes in record {
       run = x.run;
       replays = record {
@@ -103,7 +100,6 @@ took_as strikes was now deeds Before n r h g takes same =
         bits = x.bits;
         journals = x.journals;
         ports = x.ports;
-        turns = x.turns;
       };
       takes = x.takes;
     }
@@ -139,7 +135,6 @@ replays_still strikes was now deeds r g s = record {
   bits = g.bits ∙ sym s.bits;
   journals = g.journals ∙ sym (λ i. (s.bus i).journals);
   ports = g.ports ∙ sym s.ports;
-  turns = g.turns ∙ sym s.turns;
 }
 
 -- bits, and that the plan of the steps that are done stays

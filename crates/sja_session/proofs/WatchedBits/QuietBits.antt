@@ -27,7 +27,6 @@ still_same s deeds h = record {
   bus = refl;
   bits = refl;
   ports = refl;
-  turns = refl;
   room = refl;
   wrote = refl;
 }
@@ -39,7 +38,6 @@ still_then first second = record {
   bus = second.bus ∙ first.bus;
   bits = second.bits ∙ first.bits;
   ports = second.ports ∙ first.ports;
-  turns = second.turns ∙ first.turns;
   room = second.room ∙ first.room;
   wrote = second.wrote ∙ first.wrote;
 }

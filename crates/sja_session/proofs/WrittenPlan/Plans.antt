@@ -54,7 +54,6 @@ stands_by p q r deeds version bits strikes count fits h = record {
     journals = h.count.journals ∙ sym count;
     drivers = h.count.drivers ∙ sym count;
     ports = h.count.ports ∙ sym count;
-    turns = h.count.turns ∙ sym count;
     links = h.count.links ∙ ap (λ n. 64 * n) (sym count);
   };
   deeds_count = h.deeds_count ∙ sym count;

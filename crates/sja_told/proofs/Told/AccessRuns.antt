@@ -1,4 +1,4 @@
--- The journals of runs and sessions of version 3 are told to their end: they are those of runs of typed steps.
+-- The journals of runs of version 3 are told to their end: they are those of runs of typed steps.
 use Rattle.std.proofs.Common.{◌≡◌, ◌<◌, ◌^◌, ℕ, List, [], ◌∷◌, ◌++◌, length, sym, subst, inl, inr, arith}
 use Rattle.std.proofs.lemmas.Bool.{cases_lt}
 use Rattle.std.specs.Prelude.{slice_index_or}
@@ -10,7 +10,7 @@ use Rattle.sja_log.specs.Log.{NodeValue, RunValue}
 use Rattle.sja_log.specs.Runs.{IsSerialRun}
 use Rattle.sja_log.specs.declared.end.End.{End}
 use Rattle.sja_plan.specs.Plan.{PlanValue}
-use Rattle.sja_plan_session.specs.Ending.{IsLogIn, IsSessionRun}
+use Rattle.sja_plan_session.specs.Ending.{IsLogIn}
 use Rattle.sja_log.specs.LogWith.{log_with}
 use Rattle.sja_plan_session.specs.PlanRuns.{IsPlanRun}
 use Rattle.sja_plan_session.specs.PlanSessions.{PlanSessionValue}
@@ -52,9 +52,6 @@ plan_told plan log run = elim (cases_lt plan.version 3) [
   | inr raw ↦ let r = run.raw raw in log_told r.last r.deeds r.end log r.is
 ]
 
-session_told : (plan : PlanValue) (log : RunValue) → IsSessionRun plan log → IsTold log
-session_told plan log run = log_told run.last run.deeds _ log run.is
-
 -- ---- they have happenings
 
 abbrev HasHappenings : RunValue → Type 0
@@ -81,11 +78,6 @@ plan_happenings plan log run = elim (cases_lt plan.version 3) [
   | inl typed ↦ told_there plan log (run.typed typed)
   | inr raw ↦ let r = run.raw raw in log_happenings r.last r.deeds r.end log r.is
 ]
-
-pub session_happenings : (plan : PlanValue) (log : RunValue) → IsSessionRun plan log → (k : ℕ) (d : NodeValue) →
-    k < length log.nodes → log.bits < 2 ^ 32 → (hs : List Happening)
-    × Happened [] (slice_index_or log.nodes k d).journal hs
-session_happenings plan log run = log_happenings run.last run.deeds _ log run.is
 
 -- ---- the laws, of a log that is told
 
@@ -115,20 +107,3 @@ pub plan_lines : (plan : PlanValue) (log : RunValue) (trace : List ℕ) → IsPl
     (slice_index_or log.nodes k d).journal ≡ before ++ StoredEntry m ∷ after →
     IsToldStored trace k (place_of before).bits m
 plan_lines plan log trace run = lines_told plan log (plan_told plan log run) trace
-
-pub session_bits : (plan : PlanValue) (log : RunValue) → IsSessionRun plan log → (k : ℕ) (d : NodeValue) →
-    k < length log.nodes → log.bits < 2 ^ 32 → (hs : List Happening) →
-    Happened [] (slice_index_or log.nodes k d).journal hs → length hs ≡ log.bits
-session_bits plan log run k d less few hs x = (session_told plan log run k d less few hs x).0
-
-pub session_stores : (plan : PlanValue) (log : RunValue) → IsSessionRun plan log → (k : ℕ) (d : NodeValue) →
-    k < length log.nodes → log.bits < 2 ^ 32 → (hs : List Happening) →
-    Happened [] (slice_index_or log.nodes k d).journal hs → AllStored (slice_index_or log.nodes k d).journal hs
-session_stores plan log run k d less few hs x = (session_told plan log run k d less few hs x).1
-
-pub session_lines : (plan : PlanValue) (log : RunValue) (trace : List ℕ) → IsSessionRun plan log →
-    IsTrace plan log trace → log.bits < 2 ^ 32 → (k : ℕ) (d : NodeValue) → k < length log.nodes →
-    (before after : List Entry) (m : List ℕ) →
-    (slice_index_or log.nodes k d).journal ≡ before ++ StoredEntry m ∷ after →
-    IsToldStored trace k (place_of before).bits m
-session_lines plan log trace run = lines_told plan log (session_told plan log run) trace

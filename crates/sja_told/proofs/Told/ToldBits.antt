@@ -15,7 +15,7 @@ use Rattle.sja_link.specs.declared.entry.Entry.{Entry}
 use Rattle.sja_link.specs.declared.entry.Entry.TheVariants.{Bit, Stored as StoredEntry, Overrun as OverrunEntry}
 use Rattle.sja_link.specs.declared.verdict.Verdict.{Verdict}
 use Rattle.sja_link.specs.declared.verdict.Verdict.TheVariants.{Stored as ToStore, Overrun as ToLose}
-use Rattle.sja_link.specs.LookingBack.{ends_in_abort}
+use Rattle.sja_replay.specs.Taking.{ends_in_abort, last_part}
 use Rattle.sja_link.specs.Judged.{Judged, judged_at, judged_in}
 use Rattle.sja_link.specs.Parts.{in_part, part}
 use Rattle.sja_link.specs.Places.{JournalPlace, past, place_of, placed_from}
@@ -31,7 +31,6 @@ use Rattle.sja_replay.specs.Closing.{Closes}
 use Rattle.sja_replay.specs.Happened.{Happened}
 use Rattle.sja_replay.specs.Happened.Happened.{bit}
 use Rattle.sja_replay.specs.Happening.{Brings, bit_of}
-use Rattle.sja_replay.specs.Taking.{last_part}
 use Rattle.sja_replay.proofs.Once.Bits.{tells, events_once}
 use Rattle.sja_driver.proofs.OneBit.BitAsked.{place_bit}
 use Rattle.sja_replay.specs.Inside.Quiet.{IsQuiet}

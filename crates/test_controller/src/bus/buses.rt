@@ -1,6 +1,5 @@
 //! Calls of a bus, whatever its links are.
 
-use super::looks::of_looks;
 use super::told::Told;
 use super::wired::Wired;
 use super::words::{number, small, strike_of};
@@ -13,8 +12,9 @@ use sja_link::BusEnd;
 /// works; `quiet 12`, up to so many at once, and how many they are; `at_once 400`, so many bits, as many at once as the
 /// bus can, and how many those were each time; `until 1000`, bits up to the first fault, how many went well, and the
 /// fault; `rest`, bits until every node is at rest, and how many they are, and `settle`, the same with nothing said;
-/// `rests`, whether every node is at rest; `started 1`, whether a start of this node was taken; and `strike 1/60/1/1`,
-/// whether a strike more is taken. Others are of [`of_looks`].
+/// `rests`, whether every node is at rest; `started 1`, whether a start of this node was taken; `strike 1/60/1/1`,
+/// whether a strike more is taken; `until_told 400`, at most so many bits, up to the first in which a port is told its
+/// turn, and how many they are; and `until_rest 400`, the same as long as some node works.
 pub fn of_bus<E: BusEnd + Drop>(told: &mut Told, bus: &mut Wired<E>, words: &[&str]) {
     match words {
         ["gather"] => told.done(bus.gather()),
@@ -33,12 +33,6 @@ pub fn of_bus<E: BusEnd + Drop>(told: &mut Told, bus: &mut Wired<E>, words: &[&s
             Some(strike) => told.said(bus.strike(strike)),
             None => told.unread(),
         },
-        [
-            "until_told" | "until_rest" | "turn" | "last" | "dominant" | "recessive",
-            ..
-        ] => {
-            of_looks(told, bus, words);
-        }
         [name, bits] => match number(bits) {
             Some(bits) => runs(told, bus, name, bits),
             None => told.unread(),
@@ -54,6 +48,8 @@ fn runs<E: BusEnd + Drop>(told: &mut Told, bus: &mut Wired<E>, name: &str, bits:
         "several" => told.count(bus.several(bits, false)),
         "working" => told.count(bus.several(bits, true)),
         "quiet" => told.count(bus.quiet_bits(bits)),
+        "until_told" => told.count(bus.until_told(bits, false)),
+        "until_rest" => told.count(bus.until_told(bits, true)),
         "at_once" => at_once(told, bus, bits),
         "until" => until(told, bus, bits),
         _ => told.unread(),

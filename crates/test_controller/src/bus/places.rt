@@ -1,6 +1,6 @@
 //! The link and the port of a node.
 
-use sja_bus::NotingBoard;
+use sja_bus::SerialBoard;
 use sja_link::{DequeLink, LinkId};
 use sja_regs::Port;
 
@@ -15,6 +15,6 @@ pub fn link_at(links: &mut Vec<DequeLink>, id: LinkId) -> Option<&mut DequeLink>
 }
 
 /// The port of this node.
-pub fn port_at(board: &mut NotingBoard, node: u8) -> Option<&mut Port> {
-    board.board.ports.get_mut(usize::from(node))
+pub fn port_at(board: &mut SerialBoard, node: u8) -> Option<&mut Port> {
+    board.ports.get_mut(usize::from(node))
 }

@@ -1,7 +1,7 @@
 //! [`Wired`]: a bus with its links and its ports, in one thread.
 
-use sja_bus::{Bus, BusFault, NodeLog, NotingBoard, are_links_of};
-use sja_link::{BusEnd, Journal};
+use sja_bus::{Bus, BusFault, NodeLog, SerialBoard, are_links_of};
+use sja_link::BusEnd;
 use sja_script::{FaultScript, Strike};
 use std::alloc::Global;
 
@@ -14,7 +14,7 @@ const MANY: u32 = 20_000;
 pub struct Wired<E> {
     bus: Bus,
     pub links: Vec<E>,
-    pub board: NotingBoard,
+    pub board: SerialBoard,
     nodes: u8,
 }
 
@@ -38,7 +38,7 @@ impl<E: BusEnd + Drop> Wired<E> {
         let Ok(bus) = Bus::new(alloc, bits, steps, script) else {
             return None;
         };
-        let Ok(board) = NotingBoard::new(alloc, nodes, version) else {
+        let Ok(board) = SerialBoard::new(alloc, nodes, version) else {
             return None;
         };
         Some(Wired {
@@ -60,7 +60,7 @@ impl<E: BusEnd + Drop> Wired<E> {
     /// One bit.
     pub fn bit(&mut self) -> Option<Result<(), BusFault>> {
         if !are_links_of(self.links.as_slice(), self.nodes)
-            || self.board.board.ports.len() < usize::from(self.nodes)
+            || self.board.ports.len() < usize::from(self.nodes)
         {
             return None;
         }
@@ -80,7 +80,7 @@ impl<E: BusEnd + Drop> Wired<E> {
     /// So many bits, or as many as are left, one after another, with `to_rest` as long as some node works: how many.
     pub fn several(&mut self, count: u32, to_rest: bool) -> Option<Result<u32, BusFault>> {
         if !are_links_of(self.links.as_slice(), self.nodes)
-            || self.board.board.ports.len() < usize::from(self.nodes)
+            || self.board.ports.len() < usize::from(self.nodes)
         {
             return None;
         }
@@ -91,7 +91,7 @@ impl<E: BusEnd + Drop> Wired<E> {
     /// Up to so many bits at once, as far as every node is at rest: how many.
     pub fn quiet_bits(&mut self, count: u32) -> Option<Result<u32, BusFault>> {
         if !are_links_of(self.links.as_slice(), self.nodes)
-            || self.board.board.ports.len() < usize::from(self.nodes)
+            || self.board.ports.len() < usize::from(self.nodes)
         {
             return None;
         }
@@ -105,7 +105,7 @@ impl<E: BusEnd + Drop> Wired<E> {
     /// how many.
     pub fn until_told(&mut self, count: u32, to_rest: bool) -> Option<Result<u32, BusFault>> {
         if !are_links_of(self.links.as_slice(), self.nodes)
-            || self.board.board.ports.len() < usize::from(self.nodes)
+            || self.board.ports.len() < usize::from(self.nodes)
         {
             return None;
         }
@@ -114,15 +114,6 @@ impl<E: BusEnd + Drop> Wired<E> {
             self.bus
                 .bits_until_told(links, &mut self.board, count, to_rest),
         )
-    }
-
-    /// The journal of a node.
-    pub fn journal(&self, node: u8) -> Option<&Journal> {
-        if node < self.nodes {
-            Some(self.bus.journal(node))
-        } else {
-            None
-        }
     }
 
     /// Takes a strike more; whether it was taken, which it isn't where its bit has run.

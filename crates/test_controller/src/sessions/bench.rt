@@ -1,5 +1,6 @@
 //! [`Bench`]: the session of a row.
 
+use super::addresses::swept;
 use super::answer::Answer;
 use super::calls::{byte_by_byte, called, node_of, number};
 use super::ended::{ended, push_plan};
@@ -27,7 +28,7 @@ impl Bench {
     /// `new 1 1000 2`, a session of this version with so many bits and nodes, and `raw 1 1000 2`, one of drivers that
     /// know addresses and bytes alone, `new 1 1000 2 3 4` with room for so many steps and turns; `most 3`, the most
     /// room; `alike 0 11 76`, of [`alike`]; `plan`, what the plan so far has; those that end a session, of [`ended`];
-    /// and those of `calls`.
+    /// those of [`swept`]; and those of `calls`.
     pub fn does(&mut self, text: &mut String, words: &[&str]) -> Result<(), AllocError> {
         let [name, rest @ ..] = words else {
             return text.push_str(" ?");
@@ -39,6 +40,7 @@ impl Bench {
             "plan" => self.plans(text),
             "end" => self.ends(text, rest),
             "read" | "write" => self.passes_bytes(text, words),
+            "all" | "fill" | "cycle" => self.sweeps(text, words),
             _ => self.calls(text, words),
         }
     }
@@ -69,6 +71,14 @@ impl Bench {
     fn passes_bytes(&mut self, text: &mut String, words: &[&str]) -> Result<(), AllocError> {
         match &mut self.held {
             Some(held) => byte_by_byte(self.alloc, text, held, words),
+            None => text.push_str(" ?"),
+        }
+    }
+
+    /// Goes over the addresses of a node, or in and out of its reset mode.
+    fn sweeps(&mut self, text: &mut String, words: &[&str]) -> Result<(), AllocError> {
+        match &mut self.held {
+            Some(held) => swept(self.alloc, text, held, words),
             None => text.push_str(" ?"),
         }
     }

@@ -178,7 +178,12 @@ fn writes(
 
 /// What an address of a node reads as.
 fn read(held: &mut Held, node: &str, word: &str) -> Option<Answer> {
-    Some(match held.read(node_of(node)?, address(word)?)? {
+    read_at(held, node_of(node)?, address(word)?)
+}
+
+/// What this address of a node reads as; none where the session is of typed drivers.
+pub fn read_at(held: &mut Held, node: u8, address: u8) -> Option<Answer> {
+    Some(match held.read(node, address)? {
         Ok(value) => Answer::Byte(value),
         Err(fault) => Answer::NoStep(fault),
     })
@@ -201,10 +206,13 @@ fn written(held: &mut Held, node: &str, pair: &[&str]) -> Option<Answer> {
     let [addr, value] = pair else {
         return None;
     };
-    Some(
-        match held.write(node_of(node)?, address(addr)?, byte(value)?)? {
-            Ok(()) => Answer::Done,
-            Err(fault) => Answer::NoStep(fault),
-        },
-    )
+    write_at(held, node_of(node)?, address(addr)?, byte(value)?)
+}
+
+/// What a write of this value to an address of a node answers; none where the session is of typed drivers.
+pub fn write_at(held: &mut Held, node: u8, address: u8, value: u8) -> Option<Answer> {
+    Some(match held.write(node, address, value)? {
+        Ok(()) => Answer::Done,
+        Err(fault) => Answer::NoStep(fault),
+    })
 }

@@ -17,17 +17,18 @@ enum Bit {
 /// How many of the same calls were done; none where these words are none of them.
 ///
 /// `reads 0 1000`, so many reads of SR by node 0 with one value; `reads 0 1000 before`, each with a bit before it, and
-/// `reads 0 1000 after`, behind it; `starts 1 8`, so many starts of node 1, each with a stop behind it; and
-/// `strikes 600 1000`, so many strikes of node 0 in one bit after the other from bit 600 on.
+/// `reads 0 1000 after`, behind it; `starts 1 8`, so many starts of node 1, each with a stop behind it; and `strikes
+/// 600 1000`, so many strikes of node 0 in one bit after the other from bit 600 on, or `strikes 11 16 18`, each but
+/// the first 18 bits after the one before it.
 pub fn many(held: &mut Held, name: &str, rest: &[&str]) -> Option<Answer> {
-    let [first, second, when @ ..] = rest else {
+    let [first, second, more @ ..] = rest else {
         return None;
     };
     let (first, second) = (number(first)?, number(second)?);
     match name {
-        "reads" => reads(held, u8::try_from(first).ok()?, second, bit_of(when)?),
+        "reads" => reads(held, u8::try_from(first).ok()?, second, bit_of(more)?),
         "starts" => starts(held, u8::try_from(first).ok()?, second),
-        _ => strikes(held, first, second),
+        _ => strikes(held, first, second, apart_of(more)?),
     }
 }
 
@@ -37,6 +38,15 @@ fn bit_of(when: &[&str]) -> Option<Bit> {
         [] => Some(Bit::Never),
         ["before"] => Some(Bit::Before),
         ["after"] => Some(Bit::After),
+        _ => None,
+    }
+}
+
+/// How many bits apart strikes are, as these words say.
+fn apart_of(words: &[&str]) -> Option<u32> {
+    match words {
+        [] => Some(1),
+        [apart] => number(apart),
         _ => None,
     }
 }
@@ -100,14 +110,15 @@ pub fn is_done(answer: &Answer) -> bool {
     matches!(answer, Answer::Step(StepAnswer::Done))
 }
 
-/// So many strikes of node 0, one bit after the other; how many were taken before one wasn't.
-fn strikes(held: &mut Held, from: u32, count: u32) -> Option<Answer> {
-    let mut done = 0u32;
-    for bit in 0..count {
-        if held.strike(0, from.saturating_add(bit)).is_err() {
+/// So many strikes of node 0, so many bits apart; how many were taken before one wasn't.
+fn strikes(held: &mut Held, from: u32, count: u32, apart: u32) -> Option<Answer> {
+    let (mut done, mut bit) = (0u32, from);
+    for _ in 0..count {
+        if held.strike(0, bit).is_err() {
             break;
         }
         done = done.saturating_add(1);
+        bit = bit.saturating_add(apart);
     }
     Some(Answer::Count(done))
 }

@@ -5,10 +5,9 @@ use sja_candump::candump;
 use sja_frames::frames;
 use sja_log::RunLog;
 use sja_picture::picture;
-use sja_plan::{Plan, RAW_VERSION};
+use sja_plan::Plan;
 use sja_svg::drawing;
 use sja_trace::trace;
-use sja_traced::run_traced;
 use std::alloc::{AllocError, Global};
 
 /// A text of a run.
@@ -45,16 +44,9 @@ impl RunText {
     }
 }
 
-/// The trace of a run. A line more says so where it isn't that of a run of the same plan that is traced as it goes.
+/// The trace of a run.
 fn traced(alloc: Global, plan: &Plan, log: &RunLog) -> Result<String, AllocError> {
-    let mut text = trace(alloc, plan, log).or(Err(AllocError))?;
-    if plan.version() < RAW_VERSION {
-        let run = run_traced(alloc, plan).or(Err(AllocError))?;
-        if run.text.as_str() != text.as_str() {
-            text.push_str("told as the run goes it is another\n")?;
-        }
-    }
-    Ok(text)
+    trace(alloc, plan, log).or(Err(AllocError))
 }
 
 /// The list of a run's frames.

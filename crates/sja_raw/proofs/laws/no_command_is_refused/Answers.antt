@@ -1,5 +1,5 @@
 use Rattle.sja_regs.specs.Commands.{command_of}
-use Rattle.sja_raw.proofs.Bytes.CommandBytes.{none_refused}
+use Rattle.sja_raw.proofs.CommandBytes.{none_refused}
 use Rattle.sja_raw.proofs.laws.no_command_is_refused.Goals as goal
 
 pub returns : goal.returns

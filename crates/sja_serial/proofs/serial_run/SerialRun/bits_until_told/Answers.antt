@@ -1,7 +1,7 @@
 use Rattle.std.proofs.Common.{◌≡◌, ◌+◌, inl, inr, arith}
 use Rattle.std.specs.Prelude.{◌⊎◌}
 use Rattle.std.proofs.lemmas.Bool.{cases_lt}
-use Rattle.sja_serial.specs.UntilTold.TellsBits.{no_bit}
+use Rattle.sja_serial.specs.Bits.TakesBits.{no_bit}
 use Rattle.sja_serial.proofs.ManyBits.Ending.{ended_of}
 use Rattle.sja_serial.proofs.serial_run.SerialRun.bits_until_told.Goals as goal
 

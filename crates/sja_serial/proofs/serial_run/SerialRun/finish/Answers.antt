@@ -17,7 +17,7 @@ use Rattle.sja_serial.proofs.serial_run.SerialRun.finish.Goals as goal
 pub node_runs-requires-clause-lawful : goal.node_runs-requires-clause-lawful
 node_runs-requires-clause-lawful c =
     let b = c.self.inside in
-    let now = run_now b.bus b.drivers.items b.board.board.ports.items b.board.turns.items b.links.items b.bits in
+    let now = run_now b.bus b.drivers.items b.board.ports.items b.links.items b.bits in
     let deeds = c.requires.run.0 in
     let stood : StandsAt c.args.plan.now now deeds = subst (λ (x : SerialValue). StandsAt c.args.plan.now x deeds)
     (sym c.self.view_is) c.requires.run.1 in
@@ -29,7 +29,7 @@ node_runs-requires-clause-lawful c =
 pub returns : goal.returns
 returns c =
     let b = c.self.inside in
-    let now = run_now b.bus b.drivers.items b.board.board.ports.items b.board.turns.items b.links.items b.bits in
+    let now = run_now b.bus b.drivers.items b.board.ports.items b.links.items b.bits in
     let P : SerialValue → Type 0 = λ r. (deeds : List (List Deed)) → StandsAt c.args.plan.now r deeds →
     IsLogOf c.args.plan.now r deeds c.args.end c.of.result in
     let nodes = c.in_ok-nodes.nodes.items in

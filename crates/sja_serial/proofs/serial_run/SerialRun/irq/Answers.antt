@@ -45,7 +45,7 @@ pub returns-clause-stands : goal.returns-clause-stands
 returns-clause-stands c = λ deeds h.
     let at = (goal.at.returns-clause-stands c).After-irq in let b = c.self.inside in
     subst (λ (l : List Deques). StandsAt c.args.plan.now (run_now b.bus
-    (slice_set b.drivers.items c.from-index.result c.irq.new.self) b.board.board.ports.items b.board.turns.items l
+    (slice_set b.drivers.items c.from-index.result c.irq.new.self) b.board.ports.items l
     b.bits) deeds)
     (sym (with_items_is b.links c.irq.new.links (omega (arith, many at, c.as_mut_slice-links.ensures.len))))
     (stands (stands_there c.as_mut_slice-links.ensures.value c.self.view_is c.args.plan.now deeds h) (there at)
@@ -54,7 +54,7 @@ returns-clause-stands c = λ deeds h.
 pub returns-clause-line : goal.returns-clause-line
 returns-clause-line c = λ deeds h p.
     let at = (goal.at.returns-clause-line c).After-irq in let i = c.from-index.result in
-    let ports = c.self.inside.board.board.ports.items in let port = c.index-port.result.now in
+    let ports = c.self.inside.board.ports.items in let port = c.index-port.result.now in
     let own = stands_there c.as_mut_slice-links.ensures.value c.self.view_is c.args.plan.now deeds h in
     let run = run_is c.as_mut_slice-links.ensures.value c.self.view_is in
     let within : i < length ports = let k = own.count.ports in let t = there at in omega (arith, k, t) in

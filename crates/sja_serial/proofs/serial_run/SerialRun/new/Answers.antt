@@ -1,4 +1,4 @@
-use Rattle.std.proofs.Common.{◌≡◌, ◌∙◌, ap, sym, ℕ, List, None, replicate, arith}
+use Rattle.std.proofs.Common.{◌≡◌, ◌∙◌, ap, sym, ℕ, List, replicate, arith}
 use Rattle.sja_regs.specs.declared.registers.Registers.{Registers}
 use Rattle.sja_regs.specs.Registers.{at_power_on}
 use Rattle.sja_wire.specs.Buses.{new_bus}
@@ -12,23 +12,18 @@ powered n v version are same = are ∙ ap (λ (v : ℕ). replicate n (at_power_o
 
 pub returns-clause-stands : goal.returns-clause-stands
 returns-clause-stands c =
-    stands_new c.args.plan.now c.in_ok-bus.bus c.in_ok-drivers.drivers.items c.in_ok-board.board.board.ports.items
-    c.in_ok-board.board.turns.items
+    stands_new c.args.plan.now c.in_ok-bus.bus c.in_ok-drivers.drivers.items c.in_ok-board.board.ports.items
     c.in_ok-links.links.items c.nodes-nodes.result c.bits.result c.in_ok-steps.steps.items c.in_ok-script.script
     c.nodes-nodes.ensures.value c.in_ok-script.ensures c.bits.ensures.value
     (c.in_ok-bus.ensures ∙ ap (λ (n : ℕ). new_bus c.in_ok-script.script c.bits.result n c.in_ok-steps.steps.items)
     (c.in_ok-steps.ensures.count ∙ sym c.nodes-nodes.ensures.value)) c.in_ok-steps.ensures.value
     c.in_ok-drivers.ensures.count
     c.in_ok-drivers.ensures.new
-    (powered c.nodes-nodes.result _ c.args.plan.now.version c.in_ok-board.ensures.ports
+    (powered c.nodes-nodes.result _ c.args.plan.now.version c.in_ok-board.ensures
     (let own = c.version.ensures.value in omega (arith, own)))
-    c.in_ok-board.ensures.turns
     c.in_ok-links.ensures
 
 pub returns-clause-bus : goal.returns-clause-bus
 returns-clause-bus c =
     c.in_ok-bus.ensures ∙ (λ i. new_bus (c.in_ok-script.ensures i) (c.bits.ensures.value i)
     (c.in_ok-steps.ensures.count i) (c.in_ok-steps.ensures.value i))
-
-pub returns-clause-turns : goal.returns-clause-turns
-returns-clause-turns c = c.in_ok-board.ensures.turns ∙ ap (λ n. replicate n None) c.nodes-nodes.ensures.value

@@ -11,7 +11,7 @@ pub returns-clause-turn : goal.returns-clause-turn
 returns-clause-turn c = λ deeds h.
     let plan = c.args.plan.now in let n = c.run_busy_bits.new.self in let b = c.self.inside in
     let t = c.run_busy_bits.ensures.bits deeds h in
-    let now = run_now b.bus b.drivers.items b.board.board.ports.items b.board.turns.items b.links.items b.bits in
+    let now = run_now b.bus b.drivers.items b.board.ports.items b.links.items b.bits in
     let s : StandsAt plan now deeds = subst (λ (x : SerialValue). StandsAt plan x deeds) (sym c.self.view_is)
     (stands_bits plan deeds (SomeWorks plan) c.args.self.now n c.run_busy_bits.result t h) in
     let all = c.bits.ensures.value in

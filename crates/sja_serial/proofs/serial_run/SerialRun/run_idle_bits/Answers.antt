@@ -3,7 +3,6 @@ use Rattle.std.specs.Prelude.{Ok}
 use Rattle.std.proofs.lemmas.List.{with_items_is}
 use Rattle.sja_serial.specs.Inside.Going.{TakesAtOnce, run_now}
 use Rattle.sja_serial.specs.Serial.{SerialValue}
-use Rattle.sja_bus.proofs.AtPorts.OtherWords.{noted_stretch}
 use Rattle.sja_serial.proofs.ManyBits.AtOnce.{takes_at_once}
 use Rattle.sja_serial.proofs.ManyBits.Borrowed.{stands_there, lawful_there, put_back}
 use Rattle.sja_serial.proofs.ManyBits.Unstopped.{never_refused_there}
@@ -12,20 +11,19 @@ use Rattle.sja_serial.proofs.serial_run.SerialRun.run_idle_bits.Goals as goal
 pub returns : goal.returns
 returns c = λ deeds h.
     let s = c.self.inside in let now = c.quiet_bits.new in let plan = c.args.plan.now in
-    let many = c.in-Ok.bits in let most = c.args.count in let ports = s.board.board.ports.items in
-    let turns = s.board.turns.items in let q = c.quiet_bits.ensures in let ok = c.in-Ok.ensures in
+    let many = c.in-Ok.bits in let most = c.args.count in let ports = s.board.ports.items in
+    let q = c.quiet_bits.ensures in let ok = c.in-Ok.ensures in
     let same = c.as_mut_slice.ensures.value in let view = c.self.view_is in
     let is : c.quiet_bits.result ≡ Ok many = search rules in
     let P : SerialValue → SerialValue → Type 0 = λ r n. TakesAtOnce plan deeds r n most many in
-    put_back same view P now.self s.drivers.items ports turns now.links _ (s.bits + many)
+    put_back same view P now.self s.drivers.items ports now.links _ (s.bits + many)
     (with_items_is s.links now.links (omega (arith, c.quiet_bits.auto.links, c.as_mut_slice.ensures.len)))
-    (takes_at_once plan (run_now s.bus s.drivers.items ports turns c.as_mut_slice.result.now s.bits)
-    (run_now now.self s.drivers.items ports turns now.links (s.bits + many)) deeds
-    (stands_there same view plan deeds h) ok.right q.script q.steps q.nodes refl refl refl q.sames ok.kept
+    (takes_at_once plan (run_now s.bus s.drivers.items ports c.as_mut_slice.result.now s.bits)
+    (run_now now.self s.drivers.items ports now.links (s.bits + many)) deeds
+    (stands_there same view plan deeds h) ok.right q.script q.steps q.nodes refl refl q.sames ok.kept
     (lawful_there same view c.requires.lawful) most many ok.most ok.bits.0 ok.bits.1 refl
     (λ zero. q.items (is ∙ ap (λ (x : ℕ). Ok x) zero)) (λ zero. q.untold (is ∙ ap (λ (x : ℕ). Ok x) zero))
-    (λ some. noted_stretch s.board s.bus.script s.bus.run many s.bus.untold s.bus.journals now.self.journals
-    (ok.stretch some)))
+    ok.stretch)
 
 pub unreachable-requires : goal.unreachable-requires
 unreachable-requires c =

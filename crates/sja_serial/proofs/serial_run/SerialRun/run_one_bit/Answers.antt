@@ -1,30 +1,28 @@
-use Rattle.std.proofs.Common.{◌+◌, length, refl, arith}
+use Rattle.std.proofs.Common.{◌+◌, refl, arith}
 use Rattle.std.proofs.lemmas.List.{with_items_is}
 use Rattle.sja_bus.specs.Boards.{HasOrders}
 use Rattle.sja_serial.specs.Inside.Going.{run_now}
-use Rattle.sja_serial.specs.UntilTold.{TellsBit}
-use Rattle.sja_bus.proofs.AtPorts.OtherWords.{noted_bit}
-use Rattle.sja_serial.proofs.ManyBits.BitRun.{cuts_of, tells_bit}
+use Rattle.sja_serial.specs.Bits.{TakesBit}
+use Rattle.sja_serial.proofs.ManyBits.BitRun.{cuts_of, takes_bit}
 use Rattle.sja_serial.proofs.ManyBits.Borrowed.{stands_there, lawful_there, put_back}
 use Rattle.sja_serial.proofs.ManyBits.Unstopped.{never_stops_there}
 use Rattle.sja_serial.proofs.serial_run.SerialRun.run_one_bit.Goals as goal
 
 pub returns : goal.returns
 returns c = λ deeds h.
-    let s = c.self.inside in let now = c.bit.new in let ports = now.board.board.ports.items in
-    let turns = now.board.turns.items in let b = c.in-Ok.ensures.bit in
+    let s = c.self.inside in let now = c.bit.new in let ports = now.board.ports.items in
+    let b = c.in-Ok.ensures.bit in
     let same = c.as_mut_slice.ensures.value in let view = c.self.view_is in
-    put_back same view (TellsBit c.args.plan.now deeds) now.self s.drivers.items ports turns now.links _ (s.bits + 1)
+    put_back same view (TakesBit c.args.plan.now deeds) now.self s.drivers.items ports now.links _ (s.bits + 1)
     (with_items_is s.links now.links (omega (arith, c.bit.auto.links, c.as_mut_slice.ensures.len)))
-    (tells_bit c.args.plan.now (run_now s.bus s.drivers.items s.board.board.ports.items s.board.turns.items
-    c.as_mut_slice.result.now s.bits) (run_now now.self s.drivers.items ports turns now.links (s.bits + 1)) deeds
+    (takes_bit c.args.plan.now (run_now s.bus s.drivers.items s.board.ports.items
+    c.as_mut_slice.result.now s.bits) (run_now now.self s.drivers.items ports now.links (s.bits + 1)) deeds
     (stands_there same view c.args.plan.now deeds h) b.right b.keeps.script b.keeps.steps b.run b.left b.keeps.nodes
-    refl refl b.keeps.others.0 (b.keeps.others.1 (length s.bus.journals) (omega arith)).count b.kept b.keeps.sames
-    (noted_bit s.board now.board s.bus.script s.bus.run s.bus.untold s.bus.journals now.self.journals b.bit)
-    (cuts_of (lawful_there same view c.requires.lawful)))
+    refl refl b.keeps.others.0 b.kept b.keeps.sames
+    b.bit (cuts_of (lawful_there same view c.requires.lawful)))
 
 pub unreachable-requires : goal.unreachable-requires
 unreachable-requires c =
     never_stops_there c.as_mut_slice.ensures.value c.self.view_is c.args.plan.now c.requires.run c.requires.left
-    c.requires.lawful c.requires.limits (HasOrders c.self.inside.board.board.ports.items) c.bit.new.self
+    c.requires.lawful c.requires.limits (HasOrders c.self.inside.board.ports.items) c.bit.new.self
     c.bit.new.links _ c.in-Err.ensures.reason

@@ -24,7 +24,7 @@ returns-then-bits-eq0-clause-bits c = λ deeds h.
     let once = c.run_idle_bits-bits.ensures deeds h in let none : c.run_idle_bits-bits.result ≡ 0 = search rules in
     none_then_one c.args.plan.now deeds c.args.self.now c.run_idle_bits-bits.new.self
     c.run_one_bit.new.self c.args.count
-    c.run_idle_bits-bits.result once none (c.run_one_bit.ensures deeds once.stands).takes
+    c.run_idle_bits-bits.result once none (c.run_one_bit.ensures deeds once.stands)
 
 pub returns-clause-most : goal.returns-clause-most
 returns-clause-most c = let h = c.requires.run in (c.run_idle_bits-bits.ensures h.0 h.1).within

@@ -19,7 +19,7 @@ run_one_bit-requires-clause-left c = let none : c.run_untold_bits-bits.result �
 
 pub returns-then-bits-eq0-clause-bits : goal.returns-then-bits-eq0-clause-bits
 returns-then-bits-eq0-clause-bits c = let none : c.run_untold_bits-bits.result ≡ 0 = search rules in
-    one_told c.requires.run c.run_untold_bits-bits.ensures.bits none c.run_one_bit.ensures c.requires.works
+    one_told c.requires.run c.run_untold_bits-bits.ensures.bits none c.run_one_bit.ensures
 
 pub returns-then-bits-eq0-clause-longest : goal.returns-then-bits-eq0-clause-longest
 returns-then-bits-eq0-clause-longest c = let none : c.run_untold_bits-bits.result ≡ 0 = search rules in

@@ -1,4 +1,4 @@
-use Rattle.std.proofs.Common.{◌≡◌, ◌+◌, arith, rules, sym, subst}
+use Rattle.std.proofs.Common.{◌≡◌, ◌+◌, false, arith, rules, sym, subst}
 use Rattle.std.specs.Prelude.{Ok}
 use Rattle.std.proofs.lemmas.List.{with_items_is}
 use Rattle.sja_script.specs.Striking.{Strikes}
@@ -7,22 +7,22 @@ use Rattle.sja_bus.specs.Moment.{moment}
 use Rattle.sja_bus.specs.UntilTold.{RunsNone}
 use Rattle.sja_serial.specs.Serial.{SerialValue}
 use Rattle.sja_serial.proofs.ManyBits.Ending.{ended_told}
-use Rattle.sja_serial.proofs.ManyBits.ManyBits.{untold, no_break, bits_told}
+use Rattle.sja_serial.proofs.ManyBits.ManyBits.{untold, no_break, bits_taken}
 use Rattle.sja_serial.proofs.serial_run.SerialRun.run_untold_bits.Goals as goal
 
 pub unreachable-requires : goal.unreachable-requires
 unreachable-requires c = let b = c.self.inside in
     no_break b.bus b.drivers.items b.board c.as_mut_slice.result.now b.links.items b.bits c.args.self.now
     c.as_mut_slice.ensures.value c.self.view_is c.args.plan.now c.requires.run c.requires.lawful c.args.count
-    c.requires.left (untold c.args.plan.now c.args.to_rest)
+    c.requires.left (untold c.args.plan.now)
     (moment c.bits_until_told.new.self c.bits_until_told.new.links c.bits_until_told.new.board) _ c.requires.limits
     c.in-Err.ensures.reason
 
 pub returns-clause-bits : goal.returns-clause-bits
 returns-clause-bits c = let b = c.self.inside in
-    bits_told b.bus b.drivers.items b.board c.as_mut_slice.result.now b.links.items b.bits c.args.self.now
+    bits_taken b.bus b.drivers.items b.board c.as_mut_slice.result.now b.links.items b.bits c.args.self.now
     c.as_mut_slice.ensures.value c.self.view_is c.args.plan.now c.requires.run c.requires.lawful c.args.count
-    c.requires.left (untold c.args.plan.now c.args.to_rest)
+    c.requires.left (untold c.args.plan.now)
     (moment c.bits_until_told.new.self c.bits_until_told.new.links c.bits_until_told.new.board) _
     (with_items_is b.links c.bits_until_told.new.links
     (omega (arith, c.bits_until_told.auto.links, c.as_mut_slice.ensures.len))) c.in-Ok.bits c.in-Ok.ensures.bits
@@ -34,12 +34,12 @@ returns-clause-unstruck c = λ i node less few strikes.
 
 pub returns-clause-longest : goal.returns-clause-longest
 returns-clause-longest c = λ some. let b = c.self.inside in
-    ended_told c.args.to_rest c.args.count c.in-Ok.bits (moment b.bus c.as_mut_slice.result.now b.board)
+    ended_told c.args.count c.in-Ok.bits (moment b.bus c.as_mut_slice.result.now b.board)
     (moment c.bits_until_told.new.self c.bits_until_told.new.links c.bits_until_told.new.board) b.drivers.items
     b.links.items _ b.bits _ c.args.self.now c.self.view_is (c.in-Ok.ensures.longest some)
 
 pub returns-clause-none : goal.returns-clause-none
 returns-clause-none c = λ zero.
     let is : c.bits_until_told.result ≡ Ok 0 = search rules in
-    let P : SerialValue → Type 0 = λ x. RunsNone (HasOrders x.ports) c.args.to_rest c.args.count x.bus in
+    let P : SerialValue → Type 0 = λ x. RunsNone (HasOrders x.ports) false c.args.count x.bus in
     subst P c.self.view_is (c.bits_until_told.ensures.none is)

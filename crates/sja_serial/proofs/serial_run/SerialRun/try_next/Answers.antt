@@ -103,7 +103,7 @@ did : (c : In-Ok) (same : tried_at c.step-done.ensures.steps ≡ c.index_mut-por
     IsNext c.args.plan.now c.args.self.now c.from-index.result c.args.node c.index-steps-next.result deeds →
     let b = c.self.inside in let i = c.from-index.result in IsTried c.args.plan.now c.args.self.now
     (run_now c.gather.new.self (slice_set b.drivers.items i c.step-done.new.self)
-    (slice_set b.board.board.ports.items i c.step-done.new.port) b.board.turns.items
+    (slice_set b.board.ports.items i c.step-done.new.port)
     (with_items b.links c.gather.new.links).items b.bits) c.args.node deeds c.step-done.result
 did c same n =
     let links = c.self.inside.links in let g = c.gather.ensures in let ok = c.in-Ok.ensures in
@@ -122,7 +122,7 @@ did_quietly : (c : Then-gave_nothing) (same : tried_at c.step-done.ensures.steps
     IsNext c.args.plan.now c.args.self.now c.from-index.result c.args.node c.index-steps-next.result deeds →
     let b = c.self.inside in let i = c.from-index.result in IsTried c.args.plan.now c.args.self.now
     (run_now b.bus (slice_set b.drivers.items i c.step-done.new.self)
-    (slice_set b.board.board.ports.items i c.step-done.new.port) b.board.turns.items
+    (slice_set b.board.ports.items i c.step-done.new.port)
     (with_items b.links c.step-done.new.links).items b.bits) c.args.node deeds c.step-done.result
 did_quietly c same laws n =
     let links = c.self.inside.links in

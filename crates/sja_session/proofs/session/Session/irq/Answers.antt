@@ -13,5 +13,5 @@ returns-clause-line c = λ deeds h.
     c.irq.result
     deeds) c.self.view_is
     (looks b.plan b.run c.irq.new.self b.turns.items c.irq.ensures.bits c.irq.ensures.stands c.args.node c.irq.result
-    deeds own c.irq.ensures.bus c.irq.ensures.ports c.irq.ensures.turns
+    deeds own c.irq.ensures.bus c.irq.ensures.ports
     (c.irq.ensures.line deeds own.stands))

@@ -1,6 +1,6 @@
 use Rattle.std.proofs.Common.{arith, true, inl, inr}
 use Rattle.std.proofs.lemmas.Bool.{cases_lt}
-use Rattle.sja_raw.proofs.Steps.Chain.{others_so}
+use Rattle.sja_raw.proofs.OtherWrites.{others_so}
 use Rattle.sja_session.proofs.session.Session.is_typed_write.Goals as goal
 
 -- a write of any other address is the same one of the typed driver

@@ -1,4 +1,4 @@
-use Rattle.std.proofs.Common.{◌≡◌, ◌<◌, ℕ, ◌-◌, false, List, sym, ap, ◌∙◌, subst, arith, inr}
+use Rattle.std.proofs.Common.{◌≡◌, ◌<◌, ℕ, ◌-◌, List, sym, ap, ◌∙◌, subst, arith, inr}
 use Rattle.std.specs.Prelude.{reverse}
 use Rattle.sja_plan.specs.declared.turn.Turn.{Turn}
 use Rattle.sja_plan.specs.declared.turn.Turn.TheVariants.{Bus}
@@ -7,7 +7,6 @@ use Rattle.sja_driver.specs.Deeds.{Deed}
 use Rattle.sja_serial.specs.Bits.{TakesBits}
 use Rattle.sja_serial.specs.Serial.{SerialValue}
 use Rattle.sja_serial.specs.UntilTold.{NoneTold}
-use Rattle.sja_serial.proofs.ManyBits.Telling.{untold_of}
 use Rattle.sja_serial.proofs.WholeRun.GoingOn.{bits_run}
 use Rattle.sja_session.specs.Inside.UntilTold.{RunsUntilTold}
 use Rattle.sja_session.specs.Running.{MayRun}
@@ -24,16 +23,12 @@ run_is plan deeds was now n t = let b = bits_run plan deeds _ was now n t in ome
 
 pub push_turn-requires-clause-fits : goal.push_turn-requires-clause-fits
 push_turn-requires-clause-fits c =
-    let inv = c.self.invariant in let s = c.self.inside in let t = untold_of s.plan inv.deeds false s.run s.run
-    c.bits_until_told-run.new.self c.bits_until_told-run.result
-    (c.bits_until_told-run.ensures.bits inv.deeds inv.at.stands) in
+    let inv = c.self.invariant in let t = c.bits_until_told-run.ensures.bits inv.deeds inv.at.stands in
     turn_fits inv t (run_is _ _ _ _ _ t)
 
 pub invariant_of-self : goal.invariant_of-self
 invariant_of-self c =
-    let inv = c.self.invariant in let s = c.self.inside in let t = untold_of s.plan inv.deeds false s.run s.run
-    c.bits_until_told-run.new.self c.bits_until_told-run.result
-    (c.bits_until_told-run.ensures.bits inv.deeds inv.at.stands) in
+    let inv = c.self.invariant in let t = c.bits_until_told-run.ensures.bits inv.deeds inv.at.stands in
     let push = c.push_turn.ensures in
     let may = subst (λ (s : SessionValue). MayRun s 1) (sym c.self.view_is) c.requires.may in
     let left = subst (λ (s : SessionValue). s.run.bits < s.plan.bits) (sym c.self.view_is) c.requires.left in
@@ -50,8 +45,7 @@ returns-clause-ran c = λ deeds h.
     (subst (λ (l : List Turn). RunsUntilTold (session_of s.room s.run s.plan s.turns.items)
     (session_of s.room now s.plan l) run deeds) (sym c.push_turn.ensures.turns)
     (until_told s.room s.plan s.turns.items deeds s.run now run own
-    (untold_of s.plan deeds false s.run s.run now run (c.bits_until_told-run.ensures.bits deeds own.stands))
-    (c.bits_until_told-run.ensures.some c.requires.some left)))
+    (c.bits_until_told-run.ensures.bits deeds own.stands) (c.bits_until_told-run.ensures.some c.requires.some left)))
 
 -- a turn of the bus goes on with further bits
 pub returns-clause-may : goal.returns-clause-may

@@ -1,3 +1,0 @@
--- The last bit of a journal.
-pub mod LastBit
-pub mod EndsOnce

@@ -1,3 +1,0 @@
--- MOD and CMR as bytes.
-pub mod ModeBytes
-pub mod CommandBytes

@@ -1,0 +1,164 @@
+//! Writes of a driver that knows addresses and bytes alone, over a link that gives an item back: the steps from that
+//! one on are left, as a write of some byte has them too, and the next try does them.
+
+use super::given::are_answers;
+use can_frame::Message;
+use sja_driver::{LoggedDriver, WorkLog};
+use sja_link::{BusEnd, DequeLink, Down, LinkId};
+use sja_raw::address::RBSA;
+use sja_raw::{KeptBytes, WriteSteps, is_reset, steps_of_write};
+use sja_regs::Port;
+use sja_regs::address::{BUFFER, CMR, MOD, RMC, SR};
+use sja_script::Step;
+use std::alloc::Global;
+use std::test::Fail;
+use test_words::{Returning, are_links_of_node};
+
+/// The node of the driver.
+const NODE: u8 = 1;
+
+/// A driver without a bus: its log, its kept registers, those of its port, and its links.
+#[derive(Drop)]
+struct Writer {
+    driver: LoggedDriver,
+    kept: KeptBytes,
+    port: Port,
+    links: Vec<Returning>,
+}
+
+impl Writer {
+    /// The driver after power-on. Each link has a message of three bytes on it, and the first gives an item back once
+    /// it took so many.
+    fn new(alloc: Global, taken: u32) -> Result<Writer, Fail> {
+        let mut links = Vec::with_capacity(alloc, 64)?;
+        for activation in 1..=64u8 {
+            let left = if activation == 1 { Some(taken) } else { None };
+            links.push(link_of(alloc, activation, left)?)?;
+        }
+        Ok(Writer {
+            driver: LoggedDriver::new(NODE, WorkLog::new(alloc, 100)?),
+            kept: KeptBytes::new(),
+            port: Port::new(2),
+            links,
+        })
+    }
+
+    /// Tries a step, and says whether it's done.
+    fn tries(&mut self, step: &Step) -> bool {
+        if !are_links_of_node(self.links.as_slice(), NODE) {
+            return false;
+        }
+        let links = self.links.as_mut_slice();
+        if !self.driver.step(links, 0, &mut self.port, step, 0) {
+            return false;
+        }
+        if let Some(done) = self.driver.log().done().last() {
+            self.kept.answered(&done.answer);
+        }
+        true
+    }
+
+    /// What an address reads as; none where it isn't read.
+    fn read(&mut self, address: u8) -> Option<u8> {
+        if !self.tries(&Step::Read(address)) {
+            return None;
+        }
+        let done = self.driver.log().done().last()?;
+        Some(self.kept.read_by(address, &done.answer))
+    }
+
+    /// The steps that a write is now.
+    fn steps_of(&self, address: u8, value: u8) -> WriteSteps {
+        steps_of_write(&self.driver, &self.port, address, value)
+    }
+
+    /// Writes an address: the steps that are left of it.
+    fn write(&mut self, address: u8, value: u8) -> WriteSteps {
+        self.kept.write(is_reset(&self.port), address, value);
+        let mut left = self.steps_of(address, value);
+        let _ = self.goes_on(&mut left);
+        left
+    }
+
+    /// Tries the steps that are left of a write, one after the other, and says whether none is left.
+    fn goes_on(&mut self, left: &mut WriteSteps) -> bool {
+        self.does(&mut left.first) && self.does(&mut left.second) && self.does(&mut left.third)
+    }
+
+    /// Tries a step of a write, where it is left, and says whether it isn't any more.
+    fn does(&mut self, part: &mut Option<Step>) -> bool {
+        let Some(step) = part.take() else {
+            return true;
+        };
+        if self.tries(&step) {
+            return true;
+        }
+        *part = Some(step);
+        false
+    }
+
+    /// Fails where these aren't the answers of the typed steps that were done.
+    fn answered(&self, alloc: Global, expected: &str) -> Result<(), Fail> {
+        are_answers(alloc, self.driver.log().done(), expected)
+    }
+}
+
+/// The link of an activation that gives an item back once so many were taken, with a message on it.
+fn link_of(alloc: Global, activation: u8, left: Option<u32>) -> Result<Returning, Fail> {
+    let node = NODE;
+    let mut link = DequeLink::new(alloc, LinkId { node, activation })?;
+    let _ = link.put(Down::Message(Message::default()));
+    Ok(Returning { link, left })
+}
+
+/// Whether no step of a write is left.
+fn is_done(left: &WriteSteps) -> bool {
+    left.first.is_none() && left.second.is_none() && left.third.is_none()
+}
+
+/// The byte that is left has LOM still, and is the start alone.
+#[test]
+fn a_start_comes_back_once_lom_was_taken(rt: HostRuntime) -> Result<(), Fail> {
+    let mut writer = Writer::new(rt.alloc(), 0)?;
+    let mut left = writer.write(MOD, 0xf2);
+    assert!(rt; left == writer.steps_of(MOD, 0x02) && writer.read(MOD) == Some(0x03));
+    assert!(rt; writer.goes_on(&mut left) && writer.read(MOD) == Some(0x02));
+    writer.answered(rt.alloc(), "ok, 03, ok, 02")
+}
+
+/// RM is 0 until the same byte is written again.
+#[test]
+fn a_stop_comes_back_and_nothing_changed(rt: HostRuntime) -> Result<(), Fail> {
+    let mut writer = Writer::new(rt.alloc(), 1)?;
+    assert!(rt; is_done(&writer.write(MOD, 0x00)));
+    let mut left = writer.write(MOD, 0x01);
+    assert!(rt; left == writer.steps_of(MOD, 0x01) && writer.read(MOD) == Some(0x00));
+    assert!(rt; writer.goes_on(&mut left) && writer.read(MOD) == Some(0x01));
+    writer.answered(rt.alloc(), "ok, 00, ok, 01")
+}
+
+/// Nothing of the command is done, and the same byte is left. RRB is done last.
+#[test]
+fn a_request_comes_back_before_the_release(rt: HostRuntime) -> Result<(), Fail> {
+    let mut writer = Writer::new(rt.alloc(), 1)?;
+    assert!(rt; is_done(&writer.write(MOD, 0x00)) && is_done(&writer.write(BUFFER, 0x00)));
+    let mut left = writer.write(CMR, 0x0d);
+    assert!(rt; left == writer.steps_of(CMR, 0x0d) && writer.read(SR) == Some(0x3d));
+    assert!(rt; writer.goes_on(&mut left) && writer.read(SR) == Some(0x30));
+    writer.answered(rt.alloc(), "ok, ok, 3d, ok, 3, 30")
+}
+
+/// The release alone is left, as of 04, whatever else the byte had: CDO is done. RBSA moves on with the release.
+#[test]
+fn a_credit_comes_back_behind_the_command(rt: HostRuntime) -> Result<(), Fail> {
+    let mut writer = Writer::new(rt.alloc(), 1)?;
+    assert!(rt; is_done(&writer.write(MOD, 0x00)) && writer.read(RMC) == Some(0x01));
+    let mut left = writer.write(CMR, 0x0c);
+    assert!(rt; left == writer.steps_of(CMR, 0x04));
+    assert!(rt; writer.read(RMC) == Some(0x01) && writer.read(RBSA) == Some(0x00));
+    assert!(rt; writer.goes_on(&mut left));
+    assert!(rt; writer.read(RMC) == Some(0x00) && writer.read(RBSA) == Some(0x03));
+    let none = "refused NoRegister";
+    let told = format!(in rt.alloc(); "ok, 01, ok, 01, {none}, 3, 00, {none}")?;
+    writer.answered(rt.alloc(), told.as_str())
+}
