@@ -212,6 +212,13 @@ impl Bus {
         self.run
     }
 
+    /// How many bits are left.
+    pub fn bits_left(&self) -> u32
+        ensures { result ≡ self.now.left }
+    {
+        self.left
+    }
+
     /// What is left of the nodes, in order: each journal, and the error counters at its end. By every cut of a
     /// journal's record, and there is one alone, the verdicts and the counters are right; what each node saw in each
     /// bit is what the wire had.

@@ -48,7 +48,3 @@ brief_two old first text e a b = record {
 -- so many lines are hints
 pub hints_of : (n : ℕ) (text : List ℕ) → n ≤ 21 → AreLines n text → AreHints text
 hints_of n text h l = record { count = n; few = h; lines = l }
-
--- so many lines with one more are hints
-pub hints_more : (n : ℕ) (old text : List ℕ) → n ≤ 20 → AreLines n old → AddsLine old text → AreHints text
-hints_more n old text h l a = hints_of (n + 1) text (omega (arith, h)) (one_more n old text l a)

@@ -1,28 +1,30 @@
 //! [`Document`]: a plan's document as `toml` reads it, with its outline.
 
+use super::kind::Kind;
 use super::outline::{Outline, Spot};
-use super::page::Piece;
+use super::page::{Page, Piece};
 use std::alloc::{AllocError, Global};
-use toml::{Table, Value, table_from_str};
+use toml::{Value, table_from_str};
 
 /// A plan's document: its values, and in which lines they stand. Bytes that are no document have neither.
 #[derive(Drop)]
-pub(crate) struct Document<'a> {
-    pub(crate) table: Option<Table>,
-    outline: Outline<'a>,
+pub(crate) struct Document {
+    /// The table of its keys; `false` where the bytes are no document.
+    pub(crate) root: Value,
+    outline: Outline,
 }
 
-impl<'a> Document<'a> {
+impl Document {
     /// The document that these bytes are.
     ///
     /// Error: memory was refused.
-    pub(crate) fn read(alloc: Global, bytes: &'a [u8]) -> Result<Document<'a>, AllocError> {
-        let table = table_of(alloc, bytes)?;
-        let mut outline = Outline::new(alloc, bytes);
-        if table.is_some() && outline.read().is_err() {
+    pub(crate) fn read(alloc: Global, bytes: &[u8]) -> Result<Document, AllocError> {
+        let root = root_of(alloc, bytes)?;
+        let mut outline = Outline::new(alloc);
+        if matches!(root, Value::Table(_)) && outline.read(bytes).is_err() {
             return Err(AllocError);
         }
-        Ok(Document { table, outline })
+        Ok(Document { root, outline })
     }
 
     /// The line of this, as a piece of what is said.
@@ -32,18 +34,12 @@ impl<'a> Document<'a> {
 
     /// The line of a key; the last there can be where it isn't found.
     pub(crate) fn line_of_key(&self, key: &str) -> usize {
-        match self.outline.line_of(Spot::Key(key)) {
-            Some(line) => line,
-            None => usize::MAX,
-        }
+        self.outline.line_of(Spot::Key(key)).unwrap_or(usize::MAX)
     }
 
     /// The value at a key.
     pub(crate) fn value(&self, key: &str) -> Option<&Value> {
-        match &self.table {
-            Some(table) => table.get(key),
-            None => None,
-        }
+        member_of(&self.root, key)
     }
 
     /// The whole number at a key.
@@ -63,31 +59,75 @@ impl<'a> Document<'a> {
         }
     }
 
-    /// The items of the list at a key; none where there is no list.
-    pub(crate) fn items(&self, key: &str) -> &[Value] {
-        items_in(self.value(key))
+    /// The nodes, or what stands in their place; none where there is no list of them.
+    pub(crate) fn nodes(&self) -> &[Value] {
+        items_in(self.value("node"))
     }
 
-    /// The values of the steps of a node, counted from 0; none where there is no list of them.
-    pub(crate) fn steps(&self, node: usize) -> &[Value] {
-        match self.items("node").get(node) {
-            Some(value) => items_in(member_of(value, "steps")),
+    /// The values that are to be texts of this kind; none where there is no list of them.
+    pub(crate) fn values(&self, kind: Kind) -> &[Value] {
+        let owner = match kind {
+            Kind::Step(node) => self.nodes().get(node),
+            _ => Some(&self.root),
+        };
+        match owner {
+            Some(owner) => items_in(member_of(owner, kind.key())),
             None => &[],
         }
     }
+
+    /// The text of this kind at this place, counted from 0, where there is one.
+    pub(crate) fn text(&self, kind: Kind, place: usize) -> Option<&str> {
+        match self.values(kind).get(place) {
+            Some(Value::String(text)) => Some(text.as_str()),
+            _ => None,
+        }
+    }
+
+    /// Says something of the text of this kind at this place; nothing where the template is empty. `{0}` is its line,
+    /// `{1}` its number, `{2}` the text, `{3}` its node, and `{4}` to `{6}` are what else is told.
+    pub(crate) fn say(
+        &self,
+        page: &mut Page,
+        text: (Kind, usize),
+        template: &str,
+        told: [Piece<'static>; 3],
+    ) -> bool {
+        if template.is_empty() {
+            return false;
+        }
+        let (kind, place) = text;
+        let node = match kind {
+            Kind::Step(node) => node,
+            _ => 0,
+        };
+        let [first, second, third] = told;
+        page.say(
+            template,
+            &[
+                self.line(Spot::Text(kind, place)),
+                Piece::Number((place as u64).saturating_add(1)),
+                Piece::Shown(self.text(kind, place)),
+                Piece::Number(node as u64),
+                first,
+                second,
+                third,
+            ],
+        )
+    }
 }
 
-/// The table that these bytes are, where they are one.
+/// The table that these bytes are, where they are a document.
 ///
 /// Error: memory was refused.
-fn table_of(alloc: Global, bytes: &[u8]) -> Result<Option<Table>, AllocError> {
+fn root_of(alloc: Global, bytes: &[u8]) -> Result<Value, AllocError> {
     let Ok(text) = str::from_utf8(bytes) else {
-        return Ok(None);
+        return Ok(Value::Boolean(false));
     };
     match table_from_str(alloc, text) {
-        Ok(table) => Ok(Some(table)),
+        Ok(table) => Ok(Value::Table(table)),
         Err(error) if error.is_memory() => Err(AllocError),
-        Err(_) => Ok(None),
+        Err(_) => Ok(Value::Boolean(false)),
     }
 }
 
@@ -103,14 +143,6 @@ fn items_in(value: Option<&Value>) -> &[Value] {
 pub(crate) fn member_of<'a>(value: &'a Value, key: &str) -> Option<&'a Value> {
     match value {
         Value::Table(table) => table.get(key),
-        _ => None,
-    }
-}
-
-/// The text at this place among values, where there is one.
-pub(crate) fn text_at(values: &[Value], place: usize) -> Option<&str> {
-    match values.get(place) {
-        Some(Value::String(text)) => Some(text.as_str()),
         _ => None,
     }
 }

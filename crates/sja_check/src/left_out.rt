@@ -36,6 +36,7 @@ pub fn hints(alloc: Global, bytes: &[u8], plan: &Plan, log: &RunLog) -> Result<S
         Ok(document) => left_out(&mut page, &document, plan, log),
         Err(_) => page.refused = true,
     }
+    page.cut();
     if page.refused {
         return Err(OutOfMemory);
     }

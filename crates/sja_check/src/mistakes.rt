@@ -8,19 +8,23 @@ mod general;
 mod keys;
 mod node_keys;
 mod numbers;
+mod said;
 mod toml_fault;
+mod values;
 
 use super::document::Document;
+use super::kind::Kind;
 use super::lines::text_of;
 use super::page::Page;
-use super::texts::{Kind, text_words};
+use super::texts::text_words;
 use bytes::{no_text, too_long};
 use can_frame::OutOfMemory;
 use general::general;
-use keys::key_words;
-use numbers::{bits_words, nodes_words, steps_words, strikes_words, turns_words, version_words};
+use keys::of_keys;
+use numbers::of_count;
 use sja_plan::PlanFault;
 use std::alloc::Global;
+use toml::Value;
 use toml_fault::no_toml;
 
 /// The words that explain this fault of these bytes: a line or two, each of at most 100 characters (this project's own
@@ -50,7 +54,7 @@ fn explain(page: &mut Page, bytes: &[u8], fault: PlanFault) -> bool {
         PlanFault::Toml => no_toml(page, bytes),
         PlanFault::Memory => false,
         _ => match Document::read(page.alloc, bytes) {
-            Ok(document) => document.table.is_some() && in_document(page, &document, fault),
+            Ok(document) => in_document(page, &document, fault),
             Err(_) => page.refuse(),
         },
     }
@@ -58,17 +62,14 @@ fn explain(page: &mut Page, bytes: &[u8], fault: PlanFault) -> bool {
 
 /// Says what is wrong in a document, where it has this fault.
 fn in_document(page: &mut Page, document: &Document, fault: PlanFault) -> bool {
+    let Value::Table(_) = document.root else {
+        return false;
+    };
     match fault {
-        PlanFault::Key => key_words(page, document),
-        PlanFault::Version => version_words(page, document),
-        PlanFault::Bits => bits_words(page, document),
-        PlanFault::NodeCount => nodes_words(page, document),
-        PlanFault::StepCount => steps_words(page, document),
+        PlanFault::Key => of_keys(document).tell(page, document),
         PlanFault::Step(node, number) => text_words(page, document, Kind::Step(node), number),
-        PlanFault::TurnCount => turns_words(page, document),
         PlanFault::Turn(number) => text_words(page, document, Kind::Turn, number),
-        PlanFault::StrikeCount => strikes_words(page, document),
         PlanFault::Strike(number) => text_words(page, document, Kind::Strike, number),
-        _ => false,
+        _ => of_count(document, fault).tell(page, document),
     }
 }

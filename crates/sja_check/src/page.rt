@@ -26,11 +26,14 @@ impl Page {
         }
     }
 
-    /// Adds a line: the template, with the pieces in its gaps (`Line`). Past the lines that are written out an empty
-    /// one counts each. It is always true: something is said.
+    /// Adds a line: the template, with the pieces in its gaps (`Line`). Past the lines that may be written out an empty
+    /// one counts each. It is true where something is said: an empty template says nothing.
     pub(crate) fn say(&mut self, template: &str, pieces: &[Piece]) -> bool {
+        if template.is_empty() {
+            return false;
+        }
         let mut line = Line::new(self.alloc);
-        if self.lines.len() < MOST_HINTS {
+        if self.lines.len() <= MOST_HINTS {
             line.fill(template, pieces);
         }
         self.refused = self.refused || line.refused;
@@ -38,6 +41,15 @@ impl Page {
             self.refused = true;
         }
         true
+    }
+
+    /// Says how many lines there are past those that are written out, in their place.
+    pub(crate) fn cut(&mut self) {
+        let more = self.lines.len().saturating_sub(MOST_HINTS);
+        if more > 0 {
+            self.lines.truncate(MOST_HINTS);
+            self.say("and {0} more", &[Piece::Number(more as u64)]);
+        }
     }
 
     /// Keeps that memory was refused.

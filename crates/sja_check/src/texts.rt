@@ -3,15 +3,14 @@
 mod argument;
 mod form;
 mod judge;
-mod kind;
 mod layout;
 mod message;
+mod named;
 mod number;
 mod said;
 mod step;
 mod strike;
 mod turn;
 
-pub(crate) use kind::Kind;
 pub(crate) use said::text_words;
 pub(crate) use strike::strikes_in;

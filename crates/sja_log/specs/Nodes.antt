@@ -4,7 +4,6 @@ use Rattle.sja_link.specs.declared.entry.Entry.{Entry}
 use Rattle.sja_link.specs.Deques.{Deques}
 use Rattle.sja_link.specs.Places.{place_of}
 use Rattle.sja_regs.specs.declared.registers.Registers.{Registers}
-use Rattle.sja_script.specs.declared.step.Step.{Step}
 use Rattle.sja_driver.specs.declared.logged_driver.LoggedDriver.{LoggedDriver}
 use Rattle.sja_driver.specs.Deeds.{Deed}
 use Rattle.sja_driver.specs.InTime.{IsInTime}
@@ -16,12 +15,12 @@ use Rattle.sja_driver.specs.Asking.{IsAsked}
 use Rattle.sja_driver.specs.Counted.{IsCounted}
 use Rattle.sja_driver.specs.Dated.{AreDone}
 
--- its driver did these deeds, of these steps; its links and its port are beside them and its journal; the journal has
--- no more entries than they allow; no deed is later than its last bit; all was in time; and from power-on entries and
--- deeds have led to the registers of its port
-pub record IsNode (version : ℕ) (steps : List Step) (j : List Entry) (deeds : List Deed) (driver : LoggedDriver)
+-- its driver did these deeds, and has room for so many in all; its links and its port are beside them and its journal;
+-- the journal has no more entries than they allow; no deed is later than its last bit; all was in time; and from
+-- power-on entries and deeds have led to the registers of its port
+pub record IsNode (version size : ℕ) (j : List Entry) (deeds : List Deed) (driver : LoggedDriver)
     (port : Registers) (links : List Deques) (base : ℕ) : Type 0 where
-  pub traced : IsTraced version steps deeds driver
+  pub traced : IsTraced version size deeds driver
   pub linked : IsLinked j deeds driver links base
   pub ported : IsPorted version j deeds port
   pub asked : IsAsked j port

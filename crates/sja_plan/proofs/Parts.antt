@@ -1,3 +1,2 @@
 -- The nodes of a plan, and its steps.
 pub mod Nodes
-pub mod SetSteps

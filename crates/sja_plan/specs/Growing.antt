@@ -1,10 +1,10 @@
--- Plans that are written while a run of them goes on (this project's own rule).
-use Rattle.std.specs.Prelude.{◌++◌, ℕ, List, [], ◌∷◌, replicate, set}
+-- Plans of given parts, and blank ones (this project's own rule).
+use Rattle.std.specs.Prelude.{ℕ, List, [], replicate}
 use Rattle.sja_script.specs.declared.step.Step.{Step}
 use Rattle.sja_script.specs.declared.step.Step.TheVariants.{Window}
 use Rattle.sja_script.specs.declared.strike.Strike.{Strike}
 use Rattle.sja_plan.specs.declared.turn.Turn.{Turn}
-use Rattle.sja_plan.specs.Plan.{PlanValue, steps_at}
+use Rattle.sja_plan.specs.Plan.{PlanValue}
 
 -- a plan of these five
 abbrev pub plan_of : ℕ → ℕ → List (List Step) → List Turn → List Strike → PlanValue
@@ -19,11 +19,3 @@ plan_of version bits nodes turns strikes = record {
 -- a plan of so many nodes whose drivers look at the window so many times, with no turn and no strike
 abbrev pub blank_plan : ℕ → ℕ → ℕ → ℕ → PlanValue
 blank_plan version bits nodes steps = plan_of version bits (replicate nodes (replicate steps Window)) [] []
-
--- with this step of a node in place of the one that stands there
-abbrev pub with_step : PlanValue → ℕ → ℕ → Step → PlanValue
-with_step p node at step = record p { nodes = set p.nodes node (set (steps_at p node) at step) }
-
--- with one strike more
-abbrev pub with_strike : PlanValue → Strike → PlanValue
-with_strike p strike = record p { strikes = p.strikes ++ strike ∷ [] }

@@ -2,7 +2,7 @@
 
 ghost use Rattle.std.specs.Prelude.{◌≡◌, ◌≤◌, length, map, IfOk, IfErr, OnOk};
 ghost use Rattle.std.specs.List.{AllZip};
-ghost use Rattle.sja_plan.specs.Inside.Views.{document_view};
+ghost use Rattle.sja_plan.specs.Inside.Views.{document_view, step_fault};
 ghost use Rattle.sja_plan.specs.StepTexts.{SaysStep};
 ghost use Rattle.sja_plan.specs.TurnTexts.{SaysTurn};
 ghost use Rattle.sja_plan.specs.StrikeTexts.{SaysStrike};
@@ -16,7 +16,7 @@ use super::list_fault::ListFault;
 use super::plan::Plan;
 use super::plan_fault::PlanFault;
 use super::plan_text::read_all;
-use super::settings::{counts, settings_of};
+use super::settings::settings_of;
 use super::strike_count::strikes_are_few;
 use super::turn::Turn;
 use sja_script::{Step, Strike};
@@ -29,17 +29,12 @@ pub(crate) fn judge(alloc: Global, document: &Document) -> Result<Plan, PlanFaul
     ensures err { IfErr result (IsDocumentFault (document_view document.now)) }
 {
     let settings = settings_of(document)?;
-    let version = settings.version;
-    counts(document, version)?;
-    let nodes = steps(alloc, document, version)?;
-    let turns = turns(alloc, document, version)?;
-    let strikes = strikes(alloc, document, version)?;
     Ok(Plan {
-        version,
+        version: settings.version,
         bits: settings.bits,
-        nodes,
-        turns,
-        strikes,
+        nodes: steps(alloc, document, settings.version)?,
+        turns: turns(alloc, document, settings.version)?,
+        strikes: strikes(alloc, document, settings.version)?,
     })
 }
 
@@ -52,15 +47,26 @@ fn steps(alloc: Global, document: &Document, version: u8) -> Result<Vec<Vec<Step
     ensures err { IfErr result (λ e. BeforeSteps (document_view document.now)
         → IsDocumentFault (document_view document.now) e) }
 {
-    let mut found = Vec::with_capacity(alloc, document.nodes.len())?;
+    let Ok(mut found) = Vec::with_capacity(alloc, document.nodes.len()) else {
+        return Err(PlanFault::Memory);
+    };
     for texts in document.nodes.as_slice() {
         match read_all::<Step>(alloc, usize::from(version), texts.as_slice()) {
             Ok(steps) => found.push_reserved(steps),
-            Err(ListFault::NoMemory) => return Err(PlanFault::Memory),
-            Err(ListFault::Bad(number)) => return Err(PlanFault::Step(found.len(), number)),
+            Err(fault) => return Err(step_fault(found.len(), fault)),
         }
     }
     Ok(found)
+}
+
+/// The fault of this node's steps.
+fn step_fault(node: usize, fault: ListFault) -> PlanFault
+    ensures { result ≡ step_fault node fault }
+{
+    match fault {
+        ListFault::NoMemory => PlanFault::Memory,
+        ListFault::Bad(number) => PlanFault::Step(node, number),
+    }
 }
 
 /// The turns.

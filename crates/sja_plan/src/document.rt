@@ -2,10 +2,10 @@
 
 ghost use Rattle.std.specs.Prelude.{◌≡◌, ◌⊎◌, IfOk, IfErr};
 ghost use Rattle.toml.specs.View.{table_view};
-ghost use Rattle.sja_plan.specs.Document.{HasShape, IsMisshapen};
-ghost use Rattle.sja_plan.specs.Inside.Views.{document_view};
+ghost use Rattle.sja_plan.specs.Document.{DocumentValue, HasShape, IsMisshapen};
+ghost use Rattle.sja_plan.specs.Inside.Views.{document_view, HasLists};
 
-use super::members::{has_only, integer_at, value_at};
+use super::members::{has_only, integer_at};
 use super::plan_fault::PlanFault;
 use super::value::{node_list, optional_list};
 use std::alloc::Global;
@@ -30,23 +30,28 @@ pub(crate) fn read_document<'a>(alloc: Global, table: &'a Table) -> Result<Docum
     if !has_only(table, &["version", "bits", "node", "turns", "faults"]) {
         return Err(PlanFault::Key);
     }
-    let Some(version) = integer_at(table, "version") else {
-        return Err(PlanFault::Key);
-    };
-    let Some(bits) = integer_at(table, "bits") else {
-        return Err(PlanFault::Key);
-    };
-    let Some(list) = value_at(table, "node") else {
-        return Err(PlanFault::Key);
-    };
-    let nodes = node_list(alloc, list)?;
-    let turns = optional_list(alloc, table, "turns")?;
-    let faults = optional_list(alloc, table, "faults")?;
+    match (integer_at(table, "version"), integer_at(table, "bits")) {
+        (Some(version), Some(bits)) => lists_of(alloc, table, version, bits),
+        _ => Err(PlanFault::Key),
+    }
+}
+
+/// What the table says beside these two numbers, where each list is of its kind.
+fn lists_of<'a>(
+    alloc: Global,
+    table: &'a Table,
+    version: i64,
+    bits: i64,
+) -> Result<Document<'a>, PlanFault>
+    ensures ok { IfOk result (λ d. HasLists (table_view table.entry.now) version bits (document_view d)) }
+    ensures err { IfErr result (λ e. (e ≡ PlanFault.Memory)
+        ⊎ ((e ≡ PlanFault.Key) × ((d : DocumentValue) → ¬ HasLists (table_view table.entry.now) version bits d))) }
+{
     Ok(Document {
         version,
         bits,
-        nodes,
-        turns,
-        faults,
+        nodes: node_list(alloc, table)?,
+        turns: optional_list(alloc, table, "turns")?,
+        faults: optional_list(alloc, table, "faults")?,
     })
 }

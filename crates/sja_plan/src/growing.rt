@@ -1,4 +1,4 @@
-//! Plans that are written while a run of them goes on: made blank, and then set step by step.
+//! Plans of given parts, and blank ones.
 
 ghost use Rattle.std.specs.Prelude.{◌≡◌, map, replicate, IfOk};
 ghost use Rattle.sja_script.specs.declared.step.Step.TheVariants.{Window};
@@ -12,7 +12,7 @@ use std::alloc::Global;
 /// Of so many nodes, each so many steps that look at the window.
 ///
 /// Error: [`OutOfMemory`] where memory was refused.
-pub fn blank_nodes(alloc: Global, nodes: usize, steps: u32) -> Result<Vec<Vec<Step>>, OutOfMemory>
+fn blank_nodes(alloc: Global, nodes: usize, steps: u32) -> Result<Vec<Vec<Step>>, OutOfMemory>
     ensures { IfOk result (λ lists. map (λ steps. steps.items) lists.items
         ≡ replicate nodes (replicate steps Window)) }
 {
@@ -37,10 +37,10 @@ fn blank_steps(alloc: Global, steps: u32) -> Result<Vec<Step>, OutOfMemory>
 }
 
 impl Plan {
-    ghost use Rattle.std.specs.Prelude.{◌≡◌, ◌<◌, ◌≤◌, map, IfOk, length};
-    ghost use Rattle.sja_plan.specs.Plan.{IsInLimits, steps_at};
+    ghost use Rattle.std.specs.Prelude.{◌≡◌, ◌≤◌, map, IfOk};
+    ghost use Rattle.sja_plan.specs.Plan.{IsInLimits};
     ghost use Rattle.sja_plan.specs.Limits.{most_bits, most_steps};
-    ghost use Rattle.sja_plan.specs.Growing.{plan_of, blank_plan, with_step};
+    ghost use Rattle.sja_plan.specs.Growing.{plan_of, blank_plan};
 
     /// The plan of these five: its version, its bits, of each node its steps, its turns and its strikes.
     pub fn of(
@@ -63,8 +63,7 @@ impl Plan {
         }
     }
 
-    /// A plan of so many nodes, each with so many steps that look at the window, with no turn and no strike: room for
-    /// steps that are set later.
+    /// A plan of so many nodes, each with so many steps that look at the window, with no turn and no strike.
     ///
     /// Error: [`OutOfMemory`] where memory was refused.
     pub fn blank(
@@ -87,14 +86,5 @@ impl Plan {
             turns: Vec::new(alloc),
             strikes: Vec::new(alloc),
         })
-    }
-
-    /// Sets the step of a node, counted from 0, at this place, in place of the one that stands there.
-    pub fn set_step(&mut self, node: usize, at: usize, step: Step)
-        requires node { node < length self.old.nodes }
-        requires at { at < length (steps_at self.old node) }
-        ensures { self.new ≡ with_step self.old node at step }
-    {
-        self.nodes[node][at] = step;
     }
 }

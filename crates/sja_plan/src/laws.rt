@@ -36,7 +36,6 @@ pub fn bytes_are_one_plan()
 {}
 
 /// Bytes have one first fault at most, but for refused memory.
-#[tactic(auto, using(crate::proofs::OneReading::OneFault::one_fault))]
 pub fn bytes_have_one_first_fault()
     ensures { (bytes : List ℕ) (e f : PlanFault) → e ≢ PlanFault.Memory → f ≢ PlanFault.Memory
         → IsFirstFault bytes e → IsFirstFault bytes f → e ≡ f }

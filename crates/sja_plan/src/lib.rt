@@ -27,7 +27,6 @@ mod turn_text;
 mod value;
 mod word;
 
-pub use growing::blank_nodes;
 pub use laws::{
     a_plan_has_no_fault, a_text_says_one_step, a_text_says_one_strike, a_text_says_one_turn,
     bytes_are_one_plan, bytes_have_one_first_fault,

@@ -122,9 +122,5 @@ fn all_steps(alloc: Global, steps: &[Step]) -> Result<Vec<Step>, PlanFault>
     ensures ok { IfOk result (λ list. list.items ≡ steps.now) }
     ensures err { IfErr result (λ fault. fault ≡ Memory) }
 {
-    let mut list = Vec::with_capacity(alloc, steps.len())?;
-    for step in steps {
-        list.push_reserved(step.copy());
-    }
-    Ok(list)
+    Ok(steps.iter().map(|step| step.copy()).collect(alloc)?)
 }

@@ -47,11 +47,16 @@ impl fmt::Display for PlanFault {
                 f,
                 "step {number} of node {node} can't be read"
             ),
-            PlanFault::Turn(number) => write!(f, "turn {number} can't be read"),
-            PlanFault::Strike(number) => write!(f, "strike {number} can't be read"),
+            PlanFault::Turn(number) => fmt_number(f, "turn", number),
+            PlanFault::Strike(number) => fmt_number(f, "strike", number),
             fault => f.write_str(text_of(fault)),
         }
     }
+}
+
+/// What is said of the text of this number.
+fn fmt_number<W: fmt::Write>(f: &mut fmt::Formatter<W>, name: &str, number: usize) -> fmt::Result {
+    write!(f, "{name} {number} can't be read")
 }
 
 /// What is said of a fault without its numbers.

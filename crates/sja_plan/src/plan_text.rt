@@ -1,8 +1,8 @@
 //! What the texts of a plan say, text after text.
 
-ghost use Rattle.std.specs.Prelude.{◌≡◌, ◌≤◌, ◌⊎◌, ℕ, List, IfOk, IfErr, map};
+ghost use Rattle.std.specs.Prelude.{◌≡◌, ◌≤◌, ◌<◌, ◌⊎◌, ◌^◌, ℕ, List, IfOk, IfErr, map};
 ghost use Rattle.std.specs.List.{AllZip};
-ghost use Rattle.sja_plan.specs.Inside.Views.{IsListFault};
+ghost use Rattle.sja_plan.specs.Inside.Views.{IsListFault, list_fault};
 
 use super::list_fault::ListFault;
 use super::text_fault::TextFault;
@@ -36,14 +36,26 @@ pub(crate) fn read_all<T: PlanText>(
     ensures ok { IfOk result (λ v. AllZip (T.says within) (map (λ t. t.now) texts.now) v.items) }
     ensures err { IfErr result (IsListFault (T.says within) (map (λ t. t.now) texts.now)) }
 {
-    let mut found = Vec::with_capacity(alloc, texts.len())?;
+    let Ok(mut found) = Vec::with_capacity(alloc, texts.len()) else {
+        return Err(ListFault::NoMemory);
+    };
     let mut room = Vec::new(alloc);
     for text in texts {
         match T::plan_text(alloc, within, text, &mut room) {
             Ok(value) => found.push_reserved(value),
-            Err(TextFault::NoMemory) => return Err(ListFault::NoMemory),
-            Err(TextFault::Bad) => return Err(ListFault::Bad(found.len() + 1)),
+            Err(fault) => return Err(list_fault(fault, found.len())),
         }
     }
     Ok(found)
+}
+
+/// The fault of a list whose text behind so many good ones has this fault.
+fn list_fault(fault: TextFault, good: usize) -> ListFault
+    requires { good < 2 ^ 62 }
+    ensures { result ≡ list_fault fault good }
+{
+    match fault {
+        TextFault::Bad => ListFault::Bad(good + 1),
+        TextFault::NoMemory => ListFault::NoMemory,
+    }
 }

@@ -2,7 +2,7 @@
 
 ghost use Rattle.std.specs.Prelude.{◌≡◌, ◌<◌, ◌≤◌, ◌↔◌, ℕ, pos, true, None, IfOk, IfErr, IfSome, OnOk};
 ghost use Rattle.sja_plan.specs.Inside.Views.{document_view};
-ghost use Rattle.sja_plan.specs.Checks.{version_of, HasNodes, HasFewSteps, BeforeNodeCount};
+ghost use Rattle.sja_plan.specs.Checks.{version_of, HasNodes, HasFewSteps};
 ghost use Rattle.sja_plan.specs.Limits.{most_bits};
 ghost use Rattle.sja_plan.specs.Faults.{IsDocumentFault};
 
@@ -18,25 +18,31 @@ pub(crate) struct Settings {
     pub(crate) bits: u32,
 }
 
-/// The version and the number of bits, where they are known and within the limits.
+/// The version and the number of bits, where they are known and within the limits, as the numbers of nodes and of
+/// their steps are.
 #[tactic(auto, using(crate::proofs::PlanLimits::ByVersion::version_is))]
 pub(crate) fn settings_of(document: &Document) -> Result<Settings, PlanFault>
     ensures version { IfOk result (λ s. ((document_view document.now).version ≡ pos s.version)
         × (1 ≤ s.version) × (s.version ≤ 3)) }
     ensures bits { IfOk result (λ s. ((document_view document.now).bits ≡ pos s.bits)
         × (1 ≤ s.bits) × (s.bits ≤ most_bits s.version)) }
+    ensures counts { OnOk result (HasNodes (document_view document.now) × HasFewSteps (document_view document.now)) }
     ensures err { IfErr result (IsDocumentFault (document_view document.now)) }
 {
     let Some(version) = within(document.version, 1, LAST_VERSION) else {
         return Err(PlanFault::Version);
     };
-    let Some(bits) = within(document.bits, 1, most_bits(version as u8)) else {
+    let version = version as u8;
+    let Some(bits) = within(document.bits, 1, most_bits(version)) else {
         return Err(PlanFault::Bits);
     };
-    Ok(Settings {
-        version: version as u8,
-        bits,
-    })
+    if !has_nodes(document) {
+        return Err(PlanFault::NodeCount);
+    }
+    if !has_few_steps(document, version) {
+        return Err(PlanFault::StepCount);
+    }
+    Ok(Settings { version, bits })
 }
 
 /// The number, where it is one from `least` to `most`.
@@ -49,22 +55,6 @@ fn within(value: i64, least: u32, most: u32) -> Option<u32>
         return None;
     }
     Some(n)
-}
-
-/// Judges how many nodes and steps there are, in this version.
-pub(crate) fn counts(document: &Document, version: u8) -> Result<(), PlanFault>
-    requires { version_of (document_view document.now) ≡ version }
-    ensures ok { OnOk result (HasNodes (document_view document.now) × HasFewSteps (document_view document.now)) }
-    ensures err { IfErr result (λ e. BeforeNodeCount (document_view document.now)
-        → IsDocumentFault (document_view document.now) e) }
-{
-    if !has_nodes(document) {
-        return Err(PlanFault::NodeCount);
-    }
-    if !has_few_steps(document, version) {
-        return Err(PlanFault::StepCount);
-    }
-    Ok(())
 }
 
 /// Whether there are from 1 to 8 nodes.

@@ -15,7 +15,10 @@ pub(crate) fn strikes_are_few(alloc: Global, texts: &[&str], most: u32) -> Resul
     let mut room = Vec::new(alloc);
     let mut total = 0u32;
     for text in texts {
-        total += count_of(&mut room, text)?;
+        match count_of(&mut room, text) {
+            Ok(count) => total += count,
+            Err(error) => return Err(error),
+        }
         if total > most {
             return Ok(false);
         }
@@ -48,18 +51,8 @@ fn last_of(node: &str, bit: &str, every: &str, times: &str) -> u32
     ensures value { result ≡ strike_count (node.now ∷ bit.now ∷ every.now ∷ times.now ∷ []) }
     ensures small { result < 10000000 }
 {
-    let others = number(node).is_some() && number(bit).is_some() && number(every).is_some();
-    times_or_one(others, number(times))
-}
-
-/// The times, where they are a number and the others are too, and else 1.
-fn times_or_one(others: bool, times: Option<u32>) -> u32
-    requires { IfSome times (λ n. n < 10000000) }
-    ensures value { result ≡ (if others then unwrap_or times 1 else 1) }
-    ensures small { result < 10000000 }
-{
-    match times {
-        Some(times) if others => times,
+    match (number(node), number(bit), number(every), number(times)) {
+        (Some(_), Some(_), Some(_), Some(times)) => times,
         _ => 1,
     }
 }

@@ -2,7 +2,7 @@
 
 ghost use Rattle.std.specs.Prelude.{◌≡◌, ◌≤◌, IfOk, IfErr, map};
 ghost use Rattle.sja_plan.specs.Words.{words};
-ghost use Rattle.sja_plan.specs.StrikeTexts.{AreOnce, AreRepeated, AreStrikeWords};
+ghost use Rattle.sja_plan.specs.StrikeTexts.{AreRepeated, AreStrikeWords};
 
 use super::limits::GREATEST_NUMBER;
 use super::plan_text::PlanText;
@@ -26,7 +26,7 @@ impl PlanText for Strike {
     }
 }
 
-/// The strike of these words.
+/// The strike of these words: of two words as of four of which the last two are 1.
 fn strike_of(nodes: usize, words: &[&str]) -> Result<Strike, TextFault>
     requires { nodes ≤ 8 }
     ensures ok { IfOk result (λ s. AreStrikeWords nodes (map (λ w. w.now) words.now) s) }
@@ -34,28 +34,14 @@ fn strike_of(nodes: usize, words: &[&str]) -> Result<Strike, TextFault>
         × ((s : Strike) → ¬ AreStrikeWords nodes (map (λ w. w.now) words.now) s)) }
 {
     match *words {
-        [node, bit] => once(nodes, node, bit),
-        [node, bit, every, times] => repeated(nodes, node, bit, every, times),
+        [node, bit] => strike_at(nodes, node, bit, "1", "1"),
+        [node, bit, every, times] => strike_at(nodes, node, bit, every, times),
         _ => Err(TextFault::Bad),
     }
 }
 
-/// A strike at one bit.
-fn once(nodes: usize, node: &str, bit: &str) -> Result<Strike, TextFault>
-    requires { nodes ≤ 8 }
-    ensures ok { IfOk result (λ s. AreOnce nodes node.now bit.now s) }
-    ensures err { IfErr result (λ e. (e ≡ TextFault.Bad) × ((s : Strike) → ¬ AreOnce nodes node.now bit.now s)) }
-{
-    Ok(Strike {
-        node: node_within(nodes, node)?,
-        bit: number_within(bit, 0, GREATEST_NUMBER)?,
-        every: 1,
-        times: 1,
-    })
-}
-
-/// A strike at several bits.
-fn repeated(
+/// A strike of a node at a bit, every so many bits, so many times in all.
+fn strike_at(
     nodes: usize,
     node: &str,
     bit: &str,
@@ -67,10 +53,18 @@ fn repeated(
     ensures err { IfErr result (λ e. (e ≡ TextFault.Bad)
         × ((s : Strike) → ¬ AreRepeated nodes node.now bit.now every.now times.now s)) }
 {
-    Ok(Strike {
-        node: node_within(nodes, node)?,
-        bit: number_within(bit, 0, GREATEST_NUMBER)?,
-        every: number_within(every, 1, GREATEST_NUMBER)?,
-        times: number_within(times, 1, GREATEST_NUMBER)?,
-    })
+    match (
+        node_within(nodes, node),
+        number_within(bit, 0, GREATEST_NUMBER),
+        number_within(every, 1, GREATEST_NUMBER),
+        number_within(times, 1, GREATEST_NUMBER),
+    ) {
+        (Ok(node), Ok(bit), Ok(every), Ok(times)) => Ok(Strike {
+            node,
+            bit,
+            every,
+            times,
+        }),
+        _ => Err(TextFault::Bad),
+    }
 }

@@ -1,6 +1,6 @@
 //! Values that are lists of texts, or of nodes.
 
-ghost use Rattle.std.specs.Prelude.{◌≡◌, ◌⊎◌, Some, None, map, IfOk, IfErr};
+ghost use Rattle.std.specs.Prelude.{◌≡◌, ◌⊎◌, Some, None, map, codes, option_and_then, IfOk, IfErr};
 ghost use Rattle.toml.specs.Data.{get_member};
 ghost use Rattle.toml.specs.View.{view, table_view, items_view};
 ghost use Rattle.sja_plan.specs.Document.{texts_of, texts_in, optional_texts, node_of, nodes_of, nodes_in};
@@ -10,13 +10,16 @@ use super::plan_fault::PlanFault;
 use std::alloc::Global;
 use toml::{Table, Value};
 
-/// The steps of each node of a list.
-pub(crate) fn node_list<'a>(alloc: Global, value: &'a Value) -> Result<Vec<Vec<&'a str>>, PlanFault>
-    ensures ok { IfOk result (λ v. nodes_in (view value.entry.now)
+/// The steps of each node of the list at the key `node`.
+pub(crate) fn node_list<'a>(alloc: Global, table: &'a Table) -> Result<Vec<Vec<&'a str>>, PlanFault>
+    ensures ok { IfOk result (λ v. option_and_then nodes_in (get_member (codes "node") (table_view table.entry.now))
         ≡ Some (map (λ steps. map (λ s. s.now) steps.items) v.items)) }
-    ensures err { IfErr result (λ e. (e ≡ PlanFault.Memory)
-        ⊎ ((e ≡ PlanFault.Key) × (nodes_in (view value.entry.now) ≡ None))) }
+    ensures err { IfErr result (λ e. (e ≡ PlanFault.Memory) ⊎ ((e ≡ PlanFault.Key)
+        × (option_and_then nodes_in (get_member (codes "node") (table_view table.entry.now)) ≡ None))) }
 {
+    let Some(value) = value_at(table, "node") else {
+        return Err(PlanFault::Key);
+    };
     match value.as_array() {
         Some(values) => nodes(alloc, values.as_slice()),
         None => Err(PlanFault::Key),
@@ -58,7 +61,9 @@ fn texts<'a>(alloc: Global, values: &'a [Value]) -> Result<Vec<&'a str>, PlanFau
     ensures err { IfErr result (λ e. (e ≡ PlanFault.Memory)
         ⊎ ((e ≡ PlanFault.Key) × (texts_of (items_view values.entry.now) ≡ None))) }
 {
-    let mut found = Vec::with_capacity(alloc, values.len())?;
+    let Ok(mut found) = Vec::with_capacity(alloc, values.len()) else {
+        return Err(PlanFault::Memory);
+    };
     for value in values {
         match value.as_str() {
             Some(text) => found.push_reserved(text),
@@ -75,9 +80,14 @@ fn nodes<'a>(alloc: Global, values: &'a [Value]) -> Result<Vec<Vec<&'a str>>, Pl
     ensures err { IfErr result (λ e. (e ≡ PlanFault.Memory)
         ⊎ ((e ≡ PlanFault.Key) × (nodes_of (items_view values.entry.now) ≡ None))) }
 {
-    let mut found = Vec::with_capacity(alloc, values.len())?;
+    let Ok(mut found) = Vec::with_capacity(alloc, values.len()) else {
+        return Err(PlanFault::Memory);
+    };
     for value in values {
-        found.push_reserved(steps(alloc, value)?);
+        match steps(alloc, value) {
+            Ok(texts) => found.push_reserved(texts),
+            Err(fault) => return Err(fault),
+        }
     }
     Ok(found)
 }

@@ -3,4 +3,3 @@ pub mod Written
 pub mod Within
 pub mod Growing
 pub mod Fewer
-pub mod OneMore

@@ -16,7 +16,7 @@ use Rattle.sja_session.specs.Turning.{goes_on_latest, with_turn}
 use Rattle.sja_session.specs.declared.step_fault.StepFault.{StepFault}
 use Rattle.sja_session.specs.declared.step_fault.StepFault.TheVariants.{NoNode, StepsUsed, TurnsUsed}
 use Rattle.sja_plan_session.specs.PlanSessions.{PlanSessionValue, bits_of, node_count, steps_of}
-use Rattle.sja_plan_session.specs.Writing.{with_more}
+use Rattle.sja_session.specs.Writing.{with_more}
 
 -- ---- whether it may be tried
 

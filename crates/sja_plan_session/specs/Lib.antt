@@ -1,5 +1,3 @@
--- ---- what is written
-pub mod Writing
 -- ---- where a session stands, and what its calls do
 pub mod PlanSessions
 pub mod Rooms

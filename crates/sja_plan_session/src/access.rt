@@ -10,11 +10,11 @@ ghost use Rattle.sja_session.specs.declared.answered.Answered.TheVariants.{Answe
 ghost use Rattle.sja_plan_session.specs.Accessing.{IsTyped};
 ghost use Rattle.sja_plan_session.specs.Inside.Answering.{DidAnswered, WaitsElse};
 
-use super::more::{push_done, push_step};
+use super::more::push_done;
 use super::plan_session::PlanSession;
 use sja_plan::Turn;
 use sja_script::{Done, Step, StepAnswer};
-use sja_session::{Answered, RawSession, StepFault, push_turn};
+use sja_session::{Answered, RawSession, StepFault, push_step, push_turn};
 
 impl PlanSession {
     ghost use Rattle.std.specs.Prelude.{◌≡◌, List, Ok, IfOk, IfErr, OnOk, OnErr};

@@ -1,23 +1,9 @@
-//! One more step of a node, and one more answer.
+//! One more answer of a node.
 
 ghost use Rattle.std.specs.Prelude.{◌≡◌, ◌<◌, [], map, length, slice_index_or, vec_capacity};
-ghost use Rattle.sja_plan_session.specs.Writing.{with_more};
+ghost use Rattle.sja_session.specs.Writing.{with_more};
 
-use sja_script::{Done, Step};
-
-/// Adds a step to those of a node, for which there is room.
-#[inline(always)]
-pub(crate) fn push_step(lists: &mut Vec<Vec<Step>>, node: usize, step: Step)
-    requires there { node < length lists.old.items }
-    requires room { length (slice_index_or (map (λ steps. steps.items) lists.old.items) node [])
-        < slice_index_or (map (λ steps. vec_capacity steps) lists.old.items) node 0 }
-    ensures lists { map (λ steps. steps.items) lists.new.items
-        ≡ with_more (map (λ steps. steps.items) lists.old.items) node step }
-    ensures room { map (λ steps. vec_capacity steps) lists.new.items
-        ≡ map (λ steps. vec_capacity steps) lists.old.items }
-{
-    lists[node].push_reserved(step);
-}
+use sja_script::Done;
 
 /// Adds what a step answered to the answers of a node, for which there is room.
 #[inline(always)]

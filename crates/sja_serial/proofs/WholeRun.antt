@@ -1,6 +1,7 @@
 -- A run from its beginning to its log.
 pub mod GoingOn
 pub mod AfterBusTurn
+pub mod Steps
 pub mod AfterNodeTurn
 pub mod Coming
 pub mod NextTurn

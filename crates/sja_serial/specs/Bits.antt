@@ -1,50 +1,49 @@
 -- What bits do to a run in one thread (this project's own rule).
-use Rattle.std.specs.Prelude.{◌≡◌, ◌+◌, ◌<◌, ℕ, suc, true, false, Bool, List, length}
+use Rattle.std.specs.Prelude.{◌≡◌, ◌+◌, ◌<◌, ℕ, suc, true, false, Bool, List}
 use Rattle.sja_link.specs.Records.{record_of}
 use Rattle.sja_link.specs.BitEntries.{HasOneBit}
 use Rattle.sja_bus.specs.Resting.{RestsAs}
 use Rattle.sja_wire.specs.Wire.{journal_at}
-use Rattle.sja_plan.specs.Plan.{PlanValue}
 use Rattle.sja_driver.specs.Deeds.{Deed}
-use Rattle.sja_serial.specs.Serial.{SerialValue, StandsAt}
+use Rattle.sja_serial.specs.Serial.{Setup, SerialValue, StandsAt}
 
 -- one bit of a run, whose drivers did these deeds and nothing more
-pub record TakesBit (plan : PlanValue) (deeds : List (List Deed)) (was now : SerialValue) : Type 0 where
-  pub stands : StandsAt plan now deeds
+pub record TakesBit (setup : Setup) (deeds : List (List Deed)) (was now : SerialValue) : Type 0 where
+  pub stands : StandsAt setup now deeds
   pub bits : now.bits ≡ was.bits + 1
-  pub nodes : (node : ℕ) → node < length plan.nodes →
+  pub nodes : (node : ℕ) → node < setup.nodes →
       HasOneBit (journal_at was.bus.journals node) (journal_at now.bus.journals node)
 
 -- so many bits, before each of which this held
-pub data TakesBits (plan : PlanValue) (deeds : List (List Deed)) (Before : SerialValue → Type 0) :
+pub data TakesBits (setup : Setup) (deeds : List (List Deed)) (Before : SerialValue → Type 0) :
     SerialValue → ℕ → SerialValue → Type 0 where
-  no_bit : (r : SerialValue) → TakesBits plan deeds Before r 0 r
-  one_more : (was mid now : SerialValue) (n : ℕ) → TakesBits plan deeds Before was n mid → Before mid →
-      TakesBit plan deeds mid now → TakesBits plan deeds Before was (suc n) now
+  no_bit : (r : SerialValue) → TakesBits setup deeds Before r 0 r
+  one_more : (was mid now : SerialValue) (n : ℕ) → TakesBits setup deeds Before was n mid → Before mid →
+      TakesBit setup deeds mid now → TakesBits setup deeds Before was (suc n) now
 
 -- every node is at rest
-abbrev pub AllRestIn : PlanValue → SerialValue → Type 0
-AllRestIn plan r =
-    (node : ℕ) → node < length plan.nodes → RestsAs (record_of (journal_at r.bus.journals node)) true
+abbrev pub AllRestIn : Setup → SerialValue → Type 0
+AllRestIn setup r =
+    (node : ℕ) → node < setup.nodes → RestsAs (record_of (journal_at r.bus.journals node)) true
 
 -- some node isn't
-abbrev pub SomeWorks : PlanValue → SerialValue → Type 0
-SomeWorks plan r =
-    (node : ℕ) × (node < length plan.nodes) × RestsAs (record_of (journal_at r.bus.journals node)) false
+abbrev pub SomeWorks : Setup → SerialValue → Type 0
+SomeWorks setup r =
+    (node : ℕ) × (node < setup.nodes) × RestsAs (record_of (journal_at r.bus.journals node)) false
 
 -- ---- turns
 
 -- `bus` runs so many bits, or as many as are left
-pub record TakesBusTurn (plan : PlanValue) (deeds : List (List Deed)) (was now : SerialValue) (count : ℕ) (all : Bool) :
+pub record TakesBusTurn (setup : Setup) (deeds : List (List Deed)) (was now : SerialValue) (count : ℕ) (all : Bool) :
     Type 0 where
   pub run : ℕ
-  pub bits : TakesBits plan deeds (λ r. Unit {0}) was run now
+  pub bits : TakesBits setup deeds (λ r. Unit {0}) was run now
   pub whole : all ≡ true → run ≡ count
-  pub spent : all ≡ false → (run < count) × (now.bits ≡ plan.bits)
+  pub spent : all ≡ false → (run < count) × (now.bits ≡ setup.bits)
 
 -- `rest` runs bits until every node is at rest, or until the bits are spent while some node isn't
-pub record TakesRest (plan : PlanValue) (deeds : List (List Deed)) (was now : SerialValue) (rests : Bool) : Type 0 where
+pub record TakesRest (setup : Setup) (deeds : List (List Deed)) (was now : SerialValue) (rests : Bool) : Type 0 where
   pub run : ℕ
-  pub bits : TakesBits plan deeds (SomeWorks plan) was run now
-  pub whole : rests ≡ true → AllRestIn plan now
-  pub spent : rests ≡ false → SomeWorks plan now × (now.bits ≡ plan.bits)
+  pub bits : TakesBits setup deeds (SomeWorks setup) was run now
+  pub whole : rests ≡ true → AllRestIn setup now
+  pub spent : rests ≡ false → SomeWorks setup now × (now.bits ≡ setup.bits)

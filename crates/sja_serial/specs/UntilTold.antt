@@ -4,11 +4,10 @@ use Rattle.sja_bus.specs.Boards.{HasOrders, WasTold}
 use Rattle.sja_wire.specs.Buses.{EachJournal}
 use Rattle.sja_wire.specs.Wire.{journal_at}
 use Rattle.sja_bus.specs.UntilTold.{HasBitsMore, IsLastTurn, NoMore, RunsNone}
-use Rattle.sja_plan.specs.Plan.{PlanValue}
 use Rattle.sja_driver.specs.Deeds.{Deed}
 use Rattle.sja_regs.specs.declared.bus_turn.BusTurn.{BusTurn}
 use Rattle.sja_serial.specs.Bits.{TakesBits}
-use Rattle.sja_serial.specs.Serial.{SerialValue}
+use Rattle.sja_serial.specs.Serial.{Setup, SerialValue}
 
 -- since then no port was told anything: the ports are as they were, and each journal has bits alone more
 pub record NoneTold (was now : SerialValue) : Type 0 where
@@ -16,8 +15,8 @@ pub record NoneTold (was now : SerialValue) : Type 0 where
   pub journals : EachJournal HasBitsMore was.bus.journals now.bus.journals
 
 -- so many bits, before each of which no port was told anything: so none is told its turn in any of them but the last
-abbrev pub TakesUntilTold : PlanValue → List (List Deed) → SerialValue → ℕ → SerialValue → Type 0
-TakesUntilTold plan deeds was = TakesBits plan deeds (NoneTold was) was
+abbrev pub TakesUntilTold : Setup → List (List Deed) → SerialValue → ℕ → SerialValue → Type 0
+TakesUntilTold setup deeds was = TakesBits setup deeds (NoneTold was) was
 
 -- why these bits ended with the last one of n, of so many that were asked for
 pub data EndsUntilTold (count : ℕ) (was : SerialValue) (n : ℕ) (now : SerialValue) : Type 0 where

@@ -3,16 +3,15 @@
 //! [`run_serial`] runs a plan and gives the log of the run, with all that is promised of it.
 //!
 //! A [`SerialRun`] has the bus, and of each node its port, its links and its driver with the log of what it did.
-//! It is made of a plan ([`SerialRun::new`]), takes the turns of its nodes ([`SerialRun::node_turn`]), or a step of one
-//! ([`SerialRun::try_next`]), and those of the bus ([`SerialRun::bus_turn`], [`SerialRun::rest_turn`]), or bits up to
-//! the first that a port is told of ([`SerialRun::bits_until_told`]), and ends with its log ([`SerialRun::finish`]). A
-//! bit that hasn't run can be struck too ([`SerialRun::strike`]). After each step of a driver the bus takes what was
-//! given, so between two steps nothing waits on a link: each item is taken after just the bits before its step, and no
-//! link is ever full upward.
+//! [`SerialRun::new`] makes it; it takes a step of a node ([`SerialRun::step`]), and turns of the bus
+//! ([`SerialRun::bus_turn`], [`SerialRun::rest_turn`]), or bits up to the first that a port is told of
+//! ([`SerialRun::bits_until_told`]), and ends with its log ([`SerialRun::finish`]). A bit that hasn't run can be struck
+//! too ([`SerialRun::strike`]). After each step of a driver the bus takes what was given, so between two steps nothing
+//! waits on a link: each item is taken after just the bits before its step, and no link is ever full upward.
 //!
-//! Contracts say at which deeds of the drivers a run stands, `StandsAt` of `specs/Serial.antt`: of each node its driver
-//! did these deeds, of the steps that the plan has for it; its links carried what its journal and its deeds say; its
-//! port is as its writes and loads have set it; and all was in time, as `IsInTime` of sja_log has it.
+//! Contracts say for what a run was made and at which deeds of the drivers it stands, `StandsAt` of
+//! `specs/Serial.antt`: of each node its driver did these deeds; its links carried what its journal and its deeds say;
+//! its port is as its writes and loads have set it; and all was in time, as `IsInTime` of sja_log has it.
 //!
 //! `SerialRun::new`, `SerialRun::strike` and `SerialRun::finish` alone take memory.
 #![tactic(auto)]
@@ -22,9 +21,9 @@ mod drivers;
 mod finish;
 mod left_on_links;
 mod looking;
-mod node_turns;
 mod run;
 mod serial_run;
+mod stepping;
 mod striking;
 mod until_told;
 

@@ -3,7 +3,6 @@
 use super::serial_run::SerialRun;
 use sja_driver::LoggedDriver;
 use sja_link::first_link;
-use sja_plan::Plan;
 use sja_regs::Port;
 
 impl SerialRun {
@@ -39,26 +38,36 @@ impl SerialRun {
     ghost use Rattle.sja_log.specs.Registering.{seen_now};
     ghost use Rattle.sja_regs.specs.declared.registers.Registers.{Registers};
     ghost use Rattle.sja_regs.specs.InterruptLine.{is_line_active};
-    ghost use Rattle.sja_serial.specs.Serial.{StandsAt, IsRunOf};
+    ghost use Rattle.sja_serial.specs.Serial.{Setup, StandsAt, IsRunOf};
     ghost use Rattle.sja_wire.specs.Wire.{journal_at};
+
+    /// By which version of the model it runs.
+    pub fn version(&self) -> u8
+        ghost setup: { Setup }
+        requires { IsRunOf setup self.now }
+        ensures { result ≡ setup.version }
+    {
+        self.board.ports[0].version()
+    }
 
     /// Whether the interrupt line of a node, counted from 0, is active: some bit of IR is 1, as a read of it would
     /// answer now (SJA1000 data sheet, 6.4.6). All that has come for its driver is taken in first. That is no step: it
     /// clears nothing, and no bit is run.
-    pub fn irq(&mut self, plan: &Plan, node: u8) -> bool
-        requires run { IsRunOf plan.now self.old }
-        requires node { node < length plan.now.nodes }
-        ensures line { (deeds : List (List Deed)) → StandsAt plan.now self.old deeds → (p : Registers) → result
+    pub fn irq(&mut self, node: u8) -> bool
+        ghost setup: { Setup }
+        requires run { IsRunOf setup self.old }
+        requires node { node < setup.nodes }
+        ensures line { (deeds : List (List Deed)) → StandsAt setup self.old deeds → (p : Registers) → result
             ≡ is_line_active (slice_index_or self.old.ports node p) (seen_now (is_active (deeds_at deeds node))
             (journal_at self.old.bus.journals node) (deeds_at deeds node)) }
-        ensures stands { (deeds : List (List Deed)) → StandsAt plan.now self.old deeds →
-            StandsAt plan.now self.new deeds }
+        ensures stands { (deeds : List (List Deed)) → StandsAt setup self.old deeds →
+            StandsAt setup self.new deeds }
         ensures bus { self.new.bus ≡ self.old.bus }
         ensures ports { self.new.ports ≡ self.old.ports }
         ensures bits { self.new.bits ≡ self.old.bits }
     {
         let index = usize::from(node);
-        if index >= plan.nodes() || self.bus.bits_run() != self.bits {
+        if index >= self.drivers.len() || self.bus.bits_run() != self.bits {
             unreachable!()
         }
         let links = self.links.as_mut_slice();

@@ -1,17 +1,17 @@
 //! [`run_serial`]: a whole run in one thread.
 
-ghost use Rattle.std.specs.Prelude.{◌≡◌, List, [], length, replicate, IfOk, IfErr};
+ghost use Rattle.std.specs.Prelude.{◌≡◌, ◌<◌, List, [], length, replicate, IfOk, IfErr};
 ghost use Rattle.sja_wire.specs.Buses.{new_bus};
 ghost use Rattle.sja_driver.specs.Deeds.{Deed};
 ghost use Rattle.sja_plan.specs.Plan.{NamesNode, step_counts};
 ghost use Rattle.sja_log.specs.Headline.{AreAccounts};
 ghost use Rattle.sja_log.specs.Runs.{IsSerialRun};
 ghost use Rattle.sja_log.specs.declared.run_fault.RunFault.TheVariants.{Memory};
-ghost use Rattle.sja_serial.specs.Inside.Going.{TakesTurns, TakesOne};
-ghost use Rattle.sja_serial.specs.Serial.{StandsAt, IsRunOf};
+ghost use Rattle.sja_serial.specs.Inside.Going.{StandsIn, IsRunIn, TakesTurn, TakesTurns, TakesOne};
 
 use super::serial_run::SerialRun;
-use sja_log::{End, RunFault, RunLog};
+use can_frame::OutOfMemory;
+use sja_log::{End, RunFault, RunLog, script_of};
 use sja_plan::{Plan, Turn};
 use std::alloc::Global;
 
@@ -31,14 +31,28 @@ pub fn run_serial(alloc: Global, plan: &Plan) -> Result<RunLog, RunFault>
     ensures headline { IfOk result (λ log. AreAccounts log) }
     ensures memory { IfErr result (λ f. f ≡ Memory) }
 {
-    let mut run = SerialRun::new(alloc, plan)?;
+    let mut run = new_run(alloc, plan)?;
     let end = take_turns(&mut run, plan);
-    Ok(run.finish(alloc, plan, end)?)
+    Ok(run.finish(alloc, end)?)
+}
+
+/// A run of this plan to which nothing happened.
+///
+/// Error: [`OutOfMemory`] where memory was refused.
+fn new_run(alloc: Global, plan: &Plan) -> Result<SerialRun, OutOfMemory>
+    ensures stands { IfOk result (λ r. StandsIn plan.now r (replicate (length plan.now.nodes) [])) }
+    ensures bus { IfOk result (λ r. r.bus ≡ new_bus plan.now.strikes plan.now.bits (length plan.now.nodes)
+        (step_counts plan.now)) }
+{
+    plan.limits();
+    let script = script_of(alloc, plan)?;
+    let steps = plan.step_counts(alloc)?;
+    SerialRun::new(alloc, plan.version(), plan.bits(), steps, script)
 }
 
 /// Takes the turns of a plan, one after the other, and says why the run ends: all are done, or the bits were spent.
 fn take_turns(run: &mut SerialRun, plan: &Plan) -> End
-    requires stands { StandsAt plan.now run.old (replicate (length plan.now.nodes) []) }
+    requires stands { StandsIn plan.now run.old (replicate (length plan.now.nodes) []) }
     requires bus { run.old.bus ≡ new_bus plan.now.strikes plan.now.bits (length plan.now.nodes)
         (step_counts plan.now) }
     ensures { TakesTurns plan.now run.new result }
@@ -53,17 +67,39 @@ fn take_turns(run: &mut SerialRun, plan: &Plan) -> End
 
 /// Takes one turn. It says whether all of it was taken; else the bits are spent.
 fn take_one(run: &mut SerialRun, plan: &Plan, turn: &Turn) -> bool
-    requires run { IsRunOf plan.now run.old }
+    requires run { IsRunIn plan.now run.old }
     requires names { NamesNode (length plan.now.nodes) turn.now }
-    ensures { (deeds : List (List Deed)) → StandsAt plan.now run.old deeds →
+    ensures { (deeds : List (List Deed)) → StandsIn plan.now run.old deeds →
         TakesOne plan.now deeds run.old run.new turn.now result }
 {
     match *turn {
         Turn::Node(node, count) => {
-            run.node_turn(plan, node, count);
+            take_steps(run, plan, node, count);
             true
         }
-        Turn::Bus(count) => run.bus_turn(plan, count),
-        Turn::Rest => run.rest_turn(plan),
+        Turn::Bus(count) => run.bus_turn(count),
+        Turn::Rest => run.rest_turn(),
+    }
+}
+
+/// One turn of a node, counted from 0: so many steps of its driver, one after the other, or as many as it has left, or
+/// up to one that has to wait. No bit is run.
+fn take_steps(run: &mut SerialRun, plan: &Plan, node: u8, count: u32)
+    requires run { IsRunIn plan.now run.old }
+    requires node { node < length plan.now.nodes }
+    ensures { (deeds : List (List Deed)) → StandsIn plan.now run.old deeds →
+        TakesTurn plan.now run.old run.new node count deeds }
+{
+    let place = usize::from(node);
+    let steps = plan.steps(place);
+    for _ in 0..count {
+        let next = run.driver(place).log().done().len();
+        if next >= steps.len() {
+            return;
+        }
+        let step = &steps[next];
+        if !run.step(node, step) {
+            return;
+        }
     }
 }

@@ -5,8 +5,7 @@ use can_frame::OutOfMemory;
 use sja_bus::{Bus, SerialBoard, serial_links};
 use sja_driver::LoggedDriver;
 use sja_link::DequeLink;
-use sja_log::script_of;
-use sja_plan::Plan;
+use sja_script::FaultScript;
 use std::alloc::Global;
 use std::marker::Model;
 
@@ -39,26 +38,33 @@ impl Model for SerialRun {
 }
 
 impl SerialRun {
-    ghost use Rattle.std.specs.Prelude.{◌≡◌, [], length, replicate, IfOk};
+    ghost use Rattle.std.specs.Prelude.{◌≡◌, ◌≤◌, [], length, replicate, IfOk};
     ghost use Rattle.sja_wire.specs.Buses.{new_bus};
-    ghost use Rattle.sja_plan.specs.Plan.{step_counts};
-    ghost use Rattle.sja_serial.specs.Serial.{StandsAt};
+    ghost use Rattle.sja_serial.specs.Serial.{StandsAt, setup_with};
 
-    /// A run of this plan to which nothing happened. All its room is made here.
+    /// A run to which nothing happened, by the rules of this version of the model, for so many bits, 1 to 2,000,000,
+    /// with these strikes: of as many nodes, 1 to 8, as numbers of steps are given, with room for so many steps of the
+    /// driver of each. All its room is made here.
     ///
     /// Error: [`OutOfMemory`] where memory was refused.
-    pub fn new(alloc: Global, plan: &Plan) -> Result<SerialRun, OutOfMemory>
-        ensures stands { IfOk result (λ r. StandsAt plan.now r (replicate (length plan.now.nodes) [])) }
-        ensures bus { IfOk result (λ r. r.bus ≡ new_bus plan.now.strikes plan.now.bits (length plan.now.nodes)
-            (step_counts plan.now)) }
+    pub fn new(
+        alloc: Global,
+        version: u8,
+        bits: u32,
+        steps: Vec<u32>,
+        script: FaultScript,
+    ) -> Result<SerialRun, OutOfMemory>
+        requires nodes { (1 ≤ length steps.items) × (length steps.items ≤ 8) }
+        requires bits { (1 ≤ bits) × (bits ≤ 2000000) }
+        ensures stands { IfOk result (λ r. StandsAt (setup_with version bits script steps.items) r
+            (replicate (length steps.items) [])) }
+        ensures bus { IfOk result (λ r. r.bus ≡ new_bus script bits (length steps.items) steps.items) }
     {
-        let nodes = plan.nodes() as u8;
-        let script = script_of(alloc, plan)?;
-        let steps = plan.step_counts(alloc)?;
-        let bus = Bus::new(alloc, plan.bits(), steps, script)?;
-        let board = SerialBoard::new(alloc, nodes, plan.version())?;
+        let nodes = steps.len() as u8;
+        let board = SerialBoard::new(alloc, nodes, version)?;
         let links = serial_links(alloc, nodes)?;
-        let drivers = new_drivers(alloc, plan)?;
+        let drivers = new_drivers(alloc, steps.as_slice())?;
+        let bus = Bus::new(alloc, bits, steps, script)?;
         Ok(SerialRun {
             bus,
             board,

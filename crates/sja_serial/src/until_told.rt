@@ -1,15 +1,13 @@
 //! Bits of the bus up to the first in which a port is told its turn.
 
 use super::serial_run::SerialRun;
-use sja_plan::Plan;
 
 impl SerialRun {
     ghost use Rattle.std.specs.Prelude.{◌≡◌, ◌≢◌, ◌+◌, ◌<◌, ◌≤◌, ℕ, false, List};
     ghost use Rattle.sja_script.specs.Striking.{Strikes};
     ghost use Rattle.sja_wire.specs.Lawful.{IsBusRun};
-    ghost use Rattle.sja_plan.specs.Plan.{IsInLimits};
     ghost use Rattle.sja_driver.specs.Deeds.{Deed};
-    ghost use Rattle.sja_serial.specs.Serial.{StandsAt, IsRunOf};
+    ghost use Rattle.sja_serial.specs.Serial.{Setup, StandsAt, IsRunOf};
     ghost use Rattle.sja_bus.specs.Boards.{HasOrders};
     ghost use Rattle.sja_bus.specs.UntilTold.{RunsNone};
     ghost use Rattle.sja_serial.specs.UntilTold.{EndsUntilTold, TakesUntilTold};
@@ -19,59 +17,60 @@ impl SerialRun {
     /// port wants an abort, or a journal has no room that isn't reserved. In none of them but the last a port is told
     /// anything, a message is judged, or a node goes bus-off, and none of several is struck. It says how many: at least
     /// one, where one is asked for and left.
-    pub fn bits_until_told(&mut self, plan: &Plan, count: u32) -> u32
-        requires run { IsRunOf plan.now self.old }
+    pub fn bits_until_told(&mut self, count: u32) -> u32
+        ghost setup: { Setup }
+        requires run { IsRunOf setup self.old }
         ensures most { result ≤ count }
-        ensures some { 1 ≤ count → self.old.bits < plan.now.bits → 1 ≤ result }
+        ensures some { 1 ≤ count → self.old.bits < setup.bits → 1 ≤ result }
         ensures unstruck { 2 ≤ result → (i node : ℕ) → i < result → node < 8 →
             Strikes self.old.bus.script (self.old.bus.run + i) node → ⊥ }
-        ensures bits { (deeds : List (List Deed)) → StandsAt plan.now self.old deeds →
-            TakesUntilTold plan.now deeds self.old result self.new }
+        ensures bits { (deeds : List (List Deed)) → StandsAt setup self.old deeds →
+            TakesUntilTold setup deeds self.old result self.new }
         ensures longest { result ≢ 0 → EndsUntilTold count self.old result self.new }
-        ensures stays { IsRunOf plan.now self.new }
+        ensures stays { IsRunOf setup self.new }
     {
-        let most = count.min(self.bits_left(plan));
+        let most = count.min(self.bits_left());
         if most == 0 {
             return 0;
         }
-        self.run_some_bits(plan, most)
+        self.run_some_bits(most)
     }
 
     /// The same, of so many that are left, one at least: one alone, where something stands in the way of more.
-    fn run_some_bits(&mut self, plan: &Plan, count: u32) -> u32
-        requires run { IsRunOf plan.now self.old }
+    fn run_some_bits(&mut self, count: u32) -> u32
+        ghost setup: { Setup }
+        requires run { IsRunOf setup self.old }
         requires some { 1 ≤ count }
-        requires left { self.old.bits + count ≤ plan.now.bits }
-        requires limits { IsInLimits plan.now }
+        requires left { self.old.bits + count ≤ setup.bits }
         requires lawful { IsBusRun self.old.bus.script self.old.bus.run self.old.bus.journals }
         ensures most { result ≤ count }
         ensures some { 1 ≤ result }
         ensures unstruck { 2 ≤ result → (i node : ℕ) → i < result → node < 8 →
             Strikes self.old.bus.script (self.old.bus.run + i) node → ⊥ }
-        ensures bits { (deeds : List (List Deed)) → StandsAt plan.now self.old deeds →
-            TakesUntilTold plan.now deeds self.old result self.new }
+        ensures bits { (deeds : List (List Deed)) → StandsAt setup self.old deeds →
+            TakesUntilTold setup deeds self.old result self.new }
         ensures longest { EndsUntilTold count self.old result self.new }
-        ensures stays { IsRunOf plan.now self.new }
+        ensures stays { IsRunOf setup self.new }
     {
-        let bits = self.run_untold_bits(plan, count);
+        let bits = self.run_untold_bits(count);
         if bits == 0 {
-            self.run_one_bit(plan);
+            self.run_one_bit();
             return 1;
         }
         bits
     }
 
     /// The same, as far as no strike falls, no port wants an abort and nothing is untold.
-    fn run_untold_bits(&mut self, plan: &Plan, count: u32) -> u32
-        requires run { IsRunOf plan.now self.old }
-        requires left { self.old.bits + count ≤ plan.now.bits }
-        requires limits { IsInLimits plan.now }
+    fn run_untold_bits(&mut self, count: u32) -> u32
+        ghost setup: { Setup }
+        requires run { IsRunOf setup self.old }
+        requires left { self.old.bits + count ≤ setup.bits }
         requires lawful { IsBusRun self.old.bus.script self.old.bus.run self.old.bus.journals }
         ensures most { result ≤ count }
         ensures unstruck { (i node : ℕ) → i < result → node < 8 →
             Strikes self.old.bus.script (self.old.bus.run + i) node → ⊥ }
-        ensures bits { (deeds : List (List Deed)) → StandsAt plan.now self.old deeds →
-            TakesUntilTold plan.now deeds self.old result self.new }
+        ensures bits { (deeds : List (List Deed)) → StandsAt setup self.old deeds →
+            TakesUntilTold setup deeds self.old result self.new }
         ensures longest { result ≢ 0 → EndsUntilTold count self.old result self.new }
         ensures none { result ≡ 0 → RunsNone (HasOrders self.old.ports) false count self.old.bus }
     {

@@ -1,6 +1,5 @@
 -- The plan that a session wrote: its steps and turns, and where they led.
-pub mod Written
-pub mod Plans
+pub mod OneMore
 pub mod Turned
 pub mod Taken
 pub mod Within

@@ -3,7 +3,7 @@ use Rattle.std.specs.Prelude.{◌≡◌, ◌<◌, ◌≤◌, ◌⊎◌, ℕ, Lis
 use Rattle.sja_plan.specs.declared.turn.Turn.TheVariants.{Bus}
 use Rattle.sja_driver.specs.Deeds.{Deed}
 use Rattle.sja_serial.specs.Bits.{TakesBits}
-use Rattle.sja_session.specs.Sessions.{SessionValue, IsAt, written}
+use Rattle.sja_session.specs.Sessions.{SessionValue, IsAt, setup_by, written}
 use Rattle.sja_session.specs.Stepping.{HasTurn, LacksTurn}
 use Rattle.sja_session.specs.Writing.{with_bits_run}
 
@@ -31,7 +31,7 @@ LacksBusTurn s count = AreDue s count × LacksTurn s (Bus count)
 -- plan. What each bit brought isn't said here, but that entries and deeds lead from power-on to the registers of each
 -- port (`IsAt`); that all nodes saw one level says the log
 pub record RunsBits (was now : SessionValue) (count run : ℕ) (deeds : List (List Deed)) : Type 0 where
-  pub bits : TakesBits was.plan deeds (λ r. Unit {0}) was.run run now.run
+  pub bits : TakesBits (setup_by was) deeds (λ r. Unit {0}) was.run run now.run
   pub most : run ≤ count
   pub whole : (run ≡ count) ⊎ (now.run.bits ≡ was.plan.bits)
   pub at : IsAt now deeds

@@ -1,33 +1,53 @@
 -- A session: a run in one thread that its holder drives (this project's own rule).
-use Rattle.std.specs.Prelude.{◌≡◌, ◌+◌, ◌<◌, ◌≤◌, ℕ, List, [], ◌∷◌, length, replicate, reverse}
+use Rattle.std.specs.Prelude.{◌≡◌, ◌+◌, ◌<◌, ◌≤◌, ℕ, List, [], ◌∷◌, length, map, replicate, reverse}
 use Rattle.std.specs.Prelude.{slice_index_or}
 use Rattle.sja_plan.specs.declared.turn.Turn.{Turn}
 use Rattle.sja_plan.specs.declared.turn.Turn.TheVariants.{Bus, Node}
 use Rattle.sja_plan.specs.Growing.{plan_of}
-use Rattle.sja_plan.specs.Limits.{most_turns}
-use Rattle.sja_plan.specs.Plan.{PlanValue, NamesNode, steps_at}
+use Rattle.sja_plan.specs.Limits.{most_steps, most_turns}
+use Rattle.sja_plan.specs.Plan.{PlanValue, NamesNode}
+use Rattle.sja_script.specs.declared.step.Step.{Step}
 use Rattle.sja_driver.specs.Deeds.{Deed, deeds_at}
 use Rattle.sja_log.specs.Turns.{Progress, with_bits, with_steps, steps_done}
 use Rattle.sja_serial.specs.Ending.{progress}
-use Rattle.sja_serial.specs.Serial.{SerialValue, StandsAt}
+use Rattle.sja_serial.specs.Serial.{Setup, SerialValue, StandsAt}
 use Rattle.sja_session.specs.declared.session_room.SessionRoom.{SessionRoom}
-use Rattle.sja_session.specs.Writing.{done_counts, fronts}
 
--- what a contract sees of a session: its run, the plan that the run is given, which has places for further steps, for
--- how many steps of each node and how many turns there is room, and the turns that were taken
+-- what a contract sees of a session: its run, the plan that it goes by, whose steps and turns don't count, the steps of
+-- each node that were done, for how many of them and how many turns there is room, and the turns that were taken
 pub record SessionValue : Type 0 where
   pub run : SerialValue
   pub plan : PlanValue
+  pub steps : List (List Step)
   pub room : SessionRoom
   pub turns : List Turn
 
 -- the session that these are
-abbrev pub session_of : SessionRoom → SerialValue → PlanValue → List Turn → SessionValue
-session_of room run plan turns = record { run = run; plan = plan; room = room; turns = turns }
+abbrev pub session_of : SessionRoom → SerialValue → PlanValue → List (List Step) → List Turn → SessionValue
+session_of room run plan steps turns =
+    record { run = run; plan = plan; steps = steps; room = room; turns = turns }
 
 -- the plan that the session wrote: the steps that were done, and the turns that were taken
 abbrev pub written : SessionValue → PlanValue
-written s = plan_of s.plan.version s.plan.bits (fronts (done_counts s.run) s.plan.nodes) s.turns s.plan.strikes
+written s = plan_of s.plan.version s.plan.bits s.steps s.turns s.plan.strikes
+
+-- for what a run of such a plan is made that has room for so many steps of each node
+abbrev pub setup_for : PlanValue → ℕ → Setup
+setup_for p size = record {
+  version = p.version;
+  bits = p.bits;
+  strikes = p.strikes;
+  nodes = length p.nodes;
+  steps = replicate (length p.nodes) size;
+}
+
+-- for what its run was made
+abbrev pub setup_by : SessionValue → Setup
+setup_by s = setup_for (written s) s.room.steps
+
+-- the steps that these deeds are, of each node
+abbrev pub steps_in : List (List Deed) → List (List Step)
+steps_in = map (λ (deeds : List Deed). map (λ (d : Deed). d.step) deeds)
 
 -- these turns, latest first, led from the first point of the run to this one, and each was taken whole: its bits were
 -- run, or its steps were done, all after the same bits
@@ -44,9 +64,11 @@ pub data Took (deeds : List (List Deed)) (first : Progress) : List Turn → Prog
 abbrev pub start_of : ℕ → Progress
 start_of nodes = record { bits = 0; done = replicate nodes 0 }
 
--- the session stands where its drivers did these deeds: its run does, and its turns led there
+-- the session stands where its drivers did these deeds: its run does, their steps were written, and its turns led there
 pub record IsAt (s : SessionValue) (deeds : List (List Deed)) : Type 0 where
-  pub stands : StandsAt s.plan s.run deeds
+  pub stands : StandsAt (setup_by s) s.run deeds
+  pub steps : steps_in deeds ≡ s.steps
+  pub count : length s.steps ≡ length s.plan.nodes
   pub took : Took deeds (start_of (length s.plan.nodes)) (reverse s.turns) (progress s.run deeds)
 
 -- each of these turns is of a node that is there
@@ -54,15 +76,13 @@ abbrev pub AreNamed : ℕ → List Turn → Type 0
 AreNamed nodes [] = Unit {0}
 AreNamed nodes (t ∷ turns) = NamesNode nodes t × AreNamed nodes turns
 
--- what holds of every session: it stands at some deeds, its bits and the places of each node are within the limits of
--- a plan of any version and its turns within those of its own, and there is room for one turn more, each of a node that
--- is there
-pub record IsSession (s : SessionValue) (capacity : ℕ) : Type 0 where
+-- what holds of every session: it stands at some deeds, its steps and turns are within the limits of a plan of its
+-- version, and there is room for the steps of each node and for one turn more, each of a node that is there
+pub record IsSession (s : SessionValue) (sizes : List ℕ) (capacity : ℕ) : Type 0 where
   pub deeds : List (List Deed)
   pub at : IsAt s deeds
-  pub bits : s.plan.bits ≤ 2000000
-  pub places : (node : ℕ) → node < length s.plan.nodes → length (steps_at s.plan node) ≡ s.room.steps
-  pub steps : s.room.steps ≤ 196605
+  pub places : (node : ℕ) → node < length s.plan.nodes → s.room.steps ≤ slice_index_or sizes node 0
+  pub steps : s.room.steps ≤ most_steps s.plan.version
   pub most : s.room.turns ≤ most_turns s.plan.version
   pub room : s.room.turns + 1 ≤ capacity
   pub few : length s.turns ≤ s.room.turns

@@ -1,6 +1,6 @@
 -- A step that a session does (this project's own rule).
 use Rattle.std.specs.Prelude.{◌≡◌, ◌≢◌, ◌<◌, ◌≤◌, ◌⊎◌, ◌++◌, ℕ, true, false, List, [], ◌∷◌, length, reverse}
-use Rattle.std.specs.Prelude.{slice_index, slice_index_or, slice_set}
+use Rattle.std.specs.Prelude.{slice_index_or, slice_set}
 use Rattle.sja_link.specs.BitEntries.{entries_of_items}
 use Rattle.sja_wire.specs.Wire.{journal_at}
 use Rattle.sja_plan.specs.declared.turn.Turn.{Turn}
@@ -18,7 +18,7 @@ use Rattle.sja_session.specs.declared.step_fault.StepFault.{StepFault}
 use Rattle.sja_session.specs.declared.step_fault.StepFault.TheVariants.{NoNode, StepsUsed, TurnsUsed}
 use Rattle.sja_session.specs.Sessions.{SessionValue, IsAt, written}
 use Rattle.sja_session.specs.Turning.{goes_on_latest}
-use Rattle.sja_session.specs.Writing.{done_counts, with_step_done}
+use Rattle.sja_session.specs.Writing.{with_step_done}
 
 -- ---- whether it may be tried
 
@@ -32,7 +32,7 @@ LacksTurn s t = (s.room.turns ≤ length s.turns) × (goes_on_latest (reverse s.
 
 -- how many steps of a node are done
 abbrev pub steps_done_of : SessionValue → ℕ → ℕ
-steps_done_of s node = slice_index (done_counts s.run) node
+steps_done_of s node = length (slice_index_or s.steps node [])
 
 -- the node is there, room is left for a step of it, and there is a turn for one more
 pub record MayStep (s : SessionValue) (node : ℕ) : Type 0 where

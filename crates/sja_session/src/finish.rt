@@ -27,7 +27,7 @@ impl Session {
         ensures headline { IfOk result (λ both. AreAccounts both.1) }
     {
         let plan = self.plan(alloc)?;
-        let log = self.run.finish(alloc, &plan, End::Turns)?;
+        let log = self.run.finish(alloc, End::Turns)?;
         Ok((plan, log))
     }
 }

@@ -25,7 +25,7 @@ impl Session {
         if usize::from(node) >= self.plan.nodes() {
             return None;
         }
-        Some(self.run.irq(&self.plan, node))
+        Some(self.run.irq(node))
     }
 }
 

@@ -18,6 +18,7 @@ mod answers;
 mod beginning;
 mod finish;
 mod interrupt_line;
+mod lists;
 mod mode_and_command;
 mod of_plan;
 mod plan_so_far;
@@ -40,7 +41,8 @@ mod watching;
 
 pub use answered::Answered;
 pub use beginning::LAST_VERSION;
-pub use plan_so_far::{copied_strikes, copied_turns};
+pub use lists::push_step;
+pub use plan_so_far::{copied_steps, copied_strikes, copied_turns};
 pub use raw_session::RawSession;
 pub use rested::Rested;
 pub use session::Session;

@@ -1,18 +1,17 @@
 //! Sessions that begin as the run of a plan does.
 
-ghost use Rattle.std.specs.Prelude.{◌≡◌, ◌≤◌, IfOk};
-ghost use Rattle.sja_plan.specs.Limits.{most_steps};
-ghost use Rattle.sja_session.specs.Inside.Written.{blank_like};
+ghost use Rattle.std.specs.Prelude.{◌≡◌, IfOk};
+ghost use Rattle.sja_session.specs.Inside.Written.{bare_plan};
 
 use super::beginning::check_room;
+use super::lists::empty_lists;
 use super::plan_so_far::copied_strikes;
 use super::raw_session::{RawSession, with_kept};
 use super::session::Session;
 use super::session_fault::SessionFault;
 use super::session_room::SessionRoom;
 use can_frame::OutOfMemory;
-use sja_plan::{Plan, blank_nodes};
-use sja_serial::SerialRun;
+use sja_plan::Plan;
 use std::alloc::Global;
 
 impl Session {
@@ -37,17 +36,9 @@ impl Session {
         ensures limits { OnOk result (IsRoom plan.now.version room) }
         ensures err { IfErr result (LacksRoom plan.now.version room) }
     {
-        plan.limits();
         check_room(plan.version(), room)?;
-        let blank = blank_for(alloc, plan, room.steps)?;
-        let run = SerialRun::new(alloc, &blank)?;
-        let turns = Vec::with_capacity(alloc, room.turns as usize + 1)?;
-        Ok(Session {
-            run,
-            plan: blank,
-            room,
-            turns,
-        })
+        let bare = bare_plan(alloc, plan)?;
+        Ok(Session::over(alloc, bare, room)?)
     }
 }
 
@@ -82,16 +73,14 @@ impl RawSession {
     }
 }
 
-/// A plan as this one, of its version, bits, nodes and strikes, in which each node has so many steps that look at the
-/// window, with no turn: places for steps that are set later.
+/// A plan as this one, of its version, bits, nodes and strikes, without its steps and turns.
 ///
 /// Error: [`OutOfMemory`] where memory was refused.
-fn blank_for(alloc: Global, plan: &Plan, steps: u32) -> Result<Plan, OutOfMemory>
-    requires { steps ≤ most_steps plan.now.version }
-    ensures { IfOk result (λ p. p ≡ blank_like plan.now steps) }
+fn bare_plan(alloc: Global, plan: &Plan) -> Result<Plan, OutOfMemory>
+    ensures { IfOk result (λ p. p ≡ bare_plan plan.now) }
 {
     plan.limits();
-    let lists = blank_nodes(alloc, plan.nodes(), steps)?;
+    let lists = empty_lists(alloc, plan.nodes(), 0)?;
     let strikes = copied_strikes(alloc, plan.strikes())?;
     let turns = Vec::new(alloc);
     Ok(Plan::of(plan.version(), plan.bits(), lists, turns, strikes))

@@ -1,6 +1,6 @@
 //! The plan that a session wrote, as far as it has come.
 
-ghost use Rattle.std.specs.Prelude.{◌≡◌, take, IfOk};
+ghost use Rattle.std.specs.Prelude.{◌≡◌, map, IfOk};
 
 use super::session::Session;
 use can_frame::OutOfMemory;
@@ -9,9 +9,8 @@ use sja_script::{Step, Strike};
 use std::alloc::Global;
 
 impl Session {
-    ghost use Rattle.std.specs.Prelude.{◌≡◌, map, IfOk};
+    ghost use Rattle.std.specs.Prelude.{◌≡◌, IfOk};
     ghost use Rattle.sja_session.specs.Sessions.{written};
-    ghost use Rattle.sja_session.specs.Writing.{done_counts, fronts};
 
     /// The plan so far: the steps that were done, the turns that were taken, and the strikes.
     ///
@@ -19,39 +18,37 @@ impl Session {
     pub fn plan(&self, alloc: Global) -> Result<Plan, OutOfMemory>
         ensures { IfOk result (λ p. p ≡ written self.now) }
     {
-        let nodes = self.done_steps(alloc)?;
+        self.plan.limits();
+        let nodes = copied_steps(alloc, self.steps.as_slice())?;
         let turns = copied_turns(alloc, self.turns.as_slice())?;
         let strikes = copied_strikes(alloc, self.plan.strikes())?;
         let bits = self.plan.bits();
         Ok(Plan::of(self.plan.version(), bits, nodes, turns, strikes))
     }
-
-    /// Of each node the steps that were done.
-    ///
-    /// Error: [`OutOfMemory`] where memory was refused.
-    fn done_steps(&self, alloc: Global) -> Result<Vec<Vec<Step>>, OutOfMemory>
-        ensures { IfOk result (λ nodes. map (λ steps. steps.items) nodes.items
-            ≡ fronts (done_counts self.now.run) self.now.plan.nodes) }
-    {
-        let count = self.plan.nodes();
-        let mut nodes = Vec::with_capacity(alloc, count)?;
-        for node in 0..count {
-            let front = first_steps(alloc, self.plan.steps(node), self.done(node))?;
-            nodes.push_reserved(front);
-        }
-        Ok(nodes)
-    }
 }
 
-/// The first so many of these steps.
+/// The same steps of each node.
 ///
 /// Error: [`OutOfMemory`] where memory was refused.
-fn first_steps(alloc: Global, steps: &[Step], count: usize) -> Result<Vec<Step>, OutOfMemory>
-    ensures { IfOk result (λ list. list.items ≡ take count steps.now) }
+pub fn copied_steps(alloc: Global, nodes: &[Vec<Step>]) -> Result<Vec<Vec<Step>>, OutOfMemory>
+    ensures { IfOk result (λ copy. map (λ steps. steps.items) copy.items
+        ≡ map (λ steps. steps.items) nodes.now) }
 {
-    let most = count.min(steps.len());
-    let mut list = Vec::with_capacity(alloc, most)?;
-    for step in &steps[..most] {
+    let mut list = Vec::with_capacity(alloc, nodes.len())?;
+    for steps in nodes {
+        list.push_reserved(copied_list(alloc, steps.as_slice())?);
+    }
+    Ok(list)
+}
+
+/// The same steps.
+///
+/// Error: [`OutOfMemory`] where memory was refused.
+fn copied_list(alloc: Global, steps: &[Step]) -> Result<Vec<Step>, OutOfMemory>
+    ensures { IfOk result (λ list. list.items ≡ steps.now) }
+{
+    let mut list = Vec::with_capacity(alloc, steps.len())?;
+    for step in steps {
         list.push_reserved(step.copy());
     }
     Ok(list)

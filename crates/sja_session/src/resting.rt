@@ -29,7 +29,7 @@ impl Session {
             return Err(TurnsUsed);
         }
         let before = self.run.bits();
-        let at_rest = self.run.rest_turn(&self.plan);
+        let at_rest = self.run.rest_turn();
         let bits = self.run.bits() - before;
         push_bits(&mut self.turns, bits);
         Ok(Rested { bits, at_rest })

@@ -26,7 +26,7 @@ impl Session {
             return Err(TurnsUsed);
         }
         let before = self.run.bits();
-        self.run.bus_turn(&self.plan, count);
+        self.run.bus_turn(count);
         let run = self.run.bits() - before;
         push_bits(&mut self.turns, run);
         Ok(run)

@@ -1,36 +1,42 @@
 //! [`Session`]: a run in one thread, driven call by call.
 
 use super::beginning::check;
+use super::lists::empty_lists;
+use super::plan_so_far::copied_strikes;
 use super::session_fault::SessionFault;
 use super::session_room::SessionRoom;
+use can_frame::OutOfMemory;
 use sja_plan::{Plan, Turn};
-use sja_script::Strike;
+use sja_script::{FaultScript, Step, Strike};
 use sja_serial::SerialRun;
 use std::alloc::Global;
 use std::marker::Model;
 
 /// A run in one thread that its holder drives (this project's own rule).
 ///
-/// Contracts see it as its run, the plan that the run is given, with places for further steps, for how many steps of
-/// each node and how many turns there is room, and the turns that were taken; and say at which deeds of the drivers it
-/// stands. By its invariant it always stands at some, so no call asks anything of its caller.
+/// Contracts see it as its run, the plan that it goes by, without steps and turns, the steps of each node that were
+/// done, for how many of them and how many turns there is room, and the turns that were taken; and say at which deeds
+/// of the drivers it stands. By its invariant it always stands at some, so no call asks anything of its caller.
 #[derive(Drop)]
 pub struct Session {
     pub(crate) run: SerialRun,
     pub(crate) plan: Plan,
+    pub(crate) steps: Vec<Vec<Step>>,
     pub(crate) room: SessionRoom,
     pub(crate) turns: Vec<Turn>,
 }
 
 impl Model for Session {
-    ghost use Rattle.std.specs.Prelude.{vec_capacity};
+    ghost use Rattle.std.specs.Prelude.{map, vec_capacity};
     ghost use Rattle.sja_session.specs.Sessions.{SessionValue, IsSession, session_of};
 
     ghost Value = { SessionValue };
 
-    ghost view = { λ s. session_of s.room s.run s.plan s.turns.items };
+    ghost view = { λ s. session_of s.room s.run s.plan (map (λ steps. steps.items) s.steps.items) s.turns.items };
 
-    ghost invariant = { λ s. IsSession (session_of s.room s.run s.plan s.turns.items) (vec_capacity s.turns) };
+    ghost invariant = { λ s. IsSession
+        (session_of s.room s.run s.plan (map (λ steps. steps.items) s.steps.items) s.turns.items)
+        (map (λ steps. vec_capacity steps) s.steps.items) (vec_capacity s.turns) };
 }
 
 impl Session {
@@ -42,6 +48,7 @@ impl Session {
     ghost use Rattle.sja_session.specs.Beginning.{MayBegin, IsRoom, IsSessionFault, most_room};
     ghost use Rattle.sja_session.specs.Sessions.{IsAt, written};
     ghost use Rattle.sja_session.specs.Stepping.{steps_done_of};
+    ghost use Rattle.sja_session.specs.Inside.Written.{IsBare};
 
     /// A session to which nothing happened, as [`with_room`](Session::with_room) makes it, with room for as much as a
     /// plan of this version has at most: 1,000 steps of each node and 10,000 turns, or 196,605 steps and 200,000 turns
@@ -82,12 +89,33 @@ impl Session {
         ensures err { IfErr result (IsSessionFault version bits nodes room) }
     {
         check(version, bits, nodes, room)?;
-        let plan = Plan::blank(alloc, version, bits, nodes, room.steps)?;
-        let run = SerialRun::new(alloc, &plan)?;
+        let plan = Plan::blank(alloc, version, bits, nodes, 0)?;
+        Ok(Session::over(alloc, plan, room)?)
+    }
+
+    /// A session that goes by this plan, to which nothing happened.
+    ///
+    /// Error: [`OutOfMemory`] where memory was refused.
+    pub(crate) fn over(alloc: Global, plan: Plan, room: SessionRoom) -> Result<Session, OutOfMemory>
+        requires bare { IsBare plan }
+        requires room { IsRoom plan.version room }
+        ensures at { IfOk result (λ s. IsAt s (replicate (length plan.nodes) [])) }
+        ensures bus { IfOk result (λ s. s.run.bus ≡ new_bus plan.strikes plan.bits (length plan.nodes)
+            (replicate (length plan.nodes) room.steps)) }
+        ensures plan { IfOk result (λ s. written s ≡ plan) }
+        ensures room { IfOk result (λ s. s.room ≡ room) }
+    {
+        plan.limits();
+        let nodes = plan.nodes();
+        let script = FaultScript::of(copied_strikes(alloc, plan.strikes())?);
+        let rooms = Vec::from_elem(alloc, room.steps, nodes)?;
+        let run = SerialRun::new(alloc, plan.version(), plan.bits(), rooms, script)?;
+        let steps = empty_lists(alloc, nodes, room.steps)?;
         let turns = Vec::with_capacity(alloc, room.turns as usize + 1)?;
         Ok(Session {
             run,
             plan,
+            steps,
             room,
             turns,
         })
@@ -149,6 +177,6 @@ impl Session {
         requires { node < length self.now.plan.nodes }
         ensures { result ≡ steps_done_of self.now node }
     {
-        self.run.driver(node).log().done().len()
+        self.steps[node].len()
     }
 }

@@ -2,6 +2,7 @@
 
 use super::answered::Answered;
 use super::answers::last_answer;
+use super::lists::push_step;
 use super::session::Session;
 use super::step_fault::StepFault;
 use super::turns::{goes_on_last, push_turn};
@@ -34,11 +35,10 @@ impl Session {
     {
         self.may_step(node)?;
         let place = usize::from(node);
-        let at = self.done(place);
-        self.plan.set_step(place, at, step);
-        if !self.run.try_next(&self.plan, node) {
+        if !self.run.step(node, &step) {
             return Ok(Answered::Waits);
         }
+        push_step(&mut self.steps, place, step);
         push_turn(&mut self.turns, Turn::Node(node, 1));
         match last_answer(&self.run, place) {
             Some(answer) => Ok(Answered::Answer(answer)),

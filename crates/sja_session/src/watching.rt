@@ -62,7 +62,7 @@ impl Session {
             RunsUntilTold self.old self.new result deeds }
         ensures may { MayRun self.new 1 }
     {
-        let run = self.run.bits_until_told(&self.plan, count);
+        let run = self.run.bits_until_told(count);
         push_turn(&mut self.turns, Turn::Bus(run));
         run
     }

@@ -1,14 +1,15 @@
 //! What the words of `run`, `check` and `trace` ask for.
 
-ghost use Rattle.std.specs.Prelude.{◌≡◌, IfOk, option_map};
+ghost use Rattle.std.specs.Prelude.{◌≡◌, IfOk, Some, map, option_map};
 ghost use Rattle.clap.specs.Words.{found_of, rows_of};
-ghost use Rattle.sja_words.specs.Requests.{request_about, request_of};
+ghost use Rattle.sja_words.specs.Requests.{files, request_about, request_of};
 ghost use Rattle.sja_words.specs.Commands.{plan_in};
 
 use super::file_words::FileWords;
 use super::found::texts_at;
 use super::plan_question::PlanQuestion;
-use super::sweep_found::jobs_at;
+use super::sweep_found::number_at;
+use super::sweep_words::MOST_JOBS;
 use super::task::Task;
 use clap::ArgMatches;
 use std::alloc::{AllocError, Global};
@@ -25,16 +26,33 @@ pub(crate) fn plan_task<'a>(
     ensures { IfOk result (λ task. option_map request_of task
         ≡ plan_in question (rows_of (found_of arguments.now))) }
 {
-    let Some(names) = texts_at(arguments, "FILE") else {
-        return Ok(Some(task_about(question)));
-    };
-    match jobs_at(arguments) {
-        Some(jobs) => Ok(Some(Task::Files(FileWords {
+    match (
+        texts_at(arguments, "FILE"),
+        number_at(arguments, "jobs", 1, 1, MOST_JOBS),
+    ) {
+        (Some(names), Some(jobs)) => files_task(alloc, question, jobs, names),
+        (Some(_), None) => Ok(None),
+        (None, _) => Ok(Some(task_about(question))),
+    }
+}
+
+/// The question of the plans in these files, so many at one time.
+fn files_task<'a>(
+    alloc: Global,
+    question: PlanQuestion,
+    jobs: u32,
+    names: &[&'a str],
+) -> Result<Option<Task<'a>>, AllocError>
+    ensures { IfOk result (λ task. option_map request_of task
+        ≡ Some (files question jobs (map (λ name. name.now) names.now))) }
+{
+    match Vec::from_slice(alloc, names) {
+        Ok(names) => Ok(Some(Task::Files(FileWords {
             question,
             jobs,
-            names: Vec::from_slice(alloc, names)?,
+            names,
         }))),
-        None => Ok(None),
+        Err(error) => Err(error),
     }
 }
 

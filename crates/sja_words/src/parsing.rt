@@ -1,19 +1,19 @@
 //! [`parse`]: the words of a command line as a task.
 
 ghost use Rattle.std.specs.Prelude.{◌≡◌, map, IfOk, IfErr, Some};
-ghost use Rattle.clap.specs.Words.{kind_of, subcommand_rows_of};
+ghost use Rattle.clap.specs.Words.{app_of, kind_of, subcommand_rows_of};
 ghost use Rattle.clap.specs.declared.error.kind.ErrorKind.TheVariants as kind;
 ghost use Rattle.sja_words.specs.Requests.{Request, request_of};
 ghost use Rattle.sja_words.specs.Words.{ParsesAs, request_in};
-ghost use Rattle.sja_words.specs.Inside.Parser.{IsAnswer};
+ghost use Rattle.sja_words.specs.CommandLine.{sja_app};
 
 use super::command::sja_command;
 use super::found::task_of;
 use super::refused_text::{refused_text, refused_value};
 use super::task::Task;
 use super::words_fault::WordsFault;
-use clap::ArgMatches;
 use clap::error::{Error, ErrorKind};
+use clap::{ArgMatches, Command};
 use std::alloc::{AllocError, Global};
 use std::convert::AsStr;
 
@@ -26,21 +26,27 @@ pub fn parse<'a, S: AsStr>(alloc: Global, words: &'a [S]) -> Result<Task<'a>, Wo
     ensures refused { (r : Request) → ParsesAs (map S.text words.entry.now) r
         → IfErr result (λ fault. fault ≡ WordsFault.OutOfMemory) }
 {
-    match answer_to(alloc, words)? {
-        Ok(matches) => task_in(alloc, shown_name(words), &matches),
-        Err(error) => Err(fault_in(alloc, words, &error)),
+    match sja_command(alloc) {
+        Ok(command) => parse_by(alloc, command, words),
+        Err(_) => Err(WordsFault::OutOfMemory),
     }
 }
 
-/// What the parser answers to these words.
-fn answer_to<'a, S: AsStr>(
+/// The task that these words ask for, by the parser's command.
+fn parse_by<'a, S: AsStr>(
     alloc: Global,
+    command: Command<'a>,
     words: &'a [S],
-) -> Result<Result<ArgMatches<'a>, Error>, AllocError>
-    ensures { IfOk result (λ answer. IsAnswer (map S.text words.entry.now) answer) }
+) -> Result<Task<'a>, WordsFault>
+    requires { app_of command ≡ sja_app }
+    ensures ok { IfOk result (λ task. ParsesAs (map S.text words.entry.now) (request_of task)) }
+    ensures refused { (r : Request) → ParsesAs (map S.text words.entry.now) r
+        → IfErr result (λ fault. fault ≡ WordsFault.OutOfMemory) }
 {
-    let mut command = sja_command(alloc)?;
-    Ok(command.try_get_matches_from_mut(words))
+    match command.try_get_matches_from(words) {
+        Ok(matches) => task_in(alloc, shown_name(words), &matches),
+        Err(error) => Err(fault_in(alloc, words, &error)),
+    }
 }
 
 /// The task of words that the parser took, under the program's name `program`.

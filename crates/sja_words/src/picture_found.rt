@@ -7,6 +7,7 @@ ghost use Rattle.sja_words.specs.Commands.{candump_in, picture_in};
 
 use super::found::flag_at;
 use super::sweep_found::{number_at, optional_at};
+use super::sweep_words::GREATEST_NUMBER;
 use super::task::Task;
 use clap::ArgMatches;
 
@@ -14,12 +15,18 @@ use clap::ArgMatches;
 pub(crate) fn picture_task<'a>(arguments: &ArgMatches<'a>) -> Option<Task<'a>>
     ensures { option_map request_of result ≡ picture_in (rows_of (found_of arguments.now)) }
 {
-    Some(Task::Picture {
-        first: number_at(arguments, "FROM", 0)?,
-        last: optional_at(arguments, "TO")?,
-        svg: flag_at(arguments, "svg"),
-        threads: flag_at(arguments, "threads"),
-    })
+    match (
+        number_at(arguments, "FROM", 0, 0, GREATEST_NUMBER),
+        optional_at(arguments, "TO", GREATEST_NUMBER),
+    ) {
+        (Some(first), Some(last)) => Some(Task::Picture {
+            first,
+            last,
+            svg: flag_at(arguments, "svg"),
+            threads: flag_at(arguments, "threads"),
+        }),
+        _ => None,
+    }
 }
 
 /// `candump`, with its flags.

@@ -49,17 +49,37 @@ fn text_of(
 ) -> Result<String, AllocError> {
     let name = row.name;
     let shown = format!(in alloc; "{program} {name}")?;
-    error_of(command_of(alloc, row), shown.as_str(), kind, said)?.to_string(alloc)
+    match command_of(alloc, row) {
+        Ok(command) => said_text(alloc, command, shown.as_str(), kind, said),
+        Err(error) => Err(error),
+    }
+}
+
+/// The text of such an error of this command.
+fn said_text<'a>(
+    alloc: Global,
+    command: Command<'a>,
+    shown: &str,
+    kind: ErrorKind,
+    said: &str,
+) -> Result<String, AllocError> {
+    match error_of(command, shown, kind, said) {
+        Ok(error) => error.to_string(alloc),
+        Err(error) => Err(error),
+    }
 }
 
 /// The error, with the usage of the command, which goes by the name `shown` there.
 fn error_of<'a>(
-    command: Result<Command<'a>, AllocError>,
+    command: Command<'a>,
     shown: &str,
     kind: ErrorKind,
     said: &str,
 ) -> Result<Error, AllocError> {
-    command?.bin_name(shown)?.error(kind, said)
+    match command.bin_name(shown) {
+        Ok(mut command) => command.error(kind, said),
+        Err(error) => Err(error),
+    }
 }
 
 /// What the parser said of a value of the command `name`, under the program's name `program`, with the usage of that

@@ -1,10 +1,10 @@
 //! What the words of `sweep` ask for.
 
-ghost use Rattle.std.specs.Prelude.{◌≡◌, ◌≤◌, IfSome, codes, option_map};
+ghost use Rattle.std.specs.Prelude.{◌≡◌, ◌≤◌, IfSome, Some, codes, option_and_then, option_map};
 ghost use Rattle.clap.specs.Words.{first_of, found_of, rows_of};
 ghost use Rattle.sja_words.specs.Values.{flag_in, number_in, number_or, optional_in, second_of};
-ghost use Rattle.sja_words.specs.Requests.{request_of};
-ghost use Rattle.sja_words.specs.Sweeping.{has_no_flag, has_no_number, is_alone, sweep_in, words_in};
+ghost use Rattle.sja_words.specs.Requests.{request_of, sweep};
+ghost use Rattle.sja_words.specs.Sweeping.{has_no_flag, has_no_number, is_alone, struck_by, sweep_in, words_in};
 
 use super::found::{flag_at, text_at};
 use super::sweep_words::{GREATEST_NUMBER, LAST_NODE, MOST_JOBS, SweepWords};
@@ -15,31 +15,60 @@ use clap::ArgMatches;
 pub(crate) fn sweep_task<'a>(arguments: &ArgMatches<'a>) -> Option<Task<'a>>
     ensures { option_map request_of result ≡ sweep_in (rows_of (found_of arguments.now)) }
 {
-    let Some(node) = text_at(arguments, "plan") else {
-        return Some(Task::Sweep(sweep_words(arguments)?));
-    };
-    if !is_alone(arguments) {
-        return None;
+    match text_at(arguments, "plan") {
+        Some(node) if is_alone(arguments) => struck_task(arguments, node),
+        Some(_) => None,
+        None => swept_task(arguments),
     }
-    let node = number_in(node, 0, GREATEST_NUMBER)?;
-    let bit = number_in(second_at(arguments, "plan")?, 0, GREATEST_NUMBER)?;
-    Some(Task::StruckPlan { node, bit })
+}
+
+/// `sweep --plan K B`, of which this is the node.
+fn struck_task<'a>(arguments: &ArgMatches<'a>, node: &str) -> Option<Task<'a>>
+    ensures { option_map request_of result ≡ struck_by (number_in 0 9999999 node.now)
+        (option_and_then (number_in 0 9999999) (second_of (codes "plan") (rows_of (found_of arguments.now)))) }
+{
+    match (
+        number_in(node, 0, GREATEST_NUMBER),
+        second_number(arguments, "plan"),
+    ) {
+        (Some(node), Some(bit)) => Some(Task::StruckPlan { node, bit }),
+        _ => None,
+    }
+}
+
+/// `sweep` without `--plan`.
+fn swept_task<'a>(arguments: &ArgMatches<'a>) -> Option<Task<'a>>
+    ensures { option_map request_of result ≡ option_map sweep (words_in (rows_of (found_of arguments.now))) }
+{
+    match sweep_words(arguments) {
+        Some(words) => Some(Task::Sweep(words)),
+        None => None,
+    }
 }
 
 /// What `sweep` without `--plan` asks for; nothing where an option is no number in its range.
 fn sweep_words<'a>(arguments: &ArgMatches<'a>) -> Option<SweepWords>
     ensures { result ≡ words_in (rows_of (found_of arguments.now)) }
 {
-    Some(SweepWords {
-        node: node_at(arguments)?,
-        first: number_at(arguments, "from", 0)?,
-        last: number_at(arguments, "to", u32::MAX)?,
-        pairs: optional_at(arguments, "pairs")?,
-        jobs: jobs_at(arguments)?,
-        changed: flag_at(arguments, "changed"),
-        rows: flag_at(arguments, "rows"),
-        meant: flag_at(arguments, "yes"),
-    })
+    match (
+        node_at(arguments),
+        number_at(arguments, "from", 0, 0, GREATEST_NUMBER),
+        number_at(arguments, "to", u32::MAX, 0, GREATEST_NUMBER),
+        optional_at(arguments, "pairs", GREATEST_NUMBER),
+        number_at(arguments, "jobs", 1, 1, MOST_JOBS),
+    ) {
+        (Some(node), Some(first), Some(last), Some(pairs), Some(jobs)) => Some(SweepWords {
+            node,
+            first,
+            last,
+            pairs,
+            jobs,
+            changed: flag_at(arguments, "changed"),
+            rows: flag_at(arguments, "rows"),
+            meant: flag_at(arguments, "yes"),
+        }),
+        _ => None,
+    }
 }
 
 /// Whether no option stands beside `--plan`.
@@ -53,11 +82,16 @@ fn is_alone<'a>(arguments: &ArgMatches<'a>) -> bool
 fn has_no_number<'a>(arguments: &ArgMatches<'a>) -> bool
     ensures { result ≡ has_no_number (rows_of (found_of arguments.now)) }
 {
-    text_at(arguments, "only").is_none()
-        && text_at(arguments, "from").is_none()
-        && text_at(arguments, "to").is_none()
-        && text_at(arguments, "pairs").is_none()
-        && text_at(arguments, "jobs").is_none()
+    match (
+        text_at(arguments, "only"),
+        text_at(arguments, "from"),
+        text_at(arguments, "to"),
+        text_at(arguments, "pairs"),
+        text_at(arguments, "jobs"),
+    ) {
+        (None, None, None, None, None) => true,
+        _ => false,
+    }
 }
 
 /// Whether no flag stands.
@@ -71,39 +105,52 @@ fn has_no_flag<'a>(arguments: &ArgMatches<'a>) -> bool
 fn node_at<'a>(arguments: &ArgMatches<'a>) -> Option<Option<u8>>
     ensures { result ≡ optional_in 7 (first_of (codes "only") (rows_of (found_of arguments.now))) }
 {
-    match text_at(arguments, "only") {
-        Some(text) => Some(Some(number_in(text, 0, LAST_NODE)? as u8)),
-        None => Some(None),
+    match optional_at(arguments, "only", LAST_NODE) {
+        Some(Some(node)) => Some(Some(node as u8)),
+        Some(None) => Some(None),
+        None => None,
     }
 }
 
 /// The number of this argument, as that of `--pairs`, how many bits apart two strikes are at most: none where it
-/// doesn't stand, nothing where it is no number up to 9,999,999.
-pub(crate) fn optional_at<'a>(arguments: &ArgMatches<'a>, id: &str) -> Option<Option<u32>>
-    ensures { result ≡ optional_in 9999999 (first_of id.now (rows_of (found_of arguments.now))) }
+/// doesn't stand, nothing where it is no number up to the most one.
+pub(crate) fn optional_at<'a>(
+    arguments: &ArgMatches<'a>,
+    id: &str,
+    most: u32,
+) -> Option<Option<u32>>
+    ensures value { result ≡ optional_in most (first_of id.now (rows_of (found_of arguments.now))) }
+    ensures bound { IfSome result (λ found. IfSome found (λ number. number ≤ most)) }
 {
     match text_at(arguments, id) {
-        Some(text) => Some(Some(number_in(text, 0, GREATEST_NUMBER)?)),
+        Some(text) => optional_of(number_in(text, 0, most)),
         None => Some(None),
     }
 }
 
-/// The number of threads, by `--jobs`: 1 where it doesn't stand, nothing where it is no number from 1 to 64.
-pub(crate) fn jobs_at<'a>(arguments: &ArgMatches<'a>) -> Option<u32>
-    ensures { result ≡ number_or 1 1 64 (first_of (codes "jobs") (rows_of (found_of arguments.now))) }
+/// That a number is there; nothing where it is none.
+fn optional_of(number: Option<u32>) -> Option<Option<u32>>
+    ensures { result ≡ option_map Some number }
 {
-    match text_at(arguments, "jobs") {
-        Some(text) => number_in(text, 1, MOST_JOBS),
-        None => Some(1),
+    match number {
+        Some(number) => Some(Some(number)),
+        None => None,
     }
 }
 
-/// The number of this argument: `otherwise` where it doesn't stand, nothing where it is no number up to 9,999,999.
-pub(crate) fn number_at<'a>(arguments: &ArgMatches<'a>, id: &str, otherwise: u32) -> Option<u32>
-    ensures { result ≡ number_or otherwise 0 9999999 (first_of id.now (rows_of (found_of arguments.now))) }
+/// The number of this argument: `otherwise` where it doesn't stand, nothing where it is no number from the least to the
+/// most one.
+pub(crate) fn number_at<'a>(
+    arguments: &ArgMatches<'a>,
+    id: &str,
+    otherwise: u32,
+    least: u32,
+    most: u32,
+) -> Option<u32>
+    ensures { result ≡ number_or otherwise least most (first_of id.now (rows_of (found_of arguments.now))) }
 {
     match text_at(arguments, id) {
-        Some(text) => number_in(text, 0, GREATEST_NUMBER),
+        Some(text) => number_in(text, least, most),
         None => Some(otherwise),
     }
 }
@@ -119,6 +166,17 @@ fn number_in(text: &str, least: u32, most: u32) -> Option<u32>
         }
         Ok(_) => None,
         Err(_) => None,
+    }
+}
+
+/// The second text of an argument as a number up to 9,999,999.
+fn second_number<'a>(arguments: &ArgMatches<'a>, id: &str) -> Option<u32>
+    ensures { result ≡ option_and_then (number_in 0 9999999)
+        (second_of id.now (rows_of (found_of arguments.now))) }
+{
+    match second_at(arguments, id) {
+        Some(text) => number_in(text, 0, GREATEST_NUMBER),
+        None => None,
     }
 }
 

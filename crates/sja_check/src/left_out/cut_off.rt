@@ -2,7 +2,8 @@
 
 ghost use Rattle.std.specs.Prelude.{◌<◌, length};
 
-use super::super::document::{Document, text_at};
+use super::super::document::Document;
+use super::super::kind::Kind;
 use super::super::outline::Spot;
 use super::super::page::{Page, Piece};
 use super::undone::turns_for;
@@ -15,40 +16,37 @@ pub(crate) fn cut_off(page: &mut Page, document: &Document, plan: &Plan, log: &R
     if log.end() != End::Bits {
         return;
     }
+    let bits = Piece::Number(u64::from(plan.bits()));
     match cut_turn(plan, log) {
-        Some(place) => turn_hints(page, document, plan.bits(), place, plan.turns().len()),
+        Some(place) => turn_hints(page, document, bits, place, plan.turns().len()),
         None => {
             let line = document.line(Spot::Key("bits"));
-            let bits = Piece::Number(u64::from(plan.bits()));
-            page.say(
-                "{}the run was cut off: a turn needed bit {}, and bits = {}",
-                &[line, bits, bits],
-            );
+            let template = "{0}the run was cut off: a turn needed bit {1}, and bits = {1}";
+            page.say(template, &[line, bits]);
         }
     }
 }
 
 /// Says that this turn of so many was cut off, and which turns didn't come.
-fn turn_hints(page: &mut Page, document: &Document, bits: u32, place: usize, turns: usize) {
-    let bits = Piece::Number(u64::from(bits));
-    let text = Piece::Shown(text_at(document.items("turns"), place));
-    let line = document.line(Spot::Item("turns", place));
-    let number = Piece::Number((place as u64).saturating_add(1));
-    page.say(
-        "{}turn {}: {} was cut off: it needed bit {}, and bits = {}",
-        &[line, number, text, bits, bits],
-    );
-    let behind = place.saturating_add(1);
-    let line = document.line(Spot::Item("turns", behind));
-    let (first, last) = (
-        Piece::Number((behind as u64).saturating_add(1)),
-        Piece::Number(turns as u64),
-    );
-    if behind.saturating_add(1) == turns {
-        page.say("{}turn {} didn't come", &[line, first]);
-    } else if behind < turns {
-        page.say("{}turns {} to {} didn't come", &[line, first, last]);
-    }
+fn turn_hints(
+    page: &mut Page,
+    document: &Document,
+    bits: Piece<'static>,
+    place: usize,
+    turns: usize,
+) {
+    let template = "{0}turn {1}: {2} was cut off: it needed bit {4}, and bits = {4}";
+    document.say(page, (Kind::Turn, place), template, [bits; 3]);
+    let next = place.saturating_add(1);
+    let template = if next >= turns {
+        ""
+    } else if next.saturating_add(1) == turns {
+        "{0}turn {1} didn't come"
+    } else {
+        "{0}turns {1} to {4} didn't come"
+    };
+    let last = Piece::Number(turns as u64);
+    document.say(page, (Kind::Turn, next), template, [last; 3]);
 }
 
 /// The turn in which the bits were spent, where it is known: the one turn of `bus` or `rest` behind those that the

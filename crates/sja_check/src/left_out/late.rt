@@ -1,7 +1,7 @@
 //! Strikes past the last bit of a run.
 
-use super::super::document::{Document, text_at};
-use super::super::outline::Spot;
+use super::super::document::Document;
+use super::super::kind::Kind;
 use super::super::page::{Page, Piece};
 use sja_script::Strike;
 
@@ -9,43 +9,26 @@ use sja_script::Strike;
 pub(crate) fn late_strikes(page: &mut Page, document: &Document, strikes: &[Strike], bits: u32) {
     for (place, strike) in strikes.iter().enumerate() {
         let came = times_below(strike, bits);
-        if came < strike.times {
-            late_hint(page, document, place, strike, [came, bits]);
-        }
-    }
-}
-
-/// Says of a strike that so many of its bits came, in a run of so many.
-fn late_hint(page: &mut Page, document: &Document, place: usize, strike: &Strike, run: [u32; 2]) {
-    let line = document.line(Spot::Item("faults", place));
-    let number = Piece::Number((place as u64).saturating_add(1));
-    let text = Piece::Shown(text_at(document.items("faults"), place));
-    let [came, bits] = run;
-    let bits = Piece::Number(u64::from(bits));
-    if strike.times == 1 {
-        page.say(
-            "{}strike {}: {}: bit {} didn't come, the run has {} bits",
-            &[
-                line,
-                number,
-                text,
-                Piece::Number(u64::from(strike.bit)),
-                bits,
-            ],
+        let (template, [first, second]) = if came >= strike.times {
+            ("", [0, 0])
+        } else if strike.times == 1 {
+            (
+                "{0}strike {1}: {2}: bit {4} didn't come, the run has {6} bits",
+                [strike.bit, 0],
+            )
+        } else {
+            let told = [came, strike.times];
+            (
+                "{0}strike {1}: {2}: {4} of its {5} bits came, the run has {6} bits",
+                told,
+            )
+        };
+        let (first, second) = (
+            Piece::Number(u64::from(first)),
+            Piece::Number(u64::from(second)),
         );
-    } else {
-        let (came, times) = (u64::from(came), u64::from(strike.times));
-        page.say(
-            "{}strike {}: {}: {} of its {} bits came, the run has {} bits",
-            &[
-                line,
-                number,
-                text,
-                Piece::Number(came),
-                Piece::Number(times),
-                bits,
-            ],
-        );
+        let told = [first, second, Piece::Number(u64::from(bits))];
+        document.say(page, (Kind::Strike, place), template, told);
     }
 }
 

@@ -26,17 +26,11 @@ pub(crate) fn node_hints(
     let Some(run) = log.nodes().get(node) else {
         return;
     };
-    if !has_start(plan.version(), steps) {
-        let template = if plan.version() < RAW_VERSION {
-            "{}node {} is never started: it has no step \"start\""
-        } else {
-            "{}node {} is never started: it has no step \"start\" or \"write 0 00\""
-        };
-        page.say(
-            template,
-            &[document.line(Spot::Node(node)), Piece::Number(node as u64)],
-        );
-    }
+    let line = document.line(Spot::Node(node));
+    page.say(
+        never_started(plan.version(), steps),
+        &[line, Piece::Number(node as u64)],
+    );
     refused_hints(page, document, plan.version(), node, steps, run.done());
     if run.done().len() < steps.len() {
         undone_hint(
@@ -51,12 +45,16 @@ pub(crate) fn node_hints(
     }
 }
 
-/// Whether one of these steps can start the node.
-fn has_start(version: u8, steps: &[Step]) -> bool {
+/// What is said where none of these steps can start the node; nothing where one can.
+fn never_started(version: u8, steps: &[Step]) -> &'static str {
     for step in steps {
         if can_start(version, step) {
-            return true;
+            return "";
         }
     }
-    false
+    if version < RAW_VERSION {
+        "{0}node {1} is never started: it has no step \"start\""
+    } else {
+        "{0}node {1} is never started: it has no step \"start\" or \"write 0 00\""
+    }
 }

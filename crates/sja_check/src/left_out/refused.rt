@@ -1,7 +1,7 @@
 //! Steps that were refused.
 
-use super::super::document::{Document, text_at};
-use super::super::outline::Spot;
+use super::super::document::Document;
+use super::super::kind::Kind;
 use super::super::page::{Page, Piece};
 use super::remedy::remedy_of;
 use super::starts::Starts;
@@ -24,32 +24,16 @@ pub(crate) fn refused_hints(
         };
         if let StepAnswer::Refused(refusal) = &one.answer {
             let remedy = remedy_of(*refusal, version, step, starts);
-            refused_hint(page, document, [node, place], *refusal, remedy);
+            let told = [
+                Piece::Refused(*refusal),
+                Piece::Text(remedy),
+                Piece::Text(""),
+            ];
+            let template = "{0}node {3}, step {1}: {2} was refused {4}: {5}";
+            document.say(page, (Kind::Step(node), place), template, told);
         }
         starts = starts_after(starts, version, step, &one.answer);
     }
-}
-
-/// Says that a step, of this node and at this place, was refused, and what to do.
-fn refused_hint(
-    page: &mut Page,
-    document: &Document,
-    step: [usize; 2],
-    refusal: Refusal,
-    remedy: &'static str,
-) {
-    let [node, place] = step;
-    page.say(
-        "{}node {}, step {}: {} was refused {}: {}",
-        &[
-            document.line(Spot::Step(node, place)),
-            Piece::Number(node as u64),
-            Piece::Number((place as u64).saturating_add(1)),
-            Piece::Shown(text_at(document.steps(node), place)),
-            Piece::Refused(refusal),
-            Piece::Text(remedy),
-        ],
-    );
 }
 
 /// What the starts of a node are after a step that was answered so.

@@ -1,13 +1,13 @@
 //! Steps that weren't done.
 
-use super::super::document::{Document, text_at};
-use super::super::outline::Spot;
+use super::super::document::Document;
+use super::super::kind::Kind;
 use super::super::page::{Page, Piece};
 use sja_log::End;
 use sja_plan::Turn;
 use sja_script::Step;
 
-/// Says that the first step behind so many wasn't done, and why.
+/// Says that the first step of a node behind so many wasn't done, and why.
 pub(crate) fn undone_hint(
     page: &mut Page,
     document: &Document,
@@ -17,39 +17,35 @@ pub(crate) fn undone_hint(
     done: usize,
     end: End,
 ) {
-    let line = document.line(Spot::Step(node, done));
-    let number = Piece::Number((done as u64).saturating_add(1));
-    let text = Piece::Shown(text_at(document.steps(node), done));
-    let count = steps.len() as u64;
-    let more = count.saturating_sub(done as u64).saturating_sub(1);
+    let more = steps.len().saturating_sub(done).saturating_sub(1) as u64;
     let turned = steps_in_turns(turns, node);
     let lacks = turned <= done as u64;
-    let why = if lacks {
-        [Piece::Number(turned), Piece::Number(count)]
+    let (first, second) = if lacks {
+        (Piece::Number(turned), Piece::Number(steps.len() as u64))
     } else {
-        [
+        (
             Piece::Text(why_undone(steps.get(done), end)),
             Piece::Text(""),
-        ]
+        )
     };
-    let [first, second] = why;
-    let node = Piece::Number(node as u64);
-    let told = [line, node, number, text, Piece::Number(more), first, second];
-    if more > 0 {
-        let template = if lacks {
-            "{}node {}, step {}: {} and {} more weren't done: its turns do {} of {} steps"
-        } else {
-            "{}node {}, step {}: {} and {} more weren't done: {}"
-        };
-        page.say(template, &told);
-        return;
+    let told = [Piece::Number(more), first, second];
+    document.say(
+        page,
+        (Kind::Step(node), done),
+        template_of(lacks, more > 0),
+        told,
+    );
+}
+
+/// What is said where the turns of the node have no more steps, or for another reason, and of more steps or one.
+fn template_of(lacks: bool, is_more: bool) -> &'static str {
+    match (lacks, is_more) {
+        (true, true) =>
+            "{0}node {3}, step {1}: {2} and {4} more weren't done: its turns do {5} of {6} steps",
+        (true, false) => "{0}node {3}, step {1}: {2} wasn't done: its turns do {5} of {6} steps",
+        (false, true) => "{0}node {3}, step {1}: {2} and {4} more weren't done: {5}",
+        (false, false) => "{0}node {3}, step {1}: {2} wasn't done: {5}",
     }
-    let template = if lacks {
-        "{}node {}, step {}: {} wasn't done: its turns do {} of {} steps"
-    } else {
-        "{}node {}, step {}: {} wasn't done: {}"
-    };
-    page.say(template, &[line, node, number, text, first, second]);
 }
 
 /// Why the step behind so many wasn't done in its turn.

@@ -12,15 +12,15 @@ pub(crate) fn too_long(page: &mut Page, bytes: &[u8]) -> bool {
         return false;
     }
     page.say(
-        "the plan has more than {} bytes, the most that a plan may have",
+        "the plan has more than {0} bytes, the most that a plan may have",
         &[Piece::Number(most as u64)],
     );
-    if most == MOST_BYTES && means_version_3(bytes) {
-        page.say(
-            "one of version 3 may have 16777216 where its first line is \"version = 3\" to the byte",
-            &[],
-        );
-    }
+    let more = if most == MOST_BYTES && means_version_3(bytes) {
+        "one of version 3 may have 16777216 where its first line is \"version = 3\" to the byte"
+    } else {
+        ""
+    };
+    page.say(more, &[]);
     true
 }
 
@@ -41,26 +41,23 @@ fn means_version_3(bytes: &[u8]) -> bool {
 
 /// Says which byte is no UTF-8, or that the bytes begin as UTF-16 does.
 pub(crate) fn no_text(page: &mut Page, bytes: &[u8]) -> bool {
-    if bytes.starts_with(b"\xff\xfe") || bytes.starts_with(b"\xfe\xff") {
-        page.say(
+    let Err(fault) = str::from_utf8(bytes) else {
+        return false;
+    };
+    let place = fault.valid_up_to();
+    let byte = bytes.get(place).copied().unwrap_or(0);
+    let (wrong, right) = if bytes.starts_with(b"\xff\xfe") || bytes.starts_with(b"\xfe\xff") {
+        (
             "the plan begins as UTF-16 does (ff fe or fe ff), and is read as UTF-8",
-            &[],
-        );
-        return page.say("save it as UTF-8", &[]);
-    }
-    match str::from_utf8(bytes) {
-        Ok(_) => false,
-        Err(fault) => byte_words(page, bytes, fault.valid_up_to()),
-    }
-}
-
-/// Says that the byte at this place is no UTF-8.
-fn byte_words(page: &mut Page, bytes: &[u8], place: usize) -> bool {
+            "save it as UTF-8",
+        )
+    } else {
+        (
+            "{0}byte {1} is no UTF-8",
+            "save the plan as UTF-8, or write that character in ASCII",
+        )
+    };
     let line = Piece::Line(Some(line_at(bytes, place)));
-    let byte = bytes.get(place..place.saturating_add(1)).unwrap_or(&[]);
-    page.say("{}byte {} is no UTF-8", &[line, Piece::Bytes(byte)]);
-    page.say(
-        "save the plan as UTF-8, or write that character in ASCII",
-        &[],
-    )
+    page.say(wrong, &[line, Piece::Byte(byte)]);
+    page.say(right, &[])
 }

@@ -13,9 +13,11 @@ pub(crate) fn general(page: &mut Page, fault: PlanFault) {
         rule_of(fault),
         &[Piece::Number(first), Piece::Number(second)],
     );
-    if let PlanFault::Key = fault {
-        page.say(KEYS_ARE, &[]);
-    }
+    let more = match fault {
+        PlanFault::Key => KEYS_ARE,
+        _ => "",
+    };
+    page.say(more, &[]);
 }
 
 /// The numbers that a fault has; 0 in place of those that it hasn't.
@@ -39,12 +41,12 @@ fn rule_of(fault: PlanFault) -> &'static str {
         PlanFault::Bits => "bits is from 1 to 200000, or to 2000000 in version 3",
         PlanFault::NodeCount => "a plan has 1 to 8 nodes, each below its own line [[node]]",
         PlanFault::StepCount => "a node has at most 1000 steps, or 65535 in version 3",
-        PlanFault::Step(_, _) => "node {}, step {}: its text says no step",
+        PlanFault::Step(_, _) => "node {0}, step {1}: its text says no step",
         PlanFault::TurnCount => "a plan has at most 10000 turns, or 200000 in version 3",
-        PlanFault::Turn(_) => "turn {}: its text says no turn",
+        PlanFault::Turn(_) => "turn {0}: its text says no turn",
         PlanFault::StrikeCount =>
             "the strikes count at most 1000, or 100000 in version 3: \"K B E T\" counts T, any other 1",
-        PlanFault::Strike(_) => "strike {}: its text says no strike",
+        PlanFault::Strike(_) => "strike {0}: its text says no strike",
         PlanFault::Memory => "memory was refused; the plan itself may be right",
     }
 }

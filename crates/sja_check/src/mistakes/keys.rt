@@ -1,158 +1,113 @@
 //! Keys that are unknown or missing, or have values of the wrong kind.
 
 use super::super::document::{Document, member_of};
-use super::super::near::nearest;
+use super::super::kind::Kind;
 use super::super::outline::Spot;
-use super::super::page::{Page, Piece};
 use super::general::KEYS_ARE;
-use super::node_keys::nodes_key_words;
-use toml::{Table, Value};
+use super::node_keys::of_nodes;
+use super::said::Said;
+use super::values::{kind_of, of_list};
+use toml::Value;
 
 /// All keys of a plan.
-pub(crate) const KEYS: [&str; 5] = ["version", "bits", "node", "turns", "faults"];
+pub(crate) static KEYS: [&str; 5] = ["version", "bits", "node", "turns", "faults"];
 
-/// Says which key is wrong, and what would be right. The keys are judged in the order in which `sja_plan` judges them.
-pub(crate) fn key_words(page: &mut Page, document: &Document) -> bool {
-    unknown_words(page, document)
-        || number_words(page, document, "version", "1")
-        || number_words(
-            page,
-            document,
-            "bits",
-            "2000, how many bits the run has at most",
-        )
-        || nodes_key_words(page, document)
-        || texts_words(page, document, "turns")
-        || texts_words(page, document, "faults")
+/// What faults are called otherwise.
+static FAULTS: [&str; 3] = ["strikes", "strike", "errors"];
+
+/// Which key is wrong, and what would be right. The keys are judged in the order in which `sja_plan` judges them.
+pub(crate) fn of_keys<'a>(document: &'a Document) -> Said<'a> {
+    let mut said = of_unknown(document);
+    if said.is_nothing() {
+        said = of_number(document, "version", "write version = 1");
+    }
+    if said.is_nothing() {
+        let right = "write bits = 2000, how many bits the run has at most";
+        said = of_number(document, "bits", right);
+    }
+    if said.is_nothing() {
+        said = of_nodes(document);
+    }
+    if said.is_nothing() {
+        said = of_texts(document, Kind::Turn);
+    }
+    if said.is_nothing() {
+        said = of_texts(document, Kind::Strike);
+    }
+    said
 }
 
-/// Says that the value of a key isn't a whole number, or that the key is missing.
-fn number_words(page: &mut Page, document: &Document, key: &str, example: &str) -> bool {
-    let line = document.line(Spot::Key(key));
-    match document.value(key) {
-        Some(Value::Integer(_)) => return false,
-        Some(value) => page.say(
-            "{}{} is a whole number, and here it is {}",
-            &[line, Piece::Text(key), Piece::Text(kind_of(value))],
+/// That the value of a key isn't a whole number, or that the key is missing.
+fn of_number<'a>(document: &'a Document, key: &'static str, right: &'static str) -> Said<'a> {
+    let value = document.value(key);
+    if value.is_none() {
+        let said = of_misplaced(document, key);
+        if !said.is_nothing() {
+            return said;
+        }
+    }
+    let (wrong, kind) = match value {
+        Some(Value::Integer(_)) => ("", ""),
+        Some(value) => (
+            "{0}{1} is a whole number, and here it is {2}",
+            kind_of(value),
         ),
-        None if is_misplaced(document, key) && nodes_key_words(page, document) => return true,
-        None => page.say("{}the key \"{}\" is missing", &[line, Piece::Text(key)]),
+        None => ("{0}the key \"{1}\" is missing", ""),
     };
-    page.say("write {} = {}", &[Piece::Text(key), Piece::Text(example)])
+    Said::at(Spot::Key(key), wrong, right, kind)
 }
 
-/// Whether this key stands below a node.
-fn is_misplaced(document: &Document, key: &str) -> bool {
-    for node in document.items("node") {
+/// What is wrong with the nodes where this key stands below one of them.
+fn of_misplaced<'a>(document: &'a Document, key: &str) -> Said<'a> {
+    for node in document.nodes() {
         if member_of(node, key).is_some() {
-            return true;
+            return of_nodes(document);
         }
     }
-    false
+    Said::nothing()
 }
 
-/// Says that the value of a key isn't a list of texts.
-fn texts_words(page: &mut Page, document: &Document, key: &str) -> bool {
-    match document.value(key) {
-        Some(value) => list_words(
-            page,
-            &[document.line(Spot::Key(key)), Piece::Text("")],
-            key,
-            value,
-        ),
-        None => false,
+/// That the value of the key of these texts isn't a list of texts.
+fn of_texts<'a>(document: &'a Document, kind: Kind) -> Said<'a> {
+    match document.value(kind.key()) {
+        Some(value) => of_list(kind, value),
+        None => Said::nothing(),
     }
 }
 
-/// Says that a value isn't a list of texts: that of this key, behind what stands before the key.
-pub(crate) fn list_words<'a>(
-    page: &mut Page,
-    before: &[Piece<'a>; 2],
-    key: &'a str,
-    value: &Value,
-) -> bool {
-    let [line, owner] = *before;
-    let shown = Piece::Text(key);
-    let Value::Array(items) = value else {
-        let kind = Piece::Text(kind_of(value));
-        page.say(
-            "{}{}{} is a list of texts, and here it is {}",
-            &[line, owner, shown, kind],
-        );
-        return page.say(example_of(key), &[]);
+/// That a key is unknown, of the first in the document, and which is meant.
+fn of_unknown<'a>(document: &'a Document) -> Said<'a> {
+    let Some(key) = other_key(document, &document.root, &KEYS, true) else {
+        return Said::nothing();
     };
-    for (place, item) in items.as_slice().iter().enumerate() {
-        if !matches!(item, Value::String(_)) {
-            let (number, kind) = (Piece::Number(place as u64 + 1), Piece::Text(kind_of(item)));
-            page.say(
-                "{}{}{} is a list of texts, and item {} of it is {}",
-                &[line, owner, shown, number, kind],
-            );
-            return page.say(example_of(key), &[]);
-        }
+    let mut said = Said::at(Spot::Key(key), "{0}no key is called <{1}>", KEYS_ARE, "");
+    if key == "steps" {
+        said.told = [
+            "{0}\"steps\" belongs below a [[node]], and not above all of them",
+            "write the line [[node]] before it, once for each node",
+        ];
+    } else if FAULTS.contains(&key) {
+        said.told = [
+            "{0}no key is called <{1}>, did you mean \"faults\"?",
+            KEYS_ARE,
+        ];
+    } else {
+        said.near = ["{0}no key is called <{1}>, did you mean \"{6}\"?", KEYS_ARE];
+        said.names = &KEYS;
     }
-    false
-}
-
-/// What a list of texts looks like at this key.
-fn example_of(key: &str) -> &'static str {
-    match key {
-        "turns" => "write turns = [\"node 0 3\", \"rest\"]",
-        "faults" => "write faults = [\"1 60\"], a text a strike, in quotes",
-        _ => "write steps = [\"start\", \"release\"]",
-    }
-}
-
-/// What kind a value is of, with its article.
-pub(crate) fn kind_of(value: &Value) -> &'static str {
-    match value {
-        Value::String(_) => "a text in quotes",
-        Value::Integer(_) => "a whole number",
-        Value::Float(_) => "a number with a point",
-        Value::Boolean(_) => "true or false",
-        Value::Datetime(_) => "a date or a time",
-        Value::Array(_) => "a list",
-        Value::Table(_) => "a table",
-    }
-}
-
-/// Says that a key is unknown, of the first in the document, and which is meant.
-fn unknown_words(page: &mut Page, document: &Document) -> bool {
-    let Some(table) = &document.table else {
-        return false;
-    };
-    let Some(key) = other_key(document, table, KEYS.as_slice(), true) else {
-        return false;
-    };
-    let line = document.line(Spot::Key(key));
-    let near = match key {
-        "steps" => {
-            page.say(
-                "{}\"steps\" belongs below a [[node]], and not above all of them",
-                &[line],
-            );
-            return page.say("write the line [[node]] before it, once for each node", &[]);
-        }
-        "strikes" | "strike" | "errors" => Some("faults"),
-        _ => nearest(page, key, KEYS.as_slice()),
-    };
-    match near {
-        Some(near) => page.say(
-            "{}no key is called <{}>, did you mean \"{}\"?",
-            &[line, Piece::Text(key), Piece::Text(near)],
-        ),
-        None => page.say("{}no key is called <{}>", &[line, Piece::Text(key)]),
-    };
-    page.say(KEYS_ARE, &[])
+    said
 }
 
 /// The first key of a table that isn't among these: the first in the document, or that of a node in the order of keys.
 pub(crate) fn other_key<'a>(
     document: &Document,
-    table: &'a Table,
+    value: &'a Value,
     known: &[&str],
     is_top: bool,
 ) -> Option<&'a str> {
+    let Value::Table(table) = value else {
+        return None;
+    };
     let mut found = None;
     let mut least = usize::MAX;
     for key in table.keys() {

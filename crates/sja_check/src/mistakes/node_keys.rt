@@ -1,82 +1,67 @@
 //! Nodes that aren't tables with the key `steps` alone.
 
 use super::super::document::{Document, member_of};
-use super::super::near::nearest;
+use super::super::kind::Kind;
 use super::super::outline::Spot;
-use super::super::page::{Page, Piece};
-use super::keys::{KEYS, kind_of, list_words, other_key};
+use super::keys::{KEYS, other_key};
+use super::said::Said;
+use super::values::{kind_of, of_list};
 use toml::Value;
+
+/// All keys of a node.
+static STEPS: [&str; 1] = ["steps"];
 
 /// What a node looks like.
 const NODE_IS: &str =
     "write the line [[node]], and below it steps = [\"start\"], once for each node";
 
-/// Says what is wrong with the key `node`.
-pub(crate) fn nodes_key_words(page: &mut Page, document: &Document) -> bool {
-    let line = document.line(Spot::Key("node"));
-    match document.value("node") {
-        Some(Value::Array(items)) => return items_words(page, document, items.as_slice()),
-        Some(Value::Table(_)) => page.say(
-            "{}[node] makes one table, and nodes are a list: [[node]]",
-            &[line],
-        ),
-        Some(_) => page.say("{}node is a list of tables, one for each node", &[line]),
-        None => page.say("the key \"node\" is missing: there is no node", &[]),
+/// What is wrong with the key `node`.
+pub(crate) fn of_nodes<'a>(document: &'a Document) -> Said<'a> {
+    let wrong = match document.value("node") {
+        Some(Value::Array(_)) => return of_items(document),
+        Some(Value::Table(_)) => "{0}[node] makes one table, and nodes are a list: [[node]]",
+        Some(_) => "{0}node is a list of tables, one for each node",
+        None => "the key \"node\" is missing: there is no node",
     };
-    page.say(NODE_IS, &[])
+    Said::at(Spot::Key("node"), wrong, NODE_IS, "")
 }
 
-/// Says what is wrong with the first node that isn't right.
-fn items_words(page: &mut Page, document: &Document, items: &[Value]) -> bool {
-    for (node, value) in items.iter().enumerate() {
-        if node_words(page, document, node, value) {
-            return true;
+/// What is wrong with the first node that isn't right.
+fn of_items<'a>(document: &'a Document) -> Said<'a> {
+    for (node, value) in document.nodes().iter().enumerate() {
+        let said = of_node(document, node, value);
+        if !said.is_nothing() {
+            return said;
         }
     }
-    false
+    Said::nothing()
 }
 
-/// Says what is wrong with this node.
-fn node_words(page: &mut Page, document: &Document, node: usize, value: &Value) -> bool {
-    let line = document.line(Spot::Node(node));
-    let number = Piece::Number(node as u64);
-    if let Value::Table(table) = value
-        && let Some(key) = other_key(document, table, &["steps"], false)
-    {
-        return key_words(page, document, node, key);
+/// What is wrong with this node.
+fn of_node<'a>(document: &Document, node: usize, value: &'a Value) -> Said<'a> {
+    if let Some(key) = other_key(document, value, &STEPS, false) {
+        return of_key(node, key);
     }
-    match member_of(value, "steps") {
-        Some(steps) => {
-            let line = document.line(Spot::NodeKey(node, "steps"));
-            return list_words(page, &[line, Piece::Node(node)], "steps", steps);
-        }
-        None if matches!(value, Value::Table(_)) => page.say(
-            "{}node {} has no key \"steps\"",
-            &[line, number],
-        ),
-        None => page.say(
-            "{}node {} is a table, and here it is {}",
-            &[line, number, Piece::Text(kind_of(value))],
-        ),
+    if let Some(steps) = member_of(value, "steps") {
+        return of_list(Kind::Step(node), steps);
+    }
+    let wrong = match value {
+        Value::Table(_) => "{0}node {5} has no key \"steps\"",
+        _ => "{0}node {5} is a table, and here it is {2}",
     };
-    page.say(NODE_IS, &[])
+    Said::at(Spot::Node(node), wrong, NODE_IS, kind_of(value))
 }
 
-/// Says that this key of a node isn't `steps`, and what to do with it.
-fn key_words(page: &mut Page, document: &Document, node: usize, key: &str) -> bool {
-    let line = document.line(Spot::NodeKey(node, key));
-    page.say(
-        "{}node {} has the key <{}>, and a node takes \"steps\" alone",
-        &[line, Piece::Number(node as u64), Piece::Text(key)],
-    );
-    if KEYS.as_slice().contains(&key) {
-        return page.say(
-            "what stands below [[node]] is that node's: put {} above the first [[node]]",
-            &[Piece::Text(key)],
-        );
-    }
-    match nearest(page, key, &["steps"]) {
-        Some(_) => page.say("did you mean \"steps\"?", &[]),
-        None => page.say("a note goes into a comment, which begins with #", &[]),
-    }
+/// That this key of a node isn't `steps`, and what to do with it.
+fn of_key<'a>(node: usize, key: &'a str) -> Said<'a> {
+    let wrong = "{0}node {5} has the key <{1}>, and a node takes \"steps\" alone";
+    let right = if KEYS.contains(&key) {
+        "what stands below [[node]] is that node's: put {1} above the first [[node]]"
+    } else {
+        "a note goes into a comment, which begins with #"
+    };
+    let mut said = Said::at(Spot::NodeKey(node, key), wrong, right, "");
+    said.near = [wrong, "did you mean \"steps\"?"];
+    said.names = &STEPS;
+    said
 }

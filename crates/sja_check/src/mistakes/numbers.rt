@@ -1,113 +1,113 @@
 //! Numbers that are out of range, and lists that are too long.
 
 use super::super::document::Document;
+use super::super::kind::Kind;
 use super::super::outline::Spot;
-use super::super::page::{Page, Piece};
 use super::super::texts::strikes_in;
-use sja_plan::{LAST_VERSION, most_bits, most_steps_told, most_strikes, most_turns};
+use super::said::Said;
+use sja_plan::{LAST_VERSION, PlanFault, most_bits, most_steps_told, most_strikes, most_turns};
 use sja_script::MOST_NODES;
 
-/// Says that the version isn't one from 1 to 3.
-pub(crate) fn version_words(page: &mut Page, document: &Document) -> bool {
-    match document.number("version") {
-        Some(version) if version < 1 || version > i64::from(LAST_VERSION) => {
-            let line = document.line(Spot::Key("version"));
-            page.say(
-                "{}version is 1, 2 or 3, and here it is {}",
-                &[line, Piece::Whole(version)],
-            );
-            page.say(
-                "2 has self test, self reception and listen only beside 1; 3 has \"interrupt\" and room for more",
-                &[],
-            )
+/// Which number is out of range, or which list is too long, in a document with this fault.
+pub(crate) fn of_count(document: &Document, fault: PlanFault) -> Said<'static> {
+    let node = crowded(document, most_steps_told(document.version()));
+    let numbers = numbers_of(document, fault, node);
+    let [number, most] = numbers;
+    let least = match fault {
+        PlanFault::Version | PlanFault::Bits | PlanFault::NodeCount => 1,
+        _ => 0,
+    };
+    let wrong = if least <= number && number <= most {
+        ""
+    } else {
+        template_of(fault, number)
+    };
+    let mut said = Said::at(spot_of(fault, number, node), wrong, more_of(fault), "");
+    said.numbers = numbers;
+    said
+}
+
+/// The number that this fault is of, of steps those of this node, and the greatest that there may be. Where a number is
+/// missing, or the fault is of none, they are in range.
+fn numbers_of(document: &Document, fault: PlanFault, node: usize) -> [i64; 2] {
+    let version = document.version();
+    match fault {
+        PlanFault::Version => [
+            document.number("version").unwrap_or(1),
+            i64::from(LAST_VERSION),
+        ],
+        PlanFault::Bits => [
+            document.number("bits").unwrap_or(1),
+            i64::from(most_bits(version)),
+        ],
+        PlanFault::NodeCount => [whole(document.nodes().len()), i64::from(MOST_NODES)],
+        PlanFault::StepCount => {
+            let count = document.values(Kind::Step(node)).len();
+            [whole(count), whole(most_steps_told(version))]
         }
-        _ => false,
+        PlanFault::TurnCount => {
+            let count = document.values(Kind::Turn).len();
+            [whole(count), whole(most_turns(version))]
+        }
+        PlanFault::StrikeCount => {
+            let count = strikes_in(document.values(Kind::Strike));
+            [
+                i64::try_from(count).unwrap_or(i64::MAX),
+                i64::from(most_strikes(version)),
+            ]
+        }
+        _ => [0, 0],
     }
 }
 
-/// Says that the number of bits is out of range.
-pub(crate) fn bits_words(page: &mut Page, document: &Document) -> bool {
-    let most = i64::from(most_bits(document.version()));
-    match document.number("bits") {
-        Some(bits) if bits < 1 || bits > most => page.say(
-            "{}bits is from 1 to {}, and here it is {}",
-            &[
-                document.line(Spot::Key("bits")),
-                Piece::Whole(most),
-                Piece::Whole(bits),
-            ],
-        ),
-        _ => false,
+/// Where it stands.
+fn spot_of(fault: PlanFault, number: i64, node: usize) -> Spot<'static> {
+    match fault {
+        PlanFault::Version => Spot::Key("version"),
+        PlanFault::Bits => Spot::Key("bits"),
+        PlanFault::NodeCount if number == 0 => Spot::Key("node"),
+        PlanFault::NodeCount => Spot::Node(usize::from(MOST_NODES)),
+        PlanFault::StepCount => Spot::NodeKey(node, "steps"),
+        PlanFault::TurnCount => Spot::Key("turns"),
+        _ => Spot::Key("faults"),
     }
 }
 
-/// Says that there is no node, or that there are too many.
-pub(crate) fn nodes_words(page: &mut Page, document: &Document) -> bool {
-    let count = document.items("node").len();
-    let most = usize::from(MOST_NODES);
-    if count == 0 {
-        return page.say(
-            "{}the plan has no node, and at least one is needed: [[node]]",
-            &[document.line(Spot::Key("node"))],
-        );
-    }
-    let line = document.line(Spot::Node(most));
-    count > most
-        && page.say(
-            "{}the first node too many: the plan has {}, and at most {}",
-            &[
-                line,
-                Piece::Number(count as u64),
-                Piece::Number(most as u64),
-            ],
-        )
+/// A count as a whole number.
+fn whole(count: usize) -> i64 {
+    i64::try_from(count).unwrap_or(i64::MAX)
 }
 
-/// Says that a node has too many steps.
-pub(crate) fn steps_words(page: &mut Page, document: &Document) -> bool {
-    let most = most_steps_told(document.version());
-    for node in 0..document.items("node").len() {
-        let count = document.steps(node).len();
-        if count > most {
-            return page.say(
-                "{}node {} has {} steps, and a node has at most {}",
-                &[
-                    document.line(Spot::NodeKey(node, "steps")),
-                    Piece::Number(node as u64),
-                    Piece::Number(count as u64),
-                    Piece::Number(most as u64),
-                ],
-            );
+/// The first node with more steps than these; 0 where none has.
+fn crowded(document: &Document, most: usize) -> usize {
+    for node in 0..document.nodes().len() {
+        if document.values(Kind::Step(node)).len() > most {
+            return node;
         }
     }
-    false
+    0
 }
 
-/// Says that there are too many turns.
-pub(crate) fn turns_words(page: &mut Page, document: &Document) -> bool {
-    let count = document.items("turns").len();
-    let most = most_turns(document.version());
-    let line = document.line(Spot::Key("turns"));
-    count > most
-        && page.say(
-            "{}there are {} turns, and a plan has at most {}",
-            &[
-                line,
-                Piece::Number(count as u64),
-                Piece::Number(most as u64),
-            ],
-        )
+/// What is said of a number with this fault.
+fn template_of(fault: PlanFault, number: i64) -> &'static str {
+    match fault {
+        PlanFault::Version => "{0}version is 1, 2 or 3, and here it is {3}",
+        PlanFault::Bits => "{0}bits is from 1 to {4}, and here it is {3}",
+        PlanFault::NodeCount if number == 0 =>
+            "{0}the plan has no node, and at least one is needed: [[node]]",
+        PlanFault::NodeCount => "{0}the first node too many: the plan has {3}, and at most {4}",
+        PlanFault::StepCount => "{0}node {5} has {3} steps, and a node has at most {4}",
+        PlanFault::TurnCount => "{0}there are {3} turns, and a plan has at most {4}",
+        _ => "{0}the strikes count {3}, and at most {4}",
+    }
 }
 
-/// Says that the strikes count too many.
-pub(crate) fn strikes_words(page: &mut Page, document: &Document) -> bool {
-    let count = strikes_in(document.items("faults"));
-    let most = u64::from(most_strikes(document.version()));
-    let line = document.line(Spot::Key("faults"));
-    count > most
-        && page.say(
-            "{}the strikes count {}, and at most {}",
-            &[line, Piece::Number(count), Piece::Number(most)],
-        )
-        && page.say("\"K B E T\" counts T, and any other text counts 1", &[])
+/// What else is said of it.
+fn more_of(fault: PlanFault) -> &'static str {
+    match fault {
+        PlanFault::Version =>
+            "2 has self test, self reception and listen only beside 1; 3 has \"interrupt\" and room for more",
+        PlanFault::StrikeCount => "\"K B E T\" counts T, and any other text counts 1",
+        _ => "",
+    }
 }

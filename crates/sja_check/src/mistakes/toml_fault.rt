@@ -12,7 +12,7 @@ struct Fault {
 }
 
 /// The faults whose names are too long for a line, or that have an advice.
-const FAULTS: [Fault; 9] = [
+static FAULTS: [Fault; 9] = [
     Fault {
         message: "invalid key, expected letters, numbers, `-`, `_` or a quoted key",
         short: "a key is expected here",
@@ -76,25 +76,42 @@ pub(crate) fn no_toml(page: &mut Page, bytes: &[u8]) -> bool {
 
 /// Says the fault at this place that `toml` names so.
 fn fault_words(page: &mut Page, bytes: &[u8], place: usize, message: &str) -> bool {
-    let (mut short, mut advice) = (message, "");
-    for fault in FAULTS.as_slice() {
-        if fault.message == message {
-            (short, advice) = (fault.short, fault.advice);
-        }
-    }
+    let (short, advice) = known_of(message);
+    let template = if short.is_empty() {
+        "line {0}, column {1}: no TOML: {2}"
+    } else {
+        "line {0}, column {1}: no TOML: {3}"
+    };
     page.say(
-        "line {}, column {}: no TOML: {}",
+        template,
         &[
             Piece::Number(line_at(bytes, place) as u64),
             Piece::Number(column_at(bytes, place) as u64),
+            Piece::Text(message),
             Piece::Text(short),
         ],
     );
-    match bytes.get(place..).unwrap_or(&[]) {
-        [b'/', b'/', ..] | [b';', ..] => page.say("a comment begins with #", &[]),
-        behind if advice.is_empty() => near_text(page, behind),
-        _ => page.say(advice, &[]),
+    let behind = bytes.get(place..).unwrap_or(&[]);
+    page.say(advice_at(behind, advice), &[]) || near_text(page, behind)
+}
+
+/// What to look for where this stands at the place, and this is the advice of the fault.
+fn advice_at(behind: &[u8], advice: &'static str) -> &'static str {
+    if behind.starts_with(b"//") || behind.starts_with(b";") {
+        "a comment begins with #"
+    } else {
+        advice
     }
+}
+
+/// The short name and the advice of the fault that `toml` names so; nothing where it isn't among these.
+fn known_of(message: &str) -> (&'static str, &'static str) {
+    for fault in &FAULTS {
+        if fault.message == message {
+            return (fault.short, fault.advice);
+        }
+    }
+    ("", "")
 }
 
 /// Says what is written at a place.
@@ -104,7 +121,7 @@ fn near_text(page: &mut Page, behind: &[u8]) -> bool {
         return page.say("the line ends there", &[]);
     }
     match String::from_utf8_lossy(page.alloc, near) {
-        Ok(near) => page.say("there stands <{}>", &[Piece::Text(near.as_str())]),
+        Ok(near) => page.say("there stands <{0}>", &[Piece::Text(near.as_str())]),
         Err(_) => page.refuse(),
     }
 }

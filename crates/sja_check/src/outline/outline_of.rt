@@ -1,5 +1,6 @@
 //! [`Outline`]: in which line each key, node and text of a plan's document stands.
 
+use super::super::kind::Kind;
 use super::entry::Entry;
 use super::line::line_at;
 use super::pieces::end_of_piece;
@@ -9,21 +10,18 @@ use std::alloc::{AllocError, Global};
 
 /// A document with its pieces, its keys, and at which pieces the headers of nodes have their names.
 #[derive(Drop)]
-pub(crate) struct Outline<'a> {
-    bytes: &'a [u8],
+pub(crate) struct Outline {
+    bytes: Vec<u8>,
     tokens: Vec<Token>,
     entries: Vec<Entry>,
     headers: Vec<usize>,
 }
 
-impl<'a> Outline<'a> {
+impl Outline {
     /// The outline of a document that isn't read yet.
-    pub(crate) fn new(alloc: Global, bytes: &'a [u8]) -> Outline<'a> {
+    pub(crate) fn new(alloc: Global) -> Outline {
         Outline {
-            bytes: match bytes {
-                [0xef, 0xbb, 0xbf, behind @ ..] => behind,
-                _ => bytes,
-            },
+            bytes: Vec::new(alloc),
             tokens: Vec::new(alloc),
             entries: Vec::new(alloc),
             headers: Vec::new(alloc),
@@ -33,22 +31,26 @@ impl<'a> Outline<'a> {
     /// Reads the document.
     ///
     /// Error: memory was refused.
-    pub(crate) fn read(&mut self) -> Result<(), AllocError> {
-        self.read_pieces()?;
+    pub(crate) fn read(&mut self, bytes: &[u8]) -> Result<(), AllocError> {
+        let bytes = bytes.strip_prefix(b"\xef\xbb\xbf").unwrap_or(bytes);
+        self.read_pieces(bytes)?;
+        self.bytes.extend_from_slice(bytes)?;
         self.read_keys()
     }
 
     /// The line of this.
     pub(crate) fn line_of(&self, spot: Spot) -> Option<usize> {
         let place = self.place_of(spot)?;
-        Some(line_at(self.bytes, self.tokens.as_slice().get(place)?.start))
+        Some(line_at(
+            self.bytes.as_slice(),
+            self.tokens.as_slice().get(place)?.start,
+        ))
     }
 
     /// Finds the pieces of the document.
     ///
     /// Error: memory was refused.
-    fn read_pieces(&mut self) -> Result<(), AllocError> {
-        let bytes = self.bytes;
+    fn read_pieces(&mut self, bytes: &[u8]) -> Result<(), AllocError> {
         let mut end = 0;
         for (start, first) in bytes.iter().enumerate() {
             let first = *first;
@@ -105,8 +107,8 @@ impl<'a> Outline<'a> {
             Spot::Key(key) => self.key(None, key),
             Spot::Node(node) => self.node(node),
             Spot::NodeKey(node, key) => self.key(Some(node), key).or(self.node(node)),
-            Spot::Item(key, number) => self.item(self.value(None, key), number, None),
-            Spot::Step(node, number) => self.item(self.steps(node), number, None),
+            Spot::Text(Kind::Step(node), number) => self.item(self.steps(node), number, None),
+            Spot::Text(kind, number) => self.item(self.value(None, kind.key()), number, None),
         }
     }
 
@@ -204,7 +206,7 @@ impl<'a> Outline<'a> {
     /// Whether the piece at this place is this key.
     fn says(&self, place: usize, key: &str) -> bool {
         match self.tokens.as_slice().get(place) {
-            Some(token) => token.says(self.bytes, key),
+            Some(token) => token.says(self.bytes.as_slice(), key),
             None => false,
         }
     }

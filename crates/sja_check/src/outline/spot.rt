@@ -1,6 +1,8 @@
 //! [`Spot`]: something in a plan's document that has a line.
 
-/// Something in a plan's document that has a line. Nodes and the items of lists count from 0.
+use super::super::kind::Kind;
+
+/// Something in a plan's document that has a line. Nodes and texts count from 0.
 #[derive(Clone, Copy)]
 pub(crate) enum Spot<'a> {
     /// A key above all headers, or the first header with this name.
@@ -9,8 +11,6 @@ pub(crate) enum Spot<'a> {
     Node(usize),
     /// A key of a node; the node where the key isn't found.
     NodeKey(usize, &'a str),
-    /// An item of the list at a key above all headers.
-    Item(&'a str, usize),
-    /// A step of a node.
-    Step(usize, usize),
+    /// The text of this kind and number.
+    Text(Kind, usize),
 }

@@ -8,9 +8,9 @@ use std::alloc::{AllocError, Global};
 /// How many characters of a value are shown at least, however long what stands about it is (this project's own rule).
 const LEAST_SHOWN: usize = 8;
 
-/// A line that is written from a template: `{}` is a gap for a piece, and `<` and `>` stand about a value, which is
-/// shown in quotes. The value is cut, with `..` at its end, where the line would have more than 100 characters. A
-/// character that isn't printable ASCII is shown as TOML escapes it.
+/// A line that is written from a template: `{0}` to `{9}` are gaps for the pieces, and `<` and `>` stand about a value,
+/// which is shown in quotes. The value is cut, with `..` at its end, where the line would have more than 100
+/// characters. A character that isn't printable ASCII is shown as TOML escapes it.
 #[derive(Drop)]
 pub(crate) struct Line {
     pub(crate) text: String,
@@ -52,20 +52,23 @@ impl Line {
 
     /// Writes a template with pieces in its gaps.
     fn write(&mut self, template: &str, pieces: &[Piece]) {
-        let mut gap = 0usize;
+        let mut is_gap = false;
         for character in template.chars() {
             match character {
                 '<' => self.open(),
                 '>' => self.close(),
-                '{' => {}
-                '}' => {
-                    if let Some(piece) = pieces.get(gap) {
-                        self.piece(*piece);
-                    }
-                    gap = gap.saturating_add(1);
-                }
+                '{' | '}' => is_gap = character == '{',
+                _ if is_gap => self.gap(character, pieces),
                 _ => self.put(character),
             }
+        }
+    }
+
+    /// Fills the gap of this digit.
+    fn gap(&mut self, digit: char, pieces: &[Piece]) {
+        let place = digit.to_digit(10).unwrap_or(0);
+        if let Some(piece) = pieces.get(place as usize) {
+            self.piece(*piece);
         }
     }
 
@@ -80,10 +83,10 @@ impl Line {
                 let sign = if number < 0 { "-" } else { "" };
                 self.number(sign, number.unsigned_abs(), "");
             }
+            Piece::Byte(byte) => self.digits(u32::from(byte), 2),
             Piece::Bytes(bytes) => self.bytes(bytes),
             Piece::Line(Some(line)) => self.number("line ", line as u64, ": "),
             Piece::Line(None) => {}
-            Piece::Node(node) => self.number("node ", node as u64, ": "),
             Piece::Shown(None) => self.text("it"),
             Piece::Shown(Some(text)) => {
                 self.open();

@@ -15,12 +15,12 @@ pub(crate) enum Piece<'a> {
     Number(u64),
     /// A whole number of the document.
     Whole(i64),
+    /// A byte, in two hexadecimal digits.
+    Byte(u8),
     /// Bytes, each in two hexadecimal digits.
     Bytes(&'a [u8]),
     /// The line that something stands in, as `line 3: `; nothing where it isn't known.
     Line(Option<usize>),
-    /// A node, as `node 0: `.
-    Node(usize),
     /// A text of the document in quotes, or `it` where it isn't known.
     Shown(Option<&'a str>),
     /// Why a step was refused.

@@ -3,8 +3,6 @@
 /// What a word of a text is to be.
 #[derive(Clone, Copy)]
 pub(crate) enum Argument {
-    /// There is no such word.
-    Nothing,
     /// The number of a node.
     Node,
     /// The address of a register.

@@ -1,14 +1,15 @@
 //! Whether words are what a form wants.
 
-use super::super::near::nearest;
 use super::super::page::{Page, Piece};
 use super::argument::Argument;
 use super::form::Form;
 use super::message::message_words;
-use super::number::{before, behind, node_words, number_words, value_words, word_at};
+use super::number::{
+    digits_fault, node_fault, number_fault, value_fault, without_prefix, wrong_digit,
+};
 
 /// The registers by their names, with their addresses (SJA1000 data sheet, 6.4.3).
-const REGISTERS: [(&str, u64); 11] = [
+static REGISTERS: [(&str, u32); 11] = [
     ("MOD", 0),
     ("CMR", 1),
     ("SR", 2),
@@ -29,18 +30,43 @@ pub(crate) fn form_words<'a>(
     nodes: usize,
     words: &'a [&'a str],
 ) -> bool {
-    if words.len() != form.words {
-        if form.name == "load" && words.len() > form.words {
-            let bytes = Piece::Words("", words.get(1..).unwrap_or(&[]), "");
-            return page.say("the bytes stand without spaces: <load {}>", &[bytes]);
-        }
-        return page.say(form.usage, &[Piece::Text(form.name)]);
-    }
-    let [first, second] = form.arguments;
-    argument_words(page, first, nodes, words, 1) || argument_words(page, second, nodes, words, 2)
+    let count = form.arguments.len().saturating_add(1);
+    let template = if words.len() == count {
+        ""
+    } else if form.name == "load" && words.len() > count {
+        "the bytes stand without spaces: <load {1}>"
+    } else {
+        form.usage
+    };
+    page.say(
+        template,
+        &[
+            Piece::Text(form.name),
+            Piece::Words("", words.get(1..).unwrap_or(&[]), ""),
+        ],
+    ) || arguments_words(page, form.arguments, nodes, words)
 }
 
-/// Says why the word at this place isn't what it is to be; false where it is.
+/// Says which word behind the first isn't what it is to be; false where each is.
+fn arguments_words<'a>(
+    page: &mut Page,
+    arguments: &[Argument],
+    nodes: usize,
+    words: &'a [&'a str],
+) -> bool {
+    let mut place = 1usize;
+    for argument in arguments {
+        if argument_words(page, *argument, nodes, words, place) {
+            return true;
+        }
+        place = place.saturating_add(1);
+    }
+    false
+}
+
+/// Says why the word at this place isn't what it is to be; false where it is. `{0}` is the word, `{1}` and `{2}` are
+/// the words before and behind it, `{3}` are its digits without `0x`, `{4}` is the name of what it is to be, from `{5}`
+/// to `{6}`, `{7}` is the number that is meant, of `{8}` nodes, and `{9}` its first character that is no digit.
 pub(crate) fn argument_words<'a>(
     page: &mut Page,
     argument: Argument,
@@ -51,55 +77,78 @@ pub(crate) fn argument_words<'a>(
     if place >= words.len() {
         return false;
     }
-    match argument {
-        Argument::Nothing => false,
-        Argument::Node => node_words(page, nodes, words[place]),
-        Argument::Address => register_words(page, words, place)
-            || number_words(page, ("ADDRESS", 0, 255), words, place),
-        Argument::Value => value_words(page, words, place),
-        Argument::Message => message_words(page, words[place]),
-        Argument::Number(name, least, most) => number_words(
-            page,
-            (name, least, most),
-            words,
-            place,
-        ),
+    let word = words[place];
+    let (template, number) = fault_of(argument, nodes, word);
+    let (name, least, most) = bounds_of(argument, nodes);
+    let digits = without_prefix(word);
+    let pieces = [
+        Piece::Text(word),
+        before(words, place),
+        behind(words, place),
+        Piece::Text(digits),
+        Piece::Text(name),
+        Piece::Number(least),
+        Piece::Number(most),
+        Piece::Number(u64::from(number)),
+        Piece::Number(nodes as u64),
+        wrong_in(digits),
+    ];
+    let is_message = matches!(argument, Argument::Message);
+    page.say(template, &pieces) || (is_message && message_words(page, word))
+}
+
+/// The word at this place; none where there are fewer.
+pub(crate) fn word_at<'a>(words: &'a [&'a str], place: usize) -> &'a str {
+    match words.get(place) {
+        Some(word) => word,
+        None => "",
     }
 }
 
-/// Says which address is meant, where the word at this place is a register's name.
-fn register_words<'a>(page: &mut Page, words: &'a [&'a str], place: usize) -> bool {
-    for register in REGISTERS.as_slice() {
-        if register.0 == word_at(words, place) {
-            let (before, behind) = (before(words, place), behind(words, place));
-            return page.say(
-                "a register goes by its address, in decimal: <{}{}{}>",
-                &[before, Piece::Number(register.1), behind],
+/// The words before this place, each with a space behind it.
+fn before<'a>(words: &'a [&'a str], place: usize) -> Piece<'a> {
+    Piece::Words("", words.get(..place).unwrap_or(&[]), " ")
+}
+
+/// The words behind this place, each with a space before it.
+pub(crate) fn behind<'a>(words: &'a [&'a str], place: usize) -> Piece<'a> {
+    Piece::Words(" ", words.get(place.saturating_add(1)..).unwrap_or(&[]), "")
+}
+
+/// The first character that is no hexadecimal digit; a space where there is none.
+fn wrong_in(digits: &str) -> Piece<'static> {
+    Piece::Character(wrong_digit(digits, false).unwrap_or(' '))
+}
+
+/// What is wrong with a word that is to be this.
+fn fault_of(argument: Argument, nodes: usize, word: &str) -> (&'static str, u32) {
+    match argument {
+        Argument::Node => node_fault(nodes, word),
+        Argument::Address => address_fault(word),
+        Argument::Value => (value_fault(word), 0),
+        Argument::Message => digits_fault(word),
+        Argument::Number(_, least, most) => number_fault(least, most, word),
+    }
+}
+
+/// The name of a number that is to be this, and from where to where it is.
+fn bounds_of(argument: Argument, nodes: usize) -> (&'static str, u64, u64) {
+    match argument {
+        Argument::Number(name, least, most) => (name, u64::from(least), u64::from(most)),
+        Argument::Address => ("ADDRESS", 0, 255),
+        _ => ("", 0, (nodes as u64).saturating_sub(1)),
+    }
+}
+
+/// What is wrong with a word that is to be the address of a register.
+fn address_fault(word: &str) -> (&'static str, u32) {
+    for register in &REGISTERS {
+        if register.0 == word {
+            return (
+                "a register goes by its address, in decimal: <{1}{7}{2}>",
+                register.1,
             );
         }
     }
-    false
-}
-
-/// Says what is known of a name: of these names, each with what is said of it, the first that it is.
-pub(crate) fn known_words(page: &mut Page, known: &[(&str, &str)], name: &str) -> bool {
-    for row in known {
-        if row.0 == name {
-            return page.say(row.1, &[Piece::Text(name)]);
-        }
-    }
-    false
-}
-
-/// Says which of these names is nearest to one, where one is near.
-pub(crate) fn near_words(
-    page: &mut Page,
-    template: &str,
-    name: &str,
-    names: &[&'static str],
-) -> bool {
-    match nearest(page, name, names) {
-        Some(near) => page.say(template, &[Piece::Text(name), Piece::Text(near)]),
-        None => false,
-    }
+    number_fault(0, 255, word)
 }

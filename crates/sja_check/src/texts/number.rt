@@ -1,72 +1,40 @@
 //! Words that are to be numbers.
+//!
+//! What is wrong with a word is a template, empty where nothing is, with the number that is meant. `argument_words`
+//! says what its gaps are.
 
-use super::super::page::{Page, Piece};
 use sja_plan::{GREATEST_NUMBER, MOST_DIGITS, number_within};
 
 /// The number that a word spells with one to seven decimal digits.
 pub(crate) fn number_in(word: &str) -> Option<u32> {
-    match number_within(word, 0, GREATEST_NUMBER) {
-        Ok(number) => Some(number),
-        Err(_) => None,
-    }
+    number_within(word, 0, GREATEST_NUMBER).ok()
 }
 
-/// The word at this place; none where there are fewer.
-pub(crate) fn word_at<'a>(words: &'a [&'a str], place: usize) -> &'a str {
-    match words.get(place) {
-        Some(word) => word,
-        None => "",
-    }
+/// What is wrong with a word that is to be a number from where to where.
+pub(crate) fn number_fault(least: u32, most: u32, word: &str) -> (&'static str, u32) {
+    let (number, is_decimal) = match number_in(word) {
+        Some(number) => (Some(number), true),
+        None => (hexadecimal_in(word), false),
+    };
+    let Some(number) = number else {
+        return (no_number_fault(word), 0);
+    };
+    let is_within = least <= number && number <= most;
+    let template = match (is_decimal, is_within) {
+        (true, true) => "",
+        (true, false) => "{4} is from {5} to {6}, and here it is {7}",
+        (false, true) => "numbers are decimal, without 0x: <{1}{7}{2}>",
+        (false, false) => "numbers are decimal, without 0x",
+    };
+    (template, number)
 }
 
-/// The words before this place, each with a space behind it.
-pub(crate) fn before<'a>(words: &'a [&'a str], place: usize) -> Piece<'a> {
-    Piece::Words("", words.get(..place).unwrap_or(&[]), " ")
-}
-
-/// The words behind this place, each with a space before it.
-pub(crate) fn behind<'a>(words: &'a [&'a str], place: usize) -> Piece<'a> {
-    Piece::Words(" ", words.get(place.saturating_add(1)..).unwrap_or(&[]), "")
-}
-
-/// Says why the word at this place isn't a number of this name, from where to where; false where it is.
-pub(crate) fn number_words<'a>(
-    page: &mut Page,
-    wanted: (&'static str, u32, u32),
-    words: &'a [&'a str],
-    place: usize,
-) -> bool {
-    let (name, least, most) = wanted;
-    let word = word_at(words, place);
-    let (from, to) = (
-        Piece::Number(u64::from(least)),
-        Piece::Number(u64::from(most)),
-    );
-    if let Some(number) = number_in(word) {
-        let number_is = Piece::Number(u64::from(number));
-        return (number < least || number > most)
-            && page.say(
-                "{} is from {} to {}, and here it is {}",
-                &[Piece::Text(name), from, to, number_is],
-            );
+/// What is wrong with a word that spells no number.
+fn no_number_fault(word: &str) -> &'static str {
+    match wrong_digit(word, true) {
+        None => "a number has one to seven digits",
+        Some(_) => "{4} is a number from {5} to {6}, in digits alone, and not <{0}>",
     }
-    if let Some(number) = hexadecimal_in(word) {
-        if number < least || number > most {
-            return page.say("numbers are decimal, without 0x", &[]);
-        }
-        let number = Piece::Number(u64::from(number));
-        return page.say(
-            "numbers are decimal, without 0x: <{}{}{}>",
-            &[before(words, place), number, behind(words, place)],
-        );
-    }
-    if wrong_digit(word, true).is_none() {
-        return page.say("a number has one to seven digits", &[]);
-    }
-    page.say(
-        "{} is a number from {} to {}, in digits alone, and not <{}>",
-        &[Piece::Text(name), from, to, Piece::Text(word)],
-    )
 }
 
 /// The number that a word spells with hexadecimal digits, with or without `0x` before them.
@@ -81,20 +49,12 @@ fn hexadecimal_in(word: &str) -> Option<u32> {
 /// The first character of a word that is no digit, decimal or hexadecimal.
 pub(crate) fn wrong_digit(word: &str, is_decimal: bool) -> Option<char> {
     for character in word.chars() {
-        if !is_digit(character, is_decimal) {
+        let radix = if is_decimal { 10 } else { 16 };
+        if !character.is_digit(radix) {
             return Some(character);
         }
     }
     None
-}
-
-/// Whether a character is a digit, decimal or hexadecimal.
-fn is_digit(character: char, is_decimal: bool) -> bool {
-    if is_decimal {
-        character.is_ascii_digit()
-    } else {
-        character.is_ascii_hexdigit()
-    }
 }
 
 /// The word without the `0x` or `0X` that it begins with.
@@ -105,48 +65,63 @@ pub(crate) fn without_prefix(word: &str) -> &str {
     }
 }
 
-/// Says why a word names no node of so many; false where it does.
-pub(crate) fn node_words(page: &mut Page, nodes: usize, word: &str) -> bool {
+/// What is wrong with a word that is to be one of so many nodes.
+pub(crate) fn node_fault(nodes: usize, word: &str) -> (&'static str, u32) {
     let Some(node) = number_in(word) else {
-        return page.say(
-            "K is the number of a node, counted from 0, and not <{}>",
-            &[Piece::Text(word)],
+        return (
+            "K is the number of a node, counted from 0, and not <{0}>",
+            0,
         );
     };
     if (node as usize) < nodes {
-        return false;
+        return ("", 0);
     }
-    let node = Piece::Number(u64::from(node));
     if nodes <= 1 {
-        return page.say(
-            "there is no node {}: the plan has one node, and its number is 0",
-            &[node],
+        return (
+            "there is no node {7}: the plan has one node, and its number is 0",
+            node,
         );
     }
-    page.say(
-        "there is no node {}: the plan has {} nodes, counted from 0 to {}",
-        &[
-            node,
-            Piece::Number(nodes as u64),
-            Piece::Number(nodes as u64 - 1),
-        ],
+    (
+        "there is no node {7}: the plan has {8} nodes, counted from 0 to {6}",
+        node,
     )
 }
 
-/// Says why the word at this place isn't two hexadecimal digits; false where it is.
-pub(crate) fn value_words<'a>(page: &mut Page, words: &'a [&'a str], place: usize) -> bool {
-    let word = word_at(words, place);
+/// What is wrong with a word that is to be two hexadecimal digits.
+pub(crate) fn value_fault(word: &str) -> &'static str {
     let digits = without_prefix(word);
     if wrong_digit(digits, false).is_some() || digits.is_empty() || digits.len() > 2 {
-        return page.say(
-            "a VALUE is two hexadecimal digits, 00 to ff, and not <{}>",
-            &[Piece::Text(word)],
+        return "a VALUE is two hexadecimal digits, 00 to ff, and not <{0}>";
+    }
+    if word.len() == 2 {
+        return "";
+    }
+    if digits.len() == 1 {
+        return "a VALUE is two hexadecimal digits without 0x: <{1}0{3}>";
+    }
+    "a VALUE is two hexadecimal digits without 0x: <{1}{3}>"
+}
+
+/// What is wrong with a word that is to be the bytes of a message, with how many digits it has. Where the digits spell
+/// bytes, or it is in another notation, that isn't judged here.
+pub(crate) fn digits_fault(word: &str) -> (&'static str, u32) {
+    let digits = without_prefix(word);
+    let count = u32::try_from(digits.len()).unwrap_or(u32::MAX);
+    if word.contains('#') {
+        return ("", 0);
+    }
+    if wrong_digit(digits, false).is_some() {
+        return (
+            "a MESSAGE is hexadecimal digits, two a byte, and no digit is <{9}>",
+            0,
         );
     }
-    let zero = if digits.len() == 1 { "0" } else { "" };
-    word.len() != 2
-        && page.say(
-            "a VALUE is two hexadecimal digits without 0x: <{}{}{}>",
-            &[before(words, place), Piece::Text(zero), Piece::Text(digits)],
-        )
+    if digits.len() != word.len() {
+        return ("the bytes stand without 0x: <load {3}>", 0);
+    }
+    if digits.len() % 2 != 0 {
+        return ("two digits are a byte, and here are {7} digits", count);
+    }
+    ("", 0)
 }

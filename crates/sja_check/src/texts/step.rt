@@ -1,103 +1,84 @@
 //! Texts that say no step.
 
-use super::super::page::{Page, Piece};
 use super::argument::Argument;
-use super::form::{Form, form_of};
-use super::judge::{form_words, known_words, near_words};
+use super::form::Form;
 use sja_plan::RAW_VERSION;
 
-/// Nothing stands behind the first word.
-const ALONE: [Argument; 2] = [Argument::Nothing, Argument::Nothing];
-
-/// What is said where something does.
-const ALONE_IS: &str = "this step stands alone: <{}>";
+/// What is said where something stands behind a step that stands alone.
+const ALONE: &str = "this step stands alone: <{0}>";
 
 /// The forms of steps.
-const STEPS: [Form; 11] = [
+pub(crate) static STEPS: [Form; 11] = [
     Form {
         name: "start",
         since: 1,
-        words: 1,
-        arguments: ALONE,
-        usage: ALONE_IS,
+        arguments: &[],
+        usage: ALONE,
     },
     Form {
         name: "stop",
         since: 1,
-        words: 1,
-        arguments: ALONE,
-        usage: ALONE_IS,
+        arguments: &[],
+        usage: ALONE,
     },
     Form {
         name: "window",
         since: 1,
-        words: 1,
-        arguments: ALONE,
-        usage: ALONE_IS,
+        arguments: &[],
+        usage: ALONE,
     },
     Form {
         name: "release",
         since: 1,
-        words: 1,
-        arguments: ALONE,
-        usage: ALONE_IS,
+        arguments: &[],
+        usage: ALONE,
     },
     Form {
         name: "read",
         since: 1,
-        words: 2,
-        arguments: [Argument::Address, Argument::Nothing],
+        arguments: &[Argument::Address],
         usage: "the form is \"read ADDRESS\", the register's address in decimal: \"read 2\"",
     },
     Form {
         name: "write",
         since: 1,
-        words: 3,
-        arguments: [Argument::Address, Argument::Value],
+        arguments: &[Argument::Address, Argument::Value],
         usage: "the form is \"write ADDRESS VALUE\", decimal and two hexadecimal digits: \"write 4 ff\"",
     },
     Form {
         name: "load",
         since: 1,
-        words: 2,
-        arguments: [Argument::Message, Argument::Nothing],
+        arguments: &[Argument::Message],
         usage: "the form is \"load MESSAGE\", the bytes of the transmit buffer: \"load 000000\"",
     },
     Form {
         name: "command",
         since: 1,
-        words: 2,
-        arguments: [Argument::Value, Argument::Nothing],
+        arguments: &[Argument::Value],
         usage: "the form is \"command VALUE\", two hexadecimal digits: \"command 01\"",
     },
     Form {
         name: "await",
         since: 1,
-        words: 2,
-        arguments: [
-            Argument::Number("N of \"await N\"", 1, 21),
-            Argument::Nothing,
-        ],
+        arguments: &[Argument::Number("N of \"await N\"", 1, 21)],
         usage: "the form is \"await N\", N messages from 1 to 21: \"await 2\"",
     },
     Form {
         name: "sent",
         since: 1,
-        words: 1,
-        arguments: ALONE,
-        usage: ALONE_IS,
+        arguments: &[],
+        usage: ALONE,
     },
     Form {
         name: "interrupt",
         since: RAW_VERSION,
-        words: 1,
-        arguments: ALONE,
-        usage: ALONE_IS,
+        arguments: &[],
+        usage: ALONE,
     },
 ];
 
 /// What steps begin with; version 3 alone has the last.
-const NAMES: [&str; 11] = [
+static NAMES: [&str; 11] = [
     "start",
     "stop",
     "window",
@@ -112,7 +93,7 @@ const NAMES: [&str; 11] = [
 ];
 
 /// Words that begin no step, with what is said of them.
-const KNOWN: [(&str, &str); 13] = [
+static KNOWN: [(&str, &str); 13] = [
     (
         "interrupt",
         "a driver waits for its interrupt line in version 3 alone: version = 3",
@@ -136,7 +117,7 @@ const SENDING: &str =
 
 const RECEIVING: &str = "\"await 1\" waits for a message, and \"release\" takes it";
 
-const TURNS: &str = "turns begin so, and stand in the list turns: <{}>";
+const TURNS: &str = "turns begin so, and stand in the list turns: <{0}>";
 
 const WAITING: &str =
     "a driver doesn't wait for bits: the turns \"bus N\" and \"rest\" let them run";
@@ -146,41 +127,27 @@ pub(crate) fn begins_step(version: u8, word: &str) -> bool {
     names_of(version).contains(&word)
 }
 
-/// Says why words say no step of this version, and what would; false where they say one.
-pub(crate) fn step_words<'a>(page: &mut Page, version: u8, words: &'a [&'a str]) -> bool {
-    let Some(name) = words.first() else {
-        return names_words(page, version);
-    };
-    match form_of(STEPS.as_slice(), version, name) {
-        Some(form) => form_words(page, &form, 0, words),
-        None => known_words(page, KNOWN.as_slice(), name)
-            || near_words(
-                page,
-                "no step begins with <{}>, did you mean \"{}\"?",
-                name,
-                names_of(version),
-            )
-            || names_words(page, version),
+/// What is known of a word that begins no step; nothing where it isn't among those.
+pub(crate) fn known_of(name: &str) -> &'static str {
+    for row in &KNOWN {
+        if row.0 == name {
+            return row.1;
+        }
     }
+    ""
 }
 
 /// What steps of this version begin with.
-fn names_of(version: u8) -> &'static [&'static str] {
-    match NAMES.as_slice() {
-        [names @ .., _] if version < RAW_VERSION => names,
-        names => names,
-    }
+pub(crate) fn names_of(version: u8) -> &'static [&'static str] {
+    let count = if version < RAW_VERSION { 10 } else { 11 };
+    NAMES.get(..count).unwrap_or(&[])
 }
 
-/// Says what steps of this version begin with.
-fn names_words(page: &mut Page, version: u8) -> bool {
-    let more = if version < RAW_VERSION {
-        ""
+/// What steps of this version begin with, in words.
+pub(crate) fn steps_are(version: u8) -> &'static str {
+    if version < RAW_VERSION {
+        "steps are start, stop, window, release, read, write, load, command, await, sent"
     } else {
-        ", interrupt"
-    };
-    page.say(
-        "steps are start, stop, window, release, read, write, load, command, await, sent{}",
-        &[Piece::Text(more)],
-    )
+        "steps are start, stop, window, release, read, write, load, command, await, sent, interrupt"
+    }
 }

@@ -2,7 +2,7 @@
 
 use super::super::page::{Page, Piece};
 use super::argument::Argument;
-use super::judge::argument_words;
+use super::judge::{argument_words, behind, word_at};
 use super::number::number_in;
 use sja_plan::GREATEST_NUMBER;
 use toml::Value;
@@ -11,45 +11,42 @@ use toml::Value;
 const STRIKES_ARE: &str =
     "the form is \"K B\", node K at bit B, or \"K B E T\", then every E bits, T times in all";
 
+/// The numbers of a strike.
+static NUMBERS: [Argument; 4] = [
+    Argument::Node,
+    Argument::Number("the bit", 0, GREATEST_NUMBER),
+    Argument::Number("E of \"K B E T\"", 1, GREATEST_NUMBER),
+    Argument::Number("T of \"K B E T\"", 1, GREATEST_NUMBER),
+];
+
 /// Says why words say no strike of a plan with so many nodes, and what would; false where they say one.
 pub(crate) fn strike_words<'a>(page: &mut Page, nodes: usize, words: &'a [&'a str]) -> bool {
-    match words {
-        ["node", rest @ ..] => named_words(page, rest),
-        [_, _] => first_words(page, nodes, words),
-        [node, bit, every, times] => first_words(page, nodes, &[node, bit])
-            || repeat_words(page, "E of \"K B E T\"", every)
-            || repeat_words(page, "T of \"K B E T\"", times),
-        _ => page.say(STRIKES_ARE, &[]),
+    let is_named = word_at(words, 0) == "node";
+    let first = usize::from(is_named);
+    let count = words.len().saturating_sub(first);
+    let template = if count != 2 && count != 4 {
+        STRIKES_ARE
+    } else if is_named {
+        "a strike is numbers alone, node and bit: <{0}{1}>"
+    } else {
+        ""
+    };
+    let pieces = [Piece::Text(word_at(words, first)), behind(words, first)];
+    page.say(template, &pieces) || numbers_words(page, nodes, words)
+}
+
+/// Says why words aren't the numbers of a strike; false where they are. The node and the bit are shown together.
+fn numbers_words<'a>(page: &mut Page, nodes: usize, words: &'a [&'a str]) -> bool {
+    for (place, argument) in NUMBERS.iter().enumerate() {
+        let from = if place < 2 { 0 } else { place };
+        let shown = words
+            .get(from..place.max(1).saturating_add(1))
+            .unwrap_or(&[]);
+        if argument_words(page, *argument, nodes, shown, place.saturating_sub(from)) {
+            return true;
+        }
     }
-}
-
-/// Says the same strike without the word `node`.
-fn named_words<'a>(page: &mut Page, words: &'a [&'a str]) -> bool {
-    match words {
-        [first, rest @ ..] if words.len() == 2 || words.len() == 4 => page.say(
-            "a strike is numbers alone, node and bit: <{}{}>",
-            &[Piece::Text(first), Piece::Words(" ", rest, "")],
-        ),
-        _ => page.say(STRIKES_ARE, &[]),
-    }
-}
-
-/// Says why two words are no node and bit; false where they are.
-fn first_words<'a>(page: &mut Page, nodes: usize, words: &'a [&'a str]) -> bool {
-    let bit = Argument::Number("the bit", 0, GREATEST_NUMBER);
-    argument_words(page, Argument::Node, nodes, words, 0)
-        || argument_words(page, bit, nodes, words, 1)
-}
-
-/// Says why a word isn't the number of this name; false where it is.
-fn repeat_words(page: &mut Page, name: &'static str, word: &str) -> bool {
-    argument_words(
-        page,
-        Argument::Number(name, 1, GREATEST_NUMBER),
-        0,
-        &[word],
-        0,
-    )
+    false
 }
 
 /// For how many strikes these texts count: one of four numbers for its last one, and any other for 1.
@@ -67,11 +64,14 @@ pub(crate) fn strikes_in(values: &[Value]) -> u64 {
 
 /// The last of the four numbers that a text is, where it is four numbers.
 fn last_of_four(text: &str) -> Option<u32> {
-    let (node, rest) = text.split_once(' ')?;
-    let (bit, rest) = rest.split_once(' ')?;
-    let (every, times) = rest.split_once(' ')?;
-    for word in [node, bit, every].as_slice() {
-        number_in(word)?;
+    let mut last = None;
+    let mut count = 0u32;
+    for word in text.split(' ') {
+        last = number_in(word);
+        count = count.saturating_add(1);
+        if count > 4 || last.is_none() {
+            return None;
+        }
     }
-    number_in(times)
+    if count == 4 { last } else { None }
 }

@@ -1,8 +1,8 @@
 -- What a session wrote has texts, and what its calls leave.
 use Rattle.std.proofs.Common.{◌≡◌, ℕ, zero, suc, ◌≤◌, Bool, true, false, List, [], ◌∷◌, length}
-use Rattle.std.proofs.Common.{reverse, All, sym, ap, subst, arith}
-use Rattle.std.specs.Prelude.{slice_index, slice_index_or, if◌then◌else◌, nat_lt}
-use Rattle.std.proofs.lemmas.List.{length-take, reverse-reverse}
+use Rattle.std.proofs.Common.{reverse, All, sym, subst, arith}
+use Rattle.std.specs.Prelude.{slice_index_or, if◌then◌else◌, nat_lt}
+use Rattle.std.proofs.lemmas.List.{reverse-reverse}
 use Rattle.std.proofs.lemmas.List.Elements.{All-nil, All-head, All-tail, All-push, All-from_get_or}
 use Rattle.sja_driver.specs.Deeds.{Deed}
 use Rattle.sja_driver_session.proofs.Grown.{Grown, SameRoom}
@@ -18,9 +18,9 @@ use Rattle.sja_plan.specs.Words.{greatest}
 use Rattle.sja_plan.specs.declared.turn.Turn.TheVariants.{Bus}
 use Rattle.sja_plan_text.specs.HasTexts.{HasTurnText, HasStrikeText, HasTexts}
 use Rattle.sja_script.specs.declared.step.Step.{Step}
-use Rattle.sja_session.specs.Writing.{done_counts, fronts, with_bits_run}
+use Rattle.sja_session.specs.Writing.{with_bits_run}
 use Rattle.sja_session.specs.declared.session_room.SessionRoom.{SessionRoom}
-use Rattle.sja_session.proofs.WrittenPlan.Written.{count_at, fronts_at}
+use Rattle.sja_session.proofs.StepsDone.Stepped.{steps_many}
 use Rattle.sja_live.proofs.Spelling.TurnTexts.{IsSized, all_reversed, turn_more, took_sized, turn_text, within_texts}
 
 -- ---- the whole plan
@@ -48,13 +48,10 @@ most_told version = told_by (nat_lt version 3)
 pub has_texts : (d : DriverSession) (deeds : List (List Deed)) → IsLiveAt d deeds → HasLimits d → HasTexts (written d)
 has_texts (Typed r) deeds h limits =
     let s = r.session in
-    let most = most_steps_told s.plan.version in let few = few_at most deeds h.few.1 in
-    let counts = done_counts s.run in let stands = h.at.stands in
+    let most = most_steps_told s.plan.version in let few = few_at most deeds h.few.1 in let stands = h.at.stands in
     let sized = took_sized h.at.took in record {
-      step_counts = All-from_get_or (λ (l : List Step). length l ≤ most) (fronts counts s.plan.nodes) [] (λ k less.
-          let e = ap (λ (l : List Step). length l) (fronts_at counts s.plan.nodes k) in
-          let t = length-take (slice_index counts k) (slice_index_or s.plan.nodes k []) in
-          let c = count_at s.plan s.run deeds stands k in let f = few k in omega (arith, e, t, c, f));
+      step_counts = All-from_get_or (λ (l : List Step). length l ≤ most) s.steps [] (λ k less.
+          let c = steps_many s.steps deeds k h.at.steps in let f = few k in omega (arith, c, f));
       steps = h.steps;
       turns = λ k d less. turn_text _ s.run.bits deeds (h.turns k d less)
           (subst (All (IsSized s.run.bits deeds)) (reverse-reverse s.turns)

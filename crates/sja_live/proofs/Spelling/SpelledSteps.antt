@@ -23,7 +23,7 @@ use Rattle.sja_session.specs.RawSessions.DoesSteps.{none as no_step, more}
 use Rattle.sja_session.specs.Sessions.{SessionValue, IsAt, written as written_typed}
 use Rattle.sja_session.specs.Stepping.{DoesStep, MayStep as MayTyped, steps_done_of}
 use Rattle.sja_session.specs.Writing.{with_step_done}
-use Rattle.sja_session.proofs.WrittenPlan.Written.{count_at}
+use Rattle.sja_session.proofs.StepsDone.Stepped.{steps_many}
 use Rattle.sja_regs.specs.Registers.{at_power_on}
 use Rattle.sja_live.proofs.Spelling.WriteTexts.{write_texts}
 use Rattle.sja_live.proofs.Spelling.TurnTexts.{turn_more}
@@ -36,7 +36,7 @@ left_of : (was : SessionValue) (node count : ℕ) (deeds : List (List Deed)) →
     was.room.steps ≤ most_steps_told was.plan.version → steps_done_of was node + count ≤ was.room.steps →
     length (deeds_at deeds node) + count ≤ most_steps_told was.plan.version
 left_of was node count deeds at fits left =
-    let done = count_at was.plan was.run deeds at.stands node in omega (arith, left, done, fits)
+    let done = steps_many was.steps deeds node at.steps in omega (arith, left, done, fits)
 
 -- a session of typed steps did one more
 typed_few : (r s : RawValue) (node : ℕ) (deed : Deed) (deeds after : List (List Deed)) →

@@ -18,7 +18,6 @@ use Rattle.sja_wire.specs.Buses.{IsNodeBit}
 use Rattle.sja_link.specs.Links.{Kept, stops_of}
 use Rattle.sja_link.specs.BitEntries.{HasBit, abort_as, HasOneBit}
 use Rattle.sja_wire.specs.Telling.{IsTurn}
-use Rattle.sja_script.specs.declared.step.Step.{Step}
 use Rattle.sja_driver.specs.declared.logged_driver.LoggedDriver.{LoggedDriver}
 use Rattle.sja_driver.specs.Deeds.{Deed, opened_by, given_in, deeds_of}
 use Rattle.sja_driver.specs.Aborting.{IsCommanded, AbortIsDue, sends_taken}
@@ -50,9 +49,9 @@ OrdersOf p orders = orders ≡ record { abort = p.abort; ended = p.ended }
 abbrev pub BitOf : Registers → Registers → Bool → List Entry → List Entry → Level → Level → Type 0
 BitOf p q untold j k driven seen = IsNodeBit (OrdersOf p) (λ turn. q ≡ after_turn p turn) (q ≡ p) untold j k driven seen
 
-module _ {version : ℕ} {steps : List Step} {j k : List Entry} {deeds : List Deed} {driver : LoggedDriver}
+module _ {version : ℕ} {size : ℕ} {j k : List Entry} {deeds : List Deed} {driver : LoggedDriver}
     {p q : Registers} {links : List Deques} (after : List Deques) {base : ℕ} {untold : Bool} {driven seen : Level}
-    (h : IsNode version steps j deeds driver p links base) (b : BitOf p q untold j k driven seen)
+    (h : IsNode version size j deeds driver p links base) (b : BitOf p q untold j k driven seen)
     (kept : (acc : ℕ → Account) → Kept Lies j links base acc → Kept Lies k after base acc) where
   abbrev changed : Bool
   changed = b.opens.aborts.changed
@@ -178,7 +177,7 @@ module _ {version : ℕ} {steps : List Step} {j k : List Entry} {deeds : List De
     }
 
     -- its record had a cut
-    pub after_one_bit : HasCut j → IsNode version steps k deeds driver q after base
+    pub after_one_bit : HasCut j → IsNode version size k deeds driver q after base
     after_one_bit lawful = record {
       traced = h.traced;
       linked = linked_after driver h.linked.holds kept (λ a. given_taken deeds k a (in_time.when a)) level;

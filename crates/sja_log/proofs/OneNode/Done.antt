@@ -76,9 +76,9 @@ opened_most deeds (InActive d) log node n trace place =
 
 -- ---- a step that was done
 
-module _ (version : ℕ) (steps : List Step) (j : List Entry) (deeds : List Deed) (was now : LoggedDriver)
+module _ (version : ℕ) (size : ℕ) (j : List Entry) (deeds : List Deed) (was now : LoggedDriver)
     (p q : Registers) (links given : List Deques) (base : ℕ) (one : Step) (none : Deques)
-    (h : IsNode version steps j deeds was p links base) (lawful : IsLawfulJournal j)
+    (h : IsNode version size j deeds was p links base) (lawful : IsLawfulJournal j)
     (st : Steps alike Lies shows_none takes_none was now links given base p q one (place_of j).bits true) where
   pub all_taken : (a : ℕ) → given_in (deeds_of deeds a) ≡ taken_of (part j a)
   all_taken a = given_taken deeds j a (h.in_time.when a)

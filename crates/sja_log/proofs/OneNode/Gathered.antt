@@ -11,7 +11,6 @@ use Rattle.sja_link.specs.Carried.{taken_of}
 use Rattle.sja_link.specs.Links.{stops_of, Kept}
 use Rattle.sja_link.specs.BitEntries.{entries_of_items, MayHaveItems}
 use Rattle.sja_regs.specs.declared.registers.Registers.{Registers}
-use Rattle.sja_script.specs.declared.step.Step.{Step}
 use Rattle.sja_driver.specs.declared.logged_driver.LoggedDriver.{LoggedDriver}
 use Rattle.sja_driver.specs.declared.release.Release.{Release}
 use Rattle.sja_driver.specs.Deeds.{Deed, given_in, deeds_of}
@@ -76,9 +75,9 @@ linked_after {k = k} {after = after} {base} driver holds kept given level =
     }
 
 -- the node with its driver and its links as they are now, beside steps of which it has done the same
-pub node_with : {version : ℕ} {old steps : List Step} {j : List Entry} {deeds : List Deed} {was now : LoggedDriver}
+pub node_with : {version : ℕ} {old size : ℕ} {j : List Entry} {deeds : List Deed} {was now : LoggedDriver}
     {p : Registers} {links after : List Deques} {base : ℕ} → IsNode version old j deeds was p links base →
-    IsTraced version steps deeds now → IsLinked j deeds now after base → IsNode version steps j deeds now p after base
+    IsTraced version size deeds now → IsLinked j deeds now after base → IsNode version size j deeds now p after base
 node_with h traced linked = record {
   traced = traced;
   linked = linked;

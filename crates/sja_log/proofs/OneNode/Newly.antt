@@ -7,9 +7,7 @@ use Rattle.std.proofs.lemmas.Bool.{cases_eq}
 use Rattle.sja_link.specs.Accounts.{account}
 use Rattle.sja_link.specs.Deques.{Deques, Lies}
 use Rattle.sja_link.specs.NewLinks.{new_link}
-use Rattle.sja_plan.specs.Plan.{PlanValue, steps_at}
 use Rattle.sja_regs.specs.Registers.{at_power_on}
-use Rattle.sja_script.specs.declared.step.Step.{Step}
 use Rattle.sja_driver.specs.declared.logged_driver.LoggedDriver.{LoggedDriver}
 use Rattle.sja_driver.specs.Deeds.{given_in, deeds_of}
 use Rattle.sja_driver.specs.LoggedDrivers.{driver_of, log_of}
@@ -21,33 +19,32 @@ use Rattle.sja_driver.proofs.LogOfSteps.Logged.{room_less}
 use Rattle.can_node.proofs.Requests.Cuts.{none_held_first}
 
 -- one driver more
-pub new_push : (plan : PlanValue) (n : ℕ) (ds : List LoggedDriver) (x : LoggedDriver) → length ds ≡ n →
-    AreNew plan n ds → IsNewDriver n (length (steps_at plan n)) x → AreNew plan (n + 1) (ds ++ x ∷ [])
-new_push plan n ds x len made is node d less = elim (cases_eq n node) [
+pub new_push : (sizes : List ℕ) (n : ℕ) (ds : List LoggedDriver) (x : LoggedDriver) → length ds ≡ n →
+    AreNew sizes n ds → IsNewDriver n (slice_index_or sizes n 0) x → AreNew sizes (n + 1) (ds ++ x ∷ [])
+new_push sizes n ds x len made is node d less = elim (cases_eq n node) [
   | inl e ↦
       let at : slice_index_or (ds ++ x ∷ []) node d ≡ x = get_or_push ds x d node (len ∙ e) in
-      subst (λ (y : LoggedDriver). IsNewDriver node (length (steps_at plan node)) y) (sym at)
-      (subst (λ (m : ℕ). IsNewDriver m (length (steps_at plan m)) x) e is)
+      subst (λ (y : LoggedDriver). IsNewDriver node (slice_index_or sizes node 0) y) (sym at)
+      (subst (λ (m : ℕ). IsNewDriver m (slice_index_or sizes m 0) x) e is)
   | inr differ ↦
-      subst (λ (y : LoggedDriver). IsNewDriver node (length (steps_at plan node)) y)
+      subst (λ (y : LoggedDriver). IsNewDriver node (slice_index_or sizes node 0) y)
       (sym (get_or_append_left ds (x ∷ []) d node (omega (arith, len, less, differ))))
       (made node d (omega (arith, less, differ)))
 ]
 
 -- ---- a node
 
-pub new_node : (version node : ℕ) (steps : List Step) (x : LoggedDriver) (links : List Deques) (base : ℕ) →
-    IsNewDriver node (length steps) x →
+pub new_node : (version node size : ℕ) (x : LoggedDriver) (links : List Deques) (base : ℕ) →
+    IsNewDriver node size x →
     ((a : ℕ) (d : Deques) → a < 64 → slice_index_or links (base + a) d ≡ new_link node (suc a)) →
-    IsNode version steps [] [] x (at_power_on version) links base
-new_node version node steps x links base new fresh = record {
+    IsNode version size [] [] x (at_power_on version) links base
+new_node version node size x links base new fresh = record {
   traced = record {
     lawful = new.lawful;
     traces = new.traces version;
     within = omega arith;
-    first = refl;
     room =
-        λ k l. room_less k (length steps) (log_of x) (omega (arith, l)) new.room;
+        λ k l. room_less k size (log_of x) (omega (arith, l)) new.room;
   };
   linked = record {
     holds = record {

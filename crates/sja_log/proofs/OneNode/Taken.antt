@@ -51,9 +51,9 @@ none_taken {j} holds given r =
 
 -- ---- a step of a driver, and a node whose item was refused then
 
-module _ {version : ℕ} {steps : List Step} {j : List Entry} {deeds : List Deed} {was : LoggedDriver} {p : Registers}
-    {links : List Deques} {base : ℕ} (h : IsNode version steps j deeds was p links base) (lawful : IsLawfulJournal j)
-    (bits room : ℕ) (short : length deeds ≤ length steps) (enough : 2 * bits + 2 * length steps + 100 ≤ room)
+module _ {version : ℕ} {size : ℕ} {j : List Entry} {deeds : List Deed} {was : LoggedDriver} {p : Registers}
+    {links : List Deques} {base : ℕ} (h : IsNode version size j deeds was p links base) (lawful : IsLawfulJournal j)
+    (bits room : ℕ) (short : length deeds ≤ size) (enough : 2 * bits + 2 * size + 100 ≤ room)
     (run : (place_of j).bits ≤ bits) where
   before : (a : ℕ) → given_in (deeds_of deeds a) ≡ taken_of (part j a)
   before a = given_taken deeds j a (h.in_time.when a)
@@ -64,7 +64,7 @@ module _ {version : ℕ} {steps : List Step} {j : List Entry} {deeds : List Deed
   fits : length j + 3 ≤ room
   fits =
       let b = h.linked.level.begun in let m = most in
-      let few = has_room j deeds p bits (length steps) h.counted lawful h.traced.traces.answered.gives short
+      let few = has_room j deeds p bits size h.counted lawful h.traced.traces.answered.gives short
       (omega (arith, b, m)) run in omega (arith, few, enough)
 
   -- the step was done
@@ -73,7 +73,7 @@ module _ {version : ℕ} {steps : List Step} {j : List Entry} {deeds : List Deed
       Steps alike Lies shows_none takes_none was now links given base p q one (place_of j).bits true →
       RefusesItem Lies room j k given after base node f → ⊥
   done_taken {now} {q} {given} {one} {node = node} {f} st r =
-      let y = doing version steps j deeds was now p q links given base one no_link h lawful st in
+      let y = doing version size j deeds was now p q links given base one no_link h lawful st in
       let c = y.is_next in let d = c.deed in let next = c.next in
       let is = refused_is d.gave (opened_by deeds + opens_by d) y.holds
       (at_most_one (is_active deeds) (opened_by deeds) d.step d.answer d.gave y.kind) y.waits_now r in

@@ -36,7 +36,6 @@ use Rattle.sja_log.proofs.OneNode.StepTried.{waits}
 use Rattle.sja_log.proofs.OneNode.After.{done_after, enters, level_after, in_time_after}
 use Rattle.sja_log.proofs.OneNode.Ported.{ported_after}
 use Rattle.sja_log.proofs.OneNode.AskedAndCounted.{asked_after, counted_after}
-use Rattle.sja_driver.proofs.Deeds.FirstSteps.{first_more}
 use Rattle.sja_log.proofs.OneNode.Gathered.{no_link, Gathers, items_are, linked_after, node_with}
 use Rattle.sja_log.proofs.Trace.TbsAndAbort.{tbs_right}
 use Rattle.sja_log.proofs.OneNode.Done.{at_most_one, is_read, opened_most, doing}
@@ -56,7 +55,7 @@ is_unmet (Released m) e = absurd cc
 is_unmet (Ended l) e = absurd cc
 
 -- the step was done
-pub record Stepped (version : ℕ) (steps : List Step) (j k : List Entry) (deeds : List Deed) (now : LoggedDriver)
+pub record Stepped (version : ℕ) (size : ℕ) (j k : List Entry) (deeds : List Deed) (now : LoggedDriver)
     (p q : Registers) (after : List Deques) (base : ℕ) (one : Step) : Type 0 where
   pub deed : Deed
   pub bits : deed.bits ≡ (place_of j).bits
@@ -67,21 +66,21 @@ pub record Stepped (version : ℕ) (steps : List Step) (j k : List Entry) (deeds
   pub gave : deed.gave ≡ carried p deed.step deed.answer
   pub entered : k ≡ j ++ entries_of_items deed.gave
   pub left_port : q ≡ ported p deed.step deed.answer
-  pub node : IsNode version steps k (deeds ++ deed ∷ []) now q after base
+  pub node : IsNode version size k (deeds ++ deed ∷ []) now q after base
   -- where nothing was taken the port shows what it has shown
   pub shows : k ≡ j → ShowsRecord j p → ShowsRecord k q
 
 -- it waits: nothing was taken, and the port is as it was
-pub record Waited (version : ℕ) (steps : List Step) (j k : List Entry) (deeds : List Deed) (now : LoggedDriver)
+pub record Waited (version : ℕ) (size : ℕ) (j k : List Entry) (deeds : List Deed) (now : LoggedDriver)
     (p q : Registers) (after : List Deques) (base : ℕ) (one : Step) : Type 0 where
   pub waits : HasToWait p j deeds one
   pub journal : k ≡ j
   pub port : q ≡ p
-  pub node : IsNode version steps k deeds now q after base
+  pub node : IsNode version size k deeds now q after base
 
-module _ {version : ℕ} {steps : List Step} {j k : List Entry} {deeds : List Deed} {was : LoggedDriver}
+module _ {version : ℕ} {size : ℕ} {j k : List Entry} {deeds : List Deed} {was : LoggedDriver}
     (now : LoggedDriver) {p q : Registers} {links given after : List Deques} {base : ℕ}
-    (h : IsNode version steps j deeds was p links base) (now_lawful : IsLawful now)
+    (h : IsNode version size j deeds was p links base) (now_lawful : IsLawful now)
     (t : Gathers j k given after base) where
   -- ---- a taking where no deed was done
 
@@ -95,32 +94,31 @@ module _ {version : ℕ} {steps : List Step} {j k : List Entry} {deeds : List De
         ∙ append-nil (taken_of (part j a))))
         ∙ append-nil j
 
-    pub idle : IsNode version steps k deeds now q after base
+    pub idle : IsNode version size k deeds now q after base
     idle =
         let level : IsLevel k deeds = subst (λ (l : List Entry). IsLevel l deeds) (sym same_journal) h.linked.level in
         let taken : (a : ℕ) → given_in (deeds_of deeds a) ≡ taken_of (part k a) =
         λ a. given_taken deeds j a (h.in_time.when a)
         ∙ ap (λ (l : List Entry). taken_of (part l a)) (sym same_journal) in
         let linked : IsLinked k deeds now after base = linked_after now holds t.kept taken level in
-        subst (λ (l : List Entry). IsNode version steps l deeds now q after base) (sym same_journal)
-        (subst (λ (r : Registers). IsNode version steps j deeds now r after base) (sym port)
+        subst (λ (l : List Entry). IsNode version size l deeds now q after base) (sym same_journal)
+        (subst (λ (r : Registers). IsNode version size j deeds now r after base) (sym port)
         (node_with h (record {
           lawful = now_lawful;
           traces = trace;
           within = h.traced.within;
-          first = h.traced.first;
           room = λ m l. room m (h.traced.room m l);
         }) (subst (λ (l : List Entry). IsLinked l deeds now after base) same_journal linked)))
 
   module _ {one : Step} (lawful : IsLawfulJournal j) where
     -- ---- a step that was done
 
-    pub stepped : length deeds < length steps → one ≡ slice_index_or steps (length deeds) one →
+    pub stepped : length deeds < size →
         Steps alike Lies shows_none takes_none was now links given base p q one (place_of j).bits true →
         ((m : ℕ) → HasRoom (m + 1) (log_of was) → HasRoom m (log_of now)) →
-        Stepped version steps j k deeds now p q after base one
-    stepped left is st room =
-        let y = doing version steps j deeds was now p q links given base one no_link h lawful st in
+        Stepped version size j k deeds now p q after base one
+    stepped left st room =
+        let y = doing version size j deeds was now p q links given base one no_link h lawful st in
         let c = y.is_next in let d = c.deed in let next = c.next in let b = opened_by deeds + opens_by d in
         let most = opened_most deeds (driver_of was) (log_of was) (node_of was) (ended_of was) h.traced.traces
         h.traced.lawful in
@@ -147,7 +145,6 @@ module _ {version : ℕ} {steps : List Step} {j k : List Entry} {deeds : List De
               lawful = now_lawful;
               traces = y.trace;
               within = omega (arith, left, long);
-              first = first_more steps deeds d one left (c.step_is ∙ is) h.traced.first;
               room = λ m l. room m (h.traced.room (m + 1) (omega (arith, l, long)));
             };
             linked = linked_after now y.holds t.kept (λ a. given_taken (deeds ++ d ∷ []) k a (in_time.when a)) level;
@@ -170,7 +167,7 @@ module _ {version : ℕ} {steps : List Step} {j k : List Entry} {deeds : List De
 
     pub waited : Steps alike Lies shows_none takes_none was now links given base p q one (place_of j).bits false →
         ((m : ℕ) → HasRoom m (log_of was) → HasRoom m (log_of now)) →
-        Waited version steps j k deeds now p q after base one
+        Waited version size j k deeds now p q after base one
     waited st room =
         let at = place_after base (ended_of was) in let unmet = is_unmet st.tried st.met in
         let acts : Acts alike Lies shows_none takes_none (slice_index_or links at no_link)

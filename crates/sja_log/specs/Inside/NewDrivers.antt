@@ -1,6 +1,5 @@
 -- The drivers of a run before its first turn (this project's own rule).
-use Rattle.std.specs.Prelude.{◌≡◌, ◌<◌, ℕ, false, List, [], length, slice_index_or}
-use Rattle.sja_plan.specs.Plan.{PlanValue, steps_at}
+use Rattle.std.specs.Prelude.{◌≡◌, ◌<◌, ℕ, false, List, [], slice_index_or}
 use Rattle.sja_driver.specs.declared.logged_driver.LoggedDriver.{LoggedDriver}
 use Rattle.sja_driver.specs.AnyDrivers.{is_out}
 use Rattle.sja_driver.specs.LoggedDrivers.{node_of, driver_of, log_of, IsLawful}
@@ -15,8 +14,8 @@ pub record IsNewDriver (node steps : ℕ) (d : LoggedDriver) : Type 0 where
   pub lawful : IsLawful d
   pub traces : (version : ℕ) → Traces version (driver_of d) (log_of d) []
 
--- the first so many of them, by node
-abbrev pub AreNew : PlanValue → ℕ → List LoggedDriver → Type 0
-AreNew plan count drivers =
+-- the first so many of them, by node, each with room for the steps of its node
+abbrev pub AreNew : List ℕ → ℕ → List LoggedDriver → Type 0
+AreNew sizes count drivers =
     (node : ℕ) (d : LoggedDriver) → node < count →
-    IsNewDriver node (length (steps_at plan node)) (slice_index_or drivers node d)
+    IsNewDriver node (slice_index_or sizes node 0) (slice_index_or drivers node d)

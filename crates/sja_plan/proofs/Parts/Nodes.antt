@@ -8,6 +8,12 @@ use Rattle.lemmas.proofs.Related.{related_push}
 use Rattle.sja_plan.specs.Words.{Text}
 use Rattle.sja_plan.specs.StepTexts.{SaysStep}
 use Rattle.sja_plan.specs.Texts.{IsFirstBad, IsFirstBadIn}
+use Rattle.sja_plan.specs.Document.{DocumentValue}
+use Rattle.sja_plan.specs.Checks.{version_of, BeforeSteps}
+use Rattle.sja_plan.specs.Faults.{IsDocumentFault}
+use Rattle.sja_plan.specs.Inside.Views.{IsListFault, step_fault}
+use Rattle.sja_plan.specs.declared.list_fault.ListFault.{ListFault}
+use Rattle.sja_plan.specs.declared.list_fault.ListFault.TheVariants.{Bad, NoMemory}
 use Rattle.sja_script.specs.declared.step.Step.{Step}
 
 -- the texts of a node
@@ -49,6 +55,21 @@ first_bad_step version nodes values i number d within read is this = record {
   good = read;
   bad = subst (λ v. IsFirstBad (SaysStep version) (node_texts v) number) is this;
 }
+
+-- the fault of a document for the first step that isn't read
+pub step_is_bad : (d : DocumentValue) (version : ℕ) (nodes : List (Vec (Bor Text) Global))
+    (values : List (Vec Step Global)) (i : ℕ) (x : Vec (Bor Text) Global) (fault : ListFault) →
+    BeforeSteps d → version ≡ version_of d → d.nodes ≡ map node_texts nodes →
+    i < length nodes → AllZip (AllZip (SaysStep version)) (map node_texts (take i nodes)) (map steps_of values) →
+    x ≡ get_or nodes i x → IsListFault (SaysStep version) (node_texts x) fault →
+    IsDocumentFault d (step_fault (length values) fault)
+step_is_bad d version nodes values i x NoMemory before same is within read this unread = tt
+step_is_bad d version nodes values i x (Bad number) before same is within read this unread = (
+  before,
+  subst (λ v. IsFirstBadIn (SaysStep v) d.nodes (length values) number) same
+      (subst (λ l. IsFirstBadIn (SaysStep version) l (length values) number) (sym is)
+      (first_bad_step version nodes values i number x within read this unread)),
+)
 
 -- each of these lists is short
 pub all_few : (most : ℕ) (xs : List (Vec (Bor Text) Global)) → AllByRecursion (λ v. length v.items ≤ most) xs →

@@ -1,8 +1,8 @@
 -- How many strikes texts count for.
 use Rattle.std.proofs.Common.{◌≡◌, ◌≤◌, ◌<◌, ◌+◌, ◌∙◌, ℕ, List, length, map}
-use Rattle.std.proofs.Common.{take, get_or, false, nat_le, ap, subst, Bor, arith}
+use Rattle.std.proofs.Common.{take, get_or, true, false, nat_le, ap, subst, Bor, arith}
 use Rattle.std.proofs.lemmas.Bool.Decides.{nat_tests}
-use Rattle.std.proofs.lemmas.List.{map_more, take-map}
+use Rattle.std.proofs.lemmas.List.{map_more, take-map, take_all}
 use Rattle.std.proofs.lemmas.List.Sums.{sum_by-take-le, sum_by_push}
 use Rattle.sja_plan.specs.Words.{Text}
 use Rattle.sja_plan.specs.StrikeTexts.{count_of, strikes_in}
@@ -29,4 +29,12 @@ pub too_many : (texts : List (Bor Text)) (i total n most : ℕ) (d : Bor Text) �
 too_many texts i total n most d within is this many =
     let more : most < strikes_in (bytes_of texts) =
     omega (arith, first_count texts (i + 1), count_more texts i d within, is, this, many) in
+    grind (arith, nat_tests)
+
+-- so many at all are few
+pub few_enough : (texts : List (Bor Text)) (i total most : ℕ) → length texts ≤ i →
+    total ≡ strikes_in (bytes_of (take i texts)) → total ≤ most → true ≡ nat_le (strikes_in (bytes_of texts)) most
+few_enough texts i total most all is few =
+    let whole : total ≡ strikes_in (bytes_of texts) =
+    is ∙ ap (λ l. strikes_in (bytes_of l)) (take_all i texts all) in
     grind (arith, nat_tests)

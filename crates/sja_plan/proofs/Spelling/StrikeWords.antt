@@ -1,7 +1,7 @@
 -- Texts that say no strike.
-use Rattle.std.proofs.Common.{◌≡◌, ◌≢◌, ℕ, List, [], ◌∷◌, length, get_or, refl, arith}
+use Rattle.std.proofs.Common.{◌≡◌, ◌≢◌, ℕ, List, [], ◌∷◌, length, get_or, refl, codes, Some, ap, sym, arith}
 use Rattle.sja_plan.specs.Words.{Text}
-use Rattle.sja_plan.specs.StrikeTexts.{AreStrikeWords}
+use Rattle.sja_plan.specs.StrikeTexts.{AreOnce, AreRepeated, AreStrikeWords}
 use Rattle.sja_script.specs.declared.strike.Strike.{Strike}
 
 -- a strike has two words or four
@@ -22,3 +22,17 @@ four_words (a ∷ b ∷ []) d h = absurd (omega arith)
 four_words (a ∷ b ∷ e ∷ []) d h = absurd (omega arith)
 four_words (a ∷ b ∷ e ∷ t ∷ []) d h = refl
 four_words (a ∷ b ∷ e ∷ t ∷ y ∷ xs) d h = absurd (omega arith)
+
+-- two words are four of which the last two are 1
+pub once_is : (nodes : ℕ) (k b : Text) (s : Strike) → AreRepeated nodes k b (codes "1") (codes "1") s →
+    AreOnce nodes k b s
+once_is nodes k b s h = record { node = h.node; bit = h.bit; every = cc h.every.0; times = cc h.times.0 }
+
+pub is_once : (nodes : ℕ) (k b : Text) (s : Strike) → AreOnce nodes k b s →
+    AreRepeated nodes k b (codes "1") (codes "1") s
+is_once nodes k b s h = record {
+  node = h.node;
+  bit = h.bit;
+  every = (ap Some (sym h.every), omega (arith, h.every), omega (arith, h.every));
+  times = (ap Some (sym h.times), omega (arith, h.times), omega (arith, h.times));
+}

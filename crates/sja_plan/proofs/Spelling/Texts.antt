@@ -1,5 +1,5 @@
 -- Texts that say values, up to one that says none.
-use Rattle.std.proofs.Common.{◌≡◌, ◌<◌, ◌+◌, ℕ, List, [], ◌∷◌, ◌++◌, length, map, take, drop, get_or}
+use Rattle.std.proofs.Common.{◌≡◌, ◌<◌, ◌+◌, ◌⊎◌, inl, inr, ℕ, List, [], ◌∷◌, ◌++◌, length, map, take, drop, get_or}
 use Rattle.std.proofs.Common.{sym, ap, subst, ◌∙◌, Bor, take-append-drop, length-take-le, arith}
 use Rattle.std.specs.List.{AllZip}
 use Rattle.std.proofs.lemmas.List.{map-append, map_more, drop_more, length-map}
@@ -7,6 +7,9 @@ use Rattle.std.proofs.lemmas.Slice.Zip.{AllZip-long}
 use Rattle.lemmas.proofs.Related.{related_push}
 use Rattle.sja_plan.specs.Words.{Text}
 use Rattle.sja_plan.specs.Texts.{IsFirstBad}
+use Rattle.sja_plan.specs.Inside.Views.{IsListFault, list_fault}
+use Rattle.sja_plan.specs.declared.text_fault.TextFault.{TextFault}
+use Rattle.sja_plan.specs.declared.text_fault.TextFault.TheVariants.{Bad, NoMemory}
 
 -- the texts behind references
 abbrev pub bytes_of : List (Bor Text) → List Text
@@ -45,3 +48,15 @@ pub read_count : {A : Type 0} (Says : Text → A → Type 0) (texts : List (Bor 
 read_count Says texts values i within read =
     AllZip-long Says (bytes_of (take i texts)) values read ∙ length-map (take i texts) (λ (t : Bor Text). t.now)
     ∙ length-take-le i texts (omega arith)
+
+-- the fault of the first that isn't read, with its number
+pub list_is_bad : {A : Type 0} (Says : Text → A → Type 0) (texts : List (Bor Text)) (values : List A)
+    (i : ℕ) (d : Bor Text) (fault : TextFault) →
+    i < length texts → AllZip Says (bytes_of (take i texts)) values →
+    (fault ≡ NoMemory) ⊎ ((fault ≡ Bad) × ((x : A) → ¬ Says (get_or texts i d).now x)) →
+    IsListFault Says (bytes_of texts) (list_fault fault (length values))
+list_is_bad Says texts values i d fault within read (inl is) =
+    subst (λ f. IsListFault Says (bytes_of texts) (list_fault f (length values))) (sym is) tt
+list_is_bad Says texts values i d fault within read (inr (is, none)) =
+    subst (λ f. IsListFault Says (bytes_of texts) (list_fault f (length values))) (sym is)
+    (first_bad Says texts values i d within read none)

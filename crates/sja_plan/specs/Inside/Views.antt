@@ -1,9 +1,14 @@
 -- The private types of the crate: what a read document says, and why a list of texts isn't read.
-use Rattle.std.specs.Prelude.{List, map}
+use Rattle.std.specs.Prelude.{◌≡◌, ◌+◌, ℕ, ℤ, List, map, codes, Some, option_and_then}
+use Rattle.toml.specs.Data.{Members, get_member}
 use Rattle.sja_plan.specs.Words.{Text}
 use Rattle.sja_plan.specs.Texts.{IsFirstBad}
-use Rattle.sja_plan.specs.Document.{DocumentValue}
+use Rattle.sja_plan.specs.Document.{DocumentValue, nodes_in, optional_texts}
 use Rattle.sja_plan.specs.declared.document.Document.{Document}
+use Rattle.sja_plan.specs.declared.text_fault.TextFault.{TextFault}
+use Rattle.sja_plan.specs.declared.text_fault.TextFault.TheVariants as TextFaults
+use Rattle.sja_plan.specs.declared.plan_fault.PlanFault.{PlanFault}
+use Rattle.sja_plan.specs.declared.plan_fault.PlanFault.TheVariants as PlanFaults
 use Rattle.sja_plan.specs.declared.list_fault.ListFault.{ListFault}
 use Rattle.sja_plan.specs.declared.list_fault.ListFault.TheVariants.{Bad, NoMemory}
 
@@ -21,3 +26,21 @@ document_view d = record {
 abbrev pub IsListFault : {A : Type 0} → (Text → A → Type 0) → List Text → ListFault → Type 0
 IsListFault Says texts NoMemory = Unit {0}
 IsListFault Says texts (Bad number) = IsFirstBad Says texts number
+
+-- the fault of a list of which so many texts are good, and the next one has this fault
+abbrev pub list_fault : TextFault → ℕ → ListFault
+list_fault TextFaults.Bad good = Bad (good + 1)
+list_fault TextFaults.NoMemory good = NoMemory
+
+-- what the members say beside these two numbers: each list is of its kind
+pub record HasLists (ms : Members) (v b : ℤ) (d : DocumentValue) : Type 0 where
+  pub version : d.version ≡ v
+  pub bits : d.bits ≡ b
+  pub nodes : option_and_then nodes_in (get_member (codes "node") ms) ≡ Some d.nodes
+  pub turns : optional_texts (get_member (codes "turns") ms) ≡ Some d.turns
+  pub faults : optional_texts (get_member (codes "faults") ms) ≡ Some d.faults
+
+-- the fault of a plan for that of the list of this node's steps
+abbrev pub step_fault : ℕ → ListFault → PlanFault
+step_fault node NoMemory = PlanFaults.Memory
+step_fault node (Bad number) = PlanFaults.Step node number

@@ -45,7 +45,7 @@ new_over s below reserved steps done turns = record {
 module _ (s : PlanSessionValue) (bits nodes : ℕ) (room : SessionRoom) (strikes : List Strike)
     (new : IsNew s bits nodes room strikes) where
   pub nodes_are : node_count s ≡ nodes
-  nodes_are = sym new.at.stands.deeds_count ∙ length-replicate nodes []
+  nodes_are = sym new.at.count ∙ sym new.at.stands.deeds_count ∙ length-replicate nodes []
 
   bits_are : most_bits s ≡ bits
   bits_are = ap (λ (p : PlanValue). p.bits) new.wrote

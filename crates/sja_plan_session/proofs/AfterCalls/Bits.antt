@@ -10,7 +10,7 @@ use Rattle.sja_serial.proofs.WholeRun.GoingOn.{bits_run}
 use Rattle.sja_session.specs.Lines.{IsStill}
 use Rattle.sja_session.specs.Resting.{Rests}
 use Rattle.sja_session.specs.Running.{RunsBits}
-use Rattle.sja_session.specs.Sessions.{SessionValue, IsAt, written}
+use Rattle.sja_session.specs.Sessions.{setup_by, SessionValue, IsAt, written}
 use Rattle.sja_session.specs.Turning.{with_turn}
 use Rattle.sja_session.specs.Watching.{NoneRose, Watches}
 use Rattle.sja_session.specs.Watching.NoneRose.{none, bit}
@@ -56,7 +56,7 @@ pub runs_led : {was now : SessionValue} {count run : ℕ} {deeds : List (List De
 runs_led {was} {now} {count} {run} {deeds} r = record {
   at = r.at;
   room = r.room;
-  bits = bits_run was.plan deeds _ was.run now.run run r.bits;
+  bits = bits_run (setup_by was) deeds _ was.run now.run run r.bits;
   wrote = r.wrote;
 }
 
@@ -65,7 +65,7 @@ pub rests_led : {was now : SessionValue} {run : ℕ} {rests : Bool} {deeds : Lis
 rests_led {was} {now} {run} {rests} {deeds} r = record {
   at = r.at;
   room = r.room;
-  bits = bits_run was.plan deeds _ was.run now.run run r.bits;
+  bits = bits_run (setup_by was) deeds _ was.run now.run run r.bits;
   wrote = r.wrote;
 }
 

@@ -20,7 +20,7 @@ use Rattle.sja_plan_session.specs.History.Came.{step as stepped}
 use Rattle.sja_plan_session.specs.Keeping.{AreFewer, AreSteps, AreWithin, IsPlanSession}
 use Rattle.sja_plan_session.specs.PlanSessions.{PlanSessionValue, bits_of, most_bits, node_count, steps_of, done_of}
 use Rattle.sja_plan_session.specs.Rooms.{IsAccessRoom}
-use Rattle.sja_plan_session.proofs.WrittenPlan.OneMore.{more_same, more_other, more_long}
+use Rattle.sja_session.proofs.WrittenPlan.OneMore.{more_same, more_other, more_long}
 use Rattle.sja_plan_session.proofs.AfterCalls.Typed.{Led, Chain, chain_of, led_by, fewer_steps, done_at}
 use Rattle.sja_plan_session.proofs.WrittenPlan.Within.{all_step}
 

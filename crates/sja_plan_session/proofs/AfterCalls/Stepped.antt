@@ -20,7 +20,7 @@ use Rattle.sja_plan_session.specs.Accessing.Does.{read, write, typed}
 use Rattle.sja_plan_session.specs.Inside.Answering.{DidStep}
 use Rattle.sja_plan_session.specs.Keeping.{IsPlanSession}
 use Rattle.sja_plan_session.specs.PlanSessions.{PlanSessionValue, bits_of}
-use Rattle.sja_plan_session.specs.Writing.{with_more}
+use Rattle.sja_session.specs.Writing.{with_more}
 use Rattle.sja_plan_session.proofs.AfterCalls.Kept.{after_step}
 
 -- ---- what the session below did

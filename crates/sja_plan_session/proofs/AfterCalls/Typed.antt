@@ -29,7 +29,7 @@ use Rattle.sja_session.specs.Turning.{on_latest, goes_on_latest}
 use Rattle.sja_session.specs.declared.step_fault.StepFault.{StepFault}
 use Rattle.sja_session.specs.declared.step_fault.StepFault.TheVariants.{NoNode, StepsUsed, TurnsUsed}
 use Rattle.sja_session.proofs.WrittenPlan.Turned.{latest_of}
-use Rattle.sja_session.proofs.WrittenPlan.Written.{count_at}
+use Rattle.sja_session.proofs.StepsDone.Stepped.{steps_many}
 use Rattle.sja_plan_session.specs.Accessing.{Does}
 use Rattle.sja_plan_session.specs.Accessing.Does.{read, write, typed}
 use Rattle.sja_plan_session.specs.Keeping.{AreFewer}
@@ -101,14 +101,16 @@ one_led : (was now : SessionValue) (node : ℕ) (step : Step) (answer : StepAnsw
     Led was now deeds (with_deeds deeds node (does.deed ∷ [])) node 1
 one_led was now node step answer deeds at there does =
     let more = deeds_at deeds node ++ does.deed ∷ [] in
-    let inside : node < length deeds = let c = at.stands.deeds_count in omega (arith, c, there) in record {
+    let inside : node < length deeds = let c = at.stands.deeds_count in let n = at.count in
+    omega (arith, c, n, there) in record {
       at = does.at;
       version = ap (λ (p : PlanValue). p.version) does.wrote;
       bits = ap (λ (p : PlanValue). p.bits) does.wrote;
       strikes = ap (λ (p : PlanValue). p.strikes) does.wrote;
       run = does.bits;
       room = does.room;
-      nodes = sym does.at.stands.deeds_count ∙ length-set deeds node more ∙ at.stands.deeds_count;
+      nodes = sym does.at.count ∙ sym does.at.stands.deeds_count ∙ length-set deeds node more
+          ∙ at.stands.deeds_count ∙ at.count;
       here = ap (λ (l : List Deed). length l) (get_or-set_same deeds node more [] inside)
           ∙ length-append (deeds_at deeds node) (does.deed ∷ []);
       others = λ m differ. get_or-set_other deeds node m more [] differ;
@@ -209,7 +211,7 @@ led_by at there c = steps_led at there c.does
 -- how many steps of a node are done
 pub done_at : (s : SessionValue) (deeds : List (List Deed)) (node : ℕ) → IsAt s deeds →
     steps_done_of s node ≡ length (deeds_at deeds node)
-done_at s deeds node at = count_at s.plan s.run deeds at.stands node
+done_at s deeds node at = steps_many s.steps deeds node at.steps
 
 -- ---- they are done where three may be
 

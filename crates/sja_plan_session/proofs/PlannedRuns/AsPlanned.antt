@@ -85,17 +85,17 @@ module _ (plan : PlanValue) (first : PlanSessionValue) (bits nodes : ℕ) (room 
   reached s deeds (ran {was = was} count run came r) c =
       let b = runs_led r.runs in
       let x = reached was deeds came (covers_bits run b r.writes c) in
-      reached_bits run x (runs_as plan.strikes was.raw.session s.raw.session count run deeds x.run x.at x.replays
+      reached_bits run x (runs_as plan.strikes was.raw.session s.raw.session count run deeds x.run x.replays
       r.runs) b r.writes c.bits
   reached s deeds (rested {was = was} run rests came r) c =
       let b = rests_led r.rest in
       let x = reached was deeds came (covers_bits run b r.writes c) in
-      reached_bits run x (rests_as plan.strikes was.raw.session s.raw.session run rests deeds x.run x.at x.replays
+      reached_bits run x (rests_as plan.strikes was.raw.session s.raw.session run rests deeds x.run x.replays
       r.rest) b r.writes c.bits
   reached s deeds (watched_on {was = was} count watched run rose came w) c =
       let b = (watches_led was.raw.session s.raw.session count watched run rose deeds w.watches).0 in
       let x = reached was deeds came (covers_bits run b w.writes c) in
-      reached_bits run x (watches_as plan.strikes was.raw.session s.raw.session count watched run rose deeds x.run x.at
+      reached_bits run x (watches_as plan.strikes was.raw.session s.raw.session count watched run rose deeds x.run
       x.replays w.watches) b w.writes c.bits
   reached s deeds (struck_on {was = was} node bit came k) c =
       let x = reached was deeds came

@@ -20,9 +20,9 @@ use Rattle.sja_plan_session.specs.Accessing.{DoesStep, IsUnwritten}
 use Rattle.sja_plan_session.specs.PlanSessions.{PlanSessionValue, bits_of, done_of, most_bits, steps_of}
 use Rattle.sja_plan_session.specs.RawRuns.{next_step}
 use Rattle.sja_plan_session.specs.Running.{WritesBits, with_bits}
-use Rattle.sja_plan_session.specs.Writing.{with_more}
+use Rattle.sja_session.specs.Writing.{with_more}
 use Rattle.sja_plan_session.proofs.AfterCalls.Bits.{BitsLed, bits_led}
-use Rattle.sja_plan_session.proofs.WrittenPlan.OneMore.{more_long, more_other, more_same}
+use Rattle.sja_session.proofs.WrittenPlan.OneMore.{more_long, more_other, more_same}
 use Rattle.sja_plan_session.proofs.AfterCalls.Typed.{chain_of}
 
 -- ---- a plan has what a session has written so far

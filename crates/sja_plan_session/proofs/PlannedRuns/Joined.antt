@@ -12,8 +12,9 @@ use Rattle.sja_plan.specs.declared.turn.Turn.TheVariants.{Bus, Node}
 use Rattle.sja_script.specs.declared.step.Step.{Step}
 use Rattle.sja_script.specs.declared.step_answer.StepAnswer.{StepAnswer}
 use Rattle.sja_serial.specs.Bits.{TakesBits}
+use Rattle.sja_serial.specs.Serial.{Setup}
 use Rattle.sja_serial.proofs.WholeRun.GoingOn.{bits_run}
-use Rattle.sja_session.specs.Sessions.{written}
+use Rattle.sja_session.specs.Sessions.{setup_by, written}
 use Rattle.sja_session.specs.Turning.{on_latest}
 use Rattle.sja_session.specs.Writing.{with_bits_run}
 use Rattle.sja_plan_session.specs.Accessing.{DoesStep}
@@ -42,7 +43,7 @@ pub data TookTurns (plan : PlanValue) (first : PlanSessionValue) (start : List (
   begun : TookTurns plan first start [] first start
   bus : {turns : List Turn} {was now : PlanSessionValue} {deeds : List (List Deed)} {n : ℕ} →
       TookTurns plan first start turns was deeds → bits_of now ≤ plan.bits →
-      now.raw.session.plan ≡ was.raw.session.plan → Runs was now n n deeds →
+      setup_by now.raw.session ≡ setup_by was.raw.session → Runs was now n n deeds →
       TookTurns plan first start (Bus n ∷ turns) now deeds
   node : {turns : List Turn} {was now : PlanSessionValue} {deeds after : List (List Deed)} {k n : ℕ} →
       TookTurns plan first start turns was deeds → DidSteps plan k n was deeds now after →
@@ -51,11 +52,12 @@ pub data TookTurns (plan : PlanValue) (first : PlanSessionValue) (start : List (
 -- ---- more of it
 
 runs_both : {a b c : PlanSessionValue} {n m : ℕ} {deeds : List (List Deed)} → Runs a b n n deeds → Runs b c m m deeds →
-    b.raw.session.plan ≡ a.raw.session.plan → Runs a c (n + m) (n + m) deeds
+    setup_by b.raw.session ≡ setup_by a.raw.session → Runs a c (n + m) (n + m) deeds
 runs_both {a} {b} {c} {n} {m} {deeds} first second same = record {
   runs = record {
-    bits = takes_both a.raw.session.plan deeds a.raw.session.run b.raw.session.run c.raw.session.run n m first.runs.bits
-        (subst (λ (p : PlanValue). TakesBits p deeds AnyTime b.raw.session.run m c.raw.session.run) same
+    bits = takes_both (setup_by a.raw.session) deeds a.raw.session.run b.raw.session.run c.raw.session.run n m
+        first.runs.bits
+        (subst (λ (x : Setup). TakesBits x deeds AnyTime b.raw.session.run m c.raw.session.run) same
         second.runs.bits);
     most = omega arith;
     whole = inl refl;
@@ -75,7 +77,7 @@ runs_both {a} {b} {c} {n} {m} {deeds} first second same = record {
 
 pub bits_on : {plan : PlanValue} {first was now : PlanSessionValue} {start deeds : List (List Deed)} {l : List Turn}
     {n : ℕ} → TookTurns plan first start l was deeds → bits_of now ≤ plan.bits →
-    now.raw.session.plan ≡ was.raw.session.plan → Runs was now n n deeds →
+    setup_by now.raw.session ≡ setup_by was.raw.session → Runs was now n n deeds →
     TookTurns plan first start (on_latest (Bus n) l) now deeds
 bits_on begun few same runs = bus begun few same runs
 bits_on (bus earlier few_before same_before before) few same runs =
@@ -124,7 +126,7 @@ turns_lead begun behind = behind
 turns_lead {plan} {first} {start} {now} {last} {deeds} {after} {l} {later} {end}
     (bus {turns = turns} {was = was} {n = n} earlier few same runs) behind =
     subst (λ (l : List Turn). DoesTurns plan first start l last after end) (sym (turned (Bus n) turns later))
-    (turns_lead earlier (does_bus (let b = bits_run was.raw.session.plan deeds AnyTime was.raw.session.run
+    (turns_lead earlier (does_bus (let b = bits_run (setup_by was.raw.session) deeds AnyTime was.raw.session.run
     now.raw.session.run n runs.runs.bits in omega (arith, b, few)) runs behind))
 turns_lead {plan} {first} {start} {now} {last} {deeds} {after} {l} {later} {end}
     (node {turns = turns} {k = k} {n = n} earlier steps) behind =

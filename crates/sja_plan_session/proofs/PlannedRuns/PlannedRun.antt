@@ -7,15 +7,13 @@ use Rattle.std.proofs.lemmas.List.Elements.{All-from_get_or}
 use Rattle.sja_wire.specs.Buses.{BusValue}
 use Rattle.sja_driver.specs.Deeds.{Deed}
 use Rattle.sja_log.specs.Log.{RunValue}
-use Rattle.sja_log.specs.Runs.{IsSerialRun}
 use Rattle.sja_log.specs.declared.end.End.TheVariants.{Turns as TurnsDone}
 use Rattle.sja_plan.specs.Plan.{PlanValue}
 use Rattle.sja_plan.specs.declared.turn.Turn.{Turn}
 use Rattle.sja_script.specs.declared.step.Step.{Step}
 use Rattle.sja_script.specs.declared.strike.Strike.{Strike}
-use Rattle.sja_serial.specs.Ending.{IsLogOf}
 use Rattle.sja_serial.specs.Serial.{SerialValue}
-use Rattle.sja_session.specs.Sessions.{AreNamed, IsAt, written as written_typed}
+use Rattle.sja_session.specs.Sessions.{AreNamed, IsAt}
 use Rattle.sja_session.specs.declared.session_room.SessionRoom.{SessionRoom}
 use Rattle.sja_plan_session.specs.Ending.{IsLogIn}
 use Rattle.sja_plan_session.specs.History.{IsNew}
@@ -28,8 +26,7 @@ use Rattle.sja_plan_session.proofs.PlannedRuns.Reached.{IsReached}
 use Rattle.sja_plan_session.proofs.AfterCalls.Begun.{nodes_are}
 use Rattle.sja_plan_session.proofs.PlannedRuns.Covered.{Covers}
 use Rattle.sja_plan_session.proofs.PlannedRuns.Joined.{turns_lead}
-use Rattle.sja_session.proofs.StruckBefore.Replayed.{Replays, at_replayed, replayed, replays_own, restruck, struck_with}
-use Rattle.sja_session.proofs.StruckBefore.Replayed.{written_replayed}
+use Rattle.sja_session.proofs.StruckBefore.Replayed.{Replays, at_replayed, replays_own, restruck, struck_with}
 use Rattle.sja_plan_session.proofs.PlannedRuns.ReplayedSteps.{planned}
 
 -- a new session, given other strikes, is a new one with these
@@ -43,8 +40,7 @@ new_planned first bits nodes room old strikes new =
       bus = ap (λ (b : BusValue). record b { script = strikes }) new.bus;
       typed = new.typed;
       reserved = new.reserved;
-      wrote = written_replayed strikes first.raw.session (replicate nodes []) r new.at g
-          ∙ ap (restruck strikes) new.wrote;
+      wrote = ap (restruck strikes) new.wrote;
       kept = new.kept;
       steps = new.steps;
       done = new.done;
@@ -57,18 +53,17 @@ log_planned : (s : PlanSessionValue) (deeds : List (List Deed)) (r : SerialValue
     IsLogIn s deeds TurnsDone log → IsLogIn (planned s.raw.session.plan.strikes r s) deeds TurnsDone log
 log_planned s deeds r log h g is =
     let strikes = s.raw.session.plan.strikes in
-    let same : written_typed (replayed strikes r s.raw.session) ≡ written_typed s.raw.session =
-    written_replayed strikes s.raw.session deeds r h g in record {
+    record {
       typed = is.typed;
-      own = subst (λ (p : PlanValue). IsLogOf p r deeds TurnsDone is.typed) (sym same) (record {
+      own = record {
         run = is.own.run;
         bits = is.own.bits ∙ sym g.bits;
         ends = is.own.ends;
         journals = is.own.journals ∙ sym g.journals;
         in_time = is.own.in_time;
         registers = is.own.registers;
-      });
-      run = subst (λ (p : PlanValue). IsSerialRun p is.typed) (sym same) is.run;
+      };
+      run = is.run;
       is = is.is;
     }
 
@@ -76,7 +71,7 @@ module _ (s : PlanSessionValue) (sr dr : List ℕ) (tr : ℕ) (inv : IsPlanSessi
   covers : Covers (written s) s inv.deeds
   covers = record {
     bits = refl;
-    nodes = inv.at.stands.deeds_count ∙ sym inv.step_lists;
+    nodes = inv.at.stands.deeds_count ∙ inv.at.count ∙ sym inv.step_lists;
     front = λ k. ([], sym (append-nil (steps_of s k)));
     names = subst (λ n. AreNamed n (reverse s.turns)) (sym inv.step_lists) inv.names;
   }

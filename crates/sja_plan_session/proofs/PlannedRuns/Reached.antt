@@ -10,9 +10,8 @@ use Rattle.sja_script.specs.declared.step.Step.{Step}
 use Rattle.sja_script.specs.declared.strike.Strike.{Strike}
 use Rattle.sja_serial.specs.Bits.{TakesBits}
 use Rattle.sja_serial.specs.Bits.TakesBits.{no_bit, one_more}
-use Rattle.sja_serial.specs.Serial.{SerialValue, StandsAt}
-use Rattle.sja_session.specs.Sessions.{IsAt, SessionValue, session_of}
-use Rattle.sja_session.specs.Writing.{with_bits_run}
+use Rattle.sja_serial.specs.Serial.{Setup, SerialValue, StandsAt}
+use Rattle.sja_session.specs.Sessions.{IsAt, SessionValue, session_of, setup_for}
 use Rattle.sja_session.proofs.WatchedBits.QuietBits.{nodes_same}
 use Rattle.sja_session.proofs.WrittenPlan.Turned.{latest_of}
 use Rattle.sja_plan_session.specs.Accessing.{IsUnwritten, WaitsFor}
@@ -24,8 +23,7 @@ use Rattle.sja_plan_session.proofs.AfterCalls.Bits.{BitsLed, few_bits}
 use Rattle.sja_plan_session.proofs.PlannedRuns.Covered.{IsTold, told_same}
 use Rattle.sja_plan_session.proofs.PlannedRuns.Joined.{TookTurns, bits_on}
 use Rattle.sja_session.proofs.StruckBefore.Replayed.{Replays, at_replayed, done_plan, restruck, struck_with}
-use Rattle.sja_session.proofs.StruckBefore.Replayed.{written_replayed}
-use Rattle.sja_session.proofs.StruckBefore.ReplayedBits.{AnyTime, BitsAs, done_bits, done_still}
+use Rattle.sja_session.proofs.StruckBefore.ReplayedBits.{AnyTime, BitsAs, done_bits, done_still, setup_bits}
 use Rattle.sja_plan_session.proofs.PlannedRuns.ReplayedSteps.{planned}
 
 -- ---- where such a run stands
@@ -45,7 +43,7 @@ same_planned : (strikes : List Strike) (was now : PlanSessionValue) (r q : Seria
     now.raw.session.turns ≡ was.raw.session.turns → now.raw.kept ≡ was.raw.kept → IsUnwritten was now →
     planned strikes q now ≡ planned strikes r was
 same_planned strikes was now r q run room plan turns kept u = λ i. record {
-  raw = record { session = session_of (room i) (run i) (plan i) (turns i); kept = kept i };
+  raw = record { session = session_of (room i) (run i) (plan i) (plan i).nodes (turns i); kept = kept i };
   room = u.room i;
   steps = u.steps i;
   done = u.done i;
@@ -77,7 +75,8 @@ pub reached_same : {plan : PlanValue} {first was now : PlanSessionValue} {deeds 
 reached_same {plan} {first} {was} {now} {deeds} x s = record {
   run = x.run;
   replays = record {
-    stands = subst (λ (p : PlanValue). StandsAt p x.run deeds) (sym s.plan) x.replays.stands;
+    stands = subst (λ (p : Setup). StandsAt p x.run deeds)
+        (sym (λ i. setup_for (s.plan i) (s.room i).steps)) x.replays.stands;
     bits = x.replays.bits ∙ sym s.bits;
     journals = x.replays.journals ∙ sym s.journals;
     ports = x.replays.ports ∙ sym s.ports;
@@ -137,8 +136,8 @@ same_strike strikes was now node bit deeds s = record {
 
 -- ---- bits
 
-no_bits : {plan : PlanValue} {deeds : List (List Deed)} {a b : SerialValue} {n : ℕ} → n ≡ 0 →
-    TakesBits plan deeds AnyTime a n b → b ≡ a
+no_bits : {setup : Setup} {deeds : List (List Deed)} {a b : SerialValue} {n : ℕ} → n ≡ 0 →
+    TakesBits setup deeds AnyTime a n b → b ≡ a
 no_bits is (no_bit _) = refl
 no_bits is (one_more _ mid _ m before holds one) = absurd (omega (arith, is))
 
@@ -165,17 +164,14 @@ reached_bits {plan} {first} {was} {now} {deeds} (suc n) x y b w most = record {
       (sym (ap (λ (l : List Turn). reverse l) w.turns ∙ latest_of was.turns (Bus (suc n))))
       (bits_on x.took
       (let f = few_bits now.raw.session deeds b.at in let e = y.replays.bits in omega (arith, f, e, most))
-      (done_bits plan.strikes was.raw.session now.raw.session (suc n) b.wrote) (record {
+      (setup_bits plan.strikes was.raw.session now.raw.session (suc n) b.room b.wrote) (record {
         runs = record {
           bits = y.takes;
           most = omega arith;
           whole = inl refl;
           at = at_replayed plan.strikes now.raw.session deeds y.run b.at y.replays;
           room = b.room;
-          wrote = written_replayed plan.strikes now.raw.session deeds y.run b.at y.replays
-              ∙ ap (restruck plan.strikes) b.wrote
-              ∙ ap (λ p. with_bits_run p (suc n))
-              (sym (written_replayed plan.strikes was.raw.session deeds x.run x.at x.replays));
+          wrote = ap (restruck plan.strikes) b.wrote;
         };
         writes = record { kept = w.kept; room = w.room; steps = w.steps; done = w.done; turns = w.turns };
       }));

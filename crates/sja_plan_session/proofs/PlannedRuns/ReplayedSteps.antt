@@ -6,7 +6,6 @@ use Rattle.sja_driver.specs.Deeds.{Deed, deeds_at, is_active, with_deeds}
 use Rattle.sja_link.specs.declared.entry.Entry.{Entry}
 use Rattle.sja_log.specs.Registering.{seen_now}
 use Rattle.sja_driver.specs.Windows.{SeesIf}
-use Rattle.sja_plan.specs.Plan.{PlanValue}
 use Rattle.sja_raw.specs.Kept.{kept_after}
 use Rattle.sja_raw.specs.Reads.{raw_value}
 use Rattle.sja_raw.specs.Writes.{write_steps}
@@ -20,15 +19,14 @@ use Rattle.sja_session.specs.RawSessions.{RawValue, DoesSteps, kept_in, moved_by
 use Rattle.sja_session.specs.RawSessions.DoesSteps.{none, more}
 use Rattle.sja_session.specs.Sessions.{SessionValue, IsAt}
 use Rattle.sja_session.specs.Stepping.{DoesStep as DoesOne}
-use Rattle.sja_session.specs.Writing.{with_step_done}
 use Rattle.sja_link.specs.BitEntries.{entries_of_items}
 use Rattle.sja_wire.specs.Wire.{journal_at}
 use Rattle.sja_plan_session.specs.Accessing.{Does, DoesStep}
 use Rattle.sja_plan_session.specs.Accessing.Does.{read, write, typed}
 use Rattle.sja_plan_session.specs.PlanSessions.{PlanSessionValue}
-use Rattle.sja_plan_session.specs.Writing.{with_more}
-use Rattle.sja_session.proofs.StruckBefore.Replayed.{Replays, at_replayed, done_nodes, replayed, replays_own, restruck}
-use Rattle.sja_session.proofs.StruckBefore.Replayed.{struck_with, written_replayed}
+use Rattle.sja_session.specs.Writing.{with_more}
+use Rattle.sja_session.proofs.StruckBefore.Replayed.{Replays, at_replayed, replayed, replays_own, restruck}
+use Rattle.sja_session.proofs.StruckBefore.Replayed.{struck_with}
 
 -- ---- a typed step
 
@@ -55,7 +53,7 @@ one_replayed strikes was now node step answer deeds r h g does =
       journal = does.journal
           ∙ ap (λ (journals : List (List Entry)). journal_at journals node ++ entries_of_items does.deed.gave)
           (sym g.journals);
-      others = λ m less differ. does.others m (let n = done_nodes strikes was deeds h in omega (arith, n, less)) differ
+      others = λ m less differ. does.others m (let n = h.count in omega (arith, n, less)) differ
           ∙ ap (λ (journals : List (List Entry)). journal_at journals m) (sym g.journals);
       ports = λ p. does.ports p
           ∙ ap (λ (ports : List Registers). slice_set ports node (ported (slice_index_or ports node p) step answer))
@@ -63,9 +61,7 @@ one_replayed strikes was now node step answer deeds r h g does =
       at = at_replayed strikes now (with_deeds deeds node (does.deed ∷ [])) (struck_with strikes now.run) does.at own;
       bits = does.bits ∙ sym g.bits;
       room = does.room;
-      wrote = written_replayed strikes now (with_deeds deeds node (does.deed ∷ [])) (struck_with strikes now.run)
-          does.at own ∙ ap (restruck strikes) does.wrote
-          ∙ ap (λ (p : PlanValue). with_step_done p node step) (sym (written_replayed strikes was deeds r h g));
+      wrote = ap (restruck strikes) does.wrote;
     }
 
 -- ---- typed steps, one right after the other

@@ -15,7 +15,7 @@ use Rattle.sja_session.specs.Writing.{with_bits_run, with_step_done}
 use Rattle.sja_plan_session.specs.Accessing.{DoesStep, IsUnwritten}
 use Rattle.sja_plan_session.specs.PlanSessions.{PlanSessionValue, most_bits, node_count, written}
 use Rattle.sja_plan_session.specs.Running.{WritesBits}
-use Rattle.sja_plan_session.specs.Writing.{with_more}
+use Rattle.sja_session.specs.Writing.{with_more}
 use Rattle.sja_plan_session.proofs.AfterCalls.Bits.{BitsLed, bits_led}
 use Rattle.sja_plan_session.proofs.AfterCalls.Typed.{chain_of, led_by}
 

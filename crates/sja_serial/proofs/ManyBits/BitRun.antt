@@ -1,5 +1,5 @@
 -- A run after a bit.
-use Rattle.std.proofs.Common.{◌≡◌, ℕ, ◌+◌, ◌*◌, ◌<◌, ◌≤◌, List, length, sym, ap, ◌∙◌, subst, arith}
+use Rattle.std.proofs.Common.{◌≡◌, ℕ, ◌+◌, ◌*◌, ◌<◌, List, length, sym, ap, ◌∙◌, subst, arith}
 use Rattle.std.specs.Prelude.{None, slice_index_or}
 use Rattle.std.proofs.lemmas.Slice.Zip.{AllZip-long}
 use Rattle.can_bits.specs.declared.level.Level.TheVariants.{Recessive}
@@ -17,14 +17,13 @@ use Rattle.sja_wire.specs.Lawful.{IsBusRun}
 use Rattle.sja_link.specs.Links.{Kept}
 use Rattle.sja_wire.specs.Wire.{journal_at}
 use Rattle.sja_script.specs.declared.strike.Strike.{Strike}
-use Rattle.sja_plan.specs.Plan.{PlanValue, steps_at}
 use Rattle.sja_driver.specs.declared.logged_driver.LoggedDriver.{LoggedDriver}
 use Rattle.sja_driver.specs.Deeds.{Deed, deeds_at}
 use Rattle.sja_driver.specs.LoggedDrivers.{node_of}
 use Rattle.sja_serial.specs.Bits.{TakesBit}
 use Rattle.sja_link.specs.BitEntries.{HasOneBit}
 use Rattle.sja_log.specs.Nodes.{IsNode}
-use Rattle.sja_serial.specs.Serial.{SerialValue, StandsAt}
+use Rattle.sja_serial.specs.Serial.{Setup, SerialValue, StandsAt}
 use Rattle.sja_driver.specs.Shown.{ShowsRecord}
 use Rattle.sja_driver.proofs.OneNode.Slices.{numbered_still}
 use Rattle.sja_driver.proofs.OneBit.BitAsked.{HasCut}
@@ -36,7 +35,7 @@ pub cuts_of : {script : List Strike} {run : ℕ} {journals : List (List Entry)} 
     (m : ℕ) → m < length journals → HasCut (journal_at journals m)
 cuts_of h m less = let l = h.lawful m less in record { found = l.found; cut = l.cut }
 
-module _ (plan : PlanValue) (r n : SerialValue) (deeds : List (List Deed)) (h : StandsAt plan r deeds)
+module _ (setup : Setup) (r n : SerialValue) (deeds : List (List Deed)) (h : StandsAt setup r deeds)
     (right : n.bus.fault ≡ None) (script : n.bus.script ≡ r.bus.script)
     (room : n.bus.steps ≡ r.bus.steps) (run : n.bus.run ≡ r.bus.run + 1) (left : n.bus.left + 1 ≡ r.bus.left)
     (journals : length n.bus.journals ≡ length r.bus.journals) (drivers_are : n.drivers ≡ r.drivers)
@@ -47,10 +46,10 @@ module _ (plan : PlanValue) (r n : SerialValue) (deeds : List (List Deed)) (h : 
     (bit : IsBit (HasOrders r.ports) (WasTold r.ports n.ports) (WasKept r.ports n.ports) r.bus.script r.bus.run
     r.bus.untold r.bus.journals n.bus.journals)
     (cuts : (m : ℕ) → m < length r.bus.journals → HasCut (journal_at r.bus.journals m)) where
-  inside : (m : ℕ) → m < length plan.nodes → m < length r.bus.journals
+  inside : (m : ℕ) → m < setup.nodes → m < length r.bus.journals
   inside m less = let c = h.count.journals in omega (arith, c, less)
 
-  module _ (m : ℕ) (d : LoggedDriver) (p : Registers) (less : m < length plan.nodes) where
+  module _ (m : ℕ) (d : LoggedDriver) (p : Registers) (less : m < setup.nodes) where
     here : BitOf (slice_index_or r.ports m p) (slice_index_or n.ports m p) (untold_at r.bus.untold m)
         (journal_at r.bus.journals m) (journal_at n.bus.journals m) (slice_index_or bit.driven m Recessive) (bit.seen m)
     here =
@@ -67,17 +66,17 @@ module _ (plan : PlanValue) (r n : SerialValue) (deeds : List (List Deed)) (h : 
     one : HasOneBit (journal_at r.bus.journals m) (journal_at n.bus.journals m)
     one = one_bit n.links (h.nodes m d p less) here keeps
 
-    node_now : IsNode plan.version (steps_at plan m) (journal_at n.bus.journals m) (deeds_at deeds m)
+    node_now : IsNode setup.version (slice_index_or setup.steps m 0) (journal_at n.bus.journals m) (deeds_at deeds m)
         (slice_index_or r.drivers m d) (slice_index_or n.ports m p) n.links (64 * m)
     node_now = after_one_bit n.links (h.nodes m d p less) here keeps (h.shown m p less) (cuts m (inside m less))
 
     shows_now : ShowsRecord (journal_at n.bus.journals m) (slice_index_or n.ports m p)
     shows_now = shows n.links (h.nodes m d p less) here keeps (h.shown m p less)
 
-  driver_at : (m : ℕ) → m < length plan.nodes → LoggedDriver
+  driver_at : (m : ℕ) → m < setup.nodes → LoggedDriver
   driver_at m less = some_of r.drivers m (let c = h.count.drivers in omega (arith, c, less))
 
-  stands_now : StandsAt plan n deeds
+  stands_now : StandsAt setup n deeds
   stands_now = record {
     right = right;
     script = script ∙ h.script;
@@ -90,18 +89,19 @@ module _ (plan : PlanValue) (r n : SerialValue) (deeds : List (List Deed)) (h : 
       links = AllZip-long (λ (a b : Deques). b.link ≡ a.link) r.links n.links sames ∙ h.count.links;
     };
     deeds_count = h.deeds_count;
-    room = λ m less. subst (λ (l : List ℕ). length (steps_at plan m) ≤ slice_index_or l m 0) (sym room) (h.room m less);
+    may = h.may;
+    steps = room ∙ h.steps;
     ids = numbered_still r.links n.links h.ids sames;
     own = λ m d less. ap (λ (l : List LoggedDriver). node_of (slice_index_or l m d)) drivers_are ∙ h.own m d less;
-    nodes = λ m d p less. subst (λ (l : List LoggedDriver). IsNode plan.version (steps_at plan m)
+    nodes = λ m d p less. subst (λ (l : List LoggedDriver). IsNode setup.version (slice_index_or setup.steps m 0)
         (journal_at n.bus.journals m) (deeds_at deeds m) (slice_index_or l m d) (slice_index_or n.ports m p) n.links
         (64 * m)) (sym drivers_are) (node_now m d p less);
     shown = λ m p less told. shows_now m (driver_at m less) p less;
   }
 
-  pub takes_bit : TakesBit plan deeds r n
+  pub takes_bit : TakesBit setup deeds r n
   takes_bit = record {
     stands = stands_now;
     bits = bits_are;
-    nodes = λ m less. one m (driver_at m less) (at_power_on plan.version) less;
+    nodes = λ m less. one m (driver_at m less) (at_power_on setup.version) less;
   }

@@ -4,10 +4,9 @@ use Rattle.sja_link.specs.Deques.{Deques}
 use Rattle.sja_regs.specs.declared.registers.Registers.{Registers}
 use Rattle.sja_wire.specs.Buses.{BusValue}
 use Rattle.sja_wire.specs.Lawful.{IsBusRun}
-use Rattle.sja_plan.specs.Plan.{PlanValue}
 use Rattle.sja_driver.specs.declared.logged_driver.LoggedDriver.{LoggedDriver}
 use Rattle.sja_driver.specs.Deeds.{Deed}
-use Rattle.sja_serial.specs.Serial.{SerialValue, StandsAt}
+use Rattle.sja_serial.specs.Serial.{Setup, SerialValue, StandsAt}
 use Rattle.sja_serial.specs.Inside.Going.{run_now}
 
 module _ {bus : BusValue} {drivers : List LoggedDriver} {ports : List Registers}
@@ -18,12 +17,12 @@ module _ {bus : BusValue} {drivers : List LoggedDriver} {ports : List Registers}
   run_is = (λ i. run_now bus drivers ports (same i) bits) ∙ view
 
   -- it stands where that run does, and has bits left where that has
-  pub stands_there : (plan : PlanValue) (deeds : List (List Deed)) → StandsAt plan r deeds →
-      StandsAt plan (run_now bus drivers ports slice bits) deeds
-  stands_there plan deeds = subst (λ (x : SerialValue). StandsAt plan x deeds) (sym run_is)
+  pub stands_there : (setup : Setup) (deeds : List (List Deed)) → StandsAt setup r deeds →
+      StandsAt setup (run_now bus drivers ports slice bits) deeds
+  stands_there setup deeds = subst (λ (x : SerialValue). StandsAt setup x deeds) (sym run_is)
 
-  pub left_there : (plan : PlanValue) → r.bits < plan.bits → bits < plan.bits
-  left_there plan = subst (λ (x : SerialValue). x.bits < plan.bits) (sym run_is)
+  pub left_there : (setup : Setup) → r.bits < setup.bits → bits < setup.bits
+  left_there setup = subst (λ (x : SerialValue). x.bits < setup.bits) (sym run_is)
 
   -- and its bus has its laws where that of the run has
   pub lawful_there : IsBusRun r.bus.script r.bus.run r.bus.journals → IsBusRun bus.script bus.run bus.journals

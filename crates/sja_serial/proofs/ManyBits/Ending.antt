@@ -6,10 +6,9 @@ use Rattle.sja_bus.specs.Boards.{HasOrders}
 use Rattle.sja_bus.specs.UntilTold.{EndsUntilTold as EndsOnBus}
 use Rattle.sja_bus.specs.UntilTold.EndsUntilTold.{no_more as none_on_bus, told as told_on_bus}
 use Rattle.sja_bus.proofs.AllNodes.UntilTold.{held_of, none_of}
-use Rattle.sja_plan.specs.Plan.{PlanValue}
 use Rattle.sja_driver.specs.declared.logged_driver.LoggedDriver.{LoggedDriver}
 use Rattle.sja_driver.specs.Deeds.{Deed}
-use Rattle.sja_serial.specs.Serial.{SerialValue, StandsAt, IsRunOf}
+use Rattle.sja_serial.specs.Serial.{Setup, SerialValue, StandsAt, IsRunOf}
 use Rattle.sja_serial.specs.Inside.Going.{run_now}
 use Rattle.sja_serial.specs.UntilTold.{EndsUntilTold, TakesUntilTold, NoneTold}
 use Rattle.sja_serial.specs.UntilTold.EndsUntilTold.{no_more, told, alone}
@@ -35,13 +34,13 @@ ended_told count n was now drivers links back bits run r view ends =
 
 -- ---- of as many as are left of those that were asked for
 
-module _ {plan : PlanValue} {was : SerialValue} (run : IsRunOf plan was) (most count : ℕ) where
-  left_there : (most ≡ count) ⊎ (was.bits + most ≡ plan.bits) → (most ≡ count) ⊎ (most ≡ was.bus.left)
+module _ {setup : Setup} {was : SerialValue} (run : IsRunOf setup was) (most count : ℕ) where
+  left_there : (most ≡ count) ⊎ (was.bits + most ≡ setup.bits) → (most ≡ count) ⊎ (most ≡ was.bus.left)
   left_there (inl all) = inl all
   left_there (inr few) = let left = run.1.all_bits in let bits = run.1.bits in inr (omega (arith, few, left, bits))
 
-  pub ended_of : {now : SerialValue} {n : ℕ} → (most ≡ count) ⊎ (was.bits + most ≡ plan.bits) →
-      ((deeds : List (List Deed)) → StandsAt plan was deeds → TakesUntilTold plan deeds was n now) →
+  pub ended_of : {now : SerialValue} {n : ℕ} → (most ≡ count) ⊎ (was.bits + most ≡ setup.bits) →
+      ((deeds : List (List Deed)) → StandsAt setup was deeds → TakesUntilTold setup deeds was n now) →
       EndsUntilTold most was n now → EndsUntilTold count was n now
   ended_of {now} {n} which bits (no_more why) =
       no_more (none_of false most count n now.bus (left_now (left_there which)) why)
@@ -50,7 +49,7 @@ module _ {plan : PlanValue} {was : SerialValue} (run : IsRunOf plan was) (most c
       left_now (inl all) = inl all
       left_now (inr few) =
           let before = run.1 in let after = (run_told run bits).1 in
-          let more = bits_run plan run.0 (NoneTold was) was now n (bits run.0 run.1) in
+          let more = bits_run setup run.0 (NoneTold was) was now n (bits run.0 run.1) in
           let a = before.all_bits in let b = before.bits in let c = after.all_bits in let d = after.bits in
           inr (omega (arith, few, more, a, b, c, d))
   ended_of which bits (told node turn few is last) = told node turn few is last

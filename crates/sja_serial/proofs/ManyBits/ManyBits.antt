@@ -13,11 +13,10 @@ use Rattle.sja_bus.specs.Moment.{Moment, OneBit, moment}
 use Rattle.sja_bus.specs.Several.{BitInOrder, AreBits, WorksIf, BreaksOff}
 use Rattle.sja_bus.specs.Several.AreBits.{no_bit as none_run, one_more as one_run}
 use Rattle.sja_bus.specs.UntilTold.{WorksUntold}
-use Rattle.sja_plan.specs.Plan.{PlanValue, IsInLimits}
 use Rattle.sja_driver.specs.declared.logged_driver.LoggedDriver.{LoggedDriver}
 use Rattle.sja_driver.specs.Deeds.{Deed}
 use Rattle.sja_serial.specs.Bits.{TakesBit, TakesBits, SomeWorks}
-use Rattle.sja_serial.specs.Serial.{SerialValue, StandsAt, IsRunOf}
+use Rattle.sja_serial.specs.Serial.{Setup, SerialValue, StandsAt, IsRunOf}
 use Rattle.sja_serial.specs.Inside.Going.{run_now}
 use Rattle.sja_serial.specs.UntilTold.{NoneTold}
 use Rattle.sja_serial.specs.Bits.TakesBits.{no_bit, one_more}
@@ -63,11 +62,11 @@ run_then drivers m = run_now m.bus drivers m.board.ports.items m.links m.bus.run
 -- ---- kinds of bits
 
 -- each is a bit of the bus, and what holds of the bus before it, since the first, holds of the run
-pub record IsKind (plan : PlanValue) (One : ℕ → SerialMoment → SerialMoment → Type 0)
+pub record IsKind (setup : Setup) (One : ℕ → SerialMoment → SerialMoment → Type 0)
     (Before : SerialMoment → SerialMoment → Type 0) (After : SerialValue → SerialValue → Type 0) : Type 0 where
   pub bit : (k : ℕ) (was now : SerialMoment) → One k was now → OneBit ends ports was now
   pub holds : (deeds : List (List Deed)) (drivers : List LoggedDriver) (first m : SerialMoment) →
-      StandsAt plan (run_then drivers m) deeds → Before first m → After (run_then drivers first) (run_then drivers m)
+      StandsAt setup (run_then drivers m) deeds → Before first m → After (run_then drivers first) (run_then drivers m)
 
 -- whether a call ends at rest, as a number
 abbrev pub ends_at_rest : Bool → ℕ
@@ -79,17 +78,17 @@ rests false some = absurd (omega (arith, some))
 rests true some = refl
 
 -- those before which some node works, where that is asked for
-pub busy : (plan : PlanValue) (to_rest : Bool) → ends_at_rest to_rest ≡ 1 →
-    IsKind plan NthBit (λ first. WorksIf to_rest) (λ first. SomeWorks plan)
-busy plan to_rest asked = record {
+pub busy : (setup : Setup) (to_rest : Bool) → ends_at_rest to_rest ≡ 1 →
+    IsKind setup NthBit (λ first. WorksIf to_rest) (λ first. SomeWorks setup)
+busy setup to_rest asked = record {
   bit = λ k was now one. one.bit;
   holds = λ deeds drivers first m stands works.
-      some_works plan (run_then drivers m) deeds stands (works (rests to_rest asked));
+      some_works setup (run_then drivers m) deeds stands (works (rests to_rest asked));
 }
 
 -- those of a call, whether it ends at rest or not
-pub either : (plan : PlanValue) (to_rest : Bool) → IsKind plan NthBit (λ first. WorksIf to_rest) (λ first r. Unit {0})
-either plan to_rest = record { bit = λ k was now one. one.bit; holds = λ deeds drivers first m stands works. tt }
+pub either : (setup : Setup) (to_rest : Bool) → IsKind setup NthBit (λ first. WorksIf to_rest) (λ first r. Unit {0})
+either setup to_rest = record { bit = λ k was now one. one.bit; holds = λ deeds drivers first m stands works. tt }
 
 -- whether the call that ran these ends at rest
 abbrev pub asked_in : {E B : Type 0} {One : ℕ → Moment E B → Moment E B → Type 0} (to_rest : Bool)
@@ -97,8 +96,8 @@ abbrev pub asked_in : {E B : Type 0} {One : ℕ → Moment E B → Moment E B �
 asked_in to_rest bits = to_rest
 
 -- those before which no port was told anything since the first
-pub untold : (plan : PlanValue) → IsKind plan (λ k. OneBit ends ports) (WorksUntold false) NoneTold
-untold plan = record {
+pub untold : (setup : Setup) → IsKind setup (λ k. OneBit ends ports) (WorksUntold false) NoneTold
+untold setup = record {
   bit = λ k was now one. one;
   holds = λ deeds drivers first m stands both. record {
     ports = ap (λ (b : SerialBoard). b.ports.items) both.1.board;
@@ -106,21 +105,21 @@ untold plan = record {
   };
 }
 
-module _ (plan : PlanValue) (deeds : List (List Deed)) (drivers : List LoggedDriver) where
+module _ (setup : Setup) (deeds : List (List Deed)) (drivers : List LoggedDriver) where
   -- a run stands there, and its bus has its laws
   pub record IsThere (m : SerialMoment) : Type 0 where
-    pub stands : StandsAt plan (run_then drivers m) deeds
+    pub stands : StandsAt setup (run_then drivers m) deeds
     pub lawful : IsBusRun m.bus.script m.bus.run m.bus.journals
 
   one_bit : (was now : SerialMoment) → IsThere was → OneBit ends ports was now →
-      TakesBit plan deeds (run_then drivers was) (run_then drivers now)
+      TakesBit setup deeds (run_then drivers was) (run_then drivers now)
   one_bit was now t b =
-      takes_bit plan (run_then drivers was) (run_then drivers now) deeds t.stands b.right b.keeps.script
+      takes_bit setup (run_then drivers was) (run_then drivers now) deeds t.stands b.right b.keeps.script
       b.keeps.steps b.run b.left b.keeps.nodes refl b.run b.keeps.others.0 b.kept b.keeps.sames
       b.bit (cuts_of t.lawful)
 
   module _ {One : ℕ → SerialMoment → SerialMoment → Type 0} {Before : SerialMoment → SerialMoment → Type 0}
-      {After : SerialValue → SerialValue → Type 0} (kind : IsKind plan One Before After) (first : SerialMoment) where
+      {After : SerialValue → SerialValue → Type 0} (kind : IsKind setup One Before After) (first : SerialMoment) where
     there_still : (was now : SerialMoment) (n : ℕ) → AreBits One (Before first) was n now → IsThere was → IsThere now
     there_still was now n (none_run _) t = t
     there_still was now n (one_run _ mid _ k bits before one) t = let b = kind.bit k mid now one in record {
@@ -130,7 +129,7 @@ module _ (plan : PlanValue) (deeds : List (List Deed)) (drivers : List LoggedDri
 
     -- each of them is a bit of the run
     takes_bits : (was now : SerialMoment) (n : ℕ) → AreBits One (Before first) was n now → IsThere was →
-        TakesBits plan deeds (After (run_then drivers first)) (run_then drivers was) n (run_then drivers now)
+        TakesBits setup deeds (After (run_then drivers first)) (run_then drivers was) n (run_then drivers now)
     takes_bits was now n (none_run _) t = no_bit (run_then drivers was)
     takes_bits was now n (one_run _ mid _ k bits before one) t =
         let m = there_still was mid k bits t in
@@ -140,18 +139,18 @@ module _ (plan : PlanValue) (deeds : List (List Deed)) (drivers : List LoggedDri
     many_run : (was now : SerialMoment) (n : ℕ) → AreBits One (Before first) was n now → IsThere was →
         now.bus.run ≡ was.bus.run + n
     many_run was now n bits t = let After_first = After (run_then drivers first) in
-        bits_run plan deeds After_first (run_then drivers was) (run_then drivers now) n
+        bits_run setup deeds After_first (run_then drivers was) (run_then drivers now) n
         (takes_bits was now n bits t)
 
     -- none of them broke off, where no more were asked for than are left
-    never_breaks : (was now : SerialMoment) (count : ℕ) (f : BusFault) → IsThere was → IsInLimits plan →
-        was.bus.run + count ≤ plan.bits →
+    never_breaks : (was now : SerialMoment) (count : ℕ) (f : BusFault) → IsThere was →
+        was.bus.run + count ≤ setup.bits →
         BreaksOff ends.stands ends.full ports.orders_are One (Before first) count was now f → ⊥
-    never_breaks was now count f t limits few b =
+    never_breaks was now count f t few b =
         let m = there_still was b.mid b.run b.bits t in
         let run = many_run was b.mid b.run b.bits t in
         let early = b.early in
-        never_stops plan (run_then drivers b.mid) deeds m.stands (omega (arith, run, early, few)) m.lawful limits
+        never_stops setup (run_then drivers b.mid) deeds m.stands (omega (arith, run, early, few)) m.lawful
         (HasOrders b.mid.board.ports.items) now.bus now.links f b.stops
 
 -- ---- a call that runs them, over a slice of the links of a run that has so many left
@@ -159,10 +158,10 @@ module _ (plan : PlanValue) (deeds : List (List Deed)) (drivers : List LoggedDri
 module _ (bus : BusValue) (drivers : List LoggedDriver) (board : SerialBoard) (slice links : List Deques) (bits : ℕ)
     (r : SerialValue) (same : slice ≡ links) (view : run_now bus drivers board.ports.items links
     bits ≡ r)
-    (plan : PlanValue) (run : IsRunOf plan r) (lawful : IsBusRun r.bus.script r.bus.run r.bus.journals) (most : ℕ)
-    (few : r.bits + most ≤ plan.bits) {One : ℕ → SerialMoment → SerialMoment → Type 0}
+    (setup : Setup) (run : IsRunOf setup r) (lawful : IsBusRun r.bus.script r.bus.run r.bus.journals) (most : ℕ)
+    (few : r.bits + most ≤ setup.bits) {One : ℕ → SerialMoment → SerialMoment → Type 0}
     {Before : SerialMoment → SerialMoment → Type 0} {After : SerialValue → SerialValue → Type 0}
-    (kind : IsKind plan One Before After) where
+    (kind : IsKind setup One Before After) where
   abbrev was : SerialMoment
   was = moment bus slice board
 
@@ -173,28 +172,28 @@ module _ (bus : BusValue) (drivers : List LoggedDriver) (board : SerialBoard) (s
   was_is = (λ i. run_now bus drivers board.ports.items slice (sym bits_are i))
       ∙ run_is same view
 
-  there : (deeds : List (List Deed)) → StandsAt plan r deeds → IsThere plan deeds drivers was
+  there : (deeds : List (List Deed)) → StandsAt setup r deeds → IsThere setup deeds drivers was
   there deeds h = record {
-    stands = subst (λ (x : SerialValue). StandsAt plan x deeds) (sym was_is) h;
+    stands = subst (λ (x : SerialValue). StandsAt setup x deeds) (sym was_is) h;
     lawful = lawful_there same view lawful;
   }
 
   -- none of its bits broke off
-  pub no_break : (now : SerialMoment) (f : BusFault) → IsInLimits plan →
+  pub no_break : (now : SerialMoment) (f : BusFault) →
       (bus.fault ≡ None → BreaksOff ends.stands ends.full ports.orders_are One (Before was) most was now f) → ⊥
-  no_break now f limits breaks =
+  no_break now f breaks =
       let t = there run.0 run.1 in
-      never_breaks plan run.0 drivers kind was was now most f t limits
-      (subst (λ (x : SerialValue). x.bits + most ≤ plan.bits) (sym was_is) few) (breaks t.stands.right)
+      never_breaks setup run.0 drivers kind was was now most f t
+      (subst (λ (x : SerialValue). x.bits + most ≤ setup.bits) (sym was_is) few) (breaks t.stands.right)
 
   -- those that it ran are bits of the run, into which the links are put back
   pub bits_taken : (now : SerialMoment) (back : List Deques) → back ≡ now.links → (many : ℕ) →
-      AreBits One (Before was) was many now → (deeds : List (List Deed)) → StandsAt plan r deeds →
-      TakesBits plan deeds (After r) r many (run_now now.bus drivers now.board.ports.items back (bits + many))
+      AreBits One (Before was) was many now → (deeds : List (List Deed)) → StandsAt setup r deeds →
+      TakesBits setup deeds (After r) r many (run_now now.bus drivers now.board.ports.items back (bits + many))
   bits_taken now back back_is many are deeds h =
-      let t = takes_bits plan deeds drivers kind was was now many are (there deeds h) in
-      let b = many_run plan deeds drivers kind was was now many are (there deeds h) in
+      let t = takes_bits setup deeds drivers kind was was now many are (there deeds h) in
+      let b = many_run setup deeds drivers kind was was now many are (there deeds h) in
       let e = bits_are in let bits_now : now.bus.run ≡ bits + many = omega (arith, e, b) in
-      subst (λ (x : SerialValue). TakesBits plan deeds (After r) r many x)
+      subst (λ (x : SerialValue). TakesBits setup deeds (After r) r many x)
       (λ i. run_now now.bus drivers now.board.ports.items (sym back_is i) (bits_now i))
-      (subst (λ (x : SerialValue). TakesBits plan deeds (After x) x many (run_then drivers now)) was_is t)
+      (subst (λ (x : SerialValue). TakesBits setup deeds (After x) x many (run_then drivers now)) was_is t)

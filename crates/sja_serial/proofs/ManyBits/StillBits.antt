@@ -18,7 +18,6 @@ use Rattle.sja_link.specs.Links.{per_node, Kept}
 use Rattle.sja_bus.specs.Stretches.{recessive_bits, with_recessive, IsStretch}
 use Rattle.sja_wire.specs.Wire.{journal_at}
 use Rattle.sja_bus.proofs.Resting.QuietBits.{longer_at, account_still}
-use Rattle.sja_plan.specs.Plan.{PlanValue, steps_at}
 use Rattle.sja_driver.specs.declared.logged_driver.LoggedDriver.{LoggedDriver}
 use Rattle.sja_driver.specs.Deeds.{Deed, deeds_at}
 use Rattle.sja_driver.proofs.Trace.Stepping.{given_taken}
@@ -26,7 +25,7 @@ use Rattle.sja_serial.specs.Bits.{TakesBit, TakesBits}
 use Rattle.sja_link.specs.BitEntries.{HasOneBit}
 use Rattle.sja_serial.specs.Bits.TakesBits.{no_bit, one_more}
 use Rattle.sja_log.specs.Nodes.{IsNode}
-use Rattle.sja_serial.specs.Serial.{SerialValue, StandsAt}
+use Rattle.sja_serial.specs.Serial.{Setup, SerialValue, StandsAt}
 use Rattle.sja_serial.specs.Inside.Going.{run_now}
 use Rattle.sja_driver.specs.Shown.{ShowsRecord}
 use Rattle.sja_driver.proofs.OneNode.Slices.{numbered_still}
@@ -68,30 +67,30 @@ run_at r links untold i = run_now (record {
 
 -- ---- a run whose links were looked at, and nothing was taken
 
-module _ (plan : PlanValue) (r : SerialValue) (deeds : List (List Deed)) (h : StandsAt plan r deeds)
+module _ (setup : Setup) (r : SerialValue) (deeds : List (List Deed)) (h : StandsAt setup r deeds)
     (links : List Deques)
     (sames : EachRelated (λ (a b : Deques). b.link ≡ a.link) r.links links)
     (kept : KeepsAll Lies r.bus.journals r.bus.journals r.links links) where
-  module _ (m : ℕ) (d : LoggedDriver) (p : Registers) (less : m < length plan.nodes) where
+  module _ (m : ℕ) (d : LoggedDriver) (p : Registers) (less : m < setup.nodes) where
     abbrev j : List Entry
     j = journal_at r.bus.journals m
 
     abbrev ds : List Deed
     ds = deeds_at deeds m
 
-    was : IsNode plan.version (steps_at plan m) j ds (slice_index_or r.drivers m d)
+    was : IsNode setup.version (slice_index_or setup.steps m 0) j ds (slice_index_or r.drivers m d)
         (slice_index_or r.ports m p) r.links (64 * m)
     was = h.nodes m d p less
 
-    node_still : IsNode plan.version (steps_at plan m) j ds (slice_index_or r.drivers m d)
+    node_still : IsNode setup.version (slice_index_or setup.steps m 0) j ds (slice_index_or r.drivers m d)
         (slice_index_or r.ports m p) links (64 * m)
     node_still = node_with was was.traced (linked_after (slice_index_or r.drivers m d) was.linked.holds
         (λ acc. kept m acc (let c = h.count.journals in omega (arith, c, less)))
         (λ a. given_taken ds j a (was.in_time.when a)) was.linked.level)
 
   -- it stands where it stood, where nothing more is told
-  pub stands_still : (untold : List Bool) → ((m : ℕ) → m < length plan.nodes → untold_at untold m ≡ false →
-      untold_at r.bus.untold m ≡ false) → StandsAt plan (run_at r links untold 0) deeds
+  pub stands_still : (untold : List Bool) → ((m : ℕ) → m < setup.nodes → untold_at untold m ≡ false →
+      untold_at r.bus.untold m ≡ false) → StandsAt setup (run_at r links untold 0) deeds
   stands_still untold told = let same = sym (with_none r.bus.journals) in record {
     right = h.right;
     script = h.script;
@@ -104,10 +103,12 @@ module _ (plan : PlanValue) (r : SerialValue) (deeds : List (List Deed)) (h : St
       links = AllZip-long (λ (a b : Deques). b.link ≡ a.link) r.links links sames ∙ h.count.links;
     };
     deeds_count = h.deeds_count;
-    room = h.room;
+    may = h.may;
+    steps = h.steps;
     ids = numbered_still r.links links h.ids sames;
     own = h.own;
-    nodes = λ m d p less. subst (λ (l : List (List Entry)). IsNode plan.version (steps_at plan m) (journal_at l m)
+    nodes = λ m d p less. subst (λ (l : List (List Entry)). IsNode setup.version (slice_index_or setup.steps m 0)
+        (journal_at l m)
         (deeds_at deeds m) (slice_index_or r.drivers m d) (slice_index_or r.ports m p) links (64 * m)) same
         (node_still m d p less);
     shown = λ m p less none. subst (λ (l : List (List Entry)). ShowsRecord (journal_at l m)
@@ -137,26 +138,26 @@ module _ (plan : PlanValue) (r : SerialValue) (deeds : List (List Deed)) (h : St
         let says = ((stretch.bits i (omega (arith, early))).nodes m (omega (arith, near, c))).is_turn.says in
         record { found = says.found; cut = says.cut }
 
-    first : StandsAt plan (at r.bus.untold 0) deeds
+    first : StandsAt setup (at r.bus.untold 0) deeds
     first = stands_still r.bus.untold (λ m less e. e)
 
-    takes : (untold : List Bool) (i : ℕ) → i < count → StandsAt plan (at r.bus.untold i) deeds →
-        TakesBit plan deeds (at r.bus.untold i) (at untold (suc i))
+    takes : (untold : List Bool) (i : ℕ) → i < count → StandsAt setup (at r.bus.untold i) deeds →
+        TakesBit setup deeds (at r.bus.untold i) (at untold (suc i))
     takes untold i early stood =
         let a = length-map r.bus.journals (λ j. j ++ recessive_bits i) in
         let b = length-map r.bus.journals (λ j. j ++ recessive_bits (suc i)) in
-        takes_bit plan (at r.bus.untold i) (at untold (suc i)) deeds stood h.right refl refl (omega arith)
+        takes_bit setup (at r.bus.untold i) (at untold (suc i)) deeds stood h.right refl refl (omega arith)
         (omega (arith, early, most)) (omega (arith, a, b)) refl (omega arith) refl
         (λ m acc few kept. keeps_still i (suc i) r.bus.journals links m acc (inside i m few) kept)
         (each_refl (λ (x y : Deques). y.link ≡ x.link) (λ x. refl) links) (stretch.bits i early)
         (cuts i (omega (arith, early)))
 
-    stands : (i : ℕ) → i ≤ count → StandsAt plan (at r.bus.untold i) deeds
+    stands : (i : ℕ) → i ≤ count → StandsAt setup (at r.bus.untold i) deeds
     stands zero early = first
     stands (suc i) early = (takes r.bus.untold i (omega (arith, early)) (stands i (omega (arith, early)))).stands
 
     -- the first, from the run as it was
-    one_first : (untold : List Bool) → 0 < count → TakesBit plan deeds r (at untold 1)
+    one_first : (untold : List Bool) → 0 < count → TakesBit setup deeds r (at untold 1)
     one_first untold early =
         let t = takes untold 0 early first in record {
           stands = t.stands;
@@ -166,7 +167,7 @@ module _ (plan : PlanValue) (r : SerialValue) (deeds : List (List Deed)) (h : St
         }
 
     chain : (untold : List Bool) (i : ℕ) → i < count →
-        TakesBits plan deeds (λ x. Unit {0}) r (suc i) (at untold (suc i))
+        TakesBits setup deeds (λ x. Unit {0}) r (suc i) (at untold (suc i))
     chain untold zero early = one_more r r (at untold 1) 0 (no_bit r) tt (one_first untold early)
     chain untold (suc i) early =
         one_more r (at r.bus.untold (suc i)) (at untold (suc (suc i))) (suc i)
@@ -175,6 +176,6 @@ module _ (plan : PlanValue) (r : SerialValue) (deeds : List (List Deed)) (h : St
 
     -- all of them, where there are any
     pub all_at_once : (untold : List Bool) (k : ℕ) → count ≡ suc k →
-        TakesBits plan deeds (λ x. Unit {0}) r count (at untold count)
-    all_at_once untold k e = subst (λ (n : ℕ). TakesBits plan deeds (λ x. Unit {0}) r n (at untold n)) (sym e)
+        TakesBits setup deeds (λ x. Unit {0}) r count (at untold count)
+    all_at_once untold k e = subst (λ (n : ℕ). TakesBits setup deeds (λ x. Unit {0}) r n (at untold n)) (sym e)
         (chain untold k (omega (arith, e)))

@@ -2,49 +2,49 @@
 use Rattle.std.proofs.Common.{◌≡◌, ◌<◌, ℕ, List, refl, sym, subst, arith}
 use Rattle.sja_wire.specs.Lawful.{IsBusRun}
 use Rattle.sja_bus.specs.UntilTold.HasBitsMore.{none as none_more}
-use Rattle.sja_plan.specs.Plan.{PlanValue}
 use Rattle.sja_driver.specs.Deeds.{Deed}
 use Rattle.sja_serial.specs.Bits.{TakesBit, TakesBits}
 use Rattle.sja_serial.specs.Bits.TakesBits.{no_bit, one_more}
-use Rattle.sja_serial.specs.Serial.{SerialValue, StandsAt, IsRunOf}
+use Rattle.sja_serial.specs.Serial.{Setup, SerialValue, StandsAt, IsRunOf}
 use Rattle.sja_serial.specs.UntilTold.{NoneTold, TakesUntilTold}
 use Rattle.sja_serial.proofs.ManyBits.SomeBits.{just_one}
 use Rattle.sja_serial.proofs.WholeRun.GoingOn.{stands_bits}
 
 -- where none was run it is the same run
-none_ran : (plan : PlanValue) (deeds : List (List Deed)) (Before : SerialValue → Type 0) (r m : SerialValue) (run : ℕ) →
-    TakesBits plan deeds Before r run m → run ≡ 0 → m ≡ r
-none_ran plan deeds Before r m run (no_bit _) is_none = refl
-none_ran plan deeds Before r m run (one_more _ mid _ k bits holds bit) is_none = absurd (omega (arith, is_none))
+none_ran : (setup : Setup) (deeds : List (List Deed)) (Before : SerialValue → Type 0) (r m : SerialValue) (run : ℕ) →
+    TakesBits setup deeds Before r run m → run ≡ 0 → m ≡ r
+none_ran setup deeds Before r m run (no_bit _) is_none = refl
+none_ran setup deeds Before r m run (one_more _ mid _ k bits holds bit) is_none = absurd (omega (arith, is_none))
 
 -- ---- bits up to the first that a port is told of, and one alone where none was run
 
-module _ {plan : PlanValue} {was mid : SerialValue} {n : ℕ} (run : IsRunOf plan was)
-    (bits : (deeds : List (List Deed)) → StandsAt plan was deeds → TakesUntilTold plan deeds was n mid) where
-  pub run_told : IsRunOf plan mid
-  run_told = (run.0, stands_bits plan run.0 (NoneTold was) was mid n (bits run.0 run.1) run.1)
+module _ {setup : Setup} {was mid : SerialValue} {n : ℕ} (run : IsRunOf setup was)
+    (bits : (deeds : List (List Deed)) → StandsAt setup was deeds → TakesUntilTold setup deeds was n mid) where
+  pub run_told : IsRunOf setup mid
+  run_told = (run.0, stands_bits setup run.0 (NoneTold was) was mid n (bits run.0 run.1) run.1)
 
   module _ (none : n ≡ 0) where
     still : mid ≡ was
-    still = none_ran plan run.0 (NoneTold was) was mid n (bits run.0 run.1) none
+    still = none_ran setup run.0 (NoneTold was) was mid n (bits run.0 run.1) none
 
     pub lawful_still : IsBusRun was.bus.script was.bus.run was.bus.journals →
         IsBusRun mid.bus.script mid.bus.run mid.bus.journals
     lawful_still = subst (λ (x : SerialValue). IsBusRun x.bus.script x.bus.run x.bus.journals) (sym still)
 
-    pub left_still : was.bits < plan.bits → mid.bits < plan.bits
-    left_still = subst (λ (x : SerialValue). x.bits < plan.bits) (sym still)
+    pub left_still : was.bits < setup.bits → mid.bits < setup.bits
+    left_still = subst (λ (x : SerialValue). x.bits < setup.bits) (sym still)
 
     module _ {now : SerialValue}
-        (one : (deeds : List (List Deed)) → StandsAt plan mid deeds → TakesBit plan deeds mid now) where
-      told : (deeds : List (List Deed)) → StandsAt plan was deeds → TakesBit plan deeds was now
-      told = subst (λ (x : SerialValue). (deeds : List (List Deed)) → StandsAt plan x deeds → TakesBit plan deeds x now)
+        (one : (deeds : List (List Deed)) → StandsAt setup mid deeds → TakesBit setup deeds mid now) where
+      told : (deeds : List (List Deed)) → StandsAt setup was deeds → TakesBit setup deeds was now
+      told = subst (λ (x : SerialValue). (deeds : List (List Deed)) → StandsAt setup x deeds →
+          TakesBit setup deeds x now)
           still one
 
-      pub one_told : (deeds : List (List Deed)) → StandsAt plan was deeds →
-          TakesUntilTold plan deeds was 1 now
-      one_told deeds h = just_one plan deeds (NoneTold was) was now
+      pub one_told : (deeds : List (List Deed)) → StandsAt setup was deeds →
+          TakesUntilTold setup deeds was 1 now
+      one_told deeds h = just_one setup deeds (NoneTold was) was now
           (record { ports = refl; journals = λ k less. none_more }) (told deeds h)
 
-      pub run_one : IsRunOf plan now
+      pub run_one : IsRunOf setup now
       run_one = (run.0, (told run.0 run.1).stands)

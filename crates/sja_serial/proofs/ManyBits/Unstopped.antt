@@ -29,7 +29,6 @@ use Rattle.sja_wire.specs.Reasons.{room_for}
 use Rattle.sja_wire.specs.Reasons.StopsBit.{spent, not_taken, not_aborted, broken_off}
 use Rattle.sja_bus.specs.Stretches.{recessive_bits, IsFullInStretch}
 use Rattle.sja_wire.specs.Wire.{journal_at}
-use Rattle.sja_plan.specs.Plan.{PlanValue, IsInLimits, steps_at}
 use Rattle.sja_driver.specs.declared.logged_driver.LoggedDriver.{LoggedDriver}
 use Rattle.sja_driver.specs.Deeds.{Deed, given_in, deeds_of, deeds_at}
 use Rattle.sja_driver.specs.AnyDrivers.{held_of}
@@ -37,7 +36,7 @@ use Rattle.sja_driver.specs.LoggedDrivers.{node_of, driver_of, log_of, ended_of}
 use Rattle.sja_driver.specs.Logs.{left_in, leaves, released_of, releases_in}
 use Rattle.sja_driver.proofs.Trace.Stepping.{given_taken}
 use Rattle.sja_log.specs.Nodes.{IsNode}
-use Rattle.sja_serial.specs.Serial.{SerialValue, StandsAt, IsRunOf}
+use Rattle.sja_serial.specs.Serial.{Setup, SerialValue, StandsAt, IsRunOf}
 use Rattle.sja_serial.specs.Inside.Going.{run_now}
 use Rattle.sja_log.proofs.NodeLog.Adding.{one_abort}
 use Rattle.sja_log.proofs.OneNode.Gathered.{no_link}
@@ -55,19 +54,19 @@ abort_own : (changed : Bool) → AreOwn (abort_as changed)
 abort_own true = (tt, tt)
 abort_own false = tt
 
-module _ (plan : PlanValue) (r : SerialValue) (deeds : List (List Deed)) (h : StandsAt plan r deeds)
-    (left : r.bits < plan.bits)
-    (was : IsBusRun r.bus.script r.bus.run r.bus.journals) (limits : IsInLimits plan) where
+module _ (setup : Setup) (r : SerialValue) (deeds : List (List Deed)) (h : StandsAt setup r deeds)
+    (left : r.bits < setup.bits)
+    (was : IsBusRun r.bus.script r.bus.run r.bus.journals) where
   module _ (m : ℕ) (few : m < length r.bus.journals) where
-    less : m < length plan.nodes
+    less : m < setup.nodes
     less = let c = h.count.journals in omega (arith, c, few)
 
     driver : LoggedDriver
     driver = some_of r.drivers m (let c = h.count.drivers in let l = less in omega (arith, c, l))
 
-    node : IsNode plan.version (steps_at plan m) (journal_at r.bus.journals m) (deeds_at deeds m)
-        (slice_index_or r.drivers m driver) (slice_index_or r.ports m (at_power_on plan.version)) r.links (64 * m)
-    node = h.nodes m driver (at_power_on plan.version) less
+    node : IsNode setup.version (slice_index_or setup.steps m 0) (journal_at r.bus.journals m) (deeds_at deeds m)
+        (slice_index_or r.drivers m driver) (slice_index_or r.ports m (at_power_on setup.version)) r.links (64 * m)
+    node = h.nodes m driver (at_power_on setup.version) less
 
     abbrev acc : ℕ → Account
     acc a = record { got = node.linked.holds.got a; given = given_in (deeds_of (deeds_at deeds m) (suc a)) }
@@ -81,7 +80,7 @@ module _ (plan : PlanValue) (r : SerialValue) (deeds : List (List Deed)) (h : St
     before : (a : ℕ) → a < 64 → given a ≡ taken_of (part (journal_at r.bus.journals m) (suc a))
     before a small = given_taken (deeds_at deeds m) (journal_at r.bus.journals m) (suc a) (node.in_time.when (suc a))
 
-    entries : length (journal_at r.bus.journals m) + 3 ≤ 2 * r.bus.run + 2 * length (steps_at plan m) + 100
+    entries : length (journal_at r.bus.journals m) + 3 ≤ 2 * r.bus.run + 2 * slice_index_or setup.steps m 0 + 100
     entries =
         let j = journal_at r.bus.journals m in let ds = deeds_at deeds m in
         let within = node.traced.within in
@@ -90,13 +89,14 @@ module _ (plan : PlanValue) (r : SerialValue) (deeds : List (List Deed)) (h : St
         (ended_of (slice_index_or r.drivers m driver)) node.traced.traces node.traced.lawful in
         let begun = node.linked.level.begun in
         let bits : (place_of j).bits ≡ r.bus.run = bits_counted j ∙ was.wired.count m few in
-        has_room j ds (slice_index_or r.ports m (at_power_on plan.version)) r.bus.run
-        (length (steps_at plan m)) node.counted (was.lawful m few) node.traced.traces.answered.gives within
+        has_room j ds (slice_index_or r.ports m (at_power_on setup.version)) r.bus.run
+        (slice_index_or setup.steps m 0) node.counted (was.lawful m few) node.traced.traces.answered.gives within
         (omega (arith, opened, begun)) (omega (arith, bits))
 
     -- there is room for an abort, the bit, a verdict and bus-off
     room : length (journal_at r.bus.journals m) + 4 ≤ room_for (r.bus.run + r.bus.left) r.bus.steps m
-    room = let has = entries in let a = h.all_bits in let b = h.bits in let steps = h.room m less in
+    room = let has = entries in let a = h.all_bits in let b = h.bits in let steps = ap (λ (l : List ℕ). slice_index_or
+        l m 0) h.steps in
         omega (arith, has, a, b, steps, left)
 
     -- an item that was refused would wait
@@ -204,7 +204,16 @@ module _ (plan : PlanValue) (r : SerialValue) (deeds : List (List Deed)) (h : St
       let grown = ap (λ (s : List Entry). length s) o.grown ∙ length-append t (recessive_bits o.entered) in
       let bits : length (recessive_bits o.entered) ≡ o.entered = length-replicate o.entered (Bit Recessive Recessive) in
       let has = entries m small in let early = o.early in let full = o.full in
-      let steps = h.room m (less m small) in omega (arith, l, grown, bits, has, early, full, steps)
+      let steps = ap (λ (l : List ℕ). slice_index_or l m 0) h.steps in omega (
+        arith,
+        l,
+        grown,
+        bits,
+        has,
+        early,
+        full,
+        steps,
+      )
 
   pub never_refused : (now : BusValue) (after : List Deques) (f : BusFault) →
       IsTakenAndRefused Lies (r.bus.run + r.bus.left) r.bus.steps r.bus.journals now.journals r.links after f
@@ -216,21 +225,21 @@ module _ (plan : PlanValue) (r : SerialValue) (deeds : List (List Deed)) (h : St
 -- the same of a run whose links a call has as a slice
 module _ {bus : BusValue} {drivers : List LoggedDriver} {ports : List Registers}
     {slice links : List Deques} {bits : ℕ} {r : SerialValue} (same : slice ≡ links)
-    (view : run_now bus drivers ports links bits ≡ r) (plan : PlanValue) (run : IsRunOf plan r)
-    (left : r.bits < plan.bits) (was : IsBusRun r.bus.script r.bus.run r.bus.journals) (limits : IsInLimits plan) where
-  there : StandsAt plan (run_now bus drivers ports slice bits) run.0
-  there = stands_there same view plan run.0 run.1
+    (view : run_now bus drivers ports links bits ≡ r) (setup : Setup) (run : IsRunOf setup r)
+    (left : r.bits < setup.bits) (was : IsBusRun r.bus.script r.bus.run r.bus.journals) where
+  there : StandsAt setup (run_now bus drivers ports slice bits) run.0
+  there = stands_there same view setup run.0 run.1
 
   pub never_stops_there : (orders_are : ℕ → Orders → Type 0) (now : BusValue) (after : List Deques) (f : BusFault) →
       (bus.fault ≡ None → StopsBit Lies (λ (s : Deques). length s.down ≡ 22) orders_are bus now slice after f) → ⊥
   never_stops_there orders_are now after f stops =
-      never_stops plan (run_now bus drivers ports slice bits) run.0 there (left_there same view plan left)
-      (lawful_there same view was) limits orders_are now after f (stops there.right)
+      never_stops setup (run_now bus drivers ports slice bits) run.0 there (left_there same view setup left)
+      (lawful_there same view was) orders_are now after f (stops there.right)
 
   pub never_refused_there : (now : BusValue) (after : List Deques) (f : BusFault) →
       (bus.fault ≡ None →
       IsTakenAndRefused Lies (bus.run + bus.left) bus.steps bus.journals now.journals slice after f
       ⊎ IsFullInStretch Lies (bus.run + bus.left) bus.steps bus.left bus.journals now.journals slice after f) → ⊥
   never_refused_there now after f refused =
-      never_refused plan (run_now bus drivers ports slice bits) run.0 there (left_there same view plan left)
-      (lawful_there same view was) limits now after f (refused there.right)
+      never_refused setup (run_now bus drivers ports slice bits) run.0 there (left_there same view setup left)
+      (lawful_there same view was) now after f (refused there.right)

@@ -14,14 +14,13 @@ use Rattle.sja_link.specs.BitEntries.{MayHaveItems}
 use Rattle.sja_wire.specs.Wire.{journal_at}
 use Rattle.sja_wire.specs.Buses.{BusValue, KeepsAll, EachJournal, AllDry, EachUntold, untold_at}
 use Rattle.sja_wire.specs.Reasons.{IsTakenAndRefused}
-use Rattle.sja_plan.specs.Plan.{PlanValue, steps_at}
 use Rattle.sja_driver.specs.declared.logged_driver.LoggedDriver.{LoggedDriver}
 use Rattle.sja_driver.specs.Deeds.{Deed, deeds_at}
 use Rattle.sja_driver.specs.LoggedDrivers.{log_of, StaysLawful, Steps}
 use Rattle.sja_driver.specs.Logs.{done_in}
 use Rattle.sja_driver.specs.Inside.GivenNothing.{GaveNothing}
 use Rattle.sja_log.specs.Nodes.{IsNode}
-use Rattle.sja_serial.specs.Serial.{SerialValue, StandsAt}
+use Rattle.sja_serial.specs.Serial.{Setup, SerialValue, StandsAt}
 use Rattle.sja_serial.specs.Inside.Going.{run_now}
 use Rattle.sja_serial.proofs.ManyBits.Borrowed.{stands_there, put_back}
 use Rattle.sja_serial.proofs.AllNodes.Several.{done_count}
@@ -47,34 +46,34 @@ at_port {was} {now} {slice} {given} {base} {p} {r} {q} {one} {bits} {done} same 
     tries
 
 -- a run, which stands at these deeds, and the links of which a call has as a slice
-module _ {plan : PlanValue} {bus : BusValue} {drivers : List LoggedDriver} {ports : List Registers}
+module _ {setup : Setup} {bus : BusValue} {drivers : List LoggedDriver} {ports : List Registers}
     {slice links : List Deques} {bits : ℕ} {self : SerialValue} (same : slice ≡ links)
-    (view : run_now bus drivers ports links bits ≡ self) {deeds : List (List Deed)} (h : StandsAt plan self deeds)
-    {i : ℕ} (there : i < length plan.nodes) where
+    (view : run_now bus drivers ports links bits ≡ self) {deeds : List (List Deed)} (h : StandsAt setup self deeds)
+    {i : ℕ} (there : i < setup.nodes) where
   abbrev run : SerialValue
   run = run_now bus drivers ports slice bits
 
-  stood : StandsAt plan run deeds
-  stood = stands_there same view plan deeds h
+  stood : StandsAt setup run deeds
+  stood = stands_there same view setup deeds h
 
   -- the log has as many steps
   pub steps_done : (d : LoggedDriver) → d ≡ slice_index_or drivers i d →
       length (done_in (log_of d)) ≡ length (deeds_at deeds i)
   steps_done d is = ap (λ (x : LoggedDriver). length (done_in (log_of x))) is
-      ∙ done_count plan run deeds i d (at_power_on 1) stood there
+      ∙ done_count setup run deeds i d (at_power_on 1) stood there
 
   -- its driver, and its port
   module _ {was : LoggedDriver} {p : Registers} (was_is : was ≡ slice_index_or drivers i was)
       (p_is : p ≡ slice_index_or ports i p) where
-    pub node_at : IsNode plan.version (steps_at plan i) (journal_at bus.journals i) (deeds_at deeds i) was p slice
+    pub node_at : IsNode setup.version (slice_index_or setup.steps i 0) (journal_at bus.journals i) (deeds_at deeds i)
+        was p slice
         (64 * i)
     node_at = node_there stood there was_is p_is
 
     -- the next step was tried, and then all was taken
     module _ (laws : bus.fault ≡ None → IsBusRun bus.script bus.run bus.journals)
-        (left : length (deeds_at deeds i) < length (steps_at plan i)) {now : LoggedDriver} {q : Registers}
-        {given : List Deques} {base : ℕ} {one : Step} {done : Bool}
-        (is : one ≡ slice_index_or (steps_at plan i) (length (deeds_at deeds i)) one) (base_is : base ≡ 64 * i)
+        (left : length (deeds_at deeds i) < slice_index_or setup.steps i 0) {now : LoggedDriver} {q : Registers}
+        {given : List Deques} {base : ℕ} {one : Step} {done : Bool} (base_is : base ≡ 64 * i)
         (tries : Steps alike Lies shows_none takes_none was now slice given base p q one bits done)
         (stay : StaysLawful (λ (s : Deques). s.link) alike was now slice given base done) where
       steps : Steps alike Lies shows_none takes_none was now slice given (64 * i) p q one bits done
@@ -91,17 +90,18 @@ module _ {plan : PlanValue} {bus : BusValue} {drivers : List LoggedDriver} {port
       none_refused journals after f refused =
           let l = laws stood.right in let c = stood.count.journals in
           gather_takes stood there node_at (l.lawful i (omega (arith, c, there))) (omega (arith, left))
-          (place stood there l left is) steps stays.others (refused stood.right)
+          (place stood there l left) steps stays.others (refused stood.right)
 
       -- the run into which the links are put back
       module _ {node : ℕ} (node_is : i ≡ node) {back after : List Deques} (back_is : back ≡ after) where
         tried : (n : BusValue) → Tries run i was now p q one done given n after →
-            IsTried plan self (run_now n (slice_set drivers i now) (slice_set ports i q) back bits) node deeds
+            IsTried setup self (run_now n (slice_set drivers i now) (slice_set ports i q) back bits) node one deeds
             done
-        tried n t = subst (λ (m : ℕ). IsTried plan self (run_now n (slice_set drivers i now) (slice_set ports i q)
-            back bits) m deeds done) node_is
-            (put_back same view (λ x y. IsTried plan x y i deeds done) n (slice_set drivers i now) (slice_set ports i q)
-            after back bits back_is (next_tried stood there (laws stood.right) left is done t))
+        tried n t = subst (λ (m : ℕ). IsTried setup self (run_now n (slice_set drivers i now) (slice_set ports i q)
+            back bits) m one deeds done) node_is
+            (put_back same view (λ x y. IsTried setup x y i one deeds done) n (slice_set drivers i now)
+            (slice_set ports i q)
+            after back bits back_is (next_tried stood there (laws stood.right) left done t))
 
         pub is_tried : (n : BusValue) → n.fault ≡ None → n.run ≡ bus.run → n.script ≡ bus.script →
             n.steps ≡ bus.steps → n.left ≡ bus.left → length n.journals ≡ length bus.journals →
@@ -109,7 +109,7 @@ module _ {plan : PlanValue} {bus : BusValue} {drivers : List LoggedDriver} {port
             EachUntold bus.untold n.untold bus.journals n.journals →
             AllDry (λ (s : Deques). s.up ≡ []) n.journals after → EachRelated alike given after →
             length after ≡ length slice →
-            IsTried plan self (run_now n (slice_set drivers i now) (slice_set ports i q) back bits) node deeds
+            IsTried setup self (run_now n (slice_set drivers i now) (slice_set ports i q) back bits) node one deeds
             done
         is_tried n right ran script room over count kept items untold dry sames many = tried n (record {
           was_is = was_is;
@@ -133,7 +133,7 @@ module _ {plan : PlanValue} {bus : BusValue} {drivers : List LoggedDriver} {port
       -- the step gave nothing, and nothing was taken
       pub is_tried_quietly : {node : ℕ} → i ≡ node → {back : List Deques} → back ≡ given →
           GaveNothing one done (done_in (log_of now)) → length given ≡ length slice →
-          IsTried plan self (run_now bus (slice_set drivers i now) (slice_set ports i q) back bits) node deeds
+          IsTried setup self (run_now bus (slice_set drivers i now) (slice_set ports i q) back bits) node one deeds
           done
       is_tried_quietly node_is back_is quiet many =
           is_tried node_is back_is bus stood.right refl refl refl refl refl (λ node acc less kept. kept)

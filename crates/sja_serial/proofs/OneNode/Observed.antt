@@ -10,7 +10,6 @@ use Rattle.sja_link.specs.Deques.{Deques, Lies}
 use Rattle.sja_wire.specs.Lawful.{IsBusRun}
 use Rattle.sja_wire.specs.Wire.{journal_at}
 use Rattle.sja_wire.specs.Buses.{BusValue}
-use Rattle.sja_plan.specs.Plan.{PlanValue, steps_at}
 use Rattle.sja_regs.specs.declared.registers.Registers.{Registers}
 use Rattle.sja_regs.specs.InterruptLine.{is_line_active}
 use Rattle.sja_script.specs.declared.step.Step.TheVariants.{Read}
@@ -27,7 +26,7 @@ use Rattle.sja_log.specs.Registering.{seen_now}
 use Rattle.sja_log.proofs.Account.Seeing.{seen_shown}
 use Rattle.sja_driver.proofs.Trace.Stepping.{given_taken}
 use Rattle.sja_log.specs.Nodes.{IsNode}
-use Rattle.sja_serial.specs.Serial.{StandsAt}
+use Rattle.sja_serial.specs.Serial.{Setup, StandsAt}
 use Rattle.sja_serial.specs.Inside.Going.{run_now}
 use Rattle.sja_driver.proofs.OneNode.Slices.{apart, each_other, numbered_still}
 use Rattle.sja_log.proofs.OneNode.Gathered.{no_link, linked_after, node_with}
@@ -35,9 +34,9 @@ use Rattle.sja_serial.proofs.OneNode.Standing.{owners}
 use Rattle.sja_log.proofs.OneNode.Trying.{alike, shows_none}
 use Rattle.sja_log.proofs.OneNode.StepTried.{looked}
 
-module _ {plan : PlanValue} {bus : BusValue} {drivers : List LoggedDriver} {ports : List Registers}
+module _ {setup : Setup} {bus : BusValue} {drivers : List LoggedDriver} {ports : List Registers}
     {slice after : List Deques} {bits : ℕ} {deeds : List (List Deed)}
-    (h : StandsAt plan (run_now bus drivers ports slice bits) deeds) {i : ℕ} (there : i < length plan.nodes)
+    (h : StandsAt setup (run_now bus drivers ports slice bits) deeds) {i : ℕ} (there : i < setup.nodes)
     {was now : LoggedDriver} (was_is : was ≡ slice_index_or drivers i was)
     (observed : Looked Lies shows_none was now slice after (64 * i))
     (stays : StaysLawful (λ (s : Deques). s.link) alike was now slice after (64 * i) false)
@@ -50,33 +49,36 @@ module _ {plan : PlanValue} {bus : BusValue} {drivers : List LoggedDriver} {port
 
   -- ---- the node
 
-  stood : (p : Registers) → IsNode plan.version (steps_at plan i) j ds was (slice_index_or ports i p) slice (64 * i)
-  stood p = subst (λ (d : LoggedDriver). IsNode plan.version (steps_at plan i) j ds d (slice_index_or ports i p) slice
+  stood : (p : Registers) → IsNode setup.version (slice_index_or setup.steps i 0) j ds was (slice_index_or ports i p)
+      slice (64 * i)
+  stood p = subst (λ (d : LoggedDriver). IsNode setup.version (slice_index_or setup.steps i 0) j ds d
+      (slice_index_or ports i p) slice
       (64 * i)) (sym was_is) (h.nodes i was p there)
 
-  traces : (p : Registers) → Traces plan.version (driver_of now) (log_of now) ds
-  traces p = subst (Traces plan.version (driver_of now) (log_of now)) (append-nil ds)
-      ((observed.goes plan.version).traces ds (stood p).traced.traces)
+  traces : (p : Registers) → Traces setup.version (driver_of now) (log_of now) ds
+  traces p = subst (Traces setup.version (driver_of now) (log_of now)) (append-nil ds)
+      ((observed.goes setup.version).traces ds (stood p).traced.traces)
 
   holds : (p : Registers) → HoldsBy Lies ds (driver_of now) (log_of now) j after (64 * i)
   holds p = subst (λ (l : List Deed). HoldsBy Lies l (driver_of now) (log_of now) j after (64 * i)) (append-nil ds)
-      ((observed.goes plan.version).holds ds j (stood p).traced.traces (stood p).linked.holds)
+      ((observed.goes setup.version).holds ds j (stood p).traced.traces (stood p).linked.holds)
 
-  node_now : (p : Registers) → IsNode plan.version (steps_at plan i) j ds now (slice_index_or ports i p) after (64 * i)
+  node_now : (p : Registers) → IsNode setup.version (slice_index_or setup.steps i 0) j ds now
+      (slice_index_or ports i p) after (64 * i)
   node_now p = let n = stood p in
       node_with n (record {
         lawful = stays.lawful;
         traces = traces p;
         within = n.traced.within;
-        first = n.traced.first;
         room = λ k l. stays.waits refl k (n.traced.room k l);
       })
       (linked_after now (holds p) (λ acc x. x) (λ a. given_taken ds j a (n.in_time.when a)) n.linked.level)
 
   -- ---- the others
 
-  other_node : (m : ℕ) (d : LoggedDriver) (p : Registers) → (m ≡ i → ⊥) → m < length plan.nodes →
-      IsNode plan.version (steps_at plan m) (journal_at bus.journals m) (deeds_at deeds m) (slice_index_or drivers m d)
+  other_node : (m : ℕ) (d : LoggedDriver) (p : Registers) → (m ≡ i → ⊥) → m < setup.nodes →
+      IsNode setup.version (slice_index_or setup.steps m 0) (journal_at bus.journals m) (deeds_at deeds m)
+      (slice_index_or drivers m d)
       (slice_index_or ports m p) after (64 * m)
   other_node m d p differ less = let n = h.nodes m d p less in
       node_with n n.traced (record {
@@ -90,21 +92,23 @@ module _ {plan : PlanValue} {bus : BusValue} {drivers : List LoggedDriver} {port
   inside : i < length drivers
   inside = let c = h.count.drivers in omega (arith, c, there)
 
-  node_at : (m : ℕ) (d : LoggedDriver) (p : Registers) → m < length plan.nodes →
-      IsNode plan.version (steps_at plan m) (journal_at bus.journals m) (deeds_at deeds m)
+  node_at : (m : ℕ) (d : LoggedDriver) (p : Registers) → m < setup.nodes →
+      IsNode setup.version (slice_index_or setup.steps m 0) (journal_at bus.journals m) (deeds_at deeds m)
       (slice_index_or (slice_set drivers i now) m d) (slice_index_or ports m p) after (64 * m)
   node_at m d p less = elim (cases_eq i m) [
-    | inl e ↦ subst (λ (k : ℕ). IsNode plan.version (steps_at plan k) (journal_at bus.journals k) (deeds_at deeds k)
+    | inl e ↦ subst (λ (k : ℕ). IsNode setup.version (slice_index_or setup.steps k 0) (journal_at bus.journals k)
+        (deeds_at deeds k)
         (slice_index_or (slice_set drivers i now) k d) (slice_index_or ports k p) after (64 * k)) e
-        (subst (λ (x : LoggedDriver). IsNode plan.version (steps_at plan i) j ds x (slice_index_or ports i p) after
+        (subst (λ (x : LoggedDriver). IsNode setup.version (slice_index_or setup.steps i 0) j ds x
+        (slice_index_or ports i p) after
         (64 * i)) (sym (get_or-set_same drivers i now d inside)) (node_now p))
     | inr differ ↦ let other : m ≢ i = λ e. differ (sym e) in
-        subst (λ (x : LoggedDriver). IsNode plan.version (steps_at plan m) (journal_at bus.journals m)
+        subst (λ (x : LoggedDriver). IsNode setup.version (slice_index_or setup.steps m 0) (journal_at bus.journals m)
         (deeds_at deeds m) x (slice_index_or ports m p) after (64 * m))
         (sym (get_or-set_other drivers i m now d other)) (other_node m d p other less)
   ]
 
-  pub stands : StandsAt plan (run_now bus (slice_set drivers i now) ports after bits) deeds
+  pub stands : StandsAt setup (run_now bus (slice_set drivers i now) ports after bits) deeds
   stands = record {
     right = h.right;
     script = h.script;
@@ -117,7 +121,8 @@ module _ {plan : PlanValue} {bus : BusValue} {drivers : List LoggedDriver} {port
       links = many ∙ h.count.links;
     };
     deeds_count = h.deeds_count;
-    room = h.room;
+    may = h.may;
+    steps = h.steps;
     ids = numbered_still slice after h.ids stays.same;
     own = owners now h there was_is stays.node;
     nodes = node_at;
@@ -146,7 +151,7 @@ module _ {plan : PlanValue} {bus : BusValue} {drivers : List LoggedDriver} {port
             let link = each_at alike (λ (x : Deques). x.link) (λ x y same. same) slice after at no_link stays.same in
             let shown = looked j ds (log_of was) slice (64 * i) (node_of was) no_link (lawful.lawful i journal_in)
             (λ a. given_taken ds j a ((stood p).in_time.when a)) w refl
-            (subst (λ (x : AnyDriver). Traces plan.version x (log_of was) ds) is (stood p).traced.traces)
+            (subst (λ (x : AnyDriver). Traces setup.version x (log_of was) ds) is (stood p).traced.traces)
             (subst (λ (x : AnyDriver). IsDriverOf (node_of was) (ended_of was) x) is (stood p).traced.lawful)
             (subst (λ (x : AnyDriver). HoldsBy Lies ds x (log_of was) j slice (64 * i)) is (stood p).linked.holds)
             (held_of n) (off_of n) (record {

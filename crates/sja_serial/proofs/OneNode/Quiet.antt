@@ -1,5 +1,5 @@
 -- A step that gave nothing: no link has anything for the bus after it.
-use Rattle.std.proofs.Common.{◌≡◌, ◌≢◌, ℕ, suc, ◌+◌, ◌*◌, ◌<◌, Bool, List, [], ◌++◌, length, refl, sym, ap, ◌∙◌, subst}
+use Rattle.std.proofs.Common.{◌≡◌, ◌≢◌, ℕ, suc, ◌+◌, ◌*◌, ◌<◌, Bool, List, [], ◌++◌, refl, sym, ap, ◌∙◌, subst}
 use Rattle.std.proofs.Common.{append-nil, arith, inl, inr}
 use Rattle.std.specs.Prelude.{min, slice_index_or}
 use Rattle.std.proofs.lemmas.Bool.{cases_eq}
@@ -13,7 +13,6 @@ use Rattle.sja_wire.specs.Buses.{AllDry}
 use Rattle.sja_link.specs.Links.{stops_of}
 use Rattle.sja_wire.specs.Telling.{IsUntold}
 use Rattle.sja_wire.specs.Wire.{journal_at}
-use Rattle.sja_plan.specs.Plan.{PlanValue, steps_at}
 use Rattle.sja_regs.specs.declared.registers.Registers.{Registers}
 use Rattle.sja_script.specs.declared.step.Step.{Step}
 use Rattle.sja_driver.specs.declared.logged_driver.LoggedDriver.{LoggedDriver}
@@ -22,16 +21,17 @@ use Rattle.sja_driver.specs.Holding.{place_after}
 use Rattle.sja_driver.specs.LoggedDrivers.{ended_of, Steps}
 use Rattle.sja_driver.specs.Tries.{gave_by}
 use Rattle.sja_log.specs.Nodes.{IsNode}
-use Rattle.sja_serial.specs.Serial.{SerialValue, StandsAt}
+use Rattle.sja_serial.specs.Serial.{Setup, SerialValue, StandsAt}
 use Rattle.sja_driver.proofs.LogOfSteps.Logged.{min_less}
 use Rattle.sja_log.proofs.OneNode.Trying.{alike, shows_none, takes_none}
 
 pub as_untold : (b : Bool) (j : List Entry) → IsUntold b b j j
 as_untold b j = record { stays = λ e. e; takes = λ differ. absurd (differ refl); none = λ e same. e }
 
-module _ {plan : PlanValue} {r : SerialValue} {deeds : List (List Deed)} (i : ℕ) (stood : StandsAt plan r deeds)
+module _ {setup : Setup} {r : SerialValue} {deeds : List (List Deed)} (i : ℕ) (stood : StandsAt setup r deeds)
     {was now : LoggedDriver} {p q : Registers} {given : List Deques} {one : Step} {bits : ℕ} {done : Bool}
-    (node : IsNode plan.version (steps_at plan i) (journal_at r.bus.journals i) (deeds_at deeds i) was p r.links
+    (node : IsNode setup.version (slice_index_or setup.steps i 0) (journal_at r.bus.journals i) (deeds_at deeds i) was
+    p r.links
     (64 * i))
     (st : Steps alike Lies shows_none takes_none was now r.links given (64 * i) p q one bits done)
     (others : (k : ℕ) (d : Deques) → k ≢ place_after (64 * i) (ended_of was) →
@@ -53,7 +53,7 @@ module _ {plan : PlanValue} {r : SerialValue} {deeds : List (List Deed)} (i : �
   pub all_dry : AllDry (λ (s : Deques). s.up ≡ []) r.bus.journals given
   all_dry m d less few =
       let k = 64 * m + stops_of (journal_at r.bus.journals m) in
-      let there : m < length plan.nodes = let c = stood.count.journals in omega (arith, c, less) in
+      let there : m < setup.nodes = let c = stood.count.journals in omega (arith, c, less) in
       elim (cases_eq k (place_after (64 * i) (ended_of was))) [
         | inl e ↦ subst (λ (x : ℕ). (slice_index_or given x d).up ≡ []) (sym e) (here d)
         | inr differ ↦ ap (λ (s : Deques). s.up) (others k d differ)

@@ -1,5 +1,5 @@
 -- A run after a step of one node's driver and a taking.
-use Rattle.std.proofs.Common.{◌≡◌, ℕ, suc, ◌+◌, ◌*◌, ◌<◌, ◌≤◌, true, false, List, [], ◌∷◌}
+use Rattle.std.proofs.Common.{◌≡◌, ℕ, suc, ◌+◌, ◌*◌, ◌<◌, true, false, List, [], ◌∷◌}
 use Rattle.std.proofs.Common.{◌++◌, length, refl, sym, ap, ◌∙◌, subst, append-nil, arith, inl, inr}
 use Rattle.std.specs.Prelude.{Bool, None, slice_index_or, slice_set}
 use Rattle.std.proofs.lemmas.Bool.{cases_eq}
@@ -14,14 +14,13 @@ use Rattle.sja_wire.specs.Telling.{IsUntold}
 use Rattle.sja_wire.specs.Wire.{journal_at}
 use Rattle.lemmas.specs.Related.{EachRelated}
 use Rattle.lemmas.proofs.Related.{each_at}
-use Rattle.sja_plan.specs.Plan.{PlanValue, steps_at}
 use Rattle.sja_regs.specs.declared.registers.Registers.{Registers}
 use Rattle.sja_script.specs.declared.step.Step.{Step}
 use Rattle.sja_driver.specs.declared.logged_driver.LoggedDriver.{LoggedDriver}
 use Rattle.sja_driver.specs.Deeds.{Deed, deeds_at, with_deeds}
 use Rattle.sja_driver.specs.LoggedDrivers.{node_of, ended_of, StaysLawful, Steps}
 use Rattle.sja_log.specs.Nodes.{IsNode}
-use Rattle.sja_serial.specs.Serial.{SerialValue, StandsAt}
+use Rattle.sja_serial.specs.Serial.{Setup, SerialValue, StandsAt}
 use Rattle.sja_serial.specs.Inside.Going.{run_now}
 use Rattle.sja_driver.specs.Shown.{ShowsRecord}
 use Rattle.sja_driver.proofs.OneNode.Slices.{apart, each_set, each_other}
@@ -72,21 +71,22 @@ pub record Tries (r : SerialValue) (node : ℕ) (was now : LoggedDriver) (p q : 
   pub many : length after ≡ length r.links
 
 -- the node whose driver and port these are
-pub node_there : {plan : PlanValue} {r : SerialValue} {deeds : List (List Deed)} {node : ℕ} {was : LoggedDriver}
-    {p : Registers} → StandsAt plan r deeds → node < length plan.nodes → was ≡ slice_index_or r.drivers node was →
+pub node_there : {setup : Setup} {r : SerialValue} {deeds : List (List Deed)} {node : ℕ} {was : LoggedDriver}
+    {p : Registers} → StandsAt setup r deeds → node < setup.nodes → was ≡ slice_index_or r.drivers node was →
     p ≡ slice_index_or r.ports node p →
-    IsNode plan.version (steps_at plan node) (journal_at r.bus.journals node) (deeds_at deeds node) was p r.links
+    IsNode setup.version (slice_index_or setup.steps node 0) (journal_at r.bus.journals node) (deeds_at deeds node)
+    was p r.links
     (64 * node)
-node_there {plan} {r} {deeds} {node} {was} {p} h there was_is p_is =
-    let N : LoggedDriver → Registers → Type 0 = λ d x. IsNode plan.version (steps_at plan node)
+node_there {setup} {r} {deeds} {node} {was} {p} h there was_is p_is =
+    let N : LoggedDriver → Registers → Type 0 = λ d x. IsNode setup.version (slice_index_or setup.steps node 0)
     (journal_at r.bus.journals node) (deeds_at deeds node) d x r.links (64 * node) in
     subst (λ d. N d p) (sym was_is)
     (subst (λ x. N (slice_index_or r.drivers node was) x) (sym p_is) (h.nodes node was p there))
 
 -- each driver is its node's still
-pub owners : {plan : PlanValue} {r : SerialValue} {deeds : List (List Deed)} {node : ℕ} {was : LoggedDriver}
-    (now : LoggedDriver) → StandsAt plan r deeds → node < length plan.nodes → was ≡ slice_index_or r.drivers node was →
-    node_of now ≡ node_of was → (m : ℕ) (d : LoggedDriver) → m < length plan.nodes →
+pub owners : {setup : Setup} {r : SerialValue} {deeds : List (List Deed)} {node : ℕ} {was : LoggedDriver}
+    (now : LoggedDriver) → StandsAt setup r deeds → node < setup.nodes → was ≡ slice_index_or r.drivers node was →
+    node_of now ≡ node_of was → (m : ℕ) (d : LoggedDriver) → m < setup.nodes →
     node_of (slice_index_or (slice_set r.drivers node now) m d) ≡ m
 owners {r = r} {node = node} {was} now h there was_is same m d less = elim (cases_eq node m) [
   | inl e ↦ subst (λ (x : ℕ). node_of (slice_index_or (slice_set r.drivers node now) x d) ≡ x) e
@@ -95,18 +95,18 @@ owners {r = r} {node = node} {was} now h there was_is same m d less = elim (case
   | inr differ ↦ ap node_of (get_or-set_other r.drivers node m now d (λ e. differ (sym e))) ∙ h.own m d less
 ]
 
-module _ {plan : PlanValue} {r : SerialValue} {deeds : List (List Deed)} {node : ℕ} {was now : LoggedDriver}
+module _ {setup : Setup} {r : SerialValue} {deeds : List (List Deed)} {node : ℕ} {was now : LoggedDriver}
     {p q : Registers} {one : Step} {done : Bool} {given : List Deques} {bus : BusValue} {after : List Deques}
-    (h : StandsAt plan r deeds) (there : node < length plan.nodes)
+    (h : StandsAt setup r deeds) (there : node < setup.nodes)
     (t : Tries r node was now p q one done given bus after) where
   abbrev n : SerialValue
   n = run_tried r node now q bus after
 
-  inside : (m : ℕ) → m < length plan.nodes → m < length r.bus.journals
+  inside : (m : ℕ) → m < setup.nodes → m < length r.bus.journals
   inside m less = let c = h.count.journals in omega (arith, c, less)
 
   -- the taking, as each node has it
-  pub gathers : (m : ℕ) → m < length plan.nodes →
+  pub gathers : (m : ℕ) → m < setup.nodes →
       Gathers (journal_at r.bus.journals m) (journal_at bus.journals m) given after (64 * m)
   gathers m less = let i = inside m less in let long = t.journals in record {
     items = t.items m i;
@@ -136,9 +136,9 @@ module _ {plan : PlanValue} {r : SerialValue} {deeds : List (List Deed)} {node :
       add_one x = omega arith
 
   -- another node, whose links and driver are as they were, has the same journal, and keeps all else
-  pub other_node : (m : ℕ) (d : LoggedDriver) (x : Registers) → (m ≡ node → ⊥) → m < length plan.nodes →
+  pub other_node : (m : ℕ) (d : LoggedDriver) (x : Registers) → (m ≡ node → ⊥) → m < setup.nodes →
       (journal_at bus.journals m ≡ journal_at r.bus.journals m)
-      × IsNode plan.version (steps_at plan m) (journal_at bus.journals m) (deeds_at deeds m)
+      × IsNode setup.version (slice_index_or setup.steps m 0) (journal_at bus.journals m) (deeds_at deeds m)
       (slice_index_or r.drivers m d) (slice_index_or r.ports m x) after (64 * m)
   other_node m d x differ less =
       let w = h.nodes m d x less in let v = slice_index_or r.drivers m d in
@@ -148,11 +148,12 @@ module _ {plan : PlanValue} {r : SerialValue} {deeds : List (List Deed)} {node :
       )
 
   -- the run stands at the deeds that are had more
-  pub stands_after : (more : List Deed) → IsNode plan.version (steps_at plan node) (journal_at bus.journals node)
+  pub stands_after : (more : List Deed) → IsNode setup.version (slice_index_or setup.steps node 0)
+      (journal_at bus.journals node)
       (deeds_at deeds node ++ more) now q after (64 * node) →
       (journal_at bus.journals node ≡ journal_at r.bus.journals node →
       ShowsRecord (journal_at r.bus.journals node) p → ShowsRecord (journal_at bus.journals node) q) →
-      StandsAt plan n (with_deeds deeds node more)
+      StandsAt setup n (with_deeds deeds node more)
   stands_after more node_after shows = record {
     right = t.right;
     script = t.script ∙ h.script;
@@ -164,8 +165,8 @@ module _ {plan : PlanValue} {r : SerialValue} {deeds : List (List Deed)} {node :
       ports = length-set r.ports node q ∙ h.count.ports;
       links = t.many ∙ h.count.links;
     };
-    room = λ m less. subst (λ (l : List ℕ). length (steps_at plan m) ≤ slice_index_or l m 0) (sym t.room)
-        (h.room m less);
+    may = h.may;
+    steps = t.room ∙ h.steps;
     deeds_count = length-set deeds node (deeds_at deeds node ++ more) ∙ h.deeds_count;
     ids = λ m a d few less. each_at alike (λ (x : Deques). x.link) (λ x y same. same) given after (per_node * m + a) d
         t.sames ∙ given_ids m a d few (subst (λ (k : ℕ). per_node * m + a < k) t.many less);
@@ -181,7 +182,7 @@ module _ {plan : PlanValue} {r : SerialValue} {deeds : List (List Deed)} {node :
       few_ports = let c = h.count.ports in omega (arith, c, there)
 
       -- a port of which nothing is untold shows what it has shown
-      none_at : (m : ℕ) → m < length plan.nodes → untold_at bus.untold m ≡ false →
+      none_at : (m : ℕ) → m < setup.nodes → untold_at bus.untold m ≡ false →
           (untold_at r.bus.untold m ≡ false) × (journal_at bus.journals m ≡ journal_at r.bus.journals m)
       none_at m less = none_untold (t.items m (inside m less)) (t.untold m (inside m less))
 
@@ -189,7 +190,7 @@ module _ {plan : PlanValue} {r : SerialValue} {deeds : List (List Deed)} {node :
       here told = let none = none_at node there told in
           shows none.1 (subst (ShowsRecord (journal_at r.bus.journals node)) (sym t.p_is) (h.shown node p there none.0))
 
-      shown_at : (m : ℕ) (x : Registers) → m < length plan.nodes → untold_at bus.untold m ≡ false →
+      shown_at : (m : ℕ) (x : Registers) → m < setup.nodes → untold_at bus.untold m ≡ false →
           ShowsRecord (journal_at bus.journals m) (slice_index_or (slice_set r.ports node q) m x)
       shown_at m x less told = elim (cases_eq node m) [
         | inl e ↦
@@ -205,13 +206,14 @@ module _ {plan : PlanValue} {r : SerialValue} {deeds : List (List Deed)} {node :
             (h.shown m x less none.0))
       ]
 
-      each : (m : ℕ) (d : LoggedDriver) (x : Registers) → m < length plan.nodes →
-          IsNode plan.version (steps_at plan m) (journal_at bus.journals m) (deeds_at (with_deeds deeds node more) m)
+      each : (m : ℕ) (d : LoggedDriver) (x : Registers) → m < setup.nodes →
+          IsNode setup.version (slice_index_or setup.steps m 0) (journal_at bus.journals m)
+          (deeds_at (with_deeds deeds node more) m)
           (slice_index_or (slice_set r.drivers node now) m d) (slice_index_or (slice_set r.ports node q) m x) after
           (64 * m)
       each m d x less =
-          let P : ℕ → List Deed → LoggedDriver → Registers → Type 0 = λ k ds w g. k < length plan.nodes →
-          IsNode plan.version (steps_at plan k) (journal_at bus.journals k) ds w g after (64 * k) in
+          let P : ℕ → List Deed → LoggedDriver → Registers → Type 0 = λ k ds w g. k < setup.nodes →
+          IsNode setup.version (slice_index_or setup.steps k 0) (journal_at bus.journals k) ds w g after (64 * k) in
           let c = h.deeds_count in
           each_set P deeds r.drivers r.ports node (deeds_at deeds node ++ more) [] now d q x
           (omega (arith, c, there)) few few_ports (λ less. node_after)

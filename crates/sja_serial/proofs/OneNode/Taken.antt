@@ -1,5 +1,5 @@
 -- The bus refuses nothing that a driver gives.
-use Rattle.std.proofs.Common.{◌≡◌, ◌≢◌, ℕ, ◌+◌, ◌*◌, ◌<◌, ◌≤◌, Bool, true, false, List, length, sym}
+use Rattle.std.proofs.Common.{◌≡◌, ◌≢◌, ℕ, ◌+◌, ◌*◌, ◌<◌, ◌≤◌, Bool, true, false, List, length, sym, ap}
 use Rattle.std.proofs.Common.{subst, arith, inl, inr}
 use Rattle.std.specs.Prelude.{slice_index_or}
 use Rattle.std.proofs.lemmas.Bool.{cases_eq}
@@ -10,7 +10,6 @@ use Rattle.sja_link.specs.Verdicts.{IsLawful as IsLawfulJournal}
 use Rattle.sja_wire.specs.declared.bus_fault.BusFault.{BusFault}
 use Rattle.sja_wire.specs.Reasons.{RefusesItem, IsTakenAndRefused, room_for}
 use Rattle.sja_wire.specs.Wire.{journal_at}
-use Rattle.sja_plan.specs.Plan.{PlanValue, steps_at}
 use Rattle.sja_regs.specs.declared.registers.Registers.{Registers}
 use Rattle.sja_script.specs.declared.step.Step.{Step}
 use Rattle.sja_driver.specs.declared.logged_driver.LoggedDriver.{LoggedDriver}
@@ -19,7 +18,7 @@ use Rattle.sja_driver.specs.Holding.{place_after}
 use Rattle.sja_driver.specs.LoggedDrivers.{ended_of, Steps}
 use Rattle.sja_driver.proofs.Trace.Stepping.{given_taken}
 use Rattle.sja_log.specs.Nodes.{IsNode}
-use Rattle.sja_serial.specs.Serial.{SerialValue, StandsAt}
+use Rattle.sja_serial.specs.Serial.{Setup, SerialValue, StandsAt}
 use Rattle.sja_driver.proofs.OneNode.Slices.{apart, each_other}
 use Rattle.sja_log.proofs.OneNode.Trying.{alike, shows_none, takes_none}
 use Rattle.sja_log.proofs.OneNode.Taken.{none_taken, done_taken, waits_taken}
@@ -27,18 +26,20 @@ use Rattle.sja_log.proofs.OneNode.Taken.{none_taken, done_taken, waits_taken}
 -- ---- a taking after a step
 
 -- no item of any node is refused
-pub gather_takes : {plan : PlanValue} {r : SerialValue} {deeds : List (List Deed)} {node : ℕ} {was now : LoggedDriver}
+pub gather_takes : {setup : Setup} {r : SerialValue} {deeds : List (List Deed)} {node : ℕ} {was now : LoggedDriver}
     {p q : Registers} {given after : List Deques} {journals : List (List Entry)} {one : Step} {f : BusFault}
-    {b : Bool} → StandsAt plan r deeds → node < length plan.nodes →
-    IsNode plan.version (steps_at plan node) (journal_at r.bus.journals node) (deeds_at deeds node) was p r.links
+    {b : Bool} → StandsAt setup r deeds → node < setup.nodes →
+    IsNode setup.version (slice_index_or setup.steps node 0) (journal_at r.bus.journals node) (deeds_at deeds node)
+    was p r.links
     (64 * node) →
-    IsLawfulJournal (journal_at r.bus.journals node) → length (deeds_at deeds node) ≤ length (steps_at plan node) →
+    IsLawfulJournal (journal_at r.bus.journals node) → length (deeds_at deeds node) ≤ slice_index_or setup.steps node
+    0 →
     (place_of (journal_at r.bus.journals node)).bits ≡ r.bits →
     Steps alike Lies shows_none takes_none was now r.links given (64 * node) p q one r.bits b →
     ((i : ℕ) (d : Deques) → i ≢ place_after (64 * node) (ended_of was) →
     slice_index_or given i d ≡ slice_index_or r.links i d) →
     IsTakenAndRefused Lies (r.bus.run + r.bus.left) r.bus.steps r.bus.journals journals given after f → ⊥
-gather_takes {plan} {r} {deeds} {node} {was} {now} {p} {q} {given} {after} {journals} {one} {f} {b} h there w lawful
+gather_takes {setup} {r} {deeds} {node} {was} {now} {p} {q} {given} {after} {journals} {one} {f} {b} h there w lawful
     short place st others r_not =
     let m = r_not.node in
     elim (cases_eq m node) [
@@ -48,7 +49,7 @@ gather_takes {plan} {r} {deeds} {node} {was} {now} {p} {q} {given} {after} {jour
           here b (subst (λ (n : ℕ). Steps alike Lies shows_none takes_none was now r.links given (64 * node) p q one n
           b) (sym place) st) (subst P e r_not.refuses)
       | inr differ ↦
-          let few : m < length plan.nodes = let c = h.count.journals in let l = r_not.few in omega (arith, c, l) in
+          let few : m < setup.nodes = let c = h.count.journals in let l = r_not.few in omega (arith, c, l) in
           let n = h.nodes m now p few in
           none_taken (each_other (λ a. apart m node a (ended_of was) differ) n.linked.holds others)
           (λ a. given_taken (deeds_at deeds m) (journal_at r.bus.journals m) a (n.in_time.when a)) r_not.refuses
@@ -60,9 +61,9 @@ gather_takes {plan} {r} {deeds} {node} {was} {now} {p} {q} {given} {after} {jour
     run : (place_of j).bits ≤ r.bus.run + r.bus.left
     run = let e = h.bits in omega (arith, e, place)
 
-    enough : 2 * (r.bus.run + r.bus.left) + 2 * length (steps_at plan node) + 100
+    enough : 2 * (r.bus.run + r.bus.left) + 2 * slice_index_or setup.steps node 0 + 100
         ≤ room_for (r.bus.run + r.bus.left) r.bus.steps node
-    enough = let e = h.room node there in omega (arith, e)
+    enough = let e = ap (λ (l : List ℕ). slice_index_or l node 0) h.steps in omega (arith, e)
 
     here : (x : Bool) →
         Steps alike Lies shows_none takes_none was now r.links given (64 * node) p q one (place_of j).bits x →

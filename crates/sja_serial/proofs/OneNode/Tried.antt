@@ -11,7 +11,6 @@ use Rattle.sja_link.proofs.JournalEntries.Entering.{bits_counted}
 use Rattle.sja_wire.specs.Buses.{BusValue}
 use Rattle.sja_wire.specs.Lawful.{IsBusRun}
 use Rattle.sja_wire.specs.Wire.{journal_at}
-use Rattle.sja_plan.specs.Plan.{PlanValue, steps_at}
 use Rattle.sja_script.specs.declared.step.Step.{Step}
 use Rattle.sja_regs.specs.declared.registers.Registers.{Registers}
 use Rattle.sja_driver.specs.declared.logged_driver.LoggedDriver.{LoggedDriver}
@@ -20,9 +19,9 @@ use Rattle.sja_driver.specs.Deeds.{Deed, deeds_at, is_active}
 use Rattle.sja_driver.specs.LoggedDrivers.{Steps}
 use Rattle.sja_log.specs.Registering.{seen_now}
 use Rattle.sja_log.specs.Nodes.{IsNode}
-use Rattle.sja_serial.specs.Serial.{SerialValue, StandsAt}
+use Rattle.sja_serial.specs.Serial.{Setup, SerialValue, StandsAt}
 use Rattle.sja_link.specs.BitEntries.{HasMore}
-use Rattle.sja_serial.specs.Stepping.{DoesNext, DoesNothing}
+use Rattle.sja_serial.specs.Stepping.{DoesStep, DoesNothing}
 use Rattle.sja_driver.specs.Shown.{ShowsRecord}
 use Rattle.sja_log.specs.Waiting.{HasToWait}
 use Rattle.sja_log.proofs.OneNode.Trying.{alike, shows_none, takes_none}
@@ -30,15 +29,14 @@ use Rattle.sja_log.proofs.OneNode.Turned.{stepped, waited}
 use Rattle.sja_serial.proofs.OneNode.Standing.{Tries, run_tried, node_there, gathers, other_node, stands_after}
 
 -- the step was done, or it has to wait
-abbrev pub IsTried : PlanValue → SerialValue → SerialValue → ℕ → List (List Deed) → Bool → Type 0
-IsTried plan was now node deeds done =
-    (done ≡ true → DoesNext plan was now node deeds) × (done ≡ false → DoesNothing plan was now node deeds)
+abbrev pub IsTried : Setup → SerialValue → SerialValue → ℕ → Step → List (List Deed) → Bool → Type 0
+IsTried setup was now node step deeds done =
+    (done ≡ true → DoesStep setup was now node step deeds) × (done ≡ false → DoesNothing setup was now node step deeds)
 
-module _ {plan : PlanValue} {r : SerialValue} {deeds : List (List Deed)} {node : ℕ} {one : Step}
-    (h : StandsAt plan r deeds) (there : node < length plan.nodes)
+module _ {setup : Setup} {r : SerialValue} {deeds : List (List Deed)} {node : ℕ}
+    (h : StandsAt setup r deeds) (there : node < setup.nodes)
     (laws : IsBusRun r.bus.script r.bus.run r.bus.journals)
-    (few : length (deeds_at deeds node) < length (steps_at plan node))
-    (is : one ≡ slice_index_or (steps_at plan node) (length (deeds_at deeds node)) one) where
+    (few : length (deeds_at deeds node) < slice_index_or setup.steps node 0) where
   abbrev j : List Entry
   j = journal_at r.bus.journals node
 
@@ -51,12 +49,9 @@ module _ {plan : PlanValue} {r : SerialValue} {deeds : List (List Deed)} {node :
   pub place : (place_of j).bits ≡ r.bits
   place = bits_counted j ∙ laws.wired.count node inside ∙ sym h.bits
 
-  step_is : (s : Step) → one ≡ slice_index_or (steps_at plan node) (length ds) s
-  step_is s = is ∙ get_or_default (steps_at plan node) (length ds) one s few
-
   module _ {was now : LoggedDriver} {p q : Registers} {given : List Deques} {bus : BusValue} {after : List Deques}
-      {done : Bool} (t : Tries r node was now p q one done given bus after) where
-    w : IsNode plan.version (steps_at plan node) j ds was p r.links (64 * node)
+      {one : Step} {done : Bool} (t : Tries r node was now p q one done given bus after) where
+    w : IsNode setup.version (slice_index_or setup.steps node 0) j ds was p r.links (64 * node)
     w = node_there h there t.was_is t.p_is
 
     -- after the bits of the journal
@@ -67,14 +62,16 @@ module _ {plan : PlanValue} {r : SerialValue} {deeds : List (List Deed)} {node :
     port : (x : Registers) → p ≡ slice_index_or r.ports node x
     port x = t.p_is ∙ get_or_default r.ports node p x (let c = h.count.ports in omega (arith, c, there))
 
-    more_items : (m : ℕ) → m < length plan.nodes → HasMore (journal_at r.bus.journals m) (journal_at bus.journals m)
+    more_items : (m : ℕ) → m < setup.nodes → HasMore (journal_at r.bus.journals m) (journal_at bus.journals m)
     more_items m less = let its = (gathers h there t m less).items in record { items = its.items; whole = its.whole }
 
   -- the step was done
-  next_done : {was now : LoggedDriver} {p q : Registers} {given : List Deques} {bus : BusValue} {after : List Deques} →
-      Tries r node was now p q one true given bus after → DoesNext plan r (run_tried r node now q bus after) node deeds
+  next_done : {was now : LoggedDriver} {p q : Registers} {given : List Deques} {bus : BusValue} {after : List Deques}
+      {one : Step} →
+      Tries r node was now p q one true given bus after → DoesStep setup r (run_tried r node now q bus after) node one
+      deeds
   next_done {was} {now} {p} {q} {bus = bus} {after} t =
-      let s = stepped now (w t) t.stays.lawful (gathers h there t node there) (laws.lawful node inside) few is (steps t)
+      let s = stepped now (w t) t.stays.lawful (gathers h there t node there) (laws.lawful node inside) few (steps t)
       t.stays.room in let d = s.deed in record {
         deed = d;
         does = record {
@@ -83,7 +80,7 @@ module _ {plan : PlanValue} {r : SerialValue} {deeds : List (List Deed)} {node :
           bits = refl;
           items = more_items t;
         };
-        step = λ x. s.step_is ∙ step_is x;
+        step_is = s.step_is;
         tells = λ x. subst (λ (g : Registers). Tells d.step (is_active ds) g (seen_now (is_active ds) j ds) d.answer)
             (port t x) s.tells;
         fits = s.fits;
@@ -100,27 +97,27 @@ module _ {plan : PlanValue} {r : SerialValue} {deeds : List (List Deed)} {node :
       only x (suc i) d e less = absurd (omega (arith, less))
 
   -- the step has to wait
-  next_waits : {was now : LoggedDriver} {p q : Registers} {given : List Deques} {bus : BusValue} {after : List Deques} →
+  next_waits : {was now : LoggedDriver} {p q : Registers} {given : List Deques} {bus : BusValue} {after : List Deques}
+      {one : Step} →
       Tries r node was now p q one false given bus after →
-      DoesNothing plan r (run_tried r node now q bus after) node deeds
-  next_waits {was} {now} {p} {q} {bus = bus} {after} t =
+      DoesNothing setup r (run_tried r node now q bus after) node one deeds
+  next_waits {was} {now} {p} {q} {bus = bus} {after} {one} t =
       let s = waited now (w t) t.stays.lawful (gathers h there t node there) (laws.lawful node inside) (steps t)
       (t.stays.waits refl) in let k = journal_at bus.journals node in
       let ports_stay : slice_set r.ports node q ≡ r.ports =
       ap (slice_set r.ports node) (s.port ∙ t.p_is) ∙ set-get_or r.ports node p in record {
         does = record {
-          stands = stands_after h there t [] (subst (λ (l : List Deed). IsNode plan.version (steps_at plan node) k l now
+          stands = stands_after h there t [] (subst (λ (l : List Deed). IsNode setup.version
+              (slice_index_or setup.steps node 0) k l now
               q after (64 * node)) (sym (append-nil ds)) s.node) (λ same shown. subst (ShowsRecord k) (sym s.port)
               (subst (λ (l : List Entry). ShowsRecord l p) (sym same) shown));
           at_once = λ i d less. absurd (omega (arith, less));
           bits = refl;
           items = more_items t;
         };
-        why = inr (λ x g.
-            subst (λ (r : Registers). HasToWait r k ds (slice_index_or (steps_at plan node) (length ds) x))
+        why = λ g. subst (λ (r : Registers). HasToWait r k ds one)
             (port t g ∙ ap (λ (l : List Registers). slice_index_or l node g) (sym ports_stay))
-            (subst (λ (l : List Entry). HasToWait p l ds (slice_index_or (steps_at plan node) (length ds) x))
-            (sym s.journal) (subst (λ (o : Step). HasToWait p j ds o) (step_is x) s.waits)));
+            (subst (λ (l : List Entry). HasToWait p l ds one) (sym s.journal) s.waits);
         ports = ports_stay;
         journals = λ m less. elim (cases_eq node m) [
           | inl e ↦ subst (λ (x : ℕ). journal_at bus.journals x ≡ journal_at r.bus.journals x) e s.journal
@@ -130,7 +127,7 @@ module _ {plan : PlanValue} {r : SerialValue} {deeds : List (List Deed)} {node :
 
   -- either of both
   pub next_tried : {was now : LoggedDriver} {p q : Registers} {given : List Deques} {bus : BusValue}
-      {after : List Deques} (done : Bool) → Tries r node was now p q one done given bus after →
-      IsTried plan r (run_tried r node now q bus after) node deeds done
+      {after : List Deques} {one : Step} (done : Bool) → Tries r node was now p q one done given bus after →
+      IsTried setup r (run_tried r node now q bus after) node one deeds done
   next_tried true t = (λ e. next_done t, λ e. absurd cc)
   next_tried false t = (λ e. absurd cc, λ e. next_waits t)

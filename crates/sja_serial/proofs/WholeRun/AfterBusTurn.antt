@@ -19,7 +19,7 @@ use Rattle.sja_log.specs.Turns.{Progress, with_bits, AllAtRest, RunsTo}
 use Rattle.sja_log.specs.Turns.RunsTo.{bus, bus_spent, rest, rest_spent}
 use Rattle.sja_serial.specs.Bits.{TakesBits, SomeWorks, TakesBusTurn, TakesRest}
 use Rattle.sja_serial.specs.Bits.TakesBits.{no_bit, one_more}
-use Rattle.sja_serial.specs.Ending.{progress}
+use Rattle.sja_serial.specs.Ending.{progress, setup_of}
 use Rattle.sja_serial.specs.Serial.{SerialValue, StandsAt}
 use Rattle.sja_serial.proofs.ManyBits.SomeBits.{bits_within}
 use Rattle.sja_serial.proofs.WholeRun.GoingOn.{acts_of, GoesOn, ArePresent, deeds_then, record_then}
@@ -32,13 +32,13 @@ module _ (plan : PlanValue) (deeds : List (List Deed)) (journals : List (List En
       record { bits = b; done = map (λ (l : List Deed). length l) deeds } in p) e
 
   pub bus_whole : (was now : SerialValue) (count : ℕ) (turns : List Turn) (q : Progress) (end : End) →
-      StandsAt plan was deeds → TakesBusTurn plan deeds was now count true →
+      StandsAt (setup_of plan) was deeds → TakesBusTurn (setup_of plan) deeds was now count true →
       RunsTo (acts_of plan journals all) (progress now deeds) turns q end →
       RunsTo (acts_of plan journals all) (progress was deeds) (Bus count ∷ turns) q end
   bus_whole was now count turns q end h t follows =
-      let n = bits_run plan deeds _ was now t.run t.bits in
-      let stands = stands_bits plan deeds _ was now t.run t.bits h in
-      let few = bits_within plan now deeds stands in let w = t.whole refl in
+      let n = bits_run (setup_of plan) deeds _ was now t.run t.bits in
+      let stands = stands_bits (setup_of plan) deeds _ was now t.run t.bits h in
+      let few = bits_within (setup_of plan) now deeds stands in let w = t.whole refl in
       let e : now.bits ≡ was.bits + count = omega (arith, n, w) in
       bus (progress was deeds) q count turns end (omega (arith, few, e))
       (subst (λ (p : Progress). RunsTo (acts_of plan journals all) p turns q end) (bits_on was now count e) follows)
@@ -49,10 +49,11 @@ module _ (plan : PlanValue) (deeds : List (List Deed)) (journals : List (List En
       record { bits = b; done = map (λ (l : List Deed). length l) deeds } in p) (sym e)
 
   pub bus_short : (was now : SerialValue) (count : ℕ) (turns : List Turn) →
-      TakesBusTurn plan deeds was now count false →
+      TakesBusTurn (setup_of plan) deeds was now count false →
       RunsTo (acts_of plan journals all) (progress was deeds) (Bus count ∷ turns) (progress now deeds) BitsSpent
   bus_short was now count turns t =
-      let n = bits_run plan deeds _ was now t.run t.bits in let s = t.spent refl in let few = s.0 in let e = s.1 in
+      let n = bits_run (setup_of plan) deeds _ was now t.run t.bits in let s = t.spent refl in let few = s.0 in let e
+      = s.1 in
       subst (λ (q : Progress). RunsTo (acts_of plan journals all) (progress was deeds)
       (Bus count ∷ turns) q BitsSpent) (spent_at was now e)
       (bus_spent (progress was deeds) count turns (omega (arith, n, few, e)))
@@ -60,48 +61,54 @@ module _ (plan : PlanValue) (deeds : List (List Deed)) (journals : List (List En
   -- ---- rest
 
   rests_then : (at : Progress) (r : SerialValue) → at.done ≡ map (λ (l : List Deed). length l) deeds →
-      StandsAt plan r deeds → ArePresent plan r → GoesOn plan r deeds journals all → (k : ℕ) → k < length plan.nodes →
+      StandsAt (setup_of plan) r deeds → ArePresent (setup_of plan) r → GoesOn (setup_of plan) r deeds journals all →
+      (k : ℕ) → k < length plan.nodes →
       record_at (journal_at journals k) (take (slice_index at.done k) (deeds_at all k)) r.bits ≡ record_of
       (journal_at r.bus.journals k)
   rests_then at r e h present go k less =
       ap (λ l. record_at (journal_at journals k) l r.bits)
-      (ap (λ l. take (slice_index l k) (deeds_at all k)) e ∙ deeds_then plan r deeds journals all go k less)
-      ∙ record_then plan r deeds journals all h present go k less
+      (ap (λ l. take (slice_index l k) (deeds_at all k)) e ∙ deeds_then (setup_of plan) r deeds journals all go k less)
+      ∙ record_then (setup_of plan) r deeds journals all h present go k less
 
   -- where some node works not all are at rest
-  works_then : (was r : SerialValue) → StandsAt plan r deeds → ArePresent plan r → GoesOn plan r deeds journals all →
-      SomeWorks plan r → AllAtRest (acts_of plan journals all) (progress was deeds) r.bits → ⊥
+  works_then : (was r : SerialValue) → StandsAt (setup_of plan) r deeds → ArePresent (setup_of plan) r →
+      GoesOn (setup_of plan) r deeds journals all →
+      SomeWorks (setup_of plan) r → AllAtRest (acts_of plan journals all) (progress was deeds) r.bits → ⊥
   works_then was r h present go works still =
       let k = works.0 in
       let rests = subst (λ (l : List NodeEntry). IsAtRest l)
       (rests_then (progress was deeds) r refl h present go k works.1) (still k works.1) in
       false≢true (sym (works.2.every rests.0 rests.1) ∙ rests.2)
 
-  works_before : (was now : SerialValue) (n : ℕ) → TakesBits plan deeds (SomeWorks plan) was n now →
-      StandsAt plan was deeds → ArePresent plan was → GoesOn plan now deeds journals all →
+  works_before : (was now : SerialValue) (n : ℕ) → TakesBits (setup_of plan) deeds (SomeWorks (setup_of plan)) was n
+      now →
+      StandsAt (setup_of plan) was deeds → ArePresent (setup_of plan) was →
+      GoesOn (setup_of plan) now deeds journals all →
       (i : ℕ) → i < n → AllAtRest (acts_of plan journals all) (progress was deeds) (was.bits + i) → ⊥
   works_before was now n (no_bit _) h present go i less still = omega (arith, less)
   works_before was now n (one_more _ mid _ m before holds bit) h present go i less still =
-      let back = back_bit plan deeds mid now journals all bit go in
+      let back = back_bit (setup_of plan) deeds mid now journals all bit go in
       elim (cases_lt i m) [
         | inl few ↦ works_before was mid m before h present back i few still
         | inr far ↦
-            let e = bits_run plan deeds _ was mid m before in
+            let e = bits_run (setup_of plan) deeds _ was mid m before in
             let now_is : was.bits + i ≡ mid.bits = omega (arith, e, far, less) in
-            works_then was mid (stands_bits plan deeds _ was mid m before h)
-            (present_bits plan deeds _ was mid m before present) back holds
+            works_then was mid (stands_bits (setup_of plan) deeds _ was mid m before h)
+            (present_bits (setup_of plan) deeds _ was mid m before present) back holds
             (subst (λ (b : ℕ). AllAtRest (acts_of plan journals all) (progress was deeds) b) now_is still)
       ]
 
-  pub rest_whole : (was now : SerialValue) (turns : List Turn) (q : Progress) (end : End) → StandsAt plan was deeds →
-      ArePresent plan was → GoesOn plan now deeds journals all → TakesRest plan deeds was now true →
+  pub rest_whole : (was now : SerialValue) (turns : List Turn) (q : Progress) (end : End) →
+      StandsAt (setup_of plan) was deeds →
+      ArePresent (setup_of plan) was → GoesOn (setup_of plan) now deeds journals all →
+      TakesRest (setup_of plan) deeds was now true →
       RunsTo (acts_of plan journals all) (progress now deeds) turns q end →
       RunsTo (acts_of plan journals all) (progress was deeds) (Rest ∷ turns) q end
   rest_whole was now turns q end h present go t follows =
-      let e = bits_run plan deeds _ was now t.run t.bits in
-      let stands = stands_bits plan deeds _ was now t.run t.bits h in
-      let there = present_bits plan deeds _ was now t.run t.bits present in
-      let few = bits_within plan now deeds stands in
+      let e = bits_run (setup_of plan) deeds _ was now t.run t.bits in
+      let stands = stands_bits (setup_of plan) deeds _ was now t.run t.bits h in
+      let there = present_bits (setup_of plan) deeds _ was now t.run t.bits present in
+      let few = bits_within (setup_of plan) now deeds stands in
       let still : AllAtRest (acts_of plan journals all) (progress was deeds) now.bits = λ k less.
       let rests = t.whole refl k less in
       subst (λ (l : List NodeEntry). IsAtRest l)
@@ -111,13 +118,14 @@ module _ (plan : PlanValue) (deeds : List (List Deed)) (journals : List (List En
       (subst (λ (b : ℕ). AllAtRest (acts_of plan journals all) (progress was deeds) b) e still)
       (subst (λ (p : Progress). RunsTo (acts_of plan journals all) p turns q end) (bits_on was now t.run e) follows)
 
-  pub rest_short : (was now : SerialValue) (turns : List Turn) → StandsAt plan was deeds → ArePresent plan was →
-      GoesOn plan now deeds journals all → TakesRest plan deeds was now false →
+  pub rest_short : (was now : SerialValue) (turns : List Turn) → StandsAt (setup_of plan) was deeds →
+      ArePresent (setup_of plan) was →
+      GoesOn (setup_of plan) now deeds journals all → TakesRest (setup_of plan) deeds was now false →
       RunsTo (acts_of plan journals all) (progress was deeds) (Rest ∷ turns) (progress now deeds) BitsSpent
   rest_short was now turns h present go t =
-      let e = bits_run plan deeds _ was now t.run t.bits in
-      let stands = stands_bits plan deeds _ was now t.run t.bits h in
-      let there = present_bits plan deeds _ was now t.run t.bits present in
+      let e = bits_run (setup_of plan) deeds _ was now t.run t.bits in
+      let stands = stands_bits (setup_of plan) deeds _ was now t.run t.bits h in
+      let there = present_bits (setup_of plan) deeds _ was now t.run t.bits present in
       let s = t.spent refl in let last = s.1 in
       subst (λ (q : Progress). RunsTo (acts_of plan journals all) (progress was deeds) (Rest ∷ turns) q BitsSpent)
       (spent_at was now s.1)

@@ -24,8 +24,9 @@ use Rattle.sja_driver.specs.Resting.{IsHolding}
 use Rattle.sja_log.specs.Turns.{Progress, with_steps, IsUnmet, IsStuck, DoesSteps, RunsTo}
 use Rattle.sja_log.specs.Turns.RunsTo.{node}
 use Rattle.sja_driver.specs.Windows.{off_by, window_of}
-use Rattle.sja_serial.specs.Ending.{progress}
-use Rattle.sja_serial.specs.Serial.{SerialValue, StandsAt, TakesTurn, CannotStep}
+use Rattle.sja_serial.specs.Ending.{progress, setup_of}
+use Rattle.sja_serial.specs.Inside.Going.{TakesTurn, CannotStep}
+use Rattle.sja_serial.specs.Serial.{SerialValue, StandsAt}
 use Rattle.sja_log.specs.Waiting.{HasToWait}
 use Rattle.sja_serial.proofs.WholeRun.GoingOn.{acts_of, GoesOn, ArePresent, length_at, lengths_set, deeds_then}
 use Rattle.sja_serial.proofs.WholeRun.GoingOn.{entries_then, record_then, registers_then, window_then, off_then}
@@ -39,8 +40,8 @@ middle_at xs more after i n d e less =
     ∙ get_or-append-add xs (more ++ after) i d ∙ get_or_append_left more after d i less
 
 module _ (plan : PlanValue) (r : SerialValue) (deeds : List (List Deed)) (journals : List (List Entry))
-    (all : List (List Deed)) (h : StandsAt plan r deeds) (present : ArePresent plan r)
-    (go : GoesOn plan r deeds journals all) (k : ℕ) (less : k < length plan.nodes) where
+    (all : List (List Deed)) (h : StandsAt (setup_of plan) r deeds) (present : ArePresent (setup_of plan) r)
+    (go : GoesOn (setup_of plan) r deeds journals all) (k : ℕ) (less : k < length plan.nodes) where
   place_is : (place_of (journal_at r.bus.journals k)).bits ≡ r.bits
   place_is = bits_counted (journal_at r.bus.journals k) ∙ (present k less).bits_are
 
@@ -51,20 +52,21 @@ module _ (plan : PlanValue) (r : SerialValue) (deeds : List (List Deed)) (journa
       IsUnmet plan.version (journal_at journals k) (deeds_at deeds k) r.bits s
   unmet_then (Await count) w = (
     w.0,
-    off_then plan r deeds journals all h present go k (opened_by (deeds_at deeds k)) less
+    off_then (setup_of plan) r deeds journals all h present go k (opened_by (deeds_at deeds k)) less
         ∙ ap (λ n. off_by n (journal_at r.bus.journals k) (opened_by (deeds_at deeds k))) (sym (place_is)) ∙ w.1,
     subst (λ (m : ℕ). m < count) (ap (λ n. length (window_of (journal_at r.bus.journals k) (deeds_at deeds k) n))
-        place_is ∙ ap (λ l. length l) (sym (window_then plan r deeds journals all h present go k less))) w.2,
+        place_is ∙ ap (λ l. length l) (sym (window_then (setup_of plan) r deeds journals all h present go k less))) w.2,
   )
   unmet_then Sent w = (
     w.0,
-    subst (λ (l : List NodeEntry). IsHolding l) (sym (record_then plan r deeds journals all h present go k less)) w.1,
+    subst (λ (l : List NodeEntry). IsHolding l) (sym (record_then (setup_of plan) r deeds journals all h present go k
+        less)) w.1,
   )
   unmet_then Interrupt w =
-      let back = sym (entries_then plan r deeds journals all h present go k less) in record {
+      let back = sym (entries_then (setup_of plan) r deeds journals all h present go k less) in record {
         registers = port;
         lead = subst (λ (l : List Entry). LeadTo plan.version l (deeds_at deeds k) port) back
-            (registers_then plan r deeds journals all h present go k (at_power_on 1) less);
+            (registers_then (setup_of plan) r deeds journals all h present go k (at_power_on 1) less);
         inactive = subst (λ (l : List Entry).
             is_line_active port (seen_now (is_active (deeds_at deeds k)) l (deeds_at deeds k)) ≡ false) back w;
       }
@@ -88,14 +90,14 @@ module _ (plan : PlanValue) (r : SerialValue) (deeds : List (List Deed)) (journa
         (slice_index_or (steps_at plan k) n s)) (sym (length_at deeds k))
         (subst (λ (l : List Deed). IsUnmet plan.version (journal_at journals k) l r.bits
         (slice_index_or (steps_at plan k) (length (deeds_at deeds k)) s))
-        (sym (deeds_then plan r deeds journals all go k less)) u));
+        (sym (deeds_then (setup_of plan) r deeds journals all go k less)) u));
   }
 
 -- a turn of a node
 module _ (plan : PlanValue) (was now : SerialValue) (k count : ℕ) (deeds : List (List Deed))
-    (journals : List (List Entry)) (all : List (List Deed)) (h : StandsAt plan was deeds)
-    (t : TakesTurn plan was now k count deeds) (present : ArePresent plan now)
-    (go : GoesOn plan now (with_deeds deeds k t.more) journals all) (less : k < length plan.nodes) where
+    (journals : List (List Entry)) (all : List (List Deed)) (h : StandsAt (setup_of plan) was deeds)
+    (t : TakesTurn plan was now k count deeds) (present : ArePresent (setup_of plan) now)
+    (go : GoesOn (setup_of plan) now (with_deeds deeds k t.more) journals all) (less : k < length plan.nodes) where
   there : k < length deeds
   there = let c = h.deeds_count in omega (arith, c, less)
 

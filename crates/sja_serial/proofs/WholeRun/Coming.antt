@@ -18,9 +18,9 @@ use Rattle.sja_log.specs.declared.end.End.TheVariants.{Turns as TurnsDone, Bits 
 use Rattle.sja_log.specs.Turns.{Progress, RunsTo}
 use Rattle.sja_log.specs.Turns.RunsTo.{all_done}
 use Rattle.sja_serial.specs.Bits.{TakesBusTurn, TakesRest}
-use Rattle.sja_serial.specs.Ending.{progress}
-use Rattle.sja_serial.specs.Inside.Going.{TakesTurns, TakesOne}
-use Rattle.sja_serial.specs.Serial.{SerialValue, StandsAt, TakesTurn}
+use Rattle.sja_serial.specs.Ending.{AreFirst, progress, setup_of}
+use Rattle.sja_serial.specs.Inside.Going.{StandsIn, TakesTurn, TakesTurns, TakesOne}
+use Rattle.sja_serial.specs.Serial.{SerialValue, StandsAt}
 use Rattle.sja_log.proofs.NodeLog.Onward.{extends_none, extends_items, bits_items, aborts_items}
 use Rattle.sja_serial.proofs.WholeRun.GoingOn.{acts_of, GoesOn, IsPresent, ArePresent, present_bits, back_bits}
 use Rattle.sja_serial.proofs.WholeRun.GoingOn.{stands_bits}
@@ -34,9 +34,10 @@ start_of plan = record { bits = 0; done = replicate (length plan.nodes) 0 }
 -- the run has come so far by these turns
 pub record HasCome (plan : PlanValue) (turns : List Turn) (r : SerialValue) : Type 0 where
   pub deeds : List (List Deed)
-  pub stands : StandsAt plan r deeds
-  pub present : ArePresent plan r
-  pub leads : (journals : List (List Entry)) (all : List (List Deed)) → GoesOn plan r deeds journals all →
+  pub stands : StandsAt (setup_of plan) r deeds
+  pub first : AreFirst plan deeds
+  pub present : ArePresent (setup_of plan) r
+  pub leads : (journals : List (List Entry)) (all : List (List Deed)) → GoesOn (setup_of plan) r deeds journals all →
       (later : List Turn) (q : Progress) (end : End) →
       RunsTo (acts_of plan journals all) (progress r deeds) later q end →
       RunsTo (acts_of plan journals all) (start_of plan) (turns ++ later) q end
@@ -48,11 +49,12 @@ pub no_lengths : (n : ℕ) → map (λ (l : List Deed). length l) (replicate n [
 no_lengths zero = refl
 no_lengths (suc n) = ap (λ l. 0 ∷ l) (no_lengths n)
 
-pub come_first : (plan : PlanValue) (r : SerialValue) → StandsAt plan r (replicate (length plan.nodes) []) →
+pub come_first : (plan : PlanValue) (r : SerialValue) → StandsIn plan r (replicate (length plan.nodes) []) →
     r.bus ≡ new_bus plan.strikes plan.bits (length plan.nodes) (step_counts plan) → HasCome plan [] r
 come_first plan r h new = record {
   deeds = replicate (length plan.nodes) [];
-  stands = h;
+  stands = h.stands;
+  first = h.first;
   present = λ k less.
       let none : journal_at r.bus.journals k ≡ [] = ap (λ (b : BusValue). journal_at b.journals k) new
       ∙ no_journal (length plan.nodes) k in
@@ -62,14 +64,15 @@ come_first plan r h new = record {
 }
   where
     bits : r.bits ≡ 0
-    bits = h.bits ∙ ap (λ (b : BusValue). b.run) new
+    bits = h.stands.bits ∙ ap (λ (b : BusValue). b.run) new
 
     first : progress r (replicate (length plan.nodes) []) ≡ start_of plan
     first = λ i. let p : Progress = record { bits = bits i; done = no_lengths (length plan.nodes) i } in p
 
 -- ---- at the end
 
-go_self : (plan : PlanValue) (r : SerialValue) (deeds : List (List Deed)) → GoesOn plan r deeds r.bus.journals deeds
+go_self : (plan : PlanValue) (r : SerialValue) (deeds : List (List Deed)) →
+    GoesOn (setup_of plan) r deeds r.bus.journals deeds
 go_self plan r deeds = record {
   journals_go = λ k less. extends_none (journal_at r.bus.journals k);
   deeds_go = λ k less. ([], sym (append-nil (deeds_at deeds k)));
@@ -79,7 +82,7 @@ pub end_all : (plan : PlanValue) (turns : List Turn) (r : SerialValue) → HasCo
     TakesTurns plan r TurnsDone
 end_all plan turns r c whole = record {
   deeds = c.deeds;
-  stands = c.stands;
+  stands = record { stands = c.stands; first = c.first };
   turns = subst (λ (l : List Turn). RunsTo (acts_of plan r.bus.journals c.deeds) (start_of plan) l
       (progress r c.deeds) TurnsDone) (append-nil turns ∙ whole)
       (c.leads r.bus.journals c.deeds (go_self plan r c.deeds) [] (progress r c.deeds) TurnsDone
@@ -119,49 +122,63 @@ module _ (plan : PlanValue) (turns : List Turn) (was now : SerialValue) (c : Has
       (λ (l : List Turn). RunsTo (acts_of plan journals all) (start_of plan) l q end)
       (sym (append_assoc turns (t ∷ []) later)) h
 
-  pub come_bus : (count : ℕ) → TakesBusTurn plan c.deeds was now count true → HasCome plan (turns ++ Bus count ∷ []) now
+  pub come_bus : (count : ℕ) → TakesBusTurn (setup_of plan) c.deeds was now count true →
+      HasCome plan (turns ++ Bus count ∷ []) now
   come_bus count t = record {
     deeds = c.deeds;
-    stands = stands_bits plan c.deeds _ was now t.run t.bits c.stands;
-    present = present_bits plan c.deeds _ was now t.run t.bits c.present;
+    stands = stands_bits (setup_of plan) c.deeds _ was now t.run t.bits c.stands;
+    first = c.first;
+    present = present_bits (setup_of plan) c.deeds _ was now t.run t.bits c.present;
     leads = λ journals all go later q end follows.
         one_more (Bus count) journals all later q end
-        (c.leads journals all (back_bits plan c.deeds _ was now t.run journals all t.bits go) (Bus count ∷ later) q end
+        (c.leads journals all (back_bits (setup_of plan) c.deeds _ was now t.run journals all t.bits go)
+        (Bus count ∷ later) q end
         (bus_whole plan c.deeds journals all was now count later q end c.stands t follows));
   }
 
-  pub end_bus : (count : ℕ) (later : List Turn) → TakesBusTurn plan c.deeds was now count false →
+  pub end_bus : (count : ℕ) (later : List Turn) → TakesBusTurn (setup_of plan) c.deeds was now count false →
       turns ++ (Bus count ∷ later) ≡ plan.turns → TakesTurns plan now BitsSpent
   end_bus count later t whole = record {
     deeds = c.deeds;
-    stands = stands_bits plan c.deeds _ was now t.run t.bits c.stands;
+    stands = record {
+      stands = stands_bits (setup_of plan) c.deeds _ was now t.run t.bits c.stands;
+      first = c.first;
+    };
     turns = subst (λ (l : List Turn). RunsTo (acts_of plan now.bus.journals c.deeds) (start_of plan) l
         (progress now c.deeds) BitsSpent) whole
-        (c.leads now.bus.journals c.deeds (back_bits plan c.deeds _ was now t.run now.bus.journals c.deeds t.bits
+        (c.leads now.bus.journals c.deeds (back_bits (setup_of plan) c.deeds _ was now t.run now.bus.journals c.deeds
+        t.bits
         (go_self plan now c.deeds)) (Bus count ∷ later) (progress now c.deeds) BitsSpent
         (bus_short plan c.deeds now.bus.journals c.deeds was now count later t));
   }
 
-  pub come_rest : TakesRest plan c.deeds was now true → HasCome plan (turns ++ Rest ∷ []) now
+  pub come_rest : TakesRest (setup_of plan) c.deeds was now true → HasCome plan (turns ++ Rest ∷ []) now
   come_rest t = record {
     deeds = c.deeds;
-    stands = stands_bits plan c.deeds _ was now t.run t.bits c.stands;
-    present = present_bits plan c.deeds _ was now t.run t.bits c.present;
+    stands = stands_bits (setup_of plan) c.deeds _ was now t.run t.bits c.stands;
+    first = c.first;
+    present = present_bits (setup_of plan) c.deeds _ was now t.run t.bits c.present;
     leads = λ journals all go later q end follows.
         one_more Rest journals all later q end
-        (c.leads journals all (back_bits plan c.deeds _ was now t.run journals all t.bits go) (Rest ∷ later) q end
+        (c.leads journals all (back_bits (setup_of plan) c.deeds _ was now t.run journals all t.bits go)
+        (Rest ∷ later) q end
         (rest_whole plan c.deeds journals all was now later q end c.stands c.present go t follows));
   }
 
-  pub end_rest : (later : List Turn) → TakesRest plan c.deeds was now false → turns ++ (Rest ∷ later) ≡ plan.turns →
+  pub end_rest : (later : List Turn) → TakesRest (setup_of plan) c.deeds was now false →
+      turns ++ (Rest ∷ later) ≡ plan.turns →
       TakesTurns plan now BitsSpent
   end_rest later t whole =
       let go = go_self plan now c.deeds in record {
         deeds = c.deeds;
-        stands = stands_bits plan c.deeds _ was now t.run t.bits c.stands;
+        stands = record {
+          stands = stands_bits (setup_of plan) c.deeds _ was now t.run t.bits c.stands;
+          first = c.first;
+        };
         turns = subst (λ (l : List Turn). RunsTo (acts_of plan now.bus.journals c.deeds) (start_of plan) l
             (progress now c.deeds) BitsSpent) whole
-            (c.leads now.bus.journals c.deeds (back_bits plan c.deeds _ was now t.run now.bus.journals c.deeds t.bits
+            (c.leads now.bus.journals c.deeds (back_bits (setup_of plan) c.deeds _ was now t.run now.bus.journals
+            c.deeds t.bits
             go) (Rest ∷ later) (progress now c.deeds) BitsSpent
             (rest_short plan c.deeds now.bus.journals c.deeds was now later c.stands c.present go t));
       }
@@ -199,9 +216,10 @@ module _ (plan : PlanValue) (turns : List Turn) (was now : SerialValue) (c : Has
   come_node k count less t = record {
     deeds = with_deeds c.deeds k t.more;
     stands = t.does.stands;
+    first = t.first;
     present = there;
     leads = λ journals all go later q end follows.
-        let back : GoesOn plan was c.deeds journals all = record {
+        let back : GoesOn (setup_of plan) was c.deeds journals all = record {
           journals_go = λ m few. extends_items (journal_at was.bus.journals m) (journal_at now.bus.journals m)
               (journal_at journals m) (t.does.items m few) (go.journals_go m few);
           deeds_go = deeds_back k t.more all less go.deeds_go;
@@ -210,7 +228,7 @@ module _ (plan : PlanValue) (turns : List Turn) (was now : SerialValue) (c : Has
         (node_whole plan was now k count c.deeds journals all c.stands t there go less later q end follows));
   }
     where
-      there : ArePresent plan now
+      there : ArePresent (setup_of plan) now
       there m few =
           let p = c.present m few in let more = t.does.items m few in record {
             bits_are = bits_items (journal_at was.bus.journals m) (journal_at now.bus.journals m) more ∙ p.bits_are
@@ -222,14 +240,15 @@ module _ (plan : PlanValue) (turns : List Turn) (was now : SerialValue) (c : Has
   pub come_one : (t : Turn) (all : Bool) → NamesNode (length plan.nodes) t → all ≡ true →
       TakesOne plan c.deeds was now t all → HasCome plan (turns ++ t ∷ []) now
   come_one (Bus count) all names is taken = come_bus count
-      (subst (λ (b : Bool). TakesBusTurn plan c.deeds was now count b) is taken)
-  come_one Rest all names is taken = come_rest (subst (λ (b : Bool). TakesRest plan c.deeds was now b) is taken)
+      (subst (λ (b : Bool). TakesBusTurn (setup_of plan) c.deeds was now count b) is taken)
+  come_one Rest all names is taken = come_rest (subst (λ (b : Bool). TakesRest (setup_of plan) c.deeds was now b) is
+      taken)
   come_one (Node k count) all names is taken = come_node k count names taken.0
 
   pub end_one : (t : Turn) (all : Bool) (later : List Turn) → all ≡ false → TakesOne plan c.deeds was now t all →
       turns ++ (t ∷ later) ≡ plan.turns → TakesTurns plan now BitsSpent
   end_one (Bus count) all later is taken whole = end_bus count later
-      (subst (λ (b : Bool). TakesBusTurn plan c.deeds was now count b) is taken) whole
+      (subst (λ (b : Bool). TakesBusTurn (setup_of plan) c.deeds was now count b) is taken) whole
   end_one Rest all later is taken whole = end_rest later
-      (subst (λ (b : Bool). TakesRest plan c.deeds was now b) is taken) whole
+      (subst (λ (b : Bool). TakesRest (setup_of plan) c.deeds was now b) is taken) whole
   end_one (Node k count) all later is taken whole = let e : true ≡ false = sym taken.1 ∙ is in absurd cc

@@ -1,5 +1,5 @@
 -- The log of a run in one thread, by what its bus leaves and what drivers and links hold at the end.
-use Rattle.std.proofs.Common.{◌≡◌, ℕ, zero, suc, ◌+◌, ◌*◌, ◌<◌, List, [], ◌∷◌, ◌++◌, length, map, refl, sym, ap}
+use Rattle.std.proofs.Common.{◌≡◌, ℕ, zero, suc, ◌+◌, ◌*◌, ◌<◌, List, [], ◌∷◌, ◌++◌, length, map, take, refl, sym, ap}
 use Rattle.std.proofs.Common.{◌∙◌, subst, arith}
 use Rattle.std.specs.Prelude.{slice_index_or}
 use Rattle.sja_link.specs.declared.entry.Entry.{Entry}
@@ -27,10 +27,10 @@ use Rattle.sja_driver.proofs.Trace.Stepping.{given_taken}
 use Rattle.sja_log.proofs.Trace.Windows.{settled_kept}
 use Rattle.sja_log.proofs.OneNode.Gathered.{no_link}
 use Rattle.sja_log.specs.Nodes.{IsNode}
-use Rattle.sja_serial.specs.Serial.{SerialValue, StandsAt}
+use Rattle.sja_serial.specs.Serial.{Setup, SerialValue, StandsAt}
 use Rattle.sja_log.specs.Finishing.{held_after, activation_after, IsNodeEnd, AreNodeEnds}
 use Rattle.sja_log.specs.Inside.LeftDown.{all_down}
-use Rattle.sja_serial.specs.Ending.{IsLogOf}
+use Rattle.sja_serial.specs.Ending.{IsLogOf, MayBeOf}
 use Rattle.sja_log.proofs.NodeLog.NodeEnds.{AreEnds, trace_of, settled_of, nodes_count, some_driver, node_end}
 use Rattle.sja_log.proofs.NodeLog.NodeEnds.{journal_is, journals_in_log, run_of_ends}
 
@@ -43,15 +43,16 @@ down_at (x ∷ links) (suc k) d = down_at links k d
 
 -- ---- one node
 
-module _ (version : ℕ) (steps : List Step) (j : List Entry) (deeds : List Deed) (driver : LoggedDriver)
-    (port : Registers) (links : List Deques) (base : ℕ) (h : IsNode version steps j deeds driver port links base)
+module _ (version size : ℕ) (steps : List Step) (j : List Entry) (deeds : List Deed) (driver : LoggedDriver)
+    (port : Registers) (links : List Deques) (base : ℕ) (h : IsNode version size j deeds driver port links base)
+    (first : map (λ (d : Deed). d.step) deeds ≡ take (length deeds) steps)
     (log : NodeLog) (node : NodeValue) (end : IsNodeEnd log driver (all_down links) base node)
     (same : node.journal ≡ j) where
   trace_at : IsTrace version steps node deeds
   trace_at =
       trace_of j deeds driver (all_down links) base log node end same version steps
       (record {
-        first = h.traced.first;
+        first = first;
         states = h.traced.traces.answered.states;
         gives = h.traced.traces.answered.gives;
       })
@@ -74,7 +75,8 @@ module _ (version : ℕ) (steps : List Step) (j : List Entry) (deeds : List Deed
 -- ---- all nodes
 
 module _ (plan : PlanValue) (r : SerialValue) (deeds : List (List Deed)) (end : End) (log : RunValue)
-    (logs : List NodeLog) (h : StandsAt plan r deeds) (version : log.version ≡ plan.version) (bits : log.bits ≡ r.bits)
+    (logs : List NodeLog) (setup : Setup) (h : StandsAt setup r deeds) (is : MayBeOf plan setup deeds)
+    (version : log.version ≡ setup.version) (bits : log.bits ≡ r.bits)
     (ends : log.end ≡ end)
     (all : AreNodeEnds logs r.drivers (all_down r.links) (length r.drivers) log.nodes)
     (journals : map (λ (g : NodeLog). g.journal.entries) logs ≡ r.bus.journals)
@@ -85,8 +87,8 @@ module _ (plan : PlanValue) (r : SerialValue) (deeds : List (List Deed)) (end : 
   are : AreEnds plan log logs r.bus.journals r.drivers (all_down r.links)
   are = record {
     nodes = all;
-    drivers_count = h.count.drivers;
-    journals_count = h.count.journals;
+    drivers_count = h.count.drivers ∙ is.nodes;
+    journals_count = h.count.journals ∙ is.nodes;
     journals_are = journals;
     counters = counters;
   }
@@ -96,24 +98,30 @@ module _ (plan : PlanValue) (r : SerialValue) (deeds : List (List Deed)) (end : 
     driver = slice_index_or r.drivers k
         (some_driver plan log logs r.bus.journals r.drivers (all_down r.links) are k n less)
 
-    node_is : IsNode plan.version (steps_at plan k) (journal_at r.bus.journals k) (deeds_at deeds k) driver
-        (slice_index_or r.ports k (at_power_on 1)) r.links (64 * k)
-    node_is =
-        let c = nodes_count plan log logs r.bus.journals r.drivers (all_down r.links) are in
-        h.nodes k (some_driver plan log logs r.bus.journals r.drivers (all_down r.links) are k n less) (at_power_on 1)
-        (omega (arith, c, less))
+    in_plan : k < length plan.nodes
+    in_plan = let c = nodes_count plan log logs r.bus.journals r.drivers (all_down r.links) are in
+        omega (arith, c, less)
+
+    node_is : IsNode plan.version (slice_index_or setup.steps k 0) (journal_at r.bus.journals k) (deeds_at deeds k)
+        driver (slice_index_or r.ports k (at_power_on 1)) r.links (64 * k)
+    node_is = let l = in_plan in let m = is.nodes in
+        subst (λ (v : ℕ). IsNode v (slice_index_or setup.steps k 0) (journal_at r.bus.journals k) (deeds_at deeds k)
+        driver (slice_index_or r.ports k (at_power_on 1)) r.links (64 * k)) is.version
+        (h.nodes k (some_driver plan log logs r.bus.journals r.drivers (all_down r.links) are k n less) (at_power_on 1)
+        (omega (arith, l, m)))
 
     same : (slice_index_or log.nodes k n).journal ≡ journal_at r.bus.journals k
     same = journal_is plan log logs r.bus.journals r.drivers (all_down r.links) are k n less
 
     trace_there : IsTrace plan.version (steps_at plan k) (slice_index_or log.nodes k n) (deeds_at deeds k)
-    trace_there = trace_at plan.version (steps_at plan k) (journal_at r.bus.journals k) (deeds_at deeds k) driver _
-        r.links (64 * k) node_is _ (slice_index_or log.nodes k n)
+    trace_there = trace_at plan.version _ (steps_at plan k) (journal_at r.bus.journals k) (deeds_at deeds k) driver _
+        r.links (64 * k) node_is (is.first k in_plan) _ (slice_index_or log.nodes k n)
         (node_end plan log logs r.bus.journals r.drivers (all_down r.links) are k n less) same
 
     settled_there : AreSettled (slice_index_or log.nodes k n)
-    settled_there = settled_at plan.version (steps_at plan k) (journal_at r.bus.journals k) (deeds_at deeds k) driver _
-        r.links (64 * k) node_is _ (slice_index_or log.nodes k n)
+    settled_there = settled_at plan.version _ (steps_at plan k) (journal_at r.bus.journals k) (deeds_at deeds k)
+        driver _
+        r.links (64 * k) node_is (is.first k in_plan) _ (slice_index_or log.nodes k n)
         (node_end plan log logs r.bus.journals r.drivers (all_down r.links) are k n less) same
 
     in_time_there : IsInTime plan.version (slice_index_or log.nodes k n).journal (deeds_at deeds k)
@@ -128,8 +136,8 @@ module _ (plan : PlanValue) (r : SerialValue) (deeds : List (List Deed)) (end : 
 
   pub log_of_run : IsLogOf plan r deeds end log
   log_of_run = record {
-    run = run_of_ends plan log logs r.bus.journals r.drivers (all_down r.links) are deeds r.bus.script r.bus.run version
-        h.script (bits ∙ h.bits) bus trace_there settled_there;
+    run = run_of_ends plan log logs r.bus.journals r.drivers (all_down r.links) are deeds r.bus.script r.bus.run
+        (version ∙ is.version) (h.script ∙ is.strikes) (bits ∙ h.bits) bus trace_there settled_there;
     bits = bits;
     ends = ends;
     journals = journals_in_log plan log logs r.bus.journals r.drivers (all_down r.links) are;

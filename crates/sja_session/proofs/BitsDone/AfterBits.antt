@@ -4,84 +4,84 @@ use Rattle.std.proofs.Common.{refl, inl, inr}
 use Rattle.std.specs.Prelude.{reverse}
 use Rattle.sja_plan.specs.declared.turn.Turn.{Turn}
 use Rattle.sja_plan.specs.declared.turn.Turn.TheVariants.{Bus}
-use Rattle.sja_plan.specs.Growing.{plan_of}
 use Rattle.sja_plan.specs.Plan.{PlanValue}
+use Rattle.sja_script.specs.declared.step.Step.{Step}
 use Rattle.sja_script.specs.declared.strike.Strike.{Strike}
 use Rattle.sja_driver.specs.Deeds.{Deed}
 use Rattle.sja_serial.specs.Bits.{TakesBits}
 use Rattle.sja_serial.specs.Ending.{progress}
-use Rattle.sja_serial.specs.Serial.{SerialValue, StandsAt}
+use Rattle.sja_serial.specs.Serial.{Setup, SerialValue, StandsAt}
 use Rattle.sja_serial.proofs.WholeRun.GoingOn.{bits_run, stands_bits}
 use Rattle.sja_session.specs.declared.session_room.SessionRoom.{SessionRoom}
 use Rattle.sja_session.specs.Running.{MayRun}
-use Rattle.sja_session.specs.Sessions.{SessionValue, session_of, start_of, IsAt, IsSession, written}
+use Rattle.sja_session.specs.Sessions.{SessionValue, session_of, setup_by, start_of, IsAt, IsSession, written}
 use Rattle.sja_session.specs.Stepping.{HasTurn}
 use Rattle.sja_session.specs.Turning.{FitsLast, with_turn}
 use Rattle.sja_session.specs.Inside.Written.{with_bits}
-use Rattle.sja_session.specs.Writing.{done_counts, fronts, with_bits_run}
+use Rattle.sja_session.specs.Writing.{with_bits_run}
 use Rattle.sja_session.proofs.WrittenPlan.Taken.{took_bits, took_same}
 use Rattle.sja_session.proofs.WrittenPlan.Turned.{took_turn, few_turns, named_turns, bits_go_on}
 use Rattle.sja_session.proofs.WrittenPlan.Within.{bits_few, last_few}
-use Rattle.sja_session.proofs.WrittenPlan.Written.{counts_are}
 
-module _ {room : SessionRoom} {plan : PlanValue} {was now : SerialValue} {turns : List Turn} {deeds : List (List Deed)}
-    {Before : SerialValue → Type 0} {n run : ℕ} (h : IsAt (session_of room was plan turns) deeds)
-    (t : TakesBits plan deeds Before was n now) (is : run ≡ now.bits - was.bits) where
+module _ {room : SessionRoom} {plan : PlanValue} {was now : SerialValue} {steps : List (List Step)} {turns : List Turn}
+    {deeds : List (List Deed)} {Before : SerialValue → Type 0} {n run : ℕ}
+    (h : IsAt (session_of room was plan steps turns) deeds)
+    (t : TakesBits (setup_by (session_of room was plan steps turns)) deeds Before was n now)
+    (is : run ≡ now.bits - was.bits) where
+  abbrev setup : Setup
+  setup = setup_by (session_of room was plan steps turns)
+
   pub run_is : n ≡ run
-  run_is = let b = bits_run plan deeds Before was now n t in omega (arith, b, is)
+  run_is = let b = bits_run setup deeds Before was now n t in omega (arith, b, is)
 
-  pub bits_now : TakesBits plan deeds Before was run now
-  bits_now = subst (λ (m : ℕ). TakesBits plan deeds Before was m now) run_is t
+  pub bits_now : TakesBits setup deeds Before was run now
+  bits_now = subst (λ (m : ℕ). TakesBits setup deeds Before was m now) run_is t
 
   pub many : now.bits ≡ was.bits + run
-  many = let b = bits_run plan deeds Before was now n t in let e = run_is in omega (arith, b, e)
+  many = let b = bits_run setup deeds Before was now n t in let e = run_is in omega (arith, b, e)
 
-  stands_now : StandsAt plan now deeds
-  stands_now = stands_bits plan deeds Before was now run bits_now h.stands
+  stands_now : StandsAt setup now deeds
+  stands_now = stands_bits setup deeds Before was now run bits_now h.stands
 
-  counts_same : done_counts now ≡ done_counts was
-  counts_same = counts_are plan now deeds stands_now ∙ sym (counts_are plan was deeds h.stands)
-
-  wrote_as : (l : List Turn) → written (session_of room now plan l)
-      ≡ plan_of plan.version plan.bits (fronts (done_counts was) plan.nodes) l plan.strikes
-  wrote_as l = ap (λ c. plan_of plan.version plan.bits (fronts c plan.nodes) l plan.strikes) counts_same
-
-  at_some : IsAt (session_of room now plan (with_turn turns (Bus run))) deeds
+  at_some : IsAt (session_of room now plan steps (with_turn turns (Bus run))) deeds
   at_some = record {
     stands = stands_now;
+    steps = h.steps;
+    count = h.count;
     took = took_turn deeds (start_of (length plan.nodes)) (Bus run) turns (progress now deeds) (λ k m e. absurd cc)
         (took_bits deeds (start_of (length plan.nodes)) (reverse turns) was now run many h.took);
   }
 
-  at_none : run ≡ 0 → IsAt (session_of room now plan turns) deeds
+  at_none : run ≡ 0 → IsAt (session_of room now plan steps turns) deeds
   at_none none = record {
     stands = stands_now;
+    steps = h.steps;
+    count = h.count;
     took = let m = many in took_same deeds (start_of (length plan.nodes)) (reverse turns) was now
         (omega (arith, m, none)) h.took;
   }
 
   -- with a turn of so many bits more, where there are some
-  pub at_now : (m : ℕ) → m ≡ run → IsAt (session_of room now plan (with_bits turns m)) deeds
+  pub at_now : (m : ℕ) → m ≡ run → IsAt (session_of room now plan steps (with_bits turns m)) deeds
   at_now zero e = at_none (sym e)
   at_now (suc m) e =
-      subst (λ (n : ℕ). IsAt (session_of room now plan (with_turn turns (Bus n))) deeds) (sym e) at_some
+      subst (λ (n : ℕ). IsAt (session_of room now plan steps (with_turn turns (Bus n))) deeds) (sym e) at_some
 
-  pub wrote_now : (m : ℕ) → written (session_of room now plan (with_bits turns m))
-      ≡ with_bits_run (written (session_of room was plan turns)) m
-  wrote_now zero = wrote_as turns
-  wrote_now (suc m) = wrote_as (with_turn turns (Bus (suc m)))
+  pub wrote_now : (m : ℕ) → written (session_of room now plan steps (with_bits turns m))
+      ≡ with_bits_run (written (session_of room was plan steps turns)) m
+  wrote_now zero = refl
+  wrote_now (suc m) = refl
 
 -- ---- what holds of every session
 
 -- it holds of one whose run, and whose strikes, are others, and which stands at the same deeds
-pub session_at : {s : SessionValue} {capacity : ℕ} (run : SerialValue) (strikes : List Strike)
-    (inv : IsSession s capacity) →
+pub session_at : {s : SessionValue} {sizes : List ℕ} {capacity : ℕ} (run : SerialValue) (strikes : List Strike)
+    (inv : IsSession s sizes capacity) →
     IsAt (record s { run = run; plan = record s.plan { strikes = strikes } }) inv.deeds →
-    IsSession (record s { run = run; plan = record s.plan { strikes = strikes } }) capacity
+    IsSession (record s { run = run; plan = record s.plan { strikes = strikes } }) sizes capacity
 session_at run strikes inv at = record {
   deeds = inv.deeds;
   at = at;
-  bits = inv.bits;
   places = inv.places;
   steps = inv.steps;
   most = inv.most;
@@ -90,25 +90,27 @@ session_at run strikes inv at = record {
   names = inv.names;
 }
 
-module _ {room : SessionRoom} {plan : PlanValue} {was now : SerialValue} {turns : List Turn} {capacity : ℕ}
-    {Before : SerialValue → Type 0} {n run : ℕ} (inv : IsSession (session_of room was plan turns) capacity)
-    (t : TakesBits plan inv.deeds Before was n now) (is : run ≡ now.bits - was.bits) where
+module _ {room : SessionRoom} {plan : PlanValue} {was now : SerialValue} {steps : List (List Step)} {turns : List Turn}
+    {sizes : List ℕ} {capacity : ℕ} {Before : SerialValue → Type 0} {n run : ℕ}
+    (inv : IsSession (session_of room was plan steps turns) sizes capacity)
+    (t : TakesBits (setup_by (session_of room was plan steps turns)) inv.deeds Before was n now)
+    (is : run ≡ now.bits - was.bits) where
   -- no more bits were run than the plan has
   bits_within : was.bits + run ≤ plan.bits
   bits_within =
       let m = many inv.at t is in
-      let b = bits_few (session_of room now plan (with_turn turns (Bus run))) inv.deeds (at_some inv.at t is) inv.bits
-      inv.places inv.steps in omega (arith, m, b)
+      let b = bits_few (session_of room now plan steps (with_turn turns (Bus run))) inv.deeds (at_some inv.at t is)
+      inv.steps in omega (arith, m, b)
 
   -- so the last turn holds them
   pub turn_fits : FitsLast turns (Bus run)
   turn_fits =
-      let few = last_few (session_of room was plan turns) inv.deeds inv.at inv.bits inv.places inv.steps in
-      let b = bits_within in let limit = inv.bits in omega (arith, few, b, limit)
+      let few = last_few (session_of room was plan steps turns) inv.deeds inv.at inv.steps in
+      let b = bits_within in let limit = inv.at.stands.may.bits.1 in omega (arith, few, b, limit)
 
   -- where some were run they were due, and so a turn is left for them
-  turn_left : (count : ℕ) → MayRun (session_of room was plan turns) count → 1 ≤ count → 0 < run →
-      HasTurn (session_of room was plan turns) (Bus run)
+  turn_left : (count : ℕ) → MayRun (session_of room was plan steps turns) count → 1 ≤ count → 0 < run →
+      HasTurn (session_of room was plan steps turns) (Bus run)
   turn_left count (inl (inl none)) asked some = absurd (omega (arith, none, asked))
   turn_left count (inl (inr over)) asked some = let b = bits_within in absurd (omega (arith, over, some, b))
   turn_left count (inr (inl less)) asked some = inl less
@@ -116,13 +118,12 @@ module _ {room : SessionRoom} {plan : PlanValue} {was now : SerialValue} {turns 
 
   -- it holds with a turn of them
   pub session_some : {items : List Turn} {places count : ℕ} → items ≡ with_turn turns (Bus run) →
-      places ≡ capacity → MayRun (session_of room was plan turns) count → 1 ≤ count → 0 < run →
-      IsSession (session_of room now plan items) places
+      places ≡ capacity → MayRun (session_of room was plan steps turns) count → 1 ≤ count → 0 < run →
+      IsSession (session_of room now plan steps items) sizes places
   session_some {places} {count} e same may asked some =
-      subst (λ (l : List Turn). IsSession (session_of room now plan l) places) (sym e) (record {
+      subst (λ (l : List Turn). IsSession (session_of room now plan steps l) sizes places) (sym e) (record {
         deeds = inv.deeds;
         at = at_some inv.at t is;
-        bits = inv.bits;
         places = inv.places;
         steps = inv.steps;
         most = inv.most;
@@ -132,19 +133,19 @@ module _ {room : SessionRoom} {plan : PlanValue} {was now : SerialValue} {turns 
       })
 
   -- and where there were none
-  session_none : run ≡ 0 → IsSession (session_of room now plan turns) capacity
+  session_none : run ≡ 0 → IsSession (session_of room now plan steps turns) sizes capacity
   session_none none = session_at now plan.strikes inv (at_none inv.at t is none)
 
   -- in either case
   pub session_now : {items : List Turn} {places count : ℕ} → items ≡ with_bits turns run → places ≡ capacity →
-      MayRun (session_of room was plan turns) count → (0 < run → 1 ≤ count) →
-      IsSession (session_of room now plan items) places
+      MayRun (session_of room was plan steps turns) count → (0 < run → 1 ≤ count) →
+      IsSession (session_of room now plan steps items) sizes places
   session_now {items} {places} {count} e same may asked = by_run run refl
     where
-      by_run : (m : ℕ) → run ≡ m → IsSession (session_of room now plan items) places
+      by_run : (m : ℕ) → run ≡ m → IsSession (session_of room now plan steps items) sizes places
       by_run zero none =
-          subst (λ (n : ℕ). IsSession (session_of room now plan items) n) (sym same)
-          (subst (λ (l : List Turn). IsSession (session_of room now plan l) capacity)
+          subst (λ (n : ℕ). IsSession (session_of room now plan steps items) sizes n) (sym same)
+          (subst (λ (l : List Turn). IsSession (session_of room now plan steps l) sizes capacity)
           (sym (e ∙ ap (λ (n : ℕ). with_bits turns n) none)) (session_none none))
       by_run (suc m) full =
           let some : 0 < run = omega (arith, full) in

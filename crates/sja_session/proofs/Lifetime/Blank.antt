@@ -1,92 +1,89 @@
--- A session that begins: the nodes of its plan have places for further steps, and nothing happened.
-use Rattle.std.proofs.Common.{◌≡◌, ◌+◌, ◌<◌, ◌≤◌, ℕ, zero, suc, List, [], ◌∷◌, length, map, replicate, refl, sym, ap}
+-- A session that begins: nothing happened.
+use Rattle.std.proofs.Common.{◌≡◌, ◌+◌, ◌<◌, ◌≤◌, ℕ, zero, suc, List, [], ◌∷◌, length, replicate, refl, sym, ap}
 use Rattle.std.proofs.Common.{◌∙◌, subst, arith}
 use Rattle.std.specs.Prelude.{reverse, slice_index_or}
 use Rattle.std.proofs.lemmas.List.{length-replicate}
-use Rattle.sja_wire.specs.Buses.{BusValue, new_bus}
 use Rattle.sja_plan.specs.declared.turn.Turn.{Turn}
-use Rattle.sja_plan.specs.Growing.{plan_of}
-use Rattle.sja_plan.specs.Limits.{most_bits, most_turns}
-use Rattle.sja_plan.specs.Plan.{PlanValue, steps_at, step_counts}
-use Rattle.sja_plan.proofs.PlanLimits.ByVersion.{bits_most, steps_most}
+use Rattle.sja_plan.specs.Plan.{PlanValue}
 use Rattle.sja_script.specs.declared.step.Step.{Step}
-use Rattle.sja_script.specs.declared.step.Step.TheVariants.{Window}
 use Rattle.sja_script.specs.declared.strike.Strike.{Strike}
 use Rattle.sja_serial.specs.Ending.{progress}
-use Rattle.sja_serial.specs.Serial.{SerialValue, StandsAt}
-use Rattle.sja_serial.proofs.WholeRun.Coming.{no_lengths}
+use Rattle.sja_serial.specs.Serial.{Setup, SerialValue, StandsAt, setup_with}
+use Rattle.sja_wire.specs.Buses.{BusValue, new_bus}
 use Rattle.sja_session.specs.declared.session_room.SessionRoom.{SessionRoom}
 use Rattle.sja_session.specs.Beginning.{IsRoom}
-use Rattle.sja_session.specs.Sessions.{session_of, Took, start_of, IsAt, IsSession, AreNamed, written}
-use Rattle.sja_session.specs.Writing.{done_counts, fronts}
+use Rattle.sja_session.specs.Sessions.{session_of, Took, start_of, IsAt, IsSession, AreNamed}
+use Rattle.sja_session.specs.Sessions.{setup_for, steps_in, written}
+use Rattle.sja_session.specs.Inside.Written.{IsBare}
 use Rattle.sja_session.proofs.WrittenPlan.Taken.{took_none}
-use Rattle.sja_session.proofs.WrittenPlan.Written.{counts_are, no_fronts}
 
--- each node has so many places
-counts_blank : (nodes steps : ℕ) →
-    map (λ (l : List Step). length l) (replicate nodes (replicate steps Window)) ≡ replicate nodes steps
-counts_blank zero steps = refl
-counts_blank (suc nodes) steps = λ i. length-replicate steps Window i ∷ counts_blank nodes steps i
+-- no deeds are no steps
+no_steps : (n : ℕ) → steps_in (replicate n []) ≡ replicate n []
+no_steps zero = refl
+no_steps (suc n) = ap (λ l. [] ∷ l) (no_steps n)
 
-each_blank : (nodes k : ℕ) (steps : List Step) → k < nodes → slice_index_or (replicate nodes steps) k [] ≡ steps
-each_blank zero k steps less = absurd (omega (arith, less))
-each_blank (suc nodes) zero steps less = refl
-each_blank (suc nodes) (suc k) steps less = each_blank nodes k steps (omega (arith, less))
+-- a run that was made for what such a session's is
+module _ (room : SessionRoom) (plan : PlanValue) {version bits : ℕ} {script : List Strike} {sizes : List ℕ}
+    (version_is : version ≡ plan.version) (bits_is : bits ≡ plan.bits) (script_is : script ≡ plan.strikes)
+    (sizes_are : sizes ≡ replicate (length plan.nodes) room.steps) where
+  many : length sizes ≡ length plan.nodes
+  many = ap (λ (l : List ℕ). length l) sizes_are ∙ length-replicate (length plan.nodes) room.steps
 
-module _ (room : SessionRoom) (nodes : ℕ) {version bits : ℕ} {strikes : List Strike} {plan : PlanValue}
-    {run : SerialValue} {turns : List Turn}
-    (is : plan ≡ plan_of version bits (replicate nodes (replicate room.steps Window)) [] strikes)
-    (stands : StandsAt plan run (replicate (length plan.nodes) []))
-    (bus : run.bus ≡ new_bus plan.strikes plan.bits (length plan.nodes) (step_counts plan)) (none : turns ≡ []) where
-  nodes_are : length plan.nodes ≡ nodes
-  nodes_are = ap (λ (p : PlanValue). length p.nodes) is ∙ length-replicate nodes (replicate room.steps Window)
+  made : setup_with version bits script sizes ≡ setup_for plan room.steps
+  made = λ i. let s : Setup = record {
+    version = version_is i;
+    bits = bits_is i;
+    strikes = script_is i;
+    nodes = many i;
+    steps = sizes_are i;
+  } in s
 
-  stands_first : StandsAt plan run (replicate nodes [])
-  stands_first = subst (λ n. StandsAt plan run (replicate n [])) nodes_are stands
+  pub stands_made : {run : SerialValue} → StandsAt (setup_with version bits script sizes) run
+      (replicate (length sizes) []) →
+      StandsAt (setup_for plan room.steps) run (replicate (length plan.nodes) [])
+  stands_made {run} h = subst (λ (n : ℕ). StandsAt (setup_for plan room.steps) run (replicate n [])) many
+      (subst (λ (s : Setup). StandsAt s run (replicate (length sizes) [])) made h)
 
-  -- no driver did anything
-  pub at_first : IsAt (session_of room run plan turns) (replicate nodes [])
-  at_first = record {
-    stands = stands_first;
-    took = subst (λ (l : List Turn). Took (replicate nodes []) (start_of (length plan.nodes)) (reverse l)
-        (progress run (replicate nodes []))) (sym none)
-        (subst (λ n. Took (replicate nodes []) (start_of n) [] (progress run (replicate nodes []))) (sym nodes_are)
-        (took_none nodes run (stands.bits ∙ ap (λ (b : BusValue). b.run) bus)));
-  }
+  pub bus_made : (run : SerialValue) → run.bus ≡ new_bus script bits (length sizes) sizes →
+      run.bus ≡ new_bus plan.strikes plan.bits (length plan.nodes) (replicate (length plan.nodes) room.steps)
+  bus_made run is = is ∙ (λ i. new_bus (script_is i) (bits_is i) (many i) (sizes_are i))
 
-  places_first : (node : ℕ) → node < length plan.nodes → length (steps_at plan node) ≡ room.steps
-  places_first node less =
-      let n = nodes_are in
-      ap (λ (p : PlanValue). length (steps_at p node)) is
-      ∙ ap (λ (l : List Step). length l) (each_blank nodes node (replicate room.steps Window) (omega (arith, n, less)))
-      ∙ length-replicate room.steps Window
+module _ (room : SessionRoom) {plan : PlanValue} {run : SerialValue} {steps : List (List Step)} {turns : List Turn}
+    (bare : IsBare plan) (none : steps ≡ replicate (length plan.nodes) []) (idle : turns ≡ [])
+    (stands : StandsAt (setup_for plan room.steps) run (replicate (length plan.nodes) []))
+    (bus : run.bus ≡ new_bus plan.strikes plan.bits (length plan.nodes) (replicate (length plan.nodes) room.steps))
+  where
+    -- it wrote a plan of no step and no turn
+    pub wrote_first : written (session_of room run plan steps turns) ≡ plan
+    wrote_first = (λ i. written (session_of room run plan (none i) (idle i))) ∙ sym bare
 
-  -- what holds of every session holds of it
-  pub session_first : (capacity : ℕ) → IsRoom version room → bits ≤ most_bits version → room.turns + 1 ≤ capacity →
-      IsSession (session_of room run plan turns) capacity
-  session_first capacity fits most big = record {
-    deeds = replicate nodes [];
-    at = at_first;
-    bits = let b = ap (λ (p : PlanValue). p.bits) is in let all = bits_most version in omega (arith, b, most, all);
-    places = places_first;
-    steps = let few = fits.0 in let all = steps_most version in omega (arith, few, all);
-    most = subst (λ (v : ℕ). room.turns ≤ most_turns v) (sym (ap (λ (p : PlanValue). p.version) is)) fits.1;
-    room = big;
-    few = let n : length turns ≡ 0 = ap (λ l. length l) none in omega (arith, n);
-    names = subst (λ (l : List Turn). AreNamed (length plan.nodes) (reverse l)) (sym none) tt;
-  }
+    count_first : length steps ≡ length plan.nodes
+    count_first = ap (λ l. length l) none ∙ length-replicate (length plan.nodes) []
 
-  pub bus_first : run.bus ≡ new_bus strikes bits nodes (replicate nodes room.steps)
-  bus_first =
-      bus ∙ ap (λ (p : PlanValue). new_bus p.strikes p.bits (length p.nodes) (step_counts p)) is
-      ∙ (λ i. new_bus strikes bits (length-replicate nodes (replicate room.steps Window) i)
-      (counts_blank nodes room.steps i))
+    -- no driver did anything
+    pub at_first : IsAt (session_of room run plan steps turns) (replicate (length plan.nodes) [])
+    at_first = record {
+      stands = subst (λ (p : PlanValue). StandsAt (setup_for p room.steps) run (replicate (length plan.nodes) []))
+          (sym wrote_first) stands;
+      steps = no_steps (length plan.nodes) ∙ sym none;
+      count = count_first;
+      took = subst (λ (l : List Turn). Took (replicate (length plan.nodes) []) (start_of (length plan.nodes))
+          (reverse l)
+          (progress run (replicate (length plan.nodes) []))) (sym idle)
+          (took_none (length plan.nodes) run (stands.bits ∙ ap (λ (b : BusValue). b.run) bus));
+    }
 
-  -- it wrote a plan of no step and no turn
-  pub wrote_first : written (session_of room run plan turns) ≡ plan_of version bits (replicate nodes []) [] strikes
-  wrote_first =
-      let counts : done_counts run ≡ replicate nodes 0 =
-      counts_are plan run (replicate nodes []) stands_first ∙ no_lengths nodes in
-      ap (λ (p : PlanValue). written (session_of room run p turns)) is
-      ∙ (λ i. plan_of version bits (fronts (counts i) (replicate nodes (replicate room.steps Window))) (none i) strikes)
-      ∙ ap (λ l. plan_of version bits l [] strikes) (no_fronts nodes (replicate room.steps Window))
+    -- what holds of every session holds of it
+    pub session_first : (sizes : List ℕ) (capacity : ℕ) → IsRoom plan.version room →
+        ((node : ℕ) → node < length plan.nodes → room.steps ≤ slice_index_or sizes node 0) →
+        room.turns + 1 ≤ capacity → IsSession (session_of room run plan steps turns) sizes capacity
+    session_first sizes capacity fits places big = record {
+      deeds = replicate (length plan.nodes) [];
+      at = at_first;
+      places = places;
+      steps = fits.0;
+      most = fits.1;
+      room = big;
+      few = let n : length turns ≡ 0 = ap (λ l. length l) idle in omega (arith, n);
+      names = subst (λ (l : List Turn). AreNamed (length plan.nodes) (reverse l)) (sym idle) tt;
+    }

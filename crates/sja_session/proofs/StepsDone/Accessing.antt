@@ -30,7 +30,7 @@ use Rattle.sja_session.specs.Sessions.{SessionValue, IsAt}
 use Rattle.sja_session.specs.Stepping.{DoesStep, HasTurn, steps_done_of}
 use Rattle.sja_session.specs.Turning.{goes_on, enlarged, on_latest, with_turn, goes_on_latest}
 use Rattle.sja_session.proofs.WrittenPlan.Turned.{latest_of}
-use Rattle.sja_session.proofs.WrittenPlan.Written.{count_at}
+use Rattle.sja_session.proofs.StepsDone.Stepped.{steps_many}
 
 -- ---- a turn of a node goes on
 
@@ -63,16 +63,17 @@ module _ {was now : SessionValue} {node : ℕ} {step : Step} {answer : StepAnswe
       ∙ on_itself (reverse was.turns) node 1)
 
   nodes_are : length now.plan.nodes ≡ length was.plan.nodes
-  nodes_are = sym does.at.stands.deeds_count ∙ length-set deeds node (deeds_at deeds node ++ does.deed ∷ [])
-      ∙ at.stands.deeds_count
+  nodes_are = sym does.at.count ∙ sym does.at.stands.deeds_count
+      ∙ length-set deeds node (deeds_at deeds node ++ does.deed ∷ []) ∙ at.stands.deeds_count ∙ at.count
 
   one_more : steps_done_of now node ≡ steps_done_of was node + 1
   one_more =
-      let inside : node < length deeds = let c = at.stands.deeds_count in omega (arith, c, there) in
+      let inside : node < length deeds = let c = at.stands.deeds_count in let n = at.count in omega
+      (arith, c, n, there) in
       let here : deeds_at after node ≡ deeds_at deeds node ++ does.deed ∷ [] =
       get_or-set_same deeds node (deeds_at deeds node ++ does.deed ∷ []) [] inside in
-      let later = count_at now.plan now.run after does.at.stands node in
-      let first = count_at was.plan was.run deeds at.stands node in
+      let later = steps_many now.steps after node does.at.steps in
+      let first = steps_many was.steps deeds node at.steps in
       let long = ap (λ l. length l) here in
       let both = length-append (deeds_at deeds node) (does.deed ∷ []) in omega (arith, later, first, long, both)
 
@@ -160,7 +161,8 @@ pub raw_by : (was now : RawValue) (deeds after : List (List Deed)) → IsAt was.
     length after ≡ length deeds → length now.kept ≡ length was.kept → IsRaw was → IsRaw now
 raw_by was now deeds after at then_at many kept raw = record {
   stands = (after, then_at);
-  kept = kept ∙ raw.kept ∙ sym at.stands.deeds_count ∙ sym many ∙ then_at.stands.deeds_count;
+  kept = kept ∙ raw.kept ∙ sym at.count ∙ sym at.stands.deeds_count ∙ sym many ∙ then_at.stands.deeds_count
+      ∙ then_at.count;
 }
 
 -- after a step

@@ -105,7 +105,7 @@ rose_on {watched} {nodes} {deeds} {a} {b} {c} {m} q (bit {n = n} p r f s) =
 -- as many nodes at the same deeds
 pub nodes_same : {was now : SessionValue} {deeds : List (List Deed)} → IsAt was deeds → IsAt now deeds →
     length now.plan.nodes ≡ length was.plan.nodes
-nodes_same h g = sym g.stands.deeds_count ∙ h.stands.deeds_count
+nodes_same h g = sym g.count ∙ sym g.stands.deeds_count ∙ h.stands.deeds_count ∙ h.count
 
 -- of several bits one
 pub may_one : (s : SessionValue) (count : ℕ) → 1 ≤ count → MayRun s count → MayRun s 1

@@ -19,6 +19,7 @@ use Rattle.sja_bus.specs.UntilTold.HasBitsMore.{none as no_more, one_more as one
 use Rattle.sja_plan.specs.declared.turn.Turn.{Turn}
 use Rattle.sja_plan.specs.declared.turn.Turn.TheVariants.{Bus}
 use Rattle.sja_plan.specs.Plan.{PlanValue}
+use Rattle.sja_script.specs.declared.step.Step.{Step}
 use Rattle.sja_regs.specs.InterruptLine.{is_line_active}
 use Rattle.sja_regs.specs.Registers.{at_power_on}
 use Rattle.sja_driver.specs.Deeds.{Deed, deeds_at, deeds_of, is_active, opened_by, released_lengths}
@@ -33,7 +34,7 @@ use Rattle.sja_session.specs.declared.session_room.SessionRoom.{SessionRoom}
 use Rattle.sja_session.specs.Inside.UntilTold.{RunsUntilTold}
 use Rattle.sja_session.specs.Lines.{line_at}
 use Rattle.sja_session.specs.Running.{RunsBits}
-use Rattle.sja_session.specs.Sessions.{SessionValue, session_of, IsAt}
+use Rattle.sja_session.specs.Sessions.{SessionValue, session_of, setup_by, IsAt}
 use Rattle.sja_session.specs.Turning.{with_turn}
 use Rattle.sja_session.specs.Inside.Written.{with_bits}
 use Rattle.sja_session.specs.Watching.{NoneRose, rise}
@@ -83,63 +84,69 @@ unmoved true false now e = e
 -- ---- bits one after the other
 
 -- the session after so many bits
-abbrev after : SessionRoom → PlanValue → List Turn → ℕ → SerialValue → SessionValue
-after room plan turns m run = session_of room run plan (with_bits turns m)
+abbrev after : SessionRoom → PlanValue → List (List Step) → List Turn → ℕ → SerialValue → SessionValue
+after room plan steps turns m run = session_of room run plan steps (with_bits turns m)
 
 turn_more : (turns : List Turn) (m : ℕ) → with_turn (with_bits turns m) (Bus 1) ≡ with_bits turns (suc m)
 turn_more turns zero = refl
 turn_more turns (suc m) = let e : suc m + 1 ≡ suc (suc m) = omega arith in
     bits_twice turns (suc m) 1 ∙ ap (λ n. with_turn turns (Bus n)) e
 
-module _ (room : SessionRoom) (plan : PlanValue) (turns : List Turn) (deeds : List (List Deed)) where
-  one_bit : (m : ℕ) (mid now : SerialValue) → IsAt (after room plan turns m mid) deeds →
-      TakesBit plan deeds mid now →
-      RunsBits (after room plan turns m mid) (after room plan turns (suc m) now) 1 1 deeds
+module _ (room : SessionRoom) (plan : PlanValue) (steps : List (List Step)) (turns : List Turn)
+    (deeds : List (List Deed)) where
+  one_bit : (m : ℕ) (mid now : SerialValue) → IsAt (after room plan steps turns m mid) deeds →
+      TakesBit (setup_by (session_of room mid plan steps turns)) deeds mid now →
+      RunsBits (after room plan steps turns m mid) (after room plan steps turns (suc m) now) 1 1 deeds
   one_bit m mid now at takes =
       let e = takes.bits in
-      let turn : TakesBusTurn plan deeds mid now 1 true = record {
+      let turn : TakesBusTurn (setup_by (session_of room mid plan steps turns)) deeds mid now 1 true = record {
         run = 1;
         bits = one_more mid mid now 0 (no_bit mid) tt takes;
         whole = λ all. refl;
         spent = λ no. absurd cc;
       } in
-      subst (λ (l : List Turn). RunsBits (after room plan turns m mid) (session_of room now plan l) 1 1 deeds)
+      subst (λ (l : List Turn). RunsBits (after room plan steps turns m mid) (session_of room now plan steps l) 1 1
+      deeds)
       (turn_more turns m) (runs at turn (omega (arith, e)))
 
   module _ (first : SerialValue) (many : length first.bus.journals ≡ length plan.nodes) where
     -- since then no port was told anything: each line is as it was
     as_first : (m : ℕ) (now : SerialValue) → NoneTold first now → (k : ℕ) → k < length plan.nodes →
-        line_at (after room plan turns m now) deeds k ≡ line_at (session_of room first plan turns) deeds k
+        line_at (after room plan steps turns m now) deeds k ≡ line_at (session_of room first plan steps turns) deeds k
     as_first m now told k less =
-        line_same (session_of room first plan turns) (after room plan turns m now) deeds told k
+        line_same (session_of room first plan steps turns) (after room plan steps turns m now) deeds told k
         (omega (arith, many, less))
 
     -- before each of these bits none was told anything: no line rose
     none_rose_in : (watched : List Bool) (was now : SerialValue) (m : ℕ) →
-        IsAt (session_of room was plan turns) deeds → TakesBits plan deeds (NoneTold first) was m now →
+        IsAt (session_of room was plan steps turns) deeds →
+        TakesBits (setup_by (session_of room was plan steps turns)) deeds (NoneTold first) was m now →
         NoneTold first now →
-        NoneRose watched (length plan.nodes) deeds (session_of room was plan turns) (after room plan turns m now) m
-    none_rose_in watched was _ _ h (no_bit _) told = none_rose (still_same (session_of room was plan turns) deeds h)
+        NoneRose watched (length plan.nodes) deeds (session_of room was plan steps turns)
+        (after room plan steps turns m now) m
+    none_rose_in watched was _ _ h (no_bit _) told = none_rose (still_same (session_of room was plan steps turns)
+        deeds h)
     none_rose_in watched was now _ h (one_more _ mid _ m bits quiet takes) told =
         let earlier = none_rose_in watched was mid m h bits quiet in
         let one = one_bit m mid now (quiet_at earlier) takes in
-        subst (λ (n : ℕ). NoneRose watched (length plan.nodes) deeds (session_of room was plan turns)
-        (after room plan turns (suc m) now) n) (omega arith)
+        subst (λ (n : ℕ). NoneRose watched (length plan.nodes) deeds (session_of room was plan steps turns)
+        (after room plan steps turns (suc m) now) n) (omega arith)
         (bit earlier one
-        (λ k less. unmoved (slice_index_or watched k false) (line_at (after room plan turns m mid) deeds k)
-        (line_at (after room plan turns (suc m) now) deeds k)
+        (λ k less. unmoved (slice_index_or watched k false) (line_at (after room plan steps turns m mid) deeds k)
+        (line_at (after room plan steps turns (suc m) now) deeds k)
         (as_first (suc m) now told k less ∙ sym (as_first m mid quiet k less)))
-        (still_same (after room plan turns (suc m) now) deeds one.at))
+        (still_same (after room plan steps turns (suc m) now) deeds one.at))
 
   -- up to the first of which a port is told
-  pub until_told : (was now : SerialValue) (n : ℕ) → IsAt (session_of room was plan turns) deeds →
-      TakesBits plan deeds (NoneTold was) was n now → 1 ≤ n →
-      RunsUntilTold (session_of room was plan turns) (session_of room now plan (with_turn turns (Bus n))) n deeds
+  pub until_told : (was now : SerialValue) (n : ℕ) → IsAt (session_of room was plan steps turns) deeds →
+      TakesBits (setup_by (session_of room was plan steps turns)) deeds (NoneTold was) was n now → 1 ≤ n →
+      RunsUntilTold (session_of room was plan steps turns) (session_of room now plan steps (with_turn turns (Bus n)))
+      n deeds
   until_told was _ _ h (no_bit _) some = absurd (omega (arith, some))
   until_told was now _ h (one_more _ mid _ m bits told takes) some =
-      let many = h.stands.count.journals in
+      let many = h.stands.count.journals ∙ h.count in
       let rose = λ (watched : List Bool). none_rose_in was many watched was mid m h bits told in record {
-        before = after room plan turns m mid;
+        before = after room plan steps turns m mid;
         earlier = m;
         many = omega arith;
         quiet = rose;

@@ -13,8 +13,6 @@ use Rattle.sja_script.specs.declared.step_answer.StepAnswer.{StepAnswer}
 use Rattle.sja_session.specs.RawSessions.{DoesSteps as DoesTyped}
 use Rattle.sja_session.specs.RawSessions.DoesSteps.{none, more as one_more}
 use Rattle.sja_session.specs.Sessions.{SessionValue, IsAt}
-use Rattle.sja_session.specs.Writing.{done_counts}
-use Rattle.sja_session.proofs.WrittenPlan.Written.{counts_many, length_fronts}
 use Rattle.sja_plan_session.specs.Accessing.{DoesStep}
 use Rattle.sja_plan_session.specs.PlanRuns.{IsPlanRun}
 use Rattle.sja_plan_session.specs.PlanSessions.{PlanSessionValue}
@@ -66,9 +64,8 @@ raw_many plan log r =
       at = r.new.at;
       count = length-replicate many [];
     } in
-    let s = turns_stand begun r.turns in let l = r.last.raw.session in
+    let s = turns_stand begun r.turns in
     ap (λ (v : RunValue). length v.nodes) r.is.is ∙ with_many r.is.typed.nodes r.last.done ∙ r.is.run.run.count
-    ∙ length_fronts (done_counts l.run) l.plan.nodes (counts_many l.plan l.run r.deeds s.at.stands)
     ∙ sym s.at.stands.deeds_count ∙ s.count
 
 -- ---- a run of any version

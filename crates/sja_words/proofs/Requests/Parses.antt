@@ -10,8 +10,13 @@ use Rattle.clap.specs.declared.parser.matches.ArgMatches.{ArgMatches}
 use Rattle.sja_words.specs.CommandLine.{sja_app}
 use Rattle.sja_words.specs.Requests.{Request}
 use Rattle.sja_words.specs.Words.{ParsesAs, asked, faults, request_in}
-use Rattle.sja_words.specs.Inside.Parser.{IsAnswer}
 use Rattle.sja_words.proofs.LiteralWords.OnWords.{sja_on_literals}
+
+-- the parser's answer to these words: matches where it takes them, with what they ask for; an error where it refuses
+-- them, or where memory was refused
+unfoldable pub IsAnswer : List Text → Result ArgMatches Error → Type 0
+IsAnswer words (Ok matches) = (faults words ≡ []) × (request_in (subcommand_rows_of matches) ≡ asked words)
+IsAnswer words (Err error) = faults words ≡ [] → kind_of error ≡ OutOfMemory
 
 -- the program's commands are such that the parser's answer is known
 is_plain : is_simple sja_app ≡ true
@@ -54,12 +59,12 @@ refused_at a words e is fails none =
     only_memory (fault_of sja_app words) e (own is_free) none
 
 -- from what the parser ensures to its answer
-pub answered : (X Y : ArgMatches → Type 0) (a : App) (words : List Text) (r : Result ArgMatches Error) → a ≡ sja_app →
-    IfOk r (λ m. X m × Y m × HasMatchesOf a words m) →
+pub answered : (a : App) (words : List Text) (r : Result ArgMatches Error) → a ≡ sja_app →
+    IfOk r (HasMatchesOf a words) →
     (is_simple_and_free a ≡ true → FailsBy (fault_of a words) r) → IsAnswer words r
 unfolding IsAnswer
-answered X Y a words (Ok m) is matches fails = (taken_at a words m is fails, asked_at a words m is matches.2)
-answered X Y a words (Err e) is matches fails = λ none. refused_at a words e is fails none
+answered a words (Ok m) is matches fails = (taken_at a words m is fails, asked_at a words m is matches)
+answered a words (Err e) is matches fails = λ none. refused_at a words e is fails none
 
 -- the request of words that the parser took
 pub taken_request : (words : List Text) (given : Result ArgMatches Error) (m : ArgMatches) (r : Request) →

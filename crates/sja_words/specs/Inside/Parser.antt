@@ -1,13 +1,9 @@
--- What the values of the parser stand for (this project's own rule): its commands, arguments and answers.
-use Rattle.std.specs.Prelude.{◌≡◌, Result, IfOk, false, List, [], Ok, Err}
-use Rattle.clap.specs.Words.{App, Rule, app_of, rule_of, Text, kind_of, subcommand_rows_of}
+-- What the values of the parser stand for (this project's own rule): its commands and arguments.
+use Rattle.std.specs.Prelude.{◌≡◌, Result, IfOk, false}
+use Rattle.clap.specs.Words.{App, Rule, app_of, rule_of}
 use Rattle.clap.specs.declared.builder.arg.Arg.{Arg}
 use Rattle.clap.specs.declared.builder.command.Command.{Command}
 use Rattle.clap.specs.declared.builder.command.Command.TheViews.{out-Command}
-use Rattle.clap.specs.declared.error.Error.{Error}
-use Rattle.clap.specs.declared.error.kind.ErrorKind.TheVariants.{OutOfMemory}
-use Rattle.clap.specs.declared.parser.matches.ArgMatches.{ArgMatches}
-use Rattle.sja_words.specs.Words.{request_in, faults, asked}
 
 -- the parser reads this of the command that was made, where memory wasn't refused, and none of its arguments counts for
 -- commands of its own too
@@ -21,9 +17,3 @@ IsHeld command app = (app_of command ≡ app) × ((out-Command command).has_glob
 -- it reads this of the argument, which doesn't count for commands below
 unfoldable pub IsReadAs : Arg → Rule → Type 0
 IsReadAs argument rule = (rule_of argument ≡ rule) × (argument.global ≡ false)
-
--- the parser's answer to these words: matches where it takes them, with what they ask for; an error where it refuses
--- them, or where memory was refused
-unfoldable pub IsAnswer : List Text → Result ArgMatches Error → Type 0
-IsAnswer words (Ok matches) = (faults words ≡ []) × (request_in (subcommand_rows_of matches) ≡ asked words)
-IsAnswer words (Err error) = faults words ≡ [] → kind_of error ≡ OutOfMemory

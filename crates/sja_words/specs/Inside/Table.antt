@@ -1,5 +1,5 @@
 -- What the parser reads of the rows of the table of commands (this project's own rule).
-use Rattle.std.specs.Prelude.{ℕ, List, [], ◌∷◌, Some, length, true}
+use Rattle.std.specs.Prelude.{List, [], ◌∷◌, Some, length, true}
 use Rattle.clap.specs.Lexer.{usize_max}
 use Rattle.clap.specs.Words.{App, Rule, Text, new_rule}
 use Rattle.clap.specs.declared.builder.action.ArgAction.{ArgAction}

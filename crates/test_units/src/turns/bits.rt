@@ -1,5 +1,6 @@
 //! Turns of the bus.
 
+use sja_log::script_of;
 use sja_plan::{Plan, read_plan};
 use sja_serial::SerialRun;
 use std::alloc::Global;
@@ -17,11 +18,15 @@ fn taken(alloc: Global, plan: &Plan) -> Result<[bool; 3], Fail> {
     if plan.nodes() != 1 {
         return Err("another number of nodes")?;
     }
-    let mut run = SerialRun::new(alloc, plan)?;
-    run.node_turn(plan, 0, 4);
-    let rests = run.rest_turn(plan);
-    let none = run.bus_turn(plan, 0);
-    Ok([rests, none, run.bus_turn(plan, 1)])
+    let steps = plan.step_counts(alloc)?;
+    let script = script_of(alloc, plan)?;
+    let mut run = SerialRun::new(alloc, plan.version(), plan.bits(), steps, script)?;
+    for step in plan.steps(0) {
+        run.step(0, step);
+    }
+    let rests = run.rest_turn();
+    let none = run.bus_turn(0);
+    Ok([rests, none, run.bus_turn(1)])
 }
 
 /// A lone sender sends again and again, and never comes to rest: `rest` spends all bits. A turn of no bit, which no

@@ -13,8 +13,8 @@ use Rattle.sja_plan.proofs.checks.judge.Goals as goal
 
 pub invariant_of-result : goal.invariant_of-result
 invariant_of-result c =
-    let (nodes, few) = c.in_ok-counts.ensures.ok in
-    let count = AllZip-long _ _ _ c.in_ok-nodes.ensures.ok in
+    let (nodes, few) = c.in_ok-settings.ensures.counts in
+    let count = AllZip-long _ _ _ c.in_ok-steps.ensures.ok in
     let turns = AllZip-long _ _ _ c.in_ok-turns.ensures.ok in
     let version = c.in_ok-settings.settings.version in
     let is = version_is (document_view c.args.document.now) version c.in_ok-settings.ensures.version.0 in
@@ -23,7 +23,7 @@ invariant_of-result c =
       bits = (c.in_ok-settings.ensures.bits.1, c.in_ok-settings.ensures.bits.2);
       nodes = (omega (arith, count, nodes.0), omega (arith, count, nodes.1));
       steps = few_read (most_steps_told version) _ (SaysStep version) _ _ (steps_told_fit version)
-          c.in_ok-nodes.ensures.ok (rw is at few);
+          c.in_ok-steps.ensures.ok (rw is at few);
       turn_count = omega (arith, turns, rw is at c.in_ok-turns.ensures.few);
       turns = rw count (name_nodes _ _ _ c.in_ok-turns.ensures.ok);
       strike_count =
@@ -46,18 +46,18 @@ before_turns d version bits nodes v b counts says =
 pub returns-in_err-turns-clause-err : goal.returns-in_err-turns-clause-err
 returns-in_err-turns-clause-err c =
     let before = before_turns (document_view c.args.document.now) c.in_ok-settings.settings.version
-    c.in_ok-settings.settings.bits (map (λ steps. steps.items) c.in_ok-nodes.nodes.items)
-    c.in_ok-settings.ensures.version c.in_ok-settings.ensures.bits c.in_ok-counts.ensures.ok
-    c.in_ok-nodes.ensures.ok in
+    c.in_ok-settings.settings.bits (map (λ steps. steps.items) c.in_ok-steps.field-0.items)
+    c.in_ok-settings.ensures.version c.in_ok-settings.ensures.bits c.in_ok-settings.ensures.counts
+    c.in_ok-steps.ensures.ok in
     let fault = c.in_err-turns.ensures.err before in
     search rules
 
 pub returns-in_err-strikes-clause-err : goal.returns-in_err-strikes-clause-err
 returns-in_err-strikes-clause-err c =
     let before = before_turns (document_view c.args.document.now) c.in_ok-settings.settings.version
-    c.in_ok-settings.settings.bits (map (λ steps. steps.items) c.in_ok-nodes.nodes.items)
-    c.in_ok-settings.ensures.version c.in_ok-settings.ensures.bits c.in_ok-counts.ensures.ok
-    c.in_ok-nodes.ensures.ok in
+    c.in_ok-settings.settings.bits (map (λ steps. steps.items) c.in_ok-steps.field-0.items)
+    c.in_ok-settings.ensures.version c.in_ok-settings.ensures.bits c.in_ok-settings.ensures.counts
+    c.in_ok-steps.ensures.ok in
     let fault = c.in_err-strikes.ensures.err
-    ((before, c.in_ok-turns.ensures.few), (c.in_ok-turns.turns.items, c.in_ok-turns.ensures.ok)) in
+    ((before, c.in_ok-turns.ensures.few), (c.in_ok-turns.field-0.items, c.in_ok-turns.ensures.ok)) in
     search rules

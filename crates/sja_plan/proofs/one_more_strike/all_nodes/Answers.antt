@@ -1,6 +1,5 @@
 use Rattle.std.proofs.Common.{◌≡◌, ◌+◌, ◌<◌, ◌∙◌, ℕ, List, [], ◌∷◌, ◌++◌, length, map, take, get_or, ap, rules, sym}
 use Rattle.std.proofs.lemmas.List.{map-append, take_more}
-use Rattle.std.proofs.lemmas.Slice.{pushed}
 use Rattle.sja_plan.proofs.one_more_strike.all_nodes.Goals as goal
 
 -- one more that looks as the next one of the list does

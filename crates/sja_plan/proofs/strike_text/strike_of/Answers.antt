@@ -7,7 +7,7 @@ use Rattle.sja_plan.proofs.strike_text.strike_of.Goals as goal
 pub returns-in-len4-clause-err : goal.returns-in-len4-clause-err
 returns-in-len4-clause-err c =
     let whole = four_words c.args.words.now _ (omega (arith, c.in-len4.len_at_least, c.in-len4.len_below)) in
-    rw whole c.repeated.ensures.err
+    rw whole c.strike_at-in-len4.ensures.err
 
 pub returns-in_default-2-clause-err : goal.returns-in_default-2-clause-err
 returns-in_default-2-clause-err c =

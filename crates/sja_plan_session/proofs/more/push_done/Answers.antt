@@ -1,6 +1,6 @@
 use Rattle.std.proofs.Common.{Vec, Global, vec_capacity}
 use Rattle.sja_script.specs.declared.done.Done.{Done}
-use Rattle.sja_plan_session.proofs.WrittenPlan.OneMore.{more_set, same_set}
+use Rattle.sja_session.proofs.WrittenPlan.OneMore.{more_set, same_set}
 use Rattle.sja_plan_session.proofs.more.push_done.Goals as goal
 
 pub returns-clause-lists : goal.returns-clause-lists

@@ -1,20 +1,30 @@
 use Rattle.sja_log.specs.Runs.{IsSerialRun}
+use Rattle.std.proofs.Common.{refl, subst}
+use Rattle.sja_serial.specs.Ending.{MayBeOf, setup_of}
+use Rattle.sja_serial.specs.Serial.{Setup}
+use Rattle.sja_serial.proofs.AllNodes.Several.{at_own, setup_is}
 use Rattle.sja_serial.proofs.WholeRun.Whole.{serial_of}
+use Rattle.sja_serial.proofs.run.run_serial.Goals.{In_ok-finish}
 use Rattle.sja_serial.proofs.run.run_serial.Goals as goal
 
 pub finish-requires : goal.finish-requires
-finish-requires c = let t = c.take_turns-end.ensures in record { run = (t.deeds, t.stands) }
+finish-requires c = let t = c.take_turns-end.ensures in (t.deeds, at_own t.stands.stands)
+
+is_run : (c : In_ok-finish) → IsSerialRun c.args.plan.now c.in_ok-finish.field-0
+is_run c =
+    let t = c.take_turns-end.ensures in let log = c.in_ok-finish.field-0 in let plan = c.args.plan.now in
+    let may : MayBeOf plan (setup_of plan) t.deeds = record {
+      version = refl;
+      strikes = refl;
+      nodes = refl;
+      first = t.stands.first;
+    } in
+    serial_of plan c.take_turns-end.new.run t.deeds c.take_turns-end.result log t.stands.stands.deeds_count
+    (c.in_ok-finish.ensures.log plan t.deeds (at_own t.stands.stands)
+    (subst (λ (s : Setup). MayBeOf plan s t.deeds) (setup_is t.stands.stands) may)) t.turns
 
 pub returns-clause-run : goal.returns-clause-run
-returns-clause-run c =
-    let t = c.take_turns-end.ensures in let log = c.in_ok-finish.field-0 in
-    serial_of c.args.plan.now c.take_turns-end.new.run c.take_turns-end.result log t
-    (c.in_ok-finish.ensures.log t.deeds t.stands)
+returns-clause-run c = is_run c
 
 pub returns-clause-headline : goal.returns-clause-headline
-returns-clause-headline c = λ k d less.
-    let t = c.take_turns-end.ensures in let log = c.in_ok-finish.field-0 in
-    let run : IsSerialRun c.args.plan.now log =
-    serial_of c.args.plan.now c.take_turns-end.new.run c.take_turns-end.result log t
-    (c.in_ok-finish.ensures.log t.deeds t.stands) in
-    (run.run.nodes k d less).account
+returns-clause-headline c = λ k d less. ((is_run c).run.nodes k d less).account

@@ -1,4 +1,4 @@
-use Rattle.std.proofs.Common.{Vec, Global, map, sym, ap, ◌∙◌, subst}
+use Rattle.std.proofs.Common.{List, Vec, Global, map, sym, ap, ◌∙◌, subst}
 use Rattle.sja_plan.specs.Growing.{plan_of}
 use Rattle.sja_plan.specs.Plan.{IsInLimits}
 use Rattle.sja_script.specs.declared.done.Done.{Done}
@@ -20,8 +20,9 @@ of-requires c =
     } in
     let own = c.session-session.ensures in
     let bits = c.most_bits.ensures ∙ ap (λ (x : SessionValue). x.plan.bits) own in
-    let nodes = c.in_ok-nodes.ensures ∙ ap (λ (x : PlanSessionValue). x.steps) (sym c.self.view_is) in
-    let turns = c.in_ok-turns.ensures ∙ c.as_slice.ensures.value in
+    let nodes = c.in_ok-nodes.ensures
+    ∙ ap (λ (l : List (Vec Step Global)). map (λ (v : Vec Step Global). v.items) l) c.as_slice.ensures.value in
+    let turns = c.in_ok-turns.ensures ∙ c.as_slice-2.ensures.value in
     let strikes = c.in_ok-strikes.ensures ∙ c.strikes.ensures ∙ ap (λ (x : SessionValue). x.plan.strikes) own in
     subst IsInLimits (λ i. plan_of 3 (sym bits i) (sym nodes i) (sym turns i) (sym strikes i))
     (written_limits s _ _ _ c.self.invariant (subst (λ (x : SessionValue). IsInLimits x.plan) own c.limits.ensures))

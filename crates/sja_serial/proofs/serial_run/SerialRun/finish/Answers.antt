@@ -5,33 +5,34 @@ use Rattle.sja_regs.specs.Registers.{at_power_on}
 use Rattle.sja_driver.specs.declared.logged_driver.LoggedDriver.{LoggedDriver}
 use Rattle.sja_driver.specs.Deeds.{Deed}
 use Rattle.sja_driver.specs.LoggedDrivers.{IsLawful}
+use Rattle.sja_plan.specs.Plan.{PlanValue}
 use Rattle.sja_log.specs.Log.{NodeValue, RunValue}
 use Rattle.sja_log.specs.Finishing.{AreNodeEnds}
 use Rattle.sja_log.specs.Inside.LeftDown.{all_down}
-use Rattle.sja_serial.specs.Ending.{IsLogOf}
+use Rattle.sja_serial.specs.Ending.{IsLogOf, MayBeOf}
 use Rattle.sja_serial.specs.Serial.{SerialValue, StandsAt}
 use Rattle.sja_serial.specs.Inside.Going.{run_now}
 use Rattle.sja_serial.proofs.WholeRun.Ended.{log_of_run}
 use Rattle.sja_serial.proofs.serial_run.SerialRun.finish.Goals as goal
 
 pub node_runs-requires-clause-lawful : goal.node_runs-requires-clause-lawful
-node_runs-requires-clause-lawful c =
+node_runs-requires-clause-lawful g c =
     let b = c.self.inside in
     let now = run_now b.bus b.drivers.items b.board.ports.items b.links.items b.bits in
-    let deeds = c.requires.run.0 in
-    let stood : StandsAt c.args.plan.now now deeds = subst (λ (x : SerialValue). StandsAt c.args.plan.now x deeds)
-    (sym c.self.view_is) c.requires.run.1 in
+    let deeds = c.requires.0 in
+    let stood : StandsAt g.setup now deeds = subst (λ (x : SerialValue). StandsAt g.setup x deeds)
+    (sym c.self.view_is) c.requires.1 in
     let P : List LoggedDriver → Type 0 = λ l. (k : ℕ) (d : LoggedDriver) → k < length l → IsLawful
     (slice_index_or l k d) in
     subst P (sym c.as_slice.ensures.value) (λ k d less. (stood.nodes k d (at_power_on 1)
     (let e = stood.count.drivers in omega (arith, e, less))).traced.lawful)
 
 pub returns : goal.returns
-returns c =
+returns g c =
     let b = c.self.inside in
     let now = run_now b.bus b.drivers.items b.board.ports.items b.links.items b.bits in
-    let P : SerialValue → Type 0 = λ r. (deeds : List (List Deed)) → StandsAt c.args.plan.now r deeds →
-    IsLogOf c.args.plan.now r deeds c.args.end c.of.result in
+    let P : SerialValue → Type 0 = λ r. (plan : PlanValue) (deeds : List (List Deed)) → StandsAt g.setup r deeds →
+    MayBeOf plan g.setup deeds → IsLogOf plan r deeds c.args.end c.of.result in
     let nodes = c.in_ok-nodes.nodes.items in
     let logs = c.finish-logs.result.items in
     let all : AreNodeEnds logs b.drivers.items (all_down b.links.items) (length b.drivers.items) nodes =
@@ -40,16 +41,16 @@ returns c =
     (subst (λ (ds : List LoggedDriver). AreNodeEnds logs ds c.as_slice-2.result.now
     (length ds) nodes) c.as_slice.ensures.value c.in_ok-nodes.ensures) in
     let is : c.of.result ≡ record {
-      version = c.version.result;
+      version = c.version-version.result;
       bits = b.bits;
       end = c.args.end;
       nodes =
           nodes;
     } = c.of.ensures in
     record {
-      log = subst P c.self.view_is (λ deeds h.
-          log_of_run c.args.plan.now now deeds c.args.end c.of.result logs h (ap (λ (l : RunValue). l.version) is
-          ∙ c.version.ensures.value) (ap (λ (l : RunValue). l.bits) is) (ap (λ (l : RunValue). l.end) is)
+      log = subst P c.self.view_is (λ plan deeds h may.
+          log_of_run plan now deeds c.args.end c.of.result logs g.setup h may (ap (λ (l : RunValue). l.version) is
+          ∙ c.version-version.ensures) (ap (λ (l : RunValue). l.bits) is) (ap (λ (l : RunValue). l.end) is)
           (subst (λ (ns : List NodeValue). AreNodeEnds logs b.drivers.items (all_down b.links.items)
           (length b.drivers.items) ns) (sym (ap (λ (l : RunValue). l.nodes) is)) all)
           c.finish-logs.ensures.journals (c.finish-logs.ensures.lawful h.right)

@@ -1,29 +1,19 @@
-use Rattle.std.proofs.Common.{◌≡◌, ◌∙◌, ap, sym, ℕ, List, replicate, arith}
-use Rattle.sja_regs.specs.declared.registers.Registers.{Registers}
+use Rattle.std.proofs.Common.{rules, ◌≡◌, ℕ, List, length, replicate, refl, subst}
+use Rattle.sja_link.specs.NewLinks.{AreNewLinks}
 use Rattle.sja_regs.specs.Registers.{at_power_on}
-use Rattle.sja_wire.specs.Buses.{new_bus}
+use Rattle.sja_log.specs.Inside.NewDrivers.{AreNew}
+use Rattle.sja_serial.specs.Serial.{setup_with}
 use Rattle.sja_serial.proofs.AllNodes.Newly.{stands_new}
 use Rattle.sja_serial.proofs.serial_run.SerialRun.new.Goals as goal
 
--- ports after power-on are of this version, if theirs is it
-powered : {ports : List Registers} (n v version : ℕ) → ports ≡ replicate n (at_power_on v) → v ≡ version →
-    ports ≡ replicate n (at_power_on version)
-powered n v version are same = are ∙ ap (λ (v : ℕ). replicate n (at_power_on v)) same
-
 pub returns-clause-stands : goal.returns-clause-stands
-returns-clause-stands c =
-    stands_new c.args.plan.now c.in_ok-bus.bus c.in_ok-drivers.drivers.items c.in_ok-board.board.ports.items
-    c.in_ok-links.links.items c.nodes-nodes.result c.bits.result c.in_ok-steps.steps.items c.in_ok-script.script
-    c.nodes-nodes.ensures.value c.in_ok-script.ensures c.bits.ensures.value
-    (c.in_ok-bus.ensures ∙ ap (λ (n : ℕ). new_bus c.in_ok-script.script c.bits.result n c.in_ok-steps.steps.items)
-    (c.in_ok-steps.ensures.count ∙ sym c.nodes-nodes.ensures.value)) c.in_ok-steps.ensures.value
-    c.in_ok-drivers.ensures.count
-    c.in_ok-drivers.ensures.new
-    (powered c.nodes-nodes.result _ c.args.plan.now.version c.in_ok-board.ensures
-    (let own = c.version.ensures.value in omega (arith, own)))
-    c.in_ok-links.ensures
-
-pub returns-clause-bus : goal.returns-clause-bus
-returns-clause-bus c =
-    c.in_ok-bus.ensures ∙ (λ i. new_bus (c.in_ok-script.ensures i) (c.bits.ensures.value i)
-    (c.in_ok-steps.ensures.count i) (c.in_ok-steps.ensures.value i))
+returns-clause-stands c = let steps = c.as_slice.ensures.value in
+    let nodes : c.len-nodes.result ≡ length c.args.steps.items = search rules in
+    stands_new (setup_with c.args.version c.args.bits c.args.script c.args.steps.items) c.in_ok-bus.bus
+    c.in_ok-drivers.drivers.items c.in_ok-board.board.ports.items c.in_ok-links.links.items
+    (record { bits = c.requires.bits; few = c.requires.nodes; nodes = refl }) c.in_ok-bus.ensures
+    (subst (λ (l : List ℕ). length c.in_ok-drivers.drivers.items ≡ length l) steps c.in_ok-drivers.ensures.count)
+    (subst (λ (l : List ℕ). AreNew l (length l) c.in_ok-drivers.drivers.items) steps c.in_ok-drivers.ensures.new)
+    (subst (λ (n : ℕ). c.in_ok-board.board.ports.items ≡ replicate n (at_power_on c.args.version)) nodes
+    c.in_ok-board.ensures)
+    (subst (λ (n : ℕ). AreNewLinks n c.in_ok-links.links.items) nodes c.in_ok-links.ensures)

@@ -9,23 +9,23 @@ use Rattle.sja_serial.proofs.ManyBits.Unstopped.{never_refused_there}
 use Rattle.sja_serial.proofs.serial_run.SerialRun.run_idle_bits.Goals as goal
 
 pub returns : goal.returns
-returns c = λ deeds h.
-    let s = c.self.inside in let now = c.quiet_bits.new in let plan = c.args.plan.now in
+returns g c = λ deeds h.
+    let s = c.self.inside in let now = c.quiet_bits.new in let setup = g.setup in
     let many = c.in-Ok.bits in let most = c.args.count in let ports = s.board.ports.items in
     let q = c.quiet_bits.ensures in let ok = c.in-Ok.ensures in
     let same = c.as_mut_slice.ensures.value in let view = c.self.view_is in
     let is : c.quiet_bits.result ≡ Ok many = search rules in
-    let P : SerialValue → SerialValue → Type 0 = λ r n. TakesAtOnce plan deeds r n most many in
+    let P : SerialValue → SerialValue → Type 0 = λ r n. TakesAtOnce setup deeds r n most many in
     put_back same view P now.self s.drivers.items ports now.links _ (s.bits + many)
     (with_items_is s.links now.links (omega (arith, c.quiet_bits.auto.links, c.as_mut_slice.ensures.len)))
-    (takes_at_once plan (run_now s.bus s.drivers.items ports c.as_mut_slice.result.now s.bits)
+    (takes_at_once setup (run_now s.bus s.drivers.items ports c.as_mut_slice.result.now s.bits)
     (run_now now.self s.drivers.items ports now.links (s.bits + many)) deeds
-    (stands_there same view plan deeds h) ok.right q.script q.steps q.nodes refl refl q.sames ok.kept
-    (lawful_there same view c.requires.lawful) most many ok.most ok.bits.0 ok.bits.1 refl
+    (stands_there same view setup deeds h) ok.right q.script q.steps q.nodes refl refl q.sames ok.kept
+    (lawful_there same view c.requires.1.1) most many ok.most ok.bits.0 ok.bits.1 refl
     (λ zero. q.items (is ∙ ap (λ (x : ℕ). Ok x) zero)) (λ zero. q.untold (is ∙ ap (λ (x : ℕ). Ok x) zero))
     ok.stretch)
 
 pub unreachable-requires : goal.unreachable-requires
-unreachable-requires c =
-    never_refused_there c.as_mut_slice.ensures.value c.self.view_is c.args.plan.now c.requires.run c.requires.left
-    c.requires.lawful c.requires.limits c.quiet_bits.new.self c.quiet_bits.new.links _ c.in-Err.ensures.reason
+unreachable-requires g c =
+    never_refused_there c.as_mut_slice.ensures.value c.self.view_is g.setup c.requires.0 c.requires.1.0
+    c.requires.1.1 c.quiet_bits.new.self c.quiet_bits.new.links _ c.in-Err.ensures.reason

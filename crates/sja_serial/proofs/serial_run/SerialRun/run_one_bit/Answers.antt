@@ -9,20 +9,20 @@ use Rattle.sja_serial.proofs.ManyBits.Unstopped.{never_stops_there}
 use Rattle.sja_serial.proofs.serial_run.SerialRun.run_one_bit.Goals as goal
 
 pub returns : goal.returns
-returns c = λ deeds h.
+returns g c = λ deeds h.
     let s = c.self.inside in let now = c.bit.new in let ports = now.board.ports.items in
     let b = c.in-Ok.ensures.bit in
     let same = c.as_mut_slice.ensures.value in let view = c.self.view_is in
-    put_back same view (TakesBit c.args.plan.now deeds) now.self s.drivers.items ports now.links _ (s.bits + 1)
+    put_back same view (TakesBit g.setup deeds) now.self s.drivers.items ports now.links _ (s.bits + 1)
     (with_items_is s.links now.links (omega (arith, c.bit.auto.links, c.as_mut_slice.ensures.len)))
-    (takes_bit c.args.plan.now (run_now s.bus s.drivers.items s.board.ports.items
+    (takes_bit g.setup (run_now s.bus s.drivers.items s.board.ports.items
     c.as_mut_slice.result.now s.bits) (run_now now.self s.drivers.items ports now.links (s.bits + 1)) deeds
-    (stands_there same view c.args.plan.now deeds h) b.right b.keeps.script b.keeps.steps b.run b.left b.keeps.nodes
+    (stands_there same view g.setup deeds h) b.right b.keeps.script b.keeps.steps b.run b.left b.keeps.nodes
     refl refl b.keeps.others.0 b.kept b.keeps.sames
-    b.bit (cuts_of (lawful_there same view c.requires.lawful)))
+    b.bit (cuts_of (lawful_there same view c.requires.1.1)))
 
 pub unreachable-requires : goal.unreachable-requires
-unreachable-requires c =
-    never_stops_there c.as_mut_slice.ensures.value c.self.view_is c.args.plan.now c.requires.run c.requires.left
-    c.requires.lawful c.requires.limits (HasOrders c.self.inside.board.ports.items) c.bit.new.self
+unreachable-requires g c =
+    never_stops_there c.as_mut_slice.ensures.value c.self.view_is g.setup c.requires.0 c.requires.1.0
+    c.requires.1.1 (HasOrders c.self.inside.board.ports.items) c.bit.new.self
     c.bit.new.links _ c.in-Err.ensures.reason

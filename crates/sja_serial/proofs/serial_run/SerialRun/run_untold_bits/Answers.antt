@@ -11,35 +11,35 @@ use Rattle.sja_serial.proofs.ManyBits.ManyBits.{untold, no_break, bits_taken}
 use Rattle.sja_serial.proofs.serial_run.SerialRun.run_untold_bits.Goals as goal
 
 pub unreachable-requires : goal.unreachable-requires
-unreachable-requires c = let b = c.self.inside in
+unreachable-requires g c = let b = c.self.inside in
     no_break b.bus b.drivers.items b.board c.as_mut_slice.result.now b.links.items b.bits c.args.self.now
-    c.as_mut_slice.ensures.value c.self.view_is c.args.plan.now c.requires.run c.requires.lawful c.args.count
-    c.requires.left (untold c.args.plan.now)
-    (moment c.bits_until_told.new.self c.bits_until_told.new.links c.bits_until_told.new.board) _ c.requires.limits
+    c.as_mut_slice.ensures.value c.self.view_is g.setup c.requires.0 c.requires.1.1 c.args.count
+    c.requires.1.0 (untold g.setup)
+    (moment c.bits_until_told.new.self c.bits_until_told.new.links c.bits_until_told.new.board) _
     c.in-Err.ensures.reason
 
 pub returns-clause-bits : goal.returns-clause-bits
-returns-clause-bits c = let b = c.self.inside in
+returns-clause-bits g c = let b = c.self.inside in
     bits_taken b.bus b.drivers.items b.board c.as_mut_slice.result.now b.links.items b.bits c.args.self.now
-    c.as_mut_slice.ensures.value c.self.view_is c.args.plan.now c.requires.run c.requires.lawful c.args.count
-    c.requires.left (untold c.args.plan.now)
+    c.as_mut_slice.ensures.value c.self.view_is g.setup c.requires.0 c.requires.1.1 c.args.count
+    c.requires.1.0 (untold g.setup)
     (moment c.bits_until_told.new.self c.bits_until_told.new.links c.bits_until_told.new.board) _
     (with_items_is b.links c.bits_until_told.new.links
     (omega (arith, c.bits_until_told.auto.links, c.as_mut_slice.ensures.len))) c.in-Ok.bits c.in-Ok.ensures.bits
 
 pub returns-clause-unstruck : goal.returns-clause-unstruck
-returns-clause-unstruck c = λ i node less few strikes.
+returns-clause-unstruck g c = λ i node less few strikes.
     let P : SerialValue → Type 0 = λ x. Strikes x.bus.script (x.bus.run + i) node in
     c.in-Ok.ensures.unstruck i node less few (subst P (sym c.self.view_is) strikes)
 
 pub returns-clause-longest : goal.returns-clause-longest
-returns-clause-longest c = λ some. let b = c.self.inside in
+returns-clause-longest g c = λ some. let b = c.self.inside in
     ended_told c.args.count c.in-Ok.bits (moment b.bus c.as_mut_slice.result.now b.board)
     (moment c.bits_until_told.new.self c.bits_until_told.new.links c.bits_until_told.new.board) b.drivers.items
     b.links.items _ b.bits _ c.args.self.now c.self.view_is (c.in-Ok.ensures.longest some)
 
 pub returns-clause-none : goal.returns-clause-none
-returns-clause-none c = λ zero.
+returns-clause-none g c = λ zero.
     let is : c.bits_until_told.result ≡ Ok 0 = search rules in
     let P : SerialValue → Type 0 = λ x. RunsNone (HasOrders x.ports) false c.args.count x.bus in
     subst P c.self.view_is (c.bits_until_told.ensures.none is)

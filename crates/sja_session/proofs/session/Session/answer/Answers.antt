@@ -1,6 +1,6 @@
 use Rattle.std.proofs.Common.{◌≡◌, ◌≤◌, ℕ, zero, suc, List, [], ◌∷◌, length, rules, refl, sym, ap, ◌∙◌, subst, arith}
 use Rattle.sja_driver.specs.Deeds.{Deed, deeds_at}
-use Rattle.sja_serial.proofs.WholeRun.GoingOn.{first_driver}
+use Rattle.sja_serial.proofs.AllNodes.Several.{first_driver}
 use Rattle.sja_session.specs.Answering.{last_answer}
 use Rattle.sja_session.specs.Sessions.{SessionValue, IsAt}
 use Rattle.sja_session.proofs.StepsDone.Stepped.{last_answered}
@@ -15,16 +15,18 @@ pub returns-then-place-nodes : goal.returns-then-place-nodes
 returns-then-place-nodes c = λ deeds h.
     let far = c.if-place-nodes.true in let n = c.nodes.ensures.value in
     let p : c.from-place.result ≡ c.args.node = search rules in
-    let v = ap (λ (x : SessionValue). length x.plan.nodes) c.self.view_is in let d = h.stands.deeds_count in
-    sym (ap last_answer (past deeds c.args.node (omega (arith, far, n, p, v, d))))
+    let v = ap (λ (x : SessionValue). length x.plan.nodes) c.self.view_is in let d = h.stands.deeds_count in let e =
+    h.count in
+    sym (ap last_answer (past deeds c.args.node (omega (arith, far, n, p, v, d, e))))
 
 pub returns : goal.returns
 returns c = λ deeds h.
     let b = c.self.inside in
     let at = subst (λ (x : SessionValue). IsAt x deeds) (sym c.self.view_is) h in
-    let near = c.if-place-nodes.false in let n = c.nodes.ensures.value in let k = at.stands.count.drivers in
+    let near = c.if-place-nodes.false in let n = c.nodes.ensures.value in let k = at.stands.count.drivers in let e =
+    at.count in
     let p : c.from-place.result ≡ c.args.node = search rules in
-    let d = first_driver b.run.drivers (omega (arith, near, n, k)) in
+    let d = first_driver b.run.drivers (omega (arith, near, n, k, e)) in
     c.last_answer.ensures d
-    ∙ last_answered b.plan b.run deeds c.from-place.result d at.stands (omega (arith, near, n))
+    ∙ last_answered _ b.run deeds c.from-place.result d at.stands (omega (arith, near, n, e))
     ∙ ap (λ m. last_answer (deeds_at deeds m)) p

@@ -2,17 +2,21 @@ use Rattle.std.proofs.Common.{rules, ◌≡◌, ℕ, ◌-◌, List, sym, subst, 
 use Rattle.sja_plan.specs.declared.turn.Turn.{Turn}
 use Rattle.sja_driver.specs.Deeds.{Deed}
 use Rattle.sja_serial.specs.Bits.{TakesBusTurn}
+use Rattle.sja_serial.specs.Serial.{Setup, setup_in}
+use Rattle.sja_serial.proofs.AllNodes.Several.{at_own, from_own}
 use Rattle.sja_serial.proofs.WholeRun.GoingOn.{bits_run}
 use Rattle.sja_session.specs.Running.{RunsBits, MayRun}
-use Rattle.sja_session.specs.Sessions.{SessionValue, session_of, IsAt}
+use Rattle.sja_session.specs.Sessions.{SessionValue, session_of, setup_by, IsAt}
 use Rattle.sja_session.proofs.BitsDone.AfterBits.{turn_fits, session_now}
 use Rattle.sja_session.proofs.BitsDone.BitsRun.{runs}
+use Rattle.sja_session.proofs.WrittenPlan.OneMore.{listed}
 use Rattle.sja_session.proofs.session.Session.bits.Goals.{After-bits}
 use Rattle.sja_session.proofs.session.Session.bits.Goals as goal
 
 -- the session as it was, and how many bits were run
 abbrev was : After-bits → SessionValue
-was c = session_of c.self.inside.room c.self.inside.run c.self.inside.plan c.self.inside.turns.items
+was c = session_of c.self.inside.room c.self.inside.run c.self.inside.plan (listed c.self.inside.steps.items)
+    c.self.inside.turns.items
 
 abbrev run : After-bits → ℕ
 run c = c.bits.result - c.bits-before.result
@@ -22,8 +26,10 @@ run_is c = λ i. c.bits.ensures i - c.bits-before.ensures i
 
 -- they were run from the deeds at which it stood
 ran : (c : After-bits) (deeds : List (List Deed)) → IsAt (was c) deeds →
-    TakesBusTurn c.self.inside.plan deeds c.self.inside.run c.bus_turn.new.self c.args.count c.bus_turn.result
-ran c deeds h = c.bus_turn.ensures.turn deeds h.stands
+    TakesBusTurn (setup_by (was c)) deeds c.self.inside.run c.bus_turn.new.self c.args.count c.bus_turn.result
+ran c deeds h = from_own (λ (x : Setup). TakesBusTurn x deeds c.self.inside.run c.bus_turn.new.self c.args.count
+    c.bus_turn.result) h.stands
+    (c.bus_turn.ensures.turn deeds (at_own h.stands))
 
 may : (c : After-bits) → MayRun (was c) c.args.count
 may c = subst (λ (s : SessionValue). MayRun s c.args.count) (sym c.self.view_is)
@@ -31,9 +37,12 @@ may c = subst (λ (s : SessionValue). MayRun s c.args.count) (sym c.self.view_is
 
 pub overflow_sub-run : goal.overflow_sub-run
 overflow_sub-run c =
-    let inv = c.self.invariant in let t = c.bus_turn.ensures.turn inv.deeds inv.at.stands in
-    let b = bits_run c.self.inside.plan inv.deeds _ c.self.inside.run c.bus_turn.new.self t.run t.bits in
+    let inv = c.self.invariant in let t = c.bus_turn.ensures.turn inv.deeds (at_own inv.at.stands) in
+    let b = bits_run (setup_in c.self.inside.run) inv.deeds _ c.self.inside.run c.bus_turn.new.self t.run t.bits in
     let x = c.bits-before.ensures in let y = c.bits.ensures in omega (arith, b, x, y)
+
+pub bus_turn-requires : goal.bus_turn-requires
+bus_turn-requires c = let inv = c.self.invariant in (inv.deeds, at_own inv.at.stands)
 
 pub push_bits-requires-clause-fits : goal.push_bits-requires-clause-fits
 push_bits-requires-clause-fits c =
@@ -53,7 +62,8 @@ pub returns-clause-bits : goal.returns-clause-bits
 returns-clause-bits c = λ deeds h.
     let at = (goal.at.returns-clause-bits c).After-bits in
     let own = subst (λ (s : SessionValue). IsAt s deeds) (sym c.self.view_is) h in
-    let then = λ (l : List Turn). session_of c.self.inside.room c.bus_turn.new.self c.self.inside.plan l in
+    let then = λ (l : List Turn). session_of c.self.inside.room c.bus_turn.new.self c.self.inside.plan
+    (listed c.self.inside.steps.items) l in
     subst (λ (s : SessionValue). RunsBits s (then c.push_bits.new.turns.items) c.args.count (run at) deeds)
     c.self.view_is
     (subst (λ (l : List Turn). RunsBits (was at) (then l) c.args.count (run at) deeds)

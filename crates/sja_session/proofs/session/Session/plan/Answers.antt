@@ -1,24 +1,25 @@
 use Rattle.std.proofs.Common.{◌≡◌, ◌≤◌, ℕ, List, Vec, Global, length, map, All, sym, ap, ◌∙◌, subst, arith}
+use Rattle.std.specs.Prelude.{[]}
+use Rattle.std.proofs.lemmas.List.{get_or_default}
 use Rattle.sja_plan.specs.declared.turn.Turn.{Turn}
 use Rattle.sja_plan.specs.Limits.{most_bits, most_steps, most_turns, most_strikes}
 use Rattle.sja_plan.specs.Plan.{NamesNode, IsStrikeOn, times_in}
 use Rattle.sja_script.specs.declared.step.Step.{Step}
 use Rattle.sja_script.specs.declared.strike.Strike.{Strike}
-use Rattle.sja_session.specs.Sessions.{SessionValue}
-use Rattle.sja_session.specs.Writing.{done_counts, fronts}
+use Rattle.sja_session.specs.Sessions.{session_of}
+use Rattle.sja_session.proofs.StepsDone.Stepped.{steps_many}
+use Rattle.sja_session.proofs.WrittenPlan.OneMore.{listed}
 use Rattle.sja_session.proofs.WrittenPlan.Turned.{all_turns_named}
-use Rattle.sja_session.proofs.WrittenPlan.Written.{fronts_few, length_fronts, counts_many}
+use Rattle.sja_session.proofs.WrittenPlan.Within.{within}
 use Rattle.sja_session.proofs.session.Session.plan.Goals as goal
 
 pub of-requires : goal.of-requires
 of-requires c =
-    let b = c.self.inside in let inv = c.self.invariant in let limits = c.bits-bits.ensures.limits in
-    let counts = done_counts b.run in
-    let nodes = c.in_ok-nodes.ensures
-    ∙ ap (λ (x : SessionValue). fronts (done_counts x.run) x.plan.nodes) (sym c.self.view_is) in
-    let count = ap (λ (l : List (List Step)). length l) nodes
-    ∙ length_fronts counts b.plan.nodes (counts_many b.plan b.run inv.deeds inv.at.stands) in
-    let turns = c.in_ok-turns.ensures ∙ c.as_slice.ensures.value in let strikes = c.in_ok-strikes.ensures in
+    let b = c.self.inside in let inv = c.self.invariant in let limits = c.limits.ensures in
+    let s = session_of b.room b.run b.plan (listed b.steps.items) b.turns.items in
+    let nodes = c.in_ok-nodes.ensures ∙ ap (λ (l : List (Vec Step Global)). listed l) c.as_slice.ensures.value in
+    let count = ap (λ (l : List (List Step)). length l) nodes ∙ inv.at.count in
+    let turns = c.in_ok-turns.ensures ∙ c.as_slice-2.ensures.value in let strikes = c.in_ok-strikes.ensures in
     let version : b.plan.version ≡ c.version.result = sym c.version.ensures.value in record {
       version = (c.version.ensures.least, c.version.ensures.most);
       bits = (
@@ -29,7 +30,11 @@ of-requires c =
       steps = subst (λ (n : ℕ). All (λ (x : List Step). length x ≤ most_steps n)
           (map (λ (v : Vec Step Global). v.items) c.in_ok-nodes.nodes.items)) version
           (subst (λ (l : List (List Step)). All (λ (x : List Step). length x ≤ most_steps b.plan.version) l) (sym nodes)
-          (fronts_few (most_steps b.plan.version) counts b.plan.nodes limits.steps));
+          (λ k d less.
+          let w = within s inv.deeds inv.at inv.steps k less in
+          let many = steps_many (listed b.steps.items) inv.deeds k inv.at.steps in
+          let few = inv.steps in let same = ap (λ (l : List Step). length l)
+          (get_or_default (listed b.steps.items) k [] d less) in omega (arith, w, many, few, same)));
       turn_count =
           let few : length b.turns.items ≤ most_turns b.plan.version =
           (let few = inv.few in let most = inv.most in omega (arith, few, most)) in

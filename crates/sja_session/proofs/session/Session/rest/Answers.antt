@@ -2,18 +2,22 @@ use Rattle.std.proofs.Common.{rules, ◌≡◌, ℕ, ◌-◌, List, sym, subst, 
 use Rattle.sja_plan.specs.declared.turn.Turn.{Turn}
 use Rattle.sja_driver.specs.Deeds.{Deed}
 use Rattle.sja_serial.specs.Bits.{TakesRest}
+use Rattle.sja_serial.specs.Serial.{Setup, setup_in}
+use Rattle.sja_serial.proofs.AllNodes.Several.{at_own, from_own}
 use Rattle.sja_serial.proofs.WholeRun.GoingOn.{bits_run}
 use Rattle.sja_session.specs.Resting.{Rests}
 use Rattle.sja_session.specs.Running.{MayRun}
-use Rattle.sja_session.specs.Sessions.{SessionValue, session_of, IsAt}
+use Rattle.sja_session.specs.Sessions.{SessionValue, session_of, setup_by, IsAt}
 use Rattle.sja_session.proofs.BitsDone.AfterBits.{turn_fits, session_now}
 use Rattle.sja_session.proofs.BitsDone.RestRun.{rested}
+use Rattle.sja_session.proofs.WrittenPlan.OneMore.{listed}
 use Rattle.sja_session.proofs.session.Session.rest.Goals.{After-bits}
 use Rattle.sja_session.proofs.session.Session.rest.Goals as goal
 
 -- the session as it was, and how many bits were run
 abbrev was : After-bits → SessionValue
-was c = session_of c.self.inside.room c.self.inside.run c.self.inside.plan c.self.inside.turns.items
+was c = session_of c.self.inside.room c.self.inside.run c.self.inside.plan (listed c.self.inside.steps.items)
+    c.self.inside.turns.items
 
 abbrev run : After-bits → ℕ
 run c = c.bits.result - c.bits-before.result
@@ -23,8 +27,10 @@ run_is c = λ i. c.bits.ensures i - c.bits-before.ensures i
 
 -- they were run from the deeds at which it stood
 rests : (c : After-bits) (deeds : List (List Deed)) → IsAt (was c) deeds →
-    TakesRest c.self.inside.plan deeds c.self.inside.run c.rest_turn-at_rest.new.self c.rest_turn-at_rest.result
-rests c deeds h = c.rest_turn-at_rest.ensures.turn deeds h.stands
+    TakesRest (setup_by (was c)) deeds c.self.inside.run c.rest_turn-at_rest.new.self c.rest_turn-at_rest.result
+rests c deeds h = from_own (λ (x : Setup). TakesRest x deeds c.self.inside.run c.rest_turn-at_rest.new.self
+    c.rest_turn-at_rest.result) h.stands
+    (c.rest_turn-at_rest.ensures.turn deeds (at_own h.stands))
 
 may : (c : After-bits) → MayRun (was c) 1
 may c = subst (λ (s : SessionValue). MayRun s 1) (sym c.self.view_is)
@@ -32,9 +38,13 @@ may c = subst (λ (s : SessionValue). MayRun s 1) (sym c.self.view_is)
 
 pub overflow_sub-bits : goal.overflow_sub-bits
 overflow_sub-bits c =
-    let inv = c.self.invariant in let t = c.rest_turn-at_rest.ensures.turn inv.deeds inv.at.stands in
-    let b = bits_run c.self.inside.plan inv.deeds _ c.self.inside.run c.rest_turn-at_rest.new.self t.run t.bits in
+    let inv = c.self.invariant in let t = c.rest_turn-at_rest.ensures.turn inv.deeds (at_own inv.at.stands) in
+    let b = bits_run (setup_in c.self.inside.run) inv.deeds _ c.self.inside.run c.rest_turn-at_rest.new.self t.run
+    t.bits in
     let x = c.bits-before.ensures in let y = c.bits.ensures in omega (arith, b, x, y)
+
+pub rest_turn-at_rest-requires : goal.rest_turn-at_rest-requires
+rest_turn-at_rest-requires c = let inv = c.self.invariant in (inv.deeds, at_own inv.at.stands)
 
 pub push_bits-requires-clause-fits : goal.push_bits-requires-clause-fits
 push_bits-requires-clause-fits c =
@@ -51,7 +61,8 @@ pub returns-clause-rests : goal.returns-clause-rests
 returns-clause-rests c = λ deeds h.
     let at = (goal.at.returns-clause-rests c).After-bits in
     let own = subst (λ (s : SessionValue). IsAt s deeds) (sym c.self.view_is) h in
-    let then = λ (l : List Turn). session_of c.self.inside.room c.rest_turn-at_rest.new.self c.self.inside.plan l in
+    let then = λ (l : List Turn). session_of c.self.inside.room c.rest_turn-at_rest.new.self c.self.inside.plan
+    (listed c.self.inside.steps.items) l in
     subst (λ (s : SessionValue). Rests s (then c.push_bits.new.turns.items) (run at) c.rest_turn-at_rest.result deeds)
     c.self.view_is
     (subst (λ (l : List Turn). Rests (was at) (then l) (run at) c.rest_turn-at_rest.result deeds)
