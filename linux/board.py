@@ -1,0 +1,220 @@
+# SPDX-License-Identifier: GPL-2.0-only
+"""Linux's CAN driver on the bus of this model, in Python: links in the words of `ip`, frames in those of candump.
+
+    with Board(nodes=3, driver="/usr/src/linux-source-6.1") as bus:
+        bus.link(0, bitrate=500000, restart_ms=100, berr_reporting=True)
+        ..
+        bus.up(0)
+        bus.strike(1, "stuff.2", "123#1122")
+        bus.send(0, "123#1122")
+        bus.run(bits=1000)
+        print(bus.received(1), bus.errors(0), bus.state(0))
+
+`driver` is an unpacked source of Linux, or a shared object that linux/build made of one. Of a source the object is
+built first, and kept beside others in a folder of the user's cache. There is one Board at a time in a process. Standard
+library only; docs/use/LINUX.md says more."""
+
+import ctypes
+import errno
+import hashlib
+import os
+import re
+import subprocess
+
+HERE = os.path.dirname(os.path.realpath(__file__))
+LIBRARY = os.path.join(os.path.dirname(HERE), "crates/sja_c/out/libsja.so")
+PROGRAM = os.path.join(os.path.dirname(HERE), "crates/sja/out/sja")
+TEXT, ROOM = 40, 1 << 24
+KINDS = ("received", "sent", "error")
+STATES = "ERROR-ACTIVE ERROR-WARNING ERROR-PASSIVE BUS-OFF STOPPED SLEEPING".split()
+
+
+class BoardError(OSError):
+    """A call that Linux refuses, with its errno; or a session that goes no further."""
+
+
+class _Frame(ctypes.Structure):
+    _fields_ = [("bit", ctypes.c_uint64), ("id", ctypes.c_uint32), ("kind", ctypes.c_uint8),
+                ("length", ctypes.c_uint8), ("dlc", ctypes.c_uint8), ("data", ctypes.c_uint8 * 8)]
+
+
+class _Details(ctypes.Structure):
+    _fields_ = [(name, ctypes.c_uint32) for name in """state ctrlmode restart_ms bitrate sample_point brp sjw tseg1
+                tseg2 txerr rxerr bus_error error_warning error_passive bus_off arbitration_lost restarts""".split()]
+    _fields_ += [(name, ctypes.c_uint64) for name in """rx_packets tx_packets rx_bytes tx_bytes rx_errors tx_errors
+                 rx_dropped tx_dropped rx_over_errors""".split()]
+    _fields_ += [(name, ctypes.c_int) for name in ("is_up", "has_carrier", "waiting")]
+
+
+def _built(tree, driver, board):
+    """The shared object of a tree: built where it isn't there, or older than what it is made of."""
+    cache = os.environ.get("XDG_CACHE_HOME", os.path.expanduser("~/.cache"))
+    words = [os.path.abspath(tree)]
+    for option, file in (("--driver", driver), ("--board", board)):
+        if file:
+            words = [option, os.path.abspath(file), *words]
+    library = os.environ.get("SJA_LIBRARY", LIBRARY if os.path.exists(LIBRARY) else "")
+    if os.path.exists(PROGRAM):
+        os.environ.setdefault("SJA", PROGRAM)
+    key = hashlib.sha256(repr((HERE, words, library)).encode()).hexdigest()[:16]
+    made = os.path.join(cache, "sja", f"driver-{key}.so")
+    os.makedirs(os.path.dirname(made), exist_ok=True)
+    sources = [os.path.join(folder, name) for folder in (HERE, os.path.join(HERE, "shim"), os.path.join(HERE, "../c"))
+               for name in os.listdir(folder) if name.endswith((".c", ".h"))]
+    sources += [file for file in (driver, board) if file]
+    if not os.path.exists(made) or any(os.path.getmtime(file) > os.path.getmtime(made) for file in sources):
+        given = dict(os.environ, SJA_C=library and library.removesuffix(".so") + ".a")
+        part = f"{made}.{os.getpid()}.so"
+        subprocess.run([os.path.join(HERE, "build"), part, *words], check=True, env=given)
+        os.replace(part, made)
+    return made
+
+
+class Board:
+    """A bus of one to eight cards, with the driver of a tree of Linux or one of your own."""
+
+    _taken = False
+
+    def __init__(self, nodes, driver, bits=0, own_driver=None, own_board=None):
+        if Board._taken:
+            raise BoardError(16, "there is one Board at a time in a process")
+        path = driver if os.path.isfile(driver) else _built(driver, own_driver, own_board)
+        self._calls = ctypes.CDLL(path)
+        for name in ("bus_run", "bus_fault"):
+            getattr(self._calls, name).restype = ctypes.c_uint32
+        for name in ("bus_now", "bus_frames"):
+            getattr(self._calls, name).restype = ctypes.c_uint64
+        for name in ("bus_to_frame", "bus_plan", "bus_report"):
+            getattr(self._calls, name).restype = ctypes.c_int64
+        for name in ("bus_refusal", "bus_dmesg"):
+            getattr(self._calls, name).restype = ctypes.c_char_p
+        self._calls.bus_frame.restype = ctypes.POINTER(_Frame)
+        self._calls.bus_strike.argtypes = [ctypes.c_uint, ctypes.c_uint64]
+        self._calls.bus_frame.argtypes = [ctypes.c_uint, ctypes.c_size_t]
+        self.nodes, self._strikes = nodes, []
+        error = self._calls.bus_begin(nodes, bits)
+        self._done(error, "there is neither a library nor a program" if error == -errno.EPIPE else "bus_begin")
+        Board._taken = True
+
+    def _done(self, error, what):
+        if error < 0:
+            reason = self._calls.bus_refusal().decode()
+            raise BoardError(-error, f"{what}: {os.strerror(-error)}" + (f" ({reason})" if reason else ""))
+
+    def link(self, node, words="", **asked):
+        """`ip link set canN type can ..`: as words, or by name: bitrate=500000, one_shot=True, restart_ms=100."""
+        for name, value in asked.items():
+            given = ("on" if value else "off") if isinstance(value, bool) else str(value)
+            words += f" {name.replace('_', '-')} {given}"
+        self._done(self._calls.bus_link(node, words.encode()), f"can{node}:{words}")
+
+    def up(self, *nodes):
+        """`ip link set canN up`, and so many bits that the controllers take part in the bus."""
+        for node in nodes:
+            self._done(self._calls.bus_up(node), f"can{node} up")
+        self.run(30)
+
+    def down(self, *nodes):
+        """`ip link set canN down`."""
+        for node in nodes:
+            self._done(self._calls.bus_down(node), f"can{node} down")
+
+    def restart(self, node):
+        """`ip link set canN type can restart`: back from bus-off by hand."""
+        self.link(node, "restart")
+
+    def send(self, node, frame):
+        """`cansend canN FRAME`."""
+        self._done(self._calls.bus_send(node, frame.encode()), f"can{node} {frame}")
+
+    def strike(self, node, place, frame=None):
+        """Has a node see the other level: in a bit by its number, or in a place of the next frame, as "data 1.7" of
+        "123#1122", or of the one after it, "frame 2 data 1.7". The frame says where the place is; one that comes again
+        counts again. A SOF has no such place: of a frame that is sent at rest it is the bit `now()`."""
+        if isinstance(place, int):
+            self._done(self._calls.bus_strike(node, place), f"strike {place}")
+            return
+        number, name = re.fullmatch(r"(?:frame ([1-9]\d*) )?(.*)", place).groups()
+        bit = self._calls.bus_place(frame.encode(), name.encode())
+        if bit <= 0:
+            raise BoardError(22, f"{frame} has no place {place}")
+        self._strikes.append((node, bit, int(number or 1)))
+
+    def run(self, bits):
+        """Lets bits run, with all that drivers and kernel do meanwhile. How many were run."""
+        before = self.now()
+        while self._strikes and (start := self._calls.bus_to_frame(before + bits - self.now())) >= 0:
+            for node, bit, number in self._strikes:
+                if number == 1:
+                    self._done(self._calls.bus_strike(node, start + bit), f"strike {start + bit}")
+            self._strikes = [(node, bit, number - 1) for node, bit, number in self._strikes if number > 1]
+        self._calls.bus_run(bits - (self.now() - before))
+        if self._calls.bus_fault():
+            raise BoardError(5, f"the session goes no further: status {self._calls.bus_fault()}")
+        return self.now() - before
+
+    def now(self):
+        """How many bits were run."""
+        return self._calls.bus_now()
+
+    def frames(self, node, kind=None):
+        """What the stack got of a device, in turn: (bit, kind, frame)."""
+        told, text = [], ctypes.create_string_buffer(TEXT)
+        for number in range(self._calls.bus_frames(node)):
+            frame = self._calls.bus_frame(node, number)
+            self._calls.bus_frame_text(frame, text)
+            if kind in (None, KINDS[frame.contents.kind]):
+                told.append((frame.contents.bit, KINDS[frame.contents.kind], text.value.decode()))
+        return told
+
+    def received(self, node):
+        """The frames that a device received."""
+        return [frame for _, _, frame in self.frames(node, "received")]
+
+    def sent(self, node):
+        """The frames of a device that came back as sent."""
+        return [frame for _, _, frame in self.frames(node, "sent")]
+
+    def errors(self, node):
+        """The error frames of a device's driver."""
+        return [frame for _, _, frame in self.frames(node, "error")]
+
+    def details(self, node):
+        """`ip -details -statistics link show canN`, by name."""
+        told = _Details()
+        self._done(self._calls.bus_details(node, ctypes.byref(told)), f"can{node}")
+        return {name: getattr(told, name) for name, _ in _Details._fields_}
+
+    def state(self, node):
+        """The state of a device, as ip writes it."""
+        return STATES[self.details(node)["state"]]
+
+    def dmesg(self):
+        """The kernel's log."""
+        return self._calls.bus_dmesg().decode()
+
+    def bugs(self):
+        """How many lines of the log tell of a bug of the driver."""
+        return self._calls.bus_bugs()
+
+    def _text(self, call):
+        room = ctypes.create_string_buffer(ROOM)
+        if call(room, ctypes.c_size_t(ROOM)) < 0:
+            raise BoardError(5, "the session tells nothing more")
+        return room.value.decode()
+
+    def plan(self):
+        """The plan of what was done so far: `sja run` and `sja trace` take it."""
+        return self._text(self._calls.bus_plan)
+
+    def close(self):
+        """Takes the cards away. How many socket buffers a driver lost."""
+        lost = self._calls.bus_end()
+        Board._taken = False
+        return lost
+
+    def __enter__(self):
+        return self
+
+    def __exit__(self, *_):
+        self.close()

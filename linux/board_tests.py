@@ -1,0 +1,91 @@
+# SPDX-License-Identifier: GPL-2.0-only
+"""Tests of linux/board.py, a line each; the status is 1 where one doesn't hold.
+
+    python3 linux/board_tests.py KERNEL_TREE"""
+
+import sys
+
+from board import Board, BoardError
+
+TREE, FRAMES = sys.argv[1], ["123#1122", "124#3344", "125#5566"]
+
+
+def up(bus, **asked):
+    """Three devices that are up."""
+    for node in range(3):
+        bus.link(node, bitrate=500000, **asked)
+    bus.up(0, 1, 2)
+
+
+def refusal_of(call):
+    """The errno of what a call raises, or 0."""
+    try:
+        call()
+    except BoardError as error:
+        return error.errno
+    return 0
+
+
+def a_place_is_that_of_the_frame_that_is_named():
+    for number, named in enumerate(["", "frame 2 ", "frame 3 "]):
+        with Board(nodes=3, driver=TREE) as bus:
+            up(bus, one_shot=True, berr_reporting=True)
+            bus.strike(0, f"{named}data 2.3", FRAMES[number])
+            for frame in FRAMES:
+                bus.send(0, frame)
+            bus.run(2000)
+            left = [frame for frame in FRAMES if frame != FRAMES[number]]
+            if not bus.received(1) == bus.received(2) == bus.sent(0) == left or len(bus.errors(1)) != 1:
+                return False
+    return True
+
+
+def a_place_waits_for_its_frame():
+    with Board(nodes=3, driver=TREE) as bus:
+        up(bus, one_shot=True)
+        bus.strike(0, "CRC.14", FRAMES[0])
+        ran = bus.run(500)
+        bus.send(0, FRAMES[0])
+        return ran == 500 and bus.run(500) == 500 and bus.received(1) == []
+
+
+def a_sof_is_struck_by_its_bit():
+    with Board(nodes=3, driver=TREE) as bus:
+        up(bus, berr_reporting=True)
+        bus.send(0, FRAMES[0])
+        bus.strike(0, bus.now())
+        bus.run(500)
+        return bus.received(1) == FRAMES[:1] and len(bus.errors(0)) == 1 and bus.details(0)["bus_error"] == 1
+
+
+def what_cannot_be_is_refused():
+    with Board(nodes=3, driver=TREE) as bus:
+        no_rate = refusal_of(lambda: bus.up(0))
+        up(bus)
+        refused = [lambda: Board(nodes=1, driver=TREE), lambda: bus.link(0, bitrate=500000),
+                   lambda: bus.strike(0, "data 3.7", FRAMES[0]), lambda: bus.strike(0, "SOF", FRAMES[0]),
+                   lambda: bus.strike(0, 0), lambda: bus.send(0, "1234#")]
+        return no_rate == 22 and [refusal_of(call) for call in refused] == [16, 16, 22, 22, 22, 22]
+
+
+def what_goes_down_comes_up():
+    with Board(nodes=3, driver=TREE) as bus:
+        up(bus)
+        bus.down(1)
+        stopped = bus.state(1)
+        bus.send(0, FRAMES[0])
+        bus.run(300)
+        bus.up(1)
+        bus.send(0, FRAMES[1])
+        bus.run(300)
+        return (stopped == "STOPPED" and bus.state(1) == "ERROR-ACTIVE" and bus.received(1) == FRAMES[1:2]
+                and bus.received(2) == FRAMES[:2] and bus.bugs() == 0 and "can1: setting BTR0" in bus.dmesg())
+
+
+bad = 0
+for test in (a_place_is_that_of_the_frame_that_is_named, a_place_waits_for_its_frame, a_sof_is_struck_by_its_bit,
+             what_cannot_be_is_refused, what_goes_down_comes_up):
+    held = test()
+    bad += not held
+    print(test.__name__.replace("_", " "), "" if held else ": WRONG", sep="")
+sys.exit(bad > 0)

@@ -1,0 +1,17 @@
+/* SPDX-License-Identifier: GPL-2.0-only */
+/* Where the shim hands frames to the stack above the devices. */
+#ifndef LINUX_STACK_H
+#define LINUX_STACK_H
+
+struct sk_buff;
+struct net_device;
+
+/* Takes a buffer that a driver received, or that comes back as sent. */
+void stack_receive(struct sk_buff *skb);
+/* The device of a node, and the node of a device, which is -1 where it isn't one of the bus. */
+struct net_device *bus_device(unsigned node);
+int bus_node(const struct net_device *dev);
+/* Drops all that was received. */
+void stack_forget(void);
+
+#endif
