@@ -13,6 +13,7 @@ only."""
 
 import contextlib
 import ctypes
+import errno
 import operator
 import os
 import subprocess
@@ -69,8 +70,8 @@ class _Library:
         u32, text, handle = ctypes.c_uint32, [ctypes.c_char_p, ctypes.c_size_t], [ctypes.c_void_p]
         arguments = {"make": [ctypes.POINTER(ctypes.c_void_p)], "begin": handle + [u32] * 3, "read": handle + [u32] * 2,
                      "write": handle + [u32] * 3, "bits": handle + [u32] * 2, "irq": handle + [u32],
-                     "strike": handle + [u32] * 2, "now": handle, "report": handle + text, "plan": handle + text,
-                     "let_go": handle}
+                     "strike": handle + [u32] * 2, "now": handle, "put_report": handle + text,
+                     "put_plan": handle + text, "let_go": handle}
         for name, types in arguments.items():
             call = getattr(self.calls, f"sja_{name}")
             call.argtypes, call.restype = types, _Answer
@@ -86,7 +87,7 @@ class _Library:
         return _done(getattr(self.calls, f"sja_{name}")(self.handle, *numbers))
 
     def text(self, name):
-        return _text_of(getattr(self.calls, f"sja_{name}"), self.handle)
+        return _text_of(getattr(self.calls, f"sja_put_{name}"), self.handle)
 
     def close(self):
         if self.handle:
@@ -123,8 +124,9 @@ class _Process:
         try:
             self.process.stdin.write(f"{line}\n".encode())
             self.process.stdin.flush()
-        except (OSError, ValueError):
-            raise SjaError(self._lost()) from None
+        except (OSError, ValueError) as error:
+            closed = getattr(error, "errno", 0) == errno.EBADF  # this program has closed it
+            raise SjaError("BROKEN" if closed else self._lost()) from None
 
     def _ask(self, line, *words):
         """Says a line. What is answered, which begins with one of these words."""
@@ -249,15 +251,16 @@ def run_plan(plan):
     """Runs a plan, a text as `sja run` takes it. Its report."""
     document, library = plan.encode(), _library()
     if library:
-        call = ctypes.CDLL(library).sja_run_plan
+        call = ctypes.CDLL(library).sja_put_run
         call.argtypes, call.restype = [ctypes.c_char_p, ctypes.c_size_t] * 2, _Answer
         return _text_of(call, document, len(document))
     try:
         ran = subprocess.run([_program(), "run"], input=document, stdout=subprocess.PIPE, stderr=subprocess.DEVNULL)
     except OSError:
         raise SjaError("BROKEN") from None
-    if ran.returncode:
-        raise SjaError("NO_PLAN" if ran.returncode == 1 else "BROKEN")
+    # Where SIGCHLD is ignored there is no status, and 0 stands for it: a run that is refused prints no report.
+    if ran.returncode or not ran.stdout:
+        raise SjaError("NO_PLAN" if ran.returncode in (0, 1) else "BROKEN")
     return ran.stdout.decode()
 
 
