@@ -32,9 +32,16 @@ impl Document {
         Piece::Line(self.outline.line_of(spot))
     }
 
-    /// The line of a key; the last there can be where it isn't found.
-    pub(crate) fn line_of_key(&self, key: &str) -> usize {
-        self.outline.line_of(Spot::Key(key)).unwrap_or(usize::MAX)
+    /// The first key of the document that isn't among these, of those that are written as they are.
+    pub(crate) fn first_written(&self, known: &[&str]) -> Option<&str> {
+        for place in 0..self.outline.keys() {
+            if let Some(key) = self.outline.key_at(place) {
+                if !(&*known).contains(&key) && self.value(key).is_some() {
+                    return Some(key);
+                }
+            }
+        }
+        None
     }
 
     /// The value at a key.
@@ -84,7 +91,8 @@ impl Document {
         }
     }
 
-    /// Says something of the text of this kind at this place; nothing where the template is empty. `{0}` is its line,
+    /// Says something of the text of this kind at this place; nothing where the template is empty. What isn't written
+    /// out any more isn't looked for. `{0}` is its line,
     /// `{1}` its number, `{2}` the text, `{3}` its node, and `{4}` to `{6}` are what else is told.
     pub(crate) fn say(
         &self,
@@ -93,8 +101,8 @@ impl Document {
         template: &str,
         told: [Piece<'static>; 3],
     ) -> bool {
-        if template.is_empty() {
-            return false;
+        if template.is_empty() || page.is_full() {
+            return page.say(template, &[]);
         }
         let (kind, place) = text;
         let node = match kind {

@@ -33,7 +33,7 @@ impl Page {
             return false;
         }
         let mut line = Line::new(self.alloc);
-        if self.lines.len() <= MOST_HINTS {
+        if !self.is_full() {
             line.fill(template, pieces);
         }
         self.refused = self.refused || line.refused;
@@ -41,6 +41,11 @@ impl Page {
             self.refused = true;
         }
         true
+    }
+
+    /// Whether there are more lines than are written out.
+    pub(crate) fn is_full(&self) -> bool {
+        self.lines.len() > MOST_HINTS
     }
 
     /// Says how many lines there are past those that are written out, in their place.

@@ -6,7 +6,7 @@ use Rattle.sja_plan.specs.StepTexts.{SaysStep}
 use Rattle.sja_plan.specs.TurnTexts.{SaysTurn}
 use Rattle.sja_plan.specs.StrikeTexts.{SaysStrike, strikes_in}
 use Rattle.sja_plan.specs.Document.{DocumentValue}
-use Rattle.sja_plan.specs.Limits.{most_bits, most_steps_told, most_turns, most_strikes}
+use Rattle.sja_plan.specs.Limits.{most_bits, most_steps, most_turns, most_strikes}
 use Rattle.sja_plan.specs.Plan.{PlanValue}
 use Rattle.sja_plan.specs.declared.turn.Turn.{Turn}
 
@@ -33,7 +33,7 @@ abbrev pub HasNodes : DocumentValue → Type 0
 HasNodes d = (1 ≤ length d.nodes) × (length d.nodes ≤ 8)
 
 abbrev pub HasFewSteps : DocumentValue → Type 0
-HasFewSteps d = All (λ steps. length steps ≤ most_steps_told (version_of d)) d.nodes
+HasFewSteps d = All (λ steps. length steps ≤ most_steps (version_of d)) d.nodes
 
 -- each text of a step says one
 abbrev pub HasSteps : DocumentValue → Type 0

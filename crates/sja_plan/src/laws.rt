@@ -1,12 +1,14 @@
 //! Laws of plans: a text and bytes have one meaning or none. Each is the contract of a function that does nothing.
 
-ghost use Rattle.std.specs.Prelude.{◌≡◌, ◌≢◌, ℕ, List};
+ghost use Rattle.std.specs.Prelude.{◌≡◌, ◌≢◌, ◌++◌, ℕ, List};
+ghost use Rattle.toml_parser.specs.Lexical.{skip_blank};
 ghost use Rattle.sja_plan.specs.Words.{Text};
 ghost use Rattle.sja_plan.specs.StepTexts.{SaysStep};
 ghost use Rattle.sja_plan.specs.TurnTexts.{SaysTurn};
 ghost use Rattle.sja_plan.specs.StrikeTexts.{SaysStrike};
 ghost use Rattle.sja_plan.specs.Plan.{PlanValue};
-ghost use Rattle.sja_plan.specs.Faults.{IsPlanOf, IsFirstFault};
+ghost use Rattle.sja_plan.specs.Limits.{raw_line};
+ghost use Rattle.sja_plan.specs.Faults.{IsText, IsPlanOf, IsFirstFault};
 
 use super::plan_fault::PlanFault;
 use super::turn::Turn;
@@ -45,4 +47,11 @@ pub fn bytes_have_one_first_fault()
 pub fn a_plan_has_no_fault()
     ensures { (bytes : List ℕ) (p : PlanValue) (f : PlanFault) → f ≢ PlanFault.Memory
         → IsPlanOf bytes p → ¬ IsFirstFault bytes f }
+{}
+
+/// Blank lines and comments before the line `version = 3` leave a plan what it is, where the bytes aren't too many.
+pub fn comments_before_a_plan_change_nothing()
+    ensures { (comments rest : List ℕ) (p : PlanValue)
+        → skip_blank (comments ++ (raw_line ++ rest)) ≡ raw_line ++ rest → IsText (comments ++ (raw_line ++ rest))
+        → IsPlanOf (raw_line ++ rest) p → IsPlanOf (comments ++ (raw_line ++ rest)) p }
 {}

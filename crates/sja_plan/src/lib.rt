@@ -6,6 +6,7 @@
 #![tactic(auto)]
 
 mod checks;
+mod comments;
 mod document;
 mod growing;
 mod laws;
@@ -29,13 +30,12 @@ mod word;
 
 pub use laws::{
     a_plan_has_no_fault, a_text_says_one_step, a_text_says_one_strike, a_text_says_one_turn,
-    bytes_are_one_plan, bytes_have_one_first_fault,
+    bytes_are_one_plan, bytes_have_one_first_fault, comments_before_a_plan_change_nothing,
 };
 pub use limits::{
     GREATEST_NUMBER, LAST_VERSION, MOST_BITS, MOST_BYTES, MOST_DIGITS, MOST_RAW_BITS,
-    MOST_RAW_BYTES, MOST_RAW_STEPS, MOST_RAW_STEPS_TOLD, MOST_RAW_STRIKES, MOST_RAW_TURNS,
-    MOST_STEPS, MOST_STRIKES, MOST_TURNS, RAW_LINE, RAW_VERSION, most_bits, most_bytes, most_steps,
-    most_steps_told, most_strikes, most_turns,
+    MOST_RAW_BYTES, MOST_RAW_STEPS, MOST_RAW_STRIKES, MOST_RAW_TURNS, MOST_STEPS, MOST_STRIKES,
+    MOST_TURNS, RAW_LINE, RAW_VERSION, most_bits, most_bytes, most_steps, most_strikes, most_turns,
 };
 pub use plan::Plan;
 pub use plan_bytes::read_plan;

@@ -1,17 +1,21 @@
 //! The limits of a plan. Each is this project's own rule. How many nodes there are at most is
 //! [`MOST_NODES`](sja_script::MOST_NODES).
 
-ghost use Rattle.std.specs.Prelude.{◌≡◌, ◌≤◌};
-ghost use Rattle.sja_plan.specs.Limits.{most_bytes, most_bits, most_steps_told, most_steps};
+ghost use Rattle.std.specs.Prelude.{◌≡◌, ◌≤◌, take};
+ghost use Rattle.sja_plan.specs.Limits.{begins_raw, most_bytes, most_bits, most_steps};
 ghost use Rattle.sja_plan.specs.Limits.{most_turns, most_strikes};
 
-/// How many bytes a plan's document has at most (this project's own rule), where it doesn't begin with [`RAW_LINE`].
+use super::comments::behind_comments;
+
+/// How many bytes a plan's document has at most (this project's own rule), where [`RAW_LINE`] doesn't stand before all
+/// other keys.
 pub const MOST_BYTES: usize = 65_536;
 
-/// The first line of a document of version 3 that may be longer (this project's own rule).
+/// The line of a document of version 3 that may be longer (this project's own rule). Blank lines and comments alone
+/// stand before it, and with them it has at most [`MOST_BYTES`].
 pub const RAW_LINE: &[u8] = b"version = 3\n";
 
-/// How many bytes a document has at most that begins with [`RAW_LINE`] (this project's own rule).
+/// How many bytes a document has at most in which [`RAW_LINE`] stands so (this project's own rule).
 pub const MOST_RAW_BYTES: usize = 16_777_216;
 
 /// The last version of the rules that a plan's document can ask for; the first one is 1 (this project's own rule).
@@ -36,12 +40,8 @@ pub const RAW_VERSION: u8 = 3;
 /// How many bits a run has at most in version 3 (this project's own rule).
 pub const MOST_RAW_BITS: u32 = 2_000_000;
 
-/// How many steps the driver of a node has at most in a document of version 3 (this project's own rule).
-pub const MOST_RAW_STEPS_TOLD: usize = 65_535;
-
-/// How many steps the driver of a node has at most in a run of version 3 (this project's own rule): three for each of
-/// 65,535 accesses.
-pub const MOST_RAW_STEPS: usize = 196_605;
+/// How many steps the driver of a node has at most in version 3 (this project's own rule).
+pub const MOST_RAW_STEPS: usize = 65_535;
 
 /// How many turns a serial run has at most in version 3 (this project's own rule).
 pub const MOST_RAW_TURNS: usize = 200_000;
@@ -73,29 +73,36 @@ pub fn most_bytes(bytes: &[u8]) -> usize
     ensures value { result ≡ most_bytes bytes.now }
     ensures few { result ≤ 16777216 }
 {
-    if bytes.starts_with(RAW_LINE) {
+    if begins_raw(bytes) {
         MOST_RAW_BYTES
     } else {
         MOST_BYTES
     }
 }
 
-/// How many steps the driver of a node has at most in a document of this version.
-pub fn most_steps_told(version: u8) -> usize
-    ensures value { result ≡ most_steps_told version }
-    ensures few { result ≤ 65535 }
+/// Whether [`RAW_LINE`] stands before all other keys, with no more than blank lines and comments before it.
+#[tactic(auto, unfolding(crate::specs::Limits::begins_raw))]
+fn begins_raw(bytes: &[u8]) -> bool
+    ensures { result ≡ begins_raw bytes.now }
 {
-    if version < RAW_VERSION {
-        MOST_STEPS
+    behind_comments(head_of(bytes)).starts_with(RAW_LINE)
+}
+
+/// The first bytes, as many as a document has at most in which that line doesn't stand so.
+fn head_of(bytes: &[u8]) -> &[u8]
+    ensures { result.now ≡ take 65536 bytes.now }
+{
+    if bytes.len() <= MOST_BYTES {
+        bytes
     } else {
-        MOST_RAW_STEPS_TOLD
+        &bytes[..MOST_BYTES]
     }
 }
 
-/// How many steps the driver of a node has at most in a run of this version.
+/// How many steps the driver of a node has at most in this version.
 pub fn most_steps(version: u8) -> usize
     ensures value { result ≡ most_steps version }
-    ensures few { result ≤ 196605 }
+    ensures few { result ≤ 65535 }
 {
     if version < RAW_VERSION {
         MOST_STEPS

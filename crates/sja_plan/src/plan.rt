@@ -16,7 +16,7 @@ use std::marker::Model;
 /// |---|---|---|
 /// | bits of a run | 1 to 200,000 | 1 to 2,000,000 |
 /// | nodes | 1 to 8 | 1 to 8 |
-/// | steps of a node | at most 1,000 | at most 196,605; in a document 65,535 |
+/// | steps of a node | at most 1,000 | at most 65,535 |
 /// | turns | at most 10,000 | at most 200,000 |
 /// | strikes, each counted as often as it strikes | at most 1,000 | at most 100,000 |
 ///
@@ -86,12 +86,12 @@ impl Plan {
         self.nodes.len()
     }
 
-    /// The steps of the driver of a node, counted from 0: at most 1,000, or 196,605 in version 3.
+    /// The steps of the driver of a node, counted from 0: at most 1,000, or 65,535 in version 3.
     pub fn steps(&self, node: usize) -> &[Step]
         requires { node < length self.now.nodes }
         ensures value { result.now ≡ slice_index_or self.now.nodes node [] }
         ensures few { length result.now ≤ most_steps self.now.version }
-        ensures most { length result.now ≤ 196605 }
+        ensures most { length result.now ≤ 65535 }
     {
         self.nodes[node].as_slice()
     }

@@ -14,7 +14,7 @@ use toml::table_from_str;
 /// The plan that these bytes are.
 ///
 /// Errors: the first check that fails, in the order of [`PlanFault`]'s variants. Where the bytes are more than
-/// [`most_bytes`] only their number and their first line are looked at.
+/// [`most_bytes`] no more is looked at than their number and what stands before the first key.
 #[tactic(auto, using(crate::proofs::OneReading::PassedOn::passed_on))]
 pub fn read_plan(alloc: Global, bytes: &[u8]) -> Result<Plan, PlanFault>
     ensures ok { IfOk result (IsPlanOf bytes.now) }

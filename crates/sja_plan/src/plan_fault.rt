@@ -10,7 +10,7 @@ use thiserror::Error;
 /// memory was refused.
 #[derive(Clone, Copy, Debug, PartialEq, Eq, Error)]
 pub enum PlanFault {
-    /// There are more bytes than a document may have: 65,536, or 16 MiB where its first line says version 3.
+    /// There are more bytes than a document may have: 65,536, or 16 MiB where it says version 3 before all other keys.
     TooLong,
     /// The bytes are no UTF-8.
     NotText,
@@ -63,7 +63,7 @@ fn fmt_number<W: fmt::Write>(f: &mut fmt::Formatter<W>, name: &str, number: usiz
 fn text_of(fault: PlanFault) -> &'static str {
     match fault {
         PlanFault::TooLong => {
-            "the plan has more than 65536 bytes, or than 16777216 where its first line is that of version 3"
+            "the plan has more than 65536 bytes, or than 16777216 where version = 3 stands before all other keys"
         }
         PlanFault::NotText => "the plan is no UTF-8",
         PlanFault::Toml => "the plan is no TOML document",

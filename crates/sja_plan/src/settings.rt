@@ -7,7 +7,7 @@ ghost use Rattle.sja_plan.specs.Limits.{most_bits};
 ghost use Rattle.sja_plan.specs.Faults.{IsDocumentFault};
 
 use super::document::Document;
-use super::limits::{LAST_VERSION, most_bits, most_steps_told};
+use super::limits::{LAST_VERSION, most_bits, most_steps};
 use super::plan_fault::PlanFault;
 use sja_script::MOST_NODES;
 
@@ -70,7 +70,7 @@ fn has_few_steps(document: &Document, version: u8) -> bool
     ensures { (result ≡ true) ↔ HasFewSteps (document_view document.now) }
 {
     for steps in document.nodes.as_slice() {
-        if steps.len() > most_steps_told(version) {
+        if steps.len() > most_steps(version) {
             return false;
         }
     }

@@ -3,7 +3,7 @@
 use Rattle.std.specs.Prelude.{◌<◌, ◌≤◌, ℕ, length, All}
 use Rattle.can_frame.specs.Message.{IsMessage}
 use Rattle.sja_plan.specs.Words.{greatest}
-use Rattle.sja_plan.specs.Limits.{most_steps_told}
+use Rattle.sja_plan.specs.Limits.{most_steps}
 use Rattle.sja_plan.specs.Plan.{PlanValue}
 use Rattle.sja_script.specs.declared.step.Step.{Step}
 use Rattle.sja_script.specs.declared.step.Step.TheVariants.{Start, Stop, Window, Release, Read}
@@ -42,7 +42,7 @@ pub record HasStrikeText (s : Strike) : Type 0 where
 
 -- no node has more steps than a document of this version may have, and each step, turn and strike has a text
 pub record HasTexts (p : PlanValue) : Type 0 where
-  pub step_counts : All (λ steps. length steps ≤ most_steps_told p.version) p.nodes
+  pub step_counts : All (λ steps. length steps ≤ most_steps p.version) p.nodes
   pub steps : All (λ steps. All (HasStepText p.version) steps) p.nodes
   pub turns : All HasTurnText p.turns
   pub strikes : All HasStrikeText p.strikes

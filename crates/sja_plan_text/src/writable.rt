@@ -1,10 +1,10 @@
 //! Whether a plan can be written at all.
 
 ghost use Rattle.std.specs.Prelude.{◌↔◌, ◌≤◌, IsTrue, All, length};
-ghost use Rattle.sja_plan.specs.Limits.{most_steps_told};
+ghost use Rattle.sja_plan.specs.Limits.{most_steps};
 ghost use Rattle.sja_plan_text.specs.HasTexts.{HasStepText, HasTurnText, HasStrikeText, HasTexts};
 
-use sja_plan::{GREATEST_NUMBER, Plan, RAW_VERSION, Turn, most_steps_told};
+use sja_plan::{GREATEST_NUMBER, Plan, RAW_VERSION, Turn, most_steps};
 use sja_script::{Step, Strike};
 
 /// Whether no node of a plan has more steps than a document may have, and each of its steps, turns and strikes has a
@@ -23,9 +23,9 @@ pub fn has_texts(plan: &Plan) -> bool
 
 /// Whether in this version a document may have so many steps of a node, and a text says each of them.
 fn steps_have_texts(version: u8, steps: &[Step]) -> bool
-    ensures { IsTrue result ↔ ((length steps.now ≤ most_steps_told version) × All (HasStepText version) steps.now) }
+    ensures { IsTrue result ↔ ((length steps.now ≤ most_steps version) × All (HasStepText version) steps.now) }
 {
-    if steps.len() > most_steps_told(version) {
+    if steps.len() > most_steps(version) {
         return false;
     }
     for step in steps {

@@ -5,7 +5,7 @@ use sja_plan::RAW_VERSION;
 use sja_script::{Refusal, Step};
 
 /// What to do about a step that was refused so in this version, in a node whose starts have come to this (the table of
-/// refused steps in docs/REPORT.md).
+/// refused steps in docs/use/SEEN.md).
 pub(crate) fn remedy_of(
     refusal: Refusal,
     version: u8,

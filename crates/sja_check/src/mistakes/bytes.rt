@@ -4,8 +4,10 @@ use super::super::outline::line_at;
 use super::super::page::{Page, Piece};
 use sja_plan::{MOST_BYTES, most_bytes};
 
-/// Says that the bytes are too many, and how a plan of version 3 has room for more where they aren't of its first
-/// line.
+/// What a line of version 3 is without its spaces.
+static VERSION_3: &[u8] = b"version=3";
+
+/// Says that the bytes are too many, and where a plan says version 3 that has room for more.
 pub(crate) fn too_long(page: &mut Page, bytes: &[u8]) -> bool {
     let most = most_bytes(bytes);
     if bytes.len() <= most {
@@ -16,7 +18,7 @@ pub(crate) fn too_long(page: &mut Page, bytes: &[u8]) -> bool {
         &[Piece::Number(most as u64)],
     );
     let more = if most == MOST_BYTES && means_version_3(bytes) {
-        "one of version 3 may have 16777216 where its first line is \"version = 3\" to the byte"
+        "one of version 3 may have 16777216 where \"version = 3\" stands before its other keys, to the byte"
     } else {
         ""
     };
@@ -24,19 +26,27 @@ pub(crate) fn too_long(page: &mut Page, bytes: &[u8]) -> bool {
     true
 }
 
-/// Whether the first line says version 3, whatever its spaces are and whatever is behind it.
+/// Whether a line says version 3, whatever its spaces are and whatever is behind it.
 fn means_version_3(bytes: &[u8]) -> bool {
-    let mut wanted = b"version=3".as_slice();
+    let mut wanted = VERSION_3;
+    let mut begins = true;
     for byte in bytes {
         if *byte == b' ' || *byte == b'\t' {
             continue;
         }
         match wanted {
-            [first, rest @ ..] if first == byte => wanted = rest,
-            _ => break,
+            [first, rest @ ..] if begins && first == byte => wanted = rest,
+            _ => begins = false,
+        }
+        if wanted.is_empty() {
+            return true;
+        }
+        if *byte == b'\n' {
+            wanted = VERSION_3;
+            begins = true;
         }
     }
-    wanted.is_empty()
+    false
 }
 
 /// Says which byte is no UTF-8, or that the bytes begin as UTF-16 does.

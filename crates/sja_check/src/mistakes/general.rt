@@ -33,7 +33,7 @@ fn numbers_of(fault: PlanFault) -> [u64; 2] {
 fn rule_of(fault: PlanFault) -> &'static str {
     match fault {
         PlanFault::TooLong =>
-            "a plan has at most 65536 bytes, or 16777216 where its first line is \"version = 3\"",
+            "a plan has at most 65536 bytes, or 16777216 where \"version = 3\" stands before all other keys",
         PlanFault::NotText => "a plan is text in UTF-8",
         PlanFault::Toml => "a plan is a TOML document",
         PlanFault::Key => "a key is unknown, missing or of the wrong kind",

@@ -77,7 +77,7 @@ fn of_texts<'a>(document: &'a Document, kind: Kind) -> Said<'a> {
 
 /// That a key is unknown, of the first in the document, and which is meant.
 fn of_unknown<'a>(document: &'a Document) -> Said<'a> {
-    let Some(key) = other_key(document, &document.root, &KEYS, true) else {
+    let Some(key) = unknown_key(document) else {
         return Said::nothing();
     };
     let mut said = Said::at(Spot::Key(key), "{0}no key is called <{1}>", KEYS_ARE, "");
@@ -98,28 +98,26 @@ fn of_unknown<'a>(document: &'a Document) -> Said<'a> {
     said
 }
 
-/// The first key of a table that isn't among these: the first in the document, or that of a node in the order of keys.
-pub(crate) fn other_key<'a>(
-    document: &Document,
-    value: &'a Value,
-    known: &[&str],
-    is_top: bool,
-) -> Option<&'a str> {
+/// The first key of a document that is unknown: the first that is written so, and of those that are written otherwise
+/// the first in the order of keys.
+fn unknown_key<'a>(document: &'a Document) -> Option<&'a str> {
+    let written = document.first_written(&KEYS);
+    if written.is_some() {
+        return written;
+    }
+    other_key(&document.root, &KEYS)
+}
+
+/// The first key of a table, in the order of keys, that isn't among these.
+pub(crate) fn other_key<'a>(value: &'a Value, known: &[&str]) -> Option<&'a str> {
     let Value::Table(table) = value else {
         return None;
     };
-    let mut found = None;
-    let mut least = usize::MAX;
     for key in table.keys() {
         let key = key.as_str();
-        let is_known = (&*known).contains(&key);
-        if !is_known {
-            let line = if is_top { document.line_of_key(key) } else { 0 };
-            if found.is_none() || line < least {
-                found = Some(key);
-                least = line;
-            }
+        if !(&*known).contains(&key) {
+            return Some(key);
         }
     }
-    found
+    None
 }

@@ -29,7 +29,7 @@ pub(crate) fn of_nodes<'a>(document: &'a Document) -> Said<'a> {
 /// What is wrong with the first node that isn't right.
 fn of_items<'a>(document: &'a Document) -> Said<'a> {
     for (node, value) in document.nodes().iter().enumerate() {
-        let said = of_node(document, node, value);
+        let said = of_node(node, value);
         if !said.is_nothing() {
             return said;
         }
@@ -38,8 +38,8 @@ fn of_items<'a>(document: &'a Document) -> Said<'a> {
 }
 
 /// What is wrong with this node.
-fn of_node<'a>(document: &Document, node: usize, value: &'a Value) -> Said<'a> {
-    if let Some(key) = other_key(document, value, &STEPS, false) {
+fn of_node<'a>(node: usize, value: &'a Value) -> Said<'a> {
+    if let Some(key) = other_key(value, &STEPS) {
         return of_key(node, key);
     }
     if let Some(steps) = member_of(value, "steps") {

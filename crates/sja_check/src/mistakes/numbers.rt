@@ -5,12 +5,12 @@ use super::super::kind::Kind;
 use super::super::outline::Spot;
 use super::super::texts::strikes_in;
 use super::said::Said;
-use sja_plan::{LAST_VERSION, PlanFault, most_bits, most_steps_told, most_strikes, most_turns};
+use sja_plan::{LAST_VERSION, PlanFault, most_bits, most_steps, most_strikes, most_turns};
 use sja_script::MOST_NODES;
 
 /// Which number is out of range, or which list is too long, in a document with this fault.
 pub(crate) fn of_count(document: &Document, fault: PlanFault) -> Said<'static> {
-    let node = crowded(document, most_steps_told(document.version()));
+    let node = crowded(document, most_steps(document.version()));
     let numbers = numbers_of(document, fault, node);
     let [number, most] = numbers;
     let least = match fault {
@@ -43,7 +43,7 @@ fn numbers_of(document: &Document, fault: PlanFault, node: usize) -> [i64; 2] {
         PlanFault::NodeCount => [whole(document.nodes().len()), i64::from(MOST_NODES)],
         PlanFault::StepCount => {
             let count = document.values(Kind::Step(node)).len();
-            [whole(count), whole(most_steps_told(version))]
+            [whole(count), whole(most_steps(version))]
         }
         PlanFault::TurnCount => {
             let count = document.values(Kind::Turn).len();

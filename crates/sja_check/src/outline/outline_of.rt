@@ -38,12 +38,27 @@ impl Outline {
         self.read_keys()
     }
 
+    /// How many keys begin a line, and names of headers.
+    pub(crate) fn keys(&self) -> usize {
+        self.entries.len()
+    }
+
+    /// The key of this number as it is written, without its quotes; none where it is that of a node.
+    pub(crate) fn key_at(&self, number: usize) -> Option<&str> {
+        let entry = self.entries.as_slice().get(number)?;
+        if entry.node.is_some() {
+            return None;
+        }
+        let token = self.tokens.as_slice().get(entry.key)?;
+        str::from_utf8(token.text(self.bytes.as_slice())).ok()
+    }
+
     /// The line of this.
     pub(crate) fn line_of(&self, spot: Spot) -> Option<usize> {
         let place = self.place_of(spot)?;
         Some(line_at(
             self.bytes.as_slice(),
-            self.tokens.as_slice().get(place)?.start,
+            self.tokens.as_slice().get(place)?.start(),
         ))
     }
 
@@ -57,7 +72,7 @@ impl Outline {
             if start >= end {
                 end = end_of_piece(bytes, start, first);
                 if !b" \t\r#".contains(&first) {
-                    self.tokens.push(Token { first, start, end })?;
+                    self.tokens.push(Token::new(first, start, end))?;
                 }
             }
         }

@@ -6,7 +6,7 @@ use Rattle.sja_script.specs.declared.step.Step.{Step}
 use Rattle.sja_plan.specs.StepTexts.{SaysStep}
 use Rattle.sja_plan.specs.Document.{DocumentValue}
 use Rattle.sja_plan.specs.Checks.{natural, version_of, HasBits, HasSteps}
-use Rattle.sja_plan.specs.Limits.{most_bits, most_steps_told, most_steps, most_turns, most_strikes}
+use Rattle.sja_plan.specs.Limits.{most_bits, most_steps, most_turns, most_strikes}
 
 -- of two numbers that a test chooses from, the greater one is a bound
 chosen : (b : Bool) (few many : ℕ) → few ≤ many → (if b then few else many) ≤ many
@@ -16,22 +16,14 @@ chosen false few many less = omega arith
 pub bits_most : (version : ℕ) → most_bits version ≤ 2000000
 bits_most version = chosen (nat_lt version 3) 200000 2000000 (omega arith)
 
-pub steps_most : (version : ℕ) → most_steps version ≤ 196605
-steps_most version = chosen (nat_lt version 3) 1000 196605 (omega arith)
+pub steps_most : (version : ℕ) → most_steps version ≤ 65535
+steps_most version = chosen (nat_lt version 3) 1000 65535 (omega arith)
 
 pub turns_most : (version : ℕ) → most_turns version ≤ 200000
 turns_most version = chosen (nat_lt version 3) 10000 200000 (omega arith)
 
 pub strikes_most : (version : ℕ) → most_strikes version ≤ 100000
 strikes_most version = chosen (nat_lt version 3) 1000 100000 (omega arith)
-
--- a document has no more steps of a node than a run may have
-told_or_run : (b : Bool) → (if b then 1000 else 65535) ≤ (if b then 1000 else 196605)
-told_or_run true = omega arith
-told_or_run false = omega arith
-
-pub steps_told_fit : (version : ℕ) → most_steps_told version ≤ most_steps version
-steps_told_fit version = told_or_run (nat_lt version 3)
 
 -- the version that a document has within the limits is the one whose limits it keeps
 pub version_is : (d : DocumentValue) (version : ℕ) → d.version ≡ pos version → version_of d ≡ version

@@ -5,7 +5,7 @@ use Rattle.sja_plan.specs.StepTexts.{SaysStep}
 use Rattle.sja_plan.specs.TurnTexts.{SaysTurn}
 use Rattle.sja_plan.specs.StrikeTexts.{SaysStrike}
 use Rattle.sja_plan.specs.Words.{Text}
-use Rattle.sja_plan.specs.Limits.{most_steps_told}
+use Rattle.sja_plan.specs.Limits.{most_steps}
 use Rattle.sja_plan.specs.Plan.{PlanValue}
 use Rattle.sja_plan.specs.Faults.{IsPlanOf}
 use Rattle.sja_script.specs.declared.step.Step.{Step}
@@ -19,11 +19,11 @@ use Rattle.sja_plan_text.proofs.Spelling.Strikes.{has_strike_text}
 
 pub read_has_texts : (bytes : List ℕ) (p : PlanValue) → IsPlanOf bytes p → HasTexts p
 read_has_texts bytes p (d, h, s) =
-    let most = most_steps_told p.version in
+    let most = most_steps p.version in
     let says = SaysStep p.version in
     let has = HasStepText p.version in
     let few : All (λ (steps : List Text). length steps ≤ most) d.nodes =
-    subst (λ v. All (λ (steps : List Text). length steps ≤ most_steps_told v) d.nodes)
+    subst (λ v. All (λ (steps : List Text). length steps ≤ most_steps v) d.nodes)
     (version_is d p.version s.version.0) s.step_counts in
     record {
       step_counts = few_read most most says d.nodes p.nodes (omega arith) s.steps few;

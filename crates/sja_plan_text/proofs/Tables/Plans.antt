@@ -10,7 +10,7 @@ use Rattle.sja_plan.specs.Words.{Text}
 use Rattle.sja_plan.specs.StepTexts.{SaysStep}
 use Rattle.sja_plan.specs.TurnTexts.{SaysTurn}
 use Rattle.sja_plan.specs.StrikeTexts.{SaysStrike, count_of, strikes_in}
-use Rattle.sja_plan.specs.Limits.{most_steps_told}
+use Rattle.sja_plan.specs.Limits.{most_steps}
 use Rattle.sja_plan.specs.Plan.{PlanValue, IsInLimits, NamesNode, IsStrikeOn, times_in}
 use Rattle.sja_plan.specs.Checks.{SaysPlan}
 use Rattle.sja_plan.specs.Faults.{IsText, IsPlanOf}
@@ -42,7 +42,7 @@ few_texts most steps h = omega (arith, h, length-map steps step_text)
 pub plan_said : (p : PlanValue) → IsInLimits p → HasTexts p → SaysPlan (plan_document p) p
 plan_said p limits texts =
     let count = length-map p.nodes (λ steps. map step_text steps) in
-    let most = most_steps_told p.version in
+    let most = most_steps p.version in
     let says = SaysStep p.version in
     let has = HasStepText p.version in
     record {

@@ -4,11 +4,11 @@ use Rattle.std.proofs.lemmas.Slice.Zip.{AllZip-long}
 use Rattle.sja_script.specs.declared.step.Step.{Step}
 use Rattle.sja_plan.specs.StepTexts.{SaysStep}
 use Rattle.sja_plan.specs.Document.{DocumentValue}
-use Rattle.sja_plan.specs.Limits.{most_bits, most_steps_told}
+use Rattle.sja_plan.specs.Limits.{most_bits, most_steps}
 use Rattle.sja_plan.specs.Checks.{HasVersion, HasNodes, HasFewSteps, BeforeTurnCount}
 use Rattle.sja_plan.specs.Inside.Views.{document_view}
 use Rattle.sja_plan.proofs.PlanLimits.WithinLimits.{few_read, name_nodes, times_counted, strike_nodes}
-use Rattle.sja_plan.proofs.PlanLimits.ByVersion.{version_is, steps_told_fit, has_bits, has_steps}
+use Rattle.sja_plan.proofs.PlanLimits.ByVersion.{version_is, has_bits, has_steps}
 use Rattle.sja_plan.proofs.checks.judge.Goals as goal
 
 pub invariant_of-result : goal.invariant_of-result
@@ -22,7 +22,7 @@ invariant_of-result c =
       version = (c.in_ok-settings.ensures.version.1, c.in_ok-settings.ensures.version.2);
       bits = (c.in_ok-settings.ensures.bits.1, c.in_ok-settings.ensures.bits.2);
       nodes = (omega (arith, count, nodes.0), omega (arith, count, nodes.1));
-      steps = few_read (most_steps_told version) _ (SaysStep version) _ _ (steps_told_fit version)
+      steps = few_read (most_steps version) _ (SaysStep version) _ _ (omega arith)
           c.in_ok-steps.ensures.ok (rw is at few);
       turn_count = omega (arith, turns, rw is at c.in_ok-turns.ensures.few);
       turns = rw count (name_nodes _ _ _ c.in_ok-turns.ensures.ok);

@@ -1,7 +1,7 @@
 use Rattle.std.proofs.Common.{rules, ◌<◌, ◌≤◌, IsTrue, All, List, [], length, arith}
 use Rattle.std.proofs.lemmas.List.Elements.{All-more}
 use Rattle.sja_script.specs.declared.step.Step.{Step}
-use Rattle.sja_plan.specs.Limits.{most_steps_told}
+use Rattle.sja_plan.specs.Limits.{most_steps}
 use Rattle.sja_plan_text.specs.HasTexts.{HasStepText}
 use Rattle.sja_plan_text.proofs.Tables.Lists.{all_taken}
 use Rattle.sja_plan_text.proofs.writable.has_texts.Goals as goal
@@ -14,7 +14,7 @@ loop-node-preserved c =
     let within : c.loop-node.node < length plan.nodes =
     omega (arith, c.loop-node-test.true, c.nodes-node-end.ensures.value) in
     record {
-      few = All-more (λ (steps : List Step). length steps ≤ most_steps_told plan.version) plan.nodes
+      few = All-more (λ (steps : List Step). length steps ≤ most_steps plan.version) plan.nodes
           c.loop-node.node [] within c.loop-node.invariant.few here.0;
       texts = All-more (λ (steps : List Step). All (HasStepText plan.version) steps) plan.nodes
           c.loop-node.node [] within c.loop-node.invariant.texts here.1;
@@ -27,7 +27,7 @@ returns-then-turns_have_texts c =
     omega (arith, c.loop-node-test.false, c.nodes-node-end.ensures.value) in
     let turned : IsTrue c.turns_have_texts.result = search rules in (
       λ struck. record {
-        step_counts = all_taken (λ (steps : List Step). length steps ≤ most_steps_told plan.version) plan.nodes
+        step_counts = all_taken (λ (steps : List Step). length steps ≤ most_steps plan.version) plan.nodes
             c.loop-node.node past c.loop-node.invariant.few;
         steps = all_taken (λ (steps : List Step). All (HasStepText plan.version) steps) plan.nodes c.loop-node.node past
             c.loop-node.invariant.texts;
