@@ -1,9 +1,9 @@
 //! The bits of all nodes.
 
-ghost use Rattle.std.specs.Prelude.{Bool, [], IfOk};
+ghost use Rattle.std.specs.Prelude.{◌<◌, ◌≤◌, Bool, [], IfOk};
 ghost use Rattle.lemmas.specs.Related.{EachRelated};
-ghost use Rattle.sja_trace.specs.Telling.{TellsOn, TellsAll};
-ghost use Rattle.sja_candump.specs.Inside.Coming.{IsUpTo, AreUnderway};
+ghost use Rattle.sja_trace.specs.Telling.{PassesOn, RestsOn, TellsAll};
+ghost use Rattle.sja_candump.specs.Inside.Coming.{IsUpTo, AreUnderway, AllRest};
 
 use sja_log::NodeRun;
 use sja_trace::NodeBits;
@@ -23,12 +23,51 @@ pub(crate) fn bits_of<'a>(
     Ok(all)
 }
 
-/// Each goes on past its next bit.
-pub(crate) fn go_on_all(all: &mut [NodeBits<'_>])
-    ensures { EachRelated TellsOn all.old all.new }
+/// Each goes on past its next bit, where nothing is told of it perhaps without having it at hand.
+pub(crate) fn pass_on_all(all: &mut [NodeBits<'_>])
+    ensures { EachRelated PassesOn all.old all.new }
 {
     for k in 0..all.len() {
-        all[k].go_on();
+        all[k].pass_on();
+    }
+}
+
+/// Goes on past bits, at most so many, in which every node stays at rest. Answers how many; it may be that more of them
+/// follow.
+pub(crate) fn rest_on(all: &mut [NodeBits<'_>], most: u32) -> u32
+    ensures most { result ≤ most }
+    ensures rested { EachRelated (RestsOn result) all.old all.new }
+{
+    let count = rest_for_all(all, most);
+    if count == 0 {
+        return 0;
+    }
+    rest_all(all, count);
+    count
+}
+
+/// For how many of the next bits, at most so many, every node stays at rest. It may be for more of them.
+fn rest_for_all(all: &[NodeBits<'_>], most: u32) -> u32
+    ensures most { result ≤ most }
+    ensures rests { 0 < result → AllRest result all.now }
+{
+    let mut count = most;
+    for bits in all {
+        if count == 0 {
+            return 0;
+        }
+        count = bits.rest_for(count);
+    }
+    count
+}
+
+/// Each goes on past so many of these bits.
+fn rest_all(all: &mut [NodeBits<'_>], count: u32)
+    requires { AllRest count all.old }
+    ensures { EachRelated (RestsOn count) all.old all.new }
+{
+    for k in 0..all.len() {
+        all[k].rest(count);
     }
 }
 

@@ -4,7 +4,7 @@ ghost use Rattle.std.specs.Prelude.{◌≡◌, ◌++◌, string_bytes, IfOk, OnO
 ghost use Rattle.sja_candump.specs.CandumpText.{IsCandump};
 ghost use Rattle.sja_candump.specs.Inside.Coming.{bit_text};
 
-use super::all_bits::{bits_of, finish_all, go_on_all};
+use super::all_bits::{bits_of, finish_all, pass_on_all, rest_on};
 use super::bit_lines::put_node;
 use can_frame::OutOfMemory;
 use sja_log::RunLog;
@@ -24,9 +24,14 @@ pub fn candump(alloc: Global, log: &RunLog, errors: bool) -> Result<String, OutO
 {
     let mut all = bits_of(alloc, log.nodes())?;
     let mut text = String::new(alloc);
-    for bit in 0..log.bits() {
-        go_on_all(all.as_mut_slice());
-        put_bit(&mut text, errors, all.as_slice(), bit)?;
+    let mut bit = 0;
+    while bit < log.bits() {
+        bit += rest_on(all.as_mut_slice(), log.bits() - bit);
+        if bit < log.bits() {
+            pass_on_all(all.as_mut_slice());
+            put_bit(&mut text, errors, all.as_slice(), bit)?;
+            bit += 1;
+        }
     }
     finish_all(all.as_mut_slice());
     Ok(text)

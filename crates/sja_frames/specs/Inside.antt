@@ -1,2 +1,3 @@
 -- How a list of frames is made bit by bit.
 pub mod Walking
+pub mod Passing

@@ -63,15 +63,23 @@ pub(crate) const FIELDS: [Field; 15] = [
 impl Field {
     ghost use Rattle.std.specs.Prelude.{◌≡◌};
     ghost use Rattle.sja_frames.specs.FrameBits.{field_in};
+    ghost use Rattle.sja_frames.specs.Inside.Passing.{field_by};
     ghost use Rattle.sja_frames.specs.Fields.{field_if, field_of, place_of, are_one, is_stuffed};
 
     /// The field of a bit after SOF.
     pub fn of(bit: &Happening) -> Field
         ensures { result ≡ field_in bit.now }
     {
-        match bit.before.phase {
+        Field::of_bit(bit.before.phase, bit.before.segment)
+    }
+
+    /// The field of a bit after SOF in this phase, which belongs to this segment, or to none.
+    pub(crate) fn of_bit(phase: Phase, segment: Option<Segment>) -> Field
+        ensures { result ≡ field_by phase segment }
+    {
+        match phase {
             Phase::Intermission => Field::Pause,
-            _ => Field::of_segment_if(bit.before.segment),
+            _ => Field::of_segment_if(segment),
         }
     }
 

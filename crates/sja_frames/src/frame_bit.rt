@@ -18,15 +18,22 @@ pub(crate) struct FrameBit {
 impl FrameBit {
     ghost use Rattle.std.specs.Prelude.{◌≡◌};
     ghost use Rattle.sja_frames.specs.FrameBits.{bit_after};
+    ghost use Rattle.sja_frames.specs.Inside.Passing.{bit_by};
     ghost use Rattle.sja_frames.specs.FieldTexts.{is_of};
 
     /// A bit after this run of equal levels.
     pub(crate) fn after(run: Run, bit: &Happening) -> FrameBit
         ensures { result ≡ bit_after run bit.now }
     {
-        let field = Field::of(bit);
+        FrameBit::of(run, bit.bit, Field::of(bit))
+    }
+
+    /// The bit of this field that has this number and comes after this run of equal levels.
+    pub(crate) fn of(run: Run, number: u32, field: Field) -> FrameBit
+        ensures { result ≡ bit_by run number field }
+    {
         FrameBit {
-            bit: bit.bit,
+            bit: number,
             field,
             stuff: field.is_stuffed() && run.is_full(),
         }

@@ -14,6 +14,7 @@ pub(crate) struct LastBit {
 
 impl LastBit {
     ghost use Rattle.std.specs.Prelude.{◌≡◌};
+    ghost use Rattle.sja_frames.specs.Inside.Passing.{last_by};
     ghost use Rattle.sja_trace.specs.Events.{is_frame};
     ghost use Rattle.sja_frames.specs.FrameEnds.{ends_in};
 
@@ -25,6 +26,16 @@ impl LastBit {
         LastBit {
             bit: bit.bit,
             ending: ending_of(bit.events.lost, bit.events.fault, going),
+        }
+    }
+
+    /// The same of a bit of which nothing is told, and after which the phase is this one still.
+    pub(crate) fn silent(number: u32, phase: Phase) -> LastBit
+        ensures { result ≡ last_by number phase }
+    {
+        LastBit {
+            bit: number,
+            ending: ending_of(None, None, matches!(phase, Phase::Frame)),
         }
     }
 }

@@ -1,5 +1,6 @@
 //! [`OpenFrame`]: a frame that a node started, as far as it came.
 
+use super::field::Field;
 use super::field_texts::{put_fields, put_last};
 use super::frame_bit::FrameBit;
 use super::frame_line::FrameLine;
@@ -7,7 +8,7 @@ use super::last_bit::LastBit;
 use super::run::Run;
 use super::starts::{is_frame, is_intermission};
 use can_frame::Frame;
-use sja_replay::Happening;
+use sja_replay::{Happening, ShortBit};
 use sja_trace::put_frame;
 use std::alloc::{AllocError, Global};
 use std::fmt::Write;
@@ -34,6 +35,7 @@ pub(crate) struct OpenFrame {
 impl OpenFrame {
     ghost use Rattle.std.specs.Prelude.{◌≡◌, [], IfOk, OnOk};
     ghost use Rattle.sja_frames.specs.Inside.Walking.{value_of, line_with, IsOpened, TakesIn};
+    ghost use Rattle.sja_frames.specs.Inside.Passing.{TakesShort};
 
     /// The frame that a bit starts.
     pub(crate) fn of(
@@ -68,6 +70,20 @@ impl OpenFrame {
             self.last = LastBit::of(bit);
         }
         self.paused = is_intermission(bit.before.phase);
+        Ok(())
+    }
+
+    /// Takes a bit that belongs to it, in short: the one that has this number.
+    pub(crate) fn take_short(&mut self, number: u32, bit: &ShortBit) -> Result<(), AllocError>
+        ensures { OnOk result (TakesShort number bit.now self.old self.new) }
+    {
+        let field = Field::of_bit(bit.phase, bit.segment);
+        self.bits.push(FrameBit::of(self.run, number, field))?;
+        self.run = self.run.with(bit.seen);
+        if is_frame(bit.phase) {
+            self.last = LastBit::silent(number, bit.phase);
+        }
+        self.paused = is_intermission(bit.phase);
         Ok(())
     }
 

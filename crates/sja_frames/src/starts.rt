@@ -1,12 +1,13 @@
 //! Where frames begin, and which bits belong to them.
 
-ghost use Rattle.std.specs.Prelude.{◌≡◌};
+ghost use Rattle.std.specs.Prelude.{◌≡◌, ◌&&◌};
 ghost use Rattle.sja_trace.specs.Events.{is_frame};
 ghost use Rattle.sja_frames.specs.FrameBits.{started_by, frame_in, is_intermission, is_within, belongs};
+ghost use Rattle.sja_frames.specs.Inside.Passing.{belongs_by};
 
 use can_frame::Frame;
 use can_node::{Phase, Request};
-use sja_replay::Happening;
+use sja_replay::{Happening, ShortBit};
 use sja_trace::is_start;
 
 /// The frame whose SOF the bit is, where the node is its transmitter from then on.
@@ -35,6 +36,20 @@ pub(crate) fn belongs(paused: bool, bit: &Happening) -> bool
     ensures { result ≡ belongs paused bit.now }
 {
     is_intermission(bit.before.phase) || (!paused && is_within(bit))
+}
+
+/// The same of a bit in short.
+pub(crate) fn belongs_short(paused: bool, bit: &ShortBit) -> bool
+    ensures { result ≡ belongs_by paused bit.now }
+{
+    is_intermission(bit.phase) || (!paused && is_within_short(bit))
+}
+
+/// Whether the bit belongs to the frame itself, in short.
+fn is_within_short(bit: &ShortBit) -> bool
+    ensures { result ≡ (is_frame bit.now.phase && bit.now.transmits) }
+{
+    is_frame(bit.phase) && bit.transmits
 }
 
 /// Whether the bit belongs to the frame itself.

@@ -3,12 +3,11 @@ pub mod Entering
 pub mod Openings
 pub mod ListCounts
 pub mod Decoding
-pub mod CodeRoom
 pub mod Filling
 pub mod Writing
 pub mod Counting
 pub mod Keeping
-pub mod Skipping
+pub mod RestBits
 pub mod Blocks
 pub mod Begun
 pub mod Orders

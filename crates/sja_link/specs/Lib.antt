@@ -16,6 +16,7 @@ pub mod Looking
 pub mod Showing
 pub mod Written
 pub mod Between
+pub mod RestBits
 pub mod World
 pub mod WorldEvents
 pub mod Budget

@@ -1,6 +1,5 @@
 //! The entries of a journal that stand between its bits.
 
-use super::entries::Entries;
 use super::entry::Entry;
 use super::journal::Journal;
 use std::marker::Model;
@@ -8,21 +7,19 @@ use std::marker::Model;
 /// The entries of a journal that are no bits, one after another, oldest first. Contracts see it as the list of those
 /// that are left.
 ///
-/// A run has hundreds of thousands of bits and some thousands of other entries at most: bits are passed over without
-/// making an entry of them.
+/// A run has hundreds of thousands of bits and some thousands of other entries at most: no bit is looked at.
 #[derive(Debug, Drop)]
 pub struct BetweenBits<'a> {
-    entries: Entries<'a>,
+    others: &'a [Entry],
 }
 
 impl<'a> Model for BetweenBits<'a> {
     ghost use Rattle.std.specs.Prelude.{List};
     ghost use Rattle.sja_link.specs.declared.entry.Entry.{Entry};
-    ghost use Rattle.sja_link.specs.Between.{between_bits};
 
     ghost Value = { List Entry };
 
-    ghost view = { λ s. between_bits s.entries };
+    ghost view = { λ s. s.others.now };
 }
 
 impl<'a> BetweenBits<'a> {
@@ -34,7 +31,7 @@ impl<'a> BetweenBits<'a> {
         ensures { result ≡ between_bits journal.now.entries }
     {
         BetweenBits {
-            entries: Entries::of(journal),
+            others: journal.others.as_slice(),
         }
     }
 }
@@ -50,7 +47,8 @@ impl<'a> Iterator for BetweenBits<'a> {
 
     /// An equal of the next entry that is no bit.
     fn next(&mut self) -> Option<Entry> {
-        self.entries.skip_bits();
-        self.entries.next()
+        let (entry, left) = self.others.split_first()?;
+        self.others = left;
+        Some(entry.copy())
     }
 }

@@ -2,23 +2,17 @@
 
 ghost use Rattle.std.specs.Prelude.{◌≡◌};
 
-use super::code::{Code, leading_bits};
+use super::code::Code;
 use super::entry::Entry;
 use super::journal::Journal;
-use super::up::Up;
 use can_bits::Level;
-use can_frame::Message;
-use can_node::{Config, Request};
 use std::marker::Model;
 
 /// The entries of a journal, one after another, oldest first. Contracts see it as the list of those that are left.
 #[derive(Debug, Drop)]
 pub struct Entries<'a> {
-    codes: &'a [Code],
-    starts: &'a [Config],
-    credits: &'a [u8],
-    requests: &'a [Request],
-    messages: &'a [Message],
+    pub(crate) codes: &'a [Code],
+    others: &'a [Entry],
 }
 
 impl<'a> Model for Entries<'a> {
@@ -29,13 +23,14 @@ impl<'a> Model for Entries<'a> {
 
     ghost use Rattle.sja_link.specs.Inside.Codes.{decoded, AreWhole};
 
-    ghost view = { λ s. decoded s.codes.now s.starts.now s.credits.now s.requests.now s.messages.now };
+    ghost view = { λ s. decoded s.codes.now s.others.now };
 
-    ghost invariant = { λ s. AreWhole s.codes.now s.starts.now s.credits.now s.requests.now s.messages.now };
+    ghost invariant = { λ s. AreWhole s.codes.now s.others.now };
 }
 
 impl<'a> Entries<'a> {
-    ghost use Rattle.sja_link.specs.Inside.Entries.{past_bits};
+    ghost use Rattle.std.specs.Prelude.{◌≡◌, ◌∷◌, None, IfSome};
+    ghost use Rattle.sja_link.specs.declared.entry.Entry.TheVariants.{Bit};
 
     /// The entries of a journal.
     pub(crate) fn of(journal: &'a Journal) -> Entries<'a>
@@ -43,18 +38,27 @@ impl<'a> Entries<'a> {
     {
         Entries {
             codes: journal.codes.as_slice(),
-            starts: journal.starts.as_slice(),
-            credits: journal.credits.as_slice(),
-            requests: journal.requests.as_slice(),
-            messages: journal.messages.as_slice(),
+            others: journal.others.as_slice(),
         }
     }
 
-    /// Passes over the bits before the next entry that is none.
-    pub(crate) fn skip_bits(&mut self)
-        ensures { self.new ≡ past_bits self.old }
+    /// The levels of the next entry, where it is a bit, which is taken then: the one that the node drove, and the one
+    /// that it saw. Else nothing changes.
+    #[inline(always)]
+    pub fn next_bit(&mut self) -> Option<(Level, Level)>
+        ensures bit { IfSome result (λ p. self.old ≡ Bit (p.0) (p.1) ∷ self.new) }
+        ensures none { result ≡ None → self.new ≡ self.old }
     {
-        self.codes = &self.codes[leading_bits(self.codes)..];
+        let (code, codes) = self.codes.split_first()?;
+        let levels = match code {
+            Code::DominantAsDriven => (Level::Dominant, Level::Dominant),
+            Code::DominantSeenRecessive => (Level::Dominant, Level::Recessive),
+            Code::RecessiveSeenDominant => (Level::Recessive, Level::Dominant),
+            Code::RecessiveAsDriven => (Level::Recessive, Level::Recessive),
+            Code::Other => return None,
+        };
+        self.codes = codes;
+        Some(levels)
     }
 }
 
@@ -77,34 +81,11 @@ impl<'a> Iterator for Entries<'a> {
             Code::DominantSeenRecessive => Some(Entry::Bit(Level::Dominant, Level::Recessive)),
             Code::RecessiveSeenDominant => Some(Entry::Bit(Level::Recessive, Level::Dominant)),
             Code::RecessiveAsDriven => Some(Entry::Bit(Level::Recessive, Level::Recessive)),
-            Code::Start => {
-                let (config, left) = self.starts.split_first()?;
-                self.starts = left;
-                Some(Entry::Up(Up::Start(config.copy())))
+            Code::Other => {
+                let (entry, left) = self.others.split_first()?;
+                self.others = left;
+                Some(entry.copy())
             }
-            Code::Credit => {
-                let (bytes, left) = self.credits.split_first()?;
-                self.credits = left;
-                Some(Entry::Up(Up::Credit(*bytes)))
-            }
-            Code::Send => {
-                let (request, left) = self.requests.split_first()?;
-                self.requests = left;
-                Some(Entry::Up(Up::Send(request.copy())))
-            }
-            Code::Stop => Some(Entry::Up(Up::Stop)),
-            Code::Abort => Some(Entry::Abort),
-            Code::Stored => {
-                let (message, left) = self.messages.split_first()?;
-                self.messages = left;
-                Some(Entry::Stored(message.copy()))
-            }
-            Code::Overrun => {
-                let (message, left) = self.messages.split_first()?;
-                self.messages = left;
-                Some(Entry::Overrun(message.copy()))
-            }
-            Code::Off => Some(Entry::Off),
         }
     }
 }

@@ -20,3 +20,21 @@ pub enum Entry {
     /// The node went bus-off.
     Off,
 }
+
+impl Entry {
+    ghost use Rattle.std.specs.Prelude.{◌≡◌};
+
+    /// An equal entry.
+    pub(crate) fn copy(&self) -> Entry
+        ensures { result ≡ self.now }
+    {
+        match self {
+            Entry::Bit(driven, seen) => Entry::Bit(*driven, *seen),
+            Entry::Up(item) => Entry::Up(item.copy()),
+            Entry::Abort => Entry::Abort,
+            Entry::Stored(message) => Entry::Stored(message.copy()),
+            Entry::Overrun(message) => Entry::Overrun(message.copy()),
+            Entry::Off => Entry::Off,
+        }
+    }
+}

@@ -3,37 +3,30 @@
 ghost use Rattle.std.specs.Prelude.{◌≡◌, ◌<◌, ◌≤◌, ◌+◌, ◌-◌, ◌*◌, ◌^◌, [], ◌∷◌, ◌++◌};
 ghost use Rattle.std.specs.Prelude.{length, replicate, true, false, IfOk, IfErr, OnOk, OnErr};
 ghost use Rattle.can_bits.specs.declared.level.Level.TheVariants.{Recessive};
-ghost use Rattle.sja_link.specs.declared.entry.Entry.TheVariants.{Bit, Up as Item};
-ghost use Rattle.sja_link.specs.declared.up.Up.TheVariants.{Start, Credit, Send};
+ghost use Rattle.sja_link.specs.declared.entry.Entry.TheVariants.{Bit};
 ghost use Rattle.std.specs.Simd.Lanes.{zip2};
 ghost use Rattle.sja_link.specs.Between.{between_bits};
-ghost use Rattle.sja_link.specs.Inside.Codes.{decoded, HasContents};
+ghost use Rattle.sja_link.specs.Inside.Codes.{IsOther};
 
 use super::between_bits::BetweenBits;
 use super::code::{Code, write_bits};
 use super::entries::Entries;
 use super::entry::Entry;
 use super::full::Full;
-use super::up::Up;
 use can_bits::Level;
-use can_frame::{Message, OutOfMemory};
-use can_node::{Config, Request};
+use can_frame::OutOfMemory;
 use std::alloc::Global;
 use std::marker::Model;
 
 /// What the bus wrote of one node in a run, oldest first (this project's own rule).
 ///
-/// All its room is reserved when it is made. An entry takes one byte, and the contents of starts, credits, requests and
-/// messages lie in lists of their own. Contracts see a journal as the list of its entries, and how many it has room
-/// for.
+/// All its room is reserved when it is made. An entry takes one byte, and those that are no bits lie in a list of their
+/// own. Contracts see a journal as the list of its entries, and how many it has room for.
 #[derive(Debug, Drop)]
 pub struct Journal {
     room: usize,
     pub(crate) codes: Vec<Code>,
-    pub(crate) starts: Vec<Config>,
-    pub(crate) credits: Vec<u8>,
-    pub(crate) requests: Vec<Request>,
-    pub(crate) messages: Vec<Message>,
+    pub(crate) others: Vec<Entry>,
 }
 
 impl Model for Journal {
@@ -45,13 +38,12 @@ impl Model for Journal {
     ghost use Rattle.sja_link.specs.Inside.Codes.{decoded, AreWhole};
 
     ghost view = { λ j. record {
-      entries = decoded j.codes.items j.starts.items j.credits.items j.requests.items j.messages.items;
+      entries = decoded j.codes.items j.others.items;
       room = j.room;
     } };
 
-    ghost invariant = { λ j. AreWhole j.codes.items j.starts.items j.credits.items j.requests.items j.messages.items
-        × (j.room ≤ vec_capacity j.codes) × (j.room ≤ vec_capacity j.starts) × (j.room ≤ vec_capacity j.credits)
-        × (j.room ≤ vec_capacity j.requests) × (j.room ≤ vec_capacity j.messages) };
+    ghost invariant = { λ j. AreWhole j.codes.items j.others.items
+        × (j.room ≤ vec_capacity j.codes) × (j.room ≤ vec_capacity j.others) };
 }
 
 impl Journal {
@@ -67,10 +59,7 @@ impl Journal {
         Ok(Journal {
             room,
             codes: Vec::with_capacity(alloc, room)?,
-            starts: Vec::with_capacity(alloc, room)?,
-            credits: Vec::with_capacity(alloc, room)?,
-            requests: Vec::with_capacity(alloc, room)?,
-            messages: Vec::with_capacity(alloc, room)?,
+            others: Vec::with_capacity(alloc, room)?,
         })
     }
 
@@ -86,8 +75,8 @@ impl Journal {
         ensures value { result ≡ between_bits self.now.entries }
         ensures few { length result < 2 ^ 64 }
     {
-        // There are no more entries than codes, and the number of these is a `usize`.
-        let _codes = self.codes.len();
+        // How many they are is a `usize`.
+        let _others = self.others.len();
         BetweenBits::of(self)
     }
 
@@ -105,12 +94,8 @@ impl Journal {
             return Err(entry);
         }
         match entry {
-            Entry::Bit(driven, seen) => self.push(Code::of_bit(driven, seen)),
-            Entry::Up(item) => self.push_item(item),
-            Entry::Abort => self.push(Code::Abort),
-            Entry::Stored(message) => self.push_message(Code::Stored, message),
-            Entry::Overrun(message) => self.push_message(Code::Overrun, message),
-            Entry::Off => self.push(Code::Off),
+            Entry::Bit(driven, seen) => self.enter_bit_reserved(driven, seen),
+            other => self.push_other(other),
         }
         Ok(())
     }
@@ -138,7 +123,7 @@ impl Journal {
         ensures room { self.new.room ≡ self.old.room }
         ensures entries { self.new.entries ≡ self.old.entries ++ Bit driven seen ∷ [] }
     {
-        self.push(Code::of_bit(driven, seen));
+        self.codes.push_reserved(Code::of_bit(driven, seen));
     }
 
     /// Adds so many bits that the node drove and saw recessive, where as many entries are free. They are written at
@@ -183,68 +168,14 @@ impl Journal {
         self.codes.len() >= self.room
     }
 
-    /// Adds a code without contents.
-    fn push(&mut self, code: Code)
+    /// Adds an entry that is no bit, where one is free.
+    fn push_other(&mut self, entry: Entry)
         requires room { length self.old.entries < self.old.room }
-        requires alone { HasContents code 0 0 0 0 }
+        requires other { IsOther entry }
         ensures room { self.new.room ≡ self.old.room }
-        ensures entries { self.new.entries ≡ self.old.entries ++ decoded (code ∷ []) [] [] [] [] }
+        ensures entries { self.new.entries ≡ self.old.entries ++ entry ∷ [] }
     {
-        self.codes.push_reserved(code);
-    }
-
-    /// Adds an item that the bus took.
-    fn push_item(&mut self, item: Up)
-        requires room { length self.old.entries < self.old.room }
-        ensures room { self.new.room ≡ self.old.room }
-        ensures entries { self.new.entries ≡ self.old.entries ++ Item item ∷ [] }
-    {
-        match item {
-            Up::Start(config) => self.push_start(config),
-            Up::Credit(bytes) => self.push_credit(bytes),
-            Up::Send(request) => self.push_request(request),
-            Up::Stop => self.push(Code::Stop),
-        }
-    }
-
-    /// Adds a start.
-    fn push_start(&mut self, config: Config)
-        requires room { length self.old.entries < self.old.room }
-        ensures room { self.new.room ≡ self.old.room }
-        ensures entries { self.new.entries ≡ self.old.entries ++ Item (Start config) ∷ [] }
-    {
-        self.starts.push_reserved(config);
-        self.codes.push_reserved(Code::Start);
-    }
-
-    /// Adds a credit.
-    fn push_credit(&mut self, bytes: u8)
-        requires room { length self.old.entries < self.old.room }
-        ensures room { self.new.room ≡ self.old.room }
-        ensures entries { self.new.entries ≡ self.old.entries ++ Item (Credit bytes) ∷ [] }
-    {
-        self.credits.push_reserved(bytes);
-        self.codes.push_reserved(Code::Credit);
-    }
-
-    /// Adds a request.
-    fn push_request(&mut self, request: Request)
-        requires room { length self.old.entries < self.old.room }
-        ensures room { self.new.room ≡ self.old.room }
-        ensures entries { self.new.entries ≡ self.old.entries ++ Item (Send request) ∷ [] }
-    {
-        self.requests.push_reserved(request);
-        self.codes.push_reserved(Code::Send);
-    }
-
-    /// Adds a verdict with its message.
-    fn push_message(&mut self, code: Code, message: Message)
-        requires room { length self.old.entries < self.old.room }
-        requires one { HasContents code 0 0 0 1 }
-        ensures room { self.new.room ≡ self.old.room }
-        ensures entries { self.new.entries ≡ self.old.entries ++ decoded (code ∷ []) [] [] [] (message ∷ []) }
-    {
-        self.messages.push_reserved(message);
-        self.codes.push_reserved(code);
+        self.others.push_reserved(entry);
+        self.codes.push_reserved(Code::Other);
     }
 }

@@ -32,6 +32,7 @@ mod journal;
 mod laws;
 mod link_id;
 mod release_fault;
+mod rest_bits;
 mod sizes;
 mod stopped;
 mod up;

@@ -5,3 +5,5 @@ pub mod Judging
 pub mod Closes
 pub mod Bits
 pub mod Passed
+pub mod Rested
+pub mod Silent

@@ -2,3 +2,4 @@
 pub mod Places
 pub mod Entering
 pub mod SomeViews
+pub mod NodeRests

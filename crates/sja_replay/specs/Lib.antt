@@ -11,6 +11,9 @@ pub mod Replaying
 pub mod Coming
 -- ---- a bit that told nothing, in short
 pub mod Short
+-- ---- bits of a node at rest
+pub mod Resting
+pub mod Silent
 pub mod Stored
 -- ---- how a replay goes from entry to entry, and what is known of a node between two bits: definitions of private
 -- contracts and of proofs alone

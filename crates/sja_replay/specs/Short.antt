@@ -1,8 +1,11 @@
 -- What a bit brought that told nothing, in short (this project's own rule).
 use Rattle.std.specs.Prelude.{◌≡◌, false, None, List, [], ◌∷◌}
+use Rattle.can_bits.specs.declared.level.Level.{Level}
 use Rattle.can_bits.specs.declared.level.Level.TheVariants.{Recessive}
+use Rattle.can_node.specs.declared.node.Node.{Node}
 use Rattle.can_node.specs.declared.phase.Phase.TheVariants.{Idle}
-use Rattle.can_node.specs.Stands.{nothing}
+use Rattle.can_node.specs.NextField.{ShowsSegment, ShowsRole, ShowsFlag}
+use Rattle.can_node.specs.Stands.{ShowsPhase, ShowsCounters, nothing}
 use Rattle.sja_link.specs.declared.entry.Entry.{Entry}
 use Rattle.sja_replay.specs.declared.happening.Happening.{Happening}
 use Rattle.sja_replay.specs.declared.replay.Replay.{Replay}
@@ -30,9 +33,21 @@ pub record IsInShort (h : Happening) (q : ShortBit) : Type 0 where
   pub fate : h.fate ≡ None
   pub no_start : IsNoStart q
 
--- the replay went on past one bit, as `next` does, and what the bit brought is this in short
+-- what a node shows of a bit with these levels
+pub record LooksAt (node : Node) (driven seen : Level) (q : ShortBit) : Type 0 where
+  pub driven_is : q.driven ≡ driven
+  pub seen_is : q.seen ≡ seen
+  pub phase : ShowsPhase node q.phase
+  pub segment : ShowsSegment node q.segment
+  pub transmits : ShowsRole node q.transmits
+  pub counters : ShowsCounters node q.counters
+  pub flag : ShowsFlag node q.flag
+
+-- the replay went on past one bit, as `next` does, and what the bit brought is this in short. Its number is how many
+-- bits came before
 pub record PassesBit (old new : Replay) (before : List Entry) (q : ShortBit) : Type 0 where
   pub happened : Happening
   pub short : IsInShort happened q
   pub goes : GoesOn old new before (happened ∷ [])
   pub tells : TellsBit old new before happened
+  pub number : happened.bit ≡ old.bits

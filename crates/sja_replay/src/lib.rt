@@ -5,7 +5,7 @@
 //! that was received with it ([`Fate`]). `specs/Happening.antt` says each of these by the cut of the record, and
 //! `Happened.antt` which happenings a journal has. A replay keeps no list, and no call of this crate takes memory.
 //! Past a bit that tells nothing it goes in short where that is asked for, as of most bits it can ([`ShortBit`],
-//! `specs/Short.antt`).
+//! `specs/Short.antt`), and past bits of a node at rest at once ([`Replay::rest`], `specs/Resting.antt`).
 #![tactic(auto)]
 
 mod fate;
@@ -15,6 +15,7 @@ mod laws;
 mod misfit;
 mod passing;
 mod replay;
+mod resting;
 mod short_bit;
 mod verdicts;
 mod view;

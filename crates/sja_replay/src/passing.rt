@@ -6,19 +6,22 @@ use can_bits::Level;
 use sja_link::Entry;
 
 impl<'a> Replay<'a> {
-    ghost use Rattle.std.specs.Prelude.{◌≡◌, None, Some, List, IfSome};
+    ghost use Rattle.std.specs.Prelude.{◌≡◌, ◌<◌, None, Some, List, IfSome, length};
     ghost use Rattle.sja_link.specs.declared.entry.Entry.{Entry as Item};
     ghost use Rattle.sja_link.specs.declared.entry.Entry.TheVariants.{Bit};
-    ghost use Rattle.sja_replay.specs.Replaying.{IsAt};
-    ghost use Rattle.sja_replay.specs.Short.{PassesBit};
-    ghost use Rattle.sja_replay.specs.Inside.Walking.{IsTakenFrom, LooksAt};
+    ghost use Rattle.sja_replay.specs.Replaying.{left_of, IsAt};
+    ghost use Rattle.sja_replay.specs.Silent.{PassesSilently};
+    ghost use Rattle.sja_replay.specs.Short.{LooksAt, PassesBit};
+    ghost use Rattle.sja_replay.specs.Inside.Walking.{IsTakenFrom};
 
     /// Goes on past the next bit, where that is the entry that comes next and it tells nothing, and gives in short what
     /// it brought. Nothing where it isn't so, and then nothing changed: [`next`](Replay::next) is to be called. It may
     /// give nothing of a bit that tells nothing.
+    #[inline(always)]
     pub fn pass(&mut self) -> Option<ShortBit>
         ensures passed { IfSome result (λ q. (before : List Item) → IsAt self.old before
             → PassesBit self.old self.new before q) }
+        ensures shorter { IfSome result (λ q. length (left_of self.new) < length (left_of self.old)) }
         ensures none { result ≡ None → self.new ≡ self.old }
     {
         let (driven, seen) = self.levels_ahead()?;
@@ -37,15 +40,40 @@ impl<'a> Replay<'a> {
         Some(bit)
     }
 
+    /// How many bits it came past.
+    pub fn bits(&self) -> u32
+        ensures { result ≡ self.now.bits }
+    {
+        self.bits
+    }
+
+    /// Goes on past the next bits of which nothing is told, as far as each can be passed in short. There may be more of
+    /// them.
+    pub fn pass_silent(&mut self)
+        ensures { PassesSilently self.old self.new }
+    {
+        while self.pass().is_some() {
+            let count = self.rest_for(u32::MAX);
+            if count > 0 {
+                self.rest(count);
+            }
+        }
+    }
+
     /// Looks at the next entry in place of the one that was looked at.
+    #[inline(always)]
     fn look_on(&mut self)
         ensures { IsTakenFrom self.old self.new self.old.ahead }
     {
-        self.ahead = self.entries.next();
+        if let Some((driven, seen)) = self.entries.next_bit() {
+            self.ahead = Some(Entry::Bit(driven, seen));
+        } else {
+            self.ahead = self.entries.next();
+        }
     }
 
     /// The levels of a bit that is the entry that comes next.
-    fn levels_ahead(&self) -> Option<(Level, Level)>
+    pub(crate) fn levels_ahead(&self) -> Option<(Level, Level)>
         ensures { IfSome result (λ p. self.now.ahead ≡ Some (Bit (p.0) (p.1))) }
     {
         match &self.ahead {
@@ -55,7 +83,7 @@ impl<'a> Replay<'a> {
     }
 
     /// What the node shows of a bit with these levels.
-    fn short(&self, driven: Level, seen: Level) -> ShortBit
+    pub(crate) fn short(&self, driven: Level, seen: Level) -> ShortBit
         ensures { LooksAt self.now.node driven seen result }
     {
         ShortBit {

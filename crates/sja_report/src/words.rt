@@ -16,7 +16,7 @@ use std::str;
 /// How many characters the words of a message have at most: of 13 bytes each has two digits behind a space.
 const CHARACTERS: usize = 39;
 
-/// Writes what a step answers, each word behind a space: as REPORT.md has it.
+/// Writes what a step answers, each word behind a space: as SEEN.md has it.
 ///
 /// Error: memory was refused.
 pub fn put_answer(text: &mut String, answer: &StepAnswer) -> Result<(), AllocError>

@@ -2,3 +2,4 @@ pub mod BitSaid
 pub mod DriverSteps
 pub mod Stories
 pub mod SoFar
+pub mod RunsTold

@@ -4,4 +4,6 @@ pub mod NodeStories
 pub mod LogStories
 pub mod StoredLines
 pub mod Passed
+pub mod Rested
+pub mod Silent
 pub mod WrittenBack

@@ -4,5 +4,6 @@ pub mod StepOrder
 pub mod Coming
 pub mod Hands
 pub mod Passing
+pub mod Resting
 -- How a teller finishes: of the invariant of that loop.
 pub mod Finishing

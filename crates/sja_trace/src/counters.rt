@@ -41,7 +41,7 @@ fn put_confinement(told: &mut Told, old: Counters, new: Counters) -> Result<(), 
 }
 
 /// Whether both counters and bus-off are as they were.
-fn are_same(old: Counters, new: Counters) -> bool
+pub(crate) fn are_same(old: Counters, new: Counters) -> bool
     ensures { result ≡ true → new ≡ old }
 {
     old.tec == new.tec && old.rec == new.rec && old.off == new.off

@@ -11,6 +11,9 @@
 //! A trace passes bits that tell nothing in short. `specs/Inside/Hands.antt` and `Passing.antt` say why that leaves its
 //! text as it is: a bit in short is one of several happenings, and of each of them the same is said.
 //!
+//! Of a run in one thread each bit and each message that was stored is told: [`every_bit_of_a_run_is_told`] and the
+//! laws beside it say so.
+//!
 //! `specs/Events.antt` and `specs/BitEvents.antt` say which events a bit has and in which words, and
 //! `specs/TraceText.antt` the text line by line.
 #![tactic(auto)]
@@ -21,6 +24,7 @@ mod event_texts;
 mod events;
 mod hand;
 mod has_event;
+mod laws;
 mod names;
 mod node_bits;
 mod node_lines;
@@ -35,6 +39,10 @@ mod words;
 
 pub use counters::{comes_to_warn, have_same};
 pub use has_event::{is_same, is_start};
+pub use laws::{
+    every_bit_of_a_run_is_told, every_journal_of_a_run_has_happenings,
+    every_stored_message_has_its_line, every_stored_message_is_told,
+};
 pub use names::{cause_name, segment_name};
 pub use node_bits::NodeBits;
 pub use teller::Teller;

@@ -15,8 +15,9 @@ pub struct NodeBits<'a> {
 }
 
 impl<'a> NodeBits<'a> {
-    ghost use Rattle.std.specs.Prelude.{◌≡◌, [], Some, None, IfSome};
-    ghost use Rattle.sja_trace.specs.Telling.{HaveCome, TellsOn, TellsAll, IsUnderway, at_hand};
+    ghost use Rattle.std.specs.Prelude.{◌≡◌, ◌<◌, ◌≤◌, [], Some, None, IfSome};
+    ghost use Rattle.sja_trace.specs.Telling.{HaveCome, TellsOn, TellsAll, IsUnderway, PassesOn, RestsOn, MayRest};
+    ghost use Rattle.sja_trace.specs.Telling.{at_hand};
     ghost use Rattle.sja_trace.specs.Inside.Hands.{HandGoesOn};
 
     /// Before the first bit.
@@ -56,6 +57,7 @@ impl<'a> NodeBits<'a> {
 
     /// Goes on past the next bit, where it tells nothing, and gives in short what it brought; the bit at hand isn't it
     /// then. Else nothing changes.
+    #[inline(always)]
     pub(crate) fn pass(&mut self) -> Option<ShortBit>
         ensures passed { IfSome result (λ q. HandGoesOn self.old self.new (Some q)) }
         ensures none { result ≡ None → self.new ≡ self.old }
@@ -64,6 +66,37 @@ impl<'a> NodeBits<'a> {
             return None;
         }
         self.replay.pass()
+    }
+
+    /// Goes on past the next bit, if there is one. It is at hand then; where it tells nothing, it may be that none is.
+    pub fn pass_on(&mut self)
+        ensures { PassesOn self.old self.new }
+    {
+        if self.pass().is_some() {
+            self.bit = None;
+        } else {
+            self.go_on();
+        }
+    }
+
+    /// For how many of the next bits, at most so many, the node stays at rest. It may be for more of them.
+    pub fn rest_for(&self, most: u32) -> u32
+        ensures most { result ≤ most }
+        ensures rests { 0 < result → MayRest result self.now }
+    {
+        if self.over {
+            return 0;
+        }
+        self.replay.rest_for(most)
+    }
+
+    /// Goes on past so many of these bits, of which nothing is told. None is at hand then.
+    pub fn rest(&mut self, count: u32)
+        requires { MayRest count self.old }
+        ensures { RestsOn count self.old self.new }
+    {
+        self.replay.rest(count);
+        self.bit = None;
     }
 
     /// Goes on to the end of the journal.

@@ -2,6 +2,7 @@
 
 ghost use Rattle.std.specs.Prelude.{◌≡◌, ◌-◌, true};
 ghost use Rattle.sja_trace.specs.Inside.StepOrder.{Ascends, ArePast, ArePast-prop, AscendIf, AscendIf-prop};
+ghost use Rattle.sja_trace.specs.Inside.StepOrder.{IsNext, IsNext-prop};
 
 use super::due::Due;
 use super::steps::put_due;
@@ -20,12 +21,15 @@ pub(crate) struct NodeSteps<'a> {
     bits: u32,
     /// The steps before this place have fewer bits before them than the bit at hand has.
     place: usize,
+    /// The step at that place has so many bits before it, or more.
+    next: u32,
     ghost ascends: { AscendIf in_order done.now } by { AscendIf-prop in_order done.now },
     ghost past: { ArePast (bits - 1) place done.now } by { ArePast-prop (bits - 1) place done.now },
+    ghost is_next: { IsNext next place done.now } by { IsNext-prop next place done.now },
 }
 
 impl<'a> NodeSteps<'a> {
-    ghost use Rattle.std.specs.Prelude.{◌≡◌, ◌++◌, false, string_bytes, OnOk};
+    ghost use Rattle.std.specs.Prelude.{◌≡◌, ◌+◌, ◌<◌, ◌≤◌, ◌++◌, ℕ, [], true, false, string_bytes, OnOk};
     ghost use Rattle.sja_trace.specs.TraceText.{steps_due};
     ghost use Rattle.sja_trace.specs.Inside.Coming.{HasSameSteps};
 
@@ -40,18 +44,39 @@ impl<'a> NodeSteps<'a> {
             in_order: is_in_order(done),
             bits: 0,
             place: 0,
+            next: bits_at(done, 0),
         }
     }
 
-    /// Goes on past the next bit.
+    /// Goes on past so many bits.
     #[tactic(auto, using(crate::proofs::DriverSteps::StepOrders::past_later))]
-    pub(crate) fn go_on(&mut self)
+    pub(crate) fn go_on(&mut self, count: u32)
         ensures { HasSameSteps self.old self.new }
     {
-        let bits = self.bits.saturating_add(1);
-        let place = place_past(self.done, self.place, bits.saturating_sub(1));
+        let bits = self.bits.saturating_add(count);
+        let past = bits.saturating_sub(1);
+        if self.next < past {
+            let place = place_past(self.done, self.place, past);
+            self.place = place;
+            self.next = bits_at(self.done, place);
+        }
         self.bits = bits;
-        self.place = place;
+    }
+
+    /// How many bits from this one on have no step right before them, at most so many. There may be more of them.
+    pub(crate) fn quiet_from(&self, bit: u32, most: u32) -> u32
+        ensures most { result ≤ most }
+        ensures quiet { (i node : ℕ) → bit ≤ i → i < bit + result →
+            steps_due false i node 1 self.now.steps.now self.now.done.now ≡ [] }
+    {
+        if !self.in_order {
+            return 0;
+        }
+        let place = self.first_at(bit);
+        if place >= self.done.len() {
+            return most;
+        }
+        most.min(self.done[place].bits.saturating_sub(bit))
     }
 
     /// The lines of the steps right before this bit.
@@ -68,6 +93,9 @@ impl<'a> NodeSteps<'a> {
         ensures { OnOk result (string_bytes text.new ≡ string_bytes text.old
             ++ steps_due false bit node 1 self.now.steps.now self.now.done.now) }
     {
+        if self.is_quiet(bit) {
+            return Ok(());
+        }
         let due = Due { late: false, bit };
         let mut place = self.first_at(bit);
         while place < self.steps.len() && place < self.done.len() {
@@ -79,6 +107,16 @@ impl<'a> NodeSteps<'a> {
             place += 1;
         }
         Ok(())
+    }
+
+    /// Whether no step stands right before this bit. There may be none where it isn't said.
+    fn is_quiet(&self, bit: u32) -> bool
+        ensures { result ≡ true → (node : ℕ) → steps_due false bit node 1 self.now.steps.now self.now.done.now ≡ [] }
+    {
+        if !self.in_order || bit < self.bits.saturating_sub(1) {
+            return false;
+        }
+        bit < self.next
     }
 
     /// A place before which no step stands right before this bit.
@@ -106,6 +144,17 @@ fn is_in_order(done: &[Done]) -> bool
         least = one.bits;
     }
     true
+}
+
+/// So many bits stand before the step at this place, or more, if there is one.
+fn bits_at(done: &[Done], place: usize) -> u32
+    ensures { IsNext result place done.now }
+{
+    if place < done.len() {
+        done[place].bits
+    } else {
+        u32::MAX
+    }
 }
 
 /// The first place from this one on that has so many bits before it, or more.

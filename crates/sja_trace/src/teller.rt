@@ -1,6 +1,6 @@
 //! [`Teller`]: a node of which a trace tells.
 
-use super::counters::counters_after;
+use super::counters::{are_same, counters_after};
 use super::hand::counters_of;
 use super::node_bits::NodeBits;
 use super::node_steps::NodeSteps;
@@ -22,10 +22,12 @@ pub struct Teller<'a> {
 }
 
 impl<'a> Teller<'a> {
-    ghost use Rattle.std.specs.Prelude.{[]};
+    ghost use Rattle.std.specs.Prelude.{◌≡◌, ◌<◌, ◌≤◌, true, []};
+    ghost use Rattle.sja_replay.specs.Resting.{RestsFor};
     ghost use Rattle.sja_trace.specs.Telling.{IsUnderway};
     ghost use Rattle.sja_trace.specs.Inside.Coming.{HasTold, TellerGoesOn, TellerEnds};
     ghost use Rattle.sja_trace.specs.Inside.Passing.{TellerPasses};
+    ghost use Rattle.sja_trace.specs.Inside.Resting.{BeginsAlike, TellerRests, HasRested};
 
     /// Before the first bit of a node whose driver has these steps.
     pub fn of(steps: &'a [Step], node: &'a NodeRun) -> Teller<'a>
@@ -44,7 +46,7 @@ impl<'a> Teller<'a> {
     pub(crate) fn go_on(&mut self)
         ensures { TellerGoesOn self.old self.new }
     {
-        self.steps.go_on();
+        self.steps.go_on(1);
         self.counters = counters_after(self.bits.bit());
         self.bits.go_on();
     }
@@ -53,12 +55,47 @@ impl<'a> Teller<'a> {
     pub(crate) fn pass_on(&mut self)
         ensures { TellerPasses self.old self.new }
     {
-        self.steps.go_on();
+        self.steps.go_on(1);
         self.counters = counters_of(&self.short, self.bits.bit());
         self.short = self.bits.pass();
         if self.short.is_none() {
             self.bits.go_on();
         }
+    }
+
+    /// For how many bits from this one on, at most so many, the node stays at rest and nothing is said of it, where the
+    /// bus is recessive in them. It may be for more of them.
+    pub(crate) fn rest_for(&self, bit: u32, most: u32) -> u32
+        ensures most { result ≤ most }
+        ensures rests { 0 < result → TellerRests bit result self.now }
+    {
+        if self.bits.over {
+            return 0;
+        }
+        let rest = self.bits.replay.rest_for(most);
+        if rest == 0 || !self.begins_alike() {
+            return 0;
+        }
+        self.steps.quiet_from(bit, rest)
+    }
+
+    /// Whether the node shows the error counters that the bits before left.
+    fn begins_alike(&self) -> bool
+        ensures { result ≡ true → BeginsAlike self.now }
+    {
+        let left = counters_of(&self.short, self.bits.bit());
+        are_same(self.bits.replay.rest_bit().counters, left)
+    }
+
+    /// Goes on past so many of these bits.
+    pub(crate) fn rest(&mut self, count: u32)
+        requires { RestsFor self.old.bits.replay count }
+        ensures { HasRested count self.old self.new }
+    {
+        self.steps.go_on(count);
+        let short = self.bits.replay.rest(count);
+        self.counters = short.counters;
+        self.short = Some(short);
     }
 
     /// Goes on to the end of the journal.

@@ -1,12 +1,15 @@
 //! The tellers of all nodes.
 
-ghost use Rattle.std.specs.Prelude.{◌≡◌, ◌∷◌, [], IfOk};
+ghost use Rattle.std.specs.Prelude.{◌≡◌, ◌<◌, ◌≤◌, ◌∷◌, ℕ, [], length, slice_index_or, IfOk};
 ghost use Rattle.lemmas.specs.Related.{EachRelated};
 ghost use Rattle.sja_plan.specs.Plan.{steps_at};
 ghost use Rattle.sja_wire.specs.Wire.{wired};
 ghost use Rattle.sja_trace.specs.TraceText.{driven_in};
 ghost use Rattle.sja_trace.specs.Inside.Coming.{HaveTold, IsUpTo, TellerGoesOn, TellerEnds, AreUnderway, driven_now};
 ghost use Rattle.sja_trace.specs.Inside.Passing.{TellerPasses, hands_driven};
+ghost use Rattle.sja_trace.specs.declared.teller.Teller.{Teller as Telling};
+ghost use Rattle.sja_replay.specs.Resting.{RestsFor};
+ghost use Rattle.sja_trace.specs.Inside.Resting.{AllRest, HasRested, PassesUnsaid};
 
 use super::hand::driven_of;
 use super::teller::Teller;
@@ -63,6 +66,48 @@ pub(crate) fn pass_on_all(tellers: &mut [Teller<'_>])
     for k in 0..tellers.len() {
         tellers[k].pass_on();
     }
+}
+
+/// For how many bits from this one on, at most so many, every node stays at rest and nothing is said of any. It may be
+/// for more of them.
+fn rest_for_all(tellers: &[Teller<'_>], bit: u32, most: u32) -> u32
+    ensures most { result ≤ most }
+    ensures rests { 0 < result → AllRest bit result tellers.now }
+{
+    let mut count = most;
+    for teller in tellers {
+        if count == 0 {
+            return 0;
+        }
+        count = teller.rest_for(bit, count);
+    }
+    count
+}
+
+/// Each goes on past so many of these bits.
+fn rest_all(tellers: &mut [Teller<'_>], count: u32)
+    requires { (k : ℕ) (t : Telling) → k < length tellers.old →
+        RestsFor (slice_index_or tellers.old k t).bits.replay count }
+    ensures { EachRelated (HasRested count) tellers.old tellers.new }
+{
+    for k in 0..tellers.len() {
+        tellers[k].rest(count);
+    }
+}
+
+/// Goes on past bits from this one on, at most so many, in which every node stays at rest and nothing is said of any.
+/// Answers how many; it may be that more of them follow.
+pub(crate) fn rest_on(tellers: &mut [Teller<'_>], bit: u32, most: u32) -> u32
+    requires { AreUnderway tellers.old }
+    ensures most { result ≤ most }
+    ensures unsaid { PassesUnsaid bit tellers.old result tellers.new }
+{
+    let count = rest_for_all(tellers, bit, most);
+    if count == 0 {
+        return 0;
+    }
+    rest_all(tellers, count);
+    count
 }
 
 /// Each goes on to its end.

@@ -10,7 +10,7 @@ use super::due::Due;
 use super::node_lines::put_node;
 use super::steps::put_steps;
 use super::teller::Teller;
-use super::tellers::{bus_of_hands, finish_all, pass_on_all, tellers_of};
+use super::tellers::{bus_of_hands, finish_all, pass_on_all, rest_on, tellers_of};
 use super::told::Told;
 use can_frame::OutOfMemory;
 use sja_log::RunLog;
@@ -20,8 +20,8 @@ use std::alloc::Global;
 /// The trace of a run: a line for each step of this plan that was done, and one for each bit that brought a node
 /// something, in the order of bits, of nodes and of steps.
 ///
-/// Each node's journal is gone over once, all of them together. Beside the text no more is kept than one bit of each
-/// node.
+/// Each node's journal is gone over once, all of them together, and past bits in which every node rests at once. Beside
+/// the text no more is kept than one bit of each node.
 ///
 /// Error: [`OutOfMemory`] where memory was refused.
 pub fn trace(alloc: Global, plan: &Plan, log: &RunLog) -> Result<String, OutOfMemory>
@@ -30,9 +30,14 @@ pub fn trace(alloc: Global, plan: &Plan, log: &RunLog) -> Result<String, OutOfMe
     let mut tellers = tellers_of(alloc, plan, log.nodes())?;
     let mut text = String::new(alloc);
     let mut told = Told::new(alloc);
-    for bit in 0..log.bits() {
-        pass_on_all(tellers.as_mut_slice());
-        put_bit(alloc, &mut text, &mut told, tellers.as_slice(), bit)?;
+    let mut bit = 0;
+    while bit < log.bits() {
+        bit += rest_on(tellers.as_mut_slice(), bit, log.bits() - bit);
+        if bit < log.bits() {
+            pass_on_all(tellers.as_mut_slice());
+            put_bit(alloc, &mut text, &mut told, tellers.as_slice(), bit)?;
+            bit += 1;
+        }
     }
     finish_all(tellers.as_mut_slice());
     put_late_steps(alloc, &mut text, tellers.as_slice(), log.bits())?;

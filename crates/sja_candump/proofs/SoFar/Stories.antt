@@ -1,21 +1,22 @@
 -- The stories of nodes, and how far the bits of each came.
 use Rattle.std.proofs.Common.{◌≡◌, ℕ, ◌+◌, ◌<◌, ◌≤◌, zero, suc, List, [], ◌∷◌, ◌++◌, length, take, get_or}
 use Rattle.std.proofs.Common.{sym, ap, ◌∙◌, subst, arith}
-use Rattle.std.specs.Prelude.{slice_index_or}
+use Rattle.std.specs.Prelude.{slice_get, slice_index_or}
 use Rattle.std.proofs.lemmas.List.{take_more, take_all}
 use Rattle.lemmas.specs.Related.{EachRelated}
 use Rattle.sja_log.specs.Log.{NodeValue}
 use Rattle.sja_replay.specs.declared.happening.Happening.{Happening}
 use Rattle.sja_trace.specs.declared.node_bits.NodeBits.{NodeBits}
-use Rattle.sja_trace.specs.Telling.{HaveCome, HaveSame, TellsOn, TellsAll, IsUnderway}
+use Rattle.sja_trace.specs.Telling.{HaveSame, IsSilent, PassesOn, RestsOn, TellsAll, IsUnderway}
 use Rattle.sja_candump.specs.CandumpText.{HasStory}
-use Rattle.sja_candump.specs.Inside.Coming.{HaveTold, IsShown, AreUnderway}
+use Rattle.sja_candump.proofs.SoFar.Silent.{hand_lines_are}
+use Rattle.sja_candump.specs.Inside.Coming.{HasGone, HaveTold, IsShown, AreUnderway}
 
 -- ---- before the first bit
 
 -- one node more
 one_told : (ns : List NodeValue) (bs : List NodeBits) (ss : List (List Happening)) (n : NodeValue) (b : NodeBits) →
-    HaveTold 0 ns bs ss → HaveCome n.journal 0 b [] →
+    HaveTold 0 ns bs ss → HasGone n.journal 0 b [] →
     HaveTold 0 (ns ++ n ∷ []) (bs ++ b ∷ []) (ss ++ [] ∷ [])
 one_told [] [] [] n b have has = (has, tt)
 one_told [] [] (s ∷ ss) n b have has = absurd have
@@ -37,7 +38,7 @@ begun_none nodes all none =
 
 pub begun_more : (nodes : List NodeValue) (i : ℕ) (n : NodeValue) (olds news : List NodeBits) (b : NodeBits) →
     i < length nodes → n ≡ get_or nodes i n → HaveBegun (take i nodes) olds →
-    HaveCome n.journal 0 b [] → news ≡ olds ++ b ∷ [] → HaveBegun (take (i + 1) nodes) news
+    HasGone n.journal 0 b [] → news ≡ olds ++ b ∷ [] → HaveBegun (take (i + 1) nodes) news
 begun_more nodes i n olds news b less is begun has pushed =
     let stories = begun.stories ++ [] ∷ [] in
     let R : List NodeValue → Type 0 = λ l. HaveTold 0 l (olds ++ b ∷ []) stories in
@@ -64,7 +65,7 @@ pub record AllMore (bits : ℕ) (nodes : List NodeValue) (news : List NodeBits) 
   pub same : EachRelated (HaveSame bits) ss stories
 
 pub all_more : (bits : ℕ) (nodes : List NodeValue) (olds news : List NodeBits) (ss : List (List Happening)) →
-    HaveTold bits nodes olds ss → EachRelated TellsOn olds news → AllMore bits nodes news ss
+    HaveTold bits nodes olds ss → EachRelated PassesOn olds news → AllMore bits nodes news ss
 all_more bits [] [] [] [] have on = record { stories = []; have = tt; shown = tt; same = tt }
 all_more bits [] [] (c ∷ news) ss have on = absurd on
 all_more bits [] [] [] (s ∷ ss) have on = absurd have
@@ -73,12 +74,45 @@ all_more bits (n ∷ nodes) [] news ss have on = absurd have
 all_more bits (n ∷ nodes) (b ∷ olds) [] ss have on = absurd on
 all_more bits (n ∷ nodes) (b ∷ olds) (c ∷ news) [] have on = absurd have
 all_more bits (n ∷ nodes) (b ∷ olds) (c ∷ news) (s ∷ ss) have on =
-    let more = on.0.tells n.journal bits s have.0.0 in
+    let more = on.0 n.journal bits s have.0 in
     let rest = all_more bits nodes olds news ss have.1 on.1 in
     record {
       stories = more.told ∷ rest.stories;
       have = (more.come, rest.have);
-      shown = (more.bit, rest.shown);
+      shown = (λ errors node. hand_lines_are errors bits node c _ more.hand, rest.shown);
+      same = (more.same, rest.same);
+    }
+
+-- ---- bits in which every node rests
+
+-- nothing was told of so many bits from this one on
+abbrev pub AreSilent : ℕ → ℕ → List (List Happening) → Type 0
+AreSilent bits n [] = Unit {0}
+AreSilent bits n (s ∷ ss) = ((i : ℕ) → bits ≤ i → i < bits + n → IsSilent (slice_get s i)) × AreSilent bits n ss
+
+pub record AllRested (bits n : ℕ) (nodes : List NodeValue) (news : List NodeBits) (ss : List (List Happening)) :
+    Type 0 where
+  pub stories : List (List Happening)
+  pub have : HaveTold (bits + n) nodes news stories
+  pub silent : AreSilent bits n stories
+  pub same : EachRelated (HaveSame bits) ss stories
+
+pub all_rested : (bits n : ℕ) (nodes : List NodeValue) (olds news : List NodeBits) (ss : List (List Happening)) →
+    HaveTold bits nodes olds ss → EachRelated (RestsOn n) olds news → AllRested bits n nodes news ss
+all_rested bits n [] [] [] [] have on = record { stories = []; have = tt; silent = tt; same = tt }
+all_rested bits n [] [] (c ∷ news) ss have on = absurd on
+all_rested bits n [] [] [] (s ∷ ss) have on = absurd have
+all_rested bits n [] (b ∷ olds) news ss have on = absurd have
+all_rested bits n (m ∷ nodes) [] news ss have on = absurd have
+all_rested bits n (m ∷ nodes) (b ∷ olds) [] ss have on = absurd on
+all_rested bits n (m ∷ nodes) (b ∷ olds) (c ∷ news) [] have on = absurd have
+all_rested bits n (m ∷ nodes) (b ∷ olds) (c ∷ news) (s ∷ ss) have on =
+    let more = on.0 m.journal bits s have.0 in
+    let rest = all_rested bits n nodes olds news ss have.1 on.1 in
+    record {
+      stories = more.told ∷ rest.stories;
+      have = (more.come, rest.have);
+      silent = (more.silent, rest.silent);
       same = (more.same, rest.same);
     }
 
@@ -99,7 +133,7 @@ all_told bits (n ∷ nodes) [] news ss have on = absurd have
 all_told bits (n ∷ nodes) (b ∷ olds) [] ss have on = absurd on
 all_told bits (n ∷ nodes) (b ∷ olds) (c ∷ news) [] have on = absurd have
 all_told bits (n ∷ nodes) (b ∷ olds) (c ∷ news) (s ∷ ss) have on =
-    let all = on.0.tells n.journal bits s have.0.0 in
+    let all = on.0.tells n.journal bits s have.0 in
     let rest = all_told bits nodes olds news ss have.1 on.1 in
     record {
       stories = all.told ∷ rest.stories;
@@ -116,7 +150,7 @@ all_underway bits [] (b ∷ all) ss have = absurd have
 all_underway bits (n ∷ nodes) [] ss have = tt
 all_underway bits (n ∷ nodes) (b ∷ all) [] have = absurd have
 all_underway bits (n ∷ nodes) (b ∷ all) (s ∷ ss) have = (
-  record { journal = n.journal; bits = bits; told = s; come = have.0.0 },
+  record { journal = n.journal; bits = bits; told = s; come = have.0 },
   all_underway bits nodes all ss have.1,
 )
 

@@ -1,16 +1,18 @@
 -- The text of the stories so far.
 use Rattle.std.proofs.Common.{◌≡◌, ℕ, Bool, ◌+◌, ◌<◌, ◌≤◌, zero, suc, List, [], ◌∷◌, ◌++◌, length, take, drop}
-use Rattle.std.proofs.Common.{refl, sym, ap, ap₂, ◌∙◌, subst, arith}
+use Rattle.std.proofs.Common.{refl, sym, ap, ap₂, ◌∙◌, subst, append-nil, arith}
+use Rattle.std.specs.Prelude.{slice_get}
 use Rattle.lemmas.specs.Related.{EachRelated}
 use Rattle.sja_log.specs.Log.{NodeValue, RunValue}
 use Rattle.sja_replay.specs.declared.happening.Happening.{Happening}
 use Rattle.sja_report.specs.ReportLines.{numbered}
 use Rattle.sja_trace.proofs.Stories.WrittenBack.{are_back, same_count}
 use Rattle.sja_trace.specs.declared.node_bits.NodeBits.{NodeBits}
-use Rattle.sja_trace.specs.Telling.{HaveSame, TellsOn, TellsAll}
+use Rattle.sja_trace.specs.Telling.{HaveSame, PassesOn, RestsOn, TellsAll}
 use Rattle.sja_candump.specs.CandumpText.{IsCandump, node_lines, story_lines, lines_to}
 use Rattle.sja_candump.specs.Inside.Coming.{IsShown, AreUnderway, IsUpTo, hand_lines, bit_text}
-use Rattle.sja_candump.proofs.SoFar.Stories.{HaveBegun, all_more, all_told, all_underway}
+use Rattle.sja_candump.proofs.SoFar.Silent.{silent_lines}
+use Rattle.sja_candump.proofs.SoFar.Stories.{HaveBegun, AreSilent, all_more, all_rested, all_told, all_underway}
 
 -- ---- the bits before are told alike
 
@@ -39,7 +41,7 @@ shown_lines errors bit k [] [] shown = refl
 shown_lines errors bit k [] (s ∷ ss) shown = absurd shown
 shown_lines errors bit k (b ∷ bs) [] shown = absurd shown
 shown_lines errors bit k (b ∷ bs) (s ∷ ss) shown =
-    ap₂ (λ l r. l ++ r) (ap (node_lines errors bit k) shown.0) (shown_lines errors bit (k + 1) bs ss shown.1)
+    ap₂ (λ l r. l ++ r) (shown.0 errors k) (shown_lines errors bit (k + 1) bs ss shown.1)
 
 -- ---- bit by bit
 
@@ -48,7 +50,7 @@ pub up_first : (errors : Bool) (nodes : List NodeValue) (all : List NodeBits) �
 up_first errors nodes all begun = record { stories = begun.stories; have = begun.have; text_is = refl }
 
 up_more : (errors : Bool) (nodes : List NodeValue) (bits next : ℕ) (olds news : List NodeBits) (old new : List ℕ) →
-    IsUpTo errors nodes bits olds old → EachRelated TellsOn olds news → new ≡ old ++ bit_text errors bits news →
+    IsUpTo errors nodes bits olds old → EachRelated PassesOn olds news → new ≡ old ++ bit_text errors bits news →
     next ≡ suc bits → IsUpTo errors nodes next news new
 up_more errors nodes bits next olds news old new up on wrote one =
     let m = all_more bits nodes olds news up.stories up.have on in
@@ -60,20 +62,64 @@ up_more errors nodes bits next olds news old new up on wrote one =
       text_is = wrote ∙ ap₂ (λ l r. l ++ r) before (shown_lines errors bits 0 news m.stories m.shown);
     })
 
+-- ---- bits in which every node rests
+
+silent_bit : (errors : Bool) (bits n b k : ℕ) (ss : List (List Happening)) → AreSilent bits n ss → bits ≤ b →
+    b < bits + n → numbered (story_lines errors b) k ss ≡ []
+silent_bit errors bits n b k [] silent from less = refl
+silent_bit errors bits n b k (s ∷ ss) silent from less =
+    ap₂ (λ l r. l ++ r) (silent_lines errors b k (slice_get s b) (silent.0 b from less))
+    (silent_bit errors bits n b (k + 1) ss silent.1 from less)
+
+silent_bits : (errors : Bool) (bits n i : ℕ) (ss : List (List Happening)) → AreSilent bits n ss → i ≤ n →
+    lines_to errors (bits + i) ss ≡ lines_to errors bits ss
+silent_bits errors bits n zero ss silent few =
+    let same : bits + 0 ≡ bits = omega arith in ap (λ b. lines_to errors b ss) same
+silent_bits errors bits n (suc i) ss silent few =
+    let next : bits + suc i ≡ suc (bits + i) = omega arith in
+    ap (λ b. lines_to errors b ss) next
+    ∙ ap₂ (λ l r. l ++ r) (silent_bits errors bits n i ss silent (omega (arith, few)))
+    (silent_bit errors bits n (bits + i) 0 ss silent (omega arith) (omega (arith, few)))
+    ∙ append-nil (lines_to errors bits ss)
+
+pub up_rested : (errors : Bool) (nodes : List NodeValue) (bits n next : ℕ) (olds news : List NodeBits)
+    (text : List ℕ) → IsUpTo errors nodes bits olds text → EachRelated (RestsOn n) olds news → next ≡ bits + n →
+    IsUpTo errors nodes next news text
+up_rested errors nodes bits n next olds news text up on one =
+    let m = all_rested bits n nodes olds news up.stories up.have on in
+    let P : ℕ → Type 0 = λ k. IsUpTo errors nodes k news text in
+    let before = up.text_is ∙ sym (same_bits errors bits bits up.stories m.stories (omega arith) m.same) in
+    subst P (sym one) (record {
+      stories = m.stories;
+      have = m.have;
+      text_is = before ∙ sym (silent_bits errors bits n n m.stories m.silent (omega arith));
+    })
+
 -- ---- the bits are lent to a call as a slice, and written back
 
 -- a bit more
 pub back_more : (errors : Bool) (nodes : List NodeValue) (bits next n : ℕ) (was lent now shown : List NodeBits)
     (old new : List ℕ) → n ≡ length was → lent ≡ was → length now ≡ length lent →
-    shown ≡ take n (now ++ drop (length now) was) → IsUpTo errors nodes bits was old → EachRelated TellsOn lent now →
+    shown ≡ take n (now ++ drop (length now) was) → IsUpTo errors nodes bits was old → EachRelated PassesOn lent now →
     new ≡ old ++ bit_text errors bits shown → next ≡ suc bits →
     IsUpTo errors nodes next (take n (now ++ drop (length now) was)) new
 back_more errors nodes bits next n was lent now shown old new all is count seen up on wrote one =
     let back = are_back was now n all (same_count was lent now is count) in
-    let R : List NodeBits → Type 0 = λ l. EachRelated TellsOn l now in
+    let R : List NodeBits → Type 0 = λ l. EachRelated PassesOn l now in
     let P : List NodeBits → Type 0 = λ l. IsUpTo errors nodes next l new in
     subst P (sym back) (up_more errors nodes bits next was now old new up (subst R is on)
     (wrote ∙ ap (λ (l : List NodeBits). old ++ bit_text errors bits l) (seen ∙ back)) one)
+
+-- bits in which every node rests
+pub back_rested : (errors : Bool) (nodes : List NodeValue) (bits rest next n : ℕ) (was lent now : List NodeBits)
+    (text : List ℕ) → n ≡ length was → lent ≡ was → length now ≡ length lent → IsUpTo errors nodes bits was text →
+    EachRelated (RestsOn rest) lent now → next ≡ bits + rest →
+    IsUpTo errors nodes next (take n (now ++ drop (length now) was)) text
+back_rested errors nodes bits rest next n was lent now text all is count up on one =
+    let back = are_back was now n all (same_count was lent now is count) in
+    let R : List NodeBits → Type 0 = λ l. EachRelated (RestsOn rest) l now in
+    let P : List NodeBits → Type 0 = λ l. IsUpTo errors nodes next l text in
+    subst P (sym back) (up_rested errors nodes bits rest next was now text up (subst R is on) one)
 
 -- they are underway
 pub lent_underway : (errors : Bool) (nodes : List NodeValue) (bits : ℕ) (was lent : List NodeBits) (text : List ℕ) →

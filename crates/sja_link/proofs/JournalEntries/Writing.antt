@@ -1,5 +1,5 @@
 -- Bits after the entries of a journal, written at once into a list that was filled up.
-use Rattle.std.proofs.Common.{◌≡◌, ◌≤◌, ◌+◌, ◌-◌, ℕ, List, [], ◌∷◌, ◌++◌, length, take, drop, replicate, refl, sym, ap}
+use Rattle.std.proofs.Common.{◌≡◌, ◌≤◌, ◌-◌, ℕ, List, [], ◌∷◌, ◌++◌, length, take, drop, replicate, refl, sym, ap}
 use Rattle.std.proofs.Common.{◌∙◌, arith}
 use Rattle.std.specs.Simd.Lanes.{zip2}
 use Rattle.std.proofs.lemmas.List.{length-append, length-drop, length-take-le, take-append-le, take_at}
@@ -10,8 +10,7 @@ use Rattle.can_bits.specs.declared.level.Level.TheVariants.{Dominant, Recessive}
 use Rattle.lemmas.specs.Gathering.{total}
 use Rattle.sja_link.specs.declared.entry.Entry.TheVariants.{Bit}
 use Rattle.sja_link.specs.declared.code.Code.{Code}
-use Rattle.sja_link.specs.Inside.Codes.{code_of, decoded, has_start, has_credit, has_request, has_message}
-use Rattle.sja_link.proofs.JournalEntries.Filling.{ArePlain}
+use Rattle.sja_link.specs.Inside.Codes.{code_of, decoded, has_other}
 
 -- ---- the part that is written
 
@@ -50,54 +49,25 @@ written x codes items now part used len n is same at all count size =
 
 -- ---- codes of bits
 
-start_none : (x y : Level) → has_start (code_of x y) ≡ 0
-start_none Dominant Dominant = refl
-start_none Dominant Recessive = refl
-start_none Recessive Dominant = refl
-start_none Recessive Recessive = refl
+none_other : (x y : Level) → has_other (code_of x y) ≡ 0
+none_other Dominant Dominant = refl
+none_other Dominant Recessive = refl
+none_other Recessive Dominant = refl
+none_other Recessive Recessive = refl
 
-credit_none : (x y : Level) → has_credit (code_of x y) ≡ 0
-credit_none Dominant Dominant = refl
-credit_none Dominant Recessive = refl
-credit_none Recessive Dominant = refl
-credit_none Recessive Recessive = refl
+pub bits_have_none : (driven seen : List Level) → total has_other (zip2 code_of driven seen) ≡ 0
+bits_have_none [] seen = omega arith
+bits_have_none (x ∷ driven) [] = omega arith
+bits_have_none (x ∷ driven) (y ∷ seen) =
+    let one = none_other x y in let more = bits_have_none driven seen in omega (arith, one, more)
 
-request_none : (x y : Level) → has_request (code_of x y) ≡ 0
-request_none Dominant Dominant = refl
-request_none Dominant Recessive = refl
-request_none Recessive Dominant = refl
-request_none Recessive Recessive = refl
-
-message_none : (x y : Level) → has_message (code_of x y) ≡ 0
-message_none Dominant Dominant = refl
-message_none Dominant Recessive = refl
-message_none Recessive Dominant = refl
-message_none Recessive Recessive = refl
-
-bits_have_none : (f : Code → ℕ) → ((x y : Level) → f (code_of x y) ≡ 0) → (driven seen : List Level) →
-    total f (zip2 code_of driven seen) ≡ 0
-bits_have_none f none [] seen = omega arith
-bits_have_none f none (x ∷ driven) [] = omega arith
-bits_have_none f none (x ∷ driven) (y ∷ seen) =
-    let one = none x y in let more = bits_have_none f none driven seen in omega (arith, one, more)
-
-pub bits_plain : (driven seen : List Level) → ArePlain (zip2 code_of driven seen)
-bits_plain driven seen = record {
-  starts = bits_have_none has_start start_none driven seen;
-  credits = bits_have_none has_credit credit_none driven seen;
-  requests = bits_have_none has_request request_none driven seen;
-  messages = bits_have_none has_message message_none driven seen;
-}
-
-first_decoded : (x y : Level) (codes : List Code) →
-    decoded (code_of x y ∷ codes) [] [] [] [] ≡ Bit x y ∷ decoded codes [] [] [] []
+first_decoded : (x y : Level) (codes : List Code) → decoded (code_of x y ∷ codes) [] ≡ Bit x y ∷ decoded codes []
 first_decoded Dominant Dominant codes = refl
 first_decoded Dominant Recessive codes = refl
 first_decoded Recessive Dominant codes = refl
 first_decoded Recessive Recessive codes = refl
 
-pub bits_decoded : (driven seen : List Level) →
-    decoded (zip2 code_of driven seen) [] [] [] [] ≡ zip2 Bit driven seen
+pub bits_decoded : (driven seen : List Level) → decoded (zip2 code_of driven seen) [] ≡ zip2 Bit driven seen
 bits_decoded [] seen = refl
 bits_decoded (x ∷ driven) [] = refl
 bits_decoded (x ∷ driven) (y ∷ seen) =

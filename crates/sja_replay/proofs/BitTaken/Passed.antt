@@ -21,9 +21,9 @@ use Rattle.sja_replay.specs.declared.happening.Happening.{Happening}
 use Rattle.sja_replay.specs.declared.replay.Replay.{Replay}
 use Rattle.sja_replay.specs.declared.short_bit.ShortBit.{ShortBit}
 use Rattle.sja_replay.specs.declared.view.View.{View}
-use Rattle.sja_replay.specs.Inside.Walking.{IsTakenFrom, IsBrought, IsClosed, LooksAt}
+use Rattle.sja_replay.specs.Inside.Walking.{IsTakenFrom, IsBrought, IsClosed}
 use Rattle.sja_replay.specs.Replaying.{IsAt}
-use Rattle.sja_replay.specs.Short.{IsNoStart, IsInShort, PassesBit}
+use Rattle.sja_replay.specs.Short.{IsNoStart, IsInShort, LooksAt, PassesBit}
 use Rattle.sja_replay.specs.Viewing.{Shows}
 use Rattle.sja_replay.proofs.BitTaken.Bits.{happening, has_bit, told_bit}
 use Rattle.sja_replay.proofs.BitTaken.Walks.{past_none, goes_on, goes_bit, tells_bit}
@@ -170,4 +170,5 @@ passed_bit old mid new driven seen x q s took j at ahead unmarked drives is l sa
           refl refl refl refl refl quiet;
       goes = goes_bit old old from new j driven seen h (goes_on old old j past) taken brings;
       tells = tells_bit old old from new j driven seen h past taken brings;
+      number = refl;
     }

@@ -4,9 +4,6 @@ use Rattle.std.specs.Prelude.{Result, Ok, Err, List, [], ◌∷◌, ◌++◌}
 use Rattle.can_frame.specs.Frame.{FrameValue}
 use Rattle.can_bits.specs.declared.level.Level.{Level}
 use Rattle.can_node.specs.declared.bit_events.BitEvents.{BitEvents}
-use Rattle.can_node.specs.declared.node.Node.{Node}
-use Rattle.can_node.specs.NextField.{ShowsSegment, ShowsRole, ShowsFlag}
-use Rattle.can_node.specs.Stands.{ShowsPhase, ShowsCounters}
 use Rattle.sja_link.specs.declared.entry.Entry.{Entry}
 use Rattle.sja_link.specs.declared.entry.Entry.TheVariants.{Bit}
 use Rattle.sja_link.specs.Free.{IsFree}
@@ -15,7 +12,6 @@ use Rattle.sja_replay.specs.declared.fate.Fate.{Fate}
 use Rattle.sja_replay.specs.declared.happening.Happening.{Happening}
 use Rattle.sja_replay.specs.declared.misfit.Misfit.{Misfit}
 use Rattle.sja_replay.specs.declared.replay.Replay.{Replay}
-use Rattle.sja_replay.specs.declared.short_bit.ShortBit.{ShortBit}
 use Rattle.sja_replay.specs.Closing.{Judges, HasFate, Closes, off_if}
 use Rattle.sja_replay.specs.Happened.{IsUntold}
 use Rattle.sja_replay.specs.Happening.{Brings}
@@ -124,13 +120,3 @@ pub record IsPast (old new : Replay) (before : List Entry) : Type 0 where
   pub taken : AreTaken before between
   pub left : left_of old ≡ between ++ left_of new
   pub at : IsAt new (before ++ between)
-
--- what a node shows of a bit with these levels
-pub record LooksAt (node : Node) (driven seen : Level) (q : ShortBit) : Type 0 where
-  pub driven_is : q.driven ≡ driven
-  pub seen_is : q.seen ≡ seen
-  pub phase : ShowsPhase node q.phase
-  pub segment : ShowsSegment node q.segment
-  pub transmits : ShowsRole node q.transmits
-  pub counters : ShowsCounters node q.counters
-  pub flag : ShowsFlag node q.flag

@@ -53,7 +53,7 @@ no_suspension Delimiter = refl
 no_suspension Intermission = refl
 no_suspension Suspension = refl
 
-no_start : (p : Phase) (h : Happening) → (p ≡ Idle → (h.driven ≡ Recessive) × (h.seen ≡ Recessive)) →
+pub no_start : (p : Phase) (h : Happening) → (p ≡ Idle → (h.driven ≡ Recessive) × (h.seen ≡ Recessive)) →
     h.after.phase ≡ p → is_start_in p h ≡ false
 no_start Reset h idle stays = refl
 no_start Waiting h idle stays = refl

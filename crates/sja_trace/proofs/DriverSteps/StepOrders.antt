@@ -6,7 +6,7 @@ use Rattle.std.proofs.Math.ListN.{drop_of_length-le}
 use Rattle.sja_script.specs.declared.done.Done.{Done}
 use Rattle.sja_script.specs.declared.step.Step.{Step}
 use Rattle.sja_trace.specs.TraceText.{is_due, line_where, step_line, steps_due}
-use Rattle.sja_trace.specs.Inside.StepOrder.{Ascends, ArePast}
+use Rattle.sja_trace.specs.Inside.StepOrder.{Ascends, ArePast, IsNext}
 use Rattle.sja_report.proofs.WrittenLines.Written.{rest_is}
 
 -- ---- those before a place
@@ -111,3 +111,56 @@ pub order_all : (least i : ℕ) (done : List Done) → length done ≤ i →
     (Ascends least (drop i done) → Ascends 0 done) → Ascends 0 done
 order_all least i done past so_far =
     let P : List Done → Type 0 = λ l. Ascends least l in so_far (subst P (sym (drop_of_length-le done past)) tt)
+
+-- ---- bits without a step
+
+-- before the next step
+pub quiet_before : (bit i node place : ℕ) (steps : List Step) (done : List Done) (d : Done) → ArePast bit place done →
+    bit ≤ i → place < length done → d ≡ get_or done place d → i < d.bits → Ascends 0 done →
+    steps_due false i node 1 steps done ≡ []
+quiet_before bit i node place steps done d past from less is early ascends =
+    past_none i node place 1 steps done (past_later bit i place done from past)
+    ∙ none_ascends i node (place + 1) d.bits (drop place steps) (drop place done) early
+    (ascends_at 0 place done d less is ascends)
+
+-- and behind the last one
+pub quiet_end : (bit i node place : ℕ) (steps : List Step) (done : List Done) → ArePast bit place done → bit ≤ i →
+    length done ≤ place → steps_due false i node 1 steps done ≡ []
+quiet_end bit i node place steps done past from all =
+    past_none i node place 1 steps done (past_later bit i place done from past)
+    ∙ ap (steps_due false i node (place + 1) (drop place steps)) (drop_of_length-le done all)
+    ∙ none_left i node (place + 1) (drop place steps)
+
+-- by the bits before the step at the next place
+pub next_at : (place : ℕ) (done : List Done) (d : Done) → place < length done → d ≡ get_or done place d →
+    IsNext d.bits place done
+next_at zero [] d less is = tt
+next_at zero (x ∷ done) d less is = let same = ap (λ (o : Done). o.bits) is in omega (arith, same)
+next_at (suc place) [] d less is = tt
+next_at (suc place) (x ∷ done) d less is = next_at place done d (omega (arith, less)) is
+
+pub next_none : (next place : ℕ) (done : List Done) → length done ≤ place → IsNext next place done
+next_none next zero [] past = tt
+next_none next zero (x ∷ done) past = absurd (omega (arith, past))
+next_none next (suc place) [] past = tt
+next_none next (suc place) (x ∷ done) past = next_none next place done (omega (arith, past))
+
+-- what stands behind a place that is past all of these
+quiet_next : (bit node number least place next : ℕ) (steps : List Step) (done : List Done) → ArePast bit place done →
+    IsNext next place done → bit < next → Ascends least done → steps_due false bit node number steps done ≡ []
+quiet_next bit node number least zero next [] done past is less ascends = refl
+quiet_next bit node number least zero next (s ∷ steps) [] past is less ascends = refl
+quiet_next bit node number least zero next (s ∷ steps) (d ∷ done) past is less ascends =
+    none_ascends bit node number next (s ∷ steps) (d ∷ done) less (is, ascends.1)
+quiet_next bit node number least (suc place) next [] done past is less ascends = refl
+quiet_next bit node number least (suc place) next (s ∷ steps) [] past is less ascends = refl
+quiet_next bit node number least (suc place) next (s ∷ steps) (d ∷ done) past is less ascends =
+    let before = past.0 in
+    ap (λ t. t ++ steps_due false bit node (number + 1) steps done)
+    (not_due bit d.bits (step_line node number s d) (λ same. absurd (omega (arith, before, same))))
+    ∙ quiet_next bit node (number + 1) d.bits place next steps done past.1 is less ascends.1
+
+pub quiet_here : (bit bits node place next : ℕ) (steps : List Step) (done : List Done) → ArePast bits place done →
+    bits ≤ bit → IsNext next place done → bit < next → Ascends 0 done → steps_due false bit node 1 steps done ≡ []
+quiet_here bit bits node place next steps done past from is less ascends =
+    quiet_next bit node 1 0 place next steps done (past_later bits bit place done from past) is less ascends

@@ -20,7 +20,7 @@ use Rattle.sja_trace.specs.Inside.Hands.{HandGoesOn}
 
 -- ---- one more behind others
 
-get_last : (hs : List Happening) (h : Happening) → slice_get (hs ++ h ∷ []) (length hs) ≡ Some h
+pub get_last : (hs : List Happening) (h : Happening) → slice_get (hs ++ h ∷ []) (length hs) ≡ Some h
 get_last hs h = get-append_right hs (h ∷ []) (length hs) (length hs) 0 refl (omega arith)
 
 -- the bit before one is that of the same happenings

@@ -1,5 +1,5 @@
 -- Elements that were lent to a call as a slice, and written back.
-use Rattle.std.proofs.Common.{◌≡◌, ℕ, suc, List, ◌++◌, length, take, drop, sym, ap, ◌∙◌, subst, arith}
+use Rattle.std.proofs.Common.{◌≡◌, ℕ, ◌+◌, suc, List, ◌++◌, length, take, drop, sym, ap, ◌∙◌, subst, arith}
 use Rattle.std.proofs.lemmas.Grind.{common_steps}
 use Rattle.lemmas.specs.Related.{EachRelated}
 use Rattle.sja_log.specs.Log.{NodeValue, RunValue}
@@ -9,7 +9,9 @@ use Rattle.sja_trace.specs.declared.teller.Teller.{Teller}
 use Rattle.sja_trace.specs.TraceText.{IsTrace}
 use Rattle.sja_trace.specs.Inside.Coming.{TellerEnds, AreUnderway, late_lines}
 use Rattle.sja_trace.specs.Inside.Passing.{TellerPasses, ComesTo, hands_text}
+use Rattle.sja_trace.specs.Inside.Resting.{PassesUnsaid}
 use Rattle.sja_trace.proofs.Stories.Passed.{comes_more, comes_underway, comes_all}
+use Rattle.sja_trace.proofs.Stories.Rested.{comes_unsaid}
 
 -- as many as there were are those that were written
 pub are_back : {A : Type 0} (was now : List A) (n : ℕ) → n ≡ length was → length now ≡ length was →
@@ -18,6 +20,12 @@ are_back was now n all len = grind (arith, common_steps)
 
 pub same_count : {A : Type 0} (was lent now : List A) → lent ≡ was → length now ≡ length lent → length now ≡ length was
 same_count was lent now is count = count ∙ ap (λ l. length l) is
+
+pub back_count : {A : Type 0} (was lent now : List A) (n : ℕ) → n ≡ length was → lent ≡ was →
+    length now ≡ length lent → n ≡ length (take n (now ++ drop (length now) was))
+back_count was lent now n all is count =
+    let same = same_count was lent now is count in
+    all ∙ sym same ∙ ap (λ l. length l) (sym (are_back was now n all same))
 
 -- a bit more
 pub back_more : (plan : PlanValue) (nodes : List NodeValue) (bits next n : ℕ) (was lent now shown : List Teller)
@@ -32,6 +40,17 @@ back_more plan nodes bits next n was lent now shown old new all is count seen up
     let P : List Teller → Type 0 = λ l. ComesTo plan nodes next l new in
     subst P (sym back) (comes_more plan nodes bits next was now old new up (subst R is on)
     (wrote ∙ ap (λ (l : List Teller). old ++ hands_text bits l) (seen ∙ back)) one)
+
+-- bits in which every node rests
+pub back_rested : (plan : PlanValue) (nodes : List NodeValue) (bits rest next n : ℕ) (was lent now : List Teller)
+    (text : List ℕ) → n ≡ length was → lent ≡ was → length now ≡ length lent → ComesTo plan nodes bits was text →
+    PassesUnsaid bits lent rest now → next ≡ bits + rest →
+    ComesTo plan nodes next (take n (now ++ drop (length now) was)) text
+back_rested plan nodes bits rest next n was lent now text all is count up on one =
+    let back = are_back was now n all (same_count was lent now is count) in
+    let R : List Teller → Type 0 = λ l. PassesUnsaid bits l rest now in
+    let P : List Teller → Type 0 = λ l. ComesTo plan nodes next l text in
+    subst P (sym back) (comes_unsaid plan nodes bits was text up next rest now (subst R is on) one)
 
 -- they are underway
 pub lent_underway : (plan : PlanValue) (nodes : List NodeValue) (bits : ℕ) (was lent : List Teller) (text : List ℕ) →

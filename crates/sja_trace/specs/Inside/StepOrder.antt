@@ -29,3 +29,16 @@ pub ArePast-prop : (bits place : ℕ) (done : List Done) → IsProp (ArePast bit
 ArePast-prop bits zero done = Unit-prop
 ArePast-prop bits (suc place) [] = Unit-prop
 ArePast-prop bits (suc place) (d ∷ done) = ×_prop le_prop (ArePast-prop bits place done)
+
+-- the step at this place, if there is one, has so many bits before it, or more
+abbrev pub IsNext : ℕ → ℕ → List Done → Type 0
+IsNext next zero [] = ⊤
+IsNext next zero (d ∷ done) = next ≤ d.bits
+IsNext next (suc place) [] = ⊤
+IsNext next (suc place) (d ∷ done) = IsNext next place done
+
+pub IsNext-prop : (next place : ℕ) (done : List Done) → IsProp (IsNext next place done)
+IsNext-prop next zero [] = Unit-prop
+IsNext-prop next zero (d ∷ done) = le_prop
+IsNext-prop next (suc place) [] = Unit-prop
+IsNext-prop next (suc place) (d ∷ done) = IsNext-prop next place done

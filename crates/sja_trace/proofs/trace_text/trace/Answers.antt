@@ -1,38 +1,62 @@
-use Rattle.std.proofs.Common.{◌≡◌, ◌+◌, ◌++◌, ◌∙◌, ℕ, suc, List, [], length, string_bytes, ap, rules, arith}
-use Rattle.sja_trace.specs.declared.teller.Teller.{Teller}
-use Rattle.sja_trace.specs.Inside.Passing.{hands_text}
-use Rattle.sja_trace.proofs.Stories.WrittenBack.{back_more, lent_underway, back_all}
+use Rattle.std.proofs.Common.{◌≡◌, ◌+◌, suc, [], length, string_bytes, refl, rules, arith}
+use Rattle.sja_trace.proofs.Stories.WrittenBack.{back_more, back_rested, back_count, lent_underway, back_all}
 use Rattle.sja_trace.proofs.Stories.Passed.{comes_first}
 use Rattle.sja_trace.proofs.trace_text.trace.Goals as goal
-
--- what is written is of this bit
-text_of : (tellers : List Teller) (was now : List ℕ) (n bit : ℕ) → now ≡ was ++ hands_text n tellers → n ≡ bit →
-    now ≡ was ++ hands_text bit tellers
-text_of tellers was now n bit wrote same = wrote ∙ ap (λ k. was ++ hands_text k tellers) same
 
 pub loop-bit-init : goal.loop-bit-init
 loop-bit-init c =
     let none : string_bytes c.new-text.result ≡ [] = search rules in
-    rw none (comes_first _ _ _ _ (rw c.nodes.ensures at c.in_ok-tellers.ensures))
+    record {
+      most = omega arith;
+      text = rw none (comes_first _ _ _ _ (rw c.nodes.ensures at c.in_ok-tellers.ensures));
+    }
+
+pub rest_on-bit-requires : goal.rest_on-bit-requires
+rest_on-bit-requires c = lent_underway _ _ _ _ _ _ c.as_mut_slice.ensures.value c.loop-bit.invariant.text
+
+pub loop-bit-preserved-then-bit-bits : goal.loop-bit-preserved-then-bit-bits
+loop-bit-preserved-then-bit-bits c =
+    let t = c.loop-bit.tellers in
+    let bit = c.loop-bit.bit + c.rest_on-bit.result in
+    let all : t.len ≡ length t.items = search rules in
+    let less = c.if-bit-bits.true in
+    let rested = back_rested _ _ c.loop-bit.bit c.rest_on-bit.result bit t.len t.items c.as_mut_slice.result.now
+    c.rest_on-bit.new.tellers _ all c.as_mut_slice.ensures.value c.rest_on-bit.auto.tellers c.loop-bit.invariant.text
+    c.rest_on-bit.ensures.unsaid refl in
+    let one : bit + 1 ≡ suc bit = omega arith in
+    let still = back_count t.items c.as_mut_slice.result.now c.rest_on-bit.new.tellers t.len all
+    c.as_mut_slice.ensures.value c.rest_on-bit.auto.tellers in
+    record {
+      most = omega (arith, less, c.bits-in-loop-bit-2.ensures);
+      text = back_more _ _ bit (bit + 1) t.len _ c.as_mut_slice-then-bit-bits.result.now c.pass_on_all.new.tellers
+          c.as_slice.result.now _ _ still c.as_mut_slice-then-bit-bits.ensures.value c.pass_on_all.auto.tellers
+          c.as_slice.ensures.value rested c.pass_on_all.ensures c.in_ok-put_bit.ensures.text one;
+    }
 
 pub loop-bit-preserved : goal.loop-bit-preserved
 loop-bit-preserved c =
-    let t = c.loop-bit.tellers in let one : c.loop-bit.bit + 1 ≡ suc c.loop-bit.bit = omega arith in
+    let t = c.loop-bit.tellers in
+    let bit = c.loop-bit.bit + c.rest_on-bit.result in
     let all : t.len ≡ length t.items = search rules in
-    back_more _ _ c.loop-bit.bit (c.loop-bit.bit + 1) t.len t.items c.as_mut_slice.result.now c.pass_on_all.new.tellers
-    c.as_slice.result.now _ _ all c.as_mut_slice.ensures.value c.pass_on_all.auto.tellers c.as_slice.ensures.value
-    c.loop-bit.invariant c.pass_on_all.ensures
-    (text_of c.as_slice.result.now _ _ _ c.loop-bit.bit c.in_ok-put_bit.ensures.text (omega arith)) one
+    let most = c.rest_on-bit.ensures.most in let before = c.loop-bit.invariant.most in
+    record {
+      most = omega (arith, most, before, c.bits-in-loop-bit.ensures);
+      text = back_rested _ _ c.loop-bit.bit c.rest_on-bit.result bit t.len t.items c.as_mut_slice.result.now
+          c.rest_on-bit.new.tellers _ all c.as_mut_slice.ensures.value c.rest_on-bit.auto.tellers
+          c.loop-bit.invariant.text c.rest_on-bit.ensures.unsaid refl;
+    }
 
 pub finish_all-requires : goal.finish_all-requires
-finish_all-requires c = lent_underway _ _ _ _ _ _ c.as_mut_slice-2.ensures.value c.loop-bit.invariant
+finish_all-requires c = lent_underway _ _ _ _ _ _ c.as_mut_slice-2.ensures.value c.loop-bit.invariant.text
 
 pub returns : goal.returns
 returns c =
     let t = c.loop-bit.tellers in
     let all : t.len ≡ length t.items = search rules in
-    let ends : c.loop-bit.bit ≡ c.args.log.now.bits = omega (arith, c.bits-bit-end.ensures) in
-    back_all _ c.args.log.now c.loop-bit.bit c.bits.result t.len t.items c.as_mut_slice-2.result.now
-    c.finish_all.new.tellers c.as_slice-2.result.now _ _ ends c.bits.ensures all c.as_mut_slice-2.ensures.value
-    c.finish_all.auto.tellers c.as_slice-2.ensures.value c.loop-bit.invariant c.finish_all.ensures
+    let most = c.loop-bit.invariant.most in
+    let over = c.loop-bit-test.false in
+    let ends : c.loop-bit.bit ≡ c.args.log.now.bits = omega (arith, most, over, c.bits.ensures) in
+    back_all _ c.args.log.now c.loop-bit.bit c.bits-2.result t.len t.items c.as_mut_slice-2.result.now
+    c.finish_all.new.tellers c.as_slice-2.result.now _ _ ends c.bits-2.ensures all c.as_mut_slice-2.ensures.value
+    c.finish_all.auto.tellers c.as_slice-2.ensures.value c.loop-bit.invariant.text c.finish_all.ensures
     c.in_ok-put_late_steps.ensures

@@ -1,7 +1,13 @@
-use Rattle.std.proofs.Common.{string_bytes}
+use Rattle.std.proofs.Common.{◌-◌, ◌≤◌, string_bytes}
 use Rattle.sja_trace.specs.Inside.Passing.{ComesTo}
 use Rattle.sja_trace.proofs.trace_text.trace.Given as goal
 
 -- the lines of the bits so far were written
 abbrev pub invariant-loop-bit : goal.invariant-loop-bit
-invariant-loop-bit l = ComesTo l.plan l.log.nodes l.bit l.tellers.items (string_bytes l.text)
+invariant-loop-bit l = record {
+  most : l.bit ≤ l.log.bits;
+  text : ComesTo l.plan l.log.nodes l.bit l.tellers.items (string_bytes l.text);
+}
+
+abbrev pub decreases-loop-bit : goal.decreases-loop-bit
+decreases-loop-bit l = l.log.bits - l.bit

@@ -7,9 +7,8 @@ use Rattle.std.proofs.lemmas.Simd.{length-zip2}
 use Rattle.sja_link.specs.declared.code.Code.{Code}
 use Rattle.sja_link.specs.declared.code.Code.TheVariants.{RecessiveAsDriven}
 use Rattle.sja_link.specs.Inside.Codes.{code_of}
-use Rattle.sja_link.proofs.JournalEntries.CodeRoom.{with_codes}
-use Rattle.sja_link.proofs.JournalEntries.Filling.{filled_up, rest_fits, whole_plain, decoded_plain}
-use Rattle.sja_link.proofs.JournalEntries.Writing.{part_length, written, bits_plain, bits_decoded}
+use Rattle.sja_link.proofs.JournalEntries.Filling.{filled_up, rest_fits, whole_bits, decoded_bits}
+use Rattle.sja_link.proofs.JournalEntries.Writing.{part_length, written, bits_have_none, bits_decoded}
 use Rattle.sja_link.proofs.journal.Journal.enter_bits_reserved.Goals.{After-as_mut_slice, After-write_bits}
 use Rattle.sja_link.proofs.journal.Journal.enter_bits_reserved.Goals as goal
 
@@ -19,7 +18,7 @@ filled : (c : After-as_mut_slice) → c.resize.new.self.items ≡ c.self.inside.
 filled c =
     let f = c.self.inside in let n = length c.args.seen.now in
     let free = rw (← c.self.view_is) at c.requires.free in
-    let fits = rest_fits f.codes.items _ _ _ _ c.self.invariant.0 f.room n c.len-used.result f.codes.len
+    let fits = rest_fits f.codes.items _ c.self.invariant.0 f.room n c.len-used.result f.codes.len
     (vec_capacity f.codes) free c.len-used.ensures f.codes.ok.0 f.codes.ok.1 c.self.invariant.1 in
     filled_up RecessiveAsDriven f.codes.items c.resize.new.self.items (is_ok c.resize.result) c.len-used.result
     f.codes.len n (c.resize.ensures.succeeds fits) c.len-used.ensures f.codes.ok.0 c.resize.ensures.items
@@ -62,15 +61,17 @@ pub invariant_of-self : goal.invariant_of-self
 invariant_of-self c =
     let at = goal.at.invariant_of-self c in
     let is = codes_are at.After-write_bits (filled at.After-as_mut_slice) in
-    let f = c.self.inside in let capacity = c.resize.ensures.capacity in let room = c.self.invariant.1 in
-    with_codes c.self.invariant
-    (rw is (whole_plain (zip2 code_of c.args.driven.now c.args.seen.now) f.codes.items _ _ _ _
-    (bits_plain c.args.driven.now c.args.seen.now) c.self.invariant.0)) (omega (arith, capacity, room))
+    let f = c.self.inside in let capacity = c.resize.ensures.capacity in let room = c.self.invariant.1 in (
+      rw is (whole_bits (zip2 code_of c.args.driven.now c.args.seen.now) f.codes.items _
+          (bits_have_none c.args.driven.now c.args.seen.now) c.self.invariant.0),
+      omega (arith, capacity, room),
+      c.self.invariant.2,
+    )
 
 pub returns-clause-entries : goal.returns-clause-entries
 returns-clause-entries c =
     let at = goal.at.returns-clause-entries c in
     let is = codes_are at.After-write_bits (filled at.After-as_mut_slice) in
     rw (← c.self.view_is, is)
-    (decoded_plain (zip2 code_of c.args.driven.now c.args.seen.now) c.self.inside.codes.items _ _ _ _ _
+    (decoded_bits (zip2 code_of c.args.driven.now c.args.seen.now) c.self.inside.codes.items _ _
     (bits_decoded c.args.driven.now c.args.seen.now) c.self.invariant.0)

@@ -4,6 +4,6 @@ use Rattle.sja_link.proofs.journal.Journal.free.Goals as goal
 
 pub returns : goal.returns
 returns c = rw (← c.self.view_is) (
-    let n = decoded_length _ _ _ _ _ c.self.invariant.0 in
+    let n = decoded_length _ _ c.self.invariant.0 in
     let is = c.len.ensures in let less = c.saturating_sub.ensures in
     omega (arith, n, is, less))

@@ -1,5 +1,6 @@
 use Rattle.std.proofs.Common.{◌≡◌, ◌+◌, ◌<◌, ◌^◌, refl, ◌∙◌, rules}
 use Rattle.sja_replay.proofs.BitTaken.Passed.{same_node, passed_bit}
+use Rattle.sja_replay.proofs.BitTaken.Silent.{shorter}
 use Rattle.sja_replay.proofs.replay.Replay.pass.Goals as goal
 use Rattle.sja_replay.proofs.replay.Replay.pass.Goals.{then-may_start-via-then-may_start}
 use Rattle.sja_replay.proofs.replay.Replay.pass.Goals.{then-may_start-via-else-may_start+then-not-sample_quietly}
@@ -12,6 +13,10 @@ returns-then-may_start-clause-none c = λ none. elim c.then-may_start.branch [
       w.self-is
       ∙ same_node c.args.self.now _ _ (w.sample_quietly.ensures.same w.if-not-sample_quietly.true)
 ]
+
+pub returns-clause-shorter : goal.returns-clause-shorter
+returns-clause-shorter c =
+    shorter c.args.self.now c.look_on.new.self _ c.in_ok-driven.ensures c.look_on.ensures.left
 
 pub returns-clause-passed : goal.returns-clause-passed
 returns-clause-passed c = λ before at.

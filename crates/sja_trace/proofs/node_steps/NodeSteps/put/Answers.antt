@@ -1,7 +1,13 @@
-use Rattle.std.proofs.Common.{◌+◌, ◌<◌, false, string_bytes}
+use Rattle.std.proofs.Common.{◌≡◌, ◌+◌, ◌<◌, ◌++◌, ◌∙◌, true, false, string_bytes, sym, ap, append-nil, rules}
 use Rattle.sja_trace.proofs.SoFar.Lines.{done_end}
 use Rattle.sja_trace.proofs.DriverSteps.StepOrders.{put_first, put_early}
 use Rattle.sja_trace.proofs.node_steps.NodeSteps.put.Goals as goal
+
+pub returns-then-is_quiet : goal.returns-then-is_quiet
+returns-then-is_quiet c =
+    let quiet : c.is_quiet.result ≡ true = search rules in
+    sym (append-nil (string_bytes c.args.text.now))
+    ∙ ap (λ t. string_bytes c.args.text.now ++ t) (sym (c.is_quiet.ensures quiet c.args.node))
 
 pub loop-place-init : goal.loop-place-init
 loop-place-init c =
