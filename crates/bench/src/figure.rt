@@ -4,7 +4,7 @@ use super::buses::{self, Traffic};
 use super::document::Document;
 use super::watching::{self, BUSY, BUSY_WATCHED, IDLE, IDLE_WATCHED};
 use super::{
-    contending, driving, faults, hearing, idle, line, node, plans, sending, sessions, shift,
+    contending, faults, frame_reads, hearing, idle, line, node, plans, sending, sessions, shift,
     stream, talk,
 };
 use std::alloc::Global;
@@ -56,11 +56,9 @@ pub enum Figure {
     SessionCommand,
     /// A session of a sender and a receiver.
     SessionStream,
-    /// Registers of a session that writes its plan are read by their addresses.
-    SessionPlanRead,
-    /// Registers of such a session are written by their addresses.
-    SessionPlanWrite,
-    /// Such a session runs idle bits.
+    /// What a driver reads for a frame is read, by its addresses.
+    SessionFrameRead,
+    /// A session runs idle bits.
     SessionIdle,
     /// It runs idle bits and watches its lines.
     SessionIdleWatched,
@@ -73,7 +71,7 @@ pub enum Figure {
 }
 
 /// Every figure, in the order in which `all` tells them.
-pub const FIGURES: [Figure; 29] = [
+pub const FIGURES: [Figure; 28] = [
     Figure::Shift,
     Figure::Line,
     Figure::Node,
@@ -96,8 +94,7 @@ pub const FIGURES: [Figure; 29] = [
     Figure::SessionWrite,
     Figure::SessionCommand,
     Figure::SessionStream,
-    Figure::SessionPlanRead,
-    Figure::SessionPlanWrite,
+    Figure::SessionFrameRead,
     Figure::SessionIdle,
     Figure::SessionIdleWatched,
     Figure::SessionBusy,
@@ -168,8 +165,7 @@ impl Figure {
             Figure::SessionWrite => "session-write",
             Figure::SessionCommand => "session-command",
             Figure::SessionStream => "session-stream",
-            Figure::SessionPlanRead => "session-plan-read",
-            Figure::SessionPlanWrite => "session-plan-write",
+            Figure::SessionFrameRead => "session-frame-read",
             Figure::SessionIdle => "session-idle",
             Figure::SessionIdleWatched => "session-idle-watched",
             Figure::SessionBusy => "session-busy",
@@ -204,8 +200,7 @@ impl Figure {
             Figure::SessionWrite => sessions::writes_told(alloc, count),
             Figure::SessionCommand => sessions::commands_told(alloc, count),
             Figure::SessionStream => sessions::frames_told(alloc, count / 10),
-            Figure::SessionPlanRead => driving::reads_told(alloc, count),
-            Figure::SessionPlanWrite => driving::writes_told(alloc, count),
+            Figure::SessionFrameRead => frame_reads::told(alloc, count),
             Figure::SessionIdle => watching::told(alloc, count / 10, IDLE),
             Figure::SessionIdleWatched => watching::told(alloc, count / 10, IDLE_WATCHED),
             Figure::SessionBusy => watching::told(alloc, count / 10, BUSY),

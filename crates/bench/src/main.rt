@@ -7,9 +7,9 @@
 mod buses;
 mod contending;
 mod document;
-mod driving;
 mod faults;
 mod figure;
+mod frame_reads;
 mod hearing;
 mod idle;
 mod line;

@@ -1,10 +1,10 @@
 //! The figures of sessions: registers are read and written by address, and frames pass between two drivers of addresses
 //! and bytes.
 
-use sja_session::RawSession;
+use sja_session::Session;
 use std::alloc::Global;
 
-/// How many registers are read in one session: a document has room for 65,535 steps of a node.
+/// How many registers are read in one session: there is room for 65,535 steps of a node.
 const READS: u32 = 50_000;
 
 /// How many writes are done in one session, each of which is one step.
@@ -17,10 +17,10 @@ const COMMANDS: u32 = 40_000;
 const COMMANDED: [u8; 8] = [0x01, 0x02, 0x03, 0x02, 0x10, 0x02, 0x08, 0x04];
 
 /// The bits of the longest kind of frame with intermission, and the bit in which it is asked for again.
-const BITS: u32 = 145;
+pub const BITS: u32 = 145;
 
 /// The bits in which started nodes wait for the bus.
-const WAITING: u32 = 11;
+pub const WAITING: u32 = 11;
 
 /// How many frames pass in one session.
 const FRAMES: u32 = 1_300;
@@ -59,7 +59,7 @@ fn sum_of_reads(alloc: Global, count: u32) -> Option<u64> {
 }
 
 /// The same, in this session.
-fn sum_in(session: &mut RawSession, count: u32) -> Option<u64> {
+fn sum_in(session: &mut Session, count: u32) -> Option<u64> {
     let mut sum = 0u64;
     for _ in 0..count {
         sum = sum.wrapping_add(u64::from(read(session, 1, 2)?));
@@ -85,7 +85,7 @@ fn writes_of(alloc: Global, count: u32) -> Option<u64> {
 }
 
 /// The same, in this session.
-fn writes_in(session: &mut RawSession, count: u32) -> Option<u64> {
+fn writes_in(session: &mut Session, count: u32) -> Option<u64> {
     write(session, 1, 0, 0x00)?;
     let mut done = 0u64;
     for access in 0..count {
@@ -97,14 +97,13 @@ fn writes_in(session: &mut RawSession, count: u32) -> Option<u64> {
 }
 
 /// Does one of these 16 writes.
-fn write_next(session: &mut RawSession, access: u32) -> Option<()> {
+fn write_next(session: &mut Session, access: u32) -> Option<()> {
     let (address, value) = written_next(access)?;
     write(session, 1, address, value)
 }
 
 /// Where one of these 16 writes goes, and what it writes.
-#[inline(always)]
-pub fn written_next(access: u32) -> Option<(u8, u8)> {
+fn written_next(access: u32) -> Option<(u8, u8)> {
     match access {
         0 => Some((0, 0x00)),
         1 => Some((4, 0xff)),
@@ -133,7 +132,7 @@ fn commands_of(alloc: Global, count: u32) -> Option<u64> {
 }
 
 /// The same, in this session.
-fn commands_in(session: &mut RawSession, count: u32) -> Option<u64> {
+fn commands_in(session: &mut Session, count: u32) -> Option<u64> {
     write(session, 1, 0, 0x00)?;
     let mut done = 0u64;
     for access in 0..count {
@@ -145,7 +144,7 @@ fn commands_in(session: &mut RawSession, count: u32) -> Option<u64> {
 }
 
 /// Does one of these eight commands. The bit after AT is that in which the request is given up.
-fn command_next(session: &mut RawSession, access: u32) -> Option<()> {
+fn command_next(session: &mut Session, access: u32) -> Option<()> {
     let value = *COMMANDED.get(access as usize)?;
     write(session, 1, 1, value)?;
     if value == 0x02 {
@@ -174,10 +173,8 @@ fn released_of(alloc: Global, frames: u32) -> Option<u64> {
 }
 
 /// The same, in this session.
-fn released_in(session: &mut RawSession, frames: u32) -> Option<u64> {
-    write(session, 0, 0, 0x00)?;
-    write(session, 1, 0, 0x00)?;
-    run(session, WAITING)?;
+fn released_in(session: &mut Session, frames: u32) -> Option<u64> {
+    start(session)?;
     let mut released = 0u64;
     for _ in 0..frames {
         if is_released(session)? {
@@ -188,7 +185,7 @@ fn released_in(session: &mut RawSession, frames: u32) -> Option<u64> {
 }
 
 /// Lets the bits of a frame pass, and says whether the second driver found it; then it released it.
-fn is_released(session: &mut RawSession) -> Option<bool> {
+fn is_released(session: &mut Session) -> Option<bool> {
     ask(session)?;
     run(session, BITS)?;
     if read(session, 1, 2)? & 0x01 == 0 {
@@ -199,34 +196,47 @@ fn is_released(session: &mut RawSession) -> Option<bool> {
 }
 
 /// Has the first driver write the transmit buffer and request its transmission.
-fn ask(session: &mut RawSession) -> Option<()> {
+fn ask(session: &mut Session) -> Option<()> {
+    load(session)?;
+    write(session, 0, 1, 0x01)
+}
+
+/// Takes both nodes out of reset mode, and lets them wait for the bus.
+pub fn start(session: &mut Session) -> Option<()> {
+    write(session, 0, 0, 0x00)?;
+    write(session, 1, 0, 0x00)?;
+    run(session, WAITING)
+}
+
+/// Writes the first node's transmit buffer.
+pub fn load(session: &mut Session) -> Option<()> {
     for (address, value) in FRAME {
         write(session, 0, address, value)?;
     }
-    write(session, 0, 1, 0x01)
+    Some(())
 }
 
 /// A session of version 3 with two nodes and so many bits. What a session promises stays out of the proofs of what is
 /// measured, here and in the three calls below.
-fn session_of(alloc: Global, bits: u32) -> Option<RawSession> {
-    RawSession::new(alloc, 3, bits, 2).ok()
+pub fn session_of(alloc: Global, bits: u32) -> Option<Session> {
+    Session::new(alloc, 3, bits, 2).ok()
 }
 
 /// What a read of an address of a node answers.
 #[inline(always)]
-fn read(session: &mut RawSession, node: u8, address: u8) -> Option<u8> {
+pub fn read(session: &mut Session, node: u8, address: u8) -> Option<u8> {
     session.read(node, address).ok()
 }
 
 /// A write of a byte to an address of a node.
 #[inline(always)]
-fn write(session: &mut RawSession, node: u8, address: u8, value: u8) -> Option<()> {
+pub fn write(session: &mut Session, node: u8, address: u8, value: u8) -> Option<()> {
     session.write(node, address, value).ok()
 }
 
 /// So many bits.
 #[inline(always)]
-fn run(session: &mut RawSession, count: u32) -> Option<()> {
+pub fn run(session: &mut Session, count: u32) -> Option<()> {
     match session.bits(count) {
         Ok(_) => Some(()),
         Err(_) => None,

@@ -1,14 +1,8 @@
-//! The figures of the bits of a session that writes its plan: idle ones and those of frames, watched and unwatched.
+//! The figures of the bits of a session: idle ones and those of frames, watched and unwatched.
 
-use super::driving::{load, run, session_of, start, write};
-use sja_plan_session::PlanSession;
+use super::sessions::{BITS, WAITING, load, run, session_of, start, write};
+use sja_session::Session;
 use std::alloc::Global;
-
-/// The bits of the longest kind of frame with intermission, and the bit in which it is asked for again.
-const BITS: u32 = 145;
-
-/// The bits in which started nodes wait for the bus.
-const WAITING: u32 = 11;
 
 /// How many times the bits of a frame are run in one session.
 const TIMES: u32 = 1_300;
@@ -68,7 +62,7 @@ fn rose_of(alloc: Global, times: u32, watching: Watching) -> Option<u64> {
 }
 
 /// The same, in this session, whose nodes wait no more.
-fn rose_in(session: &mut PlanSession, times: u32, watching: Watching) -> Option<u64> {
+fn rose_in(session: &mut Session, times: u32, watching: Watching) -> Option<u64> {
     let mut rose = 0u64;
     for _ in 0..times {
         if has_risen(session, watching)? {
@@ -80,7 +74,7 @@ fn rose_in(session: &mut PlanSession, times: u32, watching: Watching) -> Option<
 
 /// Lets the bits of a frame pass, and says whether a watched line rose in them. Where the first node sends, the second
 /// one releases the message once its line rose or all have passed.
-fn has_risen(session: &mut PlanSession, watching: Watching) -> Option<bool> {
+fn has_risen(session: &mut Session, watching: Watching) -> Option<bool> {
     if watching.busy {
         write(session, 0, 1, 0x01)?;
     }
@@ -96,7 +90,7 @@ fn has_risen(session: &mut PlanSession, watching: Watching) -> Option<bool> {
 }
 
 /// Lets so many bits pass, or, where lines are watched, those up to the first in which one rises. It says how many.
-fn pass(session: &mut PlanSession, count: u32, watching: Watching) -> Option<u32> {
+fn pass(session: &mut Session, count: u32, watching: Watching) -> Option<u32> {
     if watching.watched {
         return watch(session, count);
     }
@@ -106,7 +100,7 @@ fn pass(session: &mut PlanSession, count: u32, watching: Watching) -> Option<u32
 
 /// The same, where lines are watched.
 #[inline(always)]
-fn watch(session: &mut PlanSession, count: u32) -> Option<u32> {
+fn watch(session: &mut Session, count: u32) -> Option<u32> {
     match session.watch(count, [true; 8]) {
         Ok(watched) => Some(watched.bits),
         Err(_) => None,

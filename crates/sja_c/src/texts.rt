@@ -1,4 +1,4 @@
-//! `sja_report`, `sja_plan` and `sja_run_plan`.
+//! `sja_put_report`, `sja_put_plan` and `sja_put_run`.
 
 ghost use types.Logic.{sem};
 ghost use Rattle.std.specs.Prelude.{◌≡◌};
@@ -11,9 +11,9 @@ use super::answer::{SjaAnswer, done, no_handle, refused};
 use sja_calls::{Held, run_plan};
 use std::alloc::Global;
 
-/// Ends a session and puts its report into a text: `sja_report` of `c/sja.h`.
+/// Ends a session and puts its report into a text: `sja_put_report` of `c/sja.h`.
 #[unsafe(no_mangle)]
-pub unsafe extern "C" fn sja_report(at: *mut u8, text: &mut [u8]) -> SjaAnswer
+pub unsafe extern "C" fn sja_put_report(at: *mut u8, text: &mut [u8]) -> SjaAnswer
     ghost held: { HeldOf }
     requires* { sem 𝓛 (is_handle at held) }
     ensures* { ∃ₛ (λ (after : HeldOf). sem 𝓛 (is_handle at after)
@@ -36,9 +36,9 @@ fn report_of(held: &mut Held, text: &mut [u8]) -> SjaAnswer
     }
 }
 
-/// Puts the plan that a session wrote into a text: `sja_plan` of `c/sja.h`.
+/// Puts the plan that a session wrote into a text: `sja_put_plan` of `c/sja.h`.
 #[unsafe(no_mangle)]
-pub unsafe extern "C" fn sja_plan(at: *mut u8, text: &mut [u8]) -> SjaAnswer
+pub unsafe extern "C" fn sja_put_plan(at: *mut u8, text: &mut [u8]) -> SjaAnswer
     ghost held: { HeldOf }
     requires* { sem 𝓛 (is_handle at held) }
     ensures* { ∃ₛ (λ (after : HeldOf). sem 𝓛 (is_handle at after)
@@ -69,9 +69,9 @@ pub(crate) fn no_text(_text: &mut [u8]) -> SjaAnswer
     no_handle()
 }
 
-/// Runs a plan and puts the report of the run into a text: `sja_run_plan` of `c/sja.h`.
+/// Runs a plan and puts the report of the run into a text: `sja_put_run` of `c/sja.h`.
 #[unsafe(no_mangle)]
-pub extern "C" fn sja_run_plan(alloc: Global, plan: &[u8], text: &mut [u8]) -> SjaAnswer
+pub extern "C" fn sja_put_run(alloc: Global, plan: &[u8], text: &mut [u8]) -> SjaAnswer
     ensures { AnswersRun plan.now text.old text.new result }
 {
     match run_plan(alloc, plan, text) {

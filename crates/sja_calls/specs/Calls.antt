@@ -1,19 +1,21 @@
 -- What the calls of a program in C do, and why one isn't done (this project's own rule).
 use Rattle.std.specs.Prelude.{◌≡◌, ◌≤◌, ◌<◌, ◌==◌, ◌%◌, ℕ, Bool, true, false, not, Option, None, List}
+use Rattle.std.specs.Prelude.{length, map}
 use Rattle.std.specs.List.{range_with_len}
-use Rattle.std.specs.Prelude.{map}
 use Rattle.sja_calls.specs.declared.call_fault.CallFault.{CallFault}
 use Rattle.sja_calls.specs.declared.call_fault.CallFault.TheVariants.{Ended, NoAddress, NoByte, NoNode, NoBit, Past}
 use Rattle.sja_calls.specs.declared.call_fault.CallFault.TheVariants.{StepsUsed, TurnsUsed, StrikesUsed, Memory}
 use Rattle.sja_calls.specs.declared.state.State.{State}
 use Rattle.sja_calls.specs.declared.state.State.TheVariants.{Going, Ended as HasLog, Lost}
-use Rattle.sja_driver.specs.Deeds.{Deed}
-use Rattle.sja_driver_session.specs.Bits.{MayRunIn, LacksBusTurnIn, RunsIn, WatchesIn, LooksIn, StrikesIn}
-use Rattle.sja_driver_session.specs.DriverSessions.{StandsIn, bits_of, node_count, session_of}
-use Rattle.sja_driver_session.specs.Steps.{MayStepIn, IsStepFaultIn, MayWriteIn, IsWriteFaultIn, ReadsIn, WritesIn}
-use Rattle.sja_driver_session.specs.declared.driver_session.DriverSession.{DriverSession}
+use Rattle.sja_driver.specs.Accesses.{Access}
 use Rattle.sja_regs.specs.Bits.{is_set}
-use Rattle.sja_session.specs.Striking.{MayStrike, IsStrikeFault as IsStrikeFaultOf}
+use Rattle.sja_session.specs.ByAddress.{Reads, Writes, MayWrite, IsWriteFault as IsWriteFaultOf}
+use Rattle.sja_session.specs.Lines.{Looks}
+use Rattle.sja_session.specs.Running.{RunsBits, MayRun, LacksBusTurn}
+use Rattle.sja_session.specs.Sessions.{SessionValue, IsAt}
+use Rattle.sja_session.specs.Stepping.{MayStep, IsStepFault}
+use Rattle.sja_session.specs.Striking.{IsStruck, MayStrike, IsStrikeFault as IsStrikeFaultOf}
+use Rattle.sja_session.specs.Watching.{Watches}
 use Rattle.sja_session.specs.declared.step_fault.StepFault.{StepFault}
 use Rattle.sja_session.specs.declared.step_fault.StepFault.TheVariants.{NoNode as NoStepNode, StepsUsed as AllSteps}
 use Rattle.sja_session.specs.declared.step_fault.StepFault.TheVariants.{TurnsUsed as AllTurns}
@@ -25,17 +27,17 @@ use Rattle.sja_session.specs.declared.strike_fault.StrikeFault.TheVariants.{Memo
 -- ---- sessions that go on
 
 -- one thing of a session that goes on, and another where it has ended
-abbrev pub IfGoing : State → (DriverSession → Type 0) → Type 0 → Type 0
+abbrev pub IfGoing : State → (SessionValue → Type 0) → Type 0 → Type 0
 IfGoing (Going s) going over = going s
 IfGoing (HasLog plan log) going over = over
 IfGoing Lost going over = over
 
 -- one thing of a session that goes on before and after; nothing else holds
-abbrev pub GoesOn : State → State → (DriverSession → DriverSession → Type 0) → Type 0
+abbrev pub GoesOn : State → State → (SessionValue → SessionValue → Type 0) → Type 0
 GoesOn was now holds = IfGoing was (λ r. IfGoing now (λ s. holds r s) ⊥) ⊥
 
 -- why a call of a session isn't done: it has ended, or goes on and this holds of it
-abbrev pub IsRefusal : State → (DriverSession → CallFault → Type 0) → CallFault → Type 0
+abbrev pub IsRefusal : State → (SessionValue → CallFault → Type 0) → CallFault → Type 0
 IsRefusal was why fault = IfGoing was (λ r. why r fault) (fault ≡ Ended)
 
 -- ---- accesses
@@ -43,33 +45,31 @@ IsRefusal was why fault = IfGoing was (λ r. why r fault) (fault ≡ Ended)
 -- an address of a node was read as this value
 abbrev pub ReadsOf : State → State → ℕ → ℕ → ℕ → Type 0
 ReadsOf was now node address value =
-    GoesOn was now (λ r s. (address ≤ 255) × MayStepIn r node
-    × ((deeds : List (List Deed)) → StandsIn r deeds →
-    (after : List (List Deed)) × ReadsIn r s node address value deeds after × StandsIn s after))
+    GoesOn was now (λ r s. (address ≤ 255) × MayStep r node
+    × ((accesses : List (List Access)) → IsAt r accesses → Reads r s node address value accesses))
 
 -- why it wasn't: the first of these that holds
-abbrev pub IsReadFault : ℕ → ℕ → DriverSession → CallFault → Type 0
+abbrev pub IsReadFault : ℕ → ℕ → SessionValue → CallFault → Type 0
 IsReadFault node address r NoAddress = 255 < address
-IsReadFault node address r NoNode = (address ≤ 255) × IsStepFaultIn r node NoStepNode
-IsReadFault node address r StepsUsed = (address ≤ 255) × IsStepFaultIn r node AllSteps
-IsReadFault node address r TurnsUsed = (address ≤ 255) × IsStepFaultIn r node AllTurns
+IsReadFault node address r NoNode = (address ≤ 255) × IsStepFault r node NoStepNode
+IsReadFault node address r StepsUsed = (address ≤ 255) × IsStepFault r node AllSteps
+IsReadFault node address r TurnsUsed = (address ≤ 255) × IsStepFault r node AllTurns
 IsReadFault node address r fault = ⊥
 
 -- a value was written to an address of a node
 abbrev pub WritesOf : State → State → ℕ → ℕ → ℕ → Type 0
 WritesOf was now node address value =
     GoesOn was now (λ r s. (address ≤ 255) × (value ≤ 255)
-    × ((deeds : List (List Deed)) → StandsIn r deeds →
-    MayWriteIn r node address value deeds
-    × ((after : List (List Deed)) × WritesIn r s node address value deeds after × StandsIn s after)))
+    × ((accesses : List (List Access)) → IsAt r accesses →
+    MayWrite r node address value accesses × Writes r s node address value accesses))
 
 -- why it wasn't: the first of these that holds
-abbrev pub IsFaultOfWrite : ℕ → ℕ → ℕ → DriverSession → StepFault → Type 0
+abbrev pub IsFaultOfWrite : ℕ → ℕ → ℕ → SessionValue → StepFault → Type 0
 IsFaultOfWrite node address value r fault =
     (address ≤ 255) × (value ≤ 255)
-    × ((deeds : List (List Deed)) → StandsIn r deeds → IsWriteFaultIn r node address value deeds fault)
+    × ((accesses : List (List Access)) → IsAt r accesses → IsWriteFaultOf r node address value accesses fault)
 
-abbrev pub IsWriteFault : ℕ → ℕ → ℕ → DriverSession → CallFault → Type 0
+abbrev pub IsWriteFault : ℕ → ℕ → ℕ → SessionValue → CallFault → Type 0
 IsWriteFault node address value r NoAddress = 255 < address
 IsWriteFault node address value r NoByte = (address ≤ 255) × (255 < value)
 IsWriteFault node address value r NoNode = IsFaultOfWrite node address value r NoStepNode
@@ -88,18 +88,18 @@ watches mask = not (mask % 256 == 0)
 
 -- so many bits were run, of those that were asked for: where a node is watched, up to the first in which the line of
 -- one rose, and else all of them or as many as were left
-abbrev pub RunsBy : Bool → DriverSession → DriverSession → ℕ → ℕ → ℕ → Option ℕ → List (List Deed) → Type 0
-RunsBy true r s count mask run rose deeds = WatchesIn r s count (watched_in mask) run rose deeds
-RunsBy false r s count mask run rose deeds = RunsIn r s count run deeds × (rose ≡ None)
+abbrev pub RunsBy : Bool → SessionValue → SessionValue → ℕ → ℕ → ℕ → Option ℕ → List (List Access) → Type 0
+RunsBy true r s count mask run rose accesses = Watches r s count (watched_in mask) run rose accesses
+RunsBy false r s count mask run rose accesses = RunsBits r s count run accesses × (rose ≡ None)
 
 abbrev pub RunsOf : State → State → ℕ → ℕ → ℕ → Option ℕ → Type 0
 RunsOf was now count mask run rose =
-    GoesOn was now (λ r s. MayRunIn r count
-    × ((deeds : List (List Deed)) → StandsIn r deeds → RunsBy (watches mask) r s count mask run rose deeds))
+    GoesOn was now (λ r s. MayRun r count × ((accesses : List (List Access)) → IsAt r accesses →
+    RunsBy (watches mask) r s count mask run rose accesses))
 
 -- why they weren't
-abbrev pub IsRunFault : ℕ → DriverSession → CallFault → Type 0
-IsRunFault count r TurnsUsed = LacksBusTurnIn r count
+abbrev pub IsRunFault : ℕ → SessionValue → CallFault → Type 0
+IsRunFault count r TurnsUsed = LacksBusTurn r count
 IsRunFault count r fault = ⊥
 
 -- ---- lines and strikes
@@ -107,33 +107,33 @@ IsRunFault count r fault = ⊥
 -- the line of a node was looked at, and nothing happened
 abbrev pub LooksOf : State → State → ℕ → Bool → Type 0
 LooksOf was now node line =
-    GoesOn was now (λ r s. (node < node_count r)
-    × ((deeds : List (List Deed)) → StandsIn r deeds → LooksIn r s node line deeds))
+    GoesOn was now (λ r s. (node < length r.plan.nodes)
+    × ((accesses : List (List Access)) → IsAt r accesses → Looks r s node line accesses))
 
 -- why it wasn't
-abbrev pub IsLookFault : ℕ → DriverSession → CallFault → Type 0
-IsLookFault node r NoNode = node_count r ≤ node
+abbrev pub IsLookFault : ℕ → SessionValue → CallFault → Type 0
+IsLookFault node r NoNode = length r.plan.nodes ≤ node
 IsLookFault node r fault = ⊥
 
 -- a strike was taken
 abbrev pub StrikesOf : State → State → ℕ → ℕ → Type 0
 StrikesOf was now node bit =
-    GoesOn was now (λ r s. MayStrike (session_of r) node bit
-    × ((deeds : List (List Deed)) → StandsIn r deeds → StrikesIn r s node bit deeds))
+    GoesOn was now (λ r s. MayStrike r node bit
+    × ((accesses : List (List Access)) → IsAt r accesses → IsStruck r s node bit accesses))
 
 -- why it wasn't: the first of these that holds
-abbrev pub IsStrikeFault : ℕ → ℕ → DriverSession → CallFault → Type 0
-IsStrikeFault node bit r NoNode = IsStrikeFaultOf (session_of r) node bit NoStruckNode
-IsStrikeFault node bit r NoBit = IsStrikeFaultOf (session_of r) node bit NoStruckBit
-IsStrikeFault node bit r Past = IsStrikeFaultOf (session_of r) node bit HasRun
-IsStrikeFault node bit r StrikesUsed = IsStrikeFaultOf (session_of r) node bit AllStrikes
-IsStrikeFault node bit r Memory = IsStrikeFaultOf (session_of r) node bit NoStrikeMemory
+abbrev pub IsStrikeFault : ℕ → ℕ → SessionValue → CallFault → Type 0
+IsStrikeFault node bit r NoNode = IsStrikeFaultOf r node bit NoStruckNode
+IsStrikeFault node bit r NoBit = IsStrikeFaultOf r node bit NoStruckBit
+IsStrikeFault node bit r Past = IsStrikeFaultOf r node bit HasRun
+IsStrikeFault node bit r StrikesUsed = IsStrikeFaultOf r node bit AllStrikes
+IsStrikeFault node bit r Memory = IsStrikeFaultOf r node bit NoStrikeMemory
 IsStrikeFault node bit r fault = ⊥
 
 -- so many bits were run
 abbrev pub IsNowOf : State → ℕ → Type 0
-IsNowOf was now = IfGoing was (λ r. now ≡ bits_of r) ⊥
+IsNowOf was now = IfGoing was (λ r. now ≡ r.run.bits) ⊥
 
 -- a session that goes on always tells it
-abbrev pub IsNowFault : DriverSession → CallFault → Type 0
+abbrev pub IsNowFault : SessionValue → CallFault → Type 0
 IsNowFault r fault = ⊥

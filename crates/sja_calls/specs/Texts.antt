@@ -4,20 +4,20 @@ use Rattle.sja_calls.specs.declared.call_fault.CallFault.{CallFault}
 use Rattle.sja_calls.specs.declared.call_fault.CallFault.TheVariants.{NoPlan, NoDocument, NoRoom, Memory}
 use Rattle.sja_calls.specs.declared.state.State.{State}
 use Rattle.sja_calls.specs.declared.state.State.TheVariants.{Going, Ended, Lost}
-use Rattle.sja_driver.specs.Deeds.{Deed}
-use Rattle.sja_driver_session.specs.DriverSessions.{StandsIn, written}
-use Rattle.sja_driver_session.specs.Ending.{IsOwnLog, IsRunIn}
-use Rattle.sja_driver_session.specs.declared.driver_session.DriverSession.{DriverSession}
+use Rattle.sja_driver.specs.Accesses.{Access}
 use Rattle.sja_log.specs.Headline.{AreAccounts}
 use Rattle.sja_log.specs.Log.{RunValue}
+use Rattle.sja_log.specs.Runs.{IsSerialRun}
+use Rattle.sja_log.specs.declared.end.End.TheVariants.{Turns as TurnsDone}
 use Rattle.sja_plan.specs.Faults.{IsPlanOf, IsFirstFault}
 use Rattle.sja_plan.specs.Plan.{PlanValue}
 use Rattle.sja_plan.specs.declared.plan_fault.PlanFault.{PlanFault}
 use Rattle.sja_plan.specs.declared.plan_fault.PlanFault.TheVariants.{Memory as NoPlanMemory}
-use Rattle.sja_plan_session.specs.PlanRuns.{IsPlanRun}
 use Rattle.sja_plan_text.specs.HasTexts.{HasTexts}
 use Rattle.sja_plan_text.specs.Written.{IsPlanText, IsTooLong}
 use Rattle.sja_report.specs.ReportLines.{report_text}
+use Rattle.sja_serial.specs.Ending.{IsLogOf}
+use Rattle.sja_session.specs.Sessions.{SessionValue, IsAt, written}
 
 -- ---- texts and rooms
 
@@ -33,14 +33,14 @@ LacksRoom text room size = (length room ≤ length text) × (size ≡ length tex
 -- ---- how a session ends
 
 -- its plan is what it wrote, and its log is that of a run of this plan, and of what its drivers did
-pub record EndsAs (d : DriverSession) (plan : PlanValue) (log : RunValue) : Type 0 where
-  pub wrote : plan ≡ written d
-  pub own : (deeds : List (List Deed)) → StandsIn d deeds → IsOwnLog d deeds log
-  pub run : IsRunIn d plan log
+pub record EndsAs (s : SessionValue) (plan : PlanValue) (log : RunValue) : Type 0 where
+  pub wrote : plan ≡ written s
+  pub own : (accesses : List (List Access)) → IsAt s accesses → IsLogOf plan s.run accesses TurnsDone log
+  pub run : IsSerialRun plan log
   pub accounts : AreAccounts log
 
 -- a session that went on has ended, or there was no memory for its log. One that has ended stays as it is
-abbrev pub EndsFrom : DriverSession → State → Type 0
+abbrev pub EndsFrom : SessionValue → State → Type 0
 EndsFrom r (Going s) = ⊥
 EndsFrom r (Ended plan log) = EndsAs r plan log
 EndsFrom r Lost = Unit {0}
@@ -101,14 +101,14 @@ IsNoPlanText Lost room fault = fault ≡ Memory
 -- the report of a run of the plan that these bytes are was put
 abbrev pub PutsRun : List ℕ → List ℕ → List ℕ → ℕ → Type 0
 PutsRun bytes was now count =
-    (plan : PlanValue) × (log : RunValue) × IsPlanOf bytes plan × IsPlanRun plan log × AreAccounts log
+    (plan : PlanValue) × (log : RunValue) × IsPlanOf bytes plan × IsSerialRun plan log × AreAccounts log
     × Puts (report_text log) was now count
 
 -- why none was: the bytes are no plan, for this reason; the report doesn't fit; or memory was refused
 abbrev pub IsNoRun : List ℕ → List ℕ → CallFault → Type 0
 IsNoRun bytes room NoPlan = (fault : PlanFault) × IsFirstFault bytes fault × (fault ≢ NoPlanMemory)
 IsNoRun bytes room (NoRoom size) =
-    (plan : PlanValue) × (log : RunValue) × IsPlanOf bytes plan × IsPlanRun plan log
+    (plan : PlanValue) × (log : RunValue) × IsPlanOf bytes plan × IsSerialRun plan log
     × LacksRoom (report_text log) room size
 IsNoRun bytes room Memory = Unit {0}
 IsNoRun bytes room fault = ⊥

@@ -2,16 +2,16 @@
 
 ghost use Rattle.std.specs.Prelude.{◌≡◌, ◌≤◌, IfOk, IfErr, OnOk, OnErr, List};
 ghost use Rattle.sja_calls.specs.Calls.{IsReadFault, IsWriteFault};
-ghost use Rattle.sja_driver.specs.Deeds.{Deed};
-ghost use Rattle.sja_driver_session.specs.DriverSessions.{StandsIn};
-ghost use Rattle.sja_driver_session.specs.Steps.{MayStepIn, MayWriteIn, ReadsIn, WritesIn};
+ghost use Rattle.sja_driver.specs.Accesses.{Access};
+ghost use Rattle.sja_session.specs.ByAddress.{MayWrite, Reads, Writes};
+ghost use Rattle.sja_session.specs.Sessions.{IsAt};
+ghost use Rattle.sja_session.specs.Stepping.{MayStep};
 
 use super::call_fault::CallFault;
 use super::held::Held;
 use super::numbers::node_in;
 use super::state::State;
-use sja_driver_session::DriverSession;
-use sja_session::StepFault;
+use sja_session::{Session, StepFault};
 
 impl Held {
     ghost use Rattle.std.specs.Prelude.{◌≡◌, IfOk, IfErr, OnOk, OnErr};
@@ -51,11 +51,10 @@ impl Held {
 }
 
 /// Reads an address of a node.
-fn read_by(session: &mut DriverSession, node: u32, address: u32) -> Result<u8, CallFault>
-    ensures reads { IfOk result (λ value. (deeds : List (List Deed)) → StandsIn session.old deeds →
-        (after : List (List Deed)) × ReadsIn session.old session.new node address value deeds after
-        × StandsIn session.new after) }
-    ensures may { OnOk result ((address ≤ 255) × MayStepIn session.old node) }
+fn read_by(session: &mut Session, node: u32, address: u32) -> Result<u8, CallFault>
+    ensures reads { IfOk result (λ value. (accesses : List (List Access)) → IsAt session.old accesses →
+        Reads session.old session.new node address value accesses) }
+    ensures may { OnOk result ((address ≤ 255) × MayStep session.old node) }
     ensures err { IfErr result (IsReadFault node address session.old) }
     ensures kept { OnErr result (session.new ≡ session.old) }
 {
@@ -74,16 +73,10 @@ fn read_by(session: &mut DriverSession, node: u32, address: u32) -> Result<u8, C
 }
 
 /// Writes a byte to an address of a node.
-fn write_by(
-    session: &mut DriverSession,
-    node: u32,
-    address: u32,
-    value: u32,
-) -> Result<(), CallFault>
-    ensures writes { OnOk result ((deeds : List (List Deed)) → StandsIn session.old deeds →
-        MayWriteIn session.old node address value deeds
-        × ((after : List (List Deed)) × WritesIn session.old session.new node address value deeds after
-        × StandsIn session.new after)) }
+fn write_by(session: &mut Session, node: u32, address: u32, value: u32) -> Result<(), CallFault>
+    ensures writes { OnOk result ((accesses : List (List Access)) → IsAt session.old accesses →
+        MayWrite session.old node address value accesses
+        × Writes session.old session.new node address value accesses) }
     ensures may { OnOk result ((address ≤ 255) × (value ≤ 255)) }
     ensures err { IfErr result (IsWriteFault node address value session.old) }
     ensures kept { OnErr result (session.new ≡ session.old) }

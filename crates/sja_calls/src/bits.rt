@@ -1,18 +1,18 @@
 //! The bits of a session of C, its interrupt lines and its strikes.
 
-ghost use Rattle.std.specs.Prelude.{◌≡◌, ◌<◌, IfOk, IfErr, OnOk, OnErr, List};
+ghost use Rattle.std.specs.Prelude.{◌≡◌, ◌<◌, IfOk, IfErr, OnOk, OnErr, List, length};
 ghost use Rattle.sja_calls.specs.Calls.{watches, RunsBy, IsRunFault, IsLookFault, IsStrikeFault};
-ghost use Rattle.sja_driver.specs.Deeds.{Deed};
-ghost use Rattle.sja_driver_session.specs.Bits.{LooksIn, MayRunIn, StrikesIn};
-ghost use Rattle.sja_driver_session.specs.DriverSessions.{StandsIn, node_count, session_of};
-ghost use Rattle.sja_session.specs.Striking.{MayStrike};
+ghost use Rattle.sja_driver.specs.Accesses.{Access};
+ghost use Rattle.sja_session.specs.Lines.{Looks};
+ghost use Rattle.sja_session.specs.Running.{MayRun};
+ghost use Rattle.sja_session.specs.Sessions.{IsAt};
+ghost use Rattle.sja_session.specs.Striking.{IsStruck, MayStrike};
 
 use super::call_fault::CallFault;
 use super::held::Held;
 use super::numbers::{node_in, watched_by};
 use super::state::State;
-use sja_driver_session::DriverSession;
-use sja_session::{StrikeFault, Watched};
+use sja_session::{Session, StrikeFault, Watched};
 
 impl Held {
     ghost use Rattle.std.specs.Prelude.{◌≡◌, IfOk, IfErr, OnOk, OnErr};
@@ -74,7 +74,7 @@ impl Held {
         ensures err { IfErr result (IsRefusal self.now.state IsNowFault) }
     {
         match &self.state {
-            State::Going(session) => Ok(session.session().now()),
+            State::Going(session) => Ok(session.now()),
             State::Ended(_, _) => Err(CallFault::Ended),
             State::Lost => Err(CallFault::Ended),
         }
@@ -82,10 +82,10 @@ impl Held {
 }
 
 /// Runs bits, up to the rise of a watched line where one is watched.
-fn bits_by(session: &mut DriverSession, count: u32, watch: u32) -> Result<Watched, CallFault>
-    ensures runs { IfOk result (λ w. (deeds : List (List Deed)) → StandsIn session.old deeds →
-        RunsBy (watches watch) session.old session.new count watch w.bits w.rose deeds) }
-    ensures may { OnOk result (MayRunIn session.old count) }
+fn bits_by(session: &mut Session, count: u32, watch: u32) -> Result<Watched, CallFault>
+    ensures runs { IfOk result (λ w. (accesses : List (List Access)) → IsAt session.old accesses →
+        RunsBy (watches watch) session.old session.new count watch w.bits w.rose accesses) }
+    ensures may { OnOk result (MayRun session.old count) }
     ensures err { IfErr result (IsRunFault count session.old) }
     ensures kept { OnErr result (session.new ≡ session.old) }
 {
@@ -102,10 +102,10 @@ fn bits_by(session: &mut DriverSession, count: u32, watch: u32) -> Result<Watche
 }
 
 /// Looks at the interrupt line of a node.
-fn irq_by(session: &mut DriverSession, node: u32) -> Result<bool, CallFault>
-    ensures looks { IfOk result (λ line. (deeds : List (List Deed)) → StandsIn session.old deeds →
-        LooksIn session.old session.new node line deeds) }
-    ensures may { OnOk result (node < node_count session.old) }
+fn irq_by(session: &mut Session, node: u32) -> Result<bool, CallFault>
+    ensures looks { IfOk result (λ line. (accesses : List (List Access)) → IsAt session.old accesses →
+        Looks session.old session.new node line accesses) }
+    ensures may { OnOk result (node < length session.old.plan.nodes) }
     ensures err { IfErr result (IsLookFault node session.old) }
     ensures kept { OnErr result (session.new ≡ session.old) }
 {
@@ -119,10 +119,10 @@ fn irq_by(session: &mut DriverSession, node: u32) -> Result<bool, CallFault>
 }
 
 /// Has a node see the other level in a bit.
-fn strike_by(session: &mut DriverSession, node: u32, bit: u32) -> Result<(), CallFault>
-    ensures struck { OnOk result ((deeds : List (List Deed)) → StandsIn session.old deeds →
-        StrikesIn session.old session.new node bit deeds) }
-    ensures may { OnOk result (MayStrike (session_of session.old) node bit) }
+fn strike_by(session: &mut Session, node: u32, bit: u32) -> Result<(), CallFault>
+    ensures struck { OnOk result ((accesses : List (List Access)) → IsAt session.old accesses →
+        IsStruck session.old session.new node bit accesses) }
+    ensures may { OnOk result (MayStrike session.old node bit) }
     ensures err { IfErr result (IsStrikeFault node bit session.old) }
     ensures kept { OnErr result (session.new ≡ session.old) }
 {

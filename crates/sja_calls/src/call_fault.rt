@@ -32,7 +32,7 @@ pub enum CallFault {
     /// The bit has run.
     #[error("the bit has run")]
     Past,
-    /// Fewer steps of the node are left than the access is, of as many as a document may have.
+    /// Fewer steps of the node are left than the access is, of as many as a plan of its version has.
     #[error("all steps of the node are used")]
     StepsUsed,
     /// As many turns were taken as a plan has.

@@ -3,8 +3,7 @@
 use super::call_fault::CallFault;
 use super::numbers::byte_of;
 use super::state::State;
-use sja_driver_session::DriverSession;
-use sja_session::SessionFault;
+use sja_session::{Session, SessionFault};
 use std::alloc::Global;
 
 /// A session that a program in C holds (this project's own rule), with the allocator that its calls take memory from.
@@ -20,8 +19,8 @@ impl Held {
     ghost use Rattle.std.specs.Prelude.{IfOk, IfErr};
     ghost use Rattle.sja_calls.specs.Beginnings.{IsNew, IsNoSession};
 
-    /// A session to which nothing happened, with room for as many steps and turns as a document of this version may
-    /// have.
+    /// A session to which nothing happened, with room for as many steps and turns as a plan of this version has at
+    /// most.
     ///
     /// Errors, the first that holds: [`CallFault::Version`], [`CallFault::Bits`] and [`CallFault::Nodes`] where these
     /// aren't within the limits of a session; [`CallFault::Memory`] where memory was refused.
@@ -32,7 +31,7 @@ impl Held {
         let Ok(version) = u8::try_from(version) else {
             return Err(CallFault::Version);
         };
-        match DriverSession::new(alloc, version, bits, byte_of(nodes)) {
+        match Session::new(alloc, version, bits, byte_of(nodes)) {
             Ok(session) => Ok(Held {
                 alloc,
                 state: State::Going(session),

@@ -2,7 +2,7 @@
 //!
 //! [`Held`] is a session that goes on, or has ended. Its calls take the numbers of a C program, judge them, and are
 //! refused with a [`CallFault`]. [`run_plan`] puts the report of a plan into a text. `crates/sja_c` exports them as
-//! functions of C; `docs/C.md` tells how they are called.
+//! functions of C; `docs/use/DRIVER.md` tells how they are called.
 //!
 //! `specs/Beginnings.antt` says how a session begins, `specs/Calls.antt` what each call does and why it isn't done, and
 //! `specs/Texts.antt` how one ends and which texts are put.

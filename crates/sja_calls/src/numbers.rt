@@ -1,20 +1,21 @@
 //! The numbers of a program in C.
 
-ghost use Rattle.std.specs.Prelude.{◌≡◌, ◌≤◌, ◌<◌, IfSome, IfNone};
+ghost use Rattle.std.specs.Prelude.{◌≡◌, ◌≤◌, ◌<◌, IfSome, IfNone, length};
 ghost use Rattle.sja_calls.specs.Calls.{watched_in};
-ghost use Rattle.sja_driver_session.specs.DriverSessions.{node_count};
 
-use sja_driver_session::DriverSession;
+use sja_session::Session;
 
-/// The node of a session with this number, counted from 0; none, where there is no such node.
-pub(crate) fn node_in(session: &DriverSession, number: u32) -> Option<u8>
-    ensures some { IfSome result (λ node. (node ≡ number) × (number < node_count session.now)) }
-    ensures none { IfNone result (node_count session.now ≤ number) }
+/// The number of a node as a byte. None where it is past 255, and so no session has that node; whether this one has
+/// another, its calls say.
+pub(crate) fn node_in(session: &Session, number: u32) -> Option<u8>
+    ensures some { IfSome result (λ node. node ≡ number) }
+    ensures none { IfNone result (length session.now.plan.nodes ≤ number) }
 {
-    if number as usize >= session.session().nodes() {
-        return None;
+    session.limits();
+    match u8::try_from(number) {
+        Ok(node) => Some(node),
+        Err(_) => None,
     }
-    Some(number as u8)
 }
 
 /// A number as a byte: 255 where it is past that.

@@ -6,8 +6,8 @@ ghost use Rattle.sja_calls.specs.Texts.{PutsRun, IsNoRun};
 use super::call_fault::CallFault;
 use super::put_text::put_text;
 use sja_plan::{PlanFault, read_plan};
-use sja_plan_session::run_plan as run_in_one_thread;
 use sja_report::report;
+use sja_serial::run_serial;
 use std::alloc::Global;
 
 /// Runs the plan that these bytes are, in one thread, and puts the report of the run into a text, with a NUL at its
@@ -25,7 +25,7 @@ pub fn run_plan(alloc: Global, plan: &[u8], text: &mut [u8]) -> Result<usize, Ca
         Err(PlanFault::Memory) => return Err(CallFault::Memory),
         Err(_) => return Err(CallFault::NoPlan),
     };
-    let Ok(log) = run_in_one_thread(alloc, &plan) else {
+    let Ok(log) = run_serial(alloc, &plan) else {
         return Err(CallFault::Memory);
     };
     match report(alloc, &log) {

@@ -7,3 +7,4 @@ pub mod Trace
 pub mod Account
 pub mod OneNode
 pub mod OneBit
+pub mod Bytes

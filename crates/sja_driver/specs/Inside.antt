@@ -2,3 +2,5 @@
 pub mod Attempts
 pub mod Entering
 pub mod GivenNothing
+pub mod Answered
+pub mod Modes

@@ -28,3 +28,13 @@ pub mod Porting
 pub mod Asking
 pub mod Shown
 pub mod Counted
+-- ---- reads and writes of a driver that knows addresses and bytes alone
+pub mod ClockDivider
+pub mod StartAddress
+pub mod Kept
+pub mod Reads
+pub mod ModeWrites
+pub mod CommandWrites
+pub mod Writes
+pub mod WriteLists
+pub mod Accesses

@@ -1,18 +1,20 @@
 -- The logged step: one step of a script at the right one of a node's links (this project's own rule).
-use Rattle.std.specs.Prelude.{◌≡◌, ◌≢◌, ◌≤◌, ◌+◌, ◌++◌, ℕ, Bool, false, List, length, slice_index_or}
+use Rattle.std.specs.Prelude.{◌≡◌, ◌≢◌, ◌≤◌, ◌+◌, ◌++◌, ℕ, Option, None, List, length, slice_index_or}
 use Rattle.sja_link.specs.declared.link_id.LinkId.{LinkId}
 use Rattle.sja_link.specs.Lists.{Lists}
 use Rattle.lemmas.specs.Related.{EachRelated}
 use Rattle.sja_regs.specs.declared.registers.Registers.{Registers}
 use Rattle.sja_script.specs.declared.step.Step.{Step}
+use Rattle.sja_script.specs.declared.step_answer.StepAnswer.{StepAnswer}
 use Rattle.sja_driver.specs.declared.any_driver.AnyDriver.{AnyDriver}
+use Rattle.sja_driver.specs.declared.kept_bytes.KeptBytes.{KeptBytes}
 use Rattle.sja_driver.specs.declared.logged_driver.LoggedDriver.{LoggedDriver}
 use Rattle.sja_driver.specs.declared.work_log.WorkLog.{WorkLog}
 use Rattle.sja_driver.specs.Acting.{Acts}
 use Rattle.sja_driver.specs.AnyDrivers.{IsDriverOf}
 use Rattle.sja_driver.specs.Holding.{Goes, NumberedFrom, place_after}
-use Rattle.sja_driver.specs.Logs.{HasRoom, done_in, releases_in, left_in, done_by, releases_by, left_by, deeds_by}
-use Rattle.sja_driver.specs.Tries.{Tried, is_met}
+use Rattle.sja_driver.specs.Logs.{HasRoom, releases_in, left_in, releases_by, left_by, deeds_by}
+use Rattle.sja_driver.specs.Tries.{Tried, answer_of}
 
 -- whose driver it is, the driver in its state, and the log
 abbrev pub node_of : LoggedDriver → ℕ
@@ -24,6 +26,10 @@ driver_of d = d.driver
 abbrev pub log_of : LoggedDriver → WorkLog
 log_of d = d.log
 
+-- the registers that are kept for it
+abbrev pub kept_of : LoggedDriver → KeptBytes
+kept_of d = d.kept
+
 -- how many of its activations have ended
 abbrev pub ended_of : LoggedDriver → ℕ
 ended_of d = length (left_in (log_of d))
@@ -32,7 +38,7 @@ ended_of d = length (left_in (log_of d))
 abbrev pub IsLawful : LoggedDriver → Type 0
 IsLawful d = IsDriverOf (node_of d) (ended_of d) (driver_of d)
 
--- a step may be tried: the log has room for one more, and the node's links stand from that place on
+-- a step may be tried: the log has room for one deed more, and the node's links stand from that place on
 pub record MayStep {E : Type 0} (link : E → LinkId) (was : LoggedDriver) (links : List E) (base : ℕ) : Type 0 where
   pub lawful : IsLawful was
   pub room : HasRoom 1 (log_of was)
@@ -40,9 +46,10 @@ pub record MayStep {E : Type 0} (link : E → LinkId) (was : LoggedDriver) (link
   pub ids : NumberedFrom link links base (node_of was)
 
 -- what is in order after a try, whatever the step: the driver is still the node's, each link is the same one, all but
--- the present activation's are untouched, and the log took the room of one step, or none where it isn't done
+-- the present activation's are untouched, and the log took the room of one deed, or none where it isn't done. Whoever
+-- tried it has to enter that it is done, and what is kept then
 pub record StaysLawful {E : Type 0} (link : E → LinkId) (alike : E → E → Type 0) (was now : LoggedDriver)
-    (links links_now : List E) (base : ℕ) (done : Bool) : Type 0 where
+    (links links_now : List E) (base : ℕ) (answer : Option StepAnswer) : Type 0 where
   pub same : EachRelated alike links links_now
   pub others : (i : ℕ) (d : E) → i ≢ place_after base (ended_of was) →
       slice_index_or links_now i d ≡ slice_index_or links i d
@@ -50,23 +57,24 @@ pub record StaysLawful {E : Type 0} (link : E → LinkId) (alike : E → E → T
   pub node : node_of now ≡ node_of was
   pub lawful : IsLawful now
   pub room : (k : ℕ) → HasRoom (k + 1) (log_of was) → HasRoom k (log_of now)
-  pub waits : done ≡ false → (k : ℕ) → HasRoom k (log_of was) → HasRoom k (log_of now)
+  pub done : (log_of now).done ≡ (log_of was).done
+  pub kept : kept_of now ≡ kept_of was
+  pub waits : answer ≡ None → (k : ℕ) → HasRoom k (log_of was) → HasRoom k (log_of now)
 
--- a step was tried at the link of the present activation, and at a port whose registers were p and are q then; it is
--- done or isn't
+-- a step was tried at the link of the present activation, and at a port whose registers were p and are q then; it has
+-- this answer, if it is done
 pub record Steps {E : Type 0} (alike : E → E → Type 0) (stands : E → Lists → Type 0) (dry full : E → Type 0)
-    (was now : LoggedDriver) (links links_now : List E) (base : ℕ) (p q : Registers) (step : Step) (bits : ℕ)
-    (done : Bool) : Type 0 where
+    (was now : LoggedDriver) (links links_now : List E) (base : ℕ) (p q : Registers) (step : Step)
+    (answer : Option StepAnswer) : Type 0 where
   -- what came of it
   pub tried : Tried
-  pub met : done ≡ is_met tried
+  pub met : answer ≡ answer_of tried
   -- at that link and at the port
   pub acts : (d e : E) → Acts alike stands dry full (slice_index_or links (place_after base (ended_of was)) d)
       (slice_index_or links_now (place_after base (ended_of was)) e) p q step (driver_of was) (driver_of now) tried
   -- what the log has more
-  pub logged : done_in (log_of now) ≡ done_in (log_of was) ++ done_by tried bits
   pub releases : releases_in (log_of now) ≡ releases_in (log_of was) ++ releases_by (ended_of was) tried
   pub leaves : left_in (log_of now) ≡ left_in (log_of was) ++ left_by tried
-  -- and how that goes on with all deeds before it, for every journal
-  pub goes : Goes stands p.version (driver_of was) (driver_of now) (log_of was) (log_of now) links links_now base
-      (deeds_by p step tried bits)
+  -- and how that goes on with all deeds before it, for every journal, after however many bits it was
+  pub goes : (bits : ℕ) → Goes stands p.version (driver_of was) (driver_of now) (log_of was) (log_of now) links
+      links_now base (deeds_by p step tried bits)

@@ -7,12 +7,15 @@ use Rattle.lemmas.specs.Gathering.{gathered}
 use Rattle.sja_regs.specs.declared.registers.Registers.{Registers}
 use Rattle.sja_script.specs.declared.done.Done.{Done}
 use Rattle.sja_script.specs.declared.step.Step.{Step}
+use Rattle.sja_script.specs.declared.step_answer.StepAnswer.{StepAnswer}
+use Rattle.sja_script.specs.declared.step_answer.StepAnswer.TheVariants.{Done as DoneAnswer, Released as ReleasedAnswer}
 use Rattle.sja_driver.specs.declared.any_driver.AnyDriver.{AnyDriver}
 use Rattle.sja_driver.specs.declared.release.Release.{Release}
 use Rattle.sja_driver.specs.declared.work_log.WorkLog.{WorkLog}
 use Rattle.sja_driver.specs.AnyDrivers.{is_out, opened_of}
-use Rattle.sja_driver.specs.Deeds.{Deed, AreAnswered, opened_by, is_active, deeds_of, released_lengths, done_of}
-use Rattle.sja_driver.specs.Tries.{Tried, answers_of, gave_by}
+use Rattle.sja_driver.specs.Deeds.{Deed, AreAnswered, opened_by, is_active, deeds_of, released_lengths}
+use Rattle.sja_driver.specs.Carried.{carried}
+use Rattle.sja_driver.specs.Tries.{Tried}
 use Rattle.sja_driver.specs.Tries.Tried.{Unmet, Answered, Released, Ended}
 
 -- the steps done, the messages released, and the ledgers of the activations that ended, each oldest first
@@ -41,16 +44,12 @@ pub record IsEmpty (l : WorkLog) : Type 0 where
   pub releases : releases_in l ≡ []
   pub left : left_in l ≡ []
 
--- there is room for so many steps more, whatever they come to
+-- there is room for what so many deeds more come to
 pub record HasRoom (steps : ℕ) (l : WorkLog) : Type 0 where
-  pub done : length (done_in l) + steps ≤ done_room l
   pub releases : length (releases_in l) + steps ≤ release_room l
   pub left : 64 ≤ left_room l
 
--- ---- what a try adds, after so many bits, where so many activations have ended
-
-abbrev pub done_by : Tried → ℕ → List Done
-done_by o bits = map (λ answer. record { answer = answer; bits = bits }) (answers_of o)
+-- ---- what a try adds, where so many activations have ended
 
 abbrev pub releases_by : ℕ → Tried → List Release
 releases_by n Unmet = []
@@ -64,10 +63,16 @@ left_by (Answered answer) = []
 left_by (Released m) = []
 left_by (Ended ledger) = ledger ∷ []
 
+-- a step that was done, at these registers and with this answer
+abbrev pub deed_by : Registers → Step → StepAnswer → ℕ → Deed
+deed_by p step answer bits = record { step = step; answer = answer; bits = bits; gave = carried p step answer }
+
 -- the deed that it was, if it was one
 abbrev pub deeds_by : Registers → Step → Tried → ℕ → List Deed
-deeds_by p step o bits =
-    map (λ answer. record { step = step; answer = answer; bits = bits; gave = gave_by p step o }) (answers_of o)
+deeds_by p one Unmet bits = []
+deeds_by p one (Answered answer) bits = deed_by p one answer bits ∷ []
+deeds_by p one (Released m) bits = deed_by p one (ReleasedAnswer (length m)) bits ∷ []
+deeds_by p one (Ended ledger) bits = deed_by p one DoneAnswer bits ∷ []
 
 -- ---- what it says of each activation
 
@@ -83,10 +88,9 @@ released_of rs a = gathered (of_activation a) rs
 abbrev pub leaves : List DriverLedger → List (List ℕ) → List (List (List ℕ))
 leaves left held = map (λ (l : DriverLedger). held_by l) left ++ held ∷ []
 
--- log and state of a driver are those of these deeds, each answered as in this version its state has it: the steps done
--- are theirs, and of each activation the messages released are as long as its releases answered
+-- log and state of a driver are those of these deeds, each answered as in this version its state has it: of each
+-- activation the messages released are as long as its releases answered
 pub record Traces (version : ℕ) (driver : AnyDriver) (log : WorkLog) (deeds : List Deed) : Type 0 where
-  pub done : map done_of deeds ≡ done_in log
   pub released : (a : ℕ) → map (λ (m : List ℕ). length m) (released_of (releases_in log) a)
       ≡ released_lengths (deeds_of deeds a)
   pub opened : opened_by deeds ≡ opened_of driver

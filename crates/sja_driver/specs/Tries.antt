@@ -1,5 +1,5 @@
 -- What comes of a try of a step (this project's own rule).
-use Rattle.std.specs.Prelude.{◌≡◌, ◌+◌, ◌++◌, ℕ, Bool, true, false, List, [], ◌∷◌, length}
+use Rattle.std.specs.Prelude.{◌≡◌, ◌+◌, ◌++◌, ℕ, Bool, Option, Some, None, List, [], ◌∷◌, length}
 use Rattle.sja_link.specs.declared.driver_ledger.DriverLedger.{DriverLedger}
 use Rattle.sja_link.specs.declared.up.Up.{Up}
 use Rattle.sja_link.specs.DriverLedgers.{held_by, knows_bus_off}
@@ -39,19 +39,12 @@ IfUnmet (Answered answer) P = Unit {0}
 IfUnmet (Released m) P = Unit {0}
 IfUnmet (Ended ledger) P = Unit {0}
 
--- the step is done
-abbrev pub is_met : Tried → Bool
-is_met Unmet = false
-is_met (Answered answer) = true
-is_met (Released m) = true
-is_met (Ended ledger) = true
-
--- its answer, if it is done
-abbrev pub answers_of : Tried → List StepAnswer
-answers_of Unmet = []
-answers_of (Answered answer) = answer ∷ []
-answers_of (Released m) = ReleasedAnswer (length m) ∷ []
-answers_of (Ended ledger) = DoneAnswer ∷ []
+-- its answer, if the step is done
+abbrev pub answer_of : Tried → Option StepAnswer
+answer_of Unmet = None
+answer_of (Answered answer) = Some answer
+answer_of (Released m) = Some (ReleasedAnswer (length m))
+answer_of (Ended ledger) = Some DoneAnswer
 
 -- only a release releases a message, and only a stop ends an activation
 abbrev pub IsOf : Step → Tried → Type 0

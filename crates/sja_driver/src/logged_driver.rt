@@ -1,15 +1,18 @@
 //! The driver of a node with its log, and its logged step.
 
-ghost use Rattle.std.specs.Prelude.{◌≡◌, ◌≢◌, ◌+◌, ◌≤◌, ℕ, [], length, false, slice_index_or};
+ghost use Rattle.std.specs.Prelude.{◌≡◌, ◌≢◌, ◌+◌, ◌<◌, ◌≤◌, ◌++◌, ℕ, [], ◌∷◌, length, false, slice_index_or};
 ghost use Rattle.sja_driver.specs.AnyDrivers.{is_out, opened_of, held_of};
 ghost use Rattle.sja_driver.specs.Holding.{NumberedFrom, place_after};
-ghost use Rattle.sja_driver.specs.LoggedDrivers.{node_of, driver_of, log_of, ended_of, IsLawful, Steps};
-ghost use Rattle.sja_driver.specs.Logs.{HasRoom, IsEmpty, Traces};
+ghost use Rattle.sja_driver.specs.LoggedDrivers.{node_of, driver_of, log_of, kept_of, ended_of, IsLawful, Steps};
+ghost use Rattle.sja_driver.specs.Kept.{at_power_on};
+ghost use Rattle.sja_driver.specs.Logs.{HasRoom, IsEmpty, Traces, done_in, done_room};
 
 use super::any_driver::AnyDriver;
 use super::driver::Driver;
+use super::kept_bytes::KeptBytes;
 use super::work_log::WorkLog;
 use can_frame::Message;
+use sja_script::StepAnswer;
 
 /// The driver of a node, in either state, with the log of what it did (this project's own rule).
 ///
@@ -20,6 +23,7 @@ pub struct LoggedDriver {
     pub(crate) node: u8,
     pub(crate) driver: AnyDriver,
     pub(crate) log: WorkLog,
+    pub(crate) kept: KeptBytes,
 }
 
 impl LoggedDriver {
@@ -28,6 +32,7 @@ impl LoggedDriver {
         requires empty { IsEmpty log }
         ensures node { node_of result ≡ node }
         ensures log { log_of result ≡ log }
+        ensures kept { kept_of result ≡ at_power_on }
         ensures reset { is_out (driver_of result) ≡ false }
         ensures none { opened_of (driver_of result) ≡ 0 }
         ensures lawful { IsLawful result }
@@ -37,6 +42,7 @@ impl LoggedDriver {
             node,
             driver: AnyDriver::InReset(Driver::new(node)),
             log,
+            kept: KeptBytes::new(),
         }
     }
 
@@ -58,6 +64,29 @@ impl LoggedDriver {
             AnyDriver::InReset(_) => &[],
             AnyDriver::InActive(driver) => driver.unread(),
         }
+    }
+
+    /// The registers that are kept for it and have no effect on the bus.
+    pub fn kept(&self) -> KeptBytes
+        ensures { result ≡ kept_of self.now }
+    {
+        self.kept
+    }
+
+    /// Enters a step that is done: its answer, after how many bits, and what is kept after it.
+    pub fn enter(&mut self, answer: StepAnswer, bits: u32, kept: KeptBytes)
+        requires { length (done_in (log_of self.old)) < done_room (log_of self.old) }
+        ensures done { done_in (log_of self.new)
+            ≡ done_in (log_of self.old) ++ record { answer = answer; bits = bits } ∷ [] }
+        ensures room { done_room (log_of self.new) ≡ done_room (log_of self.old) }
+        ensures kept { kept_of self.new ≡ kept }
+        ensures rest { self.new ≡ record self.old {
+          kept = kept;
+          log = record (log_of self.old) { done = (log_of self.new).done };
+        } }
+    {
+        self.log.push(answer, bits);
+        self.kept = kept;
     }
 
     /// What it did so far.

@@ -1,4 +1,4 @@
-//! One step of a script at the right one of a node's links, with its answer and its place in the log.
+//! One step of a script at the right one of a node's links, with its answer.
 
 ghost use Rattle.std.specs.Prelude.{◌≡◌, ◌≢◌, min};
 ghost use Rattle.sja_regs.specs.declared.registers.Registers.{Registers};
@@ -17,56 +17,55 @@ use super::logged_driver::LoggedDriver;
 use super::register_steps::{interrupt_step, read_step, write_step};
 use sja_link::{DriverEnd, LINKS_PER_NODE};
 use sja_regs::Port;
-use sja_script::Step;
+use sja_script::{Step, StepAnswer};
 
 impl LoggedDriver {
-    /// Tries a step at the link of the present activation, after so many bits, and logs it where it is done. The node's
-    /// links stand from `base` on. It says whether the step is done; else it is to be tried again.
+    /// Tries a step at the link of the present activation, and logs what came of it. The node's links stand from `base`
+    /// on. It gives the step's answer; none where it isn't done, and is to be tried again.
     pub fn step<E: DriverEnd>(
         &mut self,
         links: &mut [E],
         base: usize,
         port: &mut Port,
         step: &Step,
-        bits: u32,
-    ) -> bool
+    ) -> Option<StepAnswer>
         requires { MayStep E.link self.old links.old base }
         ensures stays { StaysLawful E.link E.same self.old self.new links.old links.new base result }
         ensures steps { Steps E.same E.stands E.dry E.full self.old self.new links.old links.new base port.old port.new
-            step.now bits result }
+            step.now result }
     {
         if matches!(step, Step::Stop) {
-            return self.step_stop(links, base, port, bits);
+            return self.step_stop(links, base, port);
         }
         let here = base + self.link_place();
         let attempt = try_step(&mut self.driver, &mut links[here], port, step);
-        self.log.enter(attempt, bits)
+        self.log.enter(attempt)
     }
 
     /// The step `Window`, as [`step`](LoggedDriver::step) does it, for a caller that holds no port: it sees none and
     /// waits for nobody.
-    pub fn step_window<E: DriverEnd>(&mut self, links: &mut [E], base: usize, bits: u32) -> bool
+    pub fn step_window<E: DriverEnd>(&mut self, links: &mut [E], base: usize) -> Option<StepAnswer>
         requires { MayStep E.link self.old links.old base }
         ensures stays { StaysLawful E.link E.same self.old self.new links.old links.new base result }
         ensures steps { (p : Registers) → Steps E.same E.stands E.dry E.full self.old self.new links.old links.new base
-            p p Window bits result }
+            p p Window result }
     {
         let here = base + self.link_place();
         let attempt = window_step(&mut self.driver, &mut links[here]);
-        self.log.enter(attempt, bits)
+        self.log.enter(attempt)
     }
 
     /// The step `Release`, as [`step`](LoggedDriver::step) does it, for a caller that holds no port: it sees none and
     /// waits for nobody.
-    pub fn step_release<E: DriverEnd>(&mut self, links: &mut [E], base: usize, bits: u32) -> bool
+    pub fn step_release<E: DriverEnd>(&mut self, links: &mut [E], base: usize) -> Option<StepAnswer>
         requires { MayStep E.link self.old links.old base }
         ensures stays { StaysLawful E.link E.same self.old self.new links.old links.new base result }
         ensures steps { (p : Registers) → Steps E.same E.stands E.dry E.full self.old self.new links.old links.new base
-            p p Release bits result }
+            p p Release result }
     {
         let here = base + self.link_place();
         let attempt = release_step(&mut self.driver, &mut links[here]);
-        self.log.enter(attempt, bits)
+        self.log.enter(attempt)
     }
 }
 
@@ -77,16 +76,15 @@ impl LoggedDriver {
         links: &mut [E],
         base: usize,
         port: &mut Port,
-        bits: u32,
-    ) -> bool
+    ) -> Option<StepAnswer>
         requires { MayStep E.link self.old links.old base }
         ensures stays { StaysLawful E.link E.same self.old self.new links.old links.new base result }
         ensures steps { Steps E.same E.stands E.dry E.full self.old self.new links.old links.new base port.old port.new
-            Stop bits result }
+            Stop result }
     {
         let here = base + self.link_place();
         let stopped = stop_step(&mut self.driver, &mut links[here], port);
-        self.log.enter_stop(stopped, bits)
+        self.log.enter_stop(stopped)
     }
 
     /// The place of the present activation's link among the node's, from 0: of the next one's in reset, and the

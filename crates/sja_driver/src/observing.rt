@@ -1,6 +1,6 @@
 //! A look at the interrupt line, which is no step: the log has nothing of it.
 
-ghost use Rattle.std.specs.Prelude.{◌≡◌, false};
+ghost use Rattle.std.specs.Prelude.{◌≡◌, None};
 ghost use Rattle.sja_regs.specs.InterruptLine.{is_line_active};
 ghost use Rattle.sja_driver.specs.AnyDrivers.{seen_by};
 ghost use Rattle.sja_driver.specs.Inside.Attempts.{FitsEnd};
@@ -21,7 +21,7 @@ impl LoggedDriver {
         requires { MayObserve E.link self.old links.old base }
         ensures line { result ≡ is_line_active port.now (seen_by (driver_of self.new)) }
         ensures looked { Looked E.stands E.dry self.old self.new links.old links.new base }
-        ensures stays { StaysLawful E.link E.same self.old self.new links.old links.new base false }
+        ensures stays { StaysLawful E.link E.same self.old self.new links.old links.new base None }
     {
         let here = base + self.link_place();
         let seen = observe(&mut self.driver, &mut links[here]);

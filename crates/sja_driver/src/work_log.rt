@@ -1,6 +1,6 @@
 //! The log of a driver that follows a script.
 
-ghost use Rattle.std.specs.Prelude.{◌≡◌, ◌+◌, ◌<◌, ◌≤◌, ◌++◌, ℕ, suc, [], ◌∷◌, length, true, IfOk};
+ghost use Rattle.std.specs.Prelude.{◌≡◌, ◌+◌, ◌<◌, ◌≤◌, ◌++◌, [], ◌∷◌, length, IfOk};
 ghost use Rattle.sja_driver.specs.Logs.{done_in, releases_in, left_in, done_room};
 ghost use Rattle.sja_driver.specs.Logs.{IsEmpty, HasRoom};
 ghost use Rattle.sja_driver.specs.Inside.Entering.{Enters};
@@ -26,15 +26,16 @@ pub struct WorkLog {
 }
 
 impl WorkLog {
-    /// An empty log with room for so many steps.
+    /// An empty log with room for so many steps, and for what so many deeds come to.
     ///
     /// Error: [`OutOfMemory`] where memory was refused.
-    pub fn new(alloc: Global, steps: u32) -> Result<WorkLog, OutOfMemory>
+    pub fn new(alloc: Global, steps: u32, deeds: u32) -> Result<WorkLog, OutOfMemory>
         ensures empty { IfOk result IsEmpty }
-        ensures room { IfOk result (HasRoom steps) }
+        ensures room { IfOk result (HasRoom deeds) }
+        ensures steps { IfOk result (λ l. steps ≤ done_room l) }
     {
         let done = Vec::with_capacity(alloc, steps as usize)?;
-        let released = Vec::with_capacity(alloc, steps as usize)?;
+        let released = Vec::with_capacity(alloc, deeds as usize)?;
         let left = Vec::with_capacity(alloc, LINKS_PER_NODE)?;
         Ok(WorkLog {
             done,
@@ -64,16 +65,15 @@ impl WorkLog {
         self.left.as_slice()
     }
 
-    /// Enters what came of a try of a step that ended no activation, after so many bits, and says whether the step is
-    /// done.
-    pub(crate) fn enter(&mut self, attempt: Attempt, bits: u32) -> bool
+    /// Enters what came of a try of a step that ended no activation, and gives its answer, if the step is done.
+    pub(crate) fn enter(&mut self, attempt: Attempt) -> Option<StepAnswer>
         requires room { HasRoom 1 self.old }
         requires fits { length (left_in self.old) ≤ 64 }
-        ensures { Enters self.old self.new (tried_of attempt) bits result }
+        ensures { Enters self.old self.new (tried_of attempt) result }
     {
         match attempt {
-            Attempt::Unmet => false,
-            Attempt::Answered(answer) => self.push(answer, bits),
+            Attempt::Unmet => None,
+            Attempt::Answered(answer) => Some(answer),
             Attempt::Released(message) => {
                 let bytes = message.len() as u8;
                 let activation = self.left.len() as u8 + 1;
@@ -81,35 +81,36 @@ impl WorkLog {
                     activation,
                     message,
                 });
-                self.push(StepAnswer::Released(bytes), bits)
+                Some(StepAnswer::Released(bytes))
             }
         }
     }
 
     /// Enters what came of a stop, in the same way: the ledger of the activation that it ended.
-    pub(crate) fn enter_stop(&mut self, stopped: Result<DriverLedger, Attempt>, bits: u32) -> bool
+    pub(crate) fn enter_stop(
+        &mut self,
+        stopped: Result<DriverLedger, Attempt>,
+    ) -> Option<StepAnswer>
         requires room { HasRoom 1 self.old }
         requires fits { length (left_in self.old) + ended_by (stopped_by stopped) ≤ 64 }
-        ensures { Enters self.old self.new (stopped_by stopped) bits result }
+        ensures { Enters self.old self.new (stopped_by stopped) result }
     {
         match stopped {
             Ok(ledger) => {
                 self.left.push_reserved(ledger);
-                self.push(StepAnswer::Done, bits)
+                Some(StepAnswer::Done)
             }
-            Err(attempt) => self.enter(attempt, bits),
+            Err(attempt) => self.enter(attempt),
         }
     }
 
-    /// Enters a step that is done.
-    fn push(&mut self, answer: StepAnswer, bits: u32) -> bool
+    /// Enters a step that is done, with its answer, after so many bits.
+    pub(crate) fn push(&mut self, answer: StepAnswer, bits: u32)
         requires { length (done_in self.old) < done_room self.old }
-        ensures done { result ≡ true }
         ensures entered { done_in self.new ≡ done_in self.old ++ record { answer = answer; bits = bits } ∷ [] }
         ensures room { done_room self.new ≡ done_room self.old }
         ensures rest { self.new ≡ record self.old { done = self.new.done } }
     {
         self.done.push_reserved(Done { answer, bits });
-        true
     }
 }

@@ -1,5 +1,5 @@
 -- What a line is answered.
-pub mod Named
+pub mod Writable
 pub mod Asked
 pub mod InterruptLines
 pub mod Told

@@ -1,18 +1,14 @@
 -- What `sja live` does for a command, and what it answers (this project's own rule): each command is a call of the
 -- session, and the answer is what the call gives, or why it is refused; a call that is refused changes nothing.
 use Rattle.std.specs.Prelude.{◌≡◌, ◌+◌, ◌*◌, ◌<◌, ℕ, zero, suc, Bool, true, false, if◌then◌else◌}
-use Rattle.std.specs.Prelude.{Some, None, List}
+use Rattle.std.specs.Prelude.{Option, Some, None, List, [], ◌∷◌, length, replicate, String, string_bytes}
 use Rattle.std.specs.Global.{Global}
-use Rattle.std.specs.Prelude.{replicate, String, string_bytes}
-use Rattle.sja_driver.specs.Deeds.{Deed}
-use Rattle.sja_driver_session.specs.Bits.{MayRunIn, LacksBusTurnIn, RestsIn, WatchesIn, IsStillIn, StrikesIn, line_in}
-use Rattle.sja_driver_session.specs.DriverSessions.{answer_of, bits_of, node_count, session_of, written}
-use Rattle.sja_driver_session.specs.Steps.{MayStepIn, IsStepFaultIn, MayWriteIn, IsWriteFaultIn}
-use Rattle.sja_driver_session.specs.Steps.{StepsIn, WaitsIn, ReadsIn, WritesIn}
-use Rattle.sja_driver_session.specs.declared.driver_session.DriverSession.{DriverSession}
+use Rattle.sja_driver.specs.Accesses.{Access, accesses_at}
+use Rattle.sja_live.specs.declared.line_fault.LineFault.TheVariants.{Node as NodeWord}
 use Rattle.sja_live.specs.declared.live_answer.LiveAnswer.{LiveAnswer}
 use Rattle.sja_live.specs.declared.live_answer.LiveAnswer.TheVariants.{Told, Waits, Ran, Rose, Spent, Lines}
 use Rattle.sja_live.specs.declared.live_answer.LiveAnswer.TheVariants.{Bits as Run, Nothing, PlanSoFar, NoBit, Full}
+use Rattle.sja_live.specs.declared.live_answer.LiveAnswer.TheVariants.{Mistaken}
 use Rattle.sja_live.specs.declared.live_command.LiveCommand.{LiveCommand}
 use Rattle.sja_live.specs.declared.live_command.LiveCommand.TheVariants.{Step, Read, Write, Run as RunBits, Rest}
 use Rattle.sja_live.specs.declared.live_command.LiveCommand.TheVariants.{Line, Strike, Answer, Bits, Plan}
@@ -22,11 +18,22 @@ use Rattle.sja_plan_text.specs.Written.{IsPlanText, IsTooLong}
 use Rattle.sja_script.specs.declared.step.Step.{Step as StepOf}
 use Rattle.sja_script.specs.declared.step_answer.StepAnswer.{StepAnswer}
 use Rattle.sja_script.specs.declared.step_answer.StepAnswer.TheVariants.{Done, Value}
-use Rattle.sja_session.specs.Striking.{MayStrike, IsStrikeFault}
+use Rattle.sja_serial.specs.Stepping.{with_accesses}
+use Rattle.sja_session.specs.Answering.{last_answer}
+use Rattle.sja_session.specs.ByAddress.{Reads, Writes, MayWrite, IsWriteFault}
+use Rattle.sja_session.specs.Lines.{IsStill, line_at}
+use Rattle.sja_session.specs.Resting.{Rests}
+use Rattle.sja_session.specs.Running.{MayRun, LacksBusTurn}
+use Rattle.sja_session.specs.Sessions.{SessionValue, written}
+use Rattle.sja_session.specs.Stepping.{MayStep, IsStepFault, DoesStep, Waits as HasToWait}
+use Rattle.sja_session.specs.Striking.{MayStrike, IsStrikeFault, IsStruck}
+use Rattle.sja_session.specs.Watching.{Watches}
 use Rattle.sja_session.specs.declared.step_fault.StepFault.{StepFault}
 use Rattle.sja_session.specs.declared.step_fault.StepFault.TheVariants.{NoNode, StepsUsed as AllSteps}
 use Rattle.sja_session.specs.declared.step_fault.StepFault.TheVariants.{TurnsUsed as AllTurns}
-use Rattle.sja_session.specs.declared.strike_fault.StrikeFault.TheVariants.{NoBit as PastTheEnd, Past}
+use Rattle.sja_session.specs.declared.strike_fault.StrikeFault.{StrikeFault}
+use Rattle.sja_session.specs.declared.strike_fault.StrikeFault.TheVariants.{NoNode as NowhereStruck, Past}
+use Rattle.sja_session.specs.declared.strike_fault.StrikeFault.TheVariants.{NoBit as PastTheEnd, Memory}
 use Rattle.sja_session.specs.declared.strike_fault.StrikeFault.TheVariants.{StrikesUsed as AllStrikes}
 
 -- ---- interrupt lines
@@ -41,75 +48,78 @@ lines_from line node zero = 0
 lines_from line node (suc count) = (if line node then 1 else 0) + 2 * lines_from line (node + 1) count
 
 -- bit K of the byte is 1 where the interrupt line of node K is active, and no other bit is
-abbrev pub AreLines : DriverSession → List (List Deed) → ℕ → Type 0
-AreLines s deeds byte = byte ≡ lines_from (line_in s deeds) 0 (node_count s)
+abbrev pub AreLines : SessionValue → List (List Access) → ℕ → Type 0
+AreLines s accesses byte = byte ≡ lines_from (line_at s accesses) 0 (length s.plan.nodes)
 
 -- ---- refusals
 
--- what is used up where a step isn't tried
-abbrev pub IsUsedUp : StepFault → LiveAnswer → Type 0
-IsUsedUp NoNode answer = ⊥
-IsUsedUp AllSteps answer = answer ≡ Full StepsUsed
-IsUsedUp AllTurns answer = answer ≡ Full TurnsUsed
+-- what a step is answered that isn't tried
+abbrev pub step_refusal : StepFault → LiveAnswer
+step_refusal NoNode = Mistaken NodeWord
+step_refusal AllSteps = Full StepsUsed
+step_refusal AllTurns = Full TurnsUsed
+
+-- and a strike that isn't taken; where memory is refused there is no answer
+abbrev pub strike_refusal : StrikeFault → Option LiveAnswer
+strike_refusal NowhereStruck = Some (Mistaken NodeWord)
+strike_refusal PastTheEnd = Some NoBit
+strike_refusal Past = Some NoBit
+strike_refusal AllStrikes = Some (Full StrikesUsed)
+strike_refusal Memory = None
 
 -- ---- commands
 
--- the session, which stands at these deeds, answers a command so, and stands at those after it. (A command names a node
--- that is there.) What is done is what may be done, so that nothing is used up where something is done
-pub data Answers (was now : DriverSession) (deeds : List (List Deed)) :
-    LiveCommand → LiveAnswer → List (List Deed) → Type 0 where
-  step : {node : ℕ} {step : StepOf} {answer : StepAnswer} {after : List (List Deed)} → MayStepIn was node →
-      StepsIn was now node step answer deeds after → Answers was now deeds (Step node step) (Told answer) after
-  waits : {node : ℕ} {step : StepOf} → MayStepIn was node → WaitsIn was now node step deeds →
-      Answers was now deeds (Step node step) Waits deeds
-  no_step : {node : ℕ} {step : StepOf} {answer : LiveAnswer} (fault : StepFault) →
-      IsStepFaultIn was node fault → IsUsedUp fault answer → now ≡ was →
-      Answers was now deeds (Step node step) answer deeds
-  read : {node address value : ℕ} {after : List (List Deed)} → MayStepIn was node →
-      ReadsIn was now node address value deeds after →
-      Answers was now deeds (Read node address) (Told (Value value)) after
-  no_read : {node address : ℕ} {answer : LiveAnswer} (fault : StepFault) → IsStepFaultIn was node fault →
-      IsUsedUp fault answer → now ≡ was → Answers was now deeds (Read node address) answer deeds
-  write : {node address value : ℕ} {after : List (List Deed)} → MayWriteIn was node address value deeds →
-      WritesIn was now node address value deeds after →
-      Answers was now deeds (Write node address value) (Told Done) after
-  no_write : {node address value : ℕ} {answer : LiveAnswer} (fault : StepFault) →
-      IsWriteFaultIn was node address value deeds fault → IsUsedUp fault answer → now ≡ was →
-      Answers was now deeds (Write node address value) answer deeds
+-- the session, which stands at these steps, answers a command so, and stands at those after it. What is done is what
+-- may be done, so that nothing is used up where something is done
+pub data Answers (was now : SessionValue) (accesses : List (List Access)) :
+    LiveCommand → LiveAnswer → List (List Access) → Type 0 where
+  step : {node : ℕ} {step : StepOf} {answer : StepAnswer} → MayStep was node →
+      (does : DoesStep was now node step answer accesses) →
+      Answers was now accesses (Step node step) (Told answer) (with_accesses accesses node (does.access ∷ []))
+  waits : {node : ℕ} {step : StepOf} → MayStep was node → HasToWait was now node step accesses →
+      Answers was now accesses (Step node step) Waits accesses
+  no_step : {node : ℕ} {step : StepOf} (fault : StepFault) → IsStepFault was node fault → now ≡ was →
+      Answers was now accesses (Step node step) (step_refusal fault) accesses
+  read : {node address value : ℕ} → MayStep was node → (reads : Reads was now node address value accesses) →
+      Answers was now accesses (Read node address) (Told (Value value))
+      (with_accesses accesses node (reads.does.access ∷ []))
+  no_read : {node address : ℕ} (fault : StepFault) → IsStepFault was node fault → now ≡ was →
+      Answers was now accesses (Read node address) (step_refusal fault) accesses
+  write : {node address value : ℕ} → MayWrite was node address value accesses →
+      (writes : Writes was now node address value accesses) →
+      Answers was now accesses (Write node address value) (Told Done) writes.after
+  no_write : {node address value : ℕ} (fault : StepFault) → IsWriteFault was node address value accesses fault →
+      now ≡ was → Answers was now accesses (Write node address value) (step_refusal fault) accesses
   -- a line rose in the last bit that was run
-  rose : {count run lines : ℕ} (mid : DriverSession) (node : ℕ) → MayRunIn was count →
-      WatchesIn was mid count all_watched run (Some node) deeds →
-      IsStillIn mid now deeds → AreLines mid deeds lines → Answers was now deeds (RunBits count) (Rose run lines) deeds
+  rose : {count run lines : ℕ} (mid : SessionValue) (node : ℕ) → MayRun was count →
+      Watches was mid count all_watched run (Some node) accesses → IsStill mid now accesses →
+      AreLines mid accesses lines → Answers was now accesses (RunBits count) (Rose run lines) accesses
   -- none did, and all bits were run
-  ran : {count : ℕ} → MayRunIn was count → WatchesIn was now count all_watched count None deeds →
-      Answers was now deeds (RunBits count) (Ran count) deeds
+  ran : {count : ℕ} → MayRun was count → Watches was now count all_watched count None accesses →
+      Answers was now accesses (RunBits count) (Ran count) accesses
   -- none did, and fewer were left
-  spent : {count run : ℕ} → MayRunIn was count →
-      WatchesIn was now count all_watched run None deeds → run < count →
-      Answers was now deeds (RunBits count) (Spent run) deeds
-  no_turn : {count : ℕ} → LacksBusTurnIn was count → now ≡ was →
-      Answers was now deeds (RunBits count) (Full TurnsUsed) deeds
-  rested : {run : ℕ} → MayRunIn was 1 → RestsIn was now run true deeds → Answers was now deeds Rest (Ran run) deeds
-  restless : {run : ℕ} → MayRunIn was 1 → RestsIn was now run false deeds →
-      Answers was now deeds Rest (Spent run) deeds
-  no_rest : LacksBusTurnIn was 1 → now ≡ was → Answers was now deeds Rest (Full TurnsUsed) deeds
-  line : {lines : ℕ} → IsStillIn was now deeds → AreLines was deeds lines →
-      Answers was now deeds Line (Lines lines) deeds
-  strike : {node bit : ℕ} → MayStrike (session_of was) node bit → StrikesIn was now node bit deeds →
-      Answers was now deeds (Strike node bit) (Told Done) deeds
-  no_bit : {node bit : ℕ} → IsStrikeFault (session_of was) node bit PastTheEnd → now ≡ was →
-      Answers was now deeds (Strike node bit) NoBit deeds
-  past : {node bit : ℕ} → IsStrikeFault (session_of was) node bit Past → now ≡ was →
-      Answers was now deeds (Strike node bit) NoBit deeds
-  no_strike : {node bit : ℕ} → IsStrikeFault (session_of was) node bit AllStrikes → now ≡ was →
-      Answers was now deeds (Strike node bit) (Full StrikesUsed) deeds
+  spent : {count run : ℕ} → MayRun was count → Watches was now count all_watched run None accesses → run < count →
+      Answers was now accesses (RunBits count) (Spent run) accesses
+  no_turn : {count : ℕ} → LacksBusTurn was count → now ≡ was →
+      Answers was now accesses (RunBits count) (Full TurnsUsed) accesses
+  rested : {run : ℕ} → MayRun was 1 → Rests was now run true accesses →
+      Answers was now accesses Rest (Ran run) accesses
+  restless : {run : ℕ} → MayRun was 1 → Rests was now run false accesses →
+      Answers was now accesses Rest (Spent run) accesses
+  no_rest : LacksBusTurn was 1 → now ≡ was → Answers was now accesses Rest (Full TurnsUsed) accesses
+  line : {lines : ℕ} → IsStill was now accesses → AreLines was accesses lines →
+      Answers was now accesses Line (Lines lines) accesses
+  strike : {node bit : ℕ} → MayStrike was node bit → IsStruck was now node bit accesses →
+      Answers was now accesses (Strike node bit) (Told Done) accesses
+  no_strike : {node bit : ℕ} {answer : LiveAnswer} (fault : StrikeFault) → IsStrikeFault was node bit fault →
+      strike_refusal fault ≡ Some answer → now ≡ was → Answers was now accesses (Strike node bit) answer accesses
   -- what the last step of a node answered that is done
-  answer : {node : ℕ} {answer : StepAnswer} → answer_of was deeds node ≡ Some answer → now ≡ was →
-      Answers was now deeds (Answer node) (Told answer) deeds
-  nothing : {node : ℕ} → answer_of was deeds node ≡ None → now ≡ was →
-      Answers was now deeds (Answer node) Nothing deeds
-  bits : now ≡ was → Answers was now deeds Bits (Run (bits_of was)) deeds
+  answer : {node : ℕ} {answer : StepAnswer} → last_answer (accesses_at accesses node) ≡ Some answer → now ≡ was →
+      Answers was now accesses (Answer node) (Told answer) accesses
+  nothing : {node : ℕ} → last_answer (accesses_at accesses node) ≡ None → now ≡ was →
+      Answers was now accesses (Answer node) Nothing accesses
+  bits : now ≡ was → Answers was now accesses Bits (Run was.run.bits) accesses
   -- the text of the plan so far, which is read as this plan; or it is too long
   plan : {document : String Global} → IsPlanText (written was) (string_bytes document) → now ≡ was →
-      Answers was now deeds Plan (PlanSoFar document) deeds
-  no_plan : IsTooLong (written was) → now ≡ was → Answers was now deeds Plan (Full Document) deeds
+      Answers was now accesses Plan (PlanSoFar document) accesses
+  no_plan : IsTooLong (written was) → now ≡ was → Answers was now accesses Plan (Full Document) accesses

@@ -1,15 +1,16 @@
 -- The log of a session of `sja live` at its end (this project's own rule).
 use Rattle.std.specs.Prelude.{List}
-use Rattle.sja_driver.specs.Deeds.{Deed}
-use Rattle.sja_driver_session.specs.DriverSessions.{written}
-use Rattle.sja_driver_session.specs.Ending.{IsOwnLog, IsRunIn}
-use Rattle.sja_driver_session.specs.declared.driver_session.DriverSession.{DriverSession}
+use Rattle.sja_driver.specs.Accesses.{Access}
 use Rattle.sja_log.specs.Headline.{AreAccounts}
 use Rattle.sja_log.specs.Log.{RunValue}
+use Rattle.sja_log.specs.Runs.{IsSerialRun}
+use Rattle.sja_log.specs.declared.end.End.TheVariants.{Turns as TurnsDone}
+use Rattle.sja_serial.specs.Ending.{IsLogOf}
+use Rattle.sja_session.specs.Sessions.{SessionValue, written}
 
--- the log has the session's own bits, journals and deeds, and is that of a run of the plan that it wrote, by the rules
--- of its version. Each driver's messages are accounted for in it
-pub record IsLastLog (d : DriverSession) (deeds : List (List Deed)) (log : RunValue) : Type 0 where
-  pub own : IsOwnLog d deeds log
-  pub run : IsRunIn d (written d) log
+-- the log has the session's own bits, journals and steps, and is that of a run in one thread of the plan that it wrote.
+-- Each driver's messages are accounted for in it
+pub record IsLastLog (s : SessionValue) (accesses : List (List Access)) (log : RunValue) : Type 0 where
+  pub own : IsLogOf (written s) s.run accesses TurnsDone log
+  pub run : IsSerialRun (written s) log
   pub accounts : AreAccounts log

@@ -1,9 +1,8 @@
 -- A talk with `sja live` (this project's own rule): the first line opens a session, each further line is answered
 -- before the next one is read, and `end` or the end of the input ends the talk with the report.
 use Rattle.std.specs.Prelude.{◌≡◌, ◌⊎◌, ◌<◌, ◌≤◌, ◌++◌, Option, Some, None, List, [], ◌∷◌, length, replicate, IsUtf8}
-use Rattle.sja_driver.specs.Deeds.{Deed}
-use Rattle.sja_driver_session.specs.DriverSessions.{node_count, version_of}
-use Rattle.sja_driver_session.specs.declared.driver_session.DriverSession.{DriverSession}
+use Rattle.sja_driver.specs.Accesses.{Access}
+use Rattle.sja_session.specs.Sessions.{SessionValue}
 use Rattle.sja_live.specs.AnswerTexts.{answer_text, opened_text, opening_text}
 use Rattle.sja_live.specs.Answering.{Answers}
 use Rattle.sja_live.specs.Beginning.{IsNewOf}
@@ -32,59 +31,60 @@ use Rattle.sja_report.specs.ReportLines.{report_text}
 
 -- the session answers a line so: it asks for something that isn't the end, and that is done; or for nothing, or it
 -- can't be read, and then nothing is done
-pub data Replies (was now : DriverSession) (deeds : List (List Deed)) (line : Text) :
-    LiveAnswer → List (List Deed) → Type 0 where
-  done : {command : LiveCommand} {answer : LiveAnswer} {after : List (List Deed)} → IsReadable line →
-      AsksFor (version_of was) (node_count was) line command → Answers was now deeds command answer after →
-      Replies was now deeds line answer after
+pub data Replies (was now : SessionValue) (accesses : List (List Access)) (line : Text) :
+    LiveAnswer → List (List Access) → Type 0 where
+  done : {command : LiveCommand} {answer : LiveAnswer} {after : List (List Access)} → IsReadable line →
+      AsksFor was.plan.version (length was.plan.nodes) line command → Answers was now accesses command answer after →
+      Replies was now accesses line answer after
   mistaken : {fault : LineFault} → IsReadable line →
-      AreMistaken (version_of was) (node_count was) (words line) fault → now ≡ was →
-      Replies was now deeds line (Mistaken fault) deeds
-  no_text : length line ≤ most_line → ¬ IsUtf8 line → now ≡ was → Replies was now deeds line (Mistaken NoText) deeds
-  long : most_line < length line → now ≡ was → Replies was now deeds line Long deeds
+      AreMistaken was.plan.version (length was.plan.nodes) (words line) fault → now ≡ was →
+      Replies was now accesses line (Mistaken fault) accesses
+  no_text : length line ≤ most_line → ¬ IsUtf8 line → now ≡ was →
+      Replies was now accesses line (Mistaken NoText) accesses
+  long : most_line < length line → now ≡ was → Replies was now accesses line Long accesses
 
 -- ---- lines one after another
 
 -- from where the session was, by these lines, it came here, and the answers are this text
-pub data Talks (first : DriverSession) (begun : List (List Deed)) :
-    List Text → DriverSession → List (List Deed) → Text → Type 0 where
+pub data Talks (first : SessionValue) (begun : List (List Access)) :
+    List Text → SessionValue → List (List Access) → Text → Type 0 where
   begin : Talks first begun [] first begun []
-  go_on : {lines : List Text} {was now : DriverSession} {deeds after : List (List Deed)} {text line : Text}
-      {answer : LiveAnswer} → Talks first begun lines was deeds text → Replies was now deeds line answer after →
+  go_on : {lines : List Text} {was now : SessionValue} {accesses after : List (List Access)} {text line : Text}
+      {answer : LiveAnswer} → Talks first begun lines was accesses text → Replies was now accesses line answer after →
       Talks first begun (lines ++ line ∷ []) now after (text ++ answer_text answer)
 
 -- the line ends the talk
-abbrev pub EndsTalk : DriverSession → Text → Type 0
-EndsTalk s line = IsReadable line × AsksFor (version_of s) (node_count s) line End
+abbrev pub EndsTalk : SessionValue → Text → Type 0
+EndsTalk s line = IsReadable line × AsksFor s.plan.version (length s.plan.nodes) line End
 
 -- ---- the whole
 
 -- a session was opened by the first line, these lines were answered, and this is what was written so far
-pub record HasTalked (input rest : Text) (last : DriverSession) (deeds : List (List Deed)) (output : Text) :
+pub record HasTalked (input rest : Text) (last : SessionValue) (accesses : List (List Access)) (output : Text) :
     Type 0 where
   pub some : ¬ (input ≡ [])
   pub readable : IsReadable (first_line input)
   pub opening : Opening
   pub opens : Opens (first_line input) opening
-  pub first : DriverSession
+  pub first : SessionValue
   pub new : IsNewOf first opening
   pub lines : List Text
   pub lead : LeadsOn (behind_line input) lines rest
   pub text : Text
-  pub talks : Talks first (replicate opening.nodes []) lines last deeds text
+  pub talks : Talks first (replicate opening.nodes []) lines last accesses text
   pub output_is : output ≡ opened_text ++ text
 
 -- the talk is over: the next line ends it, or there is none; and the report of the session's log was written. Of the
 -- input what stands behind that line is left
 pub record IsTalk (input output left : Text) : Type 0 where
-  pub last : DriverSession
-  pub deeds : List (List Deed)
+  pub last : SessionValue
+  pub accesses : List (List Access)
   pub rest : Text
   pub said : Text
-  pub talked : HasTalked input rest last deeds said
+  pub talked : HasTalked input rest last accesses said
   pub over : (rest ≡ []) ⊎ (¬ (rest ≡ []) × EndsTalk last (first_line rest))
   pub log : RunValue
-  pub is : IsLastLog last deeds log
+  pub is : IsLastLog last accesses log
   pub told : output ≡ said ++ report_text log
   pub behind : left ≡ behind_line rest
 
@@ -114,8 +114,8 @@ IsLeftUnanswered Write lines left = ⊥
 abbrev pub IsBrokenOff : TalkFault → Text → Text → Text → Type 0
 IsBrokenOff fault input output left =
     ((output ≡ []) × IsLeftUnanswered fault input left)
-    ⊎ ((last : DriverSession) × (rest : Text) × (deeds : List (List Deed)) × HasTalked input rest last deeds output
-    × IsLeftUnanswered fault rest left)
+    ⊎ ((last : SessionValue) × (rest : Text) × (accesses : List (List Access))
+    × HasTalked input rest last accesses output × IsLeftUnanswered fault rest left)
 
 -- ---- a reader and a writer whose bytes are known
 

@@ -6,10 +6,10 @@ ghost use Rattle.sja_live.specs.declared.live_command.LiveCommand.TheVariants.{R
 use super::interrupt_lines::lines;
 use super::live_answer::LiveAnswer;
 use super::used::Used;
-use sja_driver_session::DriverSession;
+use sja_session::Session;
 
 /// What bits up to an interrupt are answered.
-pub(crate) fn ran(session: &mut DriverSession, count: u32) -> LiveAnswer
+pub(crate) fn ran(session: &mut Session, count: u32) -> LiveAnswer
     ensures { IsAnswered session.old session.new (Run count) result }
 {
     match session.watch(count, [true; 8]) {
@@ -24,7 +24,7 @@ pub(crate) fn ran(session: &mut DriverSession, count: u32) -> LiveAnswer
 
 /// What bits up to rest are answered.
 #[tactic(auto, using(crate::proofs::Replies::Told::not_rest))]
-pub(crate) fn rested(session: &mut DriverSession) -> LiveAnswer
+pub(crate) fn rested(session: &mut Session) -> LiveAnswer
     ensures { IsAnswered session.old session.new Rest result }
 {
     match session.rest() {

@@ -1,35 +1,34 @@
 //! What a command is answered.
 
-ghost use Rattle.std.specs.Prelude.{◌≡◌, ◌<◌, ◌≤◌, IfOk, OnErr};
-ghost use Rattle.sja_live.specs.Inside.Standing.{IsAnswered, IsLive};
-ghost use Rattle.sja_driver_session.specs.DriverSessions.{node_count};
-ghost use Rattle.sja_live.specs.Inside.OfNode.{IsOfNode};
+ghost use Rattle.std.specs.Prelude.{◌≡◌, ◌≤◌, IfOk, OnErr};
+ghost use Rattle.sja_live.specs.Answering.{strike_refusal};
+ghost use Rattle.sja_live.specs.Inside.Standing.{IsAnswered, IsLive, IsWritable};
 ghost use Rattle.sja_plan.specs.Words.{greatest};
 ghost use Rattle.sja_live.specs.declared.live_command.LiveCommand.TheVariants.{Strike, Answer, Plan, Bits, Line};
 
 use super::answered_bits::{ran, rested};
 use super::answered_steps::{stepped, was_read, was_written};
 use super::interrupt_lines::lines;
+use super::line_fault::LineFault;
 use super::live_answer::LiveAnswer;
 use super::live_command::LiveCommand;
 use super::used::Used;
 use can_frame::OutOfMemory;
-use sja_driver_session::DriverSession;
 use sja_plan_text::{PlanTextFault, plan_text};
 use sja_script::StepAnswer;
-use sja_session::StrikeFault;
+use sja_session::{Session, StrikeFault};
 use std::alloc::Global;
 
-/// Does what a command asks for, which isn't the end, and gives its answer. A node that it names is there.
+/// Does what a command asks for, which isn't the end, and gives its answer.
 ///
 /// Error: [`OutOfMemory`] where memory was refused; nothing changed.
 pub(crate) fn answered(
     alloc: Global,
-    session: &mut DriverSession,
+    session: &mut Session,
     command: LiveCommand,
 ) -> Result<LiveAnswer, OutOfMemory>
     requires live { IsLive session.old }
-    requires named { IsOfNode session.old command }
+    requires writable { IsWritable session.old command }
     ensures answers { IfOk result (IsAnswered session.old session.new command) }
     ensures kept { OnErr result (session.new ≡ session.old) }
 {
@@ -52,7 +51,7 @@ pub(crate) fn answered(
 
 /// What a look at the interrupt lines is answered.
 #[tactic(auto, using(crate::proofs::Replies::Asked::told_lines))]
-fn looked(session: &mut DriverSession) -> LiveAnswer
+fn looked(session: &mut Session) -> LiveAnswer
     ensures { IsAnswered session.old session.new Line result }
 {
     LiveAnswer::Lines(lines(session))
@@ -60,34 +59,44 @@ fn looked(session: &mut DriverSession) -> LiveAnswer
 
 /// How many bits were run.
 #[tactic(auto, using(crate::proofs::Replies::Asked::told_bits))]
-fn bits_so_far(session: &DriverSession) -> LiveAnswer
+fn bits_so_far(session: &Session) -> LiveAnswer
     ensures { IsAnswered session.now session.now Bits result }
 {
-    LiveAnswer::Bits(session.session().now())
+    LiveAnswer::Bits(session.now())
 }
 
 /// What a strike is answered.
 ///
 /// Error: [`OutOfMemory`] where memory was refused; nothing changed.
-#[tactic(auto, using(crate::proofs::Replies::Asked::strikes))]
-fn struck(session: &mut DriverSession, node: u8, bit: u32) -> Result<LiveAnswer, OutOfMemory>
-    requires there { node < node_count session.old }
+fn struck(session: &mut Session, node: u8, bit: u32) -> Result<LiveAnswer, OutOfMemory>
     requires spelled { bit ≤ greatest }
     ensures answers { IfOk result (IsAnswered session.old session.new (Strike node bit)) }
     ensures kept { OnErr result (session.new ≡ session.old) }
 {
     match session.strike(node, bit) {
         Ok(()) => Ok(LiveAnswer::Told(StepAnswer::Done)),
-        Err(StrikeFault::NoBit) => Ok(LiveAnswer::NoBit),
-        Err(StrikeFault::Past) => Ok(LiveAnswer::NoBit),
-        Err(StrikeFault::StrikesUsed) => Ok(LiveAnswer::Full(Used::Strikes)),
-        Err(StrikeFault::Memory) => Err(OutOfMemory),
-        Err(StrikeFault::NoNode) => unreachable!(),
+        Err(fault) => match not_struck(fault) {
+            Some(answer) => Ok(answer),
+            None => Err(OutOfMemory),
+        },
+    }
+}
+
+/// What a strike is answered that isn't taken; none, where memory was refused.
+fn not_struck(fault: StrikeFault) -> Option<LiveAnswer>
+    ensures { result ≡ strike_refusal fault }
+{
+    match fault {
+        StrikeFault::NoNode => Some(LiveAnswer::Mistaken(LineFault::Node)),
+        StrikeFault::NoBit => Some(LiveAnswer::NoBit),
+        StrikeFault::Past => Some(LiveAnswer::NoBit),
+        StrikeFault::StrikesUsed => Some(LiveAnswer::Full(Used::Strikes)),
+        StrikeFault::Memory => None,
     }
 }
 
 /// What the last step of a node answered.
-fn last_answer(session: &DriverSession, node: u8) -> LiveAnswer
+fn last_answer(session: &Session, node: u8) -> LiveAnswer
     ensures { IsAnswered session.now session.now (Answer node) result }
 {
     match session.answer(node) {
@@ -99,11 +108,12 @@ fn last_answer(session: &DriverSession, node: u8) -> LiveAnswer
 /// The plan so far.
 ///
 /// Error: [`OutOfMemory`] where memory was refused.
-fn plan_answer(alloc: Global, session: &DriverSession) -> Result<LiveAnswer, OutOfMemory>
+fn plan_answer(alloc: Global, session: &Session) -> Result<LiveAnswer, OutOfMemory>
     requires { IsLive session.now }
     ensures { IfOk result (IsAnswered session.now session.now Plan) }
 {
     let plan = session.plan(alloc)?;
+    plan.limits();
     match plan_text(alloc, &plan) {
         Ok(document) => Ok(LiveAnswer::PlanSoFar(document)),
         Err(PlanTextFault::TooLong) => Ok(LiveAnswer::Full(Used::Document)),

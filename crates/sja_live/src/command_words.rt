@@ -1,6 +1,6 @@
 //! What the words of a line ask for.
 
-ghost use Rattle.std.specs.Prelude.{◌≡◌, ◌≤◌, [], ◌∷◌, map, codes, IfOk, IfErr};
+ghost use Rattle.std.specs.Prelude.{◌≡◌, ◌≤◌, ℕ, [], ◌∷◌, map, codes, IfOk, IfErr};
 ghost use Rattle.sja_live.specs.Commands.{AreCommandWords};
 ghost use Rattle.sja_live.specs.Inside.Reading.{IsUnasked};
 
@@ -27,10 +27,10 @@ pub(crate) fn command_of(
         return step_of_node(alloc, version, nodes, words[1], &words[2..]);
     }
     match *words {
-        [name] => of_one_word(version, nodes, name),
-        [name, word] => of_two_words(version, nodes, name, word),
-        [name, node, word] => of_three_words(version, nodes, name, node, word),
-        [name, node, address, value] => of_four_words(version, nodes, name, node, address, value),
+        [name] => of_one_word(name),
+        [name, word] => of_two_words(nodes, name, word),
+        [name, node, word] => of_three_words(nodes, name, node, word),
+        [name, node, address, value] => of_four_words(nodes, name, node, address, value),
         _ => Err(Unasked::Mistaken(LineFault::Command)),
     }
 }
@@ -59,11 +59,10 @@ fn step_of_node(
 }
 
 /// The command of one word.
-fn of_one_word(version: usize, nodes: usize, name: &str) -> Result<LiveCommand, Unasked>
-    ensures ok { IfOk result (λ c. AreCommandWords version nodes (name.now ∷ []) c) }
-    ensures err { IfErr result (IsUnasked version nodes (name.now ∷ [])) }
+fn of_one_word(name: &str) -> Result<LiveCommand, Unasked>
+    ensures ok { (version nodes : ℕ) → IfOk result (λ c. AreCommandWords version nodes (name.now ∷ []) c) }
+    ensures err { (version nodes : ℕ) → IfErr result (IsUnasked version nodes (name.now ∷ [])) }
 {
-    let _ = (version, nodes);
     match name {
         "rest" => Ok(LiveCommand::Rest),
         "line" => Ok(LiveCommand::Line),
@@ -75,18 +74,12 @@ fn of_one_word(version: usize, nodes: usize, name: &str) -> Result<LiveCommand, 
 }
 
 /// The command of a name and the word behind it.
-fn of_two_words(
-    version: usize,
-    nodes: usize,
-    name: &str,
-    word: &str,
-) -> Result<LiveCommand, Unasked>
+fn of_two_words(nodes: usize, name: &str, word: &str) -> Result<LiveCommand, Unasked>
     requires few { nodes ≤ 8 }
     requires other { name.now ≡ codes "step" → ⊥ }
-    ensures ok { IfOk result (λ c. AreCommandWords version nodes (name.now ∷ word.now ∷ []) c) }
-    ensures err { IfErr result (IsUnasked version nodes (name.now ∷ word.now ∷ [])) }
+    ensures ok { (version : ℕ) → IfOk result (λ c. AreCommandWords version nodes (name.now ∷ word.now ∷ []) c) }
+    ensures err { (version : ℕ) → IfErr result (IsUnasked version nodes (name.now ∷ word.now ∷ [])) }
 {
-    let _ = version;
     match name {
         "run" => match number_within(word, 0, GREATEST_NUMBER) {
             Ok(count) => Ok(LiveCommand::Run(count)),
@@ -101,19 +94,13 @@ fn of_two_words(
 }
 
 /// The command of a name, a node and the word behind it.
-fn of_three_words(
-    version: usize,
-    nodes: usize,
-    name: &str,
-    node: &str,
-    word: &str,
-) -> Result<LiveCommand, Unasked>
+fn of_three_words(nodes: usize, name: &str, node: &str, word: &str) -> Result<LiveCommand, Unasked>
     requires few { nodes ≤ 8 }
     requires other { name.now ≡ codes "step" → ⊥ }
-    ensures ok { IfOk result (λ c. AreCommandWords version nodes (name.now ∷ node.now ∷ word.now ∷ []) c) }
-    ensures err { IfErr result (IsUnasked version nodes (name.now ∷ node.now ∷ word.now ∷ [])) }
+    ensures ok { (version : ℕ) →
+        IfOk result (λ c. AreCommandWords version nodes (name.now ∷ node.now ∷ word.now ∷ []) c) }
+    ensures err { (version : ℕ) → IfErr result (IsUnasked version nodes (name.now ∷ node.now ∷ word.now ∷ [])) }
 {
-    let _ = version;
     let is_read = name == "read";
     if !is_read && name != "strike" {
         return Err(Unasked::Mistaken(LineFault::Command));
@@ -136,7 +123,6 @@ fn of_three_words(
 
 /// The command of a name, a node, an address and a byte.
 fn of_four_words(
-    version: usize,
     nodes: usize,
     name: &str,
     node: &str,
@@ -145,11 +131,11 @@ fn of_four_words(
 ) -> Result<LiveCommand, Unasked>
     requires few { nodes ≤ 8 }
     requires other { name.now ≡ codes "step" → ⊥ }
-    ensures ok { IfOk result (λ c.
+    ensures ok { (version : ℕ) → IfOk result (λ c.
         AreCommandWords version nodes (name.now ∷ node.now ∷ address.now ∷ value.now ∷ []) c) }
-    ensures err { IfErr result (IsUnasked version nodes (name.now ∷ node.now ∷ address.now ∷ value.now ∷ [])) }
+    ensures err { (version : ℕ) →
+        IfErr result (IsUnasked version nodes (name.now ∷ node.now ∷ address.now ∷ value.now ∷ [])) }
 {
-    let _ = version;
     if name != "write" {
         return Err(Unasked::Mistaken(LineFault::Command));
     }

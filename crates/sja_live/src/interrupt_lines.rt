@@ -1,21 +1,20 @@
 //! The interrupt lines of a session's nodes, as a byte.
 
-ghost use Rattle.std.specs.Prelude.{◌≡◌, ◌+◌, ◌*◌, ◌<◌, List, if◌then◌else◌};
-ghost use Rattle.sja_driver.specs.Deeds.{Deed};
+ghost use Rattle.std.specs.Prelude.{◌≡◌, ◌+◌, ◌*◌, ◌<◌, List, length, if◌then◌else◌};
+ghost use Rattle.sja_driver.specs.Accesses.{Access};
 ghost use Rattle.sja_live.specs.Answering.{AreLines};
-ghost use Rattle.sja_driver_session.specs.Bits.{IsStillIn, line_in};
-ghost use Rattle.sja_driver_session.specs.DriverSessions.{node_count};
-ghost use Rattle.sja_live.specs.Inside.Standing.{IsLiveAt};
+ghost use Rattle.sja_session.specs.Lines.{IsStill, line_at};
+ghost use Rattle.sja_session.specs.Sessions.{IsAt};
 
-use sja_driver_session::DriverSession;
+use sja_session::Session;
 
 /// Which interrupt lines are active: bit K for node K. Nothing happens by it.
-pub(crate) fn lines(session: &mut DriverSession) -> u8
-    ensures lines { (deeds : List (List Deed)) → IsLiveAt session.old deeds → AreLines session.old deeds result }
-    ensures still { (deeds : List (List Deed)) → IsLiveAt session.old deeds →
-        IsStillIn session.old session.new deeds }
+pub(crate) fn lines(session: &mut Session) -> u8
+    ensures lines { (accesses : List (List Access)) → IsAt session.old accesses → AreLines session.old accesses result }
+    ensures still { (accesses : List (List Access)) → IsAt session.old accesses →
+        IsStill session.old session.new accesses }
 {
-    let nodes = session.session().nodes() as u8;
+    let nodes = session.nodes() as u8;
     let mut lines = 0u8;
     for place in 0..nodes {
         let line = line_of(session, nodes - 1 - place);
@@ -25,11 +24,11 @@ pub(crate) fn lines(session: &mut DriverSession) -> u8
 }
 
 /// Whether the interrupt line of a node is active; not, where there is no such node. Nothing happens by it.
-fn line_of(session: &mut DriverSession, node: u8) -> bool
-    ensures line { (deeds : List (List Deed)) → IsLiveAt session.old deeds → node < node_count session.old →
-        result ≡ line_in session.old deeds node }
-    ensures still { (deeds : List (List Deed)) → IsLiveAt session.old deeds →
-        IsStillIn session.old session.new deeds }
+fn line_of(session: &mut Session, node: u8) -> bool
+    ensures line { (accesses : List (List Access)) → IsAt session.old accesses → node < length session.old.plan.nodes →
+        result ≡ line_at session.old accesses node }
+    ensures still { (accesses : List (List Access)) → IsAt session.old accesses →
+        IsStill session.old session.new accesses }
 {
     match session.irq(node) {
         Some(line) => line,

@@ -5,7 +5,7 @@
 //! has typed steps in versions 1 and 2, and in version 3 its accesses, so that a run of it, by `sja run`, has the
 //! report with which the talk ends.
 //!
-//! `specs/Calls.antt` says where its session stands, `specs/Answering.antt` what each command is answered, and
+//! `specs/Beginning.antt` says how its session begins, `specs/Answering.antt` what each command is answered, and
 //! `specs/Talking.antt` what a whole talk is.
 #![tactic(auto)]
 
@@ -13,7 +13,6 @@ mod answer_text;
 mod answered_bits;
 mod answered_steps;
 mod answering;
-mod beginning;
 mod command_words;
 mod interrupt_lines;
 mod line_fault;

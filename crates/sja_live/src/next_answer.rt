@@ -1,7 +1,7 @@
 //! The next answer of a talk.
 
 ghost use Rattle.std.specs.Prelude.{◌≡◌, List, IfOk, IfErr, OnOk};
-ghost use Rattle.sja_driver.specs.Deeds.{Deed};
+ghost use Rattle.sja_driver.specs.Accesses.{Access};
 ghost use Rattle.sja_live.specs.Inside.Standing.{IsLive, IsLiveAt};
 ghost use Rattle.sja_live.specs.Inside.Going.{FirstSays, IsNextAnswer, IsAnswerOf};
 ghost use Rattle.sja_live.specs.Inside.Reading.{LeavesLine};
@@ -20,7 +20,7 @@ use super::opening_words::opened;
 use super::talk_fault::TalkFault;
 use super::unasked::Unasked;
 use super::unopened::Unopened;
-use sja_driver_session::DriverSession;
+use sja_session::Session;
 use std::alloc::Global;
 use std::io::Read;
 
@@ -54,12 +54,12 @@ pub(crate) fn first_said<R: Read>(
 pub(crate) fn next_answer<R: Read>(
     alloc: Global,
     input: &mut R,
-    session: &mut DriverSession,
+    session: &mut Session,
 ) -> Result<Option<LiveAnswer>, TalkFault>
     requires { IsLive session.old }
     ensures live { OnOk result (IsLive session.new) }
-    ensures next { IfOk result (λ next. (deeds : List (List Deed)) → IsLiveAt session.old deeds →
-        IsNextAnswer (R.remaining input.old) (R.remaining input.new) session.old session.new deeds next) }
+    ensures next { IfOk result (λ next. (accesses : List (List Access)) → IsLiveAt session.old accesses →
+        IsNextAnswer (R.remaining input.old) (R.remaining input.new) session.old session.new accesses next) }
     ensures broken { IfErr result (LeavesLine (R.remaining input.old) (R.remaining input.new)) }
 {
     match next_line(alloc, input)? {
@@ -76,18 +76,18 @@ pub(crate) fn next_answer<R: Read>(
 #[tactic(auto, using(crate::proofs::Replies::LineAnswers::line_answers))]
 fn answer_of(
     alloc: Global,
-    session: &mut DriverSession,
+    session: &mut Session,
     line: &str,
 ) -> Result<Option<LiveAnswer>, TalkFault>
     requires live { IsLive session.old }
     requires readable { IsReadable line.now }
     ensures live { OnOk result (IsLive session.new) }
-    ensures next { IfOk result (λ next. (deeds : List (List Deed)) → IsLiveAt session.old deeds →
-        IsAnswerOf session.old session.new deeds line.now next) }
+    ensures next { IfOk result (λ next. (accesses : List (List Access)) → IsLiveAt session.old accesses →
+        IsAnswerOf session.old session.new accesses line.now next) }
     ensures err { IfErr result (λ fault. fault ≡ Memory) }
 {
-    let version = usize::from(session.session().version());
-    let nodes = session.session().nodes();
+    let version = usize::from(session.version());
+    let nodes = session.nodes();
     match asked(alloc, version, nodes, line) {
         Ok(LiveCommand::End) => Ok(None),
         Ok(command) => Ok(Some(answered(alloc, session, command)?)),

@@ -2,7 +2,7 @@
 
 ghost use Rattle.std.specs.Prelude.{◌≡◌, ◌≢◌, List, Option, IfOk, IfErr, OnOk};
 ghost use Rattle.std.specs.Io.KnownBytes.{Appends};
-ghost use Rattle.sja_driver.specs.Deeds.{Deed};
+ghost use Rattle.sja_driver.specs.Accesses.{Access};
 ghost use Rattle.sja_live.specs.AnswerTexts.{answer_text, opening_text};
 ghost use Rattle.sja_live.specs.Inside.Standing.{IsLive, IsLiveAt};
 ghost use Rattle.sja_live.specs.Inside.Going.{AppendsReport, IsBegun, IsOver};
@@ -12,14 +12,13 @@ ghost use Rattle.sja_live.specs.declared.talked.Talked.TheVariants.{Reported};
 ghost use Rattle.sja_plan.specs.Words.{Text};
 
 use super::answer_text::put_answer;
-use super::beginning::session_of;
 use super::live_answer::LiveAnswer;
 use super::next_answer::{first_said, next_answer};
 use super::opening_fault::OpeningFault;
 use super::talk_fault::TalkFault;
 use super::talked::Talked;
-use sja_driver_session::DriverSession;
 use sja_report::report;
+use sja_session::Session;
 use std::alloc::Global;
 use std::io::{Read, Write};
 
@@ -48,7 +47,7 @@ pub fn talk<R: Read, W: Write>(
             return Ok(Talked::Unopened);
         }
     };
-    let Ok(session) = session_of(alloc, opening) else {
+    let Ok(session) = Session::new(alloc, opening.version, opening.bits, opening.nodes) else {
         return Err(TalkFault::Memory);
     };
     talk_on(alloc, input, out, session)?;
@@ -62,7 +61,7 @@ fn talk_on<R: Read, W: Write>(
     alloc: Global,
     input: &mut R,
     out: &mut W,
-    mut session: DriverSession,
+    mut session: Session,
 ) -> Result<(), TalkFault>
     requires { IsLive session }
     ensures told { OnOk result ((before : Option Text) → IsBegun before (R.remaining input.old) session →
@@ -84,7 +83,7 @@ fn answer_lines<R: Read, W: Write>(
     alloc: Global,
     input: &mut R,
     out: &mut W,
-    session: &mut DriverSession,
+    session: &mut Session,
 ) -> Result<(), TalkFault>
     requires { IsLive session.old }
     ensures over { OnOk result ((before : Option Text) → IsBegun before (R.remaining input.old) session.old →
@@ -129,9 +128,9 @@ fn put_line<W: Write>(alloc: Global, out: &mut W, answer: &LiveAnswer) -> Result
 }
 
 /// Ends a session, and writes its report.
-fn put_report<W: Write>(alloc: Global, out: &mut W, session: DriverSession) -> Result<(), TalkFault>
-    ensures told { OnOk result ((deeds : List (List Deed)) → IsLiveAt session deeds →
-        AppendsReport (W.contents out.old) (W.contents out.new) session deeds) }
+fn put_report<W: Write>(alloc: Global, out: &mut W, session: Session) -> Result<(), TalkFault>
+    ensures told { OnOk result ((accesses : List (List Access)) → IsLiveAt session accesses →
+        AppendsReport (W.contents out.old) (W.contents out.new) session accesses) }
     ensures kept { IfErr result (λ f. f ≢ WriteFault → W.contents out.new ≡ W.contents out.old) }
     ensures memory { IfErr result (λ f. f ≢ WriteFault → f ≡ MemoryFault) }
 {

@@ -14,3 +14,4 @@ pub mod RegistersInBits
 pub mod Taken
 pub mod Newly
 pub mod BitOn
+pub mod OneDeed

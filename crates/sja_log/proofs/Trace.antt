@@ -3,3 +3,4 @@ pub mod Windows
 pub mod AbortsFirst
 pub mod Turning
 pub mod TbsAndAbort
+pub mod AccessDeeds

@@ -7,6 +7,7 @@ use Rattle.sja_script.specs.declared.step.Step.TheVariants.{Await, Sent, Interru
 use Rattle.sja_plan.specs.declared.turn.Turn.{Turn}
 use Rattle.sja_plan.specs.declared.turn.Turn.TheVariants.{Bus, Rest, Node}
 use Rattle.sja_plan.specs.Plan.{PlanValue}
+use Rattle.sja_driver.specs.Accesses.{Access, accesses_at, deeds_in}
 use Rattle.sja_driver.specs.Deeds.{Deed, given_in, is_active, opened_by}
 use Rattle.sja_log.specs.declared.end.End.{End}
 use Rattle.sja_log.specs.declared.end.End.TheVariants.{Turns as TurnsDone, Bits as BitsSpent}
@@ -17,11 +18,11 @@ use Rattle.sja_log.specs.Registering.{IsLineInactive}
 
 -- ---- a run, and how far it has come
 
--- a run of a plan: the journal and the deeds of each node
+-- a run of a plan: of each node its journal, and the steps of its driver that were done
 pub record Acts : Type 0 where
   pub plan : PlanValue
   pub journals : List (List Entry)
-  pub deeds : List (List Deed)
+  pub accesses : List (List Access)
 
 -- the bits run, and how many steps of each driver are done
 pub record Progress : Type 0 where
@@ -34,15 +35,15 @@ steps_of r k = slice_index_or r.plan.nodes k []
 abbrev pub journal_of : Acts → ℕ → List Entry
 journal_of r k = slice_index_or r.journals k []
 
-abbrev pub all_deeds : Acts → ℕ → List Deed
-all_deeds r k = slice_index_or r.deeds k []
+abbrev pub all_accesses : Acts → ℕ → List Access
+all_accesses r k = accesses_at r.accesses k
 
 -- how many steps of a driver are done, and its deeds so far
 abbrev pub steps_done : Progress → ℕ → ℕ
 steps_done p k = slice_index p.done k
 
 abbrev pub deeds_by : Acts → Progress → ℕ → List Deed
-deeds_by r p k = take (steps_done p k) (all_deeds r k)
+deeds_by r p k = deeds_in (take (steps_done p k) (all_accesses r k))
 
 abbrev pub with_steps : Progress → ℕ → ℕ → Progress
 with_steps p k m = record p { done = set p.done k (steps_done p k + m) }
@@ -74,8 +75,8 @@ pub record IsStuck (r : Acts) (p : Progress) (k : ℕ) : Type 0 where
 -- m steps of node k are done now, of the n that are asked for: all of them, or up to where the driver is stuck
 pub record DoesSteps (r : Acts) (p : Progress) (k n m : ℕ) : Type 0 where
   pub most : m ≤ n
-  pub exist : steps_done p k + m ≤ length (all_deeds r k)
-  pub now : (i : ℕ) (d : Deed) → i < m → (slice_index_or (all_deeds r k) (steps_done p k + i) d).bits ≡ p.bits
+  pub exist : steps_done p k + m ≤ length (all_accesses r k)
+  pub now : (i : ℕ) (a : Access) → i < m → (slice_index_or (all_accesses r k) (steps_done p k + i) a).bits ≡ p.bits
   pub stuck : m < n → IsStuck r (with_steps p k m) k
 
 -- ---- turns

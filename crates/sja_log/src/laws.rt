@@ -1,6 +1,6 @@
 //! Laws of logs.
 
-ghost use Rattle.std.specs.Prelude.{◌≡◌, ◌↔◌, ◌+◌, ◌<◌, ◌≤◌, ◌++◌, ℕ, List, [], ◌∷◌, length, slice_index_or};
+ghost use Rattle.std.specs.Prelude.{◌≡◌, ◌↔◌, ◌+◌, ◌<◌, ◌≤◌, ◌++◌, ℕ, Bool, List, [], ◌∷◌, length, slice_index_or};
 ghost use Rattle.sja_link.specs.declared.entry.Entry.{Entry};
 ghost use Rattle.sja_link.specs.declared.entry.Entry.TheVariants.{Abort};
 ghost use Rattle.sja_link.specs.Places.{place_of};
@@ -8,13 +8,16 @@ ghost use Rattle.sja_link.specs.Parts.{part};
 ghost use Rattle.sja_link.specs.Verdicts.{IsLawful};
 ghost use Rattle.sja_plan.specs.Plan.{PlanValue};
 ghost use Rattle.sja_regs.specs.declared.registers.Registers.{Registers};
+ghost use Rattle.can_frame.specs.declared.seen.Seen.{Seen};
+ghost use Rattle.sja_driver.specs.declared.kept_bytes.KeptBytes.{KeptBytes};
+ghost use Rattle.sja_driver.specs.Accesses.{Access, IsAccess};
 ghost use Rattle.sja_driver.specs.Deeds.{Deed};
 ghost use Rattle.sja_wire.specs.Lawful.{CountersAre, IsBusRun};
 ghost use Rattle.sja_log.specs.Log.{ActivationValue, NodeValue, RunValue, journals_in};
 ghost use Rattle.sja_log.specs.Settling.{IsSettled, AreSettled};
 ghost use Rattle.sja_log.specs.Headline.{IsAccount};
 ghost use Rattle.sja_driver.specs.Moments.{at_moment, IsFront, BeginsWithBit};
-ghost use Rattle.sja_log.specs.Registering.{LeadTo};
+ghost use Rattle.sja_log.specs.Registering.{IsPortDeed, LeadOn, LeadTo};
 ghost use Rattle.sja_log.specs.Runs.{IsTrace, IsRun};
 
 /// A law: where a node's journal is lawful, and each of its activations has begun there and is settled, the node's
@@ -36,8 +39,7 @@ pub fn a_bus_with_traced_drivers_is_a_run()
         ((k : ℕ) (d : NodeValue) → k < length log.nodes →
         let node = slice_index_or log.nodes k d in CountersAre node.journal node.txerr node.rxerr) →
         ((k : ℕ) (d : NodeValue) → k < length log.nodes →
-        IsTrace plan.version (slice_index_or plan.nodes k []) (slice_index_or log.nodes k d)
-        (slice_index_or deeds k [])) →
+        IsTrace plan.version (slice_index_or log.nodes k d) (slice_index_or deeds k [])) →
         ((k : ℕ) (d : NodeValue) → k < length log.nodes → AreSettled (slice_index_or log.nodes k d)) →
         IsRun plan log deeds }
 {}
@@ -53,4 +55,15 @@ pub fn a_moment_is_a_front()
 pub fn an_abort_stands_right_before_a_bit()
     ensures { (version : ℕ) (j : List Entry) (deeds : List Deed) (p : Registers) → LeadTo version j deeds p →
         (before rest : List Entry) → j ≡ before ++ Abort ∷ rest → BeginsWithBit rest }
+{}
+
+/// A law: in versions 1 and 2 a step that a driver did is one deed, done after as many bits: its step, and its answer.
+/// So from registers and entries to others a step leads there just as a deed does, and of these versions a run in one
+/// thread is one of deeds.
+pub fn a_step_of_versions_1_and_2_is_one_deed()
+    ensures { (version : ℕ) (j k : List Entry) (p q : Registers) (seen : Seen) (before : List Deed) (active : Bool)
+        (kept kept_now : KeptBytes) (a : Access) → version < 3 → a.bits ≡ (place_of j).bits →
+        IsAccess version p seen active kept a kept_now → LeadOn before j p a.deeds k q →
+        (d : Deed) × (a.deeds ≡ d ∷ []) × (d.step ≡ a.step) × (d.answer ≡ a.answer) × (d.bits ≡ a.bits)
+        × IsPortDeed p q j k before d }
 {}

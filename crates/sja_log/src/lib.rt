@@ -26,7 +26,7 @@ pub use activation_log::ActivationLog;
 pub use end::End;
 pub use laws::{
     a_bus_with_traced_drivers_is_a_run, a_moment_is_a_front, a_settled_node_has_the_headline,
-    an_abort_stands_right_before_a_bit,
+    a_step_of_versions_1_and_2_is_one_deed, an_abort_stands_right_before_a_bit,
 };
 pub use left_down::LeftDown;
 pub use node_run::NodeRun;

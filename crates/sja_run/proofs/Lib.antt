@@ -2,3 +2,4 @@ pub mod Requested
 pub mod PlanAnswers
 pub mod BytesRead
 pub mod FilesDone
+pub mod ShownNames

@@ -6,7 +6,7 @@ use Rattle.sja_plan.specs.Faults.{IsPlanOf, IsFirstFault}
 use Rattle.sja_plan.specs.declared.plan_fault.PlanFault.{PlanFault}
 use Rattle.sja_plan.specs.declared.plan_fault.PlanFault.TheVariants.{Memory}
 use Rattle.sja_log.specs.Log.{RunValue}
-use Rattle.sja_plan_session.specs.PlanRuns.{IsPlanRun}
+use Rattle.sja_log.specs.Runs.{IsSerialRun}
 use Rattle.sja_check.specs.Lines.{IsBrief, AreHints}
 use Rattle.sja_texts.specs.Refusal.{refusal_line}
 use Rattle.sja_texts.specs.declared.command_refusal.CommandRefusal.TheVariants as refusal
@@ -14,7 +14,7 @@ use Rattle.sja_run.specs.Input.{IsRead}
 
 -- these bytes are a plan, which has a run in one thread, and the text is a line for each hint
 abbrev pub IsHinted : List ℕ → List ℕ → Type 0
-IsHinted bytes text = (plan : PlanValue) × (log : RunValue) × IsPlanOf bytes plan × IsPlanRun plan log × AreHints text
+IsHinted bytes text = (plan : PlanValue) × (log : RunValue) × IsPlanOf bytes plan × IsSerialRun plan log × AreHints text
 
 -- these bytes have this first fault, which is no refused memory: the text is the line that `run` has for it, and then
 -- one line or two

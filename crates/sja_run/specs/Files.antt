@@ -12,6 +12,7 @@ use Rattle.sja_texts.specs.Refusal.{refusal_line}
 use Rattle.sja_texts.specs.declared.command_refusal.CommandRefusal.{CommandRefusal}
 use Rattle.sja_texts.specs.declared.command_refusal.CommandRefusal.TheVariants as refusal
 use Rattle.sja_run.specs.Check.{IsExplained, IsHinted}
+use Rattle.sja_run.specs.Names.{shown_name}
 use Rattle.sja_run.specs.Input.{IsRead, IsReadFrom, RefusesInput}
 use Rattle.sja_run.specs.RunText.{IsTextOfRun, MayFault}
 use Rattle.sja_run.specs.declared.file_outcome.FileOutcome.{FileOutcome}
@@ -103,12 +104,12 @@ AreOutcomes Holds asked (name ∷ names) before after (outcome ∷ outcomes) =
 
 -- the line that stands before what is said of a file, where there are several
 abbrev pub name_line : Bool → List ℕ → List ℕ
-name_line true name = codes "file " ++ name ++ 10 ∷ []
+name_line true name = codes "file " ++ shown_name name ++ 10 ∷ []
 name_line false name = []
 
 -- the line of a file that can't be read
 abbrev pub unreadable_line : List ℕ → List ℕ
-unreadable_line name = codes "sja: can't read " ++ name ++ 10 ∷ []
+unreadable_line name = codes "sja: can't read " ++ shown_name name ++ 10 ∷ []
 
 -- what is on the output of a file
 abbrev pub printed_of : Bool → List ℕ → FileOutcome → List ℕ

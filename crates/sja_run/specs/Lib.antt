@@ -5,6 +5,7 @@ pub mod Check
 pub mod Sweep
 pub mod Answer
 pub mod Live
+pub mod Names
 pub mod Files
 -- ---- definitions of private contracts alone
 pub mod Inside

@@ -3,16 +3,15 @@ use Rattle.std.specs.Prelude.{◌≡◌, ℕ, Bool, true, false, List}
 use Rattle.sja_candump.specs.CandumpText.{IsCandump}
 use Rattle.sja_frames.specs.FramesText.{IsFrameList}
 use Rattle.sja_log.specs.Log.{RunValue}
-use Rattle.sja_plan_session.specs.PlanRuns.{IsPlanRun}
+use Rattle.sja_log.specs.Runs.{IsSerialRun}
 use Rattle.sja_log.specs.declared.run_fault.RunFault.{RunFault}
 use Rattle.sja_log.specs.declared.run_fault.RunFault.TheVariants.{Memory}
 use Rattle.sja_picture.specs.PictureText.{IsPicture}
 use Rattle.sja_plan.specs.Plan.{PlanValue}
-use Rattle.sja_threads.specs.RawThreadedRuns.{IsPlanThreadedRun, is_raw_plan}
 use Rattle.sja_report.specs.ReportLines.{report_text}
 use Rattle.sja_svg.specs.DrawingText.{IsDrawing}
-use Rattle.sja_threads.specs.AccessRuns.{rooms}
-use Rattle.sja_threads.specs.Stopping.{IsFaultWith}
+use Rattle.sja_threads.specs.Stopping.{IsFaultOf}
+use Rattle.sja_threads.specs.Threads.{IsThreadedRun}
 use Rattle.sja_trace.specs.TraceText.{IsTrace}
 use Rattle.sja_wave.specs.WaveText.{IsWave}
 use Rattle.sja_run.specs.declared.run_text.RunText.{RunText}
@@ -31,13 +30,13 @@ IsTextOf (Candump errors) plan log text = IsCandump log errors text
 -- a run of the plan by the rules of its version has this log: with each driver in a thread of its own (`true`), where
 -- the gates may quit, or with all in one
 abbrev pub IsRunOf : Bool → PlanValue → RunValue → Type 0
-IsRunOf true plan log = IsPlanThreadedRun plan log true
-IsRunOf false plan log = IsPlanRun plan log
+IsRunOf true plan log = IsThreadedRun plan log true
+IsRunOf false plan log = IsSerialRun plan log
 
 -- and such a run may have this fault: in one thread memory is refused, in threads it has any fault that a run in
 -- threads of this plan has
 abbrev pub MayFault : Bool → PlanValue → RunFault → Type 0
-MayFault true plan fault = IsFaultWith (rooms (is_raw_plan plan) plan) plan fault
+MayFault true plan fault = IsFaultOf plan fault
 MayFault false plan fault = fault ≡ Memory
 
 -- the text is this one of a run of the plan

@@ -3,7 +3,7 @@
 ghost use Rattle.std.specs.Prelude.{◌≡◌, ◌++◌, ℕ, List, IfOk, IfErr};
 ghost use Rattle.sja_plan.specs.declared.plan_fault.PlanFault.TheVariants.{Memory};
 ghost use Rattle.sja_log.specs.Log.{RunValue};
-ghost use Rattle.sja_plan_session.specs.PlanRuns.{IsPlanRun};
+ghost use Rattle.sja_log.specs.Runs.{IsSerialRun};
 ghost use Rattle.sja_check.specs.Lines.{AreHints, IsBrief};
 ghost use Rattle.sja_texts.specs.Refusal.{refusal_line};
 ghost use Rattle.sja_texts.specs.declared.command_refusal.CommandRefusal.TheVariants as refusal;
@@ -16,7 +16,7 @@ use can_frame::OutOfMemory;
 use sja_check::{hints, mistake};
 use sja_log::RunFault;
 use sja_plan::{Plan, PlanFault, read_plan};
-use sja_plan_session::run_plan;
+use sja_serial::run_serial;
 use sja_texts::CommandRefusal;
 use std::alloc::Global;
 use std::io::Read;
@@ -50,9 +50,9 @@ pub(crate) fn said_of(alloc: Global, bytes: &[u8]) -> Result<PlanCheck, OutOfMem
 ///
 /// Error: [`OutOfMemory`] where memory was refused.
 fn hinted(alloc: Global, bytes: &[u8], plan: &Plan) -> Result<Vec<u8>, OutOfMemory>
-    ensures { IfOk result (λ text. ((log : RunValue) × IsPlanRun plan.now log) × AreHints text.items) }
+    ensures { IfOk result (λ text. ((log : RunValue) × IsSerialRun plan.now log) × AreHints text.items) }
 {
-    let Ok(log) = run_plan(alloc, plan) else {
+    let Ok(log) = run_serial(alloc, plan) else {
         return Err(OutOfMemory);
     };
     let text = hints(alloc, bytes, plan, &log)?;

@@ -6,7 +6,7 @@ ghost use Rattle.sja_run.specs.Input.{most_read, RefusesInput};
 ghost use Rattle.sja_run.specs.Run.{RefusesRun};
 ghost use Rattle.sja_run.specs.Inside.Runs.{HoldsPlan};
 
-use sja_plan::{MOST_RAW_BYTES, Plan, most_bytes, read_plan};
+use sja_plan::{MOST_BYTES, MOST_RAW_BYTES, Plan, most_bytes, read_plan};
 use sja_texts::CommandRefusal;
 use std::alloc::Global;
 use std::io::Read;
@@ -31,8 +31,8 @@ pub(crate) fn plan_of_input<R: Read>(alloc: Global, input: &mut R) -> Result<Pla
 }
 
 /// The bytes of the input, up to its end or to one more than a plan may have that begins so: to 65,537 of them, or to
-/// 16,777,217 where they begin with [`RAW_LINE`](sja_plan::RAW_LINE). It makes at most 33,554,434 reads (this project's
-/// own rule).
+/// 16,777,217 where [`RAW_LINE`](sja_plan::RAW_LINE) stands before all other keys. It makes at most 33,554,434 reads
+/// (this project's own rule).
 ///
 /// Errors: [`CommandRefusal::Read`] where a read fails, or where that many reads come neither to the end nor to as many
 /// bytes; [`CommandRefusal::OutOfMemory`].
@@ -46,20 +46,40 @@ pub fn read_input<R: Read>(alloc: Global, input: &mut R) -> Result<Vec<u8>, Comm
     let mut bytes = Vec::new(alloc);
     let mut buffer = [0u8; ROOM];
     for _ in 0..MOST_READS {
-        let room = (most_read(bytes.as_slice()) - bytes.len()).min(ROOM);
+        let room = (least_read(bytes.as_slice()) - bytes.len()).min(ROOM);
         let count = read_once(input, &mut bytes, &mut buffer[..room])?;
-        if count == 0 || bytes.len() == most_read(bytes.as_slice()) {
+        if count == 0 || bytes.len() == least_read(bytes.as_slice()) {
             return Ok(bytes);
         }
     }
     Err(CommandRefusal::Read)
 }
 
-/// How many bytes are read at most where the first ones are these: one more than a plan may have that begins so.
-#[tactic(auto, using(crate::proofs::BytesRead::MostRead::most_few))]
+/// So many bytes are read before the first ones are looked at: one more than a short plan may have, whatever they are.
+/// Of more it is how many are read at most.
+#[tactic(auto, using(crate::proofs::BytesRead::MostRead::most_least))]
+fn least_read(bytes: &[u8]) -> usize
+    requires within { length bytes.now ≤ most_read bytes.now }
+    ensures few { result ≤ most_read bytes.now }
+    ensures enough { length bytes.now ≤ result }
+    ensures more { length bytes.now < most_read bytes.now → length bytes.now < result }
+{
+    if bytes.len() <= MOST_BYTES {
+        return MOST_BYTES + 1;
+    }
+    most_read(bytes)
+}
+
+/// How many bytes are read at most where the first ones are these: one more than a plan may have that begins so. Where
+/// there are more than a plan may have that begins otherwise they aren't looked at again.
+#[tactic(auto, using(crate::proofs::BytesRead::MostRead::most_few, crate::proofs::BytesRead::MostRead::most_of_many))]
 fn most_read(bytes: &[u8]) -> usize
+    requires within { length bytes.now ≤ most_read bytes.now }
     ensures { result ≡ most_read bytes.now }
 {
+    if bytes.len() > MOST_BYTES + 1 {
+        return MOST_RAW_BYTES + 1;
+    }
     most_bytes(bytes) + 1
 }
 

@@ -1,13 +1,13 @@
 //! The program `sja`, over words, a reader and two writers.
 //!
-//! [`sja_serial`] is the whole program: it reads the words, does what they ask for, writes the exact text to its output
+//! [`sja_alone`] is the whole program: it reads the words, does what they ask for, writes the exact text to its output
 //! or one line to its error output, and answers the exit status. [`Output`] is a writer that remembers a failed write.
 //! What the words ask for is a [`Task`], from the crate `sja_words`. For a text of a run ([`RunText`]) it reads a
-//! [`Plan`] from its input ([`read_plan`]), runs it in one thread ([`run_plan`]) and writes that text of the log: for
+//! [`Plan`] from its input ([`read_plan`]), runs it in one thread ([`run_serial`]) and writes that text of the log: for
 //! `run` its report ([`report`]), for `wave` its waveform ([`wave`]), for `trace` what happened in it ([`trace`]), for
 //! `frames` the bits of its frames ([`frames`]), for `picture` its picture ([`picture`]), or with `--svg` its drawing
 //! ([`drawing`]), and for `candump` what each node received ([`candump`]); these calls are those of `sja_plan`,
-//! `sja_plan_session`, `sja_svg` and the crates of these names. For `check` it explains the plan's first fault, or says
+//! `sja_serial`, `sja_svg` and the crates of these names. For `check` it explains the plan's first fault, or says
 //! what the run left out ([`mistake`], [`hints`]), by `sja_check`. For `sweep` it says what each single bit error does
 //! to the run ([`sweep`]), by `sja_sweep`, or writes the plan with a strike more ([`plan_text`]), by `sja_plan_text`.
 //! The texts of the other commands, and of each refusal, are those of `sja_texts`. What is left to threads, to be done
@@ -24,6 +24,7 @@ mod files;
 mod input;
 mod left;
 mod live;
+mod names;
 mod output;
 mod plan_check;
 mod program;
@@ -44,20 +45,20 @@ pub use left::Left;
 pub use output::Output;
 pub use program::sja;
 pub use run_text::RunText;
-pub use serial::sja_serial;
+pub use serial::sja_alone;
 pub use sja_candump::candump;
 pub use sja_check::{hints, mistake};
 pub use sja_frames::frames;
 pub use sja_log::{ActivationLog, End, NodeRun, RunFault, RunLog};
 pub use sja_picture::picture;
 pub use sja_plan::{Plan, PlanFault, Turn, read_plan};
-pub use sja_plan_session::run_plan;
 pub use sja_plan_text::plan_text;
 pub use sja_report::report;
+pub use sja_serial::run_serial;
 pub use sja_svg::drawing;
-pub use sja_sweep::{Sweeping, Swept, sweep, sweep_jobs};
+pub use sja_sweep::{SweepTexts, Sweeping, sweep, sweep_jobs};
 pub use sja_texts::{CommandRefusal, SweepRefusal};
-pub use sja_threads::run_plan_threads;
+pub use sja_threads::run_threads;
 pub use sja_trace::trace;
 pub use sja_wave::wave;
 pub use sja_words::{FileWords, PlanQuestion, SweepWords, Task, WordsFault, parse};

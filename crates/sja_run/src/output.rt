@@ -4,7 +4,9 @@ ghost use Rattle.std.specs.Prelude.{◌≡◌, false, true};
 ghost use Rattle.std.specs.Io.KnownBytes.{Appends};
 ghost use Rattle.sja_texts.specs.Refusal.{refusal_line};
 ghost use Rattle.sja_run.specs.Files.{name_line, unreadable_line};
+ghost use Rattle.sja_run.specs.Names.{shown_name};
 
+use super::names::{byte_at, is_plain, shown_byte};
 use sja_texts::CommandRefusal;
 use std::io::Write;
 
@@ -83,8 +85,10 @@ impl<W: Write> Output<W> {
         ensures { self.new.failed ≡ false → (self.old.failed ≡ false)
             × Appends (W.contents self.old.writer) (W.contents self.new.writer) (name_line several name.now) }
     {
-        if several && !self.failed {
-            self.failed = writeln!(self.writer, "file {name}").is_err();
+        if several {
+            self.put(b"file ");
+            self.put_shown(name);
+            self.put(b"\n");
         }
     }
 
@@ -93,8 +97,34 @@ impl<W: Write> Output<W> {
         ensures { self.new.failed ≡ false → (self.old.failed ≡ false)
             × Appends (W.contents self.old.writer) (W.contents self.new.writer) (unreadable_line name.now) }
     {
-        if !self.failed {
-            self.failed = writeln!(self.writer, "sja: can't read {name}").is_err();
+        self.put(b"sja: can't read ");
+        self.put_shown(name);
+        self.put(b"\n");
+    }
+
+    /// Writes a name as it is shown.
+    fn put_shown(&mut self, name: &str)
+        ensures { self.new.failed ≡ false → (self.old.failed ≡ false)
+            × Appends (W.contents self.old.writer) (W.contents self.new.writer) (shown_name name.now) }
+    {
+        if is_plain(name) {
+            self.put(name.as_bytes());
+        } else {
+            self.put_escaped(name.as_bytes());
+        }
+    }
+
+    /// Writes the bytes of a name as they are shown, one after another.
+    fn put_escaped(&mut self, bytes: &[u8])
+        ensures { self.new.failed ≡ false → (self.old.failed ≡ false)
+            × Appends (W.contents self.old.writer) (W.contents self.new.writer) (shown_name bytes.now) }
+    {
+        let mut before = 0;
+        for place in 0..bytes.len() {
+            let byte = bytes[place];
+            let (text, count) = shown_byte(before, byte, byte_at(bytes, place + 1));
+            self.put(&text[..count]);
+            before = byte;
         }
     }
 }

@@ -14,7 +14,7 @@ use super::files::reply_files;
 use super::left::Left;
 use super::live::reply_live;
 use super::output::Output;
-use super::serial::sja_serial;
+use super::serial::sja_alone;
 use super::sources::Sources;
 use super::sweeps::told_sweep_jobs;
 use super::threaded::Threaded;
@@ -71,7 +71,7 @@ pub fn sja<T: Threads + Wait + Sync, F: Sources, S: AsStr, R: Read, O: Write, E:
     ensures few { ((r : Request) → ParsesAs (map S.text words.now) r → AsksForOne r)
         → ReadsFew (R.remaining input.old) (R.remaining input.new) }
 {
-    match sja_serial(alloc, words, input, out, err) {
+    match sja_alone(alloc, words, input, out, err) {
         Ok(status) => status,
         Err(Left::Files(files)) => { reply_files(rt, alloc, sources, &files, input, out, err) }
         Err(Left::Talk) => reply_live(alloc, input, out, err),

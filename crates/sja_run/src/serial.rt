@@ -1,4 +1,4 @@
-//! [`sja_serial`]: the program without threads, over words, a reader and two writers.
+//! [`sja_alone`]: the program without threads, over words, a reader and two writers.
 
 ghost use Rattle.std.specs.Prelude.{◌≡◌, ◌⊎◌, Some, IfOk, IfErr, false, true, map};
 ghost use Rattle.sja_words.specs.Requests.{Request, check, request_of};
@@ -30,7 +30,7 @@ use std::io::{Read, Write};
 /// have that begins so, in at most 33,554,434 reads.
 /// The words, texts and statuses are this project's own rule.
 #[tactic(auto, using(crate::proofs::BytesRead::FewBytes::unread))]
-pub fn sja_serial<'a, S: AsStr, R: Read, O: Write, E: Write>(
+pub fn sja_alone<'a, S: AsStr, R: Read, O: Write, E: Write>(
     alloc: Global,
     words: &'a [S],
     input: &mut R,

@@ -7,9 +7,8 @@ ghost use Rattle.sja_run.specs.RunText.{IsTextOfRun};
 
 use super::input::plan_of_input;
 use super::run_text::{RunText, text_of};
-use sja_log::RunFault;
 use sja_plan::Plan;
-use sja_plan_session::run_plan;
+use sja_serial::run_serial;
 use sja_texts::CommandRefusal;
 use std::alloc::Global;
 use std::io::Read;
@@ -39,9 +38,7 @@ pub(crate) fn written_of(
     ensures ok { IfOk result (λ text. IsTextOfRun false what plan.now text.items) }
     ensures err { IfErr result (RefusesRunOf false plan.now) }
 {
-    let Ok(log) = run_plan(alloc, plan) else {
-        return Err(CommandRefusal::Run(RunFault::Memory));
-    };
+    let log = run_serial(alloc, plan)?;
     let text = text_of(alloc, what, plan, &log)?;
     Ok(text)
 }

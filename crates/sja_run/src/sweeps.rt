@@ -10,7 +10,7 @@ ghost use Rattle.sja_run.specs.Inside.Refusals.{RefusesPlan};
 
 use super::input::plan_of_input;
 use sja_plan::Plan;
-use sja_sweep::{SweepFault, Sweeping, Swept, sweep, sweep_jobs};
+use sja_sweep::{SweepFault, SweepTexts, Sweeping, sweep, sweep_jobs};
 use sja_texts::{CommandRefusal, SweepRefusal};
 use sja_words::SweepWords;
 use std::alloc::Global;
@@ -49,7 +49,7 @@ pub(crate) fn told_sweep_jobs<T: Threads + Sync, R: Read>(
 }
 
 /// The lines of a sweep, or its rows; or why there is none.
-fn told(words: SweepWords, swept: Result<Swept, SweepFault>) -> Result<String, CommandRefusal>
+fn told(words: SweepWords, swept: Result<SweepTexts, SweepFault>) -> Result<String, CommandRefusal>
     ensures ok { (plan : PlanValue)
         → IfOk swept (λ s. IsSweep plan (sweeping_of words) (string_bytes s.text) (string_bytes s.rows))
         → IfOk result (λ text. IsSwept words plan (string_bytes text)) }
@@ -63,10 +63,7 @@ fn told(words: SweepWords, swept: Result<Swept, SweepFault>) -> Result<String, C
             runs, bits,
         ))),
         Err(SweepFault::StrikeCount) => Err(CommandRefusal::Sweep(SweepRefusal::StrikeCount)),
-        // A plan that was read has no more steps than a document may have: of it `Steps` isn't told.
-        Err(SweepFault::Steps | SweepFault::Run(_) | SweepFault::Memory) => {
-            Err(CommandRefusal::OutOfMemory)
-        }
+        Err(SweepFault::Run(_) | SweepFault::Memory) => Err(CommandRefusal::OutOfMemory),
     }
 }
 
@@ -85,9 +82,9 @@ fn sweeping_of(words: SweepWords) -> Sweeping
 }
 
 /// The lines of a sweep, or its rows.
-fn text_or_rows(swept: Swept, rows: bool) -> String
+fn text_or_rows(swept: SweepTexts, rows: bool) -> String
     ensures { string_bytes result ≡ (if rows then string_bytes swept.rows else string_bytes swept.text) }
 {
-    let Swept { text, rows: each } = swept;
+    let SweepTexts { text, rows: each } = swept;
     if rows { each } else { text }
 }

@@ -11,7 +11,7 @@ use super::run_text::{RunText, text_of};
 use super::tries::Tries;
 use sja_plan::Plan;
 use sja_texts::CommandRefusal;
-use sja_threads::run_plan_threads;
+use sja_threads::run_threads;
 use std::alloc::{AllocError, Global};
 use std::io::Read;
 use std::sync::Wait;
@@ -45,7 +45,7 @@ pub(crate) fn written_threads_of<T: Threads + Wait + Sync>(
     ensures err { IfErr result (RefusesRunOf true plan.now) }
 {
     let gates = gates_of(alloc, plan.nodes())?;
-    let log = run_plan_threads(rt, alloc, plan, gates)?;
+    let log = run_threads(rt, alloc, plan, gates)?;
     let text = text_of(alloc, what, plan, &log)?;
     Ok(text)
 }

@@ -1,18 +1,24 @@
 -- What bits do to a run in one thread (this project's own rule).
-use Rattle.std.specs.Prelude.{◌≡◌, ◌+◌, ◌<◌, ℕ, suc, true, false, Bool, List}
+use Rattle.std.specs.Prelude.{◌≡◌, ◌+◌, ◌<◌, ℕ, suc, true, false, Bool, List, slice_index_or}
 use Rattle.sja_link.specs.Records.{record_of}
 use Rattle.sja_link.specs.BitEntries.{HasOneBit}
 use Rattle.sja_bus.specs.Resting.{RestsAs}
 use Rattle.sja_wire.specs.Wire.{journal_at}
+use Rattle.sja_regs.specs.declared.registers.Registers.{Registers}
 use Rattle.sja_driver.specs.Deeds.{Deed}
+use Rattle.sja_log.specs.Registering.{IsPortBit}
 use Rattle.sja_serial.specs.Serial.{Setup, SerialValue, StandsAt}
 
--- one bit of a run, whose drivers did these deeds and nothing more
+-- one bit of a run, whose drivers did these deeds and nothing more: each port is as the bit leaves it
 pub record TakesBit (setup : Setup) (deeds : List (List Deed)) (was now : SerialValue) : Type 0 where
   pub stands : StandsAt setup now deeds
   pub bits : now.bits ≡ was.bits + 1
   pub nodes : (node : ℕ) → node < setup.nodes →
       HasOneBit (journal_at was.bus.journals node) (journal_at now.bus.journals node)
+  pub ports : (node : ℕ) (p : Registers) → node < setup.nodes →
+      IsPortBit (slice_index_or was.ports node p) (slice_index_or now.ports node p) (journal_at was.bus.journals node)
+      (journal_at now.bus.journals node)
+  pub drivers : now.drivers ≡ was.drivers
 
 -- so many bits, before each of which this held
 pub data TakesBits (setup : Setup) (deeds : List (List Deed)) (Before : SerialValue → Type 0) :

@@ -1,2 +1,3 @@
--- How a run goes on from turn to turn: definitions of private contracts and of proofs alone.
+-- How a run goes on from turn to turn, and a step on its way: definitions of private contracts and of proofs alone.
 pub mod Going
+pub mod Accessing

@@ -1,5 +1,7 @@
 -- A run in one thread, between two steps (this project's own rule).
-use Rattle.std.specs.Prelude.{◌≡◌, ◌+◌, ◌*◌, ◌<◌, ◌≤◌, ℕ, false, None, List, length, slice_index_or}
+use Rattle.std.specs.Prelude.{◌≡◌, ◌+◌, ◌*◌, ◌/◌, ◌<◌, ◌≤◌, ℕ, false, None, List, if◌then◌else◌, length, map}
+use Rattle.std.specs.Prelude.{slice_index_or}
+use Rattle.sja_link.specs.declared.entry.Entry.{Entry}
 use Rattle.sja_link.specs.Deques.{Deques}
 use Rattle.sja_wire.specs.Buses.{BusValue, untold_at}
 use Rattle.sja_link.specs.Links.{Numbered}
@@ -10,12 +12,15 @@ use Rattle.sja_regs.specs.Registers.{at_power_on}
 use Rattle.sja_script.specs.declared.strike.Strike.{Strike}
 use Rattle.sja_driver.specs.declared.logged_driver.LoggedDriver.{LoggedDriver}
 use Rattle.sja_driver.specs.Deeds.{Deed, deeds_at, with_deeds}
-use Rattle.sja_driver.specs.LoggedDrivers.{node_of}
+use Rattle.sja_driver.specs.Accesses.{Access, accesses_at, by_bytes, deeds_in, done_of}
+use Rattle.sja_driver.specs.LoggedDrivers.{node_of, log_of, kept_of}
+use Rattle.sja_driver.specs.Logs.{done_in, done_room}
+use Rattle.sja_log.specs.Registering.{AccessesLeadTo}
 use Rattle.sja_log.specs.Nodes.{IsNode}
 use Rattle.sja_driver.specs.Shown.{ShowsRecord}
 
 -- for what a run was made: by which version of the model, for how many bits, with which strikes, of how many nodes, and
--- for how many steps of the driver of each
+-- for how many deeds of the driver of each
 pub record Setup : Type 0 where
   pub version : ℕ
   pub bits : ℕ
@@ -23,14 +28,22 @@ pub record Setup : Type 0 where
   pub nodes : ℕ
   pub steps : List ℕ
 
--- of as many nodes as numbers of steps are given
+-- how many deeds so many steps may be, and for how many steps there is room where there is for so many deeds: in
+-- version 3 a write is three deeds at most
+abbrev pub most_deeds : ℕ → ℕ → ℕ
+most_deeds version steps = if by_bytes version then 3 * steps else steps
+
+abbrev pub most_steps : ℕ → ℕ → ℕ
+most_steps version deeds = if by_bytes version then deeds / 3 else deeds
+
+-- of as many nodes as numbers of steps are given, each with room for the deeds that so many may be
 abbrev pub setup_with : ℕ → ℕ → List Strike → List ℕ → Setup
 setup_with version bits strikes steps = record {
   version = version;
   bits = bits;
   strikes = strikes;
   nodes = length steps;
-  steps = steps;
+  steps = map (most_deeds version) steps;
 }
 
 -- what a run may be made for
@@ -83,6 +96,30 @@ pub record StandsAt (setup : Setup) (r : SerialValue) (deeds : List (List Deed))
   -- where nothing is untold of a node its port shows what the node's record says
   pub shown : (node : ℕ) (p : Registers) → node < setup.nodes → untold_at r.bus.untold node ≡ false →
       ShowsRecord (journal_at r.bus.journals node) (slice_index_or r.ports node p)
+
+-- of a node: the steps of its driver that its log has as done are these, from power-on they have led to the bytes that
+-- are kept for it and to the registers of its port, and there is room for so many
+pub record IsAccessed (version size : ℕ) (j : List Entry) (accesses : List Access) (driver : LoggedDriver)
+    (port : Registers) : Type 0 where
+  pub led : AccessesLeadTo version j accesses (kept_of driver) port
+  pub done : map done_of accesses ≡ done_in (log_of driver)
+  pub room : size ≤ done_room (log_of driver)
+
+-- the deeds that these steps were, of each node
+abbrev pub all_deeds : List (List Access) → List (List Deed)
+all_deeds accesses = map (λ (l : List Access). deeds_in l) accesses
+
+-- a run that was made for this stands where its drivers did these steps, a list for each node
+pub record StandsBy (setup : Setup) (r : SerialValue) (accesses : List (List Access)) : Type 0 where
+  pub stands : StandsAt setup r (all_deeds accesses)
+  pub nodes : (node : ℕ) (d : LoggedDriver) (p : Registers) → node < setup.nodes →
+      IsAccessed setup.version (most_steps setup.version (slice_index_or setup.steps node 0))
+      (journal_at r.bus.journals node) (accesses_at accesses node) (slice_index_or r.drivers node d)
+      (slice_index_or r.ports node p)
+
+-- there are such steps
+abbrev pub IsRunBy : Setup → SerialValue → Type 0
+IsRunBy setup r = (accesses : List (List Access)) × StandsBy setup r accesses
 
 -- there are such deeds
 abbrev pub IsRunOf : Setup → SerialValue → Type 0

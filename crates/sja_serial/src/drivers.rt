@@ -1,23 +1,55 @@
 //! The drivers of a run, as it begins.
 
-ghost use Rattle.std.specs.Prelude.{◌≡◌, ◌≤◌, length, IfOk};
+ghost use Rattle.std.specs.Prelude.{◌≡◌, ◌*◌, ◌<◌, ◌≤◌, ◌^◌, ℕ, length, map, IfOk, slice_index_or};
 ghost use Rattle.sja_log.specs.Inside.NewDrivers.{AreNew};
+ghost use Rattle.sja_serial.specs.Serial.{most_deeds};
 
 use can_frame::OutOfMemory;
 use sja_driver::{LoggedDriver, WorkLog};
 use std::alloc::Global;
 
-/// The drivers of all nodes, each with an empty log that has room for so many steps.
+/// The most deeds that a step of a driver is that knows addresses and bytes alone: those of a write.
+const MOST_DEEDS: u32 = 3;
+
+/// The first version in which reads and writes are those of addresses and bytes.
+pub(crate) const FIRST_BY_BYTES: u8 = 3;
+
+/// How many deeds the steps of each driver may be, in this version.
 ///
 /// Error: [`OutOfMemory`] where memory was refused.
-pub(crate) fn new_drivers(alloc: Global, steps: &[u32]) -> Result<Vec<LoggedDriver>, OutOfMemory>
+pub(crate) fn deeds_for(alloc: Global, version: u8, steps: &[u32]) -> Result<Vec<u32>, OutOfMemory>
+    requires small { (node : ℕ) → 3 * slice_index_or steps.now node 0 < 2 ^ 32 }
+    ensures { IfOk result (λ deeds. deeds.items ≡ map (most_deeds version) steps.now) }
+{
+    let most = if version < FIRST_BY_BYTES {
+        1
+    } else {
+        MOST_DEEDS
+    };
+    let mut deeds = Vec::with_capacity(alloc, steps.len())?;
+    for many in steps {
+        deeds.push_reserved(most * *many);
+    }
+    Ok(deeds)
+}
+
+/// The drivers of all nodes, each with an empty log that has room for so many steps, and for what so many deeds come
+/// to.
+///
+/// Error: [`OutOfMemory`] where memory was refused.
+pub(crate) fn new_drivers(
+    alloc: Global,
+    steps: &[u32],
+    deeds: &[u32],
+) -> Result<Vec<LoggedDriver>, OutOfMemory>
     requires few { length steps.now ≤ 8 }
+    requires many { length deeds.now ≡ length steps.now }
     ensures count { IfOk result (λ drivers. length drivers.items ≡ length steps.now) }
-    ensures new { IfOk result (λ drivers. AreNew steps.now (length steps.now) drivers.items) }
+    ensures new { IfOk result (λ drivers. AreNew steps.now deeds.now (length steps.now) drivers.items) }
 {
     let mut drivers = Vec::with_capacity(alloc, steps.len())?;
     for node in 0..steps.len() {
-        let log = WorkLog::new(alloc, steps[node])?;
+        let log = WorkLog::new(alloc, steps[node], deeds[node])?;
         drivers.push_reserved(LoggedDriver::new(node as u8, log));
     }
     Ok(drivers)

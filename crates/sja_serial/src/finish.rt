@@ -8,9 +8,9 @@ use std::alloc::Global;
 
 impl SerialRun {
     ghost use Rattle.std.specs.Prelude.{List, IfOk};
-    ghost use Rattle.sja_driver.specs.Deeds.{Deed};
+    ghost use Rattle.sja_driver.specs.Accesses.{Access};
     ghost use Rattle.sja_plan.specs.Plan.{PlanValue};
-    ghost use Rattle.sja_serial.specs.Serial.{Setup, StandsAt, IsRunOf};
+    ghost use Rattle.sja_serial.specs.Serial.{Setup, StandsBy, IsRunBy};
     ghost use Rattle.sja_serial.specs.Ending.{IsLogOf, MayBeOf};
 
     /// The log of the run, which ends so: of each node its journal, its error counters, the steps done, and of each
@@ -20,9 +20,9 @@ impl SerialRun {
     /// Error: [`OutOfMemory`] where memory was refused.
     pub fn finish(self, alloc: Global, end: End) -> Result<RunLog, OutOfMemory>
         ghost setup: { Setup }
-        requires run { IsRunOf setup self }
-        ensures log { IfOk result (λ log. (plan : PlanValue) (deeds : List (List Deed)) → StandsAt setup self deeds →
-            MayBeOf plan setup deeds → IsLogOf plan self deeds end log) }
+        requires run { IsRunBy setup self }
+        ensures log { IfOk result (λ log. (plan : PlanValue) (accesses : List (List Access)) →
+            StandsBy setup self accesses → MayBeOf plan setup accesses → IsLogOf plan self accesses end log) }
     {
         let version = self.version();
         let SerialRun {

@@ -16,6 +16,7 @@
 //! `SerialRun::new`, `SerialRun::strike` and `SerialRun::finish` alone take memory.
 #![tactic(auto)]
 
+mod accessing;
 mod bus_turns;
 mod drivers;
 mod finish;

@@ -33,12 +33,15 @@ impl SerialRun {
 }
 
 impl SerialRun {
-    ghost use Rattle.std.specs.Prelude.{◌≡◌, ◌<◌, List, length, slice_index_or};
+    ghost use Rattle.std.specs.Prelude.{◌≡◌, ◌<◌, ℕ, List, length, slice_index_or};
+    ghost use Rattle.sja_driver.specs.declared.logged_driver.LoggedDriver.{LoggedDriver as Logged};
+    ghost use Rattle.sja_driver.specs.LoggedDrivers.{kept_of};
     ghost use Rattle.sja_driver.specs.Deeds.{Deed, deeds_at, is_active};
     ghost use Rattle.sja_log.specs.Registering.{seen_now};
     ghost use Rattle.sja_regs.specs.declared.registers.Registers.{Registers};
     ghost use Rattle.sja_regs.specs.InterruptLine.{is_line_active};
-    ghost use Rattle.sja_serial.specs.Serial.{Setup, StandsAt, IsRunOf};
+    ghost use Rattle.sja_driver.specs.Accesses.{Access};
+    ghost use Rattle.sja_serial.specs.Serial.{Setup, StandsAt, StandsBy, IsRunOf};
     ghost use Rattle.sja_wire.specs.Wire.{journal_at};
 
     /// By which version of the model it runs.
@@ -62,9 +65,13 @@ impl SerialRun {
             (journal_at self.old.bus.journals node) (deeds_at deeds node)) }
         ensures stands { (deeds : List (List Deed)) → StandsAt setup self.old deeds →
             StandsAt setup self.new deeds }
+        ensures by { (accesses : List (List Access)) → StandsBy setup self.old accesses →
+            StandsBy setup self.new accesses }
         ensures bus { self.new.bus ≡ self.old.bus }
         ensures ports { self.new.ports ≡ self.old.ports }
         ensures bits { self.new.bits ≡ self.old.bits }
+        ensures kept { (m : ℕ) (d : Logged) → m < length self.old.drivers →
+            kept_of (slice_index_or self.new.drivers m d) ≡ kept_of (slice_index_or self.old.drivers m d) }
     {
         let index = usize::from(node);
         if index >= self.drivers.len() || self.bus.bits_run() != self.bits {

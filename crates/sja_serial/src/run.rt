@@ -1,13 +1,14 @@
 //! [`run_serial`]: a whole run in one thread.
 
-ghost use Rattle.std.specs.Prelude.{◌≡◌, ◌<◌, List, [], length, replicate, IfOk, IfErr};
+ghost use Rattle.std.specs.Prelude.{◌≡◌, ◌<◌, List, [], length, map, replicate, IfOk, IfErr};
 ghost use Rattle.sja_wire.specs.Buses.{new_bus};
-ghost use Rattle.sja_driver.specs.Deeds.{Deed};
+ghost use Rattle.sja_driver.specs.Accesses.{Access};
 ghost use Rattle.sja_plan.specs.Plan.{NamesNode, step_counts};
 ghost use Rattle.sja_log.specs.Headline.{AreAccounts};
 ghost use Rattle.sja_log.specs.Runs.{IsSerialRun};
 ghost use Rattle.sja_log.specs.declared.run_fault.RunFault.TheVariants.{Memory};
 ghost use Rattle.sja_serial.specs.Inside.Going.{StandsIn, IsRunIn, TakesTurn, TakesTurns, TakesOne};
+ghost use Rattle.sja_serial.specs.Serial.{most_deeds};
 
 use super::serial_run::SerialRun;
 use can_frame::OutOfMemory;
@@ -42,7 +43,7 @@ pub fn run_serial(alloc: Global, plan: &Plan) -> Result<RunLog, RunFault>
 fn new_run(alloc: Global, plan: &Plan) -> Result<SerialRun, OutOfMemory>
     ensures stands { IfOk result (λ r. StandsIn plan.now r (replicate (length plan.now.nodes) [])) }
     ensures bus { IfOk result (λ r. r.bus ≡ new_bus plan.now.strikes plan.now.bits (length plan.now.nodes)
-        (step_counts plan.now)) }
+        (map (most_deeds plan.now.version) (step_counts plan.now))) }
 {
     plan.limits();
     let script = script_of(alloc, plan)?;
@@ -54,7 +55,7 @@ fn new_run(alloc: Global, plan: &Plan) -> Result<SerialRun, OutOfMemory>
 fn take_turns(run: &mut SerialRun, plan: &Plan) -> End
     requires stands { StandsIn plan.now run.old (replicate (length plan.now.nodes) []) }
     requires bus { run.old.bus ≡ new_bus plan.now.strikes plan.now.bits (length plan.now.nodes)
-        (step_counts plan.now) }
+        (map (most_deeds plan.now.version) (step_counts plan.now)) }
     ensures { TakesTurns plan.now run.new result }
 {
     for turn in plan.turns() {
@@ -69,8 +70,8 @@ fn take_turns(run: &mut SerialRun, plan: &Plan) -> End
 fn take_one(run: &mut SerialRun, plan: &Plan, turn: &Turn) -> bool
     requires run { IsRunIn plan.now run.old }
     requires names { NamesNode (length plan.now.nodes) turn.now }
-    ensures { (deeds : List (List Deed)) → StandsIn plan.now run.old deeds →
-        TakesOne plan.now deeds run.old run.new turn.now result }
+    ensures { (accesses : List (List Access)) → StandsIn plan.now run.old accesses →
+        TakesOne plan.now accesses run.old run.new turn.now result }
 {
     match *turn {
         Turn::Node(node, count) => {
@@ -87,8 +88,8 @@ fn take_one(run: &mut SerialRun, plan: &Plan, turn: &Turn) -> bool
 fn take_steps(run: &mut SerialRun, plan: &Plan, node: u8, count: u32)
     requires run { IsRunIn plan.now run.old }
     requires node { node < length plan.now.nodes }
-    ensures { (deeds : List (List Deed)) → StandsIn plan.now run.old deeds →
-        TakesTurn plan.now run.old run.new node count deeds }
+    ensures { (accesses : List (List Access)) → StandsIn plan.now run.old accesses →
+        TakesTurn plan.now run.old run.new node count accesses }
 {
     let place = usize::from(node);
     let steps = plan.steps(place);

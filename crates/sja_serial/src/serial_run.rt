@@ -1,6 +1,6 @@
 //! [`SerialRun`]: a run in one thread, as far as it has come.
 
-use super::drivers::new_drivers;
+use super::drivers::{deeds_for, new_drivers};
 use can_frame::OutOfMemory;
 use sja_bus::{Bus, SerialBoard, serial_links};
 use sja_driver::LoggedDriver;
@@ -38,9 +38,9 @@ impl Model for SerialRun {
 }
 
 impl SerialRun {
-    ghost use Rattle.std.specs.Prelude.{◌≡◌, ◌≤◌, [], length, replicate, IfOk};
+    ghost use Rattle.std.specs.Prelude.{◌≡◌, ◌*◌, ◌<◌, ◌≤◌, ◌^◌, ℕ, [], length, map, replicate, slice_index_or, IfOk};
     ghost use Rattle.sja_wire.specs.Buses.{new_bus};
-    ghost use Rattle.sja_serial.specs.Serial.{StandsAt, setup_with};
+    ghost use Rattle.sja_serial.specs.Serial.{StandsBy, most_deeds, setup_with};
 
     /// A run to which nothing happened, by the rules of this version of the model, for so many bits, 1 to 2,000,000,
     /// with these strikes: of as many nodes, 1 to 8, as numbers of steps are given, with room for so many steps of the
@@ -56,15 +56,18 @@ impl SerialRun {
     ) -> Result<SerialRun, OutOfMemory>
         requires nodes { (1 ≤ length steps.items) × (length steps.items ≤ 8) }
         requires bits { (1 ≤ bits) × (bits ≤ 2000000) }
-        ensures stands { IfOk result (λ r. StandsAt (setup_with version bits script steps.items) r
+        requires steps { (node : ℕ) → 3 * slice_index_or steps.items node 0 < 2 ^ 32 }
+        ensures stands { IfOk result (λ r. StandsBy (setup_with version bits script steps.items) r
             (replicate (length steps.items) [])) }
-        ensures bus { IfOk result (λ r. r.bus ≡ new_bus script bits (length steps.items) steps.items) }
+        ensures bus { IfOk result (λ r. r.bus ≡ new_bus script bits (length steps.items)
+            (map (most_deeds version) steps.items)) }
     {
         let nodes = steps.len() as u8;
         let board = SerialBoard::new(alloc, nodes, version)?;
         let links = serial_links(alloc, nodes)?;
-        let drivers = new_drivers(alloc, steps.as_slice())?;
-        let bus = Bus::new(alloc, bits, steps, script)?;
+        let deeds = deeds_for(alloc, version, steps.as_slice())?;
+        let drivers = new_drivers(alloc, steps.as_slice(), deeds.as_slice())?;
+        let bus = Bus::new(alloc, bits, deeds, script)?;
         Ok(SerialRun {
             bus,
             board,

@@ -1,66 +1,62 @@
-//! A step of a node's driver, with the taking of what it gave.
+//! One deed of a node's driver, with the taking of what it gave.
 
-ghost use Rattle.std.specs.Prelude.{◌≡◌, true};
-ghost use Rattle.sja_driver.specs.LoggedDrivers.{log_of};
-ghost use Rattle.sja_driver.specs.Logs.{done_in};
+ghost use Rattle.std.specs.Prelude.{◌≡◌, Option, true};
 ghost use Rattle.sja_driver.specs.Inside.GivenNothing.{GaveNothing, GivesNothing};
 
 use super::serial_run::SerialRun;
-use sja_driver::LoggedDriver;
 use sja_link::first_link;
 use sja_regs::Command;
 use sja_script::{Step, StepAnswer};
 
 impl SerialRun {
-    ghost use Rattle.std.specs.Prelude.{◌≡◌, List, true, false};
-    ghost use Rattle.sja_driver.specs.Deeds.{Deed};
-    ghost use Rattle.sja_serial.specs.Serial.{Setup, StandsAt, IsRunOf};
-    ghost use Rattle.sja_serial.specs.Stepping.{DoesStep, DoesNothing, HasRoomLeft};
+    ghost use Rattle.std.specs.Prelude.{◌≡◌, ◌<◌, List, IfSome, None, length, slice_index_or};
+    ghost use Rattle.sja_driver.specs.Deeds.{Deed, deeds_at};
+    ghost use Rattle.sja_serial.specs.Serial.{Setup, StandsAt};
+    ghost use Rattle.sja_serial.specs.Stepping.{DoesDeed, DoesNothing, HasDeedLeft};
 
-    /// Tries this step of the driver of a node, counted from 0, and takes what it gave: the bus refuses no item of it.
-    /// It says whether the step is done; else it has to wait, and nothing happened. No bit is run.
+    /// Tries this step as one deed of the driver of a node, counted from 0, and takes what it gave: the bus refuses no
+    /// item of it. It gives the answer; none where the step has to wait, and nothing happened. No bit is run, and the
+    /// driver's log has nothing of it.
     #[inline(always)]
-    pub fn step(&mut self, node: u8, step: &Step) -> bool
+    pub(crate) fn deed(&mut self, node: u8, step: &Step) -> Option<StepAnswer>
         ghost setup: { Setup }
-        requires run { IsRunOf setup self.old }
-        requires room { HasRoomLeft self.old node }
-        ensures done { result ≡ true → (deeds : List (List Deed)) → StandsAt setup self.old deeds →
-            DoesStep setup self.old self.new node step.now deeds }
-        ensures waits { result ≡ false → (deeds : List (List Deed)) → StandsAt setup self.old deeds →
+        requires room { HasDeedLeft setup self.old node }
+        ensures done { IfSome result (λ answer. (deeds : List (List Deed)) → StandsAt setup self.old deeds →
+            length (deeds_at deeds node) < slice_index_or setup.steps node 0 →
+            DoesDeed setup self.old self.new node step.now answer deeds) }
+        ensures waits { result ≡ None → (deeds : List (List Deed)) → StandsAt setup self.old deeds →
+            length (deeds_at deeds node) < slice_index_or setup.steps node 0 →
             DoesNothing setup self.old self.new node step.now deeds }
     {
         let index = usize::from(node);
         let links = self.links.as_mut_slice();
         let port = &mut self.board.ports[index];
         let driver = &mut self.drivers[index];
-        let done = driver.step(links, first_link(index), port, step, self.bits);
-        if gave_nothing(driver, step, done) {
+        let answer = driver.step(links, first_link(index), port, step);
+        if gave_nothing(step, &answer) {
             // Asked for what holds of every bus.
             let _ = self.bus.bits_run();
-            return done;
+            return answer;
         }
         match self.bus.gather(links) {
-            Ok(()) => done,
+            Ok(()) => answer,
             Err(_) => unreachable!(),
         }
     }
 }
 
-/// Whether a step that this driver tried gave the bus nothing: none of its kind does, or it isn't done, or it was
-/// refused. Nothing is to be taken after it.
+/// Whether a step that was tried gave the bus nothing: none of its kind does, or it isn't done, or it was refused.
+/// Nothing is to be taken after it.
 #[inline(always)]
-fn gave_nothing(driver: &LoggedDriver, step: &Step, done: bool) -> bool
-    ensures { result ≡ true → GaveNothing step.now done (done_in (log_of driver.now)) }
+fn gave_nothing(step: &Step, answer: &Option<StepAnswer>) -> bool
+    ensures { result ≡ true → GaveNothing step.now answer.now }
 {
     if gives_nothing(step) {
         return true;
     }
-    if !done {
-        return true;
-    }
-    match driver.log().done().last() {
-        Some(last) => matches!(last.answer, StepAnswer::Refused(_)),
-        None => false,
+    match answer {
+        Some(answer) => matches!(answer, StepAnswer::Refused(_)),
+        None => true,
     }
 }
 

@@ -7,7 +7,8 @@ use sja_script::Strike;
 impl SerialRun {
     ghost use Rattle.std.specs.Prelude.{◌≡◌, ◌≤◌, List, OnOk, OnErr};
     ghost use Rattle.sja_driver.specs.Deeds.{Deed};
-    ghost use Rattle.sja_serial.specs.Serial.{Setup, StandsAt};
+    ghost use Rattle.sja_driver.specs.Accesses.{Access};
+    ghost use Rattle.sja_serial.specs.Serial.{Setup, StandsAt, StandsBy};
     ghost use Rattle.sja_serial.specs.Striking.{struck_run, struck_setup};
 
     /// One strike more, whose bits haven't run: a run stands at the same deeds as one that was made with this strike
@@ -19,6 +20,8 @@ impl SerialRun {
         ensures struck { OnOk result (self.new ≡ struck_run self.old strike) }
         ensures stands { OnOk result ((setup : Setup) (deeds : List (List Deed)) →
             StandsAt setup self.old deeds → StandsAt (struck_setup setup strike) self.new deeds) }
+        ensures by { OnOk result ((setup : Setup) (accesses : List (List Access)) →
+            StandsBy setup self.old accesses → StandsBy (struck_setup setup strike) self.new accesses) }
         ensures kept { OnErr result (self.new ≡ self.old) }
     {
         self.bus.strike(strike)

@@ -3,4 +3,3 @@ pub mod AfterBits
 pub mod BitsRun
 pub mod RestRun
 pub mod Looked
-pub mod Struck

@@ -3,4 +3,3 @@ pub mod StepsDone
 pub mod BitsDone
 pub mod WatchedBits
 pub mod Lifetime
-pub mod StruckBefore

@@ -2,5 +2,5 @@
 pub mod Stepped
 pub mod StepAnswered
 pub mod Accessing
-pub mod KeptRegisters
+pub mod ReadValue
 pub mod LastAnswer

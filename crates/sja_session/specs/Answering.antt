@@ -1,7 +1,7 @@
 -- The last answer of a driver (this project's own rule).
 use Rattle.std.specs.Prelude.{Option, Some, None, List, [], ◌∷◌}
 use Rattle.sja_script.specs.declared.step_answer.StepAnswer.{StepAnswer}
-use Rattle.sja_driver.specs.Deeds.{Deed}
+use Rattle.sja_driver.specs.Accesses.{Access}
 
 -- f of the last element of a list; none of an empty one
 abbrev pub last_of : {X Y : Type 0} → (X → Y) → List X → Option Y
@@ -9,6 +9,6 @@ last_of f [] = None
 last_of f (x ∷ []) = Some (f x)
 last_of f (x ∷ y ∷ xs) = last_of f (y ∷ xs)
 
--- what the last of these deeds answered
-abbrev pub last_answer : List Deed → Option StepAnswer
-last_answer deeds = last_of (λ (d : Deed). d.answer) deeds
+-- what the last of these steps answered
+abbrev pub last_answer : List Access → Option StepAnswer
+last_answer accesses = last_of (λ (a : Access). a.answer) accesses

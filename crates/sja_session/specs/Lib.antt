@@ -12,6 +12,5 @@ pub mod Resting
 pub mod Lines
 pub mod Watching
 pub mod Striking
--- ---- drivers that know addresses and bytes alone
-pub mod RawSessions
+pub mod ByAddress
 pub mod Inside

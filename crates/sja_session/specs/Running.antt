@@ -1,8 +1,9 @@
 -- Bits that a session runs (this project's own rule).
 use Rattle.std.specs.Prelude.{◌≡◌, ◌<◌, ◌≤◌, ◌⊎◌, ℕ, List}
 use Rattle.sja_plan.specs.declared.turn.Turn.TheVariants.{Bus}
-use Rattle.sja_driver.specs.Deeds.{Deed}
+use Rattle.sja_driver.specs.Accesses.{Access}
 use Rattle.sja_serial.specs.Bits.{TakesBits}
+use Rattle.sja_serial.specs.Serial.{all_deeds}
 use Rattle.sja_session.specs.Sessions.{SessionValue, IsAt, setup_by, written}
 use Rattle.sja_session.specs.Stepping.{HasTurn, LacksTurn}
 use Rattle.sja_session.specs.Writing.{with_bits_run}
@@ -28,12 +29,12 @@ LacksBusTurn s count = AreDue s count × LacksTurn s (Bus count)
 -- ---- what comes of it
 
 -- so many bits were run, of those that were asked for, and no step was done: all of them, or up to the last bit of the
--- plan. What each bit brought isn't said here, but that entries and deeds lead from power-on to the registers of each
+-- plan. What each bit brought isn't said here, but that entries and steps lead from power-on to the registers of each
 -- port (`IsAt`); that all nodes saw one level says the log
-pub record RunsBits (was now : SessionValue) (count run : ℕ) (deeds : List (List Deed)) : Type 0 where
-  pub bits : TakesBits (setup_by was) deeds (λ r. Unit {0}) was.run run now.run
+pub record RunsBits (was now : SessionValue) (count run : ℕ) (accesses : List (List Access)) : Type 0 where
+  pub bits : TakesBits (setup_by was) (all_deeds accesses) (λ r. Unit {0}) was.run run now.run
   pub most : run ≤ count
   pub whole : (run ≡ count) ⊎ (now.run.bits ≡ was.plan.bits)
-  pub at : IsAt now deeds
+  pub at : IsAt now accesses
   pub room : now.room ≡ was.room
   pub wrote : written now ≡ with_bits_run (written was) run

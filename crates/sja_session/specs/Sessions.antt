@@ -7,10 +7,10 @@ use Rattle.sja_plan.specs.Growing.{plan_of}
 use Rattle.sja_plan.specs.Limits.{most_steps, most_turns}
 use Rattle.sja_plan.specs.Plan.{PlanValue, NamesNode}
 use Rattle.sja_script.specs.declared.step.Step.{Step}
-use Rattle.sja_driver.specs.Deeds.{Deed, deeds_at}
+use Rattle.sja_driver.specs.Accesses.{Access, accesses_at}
 use Rattle.sja_log.specs.Turns.{Progress, with_bits, with_steps, steps_done}
 use Rattle.sja_serial.specs.Ending.{progress}
-use Rattle.sja_serial.specs.Serial.{Setup, SerialValue, StandsAt}
+use Rattle.sja_serial.specs.Serial.{Setup, SerialValue, StandsBy, most_deeds}
 use Rattle.sja_session.specs.declared.session_room.SessionRoom.{SessionRoom}
 
 -- what a contract sees of a session: its run, the plan that it goes by, whose steps and turns don't count, the steps of
@@ -38,50 +38,53 @@ setup_for p size = record {
   bits = p.bits;
   strikes = p.strikes;
   nodes = length p.nodes;
-  steps = replicate (length p.nodes) size;
+  steps = replicate (length p.nodes) (most_deeds p.version size);
 }
 
 -- for what its run was made
 abbrev pub setup_by : SessionValue → Setup
 setup_by s = setup_for (written s) s.room.steps
 
--- the steps that these deeds are, of each node
-abbrev pub steps_in : List (List Deed) → List (List Step)
-steps_in = map (λ (deeds : List Deed). map (λ (d : Deed). d.step) deeds)
+-- the steps that these are, as a plan has them, of each node
+abbrev pub steps_in : List (List Access) → List (List Step)
+steps_in = map (λ (accesses : List Access). map (λ (a : Access). a.step) accesses)
 
 -- these turns, latest first, led from the first point of the run to this one, and each was taken whole: its bits were
 -- run, or its steps were done, all after the same bits
-pub data Took (deeds : List (List Deed)) (first : Progress) : List Turn → Progress → Type 0 where
-  none : Took deeds first [] first
-  bus : (earlier : List Turn) (p : Progress) (n : ℕ) → Took deeds first earlier p →
-      Took deeds first (Bus n ∷ earlier) (with_bits p n)
-  node : (earlier : List Turn) (p : Progress) (k n : ℕ) → Took deeds first earlier p →
-      steps_done p k + n ≤ length (deeds_at deeds k) →
-      ((i : ℕ) (d : Deed) → i < n → (slice_index_or (deeds_at deeds k) (steps_done p k + i) d).bits ≡ p.bits) →
-      Took deeds first (Node k n ∷ earlier) (with_steps p k n)
+pub data Took (accesses : List (List Access)) (first : Progress) : List Turn → Progress → Type 0 where
+  none : Took accesses first [] first
+  bus : (earlier : List Turn) (p : Progress) (n : ℕ) → Took accesses first earlier p →
+      Took accesses first (Bus n ∷ earlier) (with_bits p n)
+  node : (earlier : List Turn) (p : Progress) (k n : ℕ) → Took accesses first earlier p →
+      steps_done p k + n ≤ length (accesses_at accesses k) →
+      ((i : ℕ) (a : Access) → i < n →
+      (slice_index_or (accesses_at accesses k) (steps_done p k + i) a).bits ≡ p.bits) →
+      Took accesses first (Node k n ∷ earlier) (with_steps p k n)
 
 -- where every run begins
 abbrev pub start_of : ℕ → Progress
 start_of nodes = record { bits = 0; done = replicate nodes 0 }
 
--- the session stands where its drivers did these deeds: its run does, their steps were written, and its turns led there
-pub record IsAt (s : SessionValue) (deeds : List (List Deed)) : Type 0 where
-  pub stands : StandsAt (setup_by s) s.run deeds
-  pub steps : steps_in deeds ≡ s.steps
+-- the session stands where its drivers did these steps: its run does, they were written, and its turns led there
+pub record IsAt (s : SessionValue) (accesses : List (List Access)) : Type 0 where
+  pub stands : StandsBy (setup_by s) s.run accesses
+  pub steps : steps_in accesses ≡ s.steps
   pub count : length s.steps ≡ length s.plan.nodes
-  pub took : Took deeds (start_of (length s.plan.nodes)) (reverse s.turns) (progress s.run deeds)
+  pub took : Took accesses (start_of (length s.plan.nodes)) (reverse s.turns) (progress s.run accesses)
 
 -- each of these turns is of a node that is there
 abbrev pub AreNamed : ℕ → List Turn → Type 0
 AreNamed nodes [] = Unit {0}
 AreNamed nodes (t ∷ turns) = NamesNode nodes t × AreNamed nodes turns
 
--- what holds of every session: it stands at some deeds, its steps and turns are within the limits of a plan of its
--- version, and there is room for the steps of each node and for one turn more, each of a node that is there
+-- what holds of every session: it stands at some steps, no more of each node than there is room for; its steps and
+-- turns are within the limits of a plan of its version, and there is room for one turn more, each of a node that is
+-- there
 pub record IsSession (s : SessionValue) (sizes : List ℕ) (capacity : ℕ) : Type 0 where
-  pub deeds : List (List Deed)
-  pub at : IsAt s deeds
+  pub accesses : List (List Access)
+  pub at : IsAt s accesses
   pub places : (node : ℕ) → node < length s.plan.nodes → s.room.steps ≤ slice_index_or sizes node 0
+  pub done : (node : ℕ) → node < length s.plan.nodes → length (slice_index_or s.steps node []) ≤ s.room.steps
   pub steps : s.room.steps ≤ most_steps s.plan.version
   pub most : s.room.turns ≤ most_turns s.plan.version
   pub room : s.room.turns + 1 ≤ capacity

@@ -1,7 +1,6 @@
 -- A step that a session does (this project's own rule).
-use Rattle.std.specs.Prelude.{◌≡◌, ◌≢◌, ◌<◌, ◌≤◌, ◌⊎◌, ◌++◌, ℕ, true, false, List, [], ◌∷◌, length, reverse}
-use Rattle.std.specs.Prelude.{slice_index_or, slice_set}
-use Rattle.sja_link.specs.BitEntries.{entries_of_items}
+use Rattle.std.specs.Prelude.{◌≡◌, ◌≢◌, ◌<◌, ◌≤◌, ◌⊎◌, ℕ, true, false, List, [], ◌∷◌, length, reverse}
+use Rattle.std.specs.Prelude.{slice_index_or}
 use Rattle.sja_wire.specs.Wire.{journal_at}
 use Rattle.sja_plan.specs.declared.turn.Turn.{Turn}
 use Rattle.sja_plan.specs.declared.turn.Turn.TheVariants.{Node}
@@ -9,11 +8,13 @@ use Rattle.sja_regs.specs.declared.registers.Registers.{Registers}
 use Rattle.sja_regs.specs.Registers.{at_power_on}
 use Rattle.sja_script.specs.declared.step.Step.{Step}
 use Rattle.sja_script.specs.declared.step_answer.StepAnswer.{StepAnswer}
-use Rattle.sja_driver.specs.Carried.{Tells, carried, ported}
-use Rattle.sja_driver.specs.Deeds.{Deed, deeds_at, opened_by, is_active, FitsState, with_deeds}
-use Rattle.sja_log.specs.Registering.{seen_now}
-use Rattle.sja_driver.specs.Windows.{SeesIf}
+use Rattle.sja_driver.specs.Accesses.{Access, IsAccess, accesses_at, deeds_in}
+use Rattle.sja_driver.specs.Deeds.{is_active}
+use Rattle.sja_driver.specs.LoggedDrivers.{kept_of}
+use Rattle.sja_driver.specs.declared.logged_driver.LoggedDriver.{LoggedDriver}
+use Rattle.sja_log.specs.Registering.{LeadOn, seen_now}
 use Rattle.sja_log.specs.Waiting.{HasToWait}
+use Rattle.sja_serial.specs.Stepping.{with_accesses}
 use Rattle.sja_session.specs.declared.step_fault.StepFault.{StepFault}
 use Rattle.sja_session.specs.declared.step_fault.StepFault.TheVariants.{NoNode, StepsUsed, TurnsUsed}
 use Rattle.sja_session.specs.Sessions.{SessionValue, IsAt, written}
@@ -49,41 +50,43 @@ IsStepFault s node TurnsUsed =
 
 -- ---- what comes of it
 
--- the step was done with this answer, after the bits that had run: by the state of the node's driver, by the registers
--- of its port as they were and by what it sees of the messages. No bit was run. The driver gave what the step gives by
--- those registers, and it was taken: the node's journal has just these items more, and each other journal is as it was.
--- The port is as the step leaves it, each other port as it was, no turn was noted, and the plan has the step more
+-- the step was done with this answer, after the bits that had run, and no bit was run. It was its deeds, by the
+-- registers of the node's port as they were, by the messages that had come and by what was kept. The node's journal and
+-- port are as these left them, one right after the other, each other one is as it was, and the plan has the step more
 pub record DoesStep (was now : SessionValue) (node : ℕ) (step : Step) (answer : StepAnswer)
-    (deeds : List (List Deed)) : Type 0 where
-  pub deed : Deed
-  pub is : deed.step ≡ step
-  pub answered : deed.answer ≡ answer
-  pub when : deed.bits ≡ was.run.bits
-  pub tells : (p : Registers) → Tells step (is_active (deeds_at deeds node)) (slice_index_or was.run.ports node p)
-      (seen_now (is_active (deeds_at deeds node)) (journal_at was.run.bus.journals node) (deeds_at deeds node)) answer
-  pub fits : FitsState was.plan.version (is_active (deeds_at deeds node)) (opened_by (deeds_at deeds node)) step answer
-  pub sees : SeesIf (is_active (deeds_at deeds node)) (journal_at was.run.bus.journals node) (deeds_at deeds node) deed
-  pub gave : (p : Registers) → deed.gave ≡ carried (slice_index_or was.run.ports node p) step answer
-  pub journal : journal_at now.run.bus.journals node
-      ≡ journal_at was.run.bus.journals node ++ entries_of_items deed.gave
+    (accesses : List (List Access)) : Type 0 where
+  pub access : Access
+  pub is : access.step ≡ step
+  pub answered : access.answer ≡ answer
+  pub when : access.bits ≡ was.run.bits
+  pub what : (d : LoggedDriver) (p : Registers) → let deeds = deeds_in (accesses_at accesses node) in
+      IsAccess was.plan.version (slice_index_or was.run.ports node p)
+      (seen_now (is_active deeds) (journal_at was.run.bus.journals node) deeds) (is_active deeds)
+      (kept_of (slice_index_or was.run.drivers node d)) access (kept_of (slice_index_or now.run.drivers node d))
+  pub on : (p : Registers) → LeadOn (deeds_in (accesses_at accesses node)) (journal_at was.run.bus.journals node)
+      (slice_index_or was.run.ports node p) access.deeds (journal_at now.run.bus.journals node)
+      (slice_index_or now.run.ports node p)
   pub others : (m : ℕ) → m < length was.plan.nodes → m ≢ node →
       journal_at now.run.bus.journals m ≡ journal_at was.run.bus.journals m
-  pub ports : (p : Registers) →
-      now.run.ports ≡ slice_set was.run.ports node (ported (slice_index_or was.run.ports node p) step answer)
-  pub at : IsAt now (with_deeds deeds node (deed ∷ []))
+  pub ports : (m : ℕ) (p : Registers) → m ≢ node →
+      slice_index_or now.run.ports m p ≡ slice_index_or was.run.ports m p
+  pub at : IsAt now (with_accesses accesses node (access ∷ []))
   pub bits : now.run.bits ≡ was.run.bits
   pub room : now.room ≡ was.room
   pub wrote : written now ≡ with_step_done (written was) node step
 
--- the step has to wait, and nothing happened that the bus, a port or the plan shows: no deed was done, no bit was run,
--- no port and no journal changed, and the plan is the same. The driver may have taken in what its link showed, no more
-pub record Waits (was now : SessionValue) (node : ℕ) (step : Step) (deeds : List (List Deed)) : Type 0 where
+-- the step has to wait, and nothing happened that the bus, a port or the plan shows: no step was done, no bit was run,
+-- no port, no journal and no kept byte changed, and the plan is the same. The driver may have taken in what its link
+-- showed, no more
+pub record Waits (was now : SessionValue) (node : ℕ) (step : Step) (accesses : List (List Access)) : Type 0 where
   pub why : HasToWait (slice_index_or was.run.ports node (at_power_on 1)) (journal_at was.run.bus.journals node)
-      (deeds_at deeds node) step
-  pub at : IsAt now deeds
+      (deeds_in (accesses_at accesses node)) step
+  pub at : IsAt now accesses
   pub bits : now.run.bits ≡ was.run.bits
   pub ports : now.run.ports ≡ was.run.ports
   pub journals : (m : ℕ) → m < length was.plan.nodes →
       journal_at now.run.bus.journals m ≡ journal_at was.run.bus.journals m
+  pub kept : (m : ℕ) (d : LoggedDriver) → m < length was.plan.nodes →
+      kept_of (slice_index_or now.run.drivers m d) ≡ kept_of (slice_index_or was.run.drivers m d)
   pub room : now.room ≡ was.room
   pub wrote : written now ≡ written was

@@ -13,14 +13,15 @@ use sja_serial::SerialRun;
 
 impl Session {
     ghost use Rattle.std.specs.Prelude.{◌≡◌, List};
-    ghost use Rattle.sja_driver.specs.Deeds.{Deed, deeds_at};
+    ghost use Rattle.sja_driver.specs.Accesses.{Access, accesses_at};
     ghost use Rattle.sja_session.specs.Answering.{last_answer};
     ghost use Rattle.sja_session.specs.Sessions.{IsAt};
 
     /// What the last step of a node, counted from 0, answered that is done. None where none is done, or there is no
     /// such node.
     pub fn answer(&self, node: u8) -> Option<StepAnswer>
-        ensures { (deeds : List (List Deed)) → IsAt self.now deeds → result ≡ last_answer (deeds_at deeds node) }
+        ensures { (accesses : List (List Access)) → IsAt self.now accesses →
+            result ≡ last_answer (accesses_at accesses node) }
     {
         let place = usize::from(node);
         if place >= self.plan.nodes() {

@@ -1,11 +1,10 @@
 //! The interrupt lines of a session's controllers.
 
-use super::raw_session::RawSession;
 use super::session::Session;
 
 impl Session {
     ghost use Rattle.std.specs.Prelude.{◌≡◌, ◌<◌, ◌≤◌, List, length, IfSome, OnSome, IfNone};
-    ghost use Rattle.sja_driver.specs.Deeds.{Deed};
+    ghost use Rattle.sja_driver.specs.Accesses.{Access};
     ghost use Rattle.sja_session.specs.Lines.{Looks};
     ghost use Rattle.sja_session.specs.Sessions.{IsAt};
 
@@ -15,8 +14,8 @@ impl Session {
     /// It is no step: it clears nothing, no bit is run, and the plan stays as it is. What has come for the driver is
     /// taken in first, as a read does.
     pub fn irq(&mut self, node: u8) -> Option<bool>
-        ensures line { IfSome result (λ line. (deeds : List (List Deed)) → IsAt self.old deeds →
-            Looks self.old self.new node line deeds) }
+        ensures line { IfSome result (λ line. (accesses : List (List Access)) → IsAt self.old accesses →
+            Looks self.old self.new node line accesses) }
         ensures there { OnSome result (node < length self.old.plan.nodes) }
         ensures none { IfNone result (length self.old.plan.nodes ≤ node) }
         ensures nodes { length self.new.plan.nodes ≡ length self.old.plan.nodes }
@@ -26,24 +25,5 @@ impl Session {
             return None;
         }
         Some(self.run.irq(node))
-    }
-}
-
-impl RawSession {
-    ghost use Rattle.std.specs.Prelude.{◌≡◌, ◌<◌, ◌≤◌, List, length, IfSome, OnSome, IfNone};
-    ghost use Rattle.sja_driver.specs.Deeds.{Deed};
-    ghost use Rattle.sja_session.specs.Lines.{Looks};
-    ghost use Rattle.sja_session.specs.Sessions.{IsAt};
-
-    /// Whether the interrupt line of a node is active, as [`Session::irq`] tells it.
-    pub fn irq(&mut self, node: u8) -> Option<bool>
-        ensures line { IfSome result (λ line. (deeds : List (List Deed)) → IsAt self.old.session deeds →
-            Looks self.old.session self.new.session node line deeds) }
-        ensures there { OnSome result (node < length self.old.session.plan.nodes) }
-        ensures none { IfNone result (length self.old.session.plan.nodes ≤ node) }
-        ensures still { self.new.kept ≡ self.old.kept }
-        ensures kept { IfNone result (self.new ≡ self.old) }
-    {
-        self.session.irq(node)
     }
 }

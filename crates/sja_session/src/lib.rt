@@ -1,29 +1,27 @@
 //! Sessions: runs in one thread that whoever holds them drives, call by call.
 //!
-//! A [`Session`] is a bus of one to eight controllers with their drivers. [`Session::step`] does one step of a driver
-//! now and gives its answer, [`Session::bits`] runs bits, and [`Session::strike`] has a node see the other level in a
-//! bit to come. [`Session::answer`] is the last answer of a node, [`Session::now`] says how many bits were run. What
-//! was done is written down: [`Session::plan`] is the plan so far, and [`Session::finish`] gives that plan with the log
-//! of the session, which is the log of a run in one thread of just that plan, with all that is promised of it.
-//! `docs/SESSIONS.md` shows a first program.
+//! A [`Session`] is a bus of one to eight controllers with their drivers, by the rules of any version.
+//! [`Session::step`] does one step of a driver now and gives its answer; [`Session::read`] and [`Session::write`] are
+//! the accesses of a driver that knows addresses and bytes. [`Session::bits`] runs bits, and [`Session::strike`] has a
+//! node see the other level in a bit to come. [`Session::answer`] is the last answer of a node, [`Session::now`] says
+//! how many bits were run. What was done is written down: [`Session::plan`] is the plan so far, and
+//! [`Session::finish`] gives that plan with the log of the session, which is the log of a run in one thread of just
+//! that plan, with all that is promised of it.
+//! `docs/use/LIBRARY.md` shows a first program.
 //!
 //! A call that can't be done is refused with its reason ([`SessionFault`], [`StepFault`], [`StrikeFault`],
 //! [`TurnsUsed`]), and changes nothing. All memory that steps and bits need is reserved by [`Session::new`] and
 //! [`Session::with_room`]; beside these `strike`, `plan` and `finish` alone take memory.
 #![tactic(auto)]
 
-mod accesses;
 mod answered;
 mod answers;
 mod beginning;
+mod by_address;
 mod finish;
 mod interrupt_line;
 mod lists;
-mod mode_and_command;
-mod of_plan;
 mod plan_so_far;
-mod prompt;
-mod raw_session;
 mod rested;
 mod resting;
 mod running;
@@ -36,6 +34,7 @@ mod strike_fault;
 mod striking;
 mod turns;
 mod turns_used;
+mod typed_write;
 mod watched;
 mod watching;
 
@@ -43,7 +42,6 @@ pub use answered::Answered;
 pub use beginning::LAST_VERSION;
 pub use lists::push_step;
 pub use plan_so_far::{copied_steps, copied_strikes, copied_turns};
-pub use raw_session::RawSession;
 pub use rested::Rested;
 pub use session::Session;
 pub use session_fault::SessionFault;

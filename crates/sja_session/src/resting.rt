@@ -1,6 +1,5 @@
 //! The bits of a session until every controller is at rest.
 
-use super::raw_session::RawSession;
 use super::rested::Rested;
 use super::session::Session;
 use super::turns::push_bits;
@@ -8,7 +7,7 @@ use super::turns_used::TurnsUsed;
 
 impl Session {
     ghost use Rattle.std.specs.Prelude.{◌≡◌, List, IfOk, OnOk, OnErr};
-    ghost use Rattle.sja_driver.specs.Deeds.{Deed};
+    ghost use Rattle.sja_driver.specs.Accesses.{Access};
     ghost use Rattle.sja_session.specs.Resting.{Rests};
     ghost use Rattle.sja_session.specs.Running.{MayRun, LacksBusTurn};
     ghost use Rattle.sja_session.specs.Sessions.{IsAt};
@@ -19,8 +18,8 @@ impl Session {
     /// Error: [`TurnsUsed`] where as many turns were taken as there is room for, the last one isn't of the bus, and a
     /// bit is left. Nothing changed.
     pub fn rest(&mut self) -> Result<Rested, TurnsUsed>
-        ensures rests { IfOk result (λ r. (deeds : List (List Deed)) → IsAt self.old deeds →
-            Rests self.old self.new r.bits r.at_rest deeds) }
+        ensures rests { IfOk result (λ r. (accesses : List (List Access)) → IsAt self.old accesses →
+            Rests self.old self.new r.bits r.at_rest accesses) }
         ensures may { OnOk result (MayRun self.old 1) }
         ensures err { OnErr result (LacksBusTurn self.old 1) }
         ensures kept { OnErr result (self.new ≡ self.old) }
@@ -33,27 +32,5 @@ impl Session {
         let bits = self.run.bits() - before;
         push_bits(&mut self.turns, bits);
         Ok(Rested { bits, at_rest })
-    }
-}
-
-impl RawSession {
-    ghost use Rattle.std.specs.Prelude.{◌≡◌, List, IfOk, OnOk, OnErr};
-    ghost use Rattle.sja_driver.specs.Deeds.{Deed};
-    ghost use Rattle.sja_session.specs.Resting.{Rests};
-    ghost use Rattle.sja_session.specs.Running.{MayRun, LacksBusTurn};
-    ghost use Rattle.sja_session.specs.Sessions.{IsAt};
-
-    /// Runs bits until every controller is at rest, as [`Session::rest`] does.
-    ///
-    /// Error: that of [`Session::rest`].
-    pub fn rest(&mut self) -> Result<Rested, TurnsUsed>
-        ensures rests { IfOk result (λ r. (deeds : List (List Deed)) → IsAt self.old.session deeds →
-            Rests self.old.session self.new.session r.bits r.at_rest deeds) }
-        ensures may { OnOk result (MayRun self.old.session 1) }
-        ensures err { OnErr result (LacksBusTurn self.old.session 1) }
-        ensures still { self.new.kept ≡ self.old.kept }
-        ensures kept { OnErr result (self.new ≡ self.old) }
-    {
-        self.session.rest()
     }
 }

@@ -15,7 +15,7 @@ use std::marker::Model;
 /// A run in one thread that its holder drives (this project's own rule).
 ///
 /// Contracts see it as its run, the plan that it goes by, without steps and turns, the steps of each node that were
-/// done, for how many of them and how many turns there is room, and the turns that were taken; and say at which deeds
+/// done, for how many of them and how many turns there is room, and the turns that were taken; and say at which steps
 /// of the drivers it stands. By its invariant it always stands at some, so no call asks anything of its caller.
 #[derive(Drop)]
 pub struct Session {
@@ -42,6 +42,7 @@ impl Model for Session {
 impl Session {
     ghost use Rattle.std.specs.Prelude.{◌≡◌, ◌<◌, ◌≤◌, [], replicate, IfOk, IfErr, OnOk, length};
     ghost use Rattle.sja_wire.specs.Buses.{new_bus};
+    ghost use Rattle.sja_serial.specs.Serial.{most_deeds};
     ghost use Rattle.sja_plan.specs.Growing.{plan_of};
     ghost use Rattle.sja_plan.specs.Limits.{most_steps};
     ghost use Rattle.sja_plan.specs.Plan.{IsInLimits};
@@ -51,13 +52,14 @@ impl Session {
     ghost use Rattle.sja_session.specs.Inside.Written.{IsBare};
 
     /// A session to which nothing happened, as [`with_room`](Session::with_room) makes it, with room for as much as a
-    /// plan of this version has at most: 1,000 steps of each node and 10,000 turns, or 196,605 steps and 200,000 turns
-    /// in version 3. What that is in bytes says `docs/SESSIONS.md`.
+    /// plan of this version has at most: 1,000 steps of each node and 10,000 turns, or 65,535 steps and 200,000 turns
+    /// in version 3. What that is in bytes says `docs/use/LIBRARY.md`.
     ///
     /// Errors: those of [`with_room`](Session::with_room), but for the two of the room.
     pub fn new(alloc: Global, version: u8, bits: u32, nodes: u8) -> Result<Session, SessionFault>
         ensures at { IfOk result (λ s. IsAt s (replicate nodes [])) }
-        ensures bus { IfOk result (λ s. s.run.bus ≡ new_bus [] bits nodes (replicate nodes (most_steps version))) }
+        ensures bus { IfOk result (λ s. s.run.bus ≡ new_bus [] bits nodes
+            (replicate nodes (most_deeds version (most_steps version)))) }
         ensures plan { IfOk result (λ s. written s ≡ plan_of version bits (replicate nodes []) [] []) }
         ensures room { IfOk result (λ s. s.room ≡ most_room version) }
         ensures limits { OnOk result (MayBegin version bits nodes) }
@@ -82,7 +84,8 @@ impl Session {
         room: SessionRoom,
     ) -> Result<Session, SessionFault>
         ensures at { IfOk result (λ s. IsAt s (replicate nodes [])) }
-        ensures bus { IfOk result (λ s. s.run.bus ≡ new_bus [] bits nodes (replicate nodes room.steps)) }
+        ensures bus { IfOk result (λ s. s.run.bus
+            ≡ new_bus [] bits nodes (replicate nodes (most_deeds version room.steps))) }
         ensures plan { IfOk result (λ s. written s ≡ plan_of version bits (replicate nodes []) [] []) }
         ensures room { IfOk result (λ s. s.room ≡ room) }
         ensures limits { OnOk result (MayBegin version bits nodes × IsRoom version room) }
@@ -101,7 +104,7 @@ impl Session {
         requires room { IsRoom plan.version room }
         ensures at { IfOk result (λ s. IsAt s (replicate (length plan.nodes) [])) }
         ensures bus { IfOk result (λ s. s.run.bus ≡ new_bus plan.strikes plan.bits (length plan.nodes)
-            (replicate (length plan.nodes) room.steps)) }
+            (replicate (length plan.nodes) (most_deeds plan.version room.steps))) }
         ensures plan { IfOk result (λ s. written s ≡ plan) }
         ensures room { IfOk result (λ s. s.room ≡ room) }
     {

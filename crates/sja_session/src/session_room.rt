@@ -15,7 +15,7 @@ impl SessionRoom {
     ghost use Rattle.std.specs.Prelude.{◌≡◌};
     ghost use Rattle.sja_session.specs.Beginning.{most_room};
 
-    /// Room for as much as a plan of this version has at most: 1,000 steps of each node and 10,000 turns, or 196,605
+    /// Room for as much as a plan of this version has at most: 1,000 steps of each node and 10,000 turns, or 65,535
     /// steps and 200,000 turns in version 3.
     pub fn most(version: u8) -> SessionRoom
         ensures { result ≡ most_room version }

@@ -11,7 +11,7 @@ use sja_script::Step;
 
 impl Session {
     ghost use Rattle.std.specs.Prelude.{◌≡◌, List, Ok, IfErr, OnOk, OnErr};
-    ghost use Rattle.sja_driver.specs.Deeds.{Deed};
+    ghost use Rattle.sja_driver.specs.Accesses.{Access};
     ghost use Rattle.sja_script.specs.declared.step_answer.StepAnswer.{StepAnswer as AnswerOfStep};
     ghost use Rattle.sja_session.specs.declared.answered.Answered.TheVariants.{Answer, Waits as HasToWait};
     ghost use Rattle.sja_session.specs.Sessions.{IsAt};
@@ -25,10 +25,10 @@ impl Session {
     /// as many turns were taken as there is room for, and the last one isn't of this node.
     #[inline(always)]
     pub fn step(&mut self, node: u8, step: Step) -> Result<Answered, StepFault>
-        ensures done { (answer : AnswerOfStep) → result ≡ Ok (Answer answer) → (deeds : List (List Deed)) →
-            IsAt self.old deeds → DoesStep self.old self.new node step answer deeds }
-        ensures waits { result ≡ Ok HasToWait → (deeds : List (List Deed)) → IsAt self.old deeds →
-            Waits self.old self.new node step deeds }
+        ensures done { (answer : AnswerOfStep) → result ≡ Ok (Answer answer) → (accesses : List (List Access)) →
+            IsAt self.old accesses → DoesStep self.old self.new node step answer accesses }
+        ensures waits { result ≡ Ok HasToWait → (accesses : List (List Access)) → IsAt self.old accesses →
+            Waits self.old self.new node step accesses }
         ensures may { OnOk result (MayStep self.old node) }
         ensures err { IfErr result (IsStepFault self.old node) }
         ensures kept { OnErr result (self.new ≡ self.old) }

@@ -3,7 +3,6 @@
 ghost use Rattle.std.specs.Prelude.{◌≡◌};
 ghost use Rattle.sja_plan.specs.Struck.{one_strike};
 
-use super::raw_session::RawSession;
 use super::session::Session;
 use super::strike_fault::StrikeFault;
 use sja_plan::PlanFault;
@@ -11,7 +10,7 @@ use sja_script::Strike;
 
 impl Session {
     ghost use Rattle.std.specs.Prelude.{◌≡◌, ◌<◌, ◌≤◌, List, length, IfErr, OnOk, OnErr};
-    ghost use Rattle.sja_driver.specs.Deeds.{Deed};
+    ghost use Rattle.sja_driver.specs.Accesses.{Access};
     ghost use Rattle.sja_session.specs.Sessions.{IsAt};
     ghost use Rattle.sja_session.specs.Striking.{MayStrike, IsStrikeFault, IsStruck};
 
@@ -24,8 +23,8 @@ impl Session {
     /// [`StrikeFault::StrikesUsed`] where the strikes so far strike as many bits as those of a plan of its version may;
     /// [`StrikeFault::Memory`] where memory was refused.
     pub fn strike(&mut self, node: u8, bit: u32) -> Result<(), StrikeFault>
-        ensures struck { OnOk result ((deeds : List (List Deed)) → IsAt self.old deeds →
-            IsStruck self.old self.new node bit deeds) }
+        ensures struck { OnOk result ((accesses : List (List Access)) → IsAt self.old accesses →
+            IsStruck self.old self.new node bit accesses) }
         ensures may { OnOk result (MayStrike self.old node bit) }
         ensures err { IfErr result (IsStrikeFault self.old node bit) }
         ensures kept { OnErr result (self.new ≡ self.old) }
@@ -75,26 +74,5 @@ fn one_strike(node: u8, bit: u32) -> Strike
         bit,
         every: 1,
         times: 1,
-    }
-}
-
-impl RawSession {
-    ghost use Rattle.std.specs.Prelude.{◌≡◌, List, IfErr, OnOk, OnErr};
-    ghost use Rattle.sja_driver.specs.Deeds.{Deed};
-    ghost use Rattle.sja_session.specs.Sessions.{IsAt};
-    ghost use Rattle.sja_session.specs.Striking.{MayStrike, IsStrikeFault, IsStruck};
-
-    /// Has a node see the other level in a bit that hasn't run, as [`Session::strike`] does.
-    ///
-    /// Errors: those of [`Session::strike`].
-    pub fn strike(&mut self, node: u8, bit: u32) -> Result<(), StrikeFault>
-        ensures struck { OnOk result ((deeds : List (List Deed)) → IsAt self.old.session deeds →
-            IsStruck self.old.session self.new.session node bit deeds) }
-        ensures may { OnOk result (MayStrike self.old.session node bit) }
-        ensures err { IfErr result (IsStrikeFault self.old.session node bit) }
-        ensures still { self.new.kept ≡ self.old.kept }
-        ensures kept { OnErr result (self.new ≡ self.old) }
-    {
-        self.session.strike(node, bit)
     }
 }

@@ -3,7 +3,6 @@
 ghost use Rattle.std.specs.Prelude.{◌≡◌, ◌<◌, ℕ, true, false, IfSome, IfNone};
 ghost use Rattle.sja_session.specs.Inside.Risen.{risen};
 
-use super::raw_session::RawSession;
 use super::session::Session;
 use super::turns::push_turn;
 use super::turns_used::TurnsUsed;
@@ -12,7 +11,7 @@ use sja_plan::Turn;
 
 impl Session {
     ghost use Rattle.std.specs.Prelude.{◌≡◌, ◌≤◌, ◌<◌, ℕ, true, false, List, length, slice_index_or, IfOk, OnOk, OnErr};
-    ghost use Rattle.sja_driver.specs.Deeds.{Deed};
+    ghost use Rattle.sja_driver.specs.Accesses.{Access};
     ghost use Rattle.sja_session.specs.Lines.{IsStill, line_at};
     ghost use Rattle.sja_session.specs.Running.{MayRun, LacksBusTurn};
     ghost use Rattle.sja_session.specs.Sessions.{IsAt};
@@ -25,8 +24,8 @@ impl Session {
     ///
     /// Error: that of [`bits`](Session::bits). Nothing changed.
     pub fn watch(&mut self, count: u32, watched: [bool; 8]) -> Result<Watched, TurnsUsed>
-        ensures watches { IfOk result (λ w. (deeds : List (List Deed)) → IsAt self.old deeds →
-            Watches self.old self.new count watched w.bits w.rose deeds) }
+        ensures watches { IfOk result (λ w. (accesses : List (List Access)) → IsAt self.old accesses →
+            Watches self.old self.new count watched w.bits w.rose accesses) }
         ensures may { OnOk result (MayRun self.old count) }
         ensures err { OnErr result (LacksBusTurn self.old count) }
         ensures kept { OnErr result (self.new ≡ self.old) }
@@ -58,8 +57,8 @@ impl Session {
         requires some { 1 ≤ count }
         requires left { self.old.run.bits < self.old.plan.bits }
         ensures most { result ≤ count }
-        ensures ran { (deeds : List (List Deed)) → IsAt self.old deeds →
-            RunsUntilTold self.old self.new result deeds }
+        ensures ran { (accesses : List (List Access)) → IsAt self.old accesses →
+            RunsUntilTold self.old self.new result accesses }
         ensures may { MayRun self.new 1 }
     {
         let run = self.run.bits_until_told(count);
@@ -70,10 +69,10 @@ impl Session {
     /// Which interrupt lines of watched nodes are active, a place for each node that there may be. Of the nodes that
     /// are there each that is watched is looked at.
     fn lines(&mut self, watched: &[bool; 8]) -> [bool; 8]
-        ensures still { (deeds : List (List Deed)) → IsAt self.old deeds → IsStill self.old self.new deeds }
-        ensures lines { (deeds : List (List Deed)) → IsAt self.old deeds → (k : ℕ) → k < length self.old.plan.nodes
-            → k < 8 → slice_index_or watched.now k false ≡ true →
-            slice_index_or result k false ≡ line_at self.old deeds k }
+        ensures still { (accesses : List (List Access)) → IsAt self.old accesses → IsStill self.old self.new accesses }
+        ensures lines { (accesses : List (List Access)) → IsAt self.old accesses → (k : ℕ) →
+            k < length self.old.plan.nodes → k < 8 → slice_index_or watched.now k false ≡ true →
+            slice_index_or result k false ≡ line_at self.old accesses k }
         ensures none { (k : ℕ) → length self.old.plan.nodes ≤ k → slice_index_or result k false ≡ false }
     {
         let mut lines = [false; 8];
@@ -87,28 +86,6 @@ impl Session {
             }
         }
         lines
-    }
-}
-
-impl RawSession {
-    ghost use Rattle.std.specs.Prelude.{◌≡◌, List, IfOk, OnOk, OnErr};
-    ghost use Rattle.sja_driver.specs.Deeds.{Deed};
-    ghost use Rattle.sja_session.specs.Running.{MayRun, LacksBusTurn};
-    ghost use Rattle.sja_session.specs.Sessions.{IsAt};
-    ghost use Rattle.sja_session.specs.Watching.{Watches};
-
-    /// Runs bits until the interrupt line of a watched node rises, as [`Session::watch`] does.
-    ///
-    /// Error: that of [`Session::watch`].
-    pub fn watch(&mut self, count: u32, watched: [bool; 8]) -> Result<Watched, TurnsUsed>
-        ensures watches { IfOk result (λ w. (deeds : List (List Deed)) → IsAt self.old.session deeds →
-            Watches self.old.session self.new.session count watched w.bits w.rose deeds) }
-        ensures may { OnOk result (MayRun self.old.session count) }
-        ensures err { OnErr result (LacksBusTurn self.old.session count) }
-        ensures still { self.new.kept ≡ self.old.kept }
-        ensures kept { OnErr result (self.new ≡ self.old) }
-    {
-        self.session.watch(count, watched)
     }
 }
 

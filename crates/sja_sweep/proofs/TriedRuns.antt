@@ -1,5 +1,4 @@
 -- The nodes, entries and errors of a run that was tried.
-pub mod RunNodes
 pub mod ErrorLemmas
 pub mod Entries
 pub mod RunFaults

@@ -6,7 +6,7 @@ use Rattle.std.specs.Option.{option_map}
 use Rattle.can_node.specs.declared.cause.Cause.{Cause}
 use Rattle.sja_link.specs.declared.entry.Entry.{Entry}
 use Rattle.sja_log.specs.Log.{NodeValue, RunValue}
-use Rattle.sja_plan_session.specs.PlanRuns.{IsPlanRun}
+use Rattle.sja_log.specs.Runs.{IsSerialRun}
 use Rattle.sja_plan.specs.Plan.{PlanValue}
 use Rattle.sja_replay.specs.declared.happening.Happening.{Happening}
 use Rattle.sja_replay.specs.Happened.{Happened}
@@ -22,12 +22,12 @@ pub record HasErrors (journal : List Entry) (errors : List (Option Cause)) : Typ
   pub are : errors ≡ map error_in told
 
 -- a run: its log, and of each node the error of each bit
-pub record RanValue : Type 0 where
+pub record TrialRunValue : Type 0 where
   pub log : RunValue
   pub errors : List (List (Option Cause))
 
 -- a run in one thread of the plan, and the errors in it
-pub record IsRan (plan : PlanValue) (r : RanValue) : Type 0 where
-  pub run : IsPlanRun plan r.log
+pub record IsRan (plan : PlanValue) (r : TrialRunValue) : Type 0 where
+  pub run : IsSerialRun plan r.log
   pub errors : AllZip (λ (n : NodeValue) (errors : List (Option Cause)). HasErrors n.journal errors) r.log.nodes
       r.errors

@@ -1,6 +1,6 @@
 -- What is said of two lists of messages: one without a strike, and one with it (this project's own rule).
 use Rattle.std.specs.Prelude.{◌+◌, ◌==◌, ◌&&◌, ℕ, Bool, not, nat_lt, if◌then◌else◌}
-use Rattle.std.specs.Prelude.{List, [], ◌∷◌, ◌++◌, length, take, codes, slice_index_or, count_by}
+use Rattle.std.specs.Prelude.{List, [], ◌++◌, length, take, codes, slice_index_or, count_by}
 use Rattle.std.specs.List.{list_any, range_with_len}
 use Rattle.std.specs.Str.{bytes_eq}
 use Rattle.lemmas.specs.Gathering.{gathered}

@@ -1,5 +1,5 @@
 -- What came of one trial: of one strike, or of two (this project's own rule).
-use Rattle.std.specs.Prelude.{◌==◌, ℕ, Bool, not, min, if◌then◌else◌, Option, List, [], ◌∷◌, ◌++◌, length}
+use Rattle.std.specs.Prelude.{◌==◌, ℕ, Bool, not, if◌then◌else◌, Option, List, [], ◌∷◌, ◌++◌, length}
 use Rattle.std.specs.Prelude.{codes, decimal}
 use Rattle.std.specs.List.{range_with_len}
 use Rattle.lemmas.specs.Gathering.{gathered}
@@ -7,7 +7,7 @@ use Rattle.sja_log.specs.Log.{NodeValue}
 use Rattle.sja_sweep.specs.declared.first_error.FirstError.{FirstError}
 use Rattle.sja_sweep.specs.declared.trial.Trial.{Trial}
 use Rattle.sja_sweep.specs.Nodes.{node_at}
-use Rattle.sja_sweep.specs.Errors.{RanValue}
+use Rattle.sja_sweep.specs.Errors.{TrialRunValue}
 use Rattle.sja_sweep.specs.FirstErrors.{first_error}
 use Rattle.sja_sweep.specs.Changes.{all_items}
 
@@ -32,7 +32,7 @@ pub record Outcome : Type 0 where
   pub changed : Bool
 
 -- of a trial by the run without it and the run with it
-abbrev pub outcome_of : RanValue → Trial → RanValue → Outcome
+abbrev pub outcome_of : TrialRunValue → Trial → TrialRunValue → Outcome
 outcome_of without trial now = record {
   trial = trial;
   error = first_error without.errors now.errors;
@@ -41,7 +41,7 @@ outcome_of without trial now = record {
 }
 
 -- of each trial with its run
-abbrev pub outcomes_of : RanValue → List Trial → List RanValue → List Outcome
+abbrev pub outcomes_of : TrialRunValue → List Trial → List TrialRunValue → List Outcome
 outcomes_of without [] runs = []
 outcomes_of without (t ∷ ts) [] = []
 outcomes_of without (t ∷ ts) (r ∷ runs) = outcome_of without t r ∷ outcomes_of without ts runs

@@ -1,20 +1,18 @@
 -- What is promised of a sweep (this project's own rule).
-use Rattle.std.specs.Prelude.{◌≡◌, ◌+◌, ◌*◌, ◌<◌, ◌≤◌, ◌⊎◌, ℕ, true, false, Some, List, length}
+use Rattle.std.specs.Prelude.{◌≡◌, ◌+◌, ◌*◌, ◌<◌, ◌≤◌, ◌⊎◌, ℕ, false, Some, List, length}
 use Rattle.std.specs.List.{AllZip}
 use Rattle.sja_plan.specs.Limits.{most_strikes}
 use Rattle.sja_plan.specs.Plan.{PlanValue, times_in}
 use Rattle.sja_log.specs.Log.{RunValue}
-use Rattle.sja_plan_session.specs.PlanRuns.{IsPlanRun}
-use Rattle.sja_plan_session.specs.RawRuns.{IsRawRunFault}
-use Rattle.sja_plan_session.specs.declared.raw_run_fault.RawRunFault.TheVariants as run
+use Rattle.sja_log.specs.Runs.{IsSerialRun}
 use Rattle.sja_log.specs.declared.run_fault.RunFault.TheVariants.{Memory as NoMemory}
 use Rattle.sja_sweep.specs.declared.sweeping.Sweeping.{Sweeping}
 use Rattle.sja_sweep.specs.declared.trial.Trial.{Trial}
 use Rattle.sja_sweep.specs.declared.sweep_fault.SweepFault.{SweepFault}
-use Rattle.sja_sweep.specs.declared.sweep_fault.SweepFault.TheVariants.{NoNode, Steps, TooMany, StrikeCount, Run}
+use Rattle.sja_sweep.specs.declared.sweep_fault.SweepFault.TheVariants.{NoNode, TooMany, StrikeCount, Run}
 use Rattle.sja_sweep.specs.declared.sweep_fault.SweepFault.TheVariants.{Memory}
 use Rattle.sja_sweep.specs.Targets.{trials_of, strikes_a_run, struck_by}
-use Rattle.sja_sweep.specs.Errors.{RanValue, IsRan}
+use Rattle.sja_sweep.specs.Errors.{TrialRunValue, IsRan}
 use Rattle.sja_sweep.specs.Outcome.{outcomes_of}
 use Rattle.sja_sweep.specs.SweepText.{sweep_text, sweep_rows}
 
@@ -25,10 +23,6 @@ strikes_tried plan s planned = trials_of s (length plan.nodes) planned.bits
 -- the node that the sweep names, if it names one, is one of the plan's
 abbrev pub NamesItsNode : PlanValue → Sweeping → Type 0
 NamesItsNode plan s = (node : ℕ) → s.node ≡ Some node → node < length plan.nodes
-
--- the plan is of version 3, and a node has more steps than a document may have: it has no run
-abbrev pub HasTooManySteps : PlanValue → Type 0
-HasTooManySteps plan = (3 ≤ plan.version) × IsRawRunFault plan run.Steps
 
 -- so many runs of this plan are at most 20,000, and come to at most 2,000,000,000 bits
 abbrev pub AreFew : PlanValue → ℕ → Type 0
@@ -42,10 +36,10 @@ AreTooMany plan runs = (20000 < runs) ⊎ (2000000000 < runs * plan.bits)
 -- logs and the errors of these runs; so many runs may be made, and with the strikes of a run more the plan strikes at
 -- most as many bits as it may in its version
 pub record IsSweep (plan : PlanValue) (s : Sweeping) (text rows : List ℕ) : Type 0 where
-  pub planned : RanValue
-  pub runs : List RanValue
+  pub planned : TrialRunValue
+  pub runs : List TrialRunValue
   pub as_planned : IsRan plan planned
-  pub as_struck : AllZip (λ (t : Trial) (r : RanValue). IsRan (struck_by plan t) r)
+  pub as_struck : AllZip (λ (t : Trial) (r : TrialRunValue). IsRan (struck_by plan t) r)
       (strikes_tried plan s planned.log) runs
   pub text_is : text
       ≡ sweep_text s.changed planned.log (outcomes_of planned (strikes_tried plan s planned.log) runs)
@@ -58,7 +52,7 @@ pub record IsSweep (plan : PlanValue) (s : Sweeping) (text rows : List ℕ) : Ty
 -- too many runs, and it isn't said that they are meant; the node that is named is there
 pub record IsRefused (plan : PlanValue) (s : Sweeping) (runs bits : ℕ) : Type 0 where
   pub planned : RunValue
-  pub as_planned : IsPlanRun plan planned
+  pub as_planned : IsSerialRun plan planned
   pub runs_are : runs ≡ length (strikes_tried plan s planned)
   pub bits_are : bits ≡ runs * plan.bits
   pub node : NamesItsNode plan s
@@ -75,19 +69,17 @@ pub record NamesNoNode (plan : PlanValue) (s : Sweeping) : Type 0 where
 -- the node that is named is there, and there aren't too many runs, or so many are meant
 pub record HasNoRoom (plan : PlanValue) (s : Sweeping) : Type 0 where
   pub planned : RunValue
-  pub as_planned : IsPlanRun plan planned
+  pub as_planned : IsSerialRun plan planned
   pub some : 0 < length (strikes_tried plan s planned)
   pub full : most_strikes plan.version < times_in plan.strikes + strikes_a_run s.pairs
   pub node : NamesItsNode plan s
   pub few : s.meant ≡ false → AreFew plan (length (strikes_tried plan s planned))
 
--- why there is no sweep, the first of these that holds: the node that is named isn't there; the plan has no run; there
--- are too many runs; there is no room for their strikes. Once the node was looked for memory may be refused at any
--- time, in a run too, where the plan has one
+-- why there is no sweep, the first of these that holds: the node that is named isn't there; there are too many runs;
+-- there is no room for their strikes. Once the node was looked for memory may be refused at any time, in a run too
 abbrev pub IsSweepFault : PlanValue → Sweeping → SweepFault → Type 0
 IsSweepFault plan s NoNode = NamesNoNode plan s
-IsSweepFault plan s Steps = NamesItsNode plan s × HasTooManySteps plan
 IsSweepFault plan s (TooMany runs bits) = IsRefused plan s runs bits
 IsSweepFault plan s StrikeCount = HasNoRoom plan s
-IsSweepFault plan s (Run f) = NamesItsNode plan s × (f ≡ NoMemory) × ¬ HasTooManySteps plan
+IsSweepFault plan s (Run f) = NamesItsNode plan s × (f ≡ NoMemory)
 IsSweepFault plan s Memory = NamesItsNode plan s

@@ -4,7 +4,7 @@ ghost use Rattle.std.specs.Prelude.{◌≡◌, ◌++◌, codes, string_bytes, ma
 ghost use Rattle.sja_sweep.specs.Nodes.{activation_at};
 ghost use Rattle.sja_sweep.specs.Changes.{of_activation, activation_items, activations_items};
 
-use super::moved::put_list;
+use super::message_changes::put_list;
 use can_frame::Message;
 use sja_log::ActivationLog;
 use std::alloc::{AllocError, Global};

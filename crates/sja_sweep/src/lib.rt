@@ -9,38 +9,38 @@
 #![tactic(auto)]
 
 mod activations;
-mod asked;
-mod begun;
 mod between;
 mod counters;
 mod error_words;
 mod first_error;
 mod jobs;
 mod limits;
+mod message_changes;
 mod messages;
-mod moved;
 mod nodes;
 mod pair_count;
 mod pairs;
-mod planned;
-mod ran;
+mod planned_line;
 mod runs;
 mod singles;
 mod span;
 mod spans;
 mod steps;
+mod strike_range;
 mod sweep_fault;
+mod sweep_start;
+mod sweep_texts;
 mod sweeping;
-mod swept;
 mod target;
-mod told;
 mod trial;
+mod trial_outcome;
+mod trial_run;
 mod trials;
 mod whole_sweep;
 mod written;
 
 pub use limits::{MOST_RUNS, MOST_SWEPT_BITS};
 pub use sweep_fault::SweepFault;
+pub use sweep_texts::SweepTexts;
 pub use sweeping::Sweeping;
-pub use swept::Swept;
 pub use whole_sweep::{sweep, sweep_jobs};

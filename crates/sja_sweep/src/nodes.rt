@@ -10,7 +10,7 @@ ghost use Rattle.sja_sweep.specs.Inside.Reaching.{off_item_by, nodes_items};
 
 use super::activations::put_activations;
 use super::between::{Between, between_of};
-use super::moved::put_list;
+use super::message_changes::put_list;
 use super::steps::put_steps;
 use sja_log::{End, NodeRun, RunLog};
 use std::alloc::{AllocError, Global};

@@ -3,11 +3,11 @@
 ghost use Rattle.std.specs.Prelude.{◌≡◌, ◌+◌, ◌^◌, ◌<◌, ◌≤◌, length};
 ghost use Rattle.sja_sweep.specs.Inside.Asking.{laters_paired, others_paired, all_paired};
 
-use super::asked::{Asked, end_of};
 use super::pairs::least_later;
+use super::strike_range::{StrikeRange, end_of};
 
 /// How many pairs of strikes there are that are at most so many bits apart.
-pub(crate) fn count_pairs(within: u32, asked: Asked) -> u128
+pub(crate) fn count_pairs(within: u32, asked: StrikeRange) -> u128
     requires low { asked.from ≤ asked.end }
     requires high { asked.end ≤ 256 }
     ensures is { result ≡ length (all_paired within asked) }
@@ -21,7 +21,7 @@ pub(crate) fn count_pairs(within: u32, asked: Asked) -> u128
 }
 
 /// How many there are of a node with each node.
-fn count_others(within: u32, asked: Asked, node: u8) -> u128
+fn count_others(within: u32, asked: StrikeRange, node: u8) -> u128
     requires low { asked.from ≤ asked.end }
     requires high { asked.end ≤ 256 }
     ensures is { result ≡ length (others_paired within asked node) }
@@ -35,7 +35,7 @@ fn count_others(within: u32, asked: Asked, node: u8) -> u128
 }
 
 /// How many there are of a node with one that is struck in the same bit or later.
-fn count_laters(within: u32, asked: Asked, node: u8, other: u8) -> u128
+fn count_laters(within: u32, asked: StrikeRange, node: u8, other: u8) -> u128
     ensures is { result ≡ length (laters_paired within asked node other) }
     ensures few { result ≤ 2 ^ 64 }
 {

@@ -4,7 +4,7 @@ ghost use Rattle.std.specs.Prelude.{◌≡◌, ◌+◌, ◌^◌, ◌<◌, ◌≤
 ghost use Rattle.sja_sweep.specs.Targets.{least_later};
 ghost use Rattle.sja_sweep.specs.Inside.Asking.{bits_paired, laters_paired, others_paired, all_paired};
 
-use super::asked::{Asked, end_of};
+use super::strike_range::{StrikeRange, end_of};
 use super::target::Target;
 use super::trial::Trial;
 use std::alloc::AllocError;
@@ -13,7 +13,7 @@ use std::alloc::AllocError;
 pub(crate) fn push_pairs(
     trials: &mut Vec<Trial>,
     within: u32,
-    asked: Asked,
+    asked: StrikeRange,
 ) -> Result<(), AllocError>
     requires low { asked.from ≤ asked.end }
     requires high { asked.end ≤ 256 }
@@ -30,7 +30,7 @@ pub(crate) fn push_pairs(
 fn push_others(
     trials: &mut Vec<Trial>,
     within: u32,
-    asked: Asked,
+    asked: StrikeRange,
     node: u8,
 ) -> Result<(), AllocError>
     requires low { asked.from ≤ asked.end }
@@ -48,7 +48,7 @@ fn push_others(
 fn push_laters(
     trials: &mut Vec<Trial>,
     within: u32,
-    asked: Asked,
+    asked: StrikeRange,
     node: u8,
     other: u8,
 ) -> Result<(), AllocError>
@@ -73,7 +73,7 @@ pub(crate) fn least_later(node: u8, other: u8) -> u32
 /// Adds the pairs of a node with one that is struck so many bits later.
 fn push_bits(
     trials: &mut Vec<Trial>,
-    asked: Asked,
+    asked: StrikeRange,
     node: u8,
     other: u8,
     later: u32,

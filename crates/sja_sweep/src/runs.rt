@@ -7,14 +7,14 @@ ghost use Rattle.sja_plan.specs.Struck.{struck_at};
 ghost use Rattle.sja_sweep.specs.Errors.{IsRan};
 ghost use Rattle.sja_sweep.specs.declared.sweep_fault.SweepFault.TheVariants.{Memory};
 ghost use Rattle.sja_sweep.specs.Targets.{struck_by};
-ghost use Rattle.sja_sweep.specs.Inside.Reaching.{ran_value, told_value, IsThere, IsTrialFault};
+ghost use Rattle.sja_sweep.specs.Inside.Reaching.{trial_run_value, outcome_value, IsThere, IsTrialFault};
 ghost use Rattle.sja_sweep.specs.Inside.Tried.{IsTried, AreTold};
 
-use super::ran::{Ran, run_plan};
 use super::sweep_fault::SweepFault;
 use super::target::Target;
-use super::told::{Told, told_of};
 use super::trial::Trial;
+use super::trial_outcome::{TrialOutcome, told_of};
+use super::trial_run::{TrialRun, run_plan};
 use sja_plan::Plan;
 use std::alloc::Global;
 
@@ -22,13 +22,13 @@ use std::alloc::Global;
 pub(crate) fn all_tried(
     alloc: Global,
     plan: &Plan,
-    planned: &Ran,
+    planned: &TrialRun,
     trials: &[Trial],
-) -> Result<Vec<Told>, SweepFault>
-    requires planned { IsRan plan.now (ran_value planned.now) }
+) -> Result<Vec<TrialOutcome>, SweepFault>
+    requires planned { IsRan plan.now (trial_run_value planned.now) }
     requires there { All (IsThere plan.now) trials.now }
-    ensures ok { IfOk result (λ tolds. AreTold plan.now (ran_value planned.now) trials.now tolds.items) }
-    ensures err { IfErr result (IsTrialFault plan.now) }
+    ensures ok { IfOk result (λ tolds. AreTold plan.now (trial_run_value planned.now) trials.now tolds.items) }
+    ensures err { IfErr result IsTrialFault }
 {
     let mut tolds = Vec::new(alloc);
     for trial in trials {
@@ -38,12 +38,16 @@ pub(crate) fn all_tried(
 }
 
 /// What came of one trial: the plan is run with it, and the run is dropped once its outcome is told.
-#[tactic(auto, using(crate::proofs::TriedRuns::RunFaults::struck_fails))]
-fn tried(alloc: Global, plan: &Plan, planned: &Ran, trial: Trial) -> Result<Told, SweepFault>
-    requires planned { IsRan plan.now (ran_value planned.now) }
+fn tried(
+    alloc: Global,
+    plan: &Plan,
+    planned: &TrialRun,
+    trial: Trial,
+) -> Result<TrialOutcome, SweepFault>
+    requires planned { IsRan plan.now (trial_run_value planned.now) }
     requires there { IsThere plan.now trial }
-    ensures ok { IfOk result (λ told. IsTried plan.now (ran_value planned.now) trial (told_value told)) }
-    ensures err { IfErr result (IsTrialFault plan.now) }
+    ensures ok { IfOk result (λ told. IsTried plan.now (trial_run_value planned.now) trial (outcome_value told)) }
+    ensures err { IfErr result IsTrialFault }
 {
     let struck = struck_by(alloc, plan, trial)?;
     let now = run_plan(alloc, &struck)?;

@@ -3,13 +3,13 @@
 ghost use Rattle.std.specs.Prelude.{◌≡◌, ◌+◌, ◌^◌, ◌<◌, ◌≤◌, ◌++◌, length, OnOk};
 ghost use Rattle.sja_sweep.specs.Inside.Asking.{bits_alone, all_alone};
 
-use super::asked::Asked;
+use super::strike_range::StrikeRange;
 use super::target::Target;
 use super::trial::Trial;
 use std::alloc::AllocError;
 
 /// How many runs a sweep of single strikes has.
-pub(crate) fn count_alone(asked: Asked) -> u128
+pub(crate) fn count_alone(asked: StrikeRange) -> u128
     requires low { asked.from ≤ asked.end }
     requires high { asked.end ≤ 256 }
     ensures is { result ≡ length (all_alone asked) }
@@ -23,7 +23,7 @@ pub(crate) fn count_alone(asked: Asked) -> u128
 }
 
 /// Adds each node in each bit.
-pub(crate) fn push_alone(trials: &mut Vec<Trial>, asked: Asked) -> Result<(), AllocError>
+pub(crate) fn push_alone(trials: &mut Vec<Trial>, asked: StrikeRange) -> Result<(), AllocError>
     requires low { asked.from ≤ asked.end }
     requires high { asked.end ≤ 256 }
     requires room { asked.first + asked.count < 2 ^ 32 }
@@ -36,7 +36,7 @@ pub(crate) fn push_alone(trials: &mut Vec<Trial>, asked: Asked) -> Result<(), Al
 }
 
 /// Adds a node in each bit.
-fn push_bits(trials: &mut Vec<Trial>, asked: Asked, node: u8) -> Result<(), AllocError>
+fn push_bits(trials: &mut Vec<Trial>, asked: StrikeRange, node: u8) -> Result<(), AllocError>
     requires { asked.first + asked.count < 2 ^ 32 }
     ensures { OnOk result (trials.new.items ≡ trials.old.items ++ bits_alone asked node) }
 {

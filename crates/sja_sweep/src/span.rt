@@ -2,12 +2,12 @@
 
 ghost use Rattle.std.specs.Prelude.{◌≡◌, ◌+◌, ◌==◌, ◌&&◌};
 ghost use Rattle.sja_sweep.specs.Spans.{is_next, are_next, span_of, goes_on, joined};
-ghost use Rattle.sja_sweep.specs.Inside.Reaching.{told_value, span_value};
+ghost use Rattle.sja_sweep.specs.Inside.Reaching.{outcome_value, span_value};
 
 use super::first_error::FirstError;
 use super::target::Target;
-use super::told::Told;
 use super::trial::Trial;
+use super::trial_outcome::TrialOutcome;
 
 /// Successive bits of one node, or of two, with one outcome.
 #[derive(Clone, Copy)]
@@ -29,11 +29,11 @@ pub(crate) struct Span<'a> {
 impl<'a> Span<'a> {
     ghost use Rattle.std.specs.Prelude.{◌≡◌};
     ghost use Rattle.sja_sweep.specs.Spans.{span_of, goes_on, joined};
-    ghost use Rattle.sja_sweep.specs.Inside.Reaching.{told_value, span_value};
+    ghost use Rattle.sja_sweep.specs.Inside.Reaching.{outcome_value, span_value};
 
     /// One trial alone.
-    pub(crate) fn of(told: &'a Told) -> Span<'a>
-        ensures { span_value result ≡ span_of (told_value told.now) }
+    pub(crate) fn of(told: &'a TrialOutcome) -> Span<'a>
+        ensures { span_value result ≡ span_of (outcome_value told.now) }
     {
         Span {
             first: told.trial,

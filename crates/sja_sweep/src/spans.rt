@@ -6,20 +6,24 @@ ghost use Rattle.sja_sweep.specs.Spans.{spans};
 ghost use Rattle.sja_sweep.specs.SweepText.{bits_words, second_words, struck_words, span_line, shown_line};
 ghost use Rattle.sja_sweep.specs.SweepText.{target_row, second_row, row_beginning, row_line};
 ghost use Rattle.sja_sweep.specs.SweepText.{sweep_rows};
-ghost use Rattle.sja_sweep.specs.Inside.Reaching.{told_value, span_value};
+ghost use Rattle.sja_sweep.specs.Inside.Reaching.{outcome_value, span_value};
 
 use super::error_words::put_errors;
 use super::span::Span;
 use super::target::Target;
-use super::told::Told;
 use super::trial::Trial;
+use super::trial_outcome::TrialOutcome;
 use std::alloc::AllocError;
 use std::fmt::Write;
 
 /// A line for each run of successive bits with one outcome.
-pub(crate) fn put_spans(text: &mut String, changed: bool, tolds: &[Told]) -> Result<(), AllocError>
+pub(crate) fn put_spans(
+    text: &mut String,
+    changed: bool,
+    tolds: &[TrialOutcome],
+) -> Result<(), AllocError>
     ensures { OnOk result (string_bytes text.new ≡ string_bytes text.old
-        ++ gathered (shown_line changed) (spans (map told_value tolds.now))) }
+        ++ gathered (shown_line changed) (spans (map outcome_value tolds.now))) }
 {
     let Some((first, rest)) = tolds.split_first() else {
         return Ok(());
@@ -98,8 +102,8 @@ fn put_bits(text: &mut String, first: u32, last: u32) -> Result<(), AllocError>
 }
 
 /// A row for each run.
-pub(crate) fn put_rows(text: &mut String, tolds: &[Told]) -> Result<(), AllocError>
-    ensures { OnOk result (string_bytes text.new ≡ string_bytes text.old ++ sweep_rows (map told_value tolds.now)) }
+pub(crate) fn put_rows(text: &mut String, tolds: &[TrialOutcome]) -> Result<(), AllocError>
+    ensures { OnOk result (string_bytes text.new ≡ string_bytes text.old ++ sweep_rows (map outcome_value tolds.now)) }
 {
     for told in tolds {
         put_row(text, told)?;
@@ -108,8 +112,8 @@ pub(crate) fn put_rows(text: &mut String, tolds: &[Told]) -> Result<(), AllocErr
 }
 
 /// The row of a run.
-fn put_row(text: &mut String, told: &Told) -> Result<(), AllocError>
-    ensures { OnOk result (string_bytes text.new ≡ string_bytes text.old ++ row_line (told_value told.now)) }
+fn put_row(text: &mut String, told: &TrialOutcome) -> Result<(), AllocError>
+    ensures { OnOk result (string_bytes text.new ≡ string_bytes text.old ++ row_line (outcome_value told.now)) }
 {
     put_kind(text, told.trial, told.changed)?;
     put_errors(text, told.error, told.error)?;

@@ -10,8 +10,6 @@ use thiserror::Error;
 pub enum SweepFault {
     /// The plan doesn't have the node that is named.
     NoNode,
-    /// The plan is of version 3, and a node has more steps than a document may have: 65,535. So it has no run.
-    Steps,
     /// There are more runs than 20,000, or they may come to more than 2,000,000,000 bits, and it isn't said that so
     /// many are meant: how many runs, and how many bits they may come to.
     TooMany(u128, u128),
@@ -27,7 +25,6 @@ impl fmt::Display for SweepFault {
     fn fmt<W: fmt::Write>(&self, f: &mut fmt::Formatter<W>) -> fmt::Result {
         match *self {
             SweepFault::NoNode => f.write_str("the plan doesn't have this node"),
-            SweepFault::Steps => f.write_str("a node has more than 65535 steps"),
             SweepFault::TooMany(runs, bits) => {
                 write!(f, "the sweep has {runs} runs of {bits} bits in all")
             }

@@ -4,17 +4,17 @@ ghost use Rattle.std.specs.Prelude.{◌≡◌, ◌^◌, ◌≤◌, length, IfOk}
 ghost use Rattle.sja_sweep.specs.Targets.{trials_of};
 ghost use Rattle.sja_sweep.specs.Inside.Asking.{IsAsked};
 
-use super::asked::Asked;
 use super::pair_count::count_pairs;
 use super::pairs::push_pairs;
 use super::singles::{count_alone, push_alone};
+use super::strike_range::StrikeRange;
 use super::sweeping::Sweeping;
 use super::trial::Trial;
 use std::alloc::{AllocError, Global};
 
 /// How many runs a sweep has beside the one of the plan as it is.
 #[tactic(auto, using(crate::proofs::TriedStrikes::TrialLemmas::both_asked))]
-pub(crate) fn run_count(sweeping: &Sweeping, nodes: usize, bits: u32, asked: Asked) -> u128
+pub(crate) fn run_count(sweeping: &Sweeping, nodes: usize, bits: u32, asked: StrikeRange) -> u128
     requires { IsAsked sweeping.now nodes bits asked }
     ensures is { result ≡ length (trials_of sweeping.now nodes bits) }
     ensures few { result ≤ 2 ^ 80 }
@@ -32,7 +32,7 @@ pub(crate) fn trials_of(
     sweeping: &Sweeping,
     nodes: usize,
     bits: u32,
-    asked: Asked,
+    asked: StrikeRange,
 ) -> Result<Vec<Trial>, AllocError>
     requires { IsAsked sweeping.now nodes bits asked }
     ensures { IfOk result (λ trials. trials.items ≡ trials_of sweeping.now nodes bits) }

@@ -2,17 +2,17 @@
 
 ghost use Rattle.std.specs.Prelude.{map, string_bytes, IfOk, IfErr};
 ghost use Rattle.sja_plan.specs.Plan.{PlanValue};
-ghost use Rattle.sja_sweep.specs.Inside.Reaching.{ran_value, told_value};
+ghost use Rattle.sja_sweep.specs.Inside.Reaching.{trial_run_value, outcome_value};
 ghost use Rattle.sja_sweep.specs.Inside.Tried.{IsBegun, AreTried};
 ghost use Rattle.sja_sweep.specs.Sweeps.{IsSweep, IsSweepFault};
 
-use super::begun::{Begun, begin};
 use super::jobs::tried_in_jobs;
 use super::runs::all_tried;
 use super::sweep_fault::SweepFault;
+use super::sweep_start::{SweepStart, begin};
+use super::sweep_texts::SweepTexts;
 use super::sweeping::Sweeping;
-use super::swept::Swept;
-use super::told::Told;
+use super::trial_outcome::TrialOutcome;
 use super::written::written;
 use sja_plan::Plan;
 use std::alloc::{AllocError, Global};
@@ -21,18 +21,17 @@ use std::thread::Threads;
 /// Runs a plan as it is, and then with what is tried: one strike more, or two, one run after the other. It tells what
 /// came of each trial, against the run of the plan as it is.
 ///
-/// The texts are those of just these runs: of their logs, each as [`run_plan`](sja_plan_session::run_plan) promises it,
+/// The texts are those of just these runs: of their logs, each as [`run_serial`](sja_serial::run_serial) promises it,
 /// and of the errors in each bit of each node.
 ///
 /// Errors, the first that holds: [`SweepFault::NoNode`] where a node is asked for that the plan doesn't have;
-/// [`SweepFault::Steps`] where the plan is of version 3 and a node has more steps than a document may have, so that
-/// there is no run of it; [`SweepFault::TooMany`] where there are more runs than 20,000, or where these times the
-/// plan's bits are more than 2,000,000,000, unless so many are meant; [`SweepFault::StrikeCount`] where there is a run
-/// to make and the plan's strikes, with those of the run more, strike more bits than they may in its version.
+/// [`SweepFault::TooMany`] where there are more runs than 20,000, or where these times the plan's bits are more than
+/// 2,000,000,000, unless so many are meant; [`SweepFault::StrikeCount`] where there is a run to make and the plan's
+/// strikes, with those of the run more, strike more bits than they may in its version.
 /// [`SweepFault::Run`], where memory was refused to a run, and [`SweepFault::Memory`], where it was refused otherwise,
 /// may come at any time once the node was looked for.
 #[tactic(auto, using(crate::proofs::TriedRuns::RunFaults::trial_fails))]
-pub fn sweep(alloc: Global, plan: &Plan, sweeping: &Sweeping) -> Result<Swept, SweepFault>
+pub fn sweep(alloc: Global, plan: &Plan, sweeping: &Sweeping) -> Result<SweepTexts, SweepFault>
     ensures ok { IfOk result (λ swept. IsSweep plan.now sweeping.now (string_bytes swept.text)
         (string_bytes swept.rows)) }
     ensures err { IfErr result (IsSweepFault plan.now sweeping.now) }
@@ -55,7 +54,7 @@ pub fn sweep_jobs<R: Threads + Sync>(
     plan: &Plan,
     sweeping: &Sweeping,
     jobs: usize,
-) -> Result<Swept, SweepFault>
+) -> Result<SweepTexts, SweepFault>
     ensures ok { IfOk result (λ swept. IsSweep plan.now sweeping.now (string_bytes swept.text)
         (string_bytes swept.rows)) }
     ensures err { IfErr result (IsSweepFault plan.now sweeping.now) }
@@ -73,11 +72,11 @@ pub fn sweep_jobs<R: Threads + Sync>(
 fn texts(
     alloc: Global,
     sweeping: &Sweeping,
-    begun: &Begun,
-    tolds: &[Told],
-) -> Result<Swept, AllocError>
-    ensures { (plan : PlanValue) → IsBegun plan sweeping.now (ran_value begun.now.planned) begun.now.trials.items
-        → AreTried plan (ran_value begun.now.planned) begun.now.trials.items (map told_value tolds.now)
+    begun: &SweepStart,
+    tolds: &[TrialOutcome],
+) -> Result<SweepTexts, AllocError>
+    ensures { (plan : PlanValue) → IsBegun plan sweeping.now (trial_run_value begun.now.planned) begun.now.trials.items
+        → AreTried plan (trial_run_value begun.now.planned) begun.now.trials.items (map outcome_value tolds.now)
         → IfOk result (λ swept. IsSweep plan sweeping.now (string_bytes swept.text) (string_bytes swept.rows)) }
 {
     written(alloc, sweeping.changed, &begun.planned.log, tolds)

@@ -1,8 +1,8 @@
 pub mod Settings
 pub mod Steps
+pub mod Parts
+pub mod Kinds
+pub mod OneStep
 pub mod Script
-pub mod Accesses
-pub mod WholeWrites
-pub mod ScriptAccesses
-pub mod OneAccess
+pub mod Typed
 pub mod InReset

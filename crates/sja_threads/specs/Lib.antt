@@ -7,7 +7,5 @@ pub mod Needed
 pub mod Stopping
 pub mod Linked
 pub mod Threads
-pub mod AccessRuns
-pub mod RawThreadedRuns
 -- ---- how the code keeps a run: definitions of the private contracts alone
 pub mod Inside

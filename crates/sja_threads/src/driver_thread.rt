@@ -1,126 +1,113 @@
 //! [`DriverThread`]: a driver in a thread of its own, and the steps of its script, each tried as the gate lets it.
 
-ghost use Rattle.std.specs.Prelude.{◌≡◌, ◌≤◌, false, length, None};
+ghost use Rattle.std.specs.Prelude.{◌≡◌, ◌≤◌, ◌*◌, false, true, length, None};
+ghost use Rattle.sja_driver.specs.Accesses.{by_bytes as knows_bytes};
 ghost use Rattle.lemmas.specs.Related.{EachRelated};
 ghost use Rattle.sja_regs.specs.DriverSettings.{SettingsValue};
 ghost use Rattle.sja_driver.specs.Holding.{NumberedFrom};
 ghost use Rattle.sja_driver.specs.LoggedDrivers.{log_of};
-ghost use Rattle.sja_driver.specs.Logs.{HasRoom, IsEmpty, done_in};
+ghost use Rattle.sja_driver.specs.Logs.{HasRoom, IsEmpty, done_in, done_room};
 ghost use Rattle.sja_threads.specs.Working.{HasWorked};
 
 use super::at_gate::AtGate;
+use super::by_bytes::by_bytes;
 use super::gate::Gate;
-use super::pass::Pass;
-use super::waits::wait_to_try;
 use super::worked::Worked;
 use sja_driver::{LoggedDriver, WorkLog};
 use sja_link::DriverEnd;
 use sja_regs::{DriverSettings, Port};
-use sja_script::Step;
+use sja_script::{Step, StepAnswer};
 use std::sync::{Mutex, Wait};
 use std::thread::Parker;
 
-/// A driver in a thread of its own (this project's own rule): its node, the driver with its log, what it has set at its
-/// port, and its ends of the node's links, by activation.
+/// A driver in a thread of its own (this project's own rule): its node, whether it knows addresses and bytes alone, the
+/// driver with its log, what it has set at its port, and its ends of the node's links, by activation.
 ///
 /// What it has set is its own: it goes into the port before each try there, and what a step sets comes out of it.
 #[derive(Drop)]
 pub(crate) struct DriverThread<D: Drop> {
     pub(crate) node: u8,
+    pub(crate) bytes: bool,
     pub(crate) driver: LoggedDriver,
     pub(crate) set: DriverSettings,
     pub(crate) links: Vec<D>,
 }
 
 impl<D: DriverEnd + Drop> DriverThread<D> {
-    ghost use Rattle.std.specs.Prelude.{take, true};
     ghost use Rattle.sja_driver.specs.LoggedDrivers.{node_of};
-    ghost use Rattle.sja_threads.specs.Inside.Steps.{MayWork, MayBegin, DoesSteps, step_if};
+    ghost use Rattle.sja_threads.specs.Inside.Accesses.{HasEnded};
+    ghost use Rattle.sja_threads.specs.Inside.Steps.{MayWork, MayBegin, DoesDeed};
 
-    /// Tries a step at the port, which is held over the try, and says whether it is done.
-    fn try_at_port(&mut self, rt: &impl Wait, port: &Mutex<Port>, step: &Step) -> bool
+    /// Tries a deed at the port, which is held over the try, and gives its answer; none where it isn't done.
+    fn try_at_port(&mut self, rt: &impl Wait, port: &Mutex<Port>, deed: &Step) -> Option<StepAnswer>
         requires { MayWork D.link self.old 1 }
-        ensures { DoesSteps D.DriverEnd self.old self.new (step_if result step.now) }
+        ensures { DoesDeed D.DriverEnd self.old self.new deed.now result }
     {
         let mut held = port.lock(rt);
         held.restore(&self.set);
-        if !self
+        match self
             .driver
-            .step(self.links.as_mut_slice(), 0, &mut held, step, 0)
+            .step(self.links.as_mut_slice(), 0, &mut held, deed)
         {
-            return false;
+            Some(answer) => {
+                self.set = held.settings();
+                Some(answer)
+            }
+            None => None,
         }
-        self.set = held.settings();
-        true
     }
 
-    /// Tries a step, and says whether it is done. The port is held over the try, but not over a window's or a
-    /// release's, which see none.
-    pub(crate) fn try_step(&mut self, rt: &impl Wait, port: &Mutex<Port>, step: &Step) -> bool
+    /// Tries a deed, and gives its answer; none where it isn't done. The port is held over the try, but not over a
+    /// window's or a release's, which see none.
+    fn try_deed(&mut self, rt: &impl Wait, port: &Mutex<Port>, deed: &Step) -> Option<StepAnswer>
         requires { MayWork D.link self.old 1 }
-        ensures { DoesSteps D.DriverEnd self.old self.new (step_if result step.now) }
+        ensures { DoesDeed D.DriverEnd self.old self.new deed.now result }
     {
-        match step {
-            Step::Window => self.driver.step_window(self.links.as_mut_slice(), 0, 0),
-            Step::Release => self.driver.step_release(self.links.as_mut_slice(), 0, 0),
-            _ => self.try_at_port(rt, port, step),
+        match deed {
+            Step::Window => self.driver.step_window(self.links.as_mut_slice(), 0),
+            Step::Release => self.driver.step_release(self.links.as_mut_slice(), 0),
+            _ => self.try_at_port(rt, port, deed),
         }
     }
 
-    /// Tries a step where the gate lets it, and says whether it is done.
-    fn try_if(&mut self, rt: &impl Wait, port: &Mutex<Port>, step: &Step, pass: Pass) -> bool
-        requires { MayWork D.link self.old 1 }
-        ensures { DoesSteps D.DriverEnd self.old self.new (step_if result step.now) }
-    {
-        match pass {
-            Pass::Go => self.try_step(rt, port, step),
-            _ => false,
-        }
-    }
-
-    /// Does a step of this number: the gate is asked before each try. It says whether the step is done; else the gate
-    /// quit.
-    pub(crate) fn do_step<G: Gate, R: Wait>(
+    /// Does a deed in the step of this number. The gate let the try go whose number stands in `tries`; it is asked
+    /// before each later one, of which the last one's number stands there then. It gives the deed's answer; none where
+    /// the gate quit.
+    pub(crate) fn do_deed<G: Gate, R: Wait>(
         &mut self,
         at: &AtGate<R, G>,
-        step: &Step,
+        deed: &Step,
         number: u32,
-    ) -> bool
+        tries: &mut u32,
+    ) -> Option<StepAnswer>
         requires { MayWork D.link self.old 1 }
-        ensures done { DoesSteps D.DriverEnd self.old self.new (step_if result step.now) }
-        ensures never { G.QUITS ≡ false → result ≡ true }
+        ensures done { DoesDeed D.DriverEnd self.old self.new deed.now result }
+        ensures never { result ≡ None → G.QUITS ≡ true }
     {
-        let parker = Parker::new();
-        let mut tries = 1u32;
         for _ in at.rt.forever() {
-            let pass = at.gate.turn(self.node, number, tries);
-            if pass == Pass::Quit {
-                return false;
+            if let Some(answer) = self.try_deed(at.rt, at.port, deed) {
+                return Some(answer);
             }
-            if self.try_if(at.rt, at.port, step, pass) {
-                return true;
+            at.wait(tries);
+            if !at.lets_go(self.node, number, tries) {
+                return None;
             }
-            wait_to_try(at.rt, &parker, tries);
-            tries = tries.saturating_add(1);
         }
         unreachable!()
     }
 
-    /// Does steps, one after the other, until the gate quits. It says how many were done.
-    fn do_steps<G: Gate, R: Wait>(&mut self, at: &AtGate<R, G>, steps: &[Step]) -> usize
-        requires { MayWork D.link self.old (length steps.now) }
-        ensures done { DoesSteps D.DriverEnd self.old self.new (take result steps.now) }
-        ensures few { result ≤ length steps.now }
-        ensures all { G.QUITS ≡ false → result ≡ length steps.now }
+    /// Does steps, one after the other, until the gate quits.
+    fn do_steps<G: Gate, R: Wait>(&mut self, at: &AtGate<R, G>, steps: &[Step])
+        requires { MayBegin D.link self.old (length steps.now) }
+        ensures { HasEnded D.DriverEnd G.QUITS self.old self.new steps.now }
     {
         let mut number = 1u32;
         for k in 0..steps.len() {
             if !self.do_step(at, &steps[k], number) {
-                return k;
+                return;
             }
             number = number.saturating_add(1);
         }
-        steps.len()
     }
 
     /// Follows its script ([`work`]), and hands back its ends and the driver.
@@ -129,16 +116,11 @@ impl<D: DriverEnd + Drop> DriverThread<D> {
         ensures same { EachRelated D.same self.links.items result.links.items }
         ensures worked { HasWorked D.stands self.set (node_of self.driver) steps.now self.links.items result }
         ensures done { G.QUITS ≡ false → length (done_in (log_of result.driver)) ≡ length steps.now }
-        ensures typed { result.accesses ≡ None }
     {
         self.do_steps(&at, steps);
         at.port.lock(at.rt).finish();
         let DriverThread { driver, links, .. } = self;
-        Worked {
-            links,
-            driver,
-            accesses: None,
-        }
+        Worked { links, driver }
     }
 }
 
@@ -150,7 +132,12 @@ impl<D: DriverEnd + Drop> DriverThread<D> {
 /// `links` are the driver's ends of the node's links, by activation. The port's lock is held over a try, but not
 /// over one of `Window` or `Release`. The driver begins with what it finds set at the port, and from then on what it
 /// sets is its own: mode bits, IER, EWLR, written error counters, acceptance filter, transmit buffer and version. The
-/// log is empty, with room for all steps; no step takes memory.
+/// log is empty, with room for all steps and for three deeds of each; no step takes memory.
+///
+/// A step is one deed. In version 3 a write is up to three, one after the other, by what the port shows as it begins:
+/// what the driver has set is known, and what the bus brought meanwhile isn't. Where a link gives an item back, the
+/// gate is asked again, and the deeds that are left are tried. `Read` and `Write` are those of any address there, in
+/// either mode, and no controller refuses them.
 ///
 /// The drivers of [`run_threads`](crate::run_threads) do the same, from what is set after power-on. This call serves
 /// who runs a bus of his own, and the tests.
@@ -164,21 +151,39 @@ pub fn work<D: DriverEnd + Drop, G: Gate>(
     log: WorkLog,
 ) -> Worked<D>
     requires empty { IsEmpty log }
-    requires room { HasRoom (length steps.now) log }
+    requires room { length steps.now ≤ done_room log }
+    requires deeds { HasRoom (3 * length steps.now) log }
     requires enough { 64 ≤ length links.items }
     requires ids { NumberedFrom D.link links.items 0 node }
     ensures same { EachRelated D.same links.items result.links.items }
     ensures worked { (set : SettingsValue) × HasWorked D.stands set node steps.now links.items result }
     ensures done { G.QUITS ≡ false → length (done_in (log_of result.driver)) ≡ length steps.now }
-    ensures typed { result.accesses ≡ None }
 {
-    let set = port.lock(rt).settings();
+    let (bytes, set) = set_at(rt, port);
     let driver = LoggedDriver::new(node, log);
     let thread = DriverThread {
         node,
+        bytes,
         driver,
         set,
         links,
     };
-    thread.follow(AtGate { rt, port, gate }, steps)
+    let parker = Parker::new();
+    thread.follow(
+        AtGate {
+            rt,
+            port,
+            gate,
+            parker,
+        },
+        steps,
+    )
+}
+
+/// What a driver finds set at a port, and whether it knows addresses and bytes alone there.
+fn set_at(rt: &impl Wait, port: &Mutex<Port>) -> (bool, DriverSettings)
+    ensures { result.0 ≡ knows_bytes result.1.version }
+{
+    let held = port.lock(rt);
+    (by_bytes(held.version()), held.settings())
 }

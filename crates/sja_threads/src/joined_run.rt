@@ -11,11 +11,10 @@ use super::worked::Worked;
 use sja_rings::RingDriver;
 use std::thread::Threads;
 
-/// A run once all its drivers' threads are joined (this project's own rule): whether the drivers know addresses and
-/// bytes alone, the bus, and what each driver handed back, by node.
+/// A run once all its drivers' threads are joined (this project's own rule): the bus, and what each driver handed back,
+/// by node.
 #[derive(Drop)]
 pub(crate) struct JoinedRun {
-    pub(crate) raw: bool,
     pub(crate) bus: BusThread,
     pub(crate) workeds: Vec<Worked<RingDriver>>,
 }

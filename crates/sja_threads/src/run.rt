@@ -1,16 +1,14 @@
 //! Whole runs with each driver in a thread of its own.
 
-ghost use Rattle.std.specs.Prelude.{◌≡◌, ◌≢◌, true, length, map, vec_len, Err, IfOk, IfErr};
+ghost use Rattle.std.specs.Prelude.{◌≡◌, ◌≢◌, length, vec_len, Err, IfOk, IfErr};
 ghost use Rattle.sja_log.specs.Headline.{AreAccounts};
 ghost use Rattle.sja_log.specs.declared.run_fault.RunFault.TheVariants.{GateCount};
-ghost use Rattle.sja_threads.specs.AccessRuns.{IsAccessRun, rooms};
-ghost use Rattle.sja_threads.specs.Stopping.{IsFaultOf, IsFaultWith};
+ghost use Rattle.sja_threads.specs.Stopping.{IsFaultOf};
 ghost use Rattle.sja_threads.specs.Threads.{IsThreadedRun};
-ghost use Rattle.sja_threads.specs.Inside.JoinedRun.{IsEnding, IsEnded};
+ghost use Rattle.sja_threads.specs.Inside.JoinedRun.{IsEnding};
 ghost use Rattle.sja_threads.specs.Inside.Making.{AreRunParts};
 
 use super::bus_thread::close_all;
-use super::ended_run::EndedRun;
 use super::gate::Gate;
 use super::joined_run::{JoinedRun, join_all};
 use super::run_end::end_run;
@@ -25,7 +23,8 @@ use std::thread;
 use std::thread::{Scope, Threads};
 
 /// Runs a plan with each driver in a thread of its own and the bus in the caller's, and gives the log of the run. Each
-/// driver follows its script as its gate lets it ([`work`](crate::work)); the plan's turns are left out of account.
+/// driver follows its script as its gate lets it ([`work`](crate::work)); the plan's turns are left out of account. The
+/// plan's version says what a step is, and the log has the plan's steps as done in every version.
 ///
 /// Each activation has a link of its own, and each port stands behind a lock; the threads share nothing else. Before
 /// each bit the bus takes what the drivers gave. No bit is run before the first start of each driver was taken or the
@@ -56,57 +55,10 @@ pub fn run_threads<G: Gate, R: Threads + Wait + Sync>(
     ensures only { result ≡ Err GateCount → vec_len gates ≢ length plan.now.nodes }
     ensures fault { (vec_len gates ≡ length plan.now.nodes) → IfErr result (IsFaultOf plan.now) }
 {
-    let ended = run_gated(rt, alloc, plan, gates, false)?;
-    Ok(ended.log)
-}
-
-/// Runs a plan whose drivers know addresses and bytes alone, each in a thread of its own, and gives the log of the
-/// typed steps that their steps were, and what the steps answered. A step `Read` or `Write` is that of any address, in
-/// either mode, and no controller refuses it; each other step is the typed driver's.
-///
-/// A write is up to three typed steps, one after the other, by what the port shows as it begins: what the driver has
-/// set is known, and what the bus brought meanwhile isn't. Where a link gives an item back, the gate is asked again,
-/// and the steps that are left are tried. All that [`run_threads`] promises holds of the run of the typed steps.
-///
-/// Errors: those of [`run_threads`], of a bus with room for three typed steps for each step.
-pub fn run_accesses<G: Gate, R: Threads + Wait + Sync>(
-    rt: &R,
-    alloc: Global,
-    plan: &Plan,
-    gates: Vec<G>,
-) -> Result<EndedRun, RunFault>
-    ensures run { IfOk result (λ ended. IsAccessRun plan.now ended.log
-        (map (λ answers. answers.items) ended.accesses.items) G.QUITS) }
-    ensures headline { IfOk result (λ ended. AreAccounts ended.log) }
-    ensures gates { (vec_len gates ≢ length plan.now.nodes) → result ≡ Err GateCount }
-    ensures only { result ≡ Err GateCount → vec_len gates ≢ length plan.now.nodes }
-    ensures fault { (vec_len gates ≡ length plan.now.nodes) →
-        IfErr result (IsFaultWith (rooms true plan.now) plan.now) }
-{
-    run_gated(rt, alloc, plan, gates, true)
-}
-
-/// Runs a plan whose drivers know addresses and bytes alone (`raw`) or don't.
-///
-/// Errors: those of [`run_threads`].
-fn run_gated<G: Gate, R: Threads + Wait + Sync>(
-    rt: &R,
-    alloc: Global,
-    plan: &Plan,
-    gates: Vec<G>,
-    raw: bool,
-) -> Result<EndedRun, RunFault>
-    ensures run { IfOk result (λ ended. IsEnded raw G.QUITS plan.now ended.log
-        (map (λ answers. answers.items) ended.accesses.items)) }
-    ensures gates { (vec_len gates ≢ length plan.now.nodes) → result ≡ Err GateCount }
-    ensures only { result ≡ Err GateCount → vec_len gates ≢ length plan.now.nodes }
-    ensures fault { (vec_len gates ≡ length plan.now.nodes) →
-        IfErr result (IsFaultWith (rooms raw plan.now) plan.now) }
-{
     if gates.len() != plan.nodes() {
         return Err(RunFault::GateCount);
     }
-    let parts = RunParts::new(alloc, plan, gates, raw)?;
+    let parts = RunParts::new(alloc, plan, gates)?;
     let ports = ports_of(alloc, plan)?;
     let joined = run_drivers(rt, plan, parts, ports.as_slice())?;
     end_run::<G, R>(rt, alloc, plan, joined, ports.as_slice())
@@ -124,8 +76,8 @@ fn run_drivers<G: Gate, R: Threads + Wait + Sync>(
 ) -> Result<JoinedRun, RunFault>
     requires parts { AreRunParts plan.now parts }
     requires ports { length ports.now ≡ length plan.now.nodes }
-    ensures ending { IfOk result (λ joined. IsEnding G.QUITS plan.now joined × (joined.raw ≡ parts.raw)) }
-    ensures fault { IfErr result (IsFaultWith (rooms parts.raw plan.now) plan.now) }
+    ensures ending { IfOk result (IsEnding G.QUITS plan.now) }
+    ensures fault { IfErr result (IsFaultOf plan.now) }
 {
     thread::scope(
         thread::scope_env(),
@@ -133,9 +85,8 @@ fn run_drivers<G: Gate, R: Threads + Wait + Sync>(
         move |scope| -> Result<JoinedRun, RunFault>
             requires parts { AreRunParts plan.now parts }
             requires ports { length ports.now ≡ length plan.now.nodes }
-            ensures ending { IfOk result (λ joined.
-                IsEnding G.QUITS plan.entry.now joined × (joined.raw ≡ parts.raw)) }
-            ensures fault { IfErr result (IsFaultWith (rooms parts.raw plan.entry.now) plan.entry.now) }
+            ensures ending { IfOk result (IsEnding G.QUITS plan.entry.now) }
+            ensures fault { IfErr result (IsFaultOf plan.entry.now) }
         {
             let joined = run_in(scope, rt, plan, parts, ports);
             if joined.is_err() {
@@ -159,11 +110,10 @@ fn run_in<'s, E, G: Gate + 's, R: Threads + Wait + Sync>(
 ) -> Result<JoinedRun, RunFault>
     requires parts { AreRunParts plan.now parts }
     requires ports { length ports.now ≡ length plan.now.nodes }
-    ensures ending { IfOk result (λ joined. IsEnding G.QUITS plan.now joined × (joined.raw ≡ parts.raw)) }
-    ensures fault { IfErr result (IsFaultWith (rooms parts.raw plan.now) plan.now) }
+    ensures ending { IfOk result (IsEnding G.QUITS plan.now) }
+    ensures fault { IfErr result (IsFaultOf plan.now) }
 {
     let RunParts {
-        raw,
         mut bus,
         starts,
         children,
@@ -172,7 +122,6 @@ fn run_in<'s, E, G: Gate + 's, R: Threads + Wait + Sync>(
     let children = start_all(scope, rt, plan, starts, ports, children)?;
     match bus.rounds_beside_drivers(rt, plan, ports) {
         Ok(()) => Ok(JoinedRun {
-            raw,
             bus,
             workeds: join_all(rt, children, workeds),
         }),

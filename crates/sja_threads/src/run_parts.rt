@@ -1,12 +1,12 @@
 //! [`RunParts`]: all that a run in threads begins with beside the ports; and the ports.
 
-ghost use Rattle.std.specs.Prelude.{◌≡◌, ◌≤◌, ◌+◌, ◌*◌, ◌<◌, ℕ, [], length, slice_index_or, vec_len, All, OnOk, IfOk};
+ghost use Rattle.std.specs.Prelude.{◌≡◌, ◌≤◌, ◌+◌, ◌*◌, ◌<◌, ℕ, [], length, slice_index_or, vec_len, OnOk, IfOk};
 ghost use Rattle.sja_rings.specs.declared.ring_bus.RingBus.{RingBus as BusEnd};
-ghost use Rattle.sja_threads.specs.Inside.Making.{AreNewEnds, AreMade, IsOfKind};
-ghost use Rattle.sja_threads.specs.Inside.Started.{HasAnswerRoom, is_raw};
-ghost use Rattle.sja_threads.specs.AccessRuns.{room_for, rooms};
+ghost use Rattle.sja_threads.specs.Inside.Making.{AreNewEnds, AreMade};
+ghost use Rattle.sja_threads.specs.Stopping.{deed_counts};
 
 use super::bus_thread::BusThread;
+use super::by_bytes::most_deeds;
 use super::gate::Gate;
 use super::thread_promise::Child;
 use super::thread_start::ThreadStart;
@@ -19,16 +19,13 @@ use sja_log::script_of;
 use sja_plan::Plan;
 use sja_regs::Port;
 use sja_rings::{RingBus, RingDriver, ring_pair};
-use sja_script::Done;
 use std::alloc::Global;
 use std::sync::Mutex;
 
-/// All that a run in threads begins with beside the ports (this project's own rule): whether the drivers know addresses
-/// and bytes alone, the bus with its ends of all links, what each driver's thread begins with, and room for the threads
-/// and for what they hand back.
+/// All that a run in threads begins with beside the ports (this project's own rule): the bus with its ends of all
+/// links, what each driver's thread begins with, and room for the threads and for what they hand back.
 #[derive(Drop)]
 pub(crate) struct RunParts<G: Gate> {
-    pub(crate) raw: bool,
     pub(crate) bus: BusThread,
     pub(crate) starts: Vec<ThreadStart<G>>,
     pub(crate) children: Vec<Child<G>>,
@@ -38,26 +35,19 @@ pub(crate) struct RunParts<G: Gate> {
 impl<G: Gate> RunParts<G> {
     ghost use Rattle.sja_threads.specs.Inside.Making.{AreRunParts};
 
-    /// All of it for a run of this plan, with a gate for each node, whose drivers know addresses and bytes alone
-    /// (`raw`) or don't.
+    /// All of it for a run of this plan, with a gate for each node.
     ///
     /// Error: [`OutOfMemory`] where memory was refused.
-    pub(crate) fn new(
-        alloc: Global,
-        plan: &Plan,
-        gates: Vec<G>,
-        raw: bool,
-    ) -> Result<RunParts<G>, OutOfMemory>
+    pub(crate) fn new(alloc: Global, plan: &Plan, gates: Vec<G>) -> Result<RunParts<G>, OutOfMemory>
         requires { vec_len gates ≡ length plan.now.nodes }
-        ensures parts { IfOk result (AreRunParts plan.now) }
-        ensures raw { IfOk result (λ parts. parts.raw ≡ raw) }
+        ensures { IfOk result (AreRunParts plan.now) }
     {
         let nodes = plan.nodes();
         let script = script_of(alloc, plan)?;
-        let steps = rooms_of(alloc, plan, raw)?;
+        let steps = deeds_for(alloc, plan)?;
         let bus = Bus::new(alloc, plan.bits(), steps, script)?;
         let mut links = Vec::new(alloc);
-        let starts = starts_of(alloc, plan, gates, raw, &mut links)?;
+        let starts = starts_of(alloc, plan, gates, &mut links)?;
         let children = Vec::with_capacity(alloc, nodes)?;
         let workeds = Vec::with_capacity(alloc, nodes)?;
         let bus = BusThread {
@@ -67,7 +57,6 @@ impl<G: Gate> RunParts<G> {
             spent: false,
         };
         Ok(RunParts {
-            raw,
             bus,
             starts,
             children,
@@ -76,43 +65,19 @@ impl<G: Gate> RunParts<G> {
     }
 }
 
-/// How many typed steps a script of so many steps may be: three for each, where the driver knows addresses and bytes
-/// alone (`raw`).
-fn room_for(raw: bool, steps: usize) -> u32
-    requires { steps ≤ 196605 }
-    ensures { result ≡ room_for raw steps }
-{
-    if raw { 3 * steps as u32 } else { steps as u32 }
-}
-
-/// How many typed steps the driver of each node may do, in order.
+/// How many deeds the driver of each node may do, in order.
 ///
 /// Error: [`OutOfMemory`] where memory was refused.
-fn rooms_of(alloc: Global, plan: &Plan, raw: bool) -> Result<Vec<u32>, OutOfMemory>
+fn deeds_for(alloc: Global, plan: &Plan) -> Result<Vec<u32>, OutOfMemory>
     ensures count { IfOk result (λ counts. length counts.items ≡ length plan.now.nodes) }
-    ensures rooms { IfOk result (λ counts. counts.items ≡ rooms raw plan.now) }
+    ensures counts { IfOk result (λ counts. counts.items ≡ deed_counts plan.now) }
 {
     let nodes = plan.nodes();
-    let mut rooms = Vec::with_capacity(alloc, nodes)?;
+    let mut counts = Vec::with_capacity(alloc, nodes)?;
     for node in 0..nodes {
-        rooms.push_reserved(room_for(raw, plan.steps(node).len()));
+        counts.push_reserved(most_deeds(plan.version(), plan.steps(node).len()));
     }
-    Ok(rooms)
-}
-
-/// Room for the answers of so many steps, where the driver knows addresses and bytes alone (`raw`).
-///
-/// Error: [`OutOfMemory`] where memory was refused.
-fn answer_room(alloc: Global, raw: bool, steps: usize) -> Result<Option<Vec<Done>>, OutOfMemory>
-    requires { steps ≤ 196605 }
-    ensures kind { IfOk result (λ answers. is_raw answers ≡ raw) }
-    ensures room { IfOk result (λ answers. HasAnswerRoom answers steps) }
-{
-    if raw {
-        Ok(Some(Vec::with_capacity(alloc, steps)?))
-    } else {
-        Ok(None)
-    }
+    Ok(counts)
 }
 
 /// What the thread of each driver begins with, and the gate that it asks. The bus's ends of all links are added to
@@ -123,7 +88,6 @@ fn starts_of<G: Gate>(
     alloc: Global,
     plan: &Plan,
     gates: Vec<G>,
-    raw: bool,
     buses: &mut Vec<RingBus>,
 ) -> Result<Vec<ThreadStart<G>>, OutOfMemory>
     requires gates { vec_len gates ≡ length plan.now.nodes }
@@ -132,21 +96,18 @@ fn starts_of<G: Gate>(
     ensures links { OnOk result (length buses.new.items ≡ 64 * length plan.now.nodes) }
     ensures made { IfOk result (λ starts.
         AreMade plan.now (length plan.now.nodes) starts.items buses.new.items) }
-    ensures alike { IfOk result (λ starts. All (IsOfKind raw) starts.items) }
 {
     let mut starts = Vec::with_capacity(alloc, plan.nodes())?;
     let mut node = 0u8;
     for gate in gates {
         let steps = plan.steps(usize::from(node)).len();
-        let log = WorkLog::new(alloc, room_for(raw, steps))?;
-        let accesses = answer_room(alloc, raw, steps)?;
+        let log = WorkLog::new(alloc, steps as u32, most_deeds(plan.version(), steps))?;
         let links = links_of(alloc, node, buses)?;
         starts.push_reserved(ThreadStart {
             node,
             links,
             log,
             gate,
-            accesses,
         });
         node += 1;
     }

@@ -9,13 +9,11 @@ use std::snapshot::Snapshot;
 use std::thread::{Promise, PromisedHandle};
 
 /// What a driver's thread promises (this project's own rule): that it followed the steps which the plan has for its
-/// node, with these ends and as such a gate lets it, as typed steps or as those of a driver that knows addresses and
-/// bytes alone.
+/// node, with these ends and as such a gate lets it.
 #[derive(Drop)]
 pub(crate) struct ThreadPromise<G: Gate> {
     pub(crate) plan: Snapshot<Plan>,
     pub(crate) node: u8,
-    pub(crate) raw: bool,
     pub(crate) links: Snapshot<Vec<RingDriver>>,
     pub(crate) gate: PhantomData<G>,
 }
@@ -23,7 +21,7 @@ pub(crate) struct ThreadPromise<G: Gate> {
 impl<G: Gate> Promise<Worked<RingDriver>> for ThreadPromise<G> {
     ghost use Rattle.sja_threads.specs.Inside.Started.{HandsBack};
 
-    ghost kept_by = { λ p w. HandsBack G.QUITS p.raw p.plan.value p.node p.links.value.items w };
+    ghost kept_by = { λ p w. HandsBack G.QUITS p.plan.value p.node p.links.value.items w };
 }
 
 /// A driver's thread.

@@ -7,9 +7,9 @@ ghost use Rattle.sja_threads.specs.Inside.Started.{IsThreadStart, Serves};
 ghost use Rattle.sja_threads.specs.Inside.Promised.{IsFor};
 
 use super::at_gate::AtGate;
+use super::by_bytes::by_bytes;
 use super::driver_thread::DriverThread;
 use super::gate::Gate;
-use super::raw_thread::RawThread;
 use super::thread_promise::{Child, ThreadPromise};
 use super::worked::Worked;
 use sja_driver::{LoggedDriver, WorkLog};
@@ -17,22 +17,19 @@ use sja_log::RunFault;
 use sja_plan::Plan;
 use sja_regs::{DriverSettings, Port};
 use sja_rings::RingDriver;
-use sja_script::Done;
 use std::marker::PhantomData;
 use std::snapshot::Snapshot;
 use std::sync::{Mutex, Wait};
-use std::thread::{Scope, Threads};
+use std::thread::{Parker, Scope, Threads};
 
 /// What the thread of a node's driver begins with (this project's own rule): its ends of the node's links, by
-/// activation, an empty log with room for all its typed steps, the gate that it asks, and where it knows addresses and
-/// bytes alone room for what the steps of its script answer.
+/// activation, an empty log with room for all its steps and their deeds, and the gate that it asks.
 #[derive(Drop)]
 pub(crate) struct ThreadStart<G: Drop> {
     pub(crate) node: u8,
     pub(crate) links: Vec<RingDriver>,
     pub(crate) log: WorkLog,
     pub(crate) gate: G,
-    pub(crate) accesses: Option<Vec<Done>>,
 }
 
 /// The part of a driver, in its own thread. It begins with what is set after power-on, in the plan's version of the
@@ -51,22 +48,27 @@ fn serve<G: Gate>(
         links,
         log,
         gate,
-        accesses,
     } = start;
+    let version = plan.version();
     let driver = LoggedDriver::new(node, log);
-    let set = DriverSettings::at_power_on(plan.version());
     let thread = DriverThread {
         node,
+        bytes: by_bytes(version),
         driver,
-        set,
+        set: DriverSettings::at_power_on(version),
         links,
     };
     let steps = plan.steps(usize::from(node));
-    let at = AtGate { rt, port, gate };
-    match accesses {
-        None => thread.follow(at, steps),
-        Some(done) => RawThread::new(thread, done).follow(at, steps),
-    }
+    let parker = Parker::new();
+    thread.follow(
+        AtGate {
+            rt,
+            port,
+            gate,
+            parker,
+        },
+        steps,
+    )
 }
 
 /// Starts the thread of a driver.
@@ -86,7 +88,6 @@ fn start_one<'s, E, G: Gate + 's, R: Threads + Wait + Sync>(
     let promise = ThreadPromise {
         plan: Snapshot::of(plan),
         node: start.node,
-        raw: start.accesses.is_some(),
         links: Snapshot::of(&start.links),
         gate: PhantomData,
     };

@@ -1,7 +1,6 @@
 //! [`Worked`]: what a driver hands back when its script has ended.
 
 use sja_driver::LoggedDriver;
-use sja_script::Done;
 
 /// What a driver hands back when its script has ended (this project's own rule): its ends of the node's links,
 /// and the driver with the log of what it did. An open activation stays open.
@@ -11,7 +10,4 @@ pub struct Worked<D: Drop> {
     pub links: Vec<D>,
     /// The driver, in either state, with its log.
     pub driver: LoggedDriver,
-    /// What each step of its script answered, where it knows addresses and bytes alone: the driver's log has the typed
-    /// steps that they were.
-    pub accesses: Option<Vec<Done>>,
 }

@@ -9,7 +9,6 @@ mod answer;
 mod bench;
 mod calls;
 mod ended;
-mod held;
 mod many;
 mod struck;
 

@@ -2,7 +2,7 @@
 //!
 //! A line that begins with `== ` is the title of the rows below it. One that begins with `## ` names what is made of
 //! them, one that begins with `-- ` is their form, by which a row is made a plan's [`document`], and one that begins
-//! with `++ ` says which [`Bits`] of the plan's run are drawn. Each other line is a row. `docs/CARRY-ON.md` has an
+//! with `++ ` says which [`Bits`] of the plan's run are drawn. Each other line is a row. `docs/work/CARRY-ON.md` has an
 //! example.
 #![tactic(auto)]
 

@@ -8,9 +8,9 @@
 //! | `sja_bus` where memory is refused | [`buses`] |
 //! | whole runs over links of two rings in one thread, by a turn loop of the tests' own | [`ring_runs`] |
 //! | `sja_replay`, `sja_report`, `sja_wave` over logs written by hand | [`replay`], [`reports`], [`waves`] |
-//! | `sja_serial`, `sja_threads`; writes of `sja_raw` whose item comes back | [`turns`], [`threads`] |
+//! | `sja_serial`, `sja_threads`; writes of bytes whose item comes back | [`turns`], [`threads`] |
 //! | `sja_sweep` | [`sweeps`] |
-//! | `sja_session`, `sja_plan_session` | [`sessions`] |
+//! | `sja_session` | [`sessions`] |
 //!
 //! Expected values are written by hand: from the data sheet and the standard, and reports and waves from their formats.
 #![tactic(auto)]

@@ -32,7 +32,7 @@ use Rattle.sja_c.specs.Answers.{answer, no_handle_status}
 use Rattle.sja_c.specs.Handles.{is_handle, AtHandle}
 use Rattle.sja_c.specs.contracts.answer.SjaAnswer.{the_row as Out}
 use Rattle.sja_c.specs.contracts.texts.no_text as none
-use Rattle.sja_c.specs.contracts.texts.sja_plan as f
+use Rattle.sja_c.specs.contracts.texts.sja_put_plan as f
 use Rattle.sja_c.specs.declared.answer.SjaAnswer.{SjaAnswer}
 use Rattle.sja_calls.specs.contracts.held.Held.{the_row as R}
 use Rattle.sja_calls.specs.declared.held.Held.{Held}

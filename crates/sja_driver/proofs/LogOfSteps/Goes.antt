@@ -108,7 +108,7 @@ module _ {E : Type 0} (alike : E → E → Type 0) (stands : E → Lists → Typ
   goes_spent (InReset d) (InReset i) Unmet e c =
       let same : left_in now ≡ left_in log = c.left ∙ append-nil (left_in log) in
       record {
-        traces = λ t h. traces_unmet (InReset d) (InReset i) log now t c.done c.released c.acts.opens c.acts.out h;
+        traces = λ t h. traces_unmet (InReset d) (InReset i) log now t c.released c.acts.opens c.acts.out h;
         holds = λ t j h s. subst (λ (xs : List DriverLedger).
             Holds stands (t ++ []) (releases_in now) (leaves xs []) (length xs) false j links_after base) (sym same)
             (forget stands t (releases_in now) (leaves (left_in log) []) spent false j links_after base
@@ -119,7 +119,7 @@ module _ {E : Type 0} (alike : E → E → Type 0) (stands : E → Lists → Typ
       let same : left_in now ≡ left_in log = c.left ∙ append-nil (left_in log) in
       let deed : Deed = record { step = step; answer = a; bits = bits; gave = carried p step a } in
       record {
-        traces = λ t h. traces_deed (InReset d) (InReset i) log now t deed [] c.done c.released
+        traces = λ t h. traces_deed (InReset d) (InReset i) log now t deed [] c.released
             (λ i o. deeds_else length_of t deed i (inr c.acts.kind) ∙ sym (append-nil _)) c.acts.opens c.acts.out
             c.acts.fits (gives_carried p step a) h;
         holds = λ t j h s. subst (λ (xs : List DriverLedger).

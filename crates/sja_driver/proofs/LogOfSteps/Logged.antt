@@ -1,23 +1,26 @@
 -- The logged step: from a try at the present link, and what the log then has.
-use Rattle.std.proofs.Common.{rules, ◌≡◌, ◌+◌, ◌<◌, ◌≤◌, ℕ, Bool, false, List, ◌++◌, length, refl, sym, ap, ◌∙◌, subst}
+use Rattle.std.proofs.Common.{rules, ◌≡◌, ◌+◌, ◌<◌, ◌≤◌, ℕ, List, ◌++◌, length, refl, sym, ap, ◌∙◌, subst}
 use Rattle.std.proofs.Common.{arith}
 use Rattle.std.proofs.lemmas.List.{length-append, get_or-set_same, get_or_default}
-use Rattle.std.specs.Prelude.{min, slice_index_or, slice_set}
+use Rattle.std.specs.Prelude.{min, slice_index_or, slice_set, Option, None}
 use Rattle.sja_link.specs.declared.link_id.LinkId.{LinkId}
 use Rattle.sja_link.specs.Lists.{Lists}
 use Rattle.lemmas.proofs.Related.{each_one}
 use Rattle.sja_regs.specs.declared.registers.Registers.{Registers}
 use Rattle.sja_script.specs.declared.step.Step.{Step}
+use Rattle.sja_script.specs.declared.step_answer.StepAnswer.{StepAnswer}
 use Rattle.sja_driver.specs.declared.any_driver.AnyDriver.{AnyDriver}
 use Rattle.sja_driver.specs.declared.logged_driver.LoggedDriver.{LoggedDriver}
 use Rattle.sja_driver.specs.declared.work_log.WorkLog.{WorkLog}
 use Rattle.sja_driver.specs.Acting.{Acts}
 use Rattle.sja_driver.specs.AnyDrivers.{IsDriverOf}
 use Rattle.sja_driver.specs.Holding.{place_after}
-use Rattle.sja_driver.specs.LoggedDrivers.{node_of, driver_of, log_of, ended_of, IsLawful, MayStep, StaysLawful, Steps}
+use Rattle.sja_driver.specs.LoggedDrivers.{node_of, driver_of, log_of, kept_of, ended_of, IsLawful, MayStep}
+use Rattle.sja_driver.specs.LoggedDrivers.{StaysLawful}
+use Rattle.sja_driver.specs.LoggedDrivers.{Steps}
 use Rattle.sja_driver.specs.Inside.Entering.{Enters}
-use Rattle.sja_driver.specs.Logs.{HasRoom, done_in, releases_in, left_in, done_by, releases_by, left_by}
-use Rattle.sja_driver.specs.Tries.{Tried, is_met, ended_by}
+use Rattle.sja_driver.specs.Logs.{HasRoom, releases_in, left_in, releases_by, left_by}
+use Rattle.sja_driver.specs.Tries.{Tried, answer_of, ended_by}
 use Rattle.sja_driver.specs.Tries.Tried.{Unmet, Answered, Released, Ended}
 use Rattle.sja_driver.proofs.LogOfSteps.Goes.{goes_step}
 use Rattle.sja_driver.proofs.LogOfSteps.Stepping.{left_count}
@@ -31,16 +34,10 @@ min_less n = grind arith
 -- room for fewer steps
 pub room_less : (k n : ℕ) (log : WorkLog) → k ≤ n → HasRoom n log → HasRoom k log
 room_less k n log less h =
-    let a = h.done in let b = h.releases in
-    record { done = omega (arith, a, less); releases = omega (arith, b, less); left = h.left }
+    let b = h.releases in
+    record { releases = omega (arith, b, less); left = h.left }
 
--- a try adds one step and one release at most
-few_done : (o : Tried) (bits : ℕ) → length (done_by o bits) ≤ 1
-few_done Unmet bits = omega arith
-few_done (Answered answer) bits = omega arith
-few_done (Released m) bits = omega arith
-few_done (Ended ledger) bits = omega arith
-
+-- a try adds one release at most
 few_releases : (n : ℕ) (o : Tried) → length (releases_by n o) ≤ 1
 few_releases n Unmet = omega arith
 few_releases n (Answered answer) = omega arith
@@ -48,34 +45,23 @@ few_releases n (Released m) = omega arith
 few_releases n (Ended ledger) = omega arith
 
 -- and none where the step isn't done
-none_unmet : (n : ℕ) (o : Tried) (bits : ℕ) → is_met o ≡ false →
-    (length (done_by o bits) ≡ 0) × (length (releases_by n o) ≡ 0)
-none_unmet n Unmet bits e = (refl, refl)
-none_unmet n (Answered answer) bits e = absurd cc
-none_unmet n (Released m) bits e = absurd cc
-none_unmet n (Ended ledger) bits e = absurd cc
+none_unmet : (n : ℕ) (o : Tried) → answer_of o ≡ None → length (releases_by n o) ≡ 0
+none_unmet n Unmet e = refl
+none_unmet n (Answered answer) e = absurd cc
+none_unmet n (Released m) e = absurd cc
+none_unmet n (Ended ledger) e = absurd cc
 
 -- so the log has room after a try
-room_by : (was now : WorkLog) (k extra bits : ℕ) (o : Tried) (done : Bool) → length (done_by o bits) ≤ extra →
-    length (releases_by (length (left_in was)) o) ≤ extra → Enters was now o bits done → HasRoom (k + extra) was →
+room_by : (was now : WorkLog) (k extra : ℕ) (o : Tried) (answer : Option StepAnswer) →
+    length (releases_by (length (left_in was)) o) ≤ extra → Enters was now o answer → HasRoom (k + extra) was →
     HasRoom k now
-room_by was now k extra bits o done few few_released enters room =
-    let has = room.done in
+room_by was now k extra o answer few_released enters room =
     let has_releases = room.releases in
     let has_left = room.left in
-    let same = enters.done_room in
     let same_releases = enters.release_room in
     let same_left = enters.left_room in
     let n = length (left_in was) in
     record {
-      done = omega (
-        arith,
-        has,
-        few,
-        same,
-        ap length enters.entered,
-        length-append (done_in was) (done_by o bits),
-      );
       releases = omega (
         arith,
         has_releases,
@@ -93,12 +79,12 @@ inside base ended k n is room = let l = min_less ended in omega (arith, is, l, r
 
 -- a try at the present link is a logged step
 pub steps_of : {E : Type 0} (alike : E → E → Type 0) (stands : E → Lists → Type 0) (dry full : E → Type 0)
-    (was now : LoggedDriver) (links : List E) (base bits k : ℕ) (p q : Registers) (step : Step) (d0 new : E) (o : Tried)
-    (done : Bool) → IsLawful was → base + 64 ≤ length links → k ≡ min (ended_of was) 63 →
+    (was now : LoggedDriver) (links : List E) (base k : ℕ) (p q : Registers) (step : Step) (d0 new : E) (o : Tried)
+    (answer : Option StepAnswer) → IsLawful was → base + 64 ≤ length links → k ≡ min (ended_of was) 63 →
     Acts alike stands dry full (slice_index_or links (base + k) d0) new p q step (driver_of was) (driver_of now) o →
-    Enters (log_of was) (log_of now) o bits done →
-    Steps alike stands dry full was now links (slice_set links (base + k) new) base p q step bits done
-steps_of {E} alike stands dry full was now links base bits k p q step d0 new o done lawful room is acts enters =
+    Enters (log_of was) (log_of now) o answer →
+    Steps alike stands dry full was now links (slice_set links (base + k) new) base p q step answer
+steps_of {E} alike stands dry full was now links base k p q step d0 new o answer lawful room is acts enters =
     let links_now : List E = slice_set links (base + k) new in
     let few : k < 64 = let l = min_less (ended_of was) in omega (arith, is, l) in
     let inside : base + k < length links = omega (arith, few, room) in
@@ -109,16 +95,15 @@ steps_of {E} alike stands dry full was now links base bits k p q step d0 new o d
       acts = λ d e. subst (λ (i : ℕ). Acts alike stands dry full (slice_index_or links i d)
           (slice_index_or links_now i e) p q step (driver_of was) (driver_of now) o) at
           (rw (get_or_default links (base + k) d d0 inside, get_or-set_same links (base + k) new e inside) acts);
-      logged = enters.entered;
       releases = enters.released;
       leaves = enters.left;
-      goes = goes_step alike stands dry full (driver_of was) (driver_of now) (log_of was) (log_of now) links base
+      goes = λ bits. goes_step alike stands dry full (driver_of was) (driver_of now) (log_of was) (log_of now) links
+          base
           (node_of was) bits p q step d0 new k o (λ l. is ∙ min_few (ended_of was) l) (record {
             few = few;
             room = room;
             own = lawful;
             acts = acts;
-            done = enters.entered;
             released = enters.released;
             left = enters.left;
           });
@@ -136,13 +121,14 @@ lawful_after was driver log o left place lawful =
 
 -- and all stays in order
 pub stays_lawful : {E : Type 0} (link : E → LinkId) (same : E → E → Type 0) (was now : LoggedDriver) (links : List E)
-    (base bits k : ℕ) (d0 new : E) (o : Tried) (done : Bool) →
+    (base k : ℕ) (d0 new : E) (o : Tried) (answer : Option StepAnswer) →
     ((e : E) → same e e) → ((a b : E) → same a b → link b ≡ link a) → MayStep link was links base →
     k ≡ min (ended_of was) 63 → same (slice_index_or links (base + k) d0) new → node_of now ≡ node_of was →
-    Enters (log_of was) (log_of now) o bits done →
+    kept_of now ≡ kept_of was →
+    Enters (log_of was) (log_of now) o answer →
     ((node n : ℕ) → IsDriverOf node n (driver_of was) → IsDriverOf node (n + ended_by o) (driver_of now)) →
-    StaysLawful link same was now links (slice_set links (base + k) new) base done
-stays_lawful link same was now links base bits k d0 new o done refl_same same_link may is tried owner enters place =
+    StaysLawful link same was now links (slice_set links (base + k) new) base answer
+stays_lawful link same was now links base k d0 new o answer refl_same same_link may is tried owner kept enters place =
     record {
       same = each_one same refl_same links (base + k) d0 new (inside base (ended_of was) k (length links) is may.eight)
           tried;
@@ -151,10 +137,11 @@ stays_lawful link same was now links base bits k d0 new o done refl_same same_li
       node = owner;
       lawful = subst (λ (n : ℕ). IsDriverOf n (ended_of now) (driver_of now)) (sym owner)
           (lawful_after was (driver_of now) (log_of now) o enters.left place may.lawful);
-      room = λ n room. room_by (log_of was) (log_of now) n 1 bits o done (few_done o bits)
-          (few_releases (ended_of was) o) enters room;
+      room = λ n room. room_by (log_of was) (log_of now) n 1 o answer (few_releases (ended_of was) o) enters room;
+      done = enters.done;
+      kept = kept;
       waits = λ waited n room.
-          let none = none_unmet (ended_of was) o bits (sym enters.met ∙ waited) in
-          room_by (log_of was) (log_of now) n 0 bits o done (omega (arith, none.0)) (omega (arith, none.1)) enters
+          let none = none_unmet (ended_of was) o (sym enters.met ∙ waited) in
+          room_by (log_of was) (log_of now) n 0 o answer (omega (arith, none)) enters
           (subst (λ m. HasRoom m (log_of was)) (omega arith) room);
     }

@@ -2,7 +2,7 @@
 use Rattle.std.proofs.Common.{◌≡◌, ◌+◌, ◌<◌, ◌≤◌, ℕ, List, [], length, refl, sym, ap, ◌∙◌, subst, append-nil}
 use Rattle.std.proofs.Common.{arith}
 use Rattle.std.proofs.lemmas.List.{get_or-set_same, get_or-set_other, get_or_default, set-get_or}
-use Rattle.std.specs.Prelude.{min, false, slice_index_or, slice_set}
+use Rattle.std.specs.Prelude.{min, false, slice_index_or, slice_set, None}
 use Rattle.lemmas.proofs.Related.{each_one, each_at}
 use Rattle.sja_link.specs.declared.link_id.LinkId.{LinkId}
 use Rattle.sja_link.specs.Lists.{Lists}
@@ -21,7 +21,7 @@ use Rattle.sja_driver.specs.Deeds.{Deed}
 use Rattle.sja_driver.specs.Drivers.{held_in, off_in}
 use Rattle.sja_driver.specs.Holding.{Goes, HoldsBy, place_after}
 use Rattle.sja_driver.specs.Logs.{Traces, left_in}
-use Rattle.sja_driver.specs.LoggedDrivers.{node_of, driver_of, log_of, ended_of, StaysLawful}
+use Rattle.sja_driver.specs.LoggedDrivers.{node_of, driver_of, log_of, kept_of, ended_of, StaysLawful}
 use Rattle.sja_driver.specs.Observing.{MayObserve, Observes, Looked}
 use Rattle.sja_driver.specs.Tries.Tried.{Unmet}
 use Rattle.sja_driver.proofs.LogOfSteps.Goes.{goes_step}
@@ -81,7 +81,6 @@ goes_look {E} version stands dry (InActive was) (InActive now) log links base no
       room = room;
       own = own;
       acts = waits_as version stands dry (slice_index_or links (base + k) d0) new was now o;
-      done = sym (append-nil _);
       released = sym (append-nil _);
       left = sym (append-nil _);
     })
@@ -117,11 +116,11 @@ place_kept stands dry old new (InActive was) (InActive now) node n o h = (o.link
 pub stays_looked : {E : Type 0} (link : E → LinkId) (alike : E → E → Type 0) (stands : E → Lists → Type 0)
     (dry : E → Type 0) (was now : LoggedDriver) (links : List E) (base k : ℕ) (d0 new : E) →
     ((e : E) → alike e e) → ((a b : E) → alike a b → link b ≡ link a) → MayObserve link was links base →
-    k ≡ min (ended_of was) 63 → node_of now ≡ node_of was → log_of now ≡ log_of was →
+    k ≡ min (ended_of was) 63 → node_of now ≡ node_of was → kept_of now ≡ kept_of was → log_of now ≡ log_of was →
     alike (slice_index_or links (base + k) d0) new →
     Observes stands dry (slice_index_or links (base + k) d0) new (driver_of was) (driver_of now) →
-    StaysLawful link alike was now links (slice_set links (base + k) new) base false
-stays_looked {E} link alike stands dry was now links base k d0 new alike_refl alike_link may is owner log same o =
+    StaysLawful link alike was now links (slice_set links (base + k) new) base None
+stays_looked {E} link alike stands dry was now links base k d0 new alike_refl alike_link may is owner kept log same o =
     let links_now : List E = slice_set links (base + k) new in
     let sames = each_one alike alike_refl links (base + k) d0 new
     (inside base (ended_of was) k (length links) is may.eight) same in
@@ -135,9 +134,10 @@ stays_looked {E} link alike stands dry was now links base k d0 new alike_refl al
       lawful = rw (owner, log) (place_kept stands dry (slice_index_or links (base + k) d0) new (driver_of was)
           (driver_of now) (node_of was) (ended_of was) o may.lawful);
       room = λ n room. rw log (record {
-        done = let h = room.done in omega (arith, h);
         releases = let h = room.releases in omega (arith, h);
         left = room.left;
       });
+      done = ap (λ l. l.done) log;
+      kept = kept;
       waits = λ waited n room. rw log room;
     }

@@ -17,9 +17,9 @@ use Rattle.sja_driver.specs.declared.work_log.WorkLog.{WorkLog}
 use Rattle.sja_driver.specs.AnyDrivers.{IsDriverOf, held_of, off_of, opened_of, is_out}
 use Rattle.sja_driver.specs.Carried.{carried}
 use Rattle.sja_driver.specs.Deeds.{Deed, opened, opens_by, opened_by, active_after, is_active, deeds_of}
-use Rattle.sja_driver.specs.Deeds.{released_lengths, done_of, FitsState, Gives}
+use Rattle.sja_driver.specs.Deeds.{released_lengths, FitsState, Gives}
 use Rattle.sja_driver.specs.Drivers.{started_in, link_in}
-use Rattle.sja_driver.specs.Logs.{Traces, done_in, releases_in, of_activation, released_of}
+use Rattle.sja_driver.specs.Logs.{Traces, releases_in, of_activation, released_of}
 use Rattle.sja_driver.specs.Tries.{IsOf, IsQuiet}
 use Rattle.sja_driver.specs.Tries.Tried.{Answered, Released, Ended}
 use Rattle.sja_driver.proofs.LogOfSteps.Sections.{active_push, opened_push}
@@ -27,22 +27,17 @@ use Rattle.sja_driver.proofs.LogOfSteps.Sections.{active_push, opened_push}
 abbrev pub lengths : List (List ℕ) → List ℕ
 lengths xs = map (λ (m : List ℕ). length m) xs
 
-done_push : (t : List Deed) (d : Deed) → map done_of (t ++ d ∷ []) ≡ map done_of t ++ done_of d ∷ []
-done_push [] d = refl
-done_push (x ∷ t) d = ap (λ l. done_of x ∷ l) (done_push t d)
-
 -- a deed more, that released what the log has more
 pub traces_deed : {version : ℕ} (was nxt : AnyDriver) (log now : WorkLog) (t : List Deed) (d : Deed) (more : List
     Release)
-    → done_in now ≡ done_in log ++ done_of d ∷ [] → releases_in now ≡ releases_in log ++ more
+    → releases_in now ≡ releases_in log ++ more
     → ((a : ℕ) → opened_by t ≡ opened_of was →
     released_lengths (deeds_of (t ++ d ∷ []) a) ≡ released_lengths (deeds_of t a) ++ lengths (released_of more a))
     → opened_of nxt ≡ opened_of was + opens_by d
     → is_out nxt ≡ active_after (is_out was) d.step d.answer
     → FitsState version (is_out was) (opened_of was) d.step d.answer → Gives d.step d.answer d.gave
     → Traces version was log t → Traces version nxt now (t ++ d ∷ [])
-traces_deed {version} was nxt log now t d more done rel released op out fits gives h = record {
-  done = done_push t d ∙ ap (λ xs. xs ++ done_of d ∷ []) h.done ∙ sym done;
+traces_deed {version} was nxt log now t d more rel released op out fits gives h = record {
   released = λ a. ap (λ xs. lengths (released_of xs a)) rel
       ∙ ap lengths (gathered_append (of_activation a) (releases_in log) more)
       ∙ map-append (λ (m : List ℕ). length m) (released_of (releases_in log) a) (released_of more a)

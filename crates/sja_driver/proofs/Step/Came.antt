@@ -22,7 +22,7 @@ use Rattle.sja_driver.specs.AnyDrivers.{IsDriverOf, held_of, off_of, opened_of, 
 use Rattle.sja_driver.specs.Carried.{carried}
 use Rattle.sja_driver.specs.Deeds.{Deed, opened, opens_by, opened_by, given_in, deeds_of, length_in, released_lengths}
 use Rattle.sja_driver.specs.Holding.{Holds, HoldsBy, Goes}
-use Rattle.sja_driver.specs.Logs.{Traces, leaves, done_in, releases_in, left_in, done_by, releases_by, left_by}
+use Rattle.sja_driver.specs.Logs.{Traces, leaves, releases_in, left_in, releases_by, left_by}
 use Rattle.sja_driver.specs.Logs.{deeds_by, released_of}
 use Rattle.sja_driver.specs.Tries.{Tried}
 use Rattle.sja_driver.specs.Tries.Tried.{Unmet, Answered, Released, Ended}
@@ -43,7 +43,6 @@ pub record Came {E : Type 0} (alike : E → E → Type 0) (stands : E → Lists 
   pub room : base + 64 ≤ length links
   pub own : IsDriverOf node (length (left_in log)) was
   pub acts : Acts alike stands dry full (slice_index_or links (base + k) d0) new p q step was nxt o
-  pub done : done_in now ≡ done_in log ++ done_by o bits
   pub released : releases_in now ≡ releases_in log ++ releases_by (length (left_in log)) o
   pub left : left_in now ≡ left_in log ++ left_by o
 
@@ -71,13 +70,11 @@ forget {E} stands t rel left n off j links base h =
     subst (λ (ds : List Deed). Holds stands ds rel left n off j links base) (sym (append-nil t)) was
 
 -- the trace, where nothing was done
-pub traces_unmet : {version : ℕ} (was nxt : AnyDriver) (log now : WorkLog) (t : List Deed) → done_in now ≡ done_in log
-    ++ [] →
+pub traces_unmet : {version : ℕ} (was nxt : AnyDriver) (log now : WorkLog) (t : List Deed) →
     releases_in now ≡ releases_in log ++ [] → opened_of nxt ≡ opened_of was → is_out nxt ≡ is_out was →
     Traces version was log t → Traces version nxt now (t ++ [])
-traces_unmet {version} was nxt log now t done released opens out h =
+traces_unmet {version} was nxt log now t released opens out h =
     subst (λ (ds : List Deed). Traces version nxt now ds) (sym (append-nil t)) (record {
-      done = h.done ∙ sym (done ∙ append-nil (done_in log));
       released = λ a. ap (λ xs. lengths (released_of xs a)) (released ∙ append-nil (releases_in log)) ∙ h.released a;
       opened = h.opened ∙ sym opens;
       out = h.out ∙ sym out;
@@ -119,7 +116,7 @@ module _ {E : Type 0} (alike : E → E → Type 0) (stands : E → Lists → Typ
       let acts = c.acts in
       let d : Deed = record { step = step; answer = a; bits = bits; gave = carried p step a } in
       record {
-        traces = λ t h. traces_deed was nxt log now t d [] c.done c.released
+        traces = λ t h. traces_deed was nxt log now t d [] c.released
             (λ i o. deeds_else length_of t d i (inr acts.kind) ∙ sym (append-nil _)) acts.opens acts.out acts.fits
             (gives_carried p step a) h;
         holds = λ t j h k. holds_on t j d [] c.few c.room (c.left ∙ append-nil (left_in log))
@@ -138,7 +135,7 @@ module _ {E : Type 0} (alike : E → E → Type 0) (stands : E → Lists → Typ
       let w : (t : List Deed) → opened_by t ≡ opened_of was → opened_by t + opened step answer ≡ suc n =
       stands_released p step was nxt m node n (acts.place node n c.own) acts.opens acts.quiet acts.kind in
       record {
-        traces = λ t h. traces_deed was nxt log now t d (releases_by n (Released m)) c.done c.released
+        traces = λ t h. traces_deed was nxt log now t d (releases_by n (Released m)) c.released
             (λ i o. let v = w t o in elim (cases_eq (n + 1) i) [
               | inl x ↦ deeds_here length_of t d i (inl (omega (arith, x, v)))
                   ∙ ap (λ l. released_lengths (deeds_of t i) ++ l) y
@@ -163,7 +160,7 @@ module _ {E : Type 0} (alike : E → E → Type 0) (stands : E → Lists → Typ
       let left = c.left in
       let count = ap (λ xs. length xs) left ∙ left_count (left_in log) (Ended l) in
       record {
-        traces = λ t h. traces_deed was nxt log now t d [] c.done c.released
+        traces = λ t h. traces_deed was nxt log now t d [] c.released
             (λ i o. deeds_else length_of t d i (inr y) ∙ sym (append-nil _))
             (let s = acts.opens in omega (arith, s, z)) acts.out acts.fits (gives_carried p step DoneAnswer) h;
         holds = λ t j h k. holds_deed stands t (releases_in log) (releases_in now) (leaves (left_in log) (held_of was))
@@ -182,7 +179,7 @@ module _ {E : Type 0} (alike : E → E → Type 0) (stands : E → Lists → Typ
   goes_unmet c =
       let acts = c.acts in
       record {
-        traces = λ t h. traces_unmet was nxt log now t c.done c.released acts.opens acts.out h;
+        traces = λ t h. traces_unmet was nxt log now t c.released acts.opens acts.out h;
         holds = λ t j h k. forget stands t (releases_in now) (leaves (left_in now) (held_of nxt)) (length (left_in now))
             (off_of nxt) j links_now base
             (holds_on t j idle [] c.few c.room (c.left ∙ append-nil (left_in log)) (inr refl) acts.does

@@ -1,14 +1,13 @@
 -- What the first line says, and what each further one is answered.
-use Rattle.std.proofs.Common.{◌≡◌, ℕ, List, [], refl, sym, ap, ◌∙◌, subst, inl, inr, arith}
+use Rattle.std.proofs.Common.{◌≡◌, ℕ, List, [], length, refl, sym, ap, ◌∙◌, subst, inl, inr, arith}
 use Rattle.std.specs.Prelude.{Option, Some, None, Result, Ok, Err, String, string_bytes}
 use Rattle.std.specs.Global.{Global}
 use Rattle.std.proofs.lemmas.Str.{IsUtf8-nil}
-use Rattle.sja_driver.specs.Deeds.{Deed}
-use Rattle.sja_driver_session.specs.declared.driver_session.DriverSession.{DriverSession}
+use Rattle.sja_driver.specs.Accesses.{Access}
+use Rattle.sja_session.specs.Sessions.{SessionValue}
 use Rattle.sja_live.proofs.Replies.Asked.{live_after}
-use Rattle.sja_live.proofs.Replies.Named.{of_node}
+use Rattle.sja_live.proofs.Replies.Writable.{writable}
 use Rattle.sja_live.specs.Inside.Standing.{IsAnswered, IsLiveAt}
-use Rattle.sja_driver_session.specs.DriverSessions.{node_count, version_of}
 use Rattle.sja_live.specs.Commands.{AsksFor}
 use Rattle.sja_live.specs.Inside.Going.{FirstIs, FirstSays, IsAnswerOf, IsNext, IsNextAnswer}
 use Rattle.sja_live.specs.Inside.Reading.{IsLine, TakesLine}
@@ -74,67 +73,68 @@ first_over before after t =
 
 -- ---- each further one
 
-next_by : (before after : Option Text) (line : Line) (was now : DriverSession) (deeds : List (List Deed))
+next_by : (before after : Option Text) (line : Line) (was now : SessionValue) (accesses : List (List Access))
     (next : Option LiveAnswer) → TakesLine before after line →
-    ((input left : Text) → IsLine input left line → IsNext input left was now deeds next) →
-    IsNextAnswer before after was now deeds next
-next_by None after line was now deeds next t by = tt
-next_by (Some input) None line was now deeds next t by = absurd t
-next_by (Some input) (Some left) line was now deeds next t by = by input left t
+    ((input left : Text) → IsLine input left line → IsNext input left was now accesses next) →
+    IsNextAnswer before after was now accesses next
+next_by None after line was now accesses next t by = tt
+next_by (Some input) None line was now accesses next t by = absurd t
+next_by (Some input) (Some left) line was now accesses next t by = by input left t
 
-pub next_over : (before after : Option Text) (s : DriverSession) (deeds : List (List Deed)) →
-    TakesLine before after Over → IsNextAnswer before after s s deeds None
-next_over before after s deeds t =
-    next_by before after Over s s deeds None t (λ input left is.
+pub next_over : (before after : Option Text) (s : SessionValue) (accesses : List (List Access)) →
+    TakesLine before after Over → IsNextAnswer before after s s accesses None
+next_over before after s accesses t =
+    next_by before after Over s s accesses None t (λ input left is.
     (refl, inl is.0, is.1 ∙ sym (ap behind_line is.0)))
 
-pub next_long : (before after : Option Text) (s : DriverSession) (deeds : List (List Deed)) → IsLiveAt s deeds →
-    TakesLine before after Long → IsNextAnswer before after s s deeds (Some LongAnswer)
-next_long before after s deeds at t =
-    next_by before after Long s s deeds (Some LongAnswer) t (λ input left is.
-    (is.0, (deeds, long is.1 refl, at), is.2))
+pub next_long : (before after : Option Text) (s : SessionValue) (accesses : List (List Access)) → IsLiveAt s accesses →
+    TakesLine before after Long → IsNextAnswer before after s s accesses (Some LongAnswer)
+next_long before after s accesses at t =
+    next_by before after Long s s accesses (Some LongAnswer) t (λ input left is.
+    (is.0, (accesses, long is.1 refl, at), is.2))
 
-pub next_no_text : (before after : Option Text) (s : DriverSession) (deeds : List (List Deed)) → IsLiveAt s deeds →
-    TakesLine before after NoText → IsNextAnswer before after s s deeds (Some (Mistaken TextFault))
-next_no_text before after s deeds at t =
-    next_by before after NoText s s deeds (Some (Mistaken TextFault)) t (λ input left is.
-    (is.0, (deeds, no_text is.1 is.2 refl, at), is.3))
+pub next_no_text : (before after : Option Text) (s : SessionValue) (accesses : List (List Access)) →
+    IsLiveAt s accesses → TakesLine before after NoText →
+    IsNextAnswer before after s s accesses (Some (Mistaken TextFault))
+next_no_text before after s accesses at t =
+    next_by before after NoText s s accesses (Some (Mistaken TextFault)) t (λ input left is.
+    (is.0, (accesses, no_text is.1 is.2 refl, at), is.3))
 
-pub next_told : (before after : Option Text) (line : String Global) (was now : DriverSession) (deeds : List (List Deed))
-    (next : Option LiveAnswer) → TakesLine before after (LineOf line) →
-    IsAnswerOf was now deeds (string_bytes line) next → IsNextAnswer before after was now deeds next
-next_told before after line was now deeds (Some answer) t a =
-    next_by before after (LineOf line) was now deeds (Some answer) t (λ input left is.
-    (is.0, subst (λ l. IsAnswerOf was now deeds l (Some answer)) is.1 a, is.2))
-next_told before after line was now deeds None t a =
-    next_by before after (LineOf line) was now deeds None t (λ input left is.
+pub next_told : (before after : Option Text) (line : String Global) (was now : SessionValue)
+    (accesses : List (List Access)) (next : Option LiveAnswer) → TakesLine before after (LineOf line) →
+    IsAnswerOf was now accesses (string_bytes line) next → IsNextAnswer before after was now accesses next
+next_told before after line was now accesses (Some answer) t a =
+    next_by before after (LineOf line) was now accesses (Some answer) t (λ input left is.
+    (is.0, subst (λ l. IsAnswerOf was now accesses l (Some answer)) is.1 a, is.2))
+next_told before after line was now accesses None t a =
+    next_by before after (LineOf line) was now accesses None t (λ input left is.
     (a.0, inr (is.0, subst (EndsTalk was) is.1 a.1), is.2))
 
 -- ---- by the session's own version and nodes
 
-pub answers_end : (s : DriverSession) (version nodes : ℕ) (deeds : List (List Deed)) (line : Text) →
-    version ≡ version_of s → nodes ≡ node_count s → IsReadable line → AsksFor version nodes line End →
-    IsAnswerOf s s deeds line None
-answers_end s version nodes deeds line v n readable asks =
-    let own = subst (λ k. AsksFor (version_of s) k line End) n (subst (λ k. AsksFor k nodes line End) v asks) in
+pub answers_end : (s : SessionValue) (version nodes : ℕ) (accesses : List (List Access)) (line : Text) →
+    version ≡ s.plan.version → nodes ≡ length s.plan.nodes → IsReadable line → AsksFor version nodes line End →
+    IsAnswerOf s s accesses line None
+answers_end s version nodes accesses line v n readable asks =
+    let own = subst (λ k. AsksFor s.plan.version k line End) n (subst (λ k. AsksFor k nodes line End) v asks) in
     (refl, (readable, own))
 
-pub answers_done : (was now : DriverSession) (version nodes : ℕ) (deeds : List (List Deed)) (line : Text)
-    (command : LiveCommand) (answer : LiveAnswer) → version ≡ version_of was → nodes ≡ node_count was →
-    IsReadable line → AsksFor version nodes line command → IsAnswered was now command answer → IsLiveAt was deeds →
-    IsAnswerOf was now deeds line (Some answer)
-answers_done was now version nodes deeds line command answer v n readable asks answered at =
-    let a = answered deeds at in
-    let own = subst (λ k. AsksFor (version_of was) k line command) n (subst (λ k. AsksFor k nodes line command) v asks)
+pub answers_done : (was now : SessionValue) (version nodes : ℕ) (accesses : List (List Access)) (line : Text)
+    (command : LiveCommand) (answer : LiveAnswer) → version ≡ was.plan.version → nodes ≡ length was.plan.nodes →
+    IsReadable line → AsksFor version nodes line command → IsAnswered was now command answer → IsLiveAt was accesses →
+    IsAnswerOf was now accesses line (Some answer)
+answers_done was now version nodes accesses line command answer v n readable asks answered at =
+    let a = answered accesses at in
+    let own = subst (λ k. AsksFor was.plan.version k line command) n (subst (λ k. AsksFor k nodes line command) v asks)
     in (a.0, done readable own a.1, a.2)
 
-pub answers_mistake : (s : DriverSession) (version nodes : ℕ) (deeds : List (List Deed)) (line : Text)
-    (fault : LineFault) →
-    version ≡ version_of s → nodes ≡ node_count s → IsReadable line → AreMistaken version nodes (words line) fault →
-    IsLiveAt s deeds → IsAnswerOf s s deeds line (Some (Mistaken fault))
-answers_mistake s version nodes deeds line fault v n readable wrong at =
-    let own = subst (λ k. AreMistaken (version_of s) k (words line) fault) n
-    (subst (λ k. AreMistaken k nodes (words line) fault) v wrong) in (deeds, mistaken readable own refl, at)
+pub answers_mistake : (s : SessionValue) (version nodes : ℕ) (accesses : List (List Access)) (line : Text)
+    (fault : LineFault) → version ≡ s.plan.version → nodes ≡ length s.plan.nodes → IsReadable line →
+    AreMistaken version nodes (words line) fault → IsLiveAt s accesses →
+    IsAnswerOf s s accesses line (Some (Mistaken fault))
+answers_mistake s version nodes accesses line fault v n readable wrong at =
+    let own = subst (λ k. AreMistaken s.plan.version k (words line) fault) n
+    (subst (λ k. AreMistaken k nodes (words line) fault) v wrong) in (accesses, mistaken readable own refl, at)
 
 -- what the first line says
 pub ruleset first_lines = (first_opens, first_fails, first_long, first_no_text, first_over)
@@ -142,4 +142,4 @@ pub ruleset first_lines = (first_opens, first_fails, first_long, first_no_text, 
 -- what each further line is answered, and a line that is a text
 pub ruleset next_lines = (next_over, next_long, next_no_text, next_told)
 
-pub ruleset line_answers = (of_node, live_after, answers_end, answers_done, answers_mistake)
+pub ruleset line_answers = (writable, live_after, answers_end, answers_done, answers_mistake)

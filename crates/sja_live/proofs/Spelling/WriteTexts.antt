@@ -1,11 +1,11 @@
 -- The steps that a write by address is have texts.
-use Rattle.std.proofs.Common.{ℕ, ◌*◌, ◌<◌, Bool, true, false, List, [], ◌∷◌, ◌++◌, All, arith}
+use Rattle.std.proofs.Common.{ℕ, ◌+◌, ◌*◌, ◌<◌, Bool, true, false, List, [], ◌∷◌, ◌++◌, All, arith}
 use Rattle.std.specs.Prelude.{if◌then◌else◌, ◌==◌, ◌||◌}
 use Rattle.std.proofs.lemmas.List.Elements.{All-nil, All-cons, All-append}
 use Rattle.sja_plan_text.specs.HasTexts.{HasStepText}
-use Rattle.sja_raw.specs.CommandWrites.{command_byte, command_steps, commands, doable, releases}
-use Rattle.sja_raw.specs.ModeWrites.{closing, leaving, mode_steps, reset_byte, taking}
-use Rattle.sja_raw.specs.Writes.{write_steps}
+use Rattle.sja_driver.specs.CommandWrites.{command_byte, command_steps, commands, doable, releases}
+use Rattle.sja_driver.specs.ModeWrites.{closing, leaving, mode_steps, reset_byte, taking}
+use Rattle.sja_driver.specs.Writes.{write_steps}
 use Rattle.sja_regs.specs.Bits.{byte}
 use Rattle.sja_regs.specs.Commands.{command_of}
 use Rattle.sja_regs.specs.Modes.{mode_of}
@@ -16,6 +16,7 @@ use Rattle.sja_regs.specs.declared.mode.Mode.{Mode}
 use Rattle.sja_regs.specs.declared.registers.Registers.{Registers}
 use Rattle.sja_script.specs.declared.step.Step.{Step}
 use Rattle.sja_script.specs.declared.step.Step.TheVariants.{Start, Stop, Release, Write, Command}
+use Rattle.sja_session.specs.ByAddress.{steps_by}
 
 -- ---- bytes
 
@@ -96,12 +97,18 @@ module _ (version : ℕ) where
       by false = joined (commands (command_byte (doable p c))) (releases c.rrb)
           (some (command_byte (doable p c) == 0)) (released c.rrb)
 
-  pub write_texts : (p : Registers) (out : Bool) (address value : ℕ) → address < 256 → value < 256 →
+  typed_texts : (p : Registers) (out : Bool) (address value : ℕ) → address < 256 → value < 256 →
       Texts (write_steps p out address value)
-  write_texts p out address value a v = by (address == 0) (address == 1)
+  typed_texts p out address value a v = by (address == 0) (address == 1)
     where
       by : (zero one : Bool) → Texts (if zero then mode_steps p.mode (is_forced p) out value
           else if one then command_steps p (command_of value) else Write address value ∷ [])
       by true one = mode_texts p.mode (is_forced p) out value v
       by false true = command_texts p (command_of value)
       by false false = one_text (Write address value) (a, v)
+
+  -- the steps that it is by bytes, or by typed steps
+  pub write_texts : (bytes : Bool) (p : Registers) (out : Bool) (address value : ℕ) → address < 256 → value < 256 →
+      Texts (steps_by bytes p out address value)
+  write_texts true p out address value a v = one_text (Write address value) (a, v)
+  write_texts false p out address value a v = typed_texts p out address value a v

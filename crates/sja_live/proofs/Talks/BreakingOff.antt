@@ -5,8 +5,8 @@ use Rattle.std.specs.Global.{Global}
 use Rattle.std.specs.Io.KnownBytes.{Keeps}
 use Rattle.std.proofs.KnownBytes.{Keeps-refl}
 use Rattle.std.proofs.lemmas.List.{append-nil}
-use Rattle.sja_driver.specs.Deeds.{Deed}
-use Rattle.sja_driver_session.specs.declared.driver_session.DriverSession.{DriverSession}
+use Rattle.sja_driver.specs.Accesses.{Access}
+use Rattle.sja_session.specs.Sessions.{SessionValue}
 use Rattle.sja_live.specs.Inside.Standing.{IsLiveAt}
 use Rattle.sja_live.specs.Inside.Going.{FirstSays, Goes, IsNext, IsNextAnswer}
 use Rattle.sja_live.specs.Inside.Reading.{HasRead, IsWithin, LeavesLine, TakesLine}
@@ -88,7 +88,7 @@ pub ruleset unopened = (talk_silent, talk_unopened)
 -- ---- a session that was opened
 
 -- the next line wasn't read, or not answered
-pub talk_breaks : (input rest left old new : Option Text) (s : DriverSession) (fault : TalkFault) →
+pub talk_breaks : (input rest left old new : Option Text) (s : SessionValue) (fault : TalkFault) →
     Goes input rest old new s → LeavesLine rest left fault → Speaks input left old new (IsBrokenOff fault)
 talk_breaks None rest left old new s fault g leaves = tt
 talk_breaks (Some input) rest left None new s fault g leaves = tt
@@ -99,7 +99,7 @@ talk_breaks (Some input) (Some rest) (Some left) (Some old) (Some new) s fault g
     (g.0, g.4, inr (s, rest, g.1, g.3, leaves))
 
 -- no more lines were read
-pub talk_stops : (input rest old new : Option Text) (s : DriverSession) → Goes input rest old new s →
+pub talk_stops : (input rest old new : Option Text) (s : SessionValue) → Goes input rest old new s →
     Speaks input rest old new (IsBrokenOff Read)
 talk_stops input rest old new s g = talk_breaks input rest rest old new s Read g (by rest)
   where
@@ -107,22 +107,22 @@ talk_stops input rest old new s g = talk_breaks input rest rest old new s Read g
     by None = tt
     by (Some rest) = ([], tt, refl)
 
-behind_next : (rest left : Text) (was now : DriverSession) (deeds : List (List Deed)) (next : Option LiveAnswer) →
-    IsNext rest left was now deeds next → left ≡ behind_line rest
-behind_next rest left was now deeds (Some answer) n = n.2
-behind_next rest left was now deeds None n = n.2
+behind_next : (rest left : Text) (was now : SessionValue) (accesses : List (List Access)) (next : Option LiveAnswer) →
+    IsNext rest left was now accesses next → left ≡ behind_line rest
+behind_next rest left was now accesses (Some answer) n = n.2
+behind_next rest left was now accesses None n = n.2
 
 -- memory was refused for the text of an answer, or for the report
-pub talk_unanswered : (input rest left old mid new : Option Text) (was now : DriverSession) (next : Option LiveAnswer)
+pub talk_unanswered : (input rest left old mid new : Option Text) (was now : SessionValue) (next : Option LiveAnswer)
     (fault : TalkFault) → Goes input rest old mid was →
-    ((deeds : List (List Deed)) → IsLiveAt was deeds → IsNextAnswer rest left was now deeds next) → fault ≡ Memory →
-    new ≡ mid → Speaks input left old new (IsBrokenOff fault)
+    ((accesses : List (List Access)) → IsLiveAt was accesses → IsNextAnswer rest left was now accesses next) →
+    fault ≡ Memory → new ≡ mid → Speaks input left old new (IsBrokenOff fault)
 talk_unanswered input rest left old mid new was now next fault g answers memory same =
     subst (λ f. Speaks input left old new (IsBrokenOff f)) (sym memory)
     (subst (λ n. Speaks input left old n (IsBrokenOff Memory)) (sym same) (by input rest left old mid g answers))
   where
     by : (input rest left old mid : Option Text) → Goes input rest old mid was →
-        ((deeds : List (List Deed)) → IsLiveAt was deeds → IsNextAnswer rest left was now deeds next) →
+        ((accesses : List (List Access)) → IsLiveAt was accesses → IsNextAnswer rest left was now accesses next) →
         Speaks input left old mid (IsBrokenOff Memory)
     by None rest left old mid g answers = tt
     by (Some input) rest left None mid g answers = tt

@@ -3,8 +3,8 @@ use Rattle.std.proofs.Common.{◌≡◌, List, [], ◌∷◌, ◌++◌, replicat
 use Rattle.std.specs.Prelude.{◌⊎◌, Option, Some, None, Ok, Err}
 use Rattle.std.proofs.lemmas.List.{append_assoc, append-nil}
 use Rattle.std.specs.Io.KnownBytes.{Appends}
-use Rattle.sja_driver.specs.Deeds.{Deed}
-use Rattle.sja_driver_session.specs.declared.driver_session.DriverSession.{DriverSession}
+use Rattle.sja_driver.specs.Accesses.{Access}
+use Rattle.sja_session.specs.Sessions.{SessionValue}
 use Rattle.sja_live.specs.AnswerTexts.{answer_text, opened_text, opening_text}
 use Rattle.sja_live.specs.Beginning.{IsNewOf}
 use Rattle.sja_live.specs.Inside.Standing.{IsLiveAt}
@@ -28,11 +28,11 @@ leads_more : {text rest : Text} {lines : List Text} → LeadsOn text lines rest 
 leads_more none some = more some none
 leads_more (more not lead) some = more not (leads_more lead some)
 
-talk_more : (input rest : Text) (was now : DriverSession) (deeds after : List (List Deed)) (said : Text)
-    (answer : LiveAnswer) → HasTalked input rest was deeds said → ¬ (rest ≡ []) →
-    Replies was now deeds (first_line rest) answer after →
+talk_more : (input rest : Text) (was now : SessionValue) (accesses after : List (List Access)) (said : Text)
+    (answer : LiveAnswer) → HasTalked input rest was accesses said → ¬ (rest ≡ []) →
+    Replies was now accesses (first_line rest) answer after →
     HasTalked input (behind_line rest) now after (said ++ answer_text answer)
-talk_more input rest was now deeds after said answer h some replies = record {
+talk_more input rest was now accesses after said answer h some replies = record {
   some = h.some;
   readable = h.readable;
   opening = h.opening;
@@ -50,7 +50,7 @@ talk_more input rest was now deeds after said answer h some replies = record {
 -- ---- where the bytes are known or not
 
 -- a session was opened, and that was said
-pub talk_begins : (input left old new : Option Text) (opening : Opening) (s : DriverSession) →
+pub talk_begins : (input left old new : Option Text) (opening : Opening) (s : SessionValue) →
     FirstSays input left (Ok opening) → IsNewOf s opening → Appends old new opened_text → Goes input left old new s
 talk_begins None left old new opening s said is wrote = tt
 talk_begins (Some input) left None new opening s said is wrote = tt
@@ -73,15 +73,15 @@ talk_begins (Some input) (Some left) (Some old) (Some new) opening s said is wro
     } in (
       opened_text,
       replicate opening.nodes [],
-      new_live s opening is opens.bits.2,
+      new_live s opening is,
       subst (λ l. HasTalked input l s (replicate opening.nodes []) opened_text) (sym behind) first,
       wrote,
     )
 
 -- a line was answered, and that was said
-pub talk_goes_on : (input rest left old mid new : Option Text) (was now : DriverSession) (answer : LiveAnswer) →
+pub talk_goes_on : (input rest left old mid new : Option Text) (was now : SessionValue) (answer : LiveAnswer) →
     Goes input rest old mid was →
-    ((deeds : List (List Deed)) → IsLiveAt was deeds → IsNextAnswer rest left was now deeds (Some answer)) →
+    ((accesses : List (List Access)) → IsLiveAt was accesses → IsNextAnswer rest left was now accesses (Some answer)) →
     Appends mid new (answer_text answer) → Goes input left old new now
 talk_goes_on None rest left old mid new was now answer g next wrote = tt
 talk_goes_on (Some input) rest left None mid new was now answer g next wrote = tt
@@ -91,22 +91,22 @@ talk_goes_on (Some input) (Some rest) None (Some old) (Some mid) new was now ans
     absurd (next g.1 g.2)
 talk_goes_on (Some input) (Some rest) (Some left) (Some old) (Some mid) None was now answer g next wrote = absurd wrote
 talk_goes_on (Some input) (Some rest) (Some left) (Some old) (Some mid) (Some new) was now answer g next wrote =
-    let said = g.0 in let deeds = g.1 in let at = g.2 in let h = g.3 in let is = g.4 in
-    let n = next deeds at in let some = n.0 in let a = n.1 in let behind = n.2 in
+    let said = g.0 in let accesses = g.1 in let at = g.2 in let h = g.3 in let is = g.4 in
+    let n = next accesses at in let some = n.0 in let a = n.1 in let behind = n.2 in
     let after = a.0 in (
       said ++ answer_text answer,
       after,
       a.2,
       subst (λ l. HasTalked input l now after (said ++ answer_text answer)) (sym behind)
-          (talk_more input rest was now deeds after said answer h some a.1),
+          (talk_more input rest was now accesses after said answer h some a.1),
       wrote ∙ ap (λ l. l ++ answer_text answer) is ∙ append_assoc old said (answer_text answer),
     )
 
 -- the talk ended, and the report was written
-pub talk_ends : (input rest left old mid new : Option Text) (was now : DriverSession) →
+pub talk_ends : (input rest left old mid new : Option Text) (was now : SessionValue) →
     Goes input rest old mid was →
-    ((deeds : List (List Deed)) → IsLiveAt was deeds → IsNextAnswer rest left was now deeds None) →
-    ((deeds : List (List Deed)) → IsLiveAt now deeds → AppendsReport mid new now deeds) →
+    ((accesses : List (List Access)) → IsLiveAt was accesses → IsNextAnswer rest left was now accesses None) →
+    ((accesses : List (List Access)) → IsLiveAt now accesses → AppendsReport mid new now accesses) →
     Speaks input left old new (IsTold Reported)
 talk_ends None rest left old mid new was now g next wrote = tt
 talk_ends (Some input) rest left None mid new was now g next wrote = tt
@@ -115,24 +115,24 @@ talk_ends (Some input) (Some rest) left (Some old) None new was now g next wrote
 talk_ends (Some input) (Some rest) None (Some old) (Some mid) new was now g next wrote =
     absurd (next g.1 g.2)
 talk_ends (Some input) (Some rest) (Some left) (Some old) (Some mid) new was now g next wrote =
-    let said = g.0 in let deeds = g.1 in let at = g.2 in let h = g.3 in let is = g.4 in
-    let n = next deeds at in
-    let then_at = subst (λ (s : DriverSession). IsLiveAt s deeds) (sym n.0) at in
-    let report = subst (λ (s : DriverSession). AppendsReport (Some mid) new s deeds) n.0 (wrote deeds then_at) in
-    by new said deeds h is n.1 n.2 report
+    let said = g.0 in let accesses = g.1 in let at = g.2 in let h = g.3 in let is = g.4 in
+    let n = next accesses at in
+    let then_at = subst (λ (s : SessionValue). IsLiveAt s accesses) (sym n.0) at in
+    let report = subst (λ (s : SessionValue). AppendsReport (Some mid) new s accesses) n.0 (wrote accesses then_at) in
+    by new said accesses h is n.1 n.2 report
   where
-    by : (new : Option Text) (said : Text) (deeds : List (List Deed)) → HasTalked input rest was deeds said →
+    by : (new : Option Text) (said : Text) (accesses : List (List Access)) → HasTalked input rest was accesses said →
         mid ≡ old ++ said → (rest ≡ []) ⊎ (¬ (rest ≡ []) × EndsTalk was (first_line rest)) →
-        left ≡ behind_line rest → AppendsReport (Some mid) new was deeds →
+        left ≡ behind_line rest → AppendsReport (Some mid) new was accesses →
         Speaks (Some input) (Some left) (Some old) new (IsTold Reported)
-    by None said deeds h is over behind report = absurd report.2
-    by (Some new) said deeds h is over behind report =
+    by None said accesses h is over behind report = absurd report.2
+    by (Some new) said accesses h is over behind report =
         let log = report.0 in (
           said ++ report_text log,
           report.2 ∙ ap (λ l. l ++ report_text log) is ∙ append_assoc old said (report_text log),
           record {
             last = was;
-            deeds = deeds;
+            accesses = accesses;
             rest = rest;
             said = said;
             talked = h;

@@ -1,8 +1,8 @@
 -- What the functions that go on with a talk promise of one another.
 use Rattle.std.specs.Prelude.{◌≡◌, ◌⊎◌, ◌++◌, Option, Some, None, Result, Ok, Err, List, []}
 use Rattle.std.specs.Io.KnownBytes.{Appends}
-use Rattle.sja_driver.specs.Deeds.{Deed}
-use Rattle.sja_driver_session.specs.declared.driver_session.DriverSession.{DriverSession}
+use Rattle.sja_driver.specs.Accesses.{Access}
+use Rattle.sja_session.specs.Sessions.{SessionValue}
 use Rattle.sja_live.specs.Beginning.{IsNewOf}
 use Rattle.sja_live.specs.Inside.Standing.{IsLiveAt}
 use Rattle.sja_live.specs.Ending.{IsLastLog}
@@ -33,53 +33,53 @@ FirstSays None left said = Unit {0}
 -- ---- each further one
 
 -- the session answers a line so, or the line is its end
-abbrev pub IsAnswerOf : DriverSession → DriverSession → List (List Deed) → Text → Option LiveAnswer → Type 0
-IsAnswerOf was now deeds line (Some answer) =
-    (after : List (List Deed)) × Replies was now deeds line answer after × IsLiveAt now after
-IsAnswerOf was now deeds line None = (now ≡ was) × EndsTalk was line
+abbrev pub IsAnswerOf : SessionValue → SessionValue → List (List Access) → Text → Option LiveAnswer → Type 0
+IsAnswerOf was now accesses line (Some answer) =
+    (after : List (List Access)) × Replies was now accesses line answer after × IsLiveAt now after
+IsAnswerOf was now accesses line None = (now ≡ was) × EndsTalk was line
 
 -- the next line of the input is answered so; or it ends the talk, or there is none. What stands behind it is left
-abbrev pub IsNext : Text → Text → DriverSession → DriverSession → List (List Deed) → Option LiveAnswer → Type 0
-IsNext input left was now deeds (Some answer) =
-    ¬ (input ≡ []) × IsAnswerOf was now deeds (first_line input) (Some answer) × (left ≡ behind_line input)
-IsNext input left was now deeds None =
+abbrev pub IsNext : Text → Text → SessionValue → SessionValue → List (List Access) → Option LiveAnswer → Type 0
+IsNext input left was now accesses (Some answer) =
+    ¬ (input ≡ []) × IsAnswerOf was now accesses (first_line input) (Some answer) × (left ≡ behind_line input)
+IsNext input left was now accesses None =
     (now ≡ was) × ((input ≡ []) ⊎ (¬ (input ≡ []) × EndsTalk was (first_line input))) × (left ≡ behind_line input)
 
 -- where the bytes are known
 abbrev pub IsNextAnswer :
-    Option Text → Option Text → DriverSession → DriverSession → List (List Deed) → Option LiveAnswer → Type 0
-IsNextAnswer (Some input) (Some left) was now deeds next = IsNext input left was now deeds next
-IsNextAnswer (Some input) None was now deeds next = ⊥
-IsNextAnswer None left was now deeds next = Unit {0}
+    Option Text → Option Text → SessionValue → SessionValue → List (List Access) → Option LiveAnswer → Type 0
+IsNextAnswer (Some input) (Some left) was now accesses next = IsNext input left was now accesses next
+IsNextAnswer (Some input) None was now accesses next = ⊥
+IsNextAnswer None left was now accesses next = Unit {0}
 
 -- ---- the end
 
 -- the report of the session's log was written
-abbrev pub AppendsReport : Option Text → Option Text → DriverSession → List (List Deed) → Type 0
-AppendsReport old new session deeds =
-    (log : RunValue) × IsLastLog session deeds log × Appends old new (report_text log)
+abbrev pub AppendsReport : Option Text → Option Text → SessionValue → List (List Access) → Type 0
+AppendsReport old new session accesses =
+    (log : RunValue) × IsLastLog session accesses log × Appends old new (report_text log)
 
 -- ---- on the way
 
 -- a session was opened, lines were answered, and it stands where they led; the writer has their answers more
-abbrev pub Goes : Option Text → Option Text → Option Text → Option Text → DriverSession → Type 0
+abbrev pub Goes : Option Text → Option Text → Option Text → Option Text → SessionValue → Type 0
 Goes None rest old new s = Unit {0}
 Goes (Some input) rest None new s = Unit {0}
 Goes (Some input) None (Some old) new s = ⊥
 Goes (Some input) (Some rest) (Some old) None s = ⊥
 Goes (Some input) (Some rest) (Some old) (Some new) s =
-    (said : Text) × (deeds : List (List Deed)) × IsLiveAt s deeds × HasTalked input rest s deeds said
+    (said : Text) × (accesses : List (List Access)) × IsLiveAt s accesses × HasTalked input rest s accesses said
     × (new ≡ old ++ said)
 
 -- the first line opened this session, and what stands behind it is left
-pub record IsBegun (input left : Option Text) (s : DriverSession) : Type 0 where
+pub record IsBegun (input left : Option Text) (s : SessionValue) : Type 0 where
   pub opening : Opening
   pub said : FirstSays input left (Ok opening)
   pub new : IsNewOf s opening
 
 -- lines were answered, and the next one, behind which this is left, ends the talk, or there is none
-pub record IsOver (input left old new : Option Text) (now : DriverSession) : Type 0 where
-  pub last : DriverSession
+pub record IsOver (input left old new : Option Text) (now : SessionValue) : Type 0 where
+  pub last : SessionValue
   pub rest : Option Text
   pub goes : Goes input rest old new last
-  pub ends : (deeds : List (List Deed)) → IsLiveAt last deeds → IsNextAnswer rest left last now deeds None
+  pub ends : (accesses : List (List Access)) → IsLiveAt last accesses → IsNextAnswer rest left last now accesses None

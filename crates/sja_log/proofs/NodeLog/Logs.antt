@@ -20,12 +20,11 @@ pub journal_there : (nodes : List NodeValue) (k : ℕ) (d : NodeValue) → k < l
 journal_there nodes k d less = get_or-map (λ (n : NodeValue). n.journal) nodes k d [] less
 
 -- a node's activations have begun in its journal
-pub begun_by : (version : ℕ) (node : NodeValue) (deeds : List Deed) (steps : List _) →
-    IsTrace version steps node deeds →
+pub begun_by : (version : ℕ) (node : NodeValue) (deeds : List Deed) → IsTrace version node deeds →
     length node.activations ≤ (place_of node.journal).activation
-begun_by version node deeds steps trace =
+begun_by version node deeds trace =
     let o = trace.opened in
-    let b = opened_begun deeds node.journal trace.deeds_are.gives trace.given in omega (arith, o, b)
+    let b = opened_begun deeds node.journal trace.answered.gives trace.given in omega (arith, o, b)
 
 -- by the bus's promise, the traces of the drivers, and activations that are settled
 pub run_of : (plan : PlanValue) (log : RunValue) (deeds : List (List Deed)) → log.version ≡ plan.version →
@@ -33,7 +32,7 @@ pub run_of : (plan : PlanValue) (log : RunValue) (deeds : List (List Deed)) → 
     IsBusRun plan.strikes log.bits (journals_in log) →
     ((k : ℕ) (d : NodeValue) → k < length log.nodes → let node = slice_index_or log.nodes k d in
     CountersAre node.journal node.txerr node.rxerr) →
-    ((k : ℕ) (d : NodeValue) → k < length log.nodes → IsTrace plan.version (slice_index_or plan.nodes k [])
+    ((k : ℕ) (d : NodeValue) → k < length log.nodes → IsTrace plan.version
     (slice_index_or log.nodes k d) (slice_index_or deeds k [])) →
     ((k : ℕ) (d : NodeValue) → k < length log.nodes → AreSettled (slice_index_or log.nodes k d)) →
     IsRun plan log deeds
@@ -43,7 +42,7 @@ run_of plan log deeds version count bus counters traces settled = record {
   nodes = λ k d less.
       let node = slice_index_or log.nodes k d in record {
         account = account_of node (lawful k d less) (begun_by plan.version node (slice_index_or deeds k [])
-            (slice_index_or plan.nodes k []) (traces k d less)) (settled k d less);
+            (traces k d less)) (settled k d less);
         counters = counters k d less;
         trace = traces k d less;
         settled = settled k d less;

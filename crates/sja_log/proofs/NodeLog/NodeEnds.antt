@@ -11,14 +11,13 @@ use Rattle.sja_link.specs.Parts.{part}
 use Rattle.sja_wire.specs.declared.node_log.NodeLog.{NodeLog}
 use Rattle.sja_wire.specs.Lawful.{CountersAre, IsBusRun}
 use Rattle.sja_wire.specs.Wire.{journal_at}
-use Rattle.sja_plan.specs.Plan.{PlanValue, steps_at}
-use Rattle.sja_script.specs.declared.step.Step.{Step}
+use Rattle.sja_plan.specs.Plan.{PlanValue}
 use Rattle.sja_script.specs.declared.strike.Strike.{Strike}
 use Rattle.sja_driver.specs.declared.any_driver.AnyDriver.{AnyDriver}
 use Rattle.sja_driver.specs.declared.any_driver.AnyDriver.TheVariants.{InReset, InActive}
 use Rattle.sja_driver.specs.declared.logged_driver.LoggedDriver.{LoggedDriver}
 use Rattle.sja_driver.specs.AnyDrivers.{opened_of, IsDriverOf}
-use Rattle.sja_driver.specs.Deeds.{Deed, AreDeeds, given_in, deeds_of, deeds_at}
+use Rattle.sja_driver.specs.Deeds.{Deed, given_in, deeds_of, deeds_at}
 use Rattle.sja_driver.specs.LoggedDrivers.{node_of, driver_of, log_of, ended_of, IsLawful}
 use Rattle.sja_driver.specs.Logs.{Traces}
 use Rattle.sja_log.specs.Log.{ActivationValue, NodeValue, RunValue, journals_in}
@@ -39,12 +38,10 @@ opened_few node ended (InActive d) h =
 module _ (j : List Entry) (deeds : List Deed) (driver : LoggedDriver) (left_down : List (List Down)) (base : ℕ)
     (log : NodeLog) (node : NodeValue) (end : IsNodeEnd log driver left_down base node) (same : node.journal ≡ j) where
   -- its trace, by its driver's, where all that was given was taken
-  pub trace_of : (version : ℕ) (steps : List Step) → AreDeeds version steps deeds →
-      Traces version (driver_of driver) (log_of driver) deeds →
-      ((a : ℕ) → given_in (deeds_of deeds a) ≡ taken_of (part j a)) → IsTrace version steps node deeds
-  trace_of version steps are traces given = record {
-    deeds_are = are;
-    done = traces.done ∙ sym end.done;
+  pub trace_of : (version : ℕ) → Traces version (driver_of driver) (log_of driver) deeds →
+      ((a : ℕ) → given_in (deeds_of deeds a) ≡ taken_of (part j a)) → IsTrace version node deeds
+  trace_of version traces given = record {
+    answered = traces.answered;
     opened = end.activations.count_is ∙ sym traces.opened;
     given = λ a. given a ∙ ap (λ (l : List Entry). taken_of (part l a)) (sym same);
     released = λ a d less.
@@ -133,7 +130,7 @@ module _ (plan : PlanValue) (log : RunValue) (logs : List NodeLog) (journals : L
       script ≡ plan.strikes → log.bits ≡ run →
       IsBusRun script run (map (λ (g : NodeLog). g.journal.entries) logs) →
       ((k : ℕ) (n : NodeValue) → k < length log.nodes →
-      IsTrace plan.version (steps_at plan k) (slice_index_or log.nodes k n) (deeds_at deeds k)) →
+      IsTrace plan.version (slice_index_or log.nodes k n) (deeds_at deeds k)) →
       ((k : ℕ) (n : NodeValue) → k < length log.nodes → AreSettled (slice_index_or log.nodes k n)) →
       IsRun plan log deeds
   run_of_ends deeds script run version strikes bits bus traces settled =

@@ -162,7 +162,7 @@ module _ {version : ℕ} {size : ℕ} {j k : List Entry} {deeds : List Deed} {dr
     came = subst (λ (l : List Entry). (x : HasBit l driven seen k) × IsTurn changed l driven seen k x b.turn) opened_is
         (b.bit, b.is_turn)
 
-    port_bit : IsPortBit p q j k
+    pub port_bit : IsPortBit p q j k
     port_bit = record {
       changed = changed;
       applied = λ stands. subst (λ (l : List Entry). IsApplied l changed) none_taken

@@ -1,7 +1,7 @@
 -- A step that was done: what it gave, and what its driver did and holds after it.
-use Rattle.std.proofs.Common.{◌≡◌, ◌≢◌, ℕ, suc, ◌+◌, ◌<◌, ◌≤◌, Bool, true, List, [], ◌∷◌, ◌++◌, length, sym, ap}
+use Rattle.std.proofs.Common.{◌≡◌, ◌≢◌, ℕ, suc, ◌+◌, ◌<◌, ◌≤◌, Bool, List, [], ◌∷◌, ◌++◌, length, sym, ap}
 use Rattle.std.proofs.Common.{◌∙◌, subst, arith}
-use Rattle.std.specs.Prelude.{slice_index_or}
+use Rattle.std.specs.Prelude.{slice_index_or, Some}
 use Rattle.sja_link.specs.declared.up.Up.{Up}
 use Rattle.sja_link.specs.declared.entry.Entry.{Entry}
 use Rattle.sja_link.specs.Deques.{Deques, Lies}
@@ -77,15 +77,15 @@ opened_most deeds (InActive d) log node n trace place =
 -- ---- a step that was done
 
 module _ (version : ℕ) (size : ℕ) (j : List Entry) (deeds : List Deed) (was now : LoggedDriver)
-    (p q : Registers) (links given : List Deques) (base : ℕ) (one : Step) (none : Deques)
+    (p q : Registers) (links given : List Deques) (base : ℕ) (one : Step) (answer : StepAnswer) (none : Deques)
     (h : IsNode version size j deeds was p links base) (lawful : IsLawfulJournal j)
-    (st : Steps alike Lies shows_none takes_none was now links given base p q one (place_of j).bits true) where
+    (st : Steps alike Lies shows_none takes_none was now links given base p q one (Some answer)) where
   pub all_taken : (a : ℕ) → given_in (deeds_of deeds a) ≡ taken_of (part j a)
   all_taken a = given_taken deeds j a (h.in_time.when a)
 
   -- its deed, what kind that is, and what the driver did and holds after it, and what waits for the bus
   pub record Doing : Type 0 where
-    pub is_next : Comes j deeds (log_of was) links base (node_of was) none lawful all_taken p q one st.tried
+    pub is_next : Comes j deeds (log_of was) links base (node_of was) none lawful all_taken p q one answer st.tried
     pub kind : Kind (is_active deeds) (opened_by deeds) is_next.deed.step is_next.deed.answer is_next.deed.gave
     pub trace : Traces version (driver_of now) (log_of now) (deeds ++ is_next.deed ∷ [])
     pub holds : HoldsBy Lies (deeds ++ is_next.deed ∷ []) (driver_of now) (log_of now) j given base
@@ -96,8 +96,9 @@ module _ (version : ℕ) (size : ℕ) (j : List Entry) (deeds : List Deed) (was 
   doing =
       let trace : Traces p.version (driver_of was) (log_of was) deeds =
       subst (λ (n : ℕ). Traces n (driver_of was) (log_of was) deeds) (sym h.ported.version_is) h.traced.traces in
-      let c : Comes j deeds (log_of was) links base (node_of was) none lawful all_taken p q one st.tried =
-      comes j deeds (log_of was) links base (node_of was) none lawful all_taken p q one (driver_of was) (driver_of now)
+      let c : Comes j deeds (log_of was) links base (node_of was) none lawful all_taken p q one answer st.tried =
+      comes j deeds (log_of was) links base (node_of was) none lawful all_taken p q one answer (driver_of was)
+      (driver_of now)
       (slice_index_or given (place_after base (ended_of was)) none) st.tried trace h.traced.lawful h.linked.holds
       h.ported.unclosed st.met (st.acts none none) in
       let d = c.deed in
@@ -110,8 +111,8 @@ module _ (version : ℕ) (size : ℕ) (j : List Entry) (deeds : List Deed) (was 
             gives;
         trace = subst (λ (n : ℕ). Traces n (driver_of now) (log_of now) (deeds ++ d ∷ [])) h.ported.version_is
             (subst (λ (l : List Deed). Traces p.version (driver_of now) (log_of now) (deeds ++ l)) c.only
-            (st.goes.traces deeds trace));
+            ((st.goes (place_of j).bits).traces deeds trace));
         holds = subst (λ (l : List Deed). HoldsBy Lies (deeds ++ l) (driver_of now) (log_of now) j given base) c.only
-            (st.goes.holds deeds j trace h.linked.holds);
+            ((st.goes (place_of j).bits).holds deeds j trace h.linked.holds);
         waits_now = λ a. given_push deeds d a ∙ ap (λ (l : List Up). l ++ waiting b d.gave a) (all_taken a);
       }

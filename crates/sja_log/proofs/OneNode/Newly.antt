@@ -19,26 +19,28 @@ use Rattle.sja_driver.proofs.LogOfSteps.Logged.{room_less}
 use Rattle.can_node.proofs.Requests.Cuts.{none_held_first}
 
 -- one driver more
-pub new_push : (sizes : List ℕ) (n : ℕ) (ds : List LoggedDriver) (x : LoggedDriver) → length ds ≡ n →
-    AreNew sizes n ds → IsNewDriver n (slice_index_or sizes n 0) x → AreNew sizes (n + 1) (ds ++ x ∷ [])
-new_push sizes n ds x len made is node d less = elim (cases_eq n node) [
+pub new_push : (steps sizes : List ℕ) (n : ℕ) (ds : List LoggedDriver) (x : LoggedDriver) → length ds ≡ n →
+    AreNew steps sizes n ds → IsNewDriver n (slice_index_or steps n 0) (slice_index_or sizes n 0) x →
+    AreNew steps sizes (n + 1) (ds ++ x ∷ [])
+new_push steps sizes n ds x len made is node d less = elim (cases_eq n node) [
   | inl e ↦
       let at : slice_index_or (ds ++ x ∷ []) node d ≡ x = get_or_push ds x d node (len ∙ e) in
-      subst (λ (y : LoggedDriver). IsNewDriver node (slice_index_or sizes node 0) y) (sym at)
-      (subst (λ (m : ℕ). IsNewDriver m (slice_index_or sizes m 0) x) e is)
+      subst (λ (y : LoggedDriver). IsNewDriver node (slice_index_or steps node 0) (slice_index_or sizes node 0) y)
+      (sym at)
+      (subst (λ (m : ℕ). IsNewDriver m (slice_index_or steps m 0) (slice_index_or sizes m 0) x) e is)
   | inr differ ↦
-      subst (λ (y : LoggedDriver). IsNewDriver node (slice_index_or sizes node 0) y)
+      subst (λ (y : LoggedDriver). IsNewDriver node (slice_index_or steps node 0) (slice_index_or sizes node 0) y)
       (sym (get_or_append_left ds (x ∷ []) d node (omega (arith, len, less, differ))))
       (made node d (omega (arith, less, differ)))
 ]
 
 -- ---- a node
 
-pub new_node : (version node size : ℕ) (x : LoggedDriver) (links : List Deques) (base : ℕ) →
-    IsNewDriver node size x →
+pub new_node : (version node steps size : ℕ) (x : LoggedDriver) (links : List Deques) (base : ℕ) →
+    IsNewDriver node steps size x →
     ((a : ℕ) (d : Deques) → a < 64 → slice_index_or links (base + a) d ≡ new_link node (suc a)) →
     IsNode version size [] [] x (at_power_on version) links base
-new_node version node size x links base new fresh = record {
+new_node version node steps size x links base new fresh = record {
   traced = record {
     lawful = new.lawful;
     traces = new.traces version;

@@ -1,7 +1,7 @@
 -- What comes of a step that is tried, beside the journal.
 use Rattle.std.proofs.Common.{◌≡◌, ℕ, suc, ◌+◌, ◌<◌, Bool, true, false, List, []}
 use Rattle.std.proofs.Common.{◌∷◌, ◌++◌, length, map, refl, sym, ap, ◌∙◌, subst, arith}
-use Rattle.std.specs.Prelude.{not, min, slice_index_or}
+use Rattle.std.specs.Prelude.{not, min, slice_index_or, Some}
 use Rattle.std.proofs.lemmas.List.{append_cancel_left}
 use Rattle.can_frame.specs.declared.seen.Seen.{Seen}
 use Rattle.sja_link.specs.declared.entry.Entry.{Entry}
@@ -29,7 +29,7 @@ use Rattle.sja_driver.specs.Deeds.{Deed, opened_by, is_active, given_in, deeds_o
 use Rattle.sja_driver.specs.Drivers.{nothing_seen}
 use Rattle.sja_driver.specs.Holding.{HoldsBy, place_after}
 use Rattle.sja_driver.specs.Logs.{Traces, releases_in, left_in, released_of, deeds_by}
-use Rattle.sja_driver.specs.Tries.{Tried, is_met, off_after, window_after}
+use Rattle.sja_driver.specs.Tries.{Tried, answer_of, off_after, window_after}
 use Rattle.sja_driver.specs.Tries.Tried.{Unmet, Answered, Released, Ended}
 use Rattle.sja_log.specs.Registering.{seen_now}
 use Rattle.sja_driver.specs.Windows.{SeesIf}
@@ -127,28 +127,33 @@ module _ (j : List Entry) (deeds : List Deed) (log : WorkLog) (links : List Dequ
     left = left;
   }
 
+  same_answer : {a b : StepAnswer} → Some a ≡ Some b → b ≡ a
+  same_answer e = cc
+
   -- and it is just that one deed
-  pub record Comes (p q : Registers) (one : Step) (o : Tried) : Type 0 where
+  pub record Comes (p q : Registers) (one : Step) (answer : StepAnswer) (o : Tried) : Type 0 where
     pub deed : Deed
+    pub answer_is : deed.answer ≡ answer
     pub next : IsNext j deeds p q deed
     pub step_is : deed.step ≡ one
     pub only : deeds_by p one o (place_of j).bits ≡ deed ∷ []
 
-  pub comes : (p q : Registers) (one : Step) (w now : AnyDriver) (new : Deques) (o : Tried) →
+  pub comes : (p q : Registers) (one : Step) (answer : StepAnswer) (w now : AnyDriver) (new : Deques) (o : Tried) →
       Traces p.version w log deeds →
       IsDriverOf node (length (left_in log)) w → HoldsBy Lies deeds w log j links base →
-      p.closed ≡ false → true ≡ is_met o → Acts alike Lies shows_none takes_none
-      (slice_index_or links (place_after base (length (left_in log))) none) new p q one w now o → Comes p q one o
-  comes p q one w now new Unmet trace place h unclosed met acts = absurd cc
-  comes p q one w now new (Answered a) trace place h unclosed met acts = record {
+      p.closed ≡ false → Some answer ≡ answer_of o → Acts alike Lies shows_none takes_none
+      (slice_index_or links (place_after base (length (left_in log))) none) new p q one w now o → Comes p q one answer o
+  comes p q one answer w now new Unmet trace place h unclosed met acts = absurd cc
+  comes p q one answer w now new (Answered a) trace place h unclosed met acts = record {
     deed = record { step = one; answer = a; bits = (place_of j).bits; gave = carried p one a };
     next = next_one p q one a w (off_after now (Answered a)) (window_after now (Answered a))
         (seen_by now) trace place h unclosed acts.fits acts.sees acts.tells acts.looks acts.port
         (λ i. seen_by_now w now one a i acts.out);
+    answer_is = same_answer met;
     step_is = refl;
     only = refl;
   }
-  comes p q one w now new (Released m) trace place h unclosed met acts = record {
+  comes p q one answer w now new (Released m) trace place h unclosed met acts = record {
     deed = record {
       step = one;
       answer = ReleasedAnswer (length m);
@@ -159,14 +164,16 @@ module _ (j : List Entry) (deeds : List Deed) (log : WorkLog) (links : List Dequ
     next = next_one p q one (ReleasedAnswer (length m)) w (off_after now (Released m)) (window_after now (Released m))
         (seen_by now) trace place h unclosed acts.fits acts.sees acts.tells acts.looks acts.port
         (λ i. absurd (subst IsSeeing acts.kind i));
+    answer_is = same_answer met;
     step_is = refl;
     only = refl;
   }
-  comes p q one w now new (Ended l) trace place h unclosed met acts = record {
+  comes p q one answer w now new (Ended l) trace place h unclosed met acts = record {
     deed = record { step = one; answer = Done; bits = (place_of j).bits; gave = carried p one Done };
     next = next_one p q one Done w (off_after now (Ended l)) (window_after now (Ended l))
         (seen_by now) trace place h unclosed acts.fits acts.sees acts.tells acts.looks acts.port
         (λ i. absurd (subst IsSeeing acts.kind i));
+    answer_is = same_answer met;
     step_is = refl;
     only = refl;
   }

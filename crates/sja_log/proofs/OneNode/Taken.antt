@@ -1,5 +1,5 @@
 -- The bus refuses nothing that the driver of a node gives.
-use Rattle.std.proofs.Common.{◌≡◌, ℕ, ◌+◌, ◌*◌, ◌≤◌, Bool, true, false, List, [], ◌∷◌, ◌++◌, length, sym}
+use Rattle.std.proofs.Common.{◌≡◌, ℕ, ◌+◌, ◌*◌, ◌≤◌, Bool, List, [], ◌∷◌, ◌++◌, length, sym}
 use Rattle.std.proofs.Common.{ap, ◌∙◌, subst, append-nil, arith}
 use Rattle.sja_link.specs.declared.up.Up.{Up}
 use Rattle.sja_link.specs.declared.up.Up.TheVariants.{Credit}
@@ -15,6 +15,7 @@ use Rattle.sja_link.specs.OutOfOrder.{IsBadCredit}
 use Rattle.sja_wire.specs.Reasons.{IsRefusedFor, RefusesItem}
 use Rattle.sja_regs.specs.declared.registers.Registers.{Registers}
 use Rattle.sja_script.specs.declared.step.Step.{Step}
+use Rattle.sja_script.specs.declared.step_answer.StepAnswer.{StepAnswer}
 use Rattle.sja_driver.specs.declared.logged_driver.LoggedDriver.{LoggedDriver}
 use Rattle.sja_driver.specs.declared.release.Release.{Release}
 use Rattle.sja_driver.specs.Deeds.{Deed, opens_by, opened_by, is_active, given_in, deeds_of}
@@ -24,6 +25,7 @@ use Rattle.sja_driver.specs.Logs.{Traces, deeds_by}
 use Rattle.sja_driver.specs.Tries.{Tried}
 use Rattle.sja_driver.proofs.Trace.Stepping.{given_taken}
 use Rattle.sja_log.specs.Nodes.{IsNode}
+use Rattle.std.specs.Prelude.{Some, None}
 use Rattle.sja_driver.proofs.Deeds.Credits.{credit_lengths, credit_right}
 use Rattle.sja_log.proofs.OneNode.InOrder.{never_refused}
 use Rattle.sja_link.proofs.Ledger.Small.{no_item}
@@ -68,12 +70,13 @@ module _ {version : ℕ} {size : ℕ} {j : List Entry} {deeds : List Deed} {was 
       (omega (arith, b, m)) run in omega (arith, few, enough)
 
   -- the step was done
-  pub done_taken : {now : LoggedDriver} {q : Registers} {given : List Deques} {one : Step} {k : List Entry}
+  pub done_taken : {now : LoggedDriver} {q : Registers} {given : List Deques} {one : Step} {answer : StepAnswer}
+      {k : List Entry}
       {after : List Deques} {node : ℕ} {f : BusFault} →
-      Steps alike Lies shows_none takes_none was now links given base p q one (place_of j).bits true →
+      Steps alike Lies shows_none takes_none was now links given base p q one (Some answer) →
       RefusesItem Lies room j k given after base node f → ⊥
-  done_taken {now} {q} {given} {one} {node = node} {f} st r =
-      let y = doing version size j deeds was now p q links given base one no_link h lawful st in
+  done_taken {now} {q} {given} {one} {answer} {node = node} {f} st r =
+      let y = doing version size j deeds was now p q links given base one answer no_link h lawful st in
       let c = y.is_next in let d = c.deed in let next = c.next in
       let is = refused_is d.gave (opened_by deeds + opens_by d) y.holds
       (at_most_one (is_active deeds) (opened_by deeds) d.step d.answer d.gave y.kind) y.waits_now r in
@@ -89,7 +92,7 @@ module _ {version : ℕ} {size : ℕ} {j : List Entry} {deeds : List Deed} {was 
   -- it waits
   pub waits_taken : {now : LoggedDriver} {q : Registers} {given : List Deques} {one : Step} {k : List Entry}
       {after : List Deques} {node : ℕ} {f : BusFault} →
-      Steps alike Lies shows_none takes_none was now links given base p q one (place_of j).bits false →
+      Steps alike Lies shows_none takes_none was now links given base p q one None →
       RefusesItem Lies room j k given after base node f → ⊥
   waits_taken {now} {given = given} {one} st r =
       let unmet = is_unmet st.tried st.met in
@@ -99,5 +102,5 @@ module _ {version : ℕ} {size : ℕ} {j : List Entry} {deeds : List Deed} {was 
       subst (λ (n : ℕ). Traces n (driver_of was) (log_of was) deeds) (sym h.ported.version_is) h.traced.traces in
       let holds_still : HoldsBy Lies deeds (driver_of now) (log_of now) j given base =
       subst (λ (l : List Deed). HoldsBy Lies l (driver_of now) (log_of now) j given base) nothing_done
-      (st.goes.holds deeds j trace h.linked.holds) in
+      ((st.goes (place_of j).bits).holds deeds j trace h.linked.holds) in
       none_taken holds_still before r

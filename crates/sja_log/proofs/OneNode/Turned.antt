@@ -1,7 +1,7 @@
 -- A node after a step of its driver and a taking of the bus, and a node whose driver did nothing.
-use Rattle.std.proofs.Common.{◌≡◌, ℕ, ◌+◌, ◌<◌, true, false, List, [], ◌∷◌, ◌++◌, length, refl, sym, ap, ◌∙◌, subst}
+use Rattle.std.proofs.Common.{◌≡◌, ℕ, ◌+◌, ◌<◌, List, [], ◌∷◌, ◌++◌, length, refl, sym, ap, ◌∙◌, subst}
 use Rattle.std.proofs.Common.{append-nil, arith}
-use Rattle.std.specs.Prelude.{slice_index_or}
+use Rattle.std.specs.Prelude.{slice_index_or, Some, None}
 use Rattle.std.proofs.lemmas.List.{length-append}
 use Rattle.sja_link.specs.declared.up.Up.{Up}
 use Rattle.sja_link.specs.declared.entry.Entry.{Entry}
@@ -13,17 +13,18 @@ use Rattle.sja_link.specs.Verdicts.{IsLawful as IsLawfulJournal}
 use Rattle.sja_link.specs.BitEntries.{entries_of_items}
 use Rattle.sja_regs.specs.declared.registers.Registers.{Registers}
 use Rattle.sja_script.specs.declared.step.Step.{Step}
+use Rattle.sja_script.specs.declared.step_answer.StepAnswer.{StepAnswer}
 use Rattle.sja_driver.specs.declared.logged_driver.LoggedDriver.{LoggedDriver}
 use Rattle.sja_driver.specs.Acting.{Acts}
-use Rattle.sja_driver.specs.Carried.{Tells, carried, ported}
+use Rattle.sja_driver.specs.Carried.{ported}
 use Rattle.sja_driver.specs.Deeds.{Deed, opens_by, opened_by, is_active, given_in, deeds_of, FitsState}
 use Rattle.sja_driver.specs.Holding.{HoldsBy, place_after}
 use Rattle.sja_driver.specs.LoggedDrivers.{node_of, driver_of, log_of, ended_of, IsLawful, Steps}
 use Rattle.sja_driver.specs.Logs.{HasRoom, Traces, deeds_by}
-use Rattle.sja_driver.specs.Tries.{Tried, is_met}
+use Rattle.sja_driver.specs.Tries.{Tried, answer_of}
 use Rattle.sja_driver.specs.Tries.Tried.{Unmet, Answered, Released, Ended}
-use Rattle.sja_log.specs.Registering.{seen_now}
-use Rattle.sja_log.specs.Registering.LeadTo.{step}
+use Rattle.sja_log.specs.Registering.{IsPortDeed, seen_now}
+use Rattle.sja_log.specs.Registering.LeadTo.{deed}
 use Rattle.sja_driver.specs.Windows.{SeesIf}
 use Rattle.sja_driver.proofs.Trace.Stepping.{given_taken}
 use Rattle.sja_driver.specs.Linking.{IsLevel, IsLinked}
@@ -48,7 +49,7 @@ none_entered j k (u ∷ items) e same =
     let long = ap (λ (l : List Entry). length l) (sym same ∙ e) in
     let both = length-append j (entries_of_items (u ∷ items)) in absurd (omega (arith, long, both))
 
-pub is_unmet : (o : Tried) → false ≡ is_met o → o ≡ Unmet
+pub is_unmet : (o : Tried) → None ≡ answer_of o → o ≡ Unmet
 is_unmet Unmet e = refl
 is_unmet (Answered a) e = absurd cc
 is_unmet (Released m) e = absurd cc
@@ -56,16 +57,13 @@ is_unmet (Ended l) e = absurd cc
 
 -- the step was done
 pub record Stepped (version : ℕ) (size : ℕ) (j k : List Entry) (deeds : List Deed) (now : LoggedDriver)
-    (p q : Registers) (after : List Deques) (base : ℕ) (one : Step) : Type 0 where
+    (p q : Registers) (after : List Deques) (base : ℕ) (one : Step) (answer : StepAnswer) : Type 0 where
   pub deed : Deed
-  pub bits : deed.bits ≡ (place_of j).bits
   pub step_is : deed.step ≡ one
-  pub tells : Tells deed.step (is_active deeds) p (seen_now (is_active deeds) j deeds) deed.answer
+  pub answer_is : deed.answer ≡ answer
+  pub port : IsPortDeed p q j k deeds deed
   pub fits : FitsState version (is_active deeds) (opened_by deeds) deed.step deed.answer
   pub sees : SeesIf (is_active deeds) j deeds deed
-  pub gave : deed.gave ≡ carried p deed.step deed.answer
-  pub entered : k ≡ j ++ entries_of_items deed.gave
-  pub left_port : q ≡ ported p deed.step deed.answer
   pub node : IsNode version size k (deeds ++ deed ∷ []) now q after base
   -- where nothing was taken the port shows what it has shown
   pub shows : k ≡ j → ShowsRecord j p → ShowsRecord k q
@@ -113,12 +111,12 @@ module _ {version : ℕ} {size : ℕ} {j k : List Entry} {deeds : List Deed} {wa
   module _ {one : Step} (lawful : IsLawfulJournal j) where
     -- ---- a step that was done
 
-    pub stepped : length deeds < size →
-        Steps alike Lies shows_none takes_none was now links given base p q one (place_of j).bits true →
+    pub stepped : (answer : StepAnswer) → length deeds < size →
+        Steps alike Lies shows_none takes_none was now links given base p q one (Some answer) →
         ((m : ℕ) → HasRoom (m + 1) (log_of was) → HasRoom m (log_of now)) →
-        Stepped version size j k deeds now p q after base one
-    stepped left st room =
-        let y = doing version size j deeds was now p q links given base one no_link h lawful st in
+        Stepped version size j k deeds now p q after base one answer
+    stepped answer left st room =
+        let y = doing version size j deeds was now p q links given base one answer no_link h lawful st in
         let c = y.is_next in let d = c.deed in let next = c.next in let b = opened_by deeds + opens_by d in
         let most = opened_most deeds (driver_of was) (log_of was) (node_of was) (ended_of was) h.traced.traces
         h.traced.lawful in
@@ -129,17 +127,21 @@ module _ {version : ℕ} {size : ℕ} {j k : List Entry} {deeds : List Deed} {wa
         let buffer = tbs_right version j deeds p h.registers h.traced.traces.answered.states in
         let level = level_after j k deeds d entered h.linked.level y.kind in
         let long = length-append deeds (d ∷ []) in
-        let in_time = in_time_after version j k deeds d p q e next h.ported h.in_time in record {
-          deed = d;
-          bits = next.now;
-          step_is = c.step_is;
+        let in_time = in_time_after version j k deeds d p q e next h.ported h.in_time in
+        let port : IsPortDeed p q j k deeds d = record {
+          now = next.now;
           tells = next.tells;
+          gave = next.gave;
+          taken = entered;
+          left = next.left;
+        } in record {
+          deed = d;
+          step_is = c.step_is;
+          answer_is = c.answer_is;
+          port = port;
           fits = subst (λ (n : ℕ). FitsState n (is_active deeds) (opened_by deeds) d.step d.answer)
               h.ported.version_is next.fits;
           sees = next.sees;
-          gave = next.gave;
-          entered = entered;
-          left_port = next.left;
           node = record {
             traced = record {
               lawful = now_lawful;
@@ -155,7 +157,7 @@ module _ {version : ℕ} {size : ℕ} {j k : List Entry} {deeds : List Deed} {wa
             counted = counted_after version j k deeds d p q e next h.ported h.linked.level level y.kind buffer
                 h.counted lawful;
             in_time = in_time;
-            registers = step j k deeds d p q h.registers next.now next.tells next.gave entered next.left;
+            registers = deed j k deeds d p q h.registers port;
           };
           shows = λ same shown.
               subst (λ (l : List Entry). ShowsRecord l q) (sym same)
@@ -165,7 +167,7 @@ module _ {version : ℕ} {size : ℕ} {j k : List Entry} {deeds : List Deed} {wa
 
     -- ---- a step that waits
 
-    pub waited : Steps alike Lies shows_none takes_none was now links given base p q one (place_of j).bits false →
+    pub waited : Steps alike Lies shows_none takes_none was now links given base p q one None →
         ((m : ℕ) → HasRoom m (log_of was) → HasRoom m (log_of now)) →
         Waited version size j k deeds now p q after base one
     waited st room =
@@ -183,10 +185,10 @@ module _ {version : ℕ} {size : ℕ} {j k : List Entry} {deeds : List Deed} {wa
         let trace : Traces version (driver_of now) (log_of now) deeds =
         subst (λ (n : ℕ). Traces n (driver_of now) (log_of now) deeds) h.ported.version_is
         (subst (λ (l : List Deed). Traces p.version (driver_of now) (log_of now) l) nothing
-        (st.goes.traces deeds traced)) in
+        ((st.goes (place_of j).bits).traces deeds traced)) in
         let holds : HoldsBy Lies deeds (driver_of now) (log_of now) j given base =
         subst (λ (l : List Deed). HoldsBy Lies l (driver_of now) (log_of now) j given base) nothing
-        (st.goes.holds deeds j traced h.linked.holds) in record {
+        ((st.goes (place_of j).bits).holds deeds j traced h.linked.holds) in record {
           waits = waits j deeds (log_of was) links base (node_of was) no_link lawful
               (λ a. given_taken deeds j a (h.in_time.when a)) p one (driver_of was) (driver_of now) acts.out h.asked
               h.traced.traces h.traced.lawful h.linked.holds h.linked.taken acts.waits;

@@ -12,7 +12,7 @@ use Rattle.sja_driver.specs.Deeds.{Deed}
 use Rattle.sja_regs.specs.declared.registers.Registers.{Registers}
 use Rattle.sja_driver.specs.Moments.{BeginsWithBit}
 use Rattle.sja_log.specs.Registering.{LeadTo}
-use Rattle.sja_log.specs.Registering.LeadTo.{power_on, step, bit}
+use Rattle.sja_log.specs.Registering.LeadTo.{power_on, deed, bit}
 
 -- each abort stands there
 abbrev Stand : List Entry → Type 0
@@ -69,8 +69,8 @@ after_bit j k changed driven seen b h = subst (λ (l : List Entry). Stand l) (sy
 
 made : (version : ℕ) (j : List Entry) (deeds : List Deed) (p : Registers) → LeadTo version j deeds p → Stand j
 made version j deeds p power_on = tt
-made version j deeds p (step before _ done d was _ led bits tells gave whole left) =
-    subst (λ (l : List Entry). Stand l) (sym whole)
+made version j deeds p (deed before _ done d was _ led is) =
+    subst (λ (l : List Entry). Stand l) (sym is.taken)
     (both before (entries_of_items d.gave) (made version before done was led) (of_items d.gave))
 made version j deeds p (bit before _ _ was _ led b) =
     after_bit before j b.changed b.driven b.seen b.bit (made version before deeds was led)

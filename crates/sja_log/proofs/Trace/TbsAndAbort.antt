@@ -7,18 +7,18 @@ use Rattle.sja_regs.specs.declared.registers.Registers.{Registers}
 use Rattle.sja_driver.specs.Deeds.{Deed, FitsState, is_active, opened_by}
 use Rattle.sja_driver.proofs.Registers.TbsAndAbort.{TbsIsRight, tbs_after_step, tbs_after_turn}
 use Rattle.sja_log.specs.Registering.{LeadTo, seen_now}
-use Rattle.sja_log.specs.Registering.LeadTo.{power_on, step, bit}
+use Rattle.sja_log.specs.Registering.LeadTo.{power_on, deed, bit}
 
 pub tbs_right : (version : ℕ) (j : List Entry) (deeds : List Deed) (p : Registers) → LeadTo version j deeds p →
     EachAfter (λ before (d : Deed). FitsState version (is_active before) (opened_by before) d.step d.answer) [] deeds →
     TbsIsRight p
 tbs_right version j deeds p power_on fits = record { in_reset = λ e. refl; in_abort = λ e. absurd cc }
-tbs_right version k deeds q (step j _ before d p _ lead now tells gave whole left) fits =
+tbs_right version k deeds q (deed j _ before d p _ lead is) fits =
     let each = each_front (λ b (x : Deed). FitsState version (is_active b) (opened_by b) x.step x.answer) [] before d
     fits in
-    subst (λ (r : Registers). TbsIsRight r) (sym left)
+    subst (λ (r : Registers). TbsIsRight r) (sym is.left)
     (tbs_after_step version p (opened_by before) d.step d.answer (is_active before)
-    (seen_now (is_active before) j before) each.1 tells (tbs_right version j before p lead each.0))
+    (seen_now (is_active before) j before) each.1 is.tells (tbs_right version j before p lead each.0))
 tbs_right version k deeds q (bit j _ _ p _ lead is) fits =
     subst (λ (r : Registers). TbsIsRight r) (sym is.told)
     (tbs_after_turn p is.turn (tbs_right version j deeds p lead fits))

@@ -1,7 +1,9 @@
 -- A run before its first turn.
-use Rattle.std.proofs.Common.{◌≡◌, ◌*◌, List, [], length, sym, ap, ◌∙◌, subst, arith}
-use Rattle.std.specs.Prelude.{replicate, slice_index_or}
-use Rattle.std.proofs.lemmas.List.{length-replicate, get_or-replicate}
+use Rattle.std.proofs.Common.{◌≡◌, ◌*◌, ℕ, zero, suc, Bool, true, false, cond, List, [], ◌∷◌, length, map, refl, sym}
+use Rattle.std.proofs.Common.{ap, ◌∙◌}
+use Rattle.std.proofs.Common.{subst, arith}
+use Rattle.std.specs.Prelude.{◌/◌, replicate, slice_index_or}
+use Rattle.std.proofs.lemmas.List.{length-replicate, get_or-map, get_or-replicate}
 use Rattle.sja_link.specs.Deques.{Deques}
 use Rattle.sja_link.specs.declared.entry.Entry.{Entry}
 use Rattle.sja_wire.specs.Buses.{BusValue, new_bus}
@@ -13,19 +15,24 @@ use Rattle.sja_driver.specs.declared.logged_driver.LoggedDriver.{LoggedDriver}
 use Rattle.sja_driver.specs.Deeds.{Deed, deeds_at}
 use Rattle.sja_log.specs.Inside.NewDrivers.{AreNew}
 use Rattle.sja_log.specs.Nodes.{IsNode}
-use Rattle.sja_serial.specs.Serial.{Setup, IsSetup, StandsAt}
+use Rattle.sja_driver.specs.declared.kept_bytes.KeptBytes.{KeptBytes}
+use Rattle.sja_driver.specs.Accesses.{accesses_at, by_bytes}
+use Rattle.sja_log.specs.Registering.{AccessesLeadTo}
+use Rattle.sja_log.specs.Registering.AccessesLeadTo.{power_on}
+use Rattle.sja_serial.specs.Serial.{Setup, IsSetup, StandsAt, StandsBy, all_deeds, most_deeds, most_steps}
 use Rattle.sja_serial.specs.Inside.Going.{run_now}
 use Rattle.sja_driver.specs.Shown.{ShowsRecord}
 use Rattle.sja_driver.proofs.OneNode.Shown.{shows_first}
 use Rattle.sja_log.proofs.OneNode.Newly.{new_node}
 
 -- a run to which nothing happened stands where no driver did anything
-pub stands_new : (setup : Setup) (bus : BusValue) (drivers : List LoggedDriver) (ports : List Registers)
+pub stands_new : (setup : Setup) (steps : List ℕ) (bus : BusValue) (drivers : List LoggedDriver)
+    (ports : List Registers)
     (links : List Deques) → IsSetup setup → bus ≡ new_bus setup.strikes setup.bits setup.nodes setup.steps →
-    length drivers ≡ setup.nodes → AreNew setup.steps setup.nodes drivers →
+    length drivers ≡ setup.nodes → AreNew steps setup.steps setup.nodes drivers →
     ports ≡ replicate setup.nodes (at_power_on setup.version) → AreNewLinks setup.nodes links →
     StandsAt setup (run_now bus drivers ports links 0) (replicate setup.nodes [])
-stands_new setup bus drivers ports links may bus_is driver_count made ports_are fresh =
+stands_new setup steps bus drivers ports links may bus_is driver_count made ports_are fresh =
     let nodes = setup.nodes in record {
       may = may;
       right = ap (λ (b : BusValue). b.fault) bus_is;
@@ -46,7 +53,8 @@ stands_new setup bus drivers ports links may bus_is driver_count made ports_are 
       own = λ node d less. (made node d less).own;
       nodes = λ node d p less.
           let x = slice_index_or drivers node d in
-          let is = new_node setup.version node (slice_index_or setup.steps node 0) x links (64 * node)
+          let is = new_node setup.version node (slice_index_or steps node 0) (slice_index_or setup.steps node 0) x links
+          (64 * node)
           (made node d less) (λ a e small.
           fresh.each node a e less small) in
           let journal : journal_at bus.journals node ≡ [] = ap (λ (b : BusValue). journal_at b.journals node) bus_is
@@ -72,4 +80,45 @@ stands_new setup bus drivers ports links may bus_is driver_count made ports_are 
           (λ l. slice_index_or l node p) ports_are ∙ get_or-replicate nodes node (at_power_on setup.version) p less in
           subst (λ (j : List Entry). ShowsRecord j (slice_index_or ports node p)) (sym journal)
           (subst (λ (r : Registers). ShowsRecord [] r) (sym port) (shows_first setup.version));
+    }
+
+-- where each step is so many deeds at most, as many steps have room as were asked for
+pub as_asked : (bytes : Bool) (n : ℕ) → cond bytes (cond bytes (3 * n) n / 3) (cond bytes (3 * n) n) ≡ n
+as_asked true n = omega arith
+as_asked false n = refl
+
+no_deeds_all : (n : ℕ) → all_deeds (replicate n []) ≡ replicate n []
+no_deeds_all zero = refl
+no_deeds_all (suc n) = ap (λ l. [] ∷ l) (no_deeds_all n)
+
+-- and it stands where no step was done
+pub stands_by_new : (setup : Setup) (steps : List ℕ) (bus : BusValue) (drivers : List LoggedDriver)
+    (ports : List Registers) (links : List Deques) → IsSetup setup →
+    setup.steps ≡ map (most_deeds setup.version) steps → length steps ≡ setup.nodes →
+    bus ≡ new_bus setup.strikes setup.bits setup.nodes setup.steps →
+    length drivers ≡ setup.nodes → AreNew steps setup.steps setup.nodes drivers →
+    ports ≡ replicate setup.nodes (at_power_on setup.version) → AreNewLinks setup.nodes links →
+    StandsBy setup (run_now bus drivers ports links 0) (replicate setup.nodes [])
+stands_by_new setup steps bus drivers ports links may sizes many bus_is driver_count made ports_are fresh =
+    let nodes = setup.nodes in let version = setup.version in record {
+      stands = subst (λ (l : List (List Deed)). StandsAt setup (run_now bus drivers ports links 0) l)
+          (sym (no_deeds_all nodes))
+          (stands_new setup steps bus drivers ports links may bus_is driver_count made ports_are fresh);
+      nodes = λ node d p less.
+          let x = slice_index_or drivers node d in let new = made node d less in
+          let journal : journal_at bus.journals node ≡ [] = ap (λ (b : BusValue). journal_at b.journals node) bus_is
+          ∙ get_or-replicate nodes node [] [] less in
+          let port : slice_index_or ports node p ≡ at_power_on version = ap (λ l. slice_index_or l node p) ports_are
+          ∙ get_or-replicate nodes node (at_power_on version) p less in
+          let none : accesses_at (replicate nodes []) node ≡ [] = get_or-replicate nodes node [] [] less in
+          let room : most_steps version (slice_index_or setup.steps node 0) ≡ slice_index_or steps node 0 =
+          ap (λ (l : List ℕ). most_steps version (slice_index_or l node 0)) sizes
+          ∙ ap (most_steps version) (get_or-map (most_deeds version) steps node 0 0 (omega (arith, many, less)))
+          ∙ as_asked (by_bytes version) (slice_index_or steps node 0) in
+          rw (journal, port, none, room) (record {
+            led = subst (λ (k : KeptBytes). AccessesLeadTo version [] [] k (at_power_on version))
+                (sym new.kept) power_on;
+            done = sym new.empty.done;
+            room = new.steps;
+          });
     }

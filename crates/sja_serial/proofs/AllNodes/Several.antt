@@ -2,19 +2,20 @@
 use Rattle.std.proofs.Common.{◌≡◌, ℕ, ◌-◌, ◌<◌, ◌≤◌, List, [], ◌∷◌, ◌++◌, length, refl, sym, ap, ◌∙◌}
 use Rattle.std.proofs.Common.{subst, append_assoc, append-nil, arith, inl, inr}
 use Rattle.std.specs.Prelude.{slice_index_or, slice_set}
-use Rattle.std.proofs.lemmas.Bool.{cases_lt}
+use Rattle.std.proofs.lemmas.Bool.{cases_eq, cases_lt}
 use Rattle.std.proofs.lemmas.List.{length-append, length-map, map-append, get_or-set_same, set-set}
-use Rattle.std.proofs.lemmas.List.{get_or_append_left, get_or-append_right}
+use Rattle.std.proofs.lemmas.List.{get_or_append_left, get_or-append_right, get_or_default, get_or-set_other}
 use Rattle.sja_link.specs.declared.entry.Entry.{Entry}
 use Rattle.sja_link.specs.declared.entry.Entry.TheVariants.{Up as Item}
 use Rattle.sja_link.specs.BitEntries.{entries_of_items, HasMore}
 use Rattle.sja_wire.specs.Wire.{journal_at}
 use Rattle.sja_regs.specs.declared.registers.Registers.{Registers}
 use Rattle.sja_driver.specs.declared.logged_driver.LoggedDriver.{LoggedDriver}
-use Rattle.sja_driver.specs.Deeds.{Deed, done_of, with_deeds, deeds_at}
+use Rattle.sja_driver.specs.Accesses.{Access, accesses_at, deeds_in, done_of}
+use Rattle.sja_driver.specs.Deeds.{Deed, with_deeds, deeds_at}
 use Rattle.sja_driver.specs.LoggedDrivers.{log_of}
 use Rattle.sja_driver.specs.Logs.{done_in}
-use Rattle.sja_serial.specs.Serial.{Setup, SerialValue, StandsAt, NodeDoes, setup_in}
+use Rattle.sja_serial.specs.Serial.{Setup, SerialValue, StandsAt, StandsBy, NodeDoes, setup_in}
 use Rattle.sja_regs.specs.Registers.{at_power_on}
 use Rattle.sja_driver.proofs.OneNode.Slices.{no_deeds}
 
@@ -56,7 +57,7 @@ does_none setup r node deeds h = record {
 }
 
 -- items, and then more of them
-more_both : (j k l : List Entry) → HasMore j k → HasMore k l → HasMore j l
+pub more_both : (j k l : List Entry) → HasMore j k → HasMore k l → HasMore j l
 more_both j k l f g = record {
   items = f.items ++ g.items;
   whole = g.whole ∙ ap (λ t. t ++ entries_of_items g.items) f.whole
@@ -98,9 +99,27 @@ pub from_own : {setup : Setup} {r : SerialValue} {deeds : List (List Deed)} (P :
     StandsAt setup r deeds → P (setup_in r) → P setup
 from_own P h = subst P (sym (setup_is h))
 
+pub by_own : {setup : Setup} {r : SerialValue} {accesses : List (List Access)} → StandsBy setup r accesses →
+    StandsBy (setup_in r) r accesses
+by_own {setup} {r} {accesses} h = subst (λ (s : Setup). StandsBy s r accesses) (setup_is h.stands) h
+
+-- there is a list of steps for each node
+pub many_steps : {setup : Setup} {r : SerialValue} {accesses : List (List Access)} → StandsBy setup r accesses →
+    length accesses ≡ setup.nodes
+many_steps {accesses = accesses} h = sym (length-map accesses (λ (l : List Access). deeds_in l)) ∙ h.stands.deeds_count
+
 -- how many steps of a driver are done
-pub done_count : (setup : Setup) (r : SerialValue) (deeds : List (List Deed)) (node : ℕ) (d : LoggedDriver)
-    (p : Registers) → StandsAt setup r deeds → node < setup.nodes →
-    length (done_in (log_of (slice_index_or r.drivers node d))) ≡ length (deeds_at deeds node)
-done_count setup r deeds node d p h there =
-    ap (λ l. length l) (sym (h.nodes node d p there).traced.traces.done) ∙ length-map (deeds_at deeds node) done_of
+pub done_count : (setup : Setup) (r : SerialValue) (accesses : List (List Access)) (node : ℕ) (d : LoggedDriver)
+    (p : Registers) → StandsBy setup r accesses → node < setup.nodes →
+    length (done_in (log_of (slice_index_or r.drivers node d))) ≡ length (accesses_at accesses node)
+done_count setup r accesses node d p h there =
+    ap (λ l. length l) (sym (h.nodes node d p there).done) ∙ length-map (accesses_at accesses node) done_of
+
+-- what is the same of an element that was put and of the one that stood there is the same of each
+pub each_as : {A B : Type 0} (f : A → B) (xs : List A) (n : ℕ) (x w : A) (m : ℕ) (d : A) → n < length xs →
+    f x ≡ f (slice_index_or xs n w) → f (slice_index_or (slice_set xs n x) m d) ≡ f (slice_index_or xs m d)
+each_as {A} f xs n x w m d less same = elim (cases_eq n m) [
+  | inl e ↦ subst (λ (k : ℕ). f (slice_index_or (slice_set xs n x) k d) ≡ f (slice_index_or xs k d)) e
+      (ap f (get_or-set_same xs n x d less) ∙ same ∙ ap f (get_or_default xs n w d less))
+  | inr differ ↦ ap f (get_or-set_other xs n m x d (λ e. differ (sym e)))
+]

@@ -84,7 +84,7 @@ module _ (setup : Setup) (r n : SerialValue) (deeds : List (List Deed)) (h : Sta
       (none_untold (items refl m few) (untold refl m few) e).0) in record {
         within = within;
         stands = subst (λ (x : SerialValue). StandsAt setup x deeds) (is_run 0 run left bits grown) stood;
-        none = λ zero. (omega (arith, bits), same);
+        none = λ zero. record { bits = omega (arith, bits); journals = same; ports = ports; drivers = drivers };
         some = λ ne. absurd (ne refl);
       }
   takes_at_once most (suc k) within run left bits items untold stretch =

@@ -23,11 +23,12 @@ use Rattle.sja_driver.specs.LoggedDrivers.{node_of}
 use Rattle.sja_serial.specs.Bits.{TakesBit}
 use Rattle.sja_link.specs.BitEntries.{HasOneBit}
 use Rattle.sja_log.specs.Nodes.{IsNode}
+use Rattle.sja_log.specs.Registering.{IsPortBit}
 use Rattle.sja_serial.specs.Serial.{Setup, SerialValue, StandsAt}
 use Rattle.sja_driver.specs.Shown.{ShowsRecord}
 use Rattle.sja_driver.proofs.OneNode.Slices.{numbered_still}
 use Rattle.sja_driver.proofs.OneBit.BitAsked.{HasCut}
-use Rattle.sja_log.proofs.OneNode.BitOn.{BitOf, OrdersOf, after_one_bit, one_bit, shows}
+use Rattle.sja_log.proofs.OneNode.BitOn.{BitOf, OrdersOf, after_one_bit, one_bit, port_bit, shows}
 use Rattle.sja_bus.proofs.AtPorts.OtherWords.{other_node_bit}
 
 -- each journal of a lawful bus has a cut
@@ -70,6 +71,10 @@ module _ (setup : Setup) (r n : SerialValue) (deeds : List (List Deed)) (h : Sta
         (slice_index_or r.drivers m d) (slice_index_or n.ports m p) n.links (64 * m)
     node_now = after_one_bit n.links (h.nodes m d p less) here keeps (h.shown m p less) (cuts m (inside m less))
 
+    port_now : IsPortBit (slice_index_or r.ports m p) (slice_index_or n.ports m p) (journal_at r.bus.journals m)
+        (journal_at n.bus.journals m)
+    port_now = port_bit n.links (h.nodes m d p less) here keeps (h.shown m p less)
+
     shows_now : ShowsRecord (journal_at n.bus.journals m) (slice_index_or n.ports m p)
     shows_now = shows n.links (h.nodes m d p less) here keeps (h.shown m p less)
 
@@ -104,4 +109,6 @@ module _ (setup : Setup) (r n : SerialValue) (deeds : List (List Deed)) (h : Sta
     stands = stands_now;
     bits = bits_are;
     nodes = λ m less. one m (driver_at m less) (at_power_on setup.version) less;
+    ports = λ m p less. port_now m (driver_at m less) p less;
+    drivers = drivers_are;
   }

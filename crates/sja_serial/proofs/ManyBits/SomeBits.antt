@@ -1,5 +1,5 @@
 -- Bits of a run, one after another.
-use Rattle.std.specs.Prelude.{◌⊎◌, min}
+use Rattle.std.specs.Prelude.{◌⊎◌, min, slice_index_or}
 use Rattle.std.proofs.Common.{◌≡◌, ℕ, zero, suc, ◌+◌, ◌<◌, ◌≤◌, Bool, true, false, List, length}
 use Rattle.std.proofs.Common.{sym, ◌∙◌, subst, arith, inl, inr}
 use Rattle.std.proofs.lemmas.Bool.{cases_lt}
@@ -12,7 +12,9 @@ use Rattle.sja_wire.specs.Lawful.{IsBusRun}
 use Rattle.sja_wire.specs.Wire.{journal_at}
 use Rattle.sja_driver.specs.Deeds.{Deed}
 use Rattle.sja_serial.specs.Bits.{TakesBit, TakesBits, AllRestIn, SomeWorks, TakesBusTurn, TakesRest}
-use Rattle.sja_serial.specs.Inside.Going.{TakesAtOnce}
+use Rattle.sja_regs.specs.declared.registers.Registers.{Registers}
+use Rattle.sja_log.specs.Registering.{IsPortBit}
+use Rattle.sja_serial.specs.Inside.Going.{IsAsBefore, TakesAtOnce}
 use Rattle.sja_link.specs.BitEntries.{HasOneBit}
 use Rattle.sja_serial.specs.Bits.TakesBits.{no_bit, one_more}
 use Rattle.sja_serial.specs.Serial.{Setup, SerialValue, StandsAt}
@@ -158,24 +160,29 @@ rest_so setup deeds r n run most rests h t is whole all busy =
 
 -- where none was run the bus has its laws still
 pub still_lawful : (setup : Setup) (deeds : List (List Deed)) (r m : SerialValue) → StandsAt setup r deeds →
-    StandsAt setup m deeds → (m.bits ≡ r.bits) × (m.bus.journals ≡ r.bus.journals) →
+    StandsAt setup m deeds → IsAsBefore r m →
     IsBusRun r.bus.script r.bus.run r.bus.journals → IsBusRun m.bus.script m.bus.run m.bus.journals
 still_lawful setup deeds r m h k same =
     let script : r.bus.script ≡ m.bus.script = h.script ∙ sym k.script in
-    let run : r.bus.run ≡ m.bus.run = sym h.bits ∙ sym same.0 ∙ k.bits in
+    let run : r.bus.run ≡ m.bus.run = sym h.bits ∙ sym same.bits ∙ k.bits in
     let bus : r.bus ≡ record r.bus { script = m.bus.script; run = m.bus.run; journals = m.bus.journals } =
-    λ i. record r.bus { script = script i; run = run i; journals = sym same.1 i } in
+    λ i. record r.bus { script = script i; run = run i; journals = sym same.journals i } in
     subst (λ (b : BusValue). IsBusRun b.script b.run b.journals) bus
 
 -- what one bit is of a run that it left as it was before
 one_after : (setup : Setup) (deeds : List (List Deed)) (r m n : SerialValue) →
-    (m.bits ≡ r.bits) × (m.bus.journals ≡ r.bus.journals) → TakesBit setup deeds m n → TakesBit setup deeds r n
+    IsAsBefore r m → TakesBit setup deeds m n → TakesBit setup deeds r n
 one_after setup deeds r m n same t =
-    let b = t.bits in let e = same.0 in record {
+    let b = t.bits in let e = same.bits in record {
       stands = t.stands;
       bits = omega (arith, b, e);
       nodes = λ k less. subst (λ (l : List (List Entry)). HasOneBit (journal_at l k) (journal_at n.bus.journals k))
-          same.1 (t.nodes k less);
+          same.journals (t.nodes k less);
+      ports = λ k p less. subst (λ (l : List (List Entry)). IsPortBit (slice_index_or r.ports k p)
+          (slice_index_or n.ports k p) (journal_at l k) (journal_at n.bus.journals k)) same.journals
+          (subst (λ (l : List Registers). IsPortBit (slice_index_or l k p) (slice_index_or n.ports k p)
+          (journal_at m.bus.journals k) (journal_at n.bus.journals k)) same.ports (t.ports k p less));
+      drivers = t.drivers ∙ same.drivers;
     }
 
 pub just_one : (setup : Setup) (deeds : List (List Deed)) (Before : SerialValue → Type 0) (r n : SerialValue) →

@@ -25,6 +25,7 @@ use Rattle.sja_serial.specs.Bits.{TakesBit, TakesBits}
 use Rattle.sja_link.specs.BitEntries.{HasOneBit}
 use Rattle.sja_serial.specs.Bits.TakesBits.{no_bit, one_more}
 use Rattle.sja_log.specs.Nodes.{IsNode}
+use Rattle.sja_log.specs.Registering.{IsPortBit}
 use Rattle.sja_serial.specs.Serial.{Setup, SerialValue, StandsAt}
 use Rattle.sja_serial.specs.Inside.Going.{run_now}
 use Rattle.sja_driver.specs.Shown.{ShowsRecord}
@@ -164,6 +165,10 @@ module _ (setup : Setup) (r : SerialValue) (deeds : List (List Deed)) (h : Stand
           bits = omega arith;
           nodes = λ m less. subst (λ (l : List (List Entry)). HasOneBit (journal_at l m)
               (journal_at (with_recessive 1 r.bus.journals) m)) (with_none r.bus.journals) (t.nodes m less);
+          ports = λ m p less. subst (λ (l : List (List Entry)). IsPortBit (slice_index_or r.ports m p)
+              (slice_index_or r.ports m p) (journal_at l m) (journal_at (with_recessive 1 r.bus.journals) m))
+              (with_none r.bus.journals) (t.ports m p less);
+          drivers = refl;
         }
 
     chain : (untold : List Bool) (i : ℕ) → i < count →

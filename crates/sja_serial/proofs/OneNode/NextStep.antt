@@ -1,12 +1,12 @@
 -- A run in which the next step of a node's driver is tried, and what it gave is taken.
-use Rattle.std.proofs.Common.{◌≡◌, ◌+◌, ◌*◌, ◌<◌, ℕ, Bool, List, [], length, refl, ap, ◌∙◌, subst, arith}
-use Rattle.std.specs.Prelude.{None, slice_index_or, slice_set}
+use Rattle.sja_script.specs.declared.step_answer.StepAnswer.{StepAnswer}
+use Rattle.std.proofs.Common.{◌≡◌, ◌+◌, ◌*◌, ◌<◌, ℕ, List, [], length, refl, subst, arith}
+use Rattle.std.specs.Prelude.{None, slice_index_or, slice_set, Option}
 use Rattle.sja_link.specs.declared.entry.Entry.{Entry}
 use Rattle.sja_link.specs.Deques.{Deques, Lies}
 use Rattle.lemmas.proofs.Related.{each_refl}
 use Rattle.lemmas.specs.Related.{EachRelated}
 use Rattle.sja_regs.specs.declared.registers.Registers.{Registers}
-use Rattle.sja_regs.specs.Registers.{at_power_on}
 use Rattle.sja_script.specs.declared.step.Step.{Step}
 use Rattle.sja_wire.specs.declared.bus_fault.BusFault.{BusFault}
 use Rattle.sja_wire.specs.Lawful.{IsBusRun}
@@ -16,14 +16,12 @@ use Rattle.sja_wire.specs.Buses.{BusValue, KeepsAll, EachJournal, AllDry, EachUn
 use Rattle.sja_wire.specs.Reasons.{IsTakenAndRefused}
 use Rattle.sja_driver.specs.declared.logged_driver.LoggedDriver.{LoggedDriver}
 use Rattle.sja_driver.specs.Deeds.{Deed, deeds_at}
-use Rattle.sja_driver.specs.LoggedDrivers.{log_of, StaysLawful, Steps}
-use Rattle.sja_driver.specs.Logs.{done_in}
+use Rattle.sja_driver.specs.LoggedDrivers.{StaysLawful, Steps}
 use Rattle.sja_driver.specs.Inside.GivenNothing.{GaveNothing}
 use Rattle.sja_log.specs.Nodes.{IsNode}
 use Rattle.sja_serial.specs.Serial.{Setup, SerialValue, StandsAt}
 use Rattle.sja_serial.specs.Inside.Going.{run_now}
 use Rattle.sja_serial.proofs.ManyBits.Borrowed.{stands_there, put_back}
-use Rattle.sja_serial.proofs.AllNodes.Several.{done_count}
 use Rattle.sja_link.proofs.Growing.Items.{items_none}
 use Rattle.sja_serial.proofs.OneNode.Quiet.{as_untold, all_dry}
 use Rattle.sja_serial.proofs.OneNode.Standing.{Tries, node_there}
@@ -33,16 +31,16 @@ use Rattle.sja_log.proofs.OneNode.Trying.{alike, shows_none, takes_none}
 
 -- the registers that a step was tried at, and the step at what they are
 abbrev pub tried_at : {was now : LoggedDriver} {slice given : List Deques} {base : ℕ} {p q : Registers} {one : Step}
-    {bits : ℕ} {done : Bool} →
-    Steps alike Lies shows_none takes_none was now slice given base p q one bits done → Registers
+    {answer : Option StepAnswer} → Steps alike Lies shows_none takes_none was now slice given base p q one answer →
+    Registers
 tried_at {p = p} tries = p
 
 pub at_port : {was now : LoggedDriver} {slice given : List Deques} {base : ℕ} {p r q : Registers} {one : Step}
-    {bits : ℕ} {done : Bool} → p ≡ r →
-    Steps alike Lies shows_none takes_none was now slice given base p q one bits done →
-    Steps alike Lies shows_none takes_none was now slice given base r q one bits done
-at_port {was} {now} {slice} {given} {base} {p} {r} {q} {one} {bits} {done} same tries =
-    subst (λ (x : Registers). Steps alike Lies shows_none takes_none was now slice given base x q one bits done) same
+    {answer : Option StepAnswer} → p ≡ r →
+    Steps alike Lies shows_none takes_none was now slice given base p q one answer →
+    Steps alike Lies shows_none takes_none was now slice given base r q one answer
+at_port {was} {now} {slice} {given} {base} {p} {r} {q} {one} {answer} same tries =
+    subst (λ (x : Registers). Steps alike Lies shows_none takes_none was now slice given base x q one answer) same
     tries
 
 -- a run, which stands at these deeds, and the links of which a call has as a slice
@@ -56,12 +54,6 @@ module _ {setup : Setup} {bus : BusValue} {drivers : List LoggedDriver} {ports :
   stood : StandsAt setup run deeds
   stood = stands_there same view setup deeds h
 
-  -- the log has as many steps
-  pub steps_done : (d : LoggedDriver) → d ≡ slice_index_or drivers i d →
-      length (done_in (log_of d)) ≡ length (deeds_at deeds i)
-  steps_done d is = ap (λ (x : LoggedDriver). length (done_in (log_of x))) is
-      ∙ done_count setup run deeds i d (at_power_on 1) stood there
-
   -- its driver, and its port
   module _ {was : LoggedDriver} {p : Registers} (was_is : was ≡ slice_index_or drivers i was)
       (p_is : p ≡ slice_index_or ports i p) where
@@ -73,15 +65,15 @@ module _ {setup : Setup} {bus : BusValue} {drivers : List LoggedDriver} {ports :
     -- the next step was tried, and then all was taken
     module _ (laws : bus.fault ≡ None → IsBusRun bus.script bus.run bus.journals)
         (left : length (deeds_at deeds i) < slice_index_or setup.steps i 0) {now : LoggedDriver} {q : Registers}
-        {given : List Deques} {base : ℕ} {one : Step} {done : Bool} (base_is : base ≡ 64 * i)
-        (tries : Steps alike Lies shows_none takes_none was now slice given base p q one bits done)
-        (stay : StaysLawful (λ (s : Deques). s.link) alike was now slice given base done) where
-      steps : Steps alike Lies shows_none takes_none was now slice given (64 * i) p q one bits done
-      steps = subst (λ (b : ℕ). Steps alike Lies shows_none takes_none was now slice given b p q one bits done) base_is
+        {given : List Deques} {base : ℕ} {one : Step} {answer : Option StepAnswer} (base_is : base ≡ 64 * i)
+        (tries : Steps alike Lies shows_none takes_none was now slice given base p q one answer)
+        (stay : StaysLawful (λ (s : Deques). s.link) alike was now slice given base answer) where
+      steps : Steps alike Lies shows_none takes_none was now slice given (64 * i) p q one answer
+      steps = subst (λ (b : ℕ). Steps alike Lies shows_none takes_none was now slice given b p q one answer) base_is
           tries
 
-      stays : StaysLawful (λ (s : Deques). s.link) alike was now slice given (64 * i) done
-      stays = subst (λ (b : ℕ). StaysLawful (λ (s : Deques). s.link) alike was now slice given b done) base_is stay
+      stays : StaysLawful (λ (s : Deques). s.link) alike was now slice given (64 * i) answer
+      stays = subst (λ (b : ℕ). StaysLawful (λ (s : Deques). s.link) alike was now slice given b answer) base_is stay
 
       -- no item was refused
       pub none_refused : (journals : List (List Entry)) (after : List Deques) (f : BusFault) →
@@ -94,14 +86,14 @@ module _ {setup : Setup} {bus : BusValue} {drivers : List LoggedDriver} {ports :
 
       -- the run into which the links are put back
       module _ {node : ℕ} (node_is : i ≡ node) {back after : List Deques} (back_is : back ≡ after) where
-        tried : (n : BusValue) → Tries run i was now p q one done given n after →
+        tried : (n : BusValue) → Tries run i was now p q one answer given n after →
             IsTried setup self (run_now n (slice_set drivers i now) (slice_set ports i q) back bits) node one deeds
-            done
+            answer
         tried n t = subst (λ (m : ℕ). IsTried setup self (run_now n (slice_set drivers i now) (slice_set ports i q)
-            back bits) m one deeds done) node_is
-            (put_back same view (λ x y. IsTried setup x y i one deeds done) n (slice_set drivers i now)
+            back bits) m one deeds answer) node_is
+            (put_back same view (λ x y. IsTried setup x y i one deeds answer) n (slice_set drivers i now)
             (slice_set ports i q)
-            after back bits back_is (next_tried stood there (laws stood.right) left done t))
+            after back bits back_is (next_tried stood there (laws stood.right) left answer t))
 
         pub is_tried : (n : BusValue) → n.fault ≡ None → n.run ≡ bus.run → n.script ≡ bus.script →
             n.steps ≡ bus.steps → n.left ≡ bus.left → length n.journals ≡ length bus.journals →
@@ -110,7 +102,7 @@ module _ {setup : Setup} {bus : BusValue} {drivers : List LoggedDriver} {ports :
             AllDry (λ (s : Deques). s.up ≡ []) n.journals after → EachRelated alike given after →
             length after ≡ length slice →
             IsTried setup self (run_now n (slice_set drivers i now) (slice_set ports i q) back bits) node one deeds
-            done
+            answer
         is_tried n right ran script room over count kept items untold dry sames many = tried n (record {
           was_is = was_is;
           p_is = p_is;
@@ -132,12 +124,12 @@ module _ {setup : Setup} {bus : BusValue} {drivers : List LoggedDriver} {ports :
 
       -- the step gave nothing, and nothing was taken
       pub is_tried_quietly : {node : ℕ} → i ≡ node → {back : List Deques} → back ≡ given →
-          GaveNothing one done (done_in (log_of now)) → length given ≡ length slice →
+          GaveNothing one answer → length given ≡ length slice →
           IsTried setup self (run_now bus (slice_set drivers i now) (slice_set ports i q) back bits) node one deeds
-          done
+          answer
       is_tried_quietly node_is back_is quiet many =
           is_tried node_is back_is bus stood.right refl refl refl refl refl (λ node acc less kept. kept)
           (λ node less. items_none (journal_at bus.journals node))
           (λ node less. as_untold (untold_at bus.untold node) (journal_at bus.journals node))
-          (all_dry i stood node_at steps stays.others (quiet p steps.tried (done_in (log_of was)) bits steps.met
-          steps.logged)) (each_refl alike (λ x. refl) given) many
+          (all_dry i stood node_at steps stays.others (quiet p steps.tried steps.met)) (each_refl alike
+          (λ x. refl) given) many

@@ -1,7 +1,7 @@
 -- A run in which what has come for one node's driver was taken in, and no step was tried.
-use Rattle.std.proofs.Common.{◌≡◌, ◌≢◌, ◌+◌, ◌*◌, ◌<◌, ℕ, false, List, length, refl, sym, ap}
+use Rattle.std.proofs.Common.{◌≡◌, ◌≢◌, ◌+◌, ◌*◌, ◌<◌, ℕ, List, length, refl, sym, ap}
 use Rattle.std.proofs.Common.{◌∙◌, subst, append-nil, arith, inl, inr}
-use Rattle.std.specs.Prelude.{slice_index_or, slice_set}
+use Rattle.std.specs.Prelude.{slice_index_or, slice_set, None}
 use Rattle.std.proofs.lemmas.Bool.{cases_eq}
 use Rattle.std.proofs.lemmas.List.{get_or-set_same, get_or-set_other, length-set}
 use Rattle.lemmas.proofs.Related.{each_at}
@@ -39,7 +39,7 @@ module _ {setup : Setup} {bus : BusValue} {drivers : List LoggedDriver} {ports :
     (h : StandsAt setup (run_now bus drivers ports slice bits) deeds) {i : ℕ} (there : i < setup.nodes)
     {was now : LoggedDriver} (was_is : was ≡ slice_index_or drivers i was)
     (observed : Looked Lies shows_none was now slice after (64 * i))
-    (stays : StaysLawful (λ (s : Deques). s.link) alike was now slice after (64 * i) false)
+    (stays : StaysLawful (λ (s : Deques). s.link) alike was now slice after (64 * i) None)
     (many : length after ≡ length slice) where
   abbrev j : List Entry
   j = journal_at bus.journals i

@@ -1,7 +1,8 @@
 -- A step that gave nothing: no link has anything for the bus after it.
+use Rattle.sja_script.specs.declared.step_answer.StepAnswer.{StepAnswer}
 use Rattle.std.proofs.Common.{◌≡◌, ◌≢◌, ℕ, suc, ◌+◌, ◌*◌, ◌<◌, Bool, List, [], ◌++◌, refl, sym, ap, ◌∙◌, subst}
 use Rattle.std.proofs.Common.{append-nil, arith, inl, inr}
-use Rattle.std.specs.Prelude.{min, slice_index_or}
+use Rattle.std.specs.Prelude.{min, slice_index_or, Option}
 use Rattle.std.proofs.lemmas.Bool.{cases_eq}
 use Rattle.std.proofs.lemmas.List.{append_cancel_left}
 use Rattle.sja_link.specs.declared.entry.Entry.{Entry}
@@ -29,11 +30,11 @@ pub as_untold : (b : Bool) (j : List Entry) → IsUntold b b j j
 as_untold b j = record { stays = λ e. e; takes = λ differ. absurd (differ refl); none = λ e same. e }
 
 module _ {setup : Setup} {r : SerialValue} {deeds : List (List Deed)} (i : ℕ) (stood : StandsAt setup r deeds)
-    {was now : LoggedDriver} {p q : Registers} {given : List Deques} {one : Step} {bits : ℕ} {done : Bool}
+    {was now : LoggedDriver} {p q : Registers} {given : List Deques} {one : Step} {answer : Option StepAnswer}
     (node : IsNode setup.version (slice_index_or setup.steps i 0) (journal_at r.bus.journals i) (deeds_at deeds i) was
     p r.links
     (64 * i))
-    (st : Steps alike Lies shows_none takes_none was now r.links given (64 * i) p q one bits done)
+    (st : Steps alike Lies shows_none takes_none was now r.links given (64 * i) p q one answer)
     (others : (k : ℕ) (d : Deques) → k ≢ place_after (64 * i) (ended_of was) →
     slice_index_or given k d ≡ slice_index_or r.links k d) (quiet : gave_by p one st.tried ≡ []) where
   -- the link that the step was tried at

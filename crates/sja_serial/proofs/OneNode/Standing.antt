@@ -1,7 +1,8 @@
 -- A run after a step of one node's driver and a taking.
+use Rattle.sja_script.specs.declared.step_answer.StepAnswer.{StepAnswer}
 use Rattle.std.proofs.Common.{◌≡◌, ℕ, suc, ◌+◌, ◌*◌, ◌<◌, true, false, List, [], ◌∷◌}
 use Rattle.std.proofs.Common.{◌++◌, length, refl, sym, ap, ◌∙◌, subst, append-nil, arith, inl, inr}
-use Rattle.std.specs.Prelude.{Bool, None, slice_index_or, slice_set}
+use Rattle.std.specs.Prelude.{Bool, None, slice_index_or, slice_set, Option}
 use Rattle.std.proofs.lemmas.Bool.{cases_eq}
 use Rattle.std.proofs.lemmas.List.{get_or-set_same, get_or-set_other, length-set}
 use Rattle.sja_link.specs.declared.entry.Entry.{Entry}
@@ -51,12 +52,12 @@ run_tried r node now q bus after =
 
 -- a step of a node was tried at its driver and port, which left the links as given; and then all was taken, which left
 -- this bus and the links after
-pub record Tries (r : SerialValue) (node : ℕ) (was now : LoggedDriver) (p q : Registers) (one : Step) (done : Bool)
-    (given : List Deques) (bus : BusValue) (after : List Deques) : Type 0 where
+pub record Tries (r : SerialValue) (node : ℕ) (was now : LoggedDriver) (p q : Registers) (one : Step)
+    (answer : Option StepAnswer) (given : List Deques) (bus : BusValue) (after : List Deques) : Type 0 where
   pub was_is : was ≡ slice_index_or r.drivers node was
   pub p_is : p ≡ slice_index_or r.ports node p
-  pub steps : Steps alike Lies shows_none takes_none was now r.links given (64 * node) p q one r.bits done
-  pub stays : StaysLawful (λ (s : Deques). s.link) alike was now r.links given (64 * node) done
+  pub steps : Steps alike Lies shows_none takes_none was now r.links given (64 * node) p q one answer
+  pub stays : StaysLawful (λ (s : Deques). s.link) alike was now r.links given (64 * node) answer
   pub right : bus.fault ≡ None
   pub run : bus.run ≡ r.bus.run
   pub script : bus.script ≡ r.bus.script
@@ -96,9 +97,10 @@ owners {r = r} {node = node} {was} now h there was_is same m d less = elim (case
 ]
 
 module _ {setup : Setup} {r : SerialValue} {deeds : List (List Deed)} {node : ℕ} {was now : LoggedDriver}
-    {p q : Registers} {one : Step} {done : Bool} {given : List Deques} {bus : BusValue} {after : List Deques}
+    {p q : Registers} {one : Step} {answer : Option StepAnswer} {given : List Deques} {bus : BusValue} {after : List
+    Deques}
     (h : StandsAt setup r deeds) (there : node < setup.nodes)
-    (t : Tries r node was now p q one done given bus after) where
+    (t : Tries r node was now p q one answer given bus after) where
   abbrev n : SerialValue
   n = run_tried r node now q bus after
 

@@ -1,7 +1,8 @@
 -- The bus refuses nothing that a driver gives.
-use Rattle.std.proofs.Common.{◌≡◌, ◌≢◌, ℕ, ◌+◌, ◌*◌, ◌<◌, ◌≤◌, Bool, true, false, List, length, sym, ap}
+use Rattle.sja_script.specs.declared.step_answer.StepAnswer.{StepAnswer}
+use Rattle.std.proofs.Common.{◌≡◌, ◌≢◌, ℕ, ◌+◌, ◌*◌, ◌<◌, ◌≤◌, List, length, ap}
 use Rattle.std.proofs.Common.{subst, arith, inl, inr}
-use Rattle.std.specs.Prelude.{slice_index_or}
+use Rattle.std.specs.Prelude.{slice_index_or, Option, Some, None}
 use Rattle.std.proofs.lemmas.Bool.{cases_eq}
 use Rattle.sja_link.specs.declared.entry.Entry.{Entry}
 use Rattle.sja_link.specs.Deques.{Deques, Lies}
@@ -28,14 +29,14 @@ use Rattle.sja_log.proofs.OneNode.Taken.{none_taken, done_taken, waits_taken}
 -- no item of any node is refused
 pub gather_takes : {setup : Setup} {r : SerialValue} {deeds : List (List Deed)} {node : ℕ} {was now : LoggedDriver}
     {p q : Registers} {given after : List Deques} {journals : List (List Entry)} {one : Step} {f : BusFault}
-    {b : Bool} → StandsAt setup r deeds → node < setup.nodes →
+    {b : Option StepAnswer} → StandsAt setup r deeds → node < setup.nodes →
     IsNode setup.version (slice_index_or setup.steps node 0) (journal_at r.bus.journals node) (deeds_at deeds node)
     was p r.links
     (64 * node) →
     IsLawfulJournal (journal_at r.bus.journals node) → length (deeds_at deeds node) ≤ slice_index_or setup.steps node
     0 →
     (place_of (journal_at r.bus.journals node)).bits ≡ r.bits →
-    Steps alike Lies shows_none takes_none was now r.links given (64 * node) p q one r.bits b →
+    Steps alike Lies shows_none takes_none was now r.links given (64 * node) p q one b →
     ((i : ℕ) (d : Deques) → i ≢ place_after (64 * node) (ended_of was) →
     slice_index_or given i d ≡ slice_index_or r.links i d) →
     IsTakenAndRefused Lies (r.bus.run + r.bus.left) r.bus.steps r.bus.journals journals given after f → ⊥
@@ -46,8 +47,7 @@ gather_takes {setup} {r} {deeds} {node} {was} {now} {p} {q} {given} {after} {jou
       | inl e ↦
           let P : ℕ → Type 0 = λ x. RefusesItem Lies (room_for (r.bus.run + r.bus.left) r.bus.steps x)
           (journal_at r.bus.journals x) (journal_at journals x) given after (64 * x) x f in
-          here b (subst (λ (n : ℕ). Steps alike Lies shows_none takes_none was now r.links given (64 * node) p q one n
-          b) (sym place) st) (subst P e r_not.refuses)
+          here b st (subst P e r_not.refuses)
       | inr differ ↦
           let few : m < setup.nodes = let c = h.count.journals in let l = r_not.few in omega (arith, c, l) in
           let n = h.nodes m now p few in
@@ -65,11 +65,12 @@ gather_takes {setup} {r} {deeds} {node} {was} {now} {p} {q} {given} {after} {jou
         ≤ room_for (r.bus.run + r.bus.left) r.bus.steps node
     enough = let e = ap (λ (l : List ℕ). slice_index_or l node 0) h.steps in omega (arith, e)
 
-    here : (x : Bool) →
-        Steps alike Lies shows_none takes_none was now r.links given (64 * node) p q one (place_of j).bits x →
+    here : (x : Option StepAnswer) →
+        Steps alike Lies shows_none takes_none was now r.links given (64 * node) p q one x →
         RefusesItem Lies (room_for (r.bus.run + r.bus.left) r.bus.steps node) j (journal_at journals node) given after
         (64 * node) node f → ⊥
-    here true = done_taken w lawful (r.bus.run + r.bus.left) (room_for (r.bus.run + r.bus.left) r.bus.steps node) short
+    here (Some answer) = done_taken w lawful (r.bus.run + r.bus.left) (room_for (r.bus.run + r.bus.left) r.bus.steps
+        node) short
         enough run
-    here false = waits_taken w lawful (r.bus.run + r.bus.left) (room_for (r.bus.run + r.bus.left) r.bus.steps node)
+    here None = waits_taken w lawful (r.bus.run + r.bus.left) (room_for (r.bus.run + r.bus.left) r.bus.steps node)
         short enough run

@@ -1,11 +1,12 @@
 -- A run in which the step of one node's driver was tried, and what it gave was taken: it was done, or it has to wait.
-use Rattle.std.proofs.Common.{◌≡◌, ℕ, zero, suc, ◌*◌, ◌<◌, Bool, true, false, List, [], ◌∷◌, length, sym, ap}
+use Rattle.sja_script.specs.declared.step_answer.StepAnswer.{StepAnswer}
+use Rattle.std.proofs.Common.{◌≡◌, ℕ, zero, suc, ◌*◌, ◌<◌, List, [], ◌∷◌, length, sym, ap}
 use Rattle.std.proofs.Common.{refl, ◌∙◌, subst, append-nil, arith, inl, inr}
-use Rattle.std.specs.Prelude.{slice_index_or, slice_set}
+use Rattle.std.specs.Prelude.{slice_index_or, slice_set, Option, Some, None, IfSome}
 use Rattle.std.proofs.lemmas.Bool.{cases_eq}
-use Rattle.std.proofs.lemmas.List.{get_or_default, set-get_or}
+use Rattle.std.proofs.lemmas.List.{get_or_default, get_or-set_other, get_or-set_same, set-get_or}
 use Rattle.sja_link.specs.declared.entry.Entry.{Entry}
-use Rattle.sja_link.specs.Deques.{Deques, Lies}
+use Rattle.sja_link.specs.Deques.{Deques}
 use Rattle.sja_link.specs.Places.{place_of}
 use Rattle.sja_link.proofs.JournalEntries.Entering.{bits_counted}
 use Rattle.sja_wire.specs.Buses.{BusValue}
@@ -14,24 +15,24 @@ use Rattle.sja_wire.specs.Wire.{journal_at}
 use Rattle.sja_script.specs.declared.step.Step.{Step}
 use Rattle.sja_regs.specs.declared.registers.Registers.{Registers}
 use Rattle.sja_driver.specs.declared.logged_driver.LoggedDriver.{LoggedDriver}
-use Rattle.sja_driver.specs.Carried.{Tells, carried, ported}
-use Rattle.sja_driver.specs.Deeds.{Deed, deeds_at, is_active}
-use Rattle.sja_driver.specs.LoggedDrivers.{Steps}
-use Rattle.sja_log.specs.Registering.{seen_now}
+use Rattle.sja_driver.specs.Deeds.{Deed, deeds_at}
+use Rattle.sja_driver.specs.LoggedDrivers.{kept_of, log_of}
+use Rattle.sja_log.specs.Registering.{IsPortDeed}
 use Rattle.sja_log.specs.Nodes.{IsNode}
 use Rattle.sja_serial.specs.Serial.{Setup, SerialValue, StandsAt}
 use Rattle.sja_link.specs.BitEntries.{HasMore}
-use Rattle.sja_serial.specs.Stepping.{DoesStep, DoesNothing}
+use Rattle.sja_serial.specs.Stepping.{DoesDeed, DoesNothing}
 use Rattle.sja_driver.specs.Shown.{ShowsRecord}
 use Rattle.sja_log.specs.Waiting.{HasToWait}
-use Rattle.sja_log.proofs.OneNode.Trying.{alike, shows_none, takes_none}
 use Rattle.sja_log.proofs.OneNode.Turned.{stepped, waited}
+use Rattle.sja_serial.proofs.AllNodes.Several.{each_as}
 use Rattle.sja_serial.proofs.OneNode.Standing.{Tries, run_tried, node_there, gathers, other_node, stands_after}
 
--- the step was done, or it has to wait
-abbrev pub IsTried : Setup → SerialValue → SerialValue → ℕ → Step → List (List Deed) → Bool → Type 0
-IsTried setup was now node step deeds done =
-    (done ≡ true → DoesStep setup was now node step deeds) × (done ≡ false → DoesNothing setup was now node step deeds)
+-- the step was done with this answer, or it has to wait
+abbrev pub IsTried : Setup → SerialValue → SerialValue → ℕ → Step → List (List Deed) → Option StepAnswer → Type 0
+IsTried setup was now node step deeds answer =
+    IfSome answer (λ given. DoesDeed setup was now node step given deeds)
+    × (answer ≡ None → DoesNothing setup was now node step deeds)
 
 module _ {setup : Setup} {r : SerialValue} {deeds : List (List Deed)} {node : ℕ}
     (h : StandsAt setup r deeds) (there : node < setup.nodes)
@@ -50,46 +51,55 @@ module _ {setup : Setup} {r : SerialValue} {deeds : List (List Deed)} {node : �
   place = bits_counted j ∙ laws.wired.count node inside ∙ sym h.bits
 
   module _ {was now : LoggedDriver} {p q : Registers} {given : List Deques} {bus : BusValue} {after : List Deques}
-      {one : Step} {done : Bool} (t : Tries r node was now p q one done given bus after) where
+      {one : Step} {answer : Option StepAnswer} (t : Tries r node was now p q one answer given bus after) where
     w : IsNode setup.version (slice_index_or setup.steps node 0) j ds was p r.links (64 * node)
     w = node_there h there t.was_is t.p_is
-
-    -- after the bits of the journal
-    steps : Steps alike Lies shows_none takes_none was now r.links given (64 * node) p q one (place_of j).bits done
-    steps = subst (λ (b : ℕ). Steps alike Lies shows_none takes_none was now r.links given (64 * node) p q one b done)
-        (sym place) t.steps
 
     port : (x : Registers) → p ≡ slice_index_or r.ports node x
     port x = t.p_is ∙ get_or_default r.ports node p x (let c = h.count.ports in omega (arith, c, there))
 
+    port_now : (x : Registers) → q ≡ slice_index_or (slice_set r.ports node q) node x
+    port_now x = sym (get_or-set_same r.ports node q x (let c = h.count.ports in omega (arith, c, there)))
+
     more_items : (m : ℕ) → m < setup.nodes → HasMore (journal_at r.bus.journals m) (journal_at bus.journals m)
     more_items m less = let its = (gathers h there t m less).items in record { items = its.items; whole = its.whole }
 
+    -- what drivers have as done, and their kept bytes, stay
+    logs_stay : (m : ℕ) (d : LoggedDriver) → m < setup.nodes →
+        (log_of (slice_index_or (slice_set r.drivers node now) m d)).done ≡ (log_of (slice_index_or r.drivers m d)).done
+    logs_stay m d less = each_as (λ (x : LoggedDriver). (log_of x).done) r.drivers node now was m d
+        (let c = h.count.drivers in omega (arith, c, there)) (t.stays.done ∙ ap (λ x. (log_of x).done) t.was_is)
+
+    kept_stays : (m : ℕ) (d : LoggedDriver) → m < setup.nodes →
+        kept_of (slice_index_or (slice_set r.drivers node now) m d) ≡ kept_of (slice_index_or r.drivers m d)
+    kept_stays m d less = each_as kept_of r.drivers node now was m d
+        (let c = h.count.drivers in omega (arith, c, there)) (t.stays.kept ∙ ap kept_of t.was_is)
+
   -- the step was done
   next_done : {was now : LoggedDriver} {p q : Registers} {given : List Deques} {bus : BusValue} {after : List Deques}
-      {one : Step} →
-      Tries r node was now p q one true given bus after → DoesStep setup r (run_tried r node now q bus after) node one
-      deeds
-  next_done {was} {now} {p} {q} {bus = bus} {after} t =
-      let s = stepped now (w t) t.stays.lawful (gathers h there t node there) (laws.lawful node inside) few (steps t)
-      t.stays.room in let d = s.deed in record {
+      {one : Step} {answer : StepAnswer} → Tries r node was now p q one (Some answer) given bus after →
+      DoesDeed setup r (run_tried r node now q bus after) node one answer deeds
+  next_done {was} {now} {p} {q} {bus = bus} {after} {one} {answer} t =
+      let s = stepped now (w t) t.stays.lawful (gathers h there t node there) (laws.lawful node inside) answer few
+      t.steps t.stays.room in let d = s.deed in record {
         deed = d;
         does = record {
           stands = stands_after h there t (d ∷ []) s.node s.shows;
-          at_once = λ i e less. only d i e (s.bits ∙ place) less;
+          at_once = λ i e less. only d i e (s.port.now ∙ place) less;
           bits = refl;
           items = more_items t;
         };
         step_is = s.step_is;
-        tells = λ x. subst (λ (g : Registers). Tells d.step (is_active ds) g (seen_now (is_active ds) j ds) d.answer)
-            (port t x) s.tells;
+        answer_is = s.answer_is;
+        port = λ x. subst (λ (a : Registers). IsPortDeed a (slice_index_or (slice_set r.ports node q) node x) j
+            (journal_at bus.journals node) ds d) (port t x)
+            (subst (λ (b : Registers). IsPortDeed p b j (journal_at bus.journals node) ds d) (port_now t x) s.port);
         fits = s.fits;
         sees = s.sees;
-        gave = λ x. s.gave ∙ ap (λ (g : Registers). carried g d.step d.answer) (port t x);
-        journal = s.entered;
         others = λ m less differ. (other_node h there t m was p differ less).0;
-        ports = λ x. ap (slice_set r.ports node)
-            (s.left_port ∙ ap (λ (g : Registers). ported g d.step d.answer) (port t x));
+        ports = λ m x differ. get_or-set_other r.ports node m q x differ;
+        logs = logs_stay t;
+        kept = kept_stays t;
       }
     where
       only : (x : Deed) (i : ℕ) (d : Deed) → x.bits ≡ r.bits → i < 1 → (slice_index_or (x ∷ []) i d).bits ≡ r.bits
@@ -99,10 +109,10 @@ module _ {setup : Setup} {r : SerialValue} {deeds : List (List Deed)} {node : �
   -- the step has to wait
   next_waits : {was now : LoggedDriver} {p q : Registers} {given : List Deques} {bus : BusValue} {after : List Deques}
       {one : Step} →
-      Tries r node was now p q one false given bus after →
+      Tries r node was now p q one None given bus after →
       DoesNothing setup r (run_tried r node now q bus after) node one deeds
   next_waits {was} {now} {p} {q} {bus = bus} {after} {one} t =
-      let s = waited now (w t) t.stays.lawful (gathers h there t node there) (laws.lawful node inside) (steps t)
+      let s = waited now (w t) t.stays.lawful (gathers h there t node there) (laws.lawful node inside) t.steps
       (t.stays.waits refl) in let k = journal_at bus.journals node in
       let ports_stay : slice_set r.ports node q ≡ r.ports =
       ap (slice_set r.ports node) (s.port ∙ t.p_is) ∙ set-get_or r.ports node p in record {
@@ -123,11 +133,14 @@ module _ {setup : Setup} {r : SerialValue} {deeds : List (List Deed)} {node : �
           | inl e ↦ subst (λ (x : ℕ). journal_at bus.journals x ≡ journal_at r.bus.journals x) e s.journal
           | inr differ ↦ (other_node h there t m was p (λ e. differ (sym e)) less).0
         ];
+        logs = logs_stay t;
+        kept = kept_stays t;
       }
 
   -- either of both
   pub next_tried : {was now : LoggedDriver} {p q : Registers} {given : List Deques} {bus : BusValue}
-      {after : List Deques} {one : Step} (done : Bool) → Tries r node was now p q one done given bus after →
-      IsTried setup r (run_tried r node now q bus after) node one deeds done
-  next_tried true t = (λ e. next_done t, λ e. absurd cc)
-  next_tried false t = (λ e. absurd cc, λ e. next_waits t)
+      {after : List Deques} {one : Step} (answer : Option StepAnswer) →
+      Tries r node was now p q one answer given bus after →
+      IsTried setup r (run_tried r node now q bus after) node one deeds answer
+  next_tried (Some answer) t = (next_done t, λ e. absurd cc)
+  next_tried None t = (tt, λ e. next_waits t)

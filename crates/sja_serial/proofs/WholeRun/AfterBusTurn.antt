@@ -10,7 +10,7 @@ use Rattle.sja_wire.specs.Wire.{journal_at}
 use Rattle.sja_plan.specs.Plan.{PlanValue}
 use Rattle.sja_plan.specs.declared.turn.Turn.{Turn}
 use Rattle.sja_plan.specs.declared.turn.Turn.TheVariants.{Bus, Rest}
-use Rattle.sja_driver.specs.Deeds.{Deed, deeds_at}
+use Rattle.sja_driver.specs.Accesses.{Access, accesses_at, deeds_in}
 use Rattle.sja_log.specs.declared.end.End.{End}
 use Rattle.sja_log.specs.declared.end.End.TheVariants.{Bits as BitsSpent}
 use Rattle.sja_driver.specs.Moments.{record_at}
@@ -20,122 +20,129 @@ use Rattle.sja_log.specs.Turns.RunsTo.{bus, bus_spent, rest, rest_spent}
 use Rattle.sja_serial.specs.Bits.{TakesBits, SomeWorks, TakesBusTurn, TakesRest}
 use Rattle.sja_serial.specs.Bits.TakesBits.{no_bit, one_more}
 use Rattle.sja_serial.specs.Ending.{progress, setup_of}
-use Rattle.sja_serial.specs.Serial.{SerialValue, StandsAt}
+use Rattle.sja_serial.specs.Serial.{SerialValue, StandsAt, all_deeds}
 use Rattle.sja_serial.proofs.ManyBits.SomeBits.{bits_within}
 use Rattle.sja_serial.proofs.WholeRun.GoingOn.{acts_of, GoesOn, ArePresent, deeds_then, record_then}
 use Rattle.sja_serial.proofs.WholeRun.GoingOn.{back_bit, present_bits, bits_run, stands_bits}
 
-module _ (plan : PlanValue) (deeds : List (List Deed)) (journals : List (List Entry)) (all : List (List Deed)) where
-  bits_on : (was now : SerialValue) (n : ℕ) → now.bits ≡ was.bits + n →
-      progress now deeds ≡ with_bits (progress was deeds) n
-  bits_on was now n e = ap (λ b. let p : Progress =
-      record { bits = b; done = map (λ (l : List Deed). length l) deeds } in p) e
+module _ (plan : PlanValue) (accesses : List (List Access)) (journals : List (List Entry)) (all : List (List Access))
+  where
+    bits_on : (was now : SerialValue) (n : ℕ) → now.bits ≡ was.bits + n →
+        progress now accesses ≡ with_bits (progress was accesses) n
+    bits_on was now n e = ap (λ b. let p : Progress =
+        record { bits = b; done = map (λ (l : List Access). length l) accesses } in p) e
 
-  pub bus_whole : (was now : SerialValue) (count : ℕ) (turns : List Turn) (q : Progress) (end : End) →
-      StandsAt (setup_of plan) was deeds → TakesBusTurn (setup_of plan) deeds was now count true →
-      RunsTo (acts_of plan journals all) (progress now deeds) turns q end →
-      RunsTo (acts_of plan journals all) (progress was deeds) (Bus count ∷ turns) q end
-  bus_whole was now count turns q end h t follows =
-      let n = bits_run (setup_of plan) deeds _ was now t.run t.bits in
-      let stands = stands_bits (setup_of plan) deeds _ was now t.run t.bits h in
-      let few = bits_within (setup_of plan) now deeds stands in let w = t.whole refl in
-      let e : now.bits ≡ was.bits + count = omega (arith, n, w) in
-      bus (progress was deeds) q count turns end (omega (arith, few, e))
-      (subst (λ (p : Progress). RunsTo (acts_of plan journals all) p turns q end) (bits_on was now count e) follows)
+    pub bus_whole : (was now : SerialValue) (count : ℕ) (turns : List Turn) (q : Progress) (end : End) →
+        StandsAt (setup_of plan) was (all_deeds accesses) → TakesBusTurn (setup_of plan) (all_deeds accesses) was now
+        count true →
+        RunsTo (acts_of plan journals all) (progress now accesses) turns q end →
+        RunsTo (acts_of plan journals all) (progress was accesses) (Bus count ∷ turns) q end
+    bus_whole was now count turns q end h t follows =
+        let n = bits_run (setup_of plan) (all_deeds accesses) _ was now t.run t.bits in
+        let stands = stands_bits (setup_of plan) (all_deeds accesses) _ was now t.run t.bits h in
+        let few = bits_within (setup_of plan) now (all_deeds accesses) stands in let w = t.whole refl in
+        let e : now.bits ≡ was.bits + count = omega (arith, n, w) in
+        bus (progress was accesses) q count turns end (omega (arith, few, e))
+        (subst (λ (p : Progress). RunsTo (acts_of plan journals all) p turns q end) (bits_on was now count e) follows)
 
-  spent_at : (was now : SerialValue) → now.bits ≡ plan.bits →
-      (record (progress was deeds) { bits = plan.bits }) ≡ progress now deeds
-  spent_at was now e = ap (λ b. let p : Progress =
-      record { bits = b; done = map (λ (l : List Deed). length l) deeds } in p) (sym e)
+    spent_at : (was now : SerialValue) → now.bits ≡ plan.bits →
+        (record (progress was accesses) { bits = plan.bits }) ≡ progress now accesses
+    spent_at was now e = ap (λ b. let p : Progress =
+        record { bits = b; done = map (λ (l : List Access). length l) accesses } in p) (sym e)
 
-  pub bus_short : (was now : SerialValue) (count : ℕ) (turns : List Turn) →
-      TakesBusTurn (setup_of plan) deeds was now count false →
-      RunsTo (acts_of plan journals all) (progress was deeds) (Bus count ∷ turns) (progress now deeds) BitsSpent
-  bus_short was now count turns t =
-      let n = bits_run (setup_of plan) deeds _ was now t.run t.bits in let s = t.spent refl in let few = s.0 in let e
-      = s.1 in
-      subst (λ (q : Progress). RunsTo (acts_of plan journals all) (progress was deeds)
-      (Bus count ∷ turns) q BitsSpent) (spent_at was now e)
-      (bus_spent (progress was deeds) count turns (omega (arith, n, few, e)))
+    pub bus_short : (was now : SerialValue) (count : ℕ) (turns : List Turn) →
+        TakesBusTurn (setup_of plan) (all_deeds accesses) was now count false →
+        RunsTo (acts_of plan journals all) (progress was accesses) (Bus count ∷ turns) (progress now accesses) BitsSpent
+    bus_short was now count turns t =
+        let n = bits_run (setup_of plan) (all_deeds accesses) _ was now t.run t.bits in let s = t.spent refl in let few
+        = s.0 in let e
+        = s.1 in
+        subst (λ (q : Progress). RunsTo (acts_of plan journals all) (progress was accesses)
+        (Bus count ∷ turns) q BitsSpent) (spent_at was now e)
+        (bus_spent (progress was accesses) count turns (omega (arith, n, few, e)))
 
-  -- ---- rest
+    -- ---- rest
 
-  rests_then : (at : Progress) (r : SerialValue) → at.done ≡ map (λ (l : List Deed). length l) deeds →
-      StandsAt (setup_of plan) r deeds → ArePresent (setup_of plan) r → GoesOn (setup_of plan) r deeds journals all →
-      (k : ℕ) → k < length plan.nodes →
-      record_at (journal_at journals k) (take (slice_index at.done k) (deeds_at all k)) r.bits ≡ record_of
-      (journal_at r.bus.journals k)
-  rests_then at r e h present go k less =
-      ap (λ l. record_at (journal_at journals k) l r.bits)
-      (ap (λ l. take (slice_index l k) (deeds_at all k)) e ∙ deeds_then (setup_of plan) r deeds journals all go k less)
-      ∙ record_then (setup_of plan) r deeds journals all h present go k less
+    rests_then : (at : Progress) (r : SerialValue) → at.done ≡ map (λ (l : List Access). length l) accesses →
+        StandsAt (setup_of plan) r (all_deeds accesses) → ArePresent (setup_of plan) r →
+        GoesOn (setup_of plan) r accesses journals all →
+        (k : ℕ) → k < length plan.nodes →
+        record_at (journal_at journals k) (deeds_in (take (slice_index at.done k) (accesses_at all k))) r.bits
+        ≡ record_of (journal_at r.bus.journals k)
+    rests_then at r e h present go k less =
+        ap (λ l. record_at (journal_at journals k) l r.bits)
+        (ap (λ l. deeds_in (take (slice_index l k) (accesses_at all k))) e
+        ∙ deeds_then (setup_of plan) r accesses journals all go k less)
+        ∙ record_then (setup_of plan) r accesses journals all h present go k less
 
-  -- where some node works not all are at rest
-  works_then : (was r : SerialValue) → StandsAt (setup_of plan) r deeds → ArePresent (setup_of plan) r →
-      GoesOn (setup_of plan) r deeds journals all →
-      SomeWorks (setup_of plan) r → AllAtRest (acts_of plan journals all) (progress was deeds) r.bits → ⊥
-  works_then was r h present go works still =
-      let k = works.0 in
-      let rests = subst (λ (l : List NodeEntry). IsAtRest l)
-      (rests_then (progress was deeds) r refl h present go k works.1) (still k works.1) in
-      false≢true (sym (works.2.every rests.0 rests.1) ∙ rests.2)
+    -- where some node works not all are at rest
+    works_then : (was r : SerialValue) → StandsAt (setup_of plan) r (all_deeds accesses) →
+        ArePresent (setup_of plan) r → GoesOn (setup_of plan) r accesses journals all →
+        SomeWorks (setup_of plan) r → AllAtRest (acts_of plan journals all) (progress was accesses) r.bits → ⊥
+    works_then was r h present go works still =
+        let k = works.0 in
+        let rests = subst (λ (l : List NodeEntry). IsAtRest l)
+        (rests_then (progress was accesses) r refl h present go k works.1) (still k works.1) in
+        false≢true (sym (works.2.every rests.0 rests.1) ∙ rests.2)
 
-  works_before : (was now : SerialValue) (n : ℕ) → TakesBits (setup_of plan) deeds (SomeWorks (setup_of plan)) was n
-      now →
-      StandsAt (setup_of plan) was deeds → ArePresent (setup_of plan) was →
-      GoesOn (setup_of plan) now deeds journals all →
-      (i : ℕ) → i < n → AllAtRest (acts_of plan journals all) (progress was deeds) (was.bits + i) → ⊥
-  works_before was now n (no_bit _) h present go i less still = omega (arith, less)
-  works_before was now n (one_more _ mid _ m before holds bit) h present go i less still =
-      let back = back_bit (setup_of plan) deeds mid now journals all bit go in
-      elim (cases_lt i m) [
-        | inl few ↦ works_before was mid m before h present back i few still
-        | inr far ↦
-            let e = bits_run (setup_of plan) deeds _ was mid m before in
-            let now_is : was.bits + i ≡ mid.bits = omega (arith, e, far, less) in
-            works_then was mid (stands_bits (setup_of plan) deeds _ was mid m before h)
-            (present_bits (setup_of plan) deeds _ was mid m before present) back holds
-            (subst (λ (b : ℕ). AllAtRest (acts_of plan journals all) (progress was deeds) b) now_is still)
-      ]
+    works_before : (was now : SerialValue) (n : ℕ) → TakesBits (setup_of plan) (all_deeds accesses)
+        (SomeWorks (setup_of plan)) was n
+        now →
+        StandsAt (setup_of plan) was (all_deeds accesses) → ArePresent (setup_of plan) was →
+        GoesOn (setup_of plan) now accesses journals all →
+        (i : ℕ) → i < n → AllAtRest (acts_of plan journals all) (progress was accesses) (was.bits + i) → ⊥
+    works_before was now n (no_bit _) h present go i less still = omega (arith, less)
+    works_before was now n (one_more _ mid _ m before holds bit) h present go i less still =
+        let back = back_bit (setup_of plan) (all_deeds accesses) mid now accesses journals all bit go in
+        elim (cases_lt i m) [
+          | inl few ↦ works_before was mid m before h present back i few still
+          | inr far ↦
+              let e = bits_run (setup_of plan) (all_deeds accesses) _ was mid m before in
+              let now_is : was.bits + i ≡ mid.bits = omega (arith, e, far, less) in
+              works_then was mid (stands_bits (setup_of plan) (all_deeds accesses) _ was mid m before h)
+              (present_bits (setup_of plan) (all_deeds accesses) _ was mid m before present) back holds
+              (subst (λ (b : ℕ). AllAtRest (acts_of plan journals all) (progress was accesses) b) now_is still)
+        ]
 
-  pub rest_whole : (was now : SerialValue) (turns : List Turn) (q : Progress) (end : End) →
-      StandsAt (setup_of plan) was deeds →
-      ArePresent (setup_of plan) was → GoesOn (setup_of plan) now deeds journals all →
-      TakesRest (setup_of plan) deeds was now true →
-      RunsTo (acts_of plan journals all) (progress now deeds) turns q end →
-      RunsTo (acts_of plan journals all) (progress was deeds) (Rest ∷ turns) q end
-  rest_whole was now turns q end h present go t follows =
-      let e = bits_run (setup_of plan) deeds _ was now t.run t.bits in
-      let stands = stands_bits (setup_of plan) deeds _ was now t.run t.bits h in
-      let there = present_bits (setup_of plan) deeds _ was now t.run t.bits present in
-      let few = bits_within (setup_of plan) now deeds stands in
-      let still : AllAtRest (acts_of plan journals all) (progress was deeds) now.bits = λ k less.
-      let rests = t.whole refl k less in
-      subst (λ (l : List NodeEntry). IsAtRest l)
-      (sym (rests_then (progress was deeds) now refl stands there go k less)) (rests.found, rests.cut, rests.is) in
-      rest (progress was deeds) q t.run turns end (omega (arith, few, e))
-      (works_before was now t.run t.bits h present go)
-      (subst (λ (b : ℕ). AllAtRest (acts_of plan journals all) (progress was deeds) b) e still)
-      (subst (λ (p : Progress). RunsTo (acts_of plan journals all) p turns q end) (bits_on was now t.run e) follows)
+    pub rest_whole : (was now : SerialValue) (turns : List Turn) (q : Progress) (end : End) →
+        StandsAt (setup_of plan) was (all_deeds accesses) →
+        ArePresent (setup_of plan) was → GoesOn (setup_of plan) now accesses journals all →
+        TakesRest (setup_of plan) (all_deeds accesses) was now true →
+        RunsTo (acts_of plan journals all) (progress now accesses) turns q end →
+        RunsTo (acts_of plan journals all) (progress was accesses) (Rest ∷ turns) q end
+    rest_whole was now turns q end h present go t follows =
+        let e = bits_run (setup_of plan) (all_deeds accesses) _ was now t.run t.bits in
+        let stands = stands_bits (setup_of plan) (all_deeds accesses) _ was now t.run t.bits h in
+        let there = present_bits (setup_of plan) (all_deeds accesses) _ was now t.run t.bits present in
+        let few = bits_within (setup_of plan) now (all_deeds accesses) stands in
+        let still : AllAtRest (acts_of plan journals all) (progress was accesses) now.bits = λ k less.
+        let rests = t.whole refl k less in
+        subst (λ (l : List NodeEntry). IsAtRest l)
+        (sym (rests_then (progress was accesses) now refl stands there go k less)) (rests.found, rests.cut, rests.is) in
+        rest (progress was accesses) q t.run turns end (omega (arith, few, e))
+        (works_before was now t.run t.bits h present go)
+        (subst (λ (b : ℕ). AllAtRest (acts_of plan journals all) (progress was accesses) b) e still)
+        (subst (λ (p : Progress). RunsTo (acts_of plan journals all) p turns q end) (bits_on was now t.run e) follows)
 
-  pub rest_short : (was now : SerialValue) (turns : List Turn) → StandsAt (setup_of plan) was deeds →
-      ArePresent (setup_of plan) was →
-      GoesOn (setup_of plan) now deeds journals all → TakesRest (setup_of plan) deeds was now false →
-      RunsTo (acts_of plan journals all) (progress was deeds) (Rest ∷ turns) (progress now deeds) BitsSpent
-  rest_short was now turns h present go t =
-      let e = bits_run (setup_of plan) deeds _ was now t.run t.bits in
-      let stands = stands_bits (setup_of plan) deeds _ was now t.run t.bits h in
-      let there = present_bits (setup_of plan) deeds _ was now t.run t.bits present in
-      let s = t.spent refl in let last = s.1 in
-      subst (λ (q : Progress). RunsTo (acts_of plan journals all) (progress was deeds) (Rest ∷ turns) q BitsSpent)
-      (spent_at was now s.1)
-      (rest_spent (progress was deeds) turns (λ bits from to still. elim (cases_lt (bits - was.bits) t.run) [
-        | inl few ↦
-            let same : bits ≡ was.bits + (bits - was.bits) = omega (arith, from) in
-            works_before was now t.run t.bits h present go (bits - was.bits) few
-            (subst (λ (b : ℕ). AllAtRest (acts_of plan journals all) (progress was deeds) b) same still)
-        | inr far ↦
-            let same : bits ≡ now.bits = omega (arith, from, to, far, e, last) in
-            works_then was now stands there go s.0
-            (subst (λ (b : ℕ). AllAtRest (acts_of plan journals all) (progress was deeds) b) same still)
-      ]))
+    pub rest_short : (was now : SerialValue) (turns : List Turn) → StandsAt (setup_of plan) was (all_deeds accesses) →
+        ArePresent (setup_of plan) was →
+        GoesOn (setup_of plan) now accesses journals all →
+        TakesRest (setup_of plan) (all_deeds accesses) was now false →
+        RunsTo (acts_of plan journals all) (progress was accesses) (Rest ∷ turns) (progress now accesses) BitsSpent
+    rest_short was now turns h present go t =
+        let e = bits_run (setup_of plan) (all_deeds accesses) _ was now t.run t.bits in
+        let stands = stands_bits (setup_of plan) (all_deeds accesses) _ was now t.run t.bits h in
+        let there = present_bits (setup_of plan) (all_deeds accesses) _ was now t.run t.bits present in
+        let s = t.spent refl in let last = s.1 in
+        subst (λ (q : Progress). RunsTo (acts_of plan journals all) (progress was accesses) (Rest ∷ turns) q BitsSpent)
+        (spent_at was now s.1)
+        (rest_spent (progress was accesses) turns (λ bits from to still. elim (cases_lt (bits - was.bits) t.run) [
+          | inl few ↦
+              let same : bits ≡ was.bits + (bits - was.bits) = omega (arith, from) in
+              works_before was now t.run t.bits h present go (bits - was.bits) few
+              (subst (λ (b : ℕ). AllAtRest (acts_of plan journals all) (progress was accesses) b) same still)
+          | inr far ↦
+              let same : bits ≡ now.bits = omega (arith, from, to, far, e, last) in
+              works_then was now stands there go s.0
+              (subst (λ (b : ℕ). AllAtRest (acts_of plan journals all) (progress was accesses) b) same still)
+        ]))

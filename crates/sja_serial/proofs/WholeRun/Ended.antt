@@ -1,5 +1,5 @@
 -- The log of a run in one thread, by what its bus leaves and what drivers and links hold at the end.
-use Rattle.std.proofs.Common.{◌≡◌, ℕ, zero, suc, ◌+◌, ◌*◌, ◌<◌, List, [], ◌∷◌, ◌++◌, length, map, take, refl, sym, ap}
+use Rattle.std.proofs.Common.{◌≡◌, ℕ, zero, suc, ◌+◌, ◌*◌, ◌<◌, List, [], ◌∷◌, ◌++◌, length, map, refl, sym, ap}
 use Rattle.std.proofs.Common.{◌∙◌, subst, arith}
 use Rattle.std.specs.Prelude.{slice_index_or}
 use Rattle.sja_link.specs.declared.entry.Entry.{Entry}
@@ -12,22 +12,24 @@ use Rattle.sja_wire.specs.Wire.{journal_at}
 use Rattle.sja_plan.specs.Plan.{PlanValue, steps_at}
 use Rattle.sja_regs.specs.declared.registers.Registers.{Registers}
 use Rattle.sja_regs.specs.Registers.{at_power_on}
-use Rattle.sja_script.specs.declared.step.Step.{Step}
 use Rattle.sja_driver.specs.declared.logged_driver.LoggedDriver.{LoggedDriver}
 use Rattle.sja_driver.specs.Deeds.{Deed, given_in, deeds_of, deeds_at}
-use Rattle.sja_driver.specs.LoggedDrivers.{log_of}
+use Rattle.sja_driver.specs.LoggedDrivers.{log_of, kept_of}
 use Rattle.sja_driver.specs.Logs.{releases_in, released_of}
 use Rattle.sja_log.specs.declared.end.End.{End}
 use Rattle.sja_driver.specs.InTime.{IsInTime}
-use Rattle.sja_log.specs.Registering.{LeadTo}
+use Rattle.sja_log.specs.Registering.{AccessesLeadTo}
 use Rattle.sja_log.specs.Log.{NodeValue, RunValue}
-use Rattle.sja_log.specs.Runs.{IsTrace}
+use Rattle.sja_log.specs.Runs.{IsTrace, AreFirst as AreFirstSteps}
 use Rattle.sja_log.specs.Settling.{IsSettled, AreSettled}
 use Rattle.sja_driver.proofs.Trace.Stepping.{given_taken}
 use Rattle.sja_log.proofs.Trace.Windows.{settled_kept}
 use Rattle.sja_log.proofs.OneNode.Gathered.{no_link}
 use Rattle.sja_log.specs.Nodes.{IsNode}
-use Rattle.sja_serial.specs.Serial.{Setup, SerialValue, StandsAt}
+use Rattle.sja_serial.specs.Serial.{Setup, SerialValue, StandsAt, StandsBy, IsAccessed, all_deeds, most_steps}
+use Rattle.sja_serial.proofs.Deeds.Parts.{all_at}
+use Rattle.sja_driver.specs.declared.kept_bytes.KeptBytes.{KeptBytes}
+use Rattle.sja_driver.specs.Accesses.{Access, accesses_at, deeds_in}
 use Rattle.sja_log.specs.Finishing.{held_after, activation_after, IsNodeEnd, AreNodeEnds}
 use Rattle.sja_log.specs.Inside.LeftDown.{all_down}
 use Rattle.sja_serial.specs.Ending.{IsLogOf, MayBeOf}
@@ -43,20 +45,13 @@ down_at (x ∷ links) (suc k) d = down_at links k d
 
 -- ---- one node
 
-module _ (version size : ℕ) (steps : List Step) (j : List Entry) (deeds : List Deed) (driver : LoggedDriver)
+module _ (version size : ℕ) (j : List Entry) (deeds : List Deed) (driver : LoggedDriver)
     (port : Registers) (links : List Deques) (base : ℕ) (h : IsNode version size j deeds driver port links base)
-    (first : map (λ (d : Deed). d.step) deeds ≡ take (length deeds) steps)
     (log : NodeLog) (node : NodeValue) (end : IsNodeEnd log driver (all_down links) base node)
     (same : node.journal ≡ j) where
-  trace_at : IsTrace version steps node deeds
-  trace_at =
-      trace_of j deeds driver (all_down links) base log node end same version steps
-      (record {
-        first = first;
-        states = h.traced.traces.answered.states;
-        gives = h.traced.traces.answered.gives;
-      })
-      h.traced.traces (λ a. given_taken deeds j a (h.in_time.when a))
+  trace_at : IsTrace version node deeds
+  trace_at = trace_of j deeds driver (all_down links) base log node end same version h.traced.traces
+      (λ a. given_taken deeds j a (h.in_time.when a))
 
   settled_at : AreSettled node
   settled_at =
@@ -74,8 +69,8 @@ module _ (version size : ℕ) (steps : List Step) (j : List Entry) (deeds : List
 
 -- ---- all nodes
 
-module _ (plan : PlanValue) (r : SerialValue) (deeds : List (List Deed)) (end : End) (log : RunValue)
-    (logs : List NodeLog) (setup : Setup) (h : StandsAt setup r deeds) (is : MayBeOf plan setup deeds)
+module _ (plan : PlanValue) (r : SerialValue) (accesses : List (List Access)) (end : End) (log : RunValue)
+    (logs : List NodeLog) (setup : Setup) (by : StandsBy setup r accesses) (is : MayBeOf plan setup accesses)
     (version : log.version ≡ setup.version) (bits : log.bits ≡ r.bits)
     (ends : log.end ≡ end)
     (all : AreNodeEnds logs r.drivers (all_down r.links) (length r.drivers) log.nodes)
@@ -84,6 +79,12 @@ module _ (plan : PlanValue) (r : SerialValue) (deeds : List (List Deed)) (end : 
     (counters : (k : ℕ) (g : NodeLog) → k < length logs →
     CountersAre (slice_index_or logs k g).journal.entries (slice_index_or logs k g).txerr
     (slice_index_or logs k g).rxerr) where
+  abbrev deeds : List (List Deed)
+  deeds = all_deeds accesses
+
+  h : StandsAt setup r deeds
+  h = by.stands
+
   are : AreEnds plan log logs r.bus.journals r.drivers (all_down r.links)
   are = record {
     nodes = all;
@@ -113,34 +114,53 @@ module _ (plan : PlanValue) (r : SerialValue) (deeds : List (List Deed)) (end : 
     same : (slice_index_or log.nodes k n).journal ≡ journal_at r.bus.journals k
     same = journal_is plan log logs r.bus.journals r.drivers (all_down r.links) are k n less
 
-    trace_there : IsTrace plan.version (steps_at plan k) (slice_index_or log.nodes k n) (deeds_at deeds k)
-    trace_there = trace_at plan.version _ (steps_at plan k) (journal_at r.bus.journals k) (deeds_at deeds k) driver _
-        r.links (64 * k) node_is (is.first k in_plan) _ (slice_index_or log.nodes k n)
+    trace_there : IsTrace plan.version (slice_index_or log.nodes k n) (deeds_at deeds k)
+    trace_there = trace_at plan.version _ (journal_at r.bus.journals k) (deeds_at deeds k) driver _
+        r.links (64 * k) node_is _ (slice_index_or log.nodes k n)
         (node_end plan log logs r.bus.journals r.drivers (all_down r.links) are k n less) same
 
     settled_there : AreSettled (slice_index_or log.nodes k n)
-    settled_there = settled_at plan.version _ (steps_at plan k) (journal_at r.bus.journals k) (deeds_at deeds k)
+    settled_there = settled_at plan.version _ (journal_at r.bus.journals k) (deeds_at deeds k)
         driver _
-        r.links (64 * k) node_is (is.first k in_plan) _ (slice_index_or log.nodes k n)
+        r.links (64 * k) node_is _ (slice_index_or log.nodes k n)
         (node_end plan log logs r.bus.journals r.drivers (all_down r.links) are k n less) same
 
-    in_time_there : IsInTime plan.version (slice_index_or log.nodes k n).journal (deeds_at deeds k)
-    in_time_there = subst (λ (j : List Entry). IsInTime plan.version j (deeds_at deeds k)) (sym same) node_is.in_time
+    in_time_there : IsInTime plan.version (slice_index_or log.nodes k n).journal (deeds_in (accesses_at accesses k))
+    in_time_there = subst (λ (j : List Entry). IsInTime plan.version j (deeds_in (accesses_at accesses k))) (sym same)
+        (subst (λ (l : List Deed). IsInTime plan.version (journal_at r.bus.journals k) l) (all_at accesses k)
+        node_is.in_time)
 
-    registers_there : (p : Registers) × LeadTo plan.version (slice_index_or log.nodes k n).journal (deeds_at deeds k) p
+    accessed : IsAccessed setup.version (most_steps setup.version (slice_index_or setup.steps k 0))
+        (journal_at r.bus.journals k) (accesses_at accesses k) driver (slice_index_or r.ports k (at_power_on 1))
+    accessed = let l = in_plan in let m = is.nodes in
+        by.nodes k (some_driver plan log logs r.bus.journals r.drivers (all_down r.links) are k n less) (at_power_on 1)
+        (omega (arith, l, m))
+
+    steps_there : AreFirstSteps (steps_at plan k) (slice_index_or log.nodes k n) (accesses_at accesses k)
+    steps_there = record {
+      first = is.first k in_plan;
+      done = accessed.done ∙ sym (node_end plan log logs r.bus.journals r.drivers (all_down r.links) are k n less).done;
+    }
+
+    registers_there : (kept : KeptBytes) × (p : Registers)
+        × AccessesLeadTo plan.version (slice_index_or log.nodes k n).journal (accesses_at accesses k) kept p
     registers_there = (
+      kept_of driver,
       slice_index_or r.ports k (at_power_on 1),
-      subst (λ (j : List Entry). LeadTo plan.version j
-          (deeds_at deeds k) (slice_index_or r.ports k (at_power_on 1))) (sym same) node_is.registers,
+      subst (λ (j : List Entry). AccessesLeadTo plan.version j (accesses_at accesses k) (kept_of driver)
+          (slice_index_or r.ports k (at_power_on 1))) (sym same)
+          (subst (λ (v : ℕ). AccessesLeadTo v (journal_at r.bus.journals k) (accesses_at accesses k) (kept_of driver)
+          (slice_index_or r.ports k (at_power_on 1))) is.version accessed.led),
     )
 
-  pub log_of_run : IsLogOf plan r deeds end log
+  pub log_of_run : IsLogOf plan r accesses end log
   log_of_run = record {
     run = run_of_ends plan log logs r.bus.journals r.drivers (all_down r.links) are deeds r.bus.script r.bus.run
         (version ∙ is.version) (h.script ∙ is.strikes) (bits ∙ h.bits) bus trace_there settled_there;
     bits = bits;
     ends = ends;
     journals = journals_in_log plan log logs r.bus.journals r.drivers (all_down r.links) are;
+    steps = steps_there;
     in_time = in_time_there;
     registers = registers_there;
   }

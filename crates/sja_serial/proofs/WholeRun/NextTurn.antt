@@ -21,7 +21,7 @@ turn_is same i d = ap (λ (ts : List Turn). slice_index_or ts i d) (sym same)
 -- it was taken: as a whole, or the bits are spent
 module _ {plan : PlanValue} {turns : List Turn} (same : turns ≡ plan.turns) (i : ℕ) (less : i < length turns)
     {was : SerialValue} (now : SerialValue) (c : HasCome plan (take i plan.turns) was) (all : Bool)
-    (taken : TakesOne plan c.deeds was now (slice_index_or turns i (Bus 0)) all) where
+    (taken : TakesOne plan c.accesses was now (slice_index_or turns i (Bus 0)) all) where
   abbrev turn : Turn
   turn = slice_index_or turns i (Bus 0)
 

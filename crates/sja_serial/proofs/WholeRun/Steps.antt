@@ -1,118 +1,186 @@
 -- The steps of a turn of a node, one after another.
-use Rattle.std.proofs.Common.{◌≡◌, ◌≢◌, ℕ, ◌+◌, ◌<◌, ◌≤◌, List, [], ◌∷◌, ◌++◌, length, map, take, refl, sym, ◌∙◌}
-use Rattle.std.proofs.Common.{subst, append-nil, arith, inl, inr}
-use Rattle.std.specs.Prelude.{slice_index_or}
-use Rattle.std.proofs.lemmas.Bool.{cases_eq}
-use Rattle.std.proofs.lemmas.List.{length-append, get_or-map, get_or-set_same, get_or-set_other}
-use Rattle.sja_driver.proofs.Deeds.FirstSteps.{first_more}
-use Rattle.sja_driver.specs.Deeds.{Deed, deeds_at, with_deeds}
-use Rattle.sja_driver.proofs.OneNode.Slices.{no_deeds}
+use Rattle.std.proofs.Common.{◌≡◌, ◌≢◌, ℕ, ◌+◌, ◌-◌, ◌<◌, ◌≤◌, List, [], ◌∷◌, ◌++◌, length, map, take, refl, sym, ap}
+use Rattle.std.proofs.Common.{◌∙◌}
+use Rattle.std.proofs.Common.{subst, suc, append-nil, append_assoc, arith, inl, inr, take-suc}
+use Rattle.std.specs.Prelude.{slice_index_or, slice_set}
+use Rattle.std.proofs.lemmas.Bool.{cases_eq, cases_lt}
+use Rattle.std.proofs.lemmas.List.{length-append, length-map, map-append, get_or-map, get_or-set_same, get_or-set_other}
+use Rattle.std.proofs.lemmas.List.{set-get_or}
+use Rattle.std.proofs.lemmas.List.{get_or_append_left, get_or-append_right, set-set}
+use Rattle.sja_link.specs.BitEntries.{HasMore}
+use Rattle.sja_link.specs.declared.entry.Entry.{Entry}
+use Rattle.sja_driver.specs.Accesses.{Access, accesses_at, by_bytes}
 use Rattle.sja_plan.specs.Plan.{PlanValue, step_counts, steps_at}
 use Rattle.sja_script.specs.declared.step.Step.{Step}
 use Rattle.sja_wire.specs.Wire.{journal_at}
 use Rattle.sja_serial.specs.Ending.{AreFirst, setup_of}
 use Rattle.sja_serial.specs.Inside.Going.{CannotStep, StandsIn, TakesTurn}
-use Rattle.sja_serial.specs.Serial.{SerialValue, NodeDoes}
-use Rattle.sja_serial.proofs.AllNodes.Several.{deeds_twice, does_both, does_none}
+use Rattle.sja_serial.specs.Serial.{SerialValue, StandsBy, most_deeds, most_steps}
+use Rattle.sja_serial.proofs.AllNodes.Newly.{as_asked}
+use Rattle.sja_serial.specs.Stepping.{with_accesses}
+use Rattle.sja_serial.proofs.AllNodes.Several.{more_both}
 
--- the steps that the plan has for a node are as many as its run has room for
+-- the steps that the plan has for a node are as many as are counted
 pub room_is : (plan : PlanValue) (node : ℕ) → node < length plan.nodes →
     slice_index_or (step_counts plan) node 0 ≡ length (steps_at plan node)
 room_is plan node less = get_or-map (λ (l : List Step). length l) plan.nodes node [] 0 less
 
+-- and its run has room for them
+pub room_left : (plan : PlanValue) (node : ℕ) → node < length plan.nodes →
+    most_steps plan.version (slice_index_or (setup_of plan).steps node 0) ≡ length (steps_at plan node)
+room_left plan node less =
+    let many = length-map plan.nodes (λ (l : List Step). length l) in
+    ap (most_steps plan.version) (get_or-map (most_deeds plan.version) (step_counts plan) node 0 0
+    (omega (arith, many, less))
+    ∙ ap (most_deeds plan.version) (room_is plan node less))
+    ∙ as_asked (by_bytes plan.version) (length (steps_at plan node))
+
+-- ---- steps more of one node
+
+pub accesses_twice : (accesses : List (List Access)) (node : ℕ) (xs ys : List Access) → node < length accesses →
+    with_accesses (with_accesses accesses node xs) node ys ≡ with_accesses accesses node (xs ++ ys)
+accesses_twice accesses node xs ys there =
+    ap (λ l. slice_set (with_accesses accesses node xs) node (l ++ ys))
+    (get_or-set_same accesses node (accesses_at accesses node ++ xs) [] there)
+    ∙ set-set accesses node (accesses_at accesses node ++ xs) ((accesses_at accesses node ++ xs) ++ ys)
+    ∙ ap (slice_set accesses node) (append_assoc (accesses_at accesses node) xs ys)
+
+pub no_accesses : (accesses : List (List Access)) (node : ℕ) → with_accesses accesses node [] ≡ accesses
+no_accesses accesses node = ap (slice_set accesses node) (append-nil (accesses_at accesses node))
+    ∙ set-get_or accesses node []
+
+-- the next step, done after the first ones, makes one more of them
+first_more : (steps : List Step) (done : List Access) (a : Access) (e : Step) → length done < length steps →
+    a.step ≡ slice_index_or steps (length done) e → map (λ (x : Access). x.step) done ≡ take (length done) steps →
+    map (λ (x : Access). x.step) (done ++ a ∷ []) ≡ take (length (done ++ a ∷ [])) steps
+first_more steps done a e less is first =
+    let long : length (done ++ a ∷ []) ≡ suc (length done) = length-append done (a ∷ []) ∙ omega arith in
+    map-append (λ (x : Access). x.step) done (a ∷ []) ∙ ap (λ l. l ++ a.step ∷ []) first
+    ∙ ap (λ s. take (length done) steps ++ s ∷ []) is ∙ sym (take-suc steps (length done) e less)
+    ∙ ap (λ n. take n steps) (sym long)
+
 -- the first steps of the plan are done, and the next one of a node
-pub first_then : (plan : PlanValue) (node : ℕ) (deeds : List (List Deed)) (d : Deed) (e : Step) →
-    node < length deeds → AreFirst plan deeds → length (deeds_at deeds node) < length (steps_at plan node) →
-    d.step ≡ slice_index_or (steps_at plan node) (length (deeds_at deeds node)) e →
-    AreFirst plan (with_deeds deeds node (d ∷ []))
-first_then plan node deeds d e there first few is m less = elim (cases_eq node m) [
+pub first_then : (plan : PlanValue) (node : ℕ) (accesses : List (List Access)) (a : Access) (e : Step) →
+    node < length accesses → AreFirst plan accesses →
+    length (accesses_at accesses node) < length (steps_at plan node) →
+    a.step ≡ slice_index_or (steps_at plan node) (length (accesses_at accesses node)) e →
+    AreFirst plan (with_accesses accesses node (a ∷ []))
+first_then plan node accesses a e there first few is m less = elim (cases_eq node m) [
   | inl same ↦
-      let P : ℕ → Type 0 = λ k. map (λ (x : Deed). x.step) (deeds_at (with_deeds deeds node (d ∷ [])) k)
-      ≡ take (length (deeds_at (with_deeds deeds node (d ∷ [])) k)) (steps_at plan k) in
-      let here = get_or-set_same deeds node (deeds_at deeds node ++ d ∷ []) [] there in
-      subst P same (subst (λ (l : List Deed). map (λ (x : Deed). x.step) l ≡ take (length l) (steps_at plan node))
-      (sym here) (first_more (steps_at plan node) (deeds_at deeds node) d e few is
+      let P : ℕ → Type 0 = λ k. map (λ (x : Access). x.step) (accesses_at (with_accesses accesses node (a ∷ [])) k)
+      ≡ take (length (accesses_at (with_accesses accesses node (a ∷ [])) k)) (steps_at plan k) in
+      let here = get_or-set_same accesses node (accesses_at accesses node ++ a ∷ []) [] there in
+      subst P same (subst (λ (l : List Access). map (λ (x : Access). x.step) l ≡ take (length l) (steps_at plan node))
+      (sym here) (first_more (steps_at plan node) (accesses_at accesses node) a e few is
       (first node (let s = same in omega (arith, s, less)))))
   | inr differ ↦
-      subst (λ (l : List Deed). map (λ (x : Deed). x.step) l ≡ take (length l) (steps_at plan m))
-      (sym (get_or-set_other deeds node m (deeds_at deeds node ++ d ∷ []) [] (λ e. differ (sym e)))) (first m less)
+      subst (λ (l : List Access). map (λ (x : Access). x.step) l ≡ take (length l) (steps_at plan m))
+      (sym (get_or-set_other accesses node m (accesses_at accesses node ++ a ∷ []) [] (λ e. differ (sym e))))
+      (first m less)
 ]
 
--- so many deeds were done, and each other journal is as it was
-pub record SoFar (plan : PlanValue) (r n : SerialValue) (node : ℕ) (deeds : List (List Deed)) (count : ℕ) : Type 0 where
-  pub more : List Deed
-  pub does : NodeDoes (setup_of plan) r n node deeds more
-  pub first : AreFirst plan (with_deeds deeds node more)
+-- so many steps were done, and each other journal is as it was
+pub record SoFar (plan : PlanValue) (r n : SerialValue) (node : ℕ) (accesses : List (List Access)) (count : ℕ) :
+    Type 0 where
+  pub more : List Access
+  pub stands : StandsIn plan n (with_accesses accesses node more)
+  pub at_once : (i : ℕ) (a : Access) → i < length more → (slice_index_or more i a).bits ≡ r.bits
+  pub bits : n.bits ≡ r.bits
+  pub items : (m : ℕ) → m < length plan.nodes → HasMore (journal_at r.bus.journals m) (journal_at n.bus.journals m)
   pub others : (m : ℕ) → m < length plan.nodes → m ≢ node →
       journal_at n.bus.journals m ≡ journal_at r.bus.journals m
   pub many : length more ≡ count
 
-pub so_far_none : (plan : PlanValue) (r : SerialValue) (node : ℕ) (deeds : List (List Deed)) → StandsIn plan r deeds →
-    SoFar plan r r node deeds 0
-so_far_none plan r node deeds h = record {
+pub so_far_none : (plan : PlanValue) (r : SerialValue) (node : ℕ) (accesses : List (List Access)) →
+    StandsIn plan r accesses → SoFar plan r r node accesses 0
+so_far_none plan r node accesses h = record {
   more = [];
-  does = does_none (setup_of plan) r node deeds h.stands;
-  first = subst (λ (l : List (List Deed)). AreFirst plan l) (sym (no_deeds deeds node)) h.first;
+  stands = subst (λ (l : List (List Access)). StandsIn plan r l) (sym (no_accesses accesses node)) h;
+  at_once = λ i a less. absurd (omega (arith, less));
+  bits = refl;
+  items = λ m less. record { items = []; whole = sym (append-nil (journal_at r.bus.journals m)) };
   others = λ m less other. refl;
   many = refl;
 }
 
-module _ (plan : PlanValue) (r m : SerialValue) (node : ℕ) (deeds : List (List Deed)) (there : node < length deeds)
-    {count : ℕ} (s : SoFar plan r m node deeds count) where
+module _ (plan : PlanValue) (r m : SerialValue) (node : ℕ) (accesses : List (List Access))
+    (there : node < length accesses) {count : ℕ} (s : SoFar plan r m node accesses count) where
+  last_at : (a : Access) → a.bits ≡ m.bits → (i : ℕ) (d : Access) → i < length (s.more ++ a ∷ []) →
+      (slice_index_or (s.more ++ a ∷ []) i d).bits ≡ r.bits
+  last_at a at i d less = elim (cases_lt i (length s.more)) [
+    | inl front ↦ ap (λ (x : Access). x.bits) (get_or_append_left s.more (a ∷ []) d i front) ∙ s.at_once i d front
+    | inr back ↦
+        let long = length-append s.more (a ∷ []) in
+        let last : i - length s.more ≡ 0 = omega (arith, back, less, long) in
+        ap (λ (x : Access). x.bits) (get_or-append_right s.more (a ∷ []) (length s.more) i d refl back
+        ∙ ap (λ k. slice_index_or (a ∷ []) k d) last) ∙ at ∙ s.bits
+  ]
+
   -- one more
-  pub so_far_one : (n : SerialValue) (d : Deed) → NodeDoes (setup_of plan) m n node (with_deeds deeds node s.more)
-      (d ∷ []) →
-      AreFirst plan (with_deeds (with_deeds deeds node s.more) node (d ∷ [])) →
+  pub so_far_one : (n : SerialValue) (a : Access) →
+      StandsBy (setup_of plan) n (with_accesses (with_accesses accesses node s.more) node (a ∷ [])) →
+      AreFirst plan (with_accesses (with_accesses accesses node s.more) node (a ∷ [])) → a.bits ≡ m.bits →
+      n.bits ≡ m.bits →
+      ((k : ℕ) → k < length plan.nodes → HasMore (journal_at m.bus.journals k) (journal_at n.bus.journals k)) →
       ((k : ℕ) → k < length plan.nodes → k ≢ node →
-      journal_at n.bus.journals k ≡ journal_at m.bus.journals k) → SoFar plan r n node deeds (count + 1)
-  so_far_one n d did first same =
-      let l = length-append s.more (d ∷ []) in let k = s.many in
+      journal_at n.bus.journals k ≡ journal_at m.bus.journals k) → SoFar plan r n node accesses (count + 1)
+  so_far_one n a by first at bits items same =
+      let l = length-append s.more (a ∷ []) in let k = s.many in
       record {
-        more = s.more ++ d ∷ [];
-        does = does_both (setup_of plan) r m n node deeds s.more (d ∷ []) there s.does did;
-        first = subst (λ (x : List (List Deed)). AreFirst plan x) (deeds_twice deeds node s.more (d ∷ []) there) first;
+        more = s.more ++ a ∷ [];
+        stands = subst (λ (x : List (List Access)). StandsIn plan n x)
+            (accesses_twice accesses node s.more (a ∷ []) there) (record { by = by; first = first });
+        at_once = last_at a at;
+        bits = bits ∙ s.bits;
+        items = λ k less. more_both (journal_at r.bus.journals k) (journal_at m.bus.journals k)
+            (journal_at n.bus.journals k) (s.items k less) (items k less);
         others = λ k less other. same k less other ∙ s.others k less other;
         many = omega (arith, l, k);
       }
 
-  -- a turn that ends since no further step is done, or since all were
+  -- a turn that ends since no further step is done
   pub turn_waits : (n : SerialValue) (most : ℕ) → count ≤ most →
-      NodeDoes (setup_of plan) m n node (with_deeds deeds node s.more) [] →
-      CannotStep plan n (with_deeds deeds node s.more) node →
+      StandsBy (setup_of plan) n (with_accesses accesses node s.more) → n.bits ≡ m.bits →
+      CannotStep plan n (with_accesses accesses node s.more) node →
       ((k : ℕ) → k < length plan.nodes → journal_at n.bus.journals k ≡ journal_at m.bus.journals k) →
-      TakesTurn plan r n node most deeds
-  turn_waits n most few did stuck same =
-      let k = s.many in
-      let both : NodeDoes (setup_of plan) r n node deeds (s.more ++ []) =
-      does_both (setup_of plan) r m n node deeds s.more [] there s.does did in
+      TakesTurn plan r n node most accesses
+  turn_waits n most few by bits stuck same = let k = s.many in
       record {
         more = s.more;
-        does = subst (λ (l : List Deed). NodeDoes (setup_of plan) r n node deeds l) (append-nil s.more) both;
-        first = s.first;
+        stands = record { by = by; first = s.stands.first };
+        at_once = s.at_once;
+        bits = bits ∙ s.bits;
+        items = λ k less. subst (λ (j : List Entry). HasMore (journal_at r.bus.journals k) j) (sym (same k less))
+            (s.items k less);
         others = λ k less other. same k less ∙ s.others k less other;
         most = omega (arith, k, few);
         stuck = λ less. stuck;
       }
 
-  -- no step is left, or the next one has to wait
-  pub turn_over : (most : ℕ) → count ≤ most → CannotStep plan m (with_deeds deeds node s.more) node →
-      TakesTurn plan r m node most deeds
+  -- or since none is left
+  pub turn_over : (most : ℕ) → count ≤ most → CannotStep plan m (with_accesses accesses node s.more) node →
+      TakesTurn plan r m node most accesses
   turn_over most few stuck = let k = s.many in
       record {
         more = s.more;
-        does = s.does;
-        first = s.first;
+        stands = s.stands;
+        at_once = s.at_once;
+        bits = s.bits;
+        items = s.items;
         others = s.others;
         most = omega (arith, k, few);
         stuck = λ less. stuck;
       }
 
-  pub turn_done : (most : ℕ) → count ≡ most → TakesTurn plan r m node most deeds
+  -- or since all were done
+  pub turn_done : (most : ℕ) → count ≡ most → TakesTurn plan r m node most accesses
   turn_done most all = let k = s.many in
       record {
         more = s.more;
-        does = s.does;
-        first = s.first;
+        stands = s.stands;
+        at_once = s.at_once;
+        bits = s.bits;
+        items = s.items;
         others = s.others;
         most = omega (arith, k, all);
         stuck = λ less. absurd (omega (arith, k, all, less));

@@ -1,10 +1,11 @@
 -- A run with one strike more stands at the same deeds, as one that was made with it.
+use Rattle.sja_driver.specs.Accesses.{Access}
 use Rattle.std.proofs.Common.{◌≡◌, List, [], ◌∷◌, ◌++◌, refl, sym, subst}
 use Rattle.std.specs.Prelude.{Result, OnOk}
 use Rattle.std.proofs.lemmas.Result.{on_ok_weaker}
 use Rattle.sja_script.specs.declared.strike.Strike.{Strike}
 use Rattle.sja_driver.specs.Deeds.{Deed}
-use Rattle.sja_serial.specs.Serial.{Setup, SerialValue, StandsAt}
+use Rattle.sja_serial.specs.Serial.{Setup, SerialValue, StandsAt, StandsBy, all_deeds}
 use Rattle.sja_serial.specs.Striking.{struck_run, struck_setup}
 
 -- with these strikes, where its bus has them
@@ -46,3 +47,11 @@ pub stands_if_struck : {A X : Type 0} (was now : SerialValue) (strike : Strike) 
 stands_if_struck was now strike r is = on_ok_weaker r (λ e setup deeds h.
     subst (λ (x : SerialValue). StandsAt (struck_setup setup strike) x deeds) (sym e)
     (stands_struck setup was deeds strike h)) is
+
+-- and at the same steps
+pub stands_by_if_struck : {A X : Type 0} (was now : SerialValue) (strike : Strike) (r : Result A X) →
+    OnOk r (now ≡ struck_run was strike) → OnOk r ((setup : Setup) (accesses : List (List Access)) →
+    StandsBy setup was accesses → StandsBy (struck_setup setup strike) now accesses)
+stands_by_if_struck was now strike r is = on_ok_weaker r (λ e setup accesses h.
+    subst (λ (x : SerialValue). StandsBy (struck_setup setup strike) x accesses) (sym e)
+    (record { stands = stands_struck setup was (all_deeds accesses) strike h.stands; nodes = h.nodes })) is

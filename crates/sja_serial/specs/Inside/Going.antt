@@ -1,8 +1,11 @@
 -- How a run in one thread goes on from turn to turn (this project's own rule).
 use Rattle.std.specs.Prelude.{◌≡◌, ◌≢◌, ◌<◌, ◌≤◌, ◌⊎◌, ℕ, List, Bool, true, length, replicate, slice_index_or}
 use Rattle.sja_plan.specs.Plan.{PlanValue, steps_at}
-use Rattle.sja_driver.specs.Deeds.{Deed, deeds_at, with_deeds}
-use Rattle.sja_serial.specs.Serial.{Setup, SerialValue, StandsAt, NodeDoes}
+use Rattle.sja_driver.specs.Accesses.{Access, accesses_at, deeds_in}
+use Rattle.sja_driver.specs.Deeds.{Deed}
+use Rattle.sja_link.specs.BitEntries.{HasMore}
+use Rattle.sja_serial.specs.Serial.{Setup, SerialValue, StandsAt, StandsBy, all_deeds}
+use Rattle.sja_serial.specs.Stepping.{with_accesses}
 use Rattle.sja_serial.specs.Bits.{TakesBits, TakesBusTurn, TakesRest}
 use Rattle.sja_plan.specs.declared.turn.Turn.{Turn}
 use Rattle.sja_plan.specs.declared.turn.Turn.TheVariants.{Bus, Rest, Node}
@@ -17,58 +20,69 @@ use Rattle.sja_regs.specs.declared.registers.Registers.{Registers}
 use Rattle.sja_script.specs.declared.step.Step.{Step}
 use Rattle.sja_driver.specs.declared.logged_driver.LoggedDriver.{LoggedDriver}
 
--- so many bits were run at once, at most as many as were asked for. Where there were none, neither the bits nor a
--- journal changed
+-- neither bits nor a journal, a port or a driver changed
+pub record IsAsBefore (was now : SerialValue) : Type 0 where
+  pub bits : now.bits ≡ was.bits
+  pub journals : now.bus.journals ≡ was.bus.journals
+  pub ports : now.ports ≡ was.ports
+  pub drivers : now.drivers ≡ was.drivers
+
+-- so many bits were run at once, at most as many as were asked for; where there were none, nothing changed
 pub record TakesAtOnce (setup : Setup) (deeds : List (List Deed)) (was now : SerialValue)
     (most run : ℕ) : Type 0 where
   pub within : run ≤ most
   pub stands : StandsAt setup now deeds
-  pub none : run ≡ 0 → (now.bits ≡ was.bits) × (now.bus.journals ≡ was.bus.journals)
+  pub none : run ≡ 0 → IsAsBefore was now
   pub some : run ≢ 0 → TakesBits setup deeds (λ r. Unit {0}) was run now
 
 -- ---- plans
 
--- a run of this plan stands where its drivers did these deeds: they are the first steps of the plan
-pub record StandsIn (plan : PlanValue) (r : SerialValue) (deeds : List (List Deed)) : Type 0 where
-  pub stands : StandsAt (setup_of plan) r deeds
-  pub first : AreFirst plan deeds
+-- a run of this plan stands where its drivers did these steps: they are the first ones of the plan
+pub record StandsIn (plan : PlanValue) (r : SerialValue) (accesses : List (List Access)) : Type 0 where
+  pub by : StandsBy (setup_of plan) r accesses
+  pub first : AreFirst plan accesses
 
--- there are such deeds
+-- there are such steps
 abbrev pub IsRunIn : PlanValue → SerialValue → Type 0
-IsRunIn plan r = (deeds : List (List Deed)) × StandsIn plan r deeds
+IsRunIn plan r = (accesses : List (List Access)) × StandsIn plan r accesses
 
 -- the driver of a node has no step left, or its next one has to wait
-abbrev pub CannotStep : PlanValue → SerialValue → List (List Deed) → ℕ → Type 0
-CannotStep plan r deeds node =
-    (length (steps_at plan node) ≤ length (deeds_at deeds node))
+abbrev pub CannotStep : PlanValue → SerialValue → List (List Access) → ℕ → Type 0
+CannotStep plan r accesses node =
+    (length (steps_at plan node) ≤ length (accesses_at accesses node))
     ⊎ ((s : Step) (p : Registers) → HasToWait (slice_index_or r.ports node p) (journal_at r.bus.journals node)
-    (deeds_at deeds node) (slice_index_or (steps_at plan node) (length (deeds_at deeds node)) s))
+    (deeds_in (accesses_at accesses node))
+    (slice_index_or (steps_at plan node) (length (accesses_at accesses node)) s))
 
--- one turn of a node: these deeds more, at most so many; fewer only where the driver is stuck. Each other journal is as
--- it was
+-- one turn of a node: these steps more, at most so many, all after the bits that had run; fewer only where the driver
+-- is stuck. Each other journal is as it was
 pub record TakesTurn (plan : PlanValue) (was now : SerialValue) (node count : ℕ)
-    (deeds : List (List Deed)) : Type 0 where
-  pub more : List Deed
-  pub does : NodeDoes (setup_of plan) was now node deeds more
-  pub first : AreFirst plan (with_deeds deeds node more)
+    (accesses : List (List Access)) : Type 0 where
+  pub more : List Access
+  pub stands : StandsIn plan now (with_accesses accesses node more)
+  pub at_once : (i : ℕ) (a : Access) → i < length more → (slice_index_or more i a).bits ≡ was.bits
+  pub bits : now.bits ≡ was.bits
+  pub items : (m : ℕ) → m < length plan.nodes →
+      HasMore (journal_at was.bus.journals m) (journal_at now.bus.journals m)
   pub others : (m : ℕ) → m < length plan.nodes → m ≢ node →
       journal_at now.bus.journals m ≡ journal_at was.bus.journals m
   pub most : length more ≤ count
-  pub stuck : length more < count → CannotStep plan now (with_deeds deeds node more) node
+  pub stuck : length more < count → CannotStep plan now (with_accesses accesses node more) node
 
--- the turns of the plan were taken, the run stands at these deeds, and so it ends
+-- the turns of the plan were taken, the run stands at these steps, and so it ends
 pub record TakesTurns (plan : PlanValue) (r : SerialValue) (end : End) : Type 0 where
-  pub deeds : List (List Deed)
-  pub stands : StandsIn plan r deeds
-  pub turns : RunsTo (record { plan = plan; journals = r.bus.journals; deeds = deeds })
-      (record { bits = 0; done = replicate (length plan.nodes) 0 }) plan.turns (progress r deeds) end
+  pub accesses : List (List Access)
+  pub stands : StandsIn plan r accesses
+  pub turns : RunsTo (record { plan = plan; journals = r.bus.journals; accesses = accesses })
+      (record { bits = 0; done = replicate (length plan.nodes) 0 }) plan.turns (progress r accesses) end
 
 -- one turn of the plan was taken, as a whole or until the bits were spent
-abbrev pub TakesOne : PlanValue → List (List Deed) → SerialValue → SerialValue → Turn → Bool → Type 0
-TakesOne plan deeds was now (Node node count) all =
-    TakesTurn plan was now node count deeds × (all ≡ true)
-TakesOne plan deeds was now (Bus count) all = TakesBusTurn (setup_of plan) deeds was now count all
-TakesOne plan deeds was now Rest all = TakesRest (setup_of plan) deeds was now all
+abbrev pub TakesOne : PlanValue → List (List Access) → SerialValue → SerialValue → Turn → Bool → Type 0
+TakesOne plan accesses was now (Node node count) all =
+    TakesTurn plan was now node count accesses × (all ≡ true)
+TakesOne plan accesses was now (Bus count) all =
+    TakesBusTurn (setup_of plan) (all_deeds accesses) was now count all
+TakesOne plan accesses was now Rest all = TakesRest (setup_of plan) (all_deeds accesses) was now all
 
 -- the run that these are
 abbrev pub run_now : BusValue → List LoggedDriver → List Registers → List Deques → ℕ → SerialValue

@@ -7,11 +7,11 @@ use Rattle.sja_plan.specs.declared.turn.Turn.TheVariants.{Bus}
 use Rattle.sja_plan.specs.Plan.{PlanValue}
 use Rattle.sja_script.specs.declared.step.Step.{Step}
 use Rattle.sja_script.specs.declared.strike.Strike.{Strike}
-use Rattle.sja_driver.specs.Deeds.{Deed}
+use Rattle.sja_driver.specs.Accesses.{Access}
 use Rattle.sja_serial.specs.Bits.{TakesBits}
 use Rattle.sja_serial.specs.Ending.{progress}
-use Rattle.sja_serial.specs.Serial.{Setup, SerialValue, StandsAt}
-use Rattle.sja_serial.proofs.WholeRun.GoingOn.{bits_run, stands_bits}
+use Rattle.sja_serial.specs.Serial.{Setup, SerialValue, StandsBy, all_deeds}
+use Rattle.sja_serial.proofs.WholeRun.GoingOn.{bits_run, stands_by_bits}
 use Rattle.sja_session.specs.declared.session_room.SessionRoom.{SessionRoom}
 use Rattle.sja_session.specs.Running.{MayRun}
 use Rattle.sja_session.specs.Sessions.{SessionValue, session_of, setup_by, start_of, IsAt, IsSession, written}
@@ -24,48 +24,49 @@ use Rattle.sja_session.proofs.WrittenPlan.Turned.{took_turn, few_turns, named_tu
 use Rattle.sja_session.proofs.WrittenPlan.Within.{bits_few, last_few}
 
 module _ {room : SessionRoom} {plan : PlanValue} {was now : SerialValue} {steps : List (List Step)} {turns : List Turn}
-    {deeds : List (List Deed)} {Before : SerialValue → Type 0} {n run : ℕ}
-    (h : IsAt (session_of room was plan steps turns) deeds)
-    (t : TakesBits (setup_by (session_of room was plan steps turns)) deeds Before was n now)
+    {accesses : List (List Access)} {Before : SerialValue → Type 0} {n run : ℕ}
+    (h : IsAt (session_of room was plan steps turns) accesses)
+    (t : TakesBits (setup_by (session_of room was plan steps turns)) (all_deeds accesses) Before was n now)
     (is : run ≡ now.bits - was.bits) where
   abbrev setup : Setup
   setup = setup_by (session_of room was plan steps turns)
 
   pub run_is : n ≡ run
-  run_is = let b = bits_run setup deeds Before was now n t in omega (arith, b, is)
+  run_is = let b = bits_run setup (all_deeds accesses) Before was now n t in omega (arith, b, is)
 
-  pub bits_now : TakesBits setup deeds Before was run now
-  bits_now = subst (λ (m : ℕ). TakesBits setup deeds Before was m now) run_is t
+  pub bits_now : TakesBits setup (all_deeds accesses) Before was run now
+  bits_now = subst (λ (m : ℕ). TakesBits setup (all_deeds accesses) Before was m now) run_is t
 
   pub many : now.bits ≡ was.bits + run
-  many = let b = bits_run setup deeds Before was now n t in let e = run_is in omega (arith, b, e)
+  many = let b = bits_run setup (all_deeds accesses) Before was now n t in let e = run_is in omega (arith, b, e)
 
-  stands_now : StandsAt setup now deeds
-  stands_now = stands_bits setup deeds Before was now run bits_now h.stands
+  stands_now : StandsBy setup now accesses
+  stands_now = stands_by_bits setup accesses Before was now run bits_now h.stands
 
-  at_some : IsAt (session_of room now plan steps (with_turn turns (Bus run))) deeds
+  at_some : IsAt (session_of room now plan steps (with_turn turns (Bus run))) accesses
   at_some = record {
     stands = stands_now;
     steps = h.steps;
     count = h.count;
-    took = took_turn deeds (start_of (length plan.nodes)) (Bus run) turns (progress now deeds) (λ k m e. absurd cc)
-        (took_bits deeds (start_of (length plan.nodes)) (reverse turns) was now run many h.took);
+    took = took_turn accesses (start_of (length plan.nodes)) (Bus run) turns (progress now accesses)
+        (λ k m e. absurd cc)
+        (took_bits accesses (start_of (length plan.nodes)) (reverse turns) was now run many h.took);
   }
 
-  at_none : run ≡ 0 → IsAt (session_of room now plan steps turns) deeds
+  at_none : run ≡ 0 → IsAt (session_of room now plan steps turns) accesses
   at_none none = record {
     stands = stands_now;
     steps = h.steps;
     count = h.count;
-    took = let m = many in took_same deeds (start_of (length plan.nodes)) (reverse turns) was now
+    took = let m = many in took_same accesses (start_of (length plan.nodes)) (reverse turns) was now
         (omega (arith, m, none)) h.took;
   }
 
   -- with a turn of so many bits more, where there are some
-  pub at_now : (m : ℕ) → m ≡ run → IsAt (session_of room now plan steps (with_bits turns m)) deeds
+  pub at_now : (m : ℕ) → m ≡ run → IsAt (session_of room now plan steps (with_bits turns m)) accesses
   at_now zero e = at_none (sym e)
   at_now (suc m) e =
-      subst (λ (n : ℕ). IsAt (session_of room now plan steps (with_turn turns (Bus n))) deeds) (sym e) at_some
+      subst (λ (n : ℕ). IsAt (session_of room now plan steps (with_turn turns (Bus n))) accesses) (sym e) at_some
 
   pub wrote_now : (m : ℕ) → written (session_of room now plan steps (with_bits turns m))
       ≡ with_bits_run (written (session_of room was plan steps turns)) m
@@ -74,15 +75,16 @@ module _ {room : SessionRoom} {plan : PlanValue} {was now : SerialValue} {steps 
 
 -- ---- what holds of every session
 
--- it holds of one whose run, and whose strikes, are others, and which stands at the same deeds
+-- it holds of one whose run, and whose strikes, are others, and which stands at the same accesses
 pub session_at : {s : SessionValue} {sizes : List ℕ} {capacity : ℕ} (run : SerialValue) (strikes : List Strike)
     (inv : IsSession s sizes capacity) →
-    IsAt (record s { run = run; plan = record s.plan { strikes = strikes } }) inv.deeds →
+    IsAt (record s { run = run; plan = record s.plan { strikes = strikes } }) inv.accesses →
     IsSession (record s { run = run; plan = record s.plan { strikes = strikes } }) sizes capacity
 session_at run strikes inv at = record {
-  deeds = inv.deeds;
+  accesses = inv.accesses;
   at = at;
   places = inv.places;
+  done = inv.done;
   steps = inv.steps;
   most = inv.most;
   room = inv.room;
@@ -93,20 +95,20 @@ session_at run strikes inv at = record {
 module _ {room : SessionRoom} {plan : PlanValue} {was now : SerialValue} {steps : List (List Step)} {turns : List Turn}
     {sizes : List ℕ} {capacity : ℕ} {Before : SerialValue → Type 0} {n run : ℕ}
     (inv : IsSession (session_of room was plan steps turns) sizes capacity)
-    (t : TakesBits (setup_by (session_of room was plan steps turns)) inv.deeds Before was n now)
+    (t : TakesBits (setup_by (session_of room was plan steps turns)) (all_deeds inv.accesses) Before was n now)
     (is : run ≡ now.bits - was.bits) where
   -- no more bits were run than the plan has
   bits_within : was.bits + run ≤ plan.bits
   bits_within =
       let m = many inv.at t is in
-      let b = bits_few (session_of room now plan steps (with_turn turns (Bus run))) inv.deeds (at_some inv.at t is)
-      inv.steps in omega (arith, m, b)
+      let b = bits_few (session_of room now plan steps (with_turn turns (Bus run))) inv.accesses (at_some inv.at t is)
+      in omega (arith, m, b)
 
   -- so the last turn holds them
   pub turn_fits : FitsLast turns (Bus run)
   turn_fits =
-      let few = last_few (session_of room was plan steps turns) inv.deeds inv.at inv.steps in
-      let b = bits_within in let limit = inv.at.stands.may.bits.1 in omega (arith, few, b, limit)
+      let few = last_few (session_of room was plan steps turns) inv.accesses inv.at inv.done inv.steps in
+      let b = bits_within in let limit = inv.at.stands.stands.may.bits.1 in omega (arith, few, b, limit)
 
   -- where some were run they were due, and so a turn is left for them
   turn_left : (count : ℕ) → MayRun (session_of room was plan steps turns) count → 1 ≤ count → 0 < run →
@@ -122,9 +124,10 @@ module _ {room : SessionRoom} {plan : PlanValue} {was now : SerialValue} {steps 
       IsSession (session_of room now plan steps items) sizes places
   session_some {places} {count} e same may asked some =
       subst (λ (l : List Turn). IsSession (session_of room now plan steps l) sizes places) (sym e) (record {
-        deeds = inv.deeds;
+        accesses = inv.accesses;
         at = at_some inv.at t is;
         places = inv.places;
+        done = inv.done;
         steps = inv.steps;
         most = inv.most;
         room = let r = inv.room in omega (arith, r, same);

@@ -4,9 +4,9 @@ use Rattle.std.specs.Prelude.{◌⊎◌}
 use Rattle.sja_plan.specs.declared.turn.Turn.{Turn}
 use Rattle.sja_plan.specs.Plan.{PlanValue}
 use Rattle.sja_script.specs.declared.step.Step.{Step}
-use Rattle.sja_driver.specs.Deeds.{Deed}
+use Rattle.sja_driver.specs.Accesses.{Access}
 use Rattle.sja_serial.specs.Bits.{TakesBusTurn}
-use Rattle.sja_serial.specs.Serial.{SerialValue}
+use Rattle.sja_serial.specs.Serial.{SerialValue, all_deeds}
 use Rattle.sja_session.specs.Running.{RunsBits}
 use Rattle.sja_session.specs.declared.session_room.SessionRoom.{SessionRoom}
 use Rattle.sja_session.specs.Sessions.{session_of, setup_by, IsAt}
@@ -14,9 +14,9 @@ use Rattle.sja_session.specs.Inside.Written.{with_bits}
 use Rattle.sja_session.proofs.BitsDone.AfterBits as after
 
 module _ {room : SessionRoom} {plan : PlanValue} {was now : SerialValue} {steps : List (List Step)} {turns : List Turn}
-    {deeds : List (List Deed)}
-    {count run : ℕ} {all : Bool} (h : IsAt (session_of room was plan steps turns) deeds)
-    (t : TakesBusTurn (setup_by (session_of room was plan steps turns)) deeds was now count all)
+    {accesses : List (List Access)}
+    {count run : ℕ} {all : Bool} (h : IsAt (session_of room was plan steps turns) accesses)
+    (t : TakesBusTurn (setup_by (session_of room was plan steps turns)) (all_deeds accesses) was now count all)
     (is : run ≡ now.bits - was.bits) where
   within : (b : Bool) → all ≡ b → (run ≤ count) × ((run ≡ count) ⊎ (now.bits ≡ plan.bits))
   within true e =
@@ -25,7 +25,7 @@ module _ {room : SessionRoom} {plan : PlanValue} {was now : SerialValue} {steps 
       let s = t.spent e in let r = after.run_is h t.bits is in let f = s.0 in (omega (arith, f, r), inr s.1)
 
   pub runs : RunsBits (session_of room was plan steps turns) (session_of room now plan steps (with_bits turns run))
-      count run deeds
+      count run accesses
   runs = record {
     bits = after.bits_now h t.bits is;
     most = (within all refl).0;

@@ -1,5 +1,5 @@
 -- A session that begins: nothing happened.
-use Rattle.std.proofs.Common.{◌≡◌, ◌+◌, ◌<◌, ◌≤◌, ℕ, zero, suc, List, [], ◌∷◌, length, replicate, refl, sym, ap}
+use Rattle.std.proofs.Common.{◌≡◌, ◌+◌, ◌<◌, ◌≤◌, ℕ, zero, suc, List, [], ◌∷◌, length, map, replicate, refl, sym, ap}
 use Rattle.std.proofs.Common.{◌∙◌, subst, arith}
 use Rattle.std.specs.Prelude.{reverse, slice_index_or}
 use Rattle.std.proofs.lemmas.List.{length-replicate}
@@ -8,7 +8,7 @@ use Rattle.sja_plan.specs.Plan.{PlanValue}
 use Rattle.sja_script.specs.declared.step.Step.{Step}
 use Rattle.sja_script.specs.declared.strike.Strike.{Strike}
 use Rattle.sja_serial.specs.Ending.{progress}
-use Rattle.sja_serial.specs.Serial.{Setup, SerialValue, StandsAt, setup_with}
+use Rattle.sja_serial.specs.Serial.{Setup, SerialValue, StandsBy, most_deeds, setup_with}
 use Rattle.sja_wire.specs.Buses.{BusValue, new_bus}
 use Rattle.sja_session.specs.declared.session_room.SessionRoom.{SessionRoom}
 use Rattle.sja_session.specs.Beginning.{IsRoom}
@@ -17,10 +17,15 @@ use Rattle.sja_session.specs.Sessions.{setup_for, steps_in, written}
 use Rattle.sja_session.specs.Inside.Written.{IsBare}
 use Rattle.sja_session.proofs.WrittenPlan.Taken.{took_none}
 
--- no deeds are no steps
+-- no accesses are no steps
 no_steps : (n : ℕ) → steps_in (replicate n []) ≡ replicate n []
 no_steps zero = refl
 no_steps (suc n) = ap (λ l. [] ∷ l) (no_steps n)
+
+-- as many deeds for each as so many steps may be
+deeds_each : (version n size : ℕ) → map (most_deeds version) (replicate n size) ≡ replicate n (most_deeds version size)
+deeds_each version zero size = refl
+deeds_each version (suc n) size = ap (λ l. most_deeds version size ∷ l) (deeds_each version n size)
 
 -- a run that was made for what such a session's is
 module _ (room : SessionRoom) (plan : PlanValue) {version bits : ℕ} {script : List Strike} {sizes : List ℕ}
@@ -29,29 +34,35 @@ module _ (room : SessionRoom) (plan : PlanValue) {version bits : ℕ} {script : 
   many : length sizes ≡ length plan.nodes
   many = ap (λ (l : List ℕ). length l) sizes_are ∙ length-replicate (length plan.nodes) room.steps
 
+  deeds_are : map (most_deeds version) sizes ≡ replicate (length plan.nodes) (most_deeds plan.version room.steps)
+  deeds_are = (λ i. map (most_deeds (version_is i)) (sizes_are i))
+      ∙ deeds_each plan.version (length plan.nodes) room.steps
+
   made : setup_with version bits script sizes ≡ setup_for plan room.steps
   made = λ i. let s : Setup = record {
     version = version_is i;
     bits = bits_is i;
     strikes = script_is i;
     nodes = many i;
-    steps = sizes_are i;
+    steps = deeds_are i;
   } in s
 
-  pub stands_made : {run : SerialValue} → StandsAt (setup_with version bits script sizes) run
+  pub stands_made : {run : SerialValue} → StandsBy (setup_with version bits script sizes) run
       (replicate (length sizes) []) →
-      StandsAt (setup_for plan room.steps) run (replicate (length plan.nodes) [])
-  stands_made {run} h = subst (λ (n : ℕ). StandsAt (setup_for plan room.steps) run (replicate n [])) many
-      (subst (λ (s : Setup). StandsAt s run (replicate (length sizes) [])) made h)
+      StandsBy (setup_for plan room.steps) run (replicate (length plan.nodes) [])
+  stands_made {run} h = subst (λ (n : ℕ). StandsBy (setup_for plan room.steps) run (replicate n [])) many
+      (subst (λ (s : Setup). StandsBy s run (replicate (length sizes) [])) made h)
 
-  pub bus_made : (run : SerialValue) → run.bus ≡ new_bus script bits (length sizes) sizes →
-      run.bus ≡ new_bus plan.strikes plan.bits (length plan.nodes) (replicate (length plan.nodes) room.steps)
-  bus_made run is = is ∙ (λ i. new_bus (script_is i) (bits_is i) (many i) (sizes_are i))
+  pub bus_made : (run : SerialValue) → run.bus ≡ new_bus script bits (length sizes) (map (most_deeds version) sizes) →
+      run.bus ≡ new_bus plan.strikes plan.bits (length plan.nodes)
+      (replicate (length plan.nodes) (most_deeds plan.version room.steps))
+  bus_made run is = is ∙ (λ i. new_bus (script_is i) (bits_is i) (many i) (deeds_are i))
 
 module _ (room : SessionRoom) {plan : PlanValue} {run : SerialValue} {steps : List (List Step)} {turns : List Turn}
     (bare : IsBare plan) (none : steps ≡ replicate (length plan.nodes) []) (idle : turns ≡ [])
-    (stands : StandsAt (setup_for plan room.steps) run (replicate (length plan.nodes) []))
-    (bus : run.bus ≡ new_bus plan.strikes plan.bits (length plan.nodes) (replicate (length plan.nodes) room.steps))
+    (stands : StandsBy (setup_for plan room.steps) run (replicate (length plan.nodes) []))
+    (bus : run.bus ≡ new_bus plan.strikes plan.bits (length plan.nodes)
+    (replicate (length plan.nodes) (most_deeds plan.version room.steps)))
   where
     -- it wrote a plan of no step and no turn
     pub wrote_first : written (session_of room run plan steps turns) ≡ plan
@@ -63,24 +74,36 @@ module _ (room : SessionRoom) {plan : PlanValue} {run : SerialValue} {steps : Li
     -- no driver did anything
     pub at_first : IsAt (session_of room run plan steps turns) (replicate (length plan.nodes) [])
     at_first = record {
-      stands = subst (λ (p : PlanValue). StandsAt (setup_for p room.steps) run (replicate (length plan.nodes) []))
+      stands = subst (λ (p : PlanValue). StandsBy (setup_for p room.steps) run (replicate (length plan.nodes) []))
           (sym wrote_first) stands;
       steps = no_steps (length plan.nodes) ∙ sym none;
       count = count_first;
       took = subst (λ (l : List Turn). Took (replicate (length plan.nodes) []) (start_of (length plan.nodes))
           (reverse l)
           (progress run (replicate (length plan.nodes) []))) (sym idle)
-          (took_none (length plan.nodes) run (stands.bits ∙ ap (λ (b : BusValue). b.run) bus));
+          (took_none (length plan.nodes) run (stands.stands.bits ∙ ap (λ (b : BusValue). b.run) bus));
     }
+
+    none_done : (n node : ℕ) → length (slice_index_or (replicate n (let l : List Step = [] in l)) node []) ≡ 0
+    none_done zero node = refl
+    none_done (suc n) zero = refl
+    none_done (suc n) (suc node) = none_done n node
+
+    no_more_than : steps ≡ replicate (length plan.nodes) [] → (node : ℕ) →
+        length (slice_index_or steps node []) ≤ room.steps
+    no_more_than is node =
+        let e = ap (λ (l : List (List Step)). length (slice_index_or l node [])) is in
+        let n = none_done (length plan.nodes) node in omega (arith, e, n)
 
     -- what holds of every session holds of it
     pub session_first : (sizes : List ℕ) (capacity : ℕ) → IsRoom plan.version room →
         ((node : ℕ) → node < length plan.nodes → room.steps ≤ slice_index_or sizes node 0) →
         room.turns + 1 ≤ capacity → IsSession (session_of room run plan steps turns) sizes capacity
     session_first sizes capacity fits places big = record {
-      deeds = replicate (length plan.nodes) [];
+      accesses = replicate (length plan.nodes) [];
       at = at_first;
       places = places;
+      done = λ node less. no_more_than none node;
       steps = fits.0;
       most = fits.1;
       room = big;

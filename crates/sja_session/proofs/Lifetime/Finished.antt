@@ -4,39 +4,47 @@ use Rattle.std.proofs.Common.{arith}
 use Rattle.std.specs.Prelude.{slice_index_or}
 use Rattle.std.proofs.lemmas.List.{length-map, get_or-map}
 use Rattle.std.proofs.Math.Seq.{take-length}
-use Rattle.sja_driver.specs.Deeds.{Deed, deeds_at}
+use Rattle.sja_driver.specs.Accesses.{Access, accesses_at}
 use Rattle.sja_log.specs.declared.end.End.TheVariants.{Turns as TurnsDone}
 use Rattle.sja_log.specs.Turns.{RunsTo}
 use Rattle.sja_plan.specs.Plan.{steps_at}
 use Rattle.sja_script.specs.declared.step.Step.{Step}
 use Rattle.sja_serial.specs.Ending.{AreFirst, MayBeOf, progress}
+use Rattle.sja_serial.proofs.AllNodes.Several.{many_steps}
 use Rattle.sja_serial.proofs.WholeRun.GoingOn.{acts_of}
 use Rattle.sja_session.specs.Sessions.{SessionValue, IsAt, setup_by, start_of, written}
 use Rattle.sja_session.proofs.WrittenPlan.Taken.{runs_all}
 
 -- the steps that were written are all that were done
-pub first_written : (s : SessionValue) (deeds : List (List Deed)) → IsAt s deeds → AreFirst (written s) deeds
-first_written s deeds h node less =
-    let own : map (λ (d : Deed). d.step) (deeds_at deeds node) ≡ steps_at (written s) node =
-    sym (get_or-map (λ (ds : List Deed). map (λ (d : Deed). d.step) ds) deeds node [] []
-    (let c = h.stands.deeds_count in omega (arith, c, less)))
+pub first_written : (s : SessionValue) (accesses : List (List Access)) → IsAt s accesses → AreFirst (written s) accesses
+first_written s accesses h node less =
+    let own : map (λ (d : Access). d.step) (accesses_at accesses node) ≡ steps_at (written s) node =
+    sym (get_or-map (λ (ds : List Access). map (λ (d : Access). d.step) ds) accesses node [] []
+    (let c = many_steps h.stands in omega (arith, c, less)))
     ∙ ap (λ (l : List (List Step)). slice_index_or l node []) h.steps in
-    let long : length (deeds_at deeds node) ≡ length (steps_at (written s) node) =
-    sym (length-map (deeds_at deeds node) (λ (d : Deed). d.step)) ∙ ap (λ (l : List Step). length l) own in
+    let long : length (accesses_at accesses node) ≡ length (steps_at (written s) node) =
+    sym (length-map (accesses_at accesses node) (λ (d : Access). d.step)) ∙ ap (λ (l : List Step). length l) own in
     own ∙ sym (take-length (steps_at (written s) node))
     ∙ ap (λ n. take n (steps_at (written s) node)) (sym long)
 
 -- so its run may be one of the plan that it wrote
-pub may_be_written : (s : SessionValue) (deeds : List (List Deed)) → IsAt s deeds →
-    MayBeOf (written s) (setup_by s) deeds
-may_be_written s deeds h = record { version = refl; strikes = refl; nodes = refl; first = first_written s deeds h }
+pub may_be_written : (s : SessionValue) (accesses : List (List Access)) → IsAt s accesses →
+    MayBeOf (written s) (setup_by s) accesses
+may_be_written s accesses h = record {
+  version = refl;
+  strikes = refl;
+  nodes = refl;
+  first = first_written s accesses
+      h;
+}
 
 -- the turns of the plan that was written lead from the first point of the run to this one
-pub turns_lead : (s : SessionValue) (deeds : List (List Deed)) → IsAt s deeds →
-    RunsTo (acts_of (written s) s.run.bus.journals deeds) (start_of (length s.steps)) s.turns (progress s.run deeds)
+pub turns_lead : (s : SessionValue) (accesses : List (List Access)) → IsAt s accesses →
+    RunsTo (acts_of (written s) s.run.bus.journals accesses) (start_of (length s.steps)) s.turns
+    (progress s.run accesses)
     TurnsDone
-turns_lead s deeds h =
-    subst (λ (n : ℕ). RunsTo (acts_of (written s) s.run.bus.journals deeds) (start_of n) s.turns
-    (progress s.run deeds) TurnsDone) (sym h.count)
-    (runs_all (written s) s.run.bus.journals deeds (start_of (length s.plan.nodes)) s.turns (progress s.run deeds)
-    h.took (let b = h.stands.bits in let a = h.stands.all_bits in omega (arith, a, b)))
+turns_lead s accesses h =
+    subst (λ (n : ℕ). RunsTo (acts_of (written s) s.run.bus.journals accesses) (start_of n) s.turns
+    (progress s.run accesses) TurnsDone) (sym h.count)
+    (runs_all (written s) s.run.bus.journals accesses (start_of (length s.plan.nodes)) s.turns (progress s.run accesses)
+    h.took (let b = h.stands.stands.bits in let a = h.stands.stands.all_bits in omega (arith, a, b)))

@@ -1,43 +1,59 @@
 -- What holds of every session after a step that was tried.
-use Rattle.std.proofs.Common.{ℕ, ◌<◌, List, [], ◌∷◌, length}
-use Rattle.sja_driver.specs.Deeds.{with_deeds}
+use Rattle.std.proofs.Common.{ℕ, ◌<◌, ◌≤◌, List, [], ◌∷◌, length, sym, ap, subst, arith, inl, inr}
+use Rattle.std.specs.Prelude.{slice_index_or}
+use Rattle.std.proofs.lemmas.Bool.{cases_eq}
+use Rattle.std.proofs.lemmas.List.{length-append}
 use Rattle.sja_plan.specs.declared.turn.Turn.{Turn}
 use Rattle.sja_plan.specs.declared.turn.Turn.TheVariants.{Node}
 use Rattle.sja_plan.specs.Plan.{PlanValue}
 use Rattle.sja_script.specs.declared.step.Step.{Step}
 use Rattle.sja_serial.specs.Serial.{SerialValue}
-use Rattle.sja_serial.specs.Stepping.{DoesStep, DoesNothing}
+use Rattle.sja_serial.specs.Stepping.{DoesStep, WaitsFor, with_accesses}
 use Rattle.sja_session.specs.declared.session_room.SessionRoom.{SessionRoom}
 use Rattle.sja_session.specs.Sessions.{session_of, setup_by, IsSession}
-use Rattle.sja_session.specs.Stepping.{HasTurn}
+use Rattle.sja_session.specs.Stepping.{MayStep}
 use Rattle.sja_session.specs.Turning.{with_turn}
 use Rattle.sja_session.specs.Writing.{with_more}
+use Rattle.sja_session.proofs.WrittenPlan.OneMore.{more_same, more_other}
 use Rattle.sja_session.proofs.WrittenPlan.Turned.{few_turns, named_turns}
-use Rattle.sja_session.proofs.StepsDone.Stepped.{at_it, still_at}
+use Rattle.sja_session.proofs.StepsDone.Stepped.{at_it, near, still_at}
 
 module _ {room : SessionRoom} (plan : PlanValue) (was now : SerialValue) (steps : List (List Step)) (turns : List Turn)
     (node : ℕ) (one : Step) (sizes : List ℕ) (capacity : ℕ)
-    (inv : IsSession (session_of room was plan steps turns) sizes capacity) (there : node < length plan.nodes) where
-  pub after_done : HasTurn (session_of room was plan steps turns) (Node node 1) →
-      DoesStep (setup_by (session_of room was plan steps turns)) was now node one inv.deeds →
+    (inv : IsSession (session_of room was plan steps turns) sizes capacity)
+    (may : MayStep (session_of room was plan steps turns) node) where
+  few_done : (k : ℕ) → k < length plan.nodes → length (slice_index_or (with_more steps node one) k []) ≤ room.steps
+  few_done k less = elim (cases_eq node k) [
+    | inl e ↦ subst (λ (m : ℕ). length (slice_index_or (with_more steps node one) m []) ≤ room.steps) e
+        (let long = ap (λ l. length l) (more_same steps node one
+        (near plan was now steps turns inv.accesses node one may.there inv.at)) in
+        let sum = length-append (slice_index_or steps node []) (one ∷ []) in let left = may.left in
+        omega (arith, long, sum, left))
+    | inr differ ↦ let same = ap (λ l. length l) (more_other steps node k one (λ e. differ (sym e))) in
+        let few = inv.done k less in omega (arith, same, few)
+  ]
+
+  pub after_done : DoesStep (setup_by (session_of room was plan steps turns)) was now node one inv.accesses →
       IsSession (session_of room now plan (with_more steps node one) (with_turn turns (Node node 1))) sizes capacity
-  after_done left t = record {
-    deeds = with_deeds inv.deeds node (t.deed ∷ []);
-    at = at_it plan was now steps turns inv.deeds node one there inv.at t;
+  after_done t = record {
+    accesses = with_accesses inv.accesses node (t.access ∷ []);
+    at = at_it plan was now steps turns inv.accesses node one may.there inv.at t;
     places = inv.places;
+    done = few_done;
     steps = inv.steps;
     most = inv.most;
     room = inv.room;
-    few = few_turns room.turns (Node node 1) turns left inv.few;
-    names = named_turns (length plan.nodes) (Node node 1) turns there inv.names;
+    few = few_turns room.turns (Node node 1) turns may.turn inv.few;
+    names = named_turns (length plan.nodes) (Node node 1) turns may.there inv.names;
   }
 
-  pub after_waiting : DoesNothing (setup_by (session_of room was plan steps turns)) was now node one inv.deeds →
+  pub after_waiting : WaitsFor (setup_by (session_of room was plan steps turns)) was now node one inv.accesses →
       IsSession (session_of room now plan steps turns) sizes capacity
   after_waiting t = record {
-    deeds = inv.deeds;
-    at = still_at plan was now steps turns inv.deeds node one there inv.at t;
+    accesses = inv.accesses;
+    at = still_at plan was now steps turns inv.accesses node one may.there inv.at t;
     places = inv.places;
+    done = inv.done;
     steps = inv.steps;
     most = inv.most;
     room = inv.room;

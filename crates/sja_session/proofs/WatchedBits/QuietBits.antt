@@ -7,8 +7,10 @@ use Rattle.sja_plan.specs.declared.turn.Turn.TheVariants.{Bus}
 use Rattle.sja_plan.specs.Plan.{PlanValue}
 use Rattle.sja_regs.specs.InterruptLine.{is_line_active}
 use Rattle.sja_regs.specs.Registers.{at_power_on}
-use Rattle.sja_driver.specs.Deeds.{Deed, deeds_at, is_active}
+use Rattle.sja_driver.specs.Accesses.{Access, accesses_at, deeds_in}
+use Rattle.sja_driver.specs.Deeds.{is_active}
 use Rattle.sja_log.specs.Registering.{seen_now}
+use Rattle.sja_serial.proofs.AllNodes.Several.{many_steps}
 use Rattle.sja_session.specs.Lines.{IsStill, line_at}
 use Rattle.sja_session.specs.Running.{MayRun}
 use Rattle.sja_session.specs.declared.session_room.SessionRoom.{SessionRoom}
@@ -21,40 +23,44 @@ use Rattle.sja_session.proofs.WrittenPlan.Turned.{bits_go_on}
 
 -- ---- looks
 
-pub still_same : (s : SessionValue) (deeds : List (List Deed)) → IsAt s deeds → IsStill s s deeds
-still_same s deeds h = record {
+pub still_same : (s : SessionValue) (accesses : List (List Access)) → IsAt s accesses → IsStill s s accesses
+still_same s accesses h = record {
   at = h;
   bus = refl;
   bits = refl;
   ports = refl;
+  kept = λ m d less. refl;
   room = refl;
   wrote = refl;
 }
 
-pub still_then : {a b c : SessionValue} {deeds : List (List Deed)} → IsStill a b deeds → IsStill b c deeds →
-    IsStill a c deeds
+pub still_then : {a b c : SessionValue} {accesses : List (List Access)} → IsStill a b accesses → IsStill b c accesses →
+    IsStill a c accesses
 still_then first second = record {
   at = second.at;
   bus = second.bus ∙ first.bus;
   bits = second.bits ∙ first.bits;
   ports = second.ports ∙ first.ports;
+  kept = λ m d less. second.kept m d (let n = ap (λ (p : PlanValue). length p.nodes) first.wrote in omega
+      (arith, less, n)) ∙ first.kept m d less;
   room = second.room ∙ first.room;
   wrote = second.wrote ∙ first.wrote;
 }
 
 -- a look changes no line
-pub line_still : {was now : SessionValue} {deeds : List (List Deed)} → IsStill was now deeds → (k : ℕ) →
-    line_at now deeds k ≡ line_at was deeds k
-line_still {was} {now} {deeds} s k = λ i. is_line_active (slice_index_or (s.ports i) k (at_power_on 1))
-    (seen_now (is_active (deeds_at deeds k)) (journal_at (s.bus i).journals k) (deeds_at deeds k))
+pub line_still : {was now : SessionValue} {accesses : List (List Access)} → IsStill was now accesses → (k : ℕ) →
+    line_at now accesses k ≡ line_at was accesses k
+line_still {was} {now} {accesses} s k = λ i. is_line_active (slice_index_or (s.ports i) k (at_power_on 1))
+    (let deeds = deeds_in (accesses_at accesses k) in seen_now (is_active deeds) (journal_at (s.bus i).journals k)
+    deeds)
 
 -- nor whether a bit may be run
-pub may_still : {was now : SessionValue} {deeds : List (List Deed)} → IsStill was now deeds → MayRun was 1 →
+pub may_still : {was now : SessionValue} {accesses : List (List Access)} → IsStill was now accesses → MayRun was 1 →
     MayRun now 1
-may_still {was} {now} {deeds} s (inl (inl few)) = inl (inl few)
-may_still {was} {now} {deeds} s (inl (inr over)) =
+may_still {was} {now} {accesses} s (inl (inl few)) = inl (inl few)
+may_still {was} {now} {accesses} s (inl (inr over)) =
     let p = ap (λ (p : PlanValue). p.bits) s.wrote in let b = s.bits in inl (inr (omega (arith, over, p, b)))
-may_still {was} {now} {deeds} s (inr has) =
+may_still {was} {now} {accesses} s (inr has) =
     inr (subst (λ (r : SessionRoom). (length now.turns < r.turns) ⊎ (goes_on_latest (reverse now.turns) (Bus 1) ≡ true))
     (sym s.room)
     (subst (λ l. (length l < was.room.turns) ⊎ (goes_on_latest (reverse l) (Bus 1) ≡ true))
@@ -62,50 +68,51 @@ may_still {was} {now} {deeds} s (inr has) =
 
 -- ---- bits
 
-pub quiet_at : {watched : List Bool} {nodes : ℕ} {deeds : List (List Deed)} {was now : SessionValue} {n : ℕ} →
-    NoneRose watched nodes deeds was now n → IsAt now deeds
+pub quiet_at : {watched : List Bool} {nodes : ℕ} {accesses : List (List Access)} {was now : SessionValue} {n : ℕ} →
+    NoneRose watched nodes accesses was now n → IsAt now accesses
 quiet_at (none s) = s.at
 quiet_at (bit q r f s) = s.at
 
 -- lines of watched nodes, as they were told before and after a bit, rise where those of the session do
-pub rises_told : (watched before now : List Bool) (was then_ : SessionValue) (deeds : List (List Deed)) (k : ℕ) →
-    (slice_index_or watched k false ≡ true → slice_index_or before k false ≡ line_at was deeds k) →
-    (slice_index_or watched k false ≡ true → slice_index_or now k false ≡ line_at then_ deeds k) →
-    risen watched before now k ≡ rises watched was then_ deeds k
-rises_told watched before now was then_ deeds k = by (slice_index_or watched k false)
+pub rises_told : (watched before now : List Bool) (was then_ : SessionValue) (accesses : List (List Access)) (k : ℕ) →
+    (slice_index_or watched k false ≡ true → slice_index_or before k false ≡ line_at was accesses k) →
+    (slice_index_or watched k false ≡ true → slice_index_or now k false ≡ line_at then_ accesses k) →
+    risen watched before now k ≡ rises watched was then_ accesses k
+rises_told watched before now was then_ accesses k = by (slice_index_or watched k false)
   where
-    by : (w : Bool) → (w ≡ true → slice_index_or before k false ≡ line_at was deeds k) →
-        (w ≡ true → slice_index_or now k false ≡ line_at then_ deeds k) →
+    by : (w : Bool) → (w ≡ true → slice_index_or before k false ≡ line_at was accesses k) →
+        (w ≡ true → slice_index_or now k false ≡ line_at then_ accesses k) →
         (w && rise (slice_index_or before k false) (slice_index_or now k false))
-        ≡ (w && rise (line_at was deeds k) (line_at then_ deeds k))
+        ≡ (w && rise (line_at was accesses k) (line_at then_ accesses k))
     by false b n = refl
     by true b n = λ i. rise (b refl i) (n refl i)
 
 -- the bits of the plan stay
-pub quiet_bits : {watched : List Bool} {nodes : ℕ} {deeds : List (List Deed)} {was now : SessionValue} {n : ℕ} →
-    NoneRose watched nodes deeds was now n → now.plan.bits ≡ was.plan.bits
+pub quiet_bits : {watched : List Bool} {nodes : ℕ} {accesses : List (List Access)} {was now : SessionValue} {n : ℕ} →
+    NoneRose watched nodes accesses was now n → now.plan.bits ≡ was.plan.bits
 quiet_bits (none s) = ap (λ (p : PlanValue). p.bits) s.wrote
 quiet_bits (bit q r f s) =
     ap (λ (p : PlanValue). p.bits) s.wrote ∙ ap (λ (p : PlanValue). p.bits) r.wrote ∙ quiet_bits q
 
 -- bits in which no line rose, and a look
-rose_then : {watched : List Bool} {nodes : ℕ} {deeds : List (List Deed)} {a b c : SessionValue} {n : ℕ} →
-    NoneRose watched nodes deeds a b n → IsStill b c deeds → NoneRose watched nodes deeds a c n
+rose_then : {watched : List Bool} {nodes : ℕ} {accesses : List (List Access)} {a b c : SessionValue} {n : ℕ} →
+    NoneRose watched nodes accesses a b n → IsStill b c accesses → NoneRose watched nodes accesses a c n
 rose_then (none s) t = none (still_then s t)
 rose_then (bit q r f s) t = bit q r f (still_then s t)
 
 -- and bits after bits
-pub rose_on : {watched : List Bool} {nodes : ℕ} {deeds : List (List Deed)} {a b c : SessionValue} {m n : ℕ} →
-    NoneRose watched nodes deeds a b m → NoneRose watched nodes deeds b c n → NoneRose watched nodes deeds a c (m + n)
-rose_on {watched} {nodes} {deeds} {a} {b} {c} {m} q (none s) =
-    subst (λ (x : ℕ). NoneRose watched nodes deeds a c x) (omega arith) (rose_then q s)
-rose_on {watched} {nodes} {deeds} {a} {b} {c} {m} q (bit {n = n} p r f s) =
-    subst (λ (x : ℕ). NoneRose watched nodes deeds a c x) (omega arith) (bit (rose_on q p) r f s)
+pub rose_on : {watched : List Bool} {nodes : ℕ} {accesses : List (List Access)} {a b c : SessionValue} {m n : ℕ} →
+    NoneRose watched nodes accesses a b m → NoneRose watched nodes accesses b c n →
+    NoneRose watched nodes accesses a c (m + n)
+rose_on {watched} {nodes} {accesses} {a} {b} {c} {m} q (none s) =
+    subst (λ (x : ℕ). NoneRose watched nodes accesses a c x) (omega arith) (rose_then q s)
+rose_on {watched} {nodes} {accesses} {a} {b} {c} {m} q (bit {n = n} p r f s) =
+    subst (λ (x : ℕ). NoneRose watched nodes accesses a c x) (omega arith) (bit (rose_on q p) r f s)
 
--- as many nodes at the same deeds
-pub nodes_same : {was now : SessionValue} {deeds : List (List Deed)} → IsAt was deeds → IsAt now deeds →
+-- as many nodes at the same accesses
+pub nodes_same : {was now : SessionValue} {accesses : List (List Access)} → IsAt was accesses → IsAt now accesses →
     length now.plan.nodes ≡ length was.plan.nodes
-nodes_same h g = sym g.count ∙ sym g.stands.deeds_count ∙ h.stands.deeds_count ∙ h.count
+nodes_same h g = sym g.count ∙ sym (many_steps g.stands) ∙ many_steps h.stands ∙ h.count
 
 -- of several bits one
 pub may_one : (s : SessionValue) (count : ℕ) → 1 ≤ count → MayRun s count → MayRun s 1
@@ -127,6 +134,6 @@ risen_now watched before now k e = by (slice_index_or watched k false) (slice_in
 
 -- where a line was watched the session stands
 pub watched_at : (was now : SessionValue) (count : ℕ) (watched : List Bool) (run : ℕ) (rose : Option ℕ)
-    (deeds : List (List Deed)) → Watches was now count watched run rose deeds → IsAt now deeds
-watched_at was now count watched run (Some node) deeds w = w.0.still.at
-watched_at was now count watched run None deeds w = quiet_at w.0
+    (accesses : List (List Access)) → Watches was now count watched run rose accesses → IsAt now accesses
+watched_at was now count watched run (Some node) accesses w = w.0.still.at
+watched_at was now count watched run None accesses w = quiet_at w.0

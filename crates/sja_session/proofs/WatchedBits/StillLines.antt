@@ -22,13 +22,14 @@ use Rattle.sja_plan.specs.Plan.{PlanValue}
 use Rattle.sja_script.specs.declared.step.Step.{Step}
 use Rattle.sja_regs.specs.InterruptLine.{is_line_active}
 use Rattle.sja_regs.specs.Registers.{at_power_on}
-use Rattle.sja_driver.specs.Deeds.{Deed, deeds_at, deeds_of, is_active, opened_by, released_lengths}
+use Rattle.sja_driver.specs.Accesses.{Access, accesses_at, deeds_in}
+use Rattle.sja_driver.specs.Deeds.{Deed, deeds_of, is_active, opened_by, released_lengths}
 use Rattle.sja_log.specs.Registering.{seen_now}
 use Rattle.sja_driver.specs.Windows.{put_by}
 use Rattle.sja_driver.proofs.Trace.Timings.{put_now}
 use Rattle.sja_serial.specs.Bits.{TakesBit, TakesBits, TakesBusTurn}
 use Rattle.sja_serial.specs.Bits.TakesBits.{no_bit, one_more}
-use Rattle.sja_serial.specs.Serial.{SerialValue}
+use Rattle.sja_serial.specs.Serial.{SerialValue, all_deeds}
 use Rattle.sja_serial.specs.UntilTold.{NoneTold}
 use Rattle.sja_session.specs.declared.session_room.SessionRoom.{SessionRoom}
 use Rattle.sja_session.specs.Inside.UntilTold.{RunsUntilTold}
@@ -69,10 +70,11 @@ seen_same {j} {k} h true deeds =
     ap (λ l. seen_of (off_among false l) (drop (length (released_lengths (deeds_of deeds a))) (messages l))) shown
 
 -- and each line is as it was
-line_same : (was now : SessionValue) (deeds : List (List Deed)) → NoneTold was.run now.run → (k : ℕ) →
-    k < length was.run.bus.journals → line_at now deeds k ≡ line_at was deeds k
-line_same was now deeds told k less =
-    let seen = seen_same (told.journals k less) (is_active (deeds_at deeds k)) (deeds_at deeds k) in
+line_same : (was now : SessionValue) (accesses : List (List Access)) → NoneTold was.run now.run → (k : ℕ) →
+    k < length was.run.bus.journals → line_at now accesses k ≡ line_at was accesses k
+line_same was now accesses told k less =
+    let deeds = deeds_in (accesses_at accesses k) in let seen = seen_same (told.journals k less) (is_active deeds) deeds
+    in
     λ i. is_line_active (slice_index_or (told.ports i) k (at_power_on 1)) (seen i)
 
 -- a line that is as it was didn't rise
@@ -93,58 +95,61 @@ turn_more turns (suc m) = let e : suc m + 1 ≡ suc (suc m) = omega arith in
     bits_twice turns (suc m) 1 ∙ ap (λ n. with_turn turns (Bus n)) e
 
 module _ (room : SessionRoom) (plan : PlanValue) (steps : List (List Step)) (turns : List Turn)
-    (deeds : List (List Deed)) where
-  one_bit : (m : ℕ) (mid now : SerialValue) → IsAt (after room plan steps turns m mid) deeds →
-      TakesBit (setup_by (session_of room mid plan steps turns)) deeds mid now →
-      RunsBits (after room plan steps turns m mid) (after room plan steps turns (suc m) now) 1 1 deeds
+    (accesses : List (List Access)) where
+  one_bit : (m : ℕ) (mid now : SerialValue) → IsAt (after room plan steps turns m mid) accesses →
+      TakesBit (setup_by (session_of room mid plan steps turns)) (all_deeds accesses) mid now →
+      RunsBits (after room plan steps turns m mid) (after room plan steps turns (suc m) now) 1 1 accesses
   one_bit m mid now at takes =
       let e = takes.bits in
-      let turn : TakesBusTurn (setup_by (session_of room mid plan steps turns)) deeds mid now 1 true = record {
+      let turn : TakesBusTurn (setup_by (session_of room mid plan steps turns)) (all_deeds accesses) mid now 1 true =
+      record {
         run = 1;
         bits = one_more mid mid now 0 (no_bit mid) tt takes;
         whole = λ all. refl;
         spent = λ no. absurd cc;
       } in
       subst (λ (l : List Turn). RunsBits (after room plan steps turns m mid) (session_of room now plan steps l) 1 1
-      deeds)
+      accesses)
       (turn_more turns m) (runs at turn (omega (arith, e)))
 
   module _ (first : SerialValue) (many : length first.bus.journals ≡ length plan.nodes) where
     -- since then no port was told anything: each line is as it was
     as_first : (m : ℕ) (now : SerialValue) → NoneTold first now → (k : ℕ) → k < length plan.nodes →
-        line_at (after room plan steps turns m now) deeds k ≡ line_at (session_of room first plan steps turns) deeds k
+        line_at (after room plan steps turns m now) accesses k ≡ line_at (session_of room first plan steps turns)
+        accesses k
     as_first m now told k less =
-        line_same (session_of room first plan steps turns) (after room plan steps turns m now) deeds told k
+        line_same (session_of room first plan steps turns) (after room plan steps turns m now) accesses told k
         (omega (arith, many, less))
 
     -- before each of these bits none was told anything: no line rose
     none_rose_in : (watched : List Bool) (was now : SerialValue) (m : ℕ) →
-        IsAt (session_of room was plan steps turns) deeds →
-        TakesBits (setup_by (session_of room was plan steps turns)) deeds (NoneTold first) was m now →
+        IsAt (session_of room was plan steps turns) accesses →
+        TakesBits (setup_by (session_of room was plan steps turns)) (all_deeds accesses) (NoneTold first) was m now →
         NoneTold first now →
-        NoneRose watched (length plan.nodes) deeds (session_of room was plan steps turns)
+        NoneRose watched (length plan.nodes) accesses (session_of room was plan steps turns)
         (after room plan steps turns m now) m
     none_rose_in watched was _ _ h (no_bit _) told = none_rose (still_same (session_of room was plan steps turns)
-        deeds h)
+        accesses h)
     none_rose_in watched was now _ h (one_more _ mid _ m bits quiet takes) told =
         let earlier = none_rose_in watched was mid m h bits quiet in
         let one = one_bit m mid now (quiet_at earlier) takes in
-        subst (λ (n : ℕ). NoneRose watched (length plan.nodes) deeds (session_of room was plan steps turns)
+        subst (λ (n : ℕ). NoneRose watched (length plan.nodes) accesses (session_of room was plan steps turns)
         (after room plan steps turns (suc m) now) n) (omega arith)
         (bit earlier one
-        (λ k less. unmoved (slice_index_or watched k false) (line_at (after room plan steps turns m mid) deeds k)
-        (line_at (after room plan steps turns (suc m) now) deeds k)
+        (λ k less. unmoved (slice_index_or watched k false) (line_at (after room plan steps turns m mid) accesses k)
+        (line_at (after room plan steps turns (suc m) now) accesses k)
         (as_first (suc m) now told k less ∙ sym (as_first m mid quiet k less)))
-        (still_same (after room plan steps turns (suc m) now) deeds one.at))
+        (still_same (after room plan steps turns (suc m) now) accesses one.at))
 
   -- up to the first of which a port is told
-  pub until_told : (was now : SerialValue) (n : ℕ) → IsAt (session_of room was plan steps turns) deeds →
-      TakesBits (setup_by (session_of room was plan steps turns)) deeds (NoneTold was) was n now → 1 ≤ n →
+  pub until_told : (was now : SerialValue) (n : ℕ) → IsAt (session_of room was plan steps turns) accesses →
+      TakesBits (setup_by (session_of room was plan steps turns)) (all_deeds accesses) (NoneTold was) was n now →
+      1 ≤ n →
       RunsUntilTold (session_of room was plan steps turns) (session_of room now plan steps (with_turn turns (Bus n)))
-      n deeds
+      n accesses
   until_told was _ _ h (no_bit _) some = absurd (omega (arith, some))
   until_told was now _ h (one_more _ mid _ m bits told takes) some =
-      let many = h.stands.count.journals ∙ h.count in
+      let many = h.stands.stands.count.journals ∙ h.count in
       let rose = λ (watched : List Bool). none_rose_in was many watched was mid m h bits told in record {
         before = after room plan steps turns m mid;
         earlier = m;

@@ -1,8 +1,12 @@
 -- A list of lists, and one with one more element.
-use Rattle.std.proofs.Common.{◌≡◌, ◌≢◌, ℕ, zero, suc, ◌<◌, List, [], ◌∷◌, ◌++◌, Vec, Global, length, map, ap, ◌∙◌}
-use Rattle.std.proofs.Common.{arith}
-use Rattle.std.proofs.lemmas.List.{length-set, get_or-set_same, get_or-set_other}
+use Rattle.std.proofs.Common.{◌≡◌, ◌≢◌, ℕ, zero, suc, ◌<◌, List, [], ◌∷◌, ◌++◌, Vec, Global, length, map, refl, sym, ap}
+use Rattle.std.proofs.Common.{◌∙◌, arith}
+use Rattle.std.proofs.lemmas.List.{length-map, length-set, get_or-set_same, get_or-set_other, map-append}
 use Rattle.std.specs.Prelude.{slice_index_or, slice_set}
+use Rattle.sja_driver.specs.Accesses.{Access, accesses_at}
+use Rattle.sja_script.specs.declared.step.Step.{Step}
+use Rattle.sja_serial.specs.Stepping.{with_accesses}
+use Rattle.sja_session.specs.Sessions.{steps_in}
 use Rattle.sja_session.specs.Writing.{with_more}
 
 -- what is in lists with room
@@ -37,3 +41,25 @@ more_other lists node m x differ = get_or-set_other lists node m (slice_index_or
 
 pub more_long : {A : Type 0} (lists : List (List A)) (node : ℕ) (x : A) → length (with_more lists node x) ≡ length lists
 more_long lists node x = length-set lists node (slice_index_or lists node [] ++ x ∷ [])
+
+-- ---- the steps that are written
+
+-- those of a node with one step more
+pub steps_more : (accesses : List (List Access)) (node : ℕ) (a : Access) → node < length accesses →
+    steps_in (with_accesses accesses node (a ∷ [])) ≡ with_more (steps_in accesses) node a.step
+steps_more [] node a less = absurd (omega (arith, less))
+steps_more (x ∷ accesses) zero a less =
+    ap (λ l. l ∷ steps_in accesses) (map-append (λ (e : Access). e.step) x (a ∷ []))
+steps_more (x ∷ accesses) (suc node) a less =
+    ap (λ l. map (λ (e : Access). e.step) x ∷ l) (steps_more accesses node a (omega (arith, less)))
+
+-- as many are written as were done
+pub steps_many : (steps : List (List Step)) (accesses : List (List Access)) (node : ℕ) → steps_in accesses ≡ steps →
+    length (slice_index_or steps node []) ≡ length (accesses_at accesses node)
+steps_many steps accesses node is = ap (λ (l : List (List Step)). length (slice_index_or l node [])) (sym is)
+    ∙ by accesses node
+  where
+    by : (l : List (List Access)) (k : ℕ) → length (slice_index_or (steps_in l) k []) ≡ length (accesses_at l k)
+    by [] k = refl
+    by (x ∷ l) zero = length-map x (λ (a : Access). a.step)
+    by (x ∷ l) (suc k) = by l k

@@ -9,7 +9,7 @@ use Rattle.std.proofs.lemmas.List.Elements.{All-push}
 use Rattle.sja_plan.specs.declared.turn.Turn.{Turn}
 use Rattle.sja_plan.specs.declared.turn.Turn.TheVariants.{Bus, Rest, Node}
 use Rattle.sja_plan.specs.Plan.{NamesNode}
-use Rattle.sja_driver.specs.Deeds.{Deed, deeds_at}
+use Rattle.sja_driver.specs.Accesses.{Access, accesses_at}
 use Rattle.sja_log.specs.Turns.{Progress, with_bits, with_steps, steps_done}
 use Rattle.sja_session.specs.Sessions.{Took, AreNamed}
 use Rattle.sja_session.specs.Sessions.Took.{none, bus, node}
@@ -108,49 +108,51 @@ bits_twice turns n m =
 -- ---- where they led
 
 -- the last turn, by what it was
-abbrev Ends : List (List Deed) → Progress → List Turn → Progress → Type 0
-Ends deeds first [] p = Unit {0}
-Ends deeds first (Bus n ∷ earlier) p = (q : Progress) × Took deeds first earlier q × (p ≡ with_bits q n)
-Ends deeds first (Node k n ∷ earlier) p = (q : Progress) × Took deeds first earlier q
-    × (steps_done q k + n ≤ length (deeds_at deeds k))
-    × ((i : ℕ) (d : Deed) → i < n → (slice_index_or (deeds_at deeds k) (steps_done q k + i) d).bits ≡ q.bits)
+abbrev Ends : List (List Access) → Progress → List Turn → Progress → Type 0
+Ends accesses first [] p = Unit {0}
+Ends accesses first (Bus n ∷ earlier) p = (q : Progress) × Took accesses first earlier q × (p ≡ with_bits q n)
+Ends accesses first (Node k n ∷ earlier) p = (q : Progress) × Took accesses first earlier q
+    × (steps_done q k + n ≤ length (accesses_at accesses k))
+    × ((i : ℕ) (d : Access) → i < n → (slice_index_or (accesses_at accesses k) (steps_done q k + i) d).bits ≡ q.bits)
     × (p ≡ with_steps q k n)
-Ends deeds first (Rest ∷ earlier) p = ⊥
+Ends accesses first (Rest ∷ earlier) p = ⊥
 
-ends : (deeds : List (List Deed)) (first : Progress) (l : List Turn) (p : Progress) → Took deeds first l p →
-    Ends deeds first l p
-ends deeds first l p none = tt
-ends deeds first l p (bus earlier q n h) = (q, h, refl)
-ends deeds first l p (node earlier q k n h exist now) = (q, h, exist, now, refl)
+ends : (accesses : List (List Access)) (first : Progress) (l : List Turn) (p : Progress) → Took accesses first l p →
+    Ends accesses first l p
+ends accesses first l p none = tt
+ends accesses first l p (bus earlier q n h) = (q, h, refl)
+ends accesses first l p (node earlier q k n h exist now) = (q, h, exist, now, refl)
 
 -- a turn of the bus that goes on
-more_bits : (deeds : List (List Deed)) (first : Progress) (earlier : List Turn) (p : Progress) (n m : ℕ) →
-    Took deeds first (Bus m ∷ Bus n ∷ earlier) p → Took deeds first (Bus (n + m) ∷ earlier) p
-more_bits deeds first earlier p n m h =
-    let x = ends deeds first (Bus m ∷ Bus n ∷ earlier) p h in
-    let y = ends deeds first (Bus n ∷ earlier) x.0 x.1 in
+more_bits : (accesses : List (List Access)) (first : Progress) (earlier : List Turn) (p : Progress) (n m : ℕ) →
+    Took accesses first (Bus m ∷ Bus n ∷ earlier) p → Took accesses first (Bus (n + m) ∷ earlier) p
+more_bits accesses first earlier p n m h =
+    let x = ends accesses first (Bus m ∷ Bus n ∷ earlier) p h in
+    let y = ends accesses first (Bus n ∷ earlier) x.0 x.1 in
     let sum : y.0.bits + n + m ≡ y.0.bits + (n + m) = omega arith in
     let both : with_bits (with_bits y.0 n) m ≡ with_bits y.0 (n + m) = ap (λ b. let q : Progress =
     record { bits = b; done = y.0.done } in q) sum in
-    subst (λ (q : Progress). Took deeds first (Bus (n + m) ∷ earlier) q)
+    subst (λ (q : Progress). Took accesses first (Bus (n + m) ∷ earlier) q)
     (sym (x.2 ∙ ap (λ q. with_bits q m) y.2 ∙ both)) (bus earlier y.0 (n + m) y.1)
 
 -- a turn of a node that goes on
-more_steps : (deeds : List (List Deed)) (first : Progress) (earlier : List Turn) (p : Progress) (k n m : ℕ) →
-    k < length p.done → Took deeds first (Node k m ∷ Node k n ∷ earlier) p →
-    Took deeds first (Node k (n + m) ∷ earlier) p
-more_steps deeds first earlier p k n m there h =
-    let x = ends deeds first (Node k m ∷ Node k n ∷ earlier) p h in
-    let y = ends deeds first (Node k n ∷ earlier) x.0 x.1 in
+more_steps : (accesses : List (List Access)) (first : Progress) (earlier : List Turn) (p : Progress) (k n m : ℕ) →
+    k < length p.done → Took accesses first (Node k m ∷ Node k n ∷ earlier) p →
+    Took accesses first (Node k (n + m) ∷ earlier) p
+more_steps accesses first earlier p k n m there h =
+    let x = ends accesses first (Node k m ∷ Node k n ∷ earlier) p h in
+    let y = ends accesses first (Node k n ∷ earlier) x.0 x.1 in
     joined x.0 y.0 x.2 x.3 x.4 y.1 y.2 y.3 y.4
   where
-    joined : (mid q : Progress) → steps_done mid k + m ≤ length (deeds_at deeds k) →
-        ((i : ℕ) (d : Deed) → i < m → (slice_index_or (deeds_at deeds k) (steps_done mid k + i) d).bits ≡ mid.bits) →
-        p ≡ with_steps mid k m → Took deeds first earlier q → steps_done q k + n ≤ length (deeds_at deeds k) →
-        ((i : ℕ) (d : Deed) → i < n → (slice_index_or (deeds_at deeds k) (steps_done q k + i) d).bits ≡ q.bits) →
-        mid ≡ with_steps q k n → Took deeds first (Node k (n + m) ∷ earlier) p
+    joined : (mid q : Progress) → steps_done mid k + m ≤ length (accesses_at accesses k) →
+        ((i : ℕ) (d : Access) → i < m → (slice_index_or (accesses_at accesses k) (steps_done mid k + i) d).bits ≡
+        mid.bits) →
+        p ≡ with_steps mid k m → Took accesses first earlier q → steps_done q k + n ≤ length (accesses_at accesses k) →
+        ((i : ℕ) (d : Access) → i < n → (slice_index_or (accesses_at accesses k) (steps_done q k + i) d).bits ≡
+        q.bits) →
+        mid ≡ with_steps q k n → Took accesses first (Node k (n + m) ∷ earlier) p
     joined mid q exist now to took exist_before now_before from =
-        subst (λ (z : Progress). Took deeds first (Node k (n + m) ∷ earlier) z) (sym whole)
+        subst (λ (z : Progress). Took accesses first (Node k (n + m) ∷ earlier) z) (sym whole)
         (node earlier q k (n + m) took (omega (arith, exist, so_far)) at)
       where
         inside : k < length q.done
@@ -173,57 +175,59 @@ more_steps deeds first earlier p k n m there h =
             let bits : mid.bits ≡ q.bits = ap (λ (z : Progress). z.bits) from in
             to ∙ (λ i. let z : Progress = record { bits = bits i; done = done i } in z)
 
-        at : (i : ℕ) (d : Deed) → i < n + m →
-            (slice_index_or (deeds_at deeds k) (steps_done q k + i) d).bits ≡ q.bits
+        at : (i : ℕ) (d : Access) → i < n + m →
+            (slice_index_or (accesses_at accesses k) (steps_done q k + i) d).bits ≡ q.bits
         at i d less = elim (cases_lt i n) [
           | inl few ↦ now_before i d few
           | inr more ↦
               let s = so_far in
               let place : steps_done q k + i ≡ steps_done mid k + (i - n) = omega (arith, s, more) in
-              ap (λ j. (slice_index_or (deeds_at deeds k) j d).bits) place
+              ap (λ j. (slice_index_or (accesses_at accesses k) j d).bits) place
               ∙ now (i - n) d (omega (arith, less, more)) ∙ ap (λ (z : Progress). z.bits) from
         ]
 
-joins : (deeds : List (List Deed)) (first : Progress) (t u : Turn) (earlier : List Turn) (p : Progress) →
-    ((k n : ℕ) → t ≡ Node k n → k < length p.done) → goes_on u t ≡ true → Took deeds first (t ∷ u ∷ earlier) p →
-    Took deeds first (enlarged u (size_of t) ∷ earlier) p
-joins deeds first (Bus m) (Bus n) earlier p there goes h = more_bits deeds first earlier p n m h
-joins deeds first (Node k m) (Node j n) earlier p there goes h =
+joins : (accesses : List (List Access)) (first : Progress) (t u : Turn) (earlier : List Turn) (p : Progress) →
+    ((k n : ℕ) → t ≡ Node k n → k < length p.done) → goes_on u t ≡ true → Took accesses first (t ∷ u ∷ earlier) p →
+    Took accesses first (enlarged u (size_of t) ∷ earlier) p
+joins accesses first (Bus m) (Bus n) earlier p there goes h = more_bits accesses first earlier p n m h
+joins accesses first (Node k m) (Node j n) earlier p there goes h =
     let e = eqb-true j k goes in
-    subst (λ x. Took deeds first (Node x (n + m) ∷ earlier) p) (sym e)
-    (more_steps deeds first earlier p k n m (there k m refl)
-    (subst (λ x. Took deeds first (Node k m ∷ Node x n ∷ earlier) p) e h))
-joins deeds first (Node k m) (Bus n) earlier p there goes h = absurd cc
-joins deeds first Rest (Bus n) earlier p there goes h = absurd cc
-joins deeds first (Bus m) (Node j n) earlier p there goes h = absurd cc
-joins deeds first Rest (Node j n) earlier p there goes h = absurd cc
-joins deeds first (Bus m) Rest earlier p there goes h = absurd cc
-joins deeds first (Node k m) Rest earlier p there goes h = absurd cc
-joins deeds first Rest Rest earlier p there goes h = absurd cc
+    subst (λ x. Took accesses first (Node x (n + m) ∷ earlier) p) (sym e)
+    (more_steps accesses first earlier p k n m (there k m refl)
+    (subst (λ x. Took accesses first (Node k m ∷ Node x n ∷ earlier) p) e h))
+joins accesses first (Node k m) (Bus n) earlier p there goes h = absurd cc
+joins accesses first Rest (Bus n) earlier p there goes h = absurd cc
+joins accesses first (Bus m) (Node j n) earlier p there goes h = absurd cc
+joins accesses first Rest (Node j n) earlier p there goes h = absurd cc
+joins accesses first (Bus m) Rest earlier p there goes h = absurd cc
+joins accesses first (Node k m) Rest earlier p there goes h = absurd cc
+joins accesses first Rest Rest earlier p there goes h = absurd cc
 
-took_latest : (deeds : List (List Deed)) (first : Progress) (t : Turn) (l : List Turn) (p : Progress) →
-    ((k n : ℕ) → t ≡ Node k n → k < length p.done) → Took deeds first (t ∷ l) p → Took deeds first (on_latest t l) p
-took_latest deeds first t [] p there h = h
-took_latest deeds first t (u ∷ earlier) p there h = by_choice (λ l. Took deeds first l p) (goes_on u t)
-    (enlarged u (size_of t) ∷ earlier) (t ∷ u ∷ earlier) (λ goes. joins deeds first t u earlier p there goes h)
+took_latest : (accesses : List (List Access)) (first : Progress) (t : Turn) (l : List Turn) (p : Progress) →
+    ((k n : ℕ) → t ≡ Node k n → k < length p.done) → Took accesses first (t ∷ l) p →
+    Took accesses first (on_latest t l) p
+took_latest accesses first t [] p there h = h
+took_latest accesses first t (u ∷ earlier) p there h = by_choice (λ l. Took accesses first l p) (goes_on u t)
+    (enlarged u (size_of t) ∷ earlier) (t ∷ u ∷ earlier) (λ goes. joins accesses first t u earlier p there goes h)
     (λ stays. h)
 
 -- turns that led to a point with one more behind them led there too where that one goes on with the last
-pub took_turn : (deeds : List (List Deed)) (first : Progress) (t : Turn) (turns : List Turn) (p : Progress) →
-    ((k n : ℕ) → t ≡ Node k n → k < length p.done) → Took deeds first (t ∷ reverse turns) p →
-    Took deeds first (reverse (with_turn turns t)) p
-took_turn deeds first t turns p there h = subst (λ (l : List Turn). Took deeds first l p) (sym (latest_of turns t))
-    (took_latest deeds first t (reverse turns) p there h)
+pub took_turn : (accesses : List (List Access)) (first : Progress) (t : Turn) (turns : List Turn) (p : Progress) →
+    ((k n : ℕ) → t ≡ Node k n → k < length p.done) → Took accesses first (t ∷ reverse turns) p →
+    Took accesses first (reverse (with_turn turns t)) p
+took_turn accesses first t turns p there h = subst (λ (l : List Turn). Took accesses first l p)
+    (sym (latest_of turns t))
+    (took_latest accesses first t (reverse turns) p there h)
 
 -- ---- how large they are
 
 -- the last turn has no more bits than were run, and no more steps than were done
-pub latest_few : (deeds : List (List Deed)) (first : Progress) (l : List Turn) (p : Progress) (most : ℕ) →
-    p.bits ≤ most → ((k : ℕ) → length (deeds_at deeds k) ≤ most) → Took deeds first l p → latest_size l ≤ most
-latest_few deeds first [] p most bits steps h = omega arith
-latest_few deeds first (Bus n ∷ earlier) p most bits steps h =
-    let x = ends deeds first (Bus n ∷ earlier) p h in
+pub latest_few : (accesses : List (List Access)) (first : Progress) (l : List Turn) (p : Progress) (most : ℕ) →
+    p.bits ≤ most → ((k : ℕ) → length (accesses_at accesses k) ≤ most) → Took accesses first l p → latest_size l ≤ most
+latest_few accesses first [] p most bits steps h = omega arith
+latest_few accesses first (Bus n ∷ earlier) p most bits steps h =
+    let x = ends accesses first (Bus n ∷ earlier) p h in
     let e = ap (λ (q : Progress). q.bits) x.2 in omega (arith, e, bits)
-latest_few deeds first (Node k n ∷ earlier) p most bits steps h =
-    let x = ends deeds first (Node k n ∷ earlier) p h in let e = x.2 in let s = steps k in omega (arith, e, s)
-latest_few deeds first (Rest ∷ earlier) p most bits steps h = omega arith
+latest_few accesses first (Node k n ∷ earlier) p most bits steps h =
+    let x = ends accesses first (Node k n ∷ earlier) p h in let e = x.2 in let s = steps k in omega (arith, e, s)
+latest_few accesses first (Rest ∷ earlier) p most bits steps h = omega arith

@@ -1,6 +1,6 @@
 -- What was written of the elements of a list, and of one more.
 use Rattle.std.proofs.Common.{◌≡◌, ℕ, ◌+◌, ◌<◌, List, [], ◌∷◌, ◌++◌, length, map, take, get_or}
-use Rattle.std.proofs.Common.{sym, ap, ◌∙◌, append_assoc, arith}
+use Rattle.std.proofs.Common.{sym, ap, ◌∙◌, append_assoc}
 use Rattle.std.proofs.lemmas.List.{map-append, take_more}
 use Rattle.lemmas.specs.Gathering.{gathered, total}
 use Rattle.lemmas.proofs.Gathered.{gathered_push, total_push}

@@ -1,17 +1,12 @@
 -- What the entries of a journal come to, those between its bits too.
-use Rattle.std.proofs.Common.{◌≡◌, ℕ, ◌+◌, ◌<◌, ◌≤◌, List, [], ◌∷◌, ◌++◌, length, map, refl, sym, ap, ◌∙◌, arith}
-use Rattle.std.proofs.Common.{Option, Some, None, drop}
-use Rattle.std.specs.Prelude.{slice_get}
-use Rattle.std.specs.Option.{option_to_list}
+use Rattle.std.proofs.Common.{◌≡◌, ◌+◌, List, [], ◌∷◌, ◌++◌, refl, ap, arith}
 use Rattle.std.proofs.lemmas.List.{map-append}
-use Rattle.can_bits.specs.declared.level.Level.{Level}
 use Rattle.can_node.specs.Bits.{driven_of}
 use Rattle.sja_link.specs.declared.entry.Entry.{Entry}
 use Rattle.sja_link.specs.declared.entry.Entry.TheVariants.{Bit, Up as Item, Abort, Stored, Overrun, Off}
-use Rattle.lemmas.specs.Gathering.{gathered, total}
 use Rattle.sja_link.specs.Carried.{bit_in, bits_of, overrun_of}
 use Rattle.sja_link.specs.Between.{between_bits}
-use Rattle.sja_sweep.specs.Changes.{off_in, times_off}
+use Rattle.sja_sweep.specs.Changes.{times_off}
 
 -- the messages that were overrun, and how often it went bus-off, stand between the bits
 pub overrun_between : (j : List Entry) → overrun_of (between_bits j) ≡ overrun_of j

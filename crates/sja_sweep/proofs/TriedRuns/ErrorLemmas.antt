@@ -12,9 +12,8 @@ use Rattle.sja_replay.specs.Happened.{Happened}
 use Rattle.sja_replay.specs.Replaying.{left_of, IsAt, GoesOn}
 use Rattle.sja_log.specs.Log.{NodeValue}
 use Rattle.sja_plan.specs.Plan.{PlanValue}
-use Rattle.sja_sweep.specs.Errors.{error_in, HasErrors, RanValue, IsRan}
+use Rattle.sja_sweep.specs.Errors.{error_in, HasErrors, TrialRunValue, IsRan}
 use Rattle.sja_sweep.specs.Inside.Reaching.{HaveErrors}
-use Rattle.sja_sweep.proofs.TriedRuns.RunNodes.{nodes_many}
 
 -- a replay has come through the journal up to an entry, and these are the errors of the bits so far
 pub record AreErrorsSoFar (journal : List Entry) (r : Replay) (errors : List (Option Cause)) : Type 0 where
@@ -73,11 +72,11 @@ nodes_more nodes old new i n errors less is pushed so_far one =
     subst P (sym there) (subst Q (sym pushed) (related_push One (take i nodes) old n errors so_far one))
 
 -- two runs of plans with as many nodes
-pub as_many_nodes : (p q : PlanValue) (a b : RanValue) → IsRan p a → IsRan q b → length p.nodes ≡ length q.nodes →
+pub as_many_nodes : (p q : PlanValue) (a b : TrialRunValue) → IsRan p a → IsRan q b → length p.nodes ≡ length q.nodes →
     length a.log.nodes ≡ length b.log.nodes
-as_many_nodes p q a b ran other same = nodes_many p a.log ran.run ∙ same ∙ sym (nodes_many q b.log other.run)
+as_many_nodes p q a b ran other same = ran.run.run.count ∙ same ∙ sym other.run.run.count
 
-pub as_many_errors : (p q : PlanValue) (a b : RanValue) → IsRan p a → IsRan q b → length p.nodes ≡ length q.nodes →
+pub as_many_errors : (p q : PlanValue) (a b : TrialRunValue) → IsRan p a → IsRan q b → length p.nodes ≡ length q.nodes →
     length a.errors ≡ length b.errors
 as_many_errors p q a b ran other same =
     let One : NodeValue → List (Option Cause) → Type 0 = λ m es. HasErrors m.journal es in

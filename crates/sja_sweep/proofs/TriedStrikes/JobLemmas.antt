@@ -8,11 +8,11 @@ use Rattle.std.proofs.lemmas.Nat.{div-add-mod', mod_below}
 use Rattle.std.specs.Fork.{slice_chunk}
 use Rattle.std.proofs.lemmas.List.{drop-drop, length-drop}
 use Rattle.sja_plan.specs.Plan.{PlanValue}
-use Rattle.sja_sweep.specs.Errors.{RanValue}
+use Rattle.sja_sweep.specs.Errors.{TrialRunValue}
 use Rattle.sja_sweep.specs.declared.sweep_fault.SweepFault.{SweepFault}
-use Rattle.sja_sweep.specs.declared.told.Told.{Told}
+use Rattle.sja_sweep.specs.declared.trial_outcome.TrialOutcome.{TrialOutcome}
 use Rattle.sja_sweep.specs.declared.trial.Trial.{Trial}
-use Rattle.sja_sweep.specs.Inside.Reaching.{told_value}
+use Rattle.sja_sweep.specs.Inside.Reaching.{outcome_value}
 use Rattle.sja_sweep.specs.Inside.Tried.{AreTried, IsPartTried, ArePartsTried}
 
 -- a list without elements
@@ -34,7 +34,7 @@ parts_cover count len size some is =
     (cases_lt 0 (len % size))
 
 -- the parts by their numbers are the parts one after another
-pub parts_tried : {V : Type 0} (items : V → List Told) (plan : PlanValue) (planned : RanValue) (size : ℕ)
+pub parts_tried : {V : Type 0} (items : V → List TrialOutcome) (plan : PlanValue) (planned : TrialRunValue) (size : ℕ)
     (ts : List Trial) (rs : List (Result V SweepFault)) → length ts ≤ length rs * size →
     ((n : ℕ) (d : Result V SweepFault) → n < length rs →
     IsPartTried items plan planned (slice_chunk ts size n) (get_or rs n d)) →
@@ -55,7 +55,8 @@ parts_tried {V} items plan planned size ts (r ∷ rs) long each = (
     swap a b = omega arith
 
 -- what came of a part that was tried
-pub ok_part : {V : Type 0} (items : V → List Told) (plan : PlanValue) (planned : RanValue) (ts : List Trial)
+pub ok_part : {V : Type 0} (items : V → List TrialOutcome) (plan : PlanValue) (planned : TrialRunValue)
+    (ts : List Trial)
     (r : Result V SweepFault) (tolds : V) → r ≡ Ok tolds → IsPartTried items plan planned ts r →
-    AreTried plan planned ts (map told_value (items tolds))
+    AreTried plan planned ts (map outcome_value (items tolds))
 ok_part items plan planned ts r tolds is part = (subst (λ r. IsPartTried items plan planned ts r) is part).0

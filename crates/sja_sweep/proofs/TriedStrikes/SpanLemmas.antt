@@ -6,8 +6,8 @@ use Rattle.std.proofs.lemmas.Slice.Eq.{bytes_eq-Decides}
 use Rattle.lemmas.specs.Gathering.{gathered}
 use Rattle.std.proofs.lemmas.List.{drop_more}
 use Rattle.std.proofs.lemmas.Bool.{and_parts}
-use Rattle.sja_sweep.specs.declared.told.Told.{Told}
-use Rattle.sja_sweep.specs.Inside.Reaching.{told_value}
+use Rattle.sja_sweep.specs.declared.trial_outcome.TrialOutcome.{TrialOutcome}
+use Rattle.sja_sweep.specs.Inside.Reaching.{outcome_value}
 use Rattle.sja_sweep.specs.Spans.{SpanValue, is_next, are_next, span_of, goes_on, joined, before_all, spans}
 
 -- where one goes on in another, both have one outcome
@@ -76,12 +76,13 @@ pub text_end : (f : SpanValue → List ℕ) (text new whole : List ℕ) (o : Spa
 text_end f text new whole o wrote so_far = wrote ∙ ap (λ t. text ++ t) (sym (append-nil (f o))) ∙ so_far
 
 -- those of the outcomes that are left: the first one before the others
-pub told_next : (rest : List Told) (i : ℕ) (told : Told) (n : SpanValue) → i < length rest → told ≡ get_or rest i told →
-    n ≡ span_of (told_value told) →
-    spans (map told_value (drop i rest)) ≡ before_all n (spans (map told_value (drop (i + 1) rest)))
+pub told_next : (rest : List TrialOutcome) (i : ℕ) (told : TrialOutcome) (n : SpanValue) → i < length rest →
+    told ≡ get_or rest i told →
+    n ≡ span_of (outcome_value told) →
+    spans (map outcome_value (drop i rest)) ≡ before_all n (spans (map outcome_value (drop (i + 1) rest)))
 told_next rest i told n less is seen =
-    ap (λ l. spans (map told_value l)) (drop_more rest i told less ∙ ap (λ y. y ∷ drop (i + 1) rest) (sym is))
-    ∙ ap (λ s. before_all s (spans (map told_value (drop (i + 1) rest)))) (sym seen)
+    ap (λ l. spans (map outcome_value l)) (drop_more rest i told less ∙ ap (λ y. y ∷ drop (i + 1) rest) (sym is))
+    ∙ ap (λ s. before_all s (spans (map outcome_value (drop (i + 1) rest)))) (sym seen)
 
 -- the next one, by what a test of it said
 pub step_joined : (f : SpanValue → List ℕ) (text text' whole : List ℕ) (o n o' : SpanValue) (ss all : List SpanValue)

@@ -1,15 +1,15 @@
 -- What a sweep tries: by its numbers, and of nodes that are there.
-use Rattle.std.proofs.Common.{◌≡◌, ℕ, ◌+◌, ◌-◌, ◌<◌, ◌≤◌, zero, suc, List, [], ◌∷◌, ◌++◌, length, map, All}
+use Rattle.std.proofs.Common.{◌≡◌, ℕ, ◌+◌, ◌-◌, ◌<◌, ◌≤◌, zero, suc, List, [], ◌∷◌, length, map, All}
 use Rattle.std.proofs.Common.{Option, Some, None, refl, sym, ap, ◌∙◌, subst, arith}
 use Rattle.std.specs.List.{range_with_len}
 use Rattle.std.proofs.lemmas.List.Elements.{All-nil, All-cons, All-append}
 use Rattle.lemmas.specs.Gathering.{gathered}
 use Rattle.sja_plan.specs.Limits.{most_strikes}
 use Rattle.sja_plan.specs.Plan.{PlanValue, times_in}
-use Rattle.sja_sweep.specs.declared.asked.Asked.{Asked}
+use Rattle.sja_sweep.specs.declared.strike_range.StrikeRange.{StrikeRange}
 use Rattle.sja_sweep.specs.declared.sweeping.Sweeping.{Sweeping}
 use Rattle.sja_sweep.specs.declared.trial.Trial.{Trial}
-use Rattle.sja_sweep.specs.Targets.{nodes_struck, bit_count, alone, single_trials, pair, least_later, laters}
+use Rattle.sja_sweep.specs.Targets.{nodes_struck, bit_count, alone, single_trials, pair, laters}
 use Rattle.sja_sweep.specs.Targets.{pair_trials, trials_by, trials_of, strikes_a_run}
 use Rattle.sja_sweep.specs.Inside.Asking.{IsAsked, nodes_asked, all_alone, all_paired}
 use Rattle.sja_sweep.specs.Inside.Reaching.{IsThere}
@@ -18,7 +18,7 @@ use Rattle.sja_sweep.specs.Inside.Reaching.{IsThere}
 abbrev alone_by : ℕ → ℕ → List ℕ → List Trial
 alone_by first count nodes = gathered (λ node. map (alone node) (range_with_len first count)) nodes
 
-pub alone_asked : (s : Sweeping) (nodes bits : ℕ) (a : Asked) → IsAsked s nodes bits a →
+pub alone_asked : (s : Sweeping) (nodes bits : ℕ) (a : StrikeRange) → IsAsked s nodes bits a →
     all_alone a ≡ single_trials s nodes bits
 alone_asked s nodes bits a h =
     ap (λ (f : ℕ). alone_by f a.count (nodes_asked a)) h.first
@@ -31,7 +31,7 @@ paired_by within first count nodes =
     map (pair node other later) (range_with_len first (count - later)))
     (laters within count node other)) nodes) nodes
 
-pub paired_asked : (within : ℕ) (s : Sweeping) (nodes bits : ℕ) (a : Asked) → IsAsked s nodes bits a →
+pub paired_asked : (within : ℕ) (s : Sweeping) (nodes bits : ℕ) (a : StrikeRange) → IsAsked s nodes bits a →
     all_paired within a ≡ pair_trials within s nodes bits
 paired_asked within s nodes bits a h =
     ap (λ (f : ℕ). paired_by within f a.count (nodes_asked a)) h.first

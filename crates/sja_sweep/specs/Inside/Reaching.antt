@@ -9,26 +9,25 @@ use Rattle.sja_plan.specs.Plan.{PlanValue, times_in}
 use Rattle.sja_log.specs.Log.{NodeValue}
 use Rattle.sja_log.specs.declared.run_fault.RunFault.TheVariants.{Memory as NoMemory}
 use Rattle.can_node.specs.declared.cause.Cause.{Cause}
-use Rattle.sja_sweep.specs.declared.ran.Ran.{Ran}
-use Rattle.sja_sweep.specs.Errors.{HasErrors, RanValue}
+use Rattle.sja_sweep.specs.declared.trial_run.TrialRun.{TrialRun}
+use Rattle.sja_sweep.specs.Errors.{HasErrors, TrialRunValue}
 use Rattle.sja_sweep.specs.declared.span.Span.{Span}
 use Rattle.sja_sweep.specs.declared.sweep_fault.SweepFault.{SweepFault}
-use Rattle.sja_sweep.specs.declared.sweep_fault.SweepFault.TheVariants.{NoNode, Steps, TooMany, StrikeCount, Run}
+use Rattle.sja_sweep.specs.declared.sweep_fault.SweepFault.TheVariants.{NoNode, TooMany, StrikeCount, Run}
 use Rattle.sja_sweep.specs.declared.sweep_fault.SweepFault.TheVariants.{Memory}
 use Rattle.sja_sweep.specs.declared.sweeping.Sweeping.{Sweeping}
-use Rattle.sja_sweep.specs.declared.told.Told.{Told}
+use Rattle.sja_sweep.specs.declared.trial_outcome.TrialOutcome.{TrialOutcome}
 use Rattle.sja_sweep.specs.declared.target.Target.{Target}
 use Rattle.sja_sweep.specs.declared.trial.Trial.{Trial}
 use Rattle.sja_sweep.specs.Nodes.{node_at}
 use Rattle.sja_sweep.specs.Changes.{node_items}
 use Rattle.sja_sweep.specs.Outcome.{Outcome}
-use Rattle.sja_sweep.specs.Sweeps.{HasTooManySteps}
 use Rattle.sja_sweep.specs.Spans.{SpanValue}
 use Rattle.sja_sweep.specs.SweepText.{short_node}
 
 -- what is kept of a run
-abbrev pub told_value : Told → Outcome
-told_value t = record {
+abbrev pub outcome_value : TrialOutcome → Outcome
+outcome_value t = record {
   trial = t.trial;
   error = t.error;
   words = string_bytes t.words;
@@ -47,8 +46,8 @@ span_value s = record {
 }
 
 -- a run and its errors, as lists
-abbrev pub ran_value : Ran → RanValue
-ran_value r = record { log = r.log; errors = map (λ v. v.items) r.errors.items }
+abbrev pub trial_run_value : TrialRun → TrialRunValue
+trial_run_value r = record { log = r.log; errors = map (λ v. v.items) r.errors.items }
 
 -- the errors of each node
 abbrev pub HaveErrors : List NodeValue → List (List (Option Cause)) → Type 0
@@ -95,10 +94,9 @@ pub record IsThere (plan : PlanValue) (t : Trial) : Type 0 where
   pub room : times_in plan.strikes + strikes_in t.second ≤ most_strikes plan.version
 
 -- why a run of a plan has no outcome
-abbrev pub IsTrialFault : PlanValue → SweepFault → Type 0
-IsTrialFault plan Memory = Unit {0}
-IsTrialFault plan (Run f) = (f ≡ NoMemory) × ¬ HasTooManySteps plan
-IsTrialFault plan Steps = HasTooManySteps plan
-IsTrialFault plan StrikeCount = ⊥
-IsTrialFault plan NoNode = ⊥
-IsTrialFault plan (TooMany runs bits) = ⊥
+abbrev pub IsTrialFault : SweepFault → Type 0
+IsTrialFault Memory = Unit {0}
+IsTrialFault (Run f) = f ≡ NoMemory
+IsTrialFault StrikeCount = ⊥
+IsTrialFault NoNode = ⊥
+IsTrialFault (TooMany runs bits) = ⊥

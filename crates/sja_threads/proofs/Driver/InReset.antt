@@ -18,13 +18,13 @@ use Rattle.sja_threads.specs.Setting.LeadToSettings.{nothing_done, step_done}
 none_opened : (active : Bool) (step : Step) (answer : StepAnswer) → active_after active step answer ≡ false →
     opened step answer ≡ 0
 none_opened active Start Done e = absurd cc
-none_opened active step answer e = refl
+none_opened active this answer e = refl
 
 -- where the registers are in reset mode for a driver in reset, they are after its step too
 after_step : (b : Bool) (p : Registers) (step : Step) (answer : StepAnswer) → (b ≡ false → p.mode.rm ≡ true) →
     p.mode.rm ≡ (not b || p.mode.rm)
-after_step true p step answer h = refl
-after_step false p step answer h = h refl
+after_step true p this answer h = refl
+after_step false p this answer h = h refl
 
 pub reset_kept : (first : SettingsValue) (deeds : List Deed) (s : SettingsValue) → LeadToSettings first deeds s →
     first.mode.rm ≡ true → is_active deeds ≡ false → s.mode.rm ≡ true

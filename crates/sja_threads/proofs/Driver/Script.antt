@@ -1,7 +1,9 @@
--- A driver before the first step of its script, and once it did a front of it.
-use Rattle.std.proofs.Common.{take, ◌≡◌, ◌≤◌, ◌+◌, ℕ, false, List, [], length, refl, sym, ap, ◌∙◌, subst, arith}
-use Rattle.std.proofs.Common.{Option, Vec, Global}
-use Rattle.std.proofs.lemmas.List.{length-map, length-take, length-take-le, take_min}
+-- The script of a driver: a front of its steps, and what it hands back then.
+use Rattle.std.proofs.Common.{take, drop, ◌≡◌, ◌≤◌, ◌<◌, ◌+◌, ◌++◌, ◌*◌, ℕ, Bool, true, false, cond, List, []}
+use Rattle.std.proofs.Common.{◌∷◌, length, map, refl, sym, ap, ◌∙◌, subst, arith, append-nil}
+use Rattle.std.specs.Prelude.{slice_index_or}
+use Rattle.std.proofs.lemmas.List.{length-append, length-map, length-take-le, map-append}
+use Rattle.std.proofs.lemmas.List.{at_drop_more}
 use Rattle.sja_link.specs.declared.driver_end.DriverEnd.{Ghosts as Ends}
 use Rattle.sja_link.specs.declared.link_id.LinkId.{LinkId}
 use Rattle.sja_link.specs.declared.entry.Entry.{Entry}
@@ -9,37 +11,52 @@ use Rattle.sja_link.specs.Lists.{Lists}
 use Rattle.sja_script.specs.declared.done.Done.{Done}
 use Rattle.sja_script.specs.declared.step.Step.{Step}
 use Rattle.sja_driver.specs.declared.any_driver.AnyDriver.{AnyDriver}
+use Rattle.sja_driver.specs.declared.kept_bytes.KeptBytes.{KeptBytes}
 use Rattle.sja_driver.specs.declared.work_log.WorkLog.{WorkLog}
+use Rattle.sja_driver.specs.Accesses.{Access, by_bytes, deeds_in, done_of}
 use Rattle.sja_driver.specs.AnyDrivers.{is_out}
-use Rattle.sja_driver.specs.Deeds.{Deed, done_of}
+use Rattle.sja_driver.specs.Deeds.{Deed, is_active}
 use Rattle.sja_driver.specs.Holding.{HoldsBy, NumberedFrom}
-use Rattle.sja_driver.specs.LoggedDrivers.{node_of, driver_of, log_of, IsLawful}
-use Rattle.sja_driver.specs.Logs.{HasRoom, IsEmpty, Traces, done_in}
+use Rattle.sja_driver.specs.Kept.{at_power_on}
+use Rattle.sja_driver.specs.LoggedDrivers.{node_of, driver_of, log_of, kept_of, IsLawful}
+use Rattle.sja_driver.specs.Logs.{HasRoom, IsEmpty, Traces, done_in, done_room}
 use Rattle.sja_driver.proofs.Step.NothingDone.{nothing_known, nothing_told}
+use Rattle.sja_log.proofs.Trace.AccessDeeds.{deeds_push}
 use Rattle.sja_threads.specs.declared.driver_thread.DriverThread.{DriverThread}
+use Rattle.sja_threads.specs.Accessing.{IsAccessAt, IsBrokenOff, LeadToAccesses, deeds_done, most_deeds}
+use Rattle.sja_threads.specs.Accessing.IsBrokenOff.{not_begun}
+use Rattle.sja_threads.specs.Accessing.LeadToAccesses.{nothing_done as no_access_done, access_done}
 use Rattle.sja_threads.specs.Setting.LeadToSettings.{nothing_done}
 use Rattle.sja_threads.specs.Working.{AreUntouched, HasWorked}
-use Rattle.sja_threads.specs.Inside.Steps.{MayBegin, DoesSteps}
+use Rattle.sja_threads.specs.Inside.Accesses.{DoesStep, BreaksOff, HasDone, HasEnded}
+use Rattle.sja_threads.specs.Inside.Steps.{MayWork, MayStep, MayBegin, Does}
 use Rattle.sja_threads.proofs.Driver.Settings.{lead_all}
-use Rattle.sja_threads.proofs.Driver.Steps.{may_less}
+use Rattle.sja_threads.proofs.Driver.Steps.{may_less, does_none, does_more}
 
 -- ---- before the first step
 
 -- a driver as it is made, at its ends
 pub begins : {E : Type 0} (link : E → LinkId) (t : DriverThread E) (node steps : ℕ) (log : WorkLog) →
-    node_of t.driver ≡ node → log_of t.driver ≡ log → is_out (driver_of t.driver) ≡ false → IsLawful t.driver →
-    ((version : ℕ) → Traces version (driver_of t.driver) (log_of t.driver) []) → IsEmpty log → HasRoom steps log → 64 ≤
-    length t.links.items →
+    t.bytes ≡ by_bytes t.set.version → node_of t.driver ≡ node → log_of t.driver ≡ log →
+    kept_of t.driver ≡ at_power_on → is_out (driver_of t.driver) ≡ false → IsLawful t.driver →
+    ((version : ℕ) → Traces version (driver_of t.driver) (log_of t.driver) []) → IsEmpty log →
+    HasRoom (most_deeds t.set.version steps) log → steps ≤ done_room log → 64 ≤ length t.links.items →
     NumberedFrom link t.links.items 0 node → MayBegin link t steps
-begins link t node steps log own logs reset lawful none empty room enough ids = record {
+begins link t node steps log bytes own logs kept reset lawful none empty deeds room enough ids = record {
   may = record {
-    lawful = lawful;
-    room = subst (λ (l : WorkLog). HasRoom steps l) (sym logs) room;
-    enough = enough;
-    ids = subst (λ (n : ℕ). NumberedFrom link t.links.items 0 n) (sym own) ids;
+    may = record {
+      bytes = bytes;
+      lawful = lawful;
+      room = subst (λ (l : WorkLog). HasRoom (most_deeds t.set.version steps) l) (sym logs) deeds;
+      enough = enough;
+      ids = subst (λ (n : ℕ). NumberedFrom link t.links.items 0 n) (sym own) ids;
+    };
+    room = subst (λ (l : WorkLog). length (done_in l) + steps ≤ done_room l) (sym logs)
+        (let few = ap (λ (l : List Done). length l) empty.done in omega (arith, few, room));
   };
   reset = reset;
   empty = subst (λ (l : WorkLog). IsEmpty l) (sym logs) empty;
+  kept = kept;
   traces = none;
 }
 
@@ -55,57 +72,175 @@ holds_new stands driver log j links base empty reset untouched = record {
   later = λ a less. refl;
 }
 
--- ---- a front of the steps
+-- ---- steps
 
-take_front : (n : ℕ) (xs : List Step) → take n xs ≡ take (length (take n xs)) xs
-take_front n xs = sym (take_min n xs) ∙ ap (λ (k : ℕ). take k xs) (sym (length-take n xs))
+-- as many deeds as one step more may be are room for one
+steps_more : (version n : ℕ) → most_deeds version 1 + most_deeds version n ≡ most_deeds version (n + 1)
+steps_more version n = by (by_bytes version)
+  where
+    by : (bytes : Bool) → cond bytes (3 * 1) 1 + cond bytes (3 * n) n ≡ cond bytes (3 * (n + 1)) (n + 1)
+    by true = omega arith
+    by false = omega arith
 
-front_few : (n : ℕ) (xs : List Step) → length (take n xs) + 0 ≤ length xs
-front_few n xs = omega (arith, length-take n xs)
+steps_less : (version k n : ℕ) → k ≤ n → most_deeds version k ≤ most_deeds version n
+steps_less version k n less = by (by_bytes version)
+  where
+    by : (bytes : Bool) → cond bytes (3 * k) k ≤ cond bytes (3 * n) n
+    by true = omega (arith, less)
+    by false = less
 
--- what a driver hands back that began so and did steps which are a front of these
-unfoldable pub worked_by : {E : Type 0} (e : Ends E) (steps done : List Step) (first last : DriverThread E)
-    (answers : Option (Vec Done Global)) → is_out (driver_of first.driver) ≡ false → IsEmpty (log_of first.driver) →
-    ((version : ℕ) → Traces version (driver_of first.driver) (log_of first.driver) []) → IsLawful last.driver →
-    (does : DoesSteps e first last done) → done ≡ take (length does.deeds) steps →
-    HasWorked e.stands first.set (node_of first.driver) steps first.links.items
-    (record { links = last.links; driver = last.driver; accesses = answers })
-worked_by e steps done first last answers reset empty none lawful does front =
-    let t = does.goes.traces [] (none first.set.version) in record {
-      deeds = does.deeds;
-      own = does.node;
-      lawful = lawful;
-      deeds_are = record {
-        first = does.are ∙ front;
-        states = t.answered.states;
-        gives = t.answered.gives;
-      };
-      leads = (
-        last.set,
-        lead_all first.set [] first.set does.deeds last.set nothing_done
-            (does.leads [] (none first.set.version)),
-      );
-      traces = t;
-      holds = λ j u. does.goes.holds [] j (none first.set.version)
-          (holds_new e.stands (driver_of first.driver) (log_of first.driver) j first.links.items 0 empty reset u);
-    }
+pub most_few : (version n : ℕ) → most_deeds version n ≤ 3 * n
+most_few version n = by (by_bytes version)
+  where
+    by : (bytes : Bool) → cond bytes (3 * n) n ≤ 3 * n
+    by true = omega arith
+    by false = omega arith
 
-module _ {E : Type 0} (e : Ends E) (steps : List Step) (n : ℕ) (first last : DriverThread E)
-    (may : MayBegin e.link first (length steps)) (does : DoesSteps e first last (take n steps)) where
-  many : length does.deeds ≡ length (take n steps)
-  many = sym (length-map does.deeds (λ (x : Deed). x.step)) ∙ ap (λ l. length l) does.are
+module _ {E : Type 0} (e : Ends E) where
+  -- where fewer are asked for
+  pub step_less : (t : DriverThread E) (k n : ℕ) → k ≤ n → MayStep e.link t n → MayStep e.link t k
+  step_less t k n less m = record {
+    may = may_less e t (most_deeds t.set.version k) (most_deeds t.set.version n) (steps_less t.set.version k n less)
+        m.may;
+    room = let room = m.room in omega (arith, room, less);
+  }
 
-  -- what a driver hands back that did a front of its steps
-  pub worked_of : (answers : Option (Vec Done Global)) → HasWorked e.stands first.set (node_of first.driver) steps
-      first.links.items (record { links = last.links; driver = last.driver; accesses = answers })
-  worked_of answers =
-      worked_by e steps (take n steps) first last answers may.reset may.empty may.traces
-      (does.able 0 (may_less e first (length (take n steps) + 0) (length steps) (front_few n steps) may.may)).lawful
-      does (take_front n steps ∙ ap (λ (k : ℕ). take k steps) (sym many))
+  -- once one is done the others may be
+  pub step_able : (was now : DriverThread E) (s : Step) (n : ℕ) → DoesStep e was now s → MayStep e.link was (n + 1) →
+      MayStep e.link now n
+  step_able was now s n d m = record {
+    may = subst (λ (v : ℕ). MayWork e.link now (most_deeds v n)) (sym d.does.version)
+        (d.does.able (most_deeds was.set.version n) (may_less e was
+        (length d.access.deeds + most_deeds was.set.version n) (most_deeds was.set.version (n + 1))
+        (let few = d.few in let more = steps_more was.set.version n in omega (arith, few, more)) m.may));
+    room = let fits = m.room in let long = ap (λ (l : List Done). length l) d.done in
+        let more = length-append (done_in (log_of was.driver)) (done_of d.access ∷ []) in let room = d.room in
+        omega (arith, fits, long, more, room);
+  }
 
-  -- all steps, where as many were done as there are
-  pub all_done : n ≡ length steps → length (done_in (log_of last.driver)) ≡ length steps
-  all_done all =
-      let t = does.goes.traces [] (may.traces first.set.version) in
-      sym (ap (λ l. length l) t.done) ∙ length-map does.deeds done_of ∙ many
-      ∙ length-take-le n steps (omega (arith, all)) ∙ all
+  module _ (trans : (x y z : E) → e.same x y → e.same y z → e.same x z) (r : (x : E) → e.same x x)
+      (first : DriverThread E)
+      (begun : (version : ℕ) → Traces version (driver_of first.driver) (log_of first.driver) [])
+    where
+      pub done_none : kept_of first.driver ≡ at_power_on → IsEmpty (log_of first.driver) → HasDone e first first []
+      unfolding does_none
+      done_none kept empty = record {
+        accesses = [];
+        does = does_none e r first;
+        leads = subst (λ (k : KeptBytes). LeadToAccesses first.set.version first.set [] first.set k) (sym kept)
+            no_access_done;
+        steps_are = refl;
+        done_are = sym empty.done;
+      }
+
+      module _ (was : DriverThread E) (steps : List Step) (p : HasDone e first was steps) where
+        traces : Traces first.set.version (driver_of was.driver) (log_of was.driver) (deeds_in p.accesses)
+        traces = p.does.goes.traces [] (begun first.set.version)
+
+        own_traces : Traces was.set.version (driver_of was.driver) (log_of was.driver) (deeds_in p.accesses)
+        own_traces = subst (λ (n : ℕ). Traces n (driver_of was.driver) (log_of was.driver) (deeds_in p.accesses))
+            (sym p.does.version) traces
+
+        -- one more
+        pub done_more : (now : DriverThread E) (s : Step) → DoesStep e was now s → HasDone e first now (steps ++ s ∷ [])
+        unfolding does_more
+        done_more now s d = record {
+          accesses = p.accesses ++ d.access ∷ [];
+          does = subst (λ (l : List Deed). Does e first now l) (sym (deeds_push p.accesses d.access))
+              (does_more e trans first was now (deeds_in p.accesses) d.access.deeds p.does d.does);
+          leads = access_done p.accesses d.access was.set now.set (kept_of was.driver) (kept_of now.driver) p.leads
+              (d.does.leads (deeds_in p.accesses) own_traces)
+              (subst (λ (v : ℕ). IsAccessAt v was.set (is_active (deeds_in p.accesses)) (kept_of was.driver) d.access
+              (kept_of now.driver)) p.does.version (d.is (deeds_in p.accesses) own_traces));
+          steps_are = map-append (λ (x : Access). x.step) p.accesses (d.access ∷ [])
+              ∙ ap (λ (l : List Step). l ++ d.access.step ∷ []) p.steps_are
+              ∙ ap (λ (x : Step). steps ++ x ∷ []) d.step_is;
+          done_are = map-append done_of p.accesses (d.access ∷ [])
+              ∙ ap (λ (l : List Done). l ++ done_of d.access ∷ []) p.done_are ∙ sym d.done;
+        }
+
+        module _ (all : List Step) (k : ℕ) (few : k ≤ length all) (is : steps ≡ take k all) where
+          count : length p.accesses ≡ k
+          count = sym (length-map p.accesses (λ (x : Access). x.step))
+              ∙ ap (λ (l : List Step). length l) (p.steps_are ∙ is) ∙ length-take-le k all few
+
+          front : map (λ (x : Access). x.step) p.accesses ≡ take (length p.accesses) all
+          front = p.steps_are ∙ is ∙ ap (λ (n : ℕ). take n all) (sym count)
+
+          -- a gate quit in the next one
+          pub ended_by : (quits : Bool) (now : DriverThread E) (s : Step) → k < length all →
+              s ≡ slice_index_or all k s →
+              BreaksOff e was now s → quits ≡ true → HasEnded e quits first now all
+          unfolding does_more
+          ended_by quits now s less here b broken = record {
+            work = record { accesses = p.accesses; broken = b.deeds };
+            does = does_more e trans first was now (deeds_in p.accesses) b.deeds p.does b.does;
+            lawful = b.lawful;
+            follows = record {
+              first = front;
+              last = was.set;
+              kept = kept_of was.driver;
+              leads = p.leads;
+              broken =
+                  subst (λ (l : List Step). IsBrokenOff first.set.version was.set (is_active (deeds_in p.accesses)) l
+                  b.deeds)
+                  (sym next)
+                  (subst (λ (v : ℕ). IsBrokenOff v was.set (is_active (deeds_in p.accesses)) (s ∷ drop (k + 1) all)
+                  b.deeds)
+                  p.does.version
+                  (subst (λ (o : Bool). IsBrokenOff was.set.version was.set o (s ∷ drop (k + 1) all) b.deeds)
+                  (sym traces.out) (b.broken (drop (k + 1) all))));
+            };
+            done = p.done_are ∙ ap (λ v. v.items) (sym b.none.done);
+            all = λ never. absurd (let two : true ≡ false = sym broken ∙ never in cc);
+          }
+            where
+              next : drop (length p.accesses) all ≡ s ∷ drop (k + 1) all
+              next = ap (λ (n : ℕ). drop n all) count ∙ at_drop_more (λ (l : List Step). l) all k s less
+                  ∙ ap (λ (x : Step). x ∷ drop (k + 1) all) (sym here)
+
+          -- it did all
+          pub ended_all : (quits : Bool) → k ≡ length all → IsLawful was.driver → HasEnded e quits first was all
+          ended_all quits whole lawful = record {
+            work = record { accesses = p.accesses; broken = [] };
+            does = subst (λ (l : List Deed). Does e first was l) (sym (append-nil (deeds_in p.accesses))) p.does;
+            lawful = lawful;
+            follows = record {
+              first = front;
+              last = was.set;
+              kept = kept_of was.driver;
+              leads = p.leads;
+              broken = not_begun;
+            };
+            done = p.done_are;
+            all = λ never. count ∙ whole;
+          }
+
+  -- ---- the whole of it
+
+  -- what a driver hands back that began so and ended so
+  pub worked_by : (quits : Bool) (first last : DriverThread E) (steps : List Step) →
+      MayBegin e.link first (length steps) → (h : HasEnded e quits first last steps) →
+      HasWorked e.stands first.set (node_of first.driver) steps first.links.items
+      (record { links = last.links; driver = last.driver })
+  worked_by quits first last steps may h = record {
+    work = h.work;
+    own = h.does.node;
+    lawful = h.lawful;
+    follows = h.follows;
+    done = h.done;
+    leads = (
+      last.set,
+      lead_all first.set [] first.set (deeds_done h.work) last.set nothing_done
+          (h.does.leads [] (may.traces first.set.version)),
+    );
+    traces = h.does.goes.traces [] (may.traces first.set.version);
+    holds = λ j u. h.does.goes.holds [] j (may.traces first.set.version)
+        (holds_new e.stands (driver_of first.driver) (log_of first.driver) j first.links.items 0 may.empty may.reset u);
+  }
+
+  -- all steps, where no gate quits
+  pub all_done : (quits : Bool) (first last : DriverThread E) (steps : List Step) → HasEnded e quits first last steps →
+      quits ≡ false → length (done_in (log_of last.driver)) ≡ length steps
+  all_done quits first last steps h never =
+      sym (ap (λ (l : List Done). length l) h.done) ∙ length-map h.work.accesses done_of ∙ h.all never

@@ -1,6 +1,7 @@
 -- What a driver in a thread of its own has set, through a try of a step.
-use Rattle.std.proofs.Common.{◌≡◌, ◌++◌, ℕ, Bool, true, false, List, [], ◌∷◌, length, refl, sym, ap, ◌∙◌, subst}
-use Rattle.std.proofs.Common.{append-nil, append_assoc}
+use Rattle.std.proofs.Common.{◌≡◌, ◌++◌, Bool, true, List, [], ◌∷◌, length, refl, sym, ap, ◌∙◌, subst}
+use Rattle.std.proofs.Common.{Some, None, arith, append-nil, append_assoc}
+use Rattle.std.proofs.lemmas.List.{length-append}
 use Rattle.can_frame.specs.declared.seen.Seen.{Seen}
 use Rattle.sja_link.specs.declared.driver_end.DriverEnd.{Ghosts as Ends}
 use Rattle.sja_link.specs.DriverLedgers.{held_by, knows_bus_off}
@@ -9,6 +10,7 @@ use Rattle.sja_regs.specs.declared.registers.Registers.{Registers}
 use Rattle.sja_regs.specs.Registers.{at_power_on}
 use Rattle.sja_regs.specs.DriverSettings.{SettingsValue, settings_in, HasSettings, with_settings}
 use Rattle.sja_script.specs.declared.step.Step.{Step}
+use Rattle.sja_script.specs.declared.step_answer.StepAnswer.{StepAnswer}
 use Rattle.sja_script.specs.declared.step_answer.StepAnswer.TheVariants.{Done as DoneAnswer, Released as ReleasedAnswer}
 use Rattle.sja_driver.specs.declared.any_driver.AnyDriver.{AnyDriver}
 use Rattle.sja_driver.specs.declared.any_driver.AnyDriver.TheVariants.{InReset, InActive}
@@ -17,7 +19,7 @@ use Rattle.sja_driver.specs.AnyDrivers.{is_out, held_of, off_of, seen_by}
 use Rattle.sja_driver.specs.Carried.{Sees, Tells}
 use Rattle.sja_driver.specs.Deeds.{Deed, is_active}
 use Rattle.sja_driver.specs.Logs.{deeds_by}
-use Rattle.sja_driver.specs.Tries.{Tried, is_met}
+use Rattle.sja_driver.specs.Tries.{Tried, answer_of}
 use Rattle.sja_driver.specs.Tries.Tried.{Unmet, Answered, Released, Ended}
 use Rattle.sja_threads.specs.Accessing.{LeadOn}
 use Rattle.sja_threads.specs.Setting.{LeadToSettings, IsDoneAt}
@@ -52,17 +54,17 @@ if_out : (was : AnyDriver) (P : Type 0) → IfOut was P → is_out was ≡ true 
 if_out (InReset d) P p out = absurd cc
 if_out (InActive d) P p out = p
 
-module _ {E : Type 0} (e : Ends E) (a b : E) (p q : Registers) (which : Step) (was now : AnyDriver) (bits : ℕ)
-    (set set_now : SettingsValue) (none : bits ≡ 0) (has : HasSettings p set) where
+module _ {E : Type 0} (e : Ends E) (a b : E) (p q : Registers) (which : Step) (was now : AnyDriver)
+    (set set_now : SettingsValue) (has : HasSettings p set) where
   -- what was set before a try leads to what is set after it, by the deed that it was
-  pub leads_try : (o : Tried) → (is_met o ≡ true → set_now ≡ settings_in q) → (is_met o ≡ false → set_now ≡ set) →
-      Acts e.same e.stands e.dry e.full a b p q which was now o → (before : List Deed) →
-      is_active (before ++ []) ≡ is_out was → LeadOn before set (deeds_by p which o bits) set_now
+  pub leads_try : (o : Tried) → ((answer : StepAnswer) → answer_of o ≡ Some answer → set_now ≡ settings_in q) →
+      (answer_of o ≡ None → set_now ≡ set) → Acts e.same e.stands e.dry e.full a b p q which was now o →
+      (before : List Deed) → is_active (before ++ []) ≡ is_out was → LeadOn before set (deeds_by p which o 0) set_now
   leads_try Unmet met unmet acts before out =
       subst (λ (s : SettingsValue). LeadOn before set [] s) (sym (unmet refl)) nothing_more
   leads_try (Answered answer) met unmet acts before out =
-      subst (λ (s : SettingsValue). LeadOn before set (deeds_by p which (Answered answer) bits) s)
-      (sym (met refl ∙ ap settings_in acts.port))
+      subst (λ (s : SettingsValue). LeadOn before set (deeds_by p which (Answered answer) 0) s)
+      (sym (met answer refl ∙ ap settings_in acts.port))
       (one_more [] _ set p nothing_more has (record {
         window = held_of now;
         off = off_of now;
@@ -70,11 +72,11 @@ module _ {E : Type 0} (e : Ends E) (a b : E) (p q : Registers) (which : Step) (w
             (subst (λ (s : Seen). Tells which (is_out was) p s answer) (seen_is now) acts.tells);
         sees = λ active. if_out was (Sees which (off_of now) (held_of now) answer) acts.sees (sym out ∙ active);
         gave = refl;
-        bits = none;
+        bits = refl;
       }))
   leads_try (Released m) met unmet acts before out =
-      subst (λ (s : SettingsValue). LeadOn before set (deeds_by p which (Released m) bits) s)
-      (sym (met refl ∙ ap settings_in acts.port))
+      subst (λ (s : SettingsValue). LeadOn before set (deeds_by p which (Released m) 0) s)
+      (sym (met (ReleasedAnswer (length m)) refl ∙ ap settings_in acts.port))
       (one_more [] _ set p nothing_more has (record {
         window = m ∷ held_of now;
         off = off_of now;
@@ -83,11 +85,11 @@ module _ {E : Type 0} (e : Ends E) (a b : E) (p q : Registers) (which : Step) (w
         sees = λ active. if_out was (Sees which (off_of now) (m ∷ held_of now) (ReleasedAnswer (length m))) acts.sees
             (sym out ∙ active);
         gave = refl;
-        bits = none;
+        bits = refl;
       }))
   leads_try (Ended ledger) met unmet acts before out =
-      subst (λ (s : SettingsValue). LeadOn before set (deeds_by p which (Ended ledger) bits) s)
-      (sym (met refl ∙ ap settings_in acts.port))
+      subst (λ (s : SettingsValue). LeadOn before set (deeds_by p which (Ended ledger) 0) s)
+      (sym (met DoneAnswer refl ∙ ap settings_in acts.port))
       (one_more [] _ set p nothing_more has (record {
         window = held_by ledger;
         off = knows_bus_off ledger;
@@ -96,8 +98,41 @@ module _ {E : Type 0} (e : Ends E) (a b : E) (p q : Registers) (which : Step) (w
         sees = λ active. if_out was (Sees which (knows_bus_off ledger) (held_by ledger) DoneAnswer) acts.sees
             (sym out ∙ active);
         gave = refl;
-        bits = none;
+        bits = refl;
       }))
+
+-- where one deed leads on, it is done at registers that have what was set
+pub record IsDoneFrom (set : SettingsValue) (active : Bool) (d : Deed) : Type 0 where
+  pub at : Registers
+  pub has : HasSettings at set
+  pub done : IsDoneAt active at d
+
+none_leads : (before : List Deed) (set : SettingsValue) (deeds : List Deed) (last : SettingsValue) →
+    LeadOn before set deeds last → deeds ≡ [] → last ≡ set
+none_leads before set _ _ nothing_more is = refl
+none_leads before set _ _ (one_more deeds d s p l has done) is =
+    absurd (let none = ap (λ (l : List Deed). length l) is in
+    let long = length-append deeds (d ∷ []) in omega (arith, none, long))
+
+first_is : (a b : Deed) → a ∷ [] ≡ b ∷ [] → a ≡ b
+first_is a b e = cc
+
+one_leads : (before : List Deed) (set : SettingsValue) (d : Deed) (deeds : List Deed) (last : SettingsValue) →
+    LeadOn before set deeds last → deeds ≡ d ∷ [] → IsDoneFrom set (is_active before) d
+one_leads before set d _ _ nothing_more is = absurd (let none : [] ≡ d ∷ [] = is in cc)
+one_leads before set d _ _ (one_more (x ∷ deeds) y s p l has done) is =
+    absurd (let two = ap (λ (l : List Deed). length l) is in
+    let long = length-append deeds (y ∷ []) in omega (arith, two, long))
+one_leads before set d _ _ (one_more [] y s p l has done) is = record {
+  at = p;
+  has = subst (λ (t : SettingsValue). HasSettings p t) (none_leads before set [] s l refl) has;
+  done = subst (λ (x : Deed). IsDoneAt (is_active before) p x) (first_is y d is)
+      (subst (λ (l : List Deed). IsDoneAt (is_active l) p y) (append-nil before) done);
+}
+
+pub done_from : (before : List Deed) (set : SettingsValue) (d : Deed) (last : SettingsValue) →
+    LeadOn before set (d ∷ []) last → IsDoneFrom set (is_active before) d
+done_from before set d last l = one_leads before set d (d ∷ []) last l refl
 
 -- ---- one after the other
 

@@ -15,7 +15,7 @@ use Rattle.sja_link.specs.Orderly.{AreOrderly}
 use Rattle.sja_wire.specs.Wire.{journal_at}
 use Rattle.sja_regs.specs.DriverSettings.{settings_in}
 use Rattle.sja_regs.specs.Registers.{at_power_on}
-use Rattle.sja_plan.specs.Plan.{PlanValue, steps_at}
+use Rattle.sja_plan.specs.Plan.{PlanValue}
 use Rattle.sja_driver.specs.declared.logged_driver.LoggedDriver.{LoggedDriver}
 use Rattle.sja_driver.specs.Deeds.{Deed, deeds_at}
 use Rattle.sja_driver.specs.LoggedDrivers.{log_of}
@@ -76,8 +76,8 @@ module _ (plan : PlanValue) (bus : BusValue) (links : List RingBus) (workeds : L
     abbrev handed : Worked RingDriver
     handed = slice_index_or workeds k some
 
-    over : IsOverAt (settings_in (at_power_on plan.version)) (steps_at plan k) k (journal_at bus.journals k) (deeds_at
-        deeds k) handed links (64 * k)
+    over : IsOverAt (settings_in (at_power_on plan.version)) k (journal_at bus.journals k) (deeds_at deeds k) handed
+        links (64 * k)
     over = h.nodes k some in_plan
 
     some_bus : RingBus
@@ -117,17 +117,17 @@ module _ (plan : PlanValue) (bus : BusValue) (links : List RingBus) (workeds : L
     same : there.journal ≡ journal
     same = journal_is plan log logs bus.journals (all_drivers workeds) left_down are k n less
 
-    trace_there : IsTrace plan.version (steps_at plan k) there (deeds_at deeds k)
+    trace_there : IsTrace plan.version there (deeds_at deeds k)
     trace_there = trace_of journal (deeds_at deeds k) handed.driver left_down (64 * k) _ there end_there same
-        plan.version (steps_at plan k) over.deeds_are over.traces
-        (given_all (settings_in (at_power_on plan.version)) (steps_at plan k) k journal (deeds_at deeds k) handed links
+        plan.version over.traces
+        (given_all (settings_in (at_power_on plan.version)) k journal (deeds_at deeds k) handed links
         (64 * k) over left_down some_bus some_end
         left_there)
 
     settled_there : AreSettled there
     settled_there = settled_of journal (deeds_at deeds k) handed.driver left_down (64 * k) _ there end_there same
         over.lawful
-        (settled_all (settings_in (at_power_on plan.version)) (steps_at plan k) k journal (deeds_at deeds k) handed
+        (settled_all (settings_in (at_power_on plan.version)) k journal (deeds_at deeds k) handed
         links (64 * k) over left_down some_bus some_end
         left_there)
 
@@ -161,6 +161,6 @@ module _ (plan : PlanValue) (bus : BusValue) (links : List RingBus) (workeds : L
     ends = m.ends;
     journals = journals_in_log plan log logs bus.journals (all_drivers workeds) left_down are;
     done = λ node n w less. done_there node n less w;
-    linked = λ node n less. linked_by (steps_at plan node) (deeds_at deeds node) (slice_index_or log.nodes node n)
+    linked = λ node n less. linked_by (deeds_at deeds node) (slice_index_or log.nodes node n)
         (trace_there node n less) (lawful_there node n less) (orderly_there node n less);
   }

@@ -1,7 +1,9 @@
 -- One node of a run that is over: what each of its links carried, and how each of its activations ends.
-use Rattle.std.proofs.Common.{◌≡◌, ℕ, zero, suc, ◌+◌, ◌<◌, ◌≤◌, List, [], ◌++◌, refl, sym, ◌∙◌, subst, arith, inl, inr}
+use Rattle.std.proofs.Common.{◌≡◌, ℕ, zero, suc, ◌+◌, ◌<◌, ◌≤◌, List, [], ◌++◌, length, map, refl, sym, ◌∙◌}
+use Rattle.std.proofs.Common.{subst, arith, inl, inr}
 use Rattle.std.specs.Prelude.{slice_index_or}
 use Rattle.std.proofs.lemmas.Bool.{cases_lt}
+use Rattle.std.proofs.lemmas.List.{length-map, take_all}
 use Rattle.sja_link.specs.declared.entry.Entry.{Entry}
 use Rattle.sja_link.specs.declared.down.Down.{Down}
 use Rattle.sja_link.specs.Accounts.{Account, account}
@@ -13,7 +15,7 @@ use Rattle.sja_rings.specs.declared.ring_driver.RingDriver.{RingDriver}
 use Rattle.sja_rings.specs.Ends.{DriverLists}
 use Rattle.sja_regs.specs.DriverSettings.{SettingsValue}
 use Rattle.sja_script.specs.declared.step.Step.{Step}
-use Rattle.sja_driver.specs.Deeds.{Deed, opened_by, given_in, deeds_of}
+use Rattle.sja_driver.specs.Deeds.{AreDeeds, Deed, opened_by, given_in, deeds_of}
 use Rattle.sja_driver.specs.LoggedDrivers.{node_of, driver_of, log_of, ended_of}
 use Rattle.sja_driver.specs.Logs.{releases_in, released_of}
 use Rattle.sja_log.specs.Log.{ActivationValue}
@@ -25,9 +27,8 @@ use Rattle.sja_threads.specs.Inside.Ended.{IsOverAt}
 use Rattle.sja_threads.specs.Inside.Settling.{IsLeftOn}
 use Rattle.sja_driver.proofs.LogOfSteps.GivenOutside.{given_outside}
 
-module _ (set : SettingsValue) (steps : List Step) (node : ℕ) (j : List Entry) (deeds : List Deed) (w : Worked
-    RingDriver)
-    (links : List RingBus) (base : ℕ) (h : IsOverAt set steps node j deeds w links base) (left_down : List (List Down))
+module _ (set : SettingsValue) (node : ℕ) (j : List Entry) (deeds : List Deed) (w : Worked RingDriver)
+    (links : List RingBus) (base : ℕ) (h : IsOverAt set node j deeds w links base) (left_down : List (List Down))
     (bus : RingBus) (end : RingDriver)
     (left : (a : ℕ) → a < 64 → IsLeftOn (slice_index_or links (base + a) bus) (slice_index_or w.links.items a end)
     (slice_index_or left_down (base + a) [])) where
@@ -50,12 +51,22 @@ module _ (set : SettingsValue) (steps : List Step) (node : ℕ) (j : List Entry)
       let few = (opened_few (node_of w.driver) (ended_of w.driver) (driver_of w.driver) h.lawful).0 in
       omega (arith, e, few)
 
+  abbrev steps : List Step
+  steps = map (λ (d : Deed). d.step) deeds
+
+  of_steps : AreDeeds set.version steps deeds
+  of_steps = record {
+    first = sym (take_all (length deeds) steps (let n = length-map deeds (λ (d : Deed). d.step) in omega (arith, n)));
+    states = h.traces.answered.states;
+    gives = h.traces.answered.gives;
+  }
+
   pub given_all : (a : ℕ) → given_in (deeds_of deeds a) ≡ taken_of (part j a)
-  given_all zero = given_outside steps deeds 0 h.deeds_are opened_most (inl refl) ∙ sym (h.within 0 (inl refl))
+  given_all zero = given_outside steps deeds 0 of_steps opened_most (inl refl) ∙ sym (h.within 0 (inl refl))
   given_all (suc a) = elim (cases_lt a 64) [
     | inl few ↦ (on_link a few).1
     | inr most ↦
-        given_outside steps deeds (suc a) h.deeds_are opened_most (inr (omega (arith, most)))
+        given_outside steps deeds (suc a) of_steps opened_most (inr (omega (arith, most)))
         ∙ sym (h.within (suc a) (inr (omega (arith, most))))
   ]
 

@@ -11,7 +11,6 @@ use Rattle.sja_link.specs.Parts.{part}
 use Rattle.lemmas.specs.Picking.{EachAfter}
 use Rattle.sja_link.specs.World.{credits_of}
 use Rattle.sja_link.proofs.Ledger.StoredMessages.{AreMessages, stored_real}
-use Rattle.sja_script.specs.declared.step.Step.{Step}
 use Rattle.sja_driver.specs.Deeds.{Deed}
 use Rattle.sja_driver.proofs.Step.CreditsGiven.{credits_in}
 use Rattle.sja_link.specs.Orderly.{IsOrderly, AreOrderly}
@@ -33,11 +32,10 @@ linked_one j a act h credits orderly real =
     (linked_part (part j a) h.driver.got h.down act.released h.held orderly real h.put h.holds credits)
 
 -- of each activation of a node whose driver's trace this is
-pub linked_by : {version : ℕ} (steps : List Step) (deeds : List Deed) (node : NodeValue) → IsTrace version steps node
-    deeds →
+pub linked_by : {version : ℕ} (deeds : List Deed) (node : NodeValue) → IsTrace version node deeds →
     IsLawful node.journal → AreOrderly node.journal → AreLinked node
-linked_by steps deeds node trace lawful orderly a d less settled =
+linked_by deeds node trace lawful orderly a d less settled =
     linked_one node.journal (a + 1) (slice_index_or node.activations a d) settled
-    (ap credits_of (sym (trace.given (a + 1))) ∙ credits_in 0 [] deeds (a + 1) trace.deeds_are.gives
+    (ap credits_of (sym (trace.given (a + 1))) ∙ credits_in 0 [] deeds (a + 1) trace.answered.gives
     ∙ trace.released a d less) (orderly (a + 1))
     (stored_real node.journal (a + 1) lawful)

@@ -1,6 +1,6 @@
 -- The links of a run, made one after another.
-use Rattle.std.proofs.Common.{◌≡◌, ℕ, suc, ◌+◌, ◌*◌, ◌<◌, List, [], ◌∷◌, ◌++◌, length, inl, inr, sym, ap, ◌∙◌, subst}
-use Rattle.std.proofs.Common.{arith, zero-add, add-one}
+use Rattle.std.proofs.Common.{◌≡◌, ℕ, suc, ◌+◌, ◌*◌, ◌<◌, ◌≤◌, List, [], ◌∷◌, ◌++◌, length, inl, inr, sym}
+use Rattle.std.proofs.Common.{ap, ◌∙◌, subst, arith, zero-add, add-one}
 use Rattle.std.specs.Prelude.{slice_index_or}
 use Rattle.std.proofs.Math.Seq.{get_or-append_seam}
 use Rattle.std.proofs.lemmas.Bool.{cases_eq}
@@ -12,11 +12,10 @@ use Rattle.sja_link.specs.Lists.{nothing_yet}
 use Rattle.sja_rings.specs.Ends.{BusLists, DriverLists, OneLink, link_of_bus}
 use Rattle.sja_plan.specs.Plan.{PlanValue, steps_at}
 use Rattle.sja_script.specs.declared.step.Step.{Step}
-use Rattle.sja_driver.specs.Logs.{HasRoom, IsEmpty}
+use Rattle.sja_driver.specs.Logs.{HasRoom, IsEmpty, done_room}
 use Rattle.sja_threads.specs.declared.thread_start.ThreadStart.{ThreadStart}
-use Rattle.sja_threads.specs.AccessRuns.{room_for}
+use Rattle.sja_threads.specs.Accessing.{most_deeds}
 use Rattle.sja_threads.specs.Inside.Making.{IsNewBus, IsNewEnd, AreNewEnds, IsMade, AreMade}
-use Rattle.sja_threads.specs.Inside.Started.{HasAnswerRoom, is_raw}
 
 -- what holds of so many elements from a place on, and of the next one, which is the last, holds of one more
 each_push : {A : Type 0} (P : ℕ → A → Type 0) (count : ℕ) (xs : List A) (base : ℕ) (x : A) → length xs ≡ base + count →
@@ -80,7 +79,7 @@ made_later plan node s buses after same m = record {
   own = m.own;
   empty = m.empty;
   room = m.room;
-  answers = m.answers;
+  steps = m.steps;
   enough = m.enough;
   links = record {
     buses_new = λ a b less. subst (λ (x : RingBus). IsNewBus node (suc a) x) (sym (same a b less))
@@ -121,14 +120,14 @@ new_driver node place b d link one lists =
 -- what the thread of a node begins with, as it was made
 pub made_of : {G : Type 0} (plan : PlanValue) (node base : ℕ) (s : ThreadStart G) (after : List RingBus)
     (steps : List Step) → s.node ≡ node → IsEmpty s.log → steps ≡ steps_at plan node →
-    HasRoom (room_for (is_raw s.accesses) (length steps)) s.log → HasAnswerRoom s.accesses (length steps) →
+    HasRoom (most_deeds plan.version (length steps)) s.log → length steps ≤ done_room s.log →
     length s.links.items ≡ 64 → base ≡ 64 * node → AreNewEnds 64 node after s.links.items base → IsMade plan node s
     after
-made_of plan node base s after steps own empty are room answers enough here links = record {
+made_of plan node base s after steps own empty are room fits enough here links = record {
   own = own;
   empty = empty;
-  room = subst (λ (l : List Step). HasRoom (room_for (is_raw s.accesses) (length l)) s.log) are room;
-  answers = subst (λ (l : List Step). HasAnswerRoom s.accesses (length l)) are answers;
+  room = subst (λ (l : List Step). HasRoom (most_deeds plan.version (length l)) s.log) are room;
+  steps = subst (λ (l : List Step). length l ≤ done_room s.log) are fits;
   enough = enough;
   links = subst (λ (n : ℕ). AreNewEnds 64 node after s.links.items n) here links;
 }

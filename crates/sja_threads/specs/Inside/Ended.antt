@@ -9,9 +9,8 @@ use Rattle.sja_rings.specs.declared.ring_driver.RingDriver.{RingDriver}
 use Rattle.sja_rings.specs.Ends.{BusLists, DriverLists, OneLink}
 use Rattle.sja_regs.specs.DriverSettings.{SettingsValue, settings_in}
 use Rattle.sja_regs.specs.Registers.{at_power_on}
-use Rattle.sja_script.specs.declared.step.Step.{Step}
-use Rattle.sja_plan.specs.Plan.{PlanValue, steps_at}
-use Rattle.sja_driver.specs.Deeds.{Deed, AreDeeds, deeds_at}
+use Rattle.sja_plan.specs.Plan.{PlanValue}
+use Rattle.sja_driver.specs.Deeds.{Deed, deeds_at}
 use Rattle.sja_driver.specs.Holding.{HoldsBy}
 use Rattle.sja_driver.specs.LoggedDrivers.{node_of, driver_of, log_of, IsLawful}
 use Rattle.sja_driver.specs.Logs.{Traces}
@@ -23,12 +22,11 @@ use Rattle.sja_threads.specs.Setting.{LeadToSettings}
 
 -- of one node, when its driver and the bus have ended: what its driver had set first, its journal, what its driver
 -- handed back, and the bus's ends of its links, from this place on
-pub record IsOverAt (set : SettingsValue) (steps : List Step) (node : ℕ) (j : List Entry) (deeds : List Deed)
+pub record IsOverAt (set : SettingsValue) (node : ℕ) (j : List Entry) (deeds : List Deed)
     (w : Worked RingDriver) (links : List RingBus) (base : ℕ) : Type 0 where
-  -- its driver did these deeds, of these steps
+  -- its driver did these deeds
   pub own : node_of w.driver ≡ node
   pub lawful : IsLawful w.driver
-  pub deeds_are : AreDeeds set.version steps deeds
   pub leads : (last : SettingsValue) × LeadToSettings set deeds last
   pub traces : Traces set.version (driver_of w.driver) (log_of w.driver) deeds
   -- the driver's ends stand beside the journal for these deeds, and the bus's for the parts of the journal, whatever
@@ -54,10 +52,5 @@ pub record IsOver (plan : PlanValue) (bus : BusValue) (links : List RingBus) (wo
   pub workeds_count : length workeds ≡ length plan.nodes
   pub deeds_count : length deeds ≡ length plan.nodes
   pub nodes : (node : ℕ) (w : Worked RingDriver) → node < length plan.nodes →
-      IsOverAt (settings_in (at_power_on plan.version)) (steps_at plan node) node (journal_at bus.journals node)
-      (deeds_at deeds node)
+      IsOverAt (settings_in (at_power_on plan.version)) node (journal_at bus.journals node) (deeds_at deeds node)
       (slice_index_or workeds node w) links (64 * node)
-
--- there are such deeds
-abbrev pub IsOverOf : PlanValue → BusValue → List RingBus → List (Worked RingDriver) → Type 0
-IsOverOf plan bus links workeds = (deeds : List (List Deed)) × IsOver plan bus links workeds deeds

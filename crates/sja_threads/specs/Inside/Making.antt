@@ -1,17 +1,17 @@
 -- What a run in threads begins with.
-use Rattle.std.specs.Prelude.{◌≡◌, ◌≤◌, ◌+◌, ◌*◌, ◌<◌, ℕ, suc, Bool, false, List, [], length, slice_index_or, All}
+use Rattle.std.specs.Prelude.{◌≡◌, ◌≤◌, ◌+◌, ◌*◌, ◌<◌, ℕ, suc, false, List, [], length, slice_index_or}
 use Rattle.std.specs.Prelude.{vec_capacity}
 use Rattle.sja_link.specs.Lists.{nothing_yet}
 use Rattle.sja_rings.specs.declared.ring_bus.RingBus.{RingBus}
 use Rattle.sja_rings.specs.declared.ring_driver.RingDriver.{RingDriver}
 use Rattle.sja_rings.specs.Ends.{BusLists, DriverLists, OneLink, link_of_bus, link_of_driver}
 use Rattle.sja_plan.specs.Plan.{PlanValue, steps_at}
-use Rattle.sja_driver.specs.Logs.{HasRoom, IsEmpty}
+use Rattle.sja_driver.specs.Logs.{HasRoom, IsEmpty, done_room}
 use Rattle.sja_wire.specs.Buses.{new_bus}
 use Rattle.sja_threads.specs.declared.thread_start.ThreadStart.{ThreadStart}
 use Rattle.sja_threads.specs.declared.run_parts.RunParts.{RunParts}
-use Rattle.sja_threads.specs.AccessRuns.{room_for, rooms}
-use Rattle.sja_threads.specs.Inside.Started.{HasAnswerRoom, is_raw}
+use Rattle.sja_threads.specs.Accessing.{most_deeds}
+use Rattle.sja_threads.specs.Stopping.{deed_counts}
 
 -- each end of the link of an activation, with nothing on it
 pub record IsNewBus (node activation : ℕ) (b : RingBus) : Type 0 where
@@ -29,13 +29,13 @@ pub record AreNewEnds (count node : ℕ) (buses : List RingBus) (drivers : List 
   pub one : (a : ℕ) (b : RingBus) (d : RingDriver) → a < count →
       OneLink (slice_index_or buses (base + a) b) (slice_index_or drivers a d)
 
--- what the thread of a node's driver begins with: its ends of the node's links, an empty log with room for all its
--- typed steps, and where it knows addresses and bytes alone room for what the steps of its script answer
+-- what the thread of a node's driver begins with: its ends of the node's links, and an empty log with room for all its
+-- steps and their deeds
 pub record IsMade {G : Type 0} (plan : PlanValue) (node : ℕ) (s : ThreadStart G) (buses : List RingBus) : Type 0 where
   pub own : s.node ≡ node
   pub empty : IsEmpty s.log
-  pub room : HasRoom (room_for (is_raw s.accesses) (length (steps_at plan node))) s.log
-  pub answers : HasAnswerRoom s.accesses (length (steps_at plan node))
+  pub room : HasRoom (most_deeds plan.version (length (steps_at plan node))) s.log
+  pub steps : length (steps_at plan node) ≤ done_room s.log
   pub enough : length s.links.items ≡ 64
   pub links : AreNewEnds 64 node buses s.links.items (64 * node)
 
@@ -44,18 +44,13 @@ abbrev pub AreMade : {G : Type 0} → PlanValue → ℕ → List (ThreadStart G)
 AreMade {G} plan count starts buses = (node : ℕ) (s : ThreadStart G) → node < count →
     IsMade plan node (slice_index_or starts node s) buses
 
--- a driver that knows addresses and bytes alone, or one that doesn't
-abbrev pub IsOfKind : {G : Type 0} → Bool → ThreadStart G → Type 0
-IsOfKind raw s = is_raw s.accesses ≡ raw
-
 -- all that a run of this plan begins with beside the ports
 pub record AreRunParts {G : Type 0} (plan : PlanValue) (r : RunParts G) : Type 0 where
-  pub bus : r.bus.bus ≡ new_bus plan.strikes plan.bits (length plan.nodes) (rooms r.raw plan)
+  pub bus : r.bus.bus ≡ new_bus plan.strikes plan.bits (length plan.nodes) (deed_counts plan)
   pub links : length r.bus.links.items ≡ 64 * length plan.nodes
   pub run : r.bus.run ≡ 0
   pub spent : r.bus.spent ≡ false
   pub starts : length r.starts.items ≡ length plan.nodes
   pub made : AreMade plan (length plan.nodes) r.starts.items r.bus.links.items
-  pub alike : All (IsOfKind r.raw) r.starts.items
   pub children : (length plan.nodes ≤ vec_capacity r.children) × (r.children.items ≡ [])
   pub workeds : (length plan.nodes ≤ vec_capacity r.workeds) × (r.workeds.items ≡ [])

@@ -9,13 +9,11 @@ use Rattle.sja_rings.specs.Ends.{BusLists, DriverLists}
 use Rattle.sja_driver.specs.declared.logged_driver.LoggedDriver.{LoggedDriver}
 use Rattle.sja_driver.specs.LoggedDrivers.{log_of}
 use Rattle.sja_driver.specs.Logs.{done_in}
-use Rattle.sja_script.specs.declared.done.Done.{Done}
 use Rattle.sja_wire.specs.Buses.{BusValue}
 use Rattle.sja_log.specs.declared.end.End.{End}
 use Rattle.sja_log.specs.Log.{NodeValue, RunValue, journals_in}
 use Rattle.sja_threads.specs.declared.worked.Worked.{Worked}
 use Rattle.sja_threads.specs.Linked.{AreLinked}
-use Rattle.sja_threads.specs.Inside.Started.{accesses_in}
 
 -- the drivers that were handed back, and their ends of all links, one driver's after the other's
 abbrev pub all_drivers : List (Worked RingDriver) → List LoggedDriver
@@ -23,10 +21,6 @@ all_drivers workeds = map (λ (w : Worked RingDriver). w.driver) workeds
 
 abbrev pub all_ends : List (Worked RingDriver) → List RingDriver
 all_ends workeds = gathered (λ (w : Worked RingDriver). w.links.items) workeds
-
--- what the steps of their scripts answered, by node
-abbrev pub all_accesses : List (Worked RingDriver) → List (List Done)
-all_accesses workeds = map (λ (w : Worked RingDriver). accesses_in w) workeds
 
 -- all that was given on a link was taken, and of what was put this wasn't got, whatever the lists are that its two ends
 -- stand for

@@ -1,48 +1,88 @@
--- The steps of a driver in its thread.
-use Rattle.std.specs.Prelude.{◌≡◌, ◌≤◌, ◌+◌, ◌++◌, ℕ, Bool, false, if◌then◌else◌, List, [], ◌∷◌, length, map}
+-- The deeds of a driver in its thread.
+use Rattle.std.specs.Prelude.{◌≡◌, ◌≤◌, ◌+◌, ◌++◌, ℕ, Bool, true, false, Option, Some, None, List, [], ◌∷◌, length, map}
 use Rattle.sja_link.specs.declared.driver_end.DriverEnd.{Ghosts as Ends}
 use Rattle.sja_link.specs.declared.link_id.LinkId.{LinkId}
 use Rattle.lemmas.specs.Related.{EachRelated}
 use Rattle.sja_script.specs.declared.step.Step.{Step}
+use Rattle.sja_script.specs.declared.step_answer.StepAnswer.{StepAnswer}
+use Rattle.sja_driver.specs.Accesses.{by_bytes, kept_by}
 use Rattle.sja_driver.specs.AnyDrivers.{is_out}
-use Rattle.sja_driver.specs.Deeds.{Deed, done_of}
+use Rattle.sja_driver.specs.Deeds.{Deed}
 use Rattle.sja_driver.specs.Holding.{Goes, NumberedFrom}
-use Rattle.sja_driver.specs.LoggedDrivers.{node_of, driver_of, log_of, IsLawful}
-use Rattle.sja_driver.specs.Logs.{HasRoom, IsEmpty, Traces, done_in}
+use Rattle.sja_driver.specs.LoggedDrivers.{node_of, driver_of, log_of, kept_of, IsLawful}
+use Rattle.sja_driver.specs.Logs.{HasRoom, IsEmpty, Traces, done_in, done_room}
+use Rattle.sja_driver.specs.declared.kept_bytes.KeptBytes.{KeptBytes}
+use Rattle.sja_driver.specs.declared.logged_driver.LoggedDriver.{LoggedDriver}
+use Rattle.sja_driver.specs.Kept.{at_power_on}
 use Rattle.sja_threads.specs.declared.driver_thread.DriverThread.{DriverThread}
-use Rattle.sja_threads.specs.Accessing.{LeadOn}
+use Rattle.sja_threads.specs.Accessing.{LeadOn, most_deeds}
 
--- the step, if it is done
-abbrev pub step_if : Bool → Step → List Step
-step_if done step = if done then step ∷ [] else []
+-- ---- what may be done
 
--- a driver may do so many steps more: its log has room for them, and its ends are those of its node's links
-pub record MayWork {E : Type 0} (link : E → LinkId) (t : DriverThread E) (steps : ℕ) : Type 0 where
+-- a driver may do so many deeds more: its log has room for them, and its ends are those of its node's links
+pub record MayWork {E : Type 0} (link : E → LinkId) (t : DriverThread E) (deeds : ℕ) : Type 0 where
+  pub bytes : t.bytes ≡ by_bytes t.set.version
   pub lawful : IsLawful t.driver
-  pub room : HasRoom steps (log_of t.driver)
+  pub room : HasRoom deeds (log_of t.driver)
   pub enough : 64 ≤ length t.links.items
   pub ids : NumberedFrom link t.links.items 0 (node_of t.driver)
 
+-- it may do so many steps more
+pub record MayStep {E : Type 0} (link : E → LinkId) (t : DriverThread E) (steps : ℕ) : Type 0 where
+  pub may : MayWork link t (most_deeds t.set.version steps)
+  pub room : length (done_in (log_of t.driver)) + steps ≤ done_room (log_of t.driver)
+
 -- a driver did nothing yet, and may do so many steps
 pub record MayBegin {E : Type 0} (link : E → LinkId) (t : DriverThread E) (steps : ℕ) : Type 0 where
-  pub may : MayWork link t steps
+  pub may : MayStep link t steps
   pub reset : is_out (driver_of t.driver) ≡ false
   pub empty : IsEmpty (log_of t.driver)
+  pub kept : kept_of t.driver ≡ at_power_on
   pub traces : (version : ℕ) → Traces version (driver_of t.driver) (log_of t.driver) []
 
--- a driver did these steps, each once and in this order: there are deeds of them, and with these its log and its ends
--- went on, for all deeds before and for all journals, and so did what it has set, which is of the
--- same version; its ends are the same ones, and it
+-- ---- deeds
+
+-- a driver did these deeds, each once and in this order: with them its log and its ends went on, for all deeds before
+-- and for all journals, and so did what it has set, which is of the same version; its ends are the same ones, and it
 -- may do as many more as it had left
-pub record DoesSteps {E : Type 0} (e : Ends E) (was now : DriverThread E) (steps : List Step) : Type 0 where
-  pub deeds : List Deed
-  pub are : map (λ (d : Deed). d.step) deeds ≡ steps
+pub record Does {E : Type 0} (e : Ends E) (was now : DriverThread E) (deeds : List Deed) : Type 0 where
   pub version : now.set.version ≡ was.set.version
   pub goes : Goes e.stands was.set.version (driver_of was.driver) (driver_of now.driver) (log_of was.driver)
       (log_of now.driver) was.links.items now.links.items 0 deeds
   pub leads : (before : List Deed) → Traces was.set.version (driver_of was.driver) (log_of was.driver) before →
       LeadOn before was.set deeds now.set
-  pub logged : done_in (log_of now.driver) ≡ done_in (log_of was.driver) ++ map done_of deeds
   pub sames : EachRelated e.same was.links.items now.links.items
   pub node : node_of now.driver ≡ node_of was.driver
-  pub able : (n : ℕ) → MayWork e.link was (length steps + n) → MayWork e.link now n
+  pub able : (n : ℕ) → MayWork e.link was (length deeds + n) → MayWork e.link now n
+
+-- nothing more is entered as done, and what is kept stays
+pub record EntersNone (was now : LoggedDriver) : Type 0 where
+  pub done : (log_of now).done ≡ (log_of was).done
+  pub kept : kept_of now ≡ kept_of was
+
+-- one deed of this step with this answer, or none where it has no answer
+abbrev pub IsDeedIf : Step → Option StepAnswer → List Deed → Type 0
+IsDeedIf this None deeds = deeds ≡ []
+IsDeedIf this (Some answer) deeds =
+    (map (λ (d : Deed). d.step) deeds ≡ this ∷ []) × (map (λ (d : Deed). d.answer) deeds ≡ answer ∷ [])
+
+-- that deed was done, which isn't entered yet
+pub record DoesDeed {E : Type 0} (e : Ends E) (was now : DriverThread E) (step : Step) (answer : Option StepAnswer) :
+    Type 0 where
+  pub deeds : List Deed
+  pub are : IsDeedIf step answer deeds
+  pub does : Does e was now deeds
+  pub none : EntersNone was.driver now.driver
+
+-- of deeds of these steps, which are some or all of one write, the first were done, all of them or not, and aren't
+-- entered yet; what was released has moved RBSA on
+pub record DoesParts {E : Type 0} (e : Ends E) (was now : DriverThread E) (all : List Step) (done : Bool)
+    (kept kept_now : KeptBytes) : Type 0 where
+  pub deeds : List Deed
+  pub left : List Step
+  pub whole : all ≡ map (λ (d : Deed). d.step) deeds ++ left
+  pub does : Does e was now deeds
+  pub none : EntersNone was.driver now.driver
+  pub moved : kept_now ≡ kept_by kept deeds
+  pub ends : done ≡ true → left ≡ []
+  pub waits : done ≡ false → 1 ≤ length left

@@ -3,7 +3,7 @@
 use sja_driver::{LoggedDriver, WorkLog};
 use sja_link::{BusEnd, DequeLink, Down, DriverEnd, LinkId};
 use sja_regs::Port;
-use sja_script::Step;
+use sja_script::{Step, StepAnswer};
 use std::alloc::{AllocError, Global};
 use test_words::are_links_of_node;
 
@@ -24,12 +24,16 @@ pub fn driven(
     if !are_links_of_node(ends, NODE) {
         return Ok(None);
     }
-    let Ok(log) = WorkLog::new(alloc, steps.len() as u32) else {
+    let count = steps.len() as u32;
+    let Ok(log) = WorkLog::new(alloc, count, count) else {
         return Err(AllocError);
     };
     let mut driver = LoggedDriver::new(NODE, log);
     for step in steps {
-        let _ = tried(&mut driver, ends, port, step, apart);
+        if let Some(answer) = tried(&mut driver, ends, port, step, apart) {
+            let kept = driver.kept();
+            driver.enter(answer, 7, kept);
+        }
     }
     Ok(Some(driver))
 }
@@ -65,18 +69,17 @@ fn put_all(link: &mut DequeLink, items: &[Down]) {
     }
 }
 
-/// Tries a step after 7 bits over the links from place 0 on; where `apart`, a window and a release by the calls that
-/// see no port.
+/// Tries a step over the links from place 0 on; where `apart`, a window and a release by the calls that see no port.
 fn tried<E: DriverEnd>(
     driver: &mut LoggedDriver,
     links: &mut [E],
     port: &mut Port,
     step: &Step,
     apart: bool,
-) -> bool {
+) -> Option<StepAnswer> {
     match step {
-        Step::Window if apart => driver.step_window(links, 0, 7),
-        Step::Release if apart => driver.step_release(links, 0, 7),
-        _ => driver.step(links, 0, port, step, 7),
+        Step::Window if apart => driver.step_window(links, 0),
+        Step::Release if apart => driver.step_release(links, 0),
+        _ => driver.step(links, 0, port, step),
     }
 }

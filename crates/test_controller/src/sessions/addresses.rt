@@ -1,9 +1,9 @@
 //! Each address of a node, one after the other, and reset mode left and entered again.
 
-use super::bench::say_asked;
+use super::bench::say;
 use super::calls::{node_of, number, read_at, write_at};
-use super::held::Held;
 use sja_regs::address::MOD;
+use sja_session::Session;
 use std::alloc::{AllocError, Global};
 use test_words::byte;
 
@@ -12,13 +12,13 @@ use test_words::byte;
 pub fn swept(
     alloc: Global,
     text: &mut String,
-    held: &mut Held,
+    session: &mut Session,
     words: &[&str],
 ) -> Result<(), AllocError> {
     match words {
-        ["all", node] => reads_all(alloc, text, held, node_of(node)),
-        ["fill", node, value] => fills(alloc, text, held, node_of(node), byte(value)),
-        ["cycle", node, count] => cycles(alloc, text, held, node_of(node), number(count)),
+        ["all", node] => reads_all(alloc, text, session, node_of(node)),
+        ["fill", node, value] => fills(alloc, text, session, node_of(node), byte(value)),
+        ["cycle", node, count] => cycles(alloc, text, session, node_of(node), number(count)),
         _ => text.push_str(" ?"),
     }
 }
@@ -27,14 +27,14 @@ pub fn swept(
 fn reads_all(
     alloc: Global,
     text: &mut String,
-    held: &mut Held,
+    session: &mut Session,
     node: Option<u8>,
 ) -> Result<(), AllocError> {
     let Some(node) = node else {
         return text.push_str(" ?");
     };
     for address in 0..=255u8 {
-        say_asked(alloc, text, read_at(held, node, address))?;
+        say(alloc, text, read_at(session, node, address))?;
     }
     Ok(())
 }
@@ -43,7 +43,7 @@ fn reads_all(
 fn fills(
     alloc: Global,
     text: &mut String,
-    held: &mut Held,
+    session: &mut Session,
     node: Option<u8>,
     value: Option<u8>,
 ) -> Result<(), AllocError> {
@@ -51,7 +51,7 @@ fn fills(
         return text.push_str(" ?");
     };
     for address in 0..=255u8 {
-        say_asked(alloc, text, write_at(held, node, 255 - address, value))?;
+        say(alloc, text, write_at(session, node, 255 - address, value))?;
     }
     Ok(())
 }
@@ -60,7 +60,7 @@ fn fills(
 fn cycles(
     alloc: Global,
     text: &mut String,
-    held: &mut Held,
+    session: &mut Session,
     node: Option<u8>,
     count: Option<u32>,
 ) -> Result<(), AllocError> {
@@ -69,8 +69,8 @@ fn cycles(
     };
     for _ in 0..count {
         for mode in [0x00, 0x01] {
-            say_asked(alloc, text, write_at(held, node, MOD, mode))?;
-            say_asked(alloc, text, read_at(held, node, MOD))?;
+            say(alloc, text, write_at(session, node, MOD, mode))?;
+            say(alloc, text, read_at(session, node, MOD))?;
         }
     }
     Ok(())

@@ -1,6 +1,5 @@
 //! [`Answer`]: what a call of a session answers.
 
-use sja_raw::KeptBytes;
 use sja_script::StepAnswer;
 use sja_session::{Rested, SessionFault, SessionRoom, StepFault, StrikeFault, TurnsUsed, Watched};
 use std::fmt;
@@ -33,8 +32,6 @@ pub enum Answer {
     Rested(Rested),
     /// Bits until a line rises.
     Watched(Watched),
-    /// The registers that are kept for a driver.
-    Kept(KeptBytes),
     /// Room for steps and turns.
     Room(SessionRoom),
     /// There is no such session.
@@ -81,7 +78,6 @@ fn write_answer<W: fmt::Write>(f: &mut fmt::Formatter<W>, answer: &Answer) -> fm
         Answer::Rested(rested) => write_rested(f, *rested),
         Answer::Watched(watched) => write_watched(f, *watched),
         Answer::Rose(rose) => write_rose(f, *rose),
-        Answer::Kept(kept) => write_kept(f, *kept),
         Answer::Room(room) => write_room(f, *room),
         _ => write_number(f, answer),
     }
@@ -122,7 +118,8 @@ fn write_other<W: fmt::Write>(f: &mut fmt::Formatter<W>, answer: &StepAnswer) ->
 /// Writes how many reads have one value.
 fn write_times<W: fmt::Write>(f: &mut fmt::Formatter<W>, count: u32, value: u8) -> fmt::Result {
     fmt::Display::fmt(&count, f)?;
-    write_named(f, " times ", value)
+    f.write_str(" times ")?;
+    write_byte(f, value)
 }
 
 /// Writes room for steps and turns.
@@ -159,19 +156,4 @@ fn write_rose<W: fmt::Write>(f: &mut fmt::Formatter<W>, rose: Option<u8>) -> fmt
         }
         None => f.write_str("none rose"),
     }
-}
-
-/// Writes the registers that are kept for a driver.
-fn write_kept<W: fmt::Write>(f: &mut fmt::Formatter<W>, kept: KeptBytes) -> fmt::Result {
-    write_named(f, "btr0 ", kept.btr0)?;
-    write_named(f, " btr1 ", kept.btr1)?;
-    write_named(f, " ocr ", kept.ocr)?;
-    write_named(f, " rbsa ", kept.rbsa)?;
-    write_named(f, " cdr ", kept.cdr)
-}
-
-/// Writes a byte behind its name.
-fn write_named<W: fmt::Write>(f: &mut fmt::Formatter<W>, name: &str, value: u8) -> fmt::Result {
-    f.write_str(name)?;
-    write_byte(f, value)
 }

@@ -4,9 +4,8 @@ use super::addresses::swept;
 use super::answer::Answer;
 use super::calls::{byte_by_byte, called, node_of, number};
 use super::ended::{ended, push_plan};
-use super::held::Held;
 use super::struck::alike;
-use sja_session::{SessionFault, SessionRoom};
+use sja_session::{Session, SessionFault, SessionRoom};
 use std::alloc::{AllocError, Global};
 use std::fmt;
 
@@ -14,27 +13,29 @@ use std::fmt;
 #[derive(Drop)]
 pub struct Bench {
     alloc: Global,
-    held: Option<Held>,
+    session: Option<Session>,
 }
 
 impl Bench {
     /// Without a session.
     pub fn new(alloc: Global) -> Bench {
-        Bench { alloc, held: None }
+        Bench {
+            alloc,
+            session: None,
+        }
     }
 
     /// Does a call, and writes what it answers, each answer behind a blank.
     ///
-    /// `new 1 1000 2`, a session of this version with so many bits and nodes, and `raw 1 1000 2`, one of drivers that
-    /// know addresses and bytes alone, `new 1 1000 2 3 4` with room for so many steps and turns; `most 3`, the most
-    /// room; `alike 0 11 76`, of [`alike`]; `plan`, what the plan so far has; those that end a session, of [`ended`];
-    /// those of [`swept`]; and those of `calls`.
+    /// `new 1 1000 2`, a session of this version with so many bits and nodes, and `new 1 1000 2 3 4` with room for so
+    /// many steps and turns; `most 3`, the most room; `alike 0 11 76`, of [`alike`]; `plan`, what the plan so far has;
+    /// those that end a session, of [`ended`]; those of [`swept`]; and those of `calls`.
     pub fn does(&mut self, text: &mut String, words: &[&str]) -> Result<(), AllocError> {
         let [name, rest @ ..] = words else {
             return text.push_str(" ?");
         };
         match *name {
-            "new" | "raw" => self.begins(text, rest, *name == "raw"),
+            "new" => self.begins(text, rest),
             "most" => say_asked(self.alloc, text, most(rest)),
             "alike" => say_alike(self.alloc, text, rest),
             "plan" => self.plans(text),
@@ -46,13 +47,13 @@ impl Bench {
     }
 
     /// Makes a session.
-    fn begins(&mut self, text: &mut String, words: &[&str], raw: bool) -> Result<(), AllocError> {
+    fn begins(&mut self, text: &mut String, words: &[&str]) -> Result<(), AllocError> {
         let Some(asked) = asked_of(words) else {
             return text.push_str(" ?");
         };
-        match held_of(self.alloc, asked, raw) {
-            Ok(held) => {
-                self.held = Some(held);
+        match session_of(self.alloc, asked) {
+            Ok(session) => {
+                self.session = Some(session);
                 Ok(())
             }
             Err(fault) => say(self.alloc, text, Answer::NoSession(fault)),
@@ -61,40 +62,40 @@ impl Bench {
 
     /// Does a call of the session.
     fn calls(&mut self, text: &mut String, words: &[&str]) -> Result<(), AllocError> {
-        match &mut self.held {
-            Some(held) => say_asked(self.alloc, text, called(held, words)),
+        match &mut self.session {
+            Some(session) => say_asked(self.alloc, text, called(session, words)),
             None => text.push_str(" ?"),
         }
     }
 
     /// Reads or writes bytes at addresses, one after the other.
     fn passes_bytes(&mut self, text: &mut String, words: &[&str]) -> Result<(), AllocError> {
-        match &mut self.held {
-            Some(held) => byte_by_byte(self.alloc, text, held, words),
+        match &mut self.session {
+            Some(session) => byte_by_byte(self.alloc, text, session, words),
             None => text.push_str(" ?"),
         }
     }
 
     /// Goes over the addresses of a node, or in and out of its reset mode.
     fn sweeps(&mut self, text: &mut String, words: &[&str]) -> Result<(), AllocError> {
-        match &mut self.held {
-            Some(held) => swept(self.alloc, text, held, words),
+        match &mut self.session {
+            Some(session) => swept(self.alloc, text, session, words),
             None => text.push_str(" ?"),
         }
     }
 
     /// Writes what the plan so far has.
     fn plans(&mut self, text: &mut String) -> Result<(), AllocError> {
-        match &self.held {
-            Some(held) => push_plan_of(self.alloc, text, held),
+        match &self.session {
+            Some(session) => push_plan_of(self.alloc, text, session),
             None => text.push_str(" ?"),
         }
     }
 
     /// Ends the session.
     fn ends(&mut self, text: &mut String, words: &[&str]) -> Result<(), AllocError> {
-        match self.held.take() {
-            Some(held) => ended(self.alloc, text, held, words),
+        match self.session.take() {
+            Some(session) => ended(self.alloc, text, session, words),
             None => text.push_str(" ?"),
         }
     }
@@ -139,8 +140,8 @@ fn say_alike(alloc: Global, text: &mut String, rest: &[&str]) -> Result<(), Allo
 }
 
 /// Writes what the plan of a session so far has.
-fn push_plan_of(alloc: Global, text: &mut String, held: &Held) -> Result<(), AllocError> {
-    let plan = held.plan(alloc).map_err(|_| AllocError)?;
+fn push_plan_of(alloc: Global, text: &mut String, session: &Session) -> Result<(), AllocError> {
+    let plan = session.plan(alloc).map_err(|_| AllocError)?;
     push_plan(alloc, text, &plan)
 }
 
@@ -169,7 +170,10 @@ fn room_of(words: &[&str]) -> Option<Option<SessionRoom>> {
 }
 
 /// The session that is asked for.
-fn held_of(alloc: Global, asked: Asked, raw: bool) -> Result<Held, SessionFault> {
+fn session_of(alloc: Global, asked: Asked) -> Result<Session, SessionFault> {
     let (version, bits, nodes, room) = asked;
-    Held::new(alloc, raw, version, bits, nodes, room)
+    match room {
+        Some(room) => Session::with_room(alloc, version, bits, nodes, room),
+        None => Session::new(alloc, version, bits, nodes),
+    }
 }

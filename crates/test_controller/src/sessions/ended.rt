@@ -1,13 +1,13 @@
 //! Sessions at their end: the report of the log, whether a run of the plan has the same, and the plan.
 
 use super::bench::say;
-use super::held::Held;
 use sja_log::RunLog;
 use sja_plan::Plan;
 use sja_plan_text::{has_texts, plan_text};
 use sja_report::report;
 use sja_script::Step;
 use sja_serial::run_serial;
+use sja_session::Session;
 use std::alloc::{AllocError, Global};
 
 /// Ends a session, and writes `again` where the report of its log is that of a run of its plan too, but for `end
@@ -20,10 +20,10 @@ use std::alloc::{AllocError, Global};
 pub fn ended(
     alloc: Global,
     text: &mut String,
-    held: Held,
+    session: Session,
     words: &[&str],
 ) -> Result<(), AllocError> {
-    let (plan, log) = held.finish(alloc).map_err(|_| AllocError)?;
+    let (plan, log) = session.finish(alloc).map_err(|_| AllocError)?;
     push_run(alloc, text, &plan, &log, words)
 }
 

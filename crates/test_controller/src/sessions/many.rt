@@ -2,9 +2,9 @@
 
 use super::answer::Answer;
 use super::calls::{number, step};
-use super::held::Held;
 use sja_regs::address::SR;
 use sja_script::{Step, StepAnswer};
+use sja_session::Session;
 
 /// When a bit is run with each call.
 #[derive(Clone, Copy, PartialEq, Eq)]
@@ -20,15 +20,15 @@ enum Bit {
 /// `reads 0 1000 after`, behind it; `starts 1 8`, so many starts of node 1, each with a stop behind it; and `strikes
 /// 600 1000`, so many strikes of node 0 in one bit after the other from bit 600 on, or `strikes 11 16 18`, each but
 /// the first 18 bits after the one before it.
-pub fn many(held: &mut Held, name: &str, rest: &[&str]) -> Option<Answer> {
+pub fn many(session: &mut Session, name: &str, rest: &[&str]) -> Option<Answer> {
     let [first, second, more @ ..] = rest else {
         return None;
     };
     let (first, second) = (number(first)?, number(second)?);
     match name {
-        "reads" => reads(held, u8::try_from(first).ok()?, second, bit_of(more)?),
-        "starts" => starts(held, u8::try_from(first).ok()?, second),
-        _ => strikes(held, first, second, apart_of(more)?),
+        "reads" => reads(session, u8::try_from(first).ok()?, second, bit_of(more)?),
+        "starts" => starts(session, u8::try_from(first).ok()?, second),
+        _ => strikes(session, first, second, apart_of(more)?),
     }
 }
 
@@ -52,15 +52,15 @@ fn apart_of(words: &[&str]) -> Option<u32> {
 }
 
 /// So many reads of SR; how many were done, as the first one answers, before one wasn't.
-fn reads(held: &mut Held, node: u8, count: u32, bit: Bit) -> Option<Answer> {
+fn reads(session: &mut Session, node: u8, count: u32, bit: Bit) -> Option<Answer> {
     let (mut done, mut first) = (0u32, None);
     for _ in 0..count {
-        let value = read_behind(held, node, bit);
+        let value = read_behind(session, node, bit);
         if value.is_none() || (first.is_some() && first != value) {
             break;
         }
         first = value;
-        if !is_run(held, bit, Bit::After) {
+        if !is_run(session, bit, Bit::After) {
             break;
         }
         done = done.saturating_add(1);
@@ -69,35 +69,31 @@ fn reads(held: &mut Held, node: u8, count: u32, bit: Bit) -> Option<Answer> {
 }
 
 /// What SR reads as, behind a bit where one is to be run before; nothing where it or the read isn't done.
-fn read_behind(held: &mut Held, node: u8, bit: Bit) -> Option<u8> {
-    if is_run(held, bit, Bit::Before) {
-        read_one(held, node)
+fn read_behind(session: &mut Session, node: u8, bit: Bit) -> Option<u8> {
+    if is_run(session, bit, Bit::Before) {
+        read_one(session, node)
     } else {
         None
     }
 }
 
 /// Whether the bit that is to be run now, if one is, was run.
-fn is_run(held: &mut Held, bit: Bit, now: Bit) -> bool {
-    bit != now || held.bits(1) == Ok(1)
+fn is_run(session: &mut Session, bit: Bit, now: Bit) -> bool {
+    bit != now || session.bits(1) == Ok(1)
 }
 
 /// What SR reads as; nothing where the read isn't done.
-fn read_one(held: &mut Held, node: u8) -> Option<u8> {
-    match held.read(node, SR) {
-        Some(read) => read.ok(),
-        None => match step(held, node, Step::Read(SR)) {
-            Answer::Step(StepAnswer::Value(value)) => Some(value),
-            _ => None,
-        },
-    }
+fn read_one(session: &mut Session, node: u8) -> Option<u8> {
+    session.read(node, SR).ok()
 }
 
 /// So many starts, each with a stop behind it; how many were done before one wasn't.
-fn starts(held: &mut Held, node: u8, count: u32) -> Option<Answer> {
+fn starts(session: &mut Session, node: u8, count: u32) -> Option<Answer> {
     let mut done = 0u32;
     for _ in 0..count {
-        if !is_done(&step(held, node, Step::Start)) || !is_done(&step(held, node, Step::Stop)) {
+        if !is_done(&step(session, node, Step::Start))
+            || !is_done(&step(session, node, Step::Stop))
+        {
             break;
         }
         done = done.saturating_add(1);
@@ -111,10 +107,10 @@ pub fn is_done(answer: &Answer) -> bool {
 }
 
 /// So many strikes of node 0, so many bits apart; how many were taken before one wasn't.
-fn strikes(held: &mut Held, from: u32, count: u32, apart: u32) -> Option<Answer> {
+fn strikes(session: &mut Session, from: u32, count: u32, apart: u32) -> Option<Answer> {
     let (mut done, mut bit) = (0u32, from);
     for _ in 0..count {
-        if held.strike(0, bit).is_err() {
+        if session.strike(0, bit).is_err() {
             break;
         }
         done = done.saturating_add(1);

@@ -2,13 +2,13 @@
 
 use super::calls::{node_of, number, step};
 use super::ended::is_report_of;
-use super::held::Held;
 use sja_log::RunLog;
 use sja_plan::{Plan, read_plan};
 use sja_plan_text::{has_texts, plan_text};
 use sja_report::report;
 use sja_script::Step;
 use sja_serial::run_serial;
+use sja_session::Session;
 use std::alloc::{AllocError, Global};
 use test_words::message_of;
 
@@ -87,8 +87,8 @@ fn struck(
     node: u8,
     bit: u32,
 ) -> Result<Option<(String, String)>, AllocError> {
-    match Held::new(alloc, false, 1, 1000, 2, None) {
-        Ok(held) => texts_of(alloc, held, after, node, bit),
+    match Session::new(alloc, 1, 1000, 2) {
+        Ok(session) => texts_of(alloc, session, after, node, bit),
         Err(_) => Ok(None),
     }
 }
@@ -96,35 +96,35 @@ fn struck(
 /// The same over a session without a bit.
 fn texts_of(
     alloc: Global,
-    mut held: Held,
+    mut session: Session,
     after: u32,
     node: u8,
     bit: u32,
 ) -> Result<Option<(String, String)>, AllocError> {
-    if is_struck(&mut held, after, node, bit) {
-        finished(alloc, held)
+    if is_struck(&mut session, after, node, bit) {
+        finished(alloc, session)
     } else {
         Ok(None)
     }
 }
 
 /// Whether a session is struck after so many bits, comes to rest, and node 1 releases what it has then.
-fn is_struck(held: &mut Held, after: u32, node: u8, bit: u32) -> bool {
-    is_begun(held, after)
-        && held.strike(node, bit).is_ok()
-        && held.rest().is_ok()
-        && releases(held)
-        && releases(held)
+fn is_struck(session: &mut Session, after: u32, node: u8, bit: u32) -> bool {
+    is_begun(session, after)
+        && session.strike(node, bit).is_ok()
+        && session.rest().is_ok()
+        && releases(session)
+        && releases(session)
 }
 
 /// Whether node 1 tries a release.
-fn releases(held: &mut Held) -> bool {
-    held.step(1, Step::Release).is_ok()
+fn releases(session: &mut Session) -> bool {
+    session.step(1, Step::Release).is_ok()
 }
 
 /// The report of a session at its end, and the document of its plan; none where it has none.
-fn finished(alloc: Global, held: Held) -> Result<Option<(String, String)>, AllocError> {
-    let (plan, log) = held.finish(alloc).map_err(|_| AllocError)?;
+fn finished(alloc: Global, session: Session) -> Result<Option<(String, String)>, AllocError> {
+    let (plan, log) = session.finish(alloc).map_err(|_| AllocError)?;
     texts(alloc, &plan, &log)
 }
 
@@ -139,7 +139,7 @@ fn texts(alloc: Global, plan: &Plan, log: &RunLog) -> Result<Option<(String, Str
 }
 
 /// Has node 0 send the message 02 24 60 11 22 to node 1, and runs so many bits; whether all was done.
-fn is_begun(held: &mut Held, bits: u32) -> bool {
+fn is_begun(session: &mut Session, bits: u32) -> bool {
     let Some(message) = message_of(&["02", "24", "60", "11", "22"]) else {
         return false;
     };
@@ -150,9 +150,9 @@ fn is_begun(held: &mut Held, bits: u32) -> bool {
         (0, Step::Command(0x01)),
     ];
     for (node, one) in steps {
-        if !super::many::is_done(&step(held, node, one)) {
+        if !super::many::is_done(&step(session, node, one)) {
             return false;
         }
     }
-    held.bits(bits) == Ok(bits)
+    session.bits(bits) == Ok(bits)
 }

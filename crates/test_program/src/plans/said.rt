@@ -2,7 +2,7 @@
 
 use sja_check::{hints, mistake};
 use sja_plan::{PlanFault, read_plan};
-use sja_plan_session::run_plan;
+use sja_serial::run_serial;
 use std::alloc::{AllocError, Global};
 use std::io;
 use test_rows::marked;
@@ -14,7 +14,7 @@ use test_rows::marked;
 pub(crate) fn said(alloc: Global, bytes: &[u8]) -> io::Result<String> {
     let (mut text, said) = match read_plan(alloc, bytes) {
         Ok(plan) => {
-            let log = run_plan(alloc, &plan).or(Err(AllocError))?;
+            let log = run_serial(alloc, &plan).or(Err(AllocError))?;
             let (bits, end) = (log.bits(), log.end());
             let head = format!(in alloc; "bits {bits} end {end}\n")?;
             let said = hints(alloc, bytes, &plan, &log).or(Err(AllocError))?;

@@ -15,8 +15,8 @@ use test_rows::Given;
 
 /// What the program answers to a row. How it is tried stands behind ` | `:
 ///
-/// - nothing: by `sja_serial` and by `sja`, of which the second answer stands behind the first where they differ;
-/// - `alone`: by `sja_serial`; and each further way by `sja`;
+/// - nothing: by `sja_alone` and by `sja`, of which the second answer stands behind the first where they differ;
+/// - `alone`: by `sja_alone`; and each further way by `sja`;
 /// - `alike WORDS`: the answer, and whether it is the same with these words behind the others, and writes something;
 /// - `fed N end`, `fed N fault` or `fed N more`: over an input that gives N bytes a read, and behind the last one
 ///   nothing, a fault, or more bytes without end;
@@ -62,8 +62,11 @@ fn words_of(alloc: Global, text: &str) -> io::Result<Vec<String>> {
         return Ok(words);
     }
     for word in text.split(' ') {
-        let word = word.replace(alloc, "''", "")?;
-        words.push(word.as_str().replace(alloc, "%20", " ")?)?;
+        let mut word = word.replace(alloc, "''", "")?;
+        for (text, byte) in [("%20", " "), ("%1b", "\u{1b}"), ("%9b", "\u{9b}")] {
+            word = word.as_str().replace(alloc, text, byte)?;
+        }
+        words.push(word)?;
     }
     Ok(words)
 }

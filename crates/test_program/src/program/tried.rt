@@ -3,7 +3,7 @@
 use super::fed::Fed;
 use super::narrow::{ALL, Narrow, Room};
 use super::shelf::Shelf;
-use sja_run::{Output, sja, sja_serial};
+use sja_run::{Output, sja, sja_alone};
 use std::alloc::Global;
 use std::str;
 use std::sync::Wait;
@@ -40,7 +40,7 @@ fn call(
     out: &mut Output<Narrow>,
     err: &mut Output<Narrow>,
 ) -> Option<u8> {
-    sja_serial(alloc, words, input, out, err).ok()
+    sja_alone(alloc, words, input, out, err).ok()
 }
 
 /// The program with threads and files. What it promises stays out of the proofs of its callers.

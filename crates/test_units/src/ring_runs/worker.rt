@@ -24,7 +24,7 @@ pub struct Worker {
 impl Worker {
     /// A driver before its first activation, whose script has so many steps.
     pub fn new(alloc: Global, node: u8, ends: Vec<RingDriver>, steps: u16) -> Result<Worker, Fail> {
-        let log = WorkLog::new(alloc, u32::from(steps))?;
+        let log = WorkLog::new(alloc, u32::from(steps), u32::from(steps))?;
         Ok(Worker {
             driver: LoggedDriver::new(node, log),
             ends,
@@ -58,12 +58,11 @@ impl Worker {
         if self.room == 0 || !are_links_of_node(self.ends.as_slice(), self.node) {
             return Err("no room, or not the driver's links")?;
         }
-        if !self
-            .driver
-            .step(self.ends.as_mut_slice(), 0, port, step, bits)
-        {
+        let Some(answer) = self.driver.step(self.ends.as_mut_slice(), 0, port, step) else {
             return Ok(false);
-        }
+        };
+        let kept = self.driver.kept();
+        self.driver.enter(answer, bits, kept);
         self.room -= 1;
         self.done = self.done.saturating_add(1);
         Ok(true)

@@ -3,16 +3,15 @@
 use super::calls::{bits, ended, read, run_of, session_of, step, write};
 use sja_log::RunLog;
 use sja_plan::Plan;
-use sja_plan_session::PlanSession;
 use sja_regs::address::{BUFFER, CMR, IER, IR, MOD, SR};
 use sja_report::report;
 use sja_script::Step;
-use sja_session::Answered;
+use sja_session::{Answered, Session};
 use std::alloc::Global;
 use std::test::Fail;
 
 /// Node 0 sends the message 02 24 60 11 22 by addresses alone.
-fn send(session: &mut PlanSession) -> Result<(), Fail> {
+fn send(session: &mut Session) -> Result<(), Fail> {
     write(session, 0, MOD, 0x00)?;
     bits(session, 11)?;
     let message = [
@@ -29,45 +28,45 @@ fn send(session: &mut PlanSession) -> Result<(), Fail> {
 }
 
 /// Runs bits until the line of node 1 rises; whether it did.
-fn line_rises(session: &mut PlanSession) -> Result<bool, Fail> {
+fn line_rises(session: &mut Session) -> Result<bool, Fail> {
     let watched = session.watch(200, [false, true, false, false, false, false, false, false])?;
     Ok(watched.rose == Some(1))
 }
 
 /// Runs bits until all are at rest.
-fn rest(session: &mut PlanSession) -> Result<(), Fail> {
+fn rest(session: &mut Session) -> Result<(), Fail> {
     session.rest()?;
     Ok(())
 }
 
 /// Node 1 enables its receive interrupt, and node 0 sends.
-fn begin(session: &mut PlanSession) -> Result<(), Fail> {
+fn begin(session: &mut Session) -> Result<(), Fail> {
     write(session, 1, IER, 0x01)?;
     write(session, 1, MOD, 0x00)?;
     send(session)
 }
 
 /// What node 1 reads of the message: IR, SR, and the second byte of the receive buffer.
-fn received(session: &mut PlanSession) -> Result<[u8; 3], Fail> {
+fn received(session: &mut Session) -> Result<[u8; 3], Fail> {
     let interrupt = read(session, 1, IR)?;
     let status = read(session, 1, SR)?;
     Ok([interrupt, status, read(session, 1, 17)?])
 }
 
 /// Node 1 releases the message; IR after it.
-fn released(session: &mut PlanSession) -> Result<u8, Fail> {
+fn released(session: &mut Session) -> Result<u8, Fail> {
     write(session, 1, CMR, 0x04)?;
     read(session, 1, IR)
 }
 
 /// The status of node 0 once all are at rest.
-fn status_at_rest(session: &mut PlanSession) -> Result<u8, Fail> {
+fn status_at_rest(session: &mut Session) -> Result<u8, Fail> {
     rest(session)?;
     read(session, 0, SR)
 }
 
 /// Whether node 1 is told, reads the message and releases it, and node 0, which waits meanwhile, has sent it.
-fn goes(session: &mut PlanSession) -> Result<bool, Fail> {
+fn goes(session: &mut Session) -> Result<bool, Fail> {
     Ok(
         line_rises(session)?
             && received(session)? == [0x01, 0x1d, 0x24]

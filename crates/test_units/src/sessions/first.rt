@@ -1,4 +1,4 @@
-//! The first program of `docs/SESSIONS.md`.
+//! The first program of `docs/use/LIBRARY.md`.
 
 use can_frame::Message;
 use sja_log::RunLog;

@@ -1,7 +1,7 @@
 //! Sweeps of plans that are given as text.
 
 use sja_plan::read_plan;
-use sja_sweep::{SweepFault, Sweeping, Swept, sweep, sweep_jobs};
+use sja_sweep::{SweepFault, SweepTexts, Sweeping, sweep, sweep_jobs};
 use std::alloc::{AllocError, AllocGlobal, Global};
 use std::test::Fail;
 use std::thread::Threads;
@@ -19,7 +19,7 @@ steps = [\"start\", \"release\", \"release\"]
 }
 
 /// The texts of the sweep of a plan.
-pub fn swept(alloc: Global, plan: &str, sweeping: Sweeping) -> Result<Swept, Fail> {
+pub fn swept(alloc: Global, plan: &str, sweeping: Sweeping) -> Result<SweepTexts, Fail> {
     let plan = read_plan(alloc, plan.as_bytes())?;
     Ok(sweep(alloc, &plan, &sweeping)?)
 }
@@ -30,7 +30,7 @@ pub fn swept_in<R: Threads + AllocGlobal + Sync>(
     plan: &str,
     sweeping: Sweeping,
     jobs: usize,
-) -> Result<Swept, Fail> {
+) -> Result<SweepTexts, Fail> {
     let plan = read_plan(rt.alloc(), plan.as_bytes())?;
     Ok(sweep_jobs(rt, rt.alloc(), &plan, &sweeping, jobs)?)
 }

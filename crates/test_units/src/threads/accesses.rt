@@ -1,14 +1,10 @@
 //! Whole runs in threads whose drivers know addresses and bytes alone.
 
 use super::gates::{HoldsOnce, Patience};
-use super::given::{are_answers, open_gates};
-use sja_log::{End, RunFault};
-use sja_plan::{Plan, read_plan};
-use sja_threads::{EndedRun, Gate, run_accesses};
+use super::given::{are_answers, open_gates, run};
+use sja_log::{End, RunLog};
 use std::alloc::Global;
-use std::sync::Wait;
 use std::test::Fail;
-use std::thread::Threads;
 
 /// Node 0 writes its registers, its transmit buffer and the request of a frame of two bytes, awaits TI, and enters
 /// reset mode; node 1 awaits RI, reads the frame, and releases it.
@@ -40,53 +36,18 @@ steps = [
 ]
 ";
 
-/// Reset mode is left with LOM, then entered, and left with STM: a write of MOD is one to two typed steps.
+/// Reset mode is left with LOM, then entered, and left with STM: a write of MOD is one deed or two.
 const MODES: &str = "version = 3
 bits = 100
 [[node]]
 steps = [\"write 0 02\", \"read 0\", \"write 0 04\", \"write 0 01\", \"read 0\", \"write 0 04\", \"read 0\"]
 ";
 
-/// The run of a plan in which drivers know addresses and bytes alone, or why there is none.
-pub fn run_of<G: Gate, R: Threads + Wait + Sync>(
-    rt: &R,
-    alloc: Global,
-    plan: &Plan,
-    gates: Vec<G>,
-) -> Result<EndedRun, RunFault> {
-    run_accesses(rt, alloc, plan, gates)
-}
-
-/// The run of a plan.
-fn run<G: Gate, R: Threads + Wait + Sync>(
-    rt: &R,
-    alloc: Global,
-    text: &str,
-    gates: Vec<G>,
-) -> Result<EndedRun, Fail> {
-    let plan = read_plan(alloc, text.as_bytes())?;
-    match run_of(rt, alloc, &plan, gates) {
-        Ok(ended) => Ok(ended),
-        Err(_) => Err("no run")?,
-    }
-}
-
-/// Fails where these aren't the answers of this node's steps, in the words of a report with `, ` between two, or there
-/// were not so many typed steps.
-fn answers(
-    alloc: Global,
-    ended: &EndedRun,
-    node: usize,
-    expected: &str,
-    typed: usize,
-) -> Result<(), Fail> {
-    let Some(done) = ended.accesses.get(node) else {
-        return Err("no such node")?;
-    };
-    are_answers(alloc, done.as_slice(), expected)?;
-    match ended.log.nodes().get(node) {
-        Some(run) if run.done().len() == typed => Ok(()),
-        _ => Err("another number of typed steps")?,
+/// Fails where these aren't the answers of this node's steps, in the words of a report with `, ` between two.
+fn answers(alloc: Global, log: &RunLog, node: usize, expected: &str) -> Result<(), Fail> {
+    match log.nodes().get(node) {
+        Some(run) => are_answers(alloc, run.done(), expected),
+        None => Err("no such node")?,
     }
 }
 
@@ -99,10 +60,10 @@ const RECEIVED: &str = "ok, ok, ok, 01, 01, 02, 24, 60, 11, 22, 00, ok, 00, 05, 
 #[test]
 fn a_frame_is_sent_and_read_by_bytes(rt: HostRuntime) -> Result<(), Fail> {
     let gates = open_gates(rt.alloc(), 2)?;
-    let ended = run(&rt, rt.alloc(), PASSING, gates)?;
-    assert!(rt; ended.log.end() == End::Rest);
-    answers(rt.alloc(), &ended, 0, SENT, 14)?;
-    answers(rt.alloc(), &ended, 1, RECEIVED, 15)
+    let log = run(&rt, rt.alloc(), PASSING, gates)?;
+    assert!(rt; log.end() == End::Rest);
+    answers(rt.alloc(), &log, 0, SENT)?;
+    answers(rt.alloc(), &log, 1, RECEIVED)
 }
 
 /// What the driver that reads its registers is answered.
@@ -111,17 +72,17 @@ const READ_BACK: &str = "ok, ok, ok, ok, ok, ok, 03, 1c, 1a, c8, 3c, ok, ok, 03"
 #[test]
 fn kept_registers_are_read_back(rt: HostRuntime) -> Result<(), Fail> {
     let gates = open_gates(rt.alloc(), 1)?;
-    let ended = run(&rt, rt.alloc(), KEPT, gates)?;
-    answers(rt.alloc(), &ended, 0, READ_BACK, 13)
+    let log = run(&rt, rt.alloc(), KEPT, gates)?;
+    answers(rt.alloc(), &log, 0, READ_BACK)
 }
 
 /// Each gate holds each step once.
 #[test]
-fn a_write_of_the_mode_is_up_to_two_steps(rt: HostRuntime) -> Result<(), Fail> {
+fn a_write_of_the_mode_is_up_to_two_deeds(rt: HostRuntime) -> Result<(), Fail> {
     let mut gates = Vec::new(rt.alloc());
     gates.push(HoldsOnce { last: 7 })?;
-    let ended = run(&rt, rt.alloc(), MODES, gates)?;
-    answers(rt.alloc(), &ended, 0, "ok, 02, ok, ok, 03, ok, 04", 9)
+    let log = run(&rt, rt.alloc(), MODES, gates)?;
+    answers(rt.alloc(), &log, 0, "ok, 02, ok, ok, 03, ok, 04")
 }
 
 /// It quits before the second try of the wait that is the third step.
@@ -137,7 +98,7 @@ steps = [\"write 0 00\", \"read 0\", \"interrupt\", \"read 3\"]
 [[node]]
 steps = []
 ";
-    let ended = run(&rt, rt.alloc(), text, gates)?;
-    answers(rt.alloc(), &ended, 0, "ok, 00", 2)?;
-    answers(rt.alloc(), &ended, 1, "", 0)
+    let log = run(&rt, rt.alloc(), text, gates)?;
+    answers(rt.alloc(), &log, 0, "ok, 00")?;
+    answers(rt.alloc(), &log, 1, "")
 }

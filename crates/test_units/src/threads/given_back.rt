@@ -3,13 +3,12 @@
 
 use super::given::are_answers;
 use can_frame::Message;
-use sja_driver::{LoggedDriver, WorkLog};
+use sja_driver::address::RBSA;
+use sja_driver::{KeptBytes, LoggedDriver, WorkLog, WriteSteps, is_reset, steps_of_write};
 use sja_link::{BusEnd, DequeLink, Down, LinkId};
-use sja_raw::address::RBSA;
-use sja_raw::{KeptBytes, WriteSteps, is_reset, steps_of_write};
 use sja_regs::Port;
 use sja_regs::address::{BUFFER, CMR, MOD, RMC, SR};
-use sja_script::Step;
+use sja_script::{Done, Step, StepAnswer};
 use std::alloc::Global;
 use std::test::Fail;
 use test_words::{Returning, are_links_of_node};
@@ -17,10 +16,11 @@ use test_words::{Returning, are_links_of_node};
 /// The node of the driver.
 const NODE: u8 = 1;
 
-/// A driver without a bus: its log, its kept registers, those of its port, and its links.
+/// A driver without a bus: the answers of its deeds, its kept registers, those of its port, and its links.
 #[derive(Drop)]
 struct Writer {
     driver: LoggedDriver,
+    done: Vec<Done>,
     kept: KeptBytes,
     port: Port,
     links: Vec<Returning>,
@@ -36,35 +36,37 @@ impl Writer {
             links.push(link_of(alloc, activation, left)?)?;
         }
         Ok(Writer {
-            driver: LoggedDriver::new(NODE, WorkLog::new(alloc, 100)?),
+            driver: LoggedDriver::new(NODE, WorkLog::new(alloc, 0, 100)?),
+            done: Vec::new(alloc),
             kept: KeptBytes::new(),
             port: Port::new(2),
             links,
         })
     }
 
-    /// Tries a step, and says whether it's done.
-    fn tries(&mut self, step: &Step) -> bool {
+    /// Tries a deed, and gives its answer; none where it isn't done.
+    fn tries(&mut self, step: &Step) -> Result<Option<StepAnswer>, Fail> {
         if !are_links_of_node(self.links.as_slice(), NODE) {
-            return false;
+            return Err("not the driver's links")?;
         }
         let links = self.links.as_mut_slice();
-        if !self.driver.step(links, 0, &mut self.port, step, 0) {
-            return false;
-        }
-        if let Some(done) = self.driver.log().done().last() {
-            self.kept.answered(&done.answer);
-        }
-        true
+        let Some(answer) = self.driver.step(links, 0, &mut self.port, step) else {
+            return Ok(None);
+        };
+        self.kept.answered(&answer);
+        self.done.push(Done {
+            answer: answer.copy(),
+            bits: 0,
+        })?;
+        Ok(Some(answer))
     }
 
     /// What an address reads as; none where it isn't read.
-    fn read(&mut self, address: u8) -> Option<u8> {
-        if !self.tries(&Step::Read(address)) {
-            return None;
+    fn read(&mut self, address: u8) -> Result<Option<u8>, Fail> {
+        match self.tries(&Step::Read(address))? {
+            Some(answer) => Ok(Some(self.kept.read_by(address, &answer))),
+            None => Ok(None),
         }
-        let done = self.driver.log().done().last()?;
-        Some(self.kept.read_by(address, &done.answer))
     }
 
     /// The steps that a write is now.
@@ -73,33 +75,35 @@ impl Writer {
     }
 
     /// Writes an address: the steps that are left of it.
-    fn write(&mut self, address: u8, value: u8) -> WriteSteps {
+    fn write(&mut self, address: u8, value: u8) -> Result<WriteSteps, Fail> {
         self.kept.write(is_reset(&self.port), address, value);
         let mut left = self.steps_of(address, value);
-        let _ = self.goes_on(&mut left);
-        left
+        let _ = self.goes_on(&mut left)?;
+        Ok(left)
     }
 
     /// Tries the steps that are left of a write, one after the other, and says whether none is left.
-    fn goes_on(&mut self, left: &mut WriteSteps) -> bool {
-        self.does(&mut left.first) && self.does(&mut left.second) && self.does(&mut left.third)
+    fn goes_on(&mut self, left: &mut WriteSteps) -> Result<bool, Fail> {
+        Ok(self.does(&mut left.first)?
+            && self.does(&mut left.second)?
+            && self.does(&mut left.third)?)
     }
 
     /// Tries a step of a write, where it is left, and says whether it isn't any more.
-    fn does(&mut self, part: &mut Option<Step>) -> bool {
+    fn does(&mut self, part: &mut Option<Step>) -> Result<bool, Fail> {
         let Some(step) = part.take() else {
-            return true;
+            return Ok(true);
         };
-        if self.tries(&step) {
-            return true;
+        if self.tries(&step)?.is_some() {
+            return Ok(true);
         }
         *part = Some(step);
-        false
+        Ok(false)
     }
 
-    /// Fails where these aren't the answers of the typed steps that were done.
+    /// Fails where these aren't the answers of the deeds that were done.
     fn answered(&self, alloc: Global, expected: &str) -> Result<(), Fail> {
-        are_answers(alloc, self.driver.log().done(), expected)
+        are_answers(alloc, self.done.as_slice(), expected)
     }
 }
 
@@ -120,9 +124,9 @@ fn is_done(left: &WriteSteps) -> bool {
 #[test]
 fn a_start_comes_back_once_lom_was_taken(rt: HostRuntime) -> Result<(), Fail> {
     let mut writer = Writer::new(rt.alloc(), 0)?;
-    let mut left = writer.write(MOD, 0xf2);
-    assert!(rt; left == writer.steps_of(MOD, 0x02) && writer.read(MOD) == Some(0x03));
-    assert!(rt; writer.goes_on(&mut left) && writer.read(MOD) == Some(0x02));
+    let mut left = writer.write(MOD, 0xf2)?;
+    assert!(rt; left == writer.steps_of(MOD, 0x02) && writer.read(MOD)? == Some(0x03));
+    assert!(rt; writer.goes_on(&mut left)? && writer.read(MOD)? == Some(0x02));
     writer.answered(rt.alloc(), "ok, 03, ok, 02")
 }
 
@@ -130,10 +134,10 @@ fn a_start_comes_back_once_lom_was_taken(rt: HostRuntime) -> Result<(), Fail> {
 #[test]
 fn a_stop_comes_back_and_nothing_changed(rt: HostRuntime) -> Result<(), Fail> {
     let mut writer = Writer::new(rt.alloc(), 1)?;
-    assert!(rt; is_done(&writer.write(MOD, 0x00)));
-    let mut left = writer.write(MOD, 0x01);
-    assert!(rt; left == writer.steps_of(MOD, 0x01) && writer.read(MOD) == Some(0x00));
-    assert!(rt; writer.goes_on(&mut left) && writer.read(MOD) == Some(0x01));
+    assert!(rt; is_done(&writer.write(MOD, 0x00)?));
+    let mut left = writer.write(MOD, 0x01)?;
+    assert!(rt; left == writer.steps_of(MOD, 0x01) && writer.read(MOD)? == Some(0x00));
+    assert!(rt; writer.goes_on(&mut left)? && writer.read(MOD)? == Some(0x01));
     writer.answered(rt.alloc(), "ok, 00, ok, 01")
 }
 
@@ -141,10 +145,10 @@ fn a_stop_comes_back_and_nothing_changed(rt: HostRuntime) -> Result<(), Fail> {
 #[test]
 fn a_request_comes_back_before_the_release(rt: HostRuntime) -> Result<(), Fail> {
     let mut writer = Writer::new(rt.alloc(), 1)?;
-    assert!(rt; is_done(&writer.write(MOD, 0x00)) && is_done(&writer.write(BUFFER, 0x00)));
-    let mut left = writer.write(CMR, 0x0d);
-    assert!(rt; left == writer.steps_of(CMR, 0x0d) && writer.read(SR) == Some(0x3d));
-    assert!(rt; writer.goes_on(&mut left) && writer.read(SR) == Some(0x30));
+    assert!(rt; is_done(&writer.write(MOD, 0x00)?) && is_done(&writer.write(BUFFER, 0x00)?));
+    let mut left = writer.write(CMR, 0x0d)?;
+    assert!(rt; left == writer.steps_of(CMR, 0x0d) && writer.read(SR)? == Some(0x3d));
+    assert!(rt; writer.goes_on(&mut left)? && writer.read(SR)? == Some(0x30));
     writer.answered(rt.alloc(), "ok, ok, 3d, ok, 3, 30")
 }
 
@@ -152,12 +156,12 @@ fn a_request_comes_back_before_the_release(rt: HostRuntime) -> Result<(), Fail> 
 #[test]
 fn a_credit_comes_back_behind_the_command(rt: HostRuntime) -> Result<(), Fail> {
     let mut writer = Writer::new(rt.alloc(), 1)?;
-    assert!(rt; is_done(&writer.write(MOD, 0x00)) && writer.read(RMC) == Some(0x01));
-    let mut left = writer.write(CMR, 0x0c);
+    assert!(rt; is_done(&writer.write(MOD, 0x00)?) && writer.read(RMC)? == Some(0x01));
+    let mut left = writer.write(CMR, 0x0c)?;
     assert!(rt; left == writer.steps_of(CMR, 0x04));
-    assert!(rt; writer.read(RMC) == Some(0x01) && writer.read(RBSA) == Some(0x00));
-    assert!(rt; writer.goes_on(&mut left));
-    assert!(rt; writer.read(RMC) == Some(0x00) && writer.read(RBSA) == Some(0x03));
+    assert!(rt; writer.read(RMC)? == Some(0x01) && writer.read(RBSA)? == Some(0x00));
+    assert!(rt; writer.goes_on(&mut left)?);
+    assert!(rt; writer.read(RMC)? == Some(0x00) && writer.read(RBSA)? == Some(0x03));
     let none = "refused NoRegister";
     let told = format!(in rt.alloc(); "ok, 01, ok, 01, {none}, 3, 00, {none}")?;
     writer.answered(rt.alloc(), told.as_str())

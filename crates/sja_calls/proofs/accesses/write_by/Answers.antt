@@ -1,44 +1,58 @@
 use Rattle.std.proofs.Common.{◌≡◌, ℕ, List, subst, arith}
-use Rattle.sja_driver.specs.Deeds.{Deed}
-use Rattle.sja_driver_session.specs.DriverSessions.{StandsIn}
-use Rattle.sja_driver_session.specs.Steps.{IsWriteFaultIn}
-use Rattle.sja_driver_session.specs.declared.driver_session.DriverSession.{DriverSession}
+use Rattle.sja_driver.specs.Accesses.{Access}
+use Rattle.sja_session.specs.ByAddress.{IsWriteFault, MayWrite, Writes}
+use Rattle.sja_session.specs.Sessions.{SessionValue, IsAt}
 use Rattle.sja_session.specs.declared.step_fault.StepFault.{StepFault}
 use Rattle.sja_session.specs.declared.step_fault.StepFault.TheVariants.{NoNode, StepsUsed, TurnsUsed}
 use Rattle.sja_calls.proofs.accesses.write_by.Goals as goal
 
--- why a write of a session isn't done
-abbrev Fails : DriverSession → ℕ → ℕ → ℕ → StepFault → Type 0
-Fails r node address value fault =
-    (deeds : List (List Deed)) → StandsIn r deeds → IsWriteFaultIn r node address value deeds fault
+-- what a write of a session does where it is done, and why it isn't
+abbrev Does : SessionValue → SessionValue → ℕ → ℕ → ℕ → Type 0
+Does r s node address value =
+    (accesses : List (List Access)) → IsAt r accesses →
+    MayWrite r node address value accesses × Writes r s node address value accesses
 
--- the same, by equal numbers
-same : (r : DriverSession) (node node' address address' value value' : ℕ) (fault fault' : StepFault) → node ≡ node' →
-    address ≡ address' → value ≡ value' → fault ≡ fault' → Fails r node address value fault →
-    Fails r node' address' value' fault'
-same r node node' address address' value value' fault fault' nodes addresses values faults fails =
-    subst (λ f. Fails r node' address' value' f) faults
-    (subst (λ v. Fails r node' address' v fault) values
-    (subst (λ a. Fails r node' a value fault) addresses
-    (subst (λ n. Fails r n address value fault) nodes fails)))
+abbrev Fails : SessionValue → StepFault → ℕ → ℕ → ℕ → Type 0
+Fails r fault node address value =
+    (accesses : List (List Access)) → IsAt r accesses → IsWriteFault r node address value accesses fault
+
+-- what holds of three numbers holds of equal ones
+same : (P : ℕ → ℕ → ℕ → Type 0) (node node' address address' value value' : ℕ) → node ≡ node' →
+    address ≡ address' → value ≡ value' → P node address value → P node' address' value'
+same P node node' address address' value value' nodes addresses values holds =
+    subst (λ v. P node' address' v) values
+    (subst (λ a. P node' a value) addresses (subst (λ n. P n address value) nodes holds))
+
+pub returns-in-Ok-write-clause-writes : goal.returns-in-Ok-write-clause-writes
+returns-in-Ok-write-clause-writes c =
+    let done = c.in-Ok-write.ensures in
+    same (Does c.args.session.now c.write.new.self) _ _ _ _ _ _ c.in-Some.ensures.some c.in-Ok.ensures.1
+    c.in-Ok-try_from.ensures.1 (λ accesses at. (done.may accesses at, done.writes accesses at))
+
+fails : (r : SessionValue) (fault told : StepFault) (node node' address address' value value' : ℕ) → fault ≡ told →
+    node ≡ node' → address ≡ address' → value ≡ value' → Fails r fault node address value →
+    Fails r told node' address' value'
+fails r fault told node node' address address' value value' faults nodes addresses values holds =
+    subst (λ f. Fails r f node' address' value') faults
+    (same (Fails r fault) node node' address address' value value' nodes addresses values holds)
 
 pub returns-in-Err-NoNode-clause-err : goal.returns-in-Err-NoNode-clause-err
 returns-in-Err-NoNode-clause-err c =
-    let few = c.in-Ok.ensures.0 in let byte = c.in-Ok-try_from.ensures.0 in
-    let fails = same c.args.session.now _ _ _ _ _ _ _ NoNode c.in-Some.ensures.some.0 c.in-Ok.ensures.1
-    c.in-Ok-try_from.ensures.1 c.in-Err-NoNode.field-0-is c.in-Err-NoNode.ensures.err in
-    (omega (arith, few), omega (arith, byte), fails)
+    let few = c.in-Ok.ensures.0 in let byte = c.in-Ok-try_from.ensures.0 in let refused = c.in-Err-NoNode in
+    let told = fails c.args.session.now _ NoNode _ _ _ _ _ _ refused.field-0-is c.in-Some.ensures.some
+    c.in-Ok.ensures.1 c.in-Ok-try_from.ensures.1 refused.ensures.err in
+    (omega (arith, few), omega (arith, byte), told)
 
 pub returns-in-Err-StepsUsed-clause-err : goal.returns-in-Err-StepsUsed-clause-err
 returns-in-Err-StepsUsed-clause-err c =
-    let few = c.in-Ok.ensures.0 in let byte = c.in-Ok-try_from.ensures.0 in
-    let fails = same c.args.session.now _ _ _ _ _ _ _ StepsUsed c.in-Some.ensures.some.0 c.in-Ok.ensures.1
-    c.in-Ok-try_from.ensures.1 c.in-Err-StepsUsed.field-0-is c.in-Err-StepsUsed.ensures.err in
-    (omega (arith, few), omega (arith, byte), fails)
+    let few = c.in-Ok.ensures.0 in let byte = c.in-Ok-try_from.ensures.0 in let refused = c.in-Err-StepsUsed in
+    let told = fails c.args.session.now _ StepsUsed _ _ _ _ _ _ refused.field-0-is c.in-Some.ensures.some
+    c.in-Ok.ensures.1 c.in-Ok-try_from.ensures.1 refused.ensures.err in
+    (omega (arith, few), omega (arith, byte), told)
 
 pub returns-in-Err-TurnsUsed-clause-err : goal.returns-in-Err-TurnsUsed-clause-err
 returns-in-Err-TurnsUsed-clause-err c =
-    let few = c.in-Ok.ensures.0 in let byte = c.in-Ok-try_from.ensures.0 in
-    let fails = same c.args.session.now _ _ _ _ _ _ _ TurnsUsed c.in-Some.ensures.some.0 c.in-Ok.ensures.1
-    c.in-Ok-try_from.ensures.1 c.in-Err-TurnsUsed.field-0-is c.in-Err-TurnsUsed.ensures.err in
-    (omega (arith, few), omega (arith, byte), fails)
+    let few = c.in-Ok.ensures.0 in let byte = c.in-Ok-try_from.ensures.0 in let refused = c.in-Err-TurnsUsed in
+    let told = fails c.args.session.now _ TurnsUsed _ _ _ _ _ _ refused.field-0-is c.in-Some.ensures.some
+    c.in-Ok.ensures.1 c.in-Ok-try_from.ensures.1 refused.ensures.err in
+    (omega (arith, few), omega (arith, byte), told)

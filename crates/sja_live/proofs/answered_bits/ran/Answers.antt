@@ -1,27 +1,23 @@
-use Rattle.std.proofs.Common.{refl}
 use Rattle.sja_live.proofs.Replies.Told.{told_rose, told_ran, told_spent, not_run}
 use Rattle.sja_live.proofs.answered_bits.ran.Goals as goal
 
 -- a line rose
 pub returns-in-Some : goal.returns-in-Some
 returns-in-Some c =
-    let watched = c.in-Ok.watched in
-    told_rose c.args.session.now c.watch.new.self c.lines.new.session c.args.count watched.bits c.in-Some.field-0
-    c.lines.result _ watched.rose c.in-Ok.ensures.may c.in-Ok.ensures.watches refl c.in-Some.is c.lines.ensures.lines
-    c.lines.ensures.still
+    told_rose c.args.session.now c.watch.new.self c.lines.new.session c.args.count c.in-Ok.watched.bits
+    c.in-Some.field-0 c.lines.result c.in-Ok.ensures.may (rw c.in-Some.is at c.in-Ok.ensures.watches)
+    c.lines.ensures.lines c.lines.ensures.still
 
 -- none did
 pub returns-in-None : goal.returns-in-None
 returns-in-None c =
-    let watched = c.in-Ok.watched in
-    told_spent c.args.session.now c.watch.new.self c.args.count watched.bits _ watched.rose c.in-Ok.ensures.may
-    c.in-Ok.ensures.watches refl c.in-None.is c.if-watched-count.true
+    told_spent c.args.session.now c.watch.new.self c.args.count c.in-Ok.watched.bits c.in-Ok.ensures.may
+    (rw c.in-None.is at c.in-Ok.ensures.watches) c.if-watched-count.true
 
 pub returns-in-None-2 : goal.returns-in-None-2
 returns-in-None-2 c =
-    let watched = c.in-Ok.watched in
-    told_ran c.args.session.now c.watch.new.self c.args.count watched.bits _ watched.rose c.in-Ok.ensures.may
-    c.in-Ok.ensures.watches refl c.in-None.is c.if-watched-count.false
+    told_ran c.args.session.now c.watch.new.self c.args.count c.in-Ok.watched.bits c.in-Ok.ensures.may
+    (rw c.in-None.is at c.in-Ok.ensures.watches) c.if-watched-count.false
 
 -- no turn is left
 pub returns-in-Err : goal.returns-in-Err

@@ -6,9 +6,8 @@ use Rattle.sja_live.proofs.answered_steps.stepped.Goals as goal
 pub returns-in-Ok-Answer : goal.returns-in-Ok-Answer
 returns-in-Ok-Answer c =
     let answer = c.in-Ok-Answer.answer in let was : c.step.result ≡ Ok (Answer answer) = cc in
-    told_step c.args.session.now c.step.new.self c.args.node c.args.step answer
-    c.in-Ok-Answer.ensures.may (c.step.ensures.done answer was) c.ranges.node.fits
-    c.requires.spelled
+    told_step c.args.session.now c.step.new.self c.args.node c.args.step answer c.in-Ok-Answer.ensures.may
+    (c.step.ensures.done answer was) c.requires.spelled
 
 pub returns-in-Ok-Waits : goal.returns-in-Ok-Waits
 returns-in-Ok-Waits c =
@@ -18,5 +17,5 @@ returns-in-Ok-Waits c =
 
 pub returns-in-Err : goal.returns-in-Err
 returns-in-Err c =
-    not_step c.args.session.now c.step.new.self c.args.node c.args.step c.in-Err.fault c.used_up.result
-    c.requires.there c.in-Err.ensures.err c.used_up.ensures c.in-Err.ensures.kept
+    not_step c.args.session.now c.step.new.self c.args.node c.args.step c.in-Err.fault c.not_done.result
+    c.in-Err.ensures.err c.not_done.ensures c.in-Err.ensures.kept

@@ -25,39 +25,47 @@ returns-then-eq-clause-err c =
 pub returns-in-len1-clause-ok : goal.returns-in-len1-clause-ok
 returns-in-len1-clause-ok c =
     subst (λ (l : List Text). IfOk c.of_one_word.result (λ x. AreCommandWords c.args.version c.args.nodes l x))
-    (sym (one_word c.args.words.now none c.in-len1.len_at_least c.in-len1.len_below)) c.of_one_word.ensures.ok
+    (sym (one_word c.args.words.now none c.in-len1.len_at_least c.in-len1.len_below))
+    (c.of_one_word.ensures.ok c.args.version c.args.nodes)
 
 pub returns-in-len1-clause-err : goal.returns-in-len1-clause-err
 returns-in-len1-clause-err c =
     subst (λ (l : List Text). IfErr c.of_one_word.result (IsUnasked c.args.version c.args.nodes l))
-    (sym (one_word c.args.words.now none c.in-len1.len_at_least c.in-len1.len_below)) c.of_one_word.ensures.err
+    (sym (one_word c.args.words.now none c.in-len1.len_at_least c.in-len1.len_below))
+    (c.of_one_word.ensures.err c.args.version c.args.nodes)
 
 pub returns-in-len2-clause-ok : goal.returns-in-len2-clause-ok
 returns-in-len2-clause-ok c =
     subst (λ (l : List Text). IfOk c.of_two_words.result (λ x. AreCommandWords c.args.version c.args.nodes l x))
-    (sym (two_words c.args.words.now none c.in-len2.len_at_least c.in-len2.len_below)) c.of_two_words.ensures.ok
+    (sym (two_words c.args.words.now none c.in-len2.len_at_least c.in-len2.len_below))
+    (c.of_two_words.ensures.ok c.args.version)
 
 pub returns-in-len2-clause-err : goal.returns-in-len2-clause-err
 returns-in-len2-clause-err c =
     subst (λ (l : List Text). IfErr c.of_two_words.result (IsUnasked c.args.version c.args.nodes l))
-    (sym (two_words c.args.words.now none c.in-len2.len_at_least c.in-len2.len_below)) c.of_two_words.ensures.err
+    (sym (two_words c.args.words.now none c.in-len2.len_at_least c.in-len2.len_below))
+    (c.of_two_words.ensures.err c.args.version)
 
 pub returns-in-len3-clause-ok : goal.returns-in-len3-clause-ok
 returns-in-len3-clause-ok c =
     subst (λ (l : List Text). IfOk c.of_three_words.result (λ x. AreCommandWords c.args.version c.args.nodes l x))
-    (sym (three_words c.args.words.now none c.in-len3.len_at_least c.in-len3.len_below)) c.of_three_words.ensures.ok
+    (sym (three_words c.args.words.now none c.in-len3.len_at_least c.in-len3.len_below))
+    (c.of_three_words.ensures.ok c.args.version)
 
 pub returns-in-len3-clause-err : goal.returns-in-len3-clause-err
 returns-in-len3-clause-err c =
     subst (λ (l : List Text). IfErr c.of_three_words.result (IsUnasked c.args.version c.args.nodes l))
-    (sym (three_words c.args.words.now none c.in-len3.len_at_least c.in-len3.len_below)) c.of_three_words.ensures.err
+    (sym (three_words c.args.words.now none c.in-len3.len_at_least c.in-len3.len_below))
+    (c.of_three_words.ensures.err c.args.version)
 
 pub returns-in-len4-clause-ok : goal.returns-in-len4-clause-ok
 returns-in-len4-clause-ok c =
     subst (λ (l : List Text). IfOk c.of_four_words.result (λ x. AreCommandWords c.args.version c.args.nodes l x))
-    (sym (four_words c.args.words.now none c.in-len4.len_at_least c.in-len4.len_below)) c.of_four_words.ensures.ok
+    (sym (four_words c.args.words.now none c.in-len4.len_at_least c.in-len4.len_below))
+    (c.of_four_words.ensures.ok c.args.version)
 
 pub returns-in-len4-clause-err : goal.returns-in-len4-clause-err
 returns-in-len4-clause-err c =
     subst (λ (l : List Text). IfErr c.of_four_words.result (IsUnasked c.args.version c.args.nodes l))
-    (sym (four_words c.args.words.now none c.in-len4.len_at_least c.in-len4.len_below)) c.of_four_words.ensures.err
+    (sym (four_words c.args.words.now none c.in-len4.len_at_least c.in-len4.len_below))
+    (c.of_four_words.ensures.err c.args.version)

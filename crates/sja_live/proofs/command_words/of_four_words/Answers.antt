@@ -3,7 +3,7 @@ use Rattle.sja_live.proofs.command_words.of_four_words.Goals as goal
 
 -- the second word is no node
 pub returns-in_default-clause-err : goal.returns-in_default-clause-err
-returns-in_default-clause-err c =
+returns-in_default-clause-err c = λ version.
     let node = c.args.node.now in let address = c.args.address.now in let value = c.args.value.now in
     let name : c.args.name.now ≡ codes "write" = search rules in
     let is = ap (λ (n : List ℕ). n ∷ node ∷ address ∷ value ∷ []) name in
@@ -11,7 +11,7 @@ returns-in_default-clause-err c =
 
 -- the third one is no address
 pub returns-in_default-number_within-clause-err : goal.returns-in_default-number_within-clause-err
-returns-in_default-number_within-clause-err c =
+returns-in_default-number_within-clause-err c = λ version.
     let node = c.args.node.now in let address = c.args.address.now in let value = c.args.value.now in
     let name : c.args.name.now ≡ codes "write" = search rules in
     let is = ap (λ (n : List ℕ). n ∷ node ∷ address ∷ value ∷ []) name in (

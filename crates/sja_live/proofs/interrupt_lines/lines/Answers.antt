@@ -1,8 +1,7 @@
-use Rattle.std.proofs.Common.{arith}
-use Rattle.sja_driver_session.specs.Bits.{line_in}
-use Rattle.sja_live.proofs.Replies.InterruptLines.{one_more, all_told, more_few, few_of, still_more, told_of}
-use Rattle.sja_live.proofs.Replies.Told.{still_live}
-use Rattle.sja_session.proofs.WatchedBits.QuietBits.{nodes_same}
+use Rattle.std.proofs.Common.{◌∙◌, arith}
+use Rattle.sja_live.proofs.Replies.InterruptLines.{one_more, all_told, more_few, few_of}
+use Rattle.sja_session.proofs.WatchedBits.QuietBits.{line_still, nodes_same, still_then}
+use Rattle.sja_session.specs.Lines.{line_at}
 use Rattle.sja_live.proofs.interrupt_lines.lines.Goals as goal
 
 pub with_line-lines-requires : goal.with_line-lines-requires
@@ -12,21 +11,20 @@ with_line-lines-requires c =
 pub loop-place-preserved : goal.loop-place-preserved
 loop-place-preserved c =
     let inv = c.loop-place.invariant in let less = c.loop-place-test.true in record {
-      still = λ deeds at. let s = inv.still deeds at in
-          still_more _ _ _ deeds s (c.line_of-line.ensures.still deeds (still_live _ _ deeds at s));
-      value = λ deeds at. let s = inv.still deeds at in let same = nodes_same at.at s.0.at in
-          one_more (line_in c.args.session.now deeds) _ _ _ _ _ less
-          (told_of _ _ deeds _ _ s
-          (c.line_of-line.ensures.line deeds (still_live _ _ deeds at s)
-          (let n = inv.nodes in omega (arith, n, same, less))))
-          (inv.value deeds at) c.with_line-lines.ensures;
+      still = λ accesses at.
+          let s = inv.still accesses at in still_then s (c.line_of-line.ensures.still accesses s.at);
+      value = λ accesses at.
+          let s = inv.still accesses at in let same = nodes_same at s.at in let n = inv.nodes in
+          one_more (line_at c.args.session.now accesses) _ _ _ _ _ less
+          (c.line_of-line.ensures.line accesses s.at (omega (arith, n, same, less)) ∙ line_still s _)
+          (inv.value accesses at) c.with_line-lines.ensures;
       few = more_few _ _ _ _ inv.few c.with_line-lines.ensures;
       nodes = inv.nodes;
       eight = inv.eight;
     }
 
 pub returns-clause-lines : goal.returns-clause-lines
-returns-clause-lines c = λ deeds at.
+returns-clause-lines c = λ accesses at.
     let inv = c.loop-place.invariant in
-    all_told (line_in c.args.session.now deeds) _ _ _ _ c.loop-place-test.false c.loop-place.auto.place-end inv.nodes
-    (inv.value deeds at)
+    all_told (line_at c.args.session.now accesses) _ _ _ _ c.loop-place-test.false c.loop-place.auto.place-end inv.nodes
+    (inv.value accesses at)

@@ -1,18 +1,17 @@
-use Rattle.std.proofs.Common.{◌≡◌, ◌-◌, ◌<◌, ◌≤◌, ◌^◌, List}
-use Rattle.sja_driver.specs.Deeds.{Deed}
+use Rattle.std.proofs.Common.{◌≡◌, ◌-◌, ◌<◌, ◌≤◌, ◌^◌, List, length}
+use Rattle.sja_driver.specs.Accesses.{Access}
 use Rattle.sja_live.specs.Answering.{lines_from}
-use Rattle.sja_driver_session.specs.Bits.{IsStillIn, line_in}
-use Rattle.sja_driver_session.specs.DriverSessions.{node_count}
-use Rattle.sja_live.specs.Inside.Standing.{IsLiveAt}
+use Rattle.sja_session.specs.Lines.{IsStill, line_at}
+use Rattle.sja_session.specs.Sessions.{IsAt}
 use Rattle.sja_live.proofs.interrupt_lines.lines.Given as goal
 
 -- nothing happened, and the lines of so many nodes, the last ones, are told
 abbrev pub invariant-loop-place : goal.invariant-loop-place
 invariant-loop-place l = record {
-  still : (deeds : List (List Deed)) → IsLiveAt l.fn.session deeds → IsStillIn l.fn.session l.session deeds;
-  value : (deeds : List (List Deed)) → IsLiveAt l.fn.session deeds →
-      l.lines ≡ lines_from (line_in l.fn.session deeds) (l.nodes - l.place) l.place;
+  still : (accesses : List (List Access)) → IsAt l.fn.session accesses → IsStill l.fn.session l.session accesses;
+  value : (accesses : List (List Access)) → IsAt l.fn.session accesses →
+      l.lines ≡ lines_from (line_at l.fn.session accesses) (l.nodes - l.place) l.place;
   few : l.lines < 2 ^ l.place;
-  nodes : l.nodes ≡ node_count l.fn.session;
+  nodes : l.nodes ≡ length l.fn.session.plan.nodes;
   eight : l.nodes ≤ 8;
 }

@@ -1,8 +1,8 @@
-use Rattle.std.proofs.Common.{rules, ◌≡◌, ℕ, List, ◌+◌, sym, subst}
+use Rattle.std.proofs.Common.{rules, ◌≡◌, ◌≤◌, ℕ, List, ◌+◌, sym, subst}
 use Rattle.std.specs.Prelude.{slice_index_or}
 use Rattle.sja_driver.specs.declared.logged_driver.LoggedDriver.{LoggedDriver}
 use Rattle.sja_driver.specs.declared.work_log.WorkLog.{WorkLog}
-use Rattle.sja_driver.specs.Logs.{IsEmpty, HasRoom}
+use Rattle.sja_driver.specs.Logs.{IsEmpty, HasRoom, done_room}
 use Rattle.sja_log.specs.Inside.NewDrivers.{IsNewDriver, AreNew}
 use Rattle.sja_log.proofs.OneNode.Newly.{new_push}
 use Rattle.sja_serial.proofs.drivers.new_drivers.Goals as goal
@@ -13,12 +13,16 @@ loop-node-preserved c =
     let x = c.new-in-loop-node.result in
     let node = c.loop-node.node in
     let own : c.new-in-loop-node.result.node ≡ node = c.new-in-loop-node.ensures.node in
-    let size : ℕ = slice_index_or c.args.steps.now node 0 in
+    let steps : ℕ = slice_index_or c.args.steps.now node 0 in
+    let size : ℕ = slice_index_or c.args.deeds.now node 0 in
     let room : HasRoom size c.in_ok-log.log = search rules in
-    let is : IsNewDriver node size x = record {
+    let has : steps ≤ done_room c.in_ok-log.log = search rules in
+    let is : IsNewDriver node steps size x = record {
       own = own;
       empty = subst (λ (l : WorkLog). IsEmpty l) (sym c.new-in-loop-node.ensures.log) c.in_ok-log.ensures.empty;
       room = subst (λ (l : WorkLog). HasRoom size l) (sym c.new-in-loop-node.ensures.log) room;
+      steps = subst (λ (l : WorkLog). steps ≤ done_room l) (sym c.new-in-loop-node.ensures.log) has;
+      kept = c.new-in-loop-node.ensures.kept;
       reset = c.new-in-loop-node.ensures.reset;
       lawful = c.new-in-loop-node.ensures.lawful;
       traces = c.new-in-loop-node.ensures.traces;
@@ -26,6 +30,7 @@ loop-node-preserved c =
     record {
       count = search rules;
       room = search rules;
-      new = subst (λ (l : List LoggedDriver). AreNew c.args.steps.now (node + 1) l) (sym c.push_reserved.ensures.items)
-          (new_push c.args.steps.now node c.loop-node.drivers.items x inv.count inv.new is);
+      new = subst (λ (l : List LoggedDriver). AreNew c.args.steps.now c.args.deeds.now (node + 1) l)
+          (sym c.push_reserved.ensures.items)
+          (new_push c.args.steps.now c.args.deeds.now node c.loop-node.drivers.items x inv.count inv.new is);
     }

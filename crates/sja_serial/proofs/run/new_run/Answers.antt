@@ -1,12 +1,17 @@
-use Rattle.std.proofs.Common.{◌≡◌, ◌∙◌, ℕ, List, [], length, map, replicate, take, refl, ap, sym, subst, arith}
+use Rattle.std.proofs.Common.{◌≡◌, ◌∙◌, ◌≤◌, ℕ, zero, suc, Bool, true, false, cond, nat_lt, List, [], ◌∷◌, All, length}
+use Rattle.std.proofs.Common.{map, replicate}
+use Rattle.std.proofs.Common.{take, refl, ap, sym, subst, arith}
+use Rattle.std.specs.Prelude.{slice_index_or}
+use Rattle.std.proofs.lemmas.List.Elements.{All-head, All-tail}
+use Rattle.sja_plan.specs.Limits.{most_steps}
 use Rattle.std.proofs.lemmas.List.{length-map, get_or-replicate}
 use Rattle.std.proofs.lemmas.Result.{IfOk-weaker}
-use Rattle.sja_driver.specs.Deeds.{Deed}
+use Rattle.sja_driver.specs.Accesses.{Access}
 use Rattle.sja_plan.proofs.PlanLimits.ByVersion.{bits_most}
 use Rattle.sja_plan.specs.Plan.{PlanValue, step_counts, steps_at}
 use Rattle.sja_script.specs.declared.step.Step.{Step}
 use Rattle.sja_serial.specs.Ending.{AreFirst, setup_of}
-use Rattle.sja_serial.specs.Serial.{Setup, StandsAt, setup_with}
+use Rattle.sja_serial.specs.Serial.{Setup, StandsBy, most_deeds, setup_with}
 use Rattle.sja_wire.specs.Buses.{new_bus}
 use Rattle.sja_serial.proofs.run.new_run.Goals.{After-bits}
 use Rattle.sja_serial.proofs.run.new_run.Goals as goal
@@ -14,7 +19,7 @@ use Rattle.sja_serial.proofs.run.new_run.Goals as goal
 -- nothing done is the first of whatever there is
 none_first : (plan : PlanValue) → AreFirst plan (replicate (length plan.nodes) [])
 none_first plan node less =
-    subst (λ (l : List Deed). map (λ (d : Deed). d.step) l ≡ take (length l) (steps_at plan node))
+    subst (λ (l : List Access). map (λ (a : Access). a.step) l ≡ take (length l) (steps_at plan node))
     (sym (get_or-replicate (length plan.nodes) node [] [] less)) refl
 
 -- a plan's own setup, by what is read of it
@@ -25,7 +30,7 @@ of_plan plan version bits steps = λ i. let s : Setup = record {
   bits = bits i;
   strikes = plan.strikes;
   nodes = (ap (λ (l : List ℕ). length l) steps ∙ length-map plan.nodes (λ (l : List Step). length l)) i;
-  steps = steps i;
+  steps = map (most_deeds (version i)) (steps i);
 } in s
 
 pub new-requires-clause-nodes : goal.new-requires-clause-nodes
@@ -48,12 +53,34 @@ returns-clause-stands c =
     let at = (goal.at.returns-clause-stands c).After-bits in let plan = c.args.plan.now in
     let n = length (c.in_ok-steps.steps.items) in
     IfOk-weaker c.new.result _ _ (λ r stands. record {
-      stands = subst (λ (k : ℕ). StandsAt (setup_of plan) r (replicate k [])) c.in_ok-steps.ensures.count
-          (subst (λ (s : Setup). StandsAt s r (replicate n [])) (made_of at) stands);
+      by = subst (λ (k : ℕ). StandsBy (setup_of plan) r (replicate k [])) c.in_ok-steps.ensures.count
+          (subst (λ (s : Setup). StandsBy s r (replicate n [])) (made_of at) stands);
       first = none_first plan;
     }) c.new.ensures.stands
 
 pub returns-clause-bus : goal.returns-clause-bus
 returns-clause-bus c =
     IfOk-weaker c.new.result _ _ (λ r is. is ∙ (λ i. new_bus (c.in_ok-script.ensures i) (c.bits.ensures.value i)
-    (c.in_ok-steps.ensures.count i) (c.in_ok-steps.ensures.value i))) c.new.ensures.bus
+    (c.in_ok-steps.ensures.count i) (map (most_deeds (c.version.ensures.value i)) (c.in_ok-steps.ensures.value i))))
+    c.new.ensures.bus
+
+pub new-requires-clause-steps : goal.new-requires-clause-steps
+new-requires-clause-steps c = λ node.
+    let plan = c.args.plan.now in
+    let few = at_most plan.nodes (most_steps plan.version) c.limits.ensures.steps node in
+    let all = most_ever plan.version in
+    let e = ap (λ (l : List ℕ). slice_index_or l node 0) c.in_ok-steps.ensures.value in omega (arith, few, all, e)
+  where
+    at_most : (nodes : List (List Step)) (most : ℕ) → All (λ (l : List Step). length l ≤ most) nodes → (node : ℕ) →
+        slice_index_or (map (λ (l : List Step). length l) nodes) node 0 ≤ most
+    at_most [] most all node = omega arith
+    at_most (l ∷ nodes) most all zero = All-head (λ (x : List Step). length x ≤ most) l nodes all
+    at_most (l ∷ nodes) most all (suc node) =
+        at_most nodes most (All-tail (λ (x : List Step). length x ≤ most) l nodes all) node
+
+    by : (first : Bool) → cond first 1000 65535 ≤ 65535
+    by true = omega arith
+    by false = omega arith
+
+    most_ever : (version : ℕ) → most_steps version ≤ 65535
+    most_ever version = by (nat_lt version 3)

@@ -3,7 +3,7 @@ use Rattle.sja_plan.specs.Plan.{NamesNode}
 use Rattle.sja_plan.specs.declared.turn.Turn.{Turn}
 use Rattle.sja_serial.specs.Bits.{TakesBusTurn, TakesRest}
 use Rattle.sja_serial.specs.Inside.Going.{TakesOne}
-use Rattle.sja_serial.specs.Serial.{Setup}
+use Rattle.sja_serial.specs.Serial.{Setup, all_deeds}
 use Rattle.sja_serial.proofs.AllNodes.Several.{at_own, from_own}
 use Rattle.sja_serial.proofs.run.take_one.Goals as goal
 
@@ -12,26 +12,29 @@ take_steps-requires-clause-node c =
     subst (λ (t : Turn). NamesNode (length c.args.plan.now.nodes) t) c.in-Node.is c.requires.names
 
 pub bus_turn-requires : goal.bus_turn-requires
-bus_turn-requires c = let h = c.requires.run in (h.0, at_own h.1.stands)
+bus_turn-requires c = let h = c.requires.run in (all_deeds h.0, at_own h.1.by.stands)
 
 pub rest_turn-requires : goal.rest_turn-requires
-rest_turn-requires c = let h = c.requires.run in (h.0, at_own h.1.stands)
+rest_turn-requires c = let h = c.requires.run in (all_deeds h.0, at_own h.1.by.stands)
 
 pub returns-in-Node : goal.returns-in-Node
-returns-in-Node c = λ deeds h.
-    subst (λ (t : Turn). TakesOne c.args.plan.now deeds c.args.run.now c.take_steps.new.run t true) (sym c.in-Node.is)
-    (c.take_steps.ensures deeds h, refl)
+returns-in-Node c = λ accesses h.
+    subst (λ (t : Turn). TakesOne c.args.plan.now accesses c.args.run.now c.take_steps.new.run t true)
+    (sym c.in-Node.is)
+    (c.take_steps.ensures accesses h, refl)
 
 pub returns-in-Bus : goal.returns-in-Bus
-returns-in-Bus c = λ deeds h.
+returns-in-Bus c = λ accesses h.
+    let deeds = all_deeds accesses in
     let now = c.bus_turn.new.self in
-    subst (λ (t : Turn). TakesOne c.args.plan.now deeds c.args.run.now now t c.bus_turn.result) (sym c.in-Bus.is)
-    (from_own (λ (s : Setup). TakesBusTurn s deeds c.args.run.now now c.in-Bus.count c.bus_turn.result) h.stands
-    (c.bus_turn.ensures.turn deeds (at_own h.stands)))
+    subst (λ (t : Turn). TakesOne c.args.plan.now accesses c.args.run.now now t c.bus_turn.result) (sym c.in-Bus.is)
+    (from_own (λ (s : Setup). TakesBusTurn s deeds c.args.run.now now c.in-Bus.count c.bus_turn.result) h.by.stands
+    (c.bus_turn.ensures.turn deeds (at_own h.by.stands)))
 
 pub returns-in-Rest : goal.returns-in-Rest
-returns-in-Rest c = λ deeds h.
+returns-in-Rest c = λ accesses h.
+    let deeds = all_deeds accesses in
     let now = c.rest_turn.new.self in
-    subst (λ (t : Turn). TakesOne c.args.plan.now deeds c.args.run.now now t c.rest_turn.result) (sym c.in-Rest.is)
-    (from_own (λ (s : Setup). TakesRest s deeds c.args.run.now now c.rest_turn.result) h.stands
-    (c.rest_turn.ensures.turn deeds (at_own h.stands)))
+    subst (λ (t : Turn). TakesOne c.args.plan.now accesses c.args.run.now now t c.rest_turn.result) (sym c.in-Rest.is)
+    (from_own (λ (s : Setup). TakesRest s deeds c.args.run.now now c.rest_turn.result) h.by.stands
+    (c.rest_turn.ensures.turn deeds (at_own h.by.stands)))

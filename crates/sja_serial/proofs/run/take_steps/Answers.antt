@@ -1,7 +1,8 @@
 use Rattle.std.proofs.Common.{rules, ◌≡◌, ◌<◌, ◌++◌, List, length, true, false, ap, ◌∙◌, subst, arith, inl, inr}
 use Rattle.std.specs.Prelude.{slice_index_or}
 use Rattle.std.proofs.lemmas.List.{length-set, get_or_default}
-use Rattle.sja_driver.specs.Deeds.{Deed, deeds_at, with_deeds}
+use Rattle.sja_driver.specs.Accesses.{Access, accesses_at, deeds_in}
+use Rattle.sja_driver.specs.Deeds.{Deed}
 use Rattle.sja_driver.specs.LoggedDrivers.{log_of}
 use Rattle.sja_driver.specs.Logs.{done_in}
 use Rattle.sja_driver.specs.declared.logged_driver.LoggedDriver.{LoggedDriver}
@@ -11,119 +12,123 @@ use Rattle.sja_regs.specs.Registers.{at_power_on}
 use Rattle.sja_wire.specs.Wire.{journal_at}
 use Rattle.sja_script.specs.declared.step.Step.{Step}
 use Rattle.sja_serial.specs.Ending.{setup_of}
-use Rattle.sja_serial.specs.Stepping.{DoesStep, DoesNothing}
-use Rattle.sja_serial.specs.Serial.{Setup, StandsAt}
-use Rattle.sja_serial.proofs.AllNodes.Several.{at_own, from_own, done_count}
+use Rattle.sja_serial.specs.Stepping.{DoesStep, HasRoomLeft, WaitsFor, with_accesses}
+use Rattle.sja_serial.specs.Serial.{Setup, StandsBy}
+use Rattle.sja_serial.proofs.AllNodes.Several.{by_own, from_own, done_count, many_steps, setup_is}
+use Rattle.sja_serial.proofs.Deeds.Parts.{all_at}
 use Rattle.sja_serial.proofs.WholeRun.Steps.{SoFar, so_far_none, so_far_one, turn_over}
-use Rattle.sja_serial.proofs.WholeRun.Steps.{turn_waits, turn_done, first_then, room_is}
+use Rattle.sja_serial.proofs.WholeRun.Steps.{turn_waits, turn_done, first_then, room_left}
 use Rattle.sja_serial.proofs.run.take_steps.Goals.{After-done-next}
 use Rattle.sja_serial.proofs.run.take_steps.Goals as goal
 
 pub loop-init : goal.loop-init
-loop-init c = λ deeds h. so_far_none c.args.plan.now c.args.run.now c.args.node deeds h
+loop-init c = λ accesses h. so_far_none c.args.plan.now c.args.run.now c.args.node accesses h
 
 -- ---- the next step of the node
 
 place_is : (c : After-done-next) → c.from-place.result ≡ c.args.node
 place_is c = search rules
 
-module _ (c : After-done-next) {deeds : List (List Deed)}
-    (s : SoFar c.args.plan.now c.args.run.now c.loop.run c.args.node deeds c.loop.counter) where
-  abbrev mid : List (List Deed)
-  mid = with_deeds deeds c.args.node s.more
+module _ (c : After-done-next) {accesses : List (List Access)}
+    (s : SoFar c.args.plan.now c.args.run.now c.loop.run c.args.node accesses c.loop.counter) where
+  abbrev mid : List (List Access)
+  mid = with_accesses accesses c.args.node s.more
 
-  stands : StandsAt (setup_of c.args.plan.now) c.loop.run mid
-  stands = s.does.stands
+  by : StandsBy (setup_of c.args.plan.now) c.loop.run mid
+  by = s.stands.by
 
-  many_done : length c.done-next.result.now ≡ length (deeds_at mid c.args.node)
+  many_done : length c.done-next.result.now ≡ length (accesses_at mid c.args.node)
   many_done =
       ap (λ l. length l) (c.done-next.ensures ∙ ap done_in c.log.ensures
       ∙ ap (λ (d : LoggedDriver). done_in (log_of d)) (c.driver.ensures
       ∙ ap (λ k. slice_index_or c.loop.run.drivers k c.driver.result.now) (place_is c)))
-      ∙ done_count (setup_of c.args.plan.now) c.loop.run mid c.args.node c.driver.result.now (at_power_on 1) stands
+      ∙ done_count (setup_of c.args.plan.now) c.loop.run mid c.args.node c.driver.result.now (at_power_on 1) by
       c.requires.node
 
   all_steps : c.steps-steps.result.now ≡ steps_at c.args.plan.now c.args.node
   all_steps = c.steps-steps.ensures.value ∙ ap (λ k. steps_at c.args.plan.now k) (place_is c)
 
-  inside : c.args.node < length deeds
+  inside : c.args.node < length accesses
   inside =
-      let n = stands.deeds_count in let less = c.requires.node in
-      let same = length-set deeds c.args.node (deeds_at deeds c.args.node ++ s.more) in omega (arith, n, less, same)
+      let n = many_steps by in let less = c.requires.node in
+      let same = length-set accesses c.args.node (accesses_at accesses c.args.node ++ s.more) in
+      omega (arith, n, less, same)
 
   -- one is left
   module _ (less : length c.done-next.result.now < length c.steps-steps.result.now) where
-    left : length (deeds_at mid c.args.node) < length (steps_at c.args.plan.now c.args.node)
+    left : length (accesses_at mid c.args.node) < length (steps_at c.args.plan.now c.args.node)
     left = let done = many_done in let all = ap (λ l. length l) all_steps in omega (arith, less, done, all)
 
     -- this one
     next_is : (step : Step) → step ≡ slice_index_or c.steps-steps.result.now (length c.done-next.result.now) step →
-        step ≡ slice_index_or (steps_at c.args.plan.now c.args.node) (length (deeds_at mid c.args.node)) step
+        step ≡ slice_index_or (steps_at c.args.plan.now c.args.node) (length (accesses_at mid c.args.node)) step
     next_is step is = is ∙ (λ i. slice_index_or (all_steps i) (many_done i) step)
 
     -- whatever else were asked for in its place
     is_next : (step other : Step) →
         step ≡ slice_index_or c.steps-steps.result.now (length c.done-next.result.now) step →
-        step ≡ slice_index_or (steps_at c.args.plan.now c.args.node) (length (deeds_at mid c.args.node)) other
+        step ≡ slice_index_or (steps_at c.args.plan.now c.args.node) (length (accesses_at mid c.args.node)) other
     is_next step other is =
-        next_is step is ∙ get_or_default (steps_at c.args.plan.now c.args.node) (length (deeds_at mid c.args.node)) step
-        other left
+        next_is step is
+        ∙ get_or_default (steps_at c.args.plan.now c.args.node) (length (accesses_at mid c.args.node)) step other left
 
 pub step-requires : goal.step-requires
 step-requires c =
     let at = (goal.at.step-requires c).After-done-next in
-    let h = c.requires.run in let s = c.loop.invariant h.0 h.1 in let mine = stands at s in
-    let few = left at s c.if-next-steps.false in let done = many_done at s in
-    let room = room_is c.args.plan.now c.args.node c.requires.node in
-    let drivers = mine.count.drivers in let near = c.requires.node in
-    let steps = ap (λ l. slice_index_or l c.args.node 0) mine.steps in (
-      (mid at s, at_own mine),
-      record {
-        there = omega (arith, drivers, near);
+    let h = c.requires.run in let s = c.loop.invariant h.0 h.1 in let mine = by at s in
+    let few = left at s c.if-next-steps.false in
+    let near = c.requires.node in
+    let room = room_left c.args.plan.now c.args.node near in (
+      (mid at s, by_own mine),
+      subst (λ (x : Setup). HasRoomLeft x c.loop.run c.args.node) (setup_is mine.stands) (record {
+        there = near;
         left = λ d.
             let count = done_count (setup_of c.args.plan.now) c.loop.run (mid at s) c.args.node d (at_power_on 1)
-            mine near in omega (arith, count, few, room, steps);
-      },
+            mine near in omega (arith, count, few, room);
+      }),
     )
 
 -- ---- what comes of it
 
 pub returns-then-next-steps : goal.returns-then-next-steps
-returns-then-next-steps c = λ deeds h.
-    let at = (goal.at.returns-then-next-steps c).After-done-next in let s = c.loop.invariant deeds h in
+returns-then-next-steps c = λ accesses h.
+    let at = (goal.at.returns-then-next-steps c).After-done-next in let s = c.loop.invariant accesses h in
     let done = many_done at s in let all = ap (λ l. length l) (all_steps at s) in let none = c.if-next-steps.true in
     let more = c.loop-test.true in
-    turn_over c.args.plan.now c.args.run.now c.loop.run c.args.node deeds (inside at s) s c.args.count
+    turn_over c.args.plan.now c.args.run.now c.loop.run c.args.node accesses (inside at s) s c.args.count
     (omega (arith, more))
     (inl (omega (arith, done, all, none)))
 
 pub returns-then-not-step : goal.returns-then-not-step
-returns-then-not-step c = λ deeds h.
-    let at = (goal.at.returns-then-not-step c).After-done-next in let s = c.loop.invariant deeds h in
+returns-then-not-step c = λ accesses h.
+    let at = (goal.at.returns-then-not-step c).After-done-next in let s = c.loop.invariant accesses h in
     let more = c.loop-test.true in let no : c.step.result ≡ false = search rules in
-    let one = c.index-steps-next.result in
-    let w = from_own (λ (x : Setup). DoesNothing x c.loop.run c.step.new.self c.args.node one (mid at s)) (stands at s)
-    (c.step.ensures.waits no (mid at s) (at_own (stands at s))) in
-    turn_waits c.args.plan.now c.args.run.now c.loop.run c.args.node deeds (inside at s) s c.step.new.self
-    c.args.count (omega (arith, more)) w.does
-    (inr (λ other p. subst (λ (x : Step). HasToWait (slice_index_or c.step.new.self.ports c.args.node p)
-    (journal_at c.step.new.self.bus.journals c.args.node) (deeds_at (mid at s) c.args.node) x)
-    (is_next at s c.if-next-steps.false one other c.index-steps-next.is) (w.why p))) w.journals
+    let one = c.index-steps-next.result in let node = c.args.node in
+    let w = from_own (λ (x : Setup). WaitsFor x c.loop.run c.step.new.self node one (mid at s)) (by at s).stands
+    (c.step.ensures.waits no (mid at s) (by_own (by at s))) in
+    turn_waits c.args.plan.now c.args.run.now c.loop.run node accesses (inside at s) s c.step.new.self
+    c.args.count (omega (arith, more)) w.stands w.nothing.does.bits
+    (inr (λ other p. subst (λ (x : Step). HasToWait (slice_index_or c.step.new.self.ports node p)
+    (journal_at c.step.new.self.bus.journals node) (deeds_in (accesses_at (mid at s) node)) x)
+    (is_next at s c.if-next-steps.false one other c.index-steps-next.is)
+    (subst (λ (l : List Deed). HasToWait (slice_index_or c.step.new.self.ports node p)
+    (journal_at c.step.new.self.bus.journals node) l one) (all_at (mid at s) node) (w.nothing.why p))))
+    w.nothing.journals
 
 pub loop-preserved : goal.loop-preserved
-loop-preserved c = λ deeds h.
-    let at = (goal.at.loop-preserved c).After-done-next in let s = c.loop.invariant deeds h in
+loop-preserved c = λ accesses h.
+    let at = (goal.at.loop-preserved c).After-done-next in let s = c.loop.invariant accesses h in
     let yes : c.step.result ≡ true = search rules in let one = c.index-steps-next.result in
-    let d = from_own (λ (x : Setup). DoesStep x c.loop.run c.step.new.self c.args.node one (mid at s)) (stands at s)
-    (c.step.ensures.done yes (mid at s) (at_own (stands at s))) in
+    let d = from_own (λ (x : Setup). DoesStep x c.loop.run c.step.new.self c.args.node one (mid at s)) (by at s).stands
+    (c.step.ensures.done yes (mid at s) (by_own (by at s))) in
     let few = left at s c.if-next-steps.false in
-    so_far_one c.args.plan.now c.args.run.now c.loop.run c.args.node deeds (inside at s) s c.step.new.self d.deed d.does
-    (first_then c.args.plan.now c.args.node (mid at s) d.deed one
-    (let n = (stands at s).deeds_count in let less = c.requires.node in omega (arith, n, less)) s.first few
-    (d.step_is ∙ next_is at s c.if-next-steps.false one c.index-steps-next.is)) d.others
+    so_far_one c.args.plan.now c.args.run.now c.loop.run c.args.node accesses (inside at s) s c.step.new.self d.access
+    d.stands (first_then c.args.plan.now c.args.node (mid at s) d.access one
+    (let n = many_steps (by at s) in let less = c.requires.node in omega (arith, n, less)) s.stands.first few
+    (d.step_is ∙ next_is at s c.if-next-steps.false one c.index-steps-next.is)) d.bits_are d.bits d.items d.others
 
 pub returns : goal.returns
-returns c = λ deeds h. let most = c.loop-test.false in let few = c.loop.auto.counter-end in
-    turn_done c.args.plan.now c.args.run.now c.loop.run c.args.node deeds
-    (let n = h.stands.deeds_count in let less = c.requires.node in omega (arith, n, less)) (c.loop.invariant deeds h)
+returns c = λ accesses h. let most = c.loop-test.false in let few = c.loop.auto.counter-end in
+    turn_done c.args.plan.now c.args.run.now c.loop.run c.args.node accesses
+    (let n = many_steps h.by in let less = c.requires.node in omega (arith, n, less)) (c.loop.invariant accesses h)
     c.args.count (omega (arith, most, few))

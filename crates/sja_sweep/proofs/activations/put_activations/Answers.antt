@@ -1,6 +1,6 @@
 use Rattle.sja_sweep.specs.Nodes.{activation_at}
 use Rattle.sja_sweep.specs.Changes.{activation_items}
-use Rattle.sja_sweep.proofs.NumberLists.Ranges.{text_more, text_all}
+use Rattle.sja_sweep.proofs.NumberLists.Ranges.{text_more}
 use Rattle.sja_sweep.proofs.activations.put_activations.Goals as goal
 
 pub loop-place-preserved : goal.loop-place-preserved

@@ -1,10 +1,9 @@
-use Rattle.std.proofs.Common.{◌≡◌, ◌+◌, ◌*◌, ◌/◌, ◌%◌, ◌<◌, ◌≤◌, ◌++◌, min, List, [], Result, Ok, length, take, drop}
-use Rattle.std.proofs.Common.{get_or, map, refl, sym, ap, ◌∙◌, subst, arith, rules, append_assoc}
+use Rattle.std.proofs.Common.{◌≡◌, ◌+◌, ◌/◌, ◌%◌, ◌<◌, ◌++◌, min, List, [], Ok, length, take, drop}
+use Rattle.std.proofs.Common.{get_or, map, refl, sym, ap, ◌∙◌, subst, rules, append_assoc}
 use Rattle.std.proofs.lemmas.List.{take-append-drop}
-use Rattle.std.specs.Vec.Iter.{into_iter_items}
 use Rattle.sja_sweep.specs.declared.trial.Trial.{Trial}
-use Rattle.sja_sweep.specs.declared.told.Told.{Told}
-use Rattle.sja_sweep.specs.Inside.Reaching.{ran_value, told_value}
+use Rattle.sja_sweep.specs.declared.trial_outcome.TrialOutcome.{TrialOutcome}
+use Rattle.sja_sweep.specs.Inside.Reaching.{trial_run_value, outcome_value}
 use Rattle.sja_sweep.specs.Inside.Tried.{AreTried, IsPartTried, ArePartsTried}
 use Rattle.sja_sweep.proofs.TriedStrikes.TriedLemmas.{tried_both}
 use Rattle.sja_sweep.proofs.TriedStrikes.JobLemmas.{parts_cover, parts_tried, ok_part}
@@ -13,7 +12,7 @@ use Rattle.sja_sweep.proofs.jobs.tried_in_jobs.Goals as goal
 pub loop-part-init : goal.loop-part-init
 loop-part-init g c =
     let plan = c.args.plan.now in
-    let planned = ran_value c.args.planned.now in
+    let planned = trial_run_value c.args.planned.now in
     let trials = c.args.trials.now in
     let size = c.max-size.result in
     let parts = c.in_ok-parts.parts.items in
@@ -22,7 +21,8 @@ loop-part-init g c =
       done = [];
       left = trials;
       whole = refl;
-      tried = subst (λ (l : List Told). AreTried plan planned [] (map told_value l)) (sym c.new-all.ensures.items) tt;
+      tried = subst (λ (l : List TrialOutcome). AreTried plan planned [] (map outcome_value l))
+          (sym c.new-all.ensures.items) tt;
       rest = subst (λ ps. ArePartsTried (λ v. v.items) plan planned size trials ps) (sym c.into_iter-rest.ensures.rest)
           (parts_tried (λ v. v.items) plan planned size trials parts
           (parts_cover (length parts) (length trials) size some len)
@@ -34,7 +34,7 @@ loop-part-init g c =
 pub loop-part-preserved : goal.loop-part-preserved
 loop-part-preserved g c =
     let plan = c.args.plan.now in
-    let planned = ran_value c.args.planned.now in
+    let planned = trial_run_value c.args.planned.now in
     let size = c.max-size.result in
     let so_far = c.loop-part.invariant in
     let left = so_far.left in

@@ -1,6 +1,6 @@
-use Rattle.std.proofs.Common.{◌≡◌, not, true, false, length, ap₂, ◌∙◌}
+use Rattle.std.proofs.Common.{◌≡◌, not, true, false, length}
 use Rattle.std.specs.Str.{bytes_eq}
-use Rattle.sja_sweep.specs.Messages.{message_at, is_reordered}
+use Rattle.sja_sweep.specs.Messages.{message_at}
 use Rattle.sja_sweep.proofs.NumberLists.Searches.{any_more}
 use Rattle.sja_sweep.proofs.messages.is_reordered.Goals as goal
 

@@ -1,7 +1,5 @@
-use Rattle.std.proofs.Common.{◌≡◌, ◌+◌, ◌-◌, ℕ, min, length, ap, sym, ◌∙◌, arith}
-use Rattle.std.specs.List.{range_with_len}
+use Rattle.std.proofs.Common.{◌-◌, sym, arith}
 use Rattle.std.proofs.lemmas.List.FromFn.{length-map-range_with_len}
-use Rattle.lemmas.specs.Gathering.{gathered}
 use Rattle.sja_sweep.specs.Targets.{pair, least_later}
 use Rattle.sja_sweep.specs.Inside.Asking.{bits_paired}
 use Rattle.sja_sweep.proofs.TriedStrikes.Gathers.{count_from}

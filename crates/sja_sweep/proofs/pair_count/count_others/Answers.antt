@@ -1,6 +1,4 @@
-use Rattle.std.proofs.Common.{◌≡◌, ◌-◌, ℕ, length, ap, ◌∙◌, arith}
-use Rattle.std.specs.List.{range_with_len}
-use Rattle.lemmas.specs.Gathering.{gathered}
+use Rattle.std.proofs.Common.{◌-◌, arith}
 use Rattle.sja_sweep.specs.Inside.Asking.{laters_paired}
 use Rattle.sja_sweep.proofs.TriedStrikes.Gathers.{count_from}
 use Rattle.sja_sweep.proofs.pair_count.count_others.Goals as goal

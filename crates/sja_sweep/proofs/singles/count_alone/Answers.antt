@@ -1,7 +1,5 @@
-use Rattle.std.proofs.Common.{◌≡◌, ◌-◌, ℕ, length, ap, sym, ◌∙◌, arith}
-use Rattle.std.specs.List.{range_with_len}
+use Rattle.std.proofs.Common.{◌-◌, sym, arith}
 use Rattle.std.proofs.lemmas.List.FromFn.{length-map-range_with_len}
-use Rattle.lemmas.specs.Gathering.{gathered}
 use Rattle.sja_sweep.specs.Targets.{alone}
 use Rattle.sja_sweep.specs.Inside.Asking.{bits_alone}
 use Rattle.sja_sweep.proofs.TriedStrikes.Gathers.{count_from}

@@ -2,8 +2,7 @@ use Rattle.std.proofs.Common.{rules, ◌≡◌, ℕ, List, length, map, vec_len,
 use Rattle.std.proofs.lemmas.List.{length-map}
 use Rattle.std.proofs.lemmas.Slice.Zip.{AllZip-long}
 use Rattle.sja_wire.specs.Buses.{BusValue}
-use Rattle.sja_threads.specs.AccessRuns.{rooms}
-use Rattle.sja_threads.specs.Stopping.{StopsWith}
+use Rattle.sja_threads.specs.Stopping.{StopsWith, deed_counts}
 use Rattle.sja_threads.specs.Inside.Promised.{IsFor}
 use Rattle.sja_threads.proofs.End.ThreadedRun.{ending}
 use Rattle.sja_threads.proofs.Start.Begins.{begins}
@@ -20,7 +19,7 @@ pub rounds_beside_drivers-requires-clause-way : goal.rounds_beside_drivers-requi
 rounds_beside_drivers-requires-clause-way g c =
     let parts = c.args.parts in
     let r = c.requires.parts in
-    begins c.args.plan.now parts.bus parts.starts.items (rooms parts.raw c.args.plan.now) r.bus r.links r.run r.spent
+    begins c.args.plan.now parts.bus parts.starts.items (deed_counts c.args.plan.now) r.bus r.links r.run r.spent
     r.starts r.made
 
 pub join_all-requires-clause-room : goal.join_all-requires-clause-room
@@ -40,13 +39,11 @@ returns-in-Ok-clause-ending g c =
     let plan = c.args.plan.now in
     let parts = c.args.parts in
     let starts = parts.starts.items in
-    let r = c.requires.parts in (
-      ending g.G.Gate.QUITS parts.raw plan starts parts.bus c.rounds_beside_drivers.new.self c.join_all.result.items _
-          refl refl refl r.starts r.links r.made r.alike c.in-Ok.ensures.on (ap (λ (b : BusValue). b.steps) r.bus)
-          (all_kept g.G.Gate.QUITS plan starts (map (λ child. child.promise) c.in_ok-children.children.items)
-          c.join_all.result.items c.in_ok-children.ensures.all c.join_all.ensures),
-      refl,
-    )
+    let r = c.requires.parts in
+    ending g.G.Gate.QUITS plan starts parts.bus c.rounds_beside_drivers.new.self c.join_all.result.items _ refl refl
+    r.starts r.links r.made c.in-Ok.ensures.on (ap (λ (b : BusValue). b.steps) r.bus)
+    (all_kept g.G.Gate.QUITS plan starts (map (λ child. child.promise) c.in_ok-children.children.items)
+    c.join_all.result.items c.in_ok-children.ensures.all c.join_all.ensures)
 
 pub returns-in-Err-clause-fault : goal.returns-in-Err-clause-fault
 returns-in-Err-clause-fault g c =

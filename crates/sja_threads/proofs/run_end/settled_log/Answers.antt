@@ -8,8 +8,6 @@ use Rattle.sja_driver.specs.declared.logged_driver.LoggedDriver.{LoggedDriver}
 use Rattle.sja_driver.specs.LoggedDrivers.{IsLawful}
 use Rattle.sja_log.specs.Finishing.{AreNodeEnds}
 use Rattle.sja_log.specs.Log.{NodeValue, RunValue}
-use Rattle.sja_script.specs.declared.step.Step.{Step}
-use Rattle.sja_threads.specs.AccessRuns.{with_steps}
 use Rattle.sja_threads.specs.Inside.Settling.{all_drivers, AreLeftOn}
 use Rattle.sja_threads.proofs.End.LinksOver.{ends_count, one_link, all_lawful}
 use Rattle.sja_threads.proofs.End.LogOver.{AreLogParts, run_over, log_over}
@@ -19,8 +17,8 @@ use Rattle.sja_threads.proofs.run_end.settled_log.Goals as goal
 pub settle_all-requires-clause-count : goal.settle_all-requires-clause-count
 settle_all-requires-clause-count c =
     let o = c.requires.over in
-    ends_count (with_steps c.args.plan.now o.0) c.args.bus.bus c.args.bus.links.items c.args.workeds.items o.1
-    o.2
+    ends_count c.args.plan.now c.args.bus.bus c.args.bus.links.items c.args.workeds.items o.0
+    o.1
     ∙ sym (ap (λ (l : List RingDriver). length l) c.in_ok-drivers.ensures.ends)
 
 pub settle_all-requires-clause-pairs : goal.settle_all-requires-clause-pairs
@@ -30,7 +28,7 @@ settle_all-requires-clause-pairs c =
     let P : List RingDriver → Type 0 = λ es. (i : ℕ) (b : RingBus) (d : RingDriver) → i < length links →
     OneLink (slice_index_or links i b) (slice_index_or es i d) in
     subst P (sym c.in_ok-drivers.ensures.ends)
-    (one_link (with_steps c.args.plan.now o.0) c.args.bus.bus links c.args.workeds.items o.1 o.2)
+    (one_link c.args.plan.now c.args.bus.bus links c.args.workeds.items o.0 o.1)
 
 pub node_runs-requires-clause-lawful : goal.node_runs-requires-clause-lawful
 node_runs-requires-clause-lawful c =
@@ -38,14 +36,14 @@ node_runs-requires-clause-lawful c =
     let P : List LoggedDriver → Type 0 = λ ds. (k : ℕ) (d : LoggedDriver) → k < length ds →
     IsLawful (slice_index_or ds k d) in
     subst P (sym (c.as_slice.ensures.value ∙ c.in_ok-drivers.ensures.drivers))
-    (all_lawful (with_steps c.args.plan.now o.0) c.args.bus.bus c.args.bus.links.items c.args.workeds.items
-    o.1 o.2)
+    (all_lawful c.args.plan.now c.args.bus.bus c.args.bus.links.items c.args.workeds.items
+    o.0 o.1)
 
 -- what the log is made of
-log_parts : (c : After-of-2) (typed : List (List Step)) → c.args.bus.bus.fault ≡ None →
-    AreLogParts (with_steps c.args.plan.now typed) c.args.bus.bus c.args.bus.links.items c.args.workeds.items c.args.end
+log_parts : (c : After-of-2) → c.args.bus.bus.fault ≡ None →
+    AreLogParts c.args.plan.now c.args.bus.bus c.args.bus.links.items c.args.workeds.items c.args.end
     c.of-2.result c.finish-logs.result.items c.in_ok-lists.lists.items
-log_parts c typed right =
+log_parts c right =
     let f = c.finish-logs.ensures in
     let logs = c.finish-logs.result.items in
     let drivers = all_drivers c.args.workeds.items in
@@ -71,14 +69,14 @@ log_parts c typed right =
     }
 
 pub returns-clause-run : goal.returns-clause-run
-returns-clause-run c = λ typed deeds over.
-    let m = log_parts (goal.at.returns-clause-run c).After-of-2 typed over.right in
-    run_over (with_steps c.args.plan.now typed) c.args.bus.bus c.args.bus.links.items c.args.workeds.items c.args.end
+returns-clause-run c = λ deeds over.
+    let m = log_parts (goal.at.returns-clause-run c).After-of-2 over.right in
+    run_over c.args.plan.now c.args.bus.bus c.args.bus.links.items c.args.workeds.items c.args.end
     c.of-2.result c.finish-logs.result.items c.in_ok-lists.lists.items m deeds over
 
 pub returns-clause-log : goal.returns-clause-log
 returns-clause-log c =
     let o = c.requires.over in
-    let m = log_parts (goal.at.returns-clause-log c).After-of-2 o.0 o.2.right in
-    log_over (with_steps c.args.plan.now o.0) c.args.bus.bus c.args.bus.links.items c.args.workeds.items c.args.end
-    c.of-2.result c.finish-logs.result.items c.in_ok-lists.lists.items m o.1 o.2
+    let m = log_parts (goal.at.returns-clause-log c).After-of-2 o.1.right in
+    log_over c.args.plan.now c.args.bus.bus c.args.bus.links.items c.args.workeds.items c.args.end
+    c.of-2.result c.finish-logs.result.items c.in_ok-lists.lists.items m o.0 o.1

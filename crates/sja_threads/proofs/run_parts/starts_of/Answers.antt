@@ -1,9 +1,8 @@
-use Rattle.std.proofs.Common.{rules, ◌+◌, ℕ, Bool, All, length, refl, sym, ap, ◌∙◌, subst, arith}
-use Rattle.std.proofs.lemmas.List.Elements.{All-push}
+use Rattle.std.proofs.Common.{rules, ◌+◌, ℕ, length, refl, sym, ap, ◌∙◌, subst, arith}
 use Rattle.sja_driver.specs.Logs.{HasRoom}
 use Rattle.sja_plan.specs.Plan.{steps_at}
-use Rattle.sja_threads.specs.AccessRuns.{room_for}
-use Rattle.sja_threads.specs.Inside.Making.{AreMade, IsOfKind}
+use Rattle.sja_threads.specs.Accessing.{most_deeds}
+use Rattle.sja_threads.specs.Inside.Making.{AreMade}
 use Rattle.sja_threads.proofs.Start.LinksMade.{made_of, made_push}
 use Rattle.sja_threads.proofs.run_parts.starts_of.Goals as goal
 
@@ -14,6 +13,7 @@ loop-gate-preserved g c =
     let node = c.loop-gate.node in
     let made = c.in_ok-links.ensures in
     let after = c.links_of.new.buses in
+    let log = c.in_ok-log.ensures in
     record {
       all = search rules;
       count = search rules;
@@ -22,12 +22,10 @@ loop-gate-preserved g c =
       made = subst (λ l. AreMade plan (node + 1) l after.items) (sym c.push_reserved.ensures.items)
           (made_push plan node c.loop-gate.starts.items c.loop-gate.buses.items after.items _ inv.count inv.links
           made.others inv.made
-          (made_of plan node _ _ after.items _ refl c.in_ok-log.ensures.empty
+          (made_of plan node _ _ after.items _ refl log.empty
           (c.steps-steps.ensures.value ∙ ap (λ (n : ℕ). steps_at plan n) c.from.ensures)
           (subst (λ (n : ℕ). HasRoom n c.in_ok-log.log)
-          (c.room_for.ensures ∙ ap (λ (b : Bool). room_for b (length c.steps-steps.result.now))
-          (sym c.in_ok-accesses.ensures.kind)) c.in_ok-log.ensures.room) c.in_ok-accesses.ensures.room made.enough
-          inv.links made.pairs));
-      alike = subst (λ l. All (IsOfKind c.args.raw) l) (sym c.push_reserved.ensures.items)
-          (All-push (IsOfKind c.args.raw) c.loop-gate.starts.items _ inv.alike c.in_ok-accesses.ensures.kind);
+          (c.most_deeds.ensures
+          ∙ ap (λ (v : ℕ). most_deeds v (length c.steps-steps.result.now)) c.version.ensures.value)
+          log.room) (let room = log.steps in omega (arith, room)) made.enough inv.links made.pairs));
     }

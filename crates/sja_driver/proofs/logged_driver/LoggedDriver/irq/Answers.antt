@@ -13,5 +13,5 @@ returns-clause-stays g c =
     let e = g.E.DriverEnd in
     let laws = g.met.E.DriverEnd in
     stays_looked e.link e.same e.stands e.dry c.args.self.now _ c.args.links.now c.args.base c.link_place.result
-    c.index-links-here.result _ laws.same_refl laws.same_link c.requires c.link_place.ensures refl refl
+    c.index-links-here.result _ laws.same_refl laws.same_link c.requires c.link_place.ensures refl refl refl
     c.observe-seen.ensures.same c.observe-seen.ensures.observes

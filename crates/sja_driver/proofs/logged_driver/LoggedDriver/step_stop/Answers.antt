@@ -11,15 +11,15 @@ returns-clause-stays g c =
     let e = g.E.DriverEnd in
     let laws = g.met.E.DriverEnd in
     let stopped = c.stop_step-stopped in
-    stays_lawful e.link e.same c.args.self.now _ c.args.links.now c.args.base c.args.bits c.link_place.result
+    stays_lawful e.link e.same c.args.self.now _ c.args.links.now c.args.base c.link_place.result
     c.index-links-here.result _ (stopped_by stopped.result) c.enter_stop.result laws.same_refl laws.same_link
-    c.requires c.link_place.ensures stopped.ensures.same refl c.enter_stop.ensures stopped.ensures.acts.place
+    c.requires c.link_place.ensures stopped.ensures.same refl refl c.enter_stop.ensures stopped.ensures.acts.place
 
 pub returns-clause-steps : goal.returns-clause-steps
 returns-clause-steps g c =
     let e = g.E.DriverEnd in
     let stopped = c.stop_step-stopped in
-    steps_of e.same e.stands e.dry e.full c.args.self.now _ c.args.links.now c.args.base c.args.bits c.link_place.result
+    steps_of e.same e.stands e.dry e.full c.args.self.now _ c.args.links.now c.args.base c.link_place.result
     c.args.port.now stopped.new.port step.Stop c.index-links-here.result stopped.new.end (stopped_by stopped.result)
     c.enter_stop.result c.requires.lawful c.requires.eight c.link_place.ensures stopped.ensures.acts
     c.enter_stop.ensures

@@ -11,16 +11,16 @@ returns-clause-stays g c =
     let e = g.E.DriverEnd in
     let laws = g.met.E.DriverEnd in
     let window = c.window_step-attempt in
-    stays_lawful e.link e.same c.args.self.now _ c.args.links.now c.args.base c.args.bits c.link_place.result
+    stays_lawful e.link e.same c.args.self.now _ c.args.links.now c.args.base c.link_place.result
     c.index-links-here.result _ (tried_of window.result) c.enter.result laws.same_refl laws.same_link c.requires
-    c.link_place.ensures window.ensures.same refl c.enter.ensures ((window.ensures.acts (at_power_on 1)).place)
+    c.link_place.ensures window.ensures.same refl refl c.enter.ensures ((window.ensures.acts (at_power_on 1)).place)
 
 pub returns-clause-steps : goal.returns-clause-steps
 returns-clause-steps g c = λ p.
     let e = g.E.DriverEnd in
     let window = c.window_step-attempt in
     steps_of e.same e.stands e.dry e.full c.args.self.now _ c.args.links.now c.args.base
-    c.args.bits c.link_place.result p
+    c.link_place.result p
     p step.Window c.index-links-here.result window.new.end (tried_of window.result) c.enter.result c.requires.lawful
     c.requires.eight c.link_place.ensures (window.ensures.acts p) c.enter.ensures
 

@@ -3,14 +3,14 @@ use Rattle.std.specs.Prelude.{slice_index_or}
 use Rattle.sja_link.specs.declared.down.Down.{Down}
 use Rattle.sja_regs.specs.Registers.{at_power_on}
 use Rattle.sja_driver.specs.declared.logged_driver.LoggedDriver.{LoggedDriver}
-use Rattle.sja_driver.specs.Deeds.{Deed}
+use Rattle.sja_driver.specs.Accesses.{Access}
 use Rattle.sja_driver.specs.LoggedDrivers.{IsLawful}
 use Rattle.sja_plan.specs.Plan.{PlanValue}
 use Rattle.sja_log.specs.Log.{NodeValue, RunValue}
 use Rattle.sja_log.specs.Finishing.{AreNodeEnds}
 use Rattle.sja_log.specs.Inside.LeftDown.{all_down}
 use Rattle.sja_serial.specs.Ending.{IsLogOf, MayBeOf}
-use Rattle.sja_serial.specs.Serial.{SerialValue, StandsAt}
+use Rattle.sja_serial.specs.Serial.{SerialValue, StandsAt, StandsBy, all_deeds}
 use Rattle.sja_serial.specs.Inside.Going.{run_now}
 use Rattle.sja_serial.proofs.WholeRun.Ended.{log_of_run}
 use Rattle.sja_serial.proofs.serial_run.SerialRun.finish.Goals as goal
@@ -19,9 +19,9 @@ pub node_runs-requires-clause-lawful : goal.node_runs-requires-clause-lawful
 node_runs-requires-clause-lawful g c =
     let b = c.self.inside in
     let now = run_now b.bus b.drivers.items b.board.ports.items b.links.items b.bits in
-    let deeds = c.requires.0 in
+    let deeds = all_deeds c.requires.0 in
     let stood : StandsAt g.setup now deeds = subst (λ (x : SerialValue). StandsAt g.setup x deeds)
-    (sym c.self.view_is) c.requires.1 in
+    (sym c.self.view_is) c.requires.1.stands in
     let P : List LoggedDriver → Type 0 = λ l. (k : ℕ) (d : LoggedDriver) → k < length l → IsLawful
     (slice_index_or l k d) in
     subst P (sym c.as_slice.ensures.value) (λ k d less. (stood.nodes k d (at_power_on 1)
@@ -31,8 +31,9 @@ pub returns : goal.returns
 returns g c =
     let b = c.self.inside in
     let now = run_now b.bus b.drivers.items b.board.ports.items b.links.items b.bits in
-    let P : SerialValue → Type 0 = λ r. (plan : PlanValue) (deeds : List (List Deed)) → StandsAt g.setup r deeds →
-    MayBeOf plan g.setup deeds → IsLogOf plan r deeds c.args.end c.of.result in
+    let P : SerialValue → Type 0 = λ r. (plan : PlanValue) (accesses : List (List Access)) →
+    StandsBy g.setup r accesses →
+    MayBeOf plan g.setup accesses → IsLogOf plan r accesses c.args.end c.of.result in
     let nodes = c.in_ok-nodes.nodes.items in
     let logs = c.finish-logs.result.items in
     let all : AreNodeEnds logs b.drivers.items (all_down b.links.items) (length b.drivers.items) nodes =
@@ -48,11 +49,11 @@ returns g c =
           nodes;
     } = c.of.ensures in
     record {
-      log = subst P c.self.view_is (λ plan deeds h may.
-          log_of_run plan now deeds c.args.end c.of.result logs g.setup h may (ap (λ (l : RunValue). l.version) is
+      log = subst P c.self.view_is (λ plan accesses h may.
+          log_of_run plan now accesses c.args.end c.of.result logs g.setup h may (ap (λ (l : RunValue). l.version) is
           ∙ c.version-version.ensures) (ap (λ (l : RunValue). l.bits) is) (ap (λ (l : RunValue). l.end) is)
           (subst (λ (ns : List NodeValue). AreNodeEnds logs b.drivers.items (all_down b.links.items)
           (length b.drivers.items) ns) (sym (ap (λ (l : RunValue). l.nodes) is)) all)
-          c.finish-logs.ensures.journals (c.finish-logs.ensures.lawful h.right)
-          (c.finish-logs.ensures.counters h.right));
+          c.finish-logs.ensures.journals (c.finish-logs.ensures.lawful h.stands.right)
+          (c.finish-logs.ensures.counters h.stands.right));
     }

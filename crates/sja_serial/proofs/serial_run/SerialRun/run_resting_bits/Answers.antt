@@ -6,7 +6,7 @@ use Rattle.sja_serial.proofs.serial_run.SerialRun.run_resting_bits.Goals as goal
 pub run_one_bit-requires : goal.run_one_bit-requires
 run_one_bit-requires g c =
     let h = c.requires.0 in let none : c.run_idle_bits-bits.result ≡ 0 = search rules in
-    let once = c.run_idle_bits-bits.ensures h.0 h.1 in let same = (once.none none).0 in
+    let once = c.run_idle_bits-bits.ensures h.0 h.1 in let same = (once.none none).bits in
     let left = c.requires.1.0 in (
       (h.0, once.stands),
       (

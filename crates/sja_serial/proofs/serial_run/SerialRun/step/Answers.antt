@@ -1,127 +1,33 @@
-use Rattle.std.proofs.Common.{rules, ◌≡◌, ◌<◌, ℕ, List, length, sym, ap, subst, arith}
-use Rattle.std.specs.Prelude.{None, slice_index_or, slice_set}
-use Rattle.std.specs.Vec.{with_items}
-use Rattle.std.proofs.lemmas.List.{with_items_is}
-use Rattle.sja_driver.specs.Deeds.{Deed, deeds_at}
-use Rattle.sja_driver.specs.LoggedDrivers.{log_of}
-use Rattle.sja_driver.specs.Logs.{done_in}
-use Rattle.sja_regs.specs.Registers.{at_power_on}
-use Rattle.sja_wire.specs.Lawful.{IsBusRun}
-use Rattle.sja_serial.specs.Serial.{StandsAt}
-use Rattle.sja_serial.specs.Inside.Going.{run_now}
-use Rattle.sja_serial.proofs.AllNodes.Several.{done_count, first_driver}
-use Rattle.sja_serial.proofs.OneNode.NextStep.{tried_at, at_port, node_at, none_refused, is_tried, is_tried_quietly}
-use Rattle.sja_serial.proofs.OneNode.Tried.{IsTried}
-use Rattle.sja_serial.proofs.serial_run.SerialRun.step.Given.{Over}
-use Rattle.sja_serial.proofs.serial_run.SerialRun.step.Goals.{After-first_link, After-step-done, In-Ok}
-use Rattle.sja_serial.proofs.serial_run.SerialRun.step.Goals.{Then-gave_nothing}
+use Rattle.std.proofs.Common.{◌≡◌, ◌<◌, ◌≤◌, ℕ, true, false, arith}
+use Rattle.std.proofs.lemmas.Bool.{le-ltb, lt-ltb}
+use Rattle.sja_driver.specs.Accesses.{by_bytes}
+use Rattle.sja_serial.specs.Serial.{all_deeds}
 use Rattle.sja_serial.proofs.serial_run.SerialRun.step.Goals as goal
 
--- ---- the node, and that there is room for one step more of it
+pub version-requires : goal.version-requires
+version-requires g c = (all_deeds c.requires.0.0, c.requires.0.1.stands)
 
-node_is : {g : Over} (c : After-first_link g) → c.from-index.result ≡ c.args.node
-node_is c = search rules
+-- in which versions reads and writes are those of bytes
+before_it : (version n : ℕ) → n ≡ version → n < 3 → by_bytes version ≡ false
+before_it version n is few = le-ltb 2 version (omega (arith, is, few))
 
-module _ {g : Over} (c : After-first_link g) {deeds : List (List Deed)} (h : StandsAt g.setup c.args.self.now deeds)
-  where
-    there : c.from-index.result < g.setup.nodes
-    there = let e = node_is c in let l = c.requires.1.there in let d = h.count.drivers in omega (arith, e, l, d)
+since_it : (version n : ℕ) → n ≡ version → 3 ≤ n → by_bytes version ≡ true
+since_it version n is many = lt-ltb 2 version (omega (arith, is, many))
 
-    left : length (deeds_at deeds c.from-index.result) < slice_index_or g.setup.steps c.from-index.result 0
-    left = let few = there in
-        let d = first_driver c.args.self.now.drivers (let n = h.count.drivers in omega (arith, n, few)) in
-        let done = done_count g.setup c.args.self.now deeds c.from-index.result d (at_power_on 1) h few in
-        let room = subst (λ (m : ℕ). length (done_in (log_of (slice_index_or c.args.self.now.drivers m d)))
-        < slice_index_or c.args.self.now.bus.steps m 0) (sym (node_is c)) (c.requires.1.left d) in
-        let steps = ap (λ (l : List ℕ). slice_index_or l c.from-index.result 0) h.steps in
-        omega (arith, done, room, steps)
+pub one_deed-requires : goal.one_deed-requires
+one_deed-requires g c = (
+  c.requires.0,
+  (
+    c.requires.1,
+    rw (before_it g.setup.version c.version.result c.version.ensures
+        c.if-version-lt-FIRST_BY_BYTES.true) tt,
+  ),
+)
 
--- the port is as it was lent, where the step is tried
-as_lent : {g : Over} (c : After-step-done g) → tried_at c.step-done.ensures.steps ≡ c.index_mut-port.result.now
-as_lent c = grind arith
+pub read-requires : goal.read-requires
+read-requires g c = let past = c.if-version-lt-FIRST_BY_BYTES.false in
+    (c.requires.0, (c.requires.1, since_it g.setup.version c.version.result c.version.ensures (omega (arith, past))))
 
-pub step-done-requires : goal.step-done-requires
-step-done-requires g c =
-    let at = (goal.at.step-done-requires g c).After-first_link in
-    let h = c.requires.0.1 in let few = left at h in
-    let n = node_at c.as_mut_slice-links.ensures.value c.self.view_is h (there at h)
-    c.index_mut-driver.ensures.value c.index_mut-port.ensures.value in
-    record {
-      lawful = n.traced.lawful;
-      room = n.traced.room 1 (omega (arith, few));
-      eight = search rules;
-      ids = search rules;
-    }
-
-pub unreachable-requires : goal.unreachable-requires
-unreachable-requires g c =
-    let at = goal.at.unreachable-requires g c in let h = c.requires.0.1 in
-    let same = as_lent at.After-step-done in
-    none_refused c.as_mut_slice-links.ensures.value c.self.view_is h (there at.After-first_link h)
-    c.index_mut-driver.ensures.value c.index_mut-port.ensures.value c.gather.ensures.lawful
-    (left at.After-first_link h) c.first_link.ensures (at_port same c.step-done.ensures.steps)
-    c.step-done.ensures.stays c.gather.new.self.journals c.gather.new.links c.in-Err.field-0 c.in-Err.ensures.reason
-
--- ---- what the step did
-
-module _ {g : Over} {deeds : List (List Deed)} where
-  did : (c : In-Ok g) (same : tried_at c.step-done.ensures.steps ≡ c.index_mut-port.result.now) →
-      StandsAt g.setup c.args.self.now deeds → c.from-index.result < g.setup.nodes →
-      length (deeds_at deeds c.from-index.result) < slice_index_or g.setup.steps c.from-index.result 0 →
-      c.from-index.result ≡ c.args.node →
-      let b = c.self.inside in let i = c.from-index.result in IsTried g.setup c.args.self.now
-      (run_now c.gather.new.self (slice_set b.drivers.items i c.step-done.new.self)
-      (slice_set b.board.ports.items i c.step-done.new.port)
-      (with_items b.links c.gather.new.links).items b.bits) c.args.node c.args.step.now deeds c.step-done.result
-  did c same stands inside few node =
-      let links = c.self.inside.links in let r = c.gather.ensures in let ok = c.in-Ok.ensures in
-      is_tried c.as_mut_slice-links.ensures.value c.self.view_is stands inside c.index_mut-driver.ensures.value
-      c.index_mut-port.ensures.value c.gather.ensures.lawful few
-      c.first_link.ensures (at_port same c.step-done.ensures.steps)
-      c.step-done.ensures.stays node (with_items_is links c.gather.new.links
-      (omega (arith, c.gather.auto.links, c.step-done.auto.links, c.as_mut_slice-links.ensures.len))) c.gather.new.self
-      ok.right r.bits.0 r.script r.steps r.bits.1 r.nodes ok.kept ok.items ok.untold ok.dry r.sames
-      (omega (arith, c.gather.auto.links, c.step-done.auto.links))
-
-  -- where it gives nothing, nothing was taken
-  did_quietly : (c : Then-gave_nothing g) (same : tried_at c.step-done.ensures.steps ≡ c.index_mut-port.result.now)
-      (laws : (let b = c.self.inside.bus in b.fault ≡ None → IsBusRun b.script b.run b.journals)) →
-      StandsAt g.setup c.args.self.now deeds → c.from-index.result < g.setup.nodes →
-      length (deeds_at deeds c.from-index.result) < slice_index_or g.setup.steps c.from-index.result 0 →
-      c.from-index.result ≡ c.args.node →
-      let b = c.self.inside in let i = c.from-index.result in IsTried g.setup c.args.self.now
-      (run_now b.bus (slice_set b.drivers.items i c.step-done.new.self)
-      (slice_set b.board.ports.items i c.step-done.new.port)
-      (with_items b.links c.step-done.new.links).items b.bits) c.args.node c.args.step.now deeds c.step-done.result
-  did_quietly c same laws stands inside few node =
-      let links = c.self.inside.links in
-      is_tried_quietly c.as_mut_slice-links.ensures.value c.self.view_is stands inside
-      c.index_mut-driver.ensures.value c.index_mut-port.ensures.value laws few
-      c.first_link.ensures (at_port same c.step-done.ensures.steps) c.step-done.ensures.stays
-      node (with_items_is links c.step-done.new.links
-      (omega (arith, c.step-done.auto.links, c.as_mut_slice-links.ensures.len)))
-      (c.gave_nothing.ensures c.if-gave_nothing.true) (omega (arith, c.step-done.auto.links))
-
-pub returns-then-gave_nothing-clause-done : goal.returns-then-gave_nothing-clause-done
-returns-then-gave_nothing-clause-done g c =
-    let same : tried_at c.step-done.ensures.steps ≡ c.index_mut-port.result.now = grind arith in λ yes deeds h.
-    let a = goal.at.returns-then-gave_nothing-clause-done g c in let at = a.After-first_link in
-    (did_quietly a.Then-gave_nothing same c.bits_run.ensures.lawful h (there at h) (left at h)
-    (node_is at)).0 yes
-
-pub returns-then-gave_nothing-clause-waits : goal.returns-then-gave_nothing-clause-waits
-returns-then-gave_nothing-clause-waits g c =
-    let same : tried_at c.step-done.ensures.steps ≡ c.index_mut-port.result.now = grind arith in λ no deeds h.
-    let a = goal.at.returns-then-gave_nothing-clause-waits g c in let at = a.After-first_link in
-    (did_quietly a.Then-gave_nothing same c.bits_run.ensures.lawful h (there at h) (left at h)
-    (node_is at)).1 no
-
-pub returns-clause-done : goal.returns-clause-done
-returns-clause-done g c = λ yes deeds h.
-    let a = goal.at.returns-clause-done g c in let at = a.After-first_link in
-    (did a.In-Ok (as_lent a.After-step-done) h (there at h) (left at h) (node_is at)).0 yes
-
-pub returns-clause-waits : goal.returns-clause-waits
-returns-clause-waits g c = λ no deeds h.
-    let a = goal.at.returns-clause-waits g c in let at = a.After-first_link in
-    (did a.In-Ok (as_lent a.After-step-done) h (there at h) (left at h) (node_is at)).1 no
+pub write-requires : goal.write-requires
+write-requires g c = let past = c.if-version-lt-FIRST_BY_BYTES.false in
+    (c.requires.0, (c.requires.1, since_it g.setup.version c.version.result c.version.ensures (omega (arith, past))))

@@ -1,8 +1,8 @@
 use Rattle.std.proofs.Common.{rules, ◌≡◌, ℕ, ◌-◌, List, sym, subst, arith}
 use Rattle.sja_plan.specs.declared.turn.Turn.{Turn}
-use Rattle.sja_driver.specs.Deeds.{Deed}
+use Rattle.sja_driver.specs.Accesses.{Access}
 use Rattle.sja_serial.specs.Bits.{TakesBusTurn}
-use Rattle.sja_serial.specs.Serial.{Setup, setup_in}
+use Rattle.sja_serial.specs.Serial.{Setup, all_deeds, setup_in}
 use Rattle.sja_serial.proofs.AllNodes.Several.{at_own, from_own}
 use Rattle.sja_serial.proofs.WholeRun.GoingOn.{bits_run}
 use Rattle.sja_session.specs.Running.{RunsBits, MayRun}
@@ -24,12 +24,14 @@ run c = c.bits.result - c.bits-before.result
 run_is : (c : After-bits) → run c ≡ c.bus_turn.new.self.bits - c.self.inside.run.bits
 run_is c = λ i. c.bits.ensures i - c.bits-before.ensures i
 
--- they were run from the deeds at which it stood
-ran : (c : After-bits) (deeds : List (List Deed)) → IsAt (was c) deeds →
-    TakesBusTurn (setup_by (was c)) deeds c.self.inside.run c.bus_turn.new.self c.args.count c.bus_turn.result
-ran c deeds h = from_own (λ (x : Setup). TakesBusTurn x deeds c.self.inside.run c.bus_turn.new.self c.args.count
-    c.bus_turn.result) h.stands
-    (c.bus_turn.ensures.turn deeds (at_own h.stands))
+-- they were run from the accesses at which it stood
+ran : (c : After-bits) (accesses : List (List Access)) → IsAt (was c) accesses →
+    TakesBusTurn (setup_by (was c)) (all_deeds accesses) c.self.inside.run c.bus_turn.new.self c.args.count
+    c.bus_turn.result
+ran c accesses h = from_own (λ (x : Setup). TakesBusTurn x (all_deeds accesses) c.self.inside.run c.bus_turn.new.self
+    c.args.count
+    c.bus_turn.result) h.stands.stands
+    (c.bus_turn.ensures.turn (all_deeds accesses) (at_own h.stands.stands))
 
 may : (c : After-bits) → MayRun (was c) c.args.count
 may c = subst (λ (s : SessionValue). MayRun s c.args.count) (sym c.self.view_is)
@@ -37,12 +39,14 @@ may c = subst (λ (s : SessionValue). MayRun s c.args.count) (sym c.self.view_is
 
 pub overflow_sub-run : goal.overflow_sub-run
 overflow_sub-run c =
-    let inv = c.self.invariant in let t = c.bus_turn.ensures.turn inv.deeds (at_own inv.at.stands) in
-    let b = bits_run (setup_in c.self.inside.run) inv.deeds _ c.self.inside.run c.bus_turn.new.self t.run t.bits in
+    let inv = c.self.invariant in let t = c.bus_turn.ensures.turn (all_deeds inv.accesses)
+    (at_own inv.at.stands.stands) in
+    let b = bits_run (setup_in c.self.inside.run) (all_deeds inv.accesses) _ c.self.inside.run c.bus_turn.new.self
+    t.run t.bits in
     let x = c.bits-before.ensures in let y = c.bits.ensures in omega (arith, b, x, y)
 
 pub bus_turn-requires : goal.bus_turn-requires
-bus_turn-requires c = let inv = c.self.invariant in (inv.deeds, at_own inv.at.stands)
+bus_turn-requires c = let inv = c.self.invariant in (all_deeds inv.accesses, at_own inv.at.stands.stands)
 
 pub push_bits-requires-clause-fits : goal.push_bits-requires-clause-fits
 push_bits-requires-clause-fits c =
@@ -59,12 +63,12 @@ invariant_of-self c =
     (λ some. omega (arith, some, most))
 
 pub returns-clause-bits : goal.returns-clause-bits
-returns-clause-bits c = λ deeds h.
+returns-clause-bits c = λ accesses h.
     let at = (goal.at.returns-clause-bits c).After-bits in
-    let own = subst (λ (s : SessionValue). IsAt s deeds) (sym c.self.view_is) h in
+    let own = subst (λ (s : SessionValue). IsAt s accesses) (sym c.self.view_is) h in
     let then = λ (l : List Turn). session_of c.self.inside.room c.bus_turn.new.self c.self.inside.plan
     (listed c.self.inside.steps.items) l in
-    subst (λ (s : SessionValue). RunsBits s (then c.push_bits.new.turns.items) c.args.count (run at) deeds)
+    subst (λ (s : SessionValue). RunsBits s (then c.push_bits.new.turns.items) c.args.count (run at) accesses)
     c.self.view_is
-    (subst (λ (l : List Turn). RunsBits (was at) (then l) c.args.count (run at) deeds)
-    (sym c.push_bits.ensures.turns) (runs own (ran at deeds own) (run_is at)))
+    (subst (λ (l : List Turn). RunsBits (was at) (then l) c.args.count (run at) accesses)
+    (sym c.push_bits.ensures.turns) (runs own (ran at accesses own) (run_is at)))

@@ -1,11 +1,11 @@
 use Rattle.std.proofs.Common.{◌≡◌, ◌∙◌, List, sym, ap, subst}
-use Rattle.sja_driver.specs.Deeds.{Deed}
+use Rattle.sja_driver.specs.Accesses.{Access}
 use Rattle.sja_log.specs.Runs.{IsSerialRun}
 use Rattle.sja_plan.specs.Plan.{PlanValue}
 use Rattle.sja_log.specs.declared.end.End.TheVariants.{Turns as TurnsDone}
 use Rattle.sja_serial.specs.Ending.{IsLogOf, MayBeOf}
 use Rattle.sja_serial.specs.Serial.{Setup}
-use Rattle.sja_serial.proofs.AllNodes.Several.{at_own, setup_is}
+use Rattle.sja_serial.proofs.AllNodes.Several.{by_own, many_steps, setup_is}
 use Rattle.sja_serial.proofs.WholeRun.Whole.{serial_of}
 use Rattle.sja_session.specs.Sessions.{SessionValue, session_of, IsAt, written}
 use Rattle.sja_session.proofs.Lifetime.Finished.{may_be_written, turns_lead}
@@ -14,7 +14,7 @@ use Rattle.sja_session.proofs.session.Session.finish.Goals.{In_ok-log}
 use Rattle.sja_session.proofs.session.Session.finish.Goals as goal
 
 pub finish-requires : goal.finish-requires
-finish-requires c = let inv = c.self.invariant in (inv.deeds, at_own inv.at.stands)
+finish-requires c = let inv = c.self.invariant in (inv.accesses, by_own inv.at.stands)
 
 -- ---- the session as it was
 
@@ -22,31 +22,32 @@ abbrev was : In_ok-log → SessionValue
 was c = session_of c.self.inside.room c.self.inside.run c.self.inside.plan (listed c.self.inside.steps.items)
     c.self.inside.turns.items
 
-log_is : (c : In_ok-log) (deeds : List (List Deed)) → IsAt (was c) deeds →
-    IsLogOf (written (was c)) c.self.inside.run deeds TurnsDone c.in_ok-log.log
-log_is c deeds h = c.in_ok-log.ensures.log (written (was c)) deeds (at_own h.stands)
-    (subst (λ (s : Setup). MayBeOf (written (was c)) s deeds) (setup_is h.stands) (may_be_written (was c) deeds h))
+log_is : (c : In_ok-log) (accesses : List (List Access)) → IsAt (was c) accesses →
+    IsLogOf (written (was c)) c.self.inside.run accesses TurnsDone c.in_ok-log.log
+log_is c accesses h = c.in_ok-log.ensures.log (written (was c)) accesses (by_own h.stands)
+    (subst (λ (s : Setup). MayBeOf (written (was c)) s accesses) (setup_is h.stands.stands) (may_be_written
+    (was c) accesses h))
 
 plan_is : (c : In_ok-log) → c.in_ok-plan.plan ≡ written (was c)
 plan_is c = c.in_ok-plan.ensures ∙ ap written (sym c.self.view_is)
 
 pub returns-clause-own : goal.returns-clause-own
-returns-clause-own c = λ deeds h.
+returns-clause-own c = λ accesses h.
     let at = (goal.at.returns-clause-own c).In_ok-log in
-    let own = subst (λ (x : SessionValue). IsAt x deeds) (sym c.self.view_is) h in
-    subst (λ (x : SessionValue). IsLogOf c.in_ok-plan.plan x.run deeds TurnsDone c.in_ok-log.log) c.self.view_is
-    (subst (λ (p : PlanValue). IsLogOf p c.self.inside.run deeds TurnsDone c.in_ok-log.log) (sym (plan_is at))
-    (log_is at deeds own))
+    let own = subst (λ (x : SessionValue). IsAt x accesses) (sym c.self.view_is) h in
+    subst (λ (x : SessionValue). IsLogOf c.in_ok-plan.plan x.run accesses TurnsDone c.in_ok-log.log) c.self.view_is
+    (subst (λ (p : PlanValue). IsLogOf p c.self.inside.run accesses TurnsDone c.in_ok-log.log) (sym (plan_is at))
+    (log_is at accesses own))
 
 pub returns-clause-headline : goal.returns-clause-headline
 returns-clause-headline c = λ k d less.
     let at = (goal.at.returns-clause-headline c).In_ok-log in let inv = c.self.invariant in
-    ((log_is at inv.deeds inv.at).run.nodes k d less).account
+    ((log_is at inv.accesses inv.at).run.nodes k d less).account
 
 pub returns-clause-run : goal.returns-clause-run
 returns-clause-run c =
     let at = (goal.at.returns-clause-run c).In_ok-log in let inv = c.self.invariant in
     let s = was at in
     subst (λ (p : PlanValue). IsSerialRun p c.in_ok-log.log) (sym (plan_is at))
-    (serial_of (written s) s.run inv.deeds TurnsDone c.in_ok-log.log inv.at.stands.deeds_count
-    (log_is at inv.deeds inv.at) (turns_lead s inv.deeds inv.at))
+    (serial_of (written s) s.run inv.accesses TurnsDone c.in_ok-log.log (many_steps inv.at.stands)
+    (log_is at inv.accesses inv.at) (turns_lead s inv.accesses inv.at))

@@ -6,17 +6,13 @@ use Rattle.sja_plan.specs.Limits.{most_bits, most_steps, most_turns, most_strike
 use Rattle.sja_plan.specs.Plan.{NamesNode, IsStrikeOn, times_in}
 use Rattle.sja_script.specs.declared.step.Step.{Step}
 use Rattle.sja_script.specs.declared.strike.Strike.{Strike}
-use Rattle.sja_session.specs.Sessions.{session_of}
-use Rattle.sja_session.proofs.StepsDone.Stepped.{steps_many}
 use Rattle.sja_session.proofs.WrittenPlan.OneMore.{listed}
 use Rattle.sja_session.proofs.WrittenPlan.Turned.{all_turns_named}
-use Rattle.sja_session.proofs.WrittenPlan.Within.{within}
 use Rattle.sja_session.proofs.session.Session.plan.Goals as goal
 
 pub of-requires : goal.of-requires
 of-requires c =
     let b = c.self.inside in let inv = c.self.invariant in let limits = c.limits.ensures in
-    let s = session_of b.room b.run b.plan (listed b.steps.items) b.turns.items in
     let nodes = c.in_ok-nodes.ensures ∙ ap (λ (l : List (Vec Step Global)). listed l) c.as_slice.ensures.value in
     let count = ap (λ (l : List (List Step)). length l) nodes ∙ inv.at.count in
     let turns = c.in_ok-turns.ensures ∙ c.as_slice-2.ensures.value in let strikes = c.in_ok-strikes.ensures in
@@ -31,10 +27,9 @@ of-requires c =
           (map (λ (v : Vec Step Global). v.items) c.in_ok-nodes.nodes.items)) version
           (subst (λ (l : List (List Step)). All (λ (x : List Step). length x ≤ most_steps b.plan.version) l) (sym nodes)
           (λ k d less.
-          let w = within s inv.deeds inv.at inv.steps k less in
-          let many = steps_many (listed b.steps.items) inv.deeds k inv.at.steps in
+          let w = inv.done k (let n = inv.at.count in omega (arith, less, n)) in
           let few = inv.steps in let same = ap (λ (l : List Step). length l)
-          (get_or_default (listed b.steps.items) k [] d less) in omega (arith, w, many, few, same)));
+          (get_or_default (listed b.steps.items) k [] d less) in omega (arith, w, few, same)));
       turn_count =
           let few : length b.turns.items ≤ most_turns b.plan.version =
           (let few = inv.few in let most = inv.most in omega (arith, few, most)) in

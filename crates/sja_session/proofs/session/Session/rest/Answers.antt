@@ -1,8 +1,8 @@
 use Rattle.std.proofs.Common.{rules, ◌≡◌, ℕ, ◌-◌, List, sym, subst, arith}
 use Rattle.sja_plan.specs.declared.turn.Turn.{Turn}
-use Rattle.sja_driver.specs.Deeds.{Deed}
+use Rattle.sja_driver.specs.Accesses.{Access}
 use Rattle.sja_serial.specs.Bits.{TakesRest}
-use Rattle.sja_serial.specs.Serial.{Setup, setup_in}
+use Rattle.sja_serial.specs.Serial.{Setup, all_deeds, setup_in}
 use Rattle.sja_serial.proofs.AllNodes.Several.{at_own, from_own}
 use Rattle.sja_serial.proofs.WholeRun.GoingOn.{bits_run}
 use Rattle.sja_session.specs.Resting.{Rests}
@@ -25,12 +25,14 @@ run c = c.bits.result - c.bits-before.result
 run_is : (c : After-bits) → run c ≡ c.rest_turn-at_rest.new.self.bits - c.self.inside.run.bits
 run_is c = λ i. c.bits.ensures i - c.bits-before.ensures i
 
--- they were run from the deeds at which it stood
-rests : (c : After-bits) (deeds : List (List Deed)) → IsAt (was c) deeds →
-    TakesRest (setup_by (was c)) deeds c.self.inside.run c.rest_turn-at_rest.new.self c.rest_turn-at_rest.result
-rests c deeds h = from_own (λ (x : Setup). TakesRest x deeds c.self.inside.run c.rest_turn-at_rest.new.self
-    c.rest_turn-at_rest.result) h.stands
-    (c.rest_turn-at_rest.ensures.turn deeds (at_own h.stands))
+-- they were run from the accesses at which it stood
+rests : (c : After-bits) (accesses : List (List Access)) → IsAt (was c) accesses →
+    TakesRest (setup_by (was c)) (all_deeds accesses) c.self.inside.run c.rest_turn-at_rest.new.self
+    c.rest_turn-at_rest.result
+rests c accesses h = from_own (λ (x : Setup). TakesRest x (all_deeds accesses) c.self.inside.run
+    c.rest_turn-at_rest.new.self
+    c.rest_turn-at_rest.result) h.stands.stands
+    (c.rest_turn-at_rest.ensures.turn (all_deeds accesses) (at_own h.stands.stands))
 
 may : (c : After-bits) → MayRun (was c) 1
 may c = subst (λ (s : SessionValue). MayRun s 1) (sym c.self.view_is)
@@ -38,13 +40,15 @@ may c = subst (λ (s : SessionValue). MayRun s 1) (sym c.self.view_is)
 
 pub overflow_sub-bits : goal.overflow_sub-bits
 overflow_sub-bits c =
-    let inv = c.self.invariant in let t = c.rest_turn-at_rest.ensures.turn inv.deeds (at_own inv.at.stands) in
-    let b = bits_run (setup_in c.self.inside.run) inv.deeds _ c.self.inside.run c.rest_turn-at_rest.new.self t.run
+    let inv = c.self.invariant in let t = c.rest_turn-at_rest.ensures.turn (all_deeds inv.accesses)
+    (at_own inv.at.stands.stands) in
+    let b = bits_run (setup_in c.self.inside.run) (all_deeds inv.accesses) _ c.self.inside.run
+    c.rest_turn-at_rest.new.self t.run
     t.bits in
     let x = c.bits-before.ensures in let y = c.bits.ensures in omega (arith, b, x, y)
 
 pub rest_turn-at_rest-requires : goal.rest_turn-at_rest-requires
-rest_turn-at_rest-requires c = let inv = c.self.invariant in (inv.deeds, at_own inv.at.stands)
+rest_turn-at_rest-requires c = let inv = c.self.invariant in (all_deeds inv.accesses, at_own inv.at.stands.stands)
 
 pub push_bits-requires-clause-fits : goal.push_bits-requires-clause-fits
 push_bits-requires-clause-fits c =
@@ -58,12 +62,13 @@ invariant_of-self c =
     (λ some. omega arith)
 
 pub returns-clause-rests : goal.returns-clause-rests
-returns-clause-rests c = λ deeds h.
+returns-clause-rests c = λ accesses h.
     let at = (goal.at.returns-clause-rests c).After-bits in
-    let own = subst (λ (s : SessionValue). IsAt s deeds) (sym c.self.view_is) h in
+    let own = subst (λ (s : SessionValue). IsAt s accesses) (sym c.self.view_is) h in
     let then = λ (l : List Turn). session_of c.self.inside.room c.rest_turn-at_rest.new.self c.self.inside.plan
     (listed c.self.inside.steps.items) l in
-    subst (λ (s : SessionValue). Rests s (then c.push_bits.new.turns.items) (run at) c.rest_turn-at_rest.result deeds)
+    subst (λ (s : SessionValue). Rests s (then c.push_bits.new.turns.items) (run at) c.rest_turn-at_rest.result
+    accesses)
     c.self.view_is
-    (subst (λ (l : List Turn). Rests (was at) (then l) (run at) c.rest_turn-at_rest.result deeds)
-    (sym c.push_bits.ensures.turns) (rested own (rests at deeds own) (run_is at)))
+    (subst (λ (l : List Turn). Rests (was at) (then l) (run at) c.rest_turn-at_rest.result accesses)
+    (sym c.push_bits.ensures.turns) (rested own (rests at accesses own) (run_is at)))

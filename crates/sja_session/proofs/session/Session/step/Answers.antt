@@ -1,21 +1,20 @@
 use Rattle.std.proofs.Common.{rules, ◌≡◌, ◌<◌, ◌+◌, ℕ, true, false, List, Vec, Global, length, map, vec_capacity, sym}
 use Rattle.std.proofs.Common.{ap, ◌∙◌, subst, arith}
 use Rattle.std.specs.Prelude.{Option, Some, [], Result, Ok, Err, slice_index_or, unwrap_or}
-use Rattle.std.proofs.lemmas.List.{get_or-replicate, length-map}
+use Rattle.std.proofs.lemmas.List.{length-map}
 use Rattle.sja_plan.specs.declared.turn.Turn.{Turn}
 use Rattle.sja_plan.specs.declared.turn.Turn.TheVariants.{Node}
-use Rattle.sja_regs.specs.Registers.{at_power_on}
 use Rattle.sja_script.specs.declared.done.Done.{Done as StepDone}
 use Rattle.sja_script.specs.declared.step.Step.{Step}
 use Rattle.sja_script.specs.declared.step_answer.StepAnswer.{StepAnswer}
 use Rattle.sja_script.specs.declared.step_answer.StepAnswer.TheVariants.{Done}
-use Rattle.sja_driver.specs.Deeds.{Deed}
+use Rattle.sja_driver.specs.Accesses.{Access}
 use Rattle.sja_driver.specs.declared.logged_driver.LoggedDriver.{LoggedDriver}
 use Rattle.sja_driver.specs.LoggedDrivers.{log_of}
 use Rattle.sja_driver.specs.Logs.{done_in}
 use Rattle.sja_serial.specs.Serial.{Setup}
-use Rattle.sja_serial.specs.Stepping.{DoesStep as DoesOnRun, DoesNothing}
-use Rattle.sja_serial.proofs.AllNodes.Several.{at_own, from_own, done_count, first_driver}
+use Rattle.sja_serial.specs.Stepping.{DoesStep as DoesOnRun, HasRoomLeft, WaitsFor}
+use Rattle.sja_serial.proofs.AllNodes.Several.{by_own, from_own, first_driver, setup_is}
 use Rattle.sja_session.specs.declared.answered.Answered.{Answered}
 use Rattle.sja_session.specs.declared.answered.Answered.TheVariants.{Answer, Waits as HasToWait}
 use Rattle.sja_session.specs.declared.step_fault.StepFault.{StepFault}
@@ -24,7 +23,7 @@ use Rattle.sja_session.specs.Sessions.{SessionValue, session_of, setup_by, IsAt,
 use Rattle.sja_session.specs.Stepping.{MayStep, DoesStep, Waits}
 use Rattle.sja_session.specs.Turning.{with_turn}
 use Rattle.sja_session.specs.Writing.{with_more}
-use Rattle.sja_session.proofs.StepsDone.Stepped.{answer_is, does_step, steps_many, waits_step}
+use Rattle.sja_session.proofs.StepsDone.Stepped.{answer_is, does_step, room_left, waits_step}
 use Rattle.sja_session.proofs.StepsDone.StepAnswered.{after_done, after_waiting}
 use Rattle.sja_session.proofs.WrittenPlan.OneMore.{listed}
 use Rattle.sja_session.proofs.WrittenPlan.Within.{last_few}
@@ -61,51 +60,43 @@ was c = session_of c.self.inside.room c.self.inside.run c.self.inside.plan (list
 may : (c : After-step) → MayStep (was c) c.args.node
 may c = subst (λ (s : SessionValue). MayStep s c.args.node) (sym c.self.view_is) c.in_ok-may_step.ensures.ok
 
-did : (c : After-step) (deeds : List (List Deed)) → IsAt (was c) deeds → c.step.result ≡ true →
-    DoesOnRun (setup_by (was c)) c.self.inside.run c.step.new.self c.args.node c.args.step deeds
-did c deeds h is_done = from_own (λ (x : Setup). DoesOnRun x c.self.inside.run c.step.new.self c.args.node c.args.step
-    deeds)
-    h.stands (c.step.ensures.done is_done deeds (at_own h.stands))
+did : (c : After-step) (accesses : List (List Access)) → IsAt (was c) accesses → c.step.result ≡ true →
+    DoesOnRun (setup_by (was c)) c.self.inside.run c.step.new.self c.args.node c.args.step accesses
+did c accesses h is_done = from_own (λ (x : Setup). DoesOnRun x c.self.inside.run c.step.new.self c.args.node
+    c.args.step
+    accesses)
+    h.stands.stands (c.step.ensures.done is_done accesses (by_own h.stands))
 
-waited : (c : After-step) (deeds : List (List Deed)) → IsAt (was c) deeds → c.step.result ≡ false →
-    DoesNothing (setup_by (was c)) c.self.inside.run c.step.new.self c.args.node c.args.step deeds
-waited c deeds h is_left =
-    from_own (λ (x : Setup). DoesNothing x c.self.inside.run c.step.new.self c.args.node c.args.step deeds)
-    h.stands (c.step.ensures.waits is_left deeds (at_own h.stands))
+waited : (c : After-step) (accesses : List (List Access)) → IsAt (was c) accesses → c.step.result ≡ false →
+    WaitsFor (setup_by (was c)) c.self.inside.run c.step.new.self c.args.node c.args.step accesses
+waited c accesses h is_left =
+    from_own (λ (x : Setup). WaitsFor x c.self.inside.run c.step.new.self c.args.node c.args.step accesses)
+    h.stands.stands (c.step.ensures.waits is_left accesses (by_own h.stands))
 
 pub step-requires : goal.step-requires
 step-requires c =
     let b = c.self.inside in let inv = c.self.invariant in
-    let may = subst (λ (s : SessionValue). MayStep s c.args.node) (sym c.self.view_is) c.in_ok-may_step.ensures.ok in
-    let there = may.there in let n = inv.at.count in let drivers = inv.at.stands.count.drivers in
-    let left = may.left in let many = steps_many (listed b.steps.items) inv.deeds c.args.node inv.at.steps in
-    let room = ap (λ (l : List ℕ). slice_index_or l c.args.node 0) inv.at.stands.steps in
-    let places = get_or-replicate (length (listed b.steps.items)) c.args.node b.room.steps 0
-    (omega (arith, there, n)) in (
-      (inv.deeds, at_own inv.at.stands),
-      record {
-        there = omega (arith, there, n, drivers);
-        left = λ d.
-            let done = done_count _ b.run inv.deeds c.args.node d (at_power_on 1) inv.at.stands
-            (omega (arith, there, n)) in omega (arith, left, many, room, places, done);
-      },
+    let may = subst (λ (s : SessionValue). MayStep s c.args.node) (sym c.self.view_is) c.in_ok-may_step.ensures.ok in (
+      (inv.accesses, by_own inv.at.stands),
+      subst (λ (x : Setup). HasRoomLeft x b.run c.args.node) (setup_is inv.at.stands.stands)
+          (room_left b.plan b.run (listed b.steps.items) b.turns.items inv.accesses c.args.node inv.at may),
     )
 
 pub invariant_of-self : goal.invariant_of-self
 invariant_of-self c =
     let at = (goal.at.invariant_of-self c).After-step in let inv = c.self.invariant in
     after_waiting c.self.inside.plan c.self.inside.run c.step.new.self (listed c.self.inside.steps.items)
-    c.self.inside.turns.items c.args.node c.args.step _ (vec_capacity c.self.inside.turns) inv (may at).there
-    (waited at inv.deeds inv.at (search rules))
+    c.self.inside.turns.items c.args.node c.args.step _ (vec_capacity c.self.inside.turns) inv (may at)
+    (waited at inv.accesses inv.at (search rules))
 
 pub returns-then-not-step-clause-waits : goal.returns-then-not-step-clause-waits
-returns-then-not-step-clause-waits c = λ e deeds h.
+returns-then-not-step-clause-waits c = λ e accesses h.
     let at = (goal.at.returns-then-not-step-clause-waits c).After-step in let b = c.self.inside in
-    let own = subst (λ (s : SessionValue). IsAt s deeds) (sym c.self.view_is) h in
+    let own = subst (λ (s : SessionValue). IsAt s accesses) (sym c.self.view_is) h in
     subst (λ (s : SessionValue). Waits s (session_of b.room c.step.new.self b.plan (listed b.steps.items)
-    b.turns.items) c.args.node c.args.step deeds) c.self.view_is
-    (waits_step b.plan b.run c.step.new.self (listed b.steps.items) b.turns.items deeds c.args.node c.args.step
-    (may at).there own (waited at deeds own (search rules)))
+    b.turns.items) c.args.node c.args.step accesses) c.self.view_is
+    (waits_step b.plan b.run c.step.new.self (listed b.steps.items) b.turns.items accesses c.args.node c.args.step
+    (may at).there own (waited at accesses own (search rules)))
 
 -- a step that has to wait has no answer
 pub returns-then-not-step-clause-done : goal.returns-then-not-step-clause-done
@@ -135,38 +126,39 @@ push_step-requires-clause-room c =
 pub push_turn-requires-clause-fits : goal.push_turn-requires-clause-fits
 push_turn-requires-clause-fits c =
     let at = (goal.at.push_turn-requires-clause-fits c).After-step in let inv = c.self.invariant in
-    let few = last_few (was at) inv.deeds inv.at inv.steps in omega (arith, few)
+    let few = last_few (was at) inv.accesses inv.at inv.done inv.steps in omega (arith, few)
 
 pub last_answer-requires : goal.last_answer-requires
 last_answer-requires c =
     let at = (goal.at.last_answer-requires c).After-step in let inv = c.self.invariant in
-    let t = did at inv.deeds inv.at (search rules) in
-    let d = t.does.stands.count.drivers in let n = inv.at.count in let m = (may at).there in let e = place_is at in
+    let t = did at inv.accesses inv.at (search rules) in
+    let d = t.stands.stands.count.drivers in let n = inv.at.count in let m = (may at).there in let e = place_is at in
     omega (arith, d, n, m, e)
 
 -- the log's last answer is that of the deed
-answer_of : (c : After-step) (deeds : List (List Deed)) (h : IsAt (was c) deeds) (is_done : c.step.result ≡ true) →
+answer_of : (c : After-step) (accesses : List (List Access)) (h : IsAt (was c) accesses)
+    (is_done : c.step.result ≡ true) →
     (x : LoggedDriver) → last_of (λ (y : StepDone). y.answer)
     (done_in (log_of (slice_index_or c.step.new.self.drivers c.from-place.result x)))
-    ≡ Some (did c deeds h is_done).deed.answer
-answer_of c deeds h is_done x =
+    ≡ Some (did c accesses h is_done).access.answer
+answer_of c accesses h is_done x =
     ap (λ k. last_of (λ (y : StepDone). y.answer) (done_in (log_of (slice_index_or c.step.new.self.drivers k x))))
     (place_is c)
     ∙ answer_is c.self.inside.plan c.self.inside.run c.step.new.self (listed c.self.inside.steps.items)
-    c.self.inside.turns.items deeds c.args.node c.args.step (may c).there h (did c deeds h is_done) x
+    c.self.inside.turns.items accesses c.args.node c.args.step (may c).there h (did c accesses h is_done) x
 
 pub unreachable-requires : goal.unreachable-requires
 unreachable-requires c =
     let at = (goal.at.unreachable-requires c).After-step in let inv = c.self.invariant in
-    let k = inv.at.stands.count.drivers in let n = inv.at.count in let m = (may at).there in
+    let k = inv.at.stands.stands.count.drivers in let n = inv.at.count in let m = (may at).there in
     let x = first_driver c.self.inside.run.drivers (omega (arith, k, n, m)) in
-    let some = answer_of at inv.deeds inv.at (search rules) x in
+    let some = answer_of at inv.accesses inv.at (search rules) x in
     let own = c.last_answer.ensures x in let none = c.in-None.is in cc (some, own, none)
 
 pub invariant_of-self-2 : goal.invariant_of-self-2
 invariant_of-self-2 c =
     let at = (goal.at.invariant_of-self-2 c).After-step in let inv = c.self.invariant in let b = c.self.inside in
-    let t = did at inv.deeds inv.at (search rules) in
+    let t = did at inv.accesses inv.at (search rules) in
     let wrote : listed c.push_step.new.lists.items ≡ with_more (listed b.steps.items) c.args.node c.args.step =
     c.push_step.ensures.lists ∙ ap (λ k. with_more (listed b.steps.items) k c.args.step) (place_is at) in
     let took = turn_of b.turns.items _ _ c.args.node c.push_turn.ensures.turns (omega arith) in
@@ -183,28 +175,28 @@ invariant_of-self-2 c =
     (with_more (listed b.steps.items) c.args.node c.args.step) l)
     (map (λ (x : Vec Step Global). vec_capacity x) b.steps.items) (vec_capacity b.turns)) (sym took)
     (after_done b.plan b.run c.step.new.self (listed b.steps.items) b.turns.items c.args.node c.args.step _
-    (vec_capacity b.turns) inv (may at).there (may at).turn t))))
+    (vec_capacity b.turns) inv (may at) t))))
 
 pub returns-clause-done : goal.returns-clause-done
-returns-clause-done c = λ answer e deeds h.
+returns-clause-done c = λ answer e accesses h.
     let at = (goal.at.returns-clause-done c).After-step in let b = c.self.inside in
-    let own = subst (λ (s : SessionValue). IsAt s deeds) (sym c.self.view_is) h in
+    let own = subst (λ (s : SessionValue). IsAt s accesses) (sym c.self.view_is) h in
     let is_done : c.step.result ≡ true = search rules in
-    let t = did at deeds own is_done in
-    let k = own.stands.count.drivers in let n = own.count in let m = (may at).there in
+    let t = did at accesses own is_done in
+    let k = own.stands.stands.count.drivers in let n = own.count in let m = (may at).there in
     let x = first_driver b.run.drivers (omega (arith, k, n, m)) in
-    let whole = sym (answer_of at deeds own is_done x) ∙ sym (c.last_answer.ensures x) ∙ c.in-Some.is in
-    let same : t.deed.answer ≡ answer = ap (λ (o : Option StepAnswer). unwrap_or o answer) whole
+    let whole = sym (answer_of at accesses own is_done x) ∙ sym (c.last_answer.ensures x) ∙ c.in-Some.is in
+    let same : t.access.answer ≡ answer = ap (λ (o : Option StepAnswer). unwrap_or o answer) whole
     ∙ ap (λ (r : Result Answered StepFault). answer_in r answer) e in
     let wrote : listed c.push_step.new.lists.items ≡ with_more (listed b.steps.items) c.args.node c.args.step =
     c.push_step.ensures.lists ∙ ap (λ k. with_more (listed b.steps.items) k c.args.step) (place_is at) in
     let took = turn_of b.turns.items _ _ c.args.node c.push_turn.ensures.turns (omega arith) in
     subst (λ (s : SessionValue). DoesStep s (session_of b.room c.step.new.self b.plan
-    (listed c.push_step.new.lists.items) c.push_turn.new.turns.items) c.args.node c.args.step answer deeds)
+    (listed c.push_step.new.lists.items) c.push_turn.new.turns.items) c.args.node c.args.step answer accesses)
     c.self.view_is
     (subst (λ (l : List (List Step)). DoesStep (was at) (session_of b.room c.step.new.self b.plan l
-    c.push_turn.new.turns.items) c.args.node c.args.step answer deeds) (sym wrote)
+    c.push_turn.new.turns.items) c.args.node c.args.step answer accesses) (sym wrote)
     (subst (λ (l : List Turn). DoesStep (was at) (session_of b.room c.step.new.self b.plan
-    (with_more (listed b.steps.items) c.args.node c.args.step) l) c.args.node c.args.step answer deeds) (sym took)
-    (does_step b.plan b.run c.step.new.self (listed b.steps.items) b.turns.items deeds c.args.node c.args.step
+    (with_more (listed b.steps.items) c.args.node c.args.step) l) c.args.node c.args.step answer accesses) (sym took)
+    (does_step b.plan b.run c.step.new.self (listed b.steps.items) b.turns.items accesses c.args.node c.args.step
     (may at).there own t answer same)))

@@ -2,7 +2,7 @@ use Rattle.std.proofs.Common.{rules, ◌≡◌, ◌≤◌, ◌&&◌, ℕ, Bool, 
 use Rattle.std.proofs.Common.{refl, sym, ◌∙◌, subst, arith, inr}
 use Rattle.std.specs.Prelude.{slice_index_or}
 use Rattle.can_frame.specs.Message.{bit}
-use Rattle.sja_driver.specs.Deeds.{Deed}
+use Rattle.sja_driver.specs.Accesses.{Access}
 use Rattle.sja_session.specs.Running.{MayRun}
 use Rattle.sja_session.specs.Sessions.{SessionValue, IsAt}
 use Rattle.sja_session.specs.Inside.Risen.{risen}
@@ -26,19 +26,19 @@ place_now watched before now k rose =
 
 pub loop-bits-init : goal.loop-bits-init
 loop-bits-init c =
-    let at = subst (λ (s : SessionValue). IsAt s c.self.invariant.deeds) c.self.view_is c.self.invariant.at in
+    let at = subst (λ (s : SessionValue). IsAt s c.self.invariant.accesses) c.self.view_is c.self.invariant.at in
     let may : MayRun c.args.self.now c.args.count = c.lacks_bus_turn.ensures.no (search rules) in record {
-      ran = λ deeds h. no_bit (c.lines-before.ensures.still deeds h);
-      told = λ deeds h k less few on. c.lines-before.ensures.lines deeds h k less few on
-          ∙ sym (line_still (c.lines-before.ensures.still deeds h) k);
-      may = λ some. may_still (c.lines-before.ensures.still c.self.invariant.deeds at)
+      ran = λ accesses h. no_bit (c.lines-before.ensures.still accesses h);
+      told = λ accesses h k less few on. c.lines-before.ensures.lines accesses h k less few on
+          ∙ sym (line_still (c.lines-before.ensures.still accesses h) k);
+      may = λ some. may_still (c.lines-before.ensures.still c.self.invariant.accesses at)
           (may_one c.args.self.now c.args.count some may);
       most = omega arith;
     }
 
 pub returns-else-bits-clause-watches : goal.returns-else-bits-clause-watches
-returns-else-bits-clause-watches c = λ deeds h.
-    let inv = c.loop-bits.invariant in let q = inv.ran deeds h in let most = inv.most in
+returns-else-bits-clause-watches c = λ accesses h.
+    let inv = c.loop-bits.invariant in let q = inv.ran accesses h in let most = inv.most in
     let over = c.if-bits.false in let x = c.bits.ensures in let y = c.bits-in-loop-bits.ensures.value in
     let own : c.self-in-loop-bits.inside.plan.bits ≤ c.self-in-loop-bits.inside.run.bits = omega (arith, over, x, y) in
     let spent = subst (λ (s : SessionValue). s.plan.bits ≤ s.run.bits) c.self-in-loop-bits.view_is own in
@@ -46,15 +46,16 @@ returns-else-bits-clause-watches c = λ deeds h.
 
 -- `active` proves nothing here: by it a wrong body is refused with values
 pub returns-in-Some-clause-watches : goal.returns-in-Some-clause-watches
-returns-in-Some-clause-watches c = λ deeds h.
-    let inv = c.loop-bits.invariant in let q = inv.ran deeds h in
-    let u = c.run_until_told-bits.ensures.ran deeds (quiet_at q) in
+returns-in-Some-clause-watches c = λ accesses h.
+    let inv = c.loop-bits.invariant in let q = inv.ran accesses h in
+    let u = c.run_until_told-bits.ensures.ran accesses (quiet_at q) in
     let rose = c.in-Some.ensures in
     let active : bit (slice_index_or c.lines-now.result c.in-Some.node false) ≡ 1 =
     omega (arith, place_now _ _ _ c.in-Some.node rose.some.0) in
     let few = c.run_until_told-bits.ensures.most in let most = inv.most in (
-      one_rises c.loop-bits.before c.lines-now.result h q u (inv.told deeds h)
-          (c.lines-now.ensures.lines deeds u.bit.at) c.lines-now.new.self (c.lines-now.ensures.still deeds u.bit.at)
+      one_rises c.loop-bits.before c.lines-now.result h q u (inv.told accesses h)
+          (c.lines-now.ensures.lines accesses u.bit.at) c.lines-now.new.self (c.lines-now.ensures.still accesses
+          u.bit.at)
           c.in-Some.node rose.some.1 rose.some.0 rose.first (c.lines-now.ensures.none c.in-Some.node),
       omega (arith, few, most),
     )
@@ -64,18 +65,18 @@ loop-bits-preserved c =
     let inv = c.loop-bits.invariant in
     let most : length c.args.self.now.plan.nodes ≤ 8 =
     subst (λ (s : SessionValue). length s.plan.nodes ≤ 8) c.self.view_is c.limits.ensures.nodes.1 in
-    let at = subst (λ (s : SessionValue). IsAt s c.self.invariant.deeds) c.self.view_is c.self.invariant.at in
-    let run = λ (deeds : List (List Deed)) (h : IsAt c.args.self.now deeds).
-    c.run_until_told-bits.ensures.ran deeds (quiet_at (inv.ran deeds h)) in
-    let still = λ (deeds : List (List Deed)) (h : IsAt c.args.self.now deeds).
-    c.lines-now.ensures.still deeds (run deeds h).bit.at in record {
-      ran = λ deeds h. none_rises c.loop-bits.before c.lines-now.result h (inv.ran deeds h) (run deeds h)
-          (inv.told deeds h) (c.lines-now.ensures.lines deeds (run deeds h).bit.at) c.lines-now.new.self
-          (still deeds h) most c.in_default.ensures.none;
-      told = λ deeds h k less eight on.
-          c.lines-now.ensures.lines deeds (run deeds h).bit.at k
-          (let e = nodes_same h (run deeds h).bit.at in omega (arith, e, less)) eight on
-          ∙ sym (line_still (still deeds h) k);
-      may = λ some. may_still (still c.self.invariant.deeds at) c.run_until_told-bits.ensures.may;
+    let at = subst (λ (s : SessionValue). IsAt s c.self.invariant.accesses) c.self.view_is c.self.invariant.at in
+    let run = λ (accesses : List (List Access)) (h : IsAt c.args.self.now accesses).
+    c.run_until_told-bits.ensures.ran accesses (quiet_at (inv.ran accesses h)) in
+    let still = λ (accesses : List (List Access)) (h : IsAt c.args.self.now accesses).
+    c.lines-now.ensures.still accesses (run accesses h).bit.at in record {
+      ran = λ accesses h. none_rises c.loop-bits.before c.lines-now.result h (inv.ran accesses h) (run accesses h)
+          (inv.told accesses h) (c.lines-now.ensures.lines accesses (run accesses h).bit.at) c.lines-now.new.self
+          (still accesses h) most c.in_default.ensures.none;
+      told = λ accesses h k less eight on.
+          c.lines-now.ensures.lines accesses (run accesses h).bit.at k
+          (let e = nodes_same h (run accesses h).bit.at in omega (arith, e, less)) eight on
+          ∙ sym (line_still (still accesses h) k);
+      may = λ some. may_still (still c.self.invariant.accesses at) c.run_until_told-bits.ensures.may;
       most = let few = c.run_until_told-bits.ensures.most in let m = inv.most in omega (arith, few, m);
     }

@@ -1,4 +1,0 @@
-pub mod PlanTurns
-pub mod AfterCalls
-pub mod WrittenPlan
-pub mod PlannedRuns

@@ -1,3 +1,0 @@
-pub mod CommandBytes
-pub mod OtherWrites
-pub mod ReadBack

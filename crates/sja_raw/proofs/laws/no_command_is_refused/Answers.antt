@@ -1,6 +1,0 @@
-use Rattle.sja_regs.specs.Commands.{command_of}
-use Rattle.sja_raw.proofs.CommandBytes.{none_refused}
-use Rattle.sja_raw.proofs.laws.no_command_is_refused.Goals as goal
-
-pub returns : goal.returns
-returns c = λ p value rm. none_refused p (command_of value) rm

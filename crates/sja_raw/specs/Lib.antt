@@ -1,9 +1,0 @@
-pub mod ClockDivider
-pub mod StartAddress
-pub mod Kept
-pub mod Reads
-pub mod ModeWrites
-pub mod CommandWrites
-pub mod Writes
-pub mod WriteLists
-pub mod Inside

@@ -1,0 +1,10 @@
+use Rattle.std.proofs.Common.{◌≡◌, ◌++◌, ℕ, List, drop}
+use Rattle.sja_run.specs.Names.{shown_behind, shown_name}
+use Rattle.sja_run.specs.Inside.FileTexts.{Wrote}
+use Rattle.sja_run.proofs.output.Output.put_escaped.Given as goal
+
+-- what those so far are shown as is written
+abbrev pub invariant-loop-place : goal.invariant-loop-place
+invariant-loop-place g l =
+    (done : List ℕ) × (done ++ shown_behind l.before (drop l.place l.bytes) ≡ shown_name l.bytes)
+    × Wrote l.fn.self.failed l.self.failed (g.W.Write.contents l.fn.self.writer) (g.W.Write.contents l.self.writer) done

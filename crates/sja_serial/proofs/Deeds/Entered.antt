@@ -1,0 +1,271 @@
+-- A step of a driver that is entered as done, once its deeds are.
+use Rattle.std.proofs.Common.{◌≡◌, ◌+◌, ◌*◌, ◌<◌, ◌≤◌, ◌++◌, ℕ, zero, suc, List, [], ◌∷◌}
+use Rattle.std.proofs.Common.{length}
+use Rattle.std.proofs.Common.{sym, ap, ◌∙◌, subst, arith, inl, inr}
+use Rattle.std.proofs.lemmas.Bool.{cases_eq}
+use Rattle.std.proofs.lemmas.List.{get_or-set_other, get_or-set_same, length-map}
+use Rattle.std.proofs.lemmas.List.{length-set}
+use Rattle.std.proofs.lemmas.List.{map-append}
+use Rattle.std.specs.Prelude.{slice_index_or, slice_set}
+use Rattle.sja_link.specs.declared.entry.Entry.{Entry}
+use Rattle.sja_link.specs.Deques.{Deques}
+use Rattle.sja_link.specs.Places.{place_of}
+use Rattle.sja_wire.specs.Wire.{journal_at}
+use Rattle.sja_regs.specs.declared.registers.Registers.{Registers}
+use Rattle.sja_script.specs.declared.step_answer.StepAnswer.{StepAnswer}
+use Rattle.sja_driver.specs.declared.kept_bytes.KeptBytes.{KeptBytes}
+use Rattle.sja_driver.specs.declared.logged_driver.LoggedDriver.{LoggedDriver}
+use Rattle.sja_driver.specs.declared.work_log.WorkLog.{WorkLog}
+use Rattle.sja_driver.specs.Accesses.{Access, IsAccess, accesses_at, deeds_in, done_of}
+use Rattle.sja_driver.specs.Deeds.{Deed, deeds_at, is_active, with_deeds}
+use Rattle.sja_driver.specs.LoggedDrivers.{kept_of, log_of, node_of}
+use Rattle.sja_driver.specs.Logs.{done_in, done_room}
+use Rattle.sja_log.specs.Nodes.{IsNode}
+use Rattle.sja_link.specs.BitEntries.{HasMore}
+use Rattle.std.specs.Vec.{vec_capacity}
+use Rattle.sja_script.specs.declared.step.Step.{Step}
+use Rattle.sja_log.specs.Registering.{AccessesLeadTo, LeadOn, seen_now}
+use Rattle.sja_log.specs.Registering.AccessesLeadTo.{access}
+use Rattle.sja_serial.specs.Inside.Accessing.{DoesDeeds, Enters}
+use Rattle.sja_serial.specs.Serial.{Setup, SerialValue, StandsAt, StandsBy, IsAccessed, all_deeds, most_steps}
+use Rattle.sja_serial.specs.Stepping.{DoesStep, with_accesses}
+use Rattle.sja_log.proofs.Trace.AccessDeeds.{deeds_push}
+
+-- the deeds with one step more
+all_with : (accesses : List (List Access)) (node : ℕ) (a : Access) → node < length accesses →
+    all_deeds (with_accesses accesses node (a ∷ [])) ≡ with_deeds (all_deeds accesses) node a.deeds
+all_with [] node a less = absurd (omega (arith, less))
+all_with (l ∷ accesses) zero a less = ap (λ x. x ∷ all_deeds accesses) (deeds_push l a)
+all_with (l ∷ accesses) (suc node) a less = ap (λ x. deeds_in l ∷ x) (all_with accesses node a (omega (arith, less)))
+
+-- ---- a run whose driver of one node has another log of what is done, and other kept bytes
+
+-- what is said of a node doesn't hang on them
+node_entered : {version size : ℕ} {j : List Entry} {deeds : List Deed} {p : Registers} {links : List Deques} {base : ℕ}
+    (was : LoggedDriver) (log : WorkLog) (kept : KeptBytes) → IsNode version size j deeds was p links base →
+    IsNode version size j deeds (record was { kept = kept; log = record (log_of was) { done = log.done } }) p links base
+node_entered was log kept h = record {
+  traced = record {
+    lawful = h.traced.lawful;
+    traces = record {
+      released = h.traced.traces.released;
+      opened = h.traced.traces.opened;
+      out = h.traced.traces.out;
+      answered = h.traced.traces.answered;
+    };
+    within = h.traced.within;
+    room = λ k few. let room = h.traced.room k few in record { releases = room.releases; left = room.left };
+  };
+  linked = record { holds = h.linked.holds; taken = h.linked.taken; level = h.linked.level };
+  ported = h.ported;
+  asked = h.asked;
+  counted = h.counted;
+  done = h.done;
+  in_time = h.in_time;
+  registers = h.registers;
+}
+
+module _ {setup : Setup} {mid now : SerialValue} {node : ℕ} {answer : StepAnswer} {kept : KeptBytes}
+    (there : node < setup.nodes) (e : Enters mid now node answer kept) where
+  module _ {deeds : List (List Deed)} (h : StandsAt setup mid deeds) where
+    few : node < length mid.drivers
+    few = let c = h.count.drivers in omega (arith, c, there)
+
+    abbrev with_driver : SerialValue
+    with_driver = record mid { drivers = slice_set mid.drivers node e.driver }
+
+    each : (m : ℕ) (d : LoggedDriver) (p : Registers) → m < setup.nodes →
+        IsNode setup.version (slice_index_or setup.steps m 0) (journal_at mid.bus.journals m) (deeds_at deeds m)
+        (slice_index_or (slice_set mid.drivers node e.driver) m d) (slice_index_or mid.ports m p) mid.links (64 * m)
+    each m d p less = elim (cases_eq node m) [
+      | inl same ↦
+          let N : ℕ → LoggedDriver → Type 0 = λ k x. IsNode setup.version (slice_index_or setup.steps k 0)
+          (journal_at mid.bus.journals k) (deeds_at deeds k) x (slice_index_or mid.ports k p) mid.links (64 * k) in
+          subst (λ (k : ℕ). N k (slice_index_or (slice_set mid.drivers node e.driver) k d)) same
+          (subst (N node) (sym (get_or-set_same mid.drivers node e.driver d few))
+          (subst (N node) (sym (e.is d))
+          (node_entered (slice_index_or mid.drivers node d) (log_of e.driver) kept (h.nodes node d p there))))
+      | inr differ ↦
+          subst (λ (x : LoggedDriver). IsNode setup.version (slice_index_or setup.steps m 0)
+          (journal_at mid.bus.journals m) (deeds_at deeds m) x (slice_index_or mid.ports m p) mid.links (64 * m))
+          (sym (get_or-set_other mid.drivers node m e.driver d (λ s. differ (sym s)))) (h.nodes m d p less)
+    ]
+
+    owner : (m : ℕ) (d : LoggedDriver) → m < setup.nodes →
+        node_of (slice_index_or (slice_set mid.drivers node e.driver) m d) ≡ m
+    owner m d less = elim (cases_eq node m) [
+      | inl same ↦ subst (λ (k : ℕ). node_of (slice_index_or (slice_set mid.drivers node e.driver) k d) ≡ k) same
+          (ap node_of (get_or-set_same mid.drivers node e.driver d few) ∙ ap node_of (e.is d) ∙ h.own node d there)
+      | inr differ ↦ ap node_of (get_or-set_other mid.drivers node m e.driver d (λ s. differ (sym s))) ∙ h.own m d less
+    ]
+
+    -- it stands where it stood
+    pub stands_entered : StandsAt setup now deeds
+    stands_entered = subst (λ (r : SerialValue). StandsAt setup r deeds) (sym e.set) (record {
+      may = h.may;
+      right = h.right;
+      script = h.script;
+      all_bits = h.all_bits;
+      steps = h.steps;
+      bits = h.bits;
+      count = record {
+        journals = h.count.journals;
+        drivers = length-set mid.drivers node e.driver ∙ h.count.drivers;
+        ports = h.count.ports;
+        links = h.count.links;
+      };
+      deeds_count = h.deeds_count;
+      ids = h.ids;
+      own = owner;
+      nodes = each;
+      shown = h.shown;
+    })
+
+-- and all but the drivers is as it was
+module _ {mid now : SerialValue} {node : ℕ} {answer : StepAnswer} {kept : KeptBytes}
+    (e : Enters mid now node answer kept) where
+  drivers_are : now.drivers ≡ slice_set mid.drivers node e.driver
+  drivers_are = ap (λ (r : SerialValue). r.drivers) e.set
+
+  ports_are : now.ports ≡ mid.ports
+  ports_are = ap (λ (r : SerialValue). r.ports) e.set
+
+  journals_are : now.bus.journals ≡ mid.bus.journals
+  journals_are = ap (λ (r : SerialValue). r.bus.journals) e.set
+
+  bits_are : now.bits ≡ mid.bits
+  bits_are = ap (λ (r : SerialValue). r.bits) e.set
+
+-- ---- the step is done
+
+module _ {setup : Setup} {was mid now : SerialValue} {accesses : List (List Access)} {node : ℕ}
+    (h : StandsBy setup was accesses) (there : node < setup.nodes) (a : Access)
+    (so_far : DoesDeeds setup was mid node accesses a.deeds) (bits : a.bits ≡ was.bits) {kept : KeptBytes}
+    (e : Enters mid now node a.answer kept) (place : (place_of (journal_at was.bus.journals node)).bits ≡ was.bits)
+  where
+    abbrev deeds : List Deed
+    deeds = deeds_in (accesses_at accesses node)
+
+    abbrev Is : Type 0
+    Is = (d : LoggedDriver) (p : Registers) → IsAccess setup.version (slice_index_or was.ports node p)
+        (seen_now (is_active deeds) (journal_at was.bus.journals node) deeds) (is_active deeds)
+        (kept_of (slice_index_or was.drivers node d)) a kept
+
+    many : node < length accesses
+    many = let c = h.stands.deeds_count in let l = length-map accesses (λ (x : List Access). deeds_in x) in
+        omega (arith, c, l, there)
+
+    many_drivers : node < length mid.drivers
+    many_drivers = let c = so_far.stands.count.drivers in omega (arith, c, there)
+
+    here : (d : LoggedDriver) → slice_index_or now.drivers node d ≡ e.driver
+    here d = ap (λ l. slice_index_or l node d) (drivers_are e)
+        ∙ get_or-set_same mid.drivers node e.driver d many_drivers
+
+    else_where : (m : ℕ) (d : LoggedDriver) → (node ≡ m → ⊥) → slice_index_or now.drivers m d ≡ slice_index_or
+        mid.drivers m d
+    else_where m d differ = ap (λ l. slice_index_or l m d) (drivers_are e)
+        ∙ get_or-set_other mid.drivers node m e.driver d (λ s. differ (sym s))
+
+    kept_here : (d : LoggedDriver) → kept_of (slice_index_or now.drivers node d) ≡ kept
+    kept_here d = ap kept_of (here d) ∙ ap kept_of (e.is d)
+
+    abbrev j : List Entry
+    j = journal_at was.bus.journals node
+
+    on_now : (p : Registers) → LeadOn deeds j (slice_index_or was.ports node p) a.deeds
+        (journal_at now.bus.journals node) (slice_index_or now.ports node p)
+    on_now p =
+        subst (λ (l : List (List Entry)). LeadOn deeds j (slice_index_or was.ports node p) a.deeds (journal_at l node)
+        (slice_index_or now.ports node p)) (sym (journals_are e))
+        (subst (λ (l : List Registers). LeadOn deeds j (slice_index_or was.ports node p) a.deeds
+        (journal_at mid.bus.journals node) (slice_index_or l node p)) (sym (ports_are e)) (so_far.on p))
+
+    -- it stands at the deeds of the step too
+    stands_now : StandsAt setup now (all_deeds (with_accesses accesses node (a ∷ [])))
+    stands_now = subst (λ (l : List (List Deed)). StandsAt setup now l) (sym (all_with accesses node a many))
+        (stands_entered there e so_far.stands)
+
+    -- of its node the step has led on
+    node_here : Is → (d : LoggedDriver) (p : Registers) → IsAccessed setup.version
+        (most_steps setup.version (slice_index_or setup.steps node 0)) (journal_at now.bus.journals node)
+        (accesses_at accesses node ++ a ∷ []) (slice_index_or now.drivers node d) (slice_index_or now.ports node p)
+    node_here is d p =
+        let w = h.nodes node d p there in
+        let logs : (log_of (slice_index_or mid.drivers node d)).done
+        ≡ (log_of (slice_index_or was.drivers node d)).done = so_far.logs node d there in
+        let done : done_in (log_of (slice_index_or now.drivers node d))
+        ≡ done_in (log_of (slice_index_or was.drivers node d)) ++ done_of a ∷ [] =
+        ap (λ (x : LoggedDriver). done_in (log_of x)) (here d) ∙ e.done d
+        ∙ (λ i. (logs i).items ++ record { answer = a.answer; bits = bits_mid i } ∷ []) in
+        record {
+          led = subst (λ (k : KeptBytes). AccessesLeadTo setup.version (journal_at now.bus.journals node)
+              (accesses_at accesses node ++ a ∷ []) k (slice_index_or now.ports node p)) (sym (kept_here d))
+              (access j (journal_at now.bus.journals node) (accesses_at accesses node) a
+              (kept_of (slice_index_or was.drivers node d)) kept (slice_index_or was.ports node p)
+              (slice_index_or now.ports node p) w.led (bits ∙ sym place) (is d p) (on_now p));
+          done = map-append done_of (accesses_at accesses node) (a ∷ []) ∙ ap (λ l. l ++ done_of a ∷ []) w.done
+              ∙ sym done;
+          room = subst (λ (n : ℕ). most_steps setup.version (slice_index_or setup.steps node 0) ≤ n)
+              (sym (ap (λ (x : LoggedDriver). done_room (log_of x)) (here d) ∙ e.room d ∙ ap vec_capacity logs)) w.room;
+        }
+      where
+        bits_mid : mid.bits ≡ a.bits
+        bits_mid = so_far.bits ∙ sym bits
+
+    -- each other one is as it was
+    node_else : (m : ℕ) (d : LoggedDriver) (p : Registers) → m < setup.nodes → (node ≡ m → ⊥) →
+        IsAccessed setup.version (most_steps setup.version (slice_index_or setup.steps m 0))
+        (journal_at now.bus.journals m) (accesses_at accesses m) (slice_index_or now.drivers m d)
+        (slice_index_or now.ports m p)
+    node_else m d p less differ =
+        let w = h.nodes m d p less in
+        let driver = else_where m d differ in
+        let journal : journal_at now.bus.journals m ≡ journal_at was.bus.journals m =
+        ap (λ l. journal_at l m) (journals_are e) ∙ so_far.others m less (λ s. differ (sym s)) in
+        let port : slice_index_or now.ports m p ≡ slice_index_or was.ports m p =
+        ap (λ l. slice_index_or l m p) (ports_are e) ∙ so_far.ports m p (λ s. differ (sym s)) in
+        let logs : (log_of (slice_index_or now.drivers m d)).done ≡ (log_of (slice_index_or was.drivers m d)).done =
+        ap (λ (x : LoggedDriver). (log_of x).done) driver ∙ so_far.logs m d less in
+        let kept_same : kept_of (slice_index_or now.drivers m d) ≡ kept_of (slice_index_or was.drivers m d) =
+        ap kept_of driver ∙ so_far.kept m d less in
+        record {
+          led = rw (journal, port, kept_same) w.led;
+          done = w.done ∙ ap (λ v. v.items) (sym logs);
+          room = subst (λ (n : ℕ). most_steps setup.version (slice_index_or setup.steps m 0) ≤ n)
+              (ap vec_capacity (sym logs)) w.room;
+        }
+
+    pub step_done : {one : Step} → a.step ≡ one → Is → DoesStep setup was now node one accesses
+    step_done same is = record {
+      access = a;
+      stands = record {
+        stands = stands_now;
+        nodes = λ m d p less. elim (cases_eq node m) [
+          | inl e ↦
+              let N : ℕ → List Access → Type 0 = λ k l. IsAccessed setup.version
+              (most_steps setup.version (slice_index_or setup.steps k 0)) (journal_at now.bus.journals k) l
+              (slice_index_or now.drivers k d) (slice_index_or now.ports k p) in
+              subst (λ (k : ℕ). N k (accesses_at (with_accesses accesses node (a ∷ [])) k)) e
+              (subst (N node) (sym (get_or-set_same accesses node (accesses_at accesses node ++ a ∷ []) [] many))
+              (node_here is d p))
+          | inr differ ↦
+              subst (λ (l : List Access). IsAccessed setup.version
+              (most_steps setup.version (slice_index_or setup.steps m 0)) (journal_at now.bus.journals m) l
+              (slice_index_or now.drivers m d) (slice_index_or now.ports m p))
+              (sym (get_or-set_other accesses node m (accesses_at accesses node ++ a ∷ []) [] (λ s. differ (sym s))))
+              (node_else m d p less differ)
+        ];
+      };
+      step_is = same;
+      bits_are = bits;
+      bits = bits_are e ∙ so_far.bits;
+      is = λ d p. subst (λ (k : KeptBytes). IsAccess setup.version (slice_index_or was.ports node p)
+          (seen_now (is_active deeds) j deeds) (is_active deeds) (kept_of (slice_index_or was.drivers node d)) a k)
+          (sym (kept_here d)) (is d p);
+      on = on_now;
+      items = λ m less. subst (λ (l : List (List Entry)). HasMore (journal_at was.bus.journals m) (journal_at l m))
+          (sym (journals_are e)) (so_far.items m less);
+      others = λ m less differ. ap (λ l. journal_at l m) (journals_are e) ∙ so_far.others m less differ;
+      ports = λ m p differ. ap (λ l. slice_index_or l m p) (ports_are e) ∙ so_far.ports m p differ;
+    }

@@ -1,0 +1,168 @@
+//! A step of a node's driver. In version 3 a read and a write are those of a driver that knows addresses and bytes
+//! alone.
+
+use super::drivers::FIRST_BY_BYTES;
+use super::serial_run::SerialRun;
+use sja_driver::{KeptBytes, is_reset, steps_of_write};
+use sja_script::{Step, StepAnswer};
+
+impl SerialRun {
+    ghost use Rattle.std.specs.Prelude.{◌≡◌, List, true, false};
+    ghost use Rattle.sja_driver.specs.Accesses.{Access};
+    ghost use Rattle.sja_serial.specs.Serial.{Setup, StandsBy, IsRunBy};
+    ghost use Rattle.sja_serial.specs.Stepping.{DoesStep, WaitsFor, HasRoomLeft};
+
+    /// Tries this step of the driver of a node, counted from 0, and takes what it gave: the bus refuses no item of it.
+    /// It says whether the step is done; else it has to wait, and nothing happened. No bit is run.
+    pub fn step(&mut self, node: u8, step: &Step) -> bool
+        ghost setup: { Setup }
+        requires run { IsRunBy setup self.old }
+        requires room { HasRoomLeft setup self.old node }
+        ensures done { result ≡ true → (accesses : List (List Access)) → StandsBy setup self.old accesses →
+            DoesStep setup self.old self.new node step.now accesses }
+        ensures waits { result ≡ false → (accesses : List (List Access)) → StandsBy setup self.old accesses →
+            WaitsFor setup self.old self.new node step.now accesses }
+    {
+        if self.version() < FIRST_BY_BYTES {
+            return self.one_deed(node, step);
+        }
+        match step {
+            Step::Read(address) => {
+                self.read(node, *address);
+                true
+            }
+            Step::Write(address, value) => {
+                self.write(node, *address, *value);
+                true
+            }
+            _ => self.one_deed(node, step),
+        }
+    }
+}
+
+impl SerialRun {
+    ghost use Rattle.std.specs.Prelude.{◌≡◌, ◌≤◌, ◌+◌, ◌<◌, ℕ, List, true, false, length, slice_index_or};
+    ghost use Rattle.sja_driver.specs.Accesses.{Access, IsOneDeed, accesses_at, by_bytes, deeds_in, kept_written};
+    ghost use Rattle.sja_driver.specs.Deeds.{Deed};
+    ghost use Rattle.sja_driver.specs.declared.logged_driver.LoggedDriver.{LoggedDriver as Logged};
+    ghost use Rattle.sja_driver.specs.LoggedDrivers.{kept_of, log_of};
+    ghost use Rattle.sja_regs.specs.declared.registers.Registers.{Registers};
+    ghost use Rattle.sja_driver.specs.Logs.{done_in, done_room};
+    ghost use Rattle.sja_driver.specs.WriteLists.{IsPromptIf};
+    ghost use Rattle.sja_script.specs.declared.step.Step.TheVariants.{Read, Write};
+    ghost use Rattle.sja_serial.specs.Inside.Accessing.{DoesDeeds, DoesPart, Enters};
+    ghost use Rattle.sja_serial.specs.Serial.{Setup, SerialValue, StandsBy, IsRunBy};
+    ghost use Rattle.sja_serial.specs.Stepping.{DoesStep, WaitsFor, HasDeedLeft, HasRoomLeft};
+
+    /// A step that is one deed.
+    fn one_deed(&mut self, node: u8, step: &Step) -> bool
+        ghost setup: { Setup }
+        requires run { IsRunBy setup self.old }
+        requires room { HasRoomLeft setup self.old node }
+        requires one { IsOneDeed (by_bytes setup.version) step.now }
+        ensures done { result ≡ true → (accesses : List (List Access)) → StandsBy setup self.old accesses →
+            DoesStep setup self.old self.new node step.now accesses }
+        ensures waits { result ≡ false → (accesses : List (List Access)) → StandsBy setup self.old accesses →
+            WaitsFor setup self.old self.new node step.now accesses }
+    {
+        let mut kept = self.kept_by_step(node, step);
+        match self.deed(node, step) {
+            Some(answer) => {
+                kept.answered(&answer);
+                self.enter(node, answer, kept);
+                true
+            }
+            None => false,
+        }
+    }
+
+    /// A read of an address, of a driver that knows addresses and bytes alone.
+    fn read(&mut self, node: u8, address: u8)
+        ghost setup: { Setup }
+        requires run { IsRunBy setup self.old }
+        requires room { HasRoomLeft setup self.old node }
+        requires bytes { by_bytes setup.version ≡ true }
+        ensures { (accesses : List (List Access)) → StandsBy setup self.old accesses →
+            DoesStep setup self.old self.new node (Read address) accesses }
+    {
+        let step = Step::Read(address);
+        let mut kept = self.kept_by_step(node, &step);
+        match self.deed(node, &step) {
+            Some(answer) => {
+                let value = kept.read_by(address, &answer);
+                kept.answered(&answer);
+                self.enter(node, StepAnswer::Value(value), kept);
+            }
+            None => unreachable!(),
+        }
+    }
+
+    /// A write of a byte to an address, of a driver that knows addresses and bytes alone: up to three deeds.
+    fn write(&mut self, node: u8, address: u8, value: u8)
+        ghost setup: { Setup }
+        requires run { IsRunBy setup self.old }
+        requires room { HasRoomLeft setup self.old node }
+        requires bytes { by_bytes setup.version ≡ true }
+        ensures { (accesses : List (List Access)) → StandsBy setup self.old accesses →
+            DoesStep setup self.old self.new node (Write address value) accesses }
+    {
+        // Asked for what holds of every bus.
+        let _ = self.bits_left();
+        let place = usize::from(node);
+        let port = &self.board.ports[place];
+        let steps = steps_of_write(&self.drivers[place], port, address, value);
+        let kept = self.kept_by_step(node, &Step::Write(address, value));
+        let kept = self.part(node, &steps.first, kept);
+        let kept = self.part(node, &steps.second, kept);
+        let kept = self.part(node, &steps.third, kept);
+        self.enter(node, StepAnswer::Done, kept);
+    }
+
+    /// The next part of such a write, if there is one, and what is kept after it.
+    fn part(&mut self, node: u8, part: &Option<Step>, kept: KeptBytes) -> KeptBytes
+        ghost setup: { Setup }
+        requires prompt { IsPromptIf part.now }
+        requires room { HasDeedLeft setup self.old node }
+        ensures { (was : SerialValue) (accesses : List (List Access)) (more : List Deed) →
+            StandsBy setup was accesses → DoesDeeds setup was self.old node accesses more →
+            length (deeds_in (accesses_at accesses node)) + length more < slice_index_or setup.steps node 0 →
+            DoesPart setup was self.new node accesses more part.now kept result }
+    {
+        let Some(step) = part else {
+            return kept;
+        };
+        match self.deed(node, step) {
+            Some(answer) => {
+                let mut kept = kept;
+                kept.answered(&answer);
+                kept
+            }
+            None => unreachable!(),
+        }
+    }
+
+    /// What is kept for the driver of a node once a step has written its value, if it writes one that is kept.
+    fn kept_by_step(&self, node: u8, step: &Step) -> KeptBytes
+        requires driver { node < length self.now.drivers }
+        requires port { node < length self.now.ports }
+        ensures { (d : Logged) (p : Registers) → result ≡ kept_written (slice_index_or self.now.ports node p)
+            (kept_of (slice_index_or self.now.drivers node d)) step.now }
+    {
+        let place = usize::from(node);
+        let mut kept = self.drivers[place].kept();
+        if let Step::Write(address, value) = step {
+            kept.write(is_reset(&self.board.ports[place]), *address, *value);
+        }
+        kept
+    }
+
+    /// Enters a step of a node as done.
+    fn enter(&mut self, node: u8, answer: StepAnswer, kept: KeptBytes)
+        requires there { node < length self.old.drivers }
+        requires room { (d : Logged) → length (done_in (log_of (slice_index_or self.old.drivers node d)))
+            < done_room (log_of (slice_index_or self.old.drivers node d)) }
+        ensures { Enters self.old self.new node answer kept }
+    {
+        self.drivers[usize::from(node)].enter(answer, self.bits, kept);
+    }
+}

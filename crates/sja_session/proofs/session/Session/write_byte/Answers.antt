@@ -1,0 +1,23 @@
+use Rattle.std.proofs.Common.{rules, [], ◌∷◌}
+use Rattle.sja_serial.specs.Stepping.{with_accesses}
+use Rattle.sja_session.specs.ByAddress.DoesSteps.{none, more}
+use Rattle.sja_session.proofs.StepsDone.Accessing.{may_of_step}
+use Rattle.sja_session.proofs.session.Session.write_byte.Goals as goal
+
+-- a write doesn't wait
+pub unreachable-requires : goal.unreachable-requires
+unreachable-requires c =
+    let s = c.stands.ensures in (c.step.ensures.waits (search rules) s.0 s.1).why
+
+pub returns : goal.returns
+returns c = (
+  (λ accesses at.
+      let does = c.step.ensures.done c.in-Answer.field-0 (search rules) accesses at in record {
+        answers = c.in-Answer.field-0 ∷ [];
+        after = with_accesses accesses c.args.node (does.access ∷ []);
+        does = λ p. rw c.requires.bytes (more does none);
+      }),
+  (λ accesses at p. rw c.requires.bytes (may_of_step _ c.args.node (search rules))),
+  search rules,
+  search rules,
+)

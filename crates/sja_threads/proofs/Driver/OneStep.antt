@@ -1,0 +1,202 @@
+-- One step of a driver's script: it is done, or a gate breaks it off.
+use Rattle.std.proofs.Common.{◌≡◌, ◌≤◌, ◌+◌, ◌*◌, ◌++◌, ℕ, Bool, true, false, cond, Option, Some, None, List, [], ◌∷◌}
+use Rattle.std.proofs.Common.{length, map, refl, sym, ap, ◌∙◌, subst, arith, append-nil}
+use Rattle.std.specs.Vec.{vec_capacity}
+use Rattle.std.proofs.lemmas.List.{length-append}
+use Rattle.sja_link.specs.declared.driver_end.DriverEnd.{Ghosts as Ends}
+use Rattle.sja_regs.specs.declared.registers.Registers.{Registers}
+use Rattle.sja_regs.specs.DriverSettings.{HasSettings}
+use Rattle.sja_script.specs.declared.step.Step.{Step}
+use Rattle.sja_script.specs.declared.step.Step.TheVariants.{Read, Write}
+use Rattle.sja_script.specs.declared.step_answer.StepAnswer.{StepAnswer}
+use Rattle.sja_script.specs.declared.step_answer.StepAnswer.TheVariants.{Done as DoneAnswer}
+use Rattle.sja_driver.specs.Accesses.{Answers, by_bytes, deed_steps, kept_by, kept_written}
+use Rattle.sja_driver.specs.AnyDrivers.{is_out}
+use Rattle.sja_driver.specs.Deeds.{Deed, is_active}
+use Rattle.sja_driver.specs.Drivers.{nothing_seen}
+use Rattle.sja_driver.specs.LoggedDrivers.{driver_of, log_of, kept_of}
+use Rattle.sja_driver.specs.Logs.{done_in, done_room}
+use Rattle.sja_driver.specs.declared.kept_bytes.KeptBytes.{KeptBytes}
+use Rattle.sja_driver.specs.declared.logged_driver.LoggedDriver.{LoggedDriver}
+use Rattle.sja_driver.specs.declared.write_steps.WriteSteps.{WriteSteps}
+use Rattle.sja_driver.specs.Kept.{moved_by_answer}
+use Rattle.sja_driver.specs.WriteLists.{listed, steps_in}
+use Rattle.sja_driver.specs.Writes.{write_steps}
+use Rattle.sja_threads.specs.declared.driver_thread.DriverThread.{DriverThread}
+use Rattle.sja_threads.specs.Accessing.{IsAccessAt, IsBrokenOff, LeadOn, most_deeds}
+use Rattle.sja_threads.specs.Accessing.IsBrokenOff.{not_begun, begun}
+use Rattle.sja_threads.specs.Inside.Accesses.{IsNoWrite, IsTold, BeginsWrite, DoesStep, BreaksOff}
+use Rattle.sja_threads.specs.Inside.Steps.{MayStep, DoesDeed, DoesParts, IsDeedIf}
+use Rattle.sja_threads.proofs.Driver.Kinds.{access_at}
+use Rattle.sja_threads.proofs.Driver.Parts.{few_deeds, few_listed, parts_able}
+use Rattle.sja_threads.proofs.Driver.Settings.{done_from}
+use Rattle.sja_threads.proofs.Driver.Steps.{may_less, does_none, does_entered}
+
+-- ---- how many deeds
+
+-- a step is one at least, and a write by addresses and bytes three at most
+pub one_most : (version : ℕ) → 1 ≤ most_deeds version 1
+one_most version = by (by_bytes version)
+  where
+    by : (bytes : Bool) → 1 ≤ cond bytes (3 * 1) 1
+    by true = omega arith
+    by false = omega arith
+
+pub three_most : (version : ℕ) → by_bytes version ≡ true → 3 ≤ most_deeds version 1
+three_most version bytes = subst (λ (b : Bool). 3 ≤ cond b (3 * 1) 1) (sym bytes) (omega arith)
+
+pub few_steps : (w : WriteSteps) → length (steps_in w) ≤ 3
+few_steps w =
+    let a = few_listed w.first in let b = few_listed w.second in let c = few_listed w.third in
+    let x = length-append (listed w.first) (listed w.second ++ listed w.third) in
+    let y = length-append (listed w.second) (listed w.third) in omega (arith, a, b, c, x, y)
+
+-- one deed that is of this step and has this answer
+pub record IsOneOf (s : Step) (answer : StepAnswer) (deeds : List Deed) : Type 0 where
+  pub deed : Deed
+  pub are : deeds ≡ deed ∷ []
+  pub step : deed.step ≡ s
+  pub answered : deed.answer ≡ answer
+
+pub one_of : (s : Step) (answer : StepAnswer) (deeds : List Deed) → IsDeedIf s (Some answer) deeds →
+    IsOneOf s answer deeds
+one_of s answer [] is = absurd (let none : [] ≡ s ∷ [] = is.0 in cc)
+one_of s answer (d ∷ []) is = record {
+  deed = d;
+  are = refl;
+  step = first_step d.step s is.0;
+  answered = first_answer d.answer answer is.1;
+}
+  where
+    first_step : (a b : Step) → a ∷ [] ≡ b ∷ [] → a ≡ b
+    first_step a b e = cc
+
+    first_answer : (a b : StepAnswer) → a ∷ [] ≡ b ∷ [] → a ≡ b
+    first_answer a b e = cc
+one_of s answer (d ∷ x ∷ deeds) is =
+    absurd (let two = ap (λ (l : List Step). length l) is.0 in omega (arith, two))
+
+module _ {E : Type 0} (e : Ends E) (was mid : DriverThread E) (d : LoggedDriver) where
+  abbrev now : DriverThread E
+  now = record mid { driver = d }
+
+  -- the step is entered as done
+  abbrev pub Entered : KeptBytes → StepAnswer → Type 0
+  Entered kept answer =
+      (d ≡ record mid.driver { kept = kept; log = record (log_of mid.driver) { done = (log_of d).done } })
+      × (done_in (log_of d) ≡ done_in (log_of mid.driver) ++ record { answer = answer; bits = 0 } ∷ [])
+      × (done_room (log_of d) ≡ done_room (log_of mid.driver))
+
+  -- ---- a step that is one deed
+
+  pub step_done : (s : Step) (given : Option StepAnswer) (answer told : StepAnswer) (kept moved : KeptBytes) →
+      given ≡ Some answer → DoesDeed e was mid s given → Entered moved told → MayStep e.link was 1 →
+      IsNoWrite was.bytes s →
+      (p : Registers) × HasSettings p was.set × (kept ≡ kept_written p (kept_of was.driver) s) →
+      moved ≡ moved_by_answer kept answer → IsTold was.bytes kept s answer told → DoesStep e was now s
+  unfolding does_entered
+  step_done s given answer told kept moved some q entered may one written by is = record {
+    access = record { step = s; answer = told; bits = 0; deeds = q.deeds };
+    step_is = refl;
+    does = does_entered e was mid d moved q.deeds q.does entered.0;
+    few = let most = one_most was.set.version in let one = ap (λ (l : List Deed). length l) this.are in
+        omega (arith, most, one);
+    is = λ before w.
+        let from = done_from before was.set this.deed mid.set
+        (subst (λ (l : List Deed). LeadOn before was.set l mid.set) this.are (q.does.leads before w)) in
+        subst (λ (l : List Deed). IsAccessAt was.set.version was.set (is_active before) (kept_of was.driver)
+        (record { step = s; answer = told; bits = 0; deeds = l }) (kept_of d)) (sym this.are)
+        (subst (λ (k : KeptBytes). IsAccessAt was.set.version was.set (is_active before) (kept_of was.driver)
+        (record { step = s; answer = told; bits = 0; deeds = this.deed ∷ [] }) k)
+        (sym (ap (λ (x : LoggedDriver). kept_of x) entered.0))
+        (access_at was.set.version was.set (is_active before) (kept_of was.driver) kept moved this.deed told from
+        written.0 written.1 (by ∙ ap (λ (a : StepAnswer). moved_by_answer kept a) (sym this.answered)) s was.bytes
+        may.may.bytes this.step one
+        (subst (λ (a : StepAnswer). IsTold was.bytes kept s a told) (sym this.answered) is) written.2));
+    done = entered.1 ∙ ap (λ v. v.items ++ record { answer = told; bits = 0 } ∷ []) q.none.done;
+    room = entered.2 ∙ ap (λ v. vec_capacity v) q.none.done;
+  }
+    where
+      this : IsOneOf s answer q.deeds
+      this = one_of s answer q.deeds (subst (λ (g : Option StepAnswer). IsDeedIf s g q.deeds) some q.are)
+
+  -- ---- a write of a driver that knows addresses and bytes alone
+
+  pub write_done : (address value : ℕ) (steps : WriteSteps) (m : Bool) (kept moved : KeptBytes) → m ≡ true →
+      BeginsWrite was address value (steps_in steps) kept → DoesParts e was mid (steps_in steps) m kept moved →
+      Entered moved DoneAnswer → by_bytes was.set.version ≡ true → DoesStep e was now (Write address value)
+  unfolding does_entered
+  write_done address value steps m kept moved all_met b q entered bytes = record {
+    access = record { step = Write address value; answer = DoneAnswer; bits = 0; deeds = q.deeds };
+    step_is = refl;
+    does = does_entered e was mid d moved q.deeds q.does entered.0;
+    few = let most = three_most was.set.version bytes in
+        let few = few_deeds e was mid (steps_in steps) m kept moved q in let three = few_steps steps in
+        omega (arith, most, few, three);
+    is = λ before w. record {
+      at = b.at;
+      seen = nothing_seen;
+      has = b.has;
+      is = record {
+        steps = subst (λ (k : Bool). map (λ (x : Deed). x.step) q.deeds
+            ≡ deed_steps k b.at (is_active before) (Write address value)) (sym bytes)
+            (whole ∙ ap (λ (k : Bool). write_steps b.at k address value) (sym w.out));
+        answer = subst (λ (k : Bool). Answers k b.at nothing_seen (kept_of was.driver) (Write address value) q.deeds
+            DoneAnswer) (sym bytes) refl;
+        left = ap (λ (x : LoggedDriver). kept_of x) entered.0 ∙ q.moved
+            ∙ ap (λ (k : KeptBytes). kept_by k q.deeds) b.left;
+      };
+      bits = refl;
+      read = λ other x same deeds. absurd (let two : Write address value ≡ Read other = same in cc);
+    };
+    done = entered.1 ∙ ap (λ v. v.items ++ record { answer = DoneAnswer; bits = 0 } ∷ []) q.none.done;
+    room = entered.2 ∙ ap (λ v. vec_capacity v) q.none.done;
+  }
+    where
+      whole : map (λ (x : Deed). x.step) q.deeds ≡ write_steps b.at (is_out (driver_of was.driver)) address value
+      whole = sym (append-nil (map (λ (x : Deed). x.step) q.deeds))
+          ∙ ap (λ (l : List Step). map (λ (x : Deed). x.step) q.deeds ++ l) (sym (q.ends all_met)) ∙ sym q.whole
+          ∙ b.steps_are
+
+-- ---- a gate breaks it off
+
+module _ {E : Type 0} (e : Ends E) (was : DriverThread E) (may : MayStep e.link was 1) where
+  -- before anything of it was done
+  pub broken_before : ((x : E) → e.same x x) → (s : Step) → BreaksOff e was was s
+  unfolding does_none
+  broken_before r s = record {
+    deeds = [];
+    does = does_none e r was;
+    none = record { done = refl; kept = refl };
+    lawful = may.may.lawful;
+    broken = λ left. not_begun;
+  }
+
+  -- before its one deed was done
+  pub step_broken : (last : DriverThread E) (s : Step) (given : Option StepAnswer) → given ≡ None →
+      DoesDeed e was last s given → BreaksOff e was last s
+  step_broken last s given none q =
+      let are : q.deeds ≡ [] = subst (λ (g : Option StepAnswer). IsDeedIf s g q.deeds) none q.are in record {
+        deeds = q.deeds;
+        does = q.does;
+        none = q.none;
+        lawful = (q.does.able 0 (may_less e was (length q.deeds + 0) (most_deeds was.set.version 1)
+            (let long = ap (λ (l : List Deed). length l) are in omega (arith, long)) may.may)).lawful;
+        broken = λ left. subst (λ (l : List Deed). IsBrokenOff was.set.version was.set (is_out (driver_of was.driver))
+            (s ∷ left) l) (sym are) not_begun;
+      }
+
+  -- with some of a write left
+  pub write_broken : (last : DriverThread E) (address value : ℕ) (steps : WriteSteps) (m : Bool)
+      (kept kept_now : KeptBytes) → m ≡ false → BeginsWrite was address value (steps_in steps) kept →
+      DoesParts e was last (steps_in steps) m kept kept_now → by_bytes was.set.version ≡ true →
+      BreaksOff e was last (Write address value)
+  write_broken last address value steps m kept kept_now unmet b q bytes = record {
+    deeds = q.deeds;
+    does = q.does;
+    none = q.none;
+    lawful = (parts_able e was last (steps_in steps) m kept kept_now q 0 (most_deeds was.set.version 1)
+        (let few = few_steps steps in let three = three_most was.set.version bytes in omega (arith, few, three))
+        may.may).lawful;
+    broken = λ left. begun address value b.at q.left bytes b.has (sym b.steps_are ∙ q.whole) (q.waits unmet);
+  }

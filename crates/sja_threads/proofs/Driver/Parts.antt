@@ -1,0 +1,147 @@
+-- The deeds that a write is, one after the other.
+use Rattle.std.proofs.Common.{◌≡◌, ◌≤◌, ◌+◌, ◌++◌, ℕ, Bool, true, false, Option, Some, None, List, [], ◌∷◌, length, map}
+use Rattle.std.proofs.Common.{refl, sym, ap, ◌∙◌, subst, arith, append-nil, append_assoc}
+use Rattle.std.proofs.lemmas.List.{length-append, length-map, map-append}
+use Rattle.sja_link.specs.declared.driver_end.DriverEnd.{Ghosts as Ends}
+use Rattle.sja_script.specs.declared.step.Step.{Step}
+use Rattle.sja_script.specs.declared.step_answer.StepAnswer.{StepAnswer}
+use Rattle.sja_driver.specs.Accesses.{kept_by}
+use Rattle.sja_driver.specs.Deeds.{Deed}
+use Rattle.sja_driver.specs.declared.kept_bytes.KeptBytes.{KeptBytes}
+use Rattle.sja_driver.specs.Kept.{moved_by_answer}
+use Rattle.sja_driver.specs.WriteLists.{listed}
+use Rattle.sja_threads.specs.declared.driver_thread.DriverThread.{DriverThread}
+use Rattle.sja_threads.specs.Inside.Steps.{MayWork, DoesDeed, DoesParts, IsDeedIf}
+use Rattle.sja_threads.proofs.Driver.Steps.{may_less, does_none, does_more}
+
+-- ---- what is kept
+
+-- after deeds, and then others
+kept_more : (kept : KeptBytes) (xs ys : List Deed) → kept_by kept (xs ++ ys) ≡ kept_by (kept_by kept xs) ys
+kept_more kept [] ys = refl
+kept_more kept (d ∷ xs) ys = kept_more (moved_by_answer kept d.answer) xs ys
+
+-- after one with this answer
+pub kept_one : (kept : KeptBytes) (deeds : List Deed) (answer : StepAnswer) →
+    map (λ (d : Deed). d.answer) deeds ≡ answer ∷ [] → kept_by kept deeds ≡ moved_by_answer kept answer
+kept_one kept [] answer are = absurd (let none : [] ≡ answer ∷ [] = are in cc)
+kept_one kept (d ∷ []) answer are = ap (λ (a : StepAnswer). moved_by_answer kept a) (first_is d.answer answer are)
+  where
+    first_is : (a b : StepAnswer) → a ∷ [] ≡ b ∷ [] → a ≡ b
+    first_is a b e = cc
+kept_one kept (d ∷ x ∷ deeds) answer are =
+    absurd (let two = ap (λ (l : List StepAnswer). length l) are in omega (arith, two))
+
+-- at most one
+pub few_listed : (o : Option Step) → length (listed o) ≤ 1
+few_listed None = omega arith
+few_listed (Some s) = omega arith
+
+module _ {E : Type 0} (e : Ends E) where
+  -- ---- one of the deeds
+
+  -- where there is none
+  pub part_none : ((x : E) → e.same x x) → (t : DriverThread E) (o : Option Step) (kept : KeptBytes) → o ≡ None →
+      DoesParts e t t (listed o) true kept kept
+  unfolding does_none
+  part_none r t o kept is = rw is (record {
+    deeds = [];
+    left = [];
+    whole = refl;
+    does = does_none e r t;
+    none = record { done = refl; kept = refl };
+    moved = refl;
+    ends = λ all_met. refl;
+    waits = λ unmet. absurd (let two : true ≡ false = unmet in cc);
+  })
+
+  -- it was done
+  pub part_done : (a b : DriverThread E) (o : Option Step) (s : Step) (given : Option StepAnswer) (answer : StepAnswer)
+      (kept kept_now : KeptBytes) → o ≡ Some s → given ≡ Some answer → DoesDeed e a b s given →
+      kept_now ≡ moved_by_answer kept answer → DoesParts e a b (listed o) true kept kept_now
+  part_done a b o s given answer kept kept_now is some d moved =
+      let are : IsDeedIf s (Some answer) d.deeds =
+      subst (λ (g : Option StepAnswer). IsDeedIf s g d.deeds) some d.are in record {
+        deeds = d.deeds;
+        left = [];
+        whole = ap (λ (x : Option Step). listed x) is ∙ sym are.0
+            ∙ sym (append-nil (map (λ (x : Deed). x.step) d.deeds));
+        does = d.does;
+        none = d.none;
+        moved = moved ∙ sym (kept_one kept d.deeds answer are.1);
+        ends = λ all_met. refl;
+        waits = λ unmet. absurd (let two : true ≡ false = unmet in cc);
+      }
+
+  -- or it wasn't
+  pub part_not : (a b : DriverThread E) (o : Option Step) (s : Step) (given : Option StepAnswer) (kept : KeptBytes) →
+      o ≡ Some s → given ≡ None → DoesDeed e a b s given → DoesParts e a b (listed o) false kept kept
+  part_not a b o s given kept is none d =
+      let are : d.deeds ≡ [] = subst (λ (g : Option StepAnswer). IsDeedIf s g d.deeds) none d.are in record {
+        deeds = d.deeds;
+        left = s ∷ [];
+        whole = ap (λ (x : Option Step). listed x) is
+            ∙ ap (λ (l : List Deed). map (λ (x : Deed). x.step) l ++ s ∷ []) (sym are);
+        does = d.does;
+        none = d.none;
+        moved = ap (λ (l : List Deed). kept_by kept l) (sym are);
+        ends = λ all_met. absurd (let two : false ≡ true = all_met in cc);
+        waits = λ unmet. omega arith;
+      }
+
+  -- ---- one after the other
+
+  -- with more of them to come
+  pub parts_wide : (a b : DriverThread E) (xs ys : List Step) (m : Bool) (kept kept_now : KeptBytes) → m ≡ false →
+      DoesParts e a b xs m kept kept_now → DoesParts e a b (xs ++ ys) false kept kept_now
+  parts_wide a b xs ys m kept kept_now unmet p = record {
+    deeds = p.deeds;
+    left = p.left ++ ys;
+    whole = ap (λ (l : List Step). l ++ ys) p.whole
+        ∙ append_assoc (map (λ (x : Deed). x.step) p.deeds) p.left ys;
+    does = p.does;
+    none = p.none;
+    moved = p.moved;
+    ends = λ all_met. absurd (let two : false ≡ true = all_met in cc);
+    waits = λ e. let some = p.waits unmet in let long = length-append p.left ys in omega (arith, some, long);
+  }
+
+  -- all of these were done, and then some of the others
+  pub parts_more : (trans : (x y z : E) → e.same x y → e.same y z → e.same x z) → (a b c : DriverThread E)
+      (xs ys : List Step) (m n : Bool) (kept mid kept_now : KeptBytes) → m ≡ true → DoesParts e a b xs m kept mid →
+      DoesParts e b c ys n mid kept_now → DoesParts e a c (xs ++ ys) n kept kept_now
+  unfolding does_more
+  parts_more trans a b c xs ys m n kept mid kept_now all_met p q = record {
+    deeds = p.deeds ++ q.deeds;
+    left = q.left;
+    whole = ap (λ (l : List Step). l ++ ys) all ∙ ap (λ (l : List Step). map step_of p.deeds ++ l) q.whole
+        ∙ sym (append_assoc (map step_of p.deeds) (map step_of q.deeds) q.left)
+        ∙ ap (λ (l : List Step). l ++ q.left) (sym (map-append step_of p.deeds q.deeds));
+    does = does_more e trans a b c p.deeds q.deeds p.does q.does;
+    none = record { done = q.none.done ∙ p.none.done; kept = q.none.kept ∙ p.none.kept };
+    moved = q.moved ∙ ap (λ (k : KeptBytes). kept_by k q.deeds) p.moved ∙ sym (kept_more kept p.deeds q.deeds);
+    ends = q.ends;
+    waits = q.waits;
+  }
+    where
+      step_of : Deed → Step
+      step_of d = d.step
+
+      all : xs ≡ map step_of p.deeds
+      all = p.whole ∙ ap (λ (l : List Step). map step_of p.deeds ++ l) (p.ends all_met)
+          ∙ append-nil (map step_of p.deeds)
+
+  -- no more of them than there are
+  pub few_deeds : (a b : DriverThread E) (xs : List Step) (m : Bool) (kept kept_now : KeptBytes) →
+      (p : DoesParts e a b xs m kept kept_now) → length p.deeds ≤ length xs
+  few_deeds a b xs m kept kept_now p =
+      let all = ap (λ (l : List Step). length l) p.whole in
+      let both = length-append (map (λ (x : Deed). x.step) p.deeds) p.left in
+      let many = length-map p.deeds (λ (x : Deed). x.step) in omega (arith, all, both, many)
+
+  -- as many may be done as are left
+  pub parts_able : (a b : DriverThread E) (xs : List Step) (m : Bool) (kept kept_now : KeptBytes) →
+      DoesParts e a b xs m kept kept_now → (n k : ℕ) → length xs + n ≤ k → MayWork e.link a k → MayWork e.link b n
+  parts_able a b xs m kept kept_now p n k few may =
+      let less = few_deeds a b xs m kept kept_now p in
+      p.does.able n (may_less e a (length p.deeds + n) k (omega (arith, few, less)) may)

@@ -1,0 +1,44 @@
+use Rattle.std.proofs.Common.{◌++◌, arith}
+use Rattle.sja_driver.specs.WriteLists.{listed}
+use Rattle.sja_threads.proofs.Driver.Parts.{few_listed, parts_able, parts_more, parts_wide}
+use Rattle.sja_threads.proofs.driver_thread.DriverThread.do_parts.Goals as goal
+
+pub do_part-requires-2-after_bounds : goal.do_part-requires-2-after_bounds
+do_part-requires-2-after_bounds g c κs within =
+    let s = c.args.steps.now in
+    parts_able g.D.DriverEnd c.args.self.now c.do_part.new.self (listed s.first) c.do_part.result c.args.kept.now
+    c.do_part.new.kept c.do_part.ensures.parts 1 3 (let few = few_listed s.first in omega (arith, few)) c.requires
+
+pub returns-then-not-do_part-clause-parts : goal.returns-then-not-do_part-clause-parts
+returns-then-not-do_part-clause-parts g c =
+    let s = c.args.steps.now in
+    parts_wide g.D.DriverEnd c.args.self.now c.do_part.new.self (listed s.first) (listed s.second ++ listed s.third)
+    c.do_part.result c.args.kept.now c.do_part.new.kept c.if-not-do_part.true c.do_part.ensures.parts
+
+pub returns-then-not-do_part-2-clause-parts : goal.returns-then-not-do_part-2-clause-parts
+returns-then-not-do_part-2-clause-parts g c =
+    let s = c.args.steps.now in
+    parts_more g.D.DriverEnd g.met.D.DriverEnd.same_trans c.args.self.now c.do_part.new.self c.do_part-2.new.self
+    (listed s.first) (listed s.second ++ listed s.third) c.do_part.result _ c.args.kept.now c.do_part.new.kept
+    c.do_part-2.new.kept c.if-not-do_part.false c.do_part.ensures.parts
+    (parts_wide g.D.DriverEnd c.do_part.new.self c.do_part-2.new.self (listed s.second) (listed s.third)
+    c.do_part-2.result c.do_part.new.kept c.do_part-2.new.kept c.if-not-do_part-2.true c.do_part-2.ensures.parts)
+
+pub do_part-requires-3-after_bounds : goal.do_part-requires-3-after_bounds
+do_part-requires-3-after_bounds g c κs within =
+    let s = c.args.steps.now in
+    parts_able g.D.DriverEnd c.do_part.new.self c.do_part-2.new.self (listed s.second) c.do_part-2.result
+    c.do_part.new.kept c.do_part-2.new.kept c.do_part-2.ensures.parts 1 2
+    (let few = few_listed s.second in omega (arith, few))
+    (parts_able g.D.DriverEnd c.args.self.now c.do_part.new.self (listed s.first) c.do_part.result c.args.kept.now
+    c.do_part.new.kept c.do_part.ensures.parts 2 3 (let few = few_listed s.first in omega (arith, few)) c.requires)
+
+pub returns-clause-parts : goal.returns-clause-parts
+returns-clause-parts g c =
+    let s = c.args.steps.now in
+    parts_more g.D.DriverEnd g.met.D.DriverEnd.same_trans c.args.self.now c.do_part.new.self c.do_part-3.new.self
+    (listed s.first) (listed s.second ++ listed s.third) c.do_part.result c.do_part-3.result c.args.kept.now
+    c.do_part.new.kept c.do_part-3.new.kept c.if-not-do_part.false c.do_part.ensures.parts
+    (parts_more g.D.DriverEnd g.met.D.DriverEnd.same_trans c.do_part.new.self c.do_part-2.new.self c.do_part-3.new.self
+    (listed s.second) (listed s.third) c.do_part-2.result c.do_part-3.result c.do_part.new.kept c.do_part-2.new.kept
+    c.do_part-3.new.kept c.if-not-do_part-2.false c.do_part-2.ensures.parts c.do_part-3.ensures.parts)

@@ -1,0 +1,25 @@
+use Rattle.std.proofs.Common.{◌≡◌, true, sym, ◌∙◌}
+use Rattle.sja_driver.specs.Accesses.{by_bytes}
+use Rattle.sja_script.specs.declared.step.Step.TheVariants.{Write}
+use Rattle.sja_threads.proofs.Driver.OneStep.{broken_before, write_broken, write_done}
+use Rattle.sja_threads.proofs.driver_thread.DriverThread.do_write.Goals as goal
+
+pub returns-then-not-lets_go-clause-quits : goal.returns-then-not-lets_go-clause-quits
+returns-then-not-lets_go-clause-quits g c = λ undone.
+    broken_before g.D.DriverEnd c.args.self.now c.requires.may g.met.D.DriverEnd.same_refl
+    (Write c.args.address c.args.value)
+
+pub returns-then-not-do_parts-clause-quits : goal.returns-then-not-do_parts-clause-quits
+returns-then-not-do_parts-clause-quits g c = λ undone.
+    let bytes : by_bytes c.args.self.now.set.version ≡ true = sym c.requires.may.may.bytes ∙ c.requires.bytes in
+    write_broken g.D.DriverEnd c.args.self.now c.requires.may c.do_parts.new.self c.args.address c.args.value
+    c.begin_write-steps.result.0 c.do_parts.result c.begin_write-steps.result.1 c.do_parts.new.kept
+    c.if-not-do_parts.true c.begin_write-steps.ensures c.do_parts.ensures.parts bytes
+
+pub returns-clause-done : goal.returns-clause-done
+returns-clause-done g c = λ done.
+    let e = c.enter.ensures in
+    let bytes : by_bytes c.args.self.now.set.version ≡ true = sym c.requires.may.may.bytes ∙ c.requires.bytes in
+    write_done g.D.DriverEnd c.args.self.now c.do_parts.new.self c.enter.new.self c.args.address c.args.value
+    c.begin_write-steps.result.0 c.do_parts.result c.begin_write-steps.result.1 c.do_parts.new.kept
+    c.if-not-do_parts.false c.begin_write-steps.ensures c.do_parts.ensures.parts (e.rest, e.done, e.room) bytes

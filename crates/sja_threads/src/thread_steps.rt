@@ -1,0 +1,184 @@
+//! The steps of a driver in its thread: each is one deed, or in version 3 a write up to three.
+
+ghost use Rattle.std.specs.Prelude.{◌≡◌, true, false};
+ghost use Rattle.sja_threads.specs.Inside.Accesses.{IsTold};
+
+use super::at_gate::AtGate;
+use super::driver_thread::DriverThread;
+use super::gate::Gate;
+use sja_driver::{KeptBytes, WriteSteps, is_reset, steps_of_write};
+use sja_link::DriverEnd;
+use sja_regs::Port;
+use sja_script::{Step, StepAnswer};
+use std::sync::{Mutex, Wait};
+
+impl<D: DriverEnd + Drop> DriverThread<D> {
+    ghost use Rattle.sja_regs.specs.declared.registers.Registers.{Registers as PortRegisters};
+    ghost use Rattle.sja_regs.specs.DriverSettings.{HasSettings};
+    ghost use Rattle.sja_driver.specs.Accesses.{kept_written};
+    ghost use Rattle.sja_driver.specs.LoggedDrivers.{kept_of, IsLawful};
+    ghost use Rattle.sja_driver.specs.WriteLists.{listed, steps_in};
+    ghost use Rattle.sja_script.specs.declared.step.Step.TheVariants.{Write};
+    ghost use Rattle.sja_threads.specs.Inside.Accesses.{IsNoWrite, BeginsWrite, DoesStep, BreaksOff};
+    ghost use Rattle.sja_threads.specs.Inside.Steps.{MayWork, MayStep, DoesParts};
+
+    /// Does a step of this number: the gate is asked before each try. It says whether the step is done; else the gate
+    /// quit.
+    pub(crate) fn do_step<G: Gate, R: Wait>(
+        &mut self,
+        at: &AtGate<R, G>,
+        step: &Step,
+        number: u32,
+    ) -> bool
+        requires { MayStep D.link self.old 1 }
+        ensures done { result ≡ true → DoesStep D.DriverEnd self.old self.new step.now }
+        ensures quits { result ≡ false → BreaksOff D.DriverEnd self.old self.new step.now }
+        ensures never { result ≡ false → G.QUITS ≡ true }
+    {
+        if !self.bytes {
+            return self.do_one(at, step, number);
+        }
+        let Step::Write(address, value) = step else {
+            return self.do_one(at, step, number);
+        };
+        self.do_write(at, *address, *value, number)
+    }
+
+    /// Does a step that is one deed.
+    fn do_one<G: Gate, R: Wait>(&mut self, at: &AtGate<R, G>, step: &Step, number: u32) -> bool
+        requires may { MayStep D.link self.old 1 }
+        requires one { IsNoWrite self.old.bytes step.now }
+        ensures done { result ≡ true → DoesStep D.DriverEnd self.old self.new step.now }
+        ensures quits { result ≡ false → BreaksOff D.DriverEnd self.old self.new step.now }
+        ensures never { result ≡ false → G.QUITS ≡ true }
+    {
+        let mut tries = 1u32;
+        if !at.lets_go(self.node, number, &mut tries) {
+            return false;
+        }
+        let bytes = self.bytes;
+        let kept = self.kept_by_step(at.rt, at.port, step);
+        let Some(answer) = self.do_deed(at, step, number, &mut tries) else {
+            return false;
+        };
+        let mut moved = kept;
+        moved.answered(&answer);
+        self.driver
+            .enter(told(bytes, &kept, step, answer), 0, moved);
+        true
+    }
+
+    /// Does a write of a driver that knows addresses and bytes alone: up to three deeds.
+    fn do_write<G: Gate, R: Wait>(
+        &mut self,
+        at: &AtGate<R, G>,
+        address: u8,
+        value: u8,
+        number: u32,
+    ) -> bool
+        requires may { MayStep D.link self.old 1 }
+        requires bytes { self.old.bytes ≡ true }
+        ensures done { result ≡ true → DoesStep D.DriverEnd self.old self.new (Write address value) }
+        ensures quits { result ≡ false → BreaksOff D.DriverEnd self.old self.new (Write address value) }
+        ensures never { result ≡ false → G.QUITS ≡ true }
+    {
+        let mut tries = 1u32;
+        if !at.lets_go(self.node, number, &mut tries) {
+            return false;
+        }
+        let (steps, mut kept) = self.begin_write(at.rt, at.port, address, value);
+        if !self.do_parts(at, &steps, number, &mut tries, &mut kept) {
+            return false;
+        }
+        self.driver.enter(StepAnswer::Done, 0, kept);
+        true
+    }
+
+    /// Does the deeds that a write is, one after the other, and says whether all are done; else the gate quit.
+    fn do_parts<G: Gate, R: Wait>(
+        &mut self,
+        at: &AtGate<R, G>,
+        steps: &WriteSteps,
+        number: u32,
+        tries: &mut u32,
+        kept: &mut KeptBytes,
+    ) -> bool
+        requires { MayWork D.link self.old 3 }
+        ensures parts { DoesParts D.DriverEnd self.old self.new (steps_in steps.now) result kept.old kept.new }
+        ensures never { result ≡ false → G.QUITS ≡ true }
+    {
+        if !self.do_part(at, &steps.first, number, tries, kept) {
+            return false;
+        }
+        if !self.do_part(at, &steps.second, number, tries, kept) {
+            return false;
+        }
+        self.do_part(at, &steps.third, number, tries, kept)
+    }
+
+    /// Does one of them, if it is there.
+    fn do_part<G: Gate, R: Wait>(
+        &mut self,
+        at: &AtGate<R, G>,
+        part: &Option<Step>,
+        number: u32,
+        tries: &mut u32,
+        kept: &mut KeptBytes,
+    ) -> bool
+        requires { MayWork D.link self.old 1 }
+        ensures parts { DoesParts D.DriverEnd self.old self.new (listed part.now) result kept.old kept.new }
+        ensures never { result ≡ false → G.QUITS ≡ true }
+    {
+        let Some(deed) = part else {
+            return true;
+        };
+        let Some(answer) = self.do_deed(at, deed, number, tries) else {
+            return false;
+        };
+        kept.answered(&answer);
+        true
+    }
+
+    /// The deeds that a write is by what the port shows now, and what is kept once it has written its value.
+    fn begin_write(
+        &self,
+        rt: &impl Wait,
+        port: &Mutex<Port>,
+        address: u8,
+        value: u8,
+    ) -> (WriteSteps, KeptBytes)
+        requires { IsLawful self.now.driver }
+        ensures { BeginsWrite self.now address value (steps_in result.0) result.1 }
+    {
+        let mut held = port.lock(rt);
+        held.restore(&self.set);
+        let mut kept = self.driver.kept();
+        kept.write(is_reset(&held), address, value);
+        (steps_of_write(&self.driver, &held, address, value), kept)
+    }
+
+    /// What is kept for the driver once a step has written its value, if it writes one that is kept.
+    fn kept_by_step(&self, rt: &impl Wait, port: &Mutex<Port>, step: &Step) -> KeptBytes
+        ensures { (p : PortRegisters) × HasSettings p self.now.set
+            × (result ≡ kept_written p (kept_of self.now.driver) step.now) }
+    {
+        let mut kept = self.driver.kept();
+        if let Step::Write(address, value) = step {
+            let mut held = port.lock(rt);
+            held.restore(&self.set);
+            kept.write(is_reset(&held), *address, *value);
+        }
+        kept
+    }
+}
+
+/// What a step answers whose deed answered this: of a driver that knows addresses and bytes alone (`bytes`) a read a
+/// value in any case.
+fn told(bytes: bool, kept: &KeptBytes, step: &Step, answer: StepAnswer) -> StepAnswer
+    ensures { IsTold bytes kept.now step.now answer result }
+{
+    match step {
+        Step::Read(address) if bytes => StepAnswer::Value(kept.read_by(*address, &answer)),
+        _ => answer,
+    }
+}
