@@ -1,12 +1,13 @@
 /* sja.h: a bus of one to eight SJA1000 controllers, which a program drives by its registers, bit by bit.
  *
  * Two files have these calls: the library, proved, in the process of the program; and sja_pipe.c, over a process of
- * its own. docs/C.md has a first program, what each call does, and what is proved of it.
+ * its own. README has a first program; docs/use/DRIVER.md says what each call does, and what is proved of it.
  *
  * What a caller owes: a handle comes from sja_new, and isn't used after sja_free; one thread at a time is in a call of
- * a session; a text has as many bytes as its size says and a plan as many as its length says, neither is null, and the
- * two of sja_run_plan don't overlap; no call comes from a signal handler, nor from the child of a fork in a process
- * with threads. A handle that is null is answered with SJA_NO_HANDLE. Each number may be any.
+ * a session; a text has as many bytes as its size says and a plan as many as its length says, and the two of
+ * sja_run_plan don't overlap; no call comes from a signal handler, nor from the child of a fork in a process with
+ * threads. A handle that is null is answered with SJA_NO_HANDLE, a text that is null has no room, and a plan that is
+ * null is none. Each number may be any.
  */
 #ifndef SJA_H
 #define SJA_H
@@ -86,27 +87,25 @@ sja_answer sja_strike(sja *session, uint32_t node, uint32_t bit);
 /* The value is how many bits were run: the number of the next one. */
 sja_answer sja_now(sja *session);
 
-/* Ends the session, and puts the report of all that happened into the text, with a NUL at its end. The value is the
- * length without it. It can be called again. */
-sja_answer sja_report(sja *session, char *text, size_t size);
-
-/* Puts the plan that the session wrote so far into the text, with a NUL at its end: `sja run` takes it. The value is
- * the length without it. */
-sja_answer sja_plan(sja *session, char *text, size_t size);
+/* As sja_report, sja_plan and sja_run_plan below, but that neither a text nor a plan is null. */
+sja_answer sja_put_report(sja *session, char *text, size_t size);
+sja_answer sja_put_plan(sja *session, char *text, size_t size);
+sja_answer sja_put_run(const char *plan, size_t length, char *text, size_t size);
 
 /* Lets go of all that the session has in memory, but for the block at the handle. It has ended then, without its plan
  * and its report. */
 sja_answer sja_let_go(sja *session);
 
-/* Runs a plan, and puts its report into the text, with a NUL at its end. The value is the length without it. */
-sja_answer sja_run_plan(const char *plan, size_t length, char *text, size_t size);
-
 /* Makes a session to which nothing happened, by a version of the rules, of at most so many bits, with so many nodes,
- * within the limits of sja_begin, and puts its handle into *session. Where there is none, *session is null. */
+ * within the limits of sja_begin, and puts its handle into *session. Where there is none, *session is null. Where the
+ * place for the handle is null itself the status is SJA_NO_HANDLE. */
 static inline sja_answer sja_new(uint32_t version, uint32_t bits, uint32_t nodes, sja **session)
 {
-    sja_answer told = sja_make(session);
+    sja_answer told = { SJA_NO_HANDLE, 0 };
 
+    if (session == NULL)
+        return told;
+    told = sja_make(session);
     if (told.status == SJA_DONE)
         told = sja_begin(*session, version, bits, nodes);
     if (told.status != SJA_DONE) {
@@ -123,6 +122,36 @@ static inline sja_answer sja_free(sja *session)
 
     free(session);
     return told;
+}
+
+/* Ends the session, and puts the report of all that happened into the text, with a NUL at its end. The value is the
+ * length without it. It can be called again. */
+static inline sja_answer sja_report(sja *session, char *text, size_t size)
+{
+    char none = 0;
+
+    return text != NULL ? sja_put_report(session, text, size) : sja_put_report(session, &none, 0);
+}
+
+/* Puts the plan that the session wrote so far into the text, with a NUL at its end: `sja run` takes it. The value is
+ * the length without it. */
+static inline sja_answer sja_plan(sja *session, char *text, size_t size)
+{
+    char none = 0;
+
+    return text != NULL ? sja_put_plan(session, text, size) : sja_put_plan(session, &none, 0);
+}
+
+/* Runs a plan, and puts its report into the text, with a NUL at its end. The value is the length without it. */
+static inline sja_answer sja_run_plan(const char *plan, size_t length, char *text, size_t size)
+{
+    char none = 0, empty = 0;
+
+    if (plan == NULL) {
+        plan = &empty;
+        length = 0;
+    }
+    return text != NULL ? sja_put_run(plan, length, text, size) : sja_put_run(plan, length, &none, 0);
 }
 
 #ifdef __cplusplus

@@ -6,7 +6,8 @@
  * or a `./sja` that has one: without it `./sja live` opens no session, and sja_new answers SJA_BROKEN. Where it is
  * refused memory it ends, and each call answers SJA_NO_MEMORY from then on. What the process says on its standard error
  * goes nowhere; `$SJA live` in a shell shows it. Where SIGPIPE has no handler sja_new has it ignored, so that a
- * session's end is told by SJA_BROKEN and doesn't end the program.
+ * session's end is told by SJA_BROKEN and doesn't end the program. SIGCHLD may be ignored: then a shell starts the
+ * program, and says how it ended. A text that is null is one without room, and a plan that is null is none.
  */
 #define _POSIX_C_SOURCE 200809L
 
@@ -18,6 +19,7 @@
 #include <stdio.h>
 #include <stdlib.h>
 #include <string.h>
+#include <sys/stat.h>
 #include <sys/types.h>
 #include <sys/wait.h>
 #include <unistd.h>
@@ -32,10 +34,17 @@ struct text {
     size_t room;
 };
 
-struct sja {
-    pid_t process;
+/* A process, and the ends of pipes to it and from it. How it ended is told at `told`, where that isn't below 0. */
+struct process {
+    pid_t number;
     int to;
     int from;
+    int told;
+    ino_t first, second;    /* the pipes, by which an end is known again */
+};
+
+struct sja {
+    struct process process;
     char held[BYTES];       /* what was read and isn't used yet */
     size_t first;
     size_t count;
@@ -90,60 +99,136 @@ static int far_pipe(int ends[2])
     return made;
 }
 
-/* Becomes a program with one word, at these two ends of pipes. What it says of errors goes nowhere: that is put in its
- * place first, since it may have been opened in the place of one of the others. */
-static void become(const char *program, const char *word, int input, int output)
+/* Whether the kernel keeps no status of a process of this program that ends. */
+static int is_status_dropped(void)
+{
+    struct sigaction action;
+
+    return sigaction(SIGCHLD, NULL, &action) == 0
+        && ((action.sa_flags & SA_NOCLDWAIT) || (!(action.sa_flags & SA_SIGINFO) && action.sa_handler == SIG_IGN));
+}
+
+/* Becomes a program with one word, at these two ends of pipes; where `told` isn't below 0 a shell that runs it, and
+ * says its status there. What it says of errors goes nowhere: that is put in its place first, since it may have been
+ * opened in the place of one of the others. */
+static void become(const char *program, const char *word, int input, int output, int told)
 {
     int none = open("/dev/null", O_WRONLY);
 
+    signal(SIGCHLD, SIG_DFL);
     dup2(none, 2);
     dup2(input, 0);
     dup2(output, 1);
     if (none > 2)
         close(none);
-    execlp(program, "sja", word, (char *)NULL);
+    if (told < 0) {
+        execlp(program, "sja", word, (char *)NULL);
+    } else if (dup2(told, 3) == 3) {
+        fcntl(3, F_SETFD, 0);
+        execl("/bin/sh", "sh", "-c", "\"$0\" \"$1\" 3>&-; echo $? >&3", program, word, (char *)NULL);
+    }
     _exit(127);
 }
 
-/* Starts the program with one word, its input and output at pipes. Its number, or -1. */
-static pid_t start(const char *word, int *to, int *from)
+static void close_both(const int ends[2])
+{
+    for (int i = 0; i < 2; i++)
+        if (ends[i] >= 0)
+            close(ends[i]);
+}
+
+/* Three pipes: to the program, from it, and for its status where the kernel drops it. Whether they were made. */
+static int make_pipes(int in[2], int out[2], int status[2])
+{
+    in[0] = in[1] = out[0] = out[1] = status[0] = status[1] = -1;
+    if (far_pipe(in) && far_pipe(out) && (!is_status_dropped() || far_pipe(status)))
+        return 1;
+    close_both(in);
+    close_both(out);
+    return 0;
+}
+
+/* Which pipe an end is of, or 0 where it is none. */
+static ino_t pipe_of(int end)
+{
+    struct stat of;
+
+    return end >= 0 && fstat(end, &of) == 0 && S_ISFIFO(of.st_mode) ? of.st_ino : 0;
+}
+
+/* Starts the program with one word, its input and output at pipes. Whether that was done. */
+static int start(const char *word, struct process *process)
 {
     const char *named = getenv("SJA");
-    int in[2], out[2];
-    pid_t process;
+    int in[2], out[2], status[2];
 
     ignore_broken_pipes();
-    if (!far_pipe(in))
-        return -1;
-    if (!far_pipe(out)) {
-        close(in[0]);
-        close(in[1]);
-        return -1;
-    }
-    process = fork();
-    if (process == 0)
-        become(named != NULL ? named : "sja", word, in[0], out[1]);
+    if (!make_pipes(in, out, status))
+        return 0;
+    process->number = fork();
+    if (process->number == 0)
+        become(named != NULL ? named : "sja", word, in[0], out[1], status[1]);
     close(in[0]);
     close(out[1]);
-    if (process < 0) {
-        close(in[1]);
-        close(out[0]);
-        return -1;
-    }
-    *to = in[1];
-    *from = out[0];
-    return process;
+    if (status[1] >= 0)
+        close(status[1]);
+    process->to = in[1];
+    process->from = out[0];
+    process->told = status[0];
+    process->first = pipe_of(in[1]);
+    process->second = pipe_of(out[0]);
+    if (process->number > 0)
+        return 1;
+    close(in[1]);
+    close(out[0]);
+    if (status[0] >= 0)
+        close(status[0]);
+    return 0;
+}
+
+/* Whether both ends are still those of the process: the program may have closed them, and have opened others there. */
+static int is_whole(const struct process *process)
+{
+    return pipe_of(process->to) == process->first && pipe_of(process->from) == process->second;
+}
+
+/* Closes the ends that are still those of the process. */
+static void close_ends(struct process *process)
+{
+    if (process->to >= 0 && pipe_of(process->to) == process->first)
+        close(process->to);
+    if (process->from >= 0 && pipe_of(process->from) == process->second)
+        close(process->from);
+    process->to = process->from = -1;
+}
+
+/* The status that the shell says, or -1 where it said none. */
+static int told_status(int told)
+{
+    char said[16];
+    size_t length = 0;
+    ssize_t count;
+
+    do {
+        count = read(told, said + length, sizeof said - 1 - length);
+        if (count > 0)
+            length += (size_t)count;
+    } while ((count > 0 && length < sizeof said - 1) || (count < 0 && errno == EINTR));
+    close(told);
+    said[length] = '\0';
+    return length > 0 ? atoi(said) : -1;
 }
 
 /* Waits for the end of a process. Its status, or -1 where it has none. */
-static int finished(pid_t process)
+static int finished(struct process *process)
 {
-    int status;
+    int status, told = process->told >= 0 ? told_status(process->told) : -1;
 
-    while (waitpid(process, &status, 0) < 0)
+    process->told = -1;
+    while (waitpid(process->number, &status, 0) < 0)
         if (errno != EINTR)
-            return -1;
-    return WIFEXITED(status) ? WEXITSTATUS(status) : -1;
+            return told;
+    return told >= 0 ? told : WIFEXITED(status) ? WEXITSTATUS(status) : -1;
 }
 
 static int write_all(int to, const char *bytes, size_t length)
@@ -202,11 +287,11 @@ static sja_answer text_put(const struct text *text, char *into, size_t size)
  * answers no more. Gives 0. */
 static int hung_up(sja *session)
 {
-    if (session->to >= 0) {
-        close(session->to);
-        close(session->from);
-        session->to = session->from = -1;
-        session->lost = finished(session->process) == 1 ? SJA_NO_MEMORY : SJA_BROKEN;
+    if (session->process.to >= 0) {
+        int whole = is_whole(&session->process);
+
+        close_ends(&session->process);
+        session->lost = finished(&session->process) == 1 && whole ? SJA_NO_MEMORY : SJA_BROKEN;
     }
     return 0;
 }
@@ -214,7 +299,7 @@ static int hung_up(sja *session)
 /* Says a line. Whether that was done. */
 static int say(sja *session, const char *said)
 {
-    return write_all(session->to, said, strlen(said)) || hung_up(session);
+    return (is_whole(&session->process) && write_all(session->process.to, said, strlen(said))) || hung_up(session);
 }
 
 /* Has at least one byte at hand. Whether there is one. */
@@ -225,7 +310,7 @@ static int fill(sja *session)
     if (session->count > 0)
         return 1;
     do
-        count = read(session->from, session->held, BYTES);
+        count = read(session->process.from, session->held, BYTES);
     while (count < 0 && errno == EINTR);
     if (count <= 0)
         return hung_up(session);
@@ -309,16 +394,16 @@ static sja_answer refused(const char *line)
 /* There is no session: as where one has ended, and there was no memory for its log. */
 static void leave_none(sja *session)
 {
-    *session = (sja){ .ended = 1, .plan_status = SJA_NO_MEMORY, .report_status = SJA_NO_MEMORY, .to = -1, .from = -1 };
+    *session = (sja){ .ended = 1, .plan_status = SJA_NO_MEMORY, .report_status = SJA_NO_MEMORY,
+                      .process = { .to = -1, .from = -1, .told = -1 } };
 }
 
 /* Ends the process of a session, and drops its texts. */
 static void drop(sja *session)
 {
-    if (session->to >= 0) {
-        close(session->to);
-        close(session->from);
-        finished(session->process);
+    if (session->process.to >= 0) {
+        close_ends(&session->process);
+        finished(&session->process);
     }
     text_free(&session->plan);
     text_free(&session->report);
@@ -326,6 +411,8 @@ static void drop(sja *session)
 
 sja_answer sja_make(sja **session)
 {
+    if (session == NULL)
+        return answer(SJA_NO_HANDLE, 0);
     *session = malloc(sizeof **session);
     if (*session == NULL)
         return answer(SJA_NO_MEMORY, 0);
@@ -341,8 +428,7 @@ sja_answer sja_begin(sja *session, uint32_t version, uint32_t bits, uint32_t nod
 
     if (session == NULL)
         return answer(SJA_NO_HANDLE, 0);
-    made.process = start("live", &made.to, &made.from);
-    if (made.process < 0)
+    if (!start("live", &made.process))
         return answer(SJA_BROKEN, 0);
     snprintf(said, sizeof said, "live %u %u %u\n", (unsigned)at_most(version, GREATEST),
              (unsigned)at_most(bits, GREATEST), (unsigned)at_most(nodes, GREATEST));
@@ -421,8 +507,8 @@ static sja_answer lines(sja *session)
 }
 
 /* Runs up to the first bit in which some line rises. How many bits were run, and the lines that are active then; `none`
- * where no line rose. `before`, where it isn't null, gets the lines that were active before: they are asked for together
- * with the bits, so that the process is woken once. */
+ * where no line rose. `before`, where it isn't null, gets the lines that were active before: they are asked for
+ * together with the bits, so that the process is woken once. */
 static sja_answer run(sja *session, uint32_t count, uint64_t *before, uint64_t *active, int *none)
 {
     char said[LINE], heard[LINE];
@@ -562,7 +648,7 @@ static uint32_t read_report(sja *session)
     return session->report.length > 0 ? SJA_DONE : session->lost;
 }
 
-sja_answer sja_report(sja *session, char *text, size_t size)
+sja_answer sja_put_report(sja *session, char *text, size_t size)
 {
     if (session == NULL)
         return answer(SJA_NO_HANDLE, 0);
@@ -573,7 +659,7 @@ sja_answer sja_report(sja *session, char *text, size_t size)
     return text_put(&session->report, text, size);
 }
 
-sja_answer sja_plan(sja *session, char *text, size_t size)
+sja_answer sja_put_plan(sja *session, char *text, size_t size)
 {
     if (session == NULL)
         return answer(SJA_NO_HANDLE, 0);
@@ -599,29 +685,29 @@ static uint32_t run_status(int status)
     return status == 0 ? SJA_DONE : status == 1 ? SJA_NO_PLAN : SJA_BROKEN;
 }
 
-sja_answer sja_run_plan(const char *plan, size_t length, char *text, size_t size)
+sja_answer sja_put_run(const char *plan, size_t length, char *text, size_t size)
 {
     struct text report = { 0 };
     char bytes[BYTES];
     ssize_t count;
-    int to, from, kept = 1;
-    pid_t process = start("run", &to, &from);
+    int kept = 1;
+    struct process process;
     uint32_t status;
     sja_answer told;
 
-    if (process < 0)
+    if (!start("run", &process))
         return answer(SJA_BROKEN, 0);
     /* A program that refuses the plan may leave some of it unread. */
-    write_all(to, plan, length);
-    close(to);
-    while ((count = read(from, bytes, BYTES)) != 0) {
+    write_all(process.to, plan, length);
+    close(process.to);
+    while ((count = read(process.from, bytes, BYTES)) != 0) {
         if (count < 0 && errno != EINTR)
             break;
         if (count > 0 && kept)
             kept = text_add(&report, bytes, (size_t)count);
     }
-    close(from);
-    status = run_status(finished(process));
+    close(process.from);
+    status = run_status(finished(&process));
     if (status != SJA_DONE)
         told = answer(status, 0);
     else

@@ -3,6 +3,7 @@ to be the answer that stands beside it, over the library and over a process alik
 `python/sja.py` choose. Says which isn't; the status is 1 then. `checks/c_library` runs it over both."""
 
 import os
+import signal
 import sys
 
 sys.dont_write_bytecode = True
@@ -20,6 +21,15 @@ def answer(call):
         return error.status
     except TypeError:
         return "TypeError"
+
+
+def ignoring(call):
+    """What a call gives where SIGCHLD is ignored, so that the kernel keeps no status of a process."""
+    before = signal.signal(signal.SIGCHLD, signal.SIG_IGN)
+    try:
+        return call()
+    finally:
+        signal.signal(signal.SIGCHLD, before)
 
 
 def openings():
@@ -81,6 +91,8 @@ def rows():
     yield "the report of its plan", lambda: run_plan(plan) == report, True
     yield "the report of no plan", lambda: run_plan("version = 4\n"), "NO_PLAN"
     yield "the report of an empty plan", lambda: run_plan(""), "NO_PLAN"
+    yield "the report of its plan, SIGCHLD ignored", lambda: ignoring(lambda: run_plan(plan)) == report, True
+    yield "the report of no plan, SIGCHLD ignored", lambda: ignoring(lambda: run_plan("version = 4\n")), "NO_PLAN"
     yield "the plan after the end", lambda: bus.plan() == plan, True
     yield from ended(bus, "ENDED")
     bus.close()

@@ -1,5 +1,5 @@
-"""The register map of version 3, as the table in docs/MODEL.md has it: what each address reads as, by what its driver has read
-and written before, and by the bits that ran since on a bus where nobody sends.
+"""The register map of version 3, as the table in docs/model/REGISTERS.md has it: what each address reads as, by what its
+driver has read and written before, and by the bits that ran since on a bus where nobody sends.
 
 What the bus decides is unknown (None) once bits ran on which somebody may send, until a read tells it; then it stays until
 more of them run. That is of SR RBS, DOS, TBS, TCS, RS, TS, ES and BS; of IR what is enabled and wasn't pending; ALC, ECC,

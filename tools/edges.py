@@ -1,0 +1,69 @@
+#!/usr/bin/env python3
+"""Documents at the edges of what the program takes, each with words, what it has to answer, and how much it may cost.
+
+    tools/edges.py NUMBER      prints the document of this number
+"""
+
+import sys
+
+COMMENT = "#" * 79 + "\n"
+VERSION_3 = "version = 3\n"
+SMALL = "bits = 1\n[[node]]\nsteps = []\n"
+REPORT = "sja version 3 bits 0 end turns\n"
+UNKNOWN = 'sja: plan fault 4 Key\nline 2: no key is called "N0"\n'
+
+
+class Edge:
+    """A document, by the function that makes it, the words that it is given to, and the limits of the run: its status,
+    how what it says begins, seconds of a processor, and bytes of memory for each of the document, beside 20 MB."""
+
+    def __init__(self, name, words, document, status, begins, seconds, memory):
+        self.name = name
+        self.words = words
+        self.document = document
+        self.status = status
+        self.begins = begins.encode()
+        self.seconds = seconds
+        self.memory = memory
+
+
+def keys(count):
+    """So many keys that no plan has."""
+    return VERSION_3 + "".join(f"N{number}=1\n" for number in range(count))
+
+
+def refused(count):
+    """A plan of eight nodes whose drivers are refused so many steps each."""
+    turns = "".join(f'"node {node} {count}",' for node in range(8))
+    steps = '"load 000000",' * count
+    return f"{VERSION_3}bits = 1\nturns = [{turns}]\n" + f"[[node]]\nsteps = [{steps}]\n" * 8
+
+
+def late(count):
+    """A plan with so many strikes that come too late."""
+    faults = '"0 9999",' * count
+    return f"{VERSION_3}bits = 1\nfaults = [{faults}]\n[[node]]\nsteps = []\n"
+
+
+def commented(before, behind):
+    """A plan of version 3 with so many comment lines before that line, and so many behind the plan."""
+    return COMMENT * before + VERSION_3 + SMALL + COMMENT * behind
+
+
+EDGES = [
+    Edge("40,000 unknown keys", ["check"], lambda: keys(40000), 1, UNKNOWN, 1, 64),
+    Edge("160,000 unknown keys", ["check"], lambda: keys(160000), 1, UNKNOWN, 2, 64),
+    Edge("160,000 refused steps", ["check"], lambda: refused(20000), 0, "line 4: node 0 is never started", 3, 64),
+    Edge("60,000 late strikes", ["check"], lambda: late(60000), 0, "line 4: node 0 is never started", 2, 64),
+    Edge("64,000 bytes of comments before version 3", ["run"], lambda: commented(800, 820), 0, REPORT, 1, 4),
+    Edge("the same and 16 MB behind it", ["run"], lambda: commented(800, 208000), 0, REPORT, 1, 4),
+    Edge("16 MB behind it alone", ["run"], lambda: commented(0, 208000), 0, REPORT, 1, 4),
+    Edge("a key before version 3", ["check"], lambda: "turns = []\n" + commented(0, 820), 1, "sja: plan fault 1 TooLong\n"
+         "the plan has more than 65536 bytes, the most that a plan may have\n"
+         'one of version 3 may have 16777216 where "version = 3" stands before its other keys, to the byte\n', 1, 4),
+    Edge("a name with escapes", ["run", "no\x1b[31m\tfile\x7f\u009b1m"], lambda: "", 1,
+         "sja: can't read no\\u001b[31m\\u0009file\\u007f\\u009b1m\n", 1, 1),
+]
+
+if __name__ == "__main__":
+    sys.stdout.write(EDGES[int(sys.argv[1])].document())
