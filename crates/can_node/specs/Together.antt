@@ -1,18 +1,20 @@
 -- Nodes that read one frame together: one of them sends it, and another one has read just what the sender has, and
--- receives or sends what is the same so far. So one reader does for both while the frame's stuffed part goes on (this
--- project's own rule).
-use Rattle.std.specs.Prelude.{◌≡◌, ◌+◌, ◌&&◌, ℕ, Bool, true, false, List, [], ◌∷◌, ◌++◌}
+-- receives or sends what is the same so far. So one reader does for both while the frame's stuffed part goes on, and
+-- for a node in reset, to which no level matters (this project's own rule).
+use Rattle.std.specs.Prelude.{◌≡◌, ◌+◌, ◌⊎◌, ◌&&◌, ℕ, Bool, true, false, List, [], ◌∷◌, ◌++◌}
 use Rattle.can_bits.specs.declared.level.Level.{Level}
 use Rattle.can_bits.specs.declared.level.Level.TheVariants.{Recessive}
 use Rattle.can_bits.specs.declared.shift.Shift.{Shift}
 use Rattle.can_bits.specs.declared.sent_body.SentBody.{SentBody}
 use Rattle.can_bits.specs.Sending.{AgreeFor, TakesInside, next_level, place_of}
+use Rattle.can_bits.specs.Shifts.{StandsFor}
+use Rattle.can_bits.specs.Streaming.{IsRightInside}
 use Rattle.can_node.specs.declared.node.Node.{Node}
 use Rattle.can_node.specs.declared.role.Role.TheVariants.{Receiver}
 use Rattle.can_node.specs.declared.stage.Stage.{Stage}
 use Rattle.can_node.specs.declared.stage.Stage.TheVariants.{InFrame}
 use Rattle.can_node.specs.Context.{is_transmitter}
-use Rattle.can_node.specs.Stands.{Samples, ShowsSame, is_receiving, nothing}
+use Rattle.can_node.specs.Stands.{InReset, Samples, ShowsSame, is_receiving, nothing}
 
 -- ---- what a node shows, at whatever record it stands
 
@@ -61,10 +63,17 @@ pub record SendsAlike (sender : Node) (n : ℕ) (node : Node) : Type 0 where
   pub drives : kept_level node ≡ kept_level sender
   pub agree : AgreeFor (place_of (reader_of sender) + n) (body_of sender) (body_of node)
 
--- for so many bits it goes on with a node that sends: it receives that frame, or sends one that is alike so far
+-- it is in reset, and drives recessive
+pub record IsApart (node : Node) : Type 0 where
+  pub reset : InReset node
+  pub drives : kept_level node ≡ Recessive
+
+-- for so many bits it goes on with a node that sends: it receives that frame, sends one that is alike so far, or is in
+-- reset
 pub data GoesWith (sender : Node) (n : ℕ) (node : Node) : Type 0 where
   receives : HasReadAs node (reader_of sender) → GoesWith sender n node
   sends : SendsAlike sender n node → GoesWith sender n node
+  rests : IsApart node → GoesWith sender n node
 
 -- the same node once another's reader has taken some bits for both, and it has that reader: a sender drives next what
 -- comes next of its own frame, any other what it drove
@@ -90,3 +99,27 @@ pub data SendsBits (old : Node) : List Level → Node → Type 0 where
   no_bit : SendsBits old [] old
   one_more : (mid new : Node) (xs : List Level) (x : Level) → SendsBits old xs mid → SendsBit mid x new →
       SendsBits old (xs ++ x ∷ []) new
+
+-- one bit of a node that drives recessive: nothing happens that it shows, and it goes on to drive recessive
+pub record ReadsBit (old : Node) (x : Level) (new : Node) : Type 0 where
+  pub drives : kept_level old ≡ Recessive
+  pub samples : Samples old new x (nothing (is_receiving old))
+  pub shows : ShowsSame old new
+  pub stays : kept_level new ≡ Recessive
+
+-- as many as these levels, one after the other
+pub data ReadsBits (old : Node) : List Level → Node → Type 0 where
+  no_level : ReadsBits old [] old
+  level_more : (mid new : Node) (xs : List Level) (x : Level) → ReadsBits old xs mid → ReadsBit mid x new →
+      ReadsBits old (xs ++ x ∷ []) new
+
+-- a reader takes these levels of the stuffed part, one after the other
+pub data TakesBits (old : Shift) : List Level → Shift → Type 0 where
+  takes_none : TakesBits old [] old
+  takes_more : (mid new : Shift) (xs : List Level) (x : Level) → TakesBits old xs mid → TakesInside mid x new →
+      TakesBits old (xs ++ x ∷ []) new
+
+-- of two readers one can't take this level
+abbrev pub NotBoth : Shift → Shift → Level → Type 0
+NotBoth one other x =
+    (l m : List Level) → StandsFor one l → StandsFor other m → (¬ IsRightInside l x) ⊎ (¬ IsRightInside m x)

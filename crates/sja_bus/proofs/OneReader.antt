@@ -5,6 +5,8 @@ pub mod Ending
 pub mod IdleRows
 pub mod Places
 pub mod LedBits
+pub mod Fewer
 pub mod LedRows
 pub mod LedSeats
+pub mod StrayRows
 pub mod Unstruck

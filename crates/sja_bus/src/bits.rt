@@ -162,7 +162,7 @@ pub(crate) fn untaken_bits<E: BusEnd, B: Board>(
     requires seated { AreSeated E.link seats.old links.old (B.ports board.old) }
     requires may { MayRunOn B.Board board.old seats.old }
     requires bus { IsBus struck.now.script from seats.old }
-    requires within { (from + most ≤ struck.now.bits) × (struck.now.bits ≤ 2000000) }
+    requires within { (from + most ≤ struck.now.written) × (from + most ≤ 2000000) }
     ensures sames { EachRelated E.same links.old links.new }
     ensures others { KeepsOthers B.ports B.kept (length seats.old) board.old board.new }
     ensures most { MatchResult result (λ n. n ≤ most) (λ f. f.after < most) }

@@ -11,26 +11,33 @@ use std::alloc::Global;
 use std::marker::Model;
 
 /// Of each bit of a run the nodes that its script strikes, one byte a bit, so that no bit of the bus goes over all
-/// strikes.
+/// strikes. While nobody is struck the bytes of later bits aren't written yet, for which there is room.
 ///
-/// Contracts see it as the script, with the strikes that came later at its end, and the number of bits.
+/// Contracts see it as the script, with the strikes that came later at its end, the number of bits, and of how many
+/// the bytes are written.
 #[derive(Debug, Drop)]
 pub(crate) struct StruckBits {
     script: FaultScript,
     /// The strikes that came later, one by one.
     later: Vec<Strike>,
+    most: u32,
     bits: Vec<StruckNodes>,
 }
 
 impl Model for StruckBits {
-    ghost use Rattle.std.specs.Prelude.{◌≡◌, ◌<◌, ◌++◌, ◌^◌, length};
-    ghost use Rattle.sja_bus.specs.Inside.StrikesByBit.{Scripted, AreStruck};
+    ghost use Rattle.std.specs.Prelude.{◌≡◌, ◌++◌, length, vec_capacity};
+    ghost use Rattle.sja_bus.specs.Inside.StrikesByBit.{Scripted, AreStruck, IsWritten};
 
     ghost Value = { Scripted };
 
-    ghost view = { λ s. record { script = s.script ++ s.later.items; bits = length s.bits.items } };
+    ghost view = { λ s. record {
+      script = s.script ++ s.later.items;
+      bits = s.most;
+      written = length s.bits.items;
+    } };
 
-    ghost invariant = { λ s. AreStruck (s.script ++ s.later.items) s.bits.items × (length s.bits.items < 2 ^ 32) };
+    ghost invariant = { λ s. AreStruck (s.script ++ s.later.items) s.bits.items
+        × IsWritten (s.script ++ s.later.items) s.most (length s.bits.items) (vec_capacity s.bits) };
 }
 
 impl StruckBits {
@@ -47,13 +54,21 @@ impl StruckBits {
         script: FaultScript,
         bits: u32,
     ) -> Result<StruckBits, OutOfMemory>
-        ensures { IfOk result (λ s. s ≡ record { script = script; bits = bits }) }
+        ensures { IfOk result (λ s. s ≡ record { script = script; bits = bits; written = s.written }) }
     {
-        let mut struck = Vec::from_elem(alloc, StruckNodes::none(), bits as usize)?;
+        let mut struck = Vec::with_capacity(alloc, bits as usize)?;
+        let written = if script.as_slice().is_empty() {
+            0
+        } else {
+            bits
+        };
+        // The room is reserved, so that no memory is asked for.
+        let _ = struck.resize(written as usize, StruckNodes::none());
         mark_all(struck.as_mut_slice(), script.as_slice());
         Ok(StruckBits {
             script,
             later: Vec::new(alloc),
+            most: bits,
             bits: struck,
         })
     }
@@ -62,10 +77,13 @@ impl StruckBits {
     ///
     /// Error: [`OutOfMemory`] where memory was refused; nothing changed.
     pub(crate) fn strike(&mut self, strike: Strike) -> Result<(), OutOfMemory>
-        ensures struck { OnOk result (self.new ≡ record self.old { script = self.old.script ++ strike ∷ [] }) }
+        ensures struck { OnOk result (self.new
+            ≡ record self.old { script = self.old.script ++ strike ∷ []; written = self.new.written }) }
         ensures kept { OnErr result (self.new ≡ self.old) }
     {
         self.later.push(strike)?;
+        // The room is reserved, so that no memory is asked for.
+        let _ = self.bits.resize(self.most as usize, StruckNodes::none());
         mark(self.bits.as_mut_slice(), &strike);
         Ok(())
     }
@@ -76,13 +94,28 @@ impl StruckBits {
         requires { bit < self.now.bits }
         ensures { (node : ℕ) → node < 8 → IsAmong node result ↔ Strikes self.now.script bit node }
     {
-        self.bits[bit as usize]
+        if (bit as usize) < self.bits.len() {
+            return self.bits[bit as usize];
+        }
+        StruckNodes::none()
     }
 
-    /// The nodes that are struck in each of so many bits, from this one on.
+    /// Writes the bytes of so many of the first bits, at least.
+    pub(crate) fn write(&mut self, count: u32)
+        requires { count ≤ self.old.bits }
+        ensures written { count ≤ self.new.written }
+        ensures kept { self.new ≡ record self.old { written = self.new.written } }
+    {
+        if self.bits.len() < count as usize {
+            // The room is reserved, so that no memory is asked for.
+            let _ = self.bits.resize(count as usize, StruckNodes::none());
+        }
+    }
+
+    /// The nodes that are struck in each of so many bits whose bytes are written, from this one on.
     #[inline(always)]
     pub(crate) fn part(&self, from: u32, most: u32) -> &[StruckNodes]
-        requires { from + most ≤ self.now.bits }
+        requires { from + most ≤ self.now.written }
         ensures count { length result.now ≡ most }
         ensures struck { AreStruckFrom self.now.script from result.now }
     {
@@ -100,8 +133,12 @@ impl StruckBits {
         ensures longest { (result ≡ most) ⊎ (from + result ≡ self.now.bits)
             ⊎ ((node : ℕ) × (node < 8) × Strikes self.now.script (from + result) node) }
     {
-        let left = self.bits.len() as u32 - from;
+        let left = self.most - from;
         let end = from + left.min(most);
+        let written = self.bits.len() as u32;
+        if written < self.most {
+            return end - from;
+        }
         for bit in from..end {
             if !self.bits[bit as usize].is_empty() {
                 return bit - from;

@@ -1,7 +1,8 @@
 //! Bits that are run at once: in which one node sends a frame and all others have read just what it has, and receive it
-//! or send the same, so that one reader does for all; and in which every node is at rest.
+//! or send the same, so that one reader does for all, or are in reset; and in which every node is at rest.
 
-ghost use Rattle.std.specs.Prelude.{◌≡◌, ◌<◌, ◌≤◌, Bool, true, length, slice_index_or, IfSome};
+ghost use Rattle.std.specs.Prelude.{◌≡◌, ◌≢◌, ◌*◌, ◌<◌, ◌≤◌, Bool, true, length, slice_index_or, IfSome, IfOk};
+ghost use Rattle.std.specs.Prelude.{IfErr};
 ghost use Rattle.sja_bus.specs.declared.seat.Seat.{Seat as Seated};
 ghost use Rattle.sja_bus.specs.Inside.StrikesByBit.{AreUnstruck};
 ghost use Rattle.sja_bus.specs.Inside.Refusing.{AreFree};
@@ -10,13 +11,13 @@ ghost use Rattle.sja_bus.specs.Inside.Together.{AreQuietRows, IsLed, MayRunToget
 ghost use Rattle.sja_bus.specs.Inside.Together.{SeatGoesOn};
 
 use super::idle_bits::{all_rest, are_at_rest};
-use super::lead::Lead;
 use super::seat::Seat;
+use super::stray::run_beside;
 use super::struck_nodes::StruckNodes;
 use can_bits::{Level, Shift};
 
 /// How many bits are run together at most: more than the stuffed part of a frame has.
-const MOST: usize = 160;
+pub(crate) const MOST: usize = 160;
 
 /// At which bits it is looked whether a run of bits can begin: after the first one of a call, and then after each of so
 /// many. To look at each bit would cost more, where a node has lost the frame that the others are in.
@@ -48,13 +49,32 @@ fn run_at_once(seats: &mut [Seat], struck: &[StruckNodes], to_rest: bool) -> u32
     requires { MayRunTogether (length struck.now) seats.old }
     ensures { RunsTogether to_rest struck.now seats.old result seats.new }
 {
-    match leader(seats) {
-        Some(lead) => {
+    match sender(seats) {
+        Some(lead) => run_sent(seats, struck, lead, to_rest),
+        None => run_idle(seats, struck, to_rest),
+    }
+}
+
+/// The same, where this node sends.
+#[inline(always)]
+fn run_sent(seats: &mut [Seat], struck: &[StruckNodes], lead: usize, to_rest: bool) -> u32
+    requires few { lead < length seats.old }
+    requires may { MayRunTogether (length struck.now) seats.old }
+    ensures { RunsTogether to_rest struck.now seats.old result seats.new }
+{
+    match others_go(seats, lead) {
+        Ok(most) => {
             let mut levels = [Level::Recessive; MOST];
-            let most = unstruck(struck).min(usize::from(lead.most));
+            let most = unstruck(struck).min(usize::from(most));
             run_led(seats, lead, &mut levels[..most]) as u32
         }
-        None => run_idle(seats, struck, to_rest),
+        Err(stray) => {
+            let reader = seats[stray].node.reader();
+            if !seats[stray].node.has_read_as(&reader) {
+                return 0;
+            }
+            run_beside(seats, struck, lead, stray, to_rest)
+        }
     }
 }
 
@@ -76,7 +96,7 @@ fn run_idle(seats: &mut [Seat], struck: &[StruckNodes], to_rest: bool) -> u32
 }
 
 /// In how many of these bits, from the first one on and at most [`MOST`], no node is struck.
-fn unstruck(struck: &[StruckNodes]) -> usize
+pub(crate) fn unstruck(struck: &[StruckNodes]) -> usize
     ensures most { result ≤ 160 }
     ensures few { result ≤ length struck.now }
     ensures none { AreUnstruck result struck.now }
@@ -106,55 +126,53 @@ fn are_unstruck(struck: &[StruckNodes]) -> bool
     none
 }
 
-/// A node that sends a frame with which all others go on, and for how many bits at most.
+/// A node that sends a frame.
 #[inline(always)]
-fn leader(seats: &[Seat]) -> Option<Lead>
-    ensures { IfSome result (λ lead. IsLed seats.now lead.node lead.most) }
+fn sender(seats: &[Seat]) -> Option<usize>
+    ensures { IfSome result (λ lead. lead < length seats.now) }
 {
     for k in 0..seats.len() {
         if seats[k].node.is_sending() {
-            let most = others_go(seats, k);
-            return if most > 0 {
-                Some(Lead { node: k, most })
-            } else {
-                None
-            };
+            return Some(k);
         }
     }
     None
 }
 
 /// For how many bits at most all other nodes go on with this one.
-fn others_go(seats: &[Seat], lead: usize) -> u8
+///
+/// Error: the first node that goes on with it for none.
+fn others_go(seats: &[Seat], lead: usize) -> Result<u8, usize>
     requires { lead < length seats.now }
-    ensures { 0 < result → (s : Seated) → OthersGo seats.now lead result (slice_index_or seats.now lead s).node }
+    ensures go { IfOk result (λ most. (s : Seated) →
+        OthersGo seats.now lead most (slice_index_or seats.now lead s).node) }
+    ensures other { IfErr result (λ k. (k < length seats.now) × (k ≢ lead)) }
 {
     let mut most = u8::MAX;
     for k in 0..seats.len() {
         if k != lead {
             most = most.min(seats[k].node.goes_with(&seats[lead].node));
             if most == 0 {
-                return 0;
+                return Err(k);
             }
         }
     }
-    most
+    Ok(most)
 }
 
 /// Runs bits of all nodes, as many as there is room for their levels or up to the end of the stuffed part. Answers how
 /// many.
-fn run_led(seats: &mut [Seat], lead: Lead, levels: &mut [Level]) -> usize
-    requires led { IsLed seats.old lead.node lead.most }
-    requires few { length levels.old ≤ lead.most }
+fn run_led(seats: &mut [Seat], lead: usize, levels: &mut [Level]) -> usize
+    requires led { IsLed seats.old lead (length levels.old) }
     requires most { length levels.old ≤ 160 }
     requires may { MayRunTogether (length levels.old) seats.old }
     ensures few { result ≤ length levels.old }
     ensures rows { (to_rest : Bool) → AreQuietRows to_rest seats.old result seats.new }
 {
-    let count = seats[lead.node].node.send_inside(levels);
+    let count = seats[lead].node.send_inside(levels);
     if count > 0 {
-        let reader = seats[lead.node].node.reader();
-        all_go_on(seats, lead.node, &reader, &levels[..count]);
+        let reader = seats[lead].node.reader();
+        all_go_on(seats, lead, &reader, &levels[..count]);
     }
     count
 }
@@ -173,19 +191,20 @@ fn all_go_on(seats: &mut [Seat], lead: usize, reader: &Shift, levels: &[Level])
 
 impl Seat {
     ghost use Rattle.std.specs.Prelude.{◌≡◌, ◌-◌, ◌≤◌, true, false, length};
-    ghost use Rattle.can_node.specs.Together.{following, is_sending, reader_of};
+    ghost use Rattle.can_node.specs.Together.{following, is_sending, reading_as};
     ghost use Rattle.sja_bus.specs.Inside.Together.{HasSent, after_reading};
 
     /// The bits of the node in its journal: it sent these levels already, or it goes on where this reader is, and sent
     /// them too or read them and drove recessive.
-    fn go_on(&mut self, sent: bool, reader: &Shift, levels: &[Level])
+    #[inline(always)]
+    pub(crate) fn go_on(&mut self, sent: bool, reader: &Shift, levels: &[Level])
         requires most { length levels.now ≤ 160 }
         requires free { length levels.now ≤ self.old.journal.room - length self.old.journal.entries }
         ensures sent { sent ≡ true → HasSent levels.now self.old self.new }
         ensures sent_too { sent ≡ false → is_sending self.old.node ≡ true
             → HasSent levels.now (record self.old { node = following self.old.node reader.now }) self.new }
         ensures read { sent ≡ false → is_sending self.old.node ≡ false
-            → self.new ≡ after_reading reader.now levels.now self.old }
+            → self.new ≡ after_reading (reading_as self.old.node reader.now) levels.now self.old }
     {
         let sends = self.node.is_sending();
         if !sent {
@@ -211,7 +230,7 @@ impl Seat {
     fn has_read(&mut self, levels: &[Level])
         requires most { length levels.now ≤ 160 }
         requires free { length levels.now ≤ self.old.journal.room - length self.old.journal.entries }
-        ensures { self.new ≡ after_reading (reader_of self.old.node) levels.now self.old }
+        ensures { self.new ≡ after_reading self.old.node levels.now self.old }
     {
         let recessive = [Level::Recessive; MOST];
         self.journal

@@ -88,6 +88,7 @@ impl Bus {
         if !may_run_untaken(self.seats.as_slice(), board) {
             return Ok(0);
         }
+        self.struck.write(self.run + most);
         let seats = self.seats.as_mut_slice();
         match untaken_bits(seats, links, board, &self.struck, self.run, most, to_rest) {
             Ok(bits) => {

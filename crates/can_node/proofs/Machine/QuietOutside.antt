@@ -49,7 +49,7 @@ same_at now s place bits more x e same h =
     subst Q (sym e) (same (subst P e h))
 
 -- so it is wherever the node may stand
-outside_drives : (stage : Stage) (shift : Shift) (c now : ContextValue) (place : Place) (bits more : List Bit)
+pub outside_drives : (stage : Stage) (shift : Shift) (c now : ContextValue) (place : Place) (bits more : List Bit)
     (x : Level) → is_outside stage ≡ true → At stage shift c now place bits → Drives now place bits x →
     Drives now place more x
 outside_drives StageInReset shift c now place bits more x out at h =

@@ -1,5 +1,5 @@
 -- Nodes that read one frame together: what one reader takes is a bit of each of them.
-use Rattle.std.proofs.Common.{◌≡◌, ◌&&◌, Bool, true, refl, ap, ◌∙◌}
+use Rattle.std.proofs.Common.{◌≡◌, ◌&&◌, Bool, true, List, [], ◌∷◌, ◌++◌, refl, sym, ap, ◌∙◌, subst}
 use Rattle.std.proofs.lemmas.Bool.{and_parts}
 use Rattle.can_bits.specs.declared.level.Level.{Level}
 use Rattle.can_bits.specs.declared.shift.Shift.{Shift}
@@ -11,10 +11,19 @@ use Rattle.can_node.specs.declared.role.Role.TheVariants.{Receiver, Transmitter}
 use Rattle.can_node.specs.declared.stage.Stage.{Stage}
 use Rattle.can_node.specs.declared.stage.Stage.TheVariants.{InReset, Integrating, BusIdle, InFrame, LastEofBit, InFlag}
 use Rattle.can_node.specs.declared.stage.Stage.TheVariants.{InDelimiter, InInterframeSpace}
-use Rattle.can_node.specs.Context.{is_transmitter}
+use Rattle.can_node.specs.Bits.{Bit}
+use Rattle.can_node.specs.Context.{ContextValue, is_transmitter}
+use Rattle.can_node.specs.Pieces.{Place}
 use Rattle.can_node.specs.Stands.{Samples, ShowsSame, is_receiving, nothing}
-use Rattle.can_node.specs.Together.{SendsBit, is_in_frame, is_sending, kept_level, reader_of, reading_as}
+use Rattle.can_node.specs.Together.{IsApart, ReadsBit, SendsBit, is_in_frame, is_sending, kept_level, reader_of}
+use Rattle.can_node.specs.Together.{reading_as}
+use Rattle.can_node.specs.Inside.Quiet.{IsQuietTurn, is_outside}
+use Rattle.can_node.specs.Inside.Stages.{At}
+use Rattle.can_node.specs.Inside.Standing.{context_of}
+use Rattle.can_node.proofs.Machine.Ats.{at_is}
 use Rattle.can_node.proofs.Machine.Quiet.{quietly}
+use Rattle.can_node.proofs.Machine.QuietOutside.{outside_drives}
+use Rattle.can_node.proofs.Machine.QuietPlaces.{resets_quietly}
 use Rattle.can_node.proofs.Machine.QuietReceiver.{receives_inside}
 use Rattle.can_node.proofs.Machine.QuietTransmitter.{transmits_inside}
 
@@ -66,3 +75,25 @@ reads_one old x reader stage receiver takes =
 
 pub reads_same : (old : Node) (reader : Shift) → ShowsSame old (reading_as old reader)
 reads_same old reader = record { counters = refl; phase = refl; receiving = refl; holds = refl }
+
+-- any bit of one in reset, whatever its reader
+rests_there : (stage : Stage) (shift reader : Shift) (c now : ContextValue) (place : Place) (bits : List Bit)
+    (b : Bit) → stage ≡ InReset → At stage shift c now place bits → IsQuietTurn stage reader c now place bits b
+rests_there stage shift reader c now place bits b e at =
+    let P : Stage → Type 0 = λ s. IsQuietTurn s reader c now place bits b in
+    subst P (sym e) (resets_quietly InReset reader c now place bits b refl
+    (at_is InReset stage shift c now place bits e at))
+
+pub rests_one : (old : Node) (x : Level) (reader : Shift) → IsApart old → ReadsBit old x (reading_as old reader)
+rests_one old x reader apart = record {
+  drives = apart.drives;
+  samples = quietly old (reading_as old reader) x refl refl
+      (λ c place bits at kept body drives.
+      let now = context_of old.context in let b : Bit = record { driven = old.next; seen = x } in record {
+        turn = rests_there old.stage old.shift reader c now place bits b apart.reset at;
+        next = outside_drives old.stage old.shift c now place bits (bits ++ b ∷ []) old.next
+            (ap is_outside apart.reset) at drives;
+      });
+  shows = reads_same old reader;
+  stays = apart.drives;
+}

@@ -3,17 +3,15 @@ use Rattle.std.proofs.Common.{◌≡◌, true, false, List, [], ◌∷◌, ◌++
 use Rattle.std.proofs.lemmas.List.{map-append}
 use Rattle.can_bits.specs.declared.level.Level.{Level}
 use Rattle.can_bits.specs.declared.level.Level.TheVariants.{Recessive}
-use Rattle.can_bits.specs.declared.shift.Shift.{Shift}
 use Rattle.can_node.specs.declared.node.Node.{Node}
 use Rattle.can_node.specs.declared.stage.Stage.{Stage}
 use Rattle.can_node.specs.Context.{is_held}
 use Rattle.can_node.specs.NextBit.{now_in, open_bits, rests_in}
-use Rattle.can_node.specs.Stands.{DrivesNext, Samples, ShowsRest, is_receiving, nothing, phase_of_stage}
-use Rattle.can_bits.specs.Sending.{TakesInside}
-use Rattle.can_node.specs.Together.{HasReadAs, SendsBit, is_sending, kept_level, reading_as}
+use Rattle.can_node.specs.Stands.{DrivesNext, ShowsRest, is_receiving, phase_of_stage}
+use Rattle.can_node.specs.Together.{ReadsBit, SendsBit, is_sending, kept_level}
 use Rattle.can_node.proofs.Machine.Shown.{phase_shown}
 use Rattle.can_node.proofs.Machine.Told.{drives_once}
-use Rattle.can_node.proofs.Machine.Together.{reads_one, reads_same, sends_in_frame}
+use Rattle.can_node.proofs.Machine.Together.{sends_in_frame}
 use Rattle.sja_link.specs.declared.entry.Entry.{Entry}
 use Rattle.sja_link.specs.declared.entry.Entry.TheVariants.{Bit}
 use Rattle.sja_link.specs.Records.{record_of}
@@ -76,24 +74,18 @@ module _ (s : Seat) (mid new : Node) (next : Level) (xs : List Level) (x : Level
     drives = drives;
   }
 
--- the bit of one that reads, of a reader that takes this level
-module _ (s : Seat) (first mid new : Shift) (xs : List Level) (x : Level) (read : HasReadAs s.node first)
-    (takes : TakesInside mid x new) where
-  reader_samples : Samples (reading_as s.node mid) (reading_as s.node new) x (nothing (is_receiving s.node))
-  reader_samples = reads_one (reading_as s.node mid) x new read.in_frame read.receives takes
-
-  reader_drives : DrivesNext (reading_as s.node mid) Recessive
-  reader_drives =
-      let P : Level → Type 0 = λ y. DrivesNext (reading_as s.node mid) y in
-      subst P read.drives (drives_kept (reading_as s.node mid))
+-- the bit of one that reads
+module _ (s : Seat) (mid new : Node) (xs : List Level) (x : Level) (bit : ReadsBit mid x new) where
+  reader_drives : (node : Node) → kept_level node ≡ Recessive → DrivesNext node Recessive
+  reader_drives node e = let P : Level → Type 0 = λ y. DrivesNext node y in subst P e (drives_kept node)
 
   pub reader_quiet : s.untold ≡ Nothing → s.drives ≡ Recessive →
       IsQuietBit x (after_reading mid xs s) (after_reading new (xs ++ x ∷ []) s)
   reader_quiet none drives = record {
     untold = none;
     told = none;
-    samples = reader_samples;
-    shows = reads_same (reading_as s.node mid) new;
+    samples = bit.samples;
+    shows = bit.shows;
     whole = grown (λ y. Bit Recessive y) s.journal.entries xs x
         ∙ ap (λ y. (s.journal.entries ++ read_bits xs) ++ Bit y x ∷ []) (sym drives);
   }
@@ -101,10 +93,9 @@ module _ (s : Seat) (first mid new : Shift) (xs : List Level) (x : Level) (read 
   pub reader_ready : s.drives ≡ Recessive → IsReady (after_reading mid xs s) →
       IsReady (after_reading new (xs ++ x ∷ []) s)
   reader_ready drives ready = record {
-    sound = quiet_sound (after_reading mid xs s) (after_reading new (xs ++ x ∷ []) s) (reading_as s.node new)
-        Recessive x (is_receiving s.node) reader_drives reader_samples (reads_same (reading_as s.node mid) new) refl
+    sound = quiet_sound (after_reading mid xs s) (after_reading new (xs ++ x ∷ []) s) new Recessive x
+        (is_receiving mid) (reader_drives mid bit.drives) bit.samples bit.shows refl
         (grown (λ y. Bit Recessive y) s.journal.entries xs x) refl refl refl ready.sound;
     seat = record { own = ready.seat.own; few = ready.seat.few; runs = ready.seat.runs };
-    drives = let P : Level → Type 0 = λ y. DrivesNext (reading_as s.node new) y in
-        subst P (read.drives ∙ sym drives) (drives_kept (reading_as s.node new));
+    drives = let P : Level → Type 0 = λ y. DrivesNext new y in subst P (bit.stays ∙ sym drives) (drives_kept new);
   }

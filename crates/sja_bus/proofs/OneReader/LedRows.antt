@@ -1,16 +1,15 @@
--- Bits of all nodes, each of which sends them, or has read just what a node has that sends them.
+-- Bits of all nodes, each of which sends them, or reads them and drives recessive.
 use Rattle.std.proofs.Common.{◌≡◌, ◌≢◌, ◌⊎◌, ℕ, suc, ◌<◌, Bool, false, List, [], ◌∷◌, ◌++◌, length}
 use Rattle.std.proofs.Common.{refl, sym, ap, ◌∙◌, subst, arith, inl, inr, append-nil}
 use Rattle.std.specs.Prelude.{slice_index_or}
 use Rattle.std.proofs.lemmas.List.{length-append, same_lists}
 use Rattle.can_bits.specs.declared.level.Level.{Level}
 use Rattle.can_bits.specs.declared.level.Level.TheVariants.{Recessive}
-use Rattle.can_bits.specs.declared.shift.Shift.{Shift}
 use Rattle.can_node.specs.declared.node.Node.{Node}
 use Rattle.can_node.specs.Stands.{DrivesNext, ShowsRest}
-use Rattle.can_node.specs.Together.{HasReadAs, SendsBits, kept_level, reader_of, reading_as}
+use Rattle.can_node.specs.Together.{ReadsBits, SendsBits, kept_level}
 use Rattle.can_node.specs.Together.SendsBits.{no_bit, one_more as one_bit_more}
-use Rattle.can_node.proofs.Machine.Following.{sent_last, sent_none}
+use Rattle.can_node.proofs.Machine.Following.{read_last, read_none, sent_last, sent_none}
 use Rattle.sja_wire.specs.Wire.{wired}
 use Rattle.sja_bus.specs.declared.seat.Seat.{Seat}
 use Rattle.sja_bus.specs.declared.untold.Untold.TheVariants.{Nothing}
@@ -24,27 +23,27 @@ use Rattle.sja_bus.proofs.OneReader.LedBits.{sender_quiet, sender_ready, works}
 
 -- ---- one seat
 
--- a seat after these levels: its node sent them, or has read them as this sender did. The one in the lead sent them
-pub data HasGone (lead : ℕ) (sender : Node) (xs : List Level) (m : ℕ) (old : Seat) : Seat → Type 0 where
+-- a seat after these levels: its node sent them, or read them. The one in the lead sent them
+pub data HasGone (lead : ℕ) (xs : List Level) (m : ℕ) (old : Seat) : Seat → Type 0 where
   by_sending : (node : Node) (next : Level) → SendsBits old.node xs node → DrivesNext node next →
-      HasGone lead sender xs m old (after_sending node next xs old)
-  by_reading : (node : Node) → m ≢ lead → HasReadAs old.node (reader_of sender) → SendsBits sender xs node →
-      HasGone lead sender xs m old (after_reading (reader_of node) xs old)
+      HasGone lead xs m old (after_sending node next xs old)
+  by_reading : (node : Node) → m ≢ lead → kept_level old.node ≡ Recessive → ReadsBits old.node xs node →
+      HasGone lead xs m old (after_reading node xs old)
 
 -- the seat before the last of these levels
-pub record GoesBack (lead : ℕ) (sender : Node) (xs : List Level) (x : Level) (m : ℕ) (old mid new : Seat) : Type 0
+pub record GoesBack (lead : ℕ) (xs : List Level) (x : Level) (m : ℕ) (old mid new : Seat) : Type 0
   where
-    pub gone : HasGone lead sender xs m old mid
+    pub gone : HasGone lead xs m old mid
     pub bit : IsQuietBit x mid new
     pub ready : IsOf mid m → IsOf new m
     pub room : new.journal.room ≡ mid.journal.room
     pub drives : (mid.drives ≡ x) ⊎ (mid.drives ≡ Recessive)
     pub leads : m ≡ lead → (mid.drives ≡ x) × ShowsRest mid.node false
 
-one_back : (lead : ℕ) (sender : Node) (xs : List Level) (x : Level) (m : ℕ) (old new : Seat) → IsOf old m →
-    old.untold ≡ Nothing → HasGone lead sender (xs ++ x ∷ []) m old new →
-    (mid : Seat) × GoesBack lead sender xs x m old mid new
-one_back lead sender xs x m old _ at none (by_sending node next bits drives) =
+one_back : (lead : ℕ) (xs : List Level) (x : Level) (m : ℕ) (old new : Seat) → IsOf old m →
+    old.untold ≡ Nothing → HasGone lead (xs ++ x ∷ []) m old new →
+    (mid : Seat) × GoesBack lead xs x m old mid new
+one_back lead xs x m old _ at none (by_sending node next bits drives) =
     let back = sent_last old.node (xs ++ x ∷ []) node xs x bits refl in (
       after_sending back.mid x xs old,
       record {
@@ -59,19 +58,15 @@ one_back lead sender xs x m old _ at none (by_sending node next bits drives) =
         leads = λ here. (refl, works back.mid back.bit.sends);
       },
     )
-one_back lead sender xs x m old _ at none (by_reading node other read bits) =
-    let back = sent_last sender (xs ++ x ∷ []) node xs x bits refl in
-    let first = reader_of sender in let mid = reader_of back.mid in let new = reader_of node in
+one_back lead xs x m old _ at none (by_reading node other recessive bits) =
+    let back = read_last old.node (xs ++ x ∷ []) node xs x bits refl in
     let kept = kept_is old old.node (kept_level old.node) at.ready refl (drives_kept old.node) in
-    let still = sym kept ∙ read.drives in (
-      after_reading mid xs old,
+    let still = sym kept ∙ recessive in (
+      after_reading back.mid xs old,
       record {
-        gone = by_reading back.mid other read back.bits;
-        bit = reader_quiet old first mid new xs x read back.bit.takes none still;
-        ready = λ h. record {
-          ready = reader_ready old first mid new xs x read back.bit.takes still h.ready;
-          own = h.own;
-        };
+        gone = by_reading back.mid other recessive back.bits;
+        bit = reader_quiet old back.mid node xs x back.bit none still;
+        ready = λ h. record { ready = reader_ready old back.mid node xs x back.bit still h.ready; own = h.own };
         room = refl;
         drives = inr still;
         leads = λ here. absurd (other here);
@@ -79,9 +74,9 @@ one_back lead sender xs x m old _ at none (by_reading node other read bits) =
     )
 
 -- after no level it is what it was
-one_still : (lead : ℕ) (sender : Node) (m : ℕ) (old new : Seat) → IsOf old m → HasGone lead sender [] m old new →
+one_still : (lead : ℕ) (m : ℕ) (old new : Seat) → IsOf old m → HasGone lead [] m old new →
     new ≡ old
-one_still lead sender m old _ at (by_sending node next bits drives) =
+one_still lead m old _ at (by_sending node next bits drives) =
     let is = sent_none old.node [] node bits refl in let kept = kept_is old node next at.ready is drives in
     ap (λ n. let t : Seat = record old {
       node = n;
@@ -94,33 +89,32 @@ one_still lead sender m old _ at (by_sending node next bits drives) =
     } in t) kept
     ∙ ap (λ l. let t : Seat = record old { journal = record old.journal { entries = l } } in t)
     (append-nil old.journal.entries)
-one_still lead sender m old _ at (by_reading node other read bits) =
-    let is = ap (λ (n : Node). reader_of n) (sent_none sender [] node bits refl) ∙ sym read.same in
-    ap (λ (r : Shift). let t : Seat = record old {
-      node = reading_as old.node r;
+one_still lead m old _ at (by_reading node other recessive bits) =
+    ap (λ n. let t : Seat = record old {
+      node = n;
       journal = record old.journal { entries = old.journal.entries ++ [] };
-    } in t) is
+    } in t) (read_none old.node [] node bits refl)
     ∙ ap (λ l. let t : Seat = record old { journal = record old.journal { entries = l } } in t)
     (append-nil old.journal.entries)
 
 -- ---- all seats
 
-module _ (to_rest : Bool) (seats : List Seat) (lead : ℕ) (sender : Node) (few : lead < length seats)
+module _ (to_rest : Bool) (seats : List Seat) (lead : ℕ) (few : lead < length seats)
     (ready : AreReady seats) (told : AreTold seats) where
   abbrev pub HaveGone : List Level → List Seat → Type 0
-  HaveGone xs after = EachSeat (λ m old new. HasGone lead sender xs m old new) seats after
+  HaveGone xs after = EachSeat (λ m old new. HasGone lead xs m old new) seats after
 
   -- the seats before the last of these levels
   all_back : (xs : List Level) (x : Level) (after : List Seat) → length after ≡ length seats →
-      HaveGone (xs ++ x ∷ []) after → Between (GoesBack lead sender xs x) seats after
+      HaveGone (xs ++ x ∷ []) after → Between (GoesBack lead xs x) seats after
   all_back xs x after count gone =
-      between (GoesBack lead sender xs x) seats after count
-      (λ m s near. one_back lead sender xs x m (slice_index_or seats m s) (slice_index_or after m s)
+      between (GoesBack lead xs x) seats after count
+      (λ m s near. one_back lead xs x m (slice_index_or seats m s) (slice_index_or after m s)
       (ready m s near) (told m s near) (gone m s near))
 
   -- their last bit
   last_row : (xs : List Level) (x : Level) (after : List Seat) → length after ≡ length seats →
-      (back : Between (GoesBack lead sender xs x) seats after) → AreReady back.items →
+      (back : Between (GoesBack lead xs x) seats after) → AreReady back.items →
       IsQuietRow to_rest back.items after
   last_row xs x after count back rows =
       let n = back.count in
@@ -145,7 +139,7 @@ module _ (to_rest : Bool) (seats : List Seat) (lead : ℕ) (sender : Node) (few 
       AreQuietRows to_rest seats (length xs) after × AreReady after
   rows_gone node _ _ no_bit after count gone =
       let e = same_lists seats after (sym count)
-      (λ m s near. sym (one_still lead sender m (slice_index_or seats m s) (slice_index_or after m s) (ready m s near)
+      (λ m s near. sym (one_still lead m (slice_index_or seats m s) (slice_index_or after m s) (ready m s near)
       (gone m s near))) in
       let P : List Seat → Type 0 = λ l. AreQuietRows to_rest seats 0 l in
       let Q : List Seat → Type 0 = λ l. AreReady l in

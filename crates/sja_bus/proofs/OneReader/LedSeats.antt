@@ -8,12 +8,12 @@ use Rattle.std.proofs.lemmas.List.{length-set, set-get_or as set_same, get_or-se
 use Rattle.std.proofs.lemmas.List.{get_or-set_other as set_there, get_or_default as or_same}
 use Rattle.can_bits.specs.declared.level.Level.{Level}
 use Rattle.can_bits.specs.declared.level.Level.TheVariants.{Recessive}
-use Rattle.can_bits.specs.declared.shift.Shift.{Shift}
 use Rattle.can_node.specs.declared.node.Node.{Node}
 use Rattle.can_node.specs.Stands.{DrivesNext}
 use Rattle.can_node.specs.Together.{GoesWith, SendsAlike, SendsBits, reader_of, reading_as, sending_as}
-use Rattle.can_node.specs.Together.GoesWith.{receives, sends as sends_too}
-use Rattle.can_node.proofs.Machine.Following.{follows_sending, reads_only, sent_none}
+use Rattle.can_node.specs.Together.GoesWith.{receives, rests, sends as sends_too}
+use Rattle.can_node.proofs.Machine.Following.{apart_bits, apart_only, follows_sending, reads_bits, reads_only}
+use Rattle.can_node.proofs.Machine.Following.{sent_none}
 use Rattle.sja_link.specs.declared.entry.Entry.TheVariants.{Bit}
 use Rattle.sja_link.specs.Written.{Written}
 use Rattle.sja_bus.specs.declared.seat.Seat.{Seat}
@@ -48,25 +48,29 @@ has_sent old new xs others room entries drives =
       drives = drives;
     }
 
-pub has_read : (old new : Seat) (reader : Shift) (xs : List Level) (n : ℕ) → length xs ≤ n →
-    new ≡ record old { node = reading_as old.node reader; journal = new.journal } →
-    new.journal.room ≡ old.journal.room →
+pub has_read : (old new : Seat) (xs : List Level) (n : ℕ) → length xs ≤ n →
+    new ≡ record old { journal = new.journal } → new.journal.room ≡ old.journal.room →
     new.journal.entries ≡ old.journal.entries
-    ++ zip2 (λ x y. Bit x y) (take (length xs) (replicate n Recessive)) xs → new ≡ after_reading reader xs old
-has_read old new reader xs n few others room entries =
+    ++ zip2 (λ x y. Bit x y) (take (length xs) (replicate n Recessive)) xs → new ≡ after_reading old.node xs old
+has_read old new xs n few others room entries =
     let is = entries ∙ ap (λ l. old.journal.entries ++ l) (zip_recessive n xs few) in
     let j : new.journal ≡ record old.journal { entries = old.journal.entries ++ read_bits xs } =
     λ i. record { entries = is i; room = room i } in
-    others ∙ ap (λ (w : Written). let s : Seat = record old { node = reading_as old.node reader; journal = w } in s) j
+    others ∙ ap (λ (w : Written). let s : Seat = record old { journal = w } in s) j
 
 -- a seat that goes on with the sender has gone on
-module _ (lead n m : ℕ) (sender new : Node) (xs : List Level) (sends : SendsBits sender xs new)
+module _ (lead n m : ℕ) (sender new : Node) (xs : List Level) (some : 0 < length xs) (sends : SendsBits sender xs new)
     (alike : (other : Node) → SendsAlike sender n other → SendsBits other xs (sending_as other (reader_of new))) where
-  other_gone : (old after : Seat) → m ≢ lead → GoesWith sender n old.node → FollowsOn (reader_of new) xs old after →
-      HasGone lead sender xs m old after
+  pub other_gone : (old after : Seat) → m ≢ lead → GoesWith sender n old.node → FollowsOn (reader_of new) xs old after →
+      HasGone lead xs m old after
   other_gone old after other (receives read) on =
-      subst (λ t. HasGone lead sender xs m old t) (sym (on.1 (reads_only old.node (reader_of sender) read)))
-      (by_reading new other read sends)
+      subst (λ t. HasGone lead xs m old t) (sym (on.1 (reads_only old.node (reader_of sender) read)))
+      (by_reading (reading_as old.node (reader_of new)) other read.drives
+      (reads_bits old.node sender new xs read sends))
+  other_gone old after other (rests apart) on =
+      subst (λ t. HasGone lead xs m old t) (sym (on.1 (apart_only old.node apart)))
+      (by_reading (reading_as old.node (reader_of new)) other apart.drives
+      (apart_bits old.node sender new xs apart some sends))
   other_gone old after other (sends_too same) on =
       let has = on.0 same.sends in let is = follows_sending old.node (reader_of new) same.sends in
       let next = after.drives in
@@ -74,42 +78,63 @@ module _ (lead n m : ℕ) (sender new : Node) (xs : List Level) (sends : SendsBi
       subst (λ (k : Node). DrivesNext k next) is has.drives in
       let all : after ≡ after_sending (sending_as old.node (reader_of new)) next xs old =
       has.is ∙ ap (λ (k : Node). after_sending k next xs old) is in
-      subst (λ t. HasGone lead sender xs m old t) (sym all)
+      subst (λ t. HasGone lead xs m old t) (sym all)
       (by_sending (sending_as old.node (reader_of new)) next (alike old.node same) drives)
 
--- all of them
+-- all of them, where one sent and each other one has gone on
+pub gone_rows : (to_rest : Bool) (seats after : List Seat) (lead : ℕ) (s : Seat) (new : Node) (xs : List Level) →
+    lead < length seats → AreReady seats → AreTold seats → SendsBits (slice_index_or seats lead s).node xs new →
+    length after ≡ length seats →
+    ((t : Seat) → HasSent xs (record (slice_index_or seats lead s) { node = new }) (slice_index_or after lead t)) →
+    ((m : ℕ) (t : Seat) → m < length seats → m ≢ lead →
+    HasGone lead xs m (slice_index_or seats m t) (slice_index_or after m t)) →
+    AreQuietRows to_rest seats (length xs) after
+gone_rows to_rest seats after lead s new xs few ready told sends count sent others =
+    let at = slice_index_or seats lead s in
+    let gone : (m : ℕ) (t : Seat) → m < length seats →
+    HasGone lead xs m (slice_index_or seats m t) (slice_index_or after m t) =
+    λ m t near. elim (cases_eq m lead) [
+      | inl q ↦
+          let P : ℕ → Type 0 = λ i. HasGone lead xs m (slice_index_or seats i t) (slice_index_or after i t) in
+          let has = sent t in let new_seat = slice_index_or after lead t in
+          subst P (sym q) (subst (λ (k : Seat). HasGone lead xs m k new_seat) (or_same seats lead s t few)
+          (subst (λ (k : Seat). HasGone lead xs m at k) (sym has.is) (by_sending new new_seat.drives sends has.drives)))
+      | inr other ↦ others m t near other
+    ] in
+    (rows_gone to_rest seats lead few ready told at.node xs new sends after count gone).0
+
+-- what the loop over the seats did with the one that had sent, and with another one
+module _ (seats after : List Seat) (lead : ℕ) (s one : Seat) (few : lead < length seats)
+    (R : ℕ → Seat → Seat → Type 0) (goes : EachSeat R (slice_set seats lead one) after) where
+  pub done_lead : (t : Seat) → R lead one (slice_index_or after lead t)
+  done_lead t =
+      let size = length-set seats lead one in
+      subst (λ k. R lead k (slice_index_or after lead t)) (set_here seats lead one t few)
+      (goes lead t (omega (arith, few, size)))
+
+  pub done_other : (m : ℕ) (t : Seat) → m < length seats → m ≢ lead →
+      R m (slice_index_or seats m t) (slice_index_or after m t)
+  done_other m t near other =
+      let size = length-set seats lead one in
+      subst (λ k. R m k (slice_index_or after m t)) (set_there seats lead m one t other)
+      (goes m t (omega (arith, near, size)))
+
 pub led_rows : (to_rest : Bool) (seats after : List Seat) (lead n : ℕ) (s : Seat) (new : Node) (xs : List Level) →
-    IsLed seats lead n → AreReady seats → AreTold seats → SendsBits (slice_index_or seats lead s).node xs new →
+    IsLed seats lead n → AreReady seats → AreTold seats → 0 < length xs →
+    SendsBits (slice_index_or seats lead s).node xs new →
     ((other : Node) → SendsAlike (slice_index_or seats lead s).node n other →
     SendsBits other xs (sending_as other (reader_of new))) → length after ≡ length seats →
     EachSeat (SeatGoesOn lead (reader_of new) xs)
     (slice_set seats lead (record (slice_index_or seats lead s) { node = new })) after →
     AreQuietRows to_rest seats (length xs) after
-led_rows to_rest seats after lead n s new xs led ready told sends alike count goes =
-    let at = slice_index_or seats lead s in let few = led.few in
-    let one : Seat = record at { node = new } in
-    let mid = slice_set seats lead one in let size = length-set seats lead one in
-    let gone : (m : ℕ) (t : Seat) → m < length seats →
-    HasGone lead at.node xs m (slice_index_or seats m t) (slice_index_or after m t) =
-    λ m t near. elim (cases_eq m lead) [
-      | inl q ↦
-          let P : ℕ → Type 0 = λ i. HasGone lead at.node xs m (slice_index_or seats i t) (slice_index_or after i t) in
-          let here : slice_index_or mid lead t ≡ one = set_here seats lead one t few in
-          let has = (goes lead t (omega (arith, few, size))).0 refl in
-          let new_seat = slice_index_or after lead t in let next = new_seat.drives in
-          let drives : DrivesNext new next = subst (λ (k : Seat). DrivesNext k.node next) here has.drives in
-          let is : new_seat ≡ after_sending new next xs at =
-          has.is ∙ ap (λ (k : Seat). after_sending k.node next xs k) here in
-          subst P (sym q) (subst (λ (k : Seat). HasGone lead at.node xs m k new_seat) (or_same seats lead s t few)
-          (subst (λ (k : Seat). HasGone lead at.node xs m at k) (sym is) (by_sending new next sends drives)))
-      | inr other ↦
-          let on : FollowsOn (reader_of new) xs (slice_index_or seats m t) (slice_index_or after m t) =
-          subst (λ (k : Seat). FollowsOn (reader_of new) xs k (slice_index_or after m t))
-          (set_there seats lead m one t other) ((goes m t (omega (arith, near, size))).1 other) in
-          other_gone lead n m at.node new xs sends alike (slice_index_or seats m t) (slice_index_or after m t) other
-          (led.go s m t near other) on
-    ] in
-    (rows_gone to_rest seats lead at.node few ready told at.node xs new sends after count gone).0
+led_rows to_rest seats after lead n s new xs led ready told some sends alike count goes =
+    let at = slice_index_or seats lead s in let one : Seat = record at { node = new } in
+    let R = SeatGoesOn lead (reader_of new) xs in
+    gone_rows to_rest seats after lead s new xs led.few ready told sends count
+    (λ t. (done_lead seats after lead s one led.few R goes t).0 refl)
+    (λ m t near other. other_gone lead n m at.node new xs some sends alike (slice_index_or seats m t)
+    (slice_index_or after m t) other (led.go s m t near other)
+    ((done_other seats after lead s one led.few R goes m t near other).1 other))
 
 -- none, so nothing happened
 pub no_rows : (to_rest : Bool) (seats : List Seat) (lead : ℕ) (s : Seat) (new : Node) (levels : List Level)

@@ -3,7 +3,7 @@ use Rattle.std.proofs.Common.{◌≡◌, ◌⊎◌, ◌↔◌, ◌+◌, ◌*◌,
 use Rattle.std.proofs.Common.{inl, inr, sym, ap, ◌∙◌, subst, arith}
 use Rattle.std.specs.Prelude.{slice_index_or, slice_set}
 use Rattle.std.specs.List.{Contains}
-use Rattle.std.proofs.lemmas.Bool.{cases_eq}
+use Rattle.std.proofs.lemmas.Bool.{cases_eq, cases_lt}
 use Rattle.std.proofs.lemmas.List.{get_or_default, get_or-set_other, get_or-take, get_or-drop, length-replicate}
 use Rattle.std.proofs.lemmas.List.{length-take-le, length-drop, get_or-replicate}
 use Rattle.std.proofs.lemmas.Grind.{get_or-set_at}
@@ -133,6 +133,25 @@ struck_none nodes bits none bit node d few below =
       λ h. absurd (none node (subst A (get_or-replicate bits bit nodes d within) h)),
       λ h. absurd (none_there h.strike h.in_script),
     )
+
+-- bits more in which nobody is struck
+pub struck_on : (script : List Strike) (was now : List StruckNodes) (nodes : StruckNodes) (len n bits : ℕ) →
+    len ≡ length was → ((node : ℕ) → IsAmong node nodes → ⊥) → AreStruck script was →
+    (length was < bits → (bit node : ℕ) → Strikes script bit node → ⊥) → length now ≡ n → n ≤ bits →
+    ((k : ℕ) (d : StruckNodes) → k < n → k < len → slice_index_or now k d ≡ slice_index_or was k d) →
+    ((k : ℕ) (d : StruckNodes) → len ≤ k → k < n → slice_index_or now k d ≡ nodes) → AreStruck script now
+struck_on script was now nodes len n bits same none struck nobody count most first then bit node d few below =
+    let A : StruckNodes → Type 0 = λ x. IsAmong node x in
+    elim (cases_lt bit len) [
+      | inl low ↦
+          let e = first bit d (omega (arith, few, count)) low in
+          let is = struck bit node d (omega (arith, low, same)) below in
+          (λ h. is.0 (subst A e h), λ s. subst A (sym e) (is.1 s))
+      | inr high ↦ (
+        λ h. absurd (none node (subst A (then bit d high (omega (arith, few, count))) h)),
+        λ s. absurd (nobody (omega (arith, high, same, few, count, most)) bit node s),
+      )
+    ]
 
 pub struck_more : (script : List Strike) (s : Strike) (old new : List StruckNodes) → length new ≡ length old →
     AreStruck script old → IsMarked s old new → AreStruck (script ++ s ∷ []) new

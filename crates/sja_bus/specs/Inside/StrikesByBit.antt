@@ -1,5 +1,5 @@
 -- Which nodes are struck in each bit of a run (this project's own rule).
-use Rattle.std.specs.Prelude.{◌≡◌, ◌+◌, ◌⊎◌, ◌↔◌, ◌<◌, ℕ, List, length, slice_index_or}
+use Rattle.std.specs.Prelude.{◌≡◌, ◌+◌, ◌⊎◌, ◌↔◌, ◌<◌, ◌≤◌, ℕ, List, length, slice_index_or}
 use Rattle.std.specs.Int.{bit_at}
 use Rattle.sja_script.specs.declared.strike.Strike.{Strike}
 use Rattle.sja_script.specs.Striking.{Hits, Strikes}
@@ -28,7 +28,14 @@ AreStruckFrom script from bits = (run node : ℕ) (d : StruckNodes) → run < le
 abbrev pub AreUnstruck : ℕ → List StruckNodes → Type 0
 AreUnstruck n bits = (i node : ℕ) (d : StruckNodes) → i < n → IsAmong node (slice_index_or bits i d) → ⊥
 
--- a script, and of how many bits it is known whom it strikes
+-- a script, of how many bits it is known whom it strikes, and of how many of the first ones that is written down
 pub record Scripted : Type 0 where
   pub script : List Strike
   pub bits : ℕ
+  pub written : ℕ
+
+-- of so many of the bits it is written down, for all of which there is room: of all, unless nobody is struck
+pub record IsWritten (script : List Strike) (bits written room : ℕ) : Type 0 where
+  pub most : written ≤ bits
+  pub fits : bits ≤ room
+  pub none : written < bits → (bit node : ℕ) → Strikes script bit node → ⊥

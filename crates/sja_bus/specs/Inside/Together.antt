@@ -1,5 +1,5 @@
 -- Bits of a bus in which nothing happens that a port is told, and those in which one node sends and the others go on
--- with it.
+-- with it or are in reset.
 use Rattle.std.specs.Prelude.{◌≡◌, ◌≢◌, ◌<◌, ◌≤◌, ℕ, suc, Bool, true, false, List, ◌++◌, length, map}
 use Rattle.std.specs.Prelude.{slice_index_or}
 use Rattle.can_bits.specs.declared.level.Level.{Level}
@@ -62,6 +62,11 @@ pub record IsLed (seats : List Seat) (lead n : ℕ) : Type 0 where
   pub few : lead < length seats
   pub go : (s : Seat) → OthersGo seats lead n (slice_index_or seats lead s).node
 
+-- for so many bits all but these two go on with the first one
+abbrev pub RestGoes : List Seat → ℕ → ℕ → ℕ → Node → Type 0
+RestGoes seats lead stray n sender =
+    (k : ℕ) (s : Seat) → k < length seats → k ≢ lead → k ≢ stray → GoesWith sender n (slice_index_or seats k s).node
+
 -- the entries of a node that sent these levels, and of one that read them and drove recessive
 abbrev pub sent_bits : List Level → List Entry
 sent_bits levels = map (λ x. Bit x x) levels
@@ -82,10 +87,10 @@ pub record HasSent (levels : List Level) (old new : Seat) : Type 0 where
   pub is : new ≡ after_sending old.node new.drives levels old
   pub drives : DrivesNext old.node new.drives
 
--- a seat whose node read them, and has this reader then
-abbrev pub after_reading : Shift → List Level → Seat → Seat
-after_reading reader levels s = record s {
-  node = reading_as s.node reader;
+-- a seat whose node read these levels and drove recessive, and is this one then
+abbrev pub after_reading : Node → List Level → Seat → Seat
+after_reading node levels s = record s {
+  node = node;
   journal = record s.journal { entries = s.journal.entries ++ read_bits levels };
 }
 
@@ -93,9 +98,14 @@ after_reading reader levels s = record s {
 abbrev pub FollowsOn : Shift → List Level → Seat → Seat → Type 0
 FollowsOn reader levels old new =
     (is_sending old.node ≡ true → HasSent levels (record old { node = following old.node reader }) new)
-    × (is_sending old.node ≡ false → new ≡ after_reading reader levels old)
+    × (is_sending old.node ≡ false → new ≡ after_reading (reading_as old.node reader) levels old)
 
 -- that of each, where this one sent
 abbrev pub SeatGoesOn : ℕ → Shift → List Level → ℕ → Seat → Seat → Type 0
 SeatGoesOn lead reader levels m old new =
     (m ≡ lead → HasSent levels old new) × (m ≢ lead → FollowsOn reader levels old new)
+
+-- the same, where one has a reader of its own
+abbrev pub SeatGoesBeside : ℕ → ℕ → Shift → Shift → List Level → ℕ → Seat → Seat → Type 0
+SeatGoesBeside lead stray reader beside levels m old new =
+    (m ≡ stray → SeatGoesOn lead beside levels m old new) × (m ≢ stray → SeatGoesOn lead reader levels m old new)

@@ -1,23 +1,12 @@
-use Rattle.std.proofs.Common.{◌≡◌, ◌<◌, ◌≤◌, ℕ, length, rules, arith, sym, ap, ◌∙◌, subst, inl, inr}
+use Rattle.std.proofs.Common.{◌≡◌, ◌<◌, ◌≤◌, length, rules, arith, sym, ap, ◌∙◌, subst, inl, inr}
 use Rattle.std.specs.Prelude.{slice_index_or}
 use Rattle.std.proofs.lemmas.List.{get_or_default as or_same}
 use Rattle.lemmas.proofs.Numbers.{earlier_or_last}
-use Rattle.can_node.specs.declared.node.Node.{Node}
 use Rattle.can_node.specs.Together.{GoesWith}
-use Rattle.can_node.specs.Together.GoesWith.{receives, sends}
 use Rattle.sja_bus.specs.declared.seat.Seat.{Seat}
 use Rattle.sja_bus.proofs.together.others_go.Goals.{then-k-lead+else-most-eq0, else-k-lead}
+use Rattle.sja_bus.proofs.OneReader.Fewer.{fewer}
 use Rattle.sja_bus.proofs.together.others_go.Goals as goal
-
--- who goes on for so many bits does for fewer
-fewer : (a b : Node) (m n : ℕ) → m ≤ n → GoesWith a n b → GoesWith a m b
-fewer a b m n few (receives h) = receives h
-fewer a b m n few (sends h) = sends (record {
-  sends = h.sends;
-  same = h.same;
-  drives = h.drives;
-  agree = λ place low. h.agree place (omega (arith, low, few));
-})
 
 pub loop-k-preserved : goal.loop-k-preserved
 loop-k-preserved c = record {

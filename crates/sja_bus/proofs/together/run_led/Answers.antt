@@ -1,4 +1,4 @@
-use Rattle.std.proofs.Common.{◌≡◌, ◌≤◌, ℕ, length, take, arith, ap, ◌∙◌, subst}
+use Rattle.std.proofs.Common.{◌≡◌, ◌<◌, ℕ, length, take, arith, ap, ◌∙◌, subst}
 use Rattle.std.specs.Prelude.{slice_index_or, slice_set}
 use Rattle.std.proofs.lemmas.List.{length-set, length-take-le, get_or-set_same as set_here}
 use Rattle.can_bits.specs.declared.shift.Shift.{Shift}
@@ -11,11 +11,10 @@ use Rattle.sja_bus.proofs.together.run_led.Goals as goal
 
 pub returns-then-count-gt0-clause-rows : goal.returns-then-count-gt0-clause-rows
 returns-then-count-gt0-clause-rows c = λ to_rest.
-    let seats = c.args.seats.now in let lead = c.args.lead.node in let s = c.index-seats-lead.result in
+    let seats = c.args.seats.now in let lead = c.args.lead in let s = c.index-seats-lead.result in
     let new = c.send_inside-count.new.self in let after = c.all_go_on.new.seats in
     let count = c.send_inside-count.result in let levels = c.send_inside-count.new.levels in
     let few = c.send_inside-count.ensures.few in let size = c.send_inside-count.ensures.count in
-    let enough : count ≤ c.args.lead.most = let most = c.requires.few in omega (arith, few, most) in
     let one : Seat = record (slice_index_or seats lead s) { node = new } in
     let same : c.reader-reader.result ≡ reader_of new =
     c.reader-reader.ensures ∙ ap (λ (t : Seat). reader_of t.node) (set_here seats lead one _ c.requires.led.few) in
@@ -23,14 +22,16 @@ returns-then-count-gt0-clause-rows c = λ to_rest.
     let kept = c.all_go_on.auto.seats in let set = length-set seats lead one in omega (arith, kept, set) in
     let G : Shift → Type 0 = λ r. EachSeat (SeatGoesOn lead r (take count levels)) (slice_set seats lead one) after in
     let P : ℕ → Type 0 = λ n. AreQuietRows to_rest seats n after in
-    subst P (length-take-le count levels (omega (arith, few, size)))
-    (led_rows to_rest seats after lead c.args.lead.most s new (take count levels) c.requires.led c.requires.may.ready
-    c.requires.may.told c.send_inside-count.ensures.sends
-    (λ other. c.send_inside-count.ensures.alike c.args.lead.most other c.if-count-gt0.true enough) all
+    let all_taken = length-take-le count levels (omega (arith, few, size)) in
+    let some : 0 < length (take count levels) = let more = c.if-count-gt0.true in omega (arith, more, all_taken) in
+    subst P all_taken
+    (led_rows to_rest seats after lead (length c.args.levels.now) s new (take count levels) c.requires.led
+    c.requires.may.ready c.requires.may.told some c.send_inside-count.ensures.sends
+    (λ other. c.send_inside-count.ensures.alike (length c.args.levels.now) other c.if-count-gt0.true few) all
     (subst G same c.all_go_on.ensures))
 
 pub returns-else-count-gt0-clause-rows : goal.returns-else-count-gt0-clause-rows
 returns-else-count-gt0-clause-rows c = λ to_rest.
-    no_rows to_rest c.args.seats.now c.args.lead.node c.index-seats-lead.result c.send_inside-count.new.self
+    no_rows to_rest c.args.seats.now c.args.lead c.index-seats-lead.result c.send_inside-count.new.self
     c.send_inside-count.new.levels c.send_inside-count.result c.requires.led.few c.if-count-gt0.false
     c.send_inside-count.ensures.sends

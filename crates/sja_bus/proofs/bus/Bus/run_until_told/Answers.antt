@@ -2,7 +2,9 @@ use Rattle.std.proofs.Common.{◌≡◌, ◌+◌, ◌-◌, ◌≤◌, ℕ, true,
 use Rattle.std.proofs.Common.{arith, rules}
 use Rattle.std.proofs.lemmas.Grind.{common_steps}
 use Rattle.std.specs.Prelude.{◌⊎◌, None, Result, Ok, Err, vec_capacity}
+use Rattle.sja_script.specs.declared.strike.Strike.{Strike}
 use Rattle.sja_script.specs.Striking.{Strikes}
+use Rattle.sja_bus.specs.Inside.StrikesByBit.{Scripted}
 use Rattle.sja_wire.specs.declared.bus_fault.BusFault.{BusFault}
 use Rattle.sja_bus.specs.declared.seat.Seat.{Seat}
 use Rattle.sja_wire.specs.Buses.{BusValue}
@@ -37,12 +39,21 @@ are_back g c = let len = same_count g c in grind (arith, common_steps)
 enough_left : (g : _) (c : After-untaken_bits g) → c.args.most ≤ c.self.inside.left
 enough_left g c = let left = ap (λ w. w.left) c.self.view_is in let most = c.requires.most in omega (arith, left, most)
 
+-- it is written down of more bits whom the script strikes, which is as it was
+script_is : (g : _) (c : After-untaken_bits g) → c.write.new.self.script ≡ c.self.inside.struck.script
+script_is g c = ap (λ (s : Scripted). s.script) c.write.ensures.kept
+
+bits_are : (g : _) (c : After-untaken_bits g) → c.write.new.self.bits ≡ c.self.inside.struck.bits
+bits_are g c = ap (λ (s : Scripted). s.bits) c.write.ensures.kept
+
 -- the bus before, by the seats that run on
 begins : (g : _) (c : After-untaken_bits g) → let b = c.self.inside in
-    bus_of b.struck.script b.steps.items b.run b.left c.as_mut_slice-seats.result.now ≡ c.args.self.now
+    bus_of c.write.new.self.script b.steps.items b.run b.left c.as_mut_slice-seats.result.now ≡ c.args.self.now
 begins g c = let b = c.self.inside in
-    bus_is b.struck.script b.steps.items b.run b.left b.fault b.seats.items c.as_mut_slice-seats.result.now
-    c.args.self.now c.as_mut_slice-seats.ensures.value (right g c) c.self.view_is
+    subst (λ (l : List Strike). bus_of l b.steps.items b.run b.left c.as_mut_slice-seats.result.now ≡ c.args.self.now)
+    (sym (script_is g c))
+    (bus_is b.struck.script b.steps.items b.run b.left b.fault b.seats.items c.as_mut_slice-seats.result.now
+    c.args.self.now c.as_mut_slice-seats.ensures.value (right g c) c.self.view_is)
 
 pub returns-then-not-may_run_untaken-clause-runs : goal.returns-then-not-may_run_untaken-clause-runs
 returns-then-not-may_run_untaken-clause-runs g c =
@@ -68,7 +79,9 @@ returns-in-Ok-clause-none g c = λ zero.
     subst (RunsNone asked c.args.to_rest c.args.most) c.self.view_is
     (held_by_rows c.args.to_rest c.args.most b.struck.script b.steps.items b.run b.left b.fault b.seats.items asked
     (whole.bus (right g at)).ready (subst N (sym whole.bits) (whole.rooms (right g at)))
-    (subst Q c.as_mut_slice-seats.ensures.value (c.in-Ok.ensures.ends.none none)))
+    (subst Q c.as_mut_slice-seats.ensures.value
+    (subst (λ (l : List Strike). RowsRunNone c.args.to_rest l b.run c.args.most c.as_mut_slice-seats.result.now)
+    (script_is g at) (c.in-Ok.ensures.ends.none none))))
   where
     count_in : Result ℕ BusFault → ℕ
     count_in (Ok n) = n
@@ -89,9 +102,9 @@ returns-in-Ok-clause-longest g c = λ some.
     let N : ℕ → Type 0 = λ m. HaveRoom (room_for m b.steps.items) now in
     let P : BusValue → Type 0 = λ w. EndsUntilTold g.B.Board c.args.to_rest c.args.most was n
     (moment w c.untaken_bits.new.links c.untaken_bits.new.board) in
-    subst P (bus_is b.struck.script b.steps.items (b.run + n) (b.left - n) b.fault _ now _
+    subst P (bus_is c.write.new.self.script b.steps.items (b.run + n) (b.left - n) b.fault _ now _
     (sym (are_back g at)) (right g at) refl)
-    (ended g.B.Board c.args.to_rest c.args.most n b.struck.script b.steps.items (b.run + n) (b.left - n) now was
+    (ended g.B.Board c.args.to_rest c.args.most n c.write.new.self.script b.steps.items (b.run + n) (b.left - n) now was
     c.untaken_bits.new.links c.untaken_bits.new.board most runs.bus.ready
     (subst N all (subst H c.as_mut_slice-seats.ensures.value runs.rooms (room_for b.struck.bits b.steps.items)
     (whole.rooms (right g at)))) c.in-Ok.ensures.ends.why)
@@ -123,16 +136,18 @@ invariant_of-self g c =
     let whole = c.self.invariant.0 in let few = whole.few in let logs = whole.logs in let bits = whole.bits in
     let len = same_count g at in let enough = enough_left g at in let most = c.in-Ok.ensures.most in
     let H : List Seat → Type 0 = λ l. (m : ℕ → ℕ) → HaveRoom m l → HaveRoom m now in
-    let P : List Seat → Type 0 = λ l. IsWhole b.struck b.steps.items (b.run + n) (b.left - n) b.fault l
+    let same = bits_are g at in let all = whole.most in
+    let R : ℕ → Type 0 = λ m. HaveRoom (room_for m b.steps.items) now in
+    let P : List Seat → Type 0 = λ l. IsWhole c.write.new.self b.steps.items (b.run + n) (b.left - n) b.fault l
     (vec_capacity b.logs) in (
       subst P (sym (are_back g at)) (record {
         few = omega (arith, len, few);
-        bits = omega (arith, bits, most, enough);
-        most = whole.most;
+        bits = omega (arith, bits, most, enough, same);
+        most = omega (arith, all, same);
         bus = λ right. c.in-Ok.ensures.runs.bus;
         logs = omega (arith, len, logs);
-        rooms = λ right. subst H c.as_mut_slice-seats.ensures.value c.in-Ok.ensures.runs.rooms
-            (room_for b.struck.bits b.steps.items) (whole.rooms right);
+        rooms = λ right. subst R (sym same) (subst H c.as_mut_slice-seats.ensures.value c.in-Ok.ensures.runs.rooms
+            (room_for b.struck.bits b.steps.items) (whole.rooms right));
       }),
       c.self.invariant.1,
     )
@@ -141,17 +156,20 @@ pub returns-in-Ok-clause-runs : goal.returns-in-Ok-clause-runs
 returns-in-Ok-clause-runs g c =
     let at = (goal.at.returns-in-Ok-clause-runs g c).After-untaken_bits in
     let E = g.E.BusEnd in let B = g.B.Board in let b = c.self.inside in let n = c.in-Ok.bits in
-    ran E B c.args.to_rest b.struck.script b.steps.items b.run b.left c.as_mut_slice-seats.result.now
+    ran E B c.args.to_rest c.write.new.self.script b.steps.items b.run b.left c.as_mut_slice-seats.result.now
     c.untaken_bits.new.seats c.args.links.now c.untaken_bits.new.links c.args.board.now c.untaken_bits.new.board
     c.args.most c.untaken_bits.auto.seats c.untaken_bits.ensures.sames c.untaken_bits.ensures.others c.args.self.now
     (begins g at) n _ c.in-Ok.ensures.most (enough_left g at)
-    (bus_is b.struck.script b.steps.items (b.run + n) (b.left - n) b.fault _ c.untaken_bits.new.seats _
+    (bus_is c.write.new.self.script b.steps.items (b.run + n) (b.left - n) b.fault _ c.untaken_bits.new.seats _
     (sym (are_back g at)) (right g at) refl) c.in-Ok.ensures.runs
 
 pub returns-in-Ok-clause-unstruck : goal.returns-in-Ok-clause-unstruck
 returns-in-Ok-clause-unstruck g c = λ i node low few strikes.
+    let at = (goal.at.returns-in-Ok-clause-unstruck g c).After-untaken_bits in
     let P : BusValue → Type 0 = λ w. Strikes w.script (w.run + i) node in
-    c.in-Ok.ensures.runs.unstruck i node low few (subst P (sym c.self.view_is) strikes)
+    let S : List Strike → Type 0 = λ l. Strikes l (c.self.inside.run + i) node in
+    c.in-Ok.ensures.runs.unstruck i node low few
+    (subst S (sym (script_is g at)) (subst P (sym c.self.view_is) strikes))
 
 pub returns-in-Err-clause-stops : goal.returns-in-Err-clause-stops
 returns-in-Err-clause-stops g c =
@@ -160,7 +178,7 @@ returns-in-Err-clause-stops g c =
     let seats = c.as_mut_slice-seats.result.now in
     let N : ℕ → Type 0 = λ m. HaveRoom (room_for m b.steps.items) b.seats.items in
     let R : List Seat → Type 0 = λ l. HaveRoom (room_for (b.run + b.left) b.steps.items) l in
-    stopped E B c.args.to_rest b.struck.script b.steps.items b.run b.left seats c.untaken_bits.new.seats
+    stopped E B c.args.to_rest c.write.new.self.script b.steps.items b.run b.left seats c.untaken_bits.new.seats
     c.args.links.now c.untaken_bits.new.links c.args.board.now c.untaken_bits.new.board c.args.most
     c.untaken_bits.auto.seats c.untaken_bits.ensures.sames c.untaken_bits.ensures.others c.args.self.now (begins g at)
     c.in-Err.broken _ (enough_left g at)

@@ -33,3 +33,9 @@ returns-clause-quiet c = λ bit node low high below hit.
     let script = c.self.inside.script ++ c.self.inside.later.items in
     quiet_in script c.self.inside.bits.items c.args.from c.loop-bit.bit c.self.invariant.0 (search rules)
     c.loop-bit.invariant bit node low (omega arith) below (subst P (sym (ap (λ s. s.script) c.self.view_is)) hit)
+
+pub returns-then-written-self-clause-quiet : goal.returns-then-written-self-clause-quiet
+returns-then-written-self-clause-quiet c = λ bit node low high below hit.
+    let P : List Strike → Type 0 = λ script. Strikes script bit node in
+    let less = c.if-written-self.true in let most = c.self.invariant.1.most in
+    c.self.invariant.1.none (search rules) bit node (subst P (sym (ap (λ s. s.script) c.self.view_is)) hit)
