@@ -78,7 +78,10 @@ impl Document {
             _ => Some(&self.root),
         };
         match owner {
-            Some(owner) => items_in(member_of(owner, kind.key())),
+            Some(owner) => match member_of(owner, kind.key()) {
+                Some(list) => items_in(Some(list)),
+                None => items_in(member_of(owner, kind.other_key())),
+            },
             None => &[],
         }
     }

@@ -20,4 +20,12 @@ impl Kind {
             Kind::Strike => "faults",
         }
     }
+
+    /// The other key that the list may have in version 3.
+    pub(crate) fn other_key(self) -> &'static str {
+        match self {
+            Kind::Strike => "strikes",
+            _ => self.key(),
+        }
+    }
 }

@@ -1,6 +1,7 @@
 //! The nearest of several words.
 
 use super::page::Page;
+use sja_plan::REGISTERS;
 use strsim::osa_distance;
 
 /// How many characters a word has at most for which a near one is looked for (this project's own rule).
@@ -14,7 +15,7 @@ pub(crate) fn nearest(page: &mut Page, given: &str, words: &[&'static str]) -> &
         return "";
     }
     match given.to_ascii_lowercase(page.alloc) {
-        Ok(given) => of_small_letters(page, given.as_str(), words),
+        Ok(given) => of_one_case(page, given.as_str(), words),
         Err(_) => {
             page.refused = true;
             ""
@@ -22,8 +23,28 @@ pub(crate) fn nearest(page: &mut Page, given: &str, words: &[&'static str]) -> &
     }
 }
 
-/// The same of small letters.
-fn of_small_letters(page: &mut Page, given: &str, words: &[&'static str]) -> &'static str {
+/// The name of a register that is nearest to a given word, in either case; nothing where none is.
+pub(crate) fn nearest_register(page: &mut Page, given: &str) -> &'static str {
+    if given.len() > MOST_CHARACTERS {
+        return "";
+    }
+    let mut names = [""; 50];
+    for (place, register) in REGISTERS.iter().enumerate() {
+        if place < names.len() {
+            names[place] = register.0;
+        }
+    }
+    match given.to_ascii_uppercase(page.alloc) {
+        Ok(given) => of_one_case(page, given.as_str(), &names),
+        Err(_) => {
+            page.refused = true;
+            ""
+        }
+    }
+}
+
+/// The same of words in one case.
+fn of_one_case(page: &mut Page, given: &str, words: &[&'static str]) -> &'static str {
     let mut least = given.len() / 4 + 2;
     let mut found = "";
     for word in words {

@@ -1,5 +1,6 @@
 //! Texts of a plan that say no step, no turn or no strike: why, and what would say one.
 
+mod access;
 mod argument;
 mod form;
 mod judge;

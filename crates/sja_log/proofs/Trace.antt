@@ -1,6 +1,5 @@
 -- What a driver did, step by step, and after which bits.
 pub mod Windows
 pub mod AbortsFirst
-pub mod Turning
 pub mod TbsAndAbort
 pub mod AccessDeeds

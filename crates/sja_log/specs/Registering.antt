@@ -94,6 +94,12 @@ pub record IsLineInactive (version : ℕ) (j : List Entry) (deeds : List Deed) :
   pub lead : LeadTo version j deeds registers
   pub inactive : is_line_active registers (seen_now (is_active deeds) j deeds) ≡ false
 
+-- the same, and it is
+pub record IsLineActive (version : ℕ) (j : List Entry) (deeds : List Deed) : Type 0 where
+  pub registers : Registers
+  pub lead : LeadTo version j deeds registers
+  pub active : is_line_active registers (seen_now (is_active deeds) j deeds) ≡ true
+
 -- of each node the entries and accesses lead to some registers: so each step was answered by those that the steps and
 -- bits before it left
 abbrev pub HaveRegisters : PlanValue → RunValue → List (List Access) → Type 0

@@ -1,11 +1,11 @@
 -- How the bits and steps of a run in one thread follow the turns of its plan (this project's own rule).
-use Rattle.std.specs.Prelude.{◌≡◌, ◌+◌, ◌<◌, ◌≤◌, ◌⊎◌, ℕ, true, false, List, []}
+use Rattle.std.specs.Prelude.{◌≡◌, ◌+◌, ◌<◌, ◌≤◌, ◌⊎◌, ℕ, suc, true, false, List, []}
 use Rattle.std.specs.Prelude.{◌∷◌, length, take, set, slice_index, slice_index_or}
 use Rattle.sja_link.specs.declared.entry.Entry.{Entry}
 use Rattle.sja_script.specs.declared.step.Step.{Step}
 use Rattle.sja_script.specs.declared.step.Step.TheVariants.{Await, Sent, Interrupt}
 use Rattle.sja_plan.specs.declared.turn.Turn.{Turn}
-use Rattle.sja_plan.specs.declared.turn.Turn.TheVariants.{Bus, Rest, Node}
+use Rattle.sja_plan.specs.declared.turn.Turn.TheVariants.{Bus, Rest, Node, All, Irq, Go}
 use Rattle.sja_plan.specs.Plan.{PlanValue}
 use Rattle.sja_driver.specs.Accesses.{Access, accesses_at, deeds_in}
 use Rattle.sja_driver.specs.Deeds.{Deed, given_in, is_active, opened_by}
@@ -14,7 +14,7 @@ use Rattle.sja_log.specs.declared.end.End.TheVariants.{Turns as TurnsDone, Bits 
 use Rattle.sja_driver.specs.Windows.{off_by, window_of}
 use Rattle.sja_driver.specs.Resting.{IsHolding, IsAtRest}
 use Rattle.sja_driver.specs.Moments.{at_moment, record_at}
-use Rattle.sja_log.specs.Registering.{IsLineInactive}
+use Rattle.sja_log.specs.Registering.{IsLineInactive, IsLineActive}
 
 -- ---- a run, and how far it has come
 
@@ -79,6 +79,37 @@ pub record DoesSteps (r : Acts) (p : Progress) (k n m : ℕ) : Type 0 where
   pub now : (i : ℕ) (a : Access) → i < m → (slice_index_or (all_accesses r k) (steps_done p k + i) a).bits ≡ p.bits
   pub stuck : m < n → IsStuck r (with_steps p k m) k
 
+-- m steps of node k are done now, as many as can be: up to where the driver is stuck
+abbrev pub DoesAll : Acts → Progress → ℕ → ℕ → Type 0
+DoesAll r p k m = DoesSteps r p k (suc m) m
+
+-- from node k on each driver, in the order of the nodes, does now all that it can
+pub data AllDo (r : Acts) : ℕ → Progress → Progress → Type 0 where
+  no_node_more : (k : ℕ) (p : Progress) → length r.plan.nodes ≤ k → AllDo r k p p
+  one_node : (k m : ℕ) (p q : Progress) → k < length r.plan.nodes → DoesAll r p k m →
+      AllDo r (suc k) (with_steps p k m) q → AllDo r k p q
+
+-- no driver has a step left
+abbrev pub NoneLeft : Acts → Progress → Type 0
+NoneLeft r p = (k : ℕ) → k < length r.plan.nodes → length (steps_of r k) ≤ steps_done p k
+
+-- some driver has
+abbrev pub SomeLeft : Acts → Progress → Type 0
+SomeLeft r p = (k : ℕ) × (k < length r.plan.nodes) × (steps_done p k < length (steps_of r k))
+
+-- ---- the interrupt line
+
+-- what node k got by so many bits, with the steps done
+abbrev pub entries_by : Acts → Progress → ℕ → ℕ → List Entry
+entries_by r p k bits = at_moment bits (length (given_in (deeds_by r p k))) (journal_of r k)
+
+-- the interrupt line of node k isn't active after so many bits, or is
+abbrev pub IsLineDown : Acts → Progress → ℕ → ℕ → Type 0
+IsLineDown r p k bits = IsLineInactive r.plan.version (entries_by r p k bits) (deeds_by r p k)
+
+abbrev pub IsLineUp : Acts → Progress → ℕ → ℕ → Type 0
+IsLineUp r p k bits = IsLineActive r.plan.version (entries_by r p k bits) (deeds_by r p k)
+
 -- ---- turns
 
 -- from one point of a run the turns lead to another, and end so
@@ -99,3 +130,20 @@ pub data RunsTo (r : Acts) : Progress → List Turn → Progress → End → Typ
   -- `node K N` does N steps of driver K; past its last step there are none, and one that has to wait ends the turn
   node : (p q : Progress) (k n m : ℕ) (turns : List Turn) (end : End) → DoesSteps r p k n m →
       RunsTo r (with_steps p k m) turns q end → RunsTo r p (Node k n ∷ turns) q end
+  -- `node K` does steps of driver K up to its last one, or to one that has to wait
+  all : (p q : Progress) (k m : ℕ) (turns : List Turn) (end : End) → DoesAll r p k m →
+      RunsTo r (with_steps p k m) turns q end → RunsTo r p (All k ∷ turns) q end
+  -- `irq K N` runs the fewest bits, N at most, after which the interrupt line of node K is active: none where it is
+  -- already; where it doesn't come, and fewer than N are left, the run ends with them
+  irq : (p q : Progress) (k most n : ℕ) (turns : List Turn) (end : End) → p.bits + n ≤ r.plan.bits → n ≤ most →
+      ((i : ℕ) → i < n → IsLineDown r p k (p.bits + i)) → (n ≡ most) ⊎ IsLineUp r p k (p.bits + n) →
+      RunsTo r (with_bits p n) turns q end → RunsTo r p (Irq k most ∷ turns) q end
+  irq_spent : (p : Progress) (k most : ℕ) (turns : List Turn) → r.plan.bits < p.bits + most →
+      ((bits : ℕ) → p.bits ≤ bits → bits ≤ r.plan.bits → IsLineDown r p k bits) →
+      RunsTo r p (Irq k most ∷ turns) (record p { bits = r.plan.bits }) BitsSpent
+  -- `go`: each driver does all that it can; while one has a step left a bit is run, and so it goes on, so bits run up
+  -- to the first one after which a driver can do its next step; once none has a step left it is `rest`
+  go : (p m q : Progress) (turns : List Turn) (end : End) → AllDo r 0 p m → SomeLeft r m →
+      RunsTo r m (Bus 1 ∷ Go ∷ turns) q end → RunsTo r p (Go ∷ turns) q end
+  go_over : (p m q : Progress) (turns : List Turn) (end : End) → AllDo r 0 p m → NoneLeft r m →
+      RunsTo r m (Rest ∷ turns) q end → RunsTo r p (Go ∷ turns) q end

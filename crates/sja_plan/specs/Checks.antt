@@ -44,7 +44,7 @@ HasFewTurns d = length d.turns ≤ most_turns (version_of d)
 
 -- each text of a turn says one
 abbrev pub HasTurns : DocumentValue → Type 0
-HasTurns d = (turns : List Turn) × AllZip (SaysTurn (length d.nodes)) d.turns turns
+HasTurns d = (turns : List Turn) × AllZip (SaysTurn (version_of d) (length d.nodes)) d.turns turns
 
 abbrev pub HasFewStrikes : DocumentValue → Type 0
 HasFewStrikes d = strikes_in d.faults ≤ most_strikes (version_of d)
@@ -57,7 +57,7 @@ pub record SaysPlan (d : DocumentValue) (p : PlanValue) : Type 0 where
   pub step_counts : HasFewSteps d
   pub steps : AllZip (AllZip (SaysStep p.version)) d.nodes p.nodes
   pub turn_count : HasFewTurns d
-  pub turns : AllZip (SaysTurn (length d.nodes)) d.turns p.turns
+  pub turns : AllZip (SaysTurn p.version (length d.nodes)) d.turns p.turns
   pub strike_count : HasFewStrikes d
   pub strikes : AllZip (SaysStrike (length d.nodes)) d.faults p.strikes
 

@@ -1,5 +1,5 @@
 -- The TOML document of a plan: its keys, and the kinds of their values (this project's own rule).
-use Rattle.std.specs.Prelude.{◌≡◌, ◌&&◌, ℤ, Bool, true, if◌then◌else◌, List, [], ◌∷◌, codes}
+use Rattle.std.specs.Prelude.{◌≡◌, ◌==◌, ◌&&◌, ℤ, pos, negsuc, Bool, true, if◌then◌else◌, List, [], ◌∷◌, codes}
 use Rattle.std.specs.Prelude.{Option, Some, None, option_map, option_and_then}
 use Rattle.std.specs.List.{list_any}
 use Rattle.std.specs.Str.{bytes_eq}
@@ -29,6 +29,15 @@ abbrev pub optional_texts : Option Data → Option (List Text)
 optional_texts None = Some []
 optional_texts (Some d) = texts_in d
 
+-- the texts of the turns; where a plan of version 3 has none its drivers go by themselves, and before there are none
+abbrev pub turns_left_out : ℤ → List Text
+turns_left_out (pos version) = if version == 3 then codes "go" ∷ [] else []
+turns_left_out (negsuc n) = []
+
+abbrev pub turn_texts : ℤ → Option Data → Option (List Text)
+turn_texts version None = Some (turns_left_out version)
+turn_texts version (Some d) = texts_in d
+
 -- every key is one of these
 abbrev pub knows : List Text → Members → Bool
 knows allowed no_members = true
@@ -48,9 +57,21 @@ nodes_of ds = all_of node_of ds
 abbrev pub nodes_in : Data → Option (List (List Text))
 nodes_in d = option_and_then nodes_of (as_array d)
 
--- all keys of a plan; the last two may be left out
-abbrev pub plan_keys : List Text
-plan_keys = codes "version" ∷ codes "bits" ∷ codes "node" ∷ codes "turns" ∷ codes "faults" ∷ []
+-- the keys that plans of version 3 have besides
+abbrev pub newer_keys : ℤ → List Text
+newer_keys (pos n) = if n == 3 then codes "strikes" ∷ [] else []
+newer_keys (negsuc n) = []
+
+-- all keys of a plan of this version; the turns may be left out, and the faults, which are also called strikes
+abbrev pub plan_keys : ℤ → List Text
+plan_keys version =
+    codes "version" ∷ codes "bits" ∷ codes "node" ∷ codes "turns" ∷ codes "faults" ∷ newer_keys version
+
+-- the texts of the strikes, from what stands at `faults` and at `strikes`, of which one at most is there
+abbrev pub strike_texts : Option Data → Option Data → Option (List Text)
+strike_texts faults None = optional_texts faults
+strike_texts None (Some d) = texts_in d
+strike_texts (Some c) (Some d) = None
 
 -- what a document with a plan's keys says: of each node the texts of its steps
 pub record DocumentValue : Type 0 where
@@ -62,12 +83,12 @@ pub record DocumentValue : Type 0 where
 
 -- the document has a plan's keys, each with a value of its kind, and says this
 pub record HasShape (ms : Members) (d : DocumentValue) : Type 0 where
-  pub known : knows plan_keys ms ≡ true
+  pub known : knows (plan_keys d.version) ms ≡ true
   pub version : integer_at (codes "version") ms ≡ Some d.version
   pub bits : integer_at (codes "bits") ms ≡ Some d.bits
   pub nodes : option_and_then nodes_in (get_member (codes "node") ms) ≡ Some d.nodes
-  pub turns : optional_texts (get_member (codes "turns") ms) ≡ Some d.turns
-  pub faults : optional_texts (get_member (codes "faults") ms) ≡ Some d.faults
+  pub turns : turn_texts d.version (get_member (codes "turns") ms) ≡ Some d.turns
+  pub faults : strike_texts (get_member (codes "faults") ms) (get_member (codes "strikes") ms) ≡ Some d.faults
 
 -- some key is unknown, missing or has a value of the wrong kind
 abbrev pub IsMisshapen : Members → Type 0

@@ -1,4 +1,8 @@
 pub mod Words
+pub mod RegisterNames
+pub mod BitNames
+pub mod Accesses
+pub mod Messages
 pub mod StepTexts
 pub mod TurnTexts
 pub mod StrikeTexts

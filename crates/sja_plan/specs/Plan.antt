@@ -5,7 +5,7 @@ use Rattle.sja_script.specs.declared.step.Step.{Step}
 use Rattle.sja_script.specs.declared.strike.Strike.{Strike}
 use Rattle.sja_plan.specs.Limits.{most_bits, most_steps, most_turns, most_strikes}
 use Rattle.sja_plan.specs.declared.turn.Turn.{Turn}
-use Rattle.sja_plan.specs.declared.turn.Turn.TheVariants.{Bus, Rest, Node}
+use Rattle.sja_plan.specs.declared.turn.Turn.TheVariants.{Bus, Rest, Node, All as AllSteps, Irq, Go}
 
 -- version, bits, of each node its steps, turns and strikes
 pub record PlanValue : Type 0 where
@@ -28,6 +28,9 @@ abbrev pub NamesNode : ℕ → Turn → Type 0
 NamesNode nodes (Bus bits) = Unit {0}
 NamesNode nodes Rest = Unit {0}
 NamesNode nodes (Node node steps) = node < nodes
+NamesNode nodes (AllSteps node) = node < nodes
+NamesNode nodes (Irq node bits) = node < nodes
+NamesNode nodes Go = Unit {0}
 
 -- a strike is at one of so many nodes, and strikes at least one bit
 pub record IsStrikeOn (nodes : ℕ) (s : Strike) : Type 0 where

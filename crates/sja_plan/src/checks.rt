@@ -19,6 +19,7 @@ use super::plan_text::read_all;
 use super::settings::settings_of;
 use super::strike_count::strikes_are_few;
 use super::turn::Turn;
+use super::within::Within;
 use sja_script::{Step, Strike};
 use std::alloc::Global;
 
@@ -29,19 +30,30 @@ pub(crate) fn judge(alloc: Global, document: &Document) -> Result<Plan, PlanFaul
     ensures err { IfErr result (IsDocumentFault (document_view document.now)) }
 {
     let settings = settings_of(document)?;
-    Ok(Plan {
-        version: settings.version,
-        bits: settings.bits,
-        nodes: steps(alloc, document, settings.version)?,
-        turns: turns(alloc, document, settings.version)?,
-        strikes: strikes(alloc, document, settings.version)?,
-    })
+    Ok(Plan::of(
+        settings.version,
+        settings.bits,
+        steps(alloc, document, settings.version)?,
+        turns(alloc, document, settings.version)?,
+        strikes(alloc, document, settings.version)?,
+    ))
 }
 
-/// Each node's steps. Their texts name no node.
+/// Within what the texts of a document of this version are read.
+fn within_of(document: &Document, version: u8) -> Within
+    ensures { result ≡ record { version = version; nodes = length (document_view document.now).nodes } }
+{
+    Within {
+        version: usize::from(version),
+        nodes: document.nodes.len(),
+    }
+}
+
+/// Each node's steps.
 fn steps(alloc: Global, document: &Document, version: u8) -> Result<Vec<Vec<Step>>, PlanFault>
     requires version { version_of (document_view document.now) ≡ version }
     requires known { version ≤ 3 }
+    requires nodes { HasNodes (document_view document.now) }
     ensures ok { IfOk result (λ v. AllZip (AllZip (SaysStep version)) (document_view document.now).nodes
         (map (λ steps. steps.items) v.items)) }
     ensures err { IfErr result (λ e. BeforeSteps (document_view document.now)
@@ -50,8 +62,9 @@ fn steps(alloc: Global, document: &Document, version: u8) -> Result<Vec<Vec<Step
     let Ok(mut found) = Vec::with_capacity(alloc, document.nodes.len()) else {
         return Err(PlanFault::Memory);
     };
+    let within = within_of(document, version);
     for texts in document.nodes.as_slice() {
-        match read_all::<Step>(alloc, usize::from(version), texts.as_slice()) {
+        match read_all::<Step>(alloc, within, texts.as_slice()) {
             Ok(steps) => found.push_reserved(steps),
             Err(fault) => return Err(step_fault(found.len(), fault)),
         }
@@ -74,7 +87,7 @@ fn turns(alloc: Global, document: &Document, version: u8) -> Result<Vec<Turn>, P
     requires version { version_of (document_view document.now) ≡ version }
     requires nodes { HasNodes (document_view document.now) }
     ensures few { OnOk result (HasFewTurns (document_view document.now)) }
-    ensures ok { IfOk result (λ v. AllZip (SaysTurn (length (document_view document.now).nodes))
+    ensures ok { IfOk result (λ v. AllZip (SaysTurn version (length (document_view document.now).nodes))
         (document_view document.now).turns v.items) }
     ensures err { IfErr result (λ e. BeforeTurnCount (document_view document.now)
         → IsDocumentFault (document_view document.now) e) }
@@ -82,7 +95,11 @@ fn turns(alloc: Global, document: &Document, version: u8) -> Result<Vec<Turn>, P
     if document.turns.len() > most_turns(version) {
         return Err(PlanFault::TurnCount);
     }
-    match read_all(alloc, document.nodes.len(), document.turns.as_slice()) {
+    match read_all(
+        alloc,
+        within_of(document, version),
+        document.turns.as_slice(),
+    ) {
         Ok(turns) => Ok(turns),
         Err(ListFault::NoMemory) => Err(PlanFault::Memory),
         Err(ListFault::Bad(number)) => Err(PlanFault::Turn(number)),
@@ -102,7 +119,11 @@ fn strikes(alloc: Global, document: &Document, version: u8) -> Result<Vec<Strike
     if !strikes_are_few(alloc, document.faults.as_slice(), most_strikes(version))? {
         return Err(PlanFault::StrikeCount);
     }
-    match read_all(alloc, document.nodes.len(), document.faults.as_slice()) {
+    match read_all(
+        alloc,
+        within_of(document, version),
+        document.faults.as_slice(),
+    ) {
         Ok(strikes) => Ok(strikes),
         Err(ListFault::NoMemory) => Err(PlanFault::Memory),
         Err(ListFault::Bad(number)) => Err(PlanFault::Strike(number)),

@@ -1,6 +1,7 @@
 //! Plans of given parts, and blank ones.
 
-ghost use Rattle.std.specs.Prelude.{◌≡◌, map, replicate, IfOk};
+ghost use Rattle.std.specs.Prelude.{◌≡◌, ◌≤◌, map, replicate, IfOk};
+ghost use Rattle.sja_plan.specs.Plan.{times_in};
 ghost use Rattle.sja_script.specs.declared.step.Step.TheVariants.{Window};
 
 use super::plan::Plan;
@@ -36,6 +37,14 @@ fn blank_steps(alloc: Global, steps: u32) -> Result<Vec<Step>, OutOfMemory>
     Ok(list)
 }
 
+/// How many bits these strikes strike.
+fn times(strikes: &[Strike]) -> u32
+    requires { times_in strikes.now ≤ 100000 }
+    ensures { result ≡ times_in strikes.now }
+{
+    strikes.iter().map(|strike| strike.times).sum()
+}
+
 impl Plan {
     ghost use Rattle.std.specs.Prelude.{◌≡◌, ◌≤◌, map, IfOk};
     ghost use Rattle.sja_plan.specs.Plan.{IsInLimits};
@@ -54,12 +63,14 @@ impl Plan {
             strikes.items) }
         ensures { result ≡ plan_of version bits (map (λ steps. steps.items) nodes.items) turns.items strikes.items }
     {
+        let struck = times(strikes.as_slice());
         Plan {
             version,
             bits,
             nodes,
             turns,
             strikes,
+            struck,
         }
     }
 
@@ -85,6 +96,7 @@ impl Plan {
             nodes: blank_nodes(alloc, usize::from(nodes), steps)?,
             turns: Vec::new(alloc),
             strikes: Vec::new(alloc),
+            struck: 0,
         })
     }
 }

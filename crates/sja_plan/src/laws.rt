@@ -23,7 +23,8 @@ pub fn a_text_says_one_step()
 /// A text says one turn at most.
 #[tactic(auto, using(crate::proofs::OneReading::OneMeaning::one_turn))]
 pub fn a_text_says_one_turn()
-    ensures { (nodes : ℕ) (text : Text) (t u : Turn) → SaysTurn nodes text t → SaysTurn nodes text u → t ≡ u }
+    ensures { (version nodes : ℕ) (text : Text) (t u : Turn) → SaysTurn version nodes text t →
+        SaysTurn version nodes text u → t ≡ u }
 {}
 
 /// A text says one strike at most.

@@ -2,9 +2,11 @@
 //!
 //! [`read_plan`] makes a [`Plan`] of a document's bytes, or tells the first check that fails. Nothing above this crate
 //! sees a type of `toml`. The laws say that a text has one meaning or none, and that bytes are one plan or have one
-//! first fault. [`step_of`], [`number_within`], [`node_within`] and [`byte`] read words as a plan has them.
+//! first fault. [`step_of`], [`address_of`], [`value_of`], [`number_within`], [`node_within`] and [`byte`] read words
+//! as a plan has them, and [`REGISTERS`] and [`BITS`] are the names that it has.
 #![tactic(auto)]
 
+mod access_words;
 mod checks;
 mod comments;
 mod document;
@@ -13,11 +15,15 @@ mod laws;
 mod limits;
 mod list_fault;
 mod members;
+mod message_word;
+mod named_byte;
 mod one_more_strike;
 mod plan;
 mod plan_bytes;
 mod plan_fault;
 mod plan_text;
+mod register_bits;
+mod register_names;
 mod settings;
 mod step_text;
 mod strike_count;
@@ -26,8 +32,10 @@ mod text_fault;
 mod turn;
 mod turn_text;
 mod value;
+mod within;
 mod word;
 
+pub use access_words::{address_of, value_of};
 pub use laws::{
     a_plan_has_no_fault, a_text_says_one_step, a_text_says_one_strike, a_text_says_one_turn,
     bytes_are_one_plan, bytes_have_one_first_fault, comments_before_a_plan_change_nothing,
@@ -40,6 +48,8 @@ pub use limits::{
 pub use plan::Plan;
 pub use plan_bytes::read_plan;
 pub use plan_fault::PlanFault;
+pub use register_bits::{BITS, bit_names};
+pub use register_names::{REGISTERS, register_address};
 pub use step_text::step_of;
 pub use text_fault::TextFault;
 pub use turn::Turn;

@@ -44,6 +44,7 @@ impl Plan {
             every: 1,
             times: 1,
         })?;
+        self.struck += 1;
         Ok(())
     }
 
@@ -52,7 +53,9 @@ impl Plan {
         ensures last { self.new ≡ unstruck self.old }
         ensures back { (p : PlanValue) (node bit : ℕ) → self.old ≡ struck_at p node bit → self.new ≡ p }
     {
-        self.strikes.pop();
+        if let Some(strike) = self.strikes.pop() {
+            self.struck -= strike.times;
+        }
     }
 
     /// This plan with one strike more, its last one, as [`strike`](Plan::strike) adds it. All else is the same.
@@ -82,6 +85,7 @@ impl Plan {
             nodes: all_nodes(alloc, self.nodes.as_slice())?,
             turns: Vec::from_slice(alloc, self.turns.as_slice())?,
             strikes: Vec::from_slice(alloc, self.strikes.as_slice())?,
+            struck: self.struck,
         })
     }
 
@@ -92,17 +96,8 @@ impl Plan {
         ensures few { result ≤ most_strikes self.now.version }
         ensures most { result ≤ 100000 }
     {
-        self.limits();
-        times(self.strikes.as_slice())
+        self.struck
     }
-}
-
-/// How many bits these strikes strike.
-fn times(strikes: &[Strike]) -> u32
-    requires { times_in strikes.now ≤ 100000 }
-    ensures { result ≡ times_in strikes.now }
-{
-    strikes.iter().map(|strike| strike.times).sum()
 }
 
 /// The same steps of each node.

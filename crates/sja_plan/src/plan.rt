@@ -28,11 +28,13 @@ pub struct Plan {
     pub(crate) nodes: Vec<Vec<Step>>,
     pub(crate) turns: Vec<Turn>,
     pub(crate) strikes: Vec<Strike>,
+    /// How many bits the strikes strike, so that one more needs no look at the others.
+    pub(crate) struck: u32,
 }
 
 impl Model for Plan {
-    ghost use Rattle.std.specs.Prelude.{map};
-    ghost use Rattle.sja_plan.specs.Plan.{PlanValue, IsInLimits};
+    ghost use Rattle.std.specs.Prelude.{◌≡◌, map};
+    ghost use Rattle.sja_plan.specs.Plan.{PlanValue, IsInLimits, times_in};
 
     ghost Value = { PlanValue };
 
@@ -50,7 +52,7 @@ impl Model for Plan {
       nodes = map (λ steps. steps.items) p.nodes.items;
       turns = p.turns.items;
       strikes = p.strikes.items;
-    }) };
+    }) × (p.struck ≡ times_in p.strikes.items) };
 }
 
 impl Plan {

@@ -2,37 +2,39 @@
 
 ghost use Rattle.std.specs.Prelude.{◌≡◌, ◌≤◌, ◌<◌, ◌⊎◌, ◌^◌, ℕ, List, IfOk, IfErr, map};
 ghost use Rattle.std.specs.List.{AllZip};
+ghost use Rattle.sja_plan.specs.declared.within.Within.{Within};
 ghost use Rattle.sja_plan.specs.Inside.Views.{IsListFault, list_fault};
 
 use super::list_fault::ListFault;
 use super::text_fault::TextFault;
+use super::within::Within;
 use std::alloc::Global;
 
 /// What a text of a plan can say.
 pub(crate) trait PlanText: Sized + Drop {
-    /// Within this number, of nodes for turns and strikes and of the version for steps, the text says this value.
-    ghost says: { ℕ → List ℕ → Self → Type 0 };
+    /// Within this the text says this value.
+    ghost says: { Within → List ℕ → Self → Type 0 };
 
     /// What a text says within it. Its words are left in `room`, so that one list serves all texts.
     fn plan_text<'a>(
         alloc: Global,
-        within: usize,
+        within: Within,
         text: &'a str,
         room: &mut Vec<&'a str>,
     ) -> Result<Self, TextFault>
-        requires { within ≤ 8 }
+        requires { within.nodes ≤ 8 }
         ensures ok { IfOk result (λ x. says within text.entry.now x) }
         ensures err { IfErr result (λ e. (e ≡ TextFault.NoMemory)
             ⊎ ((e ≡ TextFault.Bad) × ((x : Self) → ¬ says within text.entry.now x))) };
 }
 
-/// What each text says within this number.
+/// What each text says within this.
 pub(crate) fn read_all<T: PlanText>(
     alloc: Global,
-    within: usize,
+    within: Within,
     texts: &[&str],
 ) -> Result<Vec<T>, ListFault>
-    requires { within ≤ 8 }
+    requires { within.nodes ≤ 8 }
     ensures ok { IfOk result (λ v. AllZip (T.says within) (map (λ t. t.now) texts.now) v.items) }
     ensures err { IfErr result (IsListFault (T.says within) (map (λ t. t.now) texts.now)) }
 {

@@ -4,24 +4,30 @@ ghost use Rattle.std.specs.Prelude.{◌≡◌, ◌⊎◌, IfOk, IfErr, map, [], 
 ghost use Rattle.sja_plan.specs.Words.{words};
 ghost use Rattle.sja_plan.specs.StepTexts.{AreStepWords};
 
+use super::access_words::{address_of, value_of};
 use super::limits::RAW_VERSION;
+use super::message_word::message;
 use super::plan_text::PlanText;
 use super::text_fault::TextFault;
-use super::word::{byte, find_words, message, number_within};
+use super::within::Within;
+use super::word::{find_words, number_within};
 use sja_script::Step;
 use std::alloc::Global;
 
+/// The address of CMR, which a `command` writes (SJA1000 data sheet, 6.4.4).
+const COMMAND: u8 = 1;
+
 impl PlanText for Step {
-    ghost says = { λ version text s. AreStepWords version (words text) s };
+    ghost says = { λ within text s. AreStepWords within.version (words text) s };
 
     fn plan_text<'a>(
         alloc: Global,
-        version: usize,
+        within: Within,
         text: &'a str,
         room: &mut Vec<&'a str>,
     ) -> Result<Step, TextFault> {
         find_words(room, text)?;
-        step_of(alloc, version, room.as_slice())
+        step_of(alloc, within.version, room.as_slice())
     }
 }
 
@@ -36,7 +42,7 @@ pub fn step_of(alloc: Global, version: usize, words: &[&str]) -> Result<Step, Te
     match *words {
         [name] => of_one_word(version, name),
         [name, word] => of_two_words(alloc, version, name, word),
-        [name, address, value] => of_three_words(version, name, address, value),
+        [name, at, word] => of_three_words(version, name, at, word),
         _ => Err(TextFault::Bad),
     }
 }
@@ -63,25 +69,26 @@ fn of_two_words(alloc: Global, version: usize, name: &str, word: &str) -> Result
     ensures err { IfErr result (λ e. (e ≡ TextFault.NoMemory)
         ⊎ ((e ≡ TextFault.Bad) × ((s : Step) → ¬ AreStepWords version (name.now ∷ word.now ∷ []) s))) }
 {
-    let _ = version;
     match name {
-        "read" => Ok(Step::Read(number_within(word, 0, 255)? as u8)),
-        "load" => Ok(Step::Load(message(alloc, word)?)),
-        "command" => Ok(Step::Command(byte(word)?)),
+        "read" => Ok(Step::Read(address_of(version, word)?)),
+        "load" => Ok(Step::Load(message(alloc, version, word)?)),
+        "command" => Ok(Step::Command(value_of(version, COMMAND, word)?)),
         "await" => Ok(Step::Await(number_within(word, 1, 21)? as u8)),
         _ => Err(TextFault::Bad),
     }
 }
 
 /// The step of a name, an address and a value.
-fn of_three_words(version: usize, name: &str, address: &str, value: &str) -> Result<Step, TextFault>
-    ensures ok { IfOk result (λ s. AreStepWords version (name.now ∷ address.now ∷ value.now ∷ []) s) }
+fn of_three_words(version: usize, name: &str, at: &str, word: &str) -> Result<Step, TextFault>
+    ensures ok { IfOk result (λ s. AreStepWords version (name.now ∷ at.now ∷ word.now ∷ []) s) }
     ensures err { IfErr result (λ e. (e ≡ TextFault.Bad)
-        × ((s : Step) → ¬ AreStepWords version (name.now ∷ address.now ∷ value.now ∷ []) s)) }
+        × ((s : Step) → ¬ AreStepWords version (name.now ∷ at.now ∷ word.now ∷ []) s)) }
 {
-    let _ = version;
     match name {
-        "write" => Ok(Step::Write(number_within(address, 0, 255)? as u8, byte(value)?)),
+        "write" => {
+            let address = address_of(version, at)?;
+            Ok(Step::Write(address, value_of(version, address, word)?))
+        }
         _ => Err(TextFault::Bad),
     }
 }

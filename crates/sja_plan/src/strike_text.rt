@@ -7,22 +7,23 @@ ghost use Rattle.sja_plan.specs.StrikeTexts.{AreRepeated, AreStrikeWords};
 use super::limits::GREATEST_NUMBER;
 use super::plan_text::PlanText;
 use super::text_fault::TextFault;
+use super::within::Within;
 use super::word::{find_words, node_within, number_within};
 use sja_script::Strike;
 use std::alloc::Global;
 
 impl PlanText for Strike {
-    ghost says = { λ nodes text s. AreStrikeWords nodes (words text) s };
+    ghost says = { λ within text s. AreStrikeWords within.nodes (words text) s };
 
     fn plan_text<'a>(
         alloc: Global,
-        nodes: usize,
+        within: Within,
         text: &'a str,
         room: &mut Vec<&'a str>,
     ) -> Result<Strike, TextFault> {
         let _ = alloc;
         find_words(room, text)?;
-        strike_of(nodes, room.as_slice())
+        strike_of(within.nodes, room.as_slice())
     }
 }
 

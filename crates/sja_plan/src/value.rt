@@ -3,8 +3,10 @@
 ghost use Rattle.std.specs.Prelude.{◌≡◌, ◌⊎◌, Some, None, map, codes, option_and_then, IfOk, IfErr};
 ghost use Rattle.toml.specs.Data.{get_member};
 ghost use Rattle.toml.specs.View.{view, table_view, items_view};
-ghost use Rattle.sja_plan.specs.Document.{texts_of, texts_in, optional_texts, node_of, nodes_of, nodes_in};
+ghost use Rattle.sja_plan.specs.Document.{texts_of, texts_in, optional_texts, turn_texts, turns_left_out};
+ghost use Rattle.sja_plan.specs.Document.{node_of, nodes_of, nodes_in};
 
+use super::limits::RAW_VERSION;
 use super::members::{has_only, value_at};
 use super::plan_fault::PlanFault;
 use std::alloc::Global;
@@ -41,6 +43,35 @@ pub(crate) fn optional_list<'a>(
         Some(value) => text_list(alloc, value),
         None => Ok(Vec::new(alloc)),
     }
+}
+
+/// The texts of the turns; where the key is absent, in version 3 that by which drivers go by themselves, and else none.
+pub(crate) fn turn_list<'a>(
+    alloc: Global,
+    table: &'a Table,
+    version: i64,
+) -> Result<Vec<&'a str>, PlanFault>
+    ensures ok { IfOk result (λ v. turn_texts version (get_member (codes "turns") (table_view table.entry.now))
+        ≡ Some (map (λ s. s.now) v.items)) }
+    ensures err { IfErr result (λ e. (e ≡ PlanFault.Memory) ⊎ ((e ≡ PlanFault.Key)
+        × (turn_texts version (get_member (codes "turns") (table_view table.entry.now)) ≡ None))) }
+{
+    match value_at(table, "turns") {
+        Some(value) => text_list(alloc, value),
+        None => left_out(alloc, version),
+    }
+}
+
+/// The texts of the turns of a plan without the key.
+fn left_out<'a>(alloc: Global, version: i64) -> Result<Vec<&'a str>, PlanFault>
+    ensures ok { IfOk result (λ v. turns_left_out version ≡ map (λ s. s.now) v.items) }
+    ensures err { IfErr result (λ e. e ≡ PlanFault.Memory) }
+{
+    let mut texts = Vec::new(alloc);
+    if version == i64::from(RAW_VERSION) && texts.push("go").is_err() {
+        return Err(PlanFault::Memory);
+    }
+    Ok(texts)
 }
 
 /// The texts of a list.

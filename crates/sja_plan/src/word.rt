@@ -1,13 +1,11 @@
 //! The words of a text, and what a word spells.
 
-ghost use Rattle.std.specs.Prelude.{◌≡◌, ◌≤◌, ◌<◌, ◌⊎◌, ℕ, List, IfOk, IfSome, IfErr, OnOk, map};
-ghost use Rattle.sja_plan.specs.Words.{words, number_of, SpellsWithin, SpellsNode, SpellsByte, SpellsMessage};
+ghost use Rattle.std.specs.Prelude.{◌≡◌, ◌≤◌, ◌<◌, ℕ, IfOk, IfSome, IfErr, OnOk, map};
+ghost use Rattle.sja_plan.specs.Words.{words, number_of, SpellsWithin, SpellsNode, SpellsByte};
 
 use super::limits::{GREATEST_NUMBER, MOST_DIGITS};
 use super::text_fault::TextFault;
-use can_frame::Message;
-use hex::FromHexError;
-use std::alloc::{AllocError, Global};
+use std::alloc::AllocError;
 
 /// The words of a text, what stands between its spaces, in the place of those that were found before
 /// (this project's own rule).
@@ -74,23 +72,6 @@ pub fn byte(word: &str) -> Result<u8, TextFault>
 {
     match <[u8; 1] as hex::FromHex>::from_hex(word) {
         Ok(bytes) => Ok(bytes[0]),
-        Err(_) => Err(TextFault::Bad),
-    }
-}
-
-/// The message whose bytes a word spells.
-pub(crate) fn message(alloc: Global, word: &str) -> Result<Message, TextFault>
-    ensures ok { IfOk result (λ m. SpellsMessage word.now m) }
-    ensures err { IfErr result (λ e. (e ≡ TextFault.NoMemory)
-        ⊎ ((e ≡ TextFault.Bad) × ((m : List ℕ) → ¬ SpellsMessage word.now m))) }
-{
-    let bytes = match hex::decode(alloc, word) {
-        Ok(bytes) => bytes,
-        Err(FromHexError::OutOfMemory) => return Err(TextFault::NoMemory),
-        Err(_) => return Err(TextFault::Bad),
-    };
-    match Message::from_bytes(bytes.as_slice()) {
-        Ok(message) => Ok(message),
         Err(_) => Err(TextFault::Bad),
     }
 }

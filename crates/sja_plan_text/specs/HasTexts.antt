@@ -10,7 +10,7 @@ use Rattle.sja_script.specs.declared.step.Step.TheVariants.{Start, Stop, Window,
 use Rattle.sja_script.specs.declared.step.Step.TheVariants.{Write, Load, Command, Await, Sent, Interrupt}
 use Rattle.sja_script.specs.declared.strike.Strike.{Strike}
 use Rattle.sja_plan.specs.declared.turn.Turn.{Turn}
-use Rattle.sja_plan.specs.declared.turn.Turn.TheVariants.{Bus, Rest, Node}
+use Rattle.sja_plan.specs.declared.turn.Turn.TheVariants.{Bus, Rest, Node, All as AllSteps, Irq, Go}
 
 -- in this version of the rules: what is read, written or commanded is a byte, what is loaded is a message, and 1 to 21
 -- messages are awaited; a wait for the interrupt line has a text in version 3 alone
@@ -27,11 +27,15 @@ HasStepText version (Await count) = (1 ≤ count) × (count ≤ 21)
 HasStepText version Sent = Unit {0}
 HasStepText version Interrupt = 3 ≤ version
 
--- seven digits spell each number, and the bus runs one bit at least
-abbrev pub HasTurnText : Turn → Type 0
-HasTurnText (Bus bits) = (1 ≤ bits) × (bits ≤ greatest)
-HasTurnText Rest = Unit {0}
-HasTurnText (Node node steps) = (node ≤ greatest) × (steps ≤ greatest)
+-- seven digits spell each number, and the bus runs one bit at least; in version 3 alone drivers do all that they can,
+-- and there are turns up to an interrupt
+abbrev pub HasTurnText : ℕ → Turn → Type 0
+HasTurnText version (Bus bits) = (1 ≤ bits) × (bits ≤ greatest)
+HasTurnText version Rest = Unit {0}
+HasTurnText version (Node node steps) = (node ≤ greatest) × (steps ≤ greatest)
+HasTurnText version (AllSteps node) = (3 ≤ version) × (node ≤ greatest)
+HasTurnText version (Irq node bits) = (3 ≤ version) × (node ≤ greatest) × (1 ≤ bits) × (bits ≤ greatest)
+HasTurnText version Go = 3 ≤ version
 
 -- seven digits spell each number
 pub record HasStrikeText (s : Strike) : Type 0 where
@@ -44,5 +48,5 @@ pub record HasStrikeText (s : Strike) : Type 0 where
 pub record HasTexts (p : PlanValue) : Type 0 where
   pub step_counts : All (λ steps. length steps ≤ most_steps p.version) p.nodes
   pub steps : All (λ steps. All (HasStepText p.version) steps) p.nodes
-  pub turns : All HasTurnText p.turns
+  pub turns : All (HasTurnText p.version) p.turns
   pub strikes : All HasStrikeText p.strikes

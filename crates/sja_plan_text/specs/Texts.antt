@@ -9,7 +9,7 @@ use Rattle.sja_script.specs.declared.step.Step.TheVariants.{Start, Stop, Window,
 use Rattle.sja_script.specs.declared.step.Step.TheVariants.{Write, Load, Command, Await, Sent, Interrupt}
 use Rattle.sja_script.specs.declared.strike.Strike.{Strike}
 use Rattle.sja_plan.specs.declared.turn.Turn.{Turn}
-use Rattle.sja_plan.specs.declared.turn.Turn.TheVariants.{Bus, Rest, Node}
+use Rattle.sja_plan.specs.declared.turn.Turn.TheVariants.{Bus, Rest, Node, All, Irq, Go}
 
 -- words with one space between two
 abbrev pub joined : List Text → Text
@@ -38,6 +38,9 @@ abbrev pub turn_words : Turn → List Text
 turn_words (Bus bits) = codes "bus" ∷ decimal bits ∷ []
 turn_words Rest = codes "rest" ∷ []
 turn_words (Node node steps) = codes "node" ∷ decimal node ∷ decimal steps ∷ []
+turn_words (All node) = codes "node" ∷ decimal node ∷ []
+turn_words (Irq node bits) = codes "irq" ∷ decimal node ∷ decimal bits ∷ []
+turn_words Go = codes "go" ∷ []
 
 -- the text of a turn
 abbrev pub turn_text : Turn → Text

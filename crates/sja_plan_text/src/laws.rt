@@ -27,16 +27,18 @@ pub fn said_steps_have_texts()
     ensures { (version : ℕ) (text : Text) (s : Step) → SaysStep version text s → HasStepText version s }
 {}
 
-/// The text of a turn says it, where a text can, in a plan that has its node.
+/// In each version the text of a turn says it, where a text can, in a plan that has its node.
 #[tactic(auto, using(crate::proofs::Spelling::Turns::turn_said))]
 pub fn a_turn_has_a_text()
-    ensures { (nodes : ℕ) (t : Turn) → NamesNode nodes t → HasTurnText t → SaysTurn nodes (turn_text t) t }
+    ensures { (version nodes : ℕ) (t : Turn) → NamesNode nodes t → HasTurnText version t →
+        SaysTurn version nodes (turn_text t) t }
 {}
 
 /// A turn that a text says is one that has a text.
 #[tactic(auto, using(crate::proofs::Spelling::Turns::has_turn_text))]
 pub fn said_turns_have_texts()
-    ensures { (nodes : ℕ) (text : Text) (t : Turn) → SaysTurn nodes text t → NamesNode nodes t × HasTurnText t }
+    ensures { (version nodes : ℕ) (text : Text) (t : Turn) → SaysTurn version nodes text t →
+        NamesNode nodes t × HasTurnText version t }
 {}
 
 /// The text of a strike says it, where a text can, in a plan that has its node.

@@ -51,6 +51,9 @@ pub fn turn_text(alloc: Global, turn: &Turn) -> Result<String, OutOfMemory>
         Turn::Bus(bits) => Ok(format!(in alloc; "bus {bits}")?),
         Turn::Rest => word(alloc, "rest"),
         Turn::Node(node, steps) => Ok(format!(in alloc; "node {node} {steps}")?),
+        Turn::All(node) => Ok(format!(in alloc; "node {node}")?),
+        Turn::Irq(node, bits) => Ok(format!(in alloc; "irq {node} {bits}")?),
+        Turn::Go => word(alloc, "go"),
     }
 }
 

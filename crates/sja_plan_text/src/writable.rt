@@ -18,7 +18,7 @@ pub fn has_texts(plan: &Plan) -> bool
             return false;
         }
     }
-    turns_have_texts(plan.turns()) && strikes_have_texts(plan.strikes())
+    turns_have_texts(plan.version(), plan.turns()) && strikes_have_texts(plan.strikes())
 }
 
 /// Whether in this version a document may have so many steps of a node, and a text says each of them.
@@ -36,12 +36,12 @@ fn steps_have_texts(version: u8, steps: &[Step]) -> bool
     true
 }
 
-/// Whether a text says each of these turns.
-fn turns_have_texts(turns: &[Turn]) -> bool
-    ensures { IsTrue result ↔ All HasTurnText turns.now }
+/// Whether in this version a text says each of these turns.
+fn turns_have_texts(version: u8, turns: &[Turn]) -> bool
+    ensures { IsTrue result ↔ All (HasTurnText version) turns.now }
 {
     for turn in turns {
-        if !has_turn_text(turn) {
+        if !has_turn_text(version, turn) {
             return false;
         }
     }
@@ -89,10 +89,10 @@ pub fn has_step_text(version: u8, step: &Step) -> bool
     }
 }
 
-/// Whether a text says this turn: its numbers have seven digits at most, and the bus runs a bit (this project's own
-/// rule).
-pub fn has_turn_text(turn: &Turn) -> bool
-    ensures { IsTrue result ↔ HasTurnText turn.now }
+/// Whether in this version a text says this turn: its numbers have seven digits at most, the bus runs a bit, and before
+/// version 3 it is one of `Bus`, `Rest` and `Node` (this project's own rule).
+pub fn has_turn_text(version: u8, turn: &Turn) -> bool
+    ensures { IsTrue result ↔ HasTurnText version turn.now }
 {
     match turn {
         Turn::Bus(bits) => 1 <= *bits && *bits <= GREATEST_NUMBER,
@@ -101,6 +101,15 @@ pub fn has_turn_text(turn: &Turn) -> bool
             let _node = *node;
             *steps <= GREATEST_NUMBER
         }
+        Turn::All(node) => {
+            let _node = *node;
+            version >= RAW_VERSION
+        }
+        Turn::Irq(node, bits) => {
+            let _node = *node;
+            version >= RAW_VERSION && 1 <= *bits && *bits <= GREATEST_NUMBER
+        }
+        Turn::Go => version >= RAW_VERSION,
     }
 }
 

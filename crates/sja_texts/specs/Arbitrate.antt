@@ -2,10 +2,9 @@
 -- 6.4.8).
 use Rattle.std.specs.Prelude.{◌≡◌, ◌⊎◌, ℕ, List, [], ◌∷◌, ◌++◌, Option, Some, None, codes, decimal}
 use Rattle.std.specs.List.{AllZip, flat_map}
-use Rattle.can_frame.specs.Frame.{FrameValue, IsFrame}
-use Rattle.can_frame.specs.Message.{message}
+use Rattle.can_frame.specs.Frame.{FrameValue}
 use Rattle.can_node.specs.Contending.{IsContention}
-use Rattle.sja_texts.specs.Message.{ReadsAs, RefusesMessage}
+use Rattle.sja_texts.specs.Given.{Gives, RefusesGiven}
 use Rattle.sja_texts.specs.declared.command_refusal.CommandRefusal.{CommandRefusal}
 use Rattle.sja_texts.specs.declared.command_refusal.CommandRefusal.TheVariants.{OutOfMemory}
 
@@ -18,27 +17,22 @@ place_line (Some place) = decimal place ++ 10 ∷ []
 abbrev pub places_text : List (Option ℕ) → List ℕ
 places_text places = flat_map place_line places
 
--- the digits spell the message of this frame
-pub record SpellsFrame (digits : List ℕ) (f : FrameValue) : Type 0 where
-  pub frame : IsFrame f
-  pub spelled : ReadsAs digits (message f)
-
--- the text tells, in their order, what becomes of the frames whose messages these are, if their transmitters start
+-- the text tells, in their order, what becomes of the frames that are given, if their transmitters start
 -- together
 abbrev pub IsArbitration : List (List ℕ) → List ℕ → Type 0
 IsArbitration messages text =
-    (fs : List FrameValue) × (places : List (Option ℕ)) × AllZip SpellsFrame messages fs × IsContention fs places
+    (fs : List FrameValue) × (places : List (Option ℕ)) × AllZip Gives messages fs × IsContention fs places
     × (text ≡ places_text places)
 
--- this one is refused, and those before it are messages
+-- this one is refused, and those before it give frames
 pub record RefusesFirst (messages : List (List ℕ)) (refusal : CommandRefusal) : Type 0 where
   pub before : List (List ℕ)
-  pub digits : List ℕ
+  pub text : List ℕ
   pub after : List (List ℕ)
-  pub whole : messages ≡ before ++ digits ∷ after
+  pub whole : messages ≡ before ++ text ∷ after
   pub frames : List FrameValue
-  pub spelled : AllZip SpellsFrame before frames
-  pub refused : RefusesMessage digits refusal
+  pub given : AllZip Gives before frames
+  pub refused : RefusesGiven text refusal
 
 -- memory may be refused at any time; else why the first of them is refused that is, from left to right
 abbrev pub RefusesMessages : List (List ℕ) → CommandRefusal → Type 0

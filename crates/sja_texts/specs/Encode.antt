@@ -2,12 +2,11 @@
 use Rattle.std.specs.Prelude.{◌≡◌, ℕ, List}
 use Rattle.can_bits.specs.declared.level.Level.{Level}
 use Rattle.can_bits.specs.Line.{IsSentLine}
-use Rattle.can_frame.specs.Frame.{FrameValue, IsFrame}
-use Rattle.can_frame.specs.Message.{message}
-use Rattle.sja_texts.specs.Message.{ReadsAs}
+use Rattle.can_frame.specs.Frame.{FrameValue}
+use Rattle.sja_texts.specs.Given.{Gives}
 use Rattle.sja_texts.specs.LineText.{line_text}
 
--- the text is the line that a transmitter sends of the frame whose message the digits spell
+-- the text is the line that a transmitter sends of the frame that is given
 abbrev pub IsEncoding : List ℕ → List ℕ → Type 0
-IsEncoding digits text =
-    (f : FrameValue) × (l : List Level) × IsFrame f × ReadsAs digits (message f) × IsSentLine f l × (text ≡ line_text l)
+IsEncoding given text =
+    (f : FrameValue) × (l : List Level) × Gives given f × IsSentLine f l × (text ≡ line_text l)

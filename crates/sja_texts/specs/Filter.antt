@@ -1,9 +1,9 @@
 -- What `filter` prints and refuses (this project's own rule; the filter is that of the SJA1000 data sheet, 6.4.15).
 use Rattle.std.specs.Prelude.{◌≡◌, ◌⊎◌, ℕ, Bool, List, [], ◌∷◌, ◌++◌, codes, length}
-use Rattle.can_frame.specs.Frame.{FrameValue, IsFrame}
-use Rattle.can_frame.specs.Message.{message}
+use Rattle.can_frame.specs.Frame.{FrameValue}
 use Rattle.can_frame.specs.Filter.{PassesBy}
-use Rattle.sja_texts.specs.Message.{ReadsAs, RefusesMessage}
+use Rattle.sja_texts.specs.Message.{ReadsAs}
+use Rattle.sja_texts.specs.Given.{Gives, RefusesGiven}
 use Rattle.sja_texts.specs.declared.command_refusal.CommandRefusal.{CommandRefusal}
 use Rattle.sja_texts.specs.declared.command_refusal.CommandRefusal.TheVariants.{OutOfMemory, NotHexadecimal}
 
@@ -15,12 +15,12 @@ ReadsAsRegisters digits registers = (length digits ≡ 8) × ReadsAs digits regi
 abbrev pub IsVerdict : Type 0 → List ℕ → Type 0
 IsVerdict Pass text = (Pass × (text ≡ codes "pass" ++ 10 ∷ [])) ⊎ (¬ Pass × (text ≡ codes "stop" ++ 10 ∷ []))
 
--- the text says whether the filter of this mode with these code and mask registers passes the frame whose message the
--- digits spell
+-- the text says whether the filter of this mode with these code and mask registers passes the frame that is
+-- given
 abbrev pub IsFiltering : Bool → List ℕ → List ℕ → List ℕ → List ℕ → Type 0
-IsFiltering single acr amr digits text =
+IsFiltering single acr amr given text =
     (code : List ℕ) × (mask : List ℕ) × (f : FrameValue) × ReadsAsRegisters acr code × ReadsAsRegisters amr mask
-    × IsFrame f × ReadsAs digits (message f) × IsVerdict (PassesBy single f.ext code mask f) text
+    × Gives given f × IsVerdict (PassesBy single f.ext code mask f) text
 
 -- the digits spell no registers
 abbrev pub RefusesRegisters : List ℕ → CommandRefusal → Type 0
@@ -29,9 +29,9 @@ RefusesRegisters digits refusal =
 
 -- memory may be refused at any time; else why the first argument is refused that is, from left to right
 abbrev pub RefusesFilter : List ℕ → List ℕ → List ℕ → CommandRefusal → Type 0
-RefusesFilter acr amr digits refusal =
+RefusesFilter acr amr given refusal =
     (refusal ≡ OutOfMemory)
     ⊎ RefusesRegisters acr refusal
     ⊎ ((code : List ℕ) × ReadsAsRegisters acr code × RefusesRegisters amr refusal)
     ⊎ ((code : List ℕ) × (mask : List ℕ) × ReadsAsRegisters acr code × ReadsAsRegisters amr mask
-    × RefusesMessage digits refusal)
+    × RefusesGiven given refusal)

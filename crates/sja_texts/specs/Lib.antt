@@ -1,5 +1,6 @@
 pub mod Refusal
 pub mod Message
+pub mod Given
 pub mod LineText
 pub mod BytesText
 pub mod Encode

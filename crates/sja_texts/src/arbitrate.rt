@@ -2,34 +2,37 @@
 
 ghost use Rattle.std.specs.Prelude.{◌≡◌, ◌++◌, map, IfOk, IfErr, OnOk};
 ghost use Rattle.std.specs.List.{AllZip};
-ghost use Rattle.sja_texts.specs.Arbitrate.{IsArbitration, RefusesMessages, SpellsFrame, place_line, places_text};
+ghost use Rattle.sja_texts.specs.Arbitrate.{IsArbitration, RefusesMessages, place_line, places_text};
+ghost use Rattle.sja_texts.specs.Given.{Gives};
 
 use super::command_refusal::CommandRefusal;
-use super::message::message_of;
+use super::message::frame_of;
 use can_frame::Frame;
 use can_node::contend;
 use std::alloc::{AllocError, Global};
 
-/// A line for each of the messages that these digits spell: the place code where its frame loses, or `-`. The messages
+/// A line for each of the messages that are given: the place code where its frame loses, or `-`. The messages
 /// are judged from left to right.
 pub fn arbitrated(alloc: Global, messages: &[&str]) -> Result<Vec<u8>, CommandRefusal>
-    ensures ok { IfOk result (λ text. IsArbitration (map (λ digits. digits.now) messages.now) text.items) }
-    ensures err { IfErr result (RefusesMessages (map (λ digits. digits.now) messages.now)) }
+    ensures ok { IfOk result (λ text. IsArbitration (map (λ given. given.now) messages.now) text.items) }
+    ensures err { IfErr result (RefusesMessages (map (λ given. given.now) messages.now)) }
 {
     let frames = frames_of(alloc, messages)?;
     let places = contend(alloc, frames.as_slice())?;
     Ok(text_of(alloc, places.as_slice())?)
 }
 
-/// The frames whose messages these digits spell.
+/// The frames that these texts give.
 fn frames_of(alloc: Global, messages: &[&str]) -> Result<Vec<Frame>, CommandRefusal>
-    ensures ok { IfOk result (λ frames. AllZip SpellsFrame (map (λ digits. digits.now) messages.now) frames.items) }
-    ensures err { IfErr result (RefusesMessages (map (λ digits. digits.now) messages.now)) }
+    ensures ok { IfOk result (λ frames. AllZip Gives (map (λ given. given.now) messages.now) frames.items) }
+    ensures err { IfErr result (RefusesMessages (map (λ given. given.now) messages.now)) }
 {
     let mut frames = Vec::with_capacity(alloc, messages.len())?;
-    for digits in messages {
-        let message = message_of(alloc, digits)?;
-        frames.push_reserved(message.frame());
+    for given in messages {
+        match frame_of(alloc, given) {
+            Ok(frame) => frames.push_reserved(frame),
+            Err(refusal) => return Err(refusal),
+        }
     }
     Ok(frames)
 }

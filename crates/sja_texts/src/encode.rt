@@ -2,20 +2,20 @@
 
 ghost use Rattle.std.specs.Prelude.{IfOk, IfErr};
 ghost use Rattle.sja_texts.specs.Encode.{IsEncoding};
-ghost use Rattle.sja_texts.specs.Message.{RefusesMessage};
+ghost use Rattle.sja_texts.specs.Given.{RefusesGiven};
 
 use super::command_refusal::CommandRefusal;
 use super::line_text::text_of;
-use super::message::message_of;
+use super::message::frame_of;
 use can_bits::line_of;
 use std::alloc::Global;
 
-/// The line of the frame whose message these digits spell, as text.
-pub fn encoded(alloc: Global, digits: &str) -> Result<Vec<u8>, CommandRefusal>
-    ensures ok { IfOk result (λ text. IsEncoding digits.now text.items) }
-    ensures err { IfErr result (RefusesMessage digits.now) }
+/// The line of the frame that this text gives, as text.
+pub fn encoded(alloc: Global, given: &str) -> Result<Vec<u8>, CommandRefusal>
+    ensures ok { IfOk result (λ text. IsEncoding given.now text.items) }
+    ensures err { IfErr result (RefusesGiven given.now) }
 {
-    let message = message_of(alloc, digits)?;
-    let levels = line_of(alloc, &message.frame())?;
+    let frame = frame_of(alloc, given)?;
+    let levels = line_of(alloc, &frame)?;
     Ok(text_of(alloc, levels.as_slice())?)
 }

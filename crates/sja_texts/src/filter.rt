@@ -6,28 +6,28 @@ ghost use Rattle.sja_texts.specs.Filter.{IsFiltering, IsVerdict, ReadsAsRegister
 ghost use Rattle.sja_texts.specs.Filter.{RefusesRegisters};
 
 use super::command_refusal::CommandRefusal;
-use super::message::message_of;
+use super::message::frame_of;
 use can_frame::{Filter, Frame};
 use std::alloc::Global;
 
-/// `pass` or `stop`, for a filter of this mode with the registers and the message that these digits spell. The digits
-/// are judged from left to right.
+/// `pass` or `stop`, for a filter of this mode with the registers that these digits spell and the message that is
+/// given. They are judged from left to right.
 pub fn filtered(
     alloc: Global,
     single: bool,
     acr: &str,
     amr: &str,
-    digits: &str,
+    given: &str,
 ) -> Result<Vec<u8>, CommandRefusal>
-    ensures ok { IfOk result (λ text. IsFiltering single acr.now amr.now digits.now text.items) }
-    ensures err { IfErr result (RefusesFilter acr.now amr.now digits.now) }
+    ensures ok { IfOk result (λ text. IsFiltering single acr.now amr.now given.now text.items) }
+    ensures err { IfErr result (RefusesFilter acr.now amr.now given.now) }
 {
     let acr = registers_of(acr)?;
     let amr = registers_of(amr)?;
-    let message = message_of(alloc, digits)?;
+    let frame = frame_of(alloc, given)?;
     let filter = Filter { single, acr, amr };
     let mut text = Vec::new(alloc);
-    text.extend_from_slice(verdict_of(&filter, &message.frame()).as_bytes())?;
+    text.extend_from_slice(verdict_of(&filter, &frame).as_bytes())?;
     Ok(text)
 }
 

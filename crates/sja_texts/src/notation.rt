@@ -3,11 +3,12 @@
 ghost use Rattle.std.specs.Prelude.{◌≡◌, [], ◌∷◌, ◌++◌, IfOk, IfErr};
 ghost use Rattle.can_notation.specs.Faults.{HasHash};
 ghost use Rattle.can_notation.specs.Text.{text};
-ghost use Rattle.sja_texts.specs.Notation.{IsTranslation, RefusesTranslation};
+ghost use Rattle.sja_texts.specs.Notation.{IsTranslation};
+ghost use Rattle.sja_texts.specs.Given.{RefusesGiven};
 
 use super::bytes_text::text_of_bytes;
 use super::command_refusal::CommandRefusal;
-use super::message::message_of;
+use super::message::of_digits;
 use can_frame::{Frame, Message};
 use can_notation::{NotationFault, read_text, text_of};
 use std::alloc::{AllocError, Global};
@@ -16,7 +17,7 @@ use std::alloc::{AllocError, Global};
 /// of the message that its hexadecimal digits spell. Both end with a line feed.
 pub fn translated(alloc: Global, given: &str) -> Result<Vec<u8>, CommandRefusal>
     ensures ok { IfOk result (λ text. IsTranslation given.now text.items) }
-    ensures err { IfErr result (RefusesTranslation given.now) }
+    ensures err { IfErr result (RefusesGiven given.now) }
 {
     match read_text(given.as_bytes()) {
         Ok(frame) => Ok(text_of_bytes(alloc, Message::of(&frame).bytes())?),
@@ -30,10 +31,10 @@ pub fn translated(alloc: Global, given: &str) -> Result<Vec<u8>, CommandRefusal>
 fn in_notation(alloc: Global, digits: &str) -> Result<Vec<u8>, CommandRefusal>
     requires plain { ¬ HasHash digits.now }
     ensures ok { IfOk result (λ text. IsTranslation digits.now text.items) }
-    ensures err { IfErr result (RefusesTranslation digits.now) }
+    ensures err { IfErr result (RefusesGiven digits.now) }
 {
-    let message = message_of(alloc, digits)?;
-    Ok(notation_of(alloc, &message.frame())?)
+    let frame = of_digits(alloc, digits)?;
+    Ok(notation_of(alloc, &frame)?)
 }
 
 /// The text of a frame in that notation, and a line feed.

@@ -49,8 +49,8 @@ fn turn_hints(
     document.say(page, (Kind::Turn, next), template, [last; 3]);
 }
 
-/// The turn in which the bits were spent, where it is known: the one turn of `bus` or `rest` behind those that the
-/// steps done needed, and before the first that would have had steps done.
+/// The turn in which the bits were spent, where it is known: the one turn that runs bits behind those that the steps
+/// done needed, and before the first that would have had steps done.
 fn cut_turn(plan: &Plan, log: &RunLog) -> Option<usize> {
     let turns = plan.turns();
     let mut needed = 0usize;
@@ -76,12 +76,12 @@ fn waits(steps: &[Step], done: usize) -> bool {
     false
 }
 
-/// The turn of `bus` or `rest` from one place to before another, where it is the only one.
+/// The turn that runs bits from one place to before another, where it is the only one.
 fn one_of_bits(turns: &[Turn], first: usize, end: usize) -> Option<usize> {
     let mut found = None;
     let mut place = first;
     for turn in turns.get(first..end).unwrap_or(&[]) {
-        if let Turn::Bus(_) | Turn::Rest = turn {
+        if let Turn::Bus(_) | Turn::Rest | Turn::Irq(_, _) | Turn::Go = turn {
             if found.is_some() {
                 return None;
             }

@@ -84,6 +84,8 @@ pub(crate) fn turns_for(turns: &[Turn], node: usize, steps: usize) -> usize {
 fn steps_in(turn: &Turn, node: usize) -> u64 {
     match turn {
         Turn::Node(of, steps) if usize::from(*of) == node => u64::from(*steps),
+        Turn::All(of) if usize::from(*of) == node => u64::from(u32::MAX),
+        Turn::Go => u64::from(u32::MAX),
         _ => 0,
     }
 }

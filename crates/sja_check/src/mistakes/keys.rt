@@ -7,10 +7,14 @@ use super::general::KEYS_ARE;
 use super::node_keys::of_nodes;
 use super::said::Said;
 use super::values::{kind_of, of_list};
+use sja_plan::RAW_VERSION;
 use toml::Value;
 
 /// All keys of a plan.
 pub(crate) static KEYS: [&str; 5] = ["version", "bits", "node", "turns", "faults"];
+
+/// All keys of a plan of version 3.
+static RAW_KEYS: [&str; 6] = ["version", "bits", "node", "turns", "strikes", "faults"];
 
 /// What faults are called otherwise.
 static FAULTS: [&str; 3] = ["strikes", "strike", "errors"];
@@ -32,9 +36,53 @@ pub(crate) fn of_keys<'a>(document: &'a Document) -> Said<'a> {
         said = of_texts(document, Kind::Turn);
     }
     if said.is_nothing() {
-        said = of_texts(document, Kind::Strike);
+        said = of_strikes(document);
     }
     said
+}
+
+/// The keys that a plan of this version has.
+pub(crate) fn keys_of(version: u8) -> &'static [&'static str] {
+    if version < RAW_VERSION {
+        &KEYS
+    } else {
+        &RAW_KEYS
+    }
+}
+
+/// The same in words.
+fn keys_are(version: u8) -> &'static str {
+    if version < RAW_VERSION {
+        KEYS_ARE
+    } else {
+        "the keys are version, bits, node, turns, strikes"
+    }
+}
+
+/// That the strikes aren't a list of texts, or stand at two keys.
+fn of_strikes<'a>(document: &'a Document) -> Said<'a> {
+    let said = of_texts(document, Kind::Strike);
+    let Some(value) = document.value("strikes") else {
+        return said;
+    };
+    if !said.is_nothing() {
+        return said;
+    }
+    let spot = Spot::Key("strikes");
+    let listed = of_list(Kind::Strike, value);
+    if !listed.is_nothing() {
+        let right = "write strikes = [\"1 60\"], a text a strike, in quotes";
+        let [wrong, _] = listed.told;
+        let [number, most] = listed.numbers;
+        let mut said = Said::at(spot, wrong, right, listed.kind);
+        said.numbers = [number, most];
+        return said;
+    }
+    let wrong = match document.value("faults") {
+        Some(_) => "{0}\"strikes\" and \"faults\" are two names of one list",
+        None => "",
+    };
+    Said::at(spot, wrong, "write one of the two", "")
 }
 
 /// That the value of a key isn't a whole number, or that the key is missing.
@@ -80,20 +128,24 @@ fn of_unknown<'a>(document: &'a Document) -> Said<'a> {
     let Some(key) = unknown_key(document) else {
         return Said::nothing();
     };
-    let mut said = Said::at(Spot::Key(key), "{0}no key is called <{1}>", KEYS_ARE, "");
+    let version = document.version();
+    let are = keys_are(version);
+    let mut said = Said::at(Spot::Key(key), "{0}no key is called <{1}>", are, "");
     if key == "steps" {
         said.told = [
             "{0}\"steps\" belongs below a [[node]], and not above all of them",
             "write the line [[node]] before it, once for each node",
         ];
     } else if FAULTS.contains(&key) {
-        said.told = [
-            "{0}no key is called <{1}>, did you mean \"faults\"?",
-            KEYS_ARE,
-        ];
+        let wrong = if version < RAW_VERSION {
+            "{0}no key is called <{1}>, did you mean \"faults\"?"
+        } else {
+            "{0}no key is called <{1}>, did you mean \"strikes\"?"
+        };
+        said.told = [wrong, are];
     } else {
-        said.near = ["{0}no key is called <{1}>, did you mean \"{6}\"?", KEYS_ARE];
-        said.names = &KEYS;
+        said.near = ["{0}no key is called <{1}>, did you mean \"{6}\"?", are];
+        said.names = keys_of(version);
     }
     said
 }
@@ -101,11 +153,12 @@ fn of_unknown<'a>(document: &'a Document) -> Said<'a> {
 /// The first key of a document that is unknown: the first that is written so, and of those that are written otherwise
 /// the first in the order of keys.
 fn unknown_key<'a>(document: &'a Document) -> Option<&'a str> {
-    let written = document.first_written(&KEYS);
+    let known = keys_of(document.version());
+    let written = document.first_written(known);
     if written.is_some() {
         return written;
     }
-    other_key(&document.root, &KEYS)
+    other_key(&document.root, known)
 }
 
 /// The first key of a table, in the order of keys, that isn't among these.

@@ -3,7 +3,7 @@
 use super::super::document::{Document, member_of};
 use super::super::kind::Kind;
 use super::super::outline::Spot;
-use super::keys::{KEYS, other_key};
+use super::keys::{keys_of, other_key};
 use super::said::Said;
 use super::values::{kind_of, of_list};
 use toml::Value;
@@ -29,7 +29,7 @@ pub(crate) fn of_nodes<'a>(document: &'a Document) -> Said<'a> {
 /// What is wrong with the first node that isn't right.
 fn of_items<'a>(document: &'a Document) -> Said<'a> {
     for (node, value) in document.nodes().iter().enumerate() {
-        let said = of_node(node, value);
+        let said = of_node(document.version(), node, value);
         if !said.is_nothing() {
             return said;
         }
@@ -38,9 +38,9 @@ fn of_items<'a>(document: &'a Document) -> Said<'a> {
 }
 
 /// What is wrong with this node.
-fn of_node<'a>(node: usize, value: &'a Value) -> Said<'a> {
+fn of_node<'a>(version: u8, node: usize, value: &'a Value) -> Said<'a> {
     if let Some(key) = other_key(value, &STEPS) {
-        return of_key(node, key);
+        return of_key(version, node, key);
     }
     if let Some(steps) = member_of(value, "steps") {
         return of_list(Kind::Step(node), steps);
@@ -53,9 +53,9 @@ fn of_node<'a>(node: usize, value: &'a Value) -> Said<'a> {
 }
 
 /// That this key of a node isn't `steps`, and what to do with it.
-fn of_key<'a>(node: usize, key: &'a str) -> Said<'a> {
+fn of_key<'a>(version: u8, node: usize, key: &'a str) -> Said<'a> {
     let wrong = "{0}node {5} has the key <{1}>, and a node takes \"steps\" alone";
-    let right = if KEYS.contains(&key) {
+    let right = if keys_of(version).contains(&key) {
         "what stands below [[node]] is that node's: put {1} above the first [[node]]"
     } else {
         "a note goes into a comment, which begins with #"

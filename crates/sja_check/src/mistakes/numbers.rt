@@ -24,6 +24,9 @@ pub(crate) fn of_count(document: &Document, fault: PlanFault) -> Said<'static> {
     };
     let mut said = Said::at(spot_of(fault, number, node), wrong, more_of(fault), "");
     said.numbers = numbers;
+    if fault == PlanFault::StrikeCount && document.value("strikes").is_some() {
+        said.spot = Spot::Key("strikes");
+    }
     said
 }
 

@@ -123,7 +123,10 @@ impl Outline {
             Spot::Node(node) => self.node(node),
             Spot::NodeKey(node, key) => self.key(Some(node), key).or(self.node(node)),
             Spot::Text(Kind::Step(node), number) => self.item(self.steps(node), number, None),
-            Spot::Text(kind, number) => self.item(self.value(None, kind.key()), number, None),
+            Spot::Text(kind, number) => {
+                let list = self.value(None, kind.key());
+                self.item(list.or(self.value(None, kind.other_key())), number, None)
+            }
         }
     }
 

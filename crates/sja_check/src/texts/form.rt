@@ -14,12 +14,21 @@ pub(crate) struct Form {
     pub(crate) usage: &'static str,
 }
 
-/// The form of this name in a version.
-pub(crate) fn form_of(forms: &'static [Form], version: u8, name: &str) -> Option<&'static Form> {
+/// The form of this name with so many words in a version, or the first one of this name.
+pub(crate) fn form_of(
+    forms: &'static [Form],
+    version: u8,
+    name: &str,
+    words: usize,
+) -> Option<&'static Form> {
+    let mut found = None;
     for form in forms {
         if form.name == name && form.since <= version {
-            return Some(form);
+            if form.arguments.len().saturating_add(1) == words {
+                return Some(form);
+            }
+            found = found.or(Some(form));
         }
     }
-    None
+    found
 }

@@ -1,6 +1,7 @@
 //! Whether words are what a form wants.
 
 use super::super::page::{Page, Piece};
+use super::access::{bits_words, register_words};
 use super::argument::Argument;
 use super::form::Form;
 use super::message::message_words;
@@ -77,6 +78,11 @@ pub(crate) fn argument_words<'a>(
     if place >= words.len() {
         return false;
     }
+    match argument {
+        Argument::Register => return register_words(page, words, place),
+        Argument::Bits => return bits_words(page, words, place),
+        _ => {}
+    }
     let word = words[place];
     let (template, number) = fault_of(argument, nodes, word);
     let (name, least, most) = bounds_of(argument, nodes);
@@ -93,8 +99,12 @@ pub(crate) fn argument_words<'a>(
         Piece::Number(nodes as u64),
         wrong_in(digits),
     ];
-    let is_message = matches!(argument, Argument::Message);
-    page.say(template, &pieces) || (is_message && message_words(page, word))
+    page.say(template, &pieces)
+        || match argument {
+            Argument::Message => message_words(page, word, false),
+            Argument::Frame => message_words(page, word, true),
+            _ => false,
+        }
 }
 
 /// The word at this place; none where there are fewer.
@@ -126,7 +136,8 @@ fn fault_of(argument: Argument, nodes: usize, word: &str) -> (&'static str, u32)
         Argument::Node => node_fault(nodes, word),
         Argument::Address => address_fault(word),
         Argument::Value => (value_fault(word), 0),
-        Argument::Message => digits_fault(word),
+        Argument::Message | Argument::Frame => digits_fault(word),
+        Argument::Register | Argument::Bits => ("", 0),
         Argument::Number(_, least, most) => number_fault(least, most, word),
     }
 }

@@ -5,7 +5,7 @@ use super::super::page::{Page, Piece};
 use super::form::form_of;
 use super::judge::form_words;
 use super::step::{self, STEPS, names_of, steps_are};
-use super::turn::{self, NAMES, TURNS, TURNS_ARE};
+use super::turn::{self, TURNS, turns_are};
 
 /// Says why words say no step, or else no turn, of a plan of this version with so many nodes, and what would; false
 /// where they say one.
@@ -22,7 +22,7 @@ pub(crate) fn named_words<'a>(
         } else {
             TURNS.as_slice()
         };
-        if let Some(form) = form_of(forms, version, name) {
+        if let Some(form) = form_of(forms, version, name, words.len()) {
             return form_words(page, form, nodes, words);
         }
         if name_words(page, is_step, version, name) {
@@ -32,7 +32,7 @@ pub(crate) fn named_words<'a>(
     let all = if is_step {
         steps_are(version)
     } else {
-        TURNS_ARE
+        turns_are(version)
     };
     page.say(all, &[])
 }
@@ -45,7 +45,7 @@ fn name_words(page: &mut Page, is_step: bool, version: u8, name: &str) -> bool {
         (step::known_of(name), names_of(version), near)
     } else {
         let near = "no turn begins with <{0}>, did you mean \"{1}\"?";
-        (turn::known_of(version, name), NAMES.as_slice(), near)
+        (turn::known_of(version, name), turn::names_of(version), near)
     };
     if page.say(known, &[Piece::Text(name)]) {
         return true;

@@ -7,8 +7,32 @@ use sja_plan::RAW_VERSION;
 /// What is said where something stands behind a step that stands alone.
 const ALONE: &str = "this step stands alone: <{0}>";
 
-/// The forms of steps.
-pub(crate) static STEPS: [Form; 11] = [
+/// The forms of steps. The first of a name that a version has is its form there.
+pub(crate) static STEPS: [Form; 15] = [
+    Form {
+        name: "read",
+        since: RAW_VERSION,
+        arguments: &[Argument::Register],
+        usage: "the form is \"read ADDRESS\", a register's name or its number: \"read SR\"",
+    },
+    Form {
+        name: "write",
+        since: RAW_VERSION,
+        arguments: &[Argument::Register, Argument::Bits],
+        usage: "the form is \"write ADDRESS VALUE\", by names or as bytes: \"write CMR TR\", \"write 1 01\"",
+    },
+    Form {
+        name: "load",
+        since: RAW_VERSION,
+        arguments: &[Argument::Frame],
+        usage: "the form is \"load MESSAGE\", as \"load 123#1122\" or the bytes \"load 0224601122\"",
+    },
+    Form {
+        name: "command",
+        since: RAW_VERSION,
+        arguments: &[Argument::Bits],
+        usage: "the form is \"command VALUE\", names of bits of CMR, or two digits: \"command TR\"",
+    },
     Form {
         name: "start",
         since: 1,

@@ -90,7 +90,7 @@ fails d NodeCount m h = h.1
 fails d StepCount m h = h.1
 fails d (Step node number) m h = λ s. bad_lists_say_nothing (SaysStep (version_of d)) d.nodes node number h.1 s.0 s.1
 fails d TurnCount m h = h.1
-fails d (Turn number) m h = λ s. bad_says_nothing (SaysTurn (length d.nodes)) d.turns number h.1 s.0 s.1
+fails d (Turn number) m h = λ s. bad_says_nothing (SaysTurn (version_of d) (length d.nodes)) d.turns number h.1 s.0 s.1
 fails d StrikeCount m h = h.1
 fails d (Strike number) m h = λ s. bad_says_nothing (SaysStrike (length d.nodes)) d.faults number h.1 s.0 s.1
 fails d TooLong m h = absurd h
@@ -141,7 +141,8 @@ rebuilt d Memory m h = absurd (m refl)
 -- where the check with this number finds its bad text
 abbrev IsAt : ℕ → DocumentValue → ℕ → ℕ → Type 0
 IsAt (suc (suc (suc (suc zero)))) d a b = IsFirstBadIn (SaysStep (version_of d)) d.nodes a b
-IsAt (suc (suc (suc (suc (suc (suc zero)))))) d a b = IsFirstBad (SaysTurn (length d.nodes)) d.turns a × (b ≡ 0)
+IsAt (suc (suc (suc (suc (suc (suc zero)))))) d a b =
+    IsFirstBad (SaysTurn (version_of d) (length d.nodes)) d.turns a × (b ≡ 0)
 IsAt (suc (suc (suc (suc (suc (suc (suc (suc zero)))))))) d a b =
     IsFirstBad (SaysStrike (length d.nodes)) d.faults a × (b ≡ 0)
 IsAt n d a b = (a ≡ 0) × (b ≡ 0)
@@ -171,7 +172,10 @@ at_once (suc (suc (suc zero))) d a b x y h k = record { list_is = h.0 ∙ sym k.
 at_once (suc (suc (suc (suc zero)))) d a b x y h k = one_bad_in (SaysStep (version_of d)) d.nodes a x b y h k
 at_once (suc (suc (suc (suc (suc zero))))) d a b x y h k = record { list_is = h.0 ∙ sym k.0; number_is = h.1 ∙ sym k.1 }
 at_once (suc (suc (suc (suc (suc (suc zero)))))) d a b x y h k =
-    record { list_is = one_bad (SaysTurn (length d.nodes)) d.turns a x h.0 k.0; number_is = h.1 ∙ sym k.1 }
+    record {
+      list_is = one_bad (SaysTurn (version_of d) (length d.nodes)) d.turns a x h.0 k.0;
+      number_is = h.1 ∙ sym k.1;
+    }
 at_once (suc (suc (suc (suc (suc (suc (suc zero))))))) d a b x y h k =
     record { list_is = h.0 ∙ sym k.0; number_is = h.1 ∙ sym k.1 }
 at_once (suc (suc (suc (suc (suc (suc (suc (suc zero)))))))) d a b x y h k =
@@ -207,7 +211,9 @@ passes_all d p (suc (suc (suc (suc zero)))) h =
     let same = sym (version_is d p.version h.version.0) in
     (p.nodes, subst (λ v. AllZip (AllZip (SaysStep v)) d.nodes p.nodes) same h.steps)
 passes_all d p (suc (suc (suc (suc (suc zero))))) h = h.turn_count
-passes_all d p (suc (suc (suc (suc (suc (suc zero)))))) h = (p.turns, h.turns)
+passes_all d p (suc (suc (suc (suc (suc (suc zero)))))) h =
+    let same = sym (version_is d p.version h.version.0) in
+    (p.turns, subst (λ v. AllZip (SaysTurn v (length d.nodes)) d.turns p.turns) same h.turns)
 passes_all d p (suc (suc (suc (suc (suc (suc (suc zero))))))) h = h.strike_count
 passes_all d p (suc (suc (suc (suc (suc (suc (suc (suc n)))))))) h = (p.strikes, h.strikes)
 

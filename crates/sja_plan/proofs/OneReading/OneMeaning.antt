@@ -1,10 +1,10 @@
 -- A text says one thing at most.
-use Rattle.std.proofs.Common.{◌≡◌, ◌∙◌, ℕ, Option, Some, None, Result, Ok, Err, List, []}
-use Rattle.std.proofs.Common.{◌∷◌, codes, if◌then◌else◌, option_map, refl, sym, ap, ap₂}
+use Rattle.std.proofs.Common.{◌≡◌, ◌∙◌, ℕ, Option, Some, None, List, []}
+use Rattle.std.proofs.Common.{◌∷◌, codes, if◌then◌else◌, option_map, option_and_then, refl, sym, ap, ap₂, subst}
 use Rattle.std.specs.Str.{bytes_eq}
-use Rattle.hex.specs.Hex.{decode_of}
-use Rattle.hex.specs.declared.error.FromHexError.{FromHexError}
 use Rattle.sja_plan.specs.Words.{Text, words, number_of}
+use Rattle.sja_plan.specs.Accesses.{address_of, value_of}
+use Rattle.sja_plan.specs.Messages.{SpellsMessageIn}
 use Rattle.sja_plan.specs.StepTexts.{AreStepWords, SaysStep}
 use Rattle.sja_plan.specs.TurnTexts.{AreTurnWords, SaysTurn}
 use Rattle.sja_plan.specs.StrikeTexts.{AreStrikeWords, SaysStrike}
@@ -12,21 +12,13 @@ use Rattle.sja_script.specs.declared.step.Step.{Step}
 use Rattle.sja_script.specs.declared.step.Step.TheVariants.{Start, Stop, Window, Release, Read}
 use Rattle.sja_script.specs.declared.step.Step.TheVariants.{Write, Load, Command, Await, Sent, Interrupt}
 use Rattle.sja_plan.specs.declared.turn.Turn.{Turn}
-use Rattle.sja_plan.specs.declared.turn.Turn.TheVariants.{Bus, Rest, Node}
+use Rattle.sja_plan.specs.declared.turn.Turn.TheVariants.{Bus, Rest, Node, All, Irq, Go}
 use Rattle.sja_script.specs.declared.strike.Strike.{Strike}
+use Rattle.sja_plan.proofs.OneReading.OneMessage.{one_message}
 
 abbrev pub value_or : {X : Type 0} → X → Option X → X
 value_or d None = d
 value_or d (Some x) = x
-
-abbrev bytes_of : Result (List ℕ) FromHexError → Option (List ℕ)
-bytes_of (Ok bytes) = Some bytes
-bytes_of (Err e) = None
-
-abbrev byte_of : Result (List ℕ) FromHexError → Option ℕ
-byte_of (Ok (b ∷ [])) = Some b
-byte_of (Ok bytes) = None
-byte_of (Err e) = None
 
 abbrev both : {X Y Z : Type 0} → (X → Y → Z) → Option X → Option Y → Option Z
 both f (Some x) (Some y) = Some (f x y)
@@ -44,50 +36,114 @@ plain name =
     else if bytes_eq name (codes "interrupt") then Some Interrupt
     else None
 
-abbrev with_one : Text → Text → Option Step
-with_one name a =
-    if bytes_eq name (codes "read") then option_map Read (number_of a)
-    else if bytes_eq name (codes "load") then option_map Load (bytes_of (decode_of a))
-    else if bytes_eq name (codes "command") then option_map Command (byte_of (decode_of a))
+abbrev with_one : List ℕ → ℕ → Text → Text → Option Step
+with_one p version name a =
+    if bytes_eq name (codes "read") then option_map Read (address_of version a)
+    else if bytes_eq name (codes "load") then Some (Load p)
+    else if bytes_eq name (codes "command") then option_map Command (value_of version 1 a)
     else if bytes_eq name (codes "await") then option_map Await (number_of a)
     else None
 
-abbrev step_in : List Text → Option Step
-step_in (name ∷ []) = plain name
-step_in (name ∷ a ∷ []) = with_one name a
-step_in (name ∷ a ∷ v ∷ []) = both Write (number_of a) (byte_of (decode_of v))
-step_in ws = None
+-- where a load is of this message
+abbrev step_in : List ℕ → ℕ → List Text → Option Step
+step_in p version (name ∷ []) = plain name
+step_in p version (name ∷ a ∷ []) = with_one p version name a
+step_in p version (name ∷ a ∷ v ∷ []) =
+    option_and_then (λ n. option_map (Write n) (value_of version n v)) (address_of version a)
+step_in p version ws = None
 
-step_is : (version : ℕ) (ws : List Text) (s : Step) → AreStepWords version ws s → step_in ws ≡ Some s
-step_is version ws Start h = rw h refl
-step_is version ws Stop h = rw h refl
-step_is version ws Window h = rw h refl
-step_is version ws Release h = rw h refl
-step_is version ws Sent h = rw h refl
-step_is version ws Interrupt h = rw h.1 refl
-step_is version ws (Read n) (a, e, k) = rw e (ap (option_map Read) k.0)
-step_is version ws (Write n v) (a, b, e, k, i) = rw e (ap₂ (both Write) k.0 (ap byte_of i))
-step_is version ws (Load m) (d, e, k) = rw e (ap (λ r. option_map Load (bytes_of r)) k.0)
-step_is version ws (Command v) (a, e, k) = rw e (ap (λ r. option_map Command (byte_of r)) k)
-step_is version ws (Await n) (a, e, k) = rw e (ap (option_map Await) k.0)
+-- what a step loads, or else this
+abbrev loaded : List ℕ → Step → List ℕ
+loaded p (Load m) = m
+loaded p this = p
+
+step_is : (p : List ℕ) (version : ℕ) (ws : List Text) (s : Step) → loaded p s ≡ p → AreStepWords version ws s →
+    step_in p version ws ≡ Some s
+step_is p version ws Start same h = rw h refl
+step_is p version ws Stop same h = rw h refl
+step_is p version ws Window same h = rw h refl
+step_is p version ws Release same h = rw h refl
+step_is p version ws Sent same h = rw h refl
+step_is p version ws Interrupt same h = rw h.1 refl
+step_is p version ws (Read n) same (a, e, k) = rw e (ap (option_map Read) k.0)
+step_is p version ws (Write n v) same (a, b, e, k, i) = rw (e, k.0) (ap (option_map (Write n)) i.0)
+step_is p version ws (Load m) same (d, e, k) = rw e (ap (λ l. Some (Load l)) (sym same))
+step_is p version ws (Command v) same (a, e, k) = rw e (ap (option_map Command) k.0)
+step_is p version ws (Await n) same (a, e, k) = rw e (ap (option_map Await) k.0)
+
+-- of two steps with the same words both load this, where they load something
+twice : (p : List ℕ) (s : Step) → loaded (loaded p s) s ≡ loaded p s
+twice p Start = refl
+twice p Stop = refl
+twice p Window = refl
+twice p Release = refl
+twice p Sent = refl
+twice p Interrupt = refl
+twice p (Read n) = refl
+twice p (Write n v) = refl
+twice p (Load m) = refl
+twice p (Command v) = refl
+twice p (Await n) = refl
+
+alike : (version : ℕ) (ws : List Text) (m : List ℕ) (t : Step) → AreStepWords version ws (Load m) →
+    AreStepWords version ws t → loaded m t ≡ m
+alike version ws m Start h k = refl
+alike version ws m Stop h k = refl
+alike version ws m Window h k = refl
+alike version ws m Release h k = refl
+alike version ws m Sent h k = refl
+alike version ws m Interrupt h k = refl
+alike version ws m (Read n) h k = refl
+alike version ws m (Write n v) h k = refl
+alike version ws m (Command v) h k = refl
+alike version ws m (Await n) h k = refl
+alike version ws m (Load n) (d, e, h) (b, f, k) =
+    let same : b ≡ d = cc in one_message version d n m (subst (λ w. SpellsMessageIn version w n) same k) h
+
+abbrev Same : List ℕ → Step → Step → Type 0
+Same p s t = (loaded p s ≡ p) × (loaded p t ≡ p)
+
+both_load : (version : ℕ) (ws : List Text) (s t : Step) → AreStepWords version ws s → AreStepWords version ws t →
+    (p : List ℕ) × Same p s t
+both_load version ws (Load m) t h k = (m, (refl, alike version ws m t h k))
+both_load version ws Start t h k = (loaded [] t, (refl, twice [] t))
+both_load version ws Stop t h k = (loaded [] t, (refl, twice [] t))
+both_load version ws Window t h k = (loaded [] t, (refl, twice [] t))
+both_load version ws Release t h k = (loaded [] t, (refl, twice [] t))
+both_load version ws Sent t h k = (loaded [] t, (refl, twice [] t))
+both_load version ws Interrupt t h k = (loaded [] t, (refl, twice [] t))
+both_load version ws (Read n) t h k = (loaded [] t, (refl, twice [] t))
+both_load version ws (Write n v) t h k = (loaded [] t, (refl, twice [] t))
+both_load version ws (Command v) t h k = (loaded [] t, (refl, twice [] t))
+both_load version ws (Await n) t h k = (loaded [] t, (refl, twice [] t))
 
 pub one_step : (version : ℕ) (text : Text) (s t : Step) → SaysStep version text s → SaysStep version text t → s ≡ t
 one_step version text s t h k =
-    ap (value_or s) (sym (step_is version (words text) s h) ∙ step_is version (words text) t k)
+    let (p, both) = both_load version (words text) s t h k in
+    ap (value_or s)
+    (sym (step_is p version (words text) s both.0 h) ∙ step_is p version (words text) t both.1 k)
 
 abbrev turn_in : List Text → Option Turn
-turn_in (name ∷ []) = Some Rest
-turn_in (name ∷ a ∷ []) = option_map Bus (number_of a)
-turn_in (name ∷ a ∷ b ∷ []) = both Node (number_of a) (number_of b)
+turn_in (name ∷ []) = if bytes_eq name (codes "rest") then Some Rest else Some Go
+turn_in (name ∷ a ∷ []) =
+    if bytes_eq name (codes "bus") then option_map Bus (number_of a) else option_map All (number_of a)
+turn_in (name ∷ a ∷ b ∷ []) =
+    if bytes_eq name (codes "node") then both Node (number_of a) (number_of b)
+    else both Irq (number_of a) (number_of b)
 turn_in ws = None
 
-turn_is : (nodes : ℕ) (ws : List Text) (t : Turn) → AreTurnWords nodes ws t → turn_in ws ≡ Some t
-turn_is nodes ws Rest h = rw h refl
-turn_is nodes ws (Bus n) (a, e, k) = rw e (ap (option_map Bus) k.0)
-turn_is nodes ws (Node n m) (a, b, e, k, i) = rw e (ap₂ (both Node) k.0.0 i.0)
+turn_is : (version nodes : ℕ) (ws : List Text) (t : Turn) → AreTurnWords version nodes ws t → turn_in ws ≡ Some t
+turn_is version nodes ws Rest h = rw h refl
+turn_is version nodes ws (Bus n) (a, e, k) = rw e (ap (option_map Bus) k.0)
+turn_is version nodes ws (Node n m) (a, b, e, k, i) = rw e (ap₂ (both Node) k.0.0 i.0)
+turn_is version nodes ws (All n) (v, a, e, k) = rw e (ap (option_map All) k.0.0)
+turn_is version nodes ws (Irq n m) (v, a, b, e, k, i) = rw e (ap₂ (both Irq) k.0.0 i.0)
+turn_is version nodes ws Go h = rw h.1 refl
 
-pub one_turn : (nodes : ℕ) (text : Text) (t u : Turn) → SaysTurn nodes text t → SaysTurn nodes text u → t ≡ u
-one_turn nodes text t u h k = ap (value_or t) (sym (turn_is nodes (words text) t h) ∙ turn_is nodes (words text) u k)
+pub one_turn : (version nodes : ℕ) (text : Text) (t u : Turn) → SaysTurn version nodes text t →
+    SaysTurn version nodes text u → t ≡ u
+one_turn version nodes text t u h k =
+    ap (value_or t) (sym (turn_is version nodes (words text) t h) ∙ turn_is version nodes (words text) u k)
 
 number_is : (word : Text) (n m : ℕ) → number_of word ≡ Some n → number_of word ≡ Some m → n ≡ m
 number_is word n m h k = ap (value_or n) (sym h ∙ k)

@@ -1,9 +1,10 @@
 -- Bytes are one plan at most.
-use Rattle.std.proofs.Common.{◌≡◌, ◌∙◌, ℕ, ℤ, pos, Option, Some, List, [], ◌∷◌, length, refl, sym, ap, ap₂, subst}
+use Rattle.std.proofs.Common.{◌≡◌, ◌∙◌, ℕ, ℤ, pos, Option, Some, List, [], ◌∷◌, length, codes, refl, sym, ap, ap₂}
+use Rattle.std.proofs.Common.{subst}
 use Rattle.std.specs.List.{AllZip}
-use Rattle.toml.specs.Data.{Members}
+use Rattle.toml.specs.Data.{Members, get_member}
 use Rattle.sja_plan.specs.Words.{Text}
-use Rattle.sja_plan.specs.Document.{DocumentValue, HasShape}
+use Rattle.sja_plan.specs.Document.{DocumentValue, HasShape, turn_texts}
 use Rattle.sja_plan.specs.StepTexts.{SaysStep}
 use Rattle.sja_plan.specs.TurnTexts.{SaysTurn}
 use Rattle.sja_plan.specs.StrikeTexts.{SaysStrike}
@@ -41,7 +42,8 @@ one_document bytes d e (ms, t, p, s) (other, u, q, r) =
     ap₂ (λ a b. document_of a b d.nodes d.turns d.faults) (some_once _ d.version e.version s.version k.version)
     (some_once _ d.bits e.bits s.bits k.bits)
     ∙ ap₂ (λ a b. document_of e.version e.bits a b d.faults) (some_once _ d.nodes e.nodes s.nodes k.nodes)
-    (some_once _ d.turns e.turns s.turns k.turns)
+    (some_once _ d.turns e.turns s.turns (subst (λ v. turn_texts v (get_member (codes "turns") ms) ≡ Some e.turns)
+    (sym (some_once _ d.version e.version s.version k.version)) k.turns))
     ∙ ap (λ a. document_of e.version e.bits e.nodes e.turns a) (some_once _ d.faults e.faults s.faults k.faults)
 
 abbrev plan_of : ℕ → ℕ → List (List Step) → List Turn → List Strike → PlanValue
@@ -53,8 +55,9 @@ one_said d p q h k =
     let said = subst (λ v. AllZip (AllZip (SaysStep v)) d.nodes p.nodes) version h.steps in
     let steps = zip_once (AllZip (SaysStep q.version)) (zip_once (SaysStep q.version) (one_step q.version)) d.nodes
     p.nodes q.nodes said k.steps in
-    let turns =
-    zip_once (SaysTurn (length d.nodes)) (one_turn (length d.nodes)) d.turns p.turns q.turns h.turns k.turns in
+    let turned = subst (λ v. AllZip (SaysTurn v (length d.nodes)) d.turns p.turns) version h.turns in
+    let turns = zip_once (SaysTurn q.version (length d.nodes)) (one_turn q.version (length d.nodes)) d.turns p.turns
+    q.turns turned k.turns in
     let strikes = zip_once (SaysStrike (length d.nodes)) (one_strike (length d.nodes)) d.faults p.strikes
     q.strikes h.strikes k.strikes in
     ap₂ (λ a b. plan_of a b p.nodes p.turns p.strikes) version (ap nat_of (sym h.bits.0 ∙ k.bits.0))

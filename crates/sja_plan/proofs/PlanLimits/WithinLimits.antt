@@ -11,7 +11,7 @@ use Rattle.sja_script.specs.declared.strike.Strike.{Strike}
 use Rattle.sja_plan.specs.TurnTexts.{SaysTurn}
 use Rattle.sja_plan.specs.Plan.{NamesNode, IsStrikeOn, times_in}
 use Rattle.sja_plan.specs.declared.turn.Turn.{Turn}
-use Rattle.sja_plan.specs.declared.turn.Turn.TheVariants.{Bus, Rest, Node}
+use Rattle.sja_plan.specs.declared.turn.Turn.TheVariants.{Bus, Rest, Node, All as AllSteps, Irq, Go}
 
 -- what short lists of texts say is short
 pub few_read : {A : Type 0} (few most : ℕ) (Says : Text → A → Type 0) (texts : List (List Text))
@@ -27,18 +27,21 @@ few_read few most Says (x ∷ xs) (y ∷ ys) less z short (suc k) d w =
     few_read few most Says xs ys less z.1 (λ i e v. short (suc i) e (omega arith)) k d (omega arith)
 
 -- a turn that is read names a node
-names_node : (nodes : ℕ) (text : Text) (t : Turn) → SaysTurn nodes text t → NamesNode nodes t
-names_node nodes text (Bus bits) h = tt
-names_node nodes text Rest h = tt
-names_node nodes text (Node node steps) h = h.3.1
+names_node : (version nodes : ℕ) (text : Text) (t : Turn) → SaysTurn version nodes text t → NamesNode nodes t
+names_node version nodes text (Bus bits) h = tt
+names_node version nodes text Rest h = tt
+names_node version nodes text (Node node steps) h = h.3.1
+names_node version nodes text (AllSteps node) h = h.3.1
+names_node version nodes text (Irq node bits) h = h.4.1
+names_node version nodes text Go h = tt
 
-pub name_nodes : (nodes : ℕ) (texts : List Text) (turns : List Turn) → AllZip (SaysTurn nodes) texts turns →
-    All (NamesNode nodes) turns
-name_nodes nodes [] [] z k d w = absurd (omega arith)
-name_nodes nodes [] (y ∷ ys) z k d w = absurd z
-name_nodes nodes (x ∷ xs) [] z k d w = absurd z
-name_nodes nodes (x ∷ xs) (y ∷ ys) z zero d w = names_node nodes x y z.0
-name_nodes nodes (x ∷ xs) (y ∷ ys) z (suc k) d w = name_nodes nodes xs ys z.1 k d (omega arith)
+pub name_nodes : (version nodes : ℕ) (texts : List Text) (turns : List Turn) →
+    AllZip (SaysTurn version nodes) texts turns → All (NamesNode nodes) turns
+name_nodes version nodes [] [] z k d w = absurd (omega arith)
+name_nodes version nodes [] (y ∷ ys) z k d w = absurd z
+name_nodes version nodes (x ∷ xs) [] z k d w = absurd z
+name_nodes version nodes (x ∷ xs) (y ∷ ys) z zero d w = names_node version nodes x y z.0
+name_nodes version nodes (x ∷ xs) (y ∷ ys) z (suc k) d w = name_nodes version nodes xs ys z.1 k d (omega arith)
 
 -- a strike that is read is on a node
 strike_node : (nodes : ℕ) (ws : List Text) (s : Strike) → AreStrikeWords nodes ws s → IsStrikeOn nodes s

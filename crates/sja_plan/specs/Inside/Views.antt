@@ -3,7 +3,7 @@ use Rattle.std.specs.Prelude.{◌≡◌, ◌+◌, ℕ, ℤ, List, map, codes, So
 use Rattle.toml.specs.Data.{Members, get_member}
 use Rattle.sja_plan.specs.Words.{Text}
 use Rattle.sja_plan.specs.Texts.{IsFirstBad}
-use Rattle.sja_plan.specs.Document.{DocumentValue, nodes_in, optional_texts}
+use Rattle.sja_plan.specs.Document.{DocumentValue, nodes_in, strike_texts, turn_texts}
 use Rattle.sja_plan.specs.declared.document.Document.{Document}
 use Rattle.sja_plan.specs.declared.text_fault.TextFault.{TextFault}
 use Rattle.sja_plan.specs.declared.text_fault.TextFault.TheVariants as TextFaults
@@ -37,8 +37,8 @@ pub record HasLists (ms : Members) (v b : ℤ) (d : DocumentValue) : Type 0 wher
   pub version : d.version ≡ v
   pub bits : d.bits ≡ b
   pub nodes : option_and_then nodes_in (get_member (codes "node") ms) ≡ Some d.nodes
-  pub turns : optional_texts (get_member (codes "turns") ms) ≡ Some d.turns
-  pub faults : optional_texts (get_member (codes "faults") ms) ≡ Some d.faults
+  pub turns : turn_texts v (get_member (codes "turns") ms) ≡ Some d.turns
+  pub faults : strike_texts (get_member (codes "faults") ms) (get_member (codes "strikes") ms) ≡ Some d.faults
 
 -- the fault of a plan for that of the list of this node's steps
 abbrev pub step_fault : ℕ → ListFault → PlanFault

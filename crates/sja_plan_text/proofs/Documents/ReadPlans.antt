@@ -29,8 +29,8 @@ read_has_texts bytes p (d, h, s) =
       step_counts = few_read most most says d.nodes p.nodes (omega arith) s.steps few;
       steps = all_said (AllZip says) (λ (steps : List Step). All has steps)
           (λ texts steps. all_said says has (has_step_text p.version) texts steps) d.nodes p.nodes s.steps;
-      turns = all_said (SaysTurn (length d.nodes)) HasTurnText
-          (λ text t said. (has_turn_text (length d.nodes) text t said).1) d.turns p.turns s.turns;
+      turns = all_said (SaysTurn p.version (length d.nodes)) (HasTurnText p.version)
+          (λ text t said. (has_turn_text p.version (length d.nodes) text t said).1) d.turns p.turns s.turns;
       strikes = all_said (SaysStrike (length d.nodes)) HasStrikeText
           (λ text t said. (has_strike_text (length d.nodes) text t said).1) d.faults p.strikes s.strikes;
     }

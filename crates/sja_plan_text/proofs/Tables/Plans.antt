@@ -55,10 +55,11 @@ plan_said p limits texts =
       steps = said_of_each (map step_text) (AllZip says) (λ (steps : List Step). All has steps)
           (λ steps h. said_of_each step_text says has (step_said p.version) steps h) p.nodes texts.steps;
       turn_count = omega (arith, length-map p.turns turn_text, limits.turn_count);
-      turns = subst (λ n. AllZip (SaysTurn n) (map turn_text p.turns) p.turns) (sym count)
-          (said_of_each turn_text (SaysTurn (length p.nodes)) (λ t. NamesNode (length p.nodes) t × HasTurnText t)
-          (λ t h. turn_said (length p.nodes) t h.0 h.1) p.turns
-          (both_of_each (NamesNode (length p.nodes)) HasTurnText p.turns limits.turns texts.turns));
+      turns = subst (λ n. AllZip (SaysTurn p.version n) (map turn_text p.turns) p.turns) (sym count)
+          (said_of_each turn_text (SaysTurn p.version (length p.nodes))
+          (λ t. NamesNode (length p.nodes) t × HasTurnText p.version t)
+          (λ t h. turn_said p.version (length p.nodes) t h.0 h.1) p.turns
+          (both_of_each (NamesNode (length p.nodes)) (HasTurnText p.version) p.turns limits.turns texts.turns));
       strike_count = omega (arith, times_counted p.strikes texts.strikes, limits.strike_count);
       strikes = subst (λ n. AllZip (SaysStrike n) (map strike_text p.strikes) p.strikes) (sym count)
           (said_of_each strike_text (SaysStrike (length p.nodes)) (λ s. IsStrikeOn (length p.nodes) s × HasStrikeText s)

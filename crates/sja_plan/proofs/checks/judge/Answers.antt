@@ -1,8 +1,9 @@
-use Rattle.std.proofs.Common.{rules, ◌≡◌, ◌≤◌, ℕ, pos, List, map, arith}
+use Rattle.std.proofs.Common.{rules, ◌≡◌, ◌≤◌, ℕ, pos, List, length, map, sym, subst, arith}
 use Rattle.std.specs.List.{AllZip}
 use Rattle.std.proofs.lemmas.Slice.Zip.{AllZip-long}
 use Rattle.sja_script.specs.declared.step.Step.{Step}
 use Rattle.sja_plan.specs.StepTexts.{SaysStep}
+use Rattle.sja_plan.specs.TurnTexts.{SaysTurn}
 use Rattle.sja_plan.specs.Document.{DocumentValue}
 use Rattle.sja_plan.specs.Limits.{most_bits, most_steps}
 use Rattle.sja_plan.specs.Checks.{HasVersion, HasNodes, HasFewSteps, BeforeTurnCount}
@@ -11,8 +12,8 @@ use Rattle.sja_plan.proofs.PlanLimits.WithinLimits.{few_read, name_nodes, times_
 use Rattle.sja_plan.proofs.PlanLimits.ByVersion.{version_is, has_bits, has_steps}
 use Rattle.sja_plan.proofs.checks.judge.Goals as goal
 
-pub invariant_of-result : goal.invariant_of-result
-invariant_of-result c =
+pub of-requires : goal.of-requires
+of-requires c =
     let (nodes, few) = c.in_ok-settings.ensures.counts in
     let count = AllZip-long _ _ _ c.in_ok-steps.ensures.ok in
     let turns = AllZip-long _ _ _ c.in_ok-turns.ensures.ok in
@@ -25,11 +26,25 @@ invariant_of-result c =
       steps = few_read (most_steps version) _ (SaysStep version) _ _ (omega arith)
           c.in_ok-steps.ensures.ok (rw is at few);
       turn_count = omega (arith, turns, rw is at c.in_ok-turns.ensures.few);
-      turns = rw count (name_nodes _ _ _ c.in_ok-turns.ensures.ok);
+      turns = rw count (name_nodes _ _ _ _ c.in_ok-turns.ensures.ok);
       strike_count =
           omega (arith, times_counted _ _ _ c.in_ok-strikes.ensures.ok, rw is at c.in_ok-strikes.ensures.few);
       strikes = rw count (strike_nodes _ _ _ c.in_ok-strikes.ensures.ok);
     }
+
+pub returns-clause-ok : goal.returns-clause-ok
+returns-clause-ok c =
+    rw c.of.ensures (record {
+      version = c.in_ok-settings.ensures.version;
+      bits = c.in_ok-settings.ensures.bits;
+      node_count = c.in_ok-settings.ensures.counts.0;
+      step_counts = c.in_ok-settings.ensures.counts.1;
+      steps = c.in_ok-steps.ensures.ok;
+      turn_count = c.in_ok-turns.ensures.few;
+      turns = c.in_ok-turns.ensures.ok;
+      strike_count = c.in_ok-strikes.ensures.few;
+      strikes = c.in_ok-strikes.ensures.ok;
+    })
 
 -- all checks before that of the turns pass
 before_turns : (d : DocumentValue) (version bits : ℕ) (nodes : List (List Step)) →
@@ -58,6 +73,10 @@ returns-in_err-strikes-clause-err c =
     c.in_ok-settings.settings.bits (map (λ steps. steps.items) c.in_ok-steps.field-0.items)
     c.in_ok-settings.ensures.version c.in_ok-settings.ensures.bits c.in_ok-settings.ensures.counts
     c.in_ok-steps.ensures.ok in
+    let d = document_view c.args.document.now in
+    let version = c.in_ok-settings.settings.version in
+    let said = subst (λ (v : ℕ). AllZip (SaysTurn v (length d.nodes)) d.turns c.in_ok-turns.field-0.items)
+    (sym (version_is d version c.in_ok-settings.ensures.version.0)) c.in_ok-turns.ensures.ok in
     let fault = c.in_err-strikes.ensures.err
-    ((before, c.in_ok-turns.ensures.few), (c.in_ok-turns.field-0.items, c.in_ok-turns.ensures.ok)) in
+    ((before, c.in_ok-turns.ensures.few), (c.in_ok-turns.field-0.items, said)) in
     search rules

@@ -10,7 +10,7 @@ returns-in-Err-clause-err c = λ before.
     let read = rw items at c.loop-texts.invariant.made in
     let is = rw items at c.texts-item.is in
     let len : c.len-in-Err.result ≡ length c.loop-texts.found.items = search rules in
-    let unread = rw (c.as_slice.ensures.value, c.from.ensures) at c.in-Err.ensures.err in
+    let unread = rw (c.as_slice.ensures.value, c.within_of-within.ensures) at c.in-Err.ensures.err in
     rw (c.step_fault.ensures, len)
     (step_is_bad (document_view c.args.document.now) c.args.version c.args.document.now.nodes.items
     c.loop-texts.found.items c.loop-texts.texts-index c.texts-item.result c.in-Err.fault before
@@ -18,7 +18,7 @@ returns-in-Err-clause-err c = λ before.
 
 pub loop-texts-preserved : goal.loop-texts-preserved
 loop-texts-preserved c =
-    let said = rw (c.as_slice.ensures.value, c.from.ensures) at c.in-Ok-read_all.ensures.ok in record {
+    let said = rw (c.as_slice.ensures.value, c.within_of-within.ensures) at c.in-Ok-read_all.ensures.ok in record {
       count = search rules;
       room = search rules;
       made = rw c.push_reserved.ensures.items
@@ -26,3 +26,6 @@ loop-texts-preserved c =
           c.texts-item.result c.in-Ok-read_all.steps (omega (arith, c.loop-texts-test.true)) c.loop-texts.invariant.made
           c.texts-item.is said);
     }
+
+pub read_all-requires : goal.read_all-requires
+read_all-requires c = rw c.within_of-within.ensures (search rules)

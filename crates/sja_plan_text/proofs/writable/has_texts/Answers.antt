@@ -31,7 +31,7 @@ returns-then-turns_have_texts c =
             c.loop-node.node past c.loop-node.invariant.few;
         steps = all_taken (λ (steps : List Step). All (HasStepText plan.version) steps) plan.nodes c.loop-node.node past
             c.loop-node.invariant.texts;
-        turns = rw c.turns.ensures.value at (c.turns_have_texts.ensures.0 turned);
+        turns = rw (c.version-2.ensures.value, c.turns.ensures.value) at (c.turns_have_texts.ensures.0 turned);
         strikes = rw c.strikes.ensures.value at (c.strikes_have_texts.ensures.0 struck);
       },
       λ has. c.strikes_have_texts.ensures.1 (rw c.strikes.ensures.value has.strikes),

@@ -7,12 +7,12 @@ use Rattle.sja_plan_text.proofs.writable.turns_have_texts.Goals as goal
 pub loop-turn-preserved : goal.loop-turn-preserved
 loop-turn-preserved c =
     let said : IsTrue c.has_turn_text.result = search rules in
-    All-more HasTurnText c.args.turns.now c.loop-turn.turn-index _ (omega (arith, c.loop-turn-test.true))
-    c.loop-turn.invariant (c.has_turn_text.ensures.0 said)
+    All-more (HasTurnText c.args.version) c.args.turns.now c.loop-turn.turn-index _
+    (omega (arith, c.loop-turn-test.true)) c.loop-turn.invariant (c.has_turn_text.ensures.0 said)
 
 pub returns : goal.returns
 returns c =
     let past : length c.args.turns.now ≤ c.loop-turn.turn-index = omega (arith, c.loop-turn-test.false) in (
-      λ _. all_taken HasTurnText c.args.turns.now c.loop-turn.turn-index past c.loop-turn.invariant,
+      λ _. all_taken (HasTurnText c.args.version) c.args.turns.now c.loop-turn.turn-index past c.loop-turn.invariant,
       λ _. refl,
     )

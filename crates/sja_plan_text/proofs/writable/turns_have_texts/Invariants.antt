@@ -4,4 +4,4 @@ use Rattle.sja_plan_text.proofs.writable.turns_have_texts.Given as goal
 
 -- the turns so far have texts
 abbrev pub invariant-loop-turn : goal.invariant-loop-turn
-invariant-loop-turn l = All HasTurnText (take l.turn-index l.turns)
+invariant-loop-turn l = All (HasTurnText l.version) (take l.turn-index l.turns)

@@ -1,28 +1,24 @@
 use Rattle.std.proofs.Common.{◌+◌, List, rules, take, sym, subst, arith, inr}
 use Rattle.std.specs.List.{AllZip}
-use Rattle.std.proofs.lemmas.Result.{err_from_is_err_and}
 use Rattle.can_frame.specs.Frame.{FrameValue}
-use Rattle.sja_texts.specs.Arbitrate.{SpellsFrame}
-use Rattle.sja_texts.proofs.Reading.Spelled.{texts, spells, frames_more, first_refused}
+use Rattle.sja_texts.specs.Given.{Gives}
+use Rattle.sja_texts.proofs.Reading.Spelled.{texts, frames_more, first_refused}
 use Rattle.sja_texts.proofs.arbitrate.frames_of.Goals as goal
 
-pub loop-digits-preserved : goal.loop-digits-preserved
-loop-digits-preserved c =
+pub loop-given-preserved : goal.loop-given-preserved
+loop-given-preserved c =
     let messages = c.args.messages.now in
-    let i = c.loop-digits.digits-index in
-    let frame = c.frame.result in
-    let P : List FrameValue → Type 0 = λ l. AllZip SpellsFrame (texts (take (i + 1) messages)) l in
-    let longer = frames_more messages c.loop-digits.frames.items i _ frame (omega arith) c.loop-digits.invariant.spelled
-    (spells _ _ frame c.in_ok-message.ensures.ok c.frame.ensures.valid c.frame.ensures.value) in
+    let i = c.loop-given.given-index in
+    let P : List FrameValue → Type 0 = λ l. AllZip Gives (texts (take (i + 1) messages)) l in
+    let longer = frames_more messages c.loop-given.frames.items i _ c.in-Ok.frame (omega arith)
+    c.loop-given.invariant.spelled c.in-Ok.ensures.ok in
     record {
       spelled = subst P (sym c.push_reserved.ensures.items) longer;
       count = search rules;
       room = search rules;
     }
 
-pub returns-in_err-message-clause-err : goal.returns-in_err-message-clause-err
-returns-in_err-message-clause-err c =
-    let told = err_from_is_err_and c.from_residual-in_err-message.result c.from_residual-in_err-message.ensures.1 in
-    rw (told.1, told.2)
-    (inr (first_refused c.args.messages.now c.loop-digits.frames.items c.loop-digits.digits-index _
-    c.in_err-message.field-0.0 (omega arith) c.loop-digits.invariant.spelled c.in_err-message.ensures.err))
+pub returns-in-Err-clause-err : goal.returns-in-Err-clause-err
+returns-in-Err-clause-err c =
+    inr (first_refused c.args.messages.now c.loop-given.frames.items c.loop-given.given-index _ c.in-Err.refusal
+    (omega arith) c.loop-given.invariant.spelled c.in-Err.ensures.err)

@@ -6,10 +6,9 @@ returns-clause-ok c =
     let text : c.extend_from_slice.new.self.items ≡ c.verdict_of.result.now = search rules in (
       c.in_ok-acr.acr,
       c.in_ok-amr.amr,
-      c.frame.result,
+      c.in_ok-frame.frame,
       c.in_ok-acr.ensures.ok,
       c.in_ok-amr.ensures.ok,
-      c.frame.ensures.valid,
-      rw c.frame.ensures.value c.in_ok-message.ensures.ok,
+      c.in_ok-frame.ensures.ok,
       rw text c.verdict_of.ensures,
     )

@@ -1,7 +1,7 @@
 use Rattle.std.proofs.Common.{rules, ℕ, List, subst}
 use Rattle.can_notation.specs.declared.notation_fault.NotationFault.TheVariants.{Data}
 use Rattle.sja_texts.specs.declared.command_refusal.CommandRefusal.TheVariants.{Notation}
-use Rattle.sja_texts.specs.Notation.{RefusesTranslation}
+use Rattle.sja_texts.specs.Given.{RefusesGiven}
 use Rattle.sja_texts.proofs.Reading.Translations.{from_notation, no_data}
 use Rattle.sja_texts.proofs.notation.translated.Goals as goal
 
@@ -12,4 +12,4 @@ returns-in_ok-text_of_bytes-in-Ok-clause-ok c =
 pub returns-in-Err-Data-clause-err : goal.returns-in-Err-Data-clause-err
 returns-in-Err-Data-clause-err c =
     let h = c.in-Err-Data.ensures.rest.0 (search rules) in
-    subst (λ (g : List ℕ). RefusesTranslation g (Notation Data)) c.as_bytes.ensures.value (no_data _ h.0 h.1 h.2)
+    subst (λ (g : List ℕ). RefusesGiven g (Notation Data)) c.as_bytes.ensures.value (no_data _ h.0 h.1 h.2)

@@ -19,7 +19,7 @@ returns-clause-few c =
     ∙ sym (get_or-map (λ steps. steps.items) lists c.args.node c.index.result.now [] there) in
     let few : length c.as_slice.result.now ≤ most = rw is
     (All-get_or (λ (steps : List Step). length steps ≤ most) all c.args.node []
-    (omega (arith, c.requires, same)) c.self.invariant.steps) in
+    (omega (arith, c.requires, same)) c.self.invariant.0.steps) in
     subst (λ (plan : PlanValue). length c.as_slice.result.now ≤ most_steps plan.version) c.self.view_is few
 
 pub returns-clause-most : goal.returns-clause-most

@@ -1,0 +1,15 @@
+-- The registers by their names (SJA1000 data sheet, 6.4.1, PeliCAN address layout). The table of names and addresses is
+-- `REGISTERS` of `src/register_names.rt`.
+use Rattle.std.specs.Prelude.{ℕ, List, map, Option, option_map, find}
+use Rattle.std.specs.Str.{str_eq_ignore_ascii_case}
+use Rattle.sja_plan.specs.Words.{Text}
+use Rattle.sja_plan.specs.declared.register_names.TheConstants.{REGISTERS}
+
+-- the names, with their addresses
+abbrev pub registers : List (Text × ℕ)
+registers = map (λ r. (r.0.now, r.1)) REGISTERS
+
+-- the address of the register of this name, in either case
+unfoldable pub register_address : Text → Option ℕ
+register_address word =
+    option_map (λ (r : Text × ℕ). r.1) (find (λ (r : Text × ℕ). str_eq_ignore_ascii_case r.0 word) registers)
