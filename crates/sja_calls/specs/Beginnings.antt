@@ -7,7 +7,7 @@ use Rattle.sja_calls.specs.declared.state.State.{State}
 use Rattle.sja_calls.specs.declared.state.State.TheVariants.{Going, Ended, Lost}
 use Rattle.sja_plan.specs.Growing.{plan_of}
 use Rattle.sja_plan.specs.Limits.{most_bits, most_steps}
-use Rattle.sja_serial.specs.Serial.{most_deeds}
+use Rattle.sja_driver.specs.Accesses.{most_deeds}
 use Rattle.sja_session.specs.Beginning.{IsVersion, IsBitCount, MayBegin, IsOutside, most_room}
 use Rattle.sja_session.specs.Sessions.{SessionValue, IsAt, written}
 

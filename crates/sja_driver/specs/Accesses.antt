@@ -1,6 +1,7 @@
 -- The steps of a driver as its author has them, and the deeds that they are (this project's own rule). In versions 1
 -- and 2 a step is one deed. In version 3 a read and a write are those of a driver that knows addresses and bytes alone.
-use Rattle.std.specs.Prelude.{◌≡◌, ℕ, Bool, true, List, [], ◌∷◌, map, nat_lt, slice_index_or}
+use Rattle.std.specs.Prelude.{◌≡◌, ◌*◌, ℕ, Bool, true, if◌then◌else◌, List, [], ◌∷◌, map, nat_lt}
+use Rattle.std.specs.Prelude.{slice_index_or}
 use Rattle.can_frame.specs.declared.seen.Seen.{Seen}
 use Rattle.lemmas.specs.Gathering.{gathered}
 use Rattle.sja_regs.specs.declared.registers.Registers.{Registers}
@@ -75,3 +76,9 @@ pub record IsAccess (version : ℕ) (p : Registers) (seen : Seen) (active : Bool
   pub steps : map (λ (d : Deed). d.step) a.deeds ≡ deed_steps (by_bytes version) p active a.step
   pub answer : Answers (by_bytes version) p seen kept a.step a.deeds a.answer
   pub left : kept_now ≡ kept_by (kept_written p kept a.step) a.deeds
+
+-- ---- how many there may be
+
+-- how many deeds so many steps may be: by addresses and bytes a write is three at most
+abbrev pub most_deeds : ℕ → ℕ → ℕ
+most_deeds version steps = if by_bytes version then 3 * steps else steps

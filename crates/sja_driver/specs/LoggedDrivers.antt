@@ -13,7 +13,8 @@ use Rattle.sja_driver.specs.declared.work_log.WorkLog.{WorkLog}
 use Rattle.sja_driver.specs.Acting.{Acts}
 use Rattle.sja_driver.specs.AnyDrivers.{IsDriverOf}
 use Rattle.sja_driver.specs.Holding.{Goes, NumberedFrom, place_after}
-use Rattle.sja_driver.specs.Logs.{HasRoom, releases_in, left_in, releases_by, left_by, deeds_by}
+use Rattle.sja_driver.specs.Logs.{HasRoom, releases_in, left_in, release_room, left_room, releases_by, left_by}
+use Rattle.sja_driver.specs.Logs.{deeds_by}
 use Rattle.sja_driver.specs.Tries.{Tried, answer_of}
 
 -- whose driver it is, the driver in its state, and the log
@@ -75,6 +76,9 @@ pub record Steps {E : Type 0} (alike : E → E → Type 0) (stands : E → Lists
   -- what the log has more
   pub releases : releases_in (log_of now) ≡ releases_in (log_of was) ++ releases_by (ended_of was) tried
   pub leaves : left_in (log_of now) ≡ left_in (log_of was) ++ left_by tried
+  -- for which there is as much room as there was
+  pub release_room : release_room (log_of now) ≡ release_room (log_of was)
+  pub left_room : left_room (log_of now) ≡ left_room (log_of was)
   -- and how that goes on with all deeds before it, for every journal, after however many bits it was
   pub goes : (bits : ℕ) → Goes stands p.version (driver_of was) (driver_of now) (log_of was) (log_of now) links
       links_now base (deeds_by p step tried bits)

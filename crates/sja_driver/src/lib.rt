@@ -47,6 +47,7 @@ mod register_steps;
 mod release;
 mod reset;
 mod start_fault;
+mod versions;
 mod work_log;
 mod write_steps;
 
@@ -62,5 +63,6 @@ pub use logged_driver::LoggedDriver;
 pub use release::Release;
 pub use reset::Reset;
 pub use start_fault::StartFault;
+pub use versions::{by_bytes, most_deeds};
 pub use work_log::WorkLog;
 pub use write_steps::{WriteSteps, is_start, is_stop, is_typed_write, steps_of_write};

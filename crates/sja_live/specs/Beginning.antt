@@ -3,7 +3,7 @@ use Rattle.std.specs.Prelude.{◌≡◌, [], replicate}
 use Rattle.sja_live.specs.declared.opening.Opening.{Opening}
 use Rattle.sja_plan.specs.Growing.{plan_of}
 use Rattle.sja_plan.specs.Limits.{most_steps}
-use Rattle.sja_serial.specs.Serial.{most_deeds}
+use Rattle.sja_driver.specs.Accesses.{most_deeds}
 use Rattle.sja_session.specs.Beginning.{most_room}
 use Rattle.sja_session.specs.Sessions.{SessionValue, IsAt, written}
 use Rattle.sja_wire.specs.Buses.{new_bus}

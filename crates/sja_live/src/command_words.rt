@@ -2,11 +2,11 @@
 
 ghost use Rattle.std.specs.Prelude.{◌≡◌, ◌≤◌, ℕ, [], ◌∷◌, map, codes, IfOk, IfErr};
 ghost use Rattle.sja_live.specs.Commands.{AreCommandWords};
-ghost use Rattle.sja_live.specs.Inside.Reading.{IsUnasked};
+ghost use Rattle.sja_live.specs.Inside.Reading.{IsCommandRefusal};
 
+use super::command_refusal::CommandRefusal;
 use super::line_fault::LineFault;
 use super::live_command::LiveCommand;
-use super::unasked::Unasked;
 use sja_plan::{GREATEST_NUMBER, TextFault, byte, node_within, number_within, step_of};
 use std::alloc::Global;
 
@@ -18,10 +18,10 @@ pub(crate) fn command_of(
     version: usize,
     nodes: usize,
     words: &[&str],
-) -> Result<LiveCommand, Unasked>
+) -> Result<LiveCommand, CommandRefusal>
     requires { nodes ≤ 8 }
     ensures ok { IfOk result (λ c. AreCommandWords version nodes (map (λ w. w.now) words.now) c) }
-    ensures err { IfErr result (IsUnasked version nodes (map (λ w. w.now) words.now)) }
+    ensures err { IfErr result (IsCommandRefusal version nodes (map (λ w. w.now) words.now)) }
 {
     if words.len() >= 2 && words[0] == "step" {
         return step_of_node(alloc, version, nodes, words[1], &words[2..]);
@@ -31,7 +31,7 @@ pub(crate) fn command_of(
         [name, word] => of_two_words(nodes, name, word),
         [name, node, word] => of_three_words(nodes, name, node, word),
         [name, node, address, value] => of_four_words(nodes, name, node, address, value),
-        _ => Err(Unasked::Mistaken(LineFault::Command)),
+        _ => Err(CommandRefusal::Mistaken(LineFault::Command)),
     }
 }
 
@@ -42,26 +42,26 @@ fn step_of_node(
     nodes: usize,
     node: &str,
     rest: &[&str],
-) -> Result<LiveCommand, Unasked>
+) -> Result<LiveCommand, CommandRefusal>
     requires { nodes ≤ 8 }
     ensures ok { IfOk result (λ c.
         AreCommandWords version nodes (codes "step" ∷ node.now ∷ map (λ w. w.now) rest.now) c) }
-    ensures err { IfErr result (IsUnasked version nodes (codes "step" ∷ node.now ∷ map (λ w. w.now) rest.now)) }
+    ensures err { IfErr result (IsCommandRefusal version nodes (codes "step" ∷ node.now ∷ map (λ w. w.now) rest.now)) }
 {
     let Ok(node) = node_within(nodes, node) else {
-        return Err(Unasked::Mistaken(LineFault::Node));
+        return Err(CommandRefusal::Mistaken(LineFault::Node));
     };
     match step_of(alloc, version, rest) {
         Ok(step) => Ok(LiveCommand::Step(node, step)),
-        Err(TextFault::NoMemory) => Err(Unasked::Memory),
-        Err(TextFault::Bad) => Err(Unasked::Mistaken(LineFault::Step)),
+        Err(TextFault::NoMemory) => Err(CommandRefusal::Memory),
+        Err(TextFault::Bad) => Err(CommandRefusal::Mistaken(LineFault::Step)),
     }
 }
 
 /// The command of one word.
-fn of_one_word(name: &str) -> Result<LiveCommand, Unasked>
+fn of_one_word(name: &str) -> Result<LiveCommand, CommandRefusal>
     ensures ok { (version nodes : ℕ) → IfOk result (λ c. AreCommandWords version nodes (name.now ∷ []) c) }
-    ensures err { (version nodes : ℕ) → IfErr result (IsUnasked version nodes (name.now ∷ [])) }
+    ensures err { (version nodes : ℕ) → IfErr result (IsCommandRefusal version nodes (name.now ∷ [])) }
 {
     match name {
         "rest" => Ok(LiveCommand::Rest),
@@ -69,54 +69,59 @@ fn of_one_word(name: &str) -> Result<LiveCommand, Unasked>
         "bits" => Ok(LiveCommand::Bits),
         "plan" => Ok(LiveCommand::Plan),
         "end" => Ok(LiveCommand::End),
-        _ => Err(Unasked::Mistaken(LineFault::Command)),
+        _ => Err(CommandRefusal::Mistaken(LineFault::Command)),
     }
 }
 
 /// The command of a name and the word behind it.
-fn of_two_words(nodes: usize, name: &str, word: &str) -> Result<LiveCommand, Unasked>
+fn of_two_words(nodes: usize, name: &str, word: &str) -> Result<LiveCommand, CommandRefusal>
     requires few { nodes ≤ 8 }
     requires other { name.now ≡ codes "step" → ⊥ }
     ensures ok { (version : ℕ) → IfOk result (λ c. AreCommandWords version nodes (name.now ∷ word.now ∷ []) c) }
-    ensures err { (version : ℕ) → IfErr result (IsUnasked version nodes (name.now ∷ word.now ∷ [])) }
+    ensures err { (version : ℕ) → IfErr result (IsCommandRefusal version nodes (name.now ∷ word.now ∷ [])) }
 {
     match name {
         "run" => match number_within(word, 0, GREATEST_NUMBER) {
             Ok(count) => Ok(LiveCommand::Run(count)),
-            Err(_) => Err(Unasked::Mistaken(LineFault::Number)),
+            Err(_) => Err(CommandRefusal::Mistaken(LineFault::Number)),
         },
         "answer" => match node_within(nodes, word) {
             Ok(node) => Ok(LiveCommand::Answer(node)),
-            Err(_) => Err(Unasked::Mistaken(LineFault::Node)),
+            Err(_) => Err(CommandRefusal::Mistaken(LineFault::Node)),
         },
-        _ => Err(Unasked::Mistaken(LineFault::Command)),
+        _ => Err(CommandRefusal::Mistaken(LineFault::Command)),
     }
 }
 
 /// The command of a name, a node and the word behind it.
-fn of_three_words(nodes: usize, name: &str, node: &str, word: &str) -> Result<LiveCommand, Unasked>
+fn of_three_words(
+    nodes: usize,
+    name: &str,
+    node: &str,
+    word: &str,
+) -> Result<LiveCommand, CommandRefusal>
     requires few { nodes ≤ 8 }
     requires other { name.now ≡ codes "step" → ⊥ }
     ensures ok { (version : ℕ) →
         IfOk result (λ c. AreCommandWords version nodes (name.now ∷ node.now ∷ word.now ∷ []) c) }
-    ensures err { (version : ℕ) → IfErr result (IsUnasked version nodes (name.now ∷ node.now ∷ word.now ∷ [])) }
+    ensures err { (version : ℕ) → IfErr result (IsCommandRefusal version nodes (name.now ∷ node.now ∷ word.now ∷ [])) }
 {
     let is_read = name == "read";
     if !is_read && name != "strike" {
-        return Err(Unasked::Mistaken(LineFault::Command));
+        return Err(CommandRefusal::Mistaken(LineFault::Command));
     }
     let Ok(node) = node_within(nodes, node) else {
-        return Err(Unasked::Mistaken(LineFault::Node));
+        return Err(CommandRefusal::Mistaken(LineFault::Node));
     };
     if is_read {
         match number_within(word, 0, 255) {
             Ok(address) => Ok(LiveCommand::Read(node, address as u8)),
-            Err(_) => Err(Unasked::Mistaken(LineFault::Address)),
+            Err(_) => Err(CommandRefusal::Mistaken(LineFault::Address)),
         }
     } else {
         match number_within(word, 0, GREATEST_NUMBER) {
             Ok(bit) => Ok(LiveCommand::Strike(node, bit)),
-            Err(_) => Err(Unasked::Mistaken(LineFault::Number)),
+            Err(_) => Err(CommandRefusal::Mistaken(LineFault::Number)),
         }
     }
 }
@@ -128,25 +133,25 @@ fn of_four_words(
     node: &str,
     address: &str,
     value: &str,
-) -> Result<LiveCommand, Unasked>
+) -> Result<LiveCommand, CommandRefusal>
     requires few { nodes ≤ 8 }
     requires other { name.now ≡ codes "step" → ⊥ }
     ensures ok { (version : ℕ) → IfOk result (λ c.
         AreCommandWords version nodes (name.now ∷ node.now ∷ address.now ∷ value.now ∷ []) c) }
     ensures err { (version : ℕ) →
-        IfErr result (IsUnasked version nodes (name.now ∷ node.now ∷ address.now ∷ value.now ∷ [])) }
+        IfErr result (IsCommandRefusal version nodes (name.now ∷ node.now ∷ address.now ∷ value.now ∷ [])) }
 {
     if name != "write" {
-        return Err(Unasked::Mistaken(LineFault::Command));
+        return Err(CommandRefusal::Mistaken(LineFault::Command));
     }
     let Ok(node) = node_within(nodes, node) else {
-        return Err(Unasked::Mistaken(LineFault::Node));
+        return Err(CommandRefusal::Mistaken(LineFault::Node));
     };
     let Ok(address) = number_within(address, 0, 255) else {
-        return Err(Unasked::Mistaken(LineFault::Address));
+        return Err(CommandRefusal::Mistaken(LineFault::Address));
     };
     match byte(value) {
         Ok(value) => Ok(LiveCommand::Write(node, address as u8, value)),
-        Err(_) => Err(Unasked::Mistaken(LineFault::Byte)),
+        Err(_) => Err(CommandRefusal::Mistaken(LineFault::Byte)),
     }
 }

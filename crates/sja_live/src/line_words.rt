@@ -2,12 +2,12 @@
 
 ghost use Rattle.std.specs.Prelude.{◌≤◌, IfOk, IfErr};
 ghost use Rattle.sja_live.specs.Commands.{AsksFor};
-ghost use Rattle.sja_live.specs.Inside.Reading.{IsUnasked};
+ghost use Rattle.sja_live.specs.Inside.Reading.{IsCommandRefusal};
 ghost use Rattle.sja_plan.specs.Words.{words};
 
+use super::command_refusal::CommandRefusal;
 use super::command_words::command_of;
 use super::live_command::LiveCommand;
-use super::unasked::Unasked;
 use sja_plan::find_words;
 use std::alloc::Global;
 
@@ -19,10 +19,10 @@ pub(crate) fn asked(
     version: usize,
     nodes: usize,
     line: &str,
-) -> Result<LiveCommand, Unasked>
+) -> Result<LiveCommand, CommandRefusal>
     requires { nodes ≤ 8 }
     ensures ok { IfOk result (λ c. AsksFor version nodes line.now c) }
-    ensures err { IfErr result (IsUnasked version nodes (words line.now)) }
+    ensures err { IfErr result (IsCommandRefusal version nodes (words line.now)) }
 {
     let mut words = Vec::new(alloc);
     find_words(&mut words, line)?;

@@ -9,6 +9,7 @@ ghost use Rattle.sja_live.specs.Lines.{IsReadable};
 ghost use Rattle.sja_live.specs.declared.talk_fault.TalkFault.TheVariants.{Memory};
 
 use super::answering::answered;
+use super::command_refusal::CommandRefusal;
 use super::line_fault::LineFault;
 use super::line_words::asked;
 use super::live_answer::LiveAnswer;
@@ -16,10 +17,9 @@ use super::live_command::LiveCommand;
 use super::next_line::{Line, next_line};
 use super::opening::Opening;
 use super::opening_fault::OpeningFault;
+use super::opening_refusal::OpeningRefusal;
 use super::opening_words::opened;
 use super::talk_fault::TalkFault;
-use super::unasked::Unasked;
-use super::unopened::Unopened;
 use sja_session::Session;
 use std::alloc::Global;
 use std::io::Read;
@@ -38,8 +38,8 @@ pub(crate) fn first_said<R: Read>(
     match next_line(alloc, input)? {
         Line::Text(line) => match opened(alloc, line.as_str()) {
             Ok(opening) => Ok(Ok(opening)),
-            Err(Unopened::Fault(fault)) => Ok(Err(fault)),
-            Err(Unopened::Memory) => Err(TalkFault::Memory),
+            Err(OpeningRefusal::Fault(fault)) => Ok(Err(fault)),
+            Err(OpeningRefusal::Memory) => Err(TalkFault::Memory),
         },
         Line::Long => Ok(Err(OpeningFault::Long)),
         Line::NoText => Ok(Err(OpeningFault::Text)),
@@ -91,7 +91,7 @@ fn answer_of(
     match asked(alloc, version, nodes, line) {
         Ok(LiveCommand::End) => Ok(None),
         Ok(command) => Ok(Some(answered(alloc, session, command)?)),
-        Err(Unasked::Mistaken(fault)) => Ok(Some(LiveAnswer::Mistaken(fault))),
-        Err(Unasked::Memory) => Err(TalkFault::Memory),
+        Err(CommandRefusal::Mistaken(fault)) => Ok(Some(LiveAnswer::Mistaken(fault))),
+        Err(CommandRefusal::Memory) => Err(TalkFault::Memory),
     }
 }

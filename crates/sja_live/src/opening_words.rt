@@ -1,14 +1,14 @@
 //! What the first line of a talk says.
 
 ghost use Rattle.std.specs.Prelude.{IfOk, IfErr};
-ghost use Rattle.sja_live.specs.Inside.Reading.{IsUnopened};
+ghost use Rattle.sja_live.specs.Inside.Reading.{IsOpeningRefusal};
 ghost use Rattle.sja_live.specs.Lines.{IsReadable};
 ghost use Rattle.sja_live.specs.Opening.{IsLiveLine, IsOpeningFault, Opens};
 ghost use Rattle.sja_plan.specs.Words.{Text, words};
 
 use super::opening::Opening;
 use super::opening_fault::OpeningFault;
-use super::unopened::Unopened;
+use super::opening_refusal::OpeningRefusal;
 use sja_plan::{RAW_VERSION, find_words, most_bits, number_within};
 use sja_script::MOST_NODES;
 use std::alloc::Global;
@@ -16,22 +16,22 @@ use std::alloc::Global;
 /// What the first line says.
 ///
 /// Errors: why it opens no session; or memory was refused.
-pub(crate) fn opened(alloc: Global, line: &str) -> Result<Opening, Unopened>
+pub(crate) fn opened(alloc: Global, line: &str) -> Result<Opening, OpeningRefusal>
     requires { IsReadable line.now }
     ensures ok { IfOk result (Opens line.now) }
-    ensures err { IfErr result (IsUnopened line.now) }
+    ensures err { IfErr result (IsOpeningRefusal line.now) }
 {
     let mut words = Vec::new(alloc);
     find_words(&mut words, line)?;
     let [name, version, bits, nodes] = *words.as_slice() else {
-        return Err(Unopened::Fault(OpeningFault::Command));
+        return Err(OpeningRefusal::Fault(OpeningFault::Command));
     };
     if name != "live" {
-        return Err(Unopened::Fault(OpeningFault::Command));
+        return Err(OpeningRefusal::Fault(OpeningFault::Command));
     }
     match opening_of(version, bits, nodes) {
         Ok(opening) => Ok(opening),
-        Err(fault) => Err(Unopened::Fault(fault)),
+        Err(fault) => Err(OpeningRefusal::Fault(fault)),
     }
 }
 

@@ -2,3 +2,4 @@
 pub mod Parts
 pub mod Entered
 pub mod Access
+pub mod Writing

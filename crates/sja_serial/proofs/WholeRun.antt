@@ -3,6 +3,8 @@ pub mod GoingOn
 pub mod AfterBusTurn
 pub mod Steps
 pub mod AfterNodeTurn
+pub mod AfterRound
+pub mod AfterIrq
 pub mod Coming
 pub mod NextTurn
 pub mod Ended

@@ -1,14 +1,14 @@
 -- The log of a run in one thread, as it stands when it ends (this project's own rule).
 use Rattle.std.specs.Prelude.{◌≡◌, ◌<◌, ℕ, List, length, map, slice_index_or, take}
 use Rattle.sja_plan.specs.Plan.{PlanValue, step_counts, steps_at}
-use Rattle.sja_driver.specs.Accesses.{Access, accesses_at, deeds_in}
+use Rattle.sja_driver.specs.Accesses.{Access, accesses_at, deeds_in, most_deeds}
 use Rattle.sja_log.specs.declared.end.End.{End}
 use Rattle.sja_driver.specs.InTime.{IsInTime}
 use Rattle.sja_log.specs.Log.{NodeValue, RunValue, journals_in}
 use Rattle.sja_log.specs.Registering.{HaveRegisters}
 use Rattle.sja_log.specs.Runs.{IsRun, AreFirst as AreFirstSteps}
 use Rattle.sja_log.specs.Turns.{Progress}
-use Rattle.sja_serial.specs.Serial.{Setup, SerialValue, all_deeds, most_deeds}
+use Rattle.sja_serial.specs.Serial.{Setup, SerialValue, all_deeds}
 
 -- ---- plans
 

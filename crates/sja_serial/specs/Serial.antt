@@ -12,7 +12,7 @@ use Rattle.sja_regs.specs.Registers.{at_power_on}
 use Rattle.sja_script.specs.declared.strike.Strike.{Strike}
 use Rattle.sja_driver.specs.declared.logged_driver.LoggedDriver.{LoggedDriver}
 use Rattle.sja_driver.specs.Deeds.{Deed, deeds_at, with_deeds}
-use Rattle.sja_driver.specs.Accesses.{Access, accesses_at, by_bytes, deeds_in, done_of}
+use Rattle.sja_driver.specs.Accesses.{Access, accesses_at, by_bytes, deeds_in, done_of, most_deeds}
 use Rattle.sja_driver.specs.LoggedDrivers.{node_of, log_of, kept_of}
 use Rattle.sja_driver.specs.Logs.{done_in, done_room}
 use Rattle.sja_log.specs.Registering.{AccessesLeadTo}
@@ -28,11 +28,7 @@ pub record Setup : Type 0 where
   pub nodes : ℕ
   pub steps : List ℕ
 
--- how many deeds so many steps may be, and for how many steps there is room where there is for so many deeds: in
--- version 3 a write is three deeds at most
-abbrev pub most_deeds : ℕ → ℕ → ℕ
-most_deeds version steps = if by_bytes version then 3 * steps else steps
-
+-- for how many steps there is room where there is for so many deeds: in version 3 a write is three deeds at most
 abbrev pub most_steps : ℕ → ℕ → ℕ
 most_steps version deeds = if by_bytes version then deeds / 3 else deeds
 

@@ -3,7 +3,7 @@
 
 use super::drivers::FIRST_BY_BYTES;
 use super::serial_run::SerialRun;
-use sja_driver::{KeptBytes, is_reset, steps_of_write};
+use sja_driver::{KeptBytes, is_reset};
 use sja_script::{Step, StepAnswer};
 
 impl SerialRun {
@@ -14,6 +14,7 @@ impl SerialRun {
 
     /// Tries this step of the driver of a node, counted from 0, and takes what it gave: the bus refuses no item of it.
     /// It says whether the step is done; else it has to wait, and nothing happened. No bit is run.
+    #[inline(always)]
     pub fn step(&mut self, node: u8, step: &Step) -> bool
         ghost setup: { Setup }
         requires run { IsRunBy setup self.old }
@@ -55,6 +56,7 @@ impl SerialRun {
     ghost use Rattle.sja_serial.specs.Stepping.{DoesStep, WaitsFor, HasDeedLeft, HasRoomLeft};
 
     /// A step that is one deed.
+    #[inline(always)]
     fn one_deed(&mut self, node: u8, step: &Step) -> bool
         ghost setup: { Setup }
         requires run { IsRunBy setup self.old }
@@ -77,6 +79,7 @@ impl SerialRun {
     }
 
     /// A read of an address, of a driver that knows addresses and bytes alone.
+    #[inline(always)]
     fn read(&mut self, node: u8, address: u8)
         ghost setup: { Setup }
         requires run { IsRunBy setup self.old }
@@ -97,52 +100,9 @@ impl SerialRun {
         }
     }
 
-    /// A write of a byte to an address, of a driver that knows addresses and bytes alone: up to three deeds.
-    fn write(&mut self, node: u8, address: u8, value: u8)
-        ghost setup: { Setup }
-        requires run { IsRunBy setup self.old }
-        requires room { HasRoomLeft setup self.old node }
-        requires bytes { by_bytes setup.version ≡ true }
-        ensures { (accesses : List (List Access)) → StandsBy setup self.old accesses →
-            DoesStep setup self.old self.new node (Write address value) accesses }
-    {
-        // Asked for what holds of every bus.
-        let _ = self.bits_left();
-        let place = usize::from(node);
-        let port = &self.board.ports[place];
-        let steps = steps_of_write(&self.drivers[place], port, address, value);
-        let kept = self.kept_by_step(node, &Step::Write(address, value));
-        let kept = self.part(node, &steps.first, kept);
-        let kept = self.part(node, &steps.second, kept);
-        let kept = self.part(node, &steps.third, kept);
-        self.enter(node, StepAnswer::Done, kept);
-    }
-
-    /// The next part of such a write, if there is one, and what is kept after it.
-    fn part(&mut self, node: u8, part: &Option<Step>, kept: KeptBytes) -> KeptBytes
-        ghost setup: { Setup }
-        requires prompt { IsPromptIf part.now }
-        requires room { HasDeedLeft setup self.old node }
-        ensures { (was : SerialValue) (accesses : List (List Access)) (more : List Deed) →
-            StandsBy setup was accesses → DoesDeeds setup was self.old node accesses more →
-            length (deeds_in (accesses_at accesses node)) + length more < slice_index_or setup.steps node 0 →
-            DoesPart setup was self.new node accesses more part.now kept result }
-    {
-        let Some(step) = part else {
-            return kept;
-        };
-        match self.deed(node, step) {
-            Some(answer) => {
-                let mut kept = kept;
-                kept.answered(&answer);
-                kept
-            }
-            None => unreachable!(),
-        }
-    }
-
     /// What is kept for the driver of a node once a step has written its value, if it writes one that is kept.
-    fn kept_by_step(&self, node: u8, step: &Step) -> KeptBytes
+    #[inline(always)]
+    pub(crate) fn kept_by_step(&self, node: u8, step: &Step) -> KeptBytes
         requires driver { node < length self.now.drivers }
         requires port { node < length self.now.ports }
         ensures { (d : Logged) (p : Registers) → result ≡ kept_written (slice_index_or self.now.ports node p)
@@ -157,7 +117,8 @@ impl SerialRun {
     }
 
     /// Enters a step of a node as done.
-    fn enter(&mut self, node: u8, answer: StepAnswer, kept: KeptBytes)
+    #[inline(always)]
+    pub(crate) fn enter(&mut self, node: u8, answer: StepAnswer, kept: KeptBytes)
         requires there { node < length self.old.drivers }
         requires room { (d : Logged) → length (done_in (log_of (slice_index_or self.old.drivers node d)))
             < done_room (log_of (slice_index_or self.old.drivers node d)) }

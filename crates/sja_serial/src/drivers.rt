@@ -1,34 +1,28 @@
 //! The drivers of a run, as it begins.
 
-ghost use Rattle.std.specs.Prelude.{◌≡◌, ◌*◌, ◌<◌, ◌≤◌, ◌^◌, ℕ, length, map, IfOk, slice_index_or};
+ghost use Rattle.std.specs.Prelude.{◌≡◌, ◌≤◌, length, map, IfOk};
+ghost use Rattle.sja_driver.specs.Accesses.{most_deeds};
 ghost use Rattle.sja_log.specs.Inside.NewDrivers.{AreNew};
-ghost use Rattle.sja_serial.specs.Serial.{most_deeds};
 
 use can_frame::OutOfMemory;
-use sja_driver::{LoggedDriver, WorkLog};
+use sja_driver::{LoggedDriver, WorkLog, most_deeds};
 use std::alloc::Global;
-
-/// The most deeds that a step of a driver is that knows addresses and bytes alone: those of a write.
-const MOST_DEEDS: u32 = 3;
 
 /// The first version in which reads and writes are those of addresses and bytes.
 pub(crate) const FIRST_BY_BYTES: u8 = 3;
 
 /// How many deeds the steps of each driver may be, in this version.
 ///
-/// Error: [`OutOfMemory`] where memory was refused.
+/// Error: [`OutOfMemory`] where memory was refused, or where those of one driver are more than 32 bits count.
 pub(crate) fn deeds_for(alloc: Global, version: u8, steps: &[u32]) -> Result<Vec<u32>, OutOfMemory>
-    requires small { (node : ℕ) → 3 * slice_index_or steps.now node 0 < 2 ^ 32 }
     ensures { IfOk result (λ deeds. deeds.items ≡ map (most_deeds version) steps.now) }
 {
-    let most = if version < FIRST_BY_BYTES {
-        1
-    } else {
-        MOST_DEEDS
-    };
     let mut deeds = Vec::with_capacity(alloc, steps.len())?;
     for many in steps {
-        deeds.push_reserved(most * *many);
+        let Some(most) = most_deeds(version, *many) else {
+            return Err(OutOfMemory);
+        };
+        deeds.push_reserved(most);
     }
     Ok(deeds)
 }

@@ -20,13 +20,16 @@ mod accessing;
 mod bus_turns;
 mod drivers;
 mod finish;
+mod irq_turn;
 mod left_on_links;
 mod looking;
+mod node_turns;
 mod run;
 mod serial_run;
 mod stepping;
 mod striking;
 mod until_told;
+mod writing;
 
 pub use run::run_serial;
 pub use serial_run::SerialRun;

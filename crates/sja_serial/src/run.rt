@@ -2,14 +2,15 @@
 
 ghost use Rattle.std.specs.Prelude.{◌≡◌, ◌<◌, List, [], length, map, replicate, IfOk, IfErr};
 ghost use Rattle.sja_wire.specs.Buses.{new_bus};
-ghost use Rattle.sja_driver.specs.Accesses.{Access};
+ghost use Rattle.sja_driver.specs.Accesses.{Access, most_deeds};
 ghost use Rattle.sja_plan.specs.Plan.{NamesNode, step_counts};
 ghost use Rattle.sja_log.specs.Headline.{AreAccounts};
 ghost use Rattle.sja_log.specs.Runs.{IsSerialRun};
 ghost use Rattle.sja_log.specs.declared.run_fault.RunFault.TheVariants.{Memory};
-ghost use Rattle.sja_serial.specs.Inside.Going.{StandsIn, IsRunIn, TakesTurn, TakesTurns, TakesOne};
-ghost use Rattle.sja_serial.specs.Serial.{most_deeds};
+ghost use Rattle.sja_serial.specs.Inside.Going.{StandsIn, IsRunIn, TakesTurns};
+ghost use Rattle.sja_serial.specs.Inside.Turning.{TakesOne};
 
+use super::node_turns::{go_turn, take_all_steps, take_steps};
 use super::serial_run::SerialRun;
 use can_frame::OutOfMemory;
 use sja_log::{End, RunFault, RunLog, script_of};
@@ -78,29 +79,13 @@ fn take_one(run: &mut SerialRun, plan: &Plan, turn: &Turn) -> bool
             take_steps(run, plan, node, count);
             true
         }
+        Turn::All(node) => {
+            take_all_steps(run, plan, node);
+            true
+        }
         Turn::Bus(count) => run.bus_turn(count),
         Turn::Rest => run.rest_turn(),
-    }
-}
-
-/// One turn of a node, counted from 0: so many steps of its driver, one after the other, or as many as it has left, or
-/// up to one that has to wait. No bit is run.
-fn take_steps(run: &mut SerialRun, plan: &Plan, node: u8, count: u32)
-    requires run { IsRunIn plan.now run.old }
-    requires node { node < length plan.now.nodes }
-    ensures { (accesses : List (List Access)) → StandsIn plan.now run.old accesses →
-        TakesTurn plan.now run.old run.new node count accesses }
-{
-    let place = usize::from(node);
-    let steps = plan.steps(place);
-    for _ in 0..count {
-        let next = run.driver(place).log().done().len();
-        if next >= steps.len() {
-            return;
-        }
-        let step = &steps[next];
-        if !run.step(node, step) {
-            return;
-        }
+        Turn::Irq(node, count) => run.irq_turn(node, count),
+        Turn::Go => go_turn(run, plan),
     }
 }

@@ -38,15 +38,17 @@ impl Model for SerialRun {
 }
 
 impl SerialRun {
-    ghost use Rattle.std.specs.Prelude.{◌≡◌, ◌*◌, ◌<◌, ◌≤◌, ◌^◌, ℕ, [], length, map, replicate, slice_index_or, IfOk};
+    ghost use Rattle.std.specs.Prelude.{◌≡◌, ◌≤◌, [], length, map, replicate, IfOk};
     ghost use Rattle.sja_wire.specs.Buses.{new_bus};
-    ghost use Rattle.sja_serial.specs.Serial.{StandsBy, most_deeds, setup_with};
+    ghost use Rattle.sja_driver.specs.Accesses.{most_deeds};
+    ghost use Rattle.sja_serial.specs.Serial.{StandsBy, setup_with};
 
     /// A run to which nothing happened, by the rules of this version of the model, for so many bits, 1 to 2,000,000,
     /// with these strikes: of as many nodes, 1 to 8, as numbers of steps are given, with room for so many steps of the
     /// driver of each. All its room is made here.
     ///
-    /// Error: [`OutOfMemory`] where memory was refused.
+    /// Error: [`OutOfMemory`] where memory was refused, or where in version 3 the deeds that so many steps may be are
+    /// more than 32 bits count.
     pub fn new(
         alloc: Global,
         version: u8,
@@ -56,7 +58,6 @@ impl SerialRun {
     ) -> Result<SerialRun, OutOfMemory>
         requires nodes { (1 ≤ length steps.items) × (length steps.items ≤ 8) }
         requires bits { (1 ≤ bits) × (bits ≤ 2000000) }
-        requires steps { (node : ℕ) → 3 * slice_index_or steps.items node 0 < 2 ^ 32 }
         ensures stands { IfOk result (λ r. StandsBy (setup_with version bits script steps.items) r
             (replicate (length steps.items) [])) }
         ensures bus { IfOk result (λ r. r.bus ≡ new_bus script bits (length steps.items)

@@ -7,10 +7,10 @@ use Rattle.sja_plan.specs.Growing.{plan_of}
 use Rattle.sja_plan.specs.Limits.{most_steps, most_turns}
 use Rattle.sja_plan.specs.Plan.{PlanValue, NamesNode}
 use Rattle.sja_script.specs.declared.step.Step.{Step}
-use Rattle.sja_driver.specs.Accesses.{Access, accesses_at}
+use Rattle.sja_driver.specs.Accesses.{Access, accesses_at, most_deeds}
 use Rattle.sja_log.specs.Turns.{Progress, with_bits, with_steps, steps_done}
 use Rattle.sja_serial.specs.Ending.{progress}
-use Rattle.sja_serial.specs.Serial.{Setup, SerialValue, StandsBy, most_deeds}
+use Rattle.sja_serial.specs.Serial.{Setup, SerialValue, StandsBy}
 use Rattle.sja_session.specs.declared.session_room.SessionRoom.{SessionRoom}
 
 -- what a contract sees of a session: its run, the plan that it goes by, whose steps and turns don't count, the steps of

@@ -2,7 +2,7 @@
 -- before, goes on with the last turn.
 use Rattle.std.specs.Prelude.{◌==◌, ◌+◌, ◌<◌, ◌^◌, ℕ, Bool, true, false, if◌then◌else◌, List, [], ◌∷◌, reverse}
 use Rattle.sja_plan.specs.declared.turn.Turn.{Turn}
-use Rattle.sja_plan.specs.declared.turn.Turn.TheVariants.{Bus, Rest, Node}
+use Rattle.sja_plan.specs.declared.turn.Turn.TheVariants.{Bus, Rest, Node, All, Irq, Go}
 
 -- a turn goes on with an earlier one where both are of the bus, or both of one node
 abbrev pub goes_on : Turn → Turn → Bool
@@ -10,17 +10,23 @@ goes_on (Bus n) (Bus m) = true
 goes_on (Node k n) (Node j m) = k == j
 goes_on earlier later = false
 
--- how many bits or steps a turn has
+-- how many bits or steps a turn of the bus or of a node has; a session writes no other
 abbrev pub size_of : Turn → ℕ
 size_of (Bus n) = n
 size_of (Node k n) = n
 size_of Rest = 0
+size_of (All k) = 0
+size_of (Irq k n) = 0
+size_of Go = 0
 
 -- so many more of the same
 abbrev pub enlarged : Turn → ℕ → Turn
 enlarged (Bus n) m = Bus (n + m)
 enlarged (Node k n) m = Node k (n + m)
 enlarged Rest m = Rest
+enlarged (All k) m = All k
+enlarged (Irq k n) m = Irq k n
+enlarged Go m = Go
 
 -- turns, latest first, with one more
 abbrev pub on_latest : Turn → List Turn → List Turn

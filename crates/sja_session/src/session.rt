@@ -42,7 +42,7 @@ impl Model for Session {
 impl Session {
     ghost use Rattle.std.specs.Prelude.{◌≡◌, ◌<◌, ◌≤◌, [], replicate, IfOk, IfErr, OnOk, length};
     ghost use Rattle.sja_wire.specs.Buses.{new_bus};
-    ghost use Rattle.sja_serial.specs.Serial.{most_deeds};
+    ghost use Rattle.sja_driver.specs.Accesses.{most_deeds};
     ghost use Rattle.sja_plan.specs.Growing.{plan_of};
     ghost use Rattle.sja_plan.specs.Limits.{most_steps};
     ghost use Rattle.sja_plan.specs.Plan.{IsInLimits};

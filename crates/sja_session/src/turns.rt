@@ -70,7 +70,7 @@ fn size_of(turn: Turn) -> u32
     match turn {
         Turn::Bus(bits) => bits,
         Turn::Node(_, steps) => steps,
-        Turn::Rest => 0,
+        Turn::Rest | Turn::All(_) | Turn::Irq(_, _) | Turn::Go => 0,
     }
 }
 
@@ -82,6 +82,6 @@ fn enlarged(turn: Turn, more: u32) -> Turn
     match turn {
         Turn::Bus(bits) => Turn::Bus(bits + more),
         Turn::Node(node, steps) => Turn::Node(node, steps + more),
-        Turn::Rest => Turn::Rest,
+        other => other,
     }
 }

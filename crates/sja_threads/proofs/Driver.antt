@@ -1,5 +1,6 @@
 pub mod Settings
 pub mod Steps
+pub mod Room
 pub mod Parts
 pub mod Kinds
 pub mod OneStep

@@ -1,6 +1,6 @@
 -- What a driver in a thread of its own did of its script (this project's own rule): each step is some deeds, one after
 -- the other, and the bus goes on meanwhile.
-use Rattle.std.specs.Prelude.{◌≡◌, ◌++◌, ◌≤◌, ◌*◌, ℕ, Bool, true, if◌then◌else◌, List, [], ◌∷◌, drop, length, map, take}
+use Rattle.std.specs.Prelude.{◌≡◌, ◌++◌, ◌≤◌, ℕ, Bool, true, List, [], ◌∷◌, drop, length, map, take}
 use Rattle.std.specs.Prelude.{slice_index_or}
 use Rattle.can_frame.specs.declared.seen.Seen.{Seen}
 use Rattle.sja_regs.specs.declared.registers.Registers.{Registers}
@@ -87,9 +87,3 @@ pub record Follows (version : ℕ) (set : SettingsValue) (steps : List Step) (w 
   pub kept : KeptBytes
   pub leads : LeadToAccesses version set w.accesses last kept
   pub broken : IsBrokenOff version last (is_active (deeds_in w.accesses)) (drop (length w.accesses) steps) w.broken
-
--- ---- how many there may be
-
--- how many deeds so many steps may be: by addresses and bytes a write is three at most
-abbrev pub most_deeds : ℕ → ℕ → ℕ
-most_deeds version steps = if by_bytes version then 3 * steps else steps

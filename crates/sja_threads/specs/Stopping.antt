@@ -3,6 +3,7 @@ use Rattle.std.specs.Prelude.{◌≡◌, ◌≢◌, ◌+◌, ◌⊎◌, ℕ, Non
 use Rattle.sja_rings.specs.declared.ring_bus.RingBus.{RingBus}
 use Rattle.sja_rings.specs.Ends.{BusLists, places_down}
 use Rattle.sja_plan.specs.Plan.{PlanValue}
+use Rattle.sja_driver.specs.Accesses.{most_deeds}
 use Rattle.sja_regs.specs.declared.orders.Orders.{Orders}
 use Rattle.sja_wire.specs.declared.bus_fault.BusFault.{BusFault}
 use Rattle.sja_wire.specs.declared.bus_fault.BusFault.TheVariants.{BitsSpent}
@@ -11,7 +12,6 @@ use Rattle.sja_wire.specs.Lawful.{IsBusRun}
 use Rattle.sja_wire.specs.Reasons.{IsTakenAndRefused, StopsBit}
 use Rattle.sja_log.specs.declared.run_fault.RunFault.{RunFault}
 use Rattle.sja_log.specs.declared.run_fault.RunFault.TheVariants.{Memory, GateCount, Bus, Thread, Unsettled}
-use Rattle.sja_threads.specs.Accessing.{most_deeds}
 
 -- an end of a ring knows of no free place
 abbrev pub HasNoPlace : RingBus → Type 0

@@ -20,6 +20,16 @@ pub(crate) struct AtGate<'a, R, G: Drop> {
 impl<'a, R: Wait, G: Gate> AtGate<'a, R, G> {
     ghost use Rattle.std.specs.Prelude.{◌≡◌, true, false};
 
+    /// Where a thread tries steps at this port, as this gate lets it.
+    pub(crate) fn new(rt: &'a R, port: &'a Mutex<Port>, gate: G) -> AtGate<'a, R, G> {
+        AtGate {
+            rt,
+            port,
+            gate,
+            parker: Parker::new(),
+        }
+    }
+
     /// Asks the gate about a try of a node's step, whose number stands in `tries`, until it lets one go, whose number
     /// stands there then. It says whether it does; else it quit.
     pub(crate) fn lets_go(&self, node: u8, step: u32, tries: &mut u32) -> bool

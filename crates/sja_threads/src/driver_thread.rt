@@ -1,6 +1,6 @@
 //! [`DriverThread`]: a driver in a thread of its own, and the steps of its script, each tried as the gate lets it.
 
-ghost use Rattle.std.specs.Prelude.{◌≡◌, ◌≤◌, ◌*◌, false, true, length, None};
+ghost use Rattle.std.specs.Prelude.{◌≡◌, ◌≤◌, false, true, length, None};
 ghost use Rattle.sja_driver.specs.Accesses.{by_bytes as knows_bytes};
 ghost use Rattle.lemmas.specs.Related.{EachRelated};
 ghost use Rattle.sja_regs.specs.DriverSettings.{SettingsValue};
@@ -10,15 +10,13 @@ ghost use Rattle.sja_driver.specs.Logs.{HasRoom, IsEmpty, done_in, done_room};
 ghost use Rattle.sja_threads.specs.Working.{HasWorked};
 
 use super::at_gate::AtGate;
-use super::by_bytes::by_bytes;
 use super::gate::Gate;
 use super::worked::Worked;
-use sja_driver::{LoggedDriver, WorkLog};
+use sja_driver::{LoggedDriver, WorkLog, by_bytes};
 use sja_link::DriverEnd;
 use sja_regs::{DriverSettings, Port};
 use sja_script::{Step, StepAnswer};
 use std::sync::{Mutex, Wait};
-use std::thread::Parker;
 
 /// A driver in a thread of its own (this project's own rule): its node, whether it knows addresses and bytes alone, the
 /// driver with its log, what it has set at its port, and its ends of the node's links, by activation.
@@ -34,7 +32,6 @@ pub(crate) struct DriverThread<D: Drop> {
 }
 
 impl<D: DriverEnd + Drop> DriverThread<D> {
-    ghost use Rattle.sja_driver.specs.LoggedDrivers.{node_of};
     ghost use Rattle.sja_threads.specs.Inside.Accesses.{HasEnded};
     ghost use Rattle.sja_threads.specs.Inside.Steps.{MayWork, MayBegin, DoesDeed};
 
@@ -109,19 +106,41 @@ impl<D: DriverEnd + Drop> DriverThread<D> {
             number = number.saturating_add(1);
         }
     }
+}
 
-    /// Follows its script ([`work`]), and hands back its ends and the driver.
-    pub(crate) fn follow<G: Gate, R: Wait>(mut self, at: AtGate<R, G>, steps: &[Step]) -> Worked<D>
-        requires { MayBegin D.link self (length steps.now) }
-        ensures same { EachRelated D.same self.links.items result.links.items }
-        ensures worked { HasWorked D.stands self.set (node_of self.driver) steps.now self.links.items result }
-        ensures done { G.QUITS ≡ false → length (done_in (log_of result.driver)) ≡ length steps.now }
-    {
-        self.do_steps(&at, steps);
-        at.port.lock(at.rt).finish();
-        let DriverThread { driver, links, .. } = self;
-        Worked { links, driver }
-    }
+/// What [`work`] does, of a driver that knows addresses and bytes alone or doesn't (`bytes`) and has this set at its
+/// port.
+pub(crate) fn follow<D: DriverEnd + Drop, G: Gate, R: Wait>(
+    at: AtGate<R, G>,
+    node: u8,
+    bytes: bool,
+    set: DriverSettings,
+    links: Vec<D>,
+    log: WorkLog,
+    steps: &[Step],
+) -> Worked<D>
+    requires bytes { bytes ≡ knows_bytes set.version }
+    requires empty { IsEmpty log }
+    requires room { HasRoom (length steps.now) log }
+    requires steps { length steps.now ≤ done_room log }
+    requires enough { 64 ≤ length links.items }
+    requires ids { NumberedFrom D.link links.items 0 node }
+    ensures same { EachRelated D.same links.items result.links.items }
+    ensures worked { HasWorked D.stands set node steps.now links.items result }
+    ensures done { G.QUITS ≡ false → length (done_in (log_of result.driver)) ≡ length steps.now }
+{
+    let driver = LoggedDriver::new(node, log);
+    let mut thread = DriverThread {
+        node,
+        bytes,
+        driver,
+        set,
+        links,
+    };
+    thread.do_steps(&at, steps);
+    at.port.lock(at.rt).finish();
+    let DriverThread { driver, links, .. } = thread;
+    Worked { links, driver }
 }
 
 /// The part of a node's driver in a thread of its own (this project's own rule): the steps of its script, one after the
@@ -132,7 +151,7 @@ impl<D: DriverEnd + Drop> DriverThread<D> {
 /// `links` are the driver's ends of the node's links, by activation. The port's lock is held over a try, but not
 /// over one of `Window` or `Release`. The driver begins with what it finds set at the port, and from then on what it
 /// sets is its own: mode bits, IER, EWLR, written error counters, acceptance filter, transmit buffer and version. The
-/// log is empty, with room for all steps and for three deeds of each; no step takes memory.
+/// log is empty, with room for all steps; no step takes memory.
 ///
 /// A step is one deed. In version 3 a write is up to three, one after the other, by what the port shows as it begins:
 /// what the driver has set is known, and what the bus brought meanwhile isn't. Where a link gives an item back, the
@@ -151,8 +170,8 @@ pub fn work<D: DriverEnd + Drop, G: Gate>(
     log: WorkLog,
 ) -> Worked<D>
     requires empty { IsEmpty log }
-    requires room { length steps.now ≤ done_room log }
-    requires deeds { HasRoom (3 * length steps.now) log }
+    requires room { HasRoom (length steps.now) log }
+    requires steps { length steps.now ≤ done_room log }
     requires enough { 64 ≤ length links.items }
     requires ids { NumberedFrom D.link links.items 0 node }
     ensures same { EachRelated D.same links.items result.links.items }
@@ -160,22 +179,13 @@ pub fn work<D: DriverEnd + Drop, G: Gate>(
     ensures done { G.QUITS ≡ false → length (done_in (log_of result.driver)) ≡ length steps.now }
 {
     let (bytes, set) = set_at(rt, port);
-    let driver = LoggedDriver::new(node, log);
-    let thread = DriverThread {
+    follow(
+        AtGate::new(rt, port, gate),
         node,
         bytes,
-        driver,
         set,
         links,
-    };
-    let parker = Parker::new();
-    thread.follow(
-        AtGate {
-            rt,
-            port,
-            gate,
-            parker,
-        },
+        log,
         steps,
     )
 }

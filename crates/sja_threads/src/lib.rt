@@ -17,7 +17,6 @@
 
 mod at_gate;
 mod bus_thread;
-mod by_bytes;
 mod driver_thread;
 mod drivers_and_ends;
 mod gate;

@@ -6,14 +6,13 @@ ghost use Rattle.sja_threads.specs.Inside.Making.{AreNewEnds, AreMade};
 ghost use Rattle.sja_threads.specs.Stopping.{deed_counts};
 
 use super::bus_thread::BusThread;
-use super::by_bytes::most_deeds;
 use super::gate::Gate;
 use super::thread_promise::Child;
 use super::thread_start::ThreadStart;
 use super::worked::Worked;
 use can_frame::OutOfMemory;
 use sja_bus::Bus;
-use sja_driver::WorkLog;
+use sja_driver::{WorkLog, most_deeds};
 use sja_link::{LINKS_PER_NODE, LinkId};
 use sja_log::script_of;
 use sja_plan::Plan;
@@ -75,7 +74,10 @@ fn deeds_for(alloc: Global, plan: &Plan) -> Result<Vec<u32>, OutOfMemory>
     let nodes = plan.nodes();
     let mut counts = Vec::with_capacity(alloc, nodes)?;
     for node in 0..nodes {
-        counts.push_reserved(most_deeds(plan.version(), plan.steps(node).len()));
+        let Some(many) = most_deeds(plan.version(), plan.steps(node).len() as u32) else {
+            unreachable!()
+        };
+        counts.push_reserved(many);
     }
     Ok(counts)
 }
@@ -100,8 +102,8 @@ fn starts_of<G: Gate>(
     let mut starts = Vec::with_capacity(alloc, plan.nodes())?;
     let mut node = 0u8;
     for gate in gates {
-        let steps = plan.steps(usize::from(node)).len();
-        let log = WorkLog::new(alloc, steps as u32, most_deeds(plan.version(), steps))?;
+        let steps = plan.steps(usize::from(node)).len() as u32;
+        let log = WorkLog::new(alloc, steps, steps)?;
         let links = links_of(alloc, node, buses)?;
         starts.push_reserved(ThreadStart {
             node,

@@ -7,12 +7,11 @@ ghost use Rattle.sja_threads.specs.Inside.Started.{IsThreadStart, Serves};
 ghost use Rattle.sja_threads.specs.Inside.Promised.{IsFor};
 
 use super::at_gate::AtGate;
-use super::by_bytes::by_bytes;
-use super::driver_thread::DriverThread;
+use super::driver_thread::follow;
 use super::gate::Gate;
 use super::thread_promise::{Child, ThreadPromise};
 use super::worked::Worked;
-use sja_driver::{LoggedDriver, WorkLog};
+use sja_driver::{WorkLog, by_bytes};
 use sja_log::RunFault;
 use sja_plan::Plan;
 use sja_regs::{DriverSettings, Port};
@@ -20,10 +19,10 @@ use sja_rings::RingDriver;
 use std::marker::PhantomData;
 use std::snapshot::Snapshot;
 use std::sync::{Mutex, Wait};
-use std::thread::{Parker, Scope, Threads};
+use std::thread::{Scope, Threads};
 
 /// What the thread of a node's driver begins with (this project's own rule): its ends of the node's links, by
-/// activation, an empty log with room for all its steps and their deeds, and the gate that it asks.
+/// activation, an empty log with room for all its steps, and the gate that it asks.
 #[derive(Drop)]
 pub(crate) struct ThreadStart<G: Drop> {
     pub(crate) node: u8,
@@ -50,23 +49,14 @@ fn serve<G: Gate>(
         gate,
     } = start;
     let version = plan.version();
-    let driver = LoggedDriver::new(node, log);
-    let thread = DriverThread {
-        node,
-        bytes: by_bytes(version),
-        driver,
-        set: DriverSettings::at_power_on(version),
-        links,
-    };
     let steps = plan.steps(usize::from(node));
-    let parker = Parker::new();
-    thread.follow(
-        AtGate {
-            rt,
-            port,
-            gate,
-            parker,
-        },
+    follow(
+        AtGate::new(rt, port, gate),
+        node,
+        by_bytes(version),
+        DriverSettings::at_power_on(version),
+        links,
+        log,
         steps,
     )
 }

@@ -1,6 +1,6 @@
 //! The steps of a driver in its thread: each is one deed, or in version 3 a write up to three.
 
-ghost use Rattle.std.specs.Prelude.{◌≡◌, true, false};
+ghost use Rattle.std.specs.Prelude.{◌≡◌, true, false, length};
 ghost use Rattle.sja_threads.specs.Inside.Accesses.{IsTold};
 
 use super::at_gate::AtGate;
@@ -20,7 +20,7 @@ impl<D: DriverEnd + Drop> DriverThread<D> {
     ghost use Rattle.sja_driver.specs.WriteLists.{listed, steps_in};
     ghost use Rattle.sja_script.specs.declared.step.Step.TheVariants.{Write};
     ghost use Rattle.sja_threads.specs.Inside.Accesses.{IsNoWrite, BeginsWrite, DoesStep, BreaksOff};
-    ghost use Rattle.sja_threads.specs.Inside.Steps.{MayWork, MayStep, DoesParts};
+    ghost use Rattle.sja_threads.specs.Inside.Steps.{MayWork, MayStep, DoesParts, LastTakes};
 
     /// Does a step of this number: the gate is asked before each try. It says whether the step is done; else the gate
     /// quit.
@@ -103,7 +103,8 @@ impl<D: DriverEnd + Drop> DriverThread<D> {
         tries: &mut u32,
         kept: &mut KeptBytes,
     ) -> bool
-        requires { MayWork D.link self.old 3 }
+        requires may { MayWork D.link self.old 1 }
+        requires last { LastTakes (steps_in steps.now) }
         ensures parts { DoesParts D.DriverEnd self.old self.new (steps_in steps.now) result kept.old kept.new }
         ensures never { result ≡ false → G.QUITS ≡ true }
     {
@@ -125,7 +126,7 @@ impl<D: DriverEnd + Drop> DriverThread<D> {
         tries: &mut u32,
         kept: &mut KeptBytes,
     ) -> bool
-        requires { MayWork D.link self.old 1 }
+        requires { MayWork D.link self.old (length (listed part.now)) }
         ensures parts { DoesParts D.DriverEnd self.old self.new (listed part.now) result kept.old kept.new }
         ensures never { result ≡ false → G.QUITS ≡ true }
     {

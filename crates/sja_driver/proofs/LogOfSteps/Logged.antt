@@ -97,6 +97,8 @@ steps_of {E} alike stands dry full was now links base k p q step d0 new o answer
           (rw (get_or_default links (base + k) d d0 inside, get_or-set_same links (base + k) new e inside) acts);
       releases = enters.released;
       leaves = enters.left;
+      release_room = enters.release_room;
+      left_room = enters.left_room;
       goes = λ bits. goes_step alike stands dry full (driver_of was) (driver_of now) (log_of was) (log_of now) links
           base
           (node_of was) bits p q step d0 new k o (λ l. is ∙ min_few (ended_of was) l) (record {

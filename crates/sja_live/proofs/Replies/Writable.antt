@@ -1,6 +1,5 @@
 -- What the words of a line ask for can be written.
 use Rattle.std.proofs.Common.{◌≡◌, ℕ, List, [], ◌∷◌, length, refl, subst, arith}
-use Rattle.hex.proofs.HexLemmas.{decode_of-ok}
 use Rattle.sja_session.specs.Sessions.{SessionValue}
 use Rattle.sja_live.specs.Commands.{AreCommandWords}
 use Rattle.sja_live.specs.Inside.Standing.{IsWritable}
@@ -8,6 +7,7 @@ use Rattle.sja_live.specs.declared.live_command.LiveCommand.{LiveCommand}
 use Rattle.sja_live.specs.declared.live_command.LiveCommand.TheVariants.{Step, Read, Write, Run, Rest, Line, Strike}
 use Rattle.sja_live.specs.declared.live_command.LiveCommand.TheVariants.{Answer, Bits, Plan, End}
 use Rattle.sja_plan.specs.StepTexts.{AreStepWords}
+use Rattle.sja_plan.proofs.OneReading.OneMessage.{is_message}
 use Rattle.sja_plan.specs.Words.{Text}
 use Rattle.sja_plan_text.specs.HasTexts.{HasStepText}
 use Rattle.sja_script.specs.declared.step.Step.{Step as StepOf}
@@ -22,10 +22,10 @@ spelled_step version ws Window h = tt
 spelled_step version ws Release h = tt
 spelled_step version ws Sent h = tt
 spelled_step version ws Interrupt h = h.0
-spelled_step version ws (ReadAt n) (a, e, k) = omega (arith, k.2)
-spelled_step version ws (WriteAt n v) (a, b, e, k, i) = (omega (arith, k.2), (decode_of-ok b (v ∷ []) i).3 0)
-spelled_step version ws (Load m) (a, e, k) = k.1
-spelled_step version ws (Command v) (a, e, k) = (decode_of-ok a (v ∷ []) k).3 0
+spelled_step version ws (ReadAt n) (a, e, k) = omega (arith, k.1)
+spelled_step version ws (WriteAt n v) (a, b, e, k, i) = (omega (arith, k.1), omega (arith, i.1))
+spelled_step version ws (Load m) (a, e, k) = is_message version a m k
+spelled_step version ws (Command v) (a, e, k) = omega (arith, k.1)
 spelled_step version ws (Await n) (a, e, k) = (k.1, k.2)
 
 pub writable : (s : SessionValue) (version : ℕ) (ws : List Text) (c : LiveCommand) → version ≡ s.plan.version →

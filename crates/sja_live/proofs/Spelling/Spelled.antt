@@ -47,8 +47,9 @@ has_texts s accesses h limits =
     record {
       step_counts = limits.steps;
       steps = h.spelled.steps;
-      turns = subst (All HasTurnText) (reverse-reverse s.turns) (all_reversed HasTurnText (reverse s.turns)
-          (took_texts (length s.steps) h.at.took bits each limits.nodes.1
+      turns = subst (All (HasTurnText s.plan.version)) (reverse-reverse s.turns)
+          (all_reversed (HasTurnText s.plan.version) (reverse s.turns)
+          (took_texts s.plan.version (length s.steps) h.at.took bits each limits.nodes.1
           (all_reversed HasBits s.turns h.spelled.turns)
           (all_reversed (NamesNode (length s.steps)) s.turns limits.turns)));
       strikes = h.spelled.strikes;

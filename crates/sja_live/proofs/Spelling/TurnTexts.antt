@@ -9,7 +9,7 @@ use Rattle.sja_log.specs.Turns.{Progress}
 use Rattle.sja_plan.specs.Plan.{NamesNode}
 use Rattle.sja_plan.specs.Words.{greatest}
 use Rattle.sja_plan.specs.declared.turn.Turn.{Turn}
-use Rattle.sja_plan.specs.declared.turn.Turn.TheVariants.{Bus, Rest, Node}
+use Rattle.sja_plan.specs.declared.turn.Turn.TheVariants.{Bus, Rest, Node, All as AllSteps, Irq, Go}
 use Rattle.sja_plan_text.specs.HasTexts.{HasTurnText}
 use Rattle.sja_session.specs.Sessions.{Took}
 use Rattle.sja_session.specs.Sessions.Took.{none, bus, node as of_node}
@@ -27,6 +27,9 @@ enlarged_some : (u t : Turn) → HasBits u → HasBits (enlarged u (size_of t))
 enlarged_some (Bus n) t h = let k = size_of t in omega (arith, h)
 enlarged_some Rest t h = tt
 enlarged_some (Node k n) t h = tt
+enlarged_some (AllSteps k) t h = tt
+enlarged_some (Irq k n) t h = tt
+enlarged_some Go t h = tt
 
 latest_some : (t : Turn) (turns : List Turn) → HasBits t → All HasBits turns → All HasBits (on_latest t turns)
 latest_some t [] h all = All-cons HasBits t [] h (All-nil HasBits)
@@ -45,16 +48,17 @@ turn_more turns t h all =
 -- ---- how large they are
 
 -- turns have texts that led to where seven digits spell the bits and the steps
-pub took_texts : {accesses : List (List Access)} {first p : Progress} {turns : List Turn} (nodes : ℕ) →
+pub took_texts : {accesses : List (List Access)} {first p : Progress} {turns : List Turn} (version nodes : ℕ) →
     Took accesses first turns p → p.bits ≤ greatest → ((k : ℕ) → length (accesses_at accesses k) ≤ greatest) →
-    nodes ≤ 8 → All HasBits turns → All (NamesNode nodes) turns → All HasTurnText turns
-took_texts nodes none few each eight some named = All-nil HasTurnText
-took_texts nodes (bus earlier p n took) few each eight some named =
-    All-cons HasTurnText (Bus n) earlier (All-head HasBits (Bus n) earlier some, omega (arith, few))
-    (took_texts nodes took (omega (arith, few)) each eight (All-tail HasBits (Bus n) earlier some)
+    nodes ≤ 8 → All HasBits turns → All (NamesNode nodes) turns →
+    All (HasTurnText version) turns
+took_texts version nodes none few each eight some named = All-nil (HasTurnText version)
+took_texts version nodes (bus earlier p n took) few each eight some named =
+    All-cons (HasTurnText version) (Bus n) earlier (All-head HasBits (Bus n) earlier some, omega (arith, few))
+    (took_texts version nodes took (omega (arith, few)) each eight (All-tail HasBits (Bus n) earlier some)
     (All-tail (NamesNode nodes) (Bus n) earlier named))
-took_texts nodes (of_node earlier p k n took most at_once) few each eight some named =
+took_texts version nodes (of_node earlier p k n took most at_once) few each eight some named =
     let there = All-head (NamesNode nodes) (Node k n) earlier named in let all = each k in
-    All-cons HasTurnText (Node k n) earlier (omega (arith, there, eight), omega (arith, most, all))
-    (took_texts nodes took few each eight (All-tail HasBits (Node k n) earlier some)
+    All-cons (HasTurnText version) (Node k n) earlier (omega (arith, there, eight), omega (arith, most, all))
+    (took_texts version nodes took few each eight (All-tail HasBits (Node k n) earlier some)
     (All-tail (NamesNode nodes) (Node k n) earlier named))

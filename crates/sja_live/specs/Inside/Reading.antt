@@ -8,10 +8,10 @@ use Rattle.sja_live.specs.Talking.{IsLeftUnanswered}
 use Rattle.sja_live.specs.declared.next_line.Line.{Line}
 use Rattle.sja_live.specs.declared.next_line.Line.TheVariants.{Text as LineOf, Long, NoText, Over}
 use Rattle.sja_live.specs.declared.talk_fault.TalkFault.{TalkFault}
-use Rattle.sja_live.specs.declared.unasked.Unasked.{Unasked}
-use Rattle.sja_live.specs.declared.unasked.Unasked.TheVariants.{Mistaken, Memory}
-use Rattle.sja_live.specs.declared.unopened.Unopened.{Unopened}
-use Rattle.sja_live.specs.declared.unopened.Unopened.TheVariants.{Fault, Memory as NoMemory}
+use Rattle.sja_live.specs.declared.command_refusal.CommandRefusal.{CommandRefusal}
+use Rattle.sja_live.specs.declared.command_refusal.CommandRefusal.TheVariants.{Mistaken, Memory}
+use Rattle.sja_live.specs.declared.opening_refusal.OpeningRefusal.{OpeningRefusal}
+use Rattle.sja_live.specs.declared.opening_refusal.OpeningRefusal.TheVariants.{Fault, Memory as NoMemory}
 use Rattle.sja_plan.specs.Words.{Text}
 
 -- ---- bytes
@@ -78,11 +78,11 @@ IsLineReadable Over = Unit {0}
 -- ---- words
 
 -- no command came of the words: the first mistake in them is this one, or memory was refused
-abbrev pub IsUnasked : ℕ → ℕ → List Text → Unasked → Type 0
-IsUnasked version nodes ws (Mistaken fault) = AreMistaken version nodes ws fault
-IsUnasked version nodes ws Memory = Unit {0}
+abbrev pub IsCommandRefusal : ℕ → ℕ → List Text → CommandRefusal → Type 0
+IsCommandRefusal version nodes ws (Mistaken fault) = AreMistaken version nodes ws fault
+IsCommandRefusal version nodes ws Memory = Unit {0}
 
 -- no session is opened by the line: the first mistake in it is this one, or memory was refused
-abbrev pub IsUnopened : Text → Unopened → Type 0
-IsUnopened line (Fault fault) = IsOpeningFault line fault
-IsUnopened line NoMemory = Unit {0}
+abbrev pub IsOpeningRefusal : Text → OpeningRefusal → Type 0
+IsOpeningRefusal line (Fault fault) = IsOpeningFault line fault
+IsOpeningRefusal line NoMemory = Unit {0}

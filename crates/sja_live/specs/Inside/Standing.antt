@@ -8,7 +8,7 @@ use Rattle.sja_live.specs.declared.live_command.LiveCommand.TheVariants.{Step, S
 use Rattle.sja_plan.specs.Plan.{PlanValue}
 use Rattle.sja_plan.specs.Words.{greatest}
 use Rattle.sja_plan.specs.declared.turn.Turn.{Turn}
-use Rattle.sja_plan.specs.declared.turn.Turn.TheVariants.{Bus, Rest, Node}
+use Rattle.sja_plan.specs.declared.turn.Turn.TheVariants.{Bus, Rest, Node, All as AllSteps, Irq, Go}
 use Rattle.sja_plan_text.specs.HasTexts.{HasStepText, HasStrikeText}
 use Rattle.sja_session.specs.Sessions.{SessionValue, IsAt, written}
 
@@ -17,6 +17,9 @@ abbrev pub HasBits : Turn → Type 0
 HasBits (Bus bits) = 1 ≤ bits
 HasBits Rest = Unit {0}
 HasBits (Node node steps) = Unit {0}
+HasBits (AllSteps node) = Unit {0}
+HasBits (Irq node bits) = Unit {0}
+HasBits Go = Unit {0}
 
 -- each step, turn and strike of a plan has a text, but for how large a turn is, which follows from where a session
 -- stands that wrote it

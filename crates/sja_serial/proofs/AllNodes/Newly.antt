@@ -16,10 +16,10 @@ use Rattle.sja_driver.specs.Deeds.{Deed, deeds_at}
 use Rattle.sja_log.specs.Inside.NewDrivers.{AreNew}
 use Rattle.sja_log.specs.Nodes.{IsNode}
 use Rattle.sja_driver.specs.declared.kept_bytes.KeptBytes.{KeptBytes}
-use Rattle.sja_driver.specs.Accesses.{accesses_at, by_bytes}
+use Rattle.sja_driver.specs.Accesses.{accesses_at, by_bytes, most_deeds}
 use Rattle.sja_log.specs.Registering.{AccessesLeadTo}
 use Rattle.sja_log.specs.Registering.AccessesLeadTo.{power_on}
-use Rattle.sja_serial.specs.Serial.{Setup, IsSetup, StandsAt, StandsBy, all_deeds, most_deeds, most_steps}
+use Rattle.sja_serial.specs.Serial.{Setup, IsSetup, StandsAt, StandsBy, all_deeds, most_steps}
 use Rattle.sja_serial.specs.Inside.Going.{run_now}
 use Rattle.sja_driver.specs.Shown.{ShowsRecord}
 use Rattle.sja_driver.proofs.OneNode.Shown.{shows_first}

@@ -2,7 +2,9 @@
 use Rattle.std.proofs.Common.{◌≡◌, ℕ, ◌+◌, ◌<◌, false, List, [], ◌∷◌}
 use Rattle.std.proofs.Common.{◌++◌, append_assoc, length, map, take, sym, ap, ◌∙◌, subst, arith, inl, inr}
 use Rattle.std.specs.Prelude.{set, slice_index, slice_index_or}
-use Rattle.std.proofs.lemmas.List.{length-append, get_or-set_same, get_or-append-add, get_or_append_left, length-map}
+use Rattle.std.proofs.Math.Nat.{min-le_right}
+use Rattle.std.proofs.lemmas.List.{length-append, length-take, get_or-set_same, get_or-append-add}
+use Rattle.std.proofs.lemmas.List.{get_or_append_left, length-map}
 use Rattle.sja_link.specs.NodeWords.{NodeEntry}
 use Rattle.sja_link.specs.declared.entry.Entry.{Entry}
 use Rattle.sja_link.specs.Places.{place_of}
@@ -10,7 +12,7 @@ use Rattle.sja_link.proofs.JournalEntries.Entering.{bits_counted}
 use Rattle.sja_wire.specs.Wire.{journal_at}
 use Rattle.sja_plan.specs.Plan.{PlanValue, steps_at}
 use Rattle.sja_plan.specs.declared.turn.Turn.{Turn}
-use Rattle.sja_plan.specs.declared.turn.Turn.TheVariants.{Node}
+use Rattle.sja_plan.specs.declared.turn.Turn.TheVariants.{Node, All}
 use Rattle.sja_regs.specs.declared.registers.Registers.{Registers}
 use Rattle.sja_regs.specs.InterruptLine.{is_line_active}
 use Rattle.sja_regs.specs.Registers.{at_power_on}
@@ -22,11 +24,12 @@ use Rattle.sja_driver.specs.Deeds.{Deed, is_active, opened_by}
 use Rattle.sja_log.specs.declared.end.End.{End}
 use Rattle.sja_log.specs.Registering.{LeadTo, seen_now}
 use Rattle.sja_driver.specs.Resting.{IsHolding}
-use Rattle.sja_log.specs.Turns.{Progress, with_steps, IsUnmet, IsStuck, DoesSteps, RunsTo}
-use Rattle.sja_log.specs.Turns.RunsTo.{node}
+use Rattle.sja_log.specs.Turns.{Progress, with_steps, IsUnmet, IsStuck, DoesSteps, DoesAll, RunsTo}
+use Rattle.sja_log.specs.Turns.RunsTo.{node, all as all_steps}
 use Rattle.sja_driver.specs.Windows.{off_by, window_of}
 use Rattle.sja_serial.specs.Ending.{progress, setup_of}
 use Rattle.sja_serial.specs.Inside.Going.{TakesTurn, CannotStep}
+use Rattle.sja_serial.specs.Inside.Rounds.{past_all}
 use Rattle.sja_serial.specs.Serial.{SerialValue, StandsAt, all_deeds}
 use Rattle.sja_serial.specs.Stepping.{with_accesses}
 use Rattle.sja_log.specs.Waiting.{HasToWait}
@@ -45,13 +48,13 @@ module _ (plan : PlanValue) (r : SerialValue) (accesses : List (List Access)) (j
     (all : List (List Access)) (h : StandsAt (setup_of plan) r (all_deeds accesses)) (present : ArePresent
     (setup_of plan) r)
     (go : GoesOn (setup_of plan) r accesses journals all) (k : ℕ) (less : k < length plan.nodes) where
-  place_is : (place_of (journal_at r.bus.journals k)).bits ≡ r.bits
+  pub place_is : (place_of (journal_at r.bus.journals k)).bits ≡ r.bits
   place_is = bits_counted (journal_at r.bus.journals k) ∙ (present k less).bits_are
 
   abbrev port : Registers
   port = slice_index_or r.ports k (at_power_on 1)
 
-  unmet_then : (s : Step) → HasToWait port (journal_at r.bus.journals k) (deeds_in (accesses_at accesses k)) s →
+  pub unmet_then : (s : Step) → HasToWait port (journal_at r.bus.journals k) (deeds_in (accesses_at accesses k)) s →
       IsUnmet plan.version (journal_at journals k) (deeds_in (accesses_at accesses k)) r.bits s
   unmet_then (Await count) w = (
     w.0,
@@ -110,7 +113,7 @@ module _ (plan : PlanValue) (was now : SerialValue) (k count : ℕ) (accesses : 
     there = let c = h.deeds_count in let l = length-map accesses (λ (x : List Access). deeds_in x) in
         omega (arith, c, l, less)
 
-    steps_on : progress now (with_accesses accesses k t.more) ≡ with_steps (progress was accesses) k (length t.more)
+    pub steps_on : progress now (with_accesses accesses k t.more) ≡ with_steps (progress was accesses) k (length t.more)
     steps_on =
         let n = length_at accesses k in let both = length-append (accesses_at accesses k) t.more in
         let many : length (accesses_at accesses k ++ t.more) ≡ slice_index
@@ -128,7 +131,7 @@ module _ (plan : PlanValue) (was now : SerialValue) (k count : ℕ) (accesses : 
     all_here : accesses_at all k ≡ (accesses_at accesses k ++ t.more) ++ (go.steps_go k less).0
     all_here = (go.steps_go k less).1 ∙ ap (λ l. l ++ (go.steps_go k less).0) here
 
-    does : DoesSteps (acts_of plan journals all) (progress was accesses) k count (length t.more)
+    pub does : DoesSteps (acts_of plan journals all) (progress was accesses) k count (length t.more)
     does = record {
       most = t.most;
       exist =
@@ -153,4 +156,27 @@ module _ (plan : PlanValue) (was now : SerialValue) (k count : ℕ) (accesses : 
         RunsTo (acts_of plan journals all) (progress now (with_accesses accesses k t.more)) turns q end →
         RunsTo (acts_of plan journals all) (progress was accesses) (Node k count ∷ turns) q end
     node_whole turns q end follows = node (progress was accesses) q k count (length t.more) turns end does
+        (subst (λ (p : Progress). RunsTo (acts_of plan journals all) p turns q end) steps_on follows)
+
+    -- all that the driver can do
+    pub does_all : count ≡ past_all plan k →
+        DoesAll (acts_of plan journals all) (progress was accesses) k (length t.more)
+    does_all past = record {
+      most = omega arith;
+      exist = does.exist;
+      now = does.now;
+      stuck = λ few. does.stuck (let l = ap (λ (s : List Step). length s) (t.stands.first k less) in
+          let first = ap (λ (l : List Access). length l) here in
+          let m = length-map (accesses_at (with_accesses accesses k t.more) k) (λ (a : Access). a.step) in
+          let n = length-take (length (accesses_at (with_accesses accesses k t.more) k)) (steps_at plan k) in
+          let low = min-le_right (length (accesses_at (with_accesses accesses k t.more) k))
+          (length (steps_at plan k)) in
+          let both = length-append (accesses_at accesses k) t.more in
+          omega (arith, past, l, first, m, n, low, both));
+    }
+
+    pub node_all : count ≡ past_all plan k → (turns : List Turn) (q : Progress) (end : End) →
+        RunsTo (acts_of plan journals all) (progress now (with_accesses accesses k t.more)) turns q end →
+        RunsTo (acts_of plan journals all) (progress was accesses) (All k ∷ turns) q end
+    node_all past turns q end follows = all_steps (progress was accesses) q k (length t.more) turns end (does_all past)
         (subst (λ (p : Progress). RunsTo (acts_of plan journals all) p turns q end) steps_on follows)

@@ -11,36 +11,42 @@ use Rattle.sja_wire.specs.Wire.{journal_at}
 use Rattle.sja_wire.proofs.Wires.{no_journal}
 use Rattle.sja_plan.specs.Plan.{PlanValue, NamesNode, step_counts}
 use Rattle.sja_plan.specs.declared.turn.Turn.{Turn}
-use Rattle.sja_plan.specs.declared.turn.Turn.TheVariants.{Bus, Rest, Node}
-use Rattle.sja_driver.specs.Accesses.{Access, accesses_at, deeds_in}
+use Rattle.sja_plan.specs.declared.turn.Turn.TheVariants.{Bus, Rest, Node, All, Irq, Go}
+use Rattle.sja_driver.specs.Accesses.{Access, accesses_at, most_deeds}
 use Rattle.sja_log.specs.declared.end.End.{End}
 use Rattle.sja_log.specs.declared.end.End.TheVariants.{Turns as TurnsDone, Bits as BitsSpent}
 use Rattle.sja_log.specs.Turns.{Progress, RunsTo}
-use Rattle.sja_log.specs.Turns.RunsTo.{all_done}
+use Rattle.sja_log.specs.Turns.RunsTo.{all_done, go, go_over}
 use Rattle.sja_serial.specs.Bits.{TakesBusTurn, TakesRest}
 use Rattle.sja_serial.specs.Ending.{AreFirst, progress, setup_of}
-use Rattle.sja_serial.specs.Inside.Going.{StandsIn, TakesTurn, TakesTurns, TakesOne}
-use Rattle.sja_serial.specs.Serial.{SerialValue, StandsBy, all_deeds, most_deeds}
+use Rattle.sja_serial.specs.Inside.Going.{StandsIn, TakesTurn, TakesTurns}
+use Rattle.sja_serial.specs.Inside.Rounds.{TakesAll, TakesGo, TakesIrq, NoneIsLeft, SomeIsLeft, past_all}
+use Rattle.sja_serial.specs.Inside.Rounds.TakesGo.{over, spent, one_bit}
+use Rattle.sja_serial.specs.Inside.Turning.{TakesOne}
+use Rattle.sja_serial.specs.Serial.{SerialValue, StandsBy, all_deeds}
 use Rattle.sja_serial.specs.Stepping.{with_accesses}
-use Rattle.sja_log.proofs.NodeLog.Onward.{extends_none, extends_items, bits_items, aborts_items}
+use Rattle.sja_log.proofs.NodeLog.Onward.{extends_none}
 use Rattle.sja_serial.proofs.WholeRun.GoingOn.{acts_of, GoesOn, IsPresent, ArePresent, present_bits, back_bits}
 use Rattle.sja_serial.proofs.WholeRun.GoingOn.{stands_by_bits}
 use Rattle.sja_serial.proofs.WholeRun.AfterBusTurn.{bus_whole, bus_short, rest_whole, rest_short}
-use Rattle.sja_serial.proofs.WholeRun.AfterNodeTurn.{node_whole}
+use Rattle.sja_serial.proofs.WholeRun.AfterNodeTurn.{node_whole, node_all}
+use Rattle.sja_serial.proofs.WholeRun.AfterRound.{present_turn, back_turn, stands_round, present_round, back_round}
+use Rattle.sja_serial.proofs.WholeRun.AfterRound.{all_do, none_left, some_left}
+use Rattle.sja_serial.proofs.WholeRun.AfterIrq.{stands_irq, present_irq, back_irq, irq_whole, irq_short}
 
 -- where every run begins
 abbrev pub start_of : PlanValue → Progress
 start_of plan = record { bits = 0; done = replicate (length plan.nodes) 0 }
 
--- the run has come so far by these turns
-pub record HasCome (plan : PlanValue) (turns : List Turn) (r : SerialValue) : Type 0 where
+-- the run has come so far by these turns, of which these are still to be taken
+pub record HasCome (plan : PlanValue) (turns head : List Turn) (r : SerialValue) : Type 0 where
   pub accesses : List (List Access)
   pub by : StandsBy (setup_of plan) r accesses
   pub first : AreFirst plan accesses
   pub present : ArePresent (setup_of plan) r
   pub leads : (journals : List (List Entry)) (all : List (List Access)) →
       GoesOn (setup_of plan) r accesses journals all → (later : List Turn) (q : Progress) (end : End) →
-      RunsTo (acts_of plan journals all) (progress r accesses) later q end →
+      RunsTo (acts_of plan journals all) (progress r accesses) (head ++ later) q end →
       RunsTo (acts_of plan journals all) (start_of plan) (turns ++ later) q end
 
 -- ---- at the beginning
@@ -52,7 +58,7 @@ no_lengths (suc n) = ap (λ l. 0 ∷ l) (no_lengths n)
 
 pub come_first : (plan : PlanValue) (r : SerialValue) → StandsIn plan r (replicate (length plan.nodes) []) →
     r.bus ≡ new_bus plan.strikes plan.bits (length plan.nodes) (map (most_deeds plan.version) (step_counts plan)) →
-    HasCome plan [] r
+    HasCome plan [] [] r
 come_first plan r h new = record {
   accesses = replicate (length plan.nodes) [];
   by = h.by;
@@ -80,7 +86,7 @@ go_self plan r accesses = record {
   steps_go = λ k less. ([], sym (append-nil (accesses_at accesses k)));
 }
 
-pub end_all : (plan : PlanValue) (turns : List Turn) (r : SerialValue) → HasCome plan turns r → turns ≡ plan.turns →
+pub end_all : (plan : PlanValue) (turns : List Turn) (r : SerialValue) → HasCome plan turns [] r → turns ≡ plan.turns →
     TakesTurns plan r TurnsDone
 end_all plan turns r c whole = record {
   accesses = c.accesses;
@@ -103,10 +109,10 @@ take_all (t ∷ ts) (suc i) d less =
     ∙ ap (λ l. t ∷ l) (take_all ts i d (omega (arith, less)))
 
 pub come_at : (plan : PlanValue) (i : ℕ) (d t : Turn) (now : SerialValue) → i < length plan.turns →
-    slice_index_or plan.turns i d ≡ t → HasCome plan (take i plan.turns ++ t ∷ []) now →
-    HasCome plan (take (i + 1) plan.turns) now
+    slice_index_or plan.turns i d ≡ t → HasCome plan (take i plan.turns ++ t ∷ []) [] now →
+    HasCome plan (take (i + 1) plan.turns) [] now
 come_at plan i d t now less is h =
-    subst (λ (l : List Turn). HasCome plan l now)
+    subst (λ (l : List Turn). HasCome plan l [] now)
     (ap (λ x. take i plan.turns ++ x ∷ []) (sym is) ∙ sym (take_more plan.turns i d less)) h
 
 pub whole_at : (plan : PlanValue) (i : ℕ) (d t : Turn) → i < length plan.turns → slice_index_or plan.turns i d ≡ t →
@@ -116,33 +122,36 @@ whole_at plan i d t less is = ap (λ x. take i plan.turns ++ (x ∷ drop (i + 1)
 
 -- ---- one turn more
 
-module _ (plan : PlanValue) (turns : List Turn) (was now : SerialValue) (c : HasCome plan turns was) where
-  one_more : (t : Turn) (journals : List (List Entry)) (all : List (List Access)) (later : List Turn) (q : Progress)
-      (end : End) → RunsTo (acts_of plan journals all) (start_of plan) (turns ++ (t ∷ later)) q end →
-      RunsTo (acts_of plan journals all) (start_of plan) ((turns ++ t ∷ []) ++ later) q end
-  one_more t journals all later q end h = subst
+-- a turn more is to be taken
+abbrev pub begin : {plan : PlanValue} {turns : List Turn} {r : SerialValue} (t : Turn) → HasCome plan turns [] r →
+    HasCome plan (turns ++ t ∷ []) (t ∷ []) r
+begin {plan} {turns} t c = record {
+  accesses = c.accesses;
+  by = c.by;
+  first = c.first;
+  present = c.present;
+  leads = λ journals all go later q end follows. subst
       (λ (l : List Turn). RunsTo (acts_of plan journals all) (start_of plan) l q end)
-      (sym (append_assoc turns (t ∷ []) later)) h
+      (sym (append_assoc turns (t ∷ []) later)) (c.leads journals all go (t ∷ later) q end follows);
+}
 
-  pub come_bus : (count : ℕ) → TakesBusTurn (setup_of plan) (all_deeds c.accesses) was now count true →
-      HasCome plan (turns ++ Bus count ∷ []) now
-  come_bus count t = record {
+module _ {plan : PlanValue} {turns head : List Turn} {was : SerialValue} (now : SerialValue) where
+  abbrev pub come_bus : (count : ℕ) (c : HasCome plan turns (Bus count ∷ head) was) →
+      TakesBusTurn (setup_of plan) (all_deeds c.accesses) was now count true → HasCome plan turns head now
+  come_bus count c t = record {
     accesses = c.accesses;
     by = stands_by_bits (setup_of plan) c.accesses _ was now t.run t.bits c.by;
     first = c.first;
     present = present_bits (setup_of plan) (all_deeds c.accesses) _ was now t.run t.bits c.present;
-    leads = λ journals all go later q end follows.
-        one_more (Bus count) journals all later q end
-        (c.leads journals all (back_bits (setup_of plan) (all_deeds c.accesses) _ was now t.run c.accesses journals
-        all t.bits go)
-        (Bus count ∷ later) q end
-        (bus_whole plan c.accesses journals all was now count later q end c.by.stands t follows));
+    leads = λ journals all go later q end follows. c.leads journals all (back_bits (setup_of plan)
+        (all_deeds c.accesses) _ was now t.run c.accesses journals all t.bits go) later q end
+        (bus_whole plan c.accesses journals all was now count (head ++ later) q end c.by.stands t follows);
   }
 
-  pub end_bus : (count : ℕ) (later : List Turn) → TakesBusTurn (setup_of plan) (all_deeds c.accesses) was now count
-      false →
-      turns ++ (Bus count ∷ later) ≡ plan.turns → TakesTurns plan now BitsSpent
-  end_bus count later t whole = record {
+  pub end_bus : (count : ℕ) (later : List Turn) (c : HasCome plan turns (Bus count ∷ head) was) →
+      TakesBusTurn (setup_of plan) (all_deeds c.accesses) was now count false →
+      turns ++ later ≡ plan.turns → TakesTurns plan now BitsSpent
+  end_bus count later c t whole = let go = go_self plan now c.accesses in record {
     accesses = c.accesses;
     stands = record {
       by = stands_by_bits (setup_of plan) c.accesses _ was now t.run t.bits c.by;
@@ -151,116 +160,160 @@ module _ (plan : PlanValue) (turns : List Turn) (was now : SerialValue) (c : Has
     turns = subst (λ (l : List Turn). RunsTo (acts_of plan now.bus.journals c.accesses) (start_of plan) l
         (progress now c.accesses) BitsSpent) whole
         (c.leads now.bus.journals c.accesses (back_bits (setup_of plan) (all_deeds c.accesses) _ was now t.run
-        c.accesses
-        now.bus.journals c.accesses
-        t.bits
-        (go_self plan now c.accesses)) (Bus count ∷ later) (progress now c.accesses) BitsSpent
-        (bus_short plan c.accesses now.bus.journals c.accesses was now count later t));
+        c.accesses now.bus.journals c.accesses t.bits go) later (progress now c.accesses) BitsSpent
+        (bus_short plan c.accesses now.bus.journals c.accesses was now count (head ++ later) t));
   }
 
-  pub come_rest : TakesRest (setup_of plan) (all_deeds c.accesses) was now true → HasCome plan (turns ++ Rest ∷ []) now
-  come_rest t = record {
+  pub come_rest : (c : HasCome plan turns (Rest ∷ head) was) →
+      TakesRest (setup_of plan) (all_deeds c.accesses) was now true → HasCome plan turns head now
+  come_rest c t = record {
     accesses = c.accesses;
     by = stands_by_bits (setup_of plan) c.accesses _ was now t.run t.bits c.by;
     first = c.first;
     present = present_bits (setup_of plan) (all_deeds c.accesses) _ was now t.run t.bits c.present;
-    leads = λ journals all go later q end follows.
-        one_more Rest journals all later q end
-        (c.leads journals all (back_bits (setup_of plan) (all_deeds c.accesses) _ was now t.run c.accesses journals
-        all t.bits go)
-        (Rest ∷ later) q end
-        (rest_whole plan c.accesses journals all was now later q end c.by.stands c.present go t follows));
+    leads = λ journals all go later q end follows. c.leads journals all (back_bits (setup_of plan)
+        (all_deeds c.accesses) _ was now t.run c.accesses journals all t.bits go) later q end
+        (rest_whole plan c.accesses journals all was now (head ++ later) q end c.by.stands c.present go t follows);
   }
 
-  pub end_rest : (later : List Turn) → TakesRest (setup_of plan) (all_deeds c.accesses) was now false →
-      turns ++ (Rest ∷ later) ≡ plan.turns →
-      TakesTurns plan now BitsSpent
-  end_rest later t whole =
-      let go = go_self plan now c.accesses in record {
-        accesses = c.accesses;
-        stands = record {
-          by = stands_by_bits (setup_of plan) c.accesses _ was now t.run t.bits c.by;
-          first = c.first;
-        };
-        turns = subst (λ (l : List Turn). RunsTo (acts_of plan now.bus.journals c.accesses) (start_of plan) l
-            (progress now c.accesses) BitsSpent) whole
-            (c.leads now.bus.journals c.accesses (back_bits (setup_of plan) (all_deeds c.accesses) _ was now t.run
-            c.accesses
-            now.bus.journals c.accesses t.bits
-            go) (Rest ∷ later) (progress now c.accesses) BitsSpent
-            (rest_short plan c.accesses now.bus.journals c.accesses was now later c.by.stands c.present go t));
-      }
+  pub end_rest : (later : List Turn) (c : HasCome plan turns (Rest ∷ head) was) →
+      TakesRest (setup_of plan) (all_deeds c.accesses) was now false →
+      turns ++ later ≡ plan.turns → TakesTurns plan now BitsSpent
+  end_rest later c t whole = let go = go_self plan now c.accesses in record {
+    accesses = c.accesses;
+    stands = record {
+      by = stands_by_bits (setup_of plan) c.accesses _ was now t.run t.bits c.by;
+      first = c.first;
+    };
+    turns = subst (λ (l : List Turn). RunsTo (acts_of plan now.bus.journals c.accesses) (start_of plan) l
+        (progress now c.accesses) BitsSpent) whole
+        (c.leads now.bus.journals c.accesses (back_bits (setup_of plan) (all_deeds c.accesses) _ was now t.run
+        c.accesses now.bus.journals c.accesses t.bits go) later (progress now c.accesses) BitsSpent
+        (rest_short plan c.accesses now.bus.journals c.accesses was now (head ++ later) c.by.stands c.present go t));
+  }
 
-  -- the steps so far, where one node had more
-  steps_back : (k : ℕ) (more : List Access) (all : List (List Access)) → k < length plan.nodes →
-      ((m : ℕ) → m < length plan.nodes → (rest : List Access) ×
-      (accesses_at all m ≡ accesses_at (with_accesses c.accesses k more) m ++ rest)) →
-      (m : ℕ) → m < length plan.nodes →
-      (rest : List Access) × (accesses_at all m ≡ accesses_at c.accesses m ++ rest)
-  steps_back k more all less go m few =
-      let g = go m few in
-      elim (cases_eq k m) [
-        | inl e ↦ here g e
-        | inr differ ↦ (
-          g.0,
-          g.1 ∙ ap (λ l. l ++ g.0) (get_or-set_other c.accesses k m (accesses_at c.accesses k ++ more) []
-              (λ e. differ (sym e))),
-        )
-      ]
-    where
-      inside : k < length c.accesses
-      inside = let n = c.by.stands.deeds_count in
-          let l = length-map c.accesses (λ (x : List Access). deeds_in x) in omega (arith, n, l, less)
-
-      here : ((rest : List Access) × (accesses_at all m ≡ accesses_at (with_accesses c.accesses k more) m ++ rest)) →
-          k ≡ m → (rest : List Access) × (accesses_at all m ≡ accesses_at c.accesses m ++ rest)
-      here g e = (
-        more ++ g.0,
-        g.1 ∙ ap (λ n. accesses_at (with_accesses c.accesses k more) n ++ g.0) (sym e)
-            ∙ ap (λ l. l ++ g.0) (get_or-set_same c.accesses k (accesses_at c.accesses k ++ more) [] inside)
-            ∙ append_assoc (accesses_at c.accesses k) more g.0
-            ∙ ap (λ n. accesses_at c.accesses n ++ (more ++ g.0)) e,
-      )
-
-  pub come_node : (k count : ℕ) → k < length plan.nodes → TakesTurn plan was now k count c.accesses →
-      HasCome plan (turns ++ Node k count ∷ []) now
-  come_node k count less t = record {
+  pub come_node : (k count : ℕ) (c : HasCome plan turns (Node k count ∷ head) was) → k < length plan.nodes →
+      TakesTurn plan was now k count c.accesses → HasCome plan turns head now
+  come_node k count c less t = record {
     accesses = with_accesses c.accesses k t.more;
     by = t.stands.by;
     first = t.stands.first;
-    present = there;
-    leads = λ journals all go later q end follows.
-        let back : GoesOn (setup_of plan) was c.accesses journals all = record {
-          journals_go = λ m few. extends_items (journal_at was.bus.journals m) (journal_at now.bus.journals m)
-              (journal_at journals m) (t.items m few) (go.journals_go m few);
-          steps_go = steps_back k t.more all less go.steps_go;
-        } in
-        one_more (Node k count) journals all later q end (c.leads journals all back (Node k count ∷ later) q end
-        (node_whole plan was now k count c.accesses journals all c.by.stands t there go less later q end follows));
+    present = present_turn t c.present;
+    leads = λ journals all go later q end follows. c.leads journals all
+        (back_turn t journals all (record { by = c.by; first = c.first }) less go) later q end
+        (node_whole plan was now k count c.accesses journals all c.by.stands t (present_turn t c.present) go less
+        (head ++ later) q end follows);
   }
-    where
-      there : ArePresent (setup_of plan) now
-      there m few =
-          let p = c.present m few in let more = t.items m few in record {
-            bits_are = bits_items (journal_at was.bus.journals m) (journal_at now.bus.journals m) more ∙ p.bits_are
-                ∙ sym t.bits;
-            aborts = aborts_items (journal_at was.bus.journals m) (journal_at now.bus.journals m) more p.aborts;
-          }
 
-  -- a turn of any kind
-  pub come_one : (t : Turn) (all : Bool) → NamesNode (length plan.nodes) t → all ≡ true →
-      TakesOne plan c.accesses was now t all → HasCome plan (turns ++ t ∷ []) now
-  come_one (Bus count) all names is taken = come_bus count
+  pub come_all : (k : ℕ) (c : HasCome plan turns (All k ∷ head) was) → k < length plan.nodes →
+      TakesTurn plan was now k (past_all plan k) c.accesses → HasCome plan turns head now
+  come_all k c less t = record {
+    accesses = with_accesses c.accesses k t.more;
+    by = t.stands.by;
+    first = t.stands.first;
+    present = present_turn t c.present;
+    leads = λ journals all go later q end follows. c.leads journals all
+        (back_turn t journals all (record { by = c.by; first = c.first }) less go) later q end
+        (node_all plan was now k (past_all plan k) c.accesses journals all c.by.stands t (present_turn t c.present) go
+        less refl (head ++ later) q end follows);
+  }
+
+  pub come_irq : (k most : ℕ) (c : HasCome plan turns (Irq k most ∷ head) was) → k < length plan.nodes →
+      TakesIrq (setup_of plan) c.accesses k most was now true → HasCome plan turns head now
+  come_irq k most c less t = record {
+    accesses = c.accesses;
+    by = stands_irq most was now true t c.by;
+    first = c.first;
+    present = present_irq most was now true t c.present;
+    leads = λ journals all go later q end follows. c.leads journals all
+        (back_irq journals all most was now true t go) later q end
+        (irq_whole plan c.accesses journals all k most was now less c.by c.present go t (head ++ later) q end follows);
+  }
+
+  pub end_irq : (k most : ℕ) (later : List Turn) (c : HasCome plan turns (Irq k most ∷ head) was) →
+      k < length plan.nodes → TakesIrq (setup_of plan) c.accesses k most was now false →
+      turns ++ later ≡ plan.turns → TakesTurns plan now BitsSpent
+  end_irq k most later c less t whole = let go = go_self plan now c.accesses in record {
+    accesses = c.accesses;
+    stands = record { by = stands_irq most was now false t c.by; first = c.first };
+    turns = subst (λ (l : List Turn). RunsTo (acts_of plan now.bus.journals c.accesses) (start_of plan) l
+        (progress now c.accesses) BitsSpent) whole
+        (c.leads now.bus.journals c.accesses (back_irq now.bus.journals c.accesses most was now false t go) later
+        (progress now c.accesses) BitsSpent
+        (irq_short plan c.accesses now.bus.journals c.accesses k most was now less c.by c.present go t
+        (head ++ later)));
+  }
+
+  -- a round: while some step is left a bit follows, and so again; then rest
+  abbrev pub come_some : (after : List (List Access)) (c : HasCome plan turns (Go ∷ head) was) →
+      TakesAll plan 0 c.accesses was after now → SomeIsLeft plan after → HasCome plan turns (Bus 1 ∷ Go ∷ head) now
+  come_some after c t some = let h : StandsIn plan was c.accesses = record { by = c.by; first = c.first } in record {
+    accesses = after;
+    by = (stands_round 0 c.accesses was after now t h).by;
+    first = (stands_round 0 c.accesses was after now t h).first;
+    present = present_round 0 c.accesses was after now t c.present;
+    leads = λ journals all on later q end follows. c.leads journals all
+        (back_round journals all 0 c.accesses was after now t h on) later q end
+        (go (progress was c.accesses) (progress now after) q (head ++ later) end
+        (all_do journals all 0 c.accesses was after now t h c.present on) (some_left plan journals all now after some)
+        follows);
+  }
+
+  abbrev pub come_over : (after : List (List Access)) (c : HasCome plan turns (Go ∷ head) was) →
+      TakesAll plan 0 c.accesses was after now → NoneIsLeft plan after → HasCome plan turns (Rest ∷ head) now
+  come_over after c t none = let h : StandsIn plan was c.accesses = record { by = c.by; first = c.first } in record {
+    accesses = after;
+    by = (stands_round 0 c.accesses was after now t h).by;
+    first = (stands_round 0 c.accesses was after now t h).first;
+    present = present_round 0 c.accesses was after now t c.present;
+    leads = λ journals all on later q end follows. c.leads journals all
+        (back_round journals all 0 c.accesses was after now t h on) later q end
+        (go_over (progress was c.accesses) (progress now after) q (head ++ later) end
+        (all_do journals all 0 c.accesses was after now t h c.present on) (none_left plan journals all now after none)
+        follows);
+  }
+
+module _ {plan : PlanValue} {turns head : List Turn} where
+  pub come_go : (was now : SerialValue) (c : HasCome plan turns (Go ∷ head) was) →
+      TakesGo plan c.accesses was now true → HasCome plan turns head now
+  come_go was now c (over _ after _ mid _ _ round none still) = come_rest now (come_over mid after c round none) still
+  come_go was now c (one_bit _ after _ mid next _ _ round some bit rest) =
+      come_go next now (come_bus next 1 (come_some mid after c round some) bit) rest
+
+  pub end_go : (was now : SerialValue) (later : List Turn) (c : HasCome plan turns (Go ∷ head) was) →
+      TakesGo plan c.accesses was now false → turns ++ later ≡ plan.turns → TakesTurns plan now BitsSpent
+  end_go was now later c (over _ after _ mid _ _ round none still) whole =
+      end_rest now later (come_over mid after c round none) still whole
+  end_go was now later c (spent _ after _ mid _ round some short) whole =
+      end_bus now 1 later (come_some mid after c round some) short whole
+  end_go was now later c (one_bit _ after _ mid next _ _ round some bit rest) whole =
+      end_go next now later (come_bus next 1 (come_some mid after c round some) bit) rest whole
+
+-- a turn of any kind
+module _ {plan : PlanValue} {turns : List Turn} {was : SerialValue} (now : SerialValue) where
+  pub come_one : (t : Turn) (whole : Bool) (c : HasCome plan turns (t ∷ []) was) → NamesNode (length plan.nodes) t →
+      whole ≡ true → TakesOne plan c.accesses was now t whole → HasCome plan turns [] now
+  come_one (Bus count) whole c names is taken = come_bus now count c
       (subst (λ (b : Bool). TakesBusTurn (setup_of plan) (all_deeds c.accesses) was now count b) is taken)
-  come_one Rest all names is taken = come_rest (subst (λ (b : Bool). TakesRest (setup_of plan) (all_deeds c.accesses)
-      was now b) is
-      taken)
-  come_one (Node k count) all names is taken = come_node k count names taken.0
+  come_one Rest whole c names is taken = come_rest now c
+      (subst (λ (b : Bool). TakesRest (setup_of plan) (all_deeds c.accesses) was now b) is taken)
+  come_one (Node k count) whole c names is taken = come_node now k count c names taken.0
+  come_one (All k) whole c names is taken = come_all now k c names taken.0
+  come_one (Irq k most) whole c names is taken = come_irq now k most c names
+      (subst (λ (b : Bool). TakesIrq (setup_of plan) c.accesses k most was now b) is taken)
+  come_one Go whole c names is taken = come_go was now c
+      (subst (λ (b : Bool). TakesGo plan c.accesses was now b) is taken)
 
-  pub end_one : (t : Turn) (all : Bool) (later : List Turn) → all ≡ false → TakesOne plan c.accesses was now t all →
-      turns ++ (t ∷ later) ≡ plan.turns → TakesTurns plan now BitsSpent
-  end_one (Bus count) all later is taken whole = end_bus count later
-      (subst (λ (b : Bool). TakesBusTurn (setup_of plan) (all_deeds c.accesses) was now count b) is taken) whole
-  end_one Rest all later is taken whole = end_rest later
-      (subst (λ (b : Bool). TakesRest (setup_of plan) (all_deeds c.accesses) was now b) is taken) whole
-  end_one (Node k count) all later is taken whole = let e : true ≡ false = sym taken.1 ∙ is in absurd cc
+  pub end_one : (t : Turn) (whole : Bool) (later : List Turn) (c : HasCome plan turns (t ∷ []) was) →
+      NamesNode (length plan.nodes) t → whole ≡ false → TakesOne plan c.accesses was now t whole →
+      turns ++ later ≡ plan.turns → TakesTurns plan now BitsSpent
+  end_one (Bus count) whole later c names is taken e = end_bus now count later c
+      (subst (λ (b : Bool). TakesBusTurn (setup_of plan) (all_deeds c.accesses) was now count b) is taken) e
+  end_one Rest whole later c names is taken e = end_rest now later c
+      (subst (λ (b : Bool). TakesRest (setup_of plan) (all_deeds c.accesses) was now b) is taken) e
+  end_one (Node k count) whole later c names is taken e = let no : true ≡ false = sym taken.1 ∙ is in absurd cc
+  end_one (All k) whole later c names is taken e = let no : true ≡ false = sym taken.1 ∙ is in absurd cc
+  end_one (Irq k most) whole later c names is taken e = end_irq now k most later c names
+      (subst (λ (b : Bool). TakesIrq (setup_of plan) c.accesses k most was now b) is taken) e
+  end_one Go whole later c names is taken e = end_go was now later c
+      (subst (λ (b : Bool). TakesGo plan c.accesses was now b) is taken) e

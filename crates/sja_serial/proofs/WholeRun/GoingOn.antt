@@ -171,7 +171,7 @@ module _ (setup : Setup) (deeds : List (List Deed)) where
 -- ---- the same steps after bits
 
 module _ (setup : Setup) (accesses : List (List Access)) where
-  stands_by_bit : (was now : SerialValue) → TakesBit setup (all_deeds accesses) was now →
+  pub stands_by_bit : (was now : SerialValue) → TakesBit setup (all_deeds accesses) was now →
       StandsBy setup was accesses → StandsBy setup now accesses
   stands_by_bit was now one h = record {
     stands = one.stands;

@@ -9,13 +9,13 @@ use Rattle.std.proofs.lemmas.List.{set-get_or}
 use Rattle.std.proofs.lemmas.List.{get_or_append_left, get_or-append_right, set-set}
 use Rattle.sja_link.specs.BitEntries.{HasMore}
 use Rattle.sja_link.specs.declared.entry.Entry.{Entry}
-use Rattle.sja_driver.specs.Accesses.{Access, accesses_at, by_bytes}
+use Rattle.sja_driver.specs.Accesses.{Access, accesses_at, by_bytes, most_deeds}
 use Rattle.sja_plan.specs.Plan.{PlanValue, step_counts, steps_at}
 use Rattle.sja_script.specs.declared.step.Step.{Step}
 use Rattle.sja_wire.specs.Wire.{journal_at}
 use Rattle.sja_serial.specs.Ending.{AreFirst, setup_of}
 use Rattle.sja_serial.specs.Inside.Going.{CannotStep, StandsIn, TakesTurn}
-use Rattle.sja_serial.specs.Serial.{SerialValue, StandsBy, most_deeds, most_steps}
+use Rattle.sja_serial.specs.Serial.{SerialValue, StandsBy, most_steps}
 use Rattle.sja_serial.proofs.AllNodes.Newly.{as_asked}
 use Rattle.sja_serial.specs.Stepping.{with_accesses}
 use Rattle.sja_serial.proofs.AllNodes.Several.{more_both}
@@ -157,8 +157,9 @@ module _ (plan : PlanValue) (r m : SerialValue) (node : ℕ) (accesses : List (L
         stuck = λ less. stuck;
       }
 
-  -- or since none is left
-  pub turn_over : (most : ℕ) → count ≤ most → CannotStep plan m (with_accesses accesses node s.more) node →
+  -- or since none is left, or all were done
+  pub turn_over : (most : ℕ) → count ≤ most →
+      (count < most → CannotStep plan m (with_accesses accesses node s.more) node) →
       TakesTurn plan r m node most accesses
   turn_over most few stuck = let k = s.many in
       record {
@@ -169,19 +170,5 @@ module _ (plan : PlanValue) (r m : SerialValue) (node : ℕ) (accesses : List (L
         items = s.items;
         others = s.others;
         most = omega (arith, k, few);
-        stuck = λ less. stuck;
-      }
-
-  -- or since all were done
-  pub turn_done : (most : ℕ) → count ≡ most → TakesTurn plan r m node most accesses
-  turn_done most all = let k = s.many in
-      record {
-        more = s.more;
-        stands = s.stands;
-        at_once = s.at_once;
-        bits = s.bits;
-        items = s.items;
-        others = s.others;
-        most = omega (arith, k, all);
-        stuck = λ less. absurd (omega (arith, k, all, less));
+        stuck = λ less. stuck (omega (arith, k, less));
       }

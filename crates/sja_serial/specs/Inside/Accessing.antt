@@ -8,12 +8,13 @@ use Rattle.sja_script.specs.declared.step_answer.StepAnswer.{StepAnswer}
 use Rattle.sja_driver.specs.declared.kept_bytes.KeptBytes.{KeptBytes}
 use Rattle.sja_driver.specs.declared.logged_driver.LoggedDriver.{LoggedDriver}
 use Rattle.sja_driver.specs.Accesses.{Access, accesses_at, deeds_in, kept_by}
-use Rattle.sja_driver.specs.Deeds.{Deed, with_deeds}
+use Rattle.sja_driver.specs.Deeds.{Deed, is_active, with_deeds}
 use Rattle.sja_driver.specs.LoggedDrivers.{kept_of, log_of}
 use Rattle.sja_driver.specs.Logs.{done_in, done_room}
 use Rattle.sja_driver.specs.WriteLists.{listed}
+use Rattle.sja_driver.specs.Writes.{write_steps}
 use Rattle.sja_log.specs.Registering.{LeadOn}
-use Rattle.sja_serial.specs.Serial.{Setup, SerialValue, StandsAt, all_deeds}
+use Rattle.sja_serial.specs.Serial.{Setup, SerialValue, StandsAt, StandsBy, all_deeds}
 
 -- since a step began, before which these steps were done, the driver of its node did these deeds, one right after the
 -- other, and nothing of them is entered yet
@@ -39,6 +40,12 @@ pub record DoesPart (setup : Setup) (was now : SerialValue) (node : ℕ) (access
   pub steps : map (λ (d : Deed). d.step) deeds ≡ listed part
   pub does : DoesDeeds setup was now node accesses (more ++ deeds)
   pub left : kept_now ≡ kept_by kept deeds
+
+-- of a driver that knows addresses and bytes alone a write of this value to this address is these deeds
+abbrev pub IsSteps : Setup → SerialValue → ℕ → ℕ → ℕ → List Step → Type 0
+IsSteps setup r node address value steps = (accesses : List (List Access)) → StandsBy setup r accesses →
+    (p : Registers) → write_steps (slice_index_or r.ports node p) (is_active (deeds_in (accesses_at accesses node)))
+    address value ≡ steps
 
 -- a step of a node is entered as done in its driver's log, with this answer, after the bits that had run, and these
 -- bytes are kept for it

@@ -1,14 +1,12 @@
 -- How a run in one thread goes on from turn to turn (this project's own rule).
-use Rattle.std.specs.Prelude.{◌≡◌, ◌≢◌, ◌<◌, ◌≤◌, ◌⊎◌, ℕ, List, Bool, true, length, replicate, slice_index_or}
+use Rattle.std.specs.Prelude.{◌≡◌, ◌≢◌, ◌<◌, ◌≤◌, ◌⊎◌, ℕ, List, length, replicate, slice_index_or}
 use Rattle.sja_plan.specs.Plan.{PlanValue, steps_at}
 use Rattle.sja_driver.specs.Accesses.{Access, accesses_at, deeds_in}
 use Rattle.sja_driver.specs.Deeds.{Deed}
 use Rattle.sja_link.specs.BitEntries.{HasMore}
 use Rattle.sja_serial.specs.Serial.{Setup, SerialValue, StandsAt, StandsBy, all_deeds}
 use Rattle.sja_serial.specs.Stepping.{with_accesses}
-use Rattle.sja_serial.specs.Bits.{TakesBits, TakesBusTurn, TakesRest}
-use Rattle.sja_plan.specs.declared.turn.Turn.{Turn}
-use Rattle.sja_plan.specs.declared.turn.Turn.TheVariants.{Bus, Rest, Node}
+use Rattle.sja_serial.specs.Bits.{TakesBits}
 use Rattle.sja_log.specs.declared.end.End.{End}
 use Rattle.sja_log.specs.Turns.{RunsTo}
 use Rattle.sja_log.specs.Waiting.{HasToWait}
@@ -75,14 +73,6 @@ pub record TakesTurns (plan : PlanValue) (r : SerialValue) (end : End) : Type 0 
   pub stands : StandsIn plan r accesses
   pub turns : RunsTo (record { plan = plan; journals = r.bus.journals; accesses = accesses })
       (record { bits = 0; done = replicate (length plan.nodes) 0 }) plan.turns (progress r accesses) end
-
--- one turn of the plan was taken, as a whole or until the bits were spent
-abbrev pub TakesOne : PlanValue → List (List Access) → SerialValue → SerialValue → Turn → Bool → Type 0
-TakesOne plan accesses was now (Node node count) all =
-    TakesTurn plan was now node count accesses × (all ≡ true)
-TakesOne plan accesses was now (Bus count) all =
-    TakesBusTurn (setup_of plan) (all_deeds accesses) was now count all
-TakesOne plan accesses was now Rest all = TakesRest (setup_of plan) (all_deeds accesses) was now all
 
 -- the run that these are
 abbrev pub run_now : BusValue → List LoggedDriver → List Registers → List Deques → ℕ → SerialValue

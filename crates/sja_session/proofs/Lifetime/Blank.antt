@@ -8,7 +8,8 @@ use Rattle.sja_plan.specs.Plan.{PlanValue}
 use Rattle.sja_script.specs.declared.step.Step.{Step}
 use Rattle.sja_script.specs.declared.strike.Strike.{Strike}
 use Rattle.sja_serial.specs.Ending.{progress}
-use Rattle.sja_serial.specs.Serial.{Setup, SerialValue, StandsBy, most_deeds, setup_with}
+use Rattle.sja_driver.specs.Accesses.{most_deeds}
+use Rattle.sja_serial.specs.Serial.{Setup, SerialValue, StandsBy, setup_with}
 use Rattle.sja_wire.specs.Buses.{BusValue, new_bus}
 use Rattle.sja_session.specs.declared.session_room.SessionRoom.{SessionRoom}
 use Rattle.sja_session.specs.Beginning.{IsRoom}

@@ -5,7 +5,7 @@ use Rattle.std.specs.Prelude.{if◌then◌else◌, reverse}
 use Rattle.std.proofs.lemmas.List.{length-append, length-set, get_or-set_same}
 use Rattle.std.proofs.lemmas.Bool.{eq-eqb}
 use Rattle.sja_plan.specs.declared.turn.Turn.{Turn}
-use Rattle.sja_plan.specs.declared.turn.Turn.TheVariants.{Bus, Rest, Node}
+use Rattle.sja_plan.specs.declared.turn.Turn.TheVariants.{Bus, Rest, Node, All as AllSteps, Irq, Go}
 use Rattle.sja_plan.specs.Plan.{PlanValue}
 use Rattle.sja_script.specs.declared.step.Step.{Step}
 use Rattle.sja_script.specs.declared.step_answer.StepAnswer.{StepAnswer}
@@ -28,6 +28,9 @@ enlarged_on : (u : Turn) (k m n : ℕ) → goes_on u (Node k m) ≡ true → goe
 enlarged_on (Bus x) k m n goes = goes
 enlarged_on (Node j x) k m n goes = goes
 enlarged_on Rest k m n goes = goes
+enlarged_on (AllSteps x) k m n goes = goes
+enlarged_on (Irq x y) k m n goes = goes
+enlarged_on Go k m n goes = goes
 
 on_itself : (l : List Turn) (k m : ℕ) → goes_on_latest (on_latest (Node k m) l) (Node k m) ≡ true
 on_itself [] k m = eq-eqb k k refl

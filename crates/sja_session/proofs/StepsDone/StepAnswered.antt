@@ -16,6 +16,7 @@ use Rattle.sja_session.specs.Turning.{with_turn}
 use Rattle.sja_session.specs.Writing.{with_more}
 use Rattle.sja_session.proofs.WrittenPlan.OneMore.{more_same, more_other}
 use Rattle.sja_session.proofs.WrittenPlan.Turned.{few_turns, named_turns}
+use Rattle.sja_session.proofs.BitsDone.AfterBits.{session_at}
 use Rattle.sja_session.proofs.StepsDone.Stepped.{at_it, near, still_at}
 
 module _ {room : SessionRoom} (plan : PlanValue) (was now : SerialValue) (steps : List (List Step)) (turns : List Turn)
@@ -49,14 +50,5 @@ module _ {room : SessionRoom} (plan : PlanValue) (was now : SerialValue) (steps 
 
   pub after_waiting : WaitsFor (setup_by (session_of room was plan steps turns)) was now node one inv.accesses →
       IsSession (session_of room now plan steps turns) sizes capacity
-  after_waiting t = record {
-    accesses = inv.accesses;
-    at = still_at plan was now steps turns inv.accesses node one may.there inv.at t;
-    places = inv.places;
-    done = inv.done;
-    steps = inv.steps;
-    most = inv.most;
-    room = inv.room;
-    few = inv.few;
-    names = inv.names;
-  }
+  after_waiting t =
+      session_at now plan.strikes inv (still_at plan was now steps turns inv.accesses node one may.there inv.at t)

@@ -13,13 +13,13 @@ use Rattle.sja_script.specs.declared.done.Done.{Done}
 use Rattle.sja_script.specs.declared.step.Step.{Step}
 use Rattle.sja_script.specs.declared.step_answer.StepAnswer.{StepAnswer}
 use Rattle.sja_driver.specs.declared.logged_driver.LoggedDriver.{LoggedDriver}
-use Rattle.sja_driver.specs.Accesses.{Access, accesses_at, by_bytes, deeds_in, done_of}
+use Rattle.sja_driver.specs.Accesses.{Access, accesses_at, by_bytes, deeds_in, done_of, most_deeds}
 use Rattle.sja_driver.specs.Deeds.{Deed, deeds_at}
 use Rattle.sja_driver.specs.LoggedDrivers.{log_of}
 use Rattle.sja_driver.specs.Logs.{done_in}
 use Rattle.sja_log.specs.Waiting.{HasToWait}
 use Rattle.sja_serial.specs.Ending.{progress}
-use Rattle.sja_serial.specs.Serial.{Setup, SerialValue, StandsBy, all_deeds, most_deeds, most_steps}
+use Rattle.sja_serial.specs.Serial.{Setup, SerialValue, StandsBy, all_deeds, most_steps}
 use Rattle.sja_serial.specs.Stepping.{HasRoomLeft, WaitsFor, with_accesses}
 use Rattle.sja_serial.specs.Stepping.{DoesStep as DoesOnRun}
 use Rattle.sja_serial.proofs.AllNodes.Newly.{as_asked}

@@ -7,7 +7,7 @@ use Rattle.std.proofs.lemmas.List.{length-set, length-reverse, get_or-set_same, 
 use Rattle.std.proofs.lemmas.List.{set-set}
 use Rattle.std.proofs.lemmas.List.Elements.{All-push}
 use Rattle.sja_plan.specs.declared.turn.Turn.{Turn}
-use Rattle.sja_plan.specs.declared.turn.Turn.TheVariants.{Bus, Rest, Node}
+use Rattle.sja_plan.specs.declared.turn.Turn.TheVariants.{Bus, Rest, Node, All as AllSteps, Irq, Go}
 use Rattle.sja_plan.specs.Plan.{NamesNode}
 use Rattle.sja_driver.specs.Accesses.{Access, accesses_at}
 use Rattle.sja_log.specs.Turns.{Progress, with_bits, with_steps, steps_done}
@@ -56,6 +56,9 @@ named_enlarged : (nodes : ℕ) (u : Turn) (m : ℕ) → NamesNode nodes u → Na
 named_enlarged nodes (Bus n) m h = tt
 named_enlarged nodes (Node k n) m h = h
 named_enlarged nodes Rest m h = tt
+named_enlarged nodes (AllSteps k) m h = h
+named_enlarged nodes (Irq k n) m h = h
+named_enlarged nodes Go m h = tt
 
 named_latest : (nodes : ℕ) (t : Turn) (l : List Turn) → NamesNode nodes t → AreNamed nodes l →
     AreNamed nodes (on_latest t l)
@@ -85,6 +88,9 @@ bits_go_on [] n m = refl
 bits_go_on (Bus x ∷ l) n m = refl
 bits_go_on (Node k x ∷ l) n m = refl
 bits_go_on (Rest ∷ l) n m = refl
+bits_go_on (AllSteps k ∷ l) n m = refl
+bits_go_on (Irq k x ∷ l) n m = refl
+bits_go_on (Go ∷ l) n m = refl
 
 -- and they go on with bits
 pub bits_on_bits : (l : List Turn) (n m : ℕ) → goes_on_latest (on_latest (Bus n) l) (Bus m) ≡ true
@@ -92,6 +98,9 @@ bits_on_bits [] n m = refl
 bits_on_bits (Bus x ∷ l) n m = refl
 bits_on_bits (Node k x ∷ l) n m = refl
 bits_on_bits (Rest ∷ l) n m = refl
+bits_on_bits (AllSteps k ∷ l) n m = refl
+bits_on_bits (Irq k x ∷ l) n m = refl
+bits_on_bits (Go ∷ l) n m = refl
 
 -- so that bits twice are all at once
 all_latest : (l : List Turn) (n m : ℕ) → on_latest (Bus m) (on_latest (Bus n) l) ≡ on_latest (Bus (n + m)) l
@@ -99,6 +108,9 @@ all_latest [] n m = refl
 all_latest (Bus x ∷ l) n m = let e : x + n + m ≡ x + (n + m) = omega arith in ap (λ y. Bus y ∷ l) e
 all_latest (Node k x ∷ l) n m = refl
 all_latest (Rest ∷ l) n m = refl
+all_latest (AllSteps k ∷ l) n m = refl
+all_latest (Irq k x ∷ l) n m = refl
+all_latest (Go ∷ l) n m = refl
 
 pub bits_twice : (turns : List Turn) (n m : ℕ) →
     with_turn (with_turn turns (Bus n)) (Bus m) ≡ with_turn turns (Bus (n + m))
@@ -116,6 +128,9 @@ Ends accesses first (Node k n ∷ earlier) p = (q : Progress) × Took accesses f
     × ((i : ℕ) (d : Access) → i < n → (slice_index_or (accesses_at accesses k) (steps_done q k + i) d).bits ≡ q.bits)
     × (p ≡ with_steps q k n)
 Ends accesses first (Rest ∷ earlier) p = ⊥
+Ends accesses first (AllSteps k ∷ earlier) p = ⊥
+Ends accesses first (Irq k n ∷ earlier) p = ⊥
+Ends accesses first (Go ∷ earlier) p = ⊥
 
 ends : (accesses : List (List Access)) (first : Progress) (l : List Turn) (p : Progress) → Took accesses first l p →
     Ends accesses first l p
@@ -196,12 +211,20 @@ joins accesses first (Node k m) (Node j n) earlier p there goes h =
     (more_steps accesses first earlier p k n m (there k m refl)
     (subst (λ x. Took accesses first (Node k m ∷ Node x n ∷ earlier) p) e h))
 joins accesses first (Node k m) (Bus n) earlier p there goes h = absurd cc
-joins accesses first Rest (Bus n) earlier p there goes h = absurd cc
-joins accesses first (Bus m) (Node j n) earlier p there goes h = absurd cc
-joins accesses first Rest (Node j n) earlier p there goes h = absurd cc
-joins accesses first (Bus m) Rest earlier p there goes h = absurd cc
 joins accesses first (Node k m) Rest earlier p there goes h = absurd cc
-joins accesses first Rest Rest earlier p there goes h = absurd cc
+joins accesses first (Node k m) (AllSteps j) earlier p there goes h = absurd cc
+joins accesses first (Node k m) (Irq j n) earlier p there goes h = absurd cc
+joins accesses first (Node k m) Go earlier p there goes h = absurd cc
+joins accesses first (Bus m) (Node j n) earlier p there goes h = absurd cc
+joins accesses first (Bus m) Rest earlier p there goes h = absurd cc
+joins accesses first (Bus m) (AllSteps j) earlier p there goes h = absurd cc
+joins accesses first (Bus m) (Irq j n) earlier p there goes h = absurd cc
+joins accesses first (Bus m) Go earlier p there goes h = absurd cc
+joins accesses first Rest u earlier p there goes h = absurd (ends accesses first (Rest ∷ u ∷ earlier) p h)
+joins accesses first (AllSteps k) u earlier p there goes h =
+    absurd (ends accesses first (AllSteps k ∷ u ∷ earlier) p h)
+joins accesses first (Irq k m) u earlier p there goes h = absurd (ends accesses first (Irq k m ∷ u ∷ earlier) p h)
+joins accesses first Go u earlier p there goes h = absurd (ends accesses first (Go ∷ u ∷ earlier) p h)
 
 took_latest : (accesses : List (List Access)) (first : Progress) (t : Turn) (l : List Turn) (p : Progress) →
     ((k n : ℕ) → t ≡ Node k n → k < length p.done) → Took accesses first (t ∷ l) p →
@@ -231,3 +254,6 @@ latest_few accesses first (Bus n ∷ earlier) p most bits steps h =
 latest_few accesses first (Node k n ∷ earlier) p most bits steps h =
     let x = ends accesses first (Node k n ∷ earlier) p h in let e = x.2 in let s = steps k in omega (arith, e, s)
 latest_few accesses first (Rest ∷ earlier) p most bits steps h = omega arith
+latest_few accesses first (AllSteps k ∷ earlier) p most bits steps h = omega arith
+latest_few accesses first (Irq k n ∷ earlier) p most bits steps h = omega arith
+latest_few accesses first (Go ∷ earlier) p most bits steps h = omega arith

@@ -1,8 +1,7 @@
 -- One step of a driver's script: it is done, or a gate breaks it off.
-use Rattle.std.proofs.Common.{◌≡◌, ◌≤◌, ◌+◌, ◌*◌, ◌++◌, ℕ, Bool, true, false, cond, Option, Some, None, List, [], ◌∷◌}
+use Rattle.std.proofs.Common.{◌≡◌, ◌+◌, ◌++◌, ℕ, Bool, true, false, Option, Some, None, List, [], ◌∷◌}
 use Rattle.std.proofs.Common.{length, map, refl, sym, ap, ◌∙◌, subst, arith, append-nil}
 use Rattle.std.specs.Vec.{vec_capacity}
-use Rattle.std.proofs.lemmas.List.{length-append}
 use Rattle.sja_link.specs.declared.driver_end.DriverEnd.{Ghosts as Ends}
 use Rattle.sja_regs.specs.declared.registers.Registers.{Registers}
 use Rattle.sja_regs.specs.DriverSettings.{HasSettings}
@@ -20,36 +19,24 @@ use Rattle.sja_driver.specs.declared.kept_bytes.KeptBytes.{KeptBytes}
 use Rattle.sja_driver.specs.declared.logged_driver.LoggedDriver.{LoggedDriver}
 use Rattle.sja_driver.specs.declared.write_steps.WriteSteps.{WriteSteps}
 use Rattle.sja_driver.specs.Kept.{moved_by_answer}
-use Rattle.sja_driver.specs.WriteLists.{listed, steps_in}
+use Rattle.sja_driver.specs.WriteLists.{steps_in}
 use Rattle.sja_driver.specs.Writes.{write_steps}
 use Rattle.sja_threads.specs.declared.driver_thread.DriverThread.{DriverThread}
-use Rattle.sja_threads.specs.Accessing.{IsAccessAt, IsBrokenOff, LeadOn, most_deeds}
+use Rattle.sja_threads.specs.Accessing.{IsAccessAt, IsBrokenOff, LeadOn}
 use Rattle.sja_threads.specs.Accessing.IsBrokenOff.{not_begun, begun}
 use Rattle.sja_threads.specs.Inside.Accesses.{IsNoWrite, IsTold, BeginsWrite, DoesStep, BreaksOff}
-use Rattle.sja_threads.specs.Inside.Steps.{MayStep, DoesDeed, DoesParts, IsDeedIf}
+use Rattle.sja_threads.specs.Inside.Steps.{MayStep, DoesDeed, DoesParts, IsDeedIf, LastTakes, room_taken}
 use Rattle.sja_threads.proofs.Driver.Kinds.{access_at}
-use Rattle.sja_threads.proofs.Driver.Parts.{few_deeds, few_listed, parts_able}
+use Rattle.sja_threads.proofs.Driver.Parts.{parts_able, parts_taken}
+use Rattle.sja_threads.proofs.Driver.Room.{one_at_most, one_together, write_last}
 use Rattle.sja_threads.proofs.Driver.Settings.{done_from}
 use Rattle.sja_threads.proofs.Driver.Steps.{may_less, does_none, does_entered}
 
--- ---- how many deeds
-
--- a step is one at least, and a write by addresses and bytes three at most
-pub one_most : (version : ℕ) → 1 ≤ most_deeds version 1
-one_most version = by (by_bytes version)
-  where
-    by : (bytes : Bool) → 1 ≤ cond bytes (3 * 1) 1
-    by true = omega arith
-    by false = omega arith
-
-pub three_most : (version : ℕ) → by_bytes version ≡ true → 3 ≤ most_deeds version 1
-three_most version bytes = subst (λ (b : Bool). 3 ≤ cond b (3 * 1) 1) (sym bytes) (omega arith)
-
-pub few_steps : (w : WriteSteps) → length (steps_in w) ≤ 3
-few_steps w =
-    let a = few_listed w.first in let b = few_listed w.second in let c = few_listed w.third in
-    let x = length-append (listed w.first) (listed w.second ++ listed w.third) in
-    let y = length-append (listed w.second) (listed w.third) in omega (arith, a, b, c, x, y)
+-- of a write that began so only the last of its deeds takes room in the log
+pub begun_last : {E : Type 0} (t : DriverThread E) (address value : ℕ) (steps : List Step) (kept : KeptBytes) →
+    BeginsWrite t address value steps kept → LastTakes steps
+begun_last t address value steps kept b =
+    subst LastTakes (sym b.steps_are) (write_last b.at (is_out (driver_of t.driver)) address value)
 
 -- one deed that is of this step and has this answer
 pub record IsOneOf (s : Step) (answer : StepAnswer) (deeds : List Deed) : Type 0 where
@@ -99,7 +86,7 @@ module _ {E : Type 0} (e : Ends E) (was mid : DriverThread E) (d : LoggedDriver)
     access = record { step = s; answer = told; bits = 0; deeds = q.deeds };
     step_is = refl;
     does = does_entered e was mid d moved q.deeds q.does entered.0;
-    few = let most = one_most was.set.version in let one = ap (λ (l : List Deed). length l) this.are in
+    few = let most = one_at_most this.deed.step in let one = ap (λ (l : List Deed). room_taken l) this.are in
         omega (arith, most, one);
     is = λ before w.
         let from = done_from before was.set this.deed mid.set
@@ -130,9 +117,9 @@ module _ {E : Type 0} (e : Ends E) (was mid : DriverThread E) (d : LoggedDriver)
     access = record { step = Write address value; answer = DoneAnswer; bits = 0; deeds = q.deeds };
     step_is = refl;
     does = does_entered e was mid d moved q.deeds q.does entered.0;
-    few = let most = three_most was.set.version bytes in
-        let few = few_deeds e was mid (steps_in steps) m kept moved q in let three = few_steps steps in
-        omega (arith, most, few, three);
+    few = let few = parts_taken e was mid (steps_in steps) m kept moved q in
+        let one = one_together (steps_in steps) (begun_last was address value (steps_in steps) kept b) in
+        omega (arith, few, one);
     is = λ before w. record {
       at = b.at;
       seen = nothing_seen;
@@ -180,8 +167,9 @@ module _ {E : Type 0} (e : Ends E) (was : DriverThread E) (may : MayStep e.link 
         deeds = q.deeds;
         does = q.does;
         none = q.none;
-        lawful = (q.does.able 0 (may_less e was (length q.deeds + 0) (most_deeds was.set.version 1)
-            (let long = ap (λ (l : List Deed). length l) are in omega (arith, long)) may.may)).lawful;
+        lawful = (q.does.able 0 (may_less e was (room_taken q.deeds + 0) 1
+            (let none : room_taken q.deeds ≡ 0 = ap (λ (l : List Deed). room_taken l) are in omega (arith, none))
+            may.may)).lawful;
         broken = λ left. subst (λ (l : List Deed). IsBrokenOff was.set.version was.set (is_out (driver_of was.driver))
             (s ∷ left) l) (sym are) not_begun;
       }
@@ -195,8 +183,8 @@ module _ {E : Type 0} (e : Ends E) (was : DriverThread E) (may : MayStep e.link 
     deeds = q.deeds;
     does = q.does;
     none = q.none;
-    lawful = (parts_able e was last (steps_in steps) m kept kept_now q 0 (most_deeds was.set.version 1)
-        (let few = few_steps steps in let three = three_most was.set.version bytes in omega (arith, few, three))
-        may.may).lawful;
+    lawful = (parts_able e was last (steps_in steps) m kept kept_now q 0 1
+        (let one = one_together (steps_in steps) (begun_last was address value (steps_in steps) kept b) in
+        omega (arith, one)) may.may).lawful;
     broken = λ left. begun address value b.at q.left bytes b.has (sym b.steps_are ∙ q.whole) (q.waits unmet);
   }

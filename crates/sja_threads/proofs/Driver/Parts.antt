@@ -1,7 +1,9 @@
 -- The deeds that a write is, one after the other.
 use Rattle.std.proofs.Common.{◌≡◌, ◌≤◌, ◌+◌, ◌++◌, ℕ, Bool, true, false, Option, Some, None, List, [], ◌∷◌, length, map}
 use Rattle.std.proofs.Common.{refl, sym, ap, ◌∙◌, subst, arith, append-nil, append_assoc}
-use Rattle.std.proofs.lemmas.List.{length-append, length-map, map-append}
+use Rattle.std.proofs.lemmas.List.{length-append, map-append}
+use Rattle.lemmas.specs.Gathering.{total}
+use Rattle.lemmas.proofs.Gathered.{total_append}
 use Rattle.sja_link.specs.declared.driver_end.DriverEnd.{Ghosts as Ends}
 use Rattle.sja_script.specs.declared.step.Step.{Step}
 use Rattle.sja_script.specs.declared.step_answer.StepAnswer.{StepAnswer}
@@ -11,7 +13,7 @@ use Rattle.sja_driver.specs.declared.kept_bytes.KeptBytes.{KeptBytes}
 use Rattle.sja_driver.specs.Kept.{moved_by_answer}
 use Rattle.sja_driver.specs.WriteLists.{listed}
 use Rattle.sja_threads.specs.declared.driver_thread.DriverThread.{DriverThread}
-use Rattle.sja_threads.specs.Inside.Steps.{MayWork, DoesDeed, DoesParts, IsDeedIf}
+use Rattle.sja_threads.specs.Inside.Steps.{MayWork, DoesDeed, DoesParts, IsDeedIf, room_of, room_taken}
 use Rattle.sja_threads.proofs.Driver.Steps.{may_less, does_none, does_more}
 
 -- ---- what is kept
@@ -31,11 +33,6 @@ kept_one kept (d ∷ []) answer are = ap (λ (a : StepAnswer). moved_by_answer k
     first_is a b e = cc
 kept_one kept (d ∷ x ∷ deeds) answer are =
     absurd (let two = ap (λ (l : List StepAnswer). length l) are in omega (arith, two))
-
--- at most one
-pub few_listed : (o : Option Step) → length (listed o) ≤ 1
-few_listed None = omega arith
-few_listed (Some s) = omega arith
 
 module _ {E : Type 0} (e : Ends E) where
   -- ---- one of the deeds
@@ -131,17 +128,17 @@ module _ {E : Type 0} (e : Ends E) where
       all = p.whole ∙ ap (λ (l : List Step). map step_of p.deeds ++ l) (p.ends all_met)
           ∙ append-nil (map step_of p.deeds)
 
-  -- no more of them than there are
-  pub few_deeds : (a b : DriverThread E) (xs : List Step) (m : Bool) (kept kept_now : KeptBytes) →
-      (p : DoesParts e a b xs m kept kept_now) → length p.deeds ≤ length xs
-  few_deeds a b xs m kept kept_now p =
-      let all = ap (λ (l : List Step). length l) p.whole in
-      let both = length-append (map (λ (x : Deed). x.step) p.deeds) p.left in
-      let many = length-map p.deeds (λ (x : Deed). x.step) in omega (arith, all, both, many)
+  -- they take no more room than all of them
+  pub parts_taken : (a b : DriverThread E) (xs : List Step) (m : Bool) (kept kept_now : KeptBytes) →
+      (p : DoesParts e a b xs m kept kept_now) → room_taken p.deeds ≤ total room_of xs
+  parts_taken a b xs m kept kept_now p =
+      let all = ap (total room_of) p.whole in
+      let both = total_append room_of (map (λ (d : Deed). d.step) p.deeds) p.left in omega (arith, all, both)
 
-  -- as many may be done as are left
+  -- so the rest is left
   pub parts_able : (a b : DriverThread E) (xs : List Step) (m : Bool) (kept kept_now : KeptBytes) →
-      DoesParts e a b xs m kept kept_now → (n k : ℕ) → length xs + n ≤ k → MayWork e.link a k → MayWork e.link b n
+      DoesParts e a b xs m kept kept_now → (n k : ℕ) → total room_of xs + n ≤ k → MayWork e.link a k →
+      MayWork e.link b n
   parts_able a b xs m kept kept_now p n k few may =
-      let less = few_deeds a b xs m kept kept_now p in
-      p.does.able n (may_less e a (length p.deeds + n) k (omega (arith, few, less)) may)
+      let less = parts_taken a b xs m kept kept_now p in
+      p.does.able n (may_less e a (room_taken p.deeds + n) k (omega (arith, few, less)) may)

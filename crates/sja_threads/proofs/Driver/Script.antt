@@ -1,5 +1,5 @@
 -- The script of a driver: a front of its steps, and what it hands back then.
-use Rattle.std.proofs.Common.{take, drop, ◌≡◌, ◌≤◌, ◌<◌, ◌+◌, ◌++◌, ◌*◌, ℕ, Bool, true, false, cond, List, []}
+use Rattle.std.proofs.Common.{take, drop, ◌≡◌, ◌≤◌, ◌<◌, ◌+◌, ◌++◌, ℕ, Bool, true, false, List, []}
 use Rattle.std.proofs.Common.{◌∷◌, length, map, refl, sym, ap, ◌∙◌, subst, arith, append-nil}
 use Rattle.std.specs.Prelude.{slice_index_or}
 use Rattle.std.proofs.lemmas.List.{length-append, length-map, length-take-le, map-append}
@@ -23,13 +23,13 @@ use Rattle.sja_driver.specs.Logs.{HasRoom, IsEmpty, Traces, done_in, done_room}
 use Rattle.sja_driver.proofs.Step.NothingDone.{nothing_known, nothing_told}
 use Rattle.sja_log.proofs.Trace.AccessDeeds.{deeds_push}
 use Rattle.sja_threads.specs.declared.driver_thread.DriverThread.{DriverThread}
-use Rattle.sja_threads.specs.Accessing.{IsAccessAt, IsBrokenOff, LeadToAccesses, deeds_done, most_deeds}
+use Rattle.sja_threads.specs.Accessing.{IsAccessAt, IsBrokenOff, LeadToAccesses, deeds_done}
 use Rattle.sja_threads.specs.Accessing.IsBrokenOff.{not_begun}
 use Rattle.sja_threads.specs.Accessing.LeadToAccesses.{nothing_done as no_access_done, access_done}
 use Rattle.sja_threads.specs.Setting.LeadToSettings.{nothing_done}
 use Rattle.sja_threads.specs.Working.{AreUntouched, HasWorked}
 use Rattle.sja_threads.specs.Inside.Accesses.{DoesStep, BreaksOff, HasDone, HasEnded}
-use Rattle.sja_threads.specs.Inside.Steps.{MayWork, MayStep, MayBegin, Does}
+use Rattle.sja_threads.specs.Inside.Steps.{MayStep, MayBegin, Does, room_taken}
 use Rattle.sja_threads.proofs.Driver.Settings.{lead_all}
 use Rattle.sja_threads.proofs.Driver.Steps.{may_less, does_none, does_more}
 
@@ -40,14 +40,14 @@ pub begins : {E : Type 0} (link : E → LinkId) (t : DriverThread E) (node steps
     t.bytes ≡ by_bytes t.set.version → node_of t.driver ≡ node → log_of t.driver ≡ log →
     kept_of t.driver ≡ at_power_on → is_out (driver_of t.driver) ≡ false → IsLawful t.driver →
     ((version : ℕ) → Traces version (driver_of t.driver) (log_of t.driver) []) → IsEmpty log →
-    HasRoom (most_deeds t.set.version steps) log → steps ≤ done_room log → 64 ≤ length t.links.items →
+    HasRoom steps log → steps ≤ done_room log → 64 ≤ length t.links.items →
     NumberedFrom link t.links.items 0 node → MayBegin link t steps
 begins link t node steps log bytes own logs kept reset lawful none empty deeds room enough ids = record {
   may = record {
     may = record {
       bytes = bytes;
       lawful = lawful;
-      room = subst (λ (l : WorkLog). HasRoom (most_deeds t.set.version steps) l) (sym logs) deeds;
+      room = subst (λ (l : WorkLog). HasRoom steps l) (sym logs) deeds;
       enough = enough;
       ids = subst (λ (n : ℕ). NumberedFrom link t.links.items 0 n) (sym own) ids;
     };
@@ -74,34 +74,11 @@ holds_new stands driver log j links base empty reset untouched = record {
 
 -- ---- steps
 
--- as many deeds as one step more may be are room for one
-steps_more : (version n : ℕ) → most_deeds version 1 + most_deeds version n ≡ most_deeds version (n + 1)
-steps_more version n = by (by_bytes version)
-  where
-    by : (bytes : Bool) → cond bytes (3 * 1) 1 + cond bytes (3 * n) n ≡ cond bytes (3 * (n + 1)) (n + 1)
-    by true = omega arith
-    by false = omega arith
-
-steps_less : (version k n : ℕ) → k ≤ n → most_deeds version k ≤ most_deeds version n
-steps_less version k n less = by (by_bytes version)
-  where
-    by : (bytes : Bool) → cond bytes (3 * k) k ≤ cond bytes (3 * n) n
-    by true = omega (arith, less)
-    by false = less
-
-pub most_few : (version n : ℕ) → most_deeds version n ≤ 3 * n
-most_few version n = by (by_bytes version)
-  where
-    by : (bytes : Bool) → cond bytes (3 * n) n ≤ 3 * n
-    by true = omega arith
-    by false = omega arith
-
 module _ {E : Type 0} (e : Ends E) where
   -- where fewer are asked for
   pub step_less : (t : DriverThread E) (k n : ℕ) → k ≤ n → MayStep e.link t n → MayStep e.link t k
   step_less t k n less m = record {
-    may = may_less e t (most_deeds t.set.version k) (most_deeds t.set.version n) (steps_less t.set.version k n less)
-        m.may;
+    may = may_less e t k n less m.may;
     room = let room = m.room in omega (arith, room, less);
   }
 
@@ -109,10 +86,8 @@ module _ {E : Type 0} (e : Ends E) where
   pub step_able : (was now : DriverThread E) (s : Step) (n : ℕ) → DoesStep e was now s → MayStep e.link was (n + 1) →
       MayStep e.link now n
   step_able was now s n d m = record {
-    may = subst (λ (v : ℕ). MayWork e.link now (most_deeds v n)) (sym d.does.version)
-        (d.does.able (most_deeds was.set.version n) (may_less e was
-        (length d.access.deeds + most_deeds was.set.version n) (most_deeds was.set.version (n + 1))
-        (let few = d.few in let more = steps_more was.set.version n in omega (arith, few, more)) m.may));
+    may = d.does.able n (may_less e was (room_taken d.access.deeds + n) (n + 1)
+        (let few = d.few in omega (arith, few)) m.may);
     room = let fits = m.room in let long = ap (λ (l : List Done). length l) d.done in
         let more = length-append (done_in (log_of was.driver)) (done_of d.access ∷ []) in let room = d.room in
         omega (arith, fits, long, more, room);

@@ -1,9 +1,11 @@
 -- Deeds of a driver in a thread of its own, one after the other.
 use Rattle.std.proofs.Common.{◌≡◌, ◌≤◌, ◌+◌, ◌++◌, ℕ, Option, Some, None, List, []}
-use Rattle.std.proofs.Common.{length, refl, sym, ap, ◌∙◌, subst, arith, append-nil, append_assoc}
-use Rattle.std.proofs.lemmas.List.{length-append}
+use Rattle.std.proofs.Common.{length, map, refl, sym, ap, ◌∙◌, subst, arith, append-nil, append_assoc}
+use Rattle.std.proofs.lemmas.List.{length-append, map-append}
 use Rattle.std.proofs.lemmas.Slice.Zip.{AllZip-long}
 use Rattle.sja_link.specs.declared.driver_end.DriverEnd.{Ghosts as Ends}
+use Rattle.lemmas.specs.Gathering.{total}
+use Rattle.lemmas.proofs.Gathered.{total_append}
 use Rattle.lemmas.proofs.Related.{each_refl, each_trans}
 use Rattle.lemmas.proofs.Lists.{some_of}
 use Rattle.sja_regs.specs.declared.registers.Registers.{Registers}
@@ -14,9 +16,9 @@ use Rattle.sja_script.specs.declared.step_answer.StepAnswer.TheVariants.{Done as
 use Rattle.sja_driver.specs.Accesses.{by_bytes}
 use Rattle.sja_driver.specs.Deeds.{Deed, is_active}
 use Rattle.sja_driver.specs.Holding.{HoldsBy, Goes}
-use Rattle.sja_driver.specs.LoggedDrivers.{driver_of, log_of, StaysLawful, Steps}
-use Rattle.sja_driver.specs.Logs.{HasRoom, Traces, deeds_by}
-use Rattle.sja_driver.specs.Tries.{Tried, answer_of, port_after}
+use Rattle.sja_driver.specs.LoggedDrivers.{driver_of, log_of, ended_of, StaysLawful, Steps}
+use Rattle.sja_driver.specs.Logs.{HasRoom, Traces, deeds_by, releases_in, releases_by}
+use Rattle.sja_driver.specs.Tries.{Tried, IsOf, answer_of, port_after}
 use Rattle.sja_driver.specs.Tries.Tried.{Unmet, Answered, Released, Ended}
 use Rattle.sja_driver.specs.declared.kept_bytes.KeptBytes.{KeptBytes}
 use Rattle.sja_driver.specs.declared.logged_driver.LoggedDriver.{LoggedDriver}
@@ -24,7 +26,7 @@ use Rattle.sja_driver.proofs.Step.Modes.{version_step}
 use Rattle.sja_driver.proofs.LogOfSteps.Logged.{room_less}
 use Rattle.sja_threads.specs.declared.driver_thread.DriverThread.{DriverThread}
 use Rattle.sja_threads.specs.Accessing.LeadOn.{nothing_more}
-use Rattle.sja_threads.specs.Inside.Steps.{MayWork, Does, DoesDeed, IsDeedIf}
+use Rattle.sja_threads.specs.Inside.Steps.{MayWork, Does, DoesDeed, IsDeedIf, room_of, room_taken}
 use Rattle.sja_threads.proofs.Driver.Settings.{leads_try, lead_more}
 
 -- a try leaves the version of its port
@@ -40,6 +42,23 @@ deed_if p which Unmet = refl
 deed_if p which (Answered answer) = (refl, refl)
 deed_if p which (Released m) = (refl, refl)
 deed_if p which (Ended ledger) = (refl, refl)
+
+-- no more messages are released than there is room taken
+few_released : (p : Registers) (which : Step) (o : Tried) (ended : ℕ) → IsOf which o →
+    length (releases_by ended o) ≤ room_taken (deeds_by p which o 0)
+few_released p which Unmet ended is = omega arith
+few_released p which (Answered answer) ended is = omega arith
+few_released p which (Released m) ended is =
+    let one : room_of which ≡ 1 = ap (λ (s : Step). room_of s) is in omega (arith, one)
+few_released p which (Ended ledger) ended is = omega arith
+
+-- that of deeds, and then of more
+pub both_taken : (xs ys : List Deed) → room_taken (xs ++ ys) ≡ room_taken xs + room_taken ys
+both_taken xs ys =
+    ap (total room_of) (map-append step_of xs ys) ∙ total_append room_of (map step_of xs) (map step_of ys)
+  where
+    step_of : Deed → Step
+    step_of d = d.step
 
 module _ {E : Type 0} (e : Ends E) where
   -- where fewer are asked for
@@ -91,9 +110,9 @@ module _ {E : Type 0} (e : Ends E) where
     sames = each_trans e.same trans a.links.items b.links.items c.links.items p.sames q.sames;
     node = q.node ∙ p.node;
     able = λ n m.
-        let count = length-append xs ys in
-        q.able n (p.able (length ys + n)
-        (may_less a (length xs + (length ys + n)) (length (xs ++ ys) + n) (omega (arith, count)) m));
+        let count = both_taken xs ys in
+        q.able n (p.able (room_taken ys + n)
+        (may_less a (room_taken xs + (room_taken ys + n)) (room_taken (xs ++ ys) + n) (omega (arith, count)) m));
   }
     where
       -- the later deeds, in the version before the first ones
@@ -158,8 +177,8 @@ module _ {E : Type 0} (e : Ends E) where
   pub deed_able : (a b : DriverThread E) (s : Step) (n : ℕ) → DoesDeed e a b s None → MayWork e.link a n →
       MayWork e.link b n
   deed_able a b s n p may =
-      p.does.able n (may_less a (length p.deeds + n) n
-      (let none = ap (λ (l : List Deed). length l) p.are in omega (arith, none)) may)
+      p.does.able n (may_less a (room_taken p.deeds + n) n
+      (let none : room_taken p.deeds ≡ 0 = ap (λ (l : List Deed). room_taken l) p.are in omega (arith, none)) may)
 
   -- a try of a deed, with its ends lent for it
   pub does_try : (a b : DriverThread E) (x y : List E) (p q : Registers) (which : Step) (answer : Option StepAnswer) →
@@ -185,7 +204,7 @@ module _ {E : Type 0} (e : Ends E) where
       able = λ n may. record {
         bytes = bytes ∙ may.bytes ∙ ap (λ (v : ℕ). by_bytes v) (sym (version_is answer refl));
         lawful = stays.lawful;
-        room = room steps.tried steps.met n may.room;
+        room = room n may.room;
         enough = let l = AllZip-long e.same a.links.items b.links.items stays.same in omega (arith, enough, l);
         ids = stays.ids;
       };
@@ -218,9 +237,12 @@ module _ {E : Type 0} (e : Ends E) where
       version_is (Some s) e = ap (λ (s : SettingsValue). s.version) (met s e) ∙ port_is ∙ has.version
       version_is None e = ap (λ (s : SettingsValue). s.version) (unmet e)
 
-      room : (o : Tried) → answer ≡ answer_of o → (n : ℕ) →
-          HasRoom (length (deeds_by p which o 0) + n) (log_of a.driver) → HasRoom n (log_of b.driver)
-      room Unmet none n h = stays.waits none n (room_less n (0 + n) (log_of a.driver) (omega arith) h)
-      room (Answered s) is n h = stays.room n (room_less (n + 1) (1 + n) (log_of a.driver) (omega arith) h)
-      room (Released m) is n h = stays.room n (room_less (n + 1) (1 + n) (log_of a.driver) (omega arith) h)
-      room (Ended ledger) is n h = stays.room n (room_less (n + 1) (1 + n) (log_of a.driver) (omega arith) h)
+      -- a release alone takes room
+      room : (n : ℕ) → HasRoom (room_taken (deeds_by p which steps.tried 0) + n) (log_of a.driver) →
+          HasRoom n (log_of b.driver)
+      room n h =
+          let releases = releases_by (ended_of a.driver) steps.tried in
+          let few = few_released p which steps.tried (ended_of a.driver) (steps.acts end end).kind in
+          let long = ap length steps.releases ∙ length-append (releases_in (log_of a.driver)) releases in
+          let fits = h.releases in let left = h.left in let stays = steps.release_room in let stay = steps.left_room in
+          record { releases = omega (arith, few, long, fits, stays); left = omega (arith, left, stay) }

@@ -14,7 +14,6 @@ use Rattle.sja_plan.specs.Plan.{PlanValue, steps_at}
 use Rattle.sja_script.specs.declared.step.Step.{Step}
 use Rattle.sja_driver.specs.Logs.{HasRoom, IsEmpty, done_room}
 use Rattle.sja_threads.specs.declared.thread_start.ThreadStart.{ThreadStart}
-use Rattle.sja_threads.specs.Accessing.{most_deeds}
 use Rattle.sja_threads.specs.Inside.Making.{IsNewBus, IsNewEnd, AreNewEnds, IsMade, AreMade}
 
 -- what holds of so many elements from a place on, and of the next one, which is the last, holds of one more
@@ -120,13 +119,13 @@ new_driver node place b d link one lists =
 -- what the thread of a node begins with, as it was made
 pub made_of : {G : Type 0} (plan : PlanValue) (node base : ℕ) (s : ThreadStart G) (after : List RingBus)
     (steps : List Step) → s.node ≡ node → IsEmpty s.log → steps ≡ steps_at plan node →
-    HasRoom (most_deeds plan.version (length steps)) s.log → length steps ≤ done_room s.log →
+    HasRoom (length steps) s.log → length steps ≤ done_room s.log →
     length s.links.items ≡ 64 → base ≡ 64 * node → AreNewEnds 64 node after s.links.items base → IsMade plan node s
     after
 made_of plan node base s after steps own empty are room fits enough here links = record {
   own = own;
   empty = empty;
-  room = subst (λ (l : List Step). HasRoom (most_deeds plan.version (length l)) s.log) are room;
+  room = subst (λ (l : List Step). HasRoom (length l) s.log) are room;
   steps = subst (λ (l : List Step). length l ≤ done_room s.log) are fits;
   enough = enough;
   links = subst (λ (n : ℕ). AreNewEnds 64 node after s.links.items n) here links;

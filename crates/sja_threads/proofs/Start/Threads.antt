@@ -13,22 +13,15 @@ use Rattle.sja_regs.specs.Registers.{at_power_on}
 use Rattle.sja_script.specs.declared.step.Step.{Step}
 use Rattle.sja_plan.specs.Plan.{PlanValue, steps_at}
 use Rattle.sja_driver.specs.Holding.{NumberedFrom}
-use Rattle.sja_driver.specs.declared.logged_driver.LoggedDriver.{LoggedDriver}
-use Rattle.sja_driver.specs.Accesses.{by_bytes}
-use Rattle.sja_driver.specs.AnyDrivers.{is_out}
-use Rattle.sja_driver.specs.Kept.{at_power_on as kept_at_power_on}
-use Rattle.sja_driver.specs.LoggedDrivers.{node_of, driver_of, log_of, kept_of, IsLawful}
-use Rattle.sja_driver.specs.Logs.{HasRoom, Traces, done_in, done_room}
+use Rattle.sja_driver.specs.LoggedDrivers.{log_of}
+use Rattle.sja_driver.specs.Logs.{HasRoom, done_in, done_room}
 use Rattle.sja_threads.specs.declared.thread_start.ThreadStart.{ThreadStart}
 use Rattle.sja_threads.specs.declared.thread_promise.ThreadPromise.{ThreadPromise}
 use Rattle.sja_threads.specs.declared.worked.Worked.{Worked}
 use Rattle.sja_threads.specs.Inside.Making.{IsMade, AreMade}
 use Rattle.sja_threads.specs.Inside.Promised.{IsFor, IsPromised}
-use Rattle.sja_threads.specs.Accessing.{most_deeds}
 use Rattle.sja_threads.specs.Working.{HasWorked}
 use Rattle.sja_threads.specs.Inside.Started.{IsThreadStart, HandsBack, Serves}
-use Rattle.sja_threads.specs.Inside.Steps.{MayBegin}
-use Rattle.sja_threads.proofs.Driver.Script.{begins}
 
 module _ {G : Type 0} (plan : PlanValue) where
   -- what was made for a node is what its thread may begin with
@@ -37,7 +30,7 @@ module _ {G : Type 0} (plan : PlanValue) where
   start_of node s buses few m = record {
     few = subst (λ (n : ℕ). n < length plan.nodes) (sym m.own) few;
     empty = m.empty;
-    room = subst (λ (n : ℕ). HasRoom (most_deeds plan.version (length (steps_at plan n))) s.log) (sym m.own) m.room;
+    room = subst (λ (n : ℕ). HasRoom (length (steps_at plan n)) s.log) (sym m.own) m.room;
     steps = subst (λ (n : ℕ). length (steps_at plan n) ≤ done_room s.log) (sym m.own) m.steps;
     enough = m.enough;
     ids = subst (λ (n : ℕ). NumberedFrom link_of_driver s.links.items 0 n) (sym m.own) numbered;
@@ -65,36 +58,19 @@ module _ {G : Type 0} (plan : PlanValue) where
       subst (λ (l : List (ThreadStart G)). All (IsThreadStart plan) l) is starts in
       λ k d less. those (suc k) d (omega (arith, less))
 
-module _ {G : Type 0} (plan : PlanValue) (s : ThreadStart G) (driver : LoggedDriver) (set : SettingsValue)
-    (steps : List Step) (first : set ≡ settings_in (at_power_on plan.version)) (are : steps ≡ steps_at plan s.node)
-    (own : node_of driver ≡ s.node) where
-  -- with what is set after power-on its driver may follow its script
-  pub may_follow : IsThreadStart plan s → (bytes : Bool) → bytes ≡ by_bytes plan.version → log_of driver ≡ s.log →
-      kept_of driver ≡ kept_at_power_on → is_out (driver_of driver) ≡ false → IsLawful driver →
-      ((version : ℕ) → Traces version (driver_of driver) (log_of driver) []) →
-      MayBegin link_of_driver
-      (record { node = s.node; bytes = bytes; driver = driver; set = set; links = s.links }) (length steps)
-  may_follow m bytes knows logs kept reset lawful none =
-      let version : plan.version ≡ set.version = sym (ap (λ (x : SettingsValue). x.version) first) in
-      begins link_of_driver _ s.node (length steps) s.log (knows ∙ ap (λ (v : ℕ). by_bytes v) version) own logs kept
-      reset lawful none m.empty
-      (subst (λ (v : ℕ). HasRoom (most_deeds v (length steps)) s.log) version
-      (subst (λ (l : List Step). HasRoom (most_deeds plan.version (length l)) s.log) (sym are) m.room))
-      (subst (λ (l : List Step). length l ≤ done_room s.log) (sym are) m.steps)
-      (let enough = m.enough in omega (arith, enough)) m.ids
-
-  -- and that is what it hands back
-  pub served_by : (quits : Bool) (w : Worked RingDriver) → EachRelated SameDriver s.links.items w.links.items →
-      HasWorked DriverLists set (node_of driver) steps s.links.items w →
-      (quits ≡ false → length (done_in (log_of w.driver)) ≡ length steps) → Serves quits plan s w
-  served_by quits w sames worked all = record {
-    sames = sames;
-    worked =
-        subst (λ (x : SettingsValue). HasWorked DriverLists x s.node (steps_at plan s.node) s.links.items w) first
-        (subst (λ (n : ℕ). HasWorked DriverLists set n (steps_at plan s.node) s.links.items w) own
-        (subst (λ (l : List Step). HasWorked DriverLists set (node_of driver) l s.links.items w) are worked));
-    all = λ never. all never ∙ ap (λ (l : List Step). length l) are;
-  }
+-- what a thread hands back that began with what is set after power-on
+pub served_by : {G : Type 0} (plan : PlanValue) (s : ThreadStart G) (set : SettingsValue) (steps : List Step)
+    (quits : Bool) (w : Worked RingDriver) → set ≡ settings_in (at_power_on plan.version) →
+    steps ≡ steps_at plan s.node → EachRelated SameDriver s.links.items w.links.items →
+    HasWorked DriverLists set s.node steps s.links.items w →
+    (quits ≡ false → length (done_in (log_of w.driver)) ≡ length steps) → Serves quits plan s w
+served_by plan s set steps quits w first are sames worked all = record {
+  sames = sames;
+  worked =
+      subst (λ (x : SettingsValue). HasWorked DriverLists x s.node (steps_at plan s.node) s.links.items w) first
+      (subst (λ (l : List Step). HasWorked DriverLists set s.node l s.links.items w) are worked);
+  all = λ never. all never ∙ ap (λ (l : List Step). length l) are;
+}
 
 module _ {G : Type 0} (quits : Bool) (plan : PlanValue) where
   -- a promise that was kept is what the thread that began so hands back

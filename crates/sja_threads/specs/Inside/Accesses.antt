@@ -22,8 +22,7 @@ use Rattle.sja_driver.specs.Reads.{raw_value}
 use Rattle.sja_driver.specs.Writes.{write_steps}
 use Rattle.sja_threads.specs.declared.driver_thread.DriverThread.{DriverThread}
 use Rattle.sja_threads.specs.Accessing.{IsAccessAt, LeadToAccesses, IsBrokenOff, Work, Follows, deeds_done}
-use Rattle.sja_threads.specs.Accessing.{most_deeds}
-use Rattle.sja_threads.specs.Inside.Steps.{Does, EntersNone}
+use Rattle.sja_threads.specs.Inside.Steps.{Does, EntersNone, room_taken}
 
 -- ---- one step
 
@@ -54,7 +53,7 @@ pub record DoesStep {E : Type 0} (e : Ends E) (was now : DriverThread E) (step :
   pub access : Access
   pub step_is : access.step ≡ step
   pub does : Does e was now access.deeds
-  pub few : length access.deeds ≤ most_deeds was.set.version 1
+  pub few : room_taken access.deeds ≤ 1
   pub is : (before : List Deed) → Traces was.set.version (driver_of was.driver) (log_of was.driver) before →
       IsAccessAt was.set.version was.set (is_active before) (kept_of was.driver) access (kept_of now.driver)
   pub done : done_in (log_of now.driver) ≡ done_in (log_of was.driver) ++ done_of access ∷ []

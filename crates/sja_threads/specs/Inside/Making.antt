@@ -10,7 +10,6 @@ use Rattle.sja_driver.specs.Logs.{HasRoom, IsEmpty, done_room}
 use Rattle.sja_wire.specs.Buses.{new_bus}
 use Rattle.sja_threads.specs.declared.thread_start.ThreadStart.{ThreadStart}
 use Rattle.sja_threads.specs.declared.run_parts.RunParts.{RunParts}
-use Rattle.sja_threads.specs.Accessing.{most_deeds}
 use Rattle.sja_threads.specs.Stopping.{deed_counts}
 
 -- each end of the link of an activation, with nothing on it
@@ -30,11 +29,11 @@ pub record AreNewEnds (count node : ℕ) (buses : List RingBus) (drivers : List 
       OneLink (slice_index_or buses (base + a) b) (slice_index_or drivers a d)
 
 -- what the thread of a node's driver begins with: its ends of the node's links, and an empty log with room for all its
--- steps and their deeds
+-- steps
 pub record IsMade {G : Type 0} (plan : PlanValue) (node : ℕ) (s : ThreadStart G) (buses : List RingBus) : Type 0 where
   pub own : s.node ≡ node
   pub empty : IsEmpty s.log
-  pub room : HasRoom (most_deeds plan.version (length (steps_at plan node))) s.log
+  pub room : HasRoom (length (steps_at plan node)) s.log
   pub steps : length (steps_at plan node) ≤ done_room s.log
   pub enough : length s.links.items ≡ 64
   pub links : AreNewEnds 64 node buses s.links.items (64 * node)

@@ -11,14 +11,13 @@ use Rattle.sja_driver.specs.LoggedDrivers.{log_of}
 use Rattle.sja_driver.specs.Logs.{HasRoom, IsEmpty, done_in, done_room}
 use Rattle.sja_threads.specs.declared.thread_start.ThreadStart.{ThreadStart}
 use Rattle.sja_threads.specs.declared.worked.Worked.{Worked}
-use Rattle.sja_threads.specs.Accessing.{most_deeds}
 use Rattle.sja_threads.specs.Working.{HasWorked}
 
 -- what the thread of a driver of this plan may begin with
 pub record IsThreadStart {G : Type 0} (plan : PlanValue) (s : ThreadStart G) : Type 0 where
   pub few : s.node < length plan.nodes
   pub empty : IsEmpty s.log
-  pub room : HasRoom (most_deeds plan.version (length (steps_at plan s.node))) s.log
+  pub room : HasRoom (length (steps_at plan s.node)) s.log
   pub steps : length (steps_at plan s.node) ≤ done_room s.log
   pub enough : length s.links.items ≡ 64
   pub ids : NumberedFrom link_of_driver s.links.items 0 s.node

@@ -2,8 +2,10 @@
 use Rattle.std.specs.Prelude.{◌≡◌, ◌≤◌, ◌+◌, ◌++◌, ℕ, Bool, true, false, Option, Some, None, List, [], ◌∷◌, length, map}
 use Rattle.sja_link.specs.declared.driver_end.DriverEnd.{Ghosts as Ends}
 use Rattle.sja_link.specs.declared.link_id.LinkId.{LinkId}
+use Rattle.lemmas.specs.Gathering.{total}
 use Rattle.lemmas.specs.Related.{EachRelated}
 use Rattle.sja_script.specs.declared.step.Step.{Step}
+use Rattle.sja_script.specs.declared.step.Step.TheVariants.{Release}
 use Rattle.sja_script.specs.declared.step_answer.StepAnswer.{StepAnswer}
 use Rattle.sja_driver.specs.Accesses.{by_bytes, kept_by}
 use Rattle.sja_driver.specs.AnyDrivers.{is_out}
@@ -15,21 +17,39 @@ use Rattle.sja_driver.specs.declared.kept_bytes.KeptBytes.{KeptBytes}
 use Rattle.sja_driver.specs.declared.logged_driver.LoggedDriver.{LoggedDriver}
 use Rattle.sja_driver.specs.Kept.{at_power_on}
 use Rattle.sja_threads.specs.declared.driver_thread.DriverThread.{DriverThread}
-use Rattle.sja_threads.specs.Accessing.{LeadOn, most_deeds}
+use Rattle.sja_threads.specs.Accessing.{LeadOn}
+
+-- ---- how much room a log needs
+
+-- a deed of this step takes so much of it: a release does, and nothing else
+abbrev pub room_of : Step → ℕ
+room_of Release = 1
+room_of other = 0
+
+-- deeds take so much together
+abbrev pub room_taken : List Deed → ℕ
+room_taken deeds = total room_of (map (λ (d : Deed). d.step) deeds)
+
+-- of these steps only the last one takes any
+abbrev pub LastTakes : List Step → Type 0
+LastTakes [] = Unit {0}
+LastTakes (this ∷ []) = Unit {0}
+LastTakes (this ∷ next ∷ rest) = (room_of this ≡ 0) × LastTakes (next ∷ rest)
 
 -- ---- what may be done
 
--- a driver may do so many deeds more: its log has room for them, and its ends are those of its node's links
-pub record MayWork {E : Type 0} (link : E → LinkId) (t : DriverThread E) (deeds : ℕ) : Type 0 where
+-- a driver may go on that releases so many messages more at most: its log has room for them, and its ends are those of
+-- its node's links
+pub record MayWork {E : Type 0} (link : E → LinkId) (t : DriverThread E) (many : ℕ) : Type 0 where
   pub bytes : t.bytes ≡ by_bytes t.set.version
   pub lawful : IsLawful t.driver
-  pub room : HasRoom deeds (log_of t.driver)
+  pub room : HasRoom many (log_of t.driver)
   pub enough : 64 ≤ length t.links.items
   pub ids : NumberedFrom link t.links.items 0 (node_of t.driver)
 
--- it may do so many steps more
+-- it may do so many steps more, each of which releases one message at most
 pub record MayStep {E : Type 0} (link : E → LinkId) (t : DriverThread E) (steps : ℕ) : Type 0 where
-  pub may : MayWork link t (most_deeds t.set.version steps)
+  pub may : MayWork link t steps
   pub room : length (done_in (log_of t.driver)) + steps ≤ done_room (log_of t.driver)
 
 -- a driver did nothing yet, and may do so many steps
@@ -44,7 +64,7 @@ pub record MayBegin {E : Type 0} (link : E → LinkId) (t : DriverThread E) (ste
 
 -- a driver did these deeds, each once and in this order: with them its log and its ends went on, for all deeds before
 -- and for all journals, and so did what it has set, which is of the same version; its ends are the same ones, and it
--- may do as many more as it had left
+-- has the room left that they didn't take
 pub record Does {E : Type 0} (e : Ends E) (was now : DriverThread E) (deeds : List Deed) : Type 0 where
   pub version : now.set.version ≡ was.set.version
   pub goes : Goes e.stands was.set.version (driver_of was.driver) (driver_of now.driver) (log_of was.driver)
@@ -53,7 +73,7 @@ pub record Does {E : Type 0} (e : Ends E) (was now : DriverThread E) (deeds : Li
       LeadOn before was.set deeds now.set
   pub sames : EachRelated e.same was.links.items now.links.items
   pub node : node_of now.driver ≡ node_of was.driver
-  pub able : (n : ℕ) → MayWork e.link was (length deeds + n) → MayWork e.link now n
+  pub able : (n : ℕ) → MayWork e.link was (room_taken deeds + n) → MayWork e.link now n
 
 -- nothing more is entered as done, and what is kept stays
 pub record EntersNone (was now : LoggedDriver) : Type 0 where

@@ -1,7 +1,7 @@
 use Rattle.std.proofs.Common.{rules, ◌≡◌, List, [], Bor, codes, sym, subst}
 use Rattle.std.specs.Prelude.{IfOk, IfErr}
 use Rattle.sja_live.specs.Commands.{AreCommandWords}
-use Rattle.sja_live.specs.Inside.Reading.{IsUnasked}
+use Rattle.sja_live.specs.Inside.Reading.{IsCommandRefusal}
 use Rattle.sja_plan.specs.Words.{Text}
 use Rattle.sja_live.proofs.Lines.WordLists.{one_word, two_words, three_words, four_words, step_words, text_at}
 use Rattle.sja_live.proofs.command_words.command_of.Goals as goal
@@ -19,7 +19,7 @@ returns-then-eq-clause-ok c =
 pub returns-then-eq-clause-err : goal.returns-then-eq-clause-err
 returns-then-eq-clause-err c =
     let name : text_at c.args.words.now 0 none ≡ codes "step" = search rules in
-    subst (λ (l : List Text). IfErr c.step_of_node.result (IsUnasked c.args.version c.args.nodes l))
+    subst (λ (l : List Text). IfErr c.step_of_node.result (IsCommandRefusal c.args.version c.args.nodes l))
     (sym (step_words c.args.words.now none c.if-words-ge2.true name)) c.step_of_node.ensures.err
 
 pub returns-in-len1-clause-ok : goal.returns-in-len1-clause-ok
@@ -30,7 +30,7 @@ returns-in-len1-clause-ok c =
 
 pub returns-in-len1-clause-err : goal.returns-in-len1-clause-err
 returns-in-len1-clause-err c =
-    subst (λ (l : List Text). IfErr c.of_one_word.result (IsUnasked c.args.version c.args.nodes l))
+    subst (λ (l : List Text). IfErr c.of_one_word.result (IsCommandRefusal c.args.version c.args.nodes l))
     (sym (one_word c.args.words.now none c.in-len1.len_at_least c.in-len1.len_below))
     (c.of_one_word.ensures.err c.args.version c.args.nodes)
 
@@ -42,7 +42,7 @@ returns-in-len2-clause-ok c =
 
 pub returns-in-len2-clause-err : goal.returns-in-len2-clause-err
 returns-in-len2-clause-err c =
-    subst (λ (l : List Text). IfErr c.of_two_words.result (IsUnasked c.args.version c.args.nodes l))
+    subst (λ (l : List Text). IfErr c.of_two_words.result (IsCommandRefusal c.args.version c.args.nodes l))
     (sym (two_words c.args.words.now none c.in-len2.len_at_least c.in-len2.len_below))
     (c.of_two_words.ensures.err c.args.version)
 
@@ -54,7 +54,7 @@ returns-in-len3-clause-ok c =
 
 pub returns-in-len3-clause-err : goal.returns-in-len3-clause-err
 returns-in-len3-clause-err c =
-    subst (λ (l : List Text). IfErr c.of_three_words.result (IsUnasked c.args.version c.args.nodes l))
+    subst (λ (l : List Text). IfErr c.of_three_words.result (IsCommandRefusal c.args.version c.args.nodes l))
     (sym (three_words c.args.words.now none c.in-len3.len_at_least c.in-len3.len_below))
     (c.of_three_words.ensures.err c.args.version)
 
@@ -66,6 +66,6 @@ returns-in-len4-clause-ok c =
 
 pub returns-in-len4-clause-err : goal.returns-in-len4-clause-err
 returns-in-len4-clause-err c =
-    subst (λ (l : List Text). IfErr c.of_four_words.result (IsUnasked c.args.version c.args.nodes l))
+    subst (λ (l : List Text). IfErr c.of_four_words.result (IsCommandRefusal c.args.version c.args.nodes l))
     (sym (four_words c.args.words.now none c.in-len4.len_at_least c.in-len4.len_below))
     (c.of_four_words.ensures.err c.args.version)

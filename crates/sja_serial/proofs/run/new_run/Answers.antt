@@ -1,17 +1,14 @@
-use Rattle.std.proofs.Common.{◌≡◌, ◌∙◌, ◌≤◌, ℕ, zero, suc, Bool, true, false, cond, nat_lt, List, [], ◌∷◌, All, length}
+use Rattle.std.proofs.Common.{◌≡◌, ◌∙◌, ℕ, List, [], length}
 use Rattle.std.proofs.Common.{map, replicate}
 use Rattle.std.proofs.Common.{take, refl, ap, sym, subst, arith}
-use Rattle.std.specs.Prelude.{slice_index_or}
-use Rattle.std.proofs.lemmas.List.Elements.{All-head, All-tail}
-use Rattle.sja_plan.specs.Limits.{most_steps}
 use Rattle.std.proofs.lemmas.List.{length-map, get_or-replicate}
 use Rattle.std.proofs.lemmas.Result.{IfOk-weaker}
-use Rattle.sja_driver.specs.Accesses.{Access}
+use Rattle.sja_driver.specs.Accesses.{Access, most_deeds}
 use Rattle.sja_plan.proofs.PlanLimits.ByVersion.{bits_most}
 use Rattle.sja_plan.specs.Plan.{PlanValue, step_counts, steps_at}
 use Rattle.sja_script.specs.declared.step.Step.{Step}
 use Rattle.sja_serial.specs.Ending.{AreFirst, setup_of}
-use Rattle.sja_serial.specs.Serial.{Setup, StandsBy, most_deeds, setup_with}
+use Rattle.sja_serial.specs.Serial.{Setup, StandsBy, setup_with}
 use Rattle.sja_wire.specs.Buses.{new_bus}
 use Rattle.sja_serial.proofs.run.new_run.Goals.{After-bits}
 use Rattle.sja_serial.proofs.run.new_run.Goals as goal
@@ -63,24 +60,3 @@ returns-clause-bus c =
     IfOk-weaker c.new.result _ _ (λ r is. is ∙ (λ i. new_bus (c.in_ok-script.ensures i) (c.bits.ensures.value i)
     (c.in_ok-steps.ensures.count i) (map (most_deeds (c.version.ensures.value i)) (c.in_ok-steps.ensures.value i))))
     c.new.ensures.bus
-
-pub new-requires-clause-steps : goal.new-requires-clause-steps
-new-requires-clause-steps c = λ node.
-    let plan = c.args.plan.now in
-    let few = at_most plan.nodes (most_steps plan.version) c.limits.ensures.steps node in
-    let all = most_ever plan.version in
-    let e = ap (λ (l : List ℕ). slice_index_or l node 0) c.in_ok-steps.ensures.value in omega (arith, few, all, e)
-  where
-    at_most : (nodes : List (List Step)) (most : ℕ) → All (λ (l : List Step). length l ≤ most) nodes → (node : ℕ) →
-        slice_index_or (map (λ (l : List Step). length l) nodes) node 0 ≤ most
-    at_most [] most all node = omega arith
-    at_most (l ∷ nodes) most all zero = All-head (λ (x : List Step). length x ≤ most) l nodes all
-    at_most (l ∷ nodes) most all (suc node) =
-        at_most nodes most (All-tail (λ (x : List Step). length x ≤ most) l nodes all) node
-
-    by : (first : Bool) → cond first 1000 65535 ≤ 65535
-    by true = omega arith
-    by false = omega arith
-
-    most_ever : (version : ℕ) → most_steps version ≤ 65535
-    most_ever version = by (nat_lt version 3)

@@ -1,10 +1,11 @@
-use Rattle.std.proofs.Common.{true, refl, length, sym, subst}
+use Rattle.std.proofs.Common.{rules, true, refl, length, sym, subst}
 use Rattle.sja_plan.specs.Plan.{NamesNode}
 use Rattle.sja_plan.specs.declared.turn.Turn.{Turn}
 use Rattle.sja_serial.specs.Bits.{TakesBusTurn, TakesRest}
-use Rattle.sja_serial.specs.Inside.Going.{TakesOne}
+use Rattle.sja_serial.specs.Inside.Rounds.{TakesIrq}
+use Rattle.sja_serial.specs.Inside.Turning.{TakesOne}
 use Rattle.sja_serial.specs.Serial.{Setup, all_deeds}
-use Rattle.sja_serial.proofs.AllNodes.Several.{at_own, from_own}
+use Rattle.sja_serial.proofs.AllNodes.Several.{at_own, by_own, from_own}
 use Rattle.sja_serial.proofs.run.take_one.Goals as goal
 
 pub take_steps-requires-clause-node : goal.take_steps-requires-clause-node
@@ -38,3 +39,17 @@ returns-in-Rest c = λ accesses h.
     subst (λ (t : Turn). TakesOne c.args.plan.now accesses c.args.run.now now t c.rest_turn.result) (sym c.in-Rest.is)
     (from_own (λ (s : Setup). TakesRest s deeds c.args.run.now now c.rest_turn.result) h.by.stands
     (c.rest_turn.ensures.turn deeds (at_own h.by.stands)))
+
+pub irq_turn-requires : goal.irq_turn-requires
+irq_turn-requires c =
+    let h = c.requires.run in (
+      (h.0, by_own h.1.by),
+      search rules,
+    )
+
+pub returns-in-Irq : goal.returns-in-Irq
+returns-in-Irq c = λ accesses h.
+    let now = c.irq_turn.new.self in
+    subst (λ (t : Turn). TakesOne c.args.plan.now accesses c.args.run.now now t c.irq_turn.result) (sym c.in-Irq.is)
+    (from_own (λ (s : Setup). TakesIrq s accesses c.in-Irq.node c.in-Irq.count c.args.run.now now c.irq_turn.result)
+    h.by.stands (c.irq_turn.ensures accesses (by_own h.by)))

@@ -6,3 +6,6 @@ ghost-bus_turn a = setup_in a.self.now
 
 abbrev pub ghost-rest_turn : goal.ghost-rest_turn
 ghost-rest_turn a = setup_in a.self.now
+
+abbrev pub ghost-irq_turn : goal.ghost-irq_turn
+ghost-irq_turn a = setup_in a.self.now

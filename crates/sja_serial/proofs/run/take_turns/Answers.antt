@@ -1,4 +1,4 @@
-use Rattle.std.proofs.Common.{rules, ◌≡◌, ℕ, List, true, false, arith}
+use Rattle.std.proofs.Common.{rules, ◌≡◌, ℕ, List, [], true, false, arith}
 use Rattle.sja_plan.specs.Plan.{PlanValue}
 use Rattle.sja_plan.specs.declared.turn.Turn.{Turn}
 use Rattle.sja_plan.specs.declared.turn.Turn.TheVariants.{Bus}
@@ -11,7 +11,7 @@ use Rattle.sja_serial.proofs.WholeRun.NextTurn.{come_next, end_next, end_turns}
 use Rattle.sja_serial.proofs.run.take_turns.Goals as goal
 
 -- it stands at the first steps of the plan
-stands_in : {plan : PlanValue} {turns : List Turn} {r : SerialValue} (c : HasCome plan turns r) →
+stands_in : {plan : PlanValue} {turns : List Turn} {r : SerialValue} (c : HasCome plan turns [] r) →
     StandsIn plan r c.accesses
 stands_in c = record { by = c.by; first = c.first }
 
@@ -47,8 +47,10 @@ spent {end = BitsSpent} is t = t
 pub returns-then-not-take_one : goal.returns-then-not-take_one
 returns-then-not-take_one c =
     let inv = c.loop-turn.invariant in let no : c.take_one.result ≡ false = search rules in
-    spent (omega arith) (end_next c.turns-turn-items.ensures.value c.loop-turn.turn-index c.loop-turn-test.true
-    c.take_one.new.run inv c.take_one.result (c.take_one.ensures inv.accesses (stands_in inv)) no)
+    let turns = c.turns-turn-items.ensures in
+    spent (omega arith) (end_next turns.value c.loop-turn.turn-index c.loop-turn-test.true
+    c.take_one.new.run inv c.take_one.result (c.take_one.ensures inv.accesses (stands_in inv))
+    (turns.there c.loop-turn.turn-index (Bus 0) c.loop-turn-test.true) no)
 
 pub returns : goal.returns
 returns c = let t = c.loop-turn-test.false in

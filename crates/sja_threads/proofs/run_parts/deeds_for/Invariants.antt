@@ -1,5 +1,5 @@
 use Rattle.std.proofs.Common.{◌≡◌, length, map, take, vec_len, vec_capacity}
-use Rattle.sja_threads.specs.Accessing.{most_deeds}
+use Rattle.sja_driver.specs.Accesses.{most_deeds}
 use Rattle.sja_threads.proofs.run_parts.deeds_for.Given as goal
 
 -- those of the nodes so far

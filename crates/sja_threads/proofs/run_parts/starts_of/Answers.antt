@@ -1,7 +1,5 @@
-use Rattle.std.proofs.Common.{rules, ◌+◌, ℕ, length, refl, sym, ap, ◌∙◌, subst, arith}
-use Rattle.sja_driver.specs.Logs.{HasRoom}
+use Rattle.std.proofs.Common.{rules, ◌+◌, ℕ, refl, sym, ap, ◌∙◌, subst, arith}
 use Rattle.sja_plan.specs.Plan.{steps_at}
-use Rattle.sja_threads.specs.Accessing.{most_deeds}
 use Rattle.sja_threads.specs.Inside.Making.{AreMade}
 use Rattle.sja_threads.proofs.Start.LinksMade.{made_of, made_push}
 use Rattle.sja_threads.proofs.run_parts.starts_of.Goals as goal
@@ -23,9 +21,7 @@ loop-gate-preserved g c =
           (made_push plan node c.loop-gate.starts.items c.loop-gate.buses.items after.items _ inv.count inv.links
           made.others inv.made
           (made_of plan node _ _ after.items _ refl log.empty
-          (c.steps-steps.ensures.value ∙ ap (λ (n : ℕ). steps_at plan n) c.from.ensures)
-          (subst (λ (n : ℕ). HasRoom n c.in_ok-log.log)
-          (c.most_deeds.ensures
-          ∙ ap (λ (v : ℕ). most_deeds v (length c.steps-steps.result.now)) c.version.ensures.value)
-          log.room) (let room = log.steps in omega (arith, room)) made.enough inv.links made.pairs));
+          (c.steps.ensures.value ∙ ap (λ (n : ℕ). steps_at plan n) c.from.ensures)
+          (let room = log.room.releases in record { releases = omega (arith, room); left = log.room.left })
+          (let room = log.steps in omega (arith, room)) made.enough inv.links made.pairs));
     }

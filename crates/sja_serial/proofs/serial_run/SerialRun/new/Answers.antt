@@ -4,7 +4,8 @@ use Rattle.sja_link.specs.NewLinks.{AreNewLinks}
 use Rattle.sja_regs.specs.Registers.{at_power_on}
 use Rattle.sja_log.specs.Inside.NewDrivers.{AreNew}
 use Rattle.sja_wire.specs.Buses.{new_bus}
-use Rattle.sja_serial.specs.Serial.{most_deeds, setup_with}
+use Rattle.sja_driver.specs.Accesses.{most_deeds}
+use Rattle.sja_serial.specs.Serial.{setup_with}
 use Rattle.sja_serial.proofs.AllNodes.Newly.{stands_by_new}
 use Rattle.sja_serial.proofs.serial_run.SerialRun.new.Goals as goal
 

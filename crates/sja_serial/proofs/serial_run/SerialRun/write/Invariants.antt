@@ -1,7 +1,10 @@
 use Rattle.sja_serial.proofs.serial_run.SerialRun.write.Given as goal
 
-abbrev pub ghost-part : goal.ghost-part
-ghost-part g a = g.setup
+abbrev pub ghost-write_alone : goal.ghost-write_alone
+ghost-write_alone g a = g.setup
 
-abbrev pub ghost-bits_left : goal.ghost-bits_left
-ghost-bits_left g a = g.setup
+abbrev pub ghost-write_command : goal.ghost-write_command
+ghost-write_command g a = g.setup
+
+abbrev pub ghost-write_mode : goal.ghost-write_mode
+ghost-write_mode g a = g.setup

@@ -2,7 +2,7 @@ use Rattle.std.proofs.Common.{◌≡◌, [], replicate, subst}
 use Rattle.std.specs.Prelude.{IfOk, IfErr}
 use Rattle.std.proofs.lemmas.Result.{on_ok_weaker}
 use Rattle.sja_wire.specs.Buses.{new_bus}
-use Rattle.sja_serial.specs.Serial.{most_deeds}
+use Rattle.sja_driver.specs.Accesses.{most_deeds}
 use Rattle.sja_session.specs.Beginning.{IsSessionFault}
 use Rattle.sja_session.specs.declared.session_room.SessionRoom.{SessionRoom}
 use Rattle.sja_session.proofs.session.Session.new.Goals as goal

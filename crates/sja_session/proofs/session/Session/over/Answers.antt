@@ -1,10 +1,10 @@
-use Rattle.std.proofs.Common.{rules, ◌≡◌, ◌<◌, ◌≤◌, ℕ, zero, suc, List, Vec, Global, length, map, replicate}
+use Rattle.std.proofs.Common.{rules, ◌≡◌, ◌<◌, ℕ, List, Vec, Global, length, map, replicate}
 use Rattle.std.proofs.Common.{vec_capacity, sym, ap}
 use Rattle.std.proofs.Common.{◌∙◌, arith}
-use Rattle.std.specs.Prelude.{[], slice_index_or}
+use Rattle.std.specs.Prelude.{[]}
 use Rattle.std.proofs.lemmas.List.{length-map, length-replicate, get_or-map}
 use Rattle.lemmas.proofs.Lists.{some_of}
-use Rattle.sja_plan.proofs.PlanLimits.ByVersion.{bits_most, steps_most}
+use Rattle.sja_plan.proofs.PlanLimits.ByVersion.{bits_most}
 use Rattle.sja_script.specs.declared.step.Step.{Step}
 use Rattle.sja_session.proofs.Lifetime.Blank.{session_first, at_first, wrote_first, stands_made, bus_made}
 use Rattle.sja_session.proofs.session.Session.over.Goals.{After-bits}
@@ -17,12 +17,6 @@ script_is c = c.of-script.ensures ∙ c.in_ok-copied_strikes.ensures ∙ c.strik
 sizes_are : (c : After-bits) → c.in_ok-rooms.rooms.items ≡ replicate (length c.args.plan.nodes) c.args.room.steps
 sizes_are c = search rules
 
--- each of so many is as many, or there is none
-at_most_each : (n size node : ℕ) → slice_index_or (replicate n size) node 0 ≤ size
-at_most_each zero size node = omega arith
-at_most_each (suc n) size zero = omega arith
-at_most_each (suc n) size (suc node) = at_most_each n size node
-
 pub new-requires : goal.new-requires
 new-requires c =
     let at = (goal.at.new-requires c).After-bits in
@@ -33,11 +27,6 @@ new-requires c =
     let limit = bits_most c.args.plan.version in record {
       nodes = (omega (arith, n, least), omega (arith, n, most));
       bits = (omega (arith, b, one), omega (arith, b, all, limit));
-      steps = λ node.
-          let fits = c.requires.room.0 in let every = steps_most c.args.plan.version in
-          let size = ap (λ (l : List ℕ). slice_index_or l node 0) (sizes_are at) in
-          let few = at_most_each (length c.args.plan.nodes) c.args.room.steps node in
-          omega (arith, fits, every, size, few);
     }
 
 pub invariant_of-result : goal.invariant_of-result

@@ -1,13 +1,17 @@
-use Rattle.std.proofs.Common.{◌++◌, arith}
+use Rattle.std.proofs.Common.{◌++◌, ◌+◌, length, arith}
+use Rattle.lemmas.specs.Gathering.{total}
 use Rattle.sja_driver.specs.WriteLists.{listed}
-use Rattle.sja_threads.proofs.Driver.Parts.{few_listed, parts_able, parts_more, parts_wide}
+use Rattle.sja_threads.specs.Inside.Steps.{room_of}
+use Rattle.sja_threads.proofs.Driver.Parts.{parts_able, parts_more, parts_wide}
+use Rattle.sja_threads.proofs.Driver.Room.{room_second, room_third}
 use Rattle.sja_threads.proofs.driver_thread.DriverThread.do_parts.Goals as goal
 
 pub do_part-requires-2-after_bounds : goal.do_part-requires-2-after_bounds
 do_part-requires-2-after_bounds g c κs within =
     let s = c.args.steps.now in
     parts_able g.D.DriverEnd c.args.self.now c.do_part.new.self (listed s.first) c.do_part.result c.args.kept.now
-    c.do_part.new.kept c.do_part.ensures.parts 1 3 (let few = few_listed s.first in omega (arith, few)) c.requires
+    c.do_part.new.kept c.do_part.ensures.parts (length (listed s.second)) 1 (room_second s c.requires.last)
+    c.requires.may
 
 pub returns-then-not-do_part-clause-parts : goal.returns-then-not-do_part-clause-parts
 returns-then-not-do_part-clause-parts g c =
@@ -27,11 +31,12 @@ returns-then-not-do_part-2-clause-parts g c =
 pub do_part-requires-3-after_bounds : goal.do_part-requires-3-after_bounds
 do_part-requires-3-after_bounds g c κs within =
     let s = c.args.steps.now in
+    let third = length (listed s.third) in
+    let second = total room_of (listed s.second) in
     parts_able g.D.DriverEnd c.do_part.new.self c.do_part-2.new.self (listed s.second) c.do_part-2.result
-    c.do_part.new.kept c.do_part-2.new.kept c.do_part-2.ensures.parts 1 2
-    (let few = few_listed s.second in omega (arith, few))
+    c.do_part.new.kept c.do_part-2.new.kept c.do_part-2.ensures.parts third (second + third) (omega arith)
     (parts_able g.D.DriverEnd c.args.self.now c.do_part.new.self (listed s.first) c.do_part.result c.args.kept.now
-    c.do_part.new.kept c.do_part.ensures.parts 2 3 (let few = few_listed s.first in omega (arith, few)) c.requires)
+    c.do_part.new.kept c.do_part.ensures.parts (second + third) 1 (room_third s c.requires.last) c.requires.may)
 
 pub returns-clause-parts : goal.returns-clause-parts
 returns-clause-parts g c =

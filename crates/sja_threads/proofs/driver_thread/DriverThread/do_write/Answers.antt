@@ -1,8 +1,12 @@
 use Rattle.std.proofs.Common.{◌≡◌, true, sym, ◌∙◌}
 use Rattle.sja_driver.specs.Accesses.{by_bytes}
 use Rattle.sja_script.specs.declared.step.Step.TheVariants.{Write}
-use Rattle.sja_threads.proofs.Driver.OneStep.{broken_before, write_broken, write_done}
+use Rattle.sja_threads.proofs.Driver.OneStep.{begun_last, broken_before, write_broken, write_done}
 use Rattle.sja_threads.proofs.driver_thread.DriverThread.do_write.Goals as goal
+
+pub do_parts-requires-clause-last : goal.do_parts-requires-clause-last
+do_parts-requires-clause-last g c κs within =
+    begun_last c.args.self.now c.args.address c.args.value _ c.begin_write-steps.result.1 c.begin_write-steps.ensures
 
 pub returns-then-not-lets_go-clause-quits : goal.returns-then-not-lets_go-clause-quits
 returns-then-not-lets_go-clause-quits g c = λ undone.

@@ -17,9 +17,9 @@ use Rattle.sja_serial.specs.Serial.{Setup, StandsBy}
 use Rattle.sja_serial.proofs.AllNodes.Several.{by_own, from_own, done_count, many_steps, setup_is}
 use Rattle.sja_serial.proofs.Deeds.Parts.{all_at}
 use Rattle.sja_serial.proofs.WholeRun.Steps.{SoFar, so_far_none, so_far_one, turn_over}
-use Rattle.sja_serial.proofs.WholeRun.Steps.{turn_waits, turn_done, first_then, room_left}
-use Rattle.sja_serial.proofs.run.take_steps.Goals.{After-done-next}
-use Rattle.sja_serial.proofs.run.take_steps.Goals as goal
+use Rattle.sja_serial.proofs.WholeRun.Steps.{turn_waits, first_then, room_left}
+use Rattle.sja_serial.proofs.node_turns.take_steps.Goals.{After-done-next}
+use Rattle.sja_serial.proofs.node_turns.take_steps.Goals as goal
 
 pub loop-init : goal.loop-init
 loop-init c = λ accesses h. so_far_none c.args.plan.now c.args.run.now c.args.node accesses h
@@ -97,7 +97,7 @@ returns-then-next-steps c = λ accesses h.
     let more = c.loop-test.true in
     turn_over c.args.plan.now c.args.run.now c.loop.run c.args.node accesses (inside at s) s c.args.count
     (omega (arith, more))
-    (inl (omega (arith, done, all, none)))
+    (λ less. inl (omega (arith, done, all, none)))
 
 pub returns-then-not-step : goal.returns-then-not-step
 returns-then-not-step c = λ accesses h.
@@ -129,6 +129,6 @@ loop-preserved c = λ accesses h.
 
 pub returns : goal.returns
 returns c = λ accesses h. let most = c.loop-test.false in let few = c.loop.auto.counter-end in
-    turn_done c.args.plan.now c.args.run.now c.loop.run c.args.node accesses
+    turn_over c.args.plan.now c.args.run.now c.loop.run c.args.node accesses
     (let n = many_steps h.by in let less = c.requires.node in omega (arith, n, less)) (c.loop.invariant accesses h)
-    c.args.count (omega (arith, most, few))
+    c.args.count (omega (arith, most, few)) (λ less. absurd (omega (arith, most, few, less)))

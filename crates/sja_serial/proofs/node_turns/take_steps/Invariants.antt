@@ -3,7 +3,7 @@ use Rattle.sja_driver.specs.Accesses.{Access}
 use Rattle.sja_serial.specs.Serial.{setup_in}
 use Rattle.sja_serial.specs.Inside.Going.{StandsIn}
 use Rattle.sja_serial.proofs.WholeRun.Steps.{SoFar}
-use Rattle.sja_serial.proofs.run.take_steps.Given as goal
+use Rattle.sja_serial.proofs.node_turns.take_steps.Given as goal
 
 -- so many steps are done
 abbrev pub invariant-loop : goal.invariant-loop

@@ -1,0 +1,90 @@
+//! The turns of drivers: so many steps of one, all that one can do, or all drivers by themselves.
+
+ghost use Rattle.std.specs.Prelude.{◌≡◌, ◌<◌, List, length, true, false};
+ghost use Rattle.sja_driver.specs.Accesses.{Access};
+ghost use Rattle.sja_serial.specs.Inside.Going.{StandsIn, IsRunIn, TakesTurn};
+ghost use Rattle.sja_serial.specs.Inside.Rounds.{TakesAll, TakesGo, NoneIsLeft, SomeIsLeft, past_all};
+
+use super::serial_run::SerialRun;
+use sja_plan::Plan;
+
+/// One turn of a node, counted from 0: so many steps of its driver, one after the other, or as many as it has left, or
+/// up to one that has to wait. No bit is run.
+pub(crate) fn take_steps(run: &mut SerialRun, plan: &Plan, node: u8, count: u32)
+    requires run { IsRunIn plan.now run.old }
+    requires node { node < length plan.now.nodes }
+    ensures { (accesses : List (List Access)) → StandsIn plan.now run.old accesses →
+        TakesTurn plan.now run.old run.new node count accesses }
+{
+    let place = usize::from(node);
+    let steps = plan.steps(place);
+    for _ in 0..count {
+        let next = run.driver(place).log().done().len();
+        if next >= steps.len() {
+            return;
+        }
+        let step = &steps[next];
+        if !run.step(node, step) {
+            return;
+        }
+    }
+}
+
+/// The driver of a node, counted from 0, does all that it can. No bit is run.
+pub(crate) fn take_all_steps(run: &mut SerialRun, plan: &Plan, node: u8)
+    requires run { IsRunIn plan.now run.old }
+    requires node { node < length plan.now.nodes }
+    ensures { (accesses : List (List Access)) → StandsIn plan.now run.old accesses →
+        TakesTurn plan.now run.old run.new node (past_all plan.now node) accesses }
+{
+    let steps = plan.steps(usize::from(node)).len() as u32;
+    take_steps(run, plan, node, steps + 1)
+}
+
+/// `go`: each driver, in the order of the nodes, does all that it can. While one has a step left a bit is run, and so
+/// it goes on; then the bus runs until every controller is at rest. It says whether that came before the bits were
+/// spent.
+pub(crate) fn go_turn(run: &mut SerialRun, plan: &Plan) -> bool
+    requires run { IsRunIn plan.now run.old }
+    ensures { (accesses : List (List Access)) → StandsIn plan.now run.old accesses →
+        TakesGo plan.now accesses run.old run.new result }
+{
+    for _ in run.bits()..plan.bits() + 1 {
+        take_round(run, plan);
+        if none_is_left(run, plan) {
+            return run.rest_turn();
+        }
+        if !run.bus_turn(1) {
+            return false;
+        }
+    }
+    unreachable!()
+}
+
+/// Each driver, in the order of the nodes, does all that it can. No bit is run.
+fn take_round(run: &mut SerialRun, plan: &Plan)
+    requires run { IsRunIn plan.now run.old }
+    ensures round { (accesses : List (List Access)) → StandsIn plan.now run.old accesses → (after : List (List Access))
+        × TakesAll plan.now 0 accesses run.old after run.new × StandsIn plan.now run.new after }
+    ensures bits { run.new.bits ≡ run.old.bits }
+{
+    for node in 0..plan.nodes() as u8 {
+        take_all_steps(run, plan, node);
+    }
+}
+
+/// Whether all drivers have done their last step.
+fn none_is_left(run: &SerialRun, plan: &Plan) -> bool
+    requires run { IsRunIn plan.now run.now }
+    ensures none { result ≡ true → (accesses : List (List Access)) → StandsIn plan.now run.now accesses →
+        NoneIsLeft plan.now accesses }
+    ensures some { result ≡ false → (accesses : List (List Access)) → StandsIn plan.now run.now accesses →
+        SomeIsLeft plan.now accesses }
+{
+    for node in 0..plan.nodes() {
+        if run.driver(node).log().done().len() < plan.steps(node).len() {
+            return false;
+        }
+    }
+    true
+}

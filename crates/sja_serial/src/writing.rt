@@ -1,0 +1,156 @@
+//! A write of a driver that knows addresses and bytes alone: most are one deed, some are two or three.
+
+use super::serial_run::SerialRun;
+use sja_driver::{KeptBytes, is_start, is_stop, is_typed_write, steps_of_write, written_command};
+use sja_regs::address::{CMR, MOD};
+use sja_script::{Step, StepAnswer};
+
+impl SerialRun {
+    ghost use Rattle.std.specs.Prelude.{◌≡◌, List, true, ◌∷◌, []};
+    ghost use Rattle.sja_driver.specs.Accesses.{Access, by_bytes};
+    ghost use Rattle.sja_driver.specs.WriteLists.{IsPrompt};
+    ghost use Rattle.sja_script.specs.declared.step.Step.TheVariants.{Write};
+    ghost use Rattle.sja_serial.specs.Inside.Accessing.{IsSteps};
+    ghost use Rattle.sja_serial.specs.Serial.{Setup, StandsBy, IsRunBy};
+    ghost use Rattle.sja_serial.specs.Stepping.{DoesStep, HasRoomLeft};
+
+    /// A write of a byte to an address.
+    #[inline(always)]
+    pub(crate) fn write(&mut self, node: u8, address: u8, value: u8)
+        ghost setup: { Setup }
+        requires run { IsRunBy setup self.old }
+        requires room { HasRoomLeft setup self.old node }
+        requires bytes { by_bytes setup.version ≡ true }
+        ensures { (accesses : List (List Access)) → StandsBy setup self.old accesses →
+            DoesStep setup self.old self.new node (Write address value) accesses }
+    {
+        if is_typed_write(&self.board.ports[usize::from(node)], address, value) {
+            return self.write_alone(node, address, value, &Step::Write(address, value));
+        }
+        if address == CMR {
+            return self.write_command(node, value);
+        }
+        self.write_mode(node, value);
+    }
+
+    /// A write of a command.
+    #[inline(never)]
+    fn write_command(&mut self, node: u8, value: u8)
+        ghost setup: { Setup }
+        requires run { IsRunBy setup self.old }
+        requires room { HasRoomLeft setup self.old node }
+        requires bytes { by_bytes setup.version ≡ true }
+        ensures { (accesses : List (List Access)) → StandsBy setup self.old accesses →
+            DoesStep setup self.old self.new node (Write 1 value) accesses }
+    {
+        let written = written_command(&self.board.ports[usize::from(node)], value);
+        if written.releases {
+            if written.command == 0 {
+                return self.write_alone(node, CMR, value, &Step::Release);
+            }
+        } else if written.command != 0 {
+            return self.write_alone(node, CMR, value, &Step::Command(written.command));
+        }
+        self.write_parts(node, CMR, value);
+    }
+
+    /// A write of a mode that isn't the same write of a typed driver.
+    #[inline(never)]
+    fn write_mode(&mut self, node: u8, value: u8)
+        ghost setup: { Setup }
+        requires run { IsRunBy setup self.old }
+        requires room { HasRoomLeft setup self.old node }
+        requires bytes { by_bytes setup.version ≡ true }
+        ensures { (accesses : List (List Access)) → StandsBy setup self.old accesses →
+            DoesStep setup self.old self.new node (Write 0 value) accesses }
+    {
+        let place = usize::from(node);
+        let port = &self.board.ports[place];
+        if is_stop(port, value) {
+            return self.write_alone(node, MOD, value, &Step::Stop);
+        }
+        if is_start(&self.drivers[place], port, value) {
+            return self.write_alone(node, MOD, value, &Step::Start);
+        }
+        self.write_parts(node, MOD, value);
+    }
+
+    /// A write that is this one deed.
+    #[inline(always)]
+    fn write_alone(&mut self, node: u8, address: u8, value: u8, step: &Step)
+        ghost setup: { Setup }
+        requires run { IsRunBy setup self.old }
+        requires room { HasRoomLeft setup self.old node }
+        requires bytes { by_bytes setup.version ≡ true }
+        requires prompt { IsPrompt step.now }
+        requires one { IsSteps setup self.old node address value (step.now ∷ []) }
+        ensures { (accesses : List (List Access)) → StandsBy setup self.old accesses →
+            DoesStep setup self.old self.new node (Write address value) accesses }
+    {
+        let mut kept = self.kept_by_step(node, &Step::Write(address, value));
+        match self.deed(node, step) {
+            Some(answer) => {
+                kept.answered(&answer);
+                self.enter(node, StepAnswer::Done, kept);
+            }
+            None => unreachable!(),
+        }
+    }
+}
+
+impl SerialRun {
+    ghost use Rattle.std.specs.Prelude.{◌≡◌, ◌+◌, ◌<◌, List, true, length, slice_index_or};
+    ghost use Rattle.sja_driver.specs.Accesses.{Access, accesses_at, by_bytes, deeds_in};
+    ghost use Rattle.sja_driver.specs.Deeds.{Deed};
+    ghost use Rattle.sja_driver.specs.WriteLists.{IsPromptIf};
+    ghost use Rattle.sja_script.specs.declared.step.Step.TheVariants.{Write};
+    ghost use Rattle.sja_serial.specs.Inside.Accessing.{DoesDeeds, DoesPart};
+    ghost use Rattle.sja_serial.specs.Serial.{Setup, SerialValue, StandsBy, IsRunBy};
+    ghost use Rattle.sja_serial.specs.Stepping.{DoesStep, HasDeedLeft, HasRoomLeft};
+
+    /// A write, whatever deeds it is, none to three.
+    #[inline(never)]
+    fn write_parts(&mut self, node: u8, address: u8, value: u8)
+        ghost setup: { Setup }
+        requires run { IsRunBy setup self.old }
+        requires room { HasRoomLeft setup self.old node }
+        requires bytes { by_bytes setup.version ≡ true }
+        ensures { (accesses : List (List Access)) → StandsBy setup self.old accesses →
+            DoesStep setup self.old self.new node (Write address value) accesses }
+    {
+        // Asked for what holds of every bus.
+        let _ = self.bits_left();
+        let place = usize::from(node);
+        let port = &self.board.ports[place];
+        let steps = steps_of_write(&self.drivers[place], port, address, value);
+        let kept = self.kept_by_step(node, &Step::Write(address, value));
+        let kept = self.part(node, &steps.first, kept);
+        let kept = self.part(node, &steps.second, kept);
+        let kept = self.part(node, &steps.third, kept);
+        self.enter(node, StepAnswer::Done, kept);
+    }
+
+    /// The next part of such a write, if there is one, and what is kept after it.
+    #[inline(always)]
+    fn part(&mut self, node: u8, part: &Option<Step>, kept: KeptBytes) -> KeptBytes
+        ghost setup: { Setup }
+        requires prompt { IsPromptIf part.now }
+        requires room { HasDeedLeft setup self.old node }
+        ensures { (was : SerialValue) (accesses : List (List Access)) (more : List Deed) →
+            StandsBy setup was accesses → DoesDeeds setup was self.old node accesses more →
+            length (deeds_in (accesses_at accesses node)) + length more < slice_index_or setup.steps node 0 →
+            DoesPart setup was self.new node accesses more part.now kept result }
+    {
+        let Some(step) = part else {
+            return kept;
+        };
+        match self.deed(node, step) {
+            Some(answer) => {
+                let mut kept = kept;
+                kept.answered(&answer);
+                kept
+            }
+            None => unreachable!(),
+        }
+    }
+}
