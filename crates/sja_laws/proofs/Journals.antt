@@ -1,0 +1,3 @@
+pub mod LastBits
+pub mod Partners
+pub mod VerdictBits

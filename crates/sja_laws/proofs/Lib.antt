@@ -1,0 +1,4 @@
+pub mod Journals
+pub mod OneNode
+pub mod AllNodes
+pub mod WholeRun

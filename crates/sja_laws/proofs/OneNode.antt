@@ -1,0 +1,11 @@
+pub mod OnePort
+pub mod OneTurn
+pub mod OneAnswer
+pub mod OneAccess
+pub mod OneVerdict
+pub mod OneBit
+pub mod Onward
+pub mod Coming
+pub mod Asked
+pub mod Together
+pub mod Stuck

@@ -1,0 +1,129 @@
+-- A step of a driver, as its author has it, does one thing.
+use Rattle.std.proofs.Common.{◌≡◌, ℕ, Bool, true, false, List, [], ◌∷◌, ◌++◌, refl, sym, ap, ◌∙◌, subst}
+use Rattle.can_frame.specs.declared.seen.Seen.{Seen}
+use Rattle.lemmas.specs.Picking.{EachAfter}
+use Rattle.sja_link.specs.declared.entry.Entry.{Entry}
+use Rattle.sja_link.specs.Looking.{off_among}
+use Rattle.sja_link.specs.Places.{place_of}
+use Rattle.sja_regs.specs.declared.registers.Registers.{Registers}
+use Rattle.sja_script.specs.declared.step.Step.{Step}
+use Rattle.sja_script.specs.declared.step.Step.TheVariants.{Start, Stop, Window, Release, Read, Write, Load, Command}
+use Rattle.sja_script.specs.declared.step.Step.TheVariants.{Await, Sent, Interrupt}
+use Rattle.sja_script.specs.declared.step_answer.StepAnswer.{StepAnswer}
+use Rattle.sja_driver.specs.declared.kept_bytes.KeptBytes.{KeptBytes}
+use Rattle.sja_driver.specs.Accesses.{Access, Answers, IsAccess, by_bytes, deed_steps, kept_by, kept_written}
+use Rattle.sja_driver.specs.Carried.{Sees}
+use Rattle.sja_driver.specs.Deeds.{Deed, is_active, opened_by}
+use Rattle.sja_driver.specs.Windows.{SeesIf, off_by, put_by, window_of}
+use Rattle.sja_log.specs.Registering.{LeadOn, seen_now}
+use Rattle.sja_log.specs.Registering.LeadOn.{nothing_more, one_more}
+use Rattle.sja_log.proofs.Trace.Windows.{window_later}
+use Rattle.sja_laws.specs.Promised.{IsPromised}
+use Rattle.sja_laws.proofs.OneNode.OneAnswer.{deeds_once}
+use Rattle.sja_laws.proofs.OneNode.OnePort.{bits_with_items}
+
+-- ---- the answer of a step
+
+one_same : (xs : List StepAnswer) (a b : StepAnswer) → xs ≡ a ∷ [] → xs ≡ b ∷ [] → a ≡ b
+one_same xs a b h k = let e : a ∷ [] ≡ b ∷ [] = sym h ∙ k in cc
+
+told_once : (bytes : Bool) (p : Registers) (seen : Seen) (kept : KeptBytes) (s : Step) (deeds : List Deed)
+    (a b : StepAnswer) → Answers bytes p seen kept s deeds a → Answers bytes p seen kept s deeds b → a ≡ b
+told_once true p seen kept (Read address) deeds a b h k = h ∙ sym k
+told_once true p seen kept (Write address value) deeds a b h k = h ∙ sym k
+told_once true p seen kept Start deeds a b h k = one_same _ a b h k
+told_once true p seen kept Stop deeds a b h k = one_same _ a b h k
+told_once true p seen kept Window deeds a b h k = one_same _ a b h k
+told_once true p seen kept Release deeds a b h k = one_same _ a b h k
+told_once true p seen kept (Load m) deeds a b h k = one_same _ a b h k
+told_once true p seen kept (Command value) deeds a b h k = one_same _ a b h k
+told_once true p seen kept (Await count) deeds a b h k = one_same _ a b h k
+told_once true p seen kept Sent deeds a b h k = one_same _ a b h k
+told_once true p seen kept Interrupt deeds a b h k = one_same _ a b h k
+told_once false p seen kept s deeds a b h k = one_same _ a b h k
+
+pub record IsOneAccess (a b : Access) (kept_a kept_b : KeptBytes) (k l : List Entry) (q r : Registers) : Type 0 where
+  pub access : a ≡ b
+  pub kept : kept_a ≡ kept_b
+  pub entries : k ≡ l
+  pub port : q ≡ r
+
+pub access_once : (version : ℕ) (whole : List Entry) (before : List Deed) (j k l : List Entry) (p q r : Registers)
+    (kept kept_a kept_b : KeptBytes) (a b : Access) → a.step ≡ b.step → a.bits ≡ b.bits →
+    IsAccess version p (seen_now (is_active before) j before) (is_active before) kept a kept_a →
+    IsAccess version p (seen_now (is_active before) j before) (is_active before) kept b kept_b →
+    LeadOn before j p a.deeds k q → LeadOn before j p b.deeds l r →
+    EachAfter (IsPromised version whole) before a.deeds → EachAfter (IsPromised version whole) before b.deeds →
+    IsOneAccess a b kept_a kept_b k l q r
+access_once version whole before j k l p q r kept kept_a kept_b a b same bits is it on lead h g =
+    let active = is_active before in
+    let steps = is.steps ∙ ap (deed_steps (by_bytes version) p active) same ∙ sym it.steps in
+    let one = deeds_once version whole before j p a.deeds b.deeds k l q r on lead steps h g in
+    let seen = seen_now active j before in
+    let A : Step → List Deed → Type 0 = λ s d. Answers (by_bytes version) p seen kept s d b.answer in
+    let again : A a.step a.deeds =
+    subst (λ d. A a.step d) (sym one.deeds) (subst (λ s. A s b.deeds) (sym same) it.answer) in
+    let answer = told_once (by_bytes version) p seen kept a.step a.deeds a.answer b.answer is.answer again in
+    record {
+      access = λ i. record { step = same i; answer = answer i; bits = bits i; deeds = one.deeds i };
+      kept = is.left ∙ (λ i. kept_by (kept_written p kept (same i)) (one.deeds i)) ∙ sym it.left;
+      entries = one.entries;
+      port = one.port;
+    }
+
+-- the same without names
+pub access_alike : (version : ℕ) (whole : List Entry) (before : List Deed) (j k l : List Entry) (p q r : Registers)
+    (kept kept_a kept_b : KeptBytes) (a b : Access) → a.step ≡ b.step → a.bits ≡ b.bits →
+    IsAccess version p (seen_now (is_active before) j before) (is_active before) kept a kept_a →
+    IsAccess version p (seen_now (is_active before) j before) (is_active before) kept b kept_b →
+    LeadOn before j p a.deeds k q → LeadOn before j p b.deeds l r →
+    EachAfter (IsPromised version whole) before a.deeds → EachAfter (IsPromised version whole) before b.deeds →
+    (a ≡ b) × (kept_a ≡ kept_b) × (k ≡ l) × (q ≡ r)
+access_alike version whole before j k l p q r kept kept_a kept_b a b same bits is it on lead h g =
+    let o = access_once version whole before j k l p q r kept kept_a kept_b a b same bits is it on lead h g in
+    (o.access, o.kept, o.entries, o.port)
+
+-- ---- when the deeds of a step were done
+
+abbrev pub AllAt : ℕ → List Deed → Type 0
+AllAt n [] = Unit {0}
+AllAt n (d ∷ deeds) = (d.bits ≡ n) × AllAt n deeds
+
+at_push : (n : ℕ) (deeds : List Deed) (d : Deed) → AllAt n deeds → d.bits ≡ n → AllAt n (deeds ++ d ∷ [])
+at_push n [] d h b = (b, tt)
+at_push n (x ∷ deeds) d h b = (h.0, at_push n deeds d h.1 b)
+
+pub bits_on : (before : List Deed) (j : List Entry) (p : Registers) (k : List Entry) (q : Registers)
+    (deeds : List Deed) →
+    LeadOn before j p deeds k q → ((place_of k).bits ≡ (place_of j).bits) × AllAt (place_of j).bits deeds
+bits_on before j p k q _ nothing_more = (refl, tt)
+bits_on before j p l r _ (one_more deeds d k _ q _ on is) =
+    let h = bits_on before j p k q deeds on in
+    (bits_with_items k l d.gave is.taken ∙ h.0, at_push (place_of j).bits deeds d h.1 (is.now ∙ h.0))
+
+-- ---- what was seen of a journal that goes on
+
+sees_then : (active : Bool) (j whole : List Entry) (before : List Deed) (d : Deed) →
+    ((a : ℕ) → put_by d.bits whole a ≡ put_by d.bits j a) → SeesIf active whole before d → SeesIf active j before d
+sees_then true j whole before d same h =
+    let a = opened_by before in
+    let off : off_by d.bits whole a ≡ off_by d.bits j a = ap (λ l. off_among false l) (same a) in
+    let window = window_later j whole before d.bits (same a) in
+    subst (λ o. Sees d.step o (window_of j before d.bits) d.answer) off
+    (subst (λ w. Sees d.step (off_by d.bits whole a) w d.answer) window h)
+sees_then false j whole before d same h = tt
+
+pub promised_then : (version n : ℕ) (j whole : List Entry) (before deeds : List Deed) →
+    ((a : ℕ) → put_by n whole a ≡ put_by n j a) → AllAt n deeds → EachAfter (IsPromised version whole) before deeds →
+    EachAfter (IsPromised version j) before deeds
+promised_then version n j whole before [] same at h = tt
+promised_then version n j whole before (d ∷ deeds) same at h =
+    let P : ℕ → Type 0 = λ m. (a : ℕ) → put_by m whole a ≡ put_by m j a in
+    let first = h.0 in (
+      record {
+        fits = first.fits;
+        sees = sees_then (is_active before) j whole before d (subst P (sym at.0) same) first.sees;
+        patient = first.patient;
+      },
+      promised_then version n j whole (before ++ d ∷ []) deeds same at.1 h.1,
+    )

@@ -1,0 +1,9 @@
+pub mod Progressing
+pub mod Late
+pub mod NodeTurn
+pub mod Turns
+pub mod Lines
+pub mod Ending
+pub mod Nodes
+pub mod Logs
+pub mod Sweeps

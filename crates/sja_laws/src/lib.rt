@@ -1,0 +1,26 @@
+//! Laws of runs in one thread: what a plan, a journal or a step leaves open, and that it is nothing.
+//!
+//! [`a_plan_has_one_log`] is the law of whole runs. Others are of their parts: the registers, the levels on the bus,
+//! one bit of a node, one step of a driver, and where `rest` and `irq` end. The last ones are for who runs a plan
+//! again, has the plan of a session, or reads a sweep. Each law is the contract of a function that does nothing.
+#![tactic(auto)]
+
+mod bit;
+mod levels;
+mod one_log;
+mod registers;
+mod resting;
+mod step;
+mod sweeping;
+
+pub use bit::a_bit_brings_one_thing;
+pub use levels::{a_record_drives_one_level, what_all_drive_is_what_each_sees};
+pub use one_log::{
+    a_plan_has_one_log, a_plan_that_is_run_again_has_the_same_log, a_session_replays,
+};
+pub use registers::{entries_and_deeds_lead_to_one_port, entries_and_deeds_say_one_line};
+pub use resting::{
+    a_round_of_go_runs_no_bit, irq_runs_one_number_of_bits, rest_runs_one_number_of_bits,
+};
+pub use step::{a_step_does_one_thing, a_step_that_is_done_has_not_to_wait};
+pub use sweeping::{a_row_of_a_sweep_is_of_the_run, a_sweep_has_one_text};
