@@ -74,7 +74,7 @@ impl Field {
     }
 
     /// The field of a bit after SOF in this phase, which belongs to this segment, or to none.
-    pub(crate) fn of_bit(phase: Phase, segment: Option<Segment>) -> Field
+    pub fn of_bit(phase: Phase, segment: Option<Segment>) -> Field
         ensures { result ≡ field_by phase segment }
     {
         match phase {

@@ -6,10 +6,10 @@ use super::frame_bit::FrameBit;
 use super::frame_line::FrameLine;
 use super::last_bit::LastBit;
 use super::run::Run;
-use super::starts::{is_frame, is_intermission};
+use super::starts::is_intermission;
 use can_frame::Frame;
 use sja_replay::{Happening, ShortBit};
-use sja_trace::put_frame;
+use sja_trace::{is_frame, put_frame};
 use std::alloc::{AllocError, Global};
 use std::fmt::Write;
 

@@ -8,7 +8,7 @@ ghost use Rattle.sja_frames.specs.Inside.Passing.{belongs_by};
 use can_frame::Frame;
 use can_node::{Phase, Request};
 use sja_replay::{Happening, ShortBit};
-use sja_trace::is_start;
+use sja_trace::{is_frame, is_start};
 
 /// The frame whose SOF the bit is, where the node is its transmitter from then on.
 pub(crate) fn started_by(bit: &Happening) -> Option<Frame>
@@ -59,14 +59,7 @@ pub(crate) fn is_within(bit: &Happening) -> bool
     is_frame(bit.before.phase) && bit.before.transmits
 }
 
-/// Whether a bit in this phase belongs to a frame.
-pub(crate) fn is_frame(phase: Phase) -> bool
-    ensures { result ≡ is_frame phase }
-{
-    matches!(phase, Phase::Frame)
-}
-
-/// Whether it belongs to intermission (Bosch CAN 2.0 part A section 3.1.5).
+/// Whether a bit in this phase belongs to intermission (Bosch CAN 2.0 part A section 3.1.5).
 pub(crate) fn is_intermission(phase: Phase) -> bool
     ensures { result ≡ is_intermission phase }
 {

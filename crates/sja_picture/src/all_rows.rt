@@ -4,6 +4,7 @@ ghost use Rattle.std.specs.Prelude.{◌≡◌, ◌++◌, length, IfOk, OnOk, str
 ghost use Rattle.lemmas.specs.Related.{EachRelated};
 ghost use Rattle.sja_report.specs.ReportLines.{numbered};
 ghost use Rattle.sja_picture.specs.Inside.Drawing.{AreFresh, EachBeside, Passes, Draws, Clears, shown_rows};
+ghost use Rattle.sja_picture.specs.Inside.Resting.{Rests, PassesRest};
 
 use super::node_rows::NodeRows;
 use can_bits::Level;
@@ -28,7 +29,7 @@ pub(crate) fn pass_all(rows: &mut [NodeRows], tellers: &[Teller<'_>])
     ensures { EachBeside Passes tellers.now rows.old rows.new }
 {
     for k in 0..rows.len() {
-        rows[k].pass(tellers[k].bits.bit());
+        rows[k].pass(&tellers[k]);
     }
 }
 
@@ -42,7 +43,31 @@ pub(crate) fn draw_all(
     ensures { OnOk result (EachBeside (Draws bus) tellers.now rows.old rows.new) }
 {
     for k in 0..rows.len() {
-        rows[k].draw(bus, tellers[k].bits.bit())?;
+        rows[k].draw(bus, &tellers[k])?;
+    }
+    Ok(())
+}
+
+/// Goes past five bits or more in which every node rested.
+pub(crate) fn pass_rest_all(rows: &mut [NodeRows])
+    ensures { EachRelated PassesRest rows.old rows.new }
+{
+    for k in 0..rows.len() {
+        rows[k].pass_rest();
+    }
+}
+
+/// Draws so many bits, five or more, in which every node rested.
+pub(crate) fn draw_rest_all(
+    rows: &mut [NodeRows],
+    tellers: &[Teller<'_>],
+    count: u32,
+) -> Result<(), AllocError>
+    requires { length tellers.now ≡ length rows.old }
+    ensures { OnOk result (EachBeside (Rests count) tellers.now rows.old rows.new) }
+{
+    for k in 0..rows.len() {
+        rows[k].draw_rest(count, &tellers[k])?;
     }
     Ok(())
 }

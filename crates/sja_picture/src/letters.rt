@@ -1,15 +1,17 @@
 //! The letter of a bit of a node.
 
 ghost use Rattle.std.specs.Prelude.{◌≡◌};
-ghost use Rattle.sja_picture.specs.Letters.{field_letter, flag_letter, frame_letter, phase_letter, letter};
+ghost use Rattle.sja_picture.specs.Letters.{field_letter, flag_letter, frame_letter, letter};
+ghost use Rattle.sja_picture.specs.Inside.Drawing.{shown_letter, short_letter};
 
-use can_bits::Level;
+use can_bits::{Level, Segment};
 use can_node::{FlagKind, Phase};
 use sja_frames::Field;
-use sja_replay::Happening;
+use sja_replay::{Happening, ShortBit};
 use sja_trace::{is_same, is_start};
 
 /// The letter of a bit in which the bus had this level; it came after five equal levels or not.
+#[tactic(auto, using(crate::proofs::NodeRows::Hands::letter_shown))]
 pub(crate) fn letter(bus: Level, after_five: bool, bit: &Happening) -> &'static str
     ensures { result.now ≡ letter bus after_five bit.now }
 {
@@ -19,19 +21,35 @@ pub(crate) fn letter(bus: Level, after_five: bool, bit: &Happening) -> &'static 
     if is_start(bit) {
         return "S";
     }
-    phase_letter(after_five, bit)
+    let before = &bit.before;
+    shown_letter(after_five, before.phase, before.segment, before.flag)
+}
+
+/// The same of a bit in short, with which no frame begins.
+pub(crate) fn short_letter(bus: Level, after_five: bool, short: &ShortBit) -> &'static str
+    ensures { result.now ≡ short_letter bus after_five short.now }
+{
+    if !is_same(short.seen, bus) {
+        return "x";
+    }
+    shown_letter(after_five, short.phase, short.segment, short.flag)
 }
 
 /// The letter of a bit that isn't SOF, by what the node showed before it.
-fn phase_letter(after_five: bool, bit: &Happening) -> &'static str
-    ensures { result.now ≡ phase_letter bit.now.before.phase after_five bit.now }
+fn shown_letter(
+    after_five: bool,
+    phase: Phase,
+    segment: Option<Segment>,
+    flag: FlagKind,
+) -> &'static str
+    ensures { result.now ≡ shown_letter phase after_five segment flag }
 {
-    match bit.before.phase {
+    match phase {
         Phase::Reset => ".",
         Phase::Waiting => "w",
         Phase::Idle => "-",
-        Phase::Frame => frame_letter(after_five, Field::of(bit)),
-        Phase::Flag => flag_letter(bit.before.flag),
+        Phase::Frame => frame_letter(after_five, Field::of_bit(phase, segment)),
+        Phase::Flag => flag_letter(flag),
         Phase::Delimiter => "d",
         Phase::Intermission => "i",
         Phase::Suspension => "p",

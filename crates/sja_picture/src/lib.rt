@@ -11,6 +11,7 @@
 #![tactic(auto)]
 
 mod all_rows;
+mod copies;
 mod letters;
 mod lines;
 mod node_rows;

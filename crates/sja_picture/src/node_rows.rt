@@ -1,11 +1,12 @@
 //! [`NodeRows`]: the rows of a node.
 
-use super::letters::letter;
+use super::copies::{put_levels, put_rest_letters};
+use super::letters::{letter, short_letter};
 use super::lines::{put_level, put_node_row, put_row};
 use can_bits::Level;
 use sja_frames::Run;
-use sja_replay::Happening;
-use sja_trace::{driven_in, is_start};
+use sja_replay::{Happening, ShortBit};
+use sja_trace::{Teller, driven_of, is_start};
 use std::alloc::{AllocError, Global};
 
 /// The rows of a node in the block that is drawn, and the run of equal levels before its next bit.
@@ -21,7 +22,8 @@ pub(crate) struct NodeRows {
 
 impl NodeRows {
     ghost use Rattle.std.specs.Prelude.{◌≡◌, ◌++◌, None, [], OnOk, string_bytes};
-    ghost use Rattle.sja_picture.specs.Inside.Drawing.{run_past, IsFresh, Passes, Draws, Clears, shown_rows};
+    ghost use Rattle.sja_picture.specs.Inside.Drawing.{hand_run, IsFresh, Passes, Draws, Clears, shown_rows};
+    ghost use Rattle.sja_picture.specs.Inside.Resting.{Rests, PassesRest};
 
     /// Before the first bit.
     pub(crate) fn new(alloc: Global) -> NodeRows
@@ -34,20 +36,40 @@ impl NodeRows {
         }
     }
 
-    /// Goes past a bit.
-    pub(crate) fn pass(&mut self, bit: &Option<Happening>)
-        ensures { Passes bit.now self.old self.new }
+    /// Goes past the bit that the teller has at hand.
+    pub(crate) fn pass(&mut self, teller: &Teller<'_>)
+        ensures { Passes teller.now self.old self.new }
     {
-        self.run = run_past(self.run, bit);
+        self.run = hand_run(self.run, &teller.short, teller.bits.bit());
     }
 
-    /// Draws a bit in which the bus had this level, and goes past it.
-    pub(crate) fn draw(&mut self, bus: Level, bit: &Option<Happening>) -> Result<(), AllocError>
-        ensures { OnOk result (Draws bus bit.now self.old self.new) }
+    /// Draws that bit, in which the bus had this level, and goes past it.
+    pub(crate) fn draw(&mut self, bus: Level, teller: &Teller<'_>) -> Result<(), AllocError>
+        ensures { OnOk result (Draws bus teller.now self.old self.new) }
     {
-        put_level(&mut self.levels, driven_in(bit))?;
-        self.letters.push_str(letter_if(bus, self.run, bit))?;
-        self.run = run_past(self.run, bit);
+        let short = &teller.short;
+        let bit = teller.bits.bit();
+        put_level(&mut self.levels, driven_of(short, bit))?;
+        self.letters
+            .push_str(hand_letter(bus, self.run, short, bit))?;
+        self.run = hand_run(self.run, short, bit);
+        Ok(())
+    }
+
+    /// Goes past five bits or more in which the node rested.
+    pub(crate) fn pass_rest(&mut self)
+        ensures { PassesRest self.old self.new }
+    {
+        self.run = rest_run(self.run);
+    }
+
+    /// Draws so many bits, five or more, in which the node rested as the teller has it at hand.
+    pub(crate) fn draw_rest(&mut self, count: u32, teller: &Teller<'_>) -> Result<(), AllocError>
+        ensures { OnOk result (Rests count teller.now self.old self.new) }
+    {
+        put_levels(&mut self.levels, count)?;
+        put_rest_letters(&mut self.letters, &teller.short, count)?;
+        self.run = rest_run(self.run);
         Ok(())
     }
 
@@ -71,7 +93,8 @@ impl NodeRows {
 }
 
 ghost use Rattle.std.specs.Prelude.{◌≡◌};
-ghost use Rattle.sja_picture.specs.Inside.Drawing.{run_with, run_past, is_full, letter_after};
+ghost use Rattle.sja_picture.specs.Inside.Drawing.{run_with, run_past, hand_run, is_full, letter_after, hand_letter};
+ghost use Rattle.sja_picture.specs.Inside.Resting.{rest_run};
 
 /// The run of equal levels past a bit, if there is one.
 pub fn run_past(run: Option<Run>, bit: &Option<Happening>) -> Option<Run>
@@ -96,6 +119,32 @@ fn run_with(run: Option<Run>, bit: &Happening) -> Option<Run>
     }
 }
 
+/// The same past a bit at hand, in short or else in full.
+fn hand_run(run: Option<Run>, short: &Option<ShortBit>, bit: &Option<Happening>) -> Option<Run>
+    ensures { result ≡ hand_run run short.now bit.now }
+{
+    match short {
+        Some(short) => match run {
+            Some(run) => Some(run.with(short.seen)),
+            None => None,
+        },
+        None => run_past(run, bit),
+    }
+}
+
+/// The same past five recessive bits or more.
+fn rest_run(run: Option<Run>) -> Option<Run>
+    ensures { result ≡ rest_run run }
+{
+    match run {
+        Some(_) => Some(Run {
+            last: Level::Recessive,
+            count: 5,
+        }),
+        None => None,
+    }
+}
+
 /// Whether five equal levels came last.
 pub fn is_full(run: Option<Run>) -> bool
     ensures { result ≡ is_full run }
@@ -103,6 +152,21 @@ pub fn is_full(run: Option<Run>) -> bool
     match run {
         Some(run) => run.is_full(),
         None => false,
+    }
+}
+
+/// The letter of a bit at hand after this run, in short or else in full.
+fn hand_letter(
+    bus: Level,
+    run: Option<Run>,
+    short: &Option<ShortBit>,
+    bit: &Option<Happening>,
+) -> &'static str
+    ensures { result.now ≡ hand_letter bus run short.now bit.now }
+{
+    match short {
+        Some(short) => short_letter(bus, is_full(run), short),
+        None => letter_if(bus, run, bit),
     }
 }
 

@@ -1,11 +1,12 @@
 //! [`Page`]: a picture, as far as it was drawn.
 
-use super::all_rows::{clear_all, draw_all, pass_all, put_all};
+use super::all_rows::{clear_all, draw_all, draw_rest_all, pass_all, pass_rest_all, put_all};
+use super::copies::put_levels;
 use super::lines::{put_level, put_row};
 use super::node_rows::NodeRows;
 use super::ruler::put_ruler;
 use super::span::Span;
-use sja_trace::{Teller, bus_of};
+use sja_trace::{Teller, bus_of_hands};
 use std::alloc::{AllocError, Global};
 
 /// How many bits a block has.
@@ -23,8 +24,9 @@ pub(crate) struct Page {
 }
 
 impl Page {
-    ghost use Rattle.std.specs.Prelude.{◌≡◌, ◌<◌, length, [], string_bytes, OnOk};
-    ghost use Rattle.sja_picture.specs.Inside.Pages.{DrawsBit, EndsBlock, TakesBit};
+    ghost use Rattle.std.specs.Prelude.{◌≡◌, ◌<◌, ◌≤◌, ◌+◌, ◌-◌, length, [], string_bytes, OnOk};
+    ghost use Rattle.sja_picture.specs.Inside.Pages.{DrawsBit, DrawsRest, MayEnd, EndsBlock, HasRoom};
+    ghost use Rattle.sja_picture.specs.Inside.Pages.{TakesBit, TakesRest};
 
     /// Before the first bit.
     pub(crate) fn new(alloc: Global, span: Span) -> Page
@@ -57,11 +59,45 @@ impl Page {
             return Ok(());
         }
         self.draw(rows, tellers)?;
-        let stop = bit + 1;
-        if !is_over(span, self.start, stop) {
+        self.end_if_over(alloc, rows, span, bit + 1)?;
+        Ok(())
+    }
+
+    /// How many bits from this one on are before the first one that is shown, or else in the block that is drawn.
+    pub(crate) fn room(&self, span: Span, bit: u32) -> u32
+        requires within { bit < span.end }
+        ensures { HasRoom span bit result self.now.start }
+    {
+        let most = span.end - bit;
+        if bit < span.first {
+            most.min(span.first - bit)
+        } else {
+            most.min(BLOCK.saturating_sub(bit.saturating_sub(self.start)))
+        }
+    }
+
+    /// Goes past so many bits of the run, five or more, in which all nodes rested as the tellers have it at hand, and
+    /// draws them where they are to be shown.
+    pub(crate) fn rest(
+        &mut self,
+        alloc: Global,
+        rows: &mut [NodeRows],
+        tellers: &[Teller<'_>],
+        span: Span,
+        bit: u32,
+        count: u32,
+    ) -> Result<(), AllocError>
+        requires many { 5 ≤ count }
+        requires room { HasRoom span bit count self.old.start }
+        requires beside { length tellers.now ≡ length rows.old }
+        ensures { OnOk result (TakesRest span bit count tellers.now rows.old rows.new self.old self.new) }
+    {
+        if bit < span.first {
+            pass_rest_all(rows);
             return Ok(());
         }
-        self.end_block(alloc, rows, span, stop)?;
+        self.draw_rest(rows, tellers, count)?;
+        self.end_if_over(alloc, rows, span, bit + count)?;
         Ok(())
     }
 
@@ -70,9 +106,41 @@ impl Page {
         requires { length tellers.now ≡ length rows.old }
         ensures { OnOk result (DrawsBit tellers.now rows.old rows.new self.old self.new) }
     {
-        let bus = bus_of(tellers);
+        let bus = bus_of_hands(tellers);
         put_level(&mut self.bus, bus)?;
         draw_all(rows, tellers, bus)?;
+        Ok(())
+    }
+
+    /// Draws so many bits in which all nodes rested.
+    fn draw_rest(
+        &mut self,
+        rows: &mut [NodeRows],
+        tellers: &[Teller<'_>],
+        count: u32,
+    ) -> Result<(), AllocError>
+        requires { length tellers.now ≡ length rows.old }
+        ensures { OnOk result (DrawsRest count tellers.now rows.old rows.new self.old self.new) }
+    {
+        put_levels(&mut self.bus, count)?;
+        draw_rest_all(rows, tellers, count)?;
+        Ok(())
+    }
+
+    /// Ends the block before this bit, if it's full or no bit is left.
+    fn end_if_over(
+        &mut self,
+        alloc: Global,
+        rows: &mut [NodeRows],
+        span: Span,
+        stop: u32,
+    ) -> Result<(), AllocError>
+        ensures { OnOk result (MayEnd span stop rows.old rows.new self.old self.new) }
+    {
+        if !is_over(span, self.start, stop) {
+            return Ok(());
+        }
+        self.end_block(alloc, rows, span, stop)?;
         Ok(())
     }
 

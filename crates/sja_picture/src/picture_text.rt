@@ -1,9 +1,10 @@
 //! [`picture`]: the picture of the bits of a run.
 
-ghost use Rattle.std.specs.Prelude.{◌≡◌, IfOk, string_bytes};
+ghost use Rattle.std.specs.Prelude.{◌≡◌, ◌<◌, length, IfOk, string_bytes};
 ghost use Rattle.sja_picture.specs.PictureText.{IsPicture};
 ghost use Rattle.sja_picture.specs.Inside.Drawing.{AreFresh};
 ghost use Rattle.sja_picture.specs.Inside.Pages.{AreFirst};
+ghost use Rattle.sja_picture.specs.Inside.Knowing.{GoesOn};
 
 use super::all_rows::rows_of;
 use super::node_rows::NodeRows;
@@ -11,15 +12,18 @@ use super::page::Page;
 use super::span::Span;
 use can_frame::OutOfMemory;
 use sja_log::{NodeRun, RunLog};
-use sja_trace::{Teller, finish_all, go_on_all};
+use sja_trace::{Teller, finish_all, pass_on_all, rest_all, rest_for_all};
 use std::alloc::{AllocError, Global};
+
+/// How many bits at rest are drawn at once, at least: after five equal levels no more of them count.
+const MANY: u32 = 5;
 
 /// The picture of the bits of a run from a first to a last one: in blocks of 120 bits the level of the bus in each bit,
 /// and for each node the level that it drives and a letter for what the bit was for it. Without a last bit, or with one
 /// behind the run's last, it goes up to the run's last bit. The text is empty where the first bit comes after the last.
 ///
-/// Each node's journal is gone over once, all of them together. Beside the text no more is kept than one bit of each
-/// node and the rows of one block.
+/// Each node's journal is gone over once, all of them together, and past bits in which every node rests at once. Beside
+/// the text no more is kept than one bit of each node and the rows of one block.
 ///
 /// Error: [`OutOfMemory`] where memory was refused.
 pub fn picture(
@@ -61,10 +65,34 @@ fn drawn(
     let tellers = all.as_mut_slice();
     let span = Span::of(first, last, log.bits());
     let mut page = Page::new(alloc, span);
-    for bit in 0..span.end {
-        go_on_all(tellers);
-        page.take(alloc, rows, tellers, span, bit)?;
+    let mut bit = 0;
+    while bit < span.end {
+        bit = go_on(alloc, &mut page, rows, tellers, span, bit)?;
     }
     finish_all(tellers);
     Ok(page.text)
+}
+
+/// Goes on past the next bit, or past more in which all nodes rest. Answers which one comes then.
+fn go_on(
+    alloc: Global,
+    page: &mut Page,
+    rows: &mut [NodeRows],
+    tellers: &mut [Teller<'_>],
+    span: Span,
+    bit: u32,
+) -> Result<u32, AllocError>
+    requires within { bit < span.end }
+    requires beside { length tellers.old ≡ length rows.old }
+    ensures { IfOk result (λ next. GoesOn span bit next tellers.old tellers.new rows.old rows.new page.old page.new) }
+{
+    let count = rest_for_all(tellers, bit, page.room(span, bit));
+    if count < MANY {
+        pass_on_all(tellers);
+        page.take(alloc, rows, tellers, span, bit)?;
+        return Ok(bit + 1);
+    }
+    rest_all(tellers, count);
+    page.rest(alloc, rows, tellers, span, bit, count)?;
+    Ok(bit + count)
 }

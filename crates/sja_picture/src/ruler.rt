@@ -1,9 +1,10 @@
 //! The ruler over a block.
 
-ghost use Rattle.std.specs.Prelude.{◌≡◌, ◌++◌, ◌<◌, ◌^◌, OnOk, string_bytes, decimal, slice_get, codes};
+ghost use Rattle.std.specs.Prelude.{◌≡◌, ◌++◌, ◌<◌, ◌%◌, ◌^◌, OnOk, string_bytes, slice_get, codes};
 ghost use Rattle.std.specs.Str.{IsAscii};
 ghost use Rattle.sja_picture.specs.Rows.{character_if, ruler_in};
 ghost use Rattle.sja_picture.specs.PictureText.{row, to_ten, end_of_ten};
+ghost use Rattle.sja_picture.specs.Inside.Pages.{ten_of};
 
 use std::alloc::{AllocError, Global};
 use std::fmt::Write;
@@ -20,14 +21,34 @@ pub(crate) fn put_ruler(
 {
     let mut ten = String::new(alloc);
     text.push_str("bit     ")?;
-    let last = (u64::from(bit) + u64::from(many)).saturating_sub(1);
-    for number in u64::from(bit)..end_of_ten(last) {
-        ten.clear();
-        write!(ten, "{}", number - number % 10)?;
+    let first = u64::from(bit);
+    let last = (first + u64::from(many)).saturating_sub(1);
+    write_ten(&mut ten, first)?;
+    for number in first..end_of_ten(last) {
+        begin_ten(&mut ten, number)?;
         put_character(text, ten.as_str().as_bytes(), number % 10)?;
     }
     text.push('\n')?;
     Ok(())
+}
+
+/// The number of the ten that begins with this bit; else that of the ten it is in stands there.
+fn begin_ten(ten: &mut String, number: u64) -> Result<(), AllocError>
+    ensures { OnOk result ((0 < number % 10 → string_bytes ten.old ≡ ten_of number) →
+        string_bytes ten.new ≡ ten_of number) }
+{
+    if number % 10 > 0 {
+        return Ok(());
+    }
+    write_ten(ten, number)
+}
+
+/// The number of the ten in which this bit is.
+fn write_ten(ten: &mut String, number: u64) -> Result<(), AllocError>
+    ensures { OnOk result (string_bytes ten.new ≡ ten_of number) }
+{
+    ten.clear();
+    write!(ten, "{}", number - number % 10)
 }
 
 /// The end of the ten in which a bit is.

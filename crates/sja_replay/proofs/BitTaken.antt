@@ -5,5 +5,6 @@ pub mod Judging
 pub mod Closes
 pub mod Bits
 pub mod Passed
+pub mod Heard
 pub mod Rested
 pub mod Silent

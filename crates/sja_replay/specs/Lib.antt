@@ -11,6 +11,8 @@ pub mod Replaying
 pub mod Coming
 -- ---- a bit that told nothing, in short
 pub mod Short
+-- ---- bits of a frame that several nodes receive alike
+pub mod Reading
 -- ---- bits of a node at rest
 pub mod Resting
 pub mod Silent

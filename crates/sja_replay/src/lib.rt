@@ -14,6 +14,7 @@ mod items;
 mod laws;
 mod misfit;
 mod passing;
+mod reading;
 mod replay;
 mod resting;
 mod short_bit;

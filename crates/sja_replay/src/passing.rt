@@ -1,5 +1,8 @@
 //! The quick way past a bit: in most bits nothing happens that is told.
 
+ghost use Rattle.std.specs.Prelude.{◌≡◌, Some};
+ghost use Rattle.sja_link.specs.declared.entry.Entry.TheVariants.{Bit};
+
 use super::replay::{Replay, is_same};
 use super::short_bit::ShortBit;
 use can_bits::Level;
@@ -62,11 +65,11 @@ impl<'a> Replay<'a> {
 
     /// Looks at the next entry in place of the one that was looked at.
     #[inline(always)]
-    fn look_on(&mut self)
+    pub(crate) fn look_on(&mut self)
         ensures { IsTakenFrom self.old self.new self.old.ahead }
     {
         if let Some((driven, seen)) = self.entries.next_bit() {
-            self.ahead = Some(Entry::Bit(driven, seen));
+            put_bit(&mut self.ahead, driven, seen);
         } else {
             self.ahead = self.entries.next();
         }
@@ -96,4 +99,27 @@ impl<'a> Replay<'a> {
             flag: self.node.flag(),
         }
     }
+}
+
+/// Puts a bit with these levels in the place of an entry. Where a bit stands there, its levels alone are written.
+#[inline(always)]
+fn put_bit(ahead: &mut Option<Entry>, driven: Level, seen: Level)
+    ensures { ahead.new ≡ Some (Bit driven seen) }
+{
+    if let Some(entry) = ahead {
+        if let Entry::Bit(old_driven, old_seen) = entry {
+            *old_driven = driven;
+            *old_seen = seen;
+            return;
+        }
+    }
+    put_new_bit(ahead, driven, seen);
+}
+
+/// Puts a new one there.
+#[inline(never)]
+fn put_new_bit(ahead: &mut Option<Entry>, driven: Level, seen: Level)
+    ensures { ahead.new ≡ Some (Bit driven seen) }
+{
+    *ahead = Some(Entry::Bit(driven, seen));
 }

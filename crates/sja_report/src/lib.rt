@@ -1,8 +1,8 @@
 //! The report of a run: the text of its log.
 //!
 //! [`report`] makes it of a [`RunLog`](sja_log::RunLog), in one pass over each journal. The text stands line by line in
-//! `specs/ReportLines.antt`. [`put_answer`] and [`put_bytes`] write its words, for other texts of runs, and
-//! [`digit_of`] is a digit of a byte in them.
+//! `specs/ReportLines.antt`. [`put_answer`] and [`put_bytes`] write its words, for other texts of runs,
+//! [`put_byte`] and [`put_ascii`] what these have beside them.
 #![tactic(auto)]
 
 mod lines;
@@ -12,4 +12,4 @@ mod tally;
 mod words;
 
 pub use report_text::report;
-pub use words::{digit_of, put_answer, put_bytes};
+pub use words::{put_answer, put_ascii, put_byte, put_bytes};

@@ -1,6 +1,6 @@
 //! Words of a report, each behind a space.
 
-ghost use Rattle.std.specs.Prelude.{◌≡◌, ◌<◌, ◌++◌, false, string_bytes, OnOk};
+ghost use Rattle.std.specs.Prelude.{◌≡◌, ◌<◌, [], ◌∷◌, ◌++◌, false, string_bytes, OnOk};
 ghost use Rattle.std.specs.Fmt.{digit_glyph};
 ghost use Rattle.std.specs.Str.{IsAscii};
 ghost use Rattle.sja_report.specs.ReportWords.{byte_word, message_words, answer_words};
@@ -50,15 +50,33 @@ pub fn put_bytes(text: &mut String, message: &Message) -> Result<(), AllocError>
     put_ascii(text, words.as_slice())
 }
 
-/// Characters, all of them ASCII.
-fn put_ascii(text: &mut String, characters: &[u8]) -> Result<(), AllocError>
+/// Writes a byte: two hexadecimal digits, in lower case.
+///
+/// Error: memory was refused.
+pub fn put_byte(text: &mut String, byte: u8) -> Result<(), AllocError>
+    ensures { OnOk result (string_bytes text.new ≡ string_bytes text.old ++ byte_word byte) }
+{
+    put_digit(text, byte / 16)?;
+    put_digit(text, byte % 16)?;
+    Ok(())
+}
+
+/// A hexadecimal digit, in lower case.
+fn put_digit(text: &mut String, number: u8) -> Result<(), AllocError>
+    requires { number < 16 }
+    ensures { OnOk result (string_bytes text.new ≡ string_bytes text.old ++ digit_glyph false number ∷ []) }
+{
+    text.push(char::from(digit_of(number)))
+}
+
+/// Writes characters, all of them ASCII: so they are UTF-8, which the call in it asks for.
+///
+/// Error: memory was refused.
+pub fn put_ascii(text: &mut String, characters: &[u8]) -> Result<(), AllocError>
     requires { IsAscii characters.now }
     ensures { OnOk result (string_bytes text.new ≡ string_bytes text.old ++ characters.now) }
 {
-    match str::from_utf8(characters) {
-        Ok(characters) => text.push_str(characters),
-        Err(_) => unreachable!(),
-    }
+    text.push_str(unsafe { str::from_utf8_unchecked(characters) })
 }
 
 /// The two digits of a byte, behind a space.
@@ -70,7 +88,7 @@ fn word_of(byte: u8) -> [u8; 3]
 }
 
 /// The hexadecimal digit of a number, in lower case.
-pub fn digit_of(number: u8) -> u8
+fn digit_of(number: u8) -> u8
     requires { number < 16 }
     ensures digit { result ≡ digit_glyph false number }
     ensures ascii { result < 128 }

@@ -9,7 +9,7 @@ use Rattle.lemmas.specs.Related.{EachRelated}
 use Rattle.lemmas.proofs.Ranges.{gathered_from, gathered_before}
 use Rattle.sja_frames.specs.declared.run.Run.{Run}
 use Rattle.sja_picture.specs.EqualLevels.{from_start}
-use Rattle.sja_picture.specs.Inside.Drawing.{run_past, run_after, is_full, AreShown, EachBeside}
+use Rattle.sja_picture.specs.Inside.Drawing.{run_past, run_after, is_full, AreShown, InFull, EachBeside}
 use Rattle.sja_picture.proofs.NodeRows.Runs.{run_next, full_is}
 use Rattle.sja_replay.specs.declared.happening.Happening.{Happening}
 use Rattle.sja_report.specs.ReportLines.{numbered}
@@ -104,7 +104,7 @@ drawn_lane bus first bit level hs o old new reached same is l d = record {
 pub each_shown : {A : Type 0} (R : Option Happening → A → A → Type 0) (P Q : List Happening → A → Type 0) (bit : ℕ) →
     ((hs : List Happening) (o : Option Happening) (old new : A) → o ≡ slice_get hs bit → P hs old → R o old new →
     Q hs new) → (told : List (List Happening)) (ts : List Teller) (olds news : List A) → AreShown bit ts told →
-    EachBeside R ts olds news → EachRelated P told olds → EachRelated Q told news
+    EachBeside (InFull R) ts olds news → EachRelated P told olds → EachRelated Q told news
 each_shown R P Q bit goes [] [] [] [] shown r p = tt
 each_shown R P Q bit goes [] [] [] (n ∷ news) shown r p = absurd r
 each_shown R P Q bit goes [] [] (o ∷ olds) news shown r p = absurd r

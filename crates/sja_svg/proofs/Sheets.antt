@@ -5,11 +5,12 @@ use Rattle.std.proofs.lemmas.Slice.Zip.{AllZip-long}
 use Rattle.can_bits.specs.declared.level.Level.{Level}
 use Rattle.sja_log.specs.Log.{NodeValue}
 use Rattle.sja_picture.specs.Rows.{bus_in}
-use Rattle.sja_picture.specs.Inside.Drawing.{EachBeside}
+use Rattle.sja_picture.specs.Inside.Drawing.{InFull, EachBeside}
+use Rattle.sja_picture.specs.Inside.Knowing.{Knows}
 use Rattle.sja_picture.specs.Inside.Pages.{AreFirst}
 use Rattle.sja_picture.proofs.NodeRows.Drawing.{bus_shown}
 use Rattle.sja_picture.proofs.WholePage.Pages.{first_each}
-use Rattle.sja_picture.proofs.NodeRows.Stories.{Knows, knows_first}
+use Rattle.sja_picture.proofs.NodeRows.Stories.{knows_first}
 use Rattle.sja_replay.specs.declared.happening.Happening.{Happening}
 use Rattle.sja_report.specs.ReportLines.{numbered}
 use Rattle.sja_trace.specs.declared.teller.Teller.{Teller}
@@ -47,7 +48,7 @@ sheet_first nodes first ts lanes sheet begun fresh marks bus =
 
 -- not shown
 pub sheet_passed : (first bit : ℕ) (ts : List Teller) (olds news : List Lane) (sheet : Sheet) → bit < first →
-    EachBeside Passes ts olds news → TakesBit first bit ts olds news sheet sheet
+    EachBeside (InFull Passes) ts olds news → TakesBit first bit ts olds news sheet sheet
 sheet_passed first bit ts olds news sheet before p told shown d = record {
   marks_are = still_none (mark_in (length told) first) first bit _ _ before refl d.marks_are;
   bus_is = still_none (bus_step told first) first bit _ _ before refl d.bus_is;

@@ -1,7 +1,7 @@
 //! The lanes of all nodes.
 
 ghost use Rattle.std.specs.Prelude.{◌≡◌, ◌++◌, length, IfOk, OnOk, string_bytes};
-ghost use Rattle.sja_picture.specs.Inside.Drawing.{EachBeside};
+ghost use Rattle.sja_picture.specs.Inside.Drawing.{EachBeside, InFull};
 ghost use Rattle.sja_report.specs.ReportLines.{numbered};
 ghost use Rattle.sja_svg.specs.Inside.Drawing.{AreFresh, Passes, Draws, shown_lane};
 
@@ -25,7 +25,7 @@ pub(crate) fn lanes_of(alloc: Global, nodes: &[NodeRun]) -> Result<Vec<Lane>, Al
 /// Goes past the bit that the tellers have at hand.
 pub(crate) fn pass_all(lanes: &mut [Lane], tellers: &[Teller<'_>])
     requires { length tellers.now ≡ length lanes.old }
-    ensures { EachBeside Passes tellers.now lanes.old lanes.new }
+    ensures { EachBeside (InFull Passes) tellers.now lanes.old lanes.new }
 {
     for k in 0..lanes.len() {
         lanes[k].pass(tellers[k].bits.bit());
@@ -40,7 +40,7 @@ pub(crate) fn draw_all(
     bus: Level,
 ) -> Result<(), AllocError>
     requires { length tellers.now ≡ length lanes.old }
-    ensures { OnOk result (EachBeside (Draws x bus) tellers.now lanes.old lanes.new) }
+    ensures { OnOk result (EachBeside (InFull (Draws x bus)) tellers.now lanes.old lanes.new) }
 {
     for k in 0..lanes.len() {
         lanes[k].draw(x, bus, tellers[k].bits.bit())?;

@@ -5,5 +5,6 @@ pub mod LogStories
 pub mod StoredLines
 pub mod Passed
 pub mod Rested
+pub mod Heard
 pub mod Silent
 pub mod WrittenBack

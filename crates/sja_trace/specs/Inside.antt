@@ -5,5 +5,6 @@ pub mod Coming
 pub mod Hands
 pub mod Passing
 pub mod Resting
+pub mod Reading
 -- How a teller finishes: of the invariant of that loop.
 pub mod Finishing

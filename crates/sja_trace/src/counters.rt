@@ -5,7 +5,7 @@ ghost use Rattle.sja_trace.specs.BitEvents.{warns, comes_to_warn, confinement_sa
 ghost use Rattle.sja_trace.specs.BitEvents.{have_same, counters_text, counters_said, counters_after, restart_said};
 ghost use Rattle.sja_trace.specs.Inside.Saying.{Tells};
 
-use super::told::Told;
+use super::remarks::Remarks;
 use can_node::{Counters, State};
 use sja_replay::Happening;
 use std::alloc::AllocError;
@@ -15,28 +15,28 @@ use std::fmt::Write;
 const WARNING: u16 = 96;
 
 /// Bus-off and the way back, error warning, error passive and error active.
-pub(crate) fn put_states(told: &mut Told, bit: &Happening) -> Result<(), AllocError>
-    ensures { OnOk result (Tells told.old told.new (states_said bit.now)) }
+pub(crate) fn put_states(remarks: &mut Remarks, bit: &Happening) -> Result<(), AllocError>
+    ensures { OnOk result (Tells remarks.old remarks.new (states_said bit.now)) }
 {
     if bit.events.went_off {
-        return told.say("BUS-OFF");
+        return remarks.say("BUS-OFF");
     }
     if bit.events.recovered {
-        return told.say("back from bus-off");
+        return remarks.say("back from bus-off");
     }
-    put_confinement(told, bit.before.counters, bit.after.counters)
+    put_confinement(remarks, bit.before.counters, bit.after.counters)
 }
 
 /// Error warning, error passive and error active.
 #[tactic(auto, using(crate::proofs::BitSaid::Sayings::tells_same))]
-fn put_confinement(told: &mut Told, old: Counters, new: Counters) -> Result<(), AllocError>
-    ensures { OnOk result (Tells told.old told.new (confinement_said old new)) }
+fn put_confinement(remarks: &mut Remarks, old: Counters, new: Counters) -> Result<(), AllocError>
+    ensures { OnOk result (Tells remarks.old remarks.new (confinement_said old new)) }
 {
     if are_same(old, new) {
         return Ok(());
     }
-    told.say_if(comes_to_warn(old, new), "error warning")?;
-    put_change(told, old.state(), new.state())?;
+    remarks.say_if(comes_to_warn(old, new), "error warning")?;
+    put_change(remarks, old.state(), new.state())?;
     Ok(())
 }
 
@@ -48,7 +48,7 @@ pub(crate) fn are_same(old: Counters, new: Counters) -> bool
 }
 
 /// Whether the warning limit is reached, where it wasn't before.
-pub fn comes_to_warn(old: Counters, new: Counters) -> bool
+fn comes_to_warn(old: Counters, new: Counters) -> bool
     ensures { result ≡ comes_to_warn old new }
 {
     !warns(old) && warns(new)
@@ -63,26 +63,26 @@ fn warns(counters: Counters) -> bool
 
 /// Error passive and error active.
 #[tactic(auto, using(crate::proofs::BitSaid::Sayings::tells_none))]
-fn put_change(told: &mut Told, before: State, after: State) -> Result<(), AllocError>
-    ensures { OnOk result (Tells told.old told.new (change_text before after)) }
+fn put_change(remarks: &mut Remarks, before: State, after: State) -> Result<(), AllocError>
+    ensures { OnOk result (Tells remarks.old remarks.new (change_text before after)) }
 {
     match (before, after) {
-        (State::Active, State::Passive) => told.say("error passive"),
-        (State::Passive, State::Active) => told.say("error active"),
+        (State::Active, State::Passive) => remarks.say("error passive"),
+        (State::Passive, State::Active) => remarks.say("error active"),
         _ => Ok(()),
     }
 }
 
 /// TEC and REC after the bit, where one of them changed.
-pub(crate) fn put_counters(told: &mut Told, bit: &Happening) -> Result<(), AllocError>
-    ensures { OnOk result (Tells told.old told.new (counters_said bit.now)) }
+pub(crate) fn put_counters(remarks: &mut Remarks, bit: &Happening) -> Result<(), AllocError>
+    ensures { OnOk result (Tells remarks.old remarks.new (counters_said bit.now)) }
 {
     let new = bit.after.counters;
     if have_same(bit.before.counters, new) {
         return Ok(());
     }
-    told.begin()?;
-    write!(told.text, "tec {} rec {}", new.tec, new.rec)?;
+    remarks.begin()?;
+    write!(remarks.text, "tec {} rec {}", new.tec, new.rec)?;
     Ok(())
 }
 
@@ -109,17 +109,17 @@ pub(crate) fn counters_after(bit: &Option<Happening>) -> Counters
 
 /// TEC and REC before the bit, where a start changed one of them after the bits before it had left them so.
 pub(crate) fn put_restart(
-    told: &mut Told,
+    remarks: &mut Remarks,
     left: Counters,
     bit: &Happening,
 ) -> Result<(), AllocError>
-    ensures { OnOk result (Tells told.old told.new (restart_said left bit.now)) }
+    ensures { OnOk result (Tells remarks.old remarks.new (restart_said left bit.now)) }
 {
     let now = bit.before.counters;
     if have_same(left, now) {
         return Ok(());
     }
-    told.begin()?;
-    write!(told.text, "tec {} rec {}", now.tec, now.rec)?;
+    remarks.begin()?;
+    write!(remarks.text, "tec {} rec {}", now.tec, now.rec)?;
     Ok(())
 }

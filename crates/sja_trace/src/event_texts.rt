@@ -6,12 +6,13 @@ ghost use Rattle.sja_trace.specs.Events.{fault_text, fate_text, reception_text, 
 ghost use Rattle.sja_trace.specs.Names.{flag_name as flag_word};
 
 use super::names::{cause_name, flag_name, level_name, role_name, segment_name};
-use super::words::{put_byte, put_frame, put_place, put_where};
+use super::words::{put_frame, put_place, put_where};
 use can_bits::Segment;
 use can_frame::Frame;
 use can_node::{Cause, FlagKind, Outcome, Request};
 use sja_regs::error_code;
 use sja_replay::{Fate, Happening};
+use sja_report::put_byte;
 use std::alloc::AllocError;
 use std::fmt::Write;
 

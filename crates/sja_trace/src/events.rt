@@ -12,7 +12,7 @@ use super::event_texts::{
     put_start_text, put_strike_text,
 };
 use super::has_event::{acknowledges, begins_suspension, flag_begins, is_held, is_same, is_start};
-use super::told::Told;
+use super::remarks::Remarks;
 use can_bits::Level;
 use can_node::Counters;
 use sja_replay::Happening;
@@ -20,126 +20,126 @@ use std::alloc::AllocError;
 
 /// All events of a bit, in which the bus had this level, and before them what a start made of these counters.
 pub(crate) fn put_all(
-    told: &mut Told,
+    remarks: &mut Remarks,
     bus: Level,
     left: Counters,
     bit: &Happening,
 ) -> Result<(), AllocError>
-    ensures { OnOk result (Tells told.old told.new (all_said bus left bit.now)) }
+    ensures { OnOk result (Tells remarks.old remarks.new (all_said bus left bit.now)) }
 {
-    put_restart(told, left, bit)?;
-    put_events(told, bus, bit)?;
+    put_restart(remarks, left, bit)?;
+    put_events(remarks, bus, bit)?;
     Ok(())
 }
 
 /// All events of a bit, in which the bus had this level.
-fn put_events(told: &mut Told, bus: Level, bit: &Happening) -> Result<(), AllocError>
-    ensures { OnOk result (Tells told.old told.new (bit_said bus bit.now)) }
+fn put_events(remarks: &mut Remarks, bus: Level, bit: &Happening) -> Result<(), AllocError>
+    ensures { OnOk result (Tells remarks.old remarks.new (bit_said bus bit.now)) }
 {
-    put_abort(told, bit)?;
-    put_start(told, bit)?;
-    put_strike(told, bus, bit)?;
-    put_acknowledgement(told, bit)?;
-    put_loss(told, bit)?;
-    put_fault(told, bit)?;
-    put_flag(told, bit)?;
-    put_reception(told, bit)?;
-    put_end(told, bit)?;
-    put_suspension(told, bit)?;
-    put_states(told, bit)?;
-    put_counters(told, bit)?;
+    put_abort(remarks, bit)?;
+    put_start(remarks, bit)?;
+    put_strike(remarks, bus, bit)?;
+    put_acknowledgement(remarks, bit)?;
+    put_loss(remarks, bit)?;
+    put_fault(remarks, bit)?;
+    put_flag(remarks, bit)?;
+    put_reception(remarks, bit)?;
+    put_end(remarks, bit)?;
+    put_suspension(remarks, bit)?;
+    put_states(remarks, bit)?;
+    put_counters(remarks, bit)?;
     Ok(())
 }
 
 /// An abort that changed the node right before the bit.
-fn put_abort(told: &mut Told, bit: &Happening) -> Result<(), AllocError>
-    ensures { OnOk result (Tells told.old told.new (abort_said bit.now)) }
+fn put_abort(remarks: &mut Remarks, bit: &Happening) -> Result<(), AllocError>
+    ensures { OnOk result (Tells remarks.old remarks.new (abort_said bit.now)) }
 {
-    told.say_if(bit.aborted, abort_name(is_held(&bit.before.held)))
+    remarks.say_if(bit.aborted, abort_name(is_held(&bit.before.held)))
 }
 
 /// SOF of the node's own frame, or of another's.
-fn put_start(told: &mut Told, bit: &Happening) -> Result<(), AllocError>
-    ensures { OnOk result (Tells told.old told.new (start_said bit.now)) }
+fn put_start(remarks: &mut Remarks, bit: &Happening) -> Result<(), AllocError>
+    ensures { OnOk result (Tells remarks.old remarks.new (start_said bit.now)) }
 {
     if !is_start(bit) {
         return Ok(());
     }
-    told.begin()?;
-    put_start_text(&mut told.text, bit.after.transmits, &bit.before.held)?;
+    remarks.begin()?;
+    put_start_text(&mut remarks.text, bit.after.transmits, &bit.before.held)?;
     Ok(())
 }
 
 /// The node saw the other level than the bus had.
-fn put_strike(told: &mut Told, bus: Level, bit: &Happening) -> Result<(), AllocError>
-    ensures { OnOk result (Tells told.old told.new (strike_said bus bit.now)) }
+fn put_strike(remarks: &mut Remarks, bus: Level, bit: &Happening) -> Result<(), AllocError>
+    ensures { OnOk result (Tells remarks.old remarks.new (strike_said bus bit.now)) }
 {
     if is_same(bit.seen, bus) {
         return Ok(());
     }
-    told.begin()?;
-    put_strike_text(&mut told.text, bit)?;
+    remarks.begin()?;
+    put_strike_text(&mut remarks.text, bit)?;
     Ok(())
 }
 
 /// A receiver of a frame acknowledges.
-fn put_acknowledgement(told: &mut Told, bit: &Happening) -> Result<(), AllocError>
-    ensures { OnOk result (Tells told.old told.new (acknowledgement_said bit.now)) }
+fn put_acknowledgement(remarks: &mut Remarks, bit: &Happening) -> Result<(), AllocError>
+    ensures { OnOk result (Tells remarks.old remarks.new (acknowledgement_said bit.now)) }
 {
-    told.say_if(acknowledges(bit), "acknowledges")
+    remarks.say_if(acknowledges(bit), "acknowledges")
 }
 
 /// Arbitration was lost: the name of the bit, and what ALC reads where it captures it.
-fn put_loss(told: &mut Told, bit: &Happening) -> Result<(), AllocError>
-    ensures { OnOk result (Tells told.old told.new (loss_said bit.now)) }
+fn put_loss(remarks: &mut Remarks, bit: &Happening) -> Result<(), AllocError>
+    ensures { OnOk result (Tells remarks.old remarks.new (loss_said bit.now)) }
 {
     let Some(code) = bit.events.lost else {
         return Ok(());
     };
-    told.begin()?;
-    put_loss_text(&mut told.text, code)?;
+    remarks.begin()?;
+    put_loss_text(&mut remarks.text, code)?;
     Ok(())
 }
 
 /// A fault: cause, segment, role, and what ECC reads where it captures it.
-fn put_fault(told: &mut Told, bit: &Happening) -> Result<(), AllocError>
-    ensures { OnOk result (Tells told.old told.new (fault_said bit.now)) }
+fn put_fault(remarks: &mut Remarks, bit: &Happening) -> Result<(), AllocError>
+    ensures { OnOk result (Tells remarks.old remarks.new (fault_said bit.now)) }
 {
     let Some((cause, segment)) = bit.events.fault else {
         return Ok(());
     };
-    told.begin()?;
-    put_fault_text(&mut told.text, cause, segment, bit.events.receiving)?;
+    remarks.begin()?;
+    put_fault_text(&mut remarks.text, cause, segment, bit.events.receiving)?;
     Ok(())
 }
 
 /// Which flag begins with the next bit.
-fn put_flag(told: &mut Told, bit: &Happening) -> Result<(), AllocError>
-    ensures { OnOk result (Tells told.old told.new (flag_said bit.now)) }
+fn put_flag(remarks: &mut Remarks, bit: &Happening) -> Result<(), AllocError>
+    ensures { OnOk result (Tells remarks.old remarks.new (flag_said bit.now)) }
 {
     if !flag_begins(bit) {
         return Ok(());
     }
-    told.begin()?;
-    put_flag_text(&mut told.text, bit.after.flag)?;
+    remarks.begin()?;
+    put_flag_text(&mut remarks.text, bit.after.flag)?;
     Ok(())
 }
 
 /// A frame was received, and what became of it.
-fn put_reception(told: &mut Told, bit: &Happening) -> Result<(), AllocError>
-    ensures { OnOk result (Tells told.old told.new (reception_said bit.now)) }
+fn put_reception(remarks: &mut Remarks, bit: &Happening) -> Result<(), AllocError>
+    ensures { OnOk result (Tells remarks.old remarks.new (reception_said bit.now)) }
 {
     let Some(frame) = &bit.events.received else {
         return Ok(());
     };
-    told.begin()?;
-    put_reception_text(&mut told.text, frame, bit.fate)?;
+    remarks.begin()?;
+    put_reception_text(&mut remarks.text, frame, bit.fate)?;
     Ok(())
 }
 
 /// The request ended: its frame was sent, or it failed and isn't tried again.
-fn put_end(told: &mut Told, bit: &Happening) -> Result<(), AllocError>
-    ensures { OnOk result (Tells told.old told.new (end_said bit.now)) }
+fn put_end(remarks: &mut Remarks, bit: &Happening) -> Result<(), AllocError>
+    ensures { OnOk result (Tells remarks.old remarks.new (end_said bit.now)) }
 {
     let Some(outcome) = &bit.events.ended else {
         return Ok(());
@@ -147,15 +147,15 @@ fn put_end(told: &mut Told, bit: &Happening) -> Result<(), AllocError>
     let Some(request) = &bit.before.held else {
         return Ok(());
     };
-    told.begin()?;
-    put_end_text(&mut told.text, outcome, &request.frame)?;
+    remarks.begin()?;
+    put_end_text(&mut remarks.text, outcome, &request.frame)?;
     Ok(())
 }
 
 /// Suspend transmission begins.
-fn put_suspension(told: &mut Told, bit: &Happening) -> Result<(), AllocError>
-    ensures { OnOk result (Tells told.old told.new (suspension_said bit.now)) }
+fn put_suspension(remarks: &mut Remarks, bit: &Happening) -> Result<(), AllocError>
+    ensures { OnOk result (Tells remarks.old remarks.new (suspension_said bit.now)) }
 {
     let begins = begins_suspension(bit.before.phase, bit.after.phase);
-    told.say_if(begins, "suspend transmission")
+    remarks.say_if(begins, "suspend transmission")
 }

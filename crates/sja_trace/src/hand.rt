@@ -22,7 +22,7 @@ pub(crate) fn counters_of(short: &Option<ShortBit>, bit: &Option<Happening>) -> 
 }
 
 /// The level that the node drove in it; recessive where there is none.
-pub(crate) fn driven_of(short: &Option<ShortBit>, bit: &Option<Happening>) -> Level
+pub fn driven_of(short: &Option<ShortBit>, bit: &Option<Happening>) -> Level
     ensures { result ≡ driven_of short.now bit.now }
 {
     match short {

@@ -38,7 +38,7 @@ pub(crate) fn is_dominant(level: Level) -> bool
 }
 
 /// Whether the next bit belongs to a frame.
-pub(crate) fn is_frame(phase: Phase) -> bool
+pub fn is_frame(phase: Phase) -> bool
     ensures { result ≡ is_frame phase }
 {
     matches!(phase, Phase::Frame)

@@ -4,12 +4,14 @@
 //! bit that brought a node something. The events are those of the cut of each node's record, as `sja_replay`
 //! tells them.
 //!
-//! The names of errors and segments, the texts of frames and places, and the test for SOF serve `sja_frames` too. The
-//! bits of a node one after another, [`NodeBits`], the text of a frame and the test for the error warning serve
-//! `sja_candump`, and the tellers `sja_picture`.
+//! The names of errors and segments, the texts of frames and places, the test for SOF and that for a frame serve
+//! `sja_frames` too. The bits of a node one after another, [`NodeBits`], and the text of a frame serve `sja_candump`,
+//! and the tellers `sja_picture`.
 //!
 //! A trace passes bits that tell nothing in short. `specs/Inside/Hands.antt` and `Passing.antt` say why that leaves its
-//! text as it is: a bit in short is one of several happenings, and of each of them the same is said.
+//! text as it is: a bit in short is one of several happenings, and of each of them the same is said. Where several
+//! nodes receive a frame and have read just the same of it, one reader takes its levels for all of them
+//! (`specs/Inside/Reading.antt`).
 //!
 //! Of a run in one thread each bit and each message that was stored is told: [`every_bit_of_a_run_is_told`] and the
 //! laws beside it say so.
@@ -22,6 +24,7 @@ mod counters;
 mod due;
 mod event_texts;
 mod events;
+mod frame_bits;
 mod hand;
 mod has_event;
 mod laws;
@@ -30,15 +33,18 @@ mod node_bits;
 mod node_lines;
 mod node_steps;
 mod plain;
+mod readers;
+mod reading;
+mod remarks;
 mod steps;
 mod teller;
 mod tellers;
-mod told;
 mod trace_text;
 mod words;
 
-pub use counters::{comes_to_warn, have_same};
-pub use has_event::{is_same, is_start};
+pub use counters::have_same;
+pub use hand::driven_of;
+pub use has_event::{is_frame, is_same, is_start};
 pub use laws::{
     every_bit_of_a_run_is_told, every_journal_of_a_run_has_happenings,
     every_stored_message_has_its_line, every_stored_message_is_told,
@@ -46,6 +52,9 @@ pub use laws::{
 pub use names::{cause_name, segment_name};
 pub use node_bits::NodeBits;
 pub use teller::Teller;
-pub use tellers::{bus_of, driven_in, finish_all, go_on_all, with_node};
+pub use tellers::{
+    bus_of, bus_of_hands, driven_in, finish_all, go_on_all, pass_on_all, rest_all, rest_for_all,
+    with_node,
+};
 pub use trace_text::trace;
 pub use words::{put_frame, put_place};

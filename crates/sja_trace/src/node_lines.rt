@@ -11,8 +11,8 @@ ghost use Rattle.sja_trace.specs.Inside.Saying.{is_any, line_opening, line_if};
 use super::events::put_all;
 use super::hand::happening_of;
 use super::plain::is_plain;
+use super::remarks::Remarks;
 use super::teller::Teller;
-use super::told::Told;
 use can_bits::Level;
 use can_frame::OutOfMemory;
 use can_node::Counters;
@@ -25,7 +25,7 @@ use std::fmt::Write;
 pub(crate) fn put_node(
     alloc: Global,
     text: &mut String,
-    told: &mut Told,
+    remarks: &mut Remarks,
     node: usize,
     teller: &Teller<'_>,
     bus: Level,
@@ -38,7 +38,7 @@ pub(crate) fn put_node(
     let left = teller.counters;
     put_hand_line(
         text,
-        told,
+        remarks,
         node,
         &teller.short,
         teller.bits.bit(),
@@ -53,7 +53,7 @@ pub(crate) fn put_node(
 #[tactic(auto, using(crate::proofs::SoFar::Lines::no_line))]
 fn put_hand_line(
     text: &mut String,
-    told: &mut Told,
+    remarks: &mut Remarks,
     node: usize,
     short: &Option<ShortBit>,
     full: &Option<Happening>,
@@ -65,10 +65,10 @@ fn put_hand_line(
         ++ hand_line bus bit node left short.now full.now) }
 {
     if let Some(short) = short {
-        return put_short_line(text, told, node, short, left, bus, bit);
+        return put_short_line(text, remarks, node, short, left, bus, bit);
     }
     match full {
-        Some(happening) => put_event_line(text, told, node, happening, left, bus, bit),
+        Some(happening) => put_event_line(text, remarks, node, happening, left, bus, bit),
         None => Ok(()),
     }
 }
@@ -77,7 +77,7 @@ fn put_hand_line(
 #[tactic(auto, using(crate::proofs::SoFar::Lines::no_words))]
 fn put_short_line(
     text: &mut String,
-    told: &mut Told,
+    remarks: &mut Remarks,
     node: usize,
     short: &ShortBit,
     left: Counters,
@@ -90,13 +90,13 @@ fn put_short_line(
     if is_plain(bus, left, short) {
         return Ok(());
     }
-    put_event_line(text, told, node, &happening_of(short), left, bus, bit)
+    put_event_line(text, remarks, node, &happening_of(short), left, bus, bit)
 }
 
 /// The line of a bit, if anything is said of it.
 fn put_event_line(
     text: &mut String,
-    told: &mut Told,
+    remarks: &mut Remarks,
     node: usize,
     happening: &Happening,
     left: Counters,
@@ -106,31 +106,36 @@ fn put_event_line(
     ensures { OnOk result (string_bytes text.new ≡ string_bytes text.old
         ++ bit_line bit node (all_said bus left happening.now)) }
 {
-    tell(told, bus, left, happening)?;
-    put_line(text, told, node, bit)?;
+    tell(remarks, bus, left, happening)?;
+    put_line(text, remarks, node, bit)?;
     Ok(())
 }
 
 /// The events of a bit, from the first one on.
-fn tell(told: &mut Told, bus: Level, left: Counters, bit: &Happening) -> Result<(), AllocError>
-    ensures text { OnOk result (string_bytes told.new.text ≡ joined (all_said bus left bit.now)) }
-    ensures begun { OnOk result (told.new.begun ≡ is_any (all_said bus left bit.now)) }
+fn tell(
+    remarks: &mut Remarks,
+    bus: Level,
+    left: Counters,
+    bit: &Happening,
+) -> Result<(), AllocError>
+    ensures text { OnOk result (string_bytes remarks.new.text ≡ joined (all_said bus left bit.now)) }
+    ensures begun { OnOk result (remarks.new.begun ≡ is_any (all_said bus left bit.now)) }
 {
-    told.clear();
-    put_all(told, bus, left, bit)?;
+    remarks.clear();
+    put_all(remarks, bus, left, bit)?;
     Ok(())
 }
 
 /// The line of events, if there are any.
-fn put_line(text: &mut String, told: &Told, node: usize, bit: u32) -> Result<(), AllocError>
+fn put_line(text: &mut String, remarks: &Remarks, node: usize, bit: u32) -> Result<(), AllocError>
     ensures { OnOk result (string_bytes text.new ≡ string_bytes text.old
-        ++ line_if told.now.begun bit node (string_bytes told.now.text)) }
+        ++ line_if remarks.now.begun bit node (string_bytes remarks.now.text)) }
 {
-    if !told.begun() {
+    if !remarks.begun() {
         return Ok(());
     }
     put_opening(text, node, bit)?;
-    text.push_str(told.text.as_str())?;
+    text.push_str(remarks.text.as_str())?;
     text.push('\n')?;
     Ok(())
 }

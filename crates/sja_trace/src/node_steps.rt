@@ -110,7 +110,7 @@ impl<'a> NodeSteps<'a> {
     }
 
     /// Whether no step stands right before this bit. There may be none where it isn't said.
-    fn is_quiet(&self, bit: u32) -> bool
+    pub(crate) fn is_quiet(&self, bit: u32) -> bool
         ensures { result ≡ true → (node : ℕ) → steps_due false bit node 1 self.now.steps.now self.now.done.now ≡ [] }
     {
         if !self.in_order || bit < self.bits.saturating_sub(1) {

@@ -16,7 +16,9 @@ pub struct Teller<'a> {
     /// The error counters as the bits before the one at hand left them.
     pub(crate) counters: Counters,
     /// The bit at hand in short, where it was passed so.
-    pub(crate) short: Option<ShortBit>,
+    pub short: Option<ShortBit>,
+    /// Whether another reader takes the levels of the frame that it receives, behind which its node is.
+    pub(crate) reads: bool,
     /// Its bits, one at hand where it isn't so.
     pub bits: NodeBits<'a>,
 }
@@ -38,6 +40,7 @@ impl<'a> Teller<'a> {
             steps: NodeSteps::of(steps, node.done()),
             counters: counters_after(&None),
             short: None,
+            reads: false,
             bits: NodeBits::of(node.journal()),
         }
     }
@@ -53,7 +56,8 @@ impl<'a> Teller<'a> {
 
     /// Goes on past the next bit, if there is one, in short where it tells nothing.
     pub(crate) fn pass_on(&mut self)
-        ensures { TellerPasses self.old self.new }
+        ensures passes { TellerPasses self.old self.new }
+        ensures reads { self.new.reads ≡ self.old.reads }
     {
         self.steps.go_on(1);
         self.counters = counters_of(&self.short, self.bits.bit());

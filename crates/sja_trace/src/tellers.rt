@@ -60,7 +60,7 @@ pub fn go_on_all(tellers: &mut [Teller<'_>])
 }
 
 /// Each goes on past its next bit, in short where that tells nothing.
-pub(crate) fn pass_on_all(tellers: &mut [Teller<'_>])
+pub fn pass_on_all(tellers: &mut [Teller<'_>])
     ensures { EachRelated TellerPasses tellers.old tellers.new }
 {
     for k in 0..tellers.len() {
@@ -70,7 +70,7 @@ pub(crate) fn pass_on_all(tellers: &mut [Teller<'_>])
 
 /// For how many bits from this one on, at most so many, every node stays at rest and nothing is said of any. It may be
 /// for more of them.
-fn rest_for_all(tellers: &[Teller<'_>], bit: u32, most: u32) -> u32
+pub fn rest_for_all(tellers: &[Teller<'_>], bit: u32, most: u32) -> u32
     ensures most { result ≤ most }
     ensures rests { 0 < result → AllRest bit result tellers.now }
 {
@@ -85,7 +85,7 @@ fn rest_for_all(tellers: &[Teller<'_>], bit: u32, most: u32) -> u32
 }
 
 /// Each goes on past so many of these bits.
-fn rest_all(tellers: &mut [Teller<'_>], count: u32)
+pub fn rest_all(tellers: &mut [Teller<'_>], count: u32)
     requires { (k : ℕ) (t : Telling) → k < length tellers.old →
         RestsFor (slice_index_or tellers.old k t).bits.replay count }
     ensures { EachRelated (HasRested count) tellers.old tellers.new }
@@ -133,7 +133,7 @@ pub fn bus_of(tellers: &[Teller<'_>]) -> Level
 }
 
 /// The same, where bits are at hand in short.
-pub(crate) fn bus_of_hands(tellers: &[Teller<'_>]) -> Level
+pub fn bus_of_hands(tellers: &[Teller<'_>]) -> Level
     ensures { result ≡ wired (hands_driven tellers.now) }
 {
     let mut bus = Level::Recessive;

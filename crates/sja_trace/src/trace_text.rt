@@ -4,14 +4,13 @@ ghost use Rattle.std.specs.Prelude.{◌≡◌, ◌++◌, string_bytes, IfOk, OnO
 ghost use Rattle.sja_report.specs.ReportLines.{numbered};
 ghost use Rattle.sja_trace.specs.TraceText.{IsTrace};
 ghost use Rattle.sja_trace.specs.Inside.Coming.{late_lines};
-ghost use Rattle.sja_trace.specs.Inside.Passing.{hands_text};
 
 use super::due::Due;
-use super::node_lines::put_node;
+use super::frame_bits::put_bits;
+use super::remarks::Remarks;
 use super::steps::put_steps;
 use super::teller::Teller;
-use super::tellers::{bus_of_hands, finish_all, pass_on_all, rest_on, tellers_of};
-use super::told::Told;
+use super::tellers::{finish_all, rest_on, tellers_of};
 use can_frame::OutOfMemory;
 use sja_log::RunLog;
 use sja_plan::Plan;
@@ -29,38 +28,25 @@ pub fn trace(alloc: Global, plan: &Plan, log: &RunLog) -> Result<String, OutOfMe
 {
     let mut tellers = tellers_of(alloc, plan, log.nodes())?;
     let mut text = String::new(alloc);
-    let mut told = Told::new(alloc);
+    let mut remarks = Remarks::new(alloc);
     let mut bit = 0;
     while bit < log.bits() {
         bit += rest_on(tellers.as_mut_slice(), bit, log.bits() - bit);
         if bit < log.bits() {
-            pass_on_all(tellers.as_mut_slice());
-            put_bit(alloc, &mut text, &mut told, tellers.as_slice(), bit)?;
-            bit += 1;
+            let most = log.bits() - bit;
+            bit += put_bits(
+                alloc,
+                &mut text,
+                &mut remarks,
+                tellers.as_mut_slice(),
+                bit,
+                most,
+            )?;
         }
     }
     finish_all(tellers.as_mut_slice());
     put_late_steps(alloc, &mut text, tellers.as_slice(), log.bits())?;
     Ok(text)
-}
-
-/// The lines of all nodes in the bit at hand.
-fn put_bit(
-    alloc: Global,
-    text: &mut String,
-    told: &mut Told,
-    tellers: &[Teller<'_>],
-    bit: u32,
-) -> Result<(), OutOfMemory>
-    ensures text { OnOk result (string_bytes text.new ≡ string_bytes text.old ++ hands_text bit tellers.now) }
-{
-    let bus = bus_of_hands(tellers);
-    let mut number = 0usize;
-    for teller in tellers {
-        put_node(alloc, text, told, number, teller, bus, bit)?;
-        number += 1;
-    }
-    Ok(())
 }
 
 /// The lines of the steps that come after so many bits.

@@ -1,10 +1,7 @@
-//! Texts of frames, bytes and places.
+//! Texts of frames and places.
 
-ghost use Rattle.std.specs.Prelude.{◌≡◌, ◌<◌, [], ◌∷◌, ◌++◌, false, string_bytes, OnOk};
-ghost use Rattle.std.specs.Fmt.{digit_glyph};
-ghost use Rattle.std.specs.Str.{IsAscii};
+ghost use Rattle.std.specs.Prelude.{◌≡◌, ◌++◌, string_bytes, OnOk};
 ghost use Rattle.can_notation.specs.Text.{text as frame_text};
-ghost use Rattle.sja_report.specs.ReportWords.{byte_word};
 ghost use Rattle.sja_trace.specs.Places.{place_name, phase_text, where_text};
 ghost use Rattle.sja_trace.specs.Places.{identifier_bit, segment_text, owner_text};
 
@@ -14,10 +11,9 @@ use can_frame::Frame;
 use can_node::Phase;
 use can_notation::text_of;
 use sja_replay::View;
-use sja_report::digit_of;
+use sja_report::put_ascii;
 use std::alloc::AllocError;
 use std::fmt::Write;
-use std::str;
 
 /// A frame, in the notation of can-utils.
 pub fn put_frame(text: &mut String, frame: &Frame) -> Result<(), AllocError>
@@ -25,31 +21,6 @@ pub fn put_frame(text: &mut String, frame: &Frame) -> Result<(), AllocError>
 {
     let characters = text_of(frame);
     put_ascii(text, characters.as_slice())
-}
-
-/// A byte: two hexadecimal digits, in lower case.
-pub(crate) fn put_byte(text: &mut String, byte: u8) -> Result<(), AllocError>
-    ensures { OnOk result (string_bytes text.new ≡ string_bytes text.old ++ byte_word byte) }
-{
-    put_digit(text, byte / 16)?;
-    put_digit(text, byte % 16)?;
-    Ok(())
-}
-
-/// A hexadecimal digit, in lower case.
-fn put_digit(text: &mut String, number: u8) -> Result<(), AllocError>
-    requires { number < 16 }
-    ensures { OnOk result (string_bytes text.new ≡ string_bytes text.old ++ digit_glyph false number ∷ []) }
-{
-    text.push(char::from(digit_of(number)))
-}
-
-/// Characters, all of them ASCII: so they are UTF-8, which the call asks for.
-fn put_ascii(text: &mut String, characters: &[u8]) -> Result<(), AllocError>
-    requires { IsAscii characters.now }
-    ensures { OnOk result (string_bytes text.new ≡ string_bytes text.old ++ characters.now) }
-{
-    text.push_str(unsafe { str::from_utf8_unchecked(characters) })
 }
 
 /// The name of the bit that has this place code.

@@ -2,5 +2,7 @@
 pub mod PastBits
 pub mod NextSignals
 pub mod ViewsIn
+pub mod Short
 pub mod Reading
 pub mod Going
+pub mod Rested

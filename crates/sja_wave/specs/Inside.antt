@@ -2,4 +2,5 @@
 pub mod Cursors
 pub mod Meters
 pub mod Probes
+pub mod Resting
 pub mod Changes

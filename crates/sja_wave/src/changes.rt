@@ -1,9 +1,10 @@
 //! What changes from one bit to the next.
 
-ghost use Rattle.std.specs.Prelude.{◌≡◌, ◌++◌, codes, decimal, string_bytes, OnOk};
+ghost use Rattle.std.specs.Prelude.{◌≡◌, ◌++◌, true, codes, decimal, string_bytes, OnOk};
 ghost use Rattle.sja_report.specs.ReportLines.{numbered};
 ghost use Rattle.sja_wave.specs.WaveText.{change, number_change};
 ghost use Rattle.sja_wave.specs.Inside.Changes.{level_changes, number_changes, node_changes, all_changes};
+ghost use Rattle.sja_wave.specs.Inside.Changes.{seen_changes, state_changes};
 
 use super::gauges::Gauges;
 use super::probe::Probe;
@@ -79,6 +80,7 @@ fn put_node_changes(
 }
 
 /// Of what its journal says.
+#[tactic(auto, using(crate::proofs::BitByBit::Rested::level_texts))]
 fn put_level_changes(
     text: &mut String,
     number: usize,
@@ -86,6 +88,20 @@ fn put_level_changes(
     new: Signals,
 ) -> Result<(), AllocError>
     ensures { OnOk result (string_bytes text.new ≡ string_bytes text.old ++ level_changes number old new) }
+{
+    put_seen_changes(text, number, old, new)?;
+    put_state_changes(text, number, old, new)?;
+    Ok(())
+}
+
+/// The levels that it drives and sees.
+fn put_seen_changes(
+    text: &mut String,
+    number: usize,
+    old: Signals,
+    new: Signals,
+) -> Result<(), AllocError>
+    ensures { OnOk result (string_bytes text.new ≡ string_bytes text.old ++ seen_changes number old new) }
 {
     put_change(
         text,
@@ -101,11 +117,48 @@ fn put_level_changes(
         old.seen.is_recessive(),
         new.seen.is_recessive(),
     )?;
+    Ok(())
+}
+
+/// Its activation and the verdicts. Mostly they stay.
+fn put_state_changes(
+    text: &mut String,
+    number: usize,
+    old: Signals,
+    new: Signals,
+) -> Result<(), AllocError>
+    ensures { OnOk result (string_bytes text.new ≡ string_bytes text.old ++ state_changes number old new) }
+{
+    if have_same_states(old, new) {
+        return Ok(());
+    }
     put_change(text, "a", number, old.active, new.active)?;
     put_change(text, "f", number, old.off, new.off)?;
     put_change(text, "m", number, old.stored, new.stored)?;
     put_change(text, "o", number, old.overrun, new.overrun)?;
     Ok(())
+}
+
+/// Whether activation and verdicts are the same.
+fn have_same_states(old: Signals, new: Signals) -> bool
+    ensures { result ≡ true → ((old.active ≡ new.active) × (old.off ≡ new.off))
+        × ((old.stored ≡ new.stored) × (old.overrun ≡ new.overrun)) }
+{
+    have_same_activity(old, new) && have_same_verdicts(old, new)
+}
+
+/// Whether activation and bus-off are.
+fn have_same_activity(old: Signals, new: Signals) -> bool
+    ensures { result ≡ true → (old.active ≡ new.active) × (old.off ≡ new.off) }
+{
+    old.active == new.active && old.off == new.off
+}
+
+/// Whether the verdicts are.
+fn have_same_verdicts(old: Signals, new: Signals) -> bool
+    ensures { result ≡ true → (old.stored ≡ new.stored) × (old.overrun ≡ new.overrun) }
+{
+    old.stored == new.stored && old.overrun == new.overrun
 }
 
 /// Of what its bits brought, and whether it was struck and is.
@@ -120,11 +173,21 @@ fn put_number_changes(
     ensures { OnOk result (string_bytes text.new ≡ string_bytes text.old
         ++ number_changes number old new was_struck is_struck) }
 {
+    if are_still(old, new, was_struck, is_struck) {
+        return Ok(());
+    }
     put_number_change(text, "t", number, old.tec, new.tec)?;
     put_number_change(text, "r", number, old.rec, new.rec)?;
     put_change(text, "x", number, was_struck, is_struck)?;
     put_number_change(text, "p", number, old.phase, new.phase)?;
     Ok(())
+}
+
+/// Whether neither numbers nor strikes changed.
+fn are_still(old: Gauges, new: Gauges, was_struck: bool, is_struck: bool) -> bool
+    ensures { result ≡ true → (old ≡ new) × (was_struck ≡ is_struck) }
+{
+    was_struck == is_struck && old.is(new)
 }
 
 /// The value of a level of a node, if it changed.

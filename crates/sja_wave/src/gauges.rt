@@ -3,7 +3,7 @@
 ghost use Rattle.std.specs.Prelude.{◌≡◌};
 ghost use Rattle.sja_wave.specs.Views.{flag_code, phase_code};
 
-use can_node::{FlagKind, Phase};
+use can_node::{Counters, FlagKind, Phase};
 use sja_replay::View;
 
 /// What the numbers of a node show.
@@ -18,8 +18,8 @@ pub(crate) struct Gauges {
 }
 
 impl Gauges {
-    ghost use Rattle.std.specs.Prelude.{◌≡◌, Some, None};
-    ghost use Rattle.sja_wave.specs.Inside.Meters.{gauges_of};
+    ghost use Rattle.std.specs.Prelude.{◌≡◌, true, Some, None};
+    ghost use Rattle.sja_wave.specs.Inside.Meters.{gauges_of, gauges_by};
 
     /// Before anything is shown.
     pub(crate) fn new() -> Gauges
@@ -36,11 +36,25 @@ impl Gauges {
     pub(crate) fn of(view: &View) -> Gauges
         ensures { result ≡ gauges_of (Some view.now) }
     {
+        Gauges::by(view.counters, view.phase, view.flag)
+    }
+
+    /// Of these error counters, this phase and this flag.
+    pub(crate) fn by(counters: Counters, phase: Phase, flag: FlagKind) -> Gauges
+        ensures { result ≡ gauges_by counters phase flag }
+    {
         Gauges {
-            tec: view.counters.tec,
-            rec: u16::from(view.counters.rec),
-            phase: phase_code(view.phase, view.flag),
+            tec: counters.tec,
+            rec: u16::from(counters.rec),
+            phase: phase_code(phase, flag),
         }
+    }
+
+    /// Whether others show the same.
+    pub(crate) fn is(self, other: Gauges) -> bool
+        ensures { result ≡ true → self ≡ other }
+    {
+        self.tec == other.tec && self.rec == other.rec && self.phase == other.phase
     }
 }
 

@@ -1,8 +1,9 @@
 //! [`Meter`]: the numbers of a node, read bit by bit.
 
 use super::gauges::Gauges;
+use can_node::Phase;
 use sja_link::Journal;
-use sja_replay::Replay;
+use sja_replay::{Replay, ShortBit};
 
 /// The numbers of a node, read bit by bit from what its bits brought: what they show in this bit and showed in the one
 /// before, and what they show after it.
@@ -17,8 +18,13 @@ pub(crate) struct Meter<'a> {
 }
 
 impl<'a> Meter<'a> {
-    ghost use Rattle.std.specs.Prelude.{[]};
-    ghost use Rattle.sja_wave.specs.Inside.Meters.{HasRead, IsReading, ReadsOn, ReadsAll};
+    ghost use Rattle.std.specs.Prelude.{◌≡◌, ◌<◌, ◌≤◌, true, [], Some, List};
+    ghost use Rattle.sja_link.specs.declared.entry.Entry.{Entry};
+    ghost use Rattle.sja_replay.specs.declared.replay.Replay.{Replay as Replaying};
+    ghost use Rattle.sja_replay.specs.Short.{PassesBit};
+    ghost use Rattle.sja_wave.specs.Inside.Meters.{gauges_of, gauges_by, HasRead, IsReading, ReadsOn, ReadsAll};
+    ghost use Rattle.sja_replay.specs.Resting.{RestsFor};
+    ghost use Rattle.sja_wave.specs.Inside.Resting.{MeterRests, ShowsRest, MeterRested};
 
     /// Before the first bit.
     pub(crate) fn of(journal: &'a Journal) -> Meter<'a>
@@ -42,6 +48,11 @@ impl<'a> Meter<'a> {
             self.shows = self.after;
             return;
         }
+        if let Some(bit) = self.replay.pass() {
+            self.shows = Gauges::by(bit.counters, bit.phase, bit.flag);
+            self.after = self.gauges_after(&bit);
+            return;
+        }
         match self.replay.next() {
             Some(bit) => {
                 self.shows = Gauges::of(&bit.before);
@@ -52,6 +63,53 @@ impl<'a> Meter<'a> {
                 self.over = true;
             }
         }
+    }
+
+    /// What the numbers show after this bit, which they show and past which the replay went in short: the same, but
+    /// that another flag may be under way then.
+    fn gauges_after(&self, bit: &ShortBit) -> Gauges
+        requires { self.now.shows ≡ gauges_by bit.now.counters bit.now.phase bit.now.flag }
+        ensures { (old : Replaying) (before : List Entry) (p : PassesBit old self.now.replay before bit.now)
+            → result ≡ gauges_of (Some p.happened.after) }
+    {
+        match bit.phase {
+            Phase::Flag => Gauges::by(bit.counters, bit.phase, self.replay.rest_bit().flag),
+            _ => self.shows,
+        }
+    }
+
+    /// For how many of the next bits, at most so many, the node stays at rest and its numbers as they are. It may be
+    /// for more of them.
+    pub(crate) fn rest_for(&self, most: u32) -> u32
+        ensures most { result ≤ most }
+        ensures rests { 0 < result → MeterRests result self.now }
+    {
+        if self.over {
+            return 0;
+        }
+        let count = self.replay.rest_for(most);
+        if count == 0 || !self.shows_rest() {
+            return 0;
+        }
+        count
+    }
+
+    /// Whether the numbers are those of the node in the next bit.
+    fn shows_rest(&self) -> bool
+        ensures { result ≡ true → ShowsRest self.now }
+    {
+        let bit = self.replay.rest_bit();
+        self.shows.is(Gauges::by(bit.counters, bit.phase, bit.flag))
+    }
+
+    /// Goes on past so many of these bits, one at least.
+    pub(crate) fn rest(&mut self, count: u32)
+        requires { RestsFor self.old.replay count }
+        ensures { MeterRested count self.old self.new }
+    {
+        self.replay.rest(count);
+        self.showed = self.shows;
+        self.after = self.shows;
     }
 
     /// Goes on to the end of the journal.

@@ -12,7 +12,9 @@ pub(crate) struct Probe<'a> {
 }
 
 impl<'a> Probe<'a> {
+    ghost use Rattle.std.specs.Prelude.{◌<◌, ◌≤◌};
     ghost use Rattle.sja_wave.specs.Inside.Meters.{IsReading};
+    ghost use Rattle.sja_wave.specs.Inside.Resting.{ProbeRests, ProbeRested};
     ghost use Rattle.sja_wave.specs.Inside.Probes.{Begins, GoesOn, Finishes};
 
     /// Before the first bit.
@@ -31,6 +33,27 @@ impl<'a> Probe<'a> {
     {
         self.cursor.advance();
         self.meter.advance();
+    }
+
+    /// For how many of the next bits, at most so many, nothing of the node changes. It may be for more of them.
+    pub(crate) fn rest_for(&self, most: u32) -> u32
+        ensures most { result ≤ most }
+        ensures rests { 0 < result → ProbeRests result self.now }
+    {
+        let count = self.cursor.rest_for(most);
+        if count == 0 {
+            return 0;
+        }
+        self.meter.rest_for(count)
+    }
+
+    /// Goes on past so many of these bits, one at least.
+    pub(crate) fn rest(&mut self, count: u32)
+        requires { ProbeRests count self.old }
+        ensures { ProbeRested count self.old self.new }
+    {
+        self.cursor.rest(count);
+        self.meter.rest(count);
     }
 
     /// Of the rest of its bits it's told what they brought.

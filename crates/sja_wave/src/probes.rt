@@ -1,11 +1,12 @@
 //! All nodes, gone over together.
 
-ghost use Rattle.std.specs.Prelude.{◌≡◌, [], ◌∷◌, IfOk};
+ghost use Rattle.std.specs.Prelude.{◌≡◌, ◌<◌, ◌≤◌, [], ◌∷◌, IfOk};
 ghost use Rattle.can_bits.specs.Fields.{is_recessive};
 ghost use Rattle.lemmas.specs.Related.{EachRelated};
 ghost use Rattle.sja_wire.specs.Wire.{wired};
 ghost use Rattle.sja_wave.specs.Inside.Changes.{driven_before, driven_now};
 ghost use Rattle.sja_wave.specs.Inside.Probes.{BeginsAt, AreFirst, GoesOn, AreReading, Finishes};
+ghost use Rattle.sja_wave.specs.Inside.Resting.{AllRest, ProbeRested};
 
 use super::probe::Probe;
 use can_bits::Level;
@@ -41,6 +42,31 @@ pub(crate) fn advance_all(probes: &mut [Probe<'_>])
 {
     for k in 0..probes.len() {
         probes[k].advance();
+    }
+}
+
+/// For how many of the next bits, at most so many, nothing changes of any node. It may be for more of them.
+pub(crate) fn rest_for_all(probes: &[Probe<'_>], most: u32) -> u32
+    ensures most { result ≤ most }
+    ensures rests { 0 < result → AllRest result probes.now }
+{
+    let mut count = most;
+    for probe in probes {
+        if count == 0 {
+            return 0;
+        }
+        count = probe.rest_for(count);
+    }
+    count
+}
+
+/// Each goes on past so many of these bits, one at least.
+pub(crate) fn rest_all(probes: &mut [Probe<'_>], count: u32)
+    requires { AllRest count probes.old }
+    ensures { EachRelated (ProbeRested count) probes.old probes.new }
+{
+    for k in 0..probes.len() {
+        probes[k].rest(count);
     }
 }
 

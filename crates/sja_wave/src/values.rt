@@ -4,7 +4,7 @@ ghost use Rattle.std.specs.Prelude.{◌≡◌, ◌∷◌, [], ◌++◌, codes, d
 ghost use Rattle.can_bits.specs.Fields.{is_recessive};
 ghost use Rattle.sja_report.specs.ReportLines.{numbered};
 ghost use Rattle.sja_wave.specs.Wires.{differ};
-ghost use Rattle.sja_wave.specs.WaveText.{digit_of, value_line, number_line};
+ghost use Rattle.sja_wave.specs.WaveText.{digit_of, line, value_line, number_line};
 ghost use Rattle.sja_wave.specs.Inside.Changes.{level_values, number_values, node_values, all_values};
 
 use super::gauges::Gauges;
@@ -94,6 +94,7 @@ fn put_number_values(
 }
 
 /// The value of a level of a node.
+#[tactic(auto, using(sja_report::proofs::WrittenLines::Written::two_texts))]
 pub(crate) fn put_value(
     text: &mut String,
     letter: &str,
@@ -103,7 +104,31 @@ pub(crate) fn put_value(
     ensures { OnOk result (string_bytes text.new ≡ string_bytes text.old
         ++ value_line (letter.now ++ decimal number) value) }
 {
-    writeln!(text, "{}{letter}{number}", digit_of(value))
+    text.push_str(digit_of(value))?;
+    put_code(text, letter, number)?;
+    Ok(())
+}
+
+/// The identifier code of a node's signal, at the end of a line.
+#[tactic(auto, using(sja_report::proofs::WrittenLines::Written::three_texts))]
+fn put_code(text: &mut String, letter: &str, number: usize) -> Result<(), AllocError>
+    ensures { OnOk result (string_bytes text.new ≡ string_bytes text.old ++ line (letter.now ++ decimal number)) }
+{
+    text.push_str(letter)?;
+    put_node_number(text, number)?;
+    text.push_str("\n")?;
+    Ok(())
+}
+
+/// The number of a node.
+#[tactic(auto, using(std::proofs::lemmas::Fmt::decimal_digit))]
+fn put_node_number(text: &mut String, node: usize) -> Result<(), AllocError>
+    ensures { OnOk result (string_bytes text.new ≡ string_bytes text.old ++ decimal node) }
+{
+    if node < 10 {
+        return text.push(char::from(b'0' + node as u8));
+    }
+    write!(text, "{node}")
 }
 
 /// The value of a number of a node.

@@ -1,16 +1,16 @@
 //! [`wave`]: the waveform of a run.
 
-ghost use Rattle.std.specs.Prelude.{◌≡◌, ◌++◌, List, string_bytes, IfOk, OnOk};
+ghost use Rattle.std.specs.Prelude.{◌≡◌, ◌<◌, ◌++◌, List, string_bytes, IfOk, OnOk};
 ghost use Rattle.lemmas.specs.Related.{EachRelated};
 ghost use Rattle.sja_wave.specs.Stories.{NodeStory};
 ghost use Rattle.sja_wave.specs.WaveText.{time_line, timed, IsWave};
 ghost use Rattle.sja_wave.specs.Inside.Changes.{all_changes};
-ghost use Rattle.sja_wave.specs.Inside.Probes.{IsAtBit, AreFirst, GoesOn, HaveEnded, ShowsAll};
+ghost use Rattle.sja_wave.specs.Inside.Probes.{IsAtBit, AreFirst, GoesOn, GoesFurther, HaveEnded, ShowsAll};
 
 use super::changes::put_changes;
 use super::declarations::put_declarations;
 use super::probe::Probe;
-use super::probes::{advance_all, finish_all, probes_of};
+use super::probes::{advance_all, finish_all, probes_of, rest_all, rest_for_all};
 use super::values::put_values;
 use can_frame::OutOfMemory;
 use sja_log::RunLog;
@@ -19,9 +19,9 @@ use std::fmt::Write;
 
 /// The waveform of a run: the text that `specs/WaveText.antt` says of its signals.
 ///
-/// Each node's journal is gone over once, all together, bit by bit: its entries, and beside them what each bit brought
-/// by its replay. A journal that has fewer bits than were run, or from some bit on none that can be told, keeps what
-/// its last bit left.
+/// Each node's journal is gone over once, all together, bit by bit, and past bits in which nothing changes at once: its
+/// entries, and beside them what each bit brought by its replay. A journal that has fewer bits than were run, or from
+/// some bit on none that can be told, keeps what its last bit left.
 ///
 /// Error: [`OutOfMemory`] where memory was refused.
 pub fn wave(alloc: Global, log: &RunLog) -> Result<String, OutOfMemory>
@@ -65,11 +65,34 @@ fn put_bits(
     }
     let mut lines = String::new(alloc);
     let last = log.bits() - 1;
-    for bit in 0..last {
-        put_next(text, &mut lines, probes, bit + 1)?;
+    let mut bit = 0;
+    while bit < last {
+        bit = put_more(text, &mut lines, probes, bit, last)?;
     }
     put_end(text, probes, log.bits())?;
     Ok(())
+}
+
+/// Goes on to the next bit, and writes what changed, or past more of them in which nothing changes. Answers which bit
+/// it came to.
+fn put_more(
+    text: &mut String,
+    lines: &mut String,
+    probes: &mut [Probe<'_>],
+    bit: u32,
+    last: u32,
+) -> Result<u32, AllocError>
+    requires { bit < last }
+    ensures { IfOk result (λ next.
+        GoesFurther last bit next probes.old probes.new (string_bytes text.old) (string_bytes text.new)) }
+{
+    let count = rest_for_all(probes, last - bit);
+    if count == 0 {
+        put_next(text, lines, probes, bit + 1)?;
+        return Ok(bit + 1);
+    }
+    rest_all(probes, count);
+    Ok(bit + count)
 }
 
 /// Goes on to the next bit, which has this number, and writes what changed.

@@ -10,14 +10,18 @@ use Rattle.sja_replay.specs.declared.happening.Happening.{Happening}
 use Rattle.sja_report.specs.ReportLines.{numbered}
 use Rattle.sja_trace.specs.declared.teller.Teller.{Teller}
 use Rattle.sja_trace.specs.Inside.Coming.{driven_now}
+use Rattle.sja_trace.specs.Inside.Hands.{IsHand}
+use Rattle.sja_trace.specs.Inside.Passing.{hands_driven}
 use Rattle.sja_trace.specs.Telling.{at_hand}
 use Rattle.sja_trace.specs.TraceText.{driven_in}
+use Rattle.sja_trace.proofs.BitSaid.Shorts.{hand_driven}
 use Rattle.sja_wire.specs.Wire.{wired}
 use Rattle.sja_picture.specs.declared.node_rows.NodeRows.{NodeRows}
 use Rattle.sja_picture.specs.PictureText.{node_head, node_rows}
 use Rattle.sja_picture.specs.Rows.{level_sign, bus_in, driven_sign, letter_in}
-use Rattle.sja_picture.specs.Inside.Drawing.{run_past, run_after, letter_after, IsFresh, Passes, Draws, Clears}
-use Rattle.sja_picture.specs.Inside.Drawing.{shown_rows, AreRows, AreShown, EachBeside}
+use Rattle.sja_picture.specs.Inside.Drawing.{run_past, hand_run, run_after, letter_after, IsFresh, Passes}
+use Rattle.sja_picture.specs.Inside.Drawing.{Draws, Clears, shown_rows, AreRows, AreShown, AreAtHand, EachBeside}
+use Rattle.sja_picture.proofs.NodeRows.Hands.{hand_run_is, hand_letter_is}
 use Rattle.sja_picture.proofs.NodeRows.Runs.{run_next, letter_is}
 
 -- ---- the rows of a node
@@ -30,18 +34,24 @@ fresh_rows bus start hs rows fresh = record {
   letters = fresh.letters ∙ sym (gathered_before (letter_in bus hs) start 0 (omega arith));
 }
 
-run_on_to : (hs : List Happening) (bit : ℕ) (o : Option Happening) (old new : NodeRows) → o ≡ slice_get hs bit →
-    old.run ≡ run_after (take bit hs) → new.run ≡ run_past old.run o → new.run ≡ run_after (take (bit + 1) hs)
-run_on_to hs bit o old new is before past =
+-- the teller has this bit of a node at hand
+abbrev Hand : ℕ → Teller → List Happening → Type 0
+Hand bit t hs = IsHand t.short (at_hand t.bits) (slice_get hs bit)
+
+run_on_to : (hs : List Happening) (bit : ℕ) (t : Teller) (old new : NodeRows) → Hand bit t hs →
+    old.run ≡ run_after (take bit hs) → new.run ≡ hand_run old.run t.short (at_hand t.bits) →
+    new.run ≡ run_after (take (bit + 1) hs)
+run_on_to hs bit t old new hand before past =
     let one : suc bit ≡ bit + 1 = omega arith in
-    past ∙ ap₂ run_past before is ∙ run_next hs bit ∙ ap (λ (n : ℕ). run_after (take n hs)) one
+    past ∙ hand_run_is old.run t.short (at_hand t.bits) (slice_get hs bit) hand
+    ∙ ap (λ (r : Option Run). run_past r (slice_get hs bit)) before ∙ run_next hs bit
+    ∙ ap (λ (n : ℕ). run_after (take n hs)) one
 
 -- a bit before the first one that is shown
-passed_rows : (bus : ℕ → Level) (start bit : ℕ) (hs : List Happening) (o : Option Happening) (old new : NodeRows) →
-    bit < start → o ≡ slice_get hs bit → AreRows bus start bit hs old → Passes o old new →
-    AreRows bus start (bit + 1) hs new
-passed_rows bus start bit hs o old new before is rows p = record {
-  run = run_on_to hs bit o old new is rows.run p.run;
+passed_rows : (bus : ℕ → Level) (start bit : ℕ) (hs : List Happening) (t : Teller) (old new : NodeRows) →
+    bit < start → Hand bit t hs → AreRows bus start bit hs old → Passes t old new → AreRows bus start (bit + 1) hs new
+passed_rows bus start bit hs t old new before hand rows p = record {
+  run = run_on_to hs bit t old new hand rows.run p.run;
   levels = p.levels ∙ rows.levels ∙ gathered_before (driven_sign hs) start bit (omega arith)
       ∙ sym (gathered_before (driven_sign hs) start (bit + 1) (omega arith));
   letters = p.letters ∙ rows.letters ∙ gathered_before (letter_in bus hs) start bit (omega arith)
@@ -49,17 +59,19 @@ passed_rows bus start bit hs o old new before is rows p = record {
 }
 
 -- one that is shown
-drawn_rows : (bus : ℕ → Level) (start bit : ℕ) (hs : List Happening) (o : Option Happening) (level : Level)
-    (old new : NodeRows) → start ≤ bit → o ≡ slice_get hs bit → level ≡ bus bit → AreRows bus start bit hs old →
-    Draws level o old new → AreRows bus start (bit + 1) hs new
-drawn_rows bus start bit hs o level old new reached is same rows d = record {
-  run = run_on_to hs bit o old new is rows.run d.run;
-  levels = d.levels ∙ ap₂ (λ l x. l ++ level_sign (driven_in x)) rows.levels is
+drawn_rows : (bus : ℕ → Level) (start bit : ℕ) (hs : List Happening) (t : Teller) (level : Level)
+    (old new : NodeRows) → start ≤ bit → Hand bit t hs → level ≡ bus bit → AreRows bus start bit hs old →
+    Draws level t old new → AreRows bus start (bit + 1) hs new
+drawn_rows bus start bit hs t level old new reached hand same rows d = record {
+  run = run_on_to hs bit t old new hand rows.run d.run;
+  levels = d.levels
+      ∙ ap₂ (λ l (x : Level). l ++ level_sign x) rows.levels
+      (hand_driven t.short (at_hand t.bits) (slice_get hs bit) hand)
       ∙ sym (gathered_from (driven_sign hs) start bit reached);
   letters = d.letters
       ∙ ap₂ (λ l (x : List ℕ). l ++ x) rows.letters
-      (ap₂ (λ (b : Level) (r : Option Run). letter_after b r o) same rows.run
-      ∙ ap (λ x. letter_after (bus bit) (run_after (take bit hs)) x) is
+      (hand_letter_is level old.run t.short (at_hand t.bits) (slice_get hs bit) hand
+      ∙ ap₂ (λ (b : Level) (r : Option Run). letter_after b r (slice_get hs bit)) same rows.run
       ∙ letter_is (bus bit) (take bit hs) (slice_get hs bit))
       ∙ sym (gathered_from (letter_in bus hs) start bit reached);
 }
@@ -76,7 +88,7 @@ cleared_rows bus start bit hs old new rows c = record {
 -- ---- of all nodes
 
 pub all_passed : (bus : ℕ → Level) (start bit : ℕ) (told : List (List Happening)) (ts : List Teller)
-    (olds news : List NodeRows) → bit < start → AreShown bit ts told → EachBeside Passes ts olds news →
+    (olds news : List NodeRows) → bit < start → AreAtHand bit ts told → EachBeside Passes ts olds news →
     EachRelated (AreRows bus start bit) told olds → EachRelated (AreRows bus start (bit + 1)) told news
 all_passed bus start bit [] [] [] [] before shown p rows = tt
 all_passed bus start bit [] [] [] (n ∷ news) before shown p rows = absurd p
@@ -86,12 +98,12 @@ all_passed bus start bit (hs ∷ told) [] olds news before shown p rows = absurd
 all_passed bus start bit (hs ∷ told) (t ∷ ts) [] news before shown p rows = absurd p
 all_passed bus start bit (hs ∷ told) (t ∷ ts) (o ∷ olds) [] before shown p rows = absurd p
 all_passed bus start bit (hs ∷ told) (t ∷ ts) (o ∷ olds) (n ∷ news) before shown p rows = (
-  passed_rows bus start bit hs (at_hand t.bits) o n before shown.0 rows.0 p.0,
+  passed_rows bus start bit hs t o n before shown.0 rows.0 p.0,
   all_passed bus start bit told ts olds news before shown.1 p.1 rows.1,
 )
 
 pub all_drawn : (bus : ℕ → Level) (start bit : ℕ) (level : Level) (told : List (List Happening)) (ts : List Teller)
-    (olds news : List NodeRows) → start ≤ bit → level ≡ bus bit → AreShown bit ts told →
+    (olds news : List NodeRows) → start ≤ bit → level ≡ bus bit → AreAtHand bit ts told →
     EachBeside (Draws level) ts olds news → EachRelated (AreRows bus start bit) told olds →
     EachRelated (AreRows bus start (bit + 1)) told news
 all_drawn bus start bit level [] [] [] [] reached same shown d rows = tt
@@ -102,7 +114,7 @@ all_drawn bus start bit level (hs ∷ told) [] olds news reached same shown d ro
 all_drawn bus start bit level (hs ∷ told) (t ∷ ts) [] news reached same shown d rows = absurd d
 all_drawn bus start bit level (hs ∷ told) (t ∷ ts) (o ∷ olds) [] reached same shown d rows = absurd d
 all_drawn bus start bit level (hs ∷ told) (t ∷ ts) (o ∷ olds) (n ∷ news) reached same shown d rows = (
-  drawn_rows bus start bit hs (at_hand t.bits) level o n reached shown.0 same rows.0 d.0,
+  drawn_rows bus start bit hs t level o n reached shown.0 same rows.0 d.0,
   all_drawn bus start bit level told ts olds news reached same shown.1 d.1 rows.1,
 )
 
@@ -129,6 +141,19 @@ levels_shown bit (hs ∷ told) (t ∷ ts) shown =
 pub bus_shown : (bit : ℕ) (told : List (List Happening)) (ts : List Teller) → AreShown bit ts told →
     wired (driven_now ts) ≡ bus_in told bit
 bus_shown bit told ts shown = ap wired (levels_shown bit told ts shown)
+
+hands_shown : (bit : ℕ) (told : List (List Happening)) (ts : List Teller) → AreAtHand bit ts told →
+    hands_driven ts ≡ map (λ (hs : List Happening). driven_in (slice_get hs bit)) told
+hands_shown bit [] [] shown = refl
+hands_shown bit [] (t ∷ ts) shown = absurd shown
+hands_shown bit (hs ∷ told) [] shown = absurd shown
+hands_shown bit (hs ∷ told) (t ∷ ts) shown =
+    ap₂ (λ l r. l ∷ r) (hand_driven t.short (at_hand t.bits) (slice_get hs bit) shown.0)
+    (hands_shown bit told ts shown.1)
+
+pub bus_at_hand : (bit : ℕ) (told : List (List Happening)) (ts : List Teller) → AreAtHand bit ts told →
+    wired (hands_driven ts) ≡ bus_in told bit
+bus_at_hand bit told ts shown = ap wired (hands_shown bit told ts shown)
 
 -- the text of the rows
 rows_shown : (bus : ℕ → Level) (start bit node : ℕ) (hs : List Happening) (rows : NodeRows) →

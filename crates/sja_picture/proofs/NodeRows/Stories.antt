@@ -1,99 +1,183 @@
--- What holds of the stories of all nodes, however they go on.
-use Rattle.std.proofs.Common.{◌≡◌, ℕ, ◌+◌, suc, List, [], ◌∷◌, map, sym, ◌∙◌, subst, arith}
+-- What holds of the bits of all nodes, however they go on.
+use Rattle.std.proofs.Common.{◌≡◌, ℕ, ◌+◌, ◌≤◌, suc, List, [], ◌∷◌, map, sym, ◌∙◌, subst, arith}
+use Rattle.std.specs.Prelude.{Option, slice_get}
 use Rattle.lemmas.specs.Related.{EachRelated}
 use Rattle.sja_frames.specs.FramesText.{HasTold}
 use Rattle.sja_log.specs.Log.{NodeValue}
 use Rattle.sja_replay.specs.declared.happening.Happening.{Happening}
 use Rattle.sja_trace.specs.declared.teller.Teller.{Teller}
-use Rattle.sja_trace.specs.TraceText.{NodeStory, AreStories}
-use Rattle.sja_trace.specs.Telling.{HaveSame}
-use Rattle.sja_trace.specs.Inside.Coming.{HaveTold, IsShown, IsSameTo, TellerGoesOn, TellerEnds, AreUnderway}
-use Rattle.sja_trace.proofs.Stories.NodeStories.{all_more, all_told, all_underway}
-use Rattle.sja_picture.specs.Inside.Drawing.{AreShown}
+use Rattle.sja_trace.specs.TraceText.{NodeStory}
+use Rattle.sja_trace.specs.Telling.{HaveSame, at_hand}
+use Rattle.sja_trace.specs.Inside.Coming.{HaveTold, TellerGoesOn, TellerEnds, AreUnderway}
+use Rattle.sja_trace.specs.Inside.Hands.{IsHand}
+use Rattle.sja_trace.specs.Inside.Passing.{TellerPasses}
+use Rattle.sja_picture.specs.Inside.Drawing.{AreShown, AreAtHand}
+use Rattle.sja_picture.specs.Inside.Knowing.{HasBits, HaveBits, Begin, Knows}
 use Rattle.sja_picture.specs.Inside.Pages.{no_plan, AreFirst}
 
--- ---- stories that begin so
+-- ---- before the first bit
 
-abbrev pub Begin : ℕ → List NodeStory → List (List Happening) → Type 0
-Begin bit stories told = EachRelated (λ (s : NodeStory) (hs : List Happening). HaveSame bit s.bits hs) stories told
-
--- those that begin as longer ones do
-begin_before : (bit : ℕ) (olds news : List NodeStory) (told : List (List Happening)) →
-    EachRelated (IsSameTo bit) olds news → Begin (suc bit) news told → Begin bit olds told
-begin_before bit [] [] [] same begin = tt
-begin_before bit [] [] (hs ∷ told) same begin = absurd begin
-begin_before bit [] (n ∷ news) told same begin = absurd same
-begin_before bit (o ∷ olds) [] told same begin = absurd same
-begin_before bit (o ∷ olds) (n ∷ news) [] same begin = absurd begin
-begin_before bit (o ∷ olds) (n ∷ news) (hs ∷ told) same begin = (
-  λ i less. begin.0 i (omega (arith, less)) ∙ same.0.same i less,
-  begin_before bit olds news told same.1 begin.1,
-)
-
--- what the tellers have at hand is theirs
-begin_shown : (bit : ℕ) (ts : List Teller) (stories : List NodeStory) (told : List (List Happening)) →
-    EachRelated (IsShown bit) ts stories → Begin (suc bit) stories told → AreShown bit ts told
-begin_shown bit [] [] [] shown begin = tt
-begin_shown bit [] [] (hs ∷ told) shown begin = absurd begin
-begin_shown bit [] (s ∷ stories) told shown begin = absurd shown
-begin_shown bit (t ∷ ts) [] told shown begin = absurd shown
-begin_shown bit (t ∷ ts) (s ∷ stories) [] shown begin = absurd begin
-begin_shown bit (t ∷ ts) (s ∷ stories) (hs ∷ told) shown begin = (
-  shown.0.brought ∙ sym (begin.0 bit (omega arith)),
-  begin_shown bit ts stories told shown.1 begin.1,
-)
-
--- the whole ones begin so
-abbrev bits_of : List NodeStory → List (List Happening)
+abbrev pub bits_of : List NodeStory → List (List Happening)
 bits_of stories = map (λ (s : NodeStory). s.bits) stories
 
-whole_begin : (bit : ℕ) (olds wholes : List NodeStory) → EachRelated (IsSameTo bit) olds wholes →
-    Begin bit olds (bits_of wholes)
-whole_begin bit [] [] same = tt
-whole_begin bit [] (w ∷ wholes) same = absurd same
-whole_begin bit (o ∷ olds) [] same = absurd same
-whole_begin bit (o ∷ olds) (w ∷ wholes) same = (same.0.same, whole_begin bit olds wholes same.1)
-
-have_told : (k : ℕ) (nodes : List NodeValue) (stories : List NodeStory) → AreStories k no_plan nodes stories →
-    EachRelated HasTold nodes (bits_of stories)
-have_told k [] [] are = tt
-have_told k [] (s ∷ stories) are = absurd are
-have_told k (n ∷ nodes) [] are = absurd are
-have_told k (n ∷ nodes) (s ∷ stories) are = (are.0.bits_are, have_told (k + 1) nodes stories are.1)
-
--- ---- before a bit
-
--- the tellers are before this bit, and G holds of all stories that begin as they told
-pub record Knows (nodes : List NodeValue) (bit : ℕ) (ts : List Teller) (G : List (List Happening) → Type 0) : Type 0
-  where
-    pub stories : List NodeStory
-    pub have : HaveTold 0 no_plan bit nodes ts stories
-    pub holds : (told : List (List Happening)) → Begin bit stories told → G told
+have_first : (k : ℕ) (nodes : List NodeValue) (ts : List Teller) (ss : List NodeStory) →
+    HaveTold k no_plan 0 nodes ts ss → HaveBits 0 nodes ts (bits_of ss)
+have_first k [] [] [] have = tt
+have_first k [] [] (s ∷ ss) have = absurd have
+have_first k [] (t ∷ ts) ss have = absurd have
+have_first k (n ∷ nodes) [] ss have = absurd have
+have_first k (n ∷ nodes) (t ∷ ts) [] have = absurd have
+have_first k (n ∷ nodes) (t ∷ ts) (s ∷ ss) have = (have.0.come.0, have_first (k + 1) nodes ts ss have.1)
 
 pub knows_first : (nodes : List NodeValue) (ts : List Teller) (G : List (List Happening) → Type 0) →
-    (first : AreFirst nodes ts) → ((told : List (List Happening)) → Begin 0 first.stories told → G told) →
+    (first : AreFirst nodes ts) → ((told : List (List Happening)) → Begin 0 (bits_of first.stories) told → G told) →
     Knows nodes 0 ts G
-knows_first nodes ts G first g = record { stories = first.stories; have = first.have; holds = g }
+knows_first nodes ts G first g =
+    record { stories = bits_of first.stories; have = have_first 0 nodes ts first.stories first.have; holds = g }
 
--- past a bit
+-- ---- further on
+
+-- of a node more was told, up to the next bit; whatever begins so, `Hand` holds of it and of what the teller has at
+-- hand
+pub record Further (Hand : Teller → List Happening → Type 0) (n : NodeValue) (bit next : ℕ) (u : Teller)
+    (hs : List Happening) : Type 0 where
+  pub told : List Happening
+  pub has : HasBits n next u told
+  pub same : HaveSame bit hs told
+  pub hand : (all : List Happening) → HaveSame next told all → Hand u all
+
+record AllFurther (Hand : Teller → List Happening → Type 0) (nodes : List NodeValue) (bit next : ℕ) (us : List Teller)
+    (stories : List (List Happening)) : Type 0 where
+  told : List (List Happening)
+  have : HaveBits next nodes us told
+  same : EachRelated (HaveSame bit) stories told
+  hands : EachRelated (λ (u : Teller) (hs : List Happening). (all : List Happening) → HaveSame next hs all → Hand u all)
+      us told
+
+all_further : (Hand : Teller → List Happening → Type 0) (R : Teller → Teller → Type 0) (bit next : ℕ) →
+    ((n : NodeValue) (o u : Teller) (hs : List Happening) → R o u → HasBits n bit o hs → Further Hand n bit next u hs) →
+    (nodes : List NodeValue) (ts us : List Teller) (stories : List (List Happening)) → HaveBits bit nodes ts stories →
+    EachRelated R ts us → AllFurther Hand nodes bit next us stories
+all_further Hand R bit next goes [] [] [] [] have on = record { told = []; have = tt; same = tt; hands = tt }
+all_further Hand R bit next goes [] [] (u ∷ us) ss have on = absurd on
+all_further Hand R bit next goes [] [] [] (s ∷ ss) have on = absurd have
+all_further Hand R bit next goes [] (t ∷ ts) us ss have on = absurd have
+all_further Hand R bit next goes (n ∷ nodes) [] us ss have on = absurd have
+all_further Hand R bit next goes (n ∷ nodes) (t ∷ ts) [] ss have on = absurd on
+all_further Hand R bit next goes (n ∷ nodes) (t ∷ ts) (u ∷ us) [] have on = absurd have
+all_further Hand R bit next goes (n ∷ nodes) (t ∷ ts) (u ∷ us) (s ∷ ss) have on =
+    let one = goes n t u s on.0 have.0 in
+    let rest = all_further Hand R bit next goes nodes ts us ss have.1 on.1 in
+    record {
+      told = one.told ∷ rest.told;
+      have = (one.has, rest.have);
+      same = (one.same, rest.same);
+      hands = (one.hand, rest.hands);
+    }
+
+-- what begins as longer ones do
+begin_before : (bit next : ℕ) (olds news told : List (List Happening)) → bit ≤ next →
+    EachRelated (HaveSame bit) olds news → Begin next news told → Begin bit olds told
+begin_before bit next [] [] [] few same begin = tt
+begin_before bit next [] [] (hs ∷ told) few same begin = absurd begin
+begin_before bit next [] (n ∷ news) told few same begin = absurd same
+begin_before bit next (o ∷ olds) [] told few same begin = absurd same
+begin_before bit next (o ∷ olds) (n ∷ news) [] few same begin = absurd begin
+begin_before bit next (o ∷ olds) (n ∷ news) (hs ∷ told) few same begin = (
+  λ i less. begin.0 i (omega (arith, less, few)) ∙ same.0 i less,
+  begin_before bit next olds news told few same.1 begin.1,
+)
+
+hands_of : (Hand : Teller → List Happening → Type 0) (next : ℕ) (us : List Teller) (news told : List (List Happening)) →
+    EachRelated (λ (u : Teller) (hs : List Happening). (all : List Happening) → HaveSame next hs all → Hand u all)
+    us news → Begin next news told → EachRelated Hand us told
+hands_of Hand next [] [] [] hands begin = tt
+hands_of Hand next [] [] (hs ∷ told) hands begin = absurd begin
+hands_of Hand next [] (n ∷ news) told hands begin = absurd hands
+hands_of Hand next (u ∷ us) [] told hands begin = absurd hands
+hands_of Hand next (u ∷ us) (n ∷ news) [] hands begin = absurd begin
+hands_of Hand next (u ∷ us) (n ∷ news) (hs ∷ told) hands begin =
+    (hands.0 hs begin.0, hands_of Hand next us news told hands.1 begin.1)
+
+pub knows_further : (Hand : Teller → List Happening → Type 0) (R : Teller → Teller → Type 0) (bit next : ℕ) →
+    ((n : NodeValue) (o u : Teller) (hs : List Happening) → R o u → HasBits n bit o hs → Further Hand n bit next u hs) →
+    bit ≤ next → (nodes : List NodeValue) (olds news : List Teller) (G H : List (List Happening) → Type 0) →
+    Knows nodes bit olds G → EachRelated R olds news →
+    ((told : List (List Happening)) → EachRelated Hand news told → G told → H told) → Knows nodes next news H
+knows_further Hand R bit next goes few nodes olds news G H k on then =
+    let m = all_further Hand R bit next goes nodes olds news k.stories k.have on in
+    record {
+      stories = m.told;
+      have = m.have;
+      holds = λ told begin. then told (hands_of Hand next news m.told told m.hands begin)
+          (k.holds told (begin_before bit next k.stories m.told told few m.same begin));
+    }
+
+-- ---- past a bit
+
+abbrev Shown : ℕ → Teller → List Happening → Type 0
+Shown bit t hs = at_hand t.bits ≡ slice_get hs bit
+
+full_further : (bit : ℕ) (n : NodeValue) (o u : Teller) (hs : List Happening) → TellerGoesOn o u →
+    HasBits n bit o hs → Further (Shown bit) n bit (suc bit) u hs
+full_further bit n o u hs on come =
+    let more = on.bits.tells n.journal bit hs come in
+    record {
+      told = more.told;
+      has = more.come.0;
+      same = more.same;
+      hand = λ all same. more.bit ∙ sym (same bit (omega arith));
+    }
+
+-- with each bit at hand in full
 pub knows_next : (nodes : List NodeValue) (bit : ℕ) (olds news : List Teller) (G H : List (List Happening) → Type 0) →
     Knows nodes bit olds G → EachRelated TellerGoesOn olds news →
     ((told : List (List Happening)) → AreShown bit news told → G told → H told) → Knows nodes (bit + 1) news H
-knows_next nodes bit olds news G H k on goes =
-    let m = all_more 0 no_plan bit nodes olds news k.stories k.have on in
-    let P : ℕ → Type 0 = λ n. Knows nodes n news H in
+knows_next nodes bit olds news G H k on then =
     let one : suc bit ≡ bit + 1 = omega arith in
-    subst P one (record {
-      stories = m.stories;
-      have = m.have;
-      holds = λ told begin.
-          goes told (begin_shown bit news m.stories told m.shown begin)
-          (k.holds told (begin_before bit k.stories m.stories told m.same begin));
-    })
+    subst (λ (n : ℕ). Knows nodes n news H) one
+    (knows_further (Shown bit) TellerGoesOn bit (suc bit) (full_further bit) (omega arith) nodes olds news G H k on
+    then)
+
+abbrev AtHand : ℕ → Teller → List Happening → Type 0
+AtHand bit t hs = IsHand t.short (at_hand t.bits) (slice_get hs bit)
+
+hand_further : (bit : ℕ) (n : NodeValue) (o u : Teller) (hs : List Happening) → TellerPasses o u →
+    HasBits n bit o hs → Further (AtHand bit) n bit (suc bit) u hs
+hand_further bit n o u hs on come =
+    let more = on.bits n.journal bit hs come in
+    record {
+      told = more.told;
+      has = more.come;
+      same = more.same;
+      hand = λ all same.
+          subst (λ (x : Option Happening). IsHand u.short (at_hand u.bits) x) (sym (same bit (omega arith))) more.hand;
+    }
+
+-- or in short
+pub knows_passed : (nodes : List NodeValue) (bit : ℕ) (olds news : List Teller) (G H : List (List Happening) → Type 0) →
+    Knows nodes bit olds G → EachRelated TellerPasses olds news →
+    ((told : List (List Happening)) → AreAtHand bit news told → G told → H told) → Knows nodes (bit + 1) news H
+knows_passed nodes bit olds news G H k on then =
+    let one : suc bit ≡ bit + 1 = omega arith in
+    subst (λ (n : ℕ). Knows nodes n news H) one
+    (knows_further (AtHand bit) TellerPasses bit (suc bit) (hand_further bit) (omega arith) nodes olds news G H k on
+    then)
+
+-- ---- the end
+
+underway : (bit : ℕ) (nodes : List NodeValue) (ts : List Teller) (ss : List (List Happening)) →
+    HaveBits bit nodes ts ss → AreUnderway ts
+underway bit [] [] ss have = tt
+underway bit [] (t ∷ ts) ss have = absurd have
+underway bit (n ∷ nodes) [] ss have = tt
+underway bit (n ∷ nodes) (t ∷ ts) [] have = absurd have
+underway bit (n ∷ nodes) (t ∷ ts) (s ∷ ss) have =
+    (record { journal = n.journal; bits = bit; told = s; come = have.0 }, underway bit nodes ts ss have.1)
 
 pub knows_underway : (nodes : List NodeValue) (bit : ℕ) (ts : List Teller) (G : List (List Happening) → Type 0) →
     Knows nodes bit ts G → AreUnderway ts
-knows_underway nodes bit ts G k = all_underway 0 no_plan bit nodes ts k.stories k.have
+knows_underway nodes bit ts G k = underway bit nodes ts k.stories k.have
 
 -- past the last one
 pub record KnowsAll (nodes : List NodeValue) (G : List (List Happening) → Type 0) : Type 0 where
@@ -101,12 +185,26 @@ pub record KnowsAll (nodes : List NodeValue) (G : List (List Happening) → Type
   pub have : EachRelated HasTold nodes told
   pub holds : G told
 
+record AllTold (bit : ℕ) (nodes : List NodeValue) (ss : List (List Happening)) : Type 0 where
+  told : List (List Happening)
+  have : EachRelated HasTold nodes told
+  same : Begin bit ss told
+
+all_told : (bit : ℕ) (nodes : List NodeValue) (ts us : List Teller) (ss : List (List Happening)) →
+    HaveBits bit nodes ts ss → EachRelated TellerEnds ts us → AllTold bit nodes ss
+all_told bit [] [] us [] have on = record { told = []; have = tt; same = tt }
+all_told bit [] [] us (s ∷ ss) have on = absurd have
+all_told bit [] (t ∷ ts) us ss have on = absurd have
+all_told bit (n ∷ nodes) [] us ss have on = absurd have
+all_told bit (n ∷ nodes) (t ∷ ts) [] ss have on = absurd on
+all_told bit (n ∷ nodes) (t ∷ ts) (u ∷ us) [] have on = absurd have
+all_told bit (n ∷ nodes) (t ∷ ts) (u ∷ us) (s ∷ ss) have on =
+    let all = on.0.bits.tells n.journal bit s have.0 in
+    let rest = all_told bit nodes ts us ss have.1 on.1 in
+    record { told = all.told ∷ rest.told; have = (all.are, rest.have); same = (all.same, rest.same) }
+
 pub knows_all : (nodes : List NodeValue) (bit : ℕ) (olds news : List Teller) (G : List (List Happening) → Type 0) →
     Knows nodes bit olds G → EachRelated TellerEnds olds news → KnowsAll nodes G
 knows_all nodes bit olds news G k on =
-    let all = all_told 0 no_plan bit nodes olds news k.stories k.have on in
-    record {
-      told = bits_of all.stories;
-      have = have_told 0 nodes all.stories all.are;
-      holds = k.holds (bits_of all.stories) (whole_begin bit k.stories all.stories all.same);
-    }
+    let all = all_told bit nodes olds news k.stories k.have on in
+    record { told = all.told; have = all.have; holds = k.holds all.told all.same }

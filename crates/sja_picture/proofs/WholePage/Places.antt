@@ -7,48 +7,46 @@ use Rattle.sja_picture.specs.Inside.Pages.{space_if, IsAt}
 
 -- ---- how far it came
 
--- past a bit that isn't shown
-pub at_passed : (first end bit start block : ℕ) → bit < first → bit < end → IsAt first end bit start block →
-    IsAt first end (bit + 1) start block
-at_passed first end bit start block before within at =
-    let is = at.under_way within in
-    let reached = at.reached within in
+-- past bits that aren't shown
+pub at_passed : (first end bit stop start block : ℕ) → bit < stop → stop ≤ first → stop ≤ end →
+    IsAt first end bit start block → IsAt first end stop start block
+at_passed first end bit stop start block further before within at =
+    let is = at.under_way (omega (arith, further, within)) in
+    let reached = at.reached (omega (arith, further, within)) in
     record {
       under_way = λ more. is;
-      reached = λ more. omega (arith, reached, before);
+      reached = λ more. omega (arith, reached, further);
       short = λ more. omega (arith, is, before);
-      over = λ past. omega (arith, is, reached, before, past);
+      over = λ past. omega (arith, is, reached, further, before, past);
     }
 
--- past one with which the block goes on
-pub at_drawn : (first end bit start block : ℕ) → first ≤ bit → bit < end → bit + 1 < end → (bit + 1) - start < 120 →
-    IsAt first end bit start block → IsAt first end (bit + 1) start block
-at_drawn first end bit start block shown within more fewer at =
-    let is = at.under_way within in
-    let reached = at.reached within in
+-- past some with which the block goes on
+pub at_drawn : (first end bit stop start block : ℕ) → bit < stop → stop < end → stop - start < 120 →
+    IsAt first end bit start block → IsAt first end stop start block
+at_drawn first end bit stop start block further more fewer at =
+    let is = at.under_way (omega (arith, further, more)) in
+    let reached = at.reached (omega (arith, further, more)) in
     record {
       under_way = λ more. is;
-      reached = λ more. omega (arith, reached, shown);
+      reached = λ more. omega (arith, reached, further);
       short = λ more. omega (arith, fewer);
       over = λ past. absurd (omega (arith, more, past));
     }
 
--- past one with which it ends
-pub at_ended : (first end bit start block : ℕ) → first ≤ bit → bit < end →
-    (end ≤ bit + 1) ⊎ (120 ≤ (bit + 1) - start) → IsAt first end bit start block →
-    IsAt first end (bit + 1) (bit + 1) (block + 1)
-at_ended first end bit start block shown within over at =
-    let is = at.under_way within in
-    let reached = at.reached within in
-    let short = at.short within in
+-- past some with which it ends
+pub at_ended : (first end bit stop start block : ℕ) → first ≤ bit → bit < stop → stop ≤ end → stop ≤ start + 120 →
+    (end ≤ stop) ⊎ (120 ≤ stop - start) → IsAt first end bit start block → IsAt first end stop stop (block + 1)
+at_ended first end bit stop start block shown further within few over at =
+    let is = at.under_way (omega (arith, further, within)) in
+    let reached = at.reached (omega (arith, further, within)) in
     record {
       under_way = λ more. elim over [
         | inl past ↦ absurd (omega (arith, past, more))
-        | inr full ↦ omega (arith, is, reached, short, shown, full)
+        | inr full ↦ omega (arith, is, reached, few, shown, full)
       ];
-      reached = λ more. omega (arith, shown);
+      reached = λ more. omega (arith, shown, further);
       short = λ more. omega arith;
-      over = λ past. omega (arith, is, reached, short, shown, within, past);
+      over = λ past. omega (arith, is, reached, few, shown, further, within, past);
     }
 
 -- before the first bit
@@ -71,12 +69,12 @@ ending end stop start over = grind (arith, nat_tests)
 
 -- ---- a block
 
-pub length_is : (first end bit start block : ℕ) → start ≡ start_of first block → bit < start + 120 → bit < end →
-    (end ≤ bit + 1) ⊎ (120 ≤ (bit + 1) - start) → (bit + 1) - start ≡ length_of first end block
-length_is first end bit start block is short within over =
+pub length_is : (first end stop start block : ℕ) → start ≡ start_of first block → stop ≤ start + 120 → stop ≤ end →
+    (end ≤ stop) ⊎ (120 ≤ stop - start) → stop - start ≡ length_of first end block
+length_is first end stop start block is few within over =
     elim over [
-      | inl past ↦ omega (arith, is, short, within, past)
-      | inr full ↦ omega (arith, is, short, within, full)
+      | inl past ↦ omega (arith, is, few, within, past)
+      | inr full ↦ omega (arith, is, few, within, full)
     ]
 
 pub space_is : (first start block : ℕ) → start ≡ start_of first block →

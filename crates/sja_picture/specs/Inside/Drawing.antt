@@ -3,18 +3,26 @@ use Rattle.std.specs.Prelude.{◌≡◌, ◌==◌, ◌-◌, ℕ, Bool, false, if
 use Rattle.std.specs.Prelude.{List, [], ◌∷◌, ◌++◌, map, take, codes, slice_get, option_map, string_bytes}
 use Rattle.std.specs.List.{range_with_len}
 use Rattle.can_bits.specs.declared.level.Level.{Level}
+use Rattle.can_bits.specs.declared.segment.Segment.{Segment}
+use Rattle.can_bits.specs.Places.{are_same}
+use Rattle.can_node.specs.declared.flag_kind.FlagKind.{FlagKind}
+use Rattle.can_node.specs.declared.phase.Phase.{Phase}
+use Rattle.can_node.specs.declared.phase.Phase.TheVariants.{Reset, Waiting, Idle, Frame, Flag, Delimiter}
+use Rattle.can_node.specs.declared.phase.Phase.TheVariants.{Intermission, Suspension}
 use Rattle.lemmas.specs.Gathering.{gathered}
 use Rattle.lemmas.specs.Related.{EachRelated}
 use Rattle.sja_frames.specs.declared.run.Run.{Run}
 use Rattle.sja_frames.specs.FrameBits.{one_level, run_on, run_of}
+use Rattle.sja_frames.specs.Inside.Passing.{field_by}
 use Rattle.sja_log.specs.Log.{NodeValue}
 use Rattle.sja_replay.specs.declared.happening.Happening.{Happening}
+use Rattle.sja_replay.specs.declared.short_bit.ShortBit.{ShortBit}
 use Rattle.sja_trace.specs.declared.teller.Teller.{Teller}
+use Rattle.sja_trace.specs.Inside.Hands.{IsHand, driven_of}
 use Rattle.sja_trace.specs.Telling.{at_hand}
-use Rattle.sja_trace.specs.TraceText.{driven_in}
 use Rattle.sja_picture.specs.declared.node_rows.NodeRows.{NodeRows}
 use Rattle.sja_picture.specs.EqualLevels.{is_start, from_start}
-use Rattle.sja_picture.specs.Letters.{letter}
+use Rattle.sja_picture.specs.Letters.{frame_letter, flag_letter, letter}
 use Rattle.sja_picture.specs.Rows.{level_sign, driven_sign, letter_in}
 use Rattle.sja_picture.specs.PictureText.{node_head}
 
@@ -27,6 +35,11 @@ run_with r h = if is_start h then Some (one_level h.seen) else option_map (λ (r
 abbrev pub run_past : Option Run → Option Happening → Option Run
 run_past r None = r
 run_past r (Some h) = run_with r h
+
+-- past a bit at hand, in short or else in full: with one in short no frame begins
+abbrev pub hand_run : Option Run → Option ShortBit → Option Happening → Option Run
+hand_run r None own = run_past r own
+hand_run r (Some q) own = option_map (λ (run : Run). run_on run q.seen) r
 
 -- after these bits, the first of which is SOF
 abbrev pub run_since : List Happening → Option Run
@@ -45,6 +58,27 @@ abbrev pub letter_after : Level → Option Run → Option Happening → List ℕ
 letter_after bus r None = codes "."
 letter_after bus r (Some h) = letter bus (is_full r) h
 
+-- ---- the letter of a bit at hand, in short or else in full
+
+-- of one that isn't SOF, by what the node showed before it
+abbrev pub shown_letter : Phase → Bool → Option Segment → FlagKind → List ℕ
+shown_letter Reset after_five segment flag = codes "."
+shown_letter Waiting after_five segment flag = codes "w"
+shown_letter Idle after_five segment flag = codes "-"
+shown_letter Frame after_five segment flag = frame_letter after_five (field_by Frame segment)
+shown_letter Flag after_five segment flag = flag_letter flag
+shown_letter Delimiter after_five segment flag = codes "d"
+shown_letter Intermission after_five segment flag = codes "i"
+shown_letter Suspension after_five segment flag = codes "p"
+
+abbrev pub short_letter : Level → Bool → ShortBit → List ℕ
+short_letter bus after_five q =
+    if are_same q.seen bus then shown_letter q.phase after_five q.segment q.flag else codes "x"
+
+abbrev pub hand_letter : Level → Option Run → Option ShortBit → Option Happening → List ℕ
+hand_letter bus r None own = letter_after bus r own
+hand_letter bus r (Some q) own = short_letter bus (is_full r) q
+
 -- ---- the rows of a node
 
 pub record IsFresh (rows : NodeRows) : Type 0 where
@@ -52,17 +86,18 @@ pub record IsFresh (rows : NodeRows) : Type 0 where
   pub levels : string_bytes rows.levels ≡ []
   pub letters : string_bytes rows.letters ≡ []
 
--- a bit isn't shown
-pub record Passes (bit : Option Happening) (old new : NodeRows) : Type 0 where
-  pub run : new.run ≡ run_past old.run bit
+-- the bit at hand isn't shown
+pub record Passes (t : Teller) (old new : NodeRows) : Type 0 where
+  pub run : new.run ≡ hand_run old.run t.short (at_hand t.bits)
   pub levels : string_bytes new.levels ≡ string_bytes old.levels
   pub letters : string_bytes new.letters ≡ string_bytes old.letters
 
--- a bit is shown, in which the bus had this level
-pub record Draws (bus : Level) (bit : Option Happening) (old new : NodeRows) : Type 0 where
-  pub run : new.run ≡ run_past old.run bit
-  pub levels : string_bytes new.levels ≡ string_bytes old.levels ++ level_sign (driven_in bit)
-  pub letters : string_bytes new.letters ≡ string_bytes old.letters ++ letter_after bus old.run bit
+-- it is shown, and the bus had this level in it
+pub record Draws (bus : Level) (t : Teller) (old new : NodeRows) : Type 0 where
+  pub run : new.run ≡ hand_run old.run t.short (at_hand t.bits)
+  pub levels : string_bytes new.levels ≡ string_bytes old.levels ++ level_sign (driven_of t.short (at_hand t.bits))
+  pub letters : string_bytes new.letters
+      ≡ string_bytes old.letters ++ hand_letter bus old.run t.short (at_hand t.bits)
 
 -- the next block begins
 pub record Clears (old new : NodeRows) : Type 0 where
@@ -86,16 +121,25 @@ pub record AreRows (bus : ℕ → Level) (start bit : ℕ) (hs : List Happening)
 abbrev pub AreFresh : List NodeValue → List NodeRows → Type 0
 AreFresh nodes rows = EachRelated (λ (n : NodeValue) (r : NodeRows). IsFresh r) nodes rows
 
--- what the tellers have at hand and what stands beside them, as the rows of their nodes, are related
-abbrev pub EachBeside : {A : Type 0} → (Option Happening → A → A → Type 0) → List Teller → List A → List A → Type 0
+-- the tellers and what stands beside them, as the rows of their nodes, are related
+abbrev pub EachBeside : {A : Type 0} → (Teller → A → A → Type 0) → List Teller → List A → List A → Type 0
 EachBeside R [] [] [] = Unit {0}
 EachBeside R [] [] (n ∷ news) = ⊥
 EachBeside R [] (o ∷ olds) news = ⊥
 EachBeside R (t ∷ tellers) [] news = ⊥
 EachBeside R (t ∷ tellers) (o ∷ olds) [] = ⊥
-EachBeside R (t ∷ tellers) (o ∷ olds) (n ∷ news) = R (at_hand t.bits) o n × EachBeside R tellers olds news
+EachBeside R (t ∷ tellers) (o ∷ olds) (n ∷ news) = R t o n × EachBeside R tellers olds news
 
--- the tellers have at hand what this bit of these stories brought
+-- by the bits that they have at hand in full
+abbrev pub InFull : {A : Type 0} → (Option Happening → A → A → Type 0) → Teller → A → A → Type 0
+InFull R t old new = R (at_hand t.bits) old new
+
+-- the tellers have at hand what this bit of these stories brought, in short or else in full
+abbrev pub AreAtHand : ℕ → List Teller → List (List Happening) → Type 0
+AreAtHand bit tellers told =
+    EachRelated (λ (t : Teller) (hs : List Happening). IsHand t.short (at_hand t.bits) (slice_get hs bit)) tellers told
+
+-- all of them in full
 abbrev pub AreShown : ℕ → List Teller → List (List Happening) → Type 0
 AreShown bit tellers told =
     EachRelated (λ (t : Teller) (hs : List Happening). at_hand t.bits ≡ slice_get hs bit) tellers told

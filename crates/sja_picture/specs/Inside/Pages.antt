@@ -1,7 +1,9 @@
 -- A picture, as far as it was drawn.
-use Rattle.std.specs.Prelude.{◌≡◌, ◌<◌, ◌≤◌, ◌+◌, ◌-◌, ℕ, Bool, nat_lt, max, if◌then◌else◌}
-use Rattle.std.specs.Prelude.{List, [], ◌∷◌, ◌++◌, codes, string_bytes}
-use Rattle.std.specs.List.{range_with_len}
+use Rattle.std.specs.Prelude.{◌≡◌, ◌<◌, ◌≤◌, ◌+◌, ◌-◌, ◌%◌, ◌||◌, ℕ, Bool, true, false, nat_lt, nat_le, max}
+use Rattle.std.specs.Prelude.{if◌then◌else◌}
+use Rattle.std.specs.Prelude.{List, [], ◌∷◌, ◌++◌, codes, decimal, string_bytes}
+use Rattle.std.specs.List.{range_with_len, repeat}
+use Rattle.can_bits.specs.declared.level.Level.TheVariants.{Recessive}
 use Rattle.lemmas.specs.Gathering.{gathered}
 use Rattle.lemmas.specs.Related.{EachRelated}
 use Rattle.sja_log.specs.Log.{NodeValue}
@@ -9,7 +11,8 @@ use Rattle.sja_plan.specs.Plan.{PlanValue}
 use Rattle.sja_replay.specs.declared.happening.Happening.{Happening}
 use Rattle.sja_report.specs.ReportLines.{numbered}
 use Rattle.sja_trace.specs.declared.teller.Teller.{Teller}
-use Rattle.sja_trace.specs.Inside.Coming.{HaveTold, driven_now}
+use Rattle.sja_trace.specs.Inside.Coming.{HaveTold}
+use Rattle.sja_trace.specs.Inside.Passing.{hands_driven}
 use Rattle.sja_trace.specs.TraceText.{NodeStory}
 use Rattle.sja_wire.specs.Wire.{wired}
 use Rattle.sja_picture.specs.declared.node_rows.NodeRows.{NodeRows}
@@ -17,7 +20,8 @@ use Rattle.sja_picture.specs.declared.page.Page.{Page}
 use Rattle.sja_picture.specs.declared.span.Span.{Span}
 use Rattle.sja_picture.specs.Rows.{level_sign, ruler_in, bus_in, bus_sign}
 use Rattle.sja_picture.specs.PictureText.{row, to_ten, start_of, blocks, block_in}
-use Rattle.sja_picture.specs.Inside.Drawing.{Draws, Clears, AreRows, AreShown, EachBeside, shown_rows}
+use Rattle.sja_picture.specs.Inside.Drawing.{Draws, Clears, AreRows, AreAtHand, EachBeside, shown_rows}
+use Rattle.sja_picture.specs.Inside.Resting.{Rests, AreResting}
 
 -- ---- what is written
 
@@ -25,8 +29,19 @@ use Rattle.sja_picture.specs.Inside.Drawing.{Draws, Clears, AreRows, AreShown, E
 pub record DrawsBit (tellers : List Teller) (olds news : List NodeRows) (old new : Page) : Type 0 where
   pub text : string_bytes new.text ≡ string_bytes old.text
   pub start : new.start ≡ old.start
-  pub bus : string_bytes new.bus ≡ string_bytes old.bus ++ level_sign (wired (driven_now tellers))
-  pub rows : EachBeside (Draws (wired (driven_now tellers))) tellers olds news
+  pub bus : string_bytes new.bus ≡ string_bytes old.bus ++ level_sign (wired (hands_driven tellers))
+  pub rows : EachBeside (Draws (wired (hands_driven tellers))) tellers olds news
+
+-- so many bits are drawn in which all nodes rested
+pub record DrawsRest (n : ℕ) (tellers : List Teller) (olds news : List NodeRows) (old new : Page) : Type 0 where
+  pub text : string_bytes new.text ≡ string_bytes old.text
+  pub start : new.start ≡ old.start
+  pub bus : string_bytes new.bus ≡ string_bytes old.bus ++ repeat n (level_sign Recessive)
+  pub rows : EachBeside (Rests n) tellers olds news
+
+-- the number of the ten in which a bit is
+abbrev pub ten_of : ℕ → List ℕ
+ten_of bit = decimal (bit - bit % 10)
 
 -- a block ends before this bit
 abbrev pub space_if : Bool → List ℕ
@@ -46,6 +61,20 @@ pub record EndsBlock (span : Span) (stop : ℕ) (olds news : List NodeRows) (old
   pub start : new.start ≡ stop
   pub bus : string_bytes new.bus ≡ []
   pub rows : EachRelated Clears olds news
+
+-- one ends before this bit where it is full, or no bit is left
+abbrev pub ends : Span → ℕ → ℕ → Bool
+ends span start stop = nat_le span.end stop || nat_le 120 (stop - start)
+
+pub record MayEnd (span : Span) (stop : ℕ) (olds news : List NodeRows) (old new : Page) : Type 0 where
+  pub over : ends span old.start stop ≡ true → EndsBlock span stop olds news old new
+  pub on : ends span old.start stop ≡ false → (news ≡ olds) × (new ≡ old)
+
+-- so many bits from this one on are before the first one that is shown, or else in a block that begins with bit start
+pub record HasRoom (span : Span) (bit n start : ℕ) : Type 0 where
+  pub within : bit + n ≤ span.end
+  pub before : bit < span.first → bit + n ≤ span.first
+  pub block : span.first ≤ bit → n ≤ 120 - (bit - start)
 
 -- ---- how far a picture came
 
@@ -68,8 +97,14 @@ pub record IsDrawn (span : Span) (bit : ℕ) (page : Page) (rows : List NodeRows
 -- a bit more was drawn, where the tellers have it at hand
 abbrev pub TakesBit : Span → ℕ → List Teller → List NodeRows → List NodeRows → Page → Page → Type 0
 TakesBit span bit tellers olds news old new =
-    (told : List (List Happening)) → AreShown bit tellers told → IsDrawn span bit old olds told →
+    (told : List (List Happening)) → AreAtHand bit tellers told → IsDrawn span bit old olds told →
     IsDrawn span (bit + 1) new news told
+
+-- so many more, in which all nodes rested as the tellers have it at hand
+abbrev pub TakesRest : Span → ℕ → ℕ → List Teller → List NodeRows → List NodeRows → Page → Page → Type 0
+TakesRest span bit n tellers olds news old new =
+    (told : List (List Happening)) → AreResting bit n tellers told → IsDrawn span bit old olds told →
+    IsDrawn span (bit + n) new news told
 
 -- ---- the nodes of a log
 

@@ -116,6 +116,13 @@ same_node r node fits same =
     ap (λ n. record r { node = n; fits = fits }) same
     ∙ ap (λ (p : r.free ≤ 64). record r { fits = p }) (le_prop fits r.fits)
 
+-- with equal nodes too
+pub same_but : (r : Replay) (node other : Node) (fits : r.free ≤ 64) → node ≡ other →
+    record r { node = node; fits = fits } ≡ record r { node = other }
+same_but r node other fits same =
+    ap (λ n. record r { node = n; fits = fits }) same
+    ∙ ap (λ (p : r.free ≤ 64). record r { node = other; fits = p }) (le_prop fits r.fits)
+
 -- only the node and the number of bits have changed
 pub record HasSampled (old mid : Replay) : Type 0 where
   pub bits : mid.bits ≡ old.bits + 1

@@ -4,7 +4,7 @@ use Rattle.std.specs.List.{range_with_len}
 use Rattle.lemmas.specs.Gathering.{gathered}
 use Rattle.lemmas.specs.Related.{EachRelated}
 use Rattle.sja_picture.specs.Rows.{bus_in}
-use Rattle.sja_picture.specs.Inside.Drawing.{AreShown, EachBeside}
+use Rattle.sja_picture.specs.Inside.Drawing.{AreShown, InFull, EachBeside}
 use Rattle.sja_replay.specs.declared.happening.Happening.{Happening}
 use Rattle.sja_report.specs.ReportLines.{numbered}
 use Rattle.sja_trace.specs.declared.teller.Teller.{Teller}
@@ -22,7 +22,7 @@ use Rattle.sja_svg.specs.Inside.Drawing.{Draws, IsLane, shown_lane}
 pub record DrawsBit (x bit : ℕ) (tellers : List Teller) (olds news : List Lane) (old new : Sheet) : Type 0 where
   pub marks : string_bytes new.marks ≡ string_bytes old.marks ++ mark_at (line_height (length olds)) x bit
   pub bus : string_bytes new.bus ≡ string_bytes old.bus ++ step_to x (level_line (wired (driven_now tellers)))
-  pub lanes : EachBeside (Draws x (wired (driven_now tellers))) tellers olds news
+  pub lanes : EachBeside (InFull (Draws x (wired (driven_now tellers)))) tellers olds news
 
 -- what was drawn of the bits before this one
 pub record IsDrawn (first bit : ℕ) (sheet : Sheet) (lanes : List Lane) (told : List (List Happening)) : Type 0 where

@@ -10,7 +10,7 @@ use Rattle.can_node.specs.Stands.{state_of}
 use Rattle.sja_trace.specs.BitEvents.{warns, change_text, confinement_said}
 use Rattle.sja_trace.specs.Events.{said_if}
 use Rattle.sja_trace.specs.TraceText.{behind, joined}
-use Rattle.sja_trace.specs.declared.told.Told.{Told}
+use Rattle.sja_trace.specs.declared.remarks.Remarks.{Remarks}
 use Rattle.sja_trace.specs.Inside.Saying.{separator, said_after, is_any, Tells}
 use Rattle.sja_report.proofs.WrittenLines.Written.{two_texts}
 
@@ -33,7 +33,7 @@ any_both false [] fs = refl
 any_both false (e ∷ es) fs = refl
 
 -- events, and then others
-pub tells_both : {a b c : Told} {es fs : List (List ℕ)} → Tells a b es → Tells b c fs → Tells a c (es ++ fs)
+pub tells_both : {a b c : Remarks} {es fs : List (List ℕ)} → Tells a b es → Tells b c fs → Tells a c (es ++ fs)
 tells_both {a} {b} {c} {es} {fs} one two = record {
   text =
       two_texts (string_bytes a.text) (string_bytes b.text) (string_bytes c.text) (said_after a.begun es)
@@ -48,7 +48,7 @@ nothing_said : (b : Bool) → said_after b [] ≡ []
 nothing_said true = refl
 nothing_said false = refl
 
-pub tells_none : (t : Told) → Tells t t []
+pub tells_none : (t : Remarks) → Tells t t []
 tells_none t = record {
   text = sym (append-nil (string_bytes t.text)) ∙ ap (λ x. string_bytes t.text ++ x) (sym (nothing_said t.begun));
   begun = sym (or-false t.begun);
@@ -69,7 +69,7 @@ confinement_none k =
     ap₂ (λ warning change. warning ++ change) (ap (λ b. said_if b (codes "error warning")) (no_warning (warns k)))
     (no_change (state_of k))
 
-pub tells_same : (t : Told) (old new : Counters) → new ≡ old → Tells t t (confinement_said old new)
+pub tells_same : (t : Remarks) (old new : Counters) → new ≡ old → Tells t t (confinement_said old new)
 tells_same t old new same =
     let P : List (List ℕ) → Type 0 = λ es. Tells t t es in
     subst P (sym (confinement_none old) ∙ ap (λ k. confinement_said old k) (sym same)) (tells_none t)
@@ -79,7 +79,7 @@ one_said : (b : Bool) (e : List ℕ) → separator b ++ e ≡ said_after b (e �
 one_said true e = ap (λ t. codes "; " ++ t) (sym (append-nil e))
 one_said false e = sym (append-nil e)
 
-pub tells_one : (old new : Told) (between e : List ℕ) → between ≡ string_bytes old.text ++ separator old.begun →
+pub tells_one : (old new : Remarks) (between e : List ℕ) → between ≡ string_bytes old.text ++ separator old.begun →
     string_bytes new.text ≡ between ++ e → new.begun ≡ true → Tells old new (e ∷ [])
 tells_one old new between e before wrote begins = record {
   text =
@@ -89,21 +89,21 @@ tells_one old new between e before wrote begins = record {
 }
 
 -- where a test says whether there is one
-pub tells_not : (t : Told) (test : Bool) (e : List ℕ) → test ≡ false → Tells t t (said_if test e)
+pub tells_not : (t : Remarks) (test : Bool) (e : List ℕ) → test ≡ false → Tells t t (said_if test e)
 tells_not t true e h = cc
 tells_not t false e h = tells_none t
 
-pub tells_if : (old new : Told) (between e : List ℕ) (test : Bool) → test ≡ true →
+pub tells_if : (old new : Remarks) (between e : List ℕ) (test : Bool) → test ≡ true →
     between ≡ string_bytes old.text ++ separator old.begun → string_bytes new.text ≡ between ++ e →
     new.begun ≡ true → Tells old new (said_if test e)
 tells_if old new between e true h before wrote begins = tells_one old new between e before wrote begins
 tells_if old new between e false h before wrote begins = cc
 
 -- all events of a bit
-pub tells_all : (old new : Told) (es : List (List ℕ)) → string_bytes old.text ≡ [] → old.begun ≡ false →
+pub tells_all : (old new : Remarks) (es : List (List ℕ)) → string_bytes old.text ≡ [] → old.begun ≡ false →
     Tells old new es → string_bytes new.text ≡ joined es
 tells_all old new es none begun t =
     t.text ∙ ap₂ (λ l b. l ++ said_after b es) none begun
 
-pub tells_any : (old new : Told) (es : List (List ℕ)) → old.begun ≡ false → Tells old new es → new.begun ≡ is_any es
+pub tells_any : (old new : Remarks) (es : List (List ℕ)) → old.begun ≡ false → Tells old new es → new.begun ≡ is_any es
 tells_any old new es begun t = t.begun ∙ ap (λ b. b || is_any es) begun

@@ -89,6 +89,7 @@ one_passed steps n bits t v u s h f on =
       steps = u.steps;
       counters = u.counters;
       short = None;
+      reads = u.reads;
       bits = record { replay = u.bits.replay; over = u.bits.over; bit = brought };
     } in
     let own_steps = on.same.steps ∙ steps_for t v f ∙ h.steps_are in

@@ -78,6 +78,7 @@ module _ (n : ℕ) (old new : Teller) (h : HasRested n old new) where
     steps = new.steps;
     counters = h.short.counters;
     short = Some h.short;
+    reads = new.reads;
     bits = record old.bits { replay = rested (suc i) old.bits.replay };
   }
 
@@ -134,7 +135,13 @@ module _ (n : ℕ) (old new : Teller) (h : HasRested n old new) where
 is_last : (n : ℕ) (old new : Teller) (h : HasRested n old new) → 1 ≤ n → after n old new h n ≡ new
 is_last zero old new h some = absurd (omega (arith, some))
 is_last (suc m) old new h some =
-    λ i. record { steps = new.steps; counters = sym h.counters i; short = sym h.short_is i; bits = sym h.bits i }
+    λ i. record {
+      steps = new.steps;
+      counters = sym h.counters i;
+      short = sym h.short_is i;
+      reads = new.reads;
+      bits = sym h.bits i;
+    }
 
 -- ---- all nodes
 

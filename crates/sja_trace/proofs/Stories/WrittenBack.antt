@@ -8,9 +8,11 @@ use Rattle.sja_report.specs.ReportLines.{numbered}
 use Rattle.sja_trace.specs.declared.teller.Teller.{Teller}
 use Rattle.sja_trace.specs.TraceText.{IsTrace}
 use Rattle.sja_trace.specs.Inside.Coming.{TellerEnds, AreUnderway, late_lines}
-use Rattle.sja_trace.specs.Inside.Passing.{TellerPasses, ComesTo, hands_text}
+use Rattle.sja_trace.specs.Inside.Passing.{ComesTo}
+use Rattle.sja_trace.specs.Inside.Reading.{TellsBits}
 use Rattle.sja_trace.specs.Inside.Resting.{PassesUnsaid}
-use Rattle.sja_trace.proofs.Stories.Passed.{comes_more, comes_underway, comes_all}
+use Rattle.sja_trace.proofs.Stories.Passed.{comes_underway, comes_all}
+use Rattle.sja_trace.proofs.Stories.Heard.{comes_told}
 use Rattle.sja_trace.proofs.Stories.Rested.{comes_unsaid}
 
 -- as many as there were are those that were written
@@ -27,19 +29,16 @@ back_count was lent now n all is count =
     let same = same_count was lent now is count in
     all ∙ sym same ∙ ap (λ l. length l) (sym (are_back was now n all same))
 
--- a bit more
-pub back_more : (plan : PlanValue) (nodes : List NodeValue) (bits next n : ℕ) (was lent now shown : List Teller)
-    (old new : List ℕ) → n ≡ length was → lent ≡ was → length now ≡ length lent →
-    shown ≡ take n (now ++ drop (length now) was) → ComesTo plan nodes bits was old →
-    EachRelated TellerPasses lent now →
-    new ≡ old ++ hands_text bits shown → next ≡ suc bits →
+-- some bits more
+pub back_told : (plan : PlanValue) (nodes : List NodeValue) (bits told next n : ℕ) (was lent now : List Teller)
+    (old new : List ℕ) → n ≡ length was → lent ≡ was → length now ≡ length lent → ComesTo plan nodes bits was old →
+    TellsBits bits lent old told now new → next ≡ bits + told →
     ComesTo plan nodes next (take n (now ++ drop (length now) was)) new
-back_more plan nodes bits next n was lent now shown old new all is count seen up on wrote one =
+back_told plan nodes bits told next n was lent now old new all is count up on one =
     let back = are_back was now n all (same_count was lent now is count) in
-    let R : List Teller → Type 0 = λ l. EachRelated TellerPasses l now in
+    let R : List Teller → Type 0 = λ l. TellsBits bits l old told now new in
     let P : List Teller → Type 0 = λ l. ComesTo plan nodes next l new in
-    subst P (sym back) (comes_more plan nodes bits next was now old new up (subst R is on)
-    (wrote ∙ ap (λ (l : List Teller). old ++ hands_text bits l) (seen ∙ back)) one)
+    subst P (sym back) (comes_told plan nodes bits was old up next told now new (subst R is on) one)
 
 -- bits in which every node rests
 pub back_rested : (plan : PlanValue) (nodes : List NodeValue) (bits rest next n : ℕ) (was lent now : List Teller)

@@ -1,7 +1,7 @@
 -- Events that are written one after another.
 use Rattle.std.specs.Prelude.{◌≡◌, ◌||◌, ℕ, Bool, true, false, List, [], ◌∷◌, ◌++◌, codes, decimal, string_bytes}
 use Rattle.sja_trace.specs.TraceText.{behind, joined, told_line}
-use Rattle.sja_trace.specs.declared.told.Told.{Told}
+use Rattle.sja_trace.specs.declared.remarks.Remarks.{Remarks}
 
 -- what stands before an event, where one was written before it, and else
 abbrev pub separator : Bool → List ℕ
@@ -19,7 +19,7 @@ is_any [] = false
 is_any (e ∷ es) = true
 
 -- these events came behind what was there
-pub record Tells (old new : Told) (events : List (List ℕ)) : Type 0 where
+pub record Tells (old new : Remarks) (events : List (List ℕ)) : Type 0 where
   pub text : string_bytes new.text ≡ string_bytes old.text ++ said_after old.begun events
   pub begun : new.begun ≡ (old.begun || is_any events)
 

@@ -1,9 +1,12 @@
 -- A journal gone over bit by bit.
-use Rattle.std.proofs.Common.{◌≡◌, ℕ, zero, suc, true, false, List, [], ◌∷◌, ◌++◌, refl, ap}
+use Rattle.std.proofs.Common.{◌≡◌, ℕ, zero, suc, true, false, List, [], ◌∷◌, ◌++◌, refl, sym, ap}
+use Rattle.can_bits.specs.declared.level.Level.{Level}
 use Rattle.sja_link.specs.declared.entry.Entry.{Entry}
 use Rattle.sja_link.specs.declared.entry.Entry.TheVariants.{Bit, Up as Item, Abort, Stored, Overrun, Off}
 use Rattle.sja_wave.specs.Through.{through}
-use Rattle.sja_wave.specs.Inside.Cursors.{is_bit, past}
+use Rattle.sja_wave.specs.declared.cursor.Cursor.{Cursor}
+use Rattle.sja_wave.specs.declared.signals.Signals.{Signals}
+use Rattle.sja_wave.specs.Inside.Cursors.{is_bit, past, stepped}
 
 -- the entries up to the next bit are those up to this one, and those up to the first one that is left
 pub through_next : (n : ℕ) (j : List Entry) → through (suc n) j ≡ through n j ++ through 1 (past n j)
@@ -62,3 +65,10 @@ other_leaves Abort es h = refl
 other_leaves (Stored m) es h = refl
 other_leaves (Overrun m) es h = refl
 other_leaves Off es h = refl
+
+-- a bit is taken
+pub bit_taken : (c : Cursor) (es : List Entry) (driven seen : Level) → c.entries ≡ Bit driven seen ∷ es →
+    (let s : Signals = record c.shows { driven = driven; seen = seen } in
+    let x : Cursor = record { entries = es; showed = c.showed; shows = s } in x)
+    ≡ stepped c
+bit_taken c es driven seen is = sym (ap (λ (l : List Entry). stepped (record c { entries = l })) is)

@@ -1,5 +1,6 @@
 -- The text of all bits so far.
-use Rattle.std.proofs.Common.{◌≡◌, ℕ, suc, List, [], ◌++◌, length, sym, ap, ◌∙◌, subst, arith, append-nil, append_assoc}
+use Rattle.std.proofs.Common.{◌≡◌, ℕ, ◌+◌, ◌≤◌, zero, suc, List, [], ◌++◌, length, sym, ap, ◌∙◌, subst, subst₂, arith}
+use Rattle.std.proofs.Common.{append-nil, append_assoc}
 use Rattle.std.proofs.lemmas.Slice.Zip.{AllZip-long}
 use Rattle.lemmas.specs.Related.{EachRelated}
 use Rattle.lemmas.proofs.Related.{each_refl, each_trans}
@@ -10,7 +11,10 @@ use Rattle.sja_wave.specs.WaveText.{time_line, timed, declarations, first_values
 use Rattle.sja_wave.specs.WaveText.{changes_of, IsWave}
 use Rattle.sja_wave.specs.Inside.Changes.{all_values, all_changes}
 use Rattle.sja_wave.specs.Inside.Probes.{IsAtBit, IsSameTo, GoesOn, Finishes, AreFirst, HaveGone, HaveEnded, ShowsAll}
+use Rattle.sja_wave.specs.Inside.Resting.{AllRest, ProbeRested}
 use Rattle.sja_wave.proofs.BitByBit.Going.{same_refl, same_trans, all_less, same_nodes, all_show, all_on, all_told}
+use Rattle.sja_wave.proofs.BitByBit.Going.{all_reading}
+use Rattle.sja_wave.proofs.BitByBit.Rested.{states, states_first, states_last, states_go, all_none}
 use Rattle.sja_wave.proofs.SoFar.Written.{first_are, changes_are}
 
 -- ---- bit after bit
@@ -64,6 +68,27 @@ gone_more k n first olds news start old new number gone on wrote =
           ∙ ap (λ t. t ++ timed (suc k) (changes_after k stories)) (one.begins stories same)
           ∙ append_assoc start (changes_to k stories) (timed (suc k) (changes_after k stories)));
     })
+
+-- past bits in which nothing changes
+gone_rest : (k n i : ℕ) (first : List NodeStory) (olds news : List Probe) (start text : List ℕ)
+    (r : EachRelated (ProbeRested n) olds news) → i ≤ n → HaveGone k first olds start text → AllRest n olds →
+    HaveGone (k + i) first (states n i olds news r) start text
+gone_rest k n zero first olds news start text r most gone all =
+    subst₂ (λ (m : ℕ) (l : List Probe). HaveGone m first l start text) (let none : k ≡ k + 0 = omega arith in none)
+    (sym (states_first n olds news r)) gone
+gone_rest k n (suc i) first olds news start text r most gone all =
+    let one : k + suc i ≡ suc (k + i) = omega arith in
+    gone_more (k + i) (k + suc i) first (states n i olds news r) (states n (suc i) olds news r) start text text one
+    (gone_rest k n i first olds news start text r (omega (arith, most)) gone all)
+    (states_go n i olds news r (omega (arith, most)) all (all_reading k olds gone.parts gone.at))
+    (sym (append-nil text) ∙ ap (λ l. text ++ timed (k + suc i) l) (sym (all_none n i olds news r)))
+
+pub gone_rested : (k n next : ℕ) (first : List NodeStory) (olds news : List Probe) (start text : List ℕ) → 1 ≤ n →
+    next ≡ k + n → HaveGone k first olds start text → AllRest n olds → EachRelated (ProbeRested n) olds news →
+    HaveGone next first news start text
+gone_rested k n next first olds news start text some is gone all r =
+    subst₂ (λ (m : ℕ) (l : List Probe). HaveGone m first l start text) (sym is) (states_last n olds news r some)
+    (gone_rest k n n first olds news start text r (omega arith) gone all)
 
 -- ---- all bits
 

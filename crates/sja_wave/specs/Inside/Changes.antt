@@ -44,6 +44,19 @@ level_changes n old new =
     ++ change (codes "m" ++ decimal n) old.stored new.stored
     ++ change (codes "o" ++ decimal n) old.overrun new.overrun
 
+-- of them the levels, and the others
+abbrev pub seen_changes : ℕ → Signals → Signals → List ℕ
+seen_changes n old new =
+    change (codes "d" ++ decimal n) (is_recessive old.driven) (is_recessive new.driven)
+    ++ change (codes "s" ++ decimal n) (is_recessive old.seen) (is_recessive new.seen)
+
+abbrev pub state_changes : ℕ → Signals → Signals → List ℕ
+state_changes n old new =
+    change (codes "a" ++ decimal n) old.active new.active
+    ++ change (codes "f" ++ decimal n) old.off new.off
+    ++ change (codes "m" ++ decimal n) old.stored new.stored
+    ++ change (codes "o" ++ decimal n) old.overrun new.overrun
+
 abbrev pub number_changes : ℕ → Gauges → Gauges → Bool → Bool → List ℕ
 number_changes n old new was_struck is_struck =
     number_change (codes "t" ++ decimal n) old.tec new.tec

@@ -57,6 +57,10 @@ past (suc n) (Stored m ∷ j) = past (suc n) j
 past (suc n) (Overrun m ∷ j) = past (suc n) j
 past (suc n) (Off ∷ j) = past (suc n) j
 
+-- past the next bit, with what they showed before as it was
+abbrev pub stepped : Cursor → Cursor
+stepped c = record c { entries = past 1 c.entries; shows = all_entered c.shows (through 1 c.entries) }
+
 -- a bit more
 abbrev pub advanced : Cursor → Cursor
 advanced c = record {

@@ -1,5 +1,8 @@
 -- The numbers of a node, read bit by bit.
 use Rattle.std.specs.Prelude.{◌≡◌, ◌<◌, ◌≤◌, ℕ, suc, false, Option, List, [], length}
+use Rattle.can_node.specs.declared.counters.Counters.{Counters}
+use Rattle.can_node.specs.declared.flag_kind.FlagKind.{FlagKind}
+use Rattle.can_node.specs.declared.phase.Phase.{Phase}
 use Rattle.sja_link.specs.declared.entry.Entry.{Entry}
 use Rattle.sja_replay.specs.declared.happening.Happening.{Happening}
 use Rattle.sja_replay.specs.declared.view.View.{View}
@@ -7,10 +10,14 @@ use Rattle.sja_replay.specs.Coming.{HasCome, left_in}
 use Rattle.sja_replay.specs.Happened.{Happened}
 use Rattle.sja_wave.specs.declared.gauges.Gauges.{Gauges}
 use Rattle.sja_wave.specs.declared.meter.Meter.{Meter}
-use Rattle.sja_wave.specs.Views.{view_in, tec_of, rec_of, phase_of}
+use Rattle.sja_wave.specs.Views.{view_in, tec_of, rec_of, phase_code, phase_of}
 
 abbrev pub gauges_of : Option View → Gauges
 gauges_of v = record { tec = tec_of v; rec = rec_of v; phase = phase_of v }
+
+-- by these error counters, this phase and this flag
+abbrev pub gauges_by : Counters → Phase → FlagKind → Gauges
+gauges_by counters phase flag = record { tec = counters.tec; rec = counters.rec; phase = phase_code phase flag }
 
 -- ---- how far a journal was read
 

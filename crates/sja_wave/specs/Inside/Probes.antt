@@ -1,5 +1,5 @@
 -- The nodes of a run, gone over together bit by bit.
-use Rattle.std.specs.Prelude.{◌≡◌, ◌≤◌, ℕ, zero, suc, List, [], ◌∷◌, ◌++◌}
+use Rattle.std.specs.Prelude.{◌≡◌, ◌<◌, ◌≤◌, ℕ, zero, suc, List, [], ◌∷◌, ◌++◌}
 use Rattle.lemmas.specs.Related.{EachRelated}
 use Rattle.sja_log.specs.Log.{NodeValue, RunValue}
 use Rattle.sja_replay.specs.declared.happening.Happening.{Happening}
@@ -74,6 +74,13 @@ pub record HaveGone (k : ℕ) (first : List NodeStory) (probes : List Probe) (st
   pub same : EachRelated (IsSameTo 0) first parts
   pub text_is : (stories : List NodeStory) → EachRelated (IsSameTo k) parts stories →
       text ≡ start ++ changes_to k stories
+
+-- it goes on from one bit to another, before the last one
+pub record GoesFurther (last bit next : ℕ) (olds news : List Probe) (old new : List ℕ) : Type 0 where
+  pub further : bit < next
+  pub within : next ≤ last
+  pub gone : (first : List NodeStory) (start : List ℕ) → HaveGone bit first olds start old →
+      HaveGone next first news start new
 
 -- the same of all bits
 pub record HaveEnded (bits : ℕ) (first : List NodeStory) (probes : List Probe) (start text : List ℕ) : Type 0 where

@@ -1,4 +1,5 @@
-use Rattle.std.proofs.Common.{◌<◌, length, rules}
+use Rattle.std.proofs.Common.{◌<◌, length, subst, slice_index_or, rules}
+use Rattle.sja_trace.specs.declared.teller.Teller.{Teller}
 use Rattle.sja_picture.specs.Inside.Drawing.{Draws}
 use Rattle.sja_picture.proofs.NodeRows.Beside.{beside_none, beside_next, beside_all}
 use Rattle.sja_picture.proofs.all_rows.draw_all.Goals as goal
@@ -9,9 +10,11 @@ loop-k-init c = beside_none (Draws c.args.bus) c.args.tellers.now c.args.rows.no
 pub loop-k-preserved : goal.loop-k-preserved
 loop-k-preserved c =
     let here : c.loop-k.k < length c.loop-k.rows = search rules in
+    let P : Teller → Type 0 =
+    λ t. Draws c.args.bus t (slice_index_or c.loop-k.rows c.loop-k.k c.index-rows-k.result) c.draw.new.self in
     beside_next (Draws c.args.bus) c.loop-k.k c.args.tellers.now c.args.rows.now c.loop-k.rows
     c.index-tellers-k.result c.index-rows-k.result c.draw.new.self c.loop-k.invariant here
-    (rw c.bit.ensures at c.in_ok-draw.ensures)
+    (subst P c.index-tellers-k.is c.in_ok-draw.ensures)
 
 pub returns : goal.returns
 returns c =

@@ -6,24 +6,29 @@ use Rattle.sja_picture.specs.Inside.Drawing.{IsFresh}
 use Rattle.sja_picture.specs.PictureText.{picture_text, end_after}
 use Rattle.sja_picture.proofs.NodeRows.Fresh.{lent_first}
 use Rattle.sja_picture.proofs.WholePage.Pages.{page_first, page_whole, beside}
-use Rattle.sja_picture.proofs.NodeRows.Stories.{knows_next, knows_underway, knows_all}
+use Rattle.sja_picture.proofs.NodeRows.Stories.{knows_underway, knows_all}
 use Rattle.sja_picture.proofs.picture_text.drawn.Goals as goal
 
 pub loop-bit-init : goal.loop-bit-init
 loop-bit-init c =
     let begun = lent_first _ _ _ _ c.nodes.ensures c.as_mut_slice-tellers.ensures.value c.in_ok-all.ensures in
-    page_first c.args.log.now.nodes c.of-span.result _ c.args.rows.now c.new-page.result begun c.requires
-    c.new-page.ensures.text c.new-page.ensures.start c.new-page.ensures.bus
+    record {
+      within = omega arith;
+      drawn = page_first c.args.log.now.nodes c.of-span.result _ c.args.rows.now c.new-page.result begun c.requires
+          c.new-page.ensures.text c.new-page.ensures.start c.new-page.ensures.bus;
+    }
 
 pub loop-bit-preserved : goal.loop-bit-preserved
-loop-bit-preserved c =
-    knows_next _ c.loop-bit.bit _ _ _ _ c.loop-bit.invariant c.go_on_all.ensures c.in_ok-take.ensures
+loop-bit-preserved c = record {
+  within = c.in_ok-bit.ensures.within;
+  drawn = c.in_ok-bit.ensures.draws c.args.log.now.nodes c.loop-bit.invariant.drawn;
+}
 
 pub finish_all-requires : goal.finish_all-requires
-finish_all-requires c = knows_underway _ _ _ _ c.loop-bit.invariant
+finish_all-requires c = knows_underway _ _ _ _ c.loop-bit.invariant.drawn
 
-pub take-requires-clause-beside : goal.take-requires-clause-beside
-take-requires-clause-beside c =
+pub go_on-requires-clause-beside : goal.go_on-requires-clause-beside
+go_on-requires-clause-beside c =
     let begun = lent_first _ _ _ _ c.nodes.ensures c.as_mut_slice-tellers.ensures.value c.in_ok-all.ensures in
     let same = beside (λ (n : NodeValue) (x : NodeRows). IsFresh x) c.args.log.now.nodes _ c.args.rows.now begun
     c.requires in
@@ -31,7 +36,7 @@ take-requires-clause-beside c =
 
 pub returns : goal.returns
 returns c =
-    let all = knows_all _ _ _ _ _ c.loop-bit.invariant c.finish_all.ensures in
+    let all = knows_all _ _ _ _ _ c.loop-bit.invariant.drawn c.finish_all.ensures in
     let past : c.of-span.result.end ≤ c.loop-bit.bit = omega arith in
     record {
       told = all.told;

@@ -1,5 +1,5 @@
 use Rattle.std.proofs.lemmas.Str.{IsUtf8-from_ascii}
 use Rattle.sja_report.proofs.words.put_ascii.Goals as goal
 
-pub unreachable-requires : goal.unreachable-requires
-unreachable-requires c = (c.in-Err.ensures.cases).0 (IsUtf8-from_ascii c.args.characters.now c.requires)
+pub from_utf8_unchecked-requires : goal.from_utf8_unchecked-requires
+from_utf8_unchecked-requires c = IsUtf8-from_ascii c.args.characters.now c.requires

@@ -1,4 +1,4 @@
-use Rattle.sja_picture.proofs.NodeRows.Stories.{Knows}
+use Rattle.sja_picture.specs.Inside.Knowing.{Knows}
 use Rattle.sja_svg.specs.Inside.Going.{IsDrawn}
 use Rattle.sja_svg.proofs.drawing_text.drawn.Given as goal
 

@@ -1,5 +1,5 @@
-use Rattle.std.proofs.Common.{◌≡◌, ℕ, ◌+◌, suc, rules, arith}
-use Rattle.sja_wave.proofs.SoFar.UpTo.{gone_first, gone_more, no_bits, gone_end}
+use Rattle.std.proofs.Common.{◌≡◌, suc, rules, arith}
+use Rattle.sja_wave.proofs.SoFar.UpTo.{gone_first, no_bits, gone_end}
 use Rattle.sja_wave.proofs.wave_text.put_bits.Goals as goal
 
 pub returns-then-bits-eq0 : goal.returns-then-bits-eq0
@@ -10,17 +10,20 @@ returns-then-bits-eq0 c = λ parts at.
     no_bits c.args.log.now.bits parts c.args.probes.now _ none at
 
 pub loop-bit-init : goal.loop-bit-init
-loop-bit-init c = λ parts at. gone_first parts c.args.probes.now _ at
+loop-bit-init c = record {
+  within = omega arith;
+  gone = λ parts at. gone_first parts c.args.probes.now _ at;
+}
 
 pub loop-bit-preserved : goal.loop-bit-preserved
-loop-bit-preserved c = λ parts at.
-    let k = c.loop-bit.bit in
-    let one : k + 1 ≡ suc k = omega arith in
-    gone_more k (k + 1) parts c.loop-bit.probes _ _ _ _ one (c.loop-bit.invariant parts at)
-    c.in_ok-put_next.ensures.probes c.in_ok-put_next.ensures.text
+loop-bit-preserved c = record {
+  within = c.in_ok-bit.ensures.within;
+  gone = λ parts at. c.in_ok-bit.ensures.gone parts _ (c.loop-bit.invariant.gone parts at);
+}
 
 pub returns : goal.returns
 returns c = λ parts at.
-    let last : c.args.log.now.bits ≡ suc c.loop-bit.bit = omega arith in
+    let within = c.loop-bit.invariant.within in
+    let last : c.args.log.now.bits ≡ suc c.loop-bit.bit = omega (arith, within) in
     gone_end c.loop-bit.bit c.args.log.now.bits _ parts c.loop-bit.probes _ _ _ _ last c.bits-2.ensures
-    (c.loop-bit.invariant parts at) c.in_ok-put_end.ensures.probes c.in_ok-put_end.ensures.text
+    (c.loop-bit.invariant.gone parts at) c.in_ok-put_end.ensures.probes c.in_ok-put_end.ensures.text

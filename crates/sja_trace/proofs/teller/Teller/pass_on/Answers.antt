@@ -4,8 +4,8 @@ use Rattle.sja_trace.specs.Inside.Hands.{HandGoesOn, counters_of}
 use Rattle.sja_trace.proofs.Stories.Telling.{hand_on}
 use Rattle.sja_trace.proofs.teller.Teller.pass_on.Goals as goal
 
-pub returns-then-is_none : goal.returns-then-is_none
-returns-then-is_none c =
+pub returns-then-is_none-clause-passes : goal.returns-then-is_none-clause-passes
+returns-then-is_none-clause-passes c =
     let none : c.pass-self.result ≡ None = search rules in
     let P : NodeBits → Type 0 = λ b. HandGoesOn b c.go_on-then-is_none.new.self c.pass-self.result in record {
       same = c.go_on.ensures;
@@ -15,8 +15,8 @@ returns-then-is_none c =
           c.go_on-then-is_none.ensures);
     }
 
-pub returns-else-is_none : goal.returns-else-is_none
-returns-else-is_none c = record {
+pub returns-else-is_none-clause-passes : goal.returns-else-is_none-clause-passes
+returns-else-is_none-clause-passes c = record {
   same = c.go_on.ensures;
   counters = c.counters_of-self.ensures ∙ ap (counters_of c.args.self.now.short) c.bit.ensures;
   bits = search rules;
