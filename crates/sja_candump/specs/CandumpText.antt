@@ -12,8 +12,7 @@ use Rattle.sja_report.specs.ReportLines.{numbered}
 use Rattle.sja_trace.specs.TraceText.{line_where}
 use Rattle.sja_candump.specs.declared.error_frame.ErrorFrame.{ErrorFrame}
 use Rattle.sja_candump.specs.ErrorFrames.{error_text}
-use Rattle.sja_candump.specs.BitErrors.{loss_error, acknowledgement_error, overrun_error, change_error, off_error}
-use Rattle.sja_candump.specs.BitErrors.{restart_error}
+use Rattle.sja_candump.specs.BitErrors.{bit_error}
 use Rattle.sja_candump.specs.Lines.{frame_line}
 
 -- ---- a bit of a node
@@ -37,20 +36,11 @@ abbrev pub error_line : ℕ → ℕ → Option ErrorFrame → List ℕ
 error_line bit node None = []
 error_line bit node (Some e) = frame_line bit node (error_text e)
 
--- the error frames that come before what is received, and those that come after it
-abbrev pub lines_before : ℕ → ℕ → Happening → List ℕ
-lines_before bit node h = error_line bit node (loss_error h) ++ error_line bit node (acknowledgement_error h)
-
-abbrev pub lines_after : ℕ → ℕ → Happening → List ℕ
-lines_after bit node h =
-    error_line bit node (overrun_error h) ++ error_line bit node (change_error h) ++ error_line bit node (off_error h)
-    ++ error_line bit node (restart_error h)
-
--- the lines of what a bit brought, with error frames or without
+-- the lines of what a bit brought, with error frames or without. The driver takes what is received first
 abbrev pub bit_lines : Bool → ℕ → ℕ → Happening → List ℕ
 bit_lines errors bit node h =
-    line_where errors (lines_before bit node h) ++ stored_line bit node (stored_frame h.events.received h.fate)
-    ++ line_where errors (lines_after bit node h)
+    stored_line bit node (stored_frame h.events.received h.fate)
+    ++ line_where errors (error_line bit node (bit_error h))
 
 abbrev pub node_lines : Bool → ℕ → ℕ → Option Happening → List ℕ
 node_lines errors bit node None = []

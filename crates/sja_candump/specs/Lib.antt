@@ -1,6 +1,7 @@
 -- ---- the head of a line
 pub mod Lines
--- ---- error frames, and the ones that a bit brings
+-- ---- error frames, and the one that a bit brings
+pub mod ControllerStates
 pub mod ErrorFrames
 pub mod BitErrors
 -- ---- the text

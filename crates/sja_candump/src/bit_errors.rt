@@ -1,87 +1,59 @@
-//! The error frames that a bit brings.
+//! The error frame that a bit brings.
 
 ghost use Rattle.std.specs.Prelude.{◌≡◌};
-ghost use Rattle.sja_candump.specs.BitErrors.{loss_error, acknowledgement_error, overrun_error, change_error};
-ghost use Rattle.sja_candump.specs.BitErrors.{off_error, restart_error, error_if, error_with};
-ghost use Rattle.sja_candump.specs.BitErrors.{lacks_acknowledgement, is_overrun};
+ghost use Rattle.sja_candump.specs.BitErrors.{bit_error, interrupt_by, is_overrun, bus_error_of, change_in};
 
-use super::changes::change_status;
-use super::error_class::ErrorClass;
+use super::bus_error::BusError;
+use super::controller_state::ControllerState;
 use super::error_frame::ErrorFrame;
-use can_bits::Segment;
-use can_node::Cause;
+use super::interrupt::Interrupt;
+use can_node::BitEvents;
 use sja_replay::{Fate, Happening};
 
-/// A message was longer than the bytes that were free (Linux, `linux/can/error.h`, `CAN_ERR_CRTL_RX_OVERFLOW`).
-const RECEIVE_OVERFLOW: u8 = 0x01;
-
-/// Of lost arbitration.
-pub(crate) fn loss_error(bit: &Happening) -> Option<ErrorFrame>
-    ensures { result ≡ loss_error bit.now }
+/// The error frame of a bit, if it brings one.
+pub(crate) fn bit_error(bit: &Happening) -> Option<ErrorFrame>
+    ensures { result ≡ bit_error bit.now }
 {
-    match bit.events.lost {
-        Some(code) => Some(ErrorFrame::of(ErrorClass::LostArbitration, code, 0, bit)),
-        None => None,
+    if bit.events.went_off {
+        return Some(ErrorFrame::BusOff);
     }
-}
-
-/// Of a frame that no one acknowledged.
-pub(crate) fn acknowledgement_error(bit: &Happening) -> Option<ErrorFrame>
-    ensures { result ≡ acknowledgement_error bit.now }
-{
-    let lacks = lacks_acknowledgement(bit.events.fault);
-    error_if(lacks, ErrorClass::NoAcknowledgement, 0, bit)
-}
-
-/// Of a receive overrun.
-pub(crate) fn overrun_error(bit: &Happening) -> Option<ErrorFrame>
-    ensures { result ≡ overrun_error bit.now }
-{
-    let overrun = is_overrun(bit.fate);
-    error_if(overrun, ErrorClass::Controller, RECEIVE_OVERFLOW, bit)
-}
-
-/// Of a change of the controller's state.
-pub(crate) fn change_error(bit: &Happening) -> Option<ErrorFrame>
-    ensures { result ≡ change_error bit.now }
-{
-    let status = change_status(bit.before.counters, bit.after.counters);
-    error_if(status != 0, ErrorClass::Controller, status, bit)
-}
-
-/// Of bus-off.
-pub(crate) fn off_error(bit: &Happening) -> Option<ErrorFrame>
-    ensures { result ≡ off_error bit.now }
-{
-    error_if(bit.events.went_off, ErrorClass::BusOff, 0, bit)
-}
-
-/// Of the way back from bus-off.
-pub(crate) fn restart_error(bit: &Happening) -> Option<ErrorFrame>
-    ensures { result ≡ restart_error bit.now }
-{
-    error_if(bit.events.recovered, ErrorClass::Restarted, 0, bit)
-}
-
-/// An error frame of a bit where a test holds, and else none.
-fn error_if(test: bool, class: ErrorClass, status: u8, bit: &Happening) -> Option<ErrorFrame>
-    ensures { result ≡ error_if test (error_with class 0 status bit.now) }
-{
-    if test {
-        Some(ErrorFrame::of(class, 0, status, bit))
+    if bit.events.recovered {
+        return Some(ErrorFrame::Restarted);
+    }
+    let interrupt = interrupt_of(bit);
+    if interrupt.tells() {
+        Some(ErrorFrame::Told(interrupt))
     } else {
         None
     }
 }
 
-/// Whether a fault is that no one acknowledged.
-fn lacks_acknowledgement(fault: Option<(Cause, Segment)>) -> bool
-    ensures { result ≡ lacks_acknowledgement fault }
+/// What came with the bit.
+fn interrupt_of(bit: &Happening) -> Interrupt
+    ensures { result ≡ interrupt_by bit.now.events (is_overrun bit.now.fate) (change_in bit.now)
+        bit.now.after.counters }
 {
-    match fault {
-        Some((cause, _)) => matches!(cause, Cause::Ack),
-        None => false,
+    let before = ControllerState::of(bit.before.counters);
+    let after = ControllerState::of(bit.after.counters);
+    Interrupt {
+        lost: bit.events.lost,
+        overrun: is_overrun(bit.fate),
+        bus_error: bus_error_of(&bit.events),
+        change: before.changed(after),
+        counters: bit.after.counters,
     }
+}
+
+/// The fault of a bit.
+fn bus_error_of(events: &BitEvents) -> Option<BusError>
+    ensures { result ≡ bus_error_of events.now.fault events.now.receiving }
+{
+    let (cause, segment) = events.fault?;
+    Some(BusError {
+        cause,
+        segment,
+        receiving: events.receiving,
+    })
 }
 
 /// Whether a message was overrun.

@@ -3,11 +3,8 @@
 ghost use Rattle.std.specs.Prelude.{◌≡◌, ◌++◌, string_bytes, OnOk};
 ghost use Rattle.sja_trace.specs.TraceText.{line_where};
 ghost use Rattle.sja_candump.specs.CandumpText.{node_lines, bit_lines, stored_line, stored_frame};
-ghost use Rattle.sja_candump.specs.CandumpText.{lines_before, lines_after};
 
-use super::bit_errors::{
-    acknowledgement_error, change_error, loss_error, off_error, overrun_error, restart_error,
-};
+use super::bit_errors::bit_error;
 use super::frame_lines::{put_error_if, put_frame_line};
 use can_frame::Frame;
 use sja_replay::{Fate, Happening};
@@ -30,7 +27,7 @@ pub(crate) fn put_node(
     }
 }
 
-/// The lines of what a bit brought; those of error frames only where they are asked for.
+/// The lines of what a bit brought; that of an error frame only where it is asked for.
 fn put_happening(
     text: &mut String,
     errors: bool,
@@ -40,12 +37,9 @@ fn put_happening(
 ) -> Result<(), AllocError>
     ensures { OnOk result (string_bytes text.new ≡ string_bytes text.old ++ bit_lines errors bit node happening.now) }
 {
-    if errors {
-        put_errors_before(text, bit, node, happening)?;
-    }
     put_stored(text, bit, node, &happening.events.received, happening.fate)?;
     if errors {
-        put_errors_after(text, bit, node, happening)?;
+        put_error_if(text, bit, node, &bit_error(happening))?;
     }
     Ok(())
 }
@@ -65,34 +59,4 @@ fn put_stored(
         (Some(frame), Some(Fate::Stored)) => put_frame_line(text, bit, node, frame),
         _ => Ok(()),
     }
-}
-
-/// The error frames that come before what is received: lost arbitration, and a missing acknowledgement.
-fn put_errors_before(
-    text: &mut String,
-    bit: u32,
-    node: usize,
-    happening: &Happening,
-) -> Result<(), AllocError>
-    ensures { OnOk result (string_bytes text.new ≡ string_bytes text.old ++ lines_before bit node happening.now) }
-{
-    put_error_if(text, bit, node, loss_error(happening))?;
-    put_error_if(text, bit, node, acknowledgement_error(happening))?;
-    Ok(())
-}
-
-/// The error frames that come after it: an overrun, a change of state, bus-off and the way back.
-fn put_errors_after(
-    text: &mut String,
-    bit: u32,
-    node: usize,
-    happening: &Happening,
-) -> Result<(), AllocError>
-    ensures { OnOk result (string_bytes text.new ≡ string_bytes text.old ++ lines_after bit node happening.now) }
-{
-    put_error_if(text, bit, node, overrun_error(happening))?;
-    put_error_if(text, bit, node, change_error(happening))?;
-    put_error_if(text, bit, node, off_error(happening))?;
-    put_error_if(text, bit, node, restart_error(happening))?;
-    Ok(())
 }

@@ -12,8 +12,9 @@ use sja_trace::NodeBits;
 use std::alloc::{AllocError, Global};
 
 /// What the driver of each node could have received in a run, in the log format of can-utils (`candump -l`): a line for
-/// each frame that was received and stored, and with `errors` one for each error frame of SocketCAN, in the order of
-/// bits and of nodes. The time of a line is its bit in microseconds, and its device `canK` for node K.
+/// each frame that was received and stored, and with `errors` one for each error frame that Linux's driver of the
+/// SJA1000 sends with berr-reporting on, in the order of bits and of nodes. The time of a line is its bit in
+/// microseconds, and its device `canK` for node K.
 ///
 /// A node's own frames have no line, unless it receives them itself under self reception. Each node's journal is gone
 /// over once, all of them together. Beside the text no more is kept than one bit of each node.

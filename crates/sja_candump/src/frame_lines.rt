@@ -6,7 +6,6 @@ ghost use Rattle.sja_candump.specs.ErrorFrames.{error_text, error_identifier};
 ghost use Rattle.sja_candump.specs.Lines.{head_text, frame_line};
 ghost use Rattle.sja_candump.specs.CandumpText.{error_line};
 
-use super::error_class::ErrorClass;
 use super::error_frame::ErrorFrame;
 use can_frame::Frame;
 use sja_trace::put_frame;
@@ -37,9 +36,9 @@ pub(crate) fn put_error_if(
     text: &mut String,
     bit: u32,
     node: usize,
-    error: Option<ErrorFrame>,
+    error: &Option<ErrorFrame>,
 ) -> Result<(), AllocError>
-    ensures { OnOk result (string_bytes text.new ≡ string_bytes text.old ++ error_line bit node error) }
+    ensures { OnOk result (string_bytes text.new ≡ string_bytes text.old ++ error_line bit node error.now) }
 {
     match error {
         Some(error) => put_error_line(text, bit, node, error),
@@ -52,10 +51,10 @@ fn put_error_line(
     text: &mut String,
     bit: u32,
     node: usize,
-    error: ErrorFrame,
+    error: &ErrorFrame,
 ) -> Result<(), AllocError>
     ensures { OnOk result (string_bytes text.new ≡ string_bytes text.old
-        ++ frame_line bit node (error_text error)) }
+        ++ frame_line bit node (error_text error.now)) }
 {
     put_head(text, bit, node)?;
     put_error(text, error)?;
@@ -75,22 +74,22 @@ fn put_head(text: &mut String, bit: u32, node: usize) -> Result<(), AllocError>
 }
 
 /// An error frame.
-fn put_error(text: &mut String, error: ErrorFrame) -> Result<(), AllocError>
-    ensures { OnOk result (string_bytes text.new ≡ string_bytes text.old ++ error_text error) }
+fn put_error(text: &mut String, error: &ErrorFrame) -> Result<(), AllocError>
+    ensures { OnOk result (string_bytes text.new ≡ string_bytes text.old ++ error_text error.now) }
 {
-    put_identifier(text, error.class)?;
+    put_identifier(text, error)?;
     text.push('#')?;
     put_bytes(text, &error.bytes())?;
     Ok(())
 }
 
-/// The identifier of the error frames of a class.
+/// The identifier of an error frame.
 #[tactic(auto, using(crate::proofs::Lines::FrameTexts::identifier_digits))]
-fn put_identifier(text: &mut String, class: ErrorClass) -> Result<(), AllocError>
+fn put_identifier(text: &mut String, error: &ErrorFrame) -> Result<(), AllocError>
     ensures { OnOk result (string_bytes text.new ≡ string_bytes text.old
-        ++ identifier_text true (error_identifier class)) }
+        ++ identifier_text true (error_identifier error.now)) }
 {
-    let identifier = class.identifier();
+    let identifier = error.identifier();
     write!(text, "{identifier:08X}")?;
     Ok(())
 }

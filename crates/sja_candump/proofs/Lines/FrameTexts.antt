@@ -1,17 +1,16 @@
 -- The numbers in a line, as they are written.
 use Rattle.std.proofs.Common.{◌≡◌, ◌<◌, ◌+◌, ◌-◌, ◌/◌, ◌%◌, ◌^◌, ℕ, true, false, List, [], ◌∷◌, ◌++◌, length}
 use Rattle.std.proofs.Common.{take, get_or, refl, sym, ap, ap₂, ◌∙◌, append-nil, append_assoc, arith}
-use Rattle.std.specs.Prelude.{replicate, decimal}
+use Rattle.std.specs.Prelude.{Bool, is_some, replicate, decimal}
 use Rattle.std.specs.Fmt.{digits, padded_integral, format_spec, char_count}
 use Rattle.std.proofs.lemmas.Fmt.{hex_byte}
 use Rattle.std.proofs.lemmas.Grind.{flat_map-append}
 use Rattle.std.proofs.lemmas.List.{take_more}
 use Rattle.can_notation.specs.Digits.{digit_of, digits_of}
 use Rattle.can_notation.specs.Text.{identifier_text, data_text}
-use Rattle.sja_candump.specs.declared.error_class.ErrorClass.{ErrorClass}
-use Rattle.sja_candump.specs.declared.error_class.ErrorClass.TheVariants.{LostArbitration, Controller}
-use Rattle.sja_candump.specs.declared.error_class.ErrorClass.TheVariants.{NoAcknowledgement, BusOff, Restarted}
-use Rattle.sja_candump.specs.ErrorFrames.{error_identifier}
+use Rattle.sja_candump.specs.declared.error_frame.ErrorFrame.{ErrorFrame}
+use Rattle.sja_candump.specs.declared.error_frame.ErrorFrame.TheVariants.{Told, BusOff, Restarted}
+use Rattle.sja_candump.specs.ErrorFrames.{error_flag, class_bits, is_of_controller, error_identifier}
 use Rattle.sja_candump.specs.Lines.{zero_padded}
 
 -- what `{:010}` and `{:06}` write
@@ -30,14 +29,26 @@ byte_digits n small =
     let high : n / 16 ≡ n / 16 % 16 = omega arith in
     hex_byte true n small ∙ ap (λ d. digit_of d ∷ digit_of (n % 16) ∷ []) high
 
--- what `{:08X}` writes of the identifier of an error frame
-pub identifier_digits : (class : ErrorClass) →
-    padded_integral (format_spec 32 0 4 8 (2 ^ 64 - 1)) false [] (digits 16 true (error_identifier class))
-    ≡ identifier_text true (error_identifier class)
+-- what `{:08X}` writes of the identifier of an error frame, by its classes
+told_digits : (lost controller bus_error : Bool) →
+    padded_integral (format_spec 32 0 4 8 (2 ^ 64 - 1)) false []
+    (digits 16 true (error_flag + class_bits lost controller bus_error))
+    ≡ identifier_text true (error_flag + class_bits lost controller bus_error)
 unfolding padded_integral char_count digits
-identifier_digits LostArbitration = refl
-identifier_digits Controller = refl
-identifier_digits NoAcknowledgement = refl
+told_digits true true true = refl
+told_digits true true false = refl
+told_digits true false true = refl
+told_digits true false false = refl
+told_digits false true true = refl
+told_digits false true false = refl
+told_digits false false true = refl
+told_digits false false false = refl
+
+pub identifier_digits : (e : ErrorFrame) →
+    padded_integral (format_spec 32 0 4 8 (2 ^ 64 - 1)) false [] (digits 16 true (error_identifier e))
+    ≡ identifier_text true (error_identifier e)
+unfolding padded_integral char_count digits
+identifier_digits (Told i) = told_digits (is_some i.lost) (is_of_controller i) (is_some i.bus_error)
 identifier_digits BusOff = refl
 identifier_digits Restarted = refl
 

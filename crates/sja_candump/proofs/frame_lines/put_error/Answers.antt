@@ -8,8 +8,8 @@ pub returns : goal.returns
 unfolding lib.Utf8.encode
 returns c =
     two_texts (string_bytes c.args.text.now) (string_bytes c.put_identifier.new.text)
-    (string_bytes c.put_bytes.new.text) (identifier_text true (error_identifier c.args.error.class))
-    (hash ∷ data_text (error_bytes c.args.error)) c.in_ok-put_identifier.ensures
+    (string_bytes c.put_bytes.new.text) (identifier_text true (error_identifier c.args.error.now))
+    (hash ∷ data_text (error_bytes c.args.error.now)) c.in_ok-put_identifier.ensures
     (two_texts (string_bytes c.put_identifier.new.text) (string_bytes c.push.new.self)
-    (string_bytes c.put_bytes.new.text) (hash ∷ []) (data_text (error_bytes c.args.error))
+    (string_bytes c.put_bytes.new.text) (hash ∷ []) (data_text (error_bytes c.args.error.now))
     c.in_ok-push.ensures.bytes (rw c.bytes.ensures at c.in_ok-put_bytes.ensures))
