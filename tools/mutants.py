@@ -11,7 +11,7 @@ NUMBERS = """0 1 2 3 7 8 9 10 11 12 21 22 59 60 64 127 128 199 255 256 1000 1001
 0o7 0b1 1_000 1__0 _1 00 021 1.0 1e3 1e400 -inf inf nan true false 1979-05-27 07:32:00 1979-05-27T07:32:00Z 1e 0x 1.
 .5""".split()
 VALUES = ["''", '""', "[]", "{}", "[[]]", "[{}]", "{ steps = [] }", "['start']", "[1]", "[true]", "[['start']]", "'1'"]
-KEYS = ["version", "bits", "node", "turns", "faults", "steps", "Version", "nodes", "", '""', "'bits'", '"node"']
+KEYS = ["version", "bits", "node", "turns", "faults", "strikes", "steps", "Version", "nodes", "", '""', "'bits'", '"node"']
 KEYS += ["node.steps", "node.0.steps", "a.b.c", "bits.x", "\u00e9", '"\\u0062its"', "bi ts", "-", "1", "_"]
 MARKS = ["[", "]", "[[", "]]", "{", "}", "=", ",", '"', "'", '"""', "'''", "#", "\n", "\r\n", "\r", "\t", "\\", "\\u0000"]
 MARKS += ["\\U0010ffff", "\\ud800", "\\x41", "\\e", "\0", "\x7f", "\ufeff", "\u00a0", "\u2028", "\U0001f600", " ", ".", "-"]
@@ -22,6 +22,10 @@ PLAIN = ["start", "stop", "window", "release", "sent"]
 READ = [0, 2, 3, 4, 11, 12, 13, 14, 15, 16, 20, 28, 29, 30]
 WRITTEN = [0, 0, 1, 1, 4, 13, 14, 15, 16, 17, 18, 20, 21, 28, 31]
 VALUES_WRITTEN = ["00", "00", "01", "02", "04", "08", "09", "10", "2f", "60", "7f", "80", "ff", "ff"]
+NAMES = ["MOD", "CMR", "SR", "IR", "IER", "BTR0", "OCR", "ALC", "ecc", "EWLR", "RXERR", "TXERR", "RMC", "RBSA", "CDR", "ACR0"]
+NAMES += ["AMR3", "TX0", "TX12", "RX0", "RX12", "TX13", "RX", "ACR4", "0x0c", "0xff", "0x4", "0x100", "0x"]
+BITS = ["RM", "STM|AFM", "TR", "TR|AT", "tr|at|rrb", "SRR", "RIE|TIE|EIE", "BEIE", "CD.0|CBP", "TR|", "|", "0x1d", "0x1", "0x"]
+NOTED = ["123#1122", "123#", "12345678#R4", "7ff#r3", "1FFFFFFF#0102030405060708_F", "123#R8_e", "800#", "12#11", "123#1", "#"]
 RAW_LINE = "version = 3\n"
 TEXT = re.compile(r"\"[^\"\n]*\"|'[^'\n]*'")
 NUMBER = re.compile(r"\d+")
@@ -91,7 +95,11 @@ def access(rng):
     if kind == 0:
         return "interrupt"
     if kind < 4:
-        return f"read {rng.choice(READ)}"
+        return f"read {rng.choice(NAMES if rng.random() < 0.4 else READ)}"
+    if kind == 4:
+        return f"load {rng.choice(NOTED)}"
+    if kind == 5:
+        return f"write {rng.choice(NAMES)} {rng.choice(BITS)}"
     return f"write {rng.choice(WRITTEN)} {rng.choice(VALUES_WRITTEN)}"
 
 
@@ -119,7 +127,8 @@ def listed(texts):
 
 def written(rng, version, bits, turns, faults, scripts):
     """A document of these parts."""
-    lines = [f"version = {version}", f"bits = {bits}", f"turns = {listed(turns)}", f"faults = {listed(faults)}"]
+    key = rng.choice(["faults", "strikes"]) if version == 3 else "faults"
+    lines = [f"version = {version}", f"bits = {bits}", f"turns = {listed(turns)}", f"{key} = {listed(faults)}"]
     rng.shuffle(lines)
     return "\n".join(lines + [f"[[node]]\nsteps = {listed(it)}" for it in scripts]) + "\n"
 
@@ -187,8 +196,9 @@ def accessed(rng):
     scripts = [accesses(rng, rng.randrange(most)) for _ in range(nodes)]
     turns = []
     for _ in range(rng.choice([2, 10, 40])):
-        turns.append(f"node {rng.randrange(nodes)} {rng.choice([1, 3, 10, 50])}")
-        turns.append(rng.choice(["rest", "bus 1", "bus 11", "bus 60", "bus 300"]))
+        node = rng.randrange(nodes)
+        turns.append(rng.choice([f"node {node} {rng.choice([1, 3, 10, 50])}", f"node {node}"]))
+        turns.append(rng.choice(["rest", "bus 1", "bus 11", "bus 60", "bus 300", f"irq {node} {rng.choice([1, 60, 300])}", "go"]))
     turns += [f"node {it} 1000" for it in range(nodes)]
     faults = [strike(rng, nodes) for _ in range(rng.choice([0, 0, 1, 2, 8]))]
     return written(rng, 3, rng.choice([60, 2000, 30000, 200000]), turns, faults, scripts)
@@ -216,7 +226,8 @@ def access(rng):
 
 def fits(text):
     """Whether a step of `step` is one that a plan may have."""
-    return text.split()[-1] not in ("0024", "00000", "4", "0", "22", "256") or text.startswith("read 0")
+    wrong = ("0024", "00000", "4", "0", "22", "256", "0x", "0x100", "TX13", "RX", "ACR4", "TR|", "|", "800#", "12#11", "123#1", "#")
+    return text.split()[-1] not in wrong or text.startswith("read 0")
 
 
 def huge(rng):

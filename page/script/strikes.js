@@ -1,4 +1,4 @@
-// Strikes as edits of `faults` in the text of a plan, and of nothing else.
+// Strikes as edits of the list `faults`, or `strikes`, in the text of a plan, and of nothing else.
 
 // The strikes that a text of a strike names: a node, a first bit, the bits from one to the next, and how many.
 function strike_of(says) {
@@ -15,9 +15,12 @@ function turn_in(strike, node, bit) {
     return Number.isInteger(turn) && turn < strike.times ? turn : -1;
 }
 
+// The keys of the list of strikes; the second one is of version 3.
+const STRIKE_KEYS = ["faults", "strikes"];
+
 // The list of strikes of a document, or none.
 function faults_of(text) {
-    return lists_of(text).find((list) => list.name === "faults" && list.table === -1) || null;
+    return lists_of(text).find((list) => STRIKE_KEYS.includes(list.name) && list.table === -1) || null;
 }
 
 // Whether the plan strikes this node in this bit.

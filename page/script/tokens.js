@@ -1,4 +1,4 @@
-// The strings of a TOML document with their places: enough of TOML to find the lists `faults` and `steps`.
+// The strings of a TOML document with their places: enough of TOML to find the lists `faults`, `strikes` and `steps`.
 
 // The end of a string that begins here, past its closing quotes.
 function end_of_string(text, from) {

@@ -9,8 +9,8 @@ use Rattle.sja_texts.specs.Arbitrate.{IsArbitration, RefusesMessages}
 use Rattle.sja_texts.specs.Decode.{IsDecoding, RefusesLine}
 use Rattle.sja_texts.specs.Encode.{IsEncoding}
 use Rattle.sja_texts.specs.Filter.{IsFiltering, RefusesFilter}
-use Rattle.sja_texts.specs.Message.{RefusesMessage}
-use Rattle.sja_texts.specs.Notation.{IsTranslation, RefusesTranslation}
+use Rattle.sja_texts.specs.Notation.{IsTranslation}
+use Rattle.sja_texts.specs.Given.{RefusesGiven}
 use Rattle.sja_texts.specs.Refusal.{refusal_line}
 use Rattle.sja_run.specs.Check.{HasHints, HasMistake}
 use Rattle.sja_run.specs.Input.{ReadsFew, RefusesInput}
@@ -113,11 +113,11 @@ IsPrinted live before after text = ⊥
 
 -- the same, and why the request has no answer
 abbrev pub IsRefused : Request → Option (List ℕ) → Option (List ℕ) → CommandRefusal → Type 0
-IsRefused (encode digits) before after r = RefusesMessage digits r
+IsRefused (encode given) before after r = RefusesGiven given r
 IsRefused (decode digits) before after r = RefusesLine digits r
 IsRefused (filter single acr amr digits) before after r = RefusesFilter acr amr digits r
 IsRefused (arbitrate messages) before after r = RefusesMessages messages r
-IsRefused (message given) before after r = RefusesTranslation given r
+IsRefused (message given) before after r = RefusesGiven given r
 IsRefused (run threads) before after r = RefusesBy (MayFault threads) before after r
 IsRefused (wave threads) before after r = RefusesBy (MayFault threads) before after r
 IsRefused (trace threads) before after r = RefusesBy (MayFault threads) before after r

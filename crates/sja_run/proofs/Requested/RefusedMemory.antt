@@ -9,7 +9,7 @@ use Rattle.sja_texts.specs.declared.command_refusal.CommandRefusal.TheVariants.{
 -- whatever is asked for, where few bytes were read
 pub memory_refused : (r : Request) (before after : Option (List ℕ)) → ReadsFew before after →
     IsRefused r before after OutOfMemory
-memory_refused (encode digits) before after few = tt
+memory_refused (encode given) before after few = inr (inr refl)
 memory_refused (decode digits) before after few = tt
 memory_refused (filter single acr amr digits) before after few = inl refl
 memory_refused (arbitrate messages) before after few = inl refl

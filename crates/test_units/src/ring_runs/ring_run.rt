@@ -54,6 +54,7 @@ impl RingRun {
                 Turn::Bus(count) => self.run_bits(*count)?,
                 Turn::Rest => self.rest(plan.bits())?,
                 Turn::Node(node, count) => self.steps(plan, *node, *count)?,
+                Turn::All(_) | Turn::Irq(_, _) | Turn::Go => Err("a turn of version 3")?,
             }
         }
         Ok(self.bits)

@@ -59,7 +59,7 @@ pub fn drive<G: Gate>(
     if steps.len() > MOST || !are_links_of_node(links.as_slice(), 0) {
         return Err("too many steps, or not the driver's links")?;
     }
-    let log = WorkLog::new(alloc, MOST as u32, 3 * MOST as u32)?;
+    let log = WorkLog::new(alloc, MOST as u32, MOST as u32)?;
     Ok(work(rt, 0, links, port, steps, gate, log))
 }
 
