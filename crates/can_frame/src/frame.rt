@@ -3,9 +3,8 @@
 ghost use Rattle.std.specs.Prelude.{◌≡◌, ◌≢◌, ◌<◌, ◌≤◌, ◌↔◌, IfOk, length};
 ghost use Rattle.can_frame.specs.Frame.{IsFrame, id_limit, data_count};
 
-use super::copied::copied;
+use super::byte_list::ByteList;
 use super::frame_fault::FrameFault;
-use arrayvec::ArrayVec;
 use std::marker::Model;
 
 /// How many data bytes a frame has at most (Bosch CAN 2.0 part A section 3.1.1).
@@ -17,11 +16,11 @@ pub const DATA_BYTES: usize = 8;
 /// Contracts see it as the plain record of what it says: `ext`, `id`, `rtr`, `dlc` and `bytes`.
 #[derive(Debug, PartialEq, Eq, Drop)]
 pub struct Frame {
-    ext: bool,
     id: u32,
+    ext: bool,
     rtr: bool,
     dlc: u8,
-    bytes: ArrayVec<u8, DATA_BYTES>,
+    bytes: ByteList<DATA_BYTES>,
 }
 
 impl Model for Frame {
@@ -29,13 +28,13 @@ impl Model for Frame {
 
     ghost Value = { FrameValue };
 
-    ghost view = { λ f. record { ext = f.ext; id = f.id; rtr = f.rtr; dlc = f.dlc; bytes = f.bytes.items } };
+    ghost view = { λ f. record { ext = f.ext; id = f.id; rtr = f.rtr; dlc = f.dlc; bytes = f.bytes } };
 
     ghost invariant = { λ f.
-        IsFrame (record { ext = f.ext; id = f.id; rtr = f.rtr; dlc = f.dlc; bytes = f.bytes.items }) };
+        IsFrame (record { ext = f.ext; id = f.id; rtr = f.rtr; dlc = f.dlc; bytes = f.bytes }) };
 
     ghost inverse = { λ v.
-        record { ext = v.ext; id = v.id; rtr = v.rtr; dlc = v.dlc; bytes = record { items = v.bytes } } };
+        record { ext = v.ext; id = v.id; rtr = v.rtr; dlc = v.dlc; bytes = v.bytes } };
 }
 
 impl Frame {
@@ -67,7 +66,7 @@ impl Frame {
             id,
             rtr,
             dlc,
-            bytes: copied(bytes),
+            bytes: ByteList::of(bytes),
         })
     }
 
@@ -120,7 +119,7 @@ impl Frame {
             id: self.id,
             rtr: self.rtr,
             dlc: self.dlc,
-            bytes: copied(self.bytes.as_slice()),
+            bytes: self.bytes.copy(),
         }
     }
 }

@@ -8,7 +8,7 @@
 #![tactic(auto)]
 
 mod buffer;
-mod copied;
+mod byte_list;
 mod filter;
 mod frame;
 mod frame_fault;

@@ -5,11 +5,10 @@ ghost use Rattle.can_frame.specs.Frame.{IsFrame};
 ghost use Rattle.can_frame.specs.Message.{message, head_of};
 ghost use Rattle.can_frame.specs.Layout.{IsShort, IsLong, IsSized, UnusedAreZero, RtrAgrees};
 
-use super::copied::copied;
+use super::byte_list::ByteList;
 use super::frame::{DATA_BYTES, Frame};
 use super::layout::{EXTENDED_HEAD, STANDARD_HEAD, judged, said_dlc, said_ext, said_rtr};
 use super::layout_fault::LayoutFault;
-use arrayvec::ArrayVec;
 use std::marker::Model;
 
 /// How many bytes a message has at most: the head of an extended frame, and its data.
@@ -30,7 +29,7 @@ const MESSAGE_BYTES: usize = EXTENDED_HEAD + DATA_BYTES;
 /// message of some frame.
 #[derive(Debug, PartialEq, Eq, Drop)]
 pub struct Message {
-    pub(crate) bytes: ArrayVec<u8, MESSAGE_BYTES>,
+    pub(crate) bytes: ByteList<MESSAGE_BYTES>,
 }
 
 impl Model for Message {
@@ -39,11 +38,11 @@ impl Model for Message {
 
     ghost Value = { List ℕ };
 
-    ghost view = { λ m. m.bytes.items };
+    ghost view = { λ m. m.bytes };
 
-    ghost invariant = { λ m. IsMessage m.bytes.items };
+    ghost invariant = { λ m. IsMessage m.bytes };
 
-    ghost inverse = { λ bytes. record { bytes = record { items = bytes } } };
+    ghost inverse = { λ bytes. record { bytes = bytes } };
 }
 
 impl Message {
@@ -51,11 +50,9 @@ impl Message {
     pub fn of(frame: &Frame) -> Message
         ensures { result ≡ message frame.now }
     {
-        let mut bytes = head_of(frame);
-        if bytes.try_extend_from_slice(frame.bytes()).is_err() {
-            unreachable!()
+        Message {
+            bytes: head_of(frame).followed_by(frame.bytes()),
         }
-        Message { bytes }
     }
 
     /// The one frame whose message this is.
@@ -88,7 +85,7 @@ impl Message {
     pub fn byte(&self, i: usize) -> Option<u8>
         ensures { result ≡ slice_get self.now i }
     {
-        self.bytes.get(i).copied()
+        self.bytes.as_slice().get(i).copied()
     }
 
     /// All bytes.
@@ -113,7 +110,7 @@ impl Message {
     {
         judged(bytes)?;
         Ok(Message {
-            bytes: copied(bytes),
+            bytes: ByteList::of(bytes),
         })
     }
 
@@ -122,7 +119,7 @@ impl Message {
         ensures { result ≡ self.now }
     {
         Message {
-            bytes: copied(self.bytes.as_slice()),
+            bytes: self.bytes.copy(),
         }
     }
 }
@@ -135,19 +132,19 @@ impl Default for Message {
     /// The standard data frame with identifier 0 and no data, for places that are free.
     fn default() -> Message {
         Message {
-            bytes: copied(&[0, 0, 0]),
+            bytes: ByteList::of(&[0, 0, 0]),
         }
     }
 }
 
 /// The head of a frame's message: 3 bytes, or 5 where it is extended.
-fn head_of(frame: &Frame) -> ArrayVec<u8, MESSAGE_BYTES>
-    ensures { result.items ≡ head_of frame.now.ext frame.now.id frame.now.rtr frame.now.dlc }
+fn head_of(frame: &Frame) -> ByteList<MESSAGE_BYTES>
+    ensures { result ≡ head_of frame.now.ext frame.now.id frame.now.rtr frame.now.dlc }
 {
     let id = frame.id();
     let rtr = u8::from(frame.rtr());
     if frame.ext() {
-        copied(&[
+        ByteList::of(&[
             128 + (rtr << 6) + frame.dlc(),
             (id >> 21) as u8,
             ((id >> 13) & 0xff) as u8,
@@ -155,7 +152,7 @@ fn head_of(frame: &Frame) -> ArrayVec<u8, MESSAGE_BYTES>
             (((id & 0x1f) as u8) << 3) + (rtr << 2),
         ])
     } else {
-        copied(&[
+        ByteList::of(&[
             (rtr << 6) + frame.dlc(),
             (id >> 3) as u8,
             (((id & 0x07) as u8) << 5) + (rtr << 4),

@@ -3,6 +3,7 @@ pub mod Elements
 pub mod Ranges
 pub mod Related
 pub mod Gathered
+pub mod Counts
 pub mod Picking
 pub mod Numbers
 pub mod Results

@@ -1,6 +1,5 @@
 -- How many entries a journal can have by the deeds of its driver (this project's own rule). Each item and each abort
--- goes back to a deed, each verdict to a bit, and each bus-off to an activation; so the entries reserved for a run
--- suffice.
+-- goes back to a deed, and each bus-off to an activation; so the entries reserved for a run suffice.
 use Rattle.std.specs.Prelude.{◌≤◌, ◌+◌, ◌*◌, ℕ, Bool, true, false, if◌then◌else◌, Option, Some, None, List, length}
 use Rattle.can_node.specs.declared.request.Request.{Request}
 use Rattle.can_node.specs.Context.{ContextValue}
@@ -25,15 +24,6 @@ item_in Abort = 0
 item_in (Stored m) = 0
 item_in (Overrun m) = 0
 item_in Off = 0
-
--- 1 for a message that was judged
-abbrev pub verdict_in : Entry → ℕ
-verdict_in (Stored m) = 1
-verdict_in (Overrun m) = 1
-verdict_in (Bit driven seen) = 0
-verdict_in (Item item) = 0
-verdict_in Abort = 0
-verdict_in Off = 0
 
 -- 1 for bus-off
 abbrev pub off_in : Entry → ℕ
@@ -79,7 +69,6 @@ off_left j = if (place_of j).off then 0 else 1
 -- the entries of a node's journal, by kinds: an activation goes bus-off once at most
 pub record IsCounted (j : List Entry) (deeds : List Deed) (p : Registers) : Type 0 where
   pub items : total item_in j ≤ total gave_by deeds
-  pub verdicts : total verdict_in j ≤ (place_of j).bits
   pub offs : total off_in j + off_left j ≤ (place_of j).activation + 1
   pub aborts : (found : List FinishedPiece) (cut : IsCut (record_of j) found) →
       total abort_in j + pending p.abort (now_in cut) ≤ 2 * total asks_by deeds

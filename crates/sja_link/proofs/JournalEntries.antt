@@ -8,6 +8,7 @@ pub mod Writing
 pub mod Counting
 pub mod Keeping
 pub mod RestBits
+pub mod Rooms
 pub mod Blocks
 pub mod Begun
 pub mod Orders

@@ -2,6 +2,7 @@
 pub mod Small
 pub mod Freeing
 pub mod Judging
+pub mod FewVerdicts
 pub mod LongMessages
 pub mod Pullings
 pub mod Holding

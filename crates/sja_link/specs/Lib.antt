@@ -14,8 +14,8 @@ pub mod BusLedgers
 pub mod DriverLedgers
 pub mod Looking
 pub mod Showing
-pub mod Written
 pub mod Between
+pub mod Written
 pub mod RestBits
 pub mod World
 pub mod WorldEvents

@@ -1,11 +1,12 @@
 //! The journal of a node.
 
-ghost use Rattle.std.specs.Prelude.{◌≡◌, ◌<◌, ◌≤◌, ◌+◌, ◌-◌, ◌*◌, ◌^◌, [], ◌∷◌, ◌++◌};
+ghost use Rattle.std.specs.Prelude.{◌≡◌, ◌<◌, ◌≤◌, ◌-◌, ◌^◌, [], ◌∷◌, ◌++◌};
 ghost use Rattle.std.specs.Prelude.{length, replicate, true, false, IfOk, IfErr, OnOk, OnErr};
 ghost use Rattle.can_bits.specs.declared.level.Level.TheVariants.{Recessive};
 ghost use Rattle.sja_link.specs.declared.entry.Entry.TheVariants.{Bit};
 ghost use Rattle.std.specs.Simd.Lanes.{zip2};
 ghost use Rattle.sja_link.specs.Between.{between_bits};
+ghost use Rattle.sja_link.specs.Written.{Fits, IsFullFor, room_in};
 ghost use Rattle.sja_link.specs.Inside.Codes.{IsOther};
 
 use super::between_bits::BetweenBits;
@@ -21,10 +22,11 @@ use std::marker::Model;
 /// What the bus wrote of one node in a run, oldest first (this project's own rule).
 ///
 /// All its room is reserved when it is made. An entry takes one byte, and those that are no bits lie in a list of their
-/// own. Contracts see a journal as the list of its entries, and how many it has room for.
+/// own, which has a room of its own. Contracts see a journal as the list of its entries, and how many it has room for.
 #[derive(Debug, Drop)]
 pub struct Journal {
     room: usize,
+    most_others: usize,
     pub(crate) codes: Vec<Code>,
     pub(crate) others: Vec<Entry>,
 }
@@ -39,27 +41,30 @@ impl Model for Journal {
 
     ghost view = { λ j. record {
       entries = decoded j.codes.items j.others.items;
-      room = j.room;
+      room = record { all = j.room; others = j.most_others };
     } };
 
     ghost invariant = { λ j. AreWhole j.codes.items j.others.items
-        × (j.room ≤ vec_capacity j.codes) × (j.room ≤ vec_capacity j.others) };
+        × (j.room ≤ vec_capacity j.codes) × (j.most_others ≤ vec_capacity j.others)
+        × (length j.others.items ≤ j.most_others) };
 }
 
 impl Journal {
-    /// An empty journal with room for a run of so many bits in which the driver does so many steps: two entries a bit,
-    /// two a step, and 100 more.
+    /// An empty journal with room for a run of so many bits in which the driver does so many steps: for an entry a bit,
+    /// and of the others for one for each 42 bits, as many as a frame has that is received, two a step, and 100 more.
     ///
     /// Error: [`OutOfMemory`] where memory was refused.
     pub fn new(alloc: Global, bits: u32, steps: u32) -> Result<Journal, OutOfMemory>
         ensures empty { IfOk result (λ j. j.entries ≡ []) }
-        ensures room { IfOk result (λ j. j.room ≡ 2 * bits + 2 * steps + 100) }
+        ensures room { IfOk result (λ j. j.room ≡ room_in bits steps) }
     {
-        let room = 2 * bits as usize + 2 * steps as usize + 100;
+        let most_others = bits as usize / 42 + 2 * steps as usize + 100;
+        let room = bits as usize + most_others;
         Ok(Journal {
             room,
+            most_others,
             codes: Vec::with_capacity(alloc, room)?,
-            others: Vec::with_capacity(alloc, room)?,
+            others: Vec::with_capacity(alloc, most_others)?,
         })
     }
 
@@ -82,15 +87,15 @@ impl Journal {
 
     /// Adds an entry.
     ///
-    /// Error: the entry comes back where the reserved entries are used; nothing changed.
+    /// Error: the entry comes back where the reserved entries are used, or those that may be no bits; nothing changed.
     pub fn enter(&mut self, entry: Entry) -> Result<(), Entry>
         ensures room { self.new.room ≡ self.old.room }
         ensures ok { OnOk result ((self.new.entries ≡ self.old.entries ++ entry ∷ [])
-            × (length self.old.entries < self.old.room)) }
+            × Fits self.old.room (self.old.entries ++ entry ∷ [])) }
         ensures back { IfErr result (λ e. (e ≡ entry) × (self.new ≡ self.old)
-            × (self.old.room ≤ length self.old.entries)) }
+            × IsFullFor self.old.room self.old.entries entry) }
     {
-        if self.is_full() {
+        if self.is_full_for(&entry) {
             return Err(entry);
         }
         match entry {
@@ -106,8 +111,8 @@ impl Journal {
     pub fn enter_bit(&mut self, driven: Level, seen: Level) -> Result<(), Full>
         ensures room { self.new.room ≡ self.old.room }
         ensures ok { OnOk result ((self.new.entries ≡ self.old.entries ++ Bit driven seen ∷ [])
-            × (length self.old.entries < self.old.room)) }
-        ensures full { OnErr result ((self.new ≡ self.old) × (self.old.room ≤ length self.old.entries)) }
+            × (length self.old.entries < self.old.room.all)) }
+        ensures full { OnErr result ((self.new ≡ self.old) × (self.old.room.all ≤ length self.old.entries)) }
     {
         if self.is_full() {
             return Err(Full);
@@ -119,7 +124,7 @@ impl Journal {
     /// Adds a bit where an entry is free: the level that the node drove, and the one that it saw.
     #[inline(always)]
     pub fn enter_bit_reserved(&mut self, driven: Level, seen: Level)
-        requires free { length self.old.entries < self.old.room }
+        requires free { length self.old.entries < self.old.room.all }
         ensures room { self.new.room ≡ self.old.room }
         ensures entries { self.new.entries ≡ self.old.entries ++ Bit driven seen ∷ [] }
     {
@@ -129,7 +134,7 @@ impl Journal {
     /// Adds so many bits that the node drove and saw recessive, where as many entries are free. They are written at
     /// once.
     pub fn enter_rest_reserved(&mut self, count: u32)
-        requires free { count ≤ self.old.room - length self.old.entries }
+        requires free { count ≤ self.old.room.all - length self.old.entries }
         ensures room { self.new.room ≡ self.old.room }
         ensures entries { self.new.entries ≡ self.old.entries ++ replicate count (Bit Recessive Recessive) }
     {
@@ -141,7 +146,7 @@ impl Journal {
     /// Adds bits, of each the level that the node drove and the one that it saw, where as many entries are free.
     pub fn enter_bits_reserved(&mut self, driven: &[Level], seen: &[Level])
         requires each { length driven.now ≡ length seen.now }
-        requires free { length seen.now ≤ self.old.room - length self.old.entries }
+        requires free { length seen.now ≤ self.old.room.all - length self.old.entries }
         ensures room { self.new.room ≡ self.old.room }
         ensures entries { self.new.entries ≡ self.old.entries ++ zip2 Bit driven.now seen.now }
     {
@@ -155,22 +160,33 @@ impl Journal {
 
     /// How many reserved entries are free.
     pub fn free(&self) -> usize
-        ensures { result ≡ self.now.room - length self.now.entries }
+        ensures { result ≡ self.now.room.all - length self.now.entries }
     {
         self.room.saturating_sub(self.codes.len())
     }
 
     /// Whether the reserved entries are used.
     fn is_full(&self) -> bool
-        ensures full { result ≡ true → self.now.room ≤ length self.now.entries }
-        ensures room { result ≡ false → length self.now.entries < self.now.room }
+        ensures full { result ≡ true → self.now.room.all ≤ length self.now.entries }
+        ensures room { result ≡ false → length self.now.entries < self.now.room.all }
     {
         self.codes.len() >= self.room
     }
 
-    /// Adds an entry that is no bit, where one is free.
+    /// Whether there is no room for this entry.
+    fn is_full_for(&self, entry: &Entry) -> bool
+        ensures full { result ≡ true → IsFullFor self.now.room self.now.entries entry.now }
+        ensures room { result ≡ false → Fits self.now.room (self.now.entries ++ entry.now ∷ []) }
+    {
+        match entry {
+            Entry::Bit(..) => self.is_full(),
+            _ => self.is_full() || self.others.len() >= self.most_others,
+        }
+    }
+
+    /// Adds an entry that is no bit, where there is room for it.
     fn push_other(&mut self, entry: Entry)
-        requires room { length self.old.entries < self.old.room }
+        requires room { Fits self.old.room (self.old.entries ++ entry ∷ []) }
         requires other { IsOther entry }
         ensures room { self.new.room ≡ self.old.room }
         ensures entries { self.new.entries ≡ self.old.entries ++ entry ∷ [] }

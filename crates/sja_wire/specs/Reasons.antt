@@ -1,9 +1,11 @@
 -- Why a bus doesn't go on: what each fault says of its node (this project's own rule).
-use Rattle.std.specs.Prelude.{◌≡◌, ◌+◌, ◌*◌, ◌<◌, ◌≤◌, ℕ, suc, true, Bool, List, ◌++◌, length, slice_index_or}
+use Rattle.std.specs.Prelude.{◌≡◌, ◌+◌, ◌*◌, ◌<◌, ℕ, suc, true, Bool, List, ◌++◌, length, slice_index_or}
 use Rattle.sja_link.specs.NodeWords.{FinishedPiece, IsCut, received}
 use Rattle.sja_link.specs.declared.up.Up.{Up}
 use Rattle.sja_link.specs.declared.up.Up.TheVariants.{Credit}
 use Rattle.sja_link.specs.declared.entry.Entry.{Entry}
+use Rattle.sja_link.specs.declared.entry.Entry.TheVariants.{Up as Item, Abort}
+use Rattle.sja_link.specs.Written.{Room, IsFullFor, room_in}
 use Rattle.sja_link.specs.Lists.{Lists, with_taken}
 use Rattle.sja_link.specs.Accounts.{Account, account}
 use Rattle.sja_link.specs.Parts.{part}
@@ -23,19 +25,19 @@ use Rattle.sja_wire.specs.Buses.{BusValue}
 
 -- ---- a node whose item was refused
 
--- with this fault a node with so many reserved entries didn't enter this item after its journal: it is a bad credit, or
--- out of order; or it may come there, and the reserved entries are used
-abbrev pub IsRefusedFor : ℕ → ℕ → List Entry → Up → BusFault → Type 0
+-- with this fault a node with this room didn't enter this item after its journal: it is a bad credit, or out of order;
+-- or it may come there, and there is no room for it
+abbrev pub IsRefusedFor : ℕ → Room → List Entry → Up → BusFault → Type 0
 IsRefusedFor node room j item (BadCredit k bytes) = (k ≡ node) × (item ≡ Credit bytes) × IsBadCredit j bytes
 IsRefusedFor node room j item (BadOrder k) = (k ≡ node) × IsOutOfOrder j item
-IsRefusedFor node room j item (JournalFull k) = (k ≡ node) × (room ≤ length j) × MayCome j item
+IsRefusedFor node room j item (JournalFull k) = (k ≡ node) × IsFullFor room j (Item item) × MayCome j item
 IsRefusedFor node room j item (Stuck k) = ⊥
 IsRefusedFor node room j item BitsSpent = ⊥
 
 -- its journal went on from `before` to `j` with the items that were taken, and then an item was taken that wasn't
 -- entered. Whatever its driver got and gave, where its links stood for its journal before, the item came next on the
 -- link that is read, and its other links stand for its journal
-pub record RefusesItem {E : Type 0} (stands : E → Lists → Type 0) (room : ℕ) (before j : List Entry)
+pub record RefusesItem {E : Type 0} (stands : E → Lists → Type 0) (room : Room) (before j : List Entry)
     (links after : List E) (base node : ℕ) (f : BusFault) : Type 0 where
   pub item : Up
   pub why : IsRefusedFor node room j item f
@@ -65,9 +67,9 @@ pub record GivesBack {E : Type 0} (stands : E → Lists → Type 0) (full : E �
   pub verdicts : HasVerdicts j (received found)
   pub on : HasOff (part j (suc place)) → ⊥
 
--- with this fault the bit of a node broke off, which had so many reserved entries and this journal before: they didn't
--- hold the entries of the bit; or a put was given back
-abbrev pub IsBrokenFor : {E : Type 0} → (E → Lists → Type 0) → (E → Type 0) → ℕ → ℕ → List Entry → List Entry →
+-- with this fault the bit of a node broke off, which had this room and this journal before: there was no room for the
+-- entries of the bit; or a put was given back
+abbrev pub IsBrokenFor : {E : Type 0} → (E → Lists → Type 0) → (E → Type 0) → ℕ → Room → List Entry → List Entry →
     List E → ℕ → BusFault → Type 0
 IsBrokenFor stands full node room before j links base (JournalFull k) = (k ≡ node) × IsOutOfRoom room before j
 IsBrokenFor stands full node room before j links base (Stuck k) = (k ≡ node) × GivesBack stands full before j links base
@@ -77,9 +79,9 @@ IsBrokenFor stands full node room before j links base BitsSpent = ⊥
 
 -- ---- a bus
 
--- how many entries of a node's journal are reserved for a run of so many bits, in which each driver does so many steps
-abbrev pub room_for : ℕ → List ℕ → ℕ → ℕ
-room_for bits steps node = 2 * bits + 2 * slice_index_or steps node 0 + 100
+-- the room of a node's journal for a run of so many bits, in which each driver does so many steps
+abbrev pub room_for : ℕ → List ℕ → ℕ → Room
+room_for bits steps node = room_in bits (slice_index_or steps node 0)
 
 -- the fault is of one of its nodes, whose item was refused
 pub record IsTakenAndRefused {E : Type 0} (stands : E → Lists → Type 0) (bits : ℕ) (steps : List ℕ)
@@ -89,8 +91,8 @@ pub record IsTakenAndRefused {E : Type 0} (stands : E → Lists → Type 0) (bit
   pub refuses : RefusesItem stands (room_for bits steps node) (journal_at before node) (journal_at now node) links after
       (per_node * node) node f
 
--- items of one of its nodes were taken, and then its port ordered an abort that changes the node, and the reserved
--- entries are used
+-- items of one of its nodes were taken, and then its port ordered an abort that changes the node, and there is no room
+-- for its entry
 pub record IsNotAborted {E : Type 0} (stands : E → Lists → Type 0) (orders_are : ℕ → Orders → Type 0) (bits : ℕ)
     (steps : List ℕ) (before now : List (List Entry)) (links after : List E) (f : BusFault) : Type 0 where
   pub node : ℕ
@@ -101,7 +103,7 @@ pub record IsNotAborted {E : Type 0} (stands : E → Lists → Type 0) (orders_a
   pub are_orders : orders_are node orders
   pub ordered : orders.abort ≡ true
   pub due : IsApplied (journal_at now node) true
-  pub full : room_for bits steps node ≤ length (journal_at now node)
+  pub full : IsFullFor (room_for bits steps node) (journal_at now node) Abort
   pub kept : (h : ℕ → Account) → Kept stands (journal_at before node) links (per_node * node) h →
       Kept stands (journal_at now node) after (per_node * node) h
 

@@ -31,12 +31,12 @@ use Rattle.sja_wire.specs.Buses.{IsNodeBit}
 use Rattle.sja_link.specs.Links.{stops_of}
 use Rattle.sja_link.specs.BitEntries.{HasBit, abort_as, judged_as, off_as}
 use Rattle.sja_driver.specs.Deeds.{Deed}
-use Rattle.sja_driver.specs.Counted.{item_in, verdict_in, off_in, abort_in, asks_by, changes_left, pending, off_left}
+use Rattle.sja_driver.specs.Counted.{item_in, off_in, abort_in, asks_by, changes_left, pending, off_left}
 use Rattle.sja_driver.specs.Counted.{IsCounted}
 use Rattle.can_node.proofs.Requests.OneMore.{abort_more}
 use Rattle.can_node.proofs.Requests.OnceOff.{is_off, is_off_both, offs, offs_both, left, off_once}
 use Rattle.can_node.proofs.Machine.Changes.{KeepsRequest}
-use Rattle.sja_driver.proofs.OneBit.BitAsked.{HasCut, place_abort, place_bit, opened_as, bit_keeps}
+use Rattle.sja_driver.proofs.OneBit.BitAsked.{HasCut, opened_as, bit_keeps}
 
 -- ---- bus-off, of every journal whose record has a cut
 
@@ -201,9 +201,6 @@ pub bit_counted : {has_orders : Orders → Type 0} {was_told : BusTurn → Type 
 bit_counted untold j k driven seen deeds p q bit none orders told kept lawful h =
     let opened = bit.opened in let changed = bit.opens.aborts.changed in let one = bit.bit in let t = bit.is_turn in
     let whole = opened_as untold j k driven seen bit none in
-    let place = place_bit opened k driven seen one in
-    let begun = ap place_of whole ∙ place_abort j changed in
-    let bits : (place_of k).bits ≡ (place_of j).bits + 1 = place.1 ∙ ap (λ (s : Point). s.bits + 1) begun in
     let abort : bit.opens.orders.abort ≡ p.abort = orders bit.opens.orders bit.opens.are_orders in
     let ordered : changed ≡ true → p.abort ≡ true = λ is. unasked_not p.abort changed
     (λ no. bit.opens.unasked (abort ∙ no)) is in
@@ -220,12 +217,6 @@ bit_counted untold j k driven seen deeds p q bit none orders told kept lawful h 
           let c = of_judged item_in one.verdict 0 (λ m. (omega arith, omega arith)) in
           let d = of_off item_in one.off refl in
           let e = h.items in omega (arith, a, b, c, d, e);
-      verdicts =
-          let a = counts_bit verdict_in j opened k driven seen changed whole one in
-          let b = of_abort verdict_in changed refl in
-          let c = of_judged verdict_in one.verdict 1 (λ m. (omega arith, omega arith)) in
-          let d = of_off verdict_in one.off refl in
-          let e = h.verdicts in omega (arith, a, b, c, d, e, bits);
       offs = offs_few k t.says.found t.says.cut;
       aborts = λ others c.
           let a = counts_bit abort_in j opened k driven seen changed whole one in

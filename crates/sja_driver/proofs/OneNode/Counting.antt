@@ -14,12 +14,12 @@ use Rattle.lemmas.specs.Gathering.{total}
 use Rattle.sja_link.specs.Places.{JournalPlace, past, place_of}
 use Rattle.sja_link.specs.Records.{record_of}
 use Rattle.sja_link.specs.Verdicts.{IsLawful}
-use Rattle.sja_link.proofs.JournalEntries.Entering.{place_push, item_bits, record_push}
+use Rattle.sja_link.proofs.JournalEntries.Entering.{place_push, record_push}
 use Rattle.lemmas.proofs.Gathered.{total_push}
 use Rattle.sja_regs.specs.declared.registers.Registers.{Registers}
 use Rattle.sja_driver.specs.Carried.{asks_abort}
 use Rattle.sja_driver.specs.Deeds.{Deed}
-use Rattle.sja_driver.specs.Counted.{item_in, verdict_in, off_in, abort_in, asks_by, gave_by, changes_left, pending}
+use Rattle.sja_driver.specs.Counted.{item_in, off_in, abort_in, asks_by, gave_by, changes_left, pending}
 use Rattle.sja_driver.specs.Counted.{IsCounted}
 
 -- ---- what an abort that stands can change
@@ -74,7 +74,6 @@ module _ (j : List Entry) (deeds : List Deed) (d : Deed) (p q : Registers) (h : 
   counted_none none =
       let g = total_push gave_by deeds d in let i = h.items in record {
         items = omega (arith, g, i);
-        verdicts = h.verdicts;
         offs = h.offs;
         aborts = aborts_same;
       }
@@ -86,13 +85,10 @@ module _ (j : List Entry) (deeds : List Deed) (d : Deed) (p q : Registers) (h : 
   counted_by u gave aborts =
       let g = total_push gave_by deeds d in let one : length d.gave ≡ 1 = ap (λ (l : List Up). length l) gave in
       let i = h.items in let n = total_push item_in j (Item u) in
-      let v = h.verdicts in let w = total_push verdict_in j (Item u) in
-      let bits = ap (λ (x : JournalPlace). x.bits) (place_push j (Item u)) ∙ item_bits (place_of j) u in
       let o = off_item (place_of j) u (total off_in j) h.offs in let t = total_push off_in j (Item u) in
       let off = ap (λ (x : JournalPlace). left_of x.off) (place_push j (Item u)) in
       let a = ap (λ (x : JournalPlace). x.activation) (place_push j (Item u)) in record {
         items = omega (arith, g, one, i, n);
-        verdicts = omega (arith, v, w, bits);
         offs = omega (arith, o, t, off, a);
         aborts = aborts;
       }

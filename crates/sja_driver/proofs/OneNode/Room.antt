@@ -1,14 +1,19 @@
 -- A journal has no more entries than are reserved for its run.
-use Rattle.std.proofs.Common.{◌≡◌, ℕ, ◌+◌, ◌*◌, ◌≤◌, Bool, true, false, List, [], ◌∷◌, ◌++◌, length, ap, arith}
+use Rattle.std.proofs.Common.{◌≡◌, ℕ, ◌+◌, ◌≤◌, Bool, true, false, List, [], ◌∷◌, ◌++◌, length, ap, arith}
 use Rattle.std.specs.Prelude.{◌&&◌, not, if◌then◌else◌}
 use Rattle.sja_link.specs.declared.up.Up.{Up}
 use Rattle.sja_link.specs.declared.up.Up.TheVariants.{Start as StartItem, Credit, Send as SendItem, Stop as StopItem}
 use Rattle.sja_link.specs.declared.entry.Entry.{Entry}
 use Rattle.sja_link.specs.declared.entry.Entry.TheVariants.{Bit, Up as Item, Abort, Stored, Overrun, Off}
-use Rattle.lemmas.specs.Gathering.{total}
+use Rattle.lemmas.specs.Gathering.{gathered, total}
 use Rattle.lemmas.specs.Picking.{EachAfter}
-use Rattle.sja_link.specs.Places.{JournalPlace, first_place, past, past_all, place_of}
+use Rattle.sja_link.specs.Judged.{judged_at}
+use Rattle.sja_link.specs.Places.{JournalPlace, first_place, past, past_all, place_of, placed, placed_from}
 use Rattle.sja_link.specs.Verdicts.{IsLawful}
+use Rattle.sja_link.specs.Written.{room_in}
+use Rattle.sja_link.proofs.JournalEntries.Entering.{bits_counted}
+use Rattle.sja_link.proofs.JournalEntries.Rooms.{HasFree, bits_apart}
+use Rattle.sja_link.proofs.Ledger.FewVerdicts.{verdicts_few}
 use Rattle.sja_regs.specs.declared.registers.Registers.{Registers}
 use Rattle.sja_regs.specs.Commands.{command_of, requests}
 use Rattle.sja_script.specs.declared.step.Step.{Step}
@@ -18,12 +23,12 @@ use Rattle.sja_script.specs.declared.step_answer.StepAnswer.{StepAnswer}
 use Rattle.sja_script.specs.declared.step_answer.StepAnswer.TheVariants.{Done, Released}
 use Rattle.sja_driver.specs.Carried.{asks_abort}
 use Rattle.sja_driver.specs.Deeds.{Deed, Gives, GivesSend}
-use Rattle.sja_driver.specs.Counted.{item_in, verdict_in, off_in, abort_in, asks_by, gave_by, IsCounted}
+use Rattle.sja_driver.specs.Counted.{item_in, off_in, abort_in, asks_by, gave_by, IsCounted}
 
 -- ---- each entry is of one kind
 
 entries_from : (p : JournalPlace) (es : List Entry) →
-    p.bits + length es ≡ (((past_all p es).bits + total item_in es) + total verdict_in es)
+    p.bits + length es ≡ (((past_all p es).bits + total item_in es) + length (gathered judged_at (placed_from p es)))
     + (total off_in es + total abort_in es)
 entries_from p [] = omega arith
 entries_from p (Bit driven seen ∷ es) = let h = entries_from (past p (Bit driven seen)) es in omega (arith, h)
@@ -38,7 +43,8 @@ entries_from p (Overrun m ∷ es) = let h = entries_from p es in omega (arith, h
 entries_from p (Off ∷ es) = let h = entries_from (past p Off) es in omega (arith, h)
 
 entries_counted : (j : List Entry) →
-    length j ≡ (((place_of j).bits + total item_in j) + total verdict_in j) + (total off_in j + total abort_in j)
+    length j ≡ (((place_of j).bits + total item_in j) + length (gathered judged_at (placed j)))
+    + (total off_in j + total abort_in j)
 entries_counted j = let h = entries_from first_place j in omega (arith, h)
 
 -- ---- a deed gives one item at most, or asks for an abort, and never both
@@ -81,14 +87,16 @@ all_each before (d ∷ ds) g =
     let one = one_each d.step d.answer d.gave g.0 in let rest =
     all_each (before ++ d ∷ []) ds g.1 in omega (arith, one, rest)
 
--- ---- all together: with room for a bit, a verdict and bus-off more
+-- ---- all together: with room for an abort, a bit, a verdict and bus-off more
 
 pub has_room : (j : List Entry) (deeds : List Deed) (p : Registers) (bits steps : ℕ) → IsCounted j deeds p → IsLawful j
     →
     EachAfter (λ b (d : Deed). Gives d.step d.answer d.gave) [] deeds → length deeds ≤ steps →
-    (place_of j).activation ≤ 64 → (place_of j).bits ≤ bits → length j + 3 ≤ 2 * bits + 2 * steps + 100
+    (place_of j).activation ≤ 64 → (place_of j).bits ≤ bits → HasFree 4 (room_in bits steps) j
 has_room j deeds p bits steps h lawful gives most few run =
     let all = entries_counted j in
-    let i = h.items in let v = h.verdicts in let o = h.offs in let a = h.aborts lawful.found lawful.cut in
-    let each = all_each [] deeds gives in
-    omega (arith, all, i, v, o, a, each, most, few, run)
+    let i = h.items in let v = verdicts_few j lawful in let o = h.offs in let a = h.aborts lawful.found lawful.cut in
+    let each = all_each [] deeds gives in let apart = bits_apart j in let bits = bits_counted j in record {
+      all = omega (arith, all, i, v, o, a, each, most, few, run);
+      others = omega (arith, all, i, v, o, a, each, most, few, run, apart, bits);
+    }

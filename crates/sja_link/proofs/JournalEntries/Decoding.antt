@@ -70,23 +70,11 @@ whole_other codes others e h own = record {
 
 -- ---- room
 
-few_others : (codes : List Code) → total has_other codes ≤ length codes
-few_others [] = omega arith
-few_others (DominantAsDriven ∷ codes) = let n = few_others codes in omega (arith, n)
-few_others (DominantSeenRecessive ∷ codes) = let n = few_others codes in omega (arith, n)
-few_others (RecessiveSeenDominant ∷ codes) = let n = few_others codes in omega (arith, n)
-few_others (RecessiveAsDriven ∷ codes) = let n = few_others codes in omega (arith, n)
-few_others (Other ∷ codes) = let n = few_others codes in omega (arith, n)
-
--- where an entry more has room, so have its code and the entry
-module _ (codes : List Code) (others : List Entry) (h : AreWhole codes others) (room : ℕ)
-    (less : length (decoded codes others) < room) (len cap : ℕ) (fits : room ≤ cap) where
-  pub codes_fit : len ≡ length codes → len < cap
-  codes_fit is = let n = decoded_length codes others h in omega (arith, n, is, less, fits)
-
-  pub others_fit : len ≡ length others → len < cap
-  others_fit is = let n = decoded_length codes others h in let few = few_others codes in let are = h.many in
-      omega (arith, n, few, are, is, less, fits)
+-- where an entry more has room, so has its code
+pub codes_fit : (codes : List Code) (others : List Entry) → AreWhole codes others → (room : ℕ) →
+    length (decoded codes others) < room → (len cap : ℕ) → room ≤ cap → len ≡ length codes → len < cap
+codes_fit codes others h room less len cap fits is =
+    let n = decoded_length codes others h in omega (arith, n, is, less, fits)
 
 -- ---- those that are no bits
 

@@ -15,5 +15,5 @@ returns-then-ext c =
     let id = c.id-id.result in
     let rtr : c.from-rtr.result ≡ bit c.args.frame.now.rtr = search rules in
     let small = bit_small c.args.frame.now.rtr in
-    rw (c.copied.ensures, ext) (equal _ _ _ _ _ _ _ _ _ _ (omega arith) (omega arith)
+    rw (c.of.ensures, ext) (equal _ _ _ _ _ _ _ _ _ _ (omega arith) (omega arith)
     (omega (arith, and_mask (id / 8192) 8)) (omega (arith, and_mask (id / 32) 8)) (omega (arith, and_mask id 5)))

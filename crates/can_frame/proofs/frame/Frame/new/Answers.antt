@@ -9,4 +9,4 @@ equal : (ext rtr : Bool) (id dlc code : ℕ) (bytes same : List ℕ) → dlc ≡
 equal ext rtr id dlc code bytes same codes all = cc
 
 pub returns-clause-ok : goal.returns-clause-ok
-returns-clause-ok c = equal _ _ _ _ _ _ _ (omega arith) c.copied.ensures
+returns-clause-ok c = equal _ _ _ _ _ _ _ (omega arith) c.of.ensures

@@ -5,5 +5,5 @@ use Rattle.can_frame.proofs.message.Message.from_bytes.Goals as goal
 pub invariant_of-result : goal.invariant_of-result
 invariant_of-result c =
     let good = c.in_ok-judged.ensures.ok in
-    rw c.copied.ensures
+    rw c.of.ensures
     (is_message c.args.bytes.now (λ i. let fits = c.type_inv.bytes i in omega (arith, fits)) good.0 good.1 good.2)

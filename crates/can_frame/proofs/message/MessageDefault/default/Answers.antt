@@ -7,7 +7,7 @@ zeros : (bytes : List ℕ) (last : ℕ) → bytes ≡ 0 ∷ 0 ∷ last ∷ [] �
 zeros bytes last e zero = e ∙ ap (λ x. 0 ∷ 0 ∷ x ∷ []) (sym (ap (λ l. slice_index l 2) e) ∙ zero)
 
 pub returns : goal.returns
-returns c = zeros _ _ c.copied.ensures (omega (arith, ap (λ l. slice_index l 2) c.copied.ensures))
+returns c = zeros _ _ c.of.ensures (omega (arith, ap (λ l. slice_index l 2) c.of.ensures))
 
 -- the bytes are the message of the standard data frame with identifier 0 and no data
 pub invariant_of-result : goal.invariant_of-result

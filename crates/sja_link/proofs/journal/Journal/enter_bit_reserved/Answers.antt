@@ -17,6 +17,7 @@ invariant_of-self c =
           (let none = c.of_bit.ensures.alone in omega (arith, none)) c.self.invariant.0),
       rw c.push_reserved.ensures.capacity c.self.invariant.1,
       c.self.invariant.2,
+      c.self.invariant.3,
     )
 
 pub returns-clause-entries : goal.returns-clause-entries

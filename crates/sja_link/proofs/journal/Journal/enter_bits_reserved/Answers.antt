@@ -66,6 +66,7 @@ invariant_of-self c =
           (bits_have_none c.args.driven.now c.args.seen.now) c.self.invariant.0),
       omega (arith, capacity, room),
       c.self.invariant.2,
+      c.self.invariant.3,
     )
 
 pub returns-clause-entries : goal.returns-clause-entries

@@ -25,6 +25,7 @@ invariant_of-self c =
       rw is (whole_bits (replicate n RecessiveAsDriven) f.codes.items _ (rest_has_none n) c.self.invariant.0),
       omega (arith, capacity, room),
       c.self.invariant.2,
+      c.self.invariant.3,
     )
 
 pub returns-clause-entries : goal.returns-clause-entries
