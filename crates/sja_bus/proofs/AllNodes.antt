@@ -11,3 +11,4 @@ pub mod BitAfterBit
 pub mod RanOn
 pub mod SoFar
 pub mod UntilTold
+pub mod Telling

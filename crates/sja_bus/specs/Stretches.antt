@@ -11,6 +11,7 @@ use Rattle.sja_regs.specs.declared.orders.Orders.{Orders}
 use Rattle.sja_regs.specs.declared.bus_turn.BusTurn.{BusTurn}
 use Rattle.sja_wire.specs.declared.bus_fault.BusFault.{BusFault}
 use Rattle.sja_wire.specs.declared.bus_fault.BusFault.TheVariants.{JournalFull}
+use Rattle.sja_wire.specs.Lawful.{IsBusRun}
 use Rattle.sja_wire.specs.Wire.{journal_at}
 use Rattle.sja_link.specs.BitEntries.{MayHaveItems}
 use Rattle.sja_wire.specs.Buses.{BusValue, EachJournal, KeepsAll, untold_at, IsBit}
@@ -26,7 +27,8 @@ abbrev pub with_recessive : ℕ → List (List Entry) → List (List Entry)
 with_recessive count journals = map (λ j. j ++ recessive_bits count) journals
 
 -- so many bits of all nodes, one after the other. Nothing was untold of any node; each journal has that many recessive
--- bits more; and each of the bits, from the journals before it to those after it, is one bit of all nodes
+-- bits more; each of the bits, from the journals before it to those after it, is one bit of all nodes; and what holds
+-- of every bus holds before and after each
 pub record IsStretch (orders_are : ℕ → Orders → Type 0) (was_told : ℕ → BusTurn → Type 0) (was_kept : ℕ → Type 0)
     (script : List Strike) (run count : ℕ) (untold : List Bool) (before after : List (List Entry)) : Type 0 where
   pub told : (node : ℕ) → node < length before → untold_at untold node ≡ false
@@ -34,6 +36,7 @@ pub record IsStretch (orders_are : ℕ → Orders → Type 0) (was_told : ℕ �
   pub bits : (i : ℕ) → i < count →
       IsBit orders_are was_told was_kept script (run + i) untold (with_recessive i before)
       (with_recessive (suc i) before)
+  pub lawful : (i : ℕ) → i ≤ count → IsBusRun script (run + i) (with_recessive i before)
 
 -- why so many bits were run at once, of so many that were asked for, and no more of them, where this is the bus after
 -- them: no more were asked for, or are left; or the script strikes one of eight nodes in the next bit; or of a node
@@ -56,7 +59,7 @@ pub record IsOutOfEntries (bits : ℕ) (steps : List ℕ) (left : ℕ) (before n
   pub entered : ℕ
   pub early : entered < left
   pub grown : journal_at now node ≡ journal_at before node ++ recessive_bits entered
-  pub full : room_for bits steps node ≤ length (journal_at now node)
+  pub full : (room_for bits steps node).all ≤ length (journal_at now node)
 
 -- of each node what came on its links was taken, and then the reserved entries of one were used
 pub record IsFullInStretch {E : Type 0} (stands : E → Lists → Type 0) (bits : ℕ) (steps : List ℕ) (left : ℕ)

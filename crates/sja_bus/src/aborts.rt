@@ -28,7 +28,7 @@ impl Seat {
         ensures ended { self.new.ended ≡ self.old.ended }
         ensures aborts { OnOk result (Applies self.old.journal.entries self.new.journal.entries) }
         ensures untold { OnOk result (AbortsUntold self.old self.new) }
-        ensures full { IfErr result (λ f. IsFull self.old self.new f) }
+        ensures full { IfErr result (λ f. IsFull self.old self.new AbortEntry f) }
         ensures due { OnErr result (IsApplied self.old.journal.entries true) }
     {
         let Activity::Running(_) = self.activity else {
@@ -53,7 +53,7 @@ impl Seat {
         ensures ended { self.new.ended ≡ self.old.ended }
         ensures untold { self.new.untold ≡ untold }
         ensures entered { OnOk result (self.new.journal.entries ≡ self.old.journal.entries ++ AbortEntry ∷ []) }
-        ensures full { IfErr result (λ f. IsFull self.old self.new f) }
+        ensures full { IfErr result (λ f. IsFull self.old self.new AbortEntry f) }
     {
         self.untold = untold;
         self.drives = self.node.drive();

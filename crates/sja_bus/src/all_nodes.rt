@@ -5,18 +5,18 @@ ghost use Rattle.std.specs.Prelude.{length, IfOk, OnOk, IfErr, ◌⊎◌};
 ghost use Rattle.lemmas.specs.Related.{EachRelated};
 ghost use Rattle.sja_wire.specs.Wire.{wired};
 ghost use Rattle.sja_link.specs.Links.{Numbered};
+ghost use Rattle.sja_link.specs.Written.{Room};
 ghost use Rattle.sja_bus.specs.Inside.Rows.{AreReady, AreSeated, AreTold, EachSeat, SeatTakes, SeatUntold};
 ghost use Rattle.sja_bus.specs.Inside.Rows.{SeatOpens, SeatOpensUntold, SeatTurns, GoesAll, AllRead};
 ghost use Rattle.sja_bus.specs.Inside.Rows.{driven_by};
 ghost use Rattle.sja_bus.specs.Boards.{KeepsOthers};
 ghost use Rattle.sja_bus.specs.declared.seat.Seat.{Seat as Seated};
-ghost use Rattle.sja_bus.specs.declared.untold.Untold.TheVariants.{Nothing};
 ghost use Rattle.sja_bus.specs.Inside.Underway.{BreaksUnderway, GoesToAll};
 ghost use Rattle.sja_bus.specs.Inside.Whole.{IsRowBit};
 ghost use Rattle.sja_bus.specs.Inside.RowTakes.{RowTakesAll};
 ghost use Rattle.sja_bus.specs.Inside.Refusing.{HaveRoom, AreFree, SeatRefuses, SeatFull, SeatBreaks};
 ghost use Rattle.sja_bus.specs.Inside.Refusing.{SeatStops};
-ghost use Rattle.sja_bus.specs.Inside.RunningOn.{SomeTold, TellsNone};
+ghost use Rattle.sja_bus.specs.Inside.RunningOn.{AreIdleFrom, AreToldFrom, SomeTold, TellsNone};
 
 use super::bit_end::BitEnd;
 use super::board::Board;
@@ -40,7 +40,7 @@ pub(crate) fn gather_all<E: BusEnd>(seats: &mut [Seat], links: &mut [E]) -> Resu
     ensures items { OnOk result (EachSeat SeatTakes seats.old seats.new) }
     ensures untold { OnOk result (EachSeat SeatUntold seats.old seats.new) }
     ensures dry { OnOk result (AllRead E.dry seats.new links.new) }
-    ensures rooms { OnOk result ((n : ℕ → ℕ) → HaveRoom n seats.old → HaveRoom n seats.new) }
+    ensures rooms { OnOk result ((n : ℕ → Room) → HaveRoom n seats.old → HaveRoom n seats.new) }
     ensures refused { IfErr result (λ f. SeatRefuses E.stands seats.old seats.new links.old links.new f) }
 {
     for k in 0..seats.len() {
@@ -66,7 +66,7 @@ pub(crate) fn bit_of_all<E: BusEnd, B: Board>(
     ensures bit { OnOk result (IsRowBit (B.orders_are board.old)
         (B.told board.old board.new) (B.kept board.old board.new) struck seats.old seats.new) }
     ensures takes { OnOk result (RowTakesAll E.BusEnd seats.old seats.new links.old) }
-    ensures rooms { OnOk result ((n : ℕ → ℕ) → HaveRoom n seats.old → HaveRoom n seats.new) }
+    ensures rooms { OnOk result ((n : ℕ → Room) → HaveRoom n seats.old → HaveRoom n seats.new) }
     ensures facts { OnOk result ((k : ℕ) → k < length seats.old → B.facts board.new k) }
     ensures stops { IfErr result (λ f. (SeatRefuses E.stands seats.old seats.new links.old links.new f
         ⊎ SeatFull E.stands (B.orders_are board.old) seats.old seats.new links.old links.new f)
@@ -97,7 +97,7 @@ fn open_all<E: BusEnd, B: Board>(
     ensures opens { OnOk result (EachSeat (SeatOpens (B.orders_are board.now)) seats.old seats.new) }
     ensures untold { OnOk result (EachSeat SeatOpensUntold seats.old seats.new) }
     ensures dry { OnOk result (AllRead E.dry seats.new links.new) }
-    ensures rooms { OnOk result ((n : ℕ → ℕ) → HaveRoom n seats.old → HaveRoom n seats.new) }
+    ensures rooms { OnOk result ((n : ℕ → Room) → HaveRoom n seats.old → HaveRoom n seats.new) }
     ensures facts { OnOk result ((k : ℕ) → k < length seats.old → B.facts board.now k) }
     ensures stops { IfErr result (λ f. SeatRefuses E.stands seats.old seats.new links.old links.new f
         ⊎ SeatFull E.stands (B.orders_are board.now) seats.old seats.new links.old links.new f) }
@@ -109,7 +109,8 @@ fn open_all<E: BusEnd, B: Board>(
 }
 
 /// The nodes from this one on have their bit, and see this level, or the other one where they are struck. Their ports
-/// are told of it where there is something to tell. What was so of those before goes on to all.
+/// are told of it where there is something to tell. Answers whether one was told. What was so of those before goes on
+/// to all.
 #[inline(never)]
 fn sample_from<E: BusEnd, B: Board>(
     seats: &mut [Seat],
@@ -119,10 +120,14 @@ fn sample_from<E: BusEnd, B: Board>(
     board: &mut B,
     first: usize,
     row: &mut RowFrame,
-) -> Result<(), BusFault>
+) -> Result<bool, BusFault>
     requires seated { AreSeated E.link seats.old links.old (B.ports board.old) }
     ensures sames { EachRelated E.same links.old links.new }
     ensures board { KeepsOthers B.ports B.kept (length seats.old) board.old board.new }
+    ensures told { IfOk result (λ told. told ≡ true → AreToldFrom first seats.old →
+        SomeTold (B.told board.old board.new) seats.new) }
+    ensures idle { IfOk result (λ told. told ≡ false → (board.new ≡ board.old)
+        × AreIdleFrom first struck level seats.old seats.new) }
     ensures before { OnOk result ((m : ℕ) → m < first → B.kept board.old board.new m
         × ((s : Seated) → slice_index_or seats.new m s ≡ slice_index_or seats.old m s)) }
     ensures row { OnOk result (GoesToAll E.BusEnd B.Board struck level first
@@ -130,14 +135,16 @@ fn sample_from<E: BusEnd, B: Board>(
     ensures broken { IfErr result (λ f. BreaksUnderway E.BusEnd B.Board struck level first
         seats.old seats.new links.old board.old f) }
 {
+    let mut told = false;
     for k in first..seats.len() {
         let sees = seen(level, struck.has(k));
-        seats[k].sample(links, first_link(k), sees, board, row)?;
+        let one = seats[k].sample(links, first_link(k), sees, board, row)?;
+        told = told | one;
     }
-    Ok(())
+    Ok(told)
 }
 
-/// The same, where something may happen to the first of them, whose port is told all: it is told of the bit.
+/// The same, where something may happen to the first of them.
 #[inline(never)]
 fn tell_from<E: BusEnd, B: Board>(
     seats: &mut [Seat],
@@ -146,13 +153,17 @@ fn tell_from<E: BusEnd, B: Board>(
     struck: StruckNodes,
     board: &mut B,
     first: usize,
-) -> Result<(), BusFault>
+) -> Result<bool, BusFault>
     requires seated { AreSeated E.link seats.old links.old (B.ports board.old) }
     requires few { first < length seats.old }
-    requires told { (s : Seated) → (slice_index_or seats.old first s).untold ≡ Nothing }
+    requires told { AreToldFrom first seats.old }
     ensures sames { EachRelated E.same links.old links.new }
     ensures board { KeepsOthers B.ports B.kept (length seats.old) board.old board.new }
-    ensures told { OnOk result (SomeTold (B.told board.old board.new) seats.new) }
+    ensures told { IfOk result (λ told. told ≡ true → SomeTold (B.told board.old board.new) seats.new) }
+    ensures idle { IfOk result (λ told. told ≡ false → (board.new ≡ board.old)
+        × AreIdleFrom first struck level seats.old seats.new) }
+    ensures before { OnOk result ((m : ℕ) (s : Seated) → m < first →
+        slice_index_or seats.new m s ≡ slice_index_or seats.old m s) }
     ensures row { OnOk result (GoesToAll E.BusEnd B.Board struck level first
         seats.old seats.new links.old links.new board.old board.new) }
     ensures broken { IfErr result (λ f. BreaksUnderway E.BusEnd B.Board struck level first
@@ -160,8 +171,9 @@ fn tell_from<E: BusEnd, B: Board>(
 {
     let mut row = RowFrame::none();
     let sees = seen(level, struck.has(first));
-    seats[first].sample_and_tell(links, first_link(first), sees, board, &mut row)?;
-    sample_from(seats, links, level, struck, board, first + 1, &mut row)
+    let one = seats[first].sample_and_tell(links, first_link(first), sees, board, &mut row)?;
+    let others = sample_from(seats, links, level, struck, board, first + 1, &mut row)?;
+    Ok(one | others)
 }
 
 /// Each node has its bit, and sees this level, or the other one where it is struck. Its port is told of it where there
@@ -183,7 +195,7 @@ pub(crate) fn sample_all<E: BusEnd, B: Board>(
     ensures board { KeepsOthers B.ports B.kept (length seats.old) board.old board.new }
     ensures turns { OnOk result (EachSeat
         (SeatTurns (B.told board.old board.new) (B.kept board.old board.new) struck level) seats.old seats.new) }
-    ensures rooms { OnOk result ((n : ℕ → ℕ) → HaveRoom n seats.old → HaveRoom n seats.new) }
+    ensures rooms { OnOk result ((n : ℕ → Room) → HaveRoom n seats.old → HaveRoom n seats.new) }
     ensures level { IfOk result (λ end. end.level ≡ wired (driven_by seats.new)) }
     ensures untold { IfOk result (λ end. end.told ≡ false → TellsNone seats.old seats.new board.old board.new) }
     ensures told { IfOk result (λ end. end.told ≡ true → SomeTold (B.told board.old board.new) seats.new) }
@@ -193,10 +205,10 @@ pub(crate) fn sample_all<E: BusEnd, B: Board>(
     for k in 0..seats.len() {
         let sees = seen(level, struck.has(k));
         if !seats[k].sample_quietly(sees) {
-            tell_from(seats, links, level, struck, board, k)?;
+            let told = tell_from(seats, links, level, struck, board, k)?;
             return Ok(BitEnd {
                 level: level_of(seats),
-                told: true,
+                told,
             });
         }
         next = both(next, seats[k].drives);

@@ -166,6 +166,7 @@ pub(crate) fn untaken_bits<E: BusEnd, B: Board>(
     ensures sames { EachRelated E.same links.old links.new }
     ensures others { KeepsOthers B.ports B.kept (length seats.old) board.old board.new }
     ensures most { MatchResult result (λ n. n ≤ most) (λ f. f.after < most) }
+    ensures free { IfOk result (λ n. AreFree n seats.old) }
     ensures ends { IfOk result (λ n. RowsEnd (B.told board.old board.new) to_rest struck.now.script from most
         seats.old seats.new n) }
     ensures runs { IfOk result (λ n. RowsRun E.BusEnd B.Board to_rest struck.now.script from most

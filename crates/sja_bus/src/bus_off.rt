@@ -7,12 +7,13 @@ use sja_link::{BusEnd, Entry};
 use sja_wire::BusFault;
 
 impl Seat {
-    ghost use Rattle.std.specs.Prelude.{◌≡◌, ◌≤◌, suc, [], ◌∷◌, ◌++◌, length, OnOk};
+    ghost use Rattle.std.specs.Prelude.{◌≡◌, suc, [], ◌∷◌, ◌++◌, OnOk};
     ghost use Rattle.std.specs.Prelude.{IfErr, true};
     ghost use Rattle.can_frame.specs.declared.filter.Filter.{Filter as Filtering};
     ghost use Rattle.can_node.specs.Stands.{InReset};
     ghost use Rattle.sja_link.specs.declared.entry.Entry.TheVariants.{Off as OffEntry};
     ghost use Rattle.sja_link.specs.BusLedgers.{link_of};
+    ghost use Rattle.sja_link.specs.Written.{IsFullFor};
     ghost use Rattle.sja_bus.specs.declared.activity.Activity.TheVariants.{Running};
     ghost use Rattle.sja_link.specs.Inside.Moving.{Moves};
     ghost use Rattle.sja_bus.specs.Inside.Seats.{IsSound, IsSeat, IsMid};
@@ -36,7 +37,7 @@ impl Seat {
         ensures moves { OnOk result
             (Moves E.stands end.old end.new self.old.journal.entries self.new.journal.entries (suc self.old.ended)) }
         ensures entered { OnOk result (self.new.journal.entries ≡ self.old.journal.entries ++ OffEntry ∷ []) }
-        ensures broken { IfErr result (λ f. BreaksBy (self.old.journal.room ≤ length self.old.journal.entries)
+        ensures broken { IfErr result (λ f. BreaksBy (IsFullFor self.old.journal.room self.old.journal.entries OffEntry)
             E.stands E.full end.old self.old self.new f) }
         ensures unentered { IfErr result (λ f. self.new.journal.entries ≡ self.old.journal.entries) }
     {

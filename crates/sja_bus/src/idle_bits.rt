@@ -201,7 +201,7 @@ impl Seat {
 
     /// The same, for which the journal has room.
     fn rest(&mut self, count: u32)
-        requires { count ≤ self.old.journal.room - length self.old.journal.entries }
+        requires { count ≤ self.old.journal.room.all - length self.old.journal.entries }
         ensures { self.new ≡ after_bits count self.old }
     {
         self.journal.enter_rest_reserved(count);

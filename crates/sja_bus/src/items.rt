@@ -12,6 +12,7 @@ impl Seat {
     ghost use Rattle.std.specs.Prelude.{◌≡◌, ◌<◌, ◌+◌, [], ◌∷◌, ◌++◌, slice_index_or, true, length, OnOk};
     ghost use Rattle.std.specs.Prelude.{IfErr, ◌⊎◌, ◌≤◌, ℕ, suc, Ok, false};
     ghost use Rattle.sja_link.specs.BusLedgers.{link_of};
+    ghost use Rattle.sja_link.specs.Written.{Fits};
     ghost use Rattle.sja_link.specs.declared.entry.Entry.TheVariants.{Up as Item};
     ghost use Rattle.sja_link.specs.Inside.Moving.{Goes, Moves};
     ghost use Rattle.sja_wire.specs.Opens.{Opens};
@@ -97,7 +98,7 @@ impl Seat {
             (Moves E.stands end.old end.new self.old.journal.entries self.new.journal.entries (suc self.old.ended)) }
         ensures some { result ≡ Ok true → (item : Given)
             × (self.new.journal.entries ≡ self.old.journal.entries ++ Item item ∷ [])
-            × (length self.old.journal.entries < self.old.journal.room)
+            × Fits self.old.journal.room (self.old.journal.entries ++ Item item ∷ [])
             × ((past (place_of self.old.journal.entries) (Item item)).activation ≡ suc self.old.ended)
             × (IsOutOfOrder self.old.journal.entries item → ⊥) }
         ensures untold { result ≡ Ok true → self.new.untold ≡ Changed }

@@ -27,7 +27,7 @@ impl Seat {
     ghost use Rattle.sja_bus.specs.Inside.Taking.{BreaksHere, IsBitShort};
 
     /// One bit of the node, which sees this level. Its port is told of it, unless nothing happened and nothing is left
-    /// to be told.
+    /// to be told. Answers whether it was told.
     #[inline(always)]
     pub(crate) fn sample<E: BusEnd, B: Board>(
         &mut self,
@@ -36,21 +36,22 @@ impl Seat {
         seen: Level,
         board: &mut B,
         row: &mut RowFrame,
-    ) -> Result<(), BusFault>
+    ) -> Result<bool, BusFault>
         requires at { HasLinks E.link self.old links.old base }
         requires port { (link_of self.old.ledger).node < B.ports board.old }
         ensures keeps { KeepsInBit E.BusEnd B.Board self.old self.new links.old links.new board.old board.new }
-        ensures had { OnOk result (HadBit E.BusEnd B.Board (B.kept board.old board.new (link_of self.old.ledger).node)
-            seen self.old self.new links.old links.new base board.old board.new) }
+        ensures had { IfOk result (λ told. HadBit E.BusEnd B.Board told seen self.old self.new links.old links.new base
+            board.old board.new) }
         ensures broken { IfErr result (λ f. BreaksInBit E.BusEnd self.old self.new links.old base f) }
     {
         if self.may_sample_quietly() && self.sample_quietly(seen) {
-            return Ok(());
+            return Ok(false);
         }
         self.sample_and_tell(links, base, seen, board, row)
     }
 
-    /// One bit of the node, in which something may happen. Its port is told of it.
+    /// One bit of the node, in which something may happen. Its port is told of it, unless nothing did and nothing is
+    /// left to be told. Answers whether it was told.
     #[inline(always)]
     pub(crate) fn sample_and_tell<E: BusEnd, B: Board>(
         &mut self,
@@ -59,25 +60,25 @@ impl Seat {
         seen: Level,
         board: &mut B,
         row: &mut RowFrame,
-    ) -> Result<(), BusFault>
+    ) -> Result<bool, BusFault>
         requires at { HasLinks E.link self.old links.old base }
         requires port { (link_of self.old.ledger).node < B.ports board.old }
         ensures keeps { KeepsInBit E.BusEnd B.Board self.old self.new links.old links.new board.old board.new }
-        ensures had { OnOk result (HadBit E.BusEnd B.Board ⊥ seen self.old self.new links.old links.new base
+        ensures had { IfOk result (λ told. HadBit E.BusEnd B.Board told seen self.old self.new links.old links.new base
             board.old board.new) }
         ensures broken { IfErr result (λ f. BreaksInBit E.BusEnd self.old self.new links.old base f) }
     {
+        let stands = self.stands();
         let outcome = self.sample_fully(links, base, seen, row)?;
         self.drives = self.node.drive();
-        self.tell(board, outcome);
-        Ok(())
+        Ok(self.tell(board, outcome, &stands))
     }
 
     /// Whether its port is told all, and its journal has room.
     #[inline(always)]
     fn may_sample_quietly(&self) -> bool
         ensures told { result ≡ true → self.now.untold ≡ Nothing }
-        ensures free { result ≡ true → length self.now.journal.entries < self.now.journal.room }
+        ensures free { result ≡ true → length self.now.journal.entries < self.now.journal.room.all }
     {
         if let Untold::Nothing = self.untold {
             self.journal.free() > 0
@@ -92,7 +93,7 @@ impl Seat {
     pub(crate) fn sample_quietly(&mut self, seen: Level) -> bool
         requires ready { IsReady self.old }
         requires told { self.old.untold ≡ Nothing }
-        requires free { length self.old.journal.entries < self.old.journal.room }
+        requires free { length self.old.journal.entries < self.old.journal.room.all }
         ensures node { (link_of self.new.ledger).node ≡ (link_of self.old.ledger).node }
         ensures room { self.new.journal.room ≡ self.old.journal.room }
         ensures ready { IsReady self.new }
@@ -212,7 +213,7 @@ impl Seat {
         ensures moves { OnOk result
             (Moves E.stands end.old end.new self.old.journal.entries self.new.journal.entries (suc self.old.ended)) }
         ensures verdict { IfOk result (λ outcome.
-            BringsVerdict self.old.journal.entries self.old.drives seen outcome.overrun self.new.journal.entries) }
+            BringsVerdict self.old.journal.entries self.old.drives seen outcome self.new.journal.entries) }
         ensures broken { IfErr result (λ f. BreaksHere E.stands E.full end.old self.old self.new f) }
     {
         let driven = self.drives;

@@ -29,7 +29,8 @@ pub(crate) struct Seat {
 
 impl Seat {
     ghost use Rattle.std.specs.Prelude.{◌≡◌, ◌<◌, [], ◌∷◌, ◌++◌, OnOk, IfErr, length, ◌≢◌, ◌+◌, true, false};
-    ghost use Rattle.std.specs.Prelude.{IfOk, ◌*◌};
+    ghost use Rattle.std.specs.Prelude.{IfOk};
+    ghost use Rattle.sja_link.specs.Written.{Fits, room_in};
     ghost use Rattle.sja_link.specs.BusLedgers.{link_of, free_in};
     ghost use Rattle.sja_link.specs.declared.entry.Entry.TheVariants.{Bit as BitEntry};
     ghost use Rattle.sja_bus.specs.Inside.Following.{Follows, Reads, open_in};
@@ -45,7 +46,7 @@ impl Seat {
         ensures ready { IfOk result (λ s. IsReady s) }
         ensures own { IfOk result (λ s. (link_of s.ledger).node ≡ number) }
         ensures empty { IfOk result (λ s. s.journal.entries ≡ []) }
-        ensures room { IfOk result (λ s. s.journal.room ≡ 2 * bits + 2 * steps + 100) }
+        ensures room { IfOk result (λ s. s.journal.room ≡ room_in bits steps) }
         ensures untold { IfOk result (λ s. s.untold ≡ Nothing) }
     {
         let journal = Journal::new(alloc, bits, steps)?;
@@ -96,8 +97,8 @@ impl Seat {
             (free_in self.old.ledger) →
             IsSound self.new) }
         ensures ok { OnOk result ((self.new.journal.entries ≡ self.old.journal.entries ++ entry ∷ [])
-            × (length self.old.journal.entries < self.old.journal.room)) }
-        ensures full { IfErr result (λ f. IsFull self.old self.new f) }
+            × Fits self.old.journal.room (self.old.journal.entries ++ entry ∷ [])) }
+        ensures full { IfErr result (λ f. IsFull self.old self.new entry f) }
     {
         match self.journal.enter(entry) {
             Ok(()) => Ok(()),
@@ -111,8 +112,8 @@ impl Seat {
         ensures others { self.new ≡ record self.old { journal = self.new.journal } }
         ensures room { self.new.journal.room ≡ self.old.journal.room }
         ensures ok { OnOk result ((self.new.journal.entries ≡ self.old.journal.entries ++ BitEntry driven seen ∷ [])
-            × (length self.old.journal.entries < self.old.journal.room)) }
-        ensures full { IfErr result (λ f. IsFull self.old self.new f) }
+            × (length self.old.journal.entries < self.old.journal.room.all)) }
+        ensures full { IfErr result (λ f. IsFull self.old self.new (BitEntry driven seen) f) }
     {
         match self.journal.enter_bit(driven, seen) {
             Ok(()) => Ok(()),

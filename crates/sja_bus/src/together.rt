@@ -199,7 +199,7 @@ impl Seat {
     #[inline(always)]
     pub(crate) fn go_on(&mut self, sent: bool, reader: &Shift, levels: &[Level])
         requires most { length levels.now ≤ 160 }
-        requires free { length levels.now ≤ self.old.journal.room - length self.old.journal.entries }
+        requires free { length levels.now ≤ self.old.journal.room.all - length self.old.journal.entries }
         ensures sent { sent ≡ true → HasSent levels.now self.old self.new }
         ensures sent_too { sent ≡ false → is_sending self.old.node ≡ true
             → HasSent levels.now (record self.old { node = following self.old.node reader.now }) self.new }
@@ -219,7 +219,7 @@ impl Seat {
 
     /// The bits of a node that sent these levels already.
     fn has_sent(&mut self, levels: &[Level])
-        requires { length levels.now ≤ self.old.journal.room - length self.old.journal.entries }
+        requires { length levels.now ≤ self.old.journal.room.all - length self.old.journal.entries }
         ensures { HasSent levels.now self.old self.new }
     {
         self.journal.enter_bits_reserved(levels, levels);
@@ -229,7 +229,7 @@ impl Seat {
     /// The bits of a node that read these levels already and drove recessive.
     fn has_read(&mut self, levels: &[Level])
         requires most { length levels.now ≤ 160 }
-        requires free { length levels.now ≤ self.old.journal.room - length self.old.journal.entries }
+        requires free { length levels.now ≤ self.old.journal.room.all - length self.old.journal.entries }
         ensures { self.new ≡ after_reading self.old.node levels.now self.old }
     {
         let recessive = [Level::Recessive; MOST];

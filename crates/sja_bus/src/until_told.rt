@@ -15,7 +15,7 @@ impl Bus {
     ghost use Rattle.sja_wire.specs.Buses.{IsStill};
     ghost use Rattle.sja_bus.specs.Moment.{moment, Keeps};
     ghost use Rattle.sja_bus.specs.UntilTold.{RunsUntilTold, StopsUntilTold, EndsUntilTold, RunsNone};
-    ghost use Rattle.sja_bus.specs.UntilTold.{WorksUntold};
+    ghost use Rattle.sja_bus.specs.UntilTold.{HasFree, IsCalm, WorksUntold};
     ghost use Rattle.sja_bus.specs.Inside.RunningOn.{AnyBit, IsSoFar, IsStopped, MayRunBits};
 
     /// Bits one after another up to the first in which a port is told its turn: at most so many, and as many as are
@@ -23,9 +23,9 @@ impl Bus {
     /// node works. Answers how many they were.
     ///
     /// They are what as many calls of [`bit`](Bus::bit) are that find nothing on any link. In none of them but the last
-    /// one a port is told anything, a message is judged, or a node goes bus-off. They end where a port was told in the
-    /// last one, and else only where none more is asked for or left, every node is at rest and `to_rest` is set, a
-    /// strike falls in the next one, or a journal is full. A port that shows the turn already counts as told. Where
+    /// one a port is told anything, a message is judged, or a node goes bus-off: the bit says what stood before it, and
+    /// nothing else. They end where a port was told more in the last one, and else only where none more is asked for or
+    /// left, every node is at rest and `to_rest` is set, a strike falls in the next one, or a journal is full. Where
     /// none was run though some were asked for and are left, the next bit takes a call of `bit`. `links` are 64 a node,
     /// by node and activation.
     ///
@@ -49,6 +49,8 @@ impl Bus {
         ensures unstruck { IfOk result (λ n. (i node : ℕ) → i < n → node < 8 →
             Strikes self.old.script (self.old.run + i) node → ⊥) }
         ensures none { result ≡ Ok 0 → RunsNone (B.orders_are board.old) to_rest count self.old }
+        ensures calm { IfOk result (λ n. n ≢ 0 → IsCalm (B.orders_are board.old) self.old) }
+        ensures free { IfOk result (λ n. n ≢ 0 → HasFree n self.old) }
         ensures longest { IfOk result (λ n. n ≢ 0 → EndsUntilTold B.Board to_rest count
             (moment self.old links.old board.old) n (moment self.new links.new board.new)) }
         ensures right { OnOk result (self.new.fault ≡ None) }
@@ -79,6 +81,8 @@ impl Bus {
         ensures unstruck { IfOk result (λ n. (i node : ℕ) → i < n → node < 8 →
             Strikes self.old.script (self.old.run + i) node → ⊥) }
         ensures none { result ≡ Ok 0 → RunsNone (B.orders_are board.old) to_rest most self.old }
+        ensures calm { IfOk result (λ n. n ≢ 0 → IsCalm (B.orders_are board.old) self.old) }
+        ensures free { IfOk result (λ n. n ≢ 0 → HasFree n self.old) }
         ensures longest { IfOk result (λ n. n ≢ 0 → EndsUntilTold B.Board to_rest most
             (moment self.old links.old board.old) n (moment self.new links.new board.new)) }
         ensures stops { IfErr result (λ f. IsStopped E.BusEnd B.Board

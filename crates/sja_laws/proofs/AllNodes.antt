@@ -1,2 +1,3 @@
 pub mod OneWire
 pub mod Bits
+pub mod OneRun

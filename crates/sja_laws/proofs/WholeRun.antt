@@ -7,3 +7,5 @@ pub mod Ending
 pub mod Nodes
 pub mod Logs
 pub mod Sweeps
+pub mod Watched
+pub mod Rounds

@@ -1,10 +1,13 @@
-//! A law of one bit of one node.
+//! Laws of one bit, of one node and of a run in one thread.
 
 ghost use Rattle.std.specs.Prelude.{◌≡◌, List};
 ghost use Rattle.sja_link.specs.declared.entry.Entry.{Entry};
 ghost use Rattle.sja_link.specs.Verdicts.{IsLawful};
 ghost use Rattle.sja_regs.specs.declared.registers.Registers.{Registers};
+ghost use Rattle.sja_driver.specs.Deeds.{Deed};
 ghost use Rattle.sja_log.specs.Registering.{IsPortBit};
+ghost use Rattle.sja_serial.specs.Bits.{TakesBit};
+ghost use Rattle.sja_serial.specs.Serial.{Setup, SerialValue};
 ghost use Rattle.sja_laws.specs.GoingOn.{GoesOn};
 
 /// A law: what a bit adds to the journal of a node, and what it leaves in the registers of its port, is a function of
@@ -14,4 +17,13 @@ pub fn a_bit_brings_one_thing()
     ensures { (j k l : List Entry) (p q r : Registers) (b : IsPortBit p q j k) (c : IsPortBit p r j l)
         (whole other : List Entry) → IsLawful whole → IsLawful other → GoesOn k whole → GoesOn l other
         → b.seen ≡ c.seen → (b.driven ≡ c.driven) × (k ≡ l) × (q ≡ r) }
+{}
+
+/// A law: what a bit does to a run in one thread is a function of its journals, its registers and its bits. Of two runs
+/// for one setup that have the same ones, each has after a bit those of the other.
+pub fn a_bit_of_a_run_does_one_thing()
+    ensures { (setup : Setup) (deeds others : List (List Deed)) (r s n m : SerialValue)
+        → r.bus.journals ≡ s.bus.journals → r.ports ≡ s.ports → r.bits ≡ s.bits → TakesBit setup deeds r n
+        → TakesBit setup others s m
+        → (n.bus.journals ≡ m.bus.journals) × (n.ports ≡ m.ports) × (n.bits ≡ m.bits) }
 {}

@@ -3,16 +3,19 @@ use Rattle.std.specs.Prelude.{◌≡◌, ◌+◌, ◌<◌, ℕ, suc, true, false
 use Rattle.sja_link.specs.Records.{record_of}
 use Rattle.sja_link.specs.BitEntries.{HasOneBit}
 use Rattle.sja_bus.specs.Resting.{RestsAs}
+use Rattle.sja_wire.specs.Lawful.{IsBusRun}
 use Rattle.sja_wire.specs.Wire.{journal_at}
 use Rattle.sja_regs.specs.declared.registers.Registers.{Registers}
 use Rattle.sja_driver.specs.Deeds.{Deed}
 use Rattle.sja_log.specs.Registering.{IsPortBit}
 use Rattle.sja_serial.specs.Serial.{Setup, SerialValue, StandsAt}
 
--- one bit of a run, whose drivers did these deeds and nothing more: each port is as the bit leaves it
+-- one bit of a run, whose drivers did these deeds and nothing more: what holds of every bus holds after it, so that all
+-- nodes saw one wire, and each port is as the bit leaves it
 pub record TakesBit (setup : Setup) (deeds : List (List Deed)) (was now : SerialValue) : Type 0 where
   pub stands : StandsAt setup now deeds
   pub bits : now.bits ≡ was.bits + 1
+  pub lawful : IsBusRun setup.strikes now.bits now.bus.journals
   pub nodes : (node : ℕ) → node < setup.nodes →
       HasOneBit (journal_at was.bus.journals node) (journal_at now.bus.journals node)
   pub ports : (node : ℕ) (p : Registers) → node < setup.nodes →

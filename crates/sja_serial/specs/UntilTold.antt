@@ -9,7 +9,8 @@ use Rattle.sja_regs.specs.declared.bus_turn.BusTurn.{BusTurn}
 use Rattle.sja_serial.specs.Bits.{TakesBits}
 use Rattle.sja_serial.specs.Serial.{Setup, SerialValue}
 
--- since then no port was told anything: the ports are as they were, and each journal has bits alone more
+-- since then no port was told anything: the ports are as they were, and each journal has more bits alone, which brought
+-- nothing
 pub record NoneTold (was now : SerialValue) : Type 0 where
   pub ports : now.ports ≡ was.ports
   pub journals : EachJournal HasBitsMore was.bus.journals now.bus.journals
@@ -22,7 +23,7 @@ TakesUntilTold setup deeds was = TakesBits setup deeds (NoneTold was) was
 pub data EndsUntilTold (count : ℕ) (was : SerialValue) (n : ℕ) (now : SerialValue) : Type 0 where
   -- no bit more is run
   no_more : NoMore false count n now.bus → EndsUntilTold count was n now
-  -- the port of some node was told the turn of that bit; one that shows already what the turn says counts as told
+  -- the port of some node was told the turn of that bit, which says more than what stood before it
   told : (node : ℕ) (turn : BusTurn) → node < length now.bus.journals → WasTold was.ports now.ports node turn →
       IsLastTurn (journal_at now.bus.journals node) turn → EndsUntilTold count was n now
   -- it is one bit alone, before which something stood in the way of more

@@ -9,14 +9,14 @@ impl SerialRun {
     ghost use Rattle.sja_driver.specs.Deeds.{Deed};
     ghost use Rattle.sja_serial.specs.Serial.{Setup, StandsAt, IsRunOf};
     ghost use Rattle.sja_bus.specs.Boards.{HasOrders};
-    ghost use Rattle.sja_bus.specs.UntilTold.{RunsNone};
+    ghost use Rattle.sja_bus.specs.UntilTold.{IsCalm, RunsNone};
     ghost use Rattle.sja_serial.specs.UntilTold.{EndsUntilTold, TakesUntilTold};
 
     /// The next bits, at most so many and as many as are left, up to the first in which a port is told its turn, or to
     /// the last one before a struck one; a struck bit is one alone, and so is each before which something is untold, a
     /// port wants an abort, or a journal has no room that isn't reserved. In none of them but the last a port is told
-    /// anything, a message is judged, or a node goes bus-off, and none of several is struck. It says how many: at least
-    /// one, where one is asked for and left.
+    /// more than what stood before the bit, a message is judged, or a node goes bus-off, and none of several is struck.
+    /// It says how many: at least one, where one is asked for and left.
     pub fn bits_until_told(&mut self, count: u32) -> u32
         ghost setup: { Setup }
         requires run { IsRunOf setup self.old }
@@ -24,6 +24,7 @@ impl SerialRun {
         ensures some { 1 ≤ count → self.old.bits < setup.bits → 1 ≤ result }
         ensures unstruck { 2 ≤ result → (i node : ℕ) → i < result → node < 8 →
             Strikes self.old.bus.script (self.old.bus.run + i) node → ⊥ }
+        ensures calm { 2 ≤ result → IsCalm (HasOrders self.old.ports) self.old.bus }
         ensures bits { (deeds : List (List Deed)) → StandsAt setup self.old deeds →
             TakesUntilTold setup deeds self.old result self.new }
         ensures longest { result ≢ 0 → EndsUntilTold count self.old result self.new }
@@ -47,6 +48,7 @@ impl SerialRun {
         ensures some { 1 ≤ result }
         ensures unstruck { 2 ≤ result → (i node : ℕ) → i < result → node < 8 →
             Strikes self.old.bus.script (self.old.bus.run + i) node → ⊥ }
+        ensures calm { 2 ≤ result → IsCalm (HasOrders self.old.ports) self.old.bus }
         ensures bits { (deeds : List (List Deed)) → StandsAt setup self.old deeds →
             TakesUntilTold setup deeds self.old result self.new }
         ensures longest { EndsUntilTold count self.old result self.new }
@@ -73,6 +75,7 @@ impl SerialRun {
             TakesUntilTold setup deeds self.old result self.new }
         ensures longest { result ≢ 0 → EndsUntilTold count self.old result self.new }
         ensures none { result ≡ 0 → RunsNone (HasOrders self.old.ports) false count self.old.bus }
+        ensures calm { result ≢ 0 → IsCalm (HasOrders self.old.ports) self.old.bus }
     {
         match self
             .bus

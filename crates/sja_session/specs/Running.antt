@@ -29,8 +29,8 @@ LacksBusTurn s count = AreDue s count × LacksTurn s (Bus count)
 -- ---- what comes of it
 
 -- so many bits were run, of those that were asked for, and no step was done: all of them, or up to the last bit of the
--- plan. What each bit brought isn't said here, but that entries and steps lead from power-on to the registers of each
--- port (`IsAt`); that all nodes saw one level says the log
+-- plan. What holds of every bus holds after each of them (`TakesBit`), so that all nodes saw one wire, and entries and
+-- steps lead from power-on to the registers of each port (`IsAt`)
 pub record RunsBits (was now : SessionValue) (count run : ℕ) (accesses : List (List Access)) : Type 0 where
   pub bits : TakesBits (setup_by was) (all_deeds accesses) (λ r. Unit {0}) was.run run now.run
   pub most : run ≤ count

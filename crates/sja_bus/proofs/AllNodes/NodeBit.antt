@@ -93,27 +93,36 @@ pub bits_items : (j k : List Entry) → MayHaveItems j k → bits_of k ≡ bits_
 bits_items j k h = ap bits_of h.whole ∙ bits_none j (entries_of_items h.items) (items_bits h.items)
 
 -- a bit alone, with a verdict, and with bus-off after that
-pub has_alone : (j after : List Entry) (x seen : Level) → after ≡ j ++ Bit x seen ∷ [] →
-    BringsVerdict j x seen false after
-has_alone j after x seen e = record {
+pub has_alone : (j after : List Entry) (x seen : Level) (outcome : BitOutcome) → outcome.overrun ≡ false →
+    after ≡ j ++ Bit x seen ∷ [] → BringsVerdict j x seen outcome after
+has_alone j after x seen outcome stays e = record {
   verdict = record {
     verdict = None;
     whole = e
         ∙ sym (append-nil (j ++ Bit x seen ∷ []));
   };
-  overrun_is = refl;
+  overrun_is = stays;
+  received = λ none. refl;
 }
 
-pub has_judged : (j after : List Entry) (x seen : Level) (a : ℕ) (m : List ℕ) (overrun : Bool) →
-    IsJudged j x seen a m overrun after → BringsVerdict j x seen overrun after
-has_judged j after x seen a m overrun judged = record {
+-- no message of no frame
+no_message : (filter : Filter) (received : Option FrameValue) (m : List ℕ) → IsPassing filter received (Some m) →
+    received ≡ None → ⊥
+no_message filter None m passes none = let wrong : Some m ≡ None = passes in cc
+no_message filter (Some f) m passes none = cc
+
+pub has_judged : (j after : List Entry) (x seen : Level) (a : ℕ) (m : List ℕ) (filter : Filter)
+    (outcome : BitOutcome) → IsPassing filter outcome.events.received (Some m) →
+    IsJudged j x seen a m outcome.overrun after → BringsVerdict j x seen outcome after
+has_judged j after x seen a m filter outcome passes judged = record {
   verdict =
       record { verdict = Some (judged.verdict, m); whole = judged.whole };
   overrun_is = judged.overrun_is;
+  received = λ none. absurd (no_message filter outcome.events.received m passes none);
 }
 
 pub has_on : (j after : List Entry) (x seen : Level) (outcome : BitOutcome) → outcome.events.went_off ≡ false →
-    BringsVerdict j x seen outcome.overrun after → Brings j x seen outcome after
+    BringsVerdict j x seen outcome after → Brings j x seen outcome after
 has_on j after x seen outcome on h = record {
   bit = record {
     verdict = h.verdict.verdict;
@@ -123,14 +132,16 @@ has_on j after x seen outcome on h = record {
   };
   off = on;
   overrun = h.overrun_is;
+  received = h.received;
 }
 
 pub has_off : (j k after : List Entry) (x seen : Level) (outcome : BitOutcome) → outcome.events.went_off ≡ true →
-    after ≡ k ++ Off ∷ [] → BringsVerdict j x seen outcome.overrun k → Brings j x seen outcome after
+    after ≡ k ++ Off ∷ [] → BringsVerdict j x seen outcome k → Brings j x seen outcome after
 has_off j k after x seen outcome off e h = record {
   bit = record { verdict = h.verdict.verdict; off = true; whole = e ∙ ap (λ l. l ++ Off ∷ []) h.verdict.whole };
   off = off;
   overrun = h.overrun_is;
+  received = h.received;
 }
 
 -- one of a node in reset
@@ -139,8 +150,7 @@ pub rest_brings : {X : Type 0} (r : Result BitOutcome X) (j after : List Entry) 
     IfOk r (λ outcome. (outcome.events.went_off ≡ false) × (outcome.overrun ≡ false)) →
     IfOk r (λ outcome. Brings j x seen outcome after)
 rest_brings (Ok outcome) j after x seen e h =
-    let P : Bool → Type 0 = λ o. BringsVerdict j x seen o after in
-    has_on j after x seen outcome h.0 (subst P (sym h.1) (has_alone j after x seen e))
+    has_on j after x seen outcome h.0 (has_alone j after x seen outcome h.1 e)
 rest_brings (Err fault) j after x seen e h = tt
 
 -- items one after another

@@ -1,6 +1,7 @@
 -- All seats of a bus, of which those before a place have had their turn.
 use Rattle.std.proofs.Common.{◌≡◌, ℕ, suc, ◌+◌, ◌*◌, ◌<◌, List, length, sym, ap, ◌∙◌, arith}
 use Rattle.std.specs.Prelude.{slice_index_or, slice_set}
+use Rattle.sja_link.specs.Written.{Room}
 use Rattle.sja_link.specs.declared.link_id.LinkId.{LinkId}
 use Rattle.sja_link.specs.Lists.{Lists}
 use Rattle.sja_bus.specs.declared.seat.Seat.{Seat}
@@ -52,7 +53,7 @@ pub record HaveTaken {E : Type 0} (same : E → E → Type 0) (stands : E → Li
   pub dry : (m : ℕ) (s : Seat) (d : E) → m < k → (slice_index_or seats m s).ended < 64 →
       shows_nothing (slice_index_or links (64 * m + (slice_index_or seats m s).ended) d)
   pub goes : GoesAll same stands before seats given links
-  pub rooms : (n : ℕ → ℕ) → HaveRoom n before → HaveRoom n seats
+  pub rooms : (n : ℕ → Room) → HaveRoom n before → HaveRoom n seats
   pub done : Done Does k before seats
   pub untold : Done Tells k before seats
 

@@ -1,5 +1,5 @@
 -- One node more of a bus has its bit.
-use Rattle.std.proofs.Common.{◌≡◌, ◌≢◌, ℕ, ◌+◌, ◌*◌, ◌<◌, List, length, refl, sym, ◌∙◌, subst, arith}
+use Rattle.std.proofs.Common.{◌≡◌, ◌≢◌, ℕ, ◌+◌, ◌*◌, ◌<◌, Bool, List, length, refl, sym, ◌∙◌, subst, arith}
 use Rattle.std.specs.Prelude.{slice_index_or, slice_set}
 use Rattle.std.proofs.Math.ListN.{length-set}
 use Rattle.can_bits.specs.declared.level.Level.{Level}
@@ -40,10 +40,9 @@ pub underway_one : {E B : Type 0} (e : Ends E) (b : Ports B) →
     ((x y z : B) (m : ℕ) (t : BusTurn) → b.told x y m t → b.kept y z m → b.told x z m t) →
     ((x y z : B) (m : ℕ) (t : BusTurn) → b.kept x y m → b.told y z m t → b.told x z m t) →
     (struck : StruckNodes) (level seen : Level) (before seats : List Seat) (given links after : List E)
-    (was board now : B) (k : ℕ) (s new : Seat) → k < length seats → seen ≡ seen_by struck level k →
+    (was board now : B) (k : ℕ) {told : Bool} (s new : Seat) → k < length seats → seen ≡ seen_by struck level k →
     KeepsInBit e b (slice_index_or seats k s) new links after board now →
-    HadBit e b (b.kept board now (link_of (slice_index_or seats k s).ledger).node) seen (slice_index_or seats k s) new
-    links after (64 * k) board now →
+    HadBit e b told seen (slice_index_or seats k s) new links after (64 * k) board now →
     IsUnderway e.same e.stands b.ports b.told b.kept struck level before given was k seats links board →
     IsUnderway e.same e.stands b.ports b.told b.kept struck level before given was (k + 1) (slice_set seats k new) after
     now

@@ -1,9 +1,10 @@
 -- Bits before each of which no port was told anything: the journals have bits alone more.
-use Rattle.std.proofs.Common.{◌≡◌, ℕ, ◌+◌, ◌-◌, ◌<◌, ◌≤◌, Bool, false, true, None, List, [], ◌∷◌, ◌++◌, length}
-use Rattle.std.proofs.Common.{inl, inr, sym, ◌∙◌, subst, arith}
+use Rattle.std.proofs.Common.{◌≡◌, ◌≢◌, ℕ, ◌+◌, ◌-◌, ◌<◌, ◌≤◌, Bool, false, true, None, List, [], ◌∷◌, ◌++◌, length}
+use Rattle.std.proofs.Common.{inl, inr, sym, ap, ◌∙◌, subst, arith}
 use Rattle.std.specs.Prelude.{◌⊎◌, Option, slice_index_or}
 use Rattle.can_bits.specs.declared.level.Level.{Level}
 use Rattle.can_node.specs.Stands.{ShowsRest}
+use Rattle.sja_link.specs.Written.{Room}
 use Rattle.sja_link.specs.declared.entry.Entry.{Entry}
 use Rattle.sja_link.specs.declared.entry.Entry.TheVariants.{Bit}
 use Rattle.sja_regs.specs.declared.orders.Orders.{Orders}
@@ -15,15 +16,18 @@ use Rattle.sja_bus.specs.declared.seat.Seat.{Seat}
 use Rattle.sja_wire.specs.Buses.{BusValue}
 use Rattle.sja_wire.specs.Reasons.{room_for}
 use Rattle.sja_bus.specs.Moment.{Moment}
-use Rattle.sja_bus.specs.UntilTold.{EndsUntilTold, HasBitsMore, IsLastTurn, NoMore, NoneTold, RunsNone, WorksUntold}
+use Rattle.sja_bus.specs.UntilTold.{EndsUntilTold, HasBitsMore, IsLastTurn, NoMore, NoneTold, RunsNone, TellsNothing}
+use Rattle.sja_bus.specs.UntilTold.{HasFree, IsCalm, WorksUntold}
 use Rattle.sja_bus.specs.UntilTold.EndsUntilTold.{no_more as by_none, told as by_told}
 use Rattle.sja_bus.specs.UntilTold.HasBitsMore.{none, one_more}
 use Rattle.sja_bus.specs.UntilTold.NoMore.{all_run, spent, rests, struck, full}
 use Rattle.sja_bus.specs.UntilTold.RunsNone.{no_more, untold, aborts}
-use Rattle.sja_bus.specs.Inside.Refusing.{HaveRoom}
-use Rattle.sja_bus.specs.Inside.Rows.{AreReady, EachSeat, SeatHasBits, driven_by, journals_of}
-use Rattle.sja_bus.specs.Inside.RunningOn.{RowsRunNone, SomeAborts, SomeTold, SomeUntold, moment_of}
+use Rattle.sja_bus.specs.Inside.Refusing.{AreFree, HaveRoom}
+use Rattle.sja_bus.specs.Inside.Rows.{AreReady, AreTold, EachSeat, SeatHasBits, driven_by, journals_of}
+use Rattle.sja_bus.specs.Inside.RunningOn.{NoneAborts, RowsRunNone, SomeAborts, SomeTold, SomeUntold, moment_of}
 use Rattle.sja_bus.specs.Inside.Together.{IsQuietRow}
+use Rattle.sja_bus.specs.Inside.Turning.{IsIdleBit, is_untold}
+use Rattle.sja_bus.proofs.AtPorts.TurnsTold.{idle_bit}
 use Rattle.sja_bus.proofs.AllNodes.BitAfterBit.{some_work}
 use Rattle.sja_bus.proofs.AllNodes.RanOn.{bus_with}
 use Rattle.sja_bus.proofs.AllNodes.Running.{count_is, journal_is, untold_is}
@@ -34,14 +38,21 @@ seat_at [] k few = absurd (omega (arith, few))
 seat_at (s ∷ seats) k few = s
 
 -- one bit more
-pub bit_more : (j k l : List Entry) (driven seen : Level) → HasBitsMore j k → l ≡ k ++ Bit driven seen ∷ [] →
-    HasBitsMore j l
-bit_more j k l driven seen more is = subst (λ (x : List Entry). HasBitsMore j x) (sym is) (one_more k driven seen more)
+pub bit_more : (j k l : List Entry) (driven seen : Level) → HasBitsMore j k → TellsNothing k driven seen →
+    l ≡ k ++ Bit driven seen ∷ [] → HasBitsMore j l
+bit_more j k l driven seen more tells is =
+    subst (λ (x : List Entry). HasBitsMore j x) (sym is) (one_more k driven seen more tells)
+
+pub idle_more : (seen : Level) (old new : Seat) → IsIdleBit seen old new →
+    HasBitsMore old.journal.entries new.journal.entries
+idle_more seen old new bit =
+    bit_more old.journal.entries old.journal.entries new.journal.entries old.drives seen none bit.tells bit.whole
 
 -- several more
 pub bits_then : (j k l : List Entry) → HasBitsMore j k → HasBitsMore k l → HasBitsMore j l
 bits_then j k _ first none = first
-bits_then j k _ first (one_more l driven seen more) = one_more l driven seen (bits_then j k l first more)
+bits_then j k _ first (one_more l driven seen more tells) =
+    one_more l driven seen (bits_then j k l first more) tells
 
 -- of each seat
 pub seats_then : (begun seats after : List Seat) → length seats ≡ length begun → EachSeat SeatHasBits begun seats →
@@ -51,12 +62,13 @@ seats_then begun seats after count first more m s few =
     (slice_index_or after m s).journal.entries (first m s few) (more m s (omega (arith, few, count)))
 
 -- bits in which nothing happens
-pub row_bits : (to_rest : Bool) (begun seats after : List Seat) → length seats ≡ length begun →
+pub row_bits : (to_rest : Bool) (begun seats after : List Seat) → length seats ≡ length begun → AreReady seats →
     EachSeat SeatHasBits begun seats → IsQuietRow to_rest seats after → EachSeat SeatHasBits begun after
-row_bits to_rest begun seats after count first row m s few =
-    let old = slice_index_or seats m s in
-    bit_more (slice_index_or begun m s).journal.entries old.journal.entries (slice_index_or after m s).journal.entries
-    old.drives (wired (driven_by seats)) (first m s few) (row.bits m s (omega (arith, few, count))).whole
+row_bits to_rest begun seats after count ready first row m s few =
+    let old = slice_index_or seats m s in let new = slice_index_or after m s in
+    let here : m < length seats = omega (arith, few, count) in let level = wired (driven_by seats) in
+    bits_then (slice_index_or begun m s).journal.entries old.journal.entries new.journal.entries (first m s few)
+    (idle_more level old new (idle_bit level old new (ready m s here).ready (row.bits m s here)))
 
 -- since the bus had these seats no port was told anything
 none_told : {E B : Type 0} (script : List Strike) (steps : List ℕ) (from run left less : ℕ)
@@ -101,15 +113,36 @@ module _ (to_rest : Bool) (count : ℕ) (script : List Strike) (steps : List ℕ
       RowsRunNone to_rest script run more seats → NoMore to_rest count n (bus_with script steps run left fault seats)
   none_after n more all ready rooms (inl zero) = all_run (all zero)
   none_after n more all ready rooms (inr (inl some)) =
-      let s = seat_at seats some.0 some.1 in let room = rooms some.0 s some.1 in let free = some.2 s in
-      let P : List Entry → Type 0 = λ j. room_for (run + left) steps some.0 ≤ length j in
+      let s = seat_at seats some.0 some.1 in let room = ap (λ (r : Room). r.all) (rooms some.0 s some.1) in
+      let free = some.2 s in
+      let P : List Entry → Type 0 = λ j. (room_for (run + left) steps some.0).all ≤ length j in
       full some.0 (inside some.0 some.1) (subst P (sym (journal_is seats some.0 s some.1)) (omega (arith, room, free)))
   none_after n more all ready rooms (inr (inr (inl some))) = struck some.0 some.1 some.2
   none_after n more all ready rooms (inr (inr (inr some))) = rests some.0 (λ k few.
       let c = count_is seats in let near : k < length seats = omega (arith, few, c) in
       rests_at seats true k ready few (λ s. some.1 k s near))
 
+  -- there is room for so many
+  pub free_bus : (n : ℕ) → n ≢ 0 → AreFree n seats → HaveRoom (room_for (run + left) steps) seats →
+      HasFree n (bus_with script steps run left fault seats)
+  free_bus n some free rooms node few =
+      let c = count_is seats in let near : node < length seats = omega (arith, few, c) in
+      let s = seat_at seats node near in let fits = free node s near in
+      let room = ap (λ (r : Room). r.all) (rooms node s near) in
+      let P : List Entry → Type 0 = λ j. length j + n ≤ (room_for (run + left) steps node).all in
+      subst P (sym (journal_is seats node s near)) (omega (arith, fits, room, some))
+
   module _ (orders_are : ℕ → Orders → Type 0) where
+    -- some may be run
+    pub calm_bus : NoneAborts orders_are (length seats) → AreTold seats →
+        IsCalm orders_are (bus_with script steps run left fault seats)
+    calm_bus asked calm = record {
+      told = λ node few. let c = count_is seats in let near : node < length seats = omega (arith, few, c) in
+          let s = seat_at seats node near in
+          untold_is seats node s near ∙ ap is_untold (calm node s near);
+      orders = λ node few. let c = count_is seats in asked node (omega (arith, few, c));
+    }
+
     -- none was run: by a port
     pub held_by_port : SomeAborts orders_are (length seats) ⊎ SomeUntold seats →
         RunsNone orders_are to_rest count (bus_with script steps run left fault seats)

@@ -24,7 +24,12 @@ use Rattle.sja_link.specs.BitEntries.{HasBit}
 use Rattle.sja_link.specs.Inside.Entries.{off_left}
 use Rattle.sja_wire.specs.Telling.{SaysAlone, IsTurn, is_overrun}
 use Rattle.sja_bus.specs.Inside.Following.{Follows}
-use Rattle.sja_bus.specs.Inside.Turning.{Drops}
+use Rattle.sja_bus.specs.Inside.Turning.{Drops, SaysAs, TurnOf, is_dropped}
+use Rattle.sja_bus.specs.declared.seat.Seat.{Seat}
+use Rattle.sja_bus.specs.declared.untold.Untold.TheVariants.{Nothing}
+use Rattle.sja_bus.specs.Inside.Seats.{IsSound}
+use Rattle.can_node.specs.NextField.{ShowsRole}
+use Rattle.can_node.proofs.OneCut.SameCuts.{same_now, same_phase}
 use Rattle.sja_link.proofs.Growing.BitRecords.{entries_split, record_bit}
 
 -- ---- the turn
@@ -110,6 +115,58 @@ still_alone node j h =
       events = refl;
       aborted = refl;
       overrun = refl;
+    }
+
+-- two turns that say the same are one
+pub says_same : (t u : BusTurn) → t.events ≡ u.events → SaysAs t u → t ≡ u
+says_same t u events beside = λ i. record {
+  activation = beside.activation i;
+  events = events i;
+  txerr = beside.txerr i;
+  rxerr = beside.rxerr i;
+  off = beside.off i;
+  phase = beside.phase i;
+  aborted = beside.aborted i;
+  overrun = beside.overrun i;
+}
+
+-- so are two that say what stands there, and nothing else
+pub alone_once : (j : List Entry) (t u : BusTurn) → SaysAlone j t → SaysAlone j u → t ≡ u
+alone_once j t u a b =
+    let r = record_of j in let p = a.says in let q = b.says in
+    let now = same_now r p.found q.found p.cut q.cut in
+    let receiving : t.events.receiving ≡ u.events.receiving = p.receiving
+    ∙ ap (λ (c : ContextValue). not (is_transmitter c.role)) now ∙ sym q.receiving in
+    says_same t u (a.events ∙ ap nothing receiving ∙ sym b.events) (record {
+      activation = p.activation ∙ sym q.activation;
+      receiving = receiving;
+      txerr = p.txerr ∙ ap (λ (c : ContextValue). c.tec) now ∙ sym q.txerr;
+      rxerr = p.rxerr ∙ ap (λ (c : ContextValue). c.rec) now ∙ sym q.rxerr;
+      off = p.off ∙ ap (λ (c : ContextValue). c.off) now ∙ sym q.off;
+      phase = p.phase ∙ same_phase r p.found q.found p.cut q.cut ∙ sym q.phase;
+      aborted = a.aborted ∙ sym b.aborted;
+      overrun = a.overrun ∙ sym b.overrun;
+    })
+
+-- what a seat says that is told all, where nothing happened
+pub stands_alone : (s : Seat) (turn : BusTurn) (sends : Bool) → IsSound s → s.untold ≡ Nothing →
+    ShowsRole s.node sends → TurnOf s (nothing (not sends)) false turn → SaysAlone s.journal.entries turn
+stands_alone s turn sends sound calm role t =
+    let h = sound.follows in let r = record_of s.journal.entries in let c = t.counters r h.found h.stands in
+    let receiving = ap (λ (v : BitEvents). v.receiving) t.events_are in record {
+      says = record {
+        found = h.found;
+        cut = h.stands.cut;
+        activation = t.activation ∙ sym sound.reads.begun;
+        txerr = c.0;
+        rxerr = c.1;
+        off = c.2;
+        phase = t.phase r h.found h.stands;
+        receiving = receiving ∙ ap not (role r h.found h.stands);
+      };
+      events = t.events_are ∙ ap nothing (sym receiving);
+      aborted = t.aborted ∙ ap is_dropped calm;
+      overrun = t.overrun_is;
     }
 
 -- it is the turn of such a bit

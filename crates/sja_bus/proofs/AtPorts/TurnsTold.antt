@@ -1,5 +1,5 @@
 -- Which turns of a bit are told to the ports.
-use Rattle.std.proofs.Common.{◌≡◌, ◌≢◌, ◌+◌, ◌<◌, true, false, None, List, [], ◌∷◌, ◌++◌, length}
+use Rattle.std.proofs.Common.{◌≡◌, ◌≢◌, ◌+◌, ◌<◌, Bool, true, false, None, List, [], ◌∷◌, ◌++◌, length}
 use Rattle.std.proofs.Common.{refl, sym, ap, ◌∙◌, subst, append-nil, arith, inl, inr}
 use Rattle.std.specs.Prelude.{◌⊎◌}
 use Rattle.can_bits.specs.declared.level.Level.{Level}
@@ -9,8 +9,8 @@ use Rattle.sja_link.specs.declared.up.Up.{Up}
 use Rattle.sja_link.specs.declared.entry.Entry.TheVariants.{Bit, Up as Item, Abort}
 use Rattle.sja_link.specs.Places.{place_of}
 use Rattle.sja_regs.specs.declared.bus_turn.BusTurn.{BusTurn}
-use Rattle.sja_link.specs.BitEntries.{MayHaveItems, HasBit}
-use Rattle.sja_wire.specs.Telling.{SaysAlone}
+use Rattle.sja_link.specs.BitEntries.{MayHaveItems, HasBit, judged_as, off_as}
+use Rattle.sja_wire.specs.Telling.{IsTurn, SaysAlone}
 use Rattle.sja_bus.specs.declared.untold.Untold.{Untold}
 use Rattle.sja_bus.specs.declared.untold.Untold.TheVariants.{Nothing, Changed, Dropped}
 use Rattle.sja_bus.specs.declared.seat.Seat.{Seat}
@@ -18,8 +18,8 @@ use Rattle.sja_bus.specs.declared.bit_outcome.BitOutcome.{BitOutcome}
 use Rattle.sja_bus.specs.UntilTold.{IsLastTurn}
 use Rattle.sja_bus.specs.Inside.Following.{open_in}
 use Rattle.sja_bus.specs.Inside.Seats.{IsReady}
-use Rattle.sja_bus.specs.Inside.Turning.{IsQuietBit, Drops, TakesUntold, AbortsUntold, OpensUntold, Brings, TurnOf}
-use Rattle.sja_bus.specs.Inside.Turning.{Turns, is_dropped}
+use Rattle.sja_bus.specs.Inside.Turning.{IsIdleBit, IsQuietBit, Drops, TakesUntold, AbortsUntold, OpensUntold, Brings}
+use Rattle.sja_bus.specs.Inside.Turning.{TurnOf, Turns, is_dropped}
 use Rattle.std.proofs.lemmas.List.{length-append}
 use Rattle.sja_bus.proofs.AtPorts.Turning.{turn_is, still, still_alone, still_turn}
 
@@ -31,6 +31,9 @@ not_dropped Dropped h = absurd (h refl)
 -- no abort changed the node
 pub drops_none : (j : List Entry) (n : Untold) → n ≢ Dropped → Drops false j (is_dropped n)
 drops_none j n h found cut = not_dropped n h
+
+calm_not : (s : Seat) → s.untold ≡ Nothing → s.untold ≢ Dropped
+calm_not s calm e = let wrong : Nothing ≡ Dropped = sym calm ∙ e in cc
 
 -- an item more was taken
 pub takes_one : (old mid new : Seat) → new.untold ≡ Changed → (u : Up) → new.journal.entries ≡ mid.journal.entries
@@ -106,14 +109,36 @@ quiet_turns was_told was_kept seen old new kept ready quiet =
       told = quiet.told;
     }
 
--- the port is told the turn of the bit
-pub full_turns : (was_told : BusTurn → Type 0) (was_kept : Type 0) (seen : Level) (old s : Seat) (outcome : BitOutcome)
-    (turn : BusTurn) → was_told turn → IsReady old → s.untold ≡ old.untold →
+-- the same by the journal alone
+pub idle_bit : (seen : Level) (old new : Seat) → IsReady old → IsQuietBit seen old new → IsIdleBit seen old new
+idle_bit seen old new ready quiet =
+    let j = old.journal.entries in let one = j ++ Bit old.drives seen ∷ [] in
+    let bit : HasBit j old.drives seen one = record {
+      verdict = None;
+      off = false;
+      whole = sym (append-nil one) ∙ sym (append-nil (one ++ []));
+    } in record {
+      tells = record {
+        bit = bit;
+        turn = still old.node j;
+        is = still_turn old.node new.node j one old.drives seen bit false (is_dropped old.untold) ready.drives
+            quiet.samples quiet.shows ready.sound.follows refl refl refl (ap is_dropped quiet.untold)
+            (drops_none j old.untold (calm_not old quiet.untold));
+        alone = still_alone old.node j ready.sound.follows;
+      };
+      whole = quiet.whole;
+    }
+
+-- the port is told the turn of the bit, or passed over
+unfoldable pub full_turns : (was_told : BusTurn → Type 0) (was_kept : Type 0) (seen : Level) (old s : Seat)
+    (outcome : BitOutcome) (turn : BusTurn) →
+    was_told turn ⊎ (was_kept × (old.untold ≡ Nothing) × SaysAlone old.journal.entries turn) →
+    IsReady old → s.untold ≡ old.untold →
     Samples old.node s.node seen outcome.events → Brings old.journal.entries old.drives seen outcome s.journal.entries →
     (place_of s.journal.entries).activation ≡ s.ended + open_in s.activity →
     TurnOf s outcome.events outcome.overrun turn →
     Turns was_told was_kept seen old (record s { untold = Nothing })
-full_turns was_told was_kept seen old s outcome turn told ready untold samples brings begun t = record {
+full_turns was_told was_kept seen old s outcome turn port ready untold samples brings begun t = record {
   bit = brings.bit;
   turn = turn;
   is_turn = λ changed drops.
@@ -121,31 +146,44 @@ full_turns was_told was_kept seen old s outcome turn told ready untold samples b
       (is_dropped old.untold) turn ready.drives samples ready.sound.follows brings.off
       t.events_are (t.activation ∙ sym begun) t.counters t.phase (t.overrun_is ∙ brings.overrun)
       (t.aborted ∙ ap is_dropped untold) drops;
-  port = inl told;
+  port = port;
   told = refl;
 }
 
--- the port of a seat of which nothing was untold was told the turn of the last bit, where it wasn't passed over
-pub turn_told : {was_told : BusTurn → Type 0} {seen : Level} {old new : Seat} → old.untold ≡ Nothing →
-    Turns was_told ⊥ seen old new → (turn : BusTurn) × was_told turn × IsLastTurn new.journal.entries turn
-turn_told {was_told = was_told} {seen = seen} {old = old} calm h = (
-  h.turn,
-  told h.port,
-  record {
-    before = old.journal.entries;
-    driven = old.drives;
-    seen = seen;
-    bit = h.bit;
-    is = h.is_turn false (drops_none old.journal.entries old.untold dropped);
-  },
-)
-  where
-    told : was_told h.turn ⊎ (⊥ × (old.untold ≡ Nothing) × SaysAlone old.journal.entries h.turn) → was_told h.turn
-    told (inl is) = is
-    told (inr none) = absurd none.0
+-- where all was told, and the turn says more than what stood before the bit, it is told as the turn of the last bit
+pub last_turn : {was_told : BusTurn → Type 0} {was_kept : Type 0} {seen : Level} {old new : Seat} →
+    old.untold ≡ Nothing → (h : Turns was_told was_kept seen old new) →
+    (SaysAlone old.journal.entries h.turn → ⊥) → IsLastTurn new.journal.entries h.turn
+last_turn {seen = seen} {old = old} calm h more = record {
+  before = old.journal.entries;
+  driven = old.drives;
+  seen = seen;
+  bit = h.bit;
+  is = h.is_turn false (drops_none old.journal.entries old.untold (calm_not old calm));
+  more = more;
+}
 
-    dropped : old.untold ≢ Dropped
-    dropped e = let wrong : Nothing ≡ Dropped = sym calm ∙ e in cc
+-- where it says no more, and no message was judged and the node didn't go bus-off, the bit brought nothing
+pub idle_turn : {was_told : BusTurn → Type 0} {was_kept : Type 0} {seen : Level} {old new : Seat} →
+    old.untold ≡ Nothing → (h : Turns was_told was_kept seen old new) → SaysAlone old.journal.entries h.turn →
+    h.bit.verdict ≡ None → h.bit.off ≡ false → IsIdleBit seen old new
+idle_turn {seen = seen} {old = old} {new = new} calm h alone none on = record {
+  tells = record { bit = moved.0; turn = h.turn; is = moved.1; alone = alone };
+  whole = whole;
+}
+  where
+    one : List Entry
+    one = old.journal.entries ++ Bit old.drives seen ∷ []
+
+    whole : new.journal.entries ≡ one
+    whole = h.bit.whole ∙ ap (λ v. (one ++ judged_as v) ++ off_as h.bit.off) none
+        ∙ ap (λ (o : Bool). (one ++ []) ++ off_as o) on ∙ append-nil (one ++ []) ∙ append-nil one
+
+    moved : (b : HasBit old.journal.entries old.drives seen one)
+        × IsTurn false old.journal.entries old.drives seen one b h.turn
+    moved = subst (λ (k : List Entry). (b : HasBit old.journal.entries old.drives seen k)
+        × IsTurn false old.journal.entries old.drives seen k b h.turn) whole
+        (h.bit, h.is_turn false (drops_none old.journal.entries old.untold (calm_not old calm)))
 
 -- the same by what else was done at the ports
 pub turns_by : {was_told had_told : BusTurn → Type 0} {was_kept had_kept : Type 0} {seen : Level} {old new : Seat} →

@@ -3,6 +3,8 @@ use Rattle.std.proofs.Common.{◌≡◌, ℕ, suc, true, ◌+◌, ◌<◌, ◌�
 use Rattle.std.specs.Prelude.{slice_index_or}
 use Rattle.sja_regs.specs.declared.orders.Orders.{Orders}
 use Rattle.sja_link.specs.declared.entry.Entry.{Entry}
+use Rattle.sja_link.specs.declared.entry.Entry.TheVariants.{Abort, Off}
+use Rattle.sja_link.specs.Written.{Room, IsFullFor}
 use Rattle.sja_link.specs.Lists.{Lists}
 use Rattle.sja_link.specs.Accounts.{Account, account}
 use Rattle.sja_link.specs.Parts.{part}
@@ -28,10 +30,11 @@ pub full_for_abort : {E : Type 0} (same : E → E → Type 0) (stands : E → Li
     MayHaveItems old.journal.entries mid.journal.entries →
     Goes same stands old.journal.entries mid.journal.entries links after base →
     (has_orders : Orders → Type 0) (orders : Orders) → has_orders orders → orders.abort ≡ true →
-    IsApplied mid.journal.entries true → IsFull mid new f → FullForAbort stands has_orders old new links after base f
+    IsApplied mid.journal.entries true → IsFull mid new Abort f →
+    FullForAbort stands has_orders old new links after base f
 full_for_abort same stands old mid new links after base f node room items goes has_orders orders are ordered due full =
-    let n : length new.journal.entries ≡ length mid.journal.entries = ap (λ (l : List Entry). length l) full.same in
-    let no = full.full in
+    let F : List Entry → Type 0 = λ l. IsFullFor old.journal.room l Abort in
+    let R : Room → Type 0 = λ r. IsFullFor r mid.journal.entries Abort in
     let P : List Entry → Type 0 = λ l. MayHaveItems old.journal.entries l in record {
       is = full.is ∙ ap (λ k. JournalFull k) node;
       items = subst P (sym full.same) items;
@@ -39,7 +42,7 @@ full_for_abort same stands old mid new links after base f node room items goes h
       are_orders = are;
       ordered = ordered;
       due = let D : List Entry → Type 0 = λ l. IsApplied l true in subst D (sym full.same) due;
-      full = omega (arith, n, no, room);
+      full = subst F (sym full.same) (subst R room full.full);
       kept = λ h was. let Q : List Entry → Type 0 = λ l. Kept stands l after base h in
           subst Q (sym full.same) (goes.kept h was);
     }
@@ -58,10 +61,10 @@ breaks_by stands full end old new BitsSpent more b = absurd b
 pub breaks_after : {E : Type 0} (stands : E → Lists → Type 0) (full : E → Type 0) (x y : E)
     (old mid new : Seat) (f : BusFault) →
     (link_of mid.ledger).node ≡ (link_of old.ledger).node → mid.ended ≡ old.ended →
-    (mid.journal.room ≤ length mid.journal.entries → IsOutOfRoom old.journal.room
+    (IsFullFor mid.journal.room mid.journal.entries Off → IsOutOfRoom old.journal.room
     old.journal.entries new.journal.entries) →
     Moves stands x y old.journal.entries mid.journal.entries (suc old.ended) →
-    BreaksBy (mid.journal.room ≤ length mid.journal.entries) stands full y mid new f →
+    BreaksBy (IsFullFor mid.journal.room mid.journal.entries Off) stands full y mid new f →
     BreaksHere stands full x old new f
 breaks_after stands full x y old mid new (JournalFull k) node ended short moves b = (b.0 ∙ node, short b.1)
 breaks_after stands full x y old mid new (Stuck k) node ended short moves b = (
@@ -111,7 +114,7 @@ broken_link stands full old new links base d (BadOrder k) few b = absurd b
 broken_link stands full old new links base d BitsSpent few b = absurd b
 
 -- the entries of a bit found no room
-pub broken_short : {E : Type 0} (stands : E → Lists → Type 0) (full : E → Type 0) (node room : ℕ)
+pub broken_short : {E : Type 0} (stands : E → Lists → Type 0) (full : E → Type 0) (node : ℕ) (room : Room)
     (before j : List Entry) (links : List E) (base : ℕ) (f : BusFault) →
     f ≡ JournalFull node → IsOutOfRoom room before j → IsBrokenFor stands full node room before j links base f
 broken_short stands full node room before j links base f is short =
@@ -119,8 +122,8 @@ broken_short stands full node room before j links base f is short =
     subst P (sym is) (refl, short)
 
 -- the links stood for the journal before also where they were earlier
-pub broken_from : {E : Type 0} (stands : E → Lists → Type 0) (full : E → Type 0) (node room : ℕ) (before j : List Entry)
-    (links here : List E) (base : ℕ) (f : BusFault) →
+pub broken_from : {E : Type 0} (stands : E → Lists → Type 0) (full : E → Type 0) (node : ℕ) (room : Room)
+    (before j : List Entry) (links here : List E) (base : ℕ) (f : BusFault) →
     ((h : ℕ → Account) → Kept stands before links base h → Kept stands before here base h) →
     IsBrokenFor stands full node room before j here base f → IsBrokenFor stands full node room before j links base f
 broken_from stands full node room before j links here base (JournalFull k) back b = b

@@ -6,6 +6,8 @@ use Rattle.std.proofs.lemmas.List.{get_or-set_same as set_here, get_or_default a
 use Rattle.sja_regs.specs.declared.orders.Orders.{Orders}
 use Rattle.sja_script.specs.declared.strike.Strike.{Strike}
 use Rattle.sja_link.specs.declared.entry.Entry.{Entry}
+use Rattle.sja_link.specs.declared.entry.Entry.TheVariants.{Abort}
+use Rattle.sja_link.specs.Written.{Room, IsFullFor}
 use Rattle.sja_link.specs.Lists.{Lists}
 use Rattle.sja_link.specs.BusLedgers.{link_of}
 use Rattle.sja_wire.specs.declared.bus_fault.BusFault.{BusFault}
@@ -106,10 +108,10 @@ not_aborted stands orders_are bits steps [] after links links_after f len rooms 
     absurd (omega (arith, none))
 not_aborted stands orders_are bits steps (s ∷ seats) after links links_after f len rooms r =
     let all = s ∷ seats in let cb = count_is all in let k = r.node in let few = r.few in
-    let full = r.full s in let room = rooms k s few in let no = full.full in
+    let full = r.full s in let room = rooms k s few in
     let was = journal_is all k s few in let now = journal_is after k s (omega (arith, few, len)) in
-    let n : length (journal_at (journals_of after) k) ≡ length (slice_index_or after k s).journal.entries =
-    ap (λ (l : List Entry). length l) now in
+    let F : List Entry → Type 0 = λ l. IsFullFor (room_for bits steps k) l Abort in
+    let R : Room → Type 0 = λ r. IsFullFor r (slice_index_or after k s).journal.entries Abort in
     let P : List Entry → Type 0 = λ j. MayHaveItems j (journal_at (journals_of after) k) in
     let Q : List Entry → Type 0 = λ j. MayHaveItems (slice_index_or all k s).journal.entries j in record {
       node = k;
@@ -120,7 +122,7 @@ not_aborted stands orders_are bits steps (s ∷ seats) after links links_after f
       are_orders = full.are_orders;
       ordered = full.ordered;
       due = let D : List Entry → Type 0 = λ j. IsApplied j true in subst D (sym now) full.due;
-      full = omega (arith, n, room, no);
+      full = subst F (sym now) (subst R room full.full);
       kept = λ h kept.
           let K : List Entry → Type 0 = λ j. Kept stands j links (64 * k) h in
           let L : List Entry → Type 0 = λ j. Kept stands j links_after (64 * k) h in
@@ -142,7 +144,7 @@ broken_off stands full orders_are same bits steps (s ∷ seats) after links f le
     let opened = slice_index_or r.opened k s in
     let was = journal_is all k s few in let now = journal_is after k s (omega (arith, few, len)) in
     let P : List Entry → Type 0 = λ j. Opens (orders_are k) j opened.journal.entries in
-    let N : ℕ → Type 0 = λ n. IsBrokenFor stands full k n opened.journal.entries
+    let N : Room → Type 0 = λ n. IsBrokenFor stands full k n opened.journal.entries
     (slice_index_or after k s).journal.entries r.between (64 * k) f in
     let Q : List Entry → Type 0 = λ j. IsBrokenFor stands full k (room_for bits steps k) opened.journal.entries j
     r.between (64 * k) f in record {

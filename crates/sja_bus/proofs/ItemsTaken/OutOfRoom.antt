@@ -7,6 +7,10 @@ use Rattle.can_node.specs.declared.node.Node.{Node}
 use Rattle.sja_link.specs.declared.entry.Entry.{Entry}
 use Rattle.sja_link.specs.declared.entry.Entry.TheVariants.{Bit, Off}
 use Rattle.sja_link.specs.declared.verdict.Verdict.{Verdict}
+use Rattle.sja_link.specs.declared.verdict.Verdict.TheVariants.{Stored, Overrun}
+use Rattle.sja_link.specs.Between.{between_bits}
+use Rattle.sja_link.specs.Written.{Room, IsFullFor}
+use Rattle.sja_link.proofs.JournalEntries.Rooms.{HasFree, between_both, bit_more}
 use Rattle.sja_link.specs.Parts.{part}
 use Rattle.sja_link.specs.Verdicts.{IsDue, IsLawful, entry_of}
 use Rattle.sja_link.specs.BitEntries.{MayHaveVerdict, judged_as, off_as}
@@ -25,8 +29,8 @@ bit_lawful node k false h =
     subst P (sym (append-nil k)) (lawful_of node k (follows_on node k h))
 
 -- the entry of the bit itself finds no room
-pub bit_short : (node : Node) (room : ℕ) (j k : List Entry) (x seen : Level) (went : Bool) → k ≡ j → room ≤ length j →
-    FollowsBit node (j ++ Bit x seen ∷ []) went → IsOutOfRoom room j k
+pub bit_short : (node : Node) (room : Room) (j k : List Entry) (x seen : Level) (went : Bool) → k ≡ j →
+    IsFullFor room j (Bit x seen) → FollowsBit node (j ++ Bit x seen ∷ []) went → IsOutOfRoom room j k
 bit_short node room j k x seen went same used follows =
     let with = j ++ Bit x seen ∷ [] in
     let whole : with ++ off_as went ≡ j ++ Bit x seen ∷ off_as went = append_assoc j (Bit x seen ∷ []) (off_as went) in
@@ -48,8 +52,9 @@ bit_short node room j k x seen went same used follows =
     })
 
 -- of a bit with a verdict the entry of the bit finds no room
-pub bit_unjudged : (room : ℕ) (j k : List Entry) (x seen : Level) (a : ℕ) (v : Verdict) (m : List ℕ) → k ≡ j →
-    room ≤ length j → IsDue (part (j ++ Bit x seen ∷ []) a) (entry_of v m) → IsJudgedShort room j x seen a m k
+pub bit_unjudged : (room : Room) (j k : List Entry) (x seen : Level) (a : ℕ) (v : Verdict) (m : List ℕ) → k ≡ j →
+    IsFullFor room j (Bit x seen) → IsDue (part (j ++ Bit x seen ∷ []) a) (entry_of v m) →
+    IsJudgedShort room j x seen a m k
 bit_unjudged room j k x seen a v m same used due =
     let P : List Entry → Type 0 = λ l. IsJudgedShort room j x seen a m l in
     subst P (sym same) (record {
@@ -67,8 +72,8 @@ bit_unjudged room j k x seen a v m same used due =
     })
 
 -- the verdict's does
-pub verdict_unjudged : (room : ℕ) (j k : List Entry) (x seen : Level) (a : ℕ) (v : Verdict) (m : List ℕ) →
-    k ≡ j ++ Bit x seen ∷ [] → room ≤ length (j ++ Bit x seen ∷ []) →
+pub verdict_unjudged : (room : Room) (j k : List Entry) (x seen : Level) (a : ℕ) (v : Verdict) (m : List ℕ) →
+    k ≡ j ++ Bit x seen ∷ [] → IsFullFor room (j ++ Bit x seen ∷ []) (entry_of v m) →
     IsDue (part (j ++ Bit x seen ∷ []) a) (entry_of v m) → IsJudgedShort room j x seen a m k
 verdict_unjudged room j k x seen a v m same used due =
     let P : List Entry → Type 0 = λ l. IsJudgedShort room j x seen a m l in
@@ -82,7 +87,7 @@ verdict_unjudged room j k x seen a v m same used due =
     })
 
 -- the bit or its verdict does
-pub judged_short : (node : Node) (room : ℕ) (j k : List Entry) (x seen : Level) (a : ℕ) (m : List ℕ) (went : Bool) →
+pub judged_short : (node : Node) (room : Room) (j k : List Entry) (x seen : Level) (a : ℕ) (m : List ℕ) (went : Bool) →
     (short : IsJudgedShort room j x seen a m k) → FollowsBit node (k ++ short.due ∷ short.later)
     went → IsOutOfRoom room j k
 judged_short node room j k x seen a m went short follows =
@@ -104,9 +109,9 @@ judged_short node room j k x seen a m went short follows =
     }
 
 -- bus-off does, after the bit and its verdict
-pub off_short : (node : Node) (room : ℕ) (j mid k : List Entry) (x seen : Level) →
+pub off_short : (node : Node) (room : Room) (j mid k : List Entry) (x seen : Level) →
     MayHaveVerdict j x seen mid → k ≡ mid →
-    room ≤ length mid → FollowsBit node mid true → IsOutOfRoom room j k
+    IsFullFor room mid Off → FollowsBit node mid true → IsOutOfRoom room j k
 off_short node room j mid k x seen has same used follows =
     let P : List Entry → Type 0 = λ l. IsOutOfRoom room j l in
     subst P (sym same) (record {
@@ -124,19 +129,29 @@ off_short node room j mid k x seen has same used follows =
       lawful = bit_lawful node mid true follows;
     })
 
--- at most the bit and a verdict were entered
-pub short_few : (room : ℕ) (j k : List Entry) → IsOutOfRoom room j k → length k ≤ length j + 2
-short_few room j k h =
+-- with room for three entries more it doesn't come so far
+pub short_never : (room : Room) (j k : List Entry) → IsOutOfRoom room j k → HasFree 3 room j → ⊥
+short_never room j k h free =
+    let all = free.all in let others = free.others in
     let x = Bit h.driven h.seen in let v = judged_as h.bit.verdict in let off = off_as h.bit.off in
-    let whole = ap (λ (l : List Entry). length l) h.bit.whole in
-    let a = length-append k (h.due ∷ h.later) in let b = length-append ((j ++ x ∷ []) ++ v) off in
+    let whole = append_assoc k (h.due ∷ []) h.later ∙ h.bit.whole in
+    let long = ap (λ (l : List Entry). length l) whole in
+    let many = ap (λ (l : List Entry). length (between_bits l)) whole in
+    let a = length-append (k ++ h.due ∷ []) h.later in let b = length-append ((j ++ x ∷ []) ++ v) off in
     let c = length-append (j ++ x ∷ []) v in let d = length-append j (x ∷ []) in
-    let few = one_verdict h.bit.verdict in let last = one_off h.bit.off in omega (arith, whole, a, b, c, d, few, last)
+    let e = between_both (k ++ h.due ∷ []) h.later in let f = between_both ((j ++ x ∷ []) ++ v) off in
+    let g = between_both (j ++ x ∷ []) v in let i = bit_more j h.driven h.seen in
+    let few = one_verdict h.bit.verdict in let last = one_off h.bit.off in
+    h.used.none (record {
+      all = omega (arith, long, a, b, c, d, few, last, all);
+      others = omega (arith, many, e, f, g, i, few, last, others);
+    })
   where
-    one_verdict : (v : Option _) → length (judged_as v) ≤ 1
-    one_verdict None = omega arith
-    one_verdict (Some w) = omega arith
+    one_verdict : (v : Option _) → (length (judged_as v) ≤ 1) × (length (between_bits (judged_as v)) ≤ 1)
+    one_verdict None = (omega arith, omega arith)
+    one_verdict (Some (Stored, m)) = (omega arith, omega arith)
+    one_verdict (Some (Overrun, m)) = (omega arith, omega arith)
 
-    one_off : (off : Bool) → length (off_as off) ≤ 1
-    one_off true = omega arith
-    one_off false = omega arith
+    one_off : (off : Bool) → (length (off_as off) ≤ 1) × (length (between_bits (off_as off)) ≤ 1)
+    one_off true = (omega arith, omega arith)
+    one_off false = (omega arith, omega arith)

@@ -6,6 +6,7 @@ use Rattle.std.proofs.Math.ListN.{length-set}
 use Rattle.std.proofs.lemmas.Bool.{cases_eq}
 use Rattle.std.proofs.lemmas.List.{length-append, get_or-set_same as set_here, get_or-set_other as set_else}
 use Rattle.std.proofs.lemmas.List.{get_or_append_left, get_or_default as or_same, get_or_push}
+use Rattle.sja_link.specs.Written.{Room}
 use Rattle.sja_link.specs.declared.entry.Entry.{Entry}
 use Rattle.sja_link.specs.Lists.{Lists, with_taken}
 use Rattle.sja_link.specs.Accounts.{Account, account}
@@ -25,7 +26,7 @@ use Rattle.sja_bus.proofs.AllNodes.Running.{journal_is, count_is}
 
 -- an item that the link of the activation read showed, after other items
 pub refuses_link : {E : Type 0} (same : E → E → Type 0) (stands : E → Lists → Type 0) (before : List Entry)
-    (old new : Seat) (links here : List E) (base room node : ℕ) (d z : E) (f : BusFault) →
+    (old new : Seat) (links here : List E) (base : ℕ) (room : Room) (node : ℕ) (d z : E) (f : BusFault) →
     old.ended < 64 → base + 64 ≤ length here → IsSound old → (link_of old.ledger).node ≡ node → old.journal.room ≡ room
     →
     MayHaveItems before old.journal.entries → Goes same stands before old.journal.entries links here base →
@@ -36,7 +37,7 @@ refuses_link {E} same stands before old new links here base room node d z f few 
     let stopped = sound.reads.stopped in
     let within : base + a < length here = omega (arith, few, long) in
     let P : ℕ → Type 0 = λ n. IsRefusedFor n old.journal.room j r.item f in
-    let Q : ℕ → Type 0 = λ n. IsRefusedFor node n j r.item f in
+    let Q : Room → Type 0 = λ n. IsRefusedFor node n j r.item f in
     let R : List Entry → Type 0 = λ l. RefusesItem stands room before l links
     (slice_set here (base + a) z) base node f in
     subst R (sym r.refuses.0) (record {
@@ -55,7 +56,7 @@ refuses_link {E} same stands before old new links here base room node d z f few 
     })
 
 -- the links stood for the journal before also where they were earlier
-pub refuses_from : {E : Type 0} (stands : E → Lists → Type 0) (room : ℕ) (before j : List Entry)
+pub refuses_from : {E : Type 0} (stands : E → Lists → Type 0) (room : Room) (before j : List Entry)
     (links here after : List E) (base node : ℕ) (f : BusFault) →
     ((h : ℕ → Account) → Kept stands before links base h → Kept stands before here base h) →
     RefusesItem stands room before j here after base node f → RefusesItem stands room before j links after base node f
@@ -101,7 +102,7 @@ refuses_seat {E} same stands R seats now links here after k s new f few len read
     }
 
 -- the reserved entries, where one has as many as before
-pub rooms_one : (n : ℕ → ℕ) (seats : List Seat) (k : ℕ) (s new : Seat) → k < length seats →
+pub rooms_one : (n : ℕ → Room) (seats : List Seat) (k : ℕ) (s new : Seat) → k < length seats →
     new.journal.room ≡ (slice_index_or seats k s).journal.room → HaveRoom n seats → HaveRoom n (slice_set seats k new)
 rooms_one n seats k s new few same was m t near = elim (cases_eq k m) [
   | inl eq ↦
@@ -114,30 +115,7 @@ rooms_one n seats k s new few same was m t near = elim (cases_eq k m) [
       ap (λ (x : Seat). x.journal.room) e ∙ was m t (rw length-set at near)
 ]
 
--- the free ones, where one entered one more than at the beginning, when each had one more
-pub free_one : (n k : ℕ) (x : Entry) (was seats : List Seat) (s new : Seat) → k < length seats → k < length was →
-    slice_index_or seats k s ≡ slice_index_or was k s →
-    new.journal.entries ≡ (slice_index_or seats k s).journal.entries ++ x ∷ [] →
-    new.journal.room ≡ (slice_index_or seats k s).journal.room → AreFree (suc n) was → AreFree n seats →
-    AreFree n (slice_set seats k new)
-free_one n k x was seats s new few first same more room before free m t near = elim (cases_eq k m) [
-  | inl eq ↦
-      let e : slice_index_or (slice_set seats k new) m t ≡ new =
-      ap (λ i. slice_index_or (slice_set seats k new) i t) (sym eq) ∙ set_here seats k new t few in
-      let old = slice_index_or seats k s in
-      let P : Seat → Type 0 = λ y. n ≤ y.journal.room - length y.journal.entries in
-      let Q : Seat → Type 0 = λ y. suc n ≤ y.journal.room - length y.journal.entries in
-      let fits : Q old = subst Q (sym same) (before k s first) in
-      let long = ap (λ (l : List Entry). length l) more in let last = length-append old.journal.entries (x ∷ []) in
-      subst P (sym e) (omega (arith, fits, long, last, room))
-  | inr ne ↦
-      let e : slice_index_or (slice_set seats k new) m t ≡ slice_index_or seats m t =
-      set_else seats k m new t (λ x. ne (sym x)) in
-      let P : Seat → Type 0 = λ y. n ≤ y.journal.room - length y.journal.entries in
-      subst P (sym e) (free m t (rw length-set at near))
-]
-
-pub rooms_push : (n : ℕ → ℕ) (seats : List Seat) (x : Seat) → x.journal.room ≡ n (length seats) → HaveRoom n seats →
+pub rooms_push : (n : ℕ → Room) (seats : List Seat) (x : Seat) → x.journal.room ≡ n (length seats) → HaveRoom n seats →
     HaveRoom n (seats ++ x ∷ [])
 rooms_push n seats x is was k s few = elim (cases_eq k (length seats)) [
   | inl e ↦ ap (λ (y : Seat). y.journal.room) (get_or_push seats x s k (sym e)) ∙ is ∙ ap n (sym e)
@@ -161,7 +139,7 @@ not_taken stands bits steps (s ∷ seats) after links links_after f len rooms r 
     links_after (64 * k) k f in
     let Q : List Entry → Type 0 = λ j. RefusesItem stands (room_for bits steps k) was.journal.entries j links
     links_after (64 * k) k f in
-    let N : ℕ → Type 0 = λ n. RefusesItem stands n was.journal.entries now.journal.entries links links_after
+    let N : Room → Type 0 = λ n. RefusesItem stands n was.journal.entries now.journal.entries links links_after
     (64 * k) k f in record {
       node = k;
       few = omega (arith, few, cb);

@@ -16,7 +16,7 @@ use Rattle.sja_link.specs.Free.{IsFree, credit_in, bytes_in}
 use Rattle.sja_link.specs.BusLedgers.{link_of}
 use Rattle.sja_link.specs.Parts.{part, entry_at}
 use Rattle.sja_link.specs.Records.{record_of}
-use Rattle.sja_link.specs.Written.{Written}
+use Rattle.sja_link.specs.Written.{Written, Fits, IsFullFor}
 use Rattle.sja_link.proofs.JournalEntries.Entering.{of_part_later}
 use Rattle.lemmas.proofs.Gathered.{total_push}
 use Rattle.sja_bus.specs.declared.activity.Activity.{Activity}
@@ -46,7 +46,7 @@ pub takes_entered : {A X P : Type 0} (r : Result A X) (old new : Seat) (item : U
     (IsOutOfOrder old.journal.entries item → ⊥) → OnOk r P → (P → IsSound new) → IsSeat new →
     (past (place_of old.journal.entries) (Item item)).activation ≡ suc old.ended →
     OnOk r ((new.journal.entries ≡ old.journal.entries ++ Item item ∷ [])
-    × (length old.journal.entries < old.journal.room)) →
+    × Fits old.journal.room (old.journal.entries ++ Item item ∷ [])) →
     OnOk r (Takes old new item)
 takes_entered (Ok a) old new item due p f seat at ok = record {
   due = due;
@@ -121,11 +121,11 @@ may_come j item due other = record { in_order = due; good = λ bytes is bad. oth
 pub refused_full : {A : Type 0} (r : Result A BusFault) (old mid new : Seat) (item : Up) →
     (link_of mid.ledger).node ≡ (link_of old.ledger).node → mid.journal ≡ old.journal →
     MayCome old.journal.entries item →
-    IfErr r (λ f. IsFull mid new f) → IfErr r (λ f. Refuses old new item f)
+    IfErr r (λ f. IsFull mid new (Item item) f) → IfErr r (λ f. Refuses old new item f)
 refused_full (Ok a) old mid new item node journal due full = tt
 refused_full (Err f) old mid new item node journal due full =
     let P : BusFault → Type 0 = λ x. Refuses old new item x in
-    let R : Written → Type 0 = λ w. w.room ≤ length w.entries in
+    let R : Written → Type 0 = λ w. IsFullFor w.room w.entries (Item item) in
     subst P (sym (full.is ∙ ap (λ k. JournalFull k) node))
     (full.same ∙ ap (λ (w : Written). w.entries) journal, (refl, subst R journal full.full, due))
 

@@ -4,6 +4,7 @@ use Rattle.std.proofs.Common.{inl, inr}
 use Rattle.std.specs.Prelude.{◌⊎◌, slice_index_or}
 use Rattle.std.proofs.lemmas.List.{get_or_default as or_same, length-append}
 use Rattle.can_bits.specs.declared.level.Level.{Level}
+use Rattle.sja_link.specs.Written.{Room}
 use Rattle.sja_link.specs.declared.entry.Entry.{Entry}
 use Rattle.sja_link.specs.declared.entry.Entry.TheVariants.{Bit}
 use Rattle.sja_regs.specs.declared.bus_turn.BusTurn.{BusTurn}
@@ -33,7 +34,7 @@ full_first most fit room seats is (inr full) =
 full_turn : {was_told : ℕ → BusTurn → Type 0} {was_kept : ℕ → Type 0} (struck : StruckNodes) (level : Level)
     (seats after : List Seat) (n : ℕ) → length after ≡ length seats →
     EachSeat (SeatTurns was_told was_kept struck level) seats after →
-    ((r : ℕ → ℕ) → HaveRoom r seats → HaveRoom r after) → SomeFull n seats → SomeFull (n - 1) after
+    ((r : ℕ → Room) → HaveRoom r seats → HaveRoom r after) → SomeFull n seats → SomeFull (n - 1) after
 full_turn struck level seats after n count turns rooms (k, few, full) = (
   k,
   omega (arith, few, count),
@@ -44,8 +45,8 @@ full_turn struck level seats after n count turns rooms (k, few, full) = (
       let a = length-append ((old.journal.entries ++ one) ++ judged_as bit.verdict) (off_as bit.off) in
       let b = length-append (old.journal.entries ++ one) (judged_as bit.verdict) in
       let c = length-append old.journal.entries one in
-      let room = rooms (λ m. (slice_index_or seats m s).journal.room)
-      (λ m t low. ap (λ (x : Seat). x.journal.room) (or_same seats m t s low)) k s (omega (arith, few, count)) in
+      let room = ap (λ (r : Room). r.all) (rooms (λ m. (slice_index_or seats m s).journal.room)
+      (λ m t low. ap (λ (x : Seat). x.journal.room) (or_same seats m t s low)) k s (omega (arith, few, count))) in
       let free = full s in omega (arith, long, a, b, c, room, free),
 )
 
@@ -57,7 +58,8 @@ full_after to_rest seats n m after rows (k, few, full) =
       k,
       omega (arith, few, c),
       λ s.
-          let room = stay.rooms k s few in let used = stay.used k s few in let free = full s in
+          let room = ap (λ (r : Room). r.all) (stay.rooms k s few) in let used = stay.used k s few in
+          let free = full s in
           omega (arith, room, used, free),
     )
 
@@ -65,7 +67,7 @@ full_after to_rest seats n m after rows (k, few, full) =
 pub full_on : {was_told : ℕ → BusTurn → Type 0} {was_kept : ℕ → Type 0} (struck : StruckNodes) (level : Level)
     (to_rest : Bool) (seats one : List Seat) (n : ℕ) (after : List Seat) (most fit run : ℕ) →
     length one ≡ length seats → EachSeat (SeatTurns was_told was_kept struck level) seats one →
-    ((r : ℕ → ℕ) → HaveRoom r seats → HaveRoom r one) → AreQuietRows to_rest one n after →
+    ((r : ℕ → Room) → HaveRoom r seats → HaveRoom r one) → AreQuietRows to_rest one n after →
     (most ≡ fit) ⊎ SomeFull (fit - run) seats → (most ≡ fit) ⊎ SomeFull (fit - (run + 1 + n)) after
 full_on struck level to_rest seats one n after most fit run count turns rooms rows (inl all) = inl all
 full_on struck level to_rest seats one n after most fit run count turns rooms rows (inr full) =

@@ -157,7 +157,7 @@ pub free_for_led : (seats : List Seat) (lead : ℕ) (s : Seat) (new : Node) (n m
 free_for_led seats lead s new n m few less free k d near =
     let one : Seat = record (slice_index_or seats lead s) { node = new } in
     let size = length-set seats lead one in
-    let P : Seat → Type 0 = λ t. n ≤ t.journal.room - length t.journal.entries in
+    let P : Seat → Type 0 = λ t. n ≤ t.journal.room.all - length t.journal.entries in
     elim (cases_eq k lead) [
       | inl q ↦
           let Q : ℕ → Type 0 = λ i. P (slice_index_or (slice_set seats lead one) i d) in

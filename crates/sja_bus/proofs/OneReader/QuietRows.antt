@@ -7,6 +7,7 @@ use Rattle.std.proofs.lemmas.Bool.{ne_eqb}
 use Rattle.std.proofs.lemmas.List.{get_or-drop, length-append, length-drop, length-take-le, take_all}
 use Rattle.can_bits.specs.declared.level.Level.{Level}
 use Rattle.can_bits.specs.Digits.{opposite}
+use Rattle.sja_link.specs.Written.{Room}
 use Rattle.sja_link.specs.declared.entry.Entry.{Entry}
 use Rattle.sja_link.specs.declared.entry.Entry.TheVariants.{Bit}
 use Rattle.sja_link.specs.declared.bus_end.BusEnd.{Ghosts as Ends}
@@ -62,7 +63,7 @@ rooms_after to_rest seats _ _ (one_more mid after n rows row) =
           omega (arith, was, whole, more);
     }
 
-pub have_room_after : (seats after : List Seat) (n : ℕ) → StayRooms n seats after → (r : ℕ → ℕ) → HaveRoom r seats →
+pub have_room_after : (seats after : List Seat) (n : ℕ) → StayRooms n seats after → (r : ℕ → Room) → HaveRoom r seats →
     HaveRoom r after
 have_room_after seats after n stay r h k s few =
     let c = stay.count in let near : k < length seats = omega (arith, few, c) in stay.rooms k s near ∙ h k s near
@@ -71,7 +72,8 @@ pub free_after : (seats after : List Seat) (n m : ℕ) → StayRooms n seats aft
     AreFree (m - n) after
 free_after seats after n m stay h k s few =
     let c = stay.count in let near : k < length seats = omega (arith, few, c) in
-    let room = stay.rooms k s near in let used = stay.used k s near in let free = h k s near in
+    let room = ap (λ (r : Room). r.all) (stay.rooms k s near) in let used = stay.used k s near in
+    let free = h k s near in
     omega (arith, room, used, free)
 
 pub told_after : (to_rest : Bool) (seats : List Seat) (n : ℕ) (after : List Seat) →
@@ -165,7 +167,7 @@ module _ {E B : Type 0} (e : Ends E) (b : Ports B) (same_refl : (x : E) → e.sa
       let next = pass.bus (from + (run + 1)) (omega arith) in record {
         count = row.count ∙ count;
         bus = next;
-        more = row_bits to_rest begun seats after count far.more row;
+        more = row_bits to_rest begun seats after count far.bus.ready far.more row;
         bits = λ steps left enough.
             let was = moment_of script steps from left begun given first in
             bits_on e b (WorksUntold to_rest was) was script steps from run most left nobody seats after

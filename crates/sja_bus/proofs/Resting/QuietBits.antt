@@ -13,6 +13,7 @@ use Rattle.lemmas.proofs.Gathered.{total_push}
 use Rattle.sja_regs.specs.declared.orders.Orders.{Orders}
 use Rattle.sja_regs.specs.declared.bus_turn.BusTurn.{BusTurn}
 use Rattle.sja_script.specs.declared.strike.Strike.{Strike}
+use Rattle.sja_wire.specs.Lawful.{IsBusRun}
 use Rattle.sja_wire.specs.Wire.{journal_at}
 use Rattle.sja_link.specs.Links.{Kept, stops_in, stops_of}
 use Rattle.sja_wire.specs.declared.bus_fault.BusFault.{BusFault}
@@ -87,6 +88,8 @@ stretch_taken orders_are was_told was_kept script run count untold now before mi
           let near : node < length before = omega (arith, few, c) in
           h.told node (omega (arith, near, len)) ∙ sym (told node near))
           (subst P same (h.bits i early));
+      lawful = λ i early. subst (λ (l : List (List Entry)). IsBusRun script (run + i) (with_recessive i l)) same
+          (h.lawful i early);
     }
 
 -- ---- the links

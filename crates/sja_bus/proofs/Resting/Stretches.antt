@@ -3,6 +3,7 @@ use Rattle.std.proofs.Common.{◌≡◌, ℕ, zero, suc, ◌+◌, ◌<◌, List,
 use Rattle.std.specs.Prelude.{slice_index_or}
 use Rattle.std.proofs.lemmas.List.{length-map}
 use Rattle.can_bits.specs.declared.level.Level.TheVariants.{Recessive}
+use Rattle.sja_link.specs.Written.{Room}
 use Rattle.sja_bus.specs.declared.seat.Seat.{Seat}
 use Rattle.sja_wire.specs.Wire.{wired}
 use Rattle.sja_bus.specs.Stretches.{recessive_bits, with_recessive}
@@ -50,7 +51,7 @@ pub after_untold : (n : ℕ) (seats : List Seat) → untold_of (all_after n seat
 after_untold n [] = refl
 after_untold n (s ∷ seats) = ap (λ l. is_untold s.untold ∷ l) (after_untold n seats)
 
-pub room_after : (n : ℕ) (room : ℕ → ℕ) (seats : List Seat) → HaveRoom room seats → HaveRoom room (all_after n seats)
+pub room_after : (n : ℕ) (room : ℕ → Room) (seats : List Seat) → HaveRoom room seats → HaveRoom room (all_after n seats)
 room_after n room seats h k s few =
     let c = after_count n seats in let near : k < length seats = omega (arith, few, c) in
     ap (λ (x : Seat). x.journal.room) (after_at n seats k s near) ∙ h k s near

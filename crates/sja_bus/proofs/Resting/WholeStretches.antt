@@ -9,6 +9,7 @@ use Rattle.std.proofs.lemmas.Nat.Bits.{bit_at-zero}
 use Rattle.can_bits.specs.declared.level.Level.{Level}
 use Rattle.can_bits.specs.declared.level.Level.TheVariants.{Recessive}
 use Rattle.can_bits.specs.Digits.{opposite}
+use Rattle.sja_link.specs.Written.{Room}
 use Rattle.sja_link.specs.declared.entry.Entry.{Entry}
 use Rattle.sja_regs.specs.declared.orders.Orders.{Orders}
 use Rattle.sja_regs.specs.declared.bus_turn.BusTurn.{BusTurn}
@@ -19,6 +20,7 @@ use Rattle.sja_bus.specs.declared.untold.Untold.TheVariants.{Nothing, Dropped}
 use Rattle.sja_bus.specs.declared.seat.Seat.{Seat}
 use Rattle.sja_bus.specs.Inside.StrikesByBit.{IsAmong}
 use Rattle.sja_wire.specs.Wire.{wired, IsWired}
+use Rattle.sja_wire.specs.Lawful.{IsBusRun}
 use Rattle.sja_wire.specs.Reasons.{room_for}
 use Rattle.sja_wire.specs.declared.bus_fault.BusFault.{BusFault}
 use Rattle.sja_wire.specs.declared.bus_fault.BusFault.TheVariants.{JournalFull}
@@ -31,7 +33,7 @@ use Rattle.sja_bus.specs.Inside.Rows.{SeatOpens, SeatOpensUntold, SeatTurns}
 use Rattle.sja_bus.specs.Inside.Whole.{IsRowBit}
 use Rattle.sja_bus.specs.Inside.Idling.{AreResting, IsFullAfter, IsFullBy, after_bits, all_after}
 use Rattle.sja_bus.specs.Inside.Refusing.{HaveRoom}
-use Rattle.sja_bus.proofs.AllNodes.Running.{journal_is, untold_is, count_is}
+use Rattle.sja_bus.proofs.AllNodes.Running.{journal_is, untold_is, count_is, bus_run}
 use Rattle.sja_bus.proofs.AllNodes.Journals.{is_bit, wired_row}
 use Rattle.sja_bus.proofs.Resting.AtRest.{ready_after, turns_after, opens_after, untold_none}
 use Rattle.sja_bus.proofs.Resting.Stretches.{after_count, after_at, after_nothing, after_journals, after_untold}
@@ -120,12 +122,15 @@ module _ (orders_are : ℕ → Orders → Type 0) (was_told : ℕ → BusTurn �
         (omega (arith, a, b)) (omega (arith, a, most))
         (unhit i (omega (arith, early))) (row_after i) (wired_after i (omega (arith, early)) was))
 
-    pub bus_after : IsBus script run seats → IsBus script (run + count) (all_after count seats)
-    bus_after was = record {
-      ready = ready_all count;
-      calm = calm_after count;
-      wired = wired_after count (omega arith) was.wired;
+    bus_then : (i : ℕ) → i ≤ count → IsBus script run seats → IsBus script (run + i) (all_after i seats)
+    bus_then i early was = record {
+      ready = ready_all i;
+      calm = calm_after i;
+      wired = wired_after i early was.wired;
     }
+
+    pub bus_after : IsBus script run seats → IsBus script (run + count) (all_after count seats)
+    bus_after = bus_then count (omega arith)
 
     one_bit : (i : ℕ) → i < count →
         IsBit orders_are was_told was_kept script (run + i) (untold_of seats) (with_recessive i (journals_of seats))
@@ -143,12 +148,14 @@ module _ (orders_are : ℕ → Orders → Type 0) (was_told : ℕ → BusTurn �
         (with_recessive i (journals_of seats)) k in
         subst R (after_journals (suc i) seats) (subst Q (after_journals i seats) (subst P (after_untold i seats) bit))
 
-    pub stretch_after : IsStretch orders_are was_told was_kept script run count (untold_of seats) (journals_of seats)
-        (journals_of (all_after count seats))
-    stretch_after = record {
+    pub stretch_after : IsBus script run seats → IsStretch orders_are was_told was_kept script run count
+        (untold_of seats) (journals_of seats) (journals_of (all_after count seats))
+    stretch_after was = record {
       told = told_by seats refl;
       grown = after_journals count seats;
       bits = one_bit;
+      lawful = λ i early. subst (λ (l : List (List Entry)). IsBusRun script (run + i) l) (after_journals i seats)
+          (bus_run script (run + i) (all_after i seats) (bus_then i early was));
     }
       where
         told_by : (xs : List Seat) → xs ≡ seats → (node : ℕ) → node < length (journals_of seats) →
@@ -209,7 +216,7 @@ out_of_entries bits steps left count (s ∷ seats) now f len most rooms h =
     let all = s ∷ seats in let few = h.few in let cs = count_is all in let after = h.after s in
     let is = journal_is now h.node s (omega (arith, few, len)) in
     let was = journal_is all h.node s few in
-    let room = rooms h.node s few in let full = after.full in let early = after.early in
+    let room = ap (λ (r : Room). r.all) (rooms h.node s few) in let full = after.full in let early = after.early in
     let size = ap (λ (l : List Entry). length l) is in record {
       node = h.node;
       few = omega (arith, few, cs);

@@ -40,7 +40,7 @@ pub record IsFullAfter (count : ℕ) (old new : Seat) (f : BusFault) : Type 0 wh
   pub entered : ℕ
   pub early : entered < count
   pub grown : new.journal.entries ≡ old.journal.entries ++ recessive_bits entered
-  pub full : old.journal.room ≤ length new.journal.entries
+  pub full : old.journal.room.all ≤ length new.journal.entries
 
 -- the journal of one of them is
 pub record IsFullBy (count : ℕ) (seats now : List Seat) (f : BusFault) : Type 0 where

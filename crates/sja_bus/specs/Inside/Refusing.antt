@@ -2,6 +2,7 @@
 use Rattle.std.specs.Prelude.{◌≡◌, ◌-◌, ◌*◌, ◌<◌, ◌≤◌, ℕ, List, length, slice_index_or}
 use Rattle.sja_link.specs.Lists.{Lists}
 use Rattle.sja_regs.specs.declared.orders.Orders.{Orders}
+use Rattle.sja_link.specs.Written.{Room}
 use Rattle.sja_wire.specs.declared.bus_fault.BusFault.{BusFault}
 use Rattle.sja_wire.specs.declared.bus_fault.BusFault.TheVariants.{JournalFull}
 use Rattle.sja_bus.specs.declared.seat.Seat.{Seat}
@@ -10,14 +11,14 @@ use Rattle.sja_wire.specs.Reasons.{RefusesItem, IsBrokenFor}
 use Rattle.sja_bus.specs.Inside.Taking.{FullForAbort}
 use Rattle.sja_bus.specs.Inside.Rows.{EachSeat, SeatOpens, GoesAll}
 
--- each journal has so many reserved entries, by the number of its node
-abbrev pub HaveRoom : (ℕ → ℕ) → List Seat → Type 0
+-- each journal has this room, by the number of its node
+abbrev pub HaveRoom : (ℕ → Room) → List Seat → Type 0
 HaveRoom n seats = (k : ℕ) (s : Seat) → k < length seats → (slice_index_or seats k s).journal.room ≡ n k
 
 -- each journal has room for so many further entries
 abbrev pub AreFree : ℕ → List Seat → Type 0
 AreFree n seats = (k : ℕ) (s : Seat) → k < length seats →
-    n ≤ (slice_index_or seats k s).journal.room - length (slice_index_or seats k s).journal.entries
+    n ≤ (slice_index_or seats k s).journal.room.all - length (slice_index_or seats k s).journal.entries
 
 -- an item of one of them was refused with this fault
 pub record SeatRefuses {E : Type 0} (stands : E → Lists → Type 0) (seats now : List Seat) (links after : List E)
@@ -55,5 +56,5 @@ pub record SeatStops {E : Type 0} (stands : E → Lists → Type 0) (full : E �
   pub count : length opened ≡ length seats
   pub opens : EachSeat (SeatOpens orders_are) seats opened
   pub goes : GoesAll same stands seats opened links between
-  pub rooms : (n : ℕ → ℕ) → HaveRoom n seats → HaveRoom n opened
+  pub rooms : (n : ℕ → Room) → HaveRoom n seats → HaveRoom n opened
   pub breaks : SeatBreaks stands full opened now between f

@@ -10,6 +10,7 @@ use Rattle.sja_script.specs.declared.strike.Strike.{Strike}
 use Rattle.sja_script.specs.Striking.{Strikes}
 use Rattle.sja_bus.specs.declared.board.Board.{Ghosts as Ports}
 use Rattle.sja_bus.specs.declared.broken_off.BrokenOff.{BrokenOff}
+use Rattle.sja_link.specs.Written.{Room}
 use Rattle.sja_wire.specs.declared.bus_fault.BusFault.{BusFault}
 use Rattle.sja_bus.specs.declared.seat.Seat.{Seat}
 use Rattle.sja_bus.specs.declared.struck_nodes.StruckNodes.{StruckNodes}
@@ -21,8 +22,10 @@ use Rattle.sja_bus.specs.Moment.{Moment, Keeps, OneBit}
 use Rattle.sja_bus.specs.Several.{AreBits, BreaksOff}
 use Rattle.sja_bus.specs.UntilTold.{IsLastTurn, WorksUntold}
 use Rattle.sja_bus.specs.Inside.Refusing.{AreFree, HaveRoom}
-use Rattle.sja_bus.specs.Inside.Turning.{is_untold}
-use Rattle.sja_bus.specs.Inside.Rows.{AreTold, EachSeat, IsBus, SeatHasBits, journals_of, untold_of}
+use Rattle.sja_bus.specs.Inside.Turning.{IsIdleBit, is_untold}
+use Rattle.sja_bus.specs.Inside.Rows.{AreTold, EachSeat, IsBus, SeatHasBits, journals_of, seen_by, untold_of}
+use Rattle.sja_bus.specs.declared.untold.Untold.TheVariants.{Nothing}
+use Rattle.can_bits.specs.declared.level.Level.{Level}
 
 -- each of so many ports has orders, and they want no abort
 abbrev pub NoneAborts : (ℕ → Orders → Type 0) → ℕ → Type 0
@@ -44,6 +47,20 @@ pub record SomeTold (was_told : ℕ → BusTurn → Type 0) (seats : List Seat) 
   pub told : was_told node turn
   pub last : (s : Seat) → IsLastTurn (slice_index_or seats node s).journal.entries turn
 
+-- from this node on all ports are told all
+abbrev pub AreToldFrom : ℕ → List Seat → Type 0
+AreToldFrom first seats =
+    (k : ℕ) (s : Seat) → first ≤ k → k < length seats → (slice_index_or seats k s).untold ≡ Nothing
+
+-- a node had a bit, at this level, that brought nothing
+abbrev pub SeatIdle : StruckNodes → Level → ℕ → Seat → Seat → Type 0
+SeatIdle struck level m old new = IsIdleBit (seen_by struck level m) old new
+
+-- and each from this one on
+abbrev pub AreIdleFrom : ℕ → StruckNodes → Level → List Seat → List Seat → Type 0
+AreIdleFrom first struck level seats after = (k : ℕ) (s : Seat) → first ≤ k → k < length seats →
+    SeatIdle struck level k (slice_index_or seats k s) (slice_index_or after k s)
+
 -- no port was told anything of a bit of these nodes: the ports are as they were, and each journal has bits alone more,
 -- and room for one entry less than it had
 pub record TellsNone {B : Type 0} (seats after : List Seat) (was now : B) : Type 0 where
@@ -58,7 +75,7 @@ AllAtRest seats = (k : ℕ) (s : Seat) → k < length seats → ShowsRest (slice
 -- some journal has no room for more than so many further entries
 abbrev pub SomeFull : ℕ → List Seat → Type 0
 SomeFull n seats = (k : ℕ) × (k < length seats) × ((s : Seat) →
-    (slice_index_or seats k s).journal.room - length (slice_index_or seats k s).journal.entries ≤ n)
+    (slice_index_or seats k s).journal.room.all - length (slice_index_or seats k s).journal.entries ≤ n)
 
 -- the ports of these seats want no abort, are told all, and have the facts of a port
 pub record MayRunOn {B : Type 0} (b : Ports B) (board : B) (seats : List Seat) : Type 0 where
@@ -97,7 +114,7 @@ AnyBit e b n = OneBit e b
 pub record RowsRun {E B : Type 0} (e : Ends E) (b : Ports B) (to_rest : Bool) (script : List Strike) (from most : ℕ)
     (was now : List Seat) (links after : List E) (board told : B) (n : ℕ) : Type 0 where
   pub bus : IsBus script (from + n) now
-  pub rooms : (room : ℕ → ℕ) → HaveRoom room was → HaveRoom room now
+  pub rooms : (room : ℕ → Room) → HaveRoom room was → HaveRoom room now
   pub unstruck : (i node : ℕ) → i < n → node < 8 → Strikes script (from + i) node → ⊥
   pub bits : (steps : List ℕ) (left : ℕ) → most ≤ left →
       AreBits (AnyBit e b) (WorksUntold to_rest (moment_of script steps from left was links board))

@@ -1,10 +1,11 @@
 -- An item that the bus takes, and an abort that it applies.
-use Rattle.std.specs.Prelude.{◌≡◌, ◌<◌, ◌≤◌, ℕ, suc, true, Bool, List, [], ◌∷◌, ◌++◌, length}
+use Rattle.std.specs.Prelude.{◌≡◌, ℕ, suc, true, Bool, List, [], ◌∷◌, ◌++◌}
 use Rattle.can_bits.specs.declared.level.Level.{Level}
 use Rattle.sja_link.specs.NodeWords.{FinishedPiece, IsCut, received}
 use Rattle.sja_link.specs.declared.up.Up.{Up}
 use Rattle.sja_link.specs.declared.entry.Entry.{Entry}
-use Rattle.sja_link.specs.declared.entry.Entry.TheVariants.{Up as Item}
+use Rattle.sja_link.specs.declared.entry.Entry.TheVariants.{Up as Item, Abort}
+use Rattle.sja_link.specs.Written.{Room, Fits, IsFullFor}
 use Rattle.sja_link.specs.Places.{past, place_of}
 use Rattle.sja_link.specs.Lists.{Lists, with_taken}
 use Rattle.sja_link.specs.Accounts.{Account, account}
@@ -29,7 +30,7 @@ pub record Takes (old new : Seat) (item : Up) : Type 0 where
   pub due : IsOutOfOrder old.journal.entries item → ⊥
   pub sound : IsSound new
   pub seat : IsSeat new
-  pub fits : length old.journal.entries < old.journal.room
+  pub fits : Fits old.journal.room (old.journal.entries ++ Item item ∷ [])
   pub stands : (past (place_of old.journal.entries) (Item item)).activation ≡ suc old.ended
   pub entered : new.journal.entries ≡ old.journal.entries ++ Item item ∷ []
 
@@ -45,11 +46,11 @@ pub record RefusesHere {E : Type 0} (stands : E → Lists → Type 0) (end after
   pub refuses : Refuses old new item f
   pub shown : (l : Lists) → stands end l → stands after (with_taken l item)
 
--- no entry was free for the next one
-pub record IsFull (old new : Seat) (f : BusFault) : Type 0 where
+-- there was no room for this entry
+pub record IsFull (old new : Seat) (e : Entry) (f : BusFault) : Type 0 where
   pub is : f ≡ JournalFull (link_of old.ledger).node
   pub same : new.journal.entries ≡ old.journal.entries
-  pub full : old.journal.room ≤ length old.journal.entries
+  pub full : IsFullFor old.journal.room old.journal.entries e
 
 -- an end gave an item back: as it was then it was full, and it stood for what it stood for before
 pub record IsGivenBack {E : Type 0} (stands : E → Lists → Type 0) (full : E → Type 0) (end : E) : Type 0 where
@@ -87,12 +88,12 @@ BreaksHere stands full end old new =
     BreaksBy (IsOutOfRoom old.journal.room old.journal.entries new.journal.entries) stands full end old new
 
 -- a bit and the verdict on this message, of which the first or the second entry found no room
-pub record IsJudgedShort (room : ℕ) (j : List Entry) (driven seen : Level) (a : ℕ) (m : List ℕ) (now : List Entry) :
+pub record IsJudgedShort (room : Room) (j : List Entry) (driven seen : Level) (a : ℕ) (m : List ℕ) (now : List Entry) :
     Type 0 where
-  pub used : room ≤ length now
   pub grows : Grows j now
   pub overrun : Bool
   pub due : Entry
+  pub used : IsFullFor room now due
   pub later : List Entry
   pub judged : IsJudged j driven seen a m overrun (now ++ due ∷ later)
 
@@ -115,6 +116,6 @@ pub record FullForAbort {E : Type 0} (stands : E → Lists → Type 0) (has_orde
   pub are_orders : has_orders orders
   pub ordered : orders.abort ≡ true
   pub due : IsApplied new.journal.entries true
-  pub full : old.journal.room ≤ length new.journal.entries
+  pub full : IsFullFor old.journal.room new.journal.entries Abort
   pub kept : (h : ℕ → Account) → Kept stands old.journal.entries links base h →
       Kept stands new.journal.entries after base h

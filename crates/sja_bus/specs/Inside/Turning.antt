@@ -1,5 +1,5 @@
 -- What the port of a controller is still to be told, and what it is told.
-use Rattle.std.specs.Prelude.{◌≡◌, ◌≢◌, ◌⊎◌, ◌+◌, ◌<◌, ◌&&◌, not, Bool, true, false, List, [], ◌∷◌, ◌++◌, length}
+use Rattle.std.specs.Prelude.{◌≡◌, ◌≢◌, ◌⊎◌, ◌+◌, ◌<◌, ◌&&◌, not, Bool, true, false, None, List, [], ◌∷◌, ◌++◌, length}
 use Rattle.can_bits.specs.declared.level.Level.{Level}
 use Rattle.can_node.specs.declared.bit_events.BitEvents.{BitEvents}
 use Rattle.can_node.specs.Context.{is_held}
@@ -17,6 +17,7 @@ use Rattle.sja_bus.specs.declared.seat.Seat.{Seat}
 use Rattle.sja_link.specs.BitEntries.{MayHaveItems, MayHaveAbort, MayHaveVerdict, HasBit}
 use Rattle.sja_wire.specs.Telling.{IsTurn, SaysAlone, is_overrun}
 use Rattle.sja_bus.specs.Inside.Following.{open_in}
+use Rattle.sja_bus.specs.UntilTold.{TellsNothing}
 
 -- whether something is to be told, and whether it is that a request was dropped
 abbrev pub is_untold : Untold → Bool
@@ -55,15 +56,17 @@ pub record OpensUntold (old new : Seat) : Type 0 where
   pub drops : old.untold ≢ Dropped → Drops aborts.changed new.journal.entries (is_dropped new.untold)
 
 -- the journal has a bit more with what the bit brought: whether the message found no room, and whether the node went
--- bus-off
-pub record BringsVerdict (j : List Entry) (driven seen : Level) (overrun : Bool) (k : List Entry) : Type 0 where
+-- bus-off. There is no verdict where no frame was received
+pub record BringsVerdict (j : List Entry) (driven seen : Level) (outcome : BitOutcome) (k : List Entry) : Type 0 where
   pub verdict : MayHaveVerdict j driven seen k
-  pub overrun_is : overrun ≡ is_overrun verdict.verdict
+  pub overrun_is : outcome.overrun ≡ is_overrun verdict.verdict
+  pub received : outcome.events.received ≡ None → verdict.verdict ≡ None
 
 pub record Brings (j : List Entry) (driven seen : Level) (outcome : BitOutcome) (k : List Entry) : Type 0 where
   pub bit : HasBit j driven seen k
   pub off : outcome.events.went_off ≡ bit.off
   pub overrun : outcome.overrun ≡ is_overrun bit.verdict
+  pub received : outcome.events.received ≡ None → bit.verdict ≡ None
 
 -- one bit of a seat with which nothing happened, and nothing was or is to be told
 pub record IsQuietBit (seen : Level) (old new : Seat) : Type 0 where
@@ -82,6 +85,29 @@ pub record TurnOf (s : Seat) (events : BitEvents) (overrun : Bool) (turn : BusTu
   pub phase : ShowsPhase s.node turn.phase
   pub aborted : turn.aborted ≡ is_dropped s.untold
   pub overrun_is : turn.overrun ≡ overrun
+
+-- a turn says what another one says, beside the events
+pub record SaysAs (turn other : BusTurn) : Type 0 where
+  pub activation : turn.activation ≡ other.activation
+  pub receiving : turn.events.receiving ≡ other.events.receiving
+  pub txerr : turn.txerr ≡ other.txerr
+  pub rxerr : turn.rxerr ≡ other.rxerr
+  pub off : turn.off ≡ other.off
+  pub phase : turn.phase ≡ other.phase
+  pub aborted : turn.aborted ≡ other.aborted
+  pub overrun : turn.overrun ≡ other.overrun
+
+-- what a port is told of a bit, by what stood before it: this turn, and where all was told already it isn't what stood;
+-- or nothing, where all was told and it is
+pub record TellsTurn {B : Type 0} (was_told : BusTurn → Type 0) (was now : B) (s : Seat) (stands : BusTurn)
+    (told : Bool) (turn : BusTurn) : Type 0 where
+  pub yes : told ≡ true → was_told turn × (s.untold ≡ Nothing → turn ≢ stands)
+  pub no : told ≡ false → (now ≡ was) × (s.untold ≡ Nothing) × (turn ≡ stands)
+
+-- one bit of a seat brought nothing: its journal has the bit more and nothing else
+pub record IsIdleBit (seen : Level) (old new : Seat) : Type 0 where
+  pub tells : TellsNothing old.journal.entries old.drives seen
+  pub whole : new.journal.entries ≡ old.journal.entries ++ Bit old.drives seen ∷ []
 
 -- one bit of a seat: its journal has the bit, and its port was told the turn of that bit or passed over; now nothing is
 -- to be told

@@ -5,6 +5,7 @@ use Rattle.sja_link.specs.Lists.{Lists}
 use Rattle.sja_link.specs.declared.bus_end.BusEnd.{Ghosts as Ends}
 use Rattle.sja_regs.specs.declared.bus_turn.BusTurn.{BusTurn}
 use Rattle.sja_bus.specs.declared.board.Board.{Ghosts as Ports}
+use Rattle.sja_link.specs.Written.{Room}
 use Rattle.sja_wire.specs.declared.bus_fault.BusFault.{BusFault}
 use Rattle.sja_bus.specs.declared.struck_nodes.StruckNodes.{StruckNodes}
 use Rattle.sja_bus.specs.declared.seat.Seat.{Seat}
@@ -19,7 +20,7 @@ pub record IsUnderway {E B : Type 0} (same : E → E → Type 0) (stands : E →
     pub ready : AreReady seats
     pub count : length seats ≡ length before
     pub goes : GoesAll same stands before seats given links
-    pub rooms : (n : ℕ → ℕ) → HaveRoom n before → HaveRoom n seats
+    pub rooms : (n : ℕ → Room) → HaveRoom n before → HaveRoom n seats
     pub done : Done (SeatTurns (told was board) (kept was board) struck level) k before seats
     pub ports_are : ports board ≡ ports was
     pub others : (m : ℕ) → k ≤ m → kept was board m

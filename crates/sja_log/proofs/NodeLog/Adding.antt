@@ -61,10 +61,6 @@ few_after None false = omega arith
 few_after (Some v) true = omega arith
 few_after (Some v) false = omega arith
 
-pub one_abort : (changed : Bool) → length (abort_as changed) ≤ 1
-one_abort true = omega arith
-one_abort false = omega arith
-
 -- ---- bits
 
 module _ (j : List Entry) (changed : Bool) (driven seen : Level) (v : Option (Verdict × List ℕ)) (off : Bool) where

@@ -6,6 +6,9 @@ use Rattle.can_node.specs.declared.request.Request.{Request}
 use Rattle.sja_link.specs.declared.up.Up.{Up}
 use Rattle.sja_link.specs.declared.up.Up.TheVariants.{Start as StartItem, Credit, Send as SendItem, Stop as StopItem}
 use Rattle.sja_link.specs.declared.entry.Entry.{Entry}
+use Rattle.sja_link.specs.declared.entry.Entry.TheVariants.{Up as Item}
+use Rattle.sja_link.specs.Written.{Room}
+use Rattle.sja_link.proofs.JournalEntries.Rooms.{HasFree, free_not_full}
 use Rattle.sja_link.specs.Looking.{one_if}
 use Rattle.sja_link.specs.Places.{place_of}
 use Rattle.sja_link.specs.Verdicts.{IsLawful as IsLawfulJournal}
@@ -74,11 +77,11 @@ module _ (version : ℕ) (j : List Entry) (deeds : List Deed) (d : Deed) (p q : 
           let w : IsBetween j = there StopItem given in let a : one_if (is_active deeds) ≡ 1 = ap one_if was in
           let s = b in let e = ended in omega (arith, w, a, s, e)
 
-  pub never_refused : (node room : ℕ) (item : Up) (f : BusFault) → d.gave ≡ item ∷ [] → length j + 3 ≤ room →
+  pub never_refused : (node : ℕ) (room : Room) (item : Up) (f : BusFault) → d.gave ≡ item ∷ [] → HasFree 4 room j →
       IsRefusedFor node room j item f → ⊥
   never_refused node room item (BadCredit m bytes) gave fits why =
       right bytes (gave ∙ ap (λ (u : Up). u ∷ []) why.1) why.2
   never_refused node room item (BadOrder m) gave fits why = in_order item gave why.1
-  never_refused node room item (JournalFull m) gave fits why = let full = why.1 in omega (arith, full, fits)
+  never_refused node room item (JournalFull m) gave fits why = free_not_full 3 room j (Item item) fits why.1
   never_refused node room item (Stuck m) gave fits why = why
   never_refused node room item BitsSpent gave fits why = why

@@ -84,7 +84,6 @@ new_node version node steps size x links base new fresh = record {
   asked = λ found cut. ap not (sym (none_held_first found cut));
   counted = record {
     items = omega arith;
-    verdicts = omega arith;
     offs = omega arith;
     aborts = λ found cut. omega arith;
   };

@@ -6,6 +6,7 @@ use Rattle.std.proofs.lemmas.Bool.{cases_eq, ne_eqb, eqb-true}
 use Rattle.std.proofs.lemmas.List.{append_cancel_left}
 use Rattle.sja_link.specs.declared.up.Up.{Up}
 use Rattle.sja_link.specs.declared.entry.Entry.{Entry}
+use Rattle.sja_link.specs.Written.{Room}
 use Rattle.sja_link.specs.declared.entry.Entry.TheVariants.{Up as Item}
 use Rattle.sja_link.specs.Accounts.{Account}
 use Rattle.sja_link.specs.Deques.{Deques, Lies}
@@ -53,7 +54,8 @@ just_refused j (u ∷ us) gave b s item up read few others next = elim (cases_eq
 
 -- a node whose links stand for what its driver gave, where at most one item waited
 pub refused_is : {j k : List Entry} {deeds : List Deed} {releases : List Release} {left : List (List (List ℕ))}
-    {ended : ℕ} {off : Bool} {links after : List Deques} {base room node : ℕ} {f : BusFault} (gave : List Up) (b : ℕ) →
+    {ended : ℕ} {off : Bool} {links after : List Deques} {base : ℕ} {room : Room} {node : ℕ} {f : BusFault}
+    (gave : List Up) (b : ℕ) →
     Holds Lies deeds releases left ended off j links base → AtMostOne gave →
     ((a : ℕ) → given_in (deeds_of deeds a) ≡ taken_of (part j a) ++ waiting b gave a) →
     (r : RefusesItem Lies room j k links after base node f) → (k ≡ j) × (gave ≡ r.item ∷ [])

@@ -1,5 +1,5 @@
 -- The bus refuses nothing that the driver of a node gives.
-use Rattle.std.proofs.Common.{◌≡◌, ℕ, ◌+◌, ◌*◌, ◌≤◌, Bool, List, [], ◌∷◌, ◌++◌, length, sym}
+use Rattle.std.proofs.Common.{◌≡◌, ℕ, ◌+◌, ◌≤◌, Bool, List, [], ◌∷◌, ◌++◌, length, sym}
 use Rattle.std.proofs.Common.{ap, ◌∙◌, subst, append-nil, arith}
 use Rattle.sja_link.specs.declared.up.Up.{Up}
 use Rattle.sja_link.specs.declared.up.Up.TheVariants.{Credit}
@@ -9,6 +9,8 @@ use Rattle.sja_link.specs.Parts.{part}
 use Rattle.sja_link.specs.Carried.{taken_of}
 use Rattle.sja_link.specs.Places.{place_of}
 use Rattle.sja_link.specs.Verdicts.{IsLawful as IsLawfulJournal}
+use Rattle.sja_link.specs.Written.{Room, room_in}
+use Rattle.sja_link.proofs.JournalEntries.Rooms.{HasFree}
 use Rattle.sja_wire.specs.declared.bus_fault.BusFault.{BusFault}
 use Rattle.sja_link.specs.Links.{stops_of}
 use Rattle.sja_link.specs.OutOfOrder.{IsBadCredit}
@@ -41,8 +43,8 @@ use Rattle.sja_log.proofs.OneNode.Turned.{is_unmet}
 -- ---- a node whose driver gave nothing
 
 pub none_taken : {j k : List Entry} {deeds : List Deed} {releases : List Release} {left : List (List (List ℕ))}
-    {ended : ℕ} {off : Bool} {links after : List Deques} {base room node : ℕ} {f : BusFault} →
-    Holds Lies deeds releases left ended off j links base →
+    {ended : ℕ} {off : Bool} {links after : List Deques} {base : ℕ} {room : Room}
+    {node : ℕ} {f : BusFault} → Holds Lies deeds releases left ended off j links base →
     ((a : ℕ) → given_in (deeds_of deeds a) ≡ taken_of (part j a)) → RefusesItem Lies room j k links after base node f →
     ⊥
 none_taken {j} holds given r =
@@ -55,7 +57,7 @@ none_taken {j} holds given r =
 
 module _ {version : ℕ} {size : ℕ} {j : List Entry} {deeds : List Deed} {was : LoggedDriver} {p : Registers}
     {links : List Deques} {base : ℕ} (h : IsNode version size j deeds was p links base) (lawful : IsLawfulJournal j)
-    (bits room : ℕ) (short : length deeds ≤ size) (enough : 2 * bits + 2 * size + 100 ≤ room)
+    (bits : ℕ) (room : Room) (short : length deeds ≤ size) (enough : room ≡ room_in bits size)
     (run : (place_of j).bits ≤ bits) where
   before : (a : ℕ) → given_in (deeds_of deeds a) ≡ taken_of (part j a)
   before a = given_taken deeds j a (h.in_time.when a)
@@ -63,11 +65,11 @@ module _ {version : ℕ} {size : ℕ} {j : List Entry} {deeds : List Deed} {was 
   most : opened_by deeds ≤ 64
   most = opened_most deeds (driver_of was) (log_of was) (node_of was) (ended_of was) h.traced.traces h.traced.lawful
 
-  fits : length j + 3 ≤ room
+  fits : HasFree 4 room j
   fits =
-      let b = h.linked.level.begun in let m = most in
-      let few = has_room j deeds p bits size h.counted lawful h.traced.traces.answered.gives short
-      (omega (arith, b, m)) run in omega (arith, few, enough)
+      let P : Room → Type 0 = λ r. HasFree 4 r j in let b = h.linked.level.begun in let m = most in
+      subst P (sym enough) (has_room j deeds p bits size h.counted lawful h.traced.traces.answered.gives short
+      (omega (arith, b, m)) run)
 
   -- the step was done
   pub done_taken : {now : LoggedDriver} {q : Registers} {given : List Deques} {one : Step} {answer : StepAnswer}

@@ -11,7 +11,6 @@ use Rattle.lemmas.proofs.Lists.{some_of}
 use Rattle.sja_regs.specs.Registers.{at_power_on}
 use Rattle.sja_bus.specs.Boards.{HasOrders, WasTold, WasKept}
 use Rattle.sja_wire.specs.Buses.{EachJournal, KeepsAll, EachUntold}
-use Rattle.sja_wire.specs.Lawful.{IsBusRun}
 use Rattle.sja_link.specs.BitEntries.{MayHaveItems}
 use Rattle.sja_link.specs.Links.{per_node, Kept}
 use Rattle.sja_bus.specs.Stretches.{with_recessive, IsStretch}
@@ -32,8 +31,7 @@ module _ (setup : Setup) (r n : SerialValue) (deeds : List (List Deed)) (h : Sta
     (room : n.bus.steps ≡ r.bus.steps) (journals : length n.bus.journals ≡ length r.bus.journals)
     (drivers : n.drivers ≡ r.drivers) (ports : n.ports ≡ r.ports)
     (sames : EachRelated (λ (a b : Deques). b.link ≡ a.link) r.links n.links)
-    (kept : KeepsAll Lies r.bus.journals n.bus.journals r.links n.links)
-    (was : IsBusRun r.bus.script r.bus.run r.bus.journals) where
+    (kept : KeepsAll Lies r.bus.journals n.bus.journals r.links n.links) where
   -- no item waited
   none_came : EachJournal MayHaveItems r.bus.journals n.bus.journals → n.bus.journals ≡ r.bus.journals
   none_came items = sym (ext_get_or [] r.bus.journals n.bus.journals (sym journals) (λ m few. sym (
@@ -90,7 +88,7 @@ module _ (setup : Setup) (r n : SerialValue) (deeds : List (List Deed)) (h : Sta
   takes_at_once most (suc k) within run left bits items untold stretch =
       let s = stretch (λ z. absurd (omega (arith, z))) in
       let all = all_at_once setup r deeds h n.links sames (kept_back (suc k) s.grown) (suc k) n.bus.journals
-      (omega (arith, left)) was s n.bus.untold k refl in
+      (omega (arith, left)) s n.bus.untold k refl in
       let taken = subst (λ (x : SerialValue). TakesBits setup deeds (λ y. Unit {0}) r (suc k) x)
       (is_run (suc k) run left bits s.grown) all in record {
         within = within;

@@ -46,7 +46,8 @@ module _ (setup : Setup) (r n : SerialValue) (deeds : List (List Deed)) (h : Sta
     (sames : EachRelated (λ (a b : Deques). b.link ≡ a.link) r.links n.links)
     (bit : IsBit (HasOrders r.ports) (WasTold r.ports n.ports) (WasKept r.ports n.ports) r.bus.script r.bus.run
     r.bus.untold r.bus.journals n.bus.journals)
-    (cuts : (m : ℕ) → m < length r.bus.journals → HasCut (journal_at r.bus.journals m)) where
+    (cuts : (m : ℕ) → m < length r.bus.journals → HasCut (journal_at r.bus.journals m))
+    (lawful : IsBusRun n.bus.script n.bus.run n.bus.journals) where
   inside : (m : ℕ) → m < setup.nodes → m < length r.bus.journals
   inside m less = let c = h.count.journals in omega (arith, c, less)
 
@@ -108,6 +109,8 @@ module _ (setup : Setup) (r n : SerialValue) (deeds : List (List Deed)) (h : Sta
   takes_bit = record {
     stands = stands_now;
     bits = bits_are;
+    lawful = subst (λ (l : List Strike). IsBusRun l n.bits n.bus.journals) stands_now.script
+        (subst (λ (m : ℕ). IsBusRun n.bus.script m n.bus.journals) (sym stands_now.bits) lawful);
     nodes = λ m less. one m (driver_at m less) (at_power_on setup.version) less;
     ports = λ m p less. port_now m (driver_at m less) p less;
     drivers = drivers_are;

@@ -116,7 +116,7 @@ module _ (setup : Setup) (deeds : List (List Deed)) (drivers : List LoggedDriver
   one_bit was now t b =
       takes_bit setup (run_then drivers was) (run_then drivers now) deeds t.stands b.right b.keeps.script
       b.keeps.steps b.run b.left b.keeps.nodes refl b.run b.keeps.others.0 b.kept b.keeps.sames
-      b.bit (cuts_of t.lawful)
+      b.bit (cuts_of t.lawful) b.lawful
 
   module _ {One : ℕ → SerialMoment → SerialMoment → Type 0} {Before : SerialMoment → SerialMoment → Type 0}
       {After : SerialValue → SerialValue → Type 0} (kind : IsKind setup One Before After) (first : SerialMoment) where

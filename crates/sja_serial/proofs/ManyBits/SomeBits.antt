@@ -176,6 +176,7 @@ one_after setup deeds r m n same t =
     let b = t.bits in let e = same.bits in record {
       stands = t.stands;
       bits = omega (arith, b, e);
+      lawful = t.lawful;
       nodes = λ k less. subst (λ (l : List (List Entry)). HasOneBit (journal_at l k) (journal_at n.bus.journals k))
           same.journals (t.nodes k less);
       ports = λ k p less. subst (λ (l : List (List Entry)). IsPortBit (slice_index_or r.ports k p)

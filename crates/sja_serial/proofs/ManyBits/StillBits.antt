@@ -13,7 +13,6 @@ use Rattle.lemmas.proofs.Related.{each_refl}
 use Rattle.sja_regs.specs.declared.registers.Registers.{Registers}
 use Rattle.sja_bus.specs.Boards.{HasOrders, WasTold, WasKept}
 use Rattle.sja_wire.specs.Buses.{KeepsAll, untold_at}
-use Rattle.sja_wire.specs.Lawful.{IsBusRun}
 use Rattle.sja_link.specs.Links.{per_node, Kept}
 use Rattle.sja_bus.specs.Stretches.{recessive_bits, with_recessive, IsStretch}
 use Rattle.sja_wire.specs.Wire.{journal_at}
@@ -30,7 +29,6 @@ use Rattle.sja_serial.specs.Serial.{Setup, SerialValue, StandsAt}
 use Rattle.sja_serial.specs.Inside.Going.{run_now}
 use Rattle.sja_driver.specs.Shown.{ShowsRecord}
 use Rattle.sja_driver.proofs.OneNode.Slices.{numbered_still}
-use Rattle.sja_driver.proofs.OneBit.BitAsked.{HasCut}
 use Rattle.sja_serial.proofs.ManyBits.BitRun.{cuts_of, takes_bit}
 use Rattle.sja_log.proofs.OneNode.Gathered.{linked_after, node_with}
 
@@ -119,7 +117,6 @@ module _ (setup : Setup) (r : SerialValue) (deeds : List (List Deed)) (h : Stand
   -- ---- the bits
 
   module _ (count : ℕ) (after : List (List Entry)) (most : count ≤ r.bus.left)
-      (was : IsBusRun r.bus.script r.bus.run r.bus.journals)
       (stretch : IsStretch (HasOrders r.ports) (WasTold r.ports r.ports) (WasKept r.ports r.ports) r.bus.script
       r.bus.run count r.bus.untold r.bus.journals after) where
     abbrev at : List Bool → ℕ → SerialValue
@@ -127,17 +124,6 @@ module _ (setup : Setup) (r : SerialValue) (deeds : List (List Deed)) (h : Stand
 
     inside : (i m : ℕ) → m < length (with_recessive i r.bus.journals) → m < length r.bus.journals
     inside i m few = let c = length-map r.bus.journals (λ j. j ++ recessive_bits i) in omega (arith, few, c)
-
-    cuts : (i : ℕ) → i ≤ count → (m : ℕ) → m < length (with_recessive i r.bus.journals) →
-        HasCut (journal_at (with_recessive i r.bus.journals) m)
-    cuts zero early m few =
-        subst (λ (l : List (List Entry)). HasCut (journal_at l m)) (sym (with_none r.bus.journals))
-        (cuts_of was m (inside 0 m few))
-    cuts (suc i) early m few =
-        let c = length-map r.bus.journals (λ j. j ++ recessive_bits i) in
-        let near = inside (suc i) m few in
-        let says = ((stretch.bits i (omega (arith, early))).nodes m (omega (arith, near, c))).is_turn.says in
-        record { found = says.found; cut = says.cut }
 
     first : StandsAt setup (at r.bus.untold 0) deeds
     first = stands_still r.bus.untold (λ m less e. e)
@@ -151,7 +137,7 @@ module _ (setup : Setup) (r : SerialValue) (deeds : List (List Deed)) (h : Stand
         (omega (arith, early, most)) (omega (arith, a, b)) refl (omega arith) refl
         (λ m acc few kept. keeps_still i (suc i) r.bus.journals links m acc (inside i m few) kept)
         (each_refl (λ (x y : Deques). y.link ≡ x.link) (λ x. refl) links) (stretch.bits i early)
-        (cuts i (omega (arith, early)))
+        (cuts_of (stretch.lawful i (omega (arith, early)))) (stretch.lawful (suc i) early)
 
     stands : (i : ℕ) → i ≤ count → StandsAt setup (at r.bus.untold i) deeds
     stands zero early = first
@@ -163,6 +149,7 @@ module _ (setup : Setup) (r : SerialValue) (deeds : List (List Deed)) (h : Stand
         let t = takes untold 0 early first in record {
           stands = t.stands;
           bits = omega arith;
+          lawful = t.lawful;
           nodes = λ m less. subst (λ (l : List (List Entry)). HasOneBit (journal_at l m)
               (journal_at (with_recessive 1 r.bus.journals) m)) (with_none r.bus.journals) (t.nodes m less);
           ports = λ m p less. subst (λ (l : List (List Entry)). IsPortBit (slice_index_or r.ports m p)

@@ -1,13 +1,13 @@
 -- No bit of a run breaks off: nothing waits to be taken, no journal is full, and no link gives back what is put there.
 use Rattle.std.proofs.Common.{◌≡◌, ℕ, suc, ◌+◌, ◌*◌, ◌<◌, ◌≤◌, Bool, true, false, List, [], ◌∷◌, ◌++◌, length, sym}
-use Rattle.std.proofs.Common.{ap, ◌∙◌, append_assoc, inl, inr, arith}
+use Rattle.std.proofs.Common.{ap, ◌∙◌, subst, append_assoc, inl, inr, arith}
 use Rattle.std.specs.Prelude.{◌⊎◌, None, slice_index_or}
 use Rattle.std.proofs.lemmas.List.{length-append, length-replicate}
 use Rattle.can_bits.specs.declared.level.Level.TheVariants.{Recessive}
 use Rattle.sja_link.specs.NodeWords.{received}
 use Rattle.sja_link.specs.declared.up.Up.{Up}
 use Rattle.sja_link.specs.declared.entry.Entry.{Entry}
-use Rattle.sja_link.specs.declared.entry.Entry.TheVariants.{Bit}
+use Rattle.sja_link.specs.declared.entry.Entry.TheVariants.{Bit, Abort}
 use Rattle.sja_link.specs.Accounts.{Account, account}
 use Rattle.sja_link.specs.Deques.{Deques, Lies}
 use Rattle.sja_link.specs.Parts.{part}
@@ -23,7 +23,9 @@ use Rattle.sja_wire.specs.Buses.{BusValue}
 use Rattle.sja_wire.specs.Lawful.{IsBusRun}
 use Rattle.sja_link.specs.Links.{Kept, stops_of}
 use Rattle.sja_link.specs.BitEntries.{MayHaveItems, abort_as}
-use Rattle.sja_bus.proofs.ItemsTaken.OutOfRoom.{short_few}
+use Rattle.sja_link.specs.Written.{room_in, IsFullFor}
+use Rattle.sja_link.proofs.JournalEntries.Rooms.{HasFree, free_aborted, free_not_full}
+use Rattle.sja_bus.proofs.ItemsTaken.OutOfRoom.{short_never}
 use Rattle.sja_wire.specs.Reasons.{GivesBack, IsTakenAndRefused, IsNotAborted, IsBrokenOff, IsBrokenFor, StopsBit}
 use Rattle.sja_wire.specs.Reasons.{room_for}
 use Rattle.sja_wire.specs.Reasons.StopsBit.{spent, not_taken, not_aborted, broken_off}
@@ -38,7 +40,6 @@ use Rattle.sja_driver.proofs.Trace.Stepping.{given_taken}
 use Rattle.sja_log.specs.Nodes.{IsNode}
 use Rattle.sja_serial.specs.Serial.{Setup, SerialValue, StandsAt, IsRunOf}
 use Rattle.sja_serial.specs.Inside.Going.{run_now}
-use Rattle.sja_log.proofs.NodeLog.Adding.{one_abort}
 use Rattle.sja_log.proofs.OneNode.Gathered.{no_link}
 use Rattle.sja_driver.proofs.Account.Dry.{none_beyond, none_taken, none_taken_own}
 use Rattle.sja_driver.proofs.Step.FewLeftDown.{few_left_down}
@@ -80,7 +81,7 @@ module _ (setup : Setup) (r : SerialValue) (deeds : List (List Deed)) (h : Stand
     before : (a : ℕ) → a < 64 → given a ≡ taken_of (part (journal_at r.bus.journals m) (suc a))
     before a small = given_taken (deeds_at deeds m) (journal_at r.bus.journals m) (suc a) (node.in_time.when (suc a))
 
-    entries : length (journal_at r.bus.journals m) + 3 ≤ 2 * r.bus.run + 2 * slice_index_or setup.steps m 0 + 100
+    entries : HasFree 4 (room_in r.bus.run (slice_index_or setup.steps m 0)) (journal_at r.bus.journals m)
     entries =
         let j = journal_at r.bus.journals m in let ds = deeds_at deeds m in
         let within = node.traced.within in
@@ -94,10 +95,13 @@ module _ (setup : Setup) (r : SerialValue) (deeds : List (List Deed)) (h : Stand
         (omega (arith, opened, begun)) (omega (arith, bits))
 
     -- there is room for an abort, the bit, a verdict and bus-off
-    room : length (journal_at r.bus.journals m) + 4 ≤ room_for (r.bus.run + r.bus.left) r.bus.steps m
-    room = let has = entries in let a = h.all_bits in let b = h.bits in let steps = ap (λ (l : List ℕ). slice_index_or
-        l m 0) h.steps in
-        omega (arith, has, a, b, steps, left)
+    pub room : HasFree 4 (room_for (r.bus.run + r.bus.left) r.bus.steps m) (journal_at r.bus.journals m)
+    room =
+        let all = entries.all in let others = entries.others in
+        let steps = ap (λ (l : List ℕ). slice_index_or l m 0) h.steps in record {
+          all = omega (arith, all, steps);
+          others = omega (arith, others, steps);
+        }
 
     -- an item that was refused would wait
     nothing_shown : (t : List Entry) (items : MayHaveItems (journal_at r.bus.journals m) t) (item : Up) (up : List Up) →
@@ -123,11 +127,6 @@ module _ (setup : Setup) (r : SerialValue) (deeds : List (List Deed)) (h : Stand
         (sym (node.traced.traces.released (suc b.place))) in
         let full = b.is_full in omega (arith, few, full)
 
-    -- no entry is refused
-    not_full : (t : List Entry) → length t ≤ length (journal_at r.bus.journals m) + 3 →
-        room_for (r.bus.run + r.bus.left) r.bus.steps m ≤ length t → ⊥
-    not_full t short full = let x = room in omega (arith, x, short, full)
-
   no_item : (now : BusValue) (after : List Deques) (f : BusFault) →
       IsTakenAndRefused Lies (r.bus.run + r.bus.left) r.bus.steps r.bus.journals now.journals r.links after f → ⊥
   no_item now after f x =
@@ -145,21 +144,20 @@ module _ (setup : Setup) (r : SerialValue) (deeds : List (List Deed)) (h : Stand
       let same : t ≡ j = none_taken j t x.items (given x.node x.few) (before x.node x.few)
       (λ a. (slice_index_or after (64 * x.node + a) no_link).up)
       (λ a small. (x.kept (acc x.node x.few) (kept_before x.node x.few) a no_link small).1) in
-      let l : length t ≡ length j = ap (λ (s : List Entry). length s) same in
-      not_full x.node x.few t (omega (arith, l)) x.full
+      let most = room_for (r.bus.run + r.bus.left) r.bus.steps x.node in
+      free_not_full 3 most j Abort (room x.node x.few) (subst (λ (s : List Entry). IsFullFor most s Abort) same x.full)
 
   never_broken : (node : ℕ) (few : node < length r.bus.journals) (opened j : List Entry) (between : List Deques)
-      (f : BusFault) → length opened ≤ length (journal_at r.bus.journals node) + 1 →
+      (f : BusFault) → HasFree 3 (room_for (r.bus.run + r.bus.left) r.bus.steps node) opened →
       Kept Lies opened between (64 * node) (acc node few) →
       IsBrokenFor Lies (λ (s : Deques). length s.down ≡ 22) node (room_for (r.bus.run + r.bus.left) r.bus.steps node)
       opened j between (64 * node) f → ⊥
-  never_broken node few opened j between (JournalFull k) short kept b =
-      let n = short_few (room_for (r.bus.run + r.bus.left) r.bus.steps node) opened j b.1 in
-      not_full node few j (omega (arith, short, n)) b.1.used
-  never_broken node few opened j between (Stuck k) short kept b = not_stuck node few opened j between kept b.1
-  never_broken node few opened j between (BadCredit k bytes) short kept b = b
-  never_broken node few opened j between (BadOrder k) short kept b = b
-  never_broken node few opened j between BitsSpent short kept b = b
+  never_broken node few opened j between (JournalFull k) free kept b =
+      short_never (room_for (r.bus.run + r.bus.left) r.bus.steps node) opened j b.1 free
+  never_broken node few opened j between (Stuck k) free kept b = not_stuck node few opened j between kept b.1
+  never_broken node few opened j between (BadCredit k bytes) free kept b = b
+  never_broken node few opened j between (BadOrder k) free kept b = b
+  never_broken node few opened j between BitsSpent free kept b = b
 
   not_broken : (orders_are : ℕ → Orders → Type 0) (now : BusValue) (f : BusFault) →
       IsBrokenOff Lies (λ (s : Deques). length s.down ≡ 22) orders_are (r.bus.run + r.bus.left) r.bus.steps
@@ -171,12 +169,12 @@ module _ (setup : Setup) (r : SerialValue) (deeds : List (List Deed)) (h : Stand
       let same : x.opens.taken ≡ j = none_taken_own j x.opens.taken x.opens.items (given x.node x.few)
       (before x.node x.few) x.opened (abort_as changed) (abort_own changed) x.opens.aborts.whole
       (λ a. (slice_index_or x.between (64 * x.node + a) no_link).up) (λ a small. (between a no_link small).1) in
-      let l : length x.opened ≡ length j + length (abort_as changed) = ap (λ (s : List Entry). length s)
-      (x.opens.aborts.whole ∙ ap (λ (s : List Entry). s ++ abort_as changed) same)
-      ∙ length-append j (abort_as changed) in
-      let o = one_abort changed in
-      never_broken x.node x.few x.opened (journal_at now.journals x.node) x.between f (omega (arith, l, o)) between
-      x.broken
+      let whole : x.opened ≡ j ++ abort_as changed
+      = x.opens.aborts.whole ∙ ap (λ (s : List Entry). s ++ abort_as changed) same in
+      let most = room_for (r.bus.run + r.bus.left) r.bus.steps x.node in
+      never_broken x.node x.few x.opened (journal_at now.journals x.node) x.between f
+      (subst (λ (s : List Entry). HasFree 3 most s) (sym whole) (free_aborted 3 most j changed (room x.node x.few)))
+      between x.broken
 
   pub never_stops : (orders_are : ℕ → Orders → Type 0) (now : BusValue) (after : List Deques) (f : BusFault) →
       StopsBit Lies (λ (s : Deques). length s.down ≡ 22) orders_are r.bus now r.links after f → ⊥
@@ -203,7 +201,7 @@ module _ (setup : Setup) (r : SerialValue) (deeds : List (List Deed)) (h : Stand
       let l = ap (λ (s : List Entry). length s) same in
       let grown = ap (λ (s : List Entry). length s) o.grown ∙ length-append t (recessive_bits o.entered) in
       let bits : length (recessive_bits o.entered) ≡ o.entered = length-replicate o.entered (Bit Recessive Recessive) in
-      let has = entries m small in let early = o.early in let full = o.full in
+      let has = (entries m small).all in let early = o.early in let full = o.full in
       let steps = ap (λ (l : List ℕ). slice_index_or l m 0) h.steps in omega (
         arith,
         l,

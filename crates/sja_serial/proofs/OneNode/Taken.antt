@@ -61,9 +61,9 @@ gather_takes {setup} {r} {deeds} {node} {was} {now} {p} {q} {given} {after} {jou
     run : (place_of j).bits ≤ r.bus.run + r.bus.left
     run = let e = h.bits in omega (arith, e, place)
 
-    enough : 2 * (r.bus.run + r.bus.left) + 2 * slice_index_or setup.steps node 0 + 100
-        ≤ room_for (r.bus.run + r.bus.left) r.bus.steps node
-    enough = let e = ap (λ (l : List ℕ). slice_index_or l node 0) h.steps in omega (arith, e)
+    enough : room_for (r.bus.run + r.bus.left) r.bus.steps node
+        ≡ room_for (r.bus.run + r.bus.left) setup.steps node
+    enough = ap (λ (l : List ℕ). room_for (r.bus.run + r.bus.left) l node) h.steps
 
     here : (x : Option StepAnswer) →
         Steps alike Lies shows_none takes_none was now r.links given (64 * node) p q one x →

@@ -57,7 +57,7 @@ put_bit j driven seen a = elim (cases_eq (past (place_of j) (Bit driven seen)).a
 
 put_bits : {j k : List Entry} → HasBitsMore j k → (a : ℕ) → put_of (part k a) ≡ put_of (part j a)
 put_bits no_more a = refl
-put_bits (one_bit_more k driven seen h) a = put_bit k driven seen a ∙ put_bits h a
+put_bits (one_bit_more k driven seen h tells) a = put_bit k driven seen a ∙ put_bits h a
 
 -- so a driver sees the same messages after bits
 seen_same : {j k : List Entry} → HasBitsMore j k → (active : Bool) (deeds : List Deed) →

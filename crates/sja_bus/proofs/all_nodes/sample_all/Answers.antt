@@ -1,23 +1,25 @@
 use Rattle.std.proofs.Common.{◌≡◌, ◌*◌, ◌<◌, ◌≤◌, ◌∷◌, [], false, length, rules, arith, refl, sym, ap, ◌∙◌, subst}
+use Rattle.std.proofs.Common.{inl, inr}
 use Rattle.std.specs.Prelude.{Err, slice_index_or, slice_set}
 use Rattle.std.proofs.Math.ListN.{length-set}
 use Rattle.std.proofs.lemmas.List.{take_all, set-get_or, get_or-set_same as set_here}
-use Rattle.sja_link.specs.declared.entry.Entry.TheVariants.{Bit}
 use Rattle.lemmas.specs.Related.{EachRelated}
 use Rattle.sja_bus.specs.declared.seat.Seat.{Seat}
 use Rattle.sja_wire.specs.Wire.{wired}
-use Rattle.sja_bus.specs.UntilTold.HasBitsMore.{none}
-use Rattle.sja_bus.specs.Inside.Rows.{SeatHasBits, SeatTurns, seen_by, driven_by}
+use Rattle.sja_bus.specs.Inside.Rows.{SeatTurns, seen_by, driven_by}
 use Rattle.sja_bus.specs.Inside.Refusing.{SeatBreaks}
-use Rattle.sja_bus.specs.Inside.RunningOn.{SomeTold}
+use Rattle.sja_bus.specs.Inside.RunningOn.{SeatIdle, SomeTold}
+use Rattle.sja_bus.specs.Inside.Turning.{IsIdleBit}
 use Rattle.sja_bus.specs.Inside.Underway.{IsUnderway}
 use Rattle.sja_bus.proofs.AllNodes.Levels.{level_now}
 use Rattle.sja_bus.proofs.AllNodes.Many.{done_all, done_none, done_one}
-use Rattle.sja_bus.proofs.ItemsTaken.Refusing.{free_one}
 use Rattle.sja_bus.proofs.AllNodes.Running.{seen_is}
 use Rattle.sja_bus.proofs.AtPorts.SeatBits.{had_quiet, keeps_quiet}
 use Rattle.sja_bus.proofs.AllNodes.Underway.{underway_none, underway_one, underway_at}
-use Rattle.sja_bus.proofs.AllNodes.UntilTold.{bit_more}
+use Rattle.sja_bus.proofs.AllNodes.Telling.{none_told}
+use Rattle.sja_bus.proofs.AtPorts.TurnsTold.{idle_bit}
+use Rattle.std.proofs.lemmas.Bool.{cases_lt}
+use Rattle.can_bits.specs.declared.level.Level.{Level}
 use Rattle.lemmas.proofs.Results.{err_is}
 use Rattle.sja_bus.proofs.all_nodes.sample_all.Goals.{After-sample_quietly}
 use Rattle.sja_bus.proofs.all_nodes.sample_all.Goals as goal
@@ -29,8 +31,7 @@ loop-k-init g c =
           c.args.struck c.args.level c.args.seats.now c.args.links.now c.args.board.now c.requires.seated.ready;
       links = refl;
       board = refl;
-      free = λ n h m s here. let room = h m s here in omega (arith, room);
-      bits = done_none SeatHasBits c.args.seats.now;
+      idle = done_none (SeatIdle c.args.struck c.args.level) c.args.seats.now;
       level = refl;
     }
 
@@ -54,11 +55,9 @@ loop-k-preserved g c =
           (inv.row.ready k s here).ready c.sample_quietly.ensures.ready quiet) inv.row;
       links = inv.links;
       board = inv.board;
-      free = λ n h. free_one n k (Bit old.drives c.seen-sees.result) c.args.seats.now c.loop-k.seats s new here was
-          ((inv.row.done k s was).1 (omega arith)) quiet.whole c.sample_quietly.ensures.room h (inv.free n h);
-      bits = done_one SeatHasBits k c.args.seats.now c.loop-k.seats s new was inv.row.count
-          (bit_more old.journal.entries old.journal.entries new.journal.entries old.drives c.seen-sees.result none
-          quiet.whole) inv.bits;
+      idle = let I : Level → Type 0 = λ x. IsIdleBit x old new in
+          done_one (SeatIdle c.args.struck c.args.level) k c.args.seats.now c.loop-k.seats s new was inv.row.count
+          (subst I sees (idle_bit c.seen-sees.result old new (inv.row.ready k s here).ready quiet)) inv.idle;
       level = level_now c.loop-k.seats k new c.loop-k.next c.both-next.result here inv.level
           (c.both-next.ensures ∙ ap (λ (x : Seat). wired (c.loop-k.next ∷ x.drives ∷ []))
           (set_here c.loop-k.seats k new c.index-seats-k-in-loop-k.result here));
@@ -74,29 +73,33 @@ pub sample_quietly-requires-clause-free : goal.sample_quietly-requires-clause-fr
 sample_quietly-requires-clause-free g c =
     let k = c.loop-k.k in let s = c.index-seats-k.result in
     let was : k < length c.args.seats.now = search rules in let room = c.requires.free k s was in
-    let P : Seat → Type 0 = λ x. length x.journal.entries < x.journal.room in
+    let P : Seat → Type 0 = λ x. length x.journal.entries < x.journal.room.all in
     subst P (sym ((c.loop-k.invariant.row.done k s was).1 (omega arith))) (omega (arith, room))
 
--- those before this place had a bit in which nothing happened, and something happens to this one, which is as it was
+-- this one, to which something happens, is as it was
+set_same : (g : _) (c : After-sample_quietly g) → c.sample_quietly.result ≡ false →
+    slice_set c.loop-k.seats c.loop-k.k c.sample_quietly.new.self ≡ c.loop-k.seats
+set_same g c happens =
+    ap (λ x. slice_set c.loop-k.seats c.loop-k.k x) (c.sample_quietly.ensures.same happens)
+    ∙ set-get_or c.loop-k.seats c.loop-k.k c.index-seats-k.result
+
+-- and those before it had a bit in which nothing happened
 row_so_far : (g : _) (c : After-sample_quietly g) → c.sample_quietly.result ≡ false → IsUnderway g.E.BusEnd.same
     g.E.BusEnd.stands g.B.Board.ports g.B.Board.told g.B.Board.kept c.args.struck c.args.level c.args.seats.now
     c.args.links.now c.args.board.now c.loop-k.k (slice_set c.loop-k.seats c.loop-k.k c.sample_quietly.new.self)
     c.loop-k.links c.loop-k.board
 row_so_far g c happens =
     let E = g.E.BusEnd in let B = g.B.Board in let inv = c.loop-k.invariant in let k = c.loop-k.k in
-    let same : slice_set c.loop-k.seats k c.sample_quietly.new.self ≡ c.loop-k.seats =
-    ap (λ x. slice_set c.loop-k.seats k x) (c.sample_quietly.ensures.same happens)
-    ∙ set-get_or c.loop-k.seats k c.index-seats-k.result in
     underway_at E.same E.stands B.ports B.told B.kept c.args.struck c.args.level c.args.seats.now
     c.loop-k.seats (slice_set c.loop-k.seats k c.sample_quietly.new.self) c.args.links.now c.loop-k.links
-    c.args.board.now c.loop-k.board k same inv.links inv.board inv.row
+    c.args.board.now c.loop-k.board k (set_same g c happens) inv.links inv.board inv.row
 
 pub tell_from-requires : goal.tell_from-requires
 tell_from-requires g c =
     let B = g.B.Board in let inv = c.loop-k.invariant in let k = c.loop-k.k in
     let row = row_so_far g (goal.at.tell_from-requires g c).After-sample_quietly (search rules) in
     let h = c.requires.seated in let set = length-set c.loop-k.seats k c.sample_quietly.new.self in
-    let here : k < length c.loop-k.seats = search rules in let was : k < length c.args.seats.now = search rules in
+    let here : k < length c.loop-k.seats = search rules in
     let seats = c.loop-k.auto.seats in let links = c.loop-k.auto.links in let few = h.few in let count = h.count in
     let ports = h.ports in let p = ap B.ports inv.board in record {
       seated = record {
@@ -107,7 +110,8 @@ tell_from-requires g c =
         ports = omega (arith, ports, seats, p);
       };
       few = omega (arith, here, set);
-      told = λ s. ap (λ (x : Seat). x.untold) ((row.done k s was).1 (omega arith)) ∙ c.requires.told k s was;
+      told = λ m s from near. let low : m < length c.args.seats.now = omega (arith, near, set, seats) in
+          ap (λ (x : Seat). x.untold) ((row.done m s low).1 from) ∙ c.requires.told m s low;
     }
 
 pub returns-clause-sames : goal.returns-clause-sames
@@ -143,11 +147,10 @@ returns-clause-level g c =
 
 pub returns-clause-untold : goal.returns-clause-untold
 returns-clause-untold g c = λ untold.
-    let all : length c.args.seats.now ≤ c.loop-k.k = search rules in record {
-      still = c.loop-k.invariant.board;
-      bits = done_all SeatHasBits c.loop-k.k c.args.seats.now c.loop-k.seats all c.loop-k.invariant.bits;
-      free = c.loop-k.invariant.free;
-    }
+    let all : length c.args.seats.now ≤ c.loop-k.k = search rules in let inv = c.loop-k.invariant in
+    none_told c.args.struck c.args.level c.args.seats.now c.loop-k.seats c.args.board.now c.loop-k.board
+    c.loop-k.auto.seats inv.board inv.row.rooms
+    (done_all (SeatIdle c.args.struck c.args.level) c.loop-k.k c.args.seats.now c.loop-k.seats all inv.idle)
 
 pub returns-then-not-sample_quietly-clause-sames : goal.returns-then-not-sample_quietly-clause-sames
 returns-then-not-sample_quietly-clause-sames g c =
@@ -163,26 +166,26 @@ returns-then-not-sample_quietly-clause-board g c =
 pub returns-then-not-sample_quietly-clause-ready : goal.returns-then-not-sample_quietly-clause-ready
 returns-then-not-sample_quietly-clause-ready g c =
     let at = (goal.at.returns-then-not-sample_quietly-clause-ready g c).After-sample_quietly in
-    (c.in_ok-tell_from.ensures.row c.args.seats.now c.args.links.now c.args.board.now
+    (c.in_ok-told.ensures.row c.args.seats.now c.args.links.now c.args.board.now
     (row_so_far g at (search rules))).2.ready
 
 pub returns-then-not-sample_quietly-clause-goes : goal.returns-then-not-sample_quietly-clause-goes
 returns-then-not-sample_quietly-clause-goes g c =
     let at = (goal.at.returns-then-not-sample_quietly-clause-goes g c).After-sample_quietly in
-    (c.in_ok-tell_from.ensures.row c.args.seats.now c.args.links.now c.args.board.now
+    (c.in_ok-told.ensures.row c.args.seats.now c.args.links.now c.args.board.now
     (row_so_far g at (search rules))).2.goes
 
 pub returns-then-not-sample_quietly-clause-rooms : goal.returns-then-not-sample_quietly-clause-rooms
 returns-then-not-sample_quietly-clause-rooms g c =
     let at = (goal.at.returns-then-not-sample_quietly-clause-rooms g c).After-sample_quietly in
-    (c.in_ok-tell_from.ensures.row c.args.seats.now c.args.links.now c.args.board.now
+    (c.in_ok-told.ensures.row c.args.seats.now c.args.links.now c.args.board.now
     (row_so_far g at (search rules))).2.rooms
 
 pub returns-then-not-sample_quietly-clause-turns : goal.returns-then-not-sample_quietly-clause-turns
 returns-then-not-sample_quietly-clause-turns g c =
     let B = g.B.Board in let at = (goal.at.returns-then-not-sample_quietly-clause-turns g c).After-sample_quietly in
     let row = row_so_far g at (search rules) in
-    let did = c.in_ok-tell_from.ensures.row c.args.seats.now c.args.links.now c.args.board.now row in
+    let did = c.in_ok-told.ensures.row c.args.seats.now c.args.links.now c.args.board.now row in
     let u = did.2 in let all = did.1 in let count = u.count in
     done_all (SeatTurns (B.told c.args.board.now c.tell_from.new.board)
     (B.kept c.args.board.now c.tell_from.new.board) c.args.struck c.args.level) did.0 c.args.seats.now
@@ -191,25 +194,45 @@ returns-then-not-sample_quietly-clause-turns g c =
 pub returns-then-not-sample_quietly-clause-told : goal.returns-then-not-sample_quietly-clause-told
 returns-then-not-sample_quietly-clause-told g c = λ yes.
     let P : _ → Type 0 = λ b. SomeTold (g.B.Board.told b c.tell_from.new.board) c.tell_from.new.seats in
-    subst P c.loop-k.invariant.board c.in_ok-tell_from.ensures.told
+    subst P c.loop-k.invariant.board (c.in_ok-told.ensures.told yes)
 
-pub returns-in_err-tell_from-clause-sames : goal.returns-in_err-tell_from-clause-sames
-returns-in_err-tell_from-clause-sames g c =
+pub returns-then-not-sample_quietly-clause-untold : goal.returns-then-not-sample_quietly-clause-untold
+returns-then-not-sample_quietly-clause-untold g c = λ no.
+    let at = (goal.at.returns-then-not-sample_quietly-clause-untold g c).After-sample_quietly in
+    let happens : c.sample_quietly.result ≡ false = search rules in let row = row_so_far g at happens in
+    let did = c.in_ok-told.ensures.row c.args.seats.now c.args.links.now c.args.board.now row in
+    let quiet = c.in_ok-told.ensures.idle no in let inv = c.loop-k.invariant in let k = c.loop-k.k in
+    let count = c.loop-k.auto.seats in let after = c.tell_from.new.seats in let was = c.args.seats.now in
+    let set = length-set c.loop-k.seats k c.sample_quietly.new.self in
+    let struck = c.args.struck in let level = c.args.level in
+    none_told struck level was after c.args.board.now c.tell_from.new.board did.2.count (quiet.0 ∙ inv.board)
+    did.2.rooms (λ m s few.
+    let far = inv.idle m s few in
+    let same = ap (λ l. slice_index_or l m s) (set_same g at happens) in
+    let O : Seat → Type 0 = λ x. SeatIdle struck level m x (slice_index_or after m s) in
+    let N : Seat → Type 0 = λ x. SeatIdle struck level m (slice_index_or was m s) x in
+    elim (cases_lt m k) [
+      | inl low ↦ subst N (sym (c.in_ok-told.ensures.before m s low ∙ same)) (far.0 low)
+      | inr high ↦ subst O (same ∙ far.1 high) (quiet.1 m s high (omega (arith, few, set, count)))
+    ])
+
+pub returns-in_err-told-clause-sames : goal.returns-in_err-told-clause-sames
+returns-in_err-told-clause-sames g c =
     subst (λ x. EachRelated g.E.BusEnd.same x c.tell_from.new.links) c.loop-k.invariant.links
     c.tell_from.ensures.sames
 
-pub returns-in_err-tell_from-clause-board : goal.returns-in_err-tell_from-clause-board
-returns-in_err-tell_from-clause-board g c =
+pub returns-in_err-told-clause-board : goal.returns-in_err-told-clause-board
+returns-in_err-told-clause-board g c =
     let b = c.loop-k.invariant.board in let few = c.loop-k.auto.seats in let set =
     length-set c.loop-k.seats c.loop-k.k c.sample_quietly.new.self in
     rw (sym b) (c.tell_from.ensures.board.0, λ m far. c.tell_from.ensures.board.1 m (omega (arith, far, few, set)))
 
-pub returns-in_err-tell_from-clause-broken : goal.returns-in_err-tell_from-clause-broken
-returns-in_err-tell_from-clause-broken g c =
+pub returns-in_err-told-clause-broken : goal.returns-in_err-told-clause-broken
+returns-in_err-told-clause-broken g c =
     let E = g.E.BusEnd in
-    let row = row_so_far g (goal.at.returns-in_err-tell_from-clause-broken g c).After-sample_quietly (search rules) in
-    let f = c.in_err-tell_from.field-0.0 in
+    let row = row_so_far g (goal.at.returns-in_err-told-clause-broken g c).After-sample_quietly (search rules) in
+    let f = c.in_err-told.field-0.0 in
     let is : c.from_residual.result ≡ Err f = search rules in
     let P : _ → Type 0 = λ x. SeatBreaks E.stands E.full c.args.seats.now c.tell_from.new.seats c.args.links.now x in
-    err_is P c.from_residual.result f is (c.in_err-tell_from.ensures.broken c.args.seats.now
+    err_is P c.from_residual.result f is (c.in_err-told.ensures.broken c.args.seats.now
     c.args.links.now c.args.board.now row)

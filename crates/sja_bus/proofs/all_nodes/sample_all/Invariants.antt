@@ -1,7 +1,7 @@
-use Rattle.std.proofs.Common.{◌≡◌, ℕ, suc, take}
+use Rattle.std.proofs.Common.{◌≡◌, take}
 use Rattle.sja_wire.specs.Wire.{wired}
-use Rattle.sja_bus.specs.Inside.Refusing.{AreFree}
-use Rattle.sja_bus.specs.Inside.Rows.{Done, SeatHasBits, driven_by}
+use Rattle.sja_bus.specs.Inside.Rows.{Done, driven_by}
+use Rattle.sja_bus.specs.Inside.RunningOn.{SeatIdle}
 use Rattle.sja_bus.specs.Inside.Underway.{IsUnderway}
 use Rattle.sja_bus.proofs.all_nodes.sample_all.Given as goal
 
@@ -12,7 +12,6 @@ invariant-loop-k g l = record {
       l.initial.seats l.initial.links l.initial.board l.k l.seats l.initial.links l.initial.board;
   links : l.links ≡ l.initial.links;
   board : l.board ≡ l.initial.board;
-  free : (n : ℕ) → AreFree (suc n) l.initial.seats → AreFree n l.seats;
-  bits : Done SeatHasBits l.k l.initial.seats l.seats;
+  idle : Done (SeatIdle l.struck l.level) l.k l.initial.seats l.seats;
   level : l.next ≡ wired (driven_by (take l.k l.seats));
 }

@@ -1,4 +1,9 @@
-use Rattle.std.proofs.Common.{◌≡◌, ◌<◌, ◌≤◌, ℕ, length, rules, arith, refl, ◌∙◌, subst}
+use Rattle.std.proofs.Common.{◌≡◌, ◌<◌, ◌≤◌, ℕ, length, rules, arith, refl, ap, ◌∙◌, subst, inl, inr}
+use Rattle.std.proofs.lemmas.Bool.{or_cases, or_parts}
+use Rattle.sja_regs.specs.declared.bus_turn.BusTurn.{BusTurn}
+use Rattle.sja_bus.specs.declared.seat.Seat.{Seat}
+use Rattle.sja_bus.specs.UntilTold.{IsLastTurn}
+use Rattle.sja_bus.proofs.AllNodes.Telling.{idle_on, told_here, told_still}
 use Rattle.std.specs.Prelude.{Err, slice_set, slice_index_or}
 use Rattle.std.proofs.lemmas.List.{get_or-set_other as set_else}
 use Rattle.sja_link.specs.BusLedgers.{link_of}
@@ -21,6 +26,9 @@ loop-k-init g c = record {
   ports = refl;
   others = λ m far. g.met.B.Board.kept_refl c.args.board.now m;
   before = λ m low. (g.met.B.Board.kept_refl c.args.board.now m, λ s. refl);
+  rest = λ m far. (g.met.B.Board.kept_refl c.args.board.now m, λ s. refl);
+  told = λ wrong. absurd cc;
+  idle = λ none. (refl, λ m s from low few. absurd (omega (arith, from, low)));
   row = λ before given was u. u;
 }
 
@@ -35,14 +43,16 @@ sample-requires-clause-at g c =
 pub loop-k-preserved : goal.loop-k-preserved
 loop-k-preserved g c =
     let E = g.E.BusEnd in let B = g.B.Board in let met = g.met.B.Board in let k = c.loop-k.k in
-    let had = c.in_ok-sample.ensures.had in let keeps = c.sample.ensures.keeps in
+    let had = c.in_ok-one.ensures.had in let keeps = c.sample.ensures.keeps in
     let here : k < length c.loop-k.seats = search rules in
     let was : k < length c.args.seats.now = search rules in
     let n = (c.loop-k.invariant.ready k c.index-seats-k.result here).own in
     let a = c.args.board.now in let b = c.loop-k.board in let z = c.sample.new.board in
     let s = slice_index_or c.loop-k.seats k c.index-seats-k.result in
-    let H : ℕ → Type 0 = λ base. HadBit E B (B.kept b z (link_of s.ledger).node) c.seen-sees.result s c.sample.new.self
-    c.loop-k.links c.sample.new.links base b z in
+    let one = c.in_ok-one.one in let new = c.sample.new.self in let inv = c.loop-k.invariant in
+    let from : c.args.first ≤ k = search rules in let own = inv.rest k (omega arith) in
+    let H : ℕ → Type 0 = λ base. HadBit E B one c.seen-sees.result s new c.loop-k.links c.sample.new.links base b z in
+    let T : ℕ → Type 0 = λ m. (turn : BusTurn) × B.told b z m turn × IsLastTurn new.journal.entries turn in
     let sees : c.seen-sees.result ≡ seen_by c.args.struck c.args.level k = c.seen-sees.ensures
     ∙ seen_is c.has.result c.args.struck c.args.level k c.has.ensures in
     record {
@@ -58,6 +68,21 @@ loop-k-preserved g c =
             met.kept_trans a b z m was.0 (keeps.others m (λ e. omega (arith, e, n, low, from))),
             λ s. set_else c.loop-k.seats k m c.sample.new.self s (λ e. omega (arith, e, low, from)) ∙ was.1 s,
           );
+      rest = λ m far. let was = inv.rest m (omega (arith, far)) in (
+        met.kept_trans a b z m was.0 (keeps.others m (λ e. omega (arith, e, n, far))),
+        λ s. set_else c.loop-k.seats k m new s (λ e. omega (arith, e, far)) ∙ was.1 s,
+      );
+      told = λ yes all. elim (or_cases c.loop-k.told one yes) [
+        | inl earlier ↦ told_still B c.loop-k.seats k new a b z met.told_first
+            (λ m ne. keeps.others m (λ e. ne (e ∙ n))) (inv.told earlier all)
+        | inr now ↦ told_here B c.loop-k.seats k new a b z met.told_last here own.0 (subst T n (had.yes now
+            (ap (λ (x : Seat). x.untold) (own.1 c.index-seats-k.result) ∙ all k c.index-seats-k.result from was)))
+      ];
+      idle = λ no. let none = or_parts c.loop-k.told one no in let far = inv.idle none.0 in let did = had.no none.1 in (
+        did.0 ∙ far.0,
+        idle_on c.args.first k c.args.struck c.args.level c.seen-sees.result c.args.seats.now c.loop-k.seats
+            c.index-seats-k.result new here c.loop-k.auto.seats sees (own.1 c.index-seats-k.result) did.1 far.1,
+      );
       row = λ before given then u.
           underway_one E B g.met.E.BusEnd.same_trans met.kept_trans met.told_first met.told_last c.args.struck
           c.args.level c.seen-sees.result before c.loop-k.seats given c.loop-k.links c.sample.new.links then b z k
@@ -65,12 +90,12 @@ loop-k-preserved g c =
           (c.loop-k.invariant.row before given then u);
     }
 
-pub returns-in_err-sample-clause-sames : goal.returns-in_err-sample-clause-sames
-returns-in_err-sample-clause-sames g c = each_trans g.E.BusEnd.same g.met.E.BusEnd.same_trans c.args.links.now
+pub returns-in_err-one-clause-sames : goal.returns-in_err-one-clause-sames
+returns-in_err-one-clause-sames g c = each_trans g.E.BusEnd.same g.met.E.BusEnd.same_trans c.args.links.now
     c.loop-k.links c.sample.new.links c.loop-k.invariant.sames c.sample.ensures.keeps.stays.sames
 
-pub returns-in_err-sample-clause-board : goal.returns-in_err-sample-clause-board
-returns-in_err-sample-clause-board g c =
+pub returns-in_err-one-clause-board : goal.returns-in_err-one-clause-board
+returns-in_err-one-clause-board g c =
     let here : c.loop-k.k < length c.args.seats.now = search rules in
     let n = (c.loop-k.invariant.ready c.loop-k.k c.index-seats-k.result (search rules)).own in (
       c.sample.ensures.keeps.ports ∙ c.loop-k.invariant.ports,
@@ -85,19 +110,27 @@ returns-clause-board g c = (c.loop-k.invariant.ports, c.loop-k.invariant.others)
 pub returns-clause-before : goal.returns-clause-before
 returns-clause-before g c = c.loop-k.invariant.before
 
+pub returns-clause-told : goal.returns-clause-told
+returns-clause-told g c = λ yes all. (c.loop-k.invariant.told yes all).some
+
+pub returns-clause-idle : goal.returns-clause-idle
+returns-clause-idle g c = λ no.
+    let far = c.loop-k.invariant.idle no in let all : length c.args.seats.now ≤ c.loop-k.k = search rules in
+    (far.0, λ m s from few. far.1 m s from (omega (arith, few, all)) few)
+
 pub returns-clause-row : goal.returns-clause-row
 returns-clause-row g c = λ before given was u. (c.loop-k.k, search rules, c.loop-k.invariant.row before given was u)
 
-pub returns-in_err-sample-clause-broken : goal.returns-in_err-sample-clause-broken
-returns-in_err-sample-clause-broken g c =
+pub returns-in_err-one-clause-broken : goal.returns-in_err-one-clause-broken
+returns-in_err-one-clause-broken g c =
     let E = g.E.BusEnd in let D = g.B.Board in let k = c.loop-k.k in let s = c.index-seats-k.result in let f =
-    c.in_err-sample.field-0.0 in
+    c.in_err-one.field-0.0 in
     let inv = c.loop-k.invariant in let new = c.sample.new.self in
     let near : k < length c.loop-k.seats = search rules in
     let is : c.from_residual.result ≡ Err f = search rules in
     let was = slice_index_or c.loop-k.seats k s in
     let B : ℕ → Type 0 = λ base. BreaksInBit E was new c.loop-k.links base f in
-    let broken = subst B c.first_link.ensures c.in_err-sample.ensures.broken in
+    let broken = subst B c.first_link.ensures c.in_err-one.ensures.broken in
     let P : _ → Type 0 = λ x. BreaksUnderway E D c.args.struck c.args.level c.args.first c.args.seats.now
     (slice_set c.loop-k.seats k new) c.args.links.now c.args.board.now x in
     err_is P c.from_residual.result f is

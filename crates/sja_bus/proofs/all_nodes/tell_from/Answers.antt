@@ -1,7 +1,9 @@
-use Rattle.std.proofs.Common.{◌≡◌, ◌+◌, ℕ, List, rules, arith, sym, ◌∙◌, subst}
-use Rattle.std.specs.Prelude.{Err, slice_set, slice_index_or}
+use Rattle.std.proofs.Common.{◌≡◌, ◌+◌, ℕ, true, false, List, rules, arith, refl, sym, ap, ◌∙◌, subst, inl, inr}
+use Rattle.std.specs.Prelude.{◌||◌, Err, slice_set, slice_index_or}
+use Rattle.std.proofs.lemmas.Bool.{cases_Bool, cases_lt, or_parts}
+use Rattle.sja_bus.specs.Inside.RunningOn.{SeatIdle, SomeTold}
 use Rattle.std.proofs.Math.ListN.{length-set}
-use Rattle.std.proofs.lemmas.List.{get_or-set_same as set_here}
+use Rattle.std.proofs.lemmas.List.{get_or-set_other as set_else, get_or-set_same as set_here}
 use Rattle.sja_link.specs.BusLedgers.{link_of}
 use Rattle.sja_bus.specs.declared.seat.Seat.{Seat}
 use Rattle.sja_bus.specs.UntilTold.{IsLastTurn}
@@ -11,21 +13,19 @@ use Rattle.sja_bus.specs.Inside.Underway.{BreaksUnderway, IsUnderway}
 use Rattle.sja_bus.proofs.ItemsTaken.BreakingSeats.{breaks_seat}
 use Rattle.lemmas.proofs.Related.{each_trans}
 use Rattle.lemmas.proofs.Results.{err_is}
-use Rattle.std.proofs.lemmas.Result.{on_ok_weaker, IfErr-weaker}
 use Rattle.sja_bus.proofs.AllNodes.Many.{ready_one}
 use Rattle.sja_bus.proofs.AllNodes.Rows.{seated_on}
 use Rattle.sja_bus.proofs.AllNodes.Running.{seen_is}
 use Rattle.sja_bus.proofs.AllNodes.Underway.{underway_one}
-use Rattle.sja_bus.proofs.AtPorts.SeatBits.{had_told}
-use Rattle.sja_bus.proofs.AtPorts.TurnsTold.{turn_told}
-use Rattle.sja_bus.proofs.all_nodes.tell_from.Goals.{In_ok-sample_and_tell}
+use Rattle.sja_bus.proofs.AllNodes.Telling.{idle_on}
+use Rattle.sja_bus.proofs.all_nodes.tell_from.Goals.{In_ok-one, In_ok-others}
 use Rattle.sja_bus.proofs.all_nodes.tell_from.Goals as goal
 
 pub sample_from-requires : goal.sample_from-requires
 sample_from-requires g c =
     let h = c.requires.seated in let keeps = c.sample_and_tell.ensures.keeps in let seats = c.args.seats.now in
     let k = c.args.first in let s = c.index-seats-first.result in let new = c.sample_and_tell.new.self in
-    let ports = g.B.Board.ports in let had = c.in_ok-sample_and_tell.ensures.had in record {
+    let ports = g.B.Board.ports in let had = c.in_ok-one.ensures.had in record {
       seated = seated_on g.E.BusEnd.link g.E.BusEnd.same g.met.E.BusEnd.same_link seats (slice_set seats k new)
           c.args.links.now c.sample_and_tell.new.links (ports c.args.board.now) (ports c.sample_and_tell.new.board)
           (length-set seats k new) keeps.stays.sames keeps.ports
@@ -50,26 +50,75 @@ returns-clause-board g c =
           (kept.1 m (omega (arith, far, set))),
     )
 
-pub returns-clause-told : goal.returns-clause-told
-returns-clause-told g c =
+-- where that of the first was, and where that of another one was
+first_told : (g : _) (c : In_ok-others g) → c.in_ok-one.one ≡ true →
+    SomeTold (g.B.Board.told c.args.board.now c.sample_from.new.board) c.sample_from.new.seats
+first_told g c was_told =
     let B = g.B.Board in let met = g.met.B.Board in let k = c.args.first in let s = c.index-seats-first.result in
     let here = c.requires.few in let seats = c.args.seats.now in let new = c.sample_and_tell.new.self in
     let a = c.args.board.now in let b = c.sample_and_tell.new.board in let z = c.sample_from.new.board in
-    let did = c.in_ok-sample_and_tell.ensures in let n = (c.requires.seated.ready k s here).own in
+    let n = (c.requires.seated.ready k s here).own in
     let set = length-set seats k new in let count = c.sample_from.auto.seats in
-    let last = turn_told {seen = c.seen-sees.result} {old = slice_index_or seats k s} {new = new} (c.requires.told s)
-    did.had.turns in
+    let last = c.in_ok-one.ensures.had.yes was_told (c.requires.told k s (omega arith) here) in
+    let before = c.in_ok-others.ensures.before in
     let T : ℕ → Type 0 = λ m. B.told a b m last.0 in let P : Seat → Type 0 = λ x. IsLastTurn x.journal.entries last.0 in
-    on_ok_weaker c.sample_from.result (λ before. record {
+    record {
       node = k;
       turn = last.0;
       few = omega (arith, here, set, count);
       told = met.told_first a b z k last.0 (subst T n last.1) (before k (omega arith)).0;
       last = λ x. subst P (sym ((before k (omega arith)).1 x ∙ set_here seats k new x here)) last.2;
-    }) c.sample_from.ensures.before
+    }
+
+others_told : (g : _) (c : In_ok-others g) → c.in_ok-one.one ≡ false → c.in_ok-others.others ≡ true →
+    SomeTold (g.B.Board.told c.args.board.now c.sample_from.new.board) c.sample_from.new.seats
+others_told g c passed others =
+    let k = c.args.first in let seats = c.args.seats.now in let new = c.sample_and_tell.new.self in
+    let set = length-set seats k new in
+    let P : _ → Type 0 = λ x. SomeTold (g.B.Board.told x c.sample_from.new.board) c.sample_from.new.seats in
+    subst P (c.in_ok-one.ensures.had.no passed).0 (c.in_ok-others.ensures.told others (λ m s from few.
+    ap (λ (x : Seat). x.untold) (set_else seats k m new s (λ e. omega (arith, e, from)))
+    ∙ c.requires.told m s (omega (arith, from)) (omega (arith, few, set))))
+
+pub returns-clause-told : goal.returns-clause-told
+returns-clause-told g c = λ yes.
+    let at = (goal.at.returns-clause-told g c).In_ok-others in
+    elim (cases_Bool c.in_ok-one.one) [
+      | inl told ↦ first_told g at told
+      | inr passed ↦
+          others_told g at passed (subst (λ b. (b || c.in_ok-others.others) ≡ true) passed yes)
+    ]
+
+pub returns-clause-idle : goal.returns-clause-idle
+returns-clause-idle g c = λ no.
+    let k = c.args.first in let s = c.index-seats-first.result in let seats = c.args.seats.now in
+    let new = c.sample_and_tell.new.self in let after = c.sample_from.new.seats in let struck = c.args.struck in
+    let level = c.args.level in let here = c.requires.few in let set = length-set seats k new in
+    let none = or_parts c.in_ok-one.one c.in_ok-others.others no in
+    let did = c.in_ok-one.ensures.had.no none.0 in let others = c.in_ok-others.ensures.idle none.1 in
+    let sees : c.seen-sees.result ≡ seen_by struck level k = c.seen-sees.ensures
+    ∙ seen_is c.has.result struck level k c.has.ensures in
+    let first = idle_on k k struck level c.seen-sees.result seats seats s new here refl sees refl did.1
+    (λ m t from low few. absurd (omega (arith, from, low))) in (
+      others.0 ∙ did.0,
+      λ m t from few. elim (cases_lt m (k + 1)) [
+        | inl low ↦
+            let N : Seat → Type 0 = λ x. SeatIdle struck level m (slice_index_or seats m t) x in
+            subst N (sym ((c.in_ok-others.ensures.before m low).1 t)) (first m t from low few)
+        | inr far ↦
+            let O : Seat → Type 0 = λ x. SeatIdle struck level m x (slice_index_or after m t) in
+            subst O (set_else seats k m new t (λ e. omega (arith, e, far)))
+            (others.1 m t far (omega (arith, few, set)))
+      ],
+    )
+
+pub returns-clause-before : goal.returns-clause-before
+returns-clause-before g c = λ m s low.
+    (c.in_ok-others.ensures.before m (omega (arith, low))).1 s
+    ∙ set_else c.args.seats.now c.args.first m c.sample_and_tell.new.self s (λ e. omega (arith, e, low))
 
 -- the first of them had its bit
-first_had : (g : _) (c : In_ok-sample_and_tell g) (before : List Seat) (given : List _) (was : _) →
+first_had : (g : _) (c : In_ok-one g) (before : List Seat) (given : List _) (was : _) →
     IsUnderway g.E.BusEnd.same g.E.BusEnd.stands g.B.Board.ports g.B.Board.told g.B.Board.kept c.args.struck
     c.args.level before given was c.args.first c.args.seats.now c.args.links.now c.args.board.now →
     IsUnderway g.E.BusEnd.same g.E.BusEnd.stands g.B.Board.ports g.B.Board.told g.B.Board.kept c.args.struck
@@ -77,48 +126,66 @@ first_had : (g : _) (c : In_ok-sample_and_tell g) (before : List Seat) (given : 
     (slice_set c.args.seats.now c.args.first c.sample_and_tell.new.self) c.sample_and_tell.new.links
     c.sample_and_tell.new.board
 first_had g c before given was u =
-    let E = g.E.BusEnd in let B = g.B.Board in let met = g.met.B.Board in let did = c.in_ok-sample_and_tell.ensures in
+    let E = g.E.BusEnd in let B = g.B.Board in let met = g.met.B.Board in let did = c.in_ok-one.ensures in
     let old = slice_index_or c.args.seats.now c.args.first c.index-seats-first.result in
     let new = c.sample_and_tell.new.self in let a = c.args.board.now in let b = c.sample_and_tell.new.board in
-    let kept = B.kept a b (link_of old.ledger).node in let links = c.args.links.now in
-    let after = c.sample_and_tell.new.links in
-    let H : ℕ → Type 0 = λ base. HadBit E B kept c.seen-sees.result old new links after base a b in
+    let links = c.args.links.now in let after = c.sample_and_tell.new.links in
+    let H : ℕ → Type 0 = λ base. HadBit E B c.in_ok-one.one c.seen-sees.result old new links after base a b in
     let sees : c.seen-sees.result ≡ seen_by c.args.struck c.args.level c.args.first = c.seen-sees.ensures
     ∙ seen_is c.has.result c.args.struck c.args.level c.args.first c.has.ensures in
     underway_one E B g.met.E.BusEnd.same_trans met.kept_trans met.told_first met.told_last c.args.struck c.args.level
     c.seen-sees.result before c.args.seats.now given links after was a b c.args.first c.index-seats-first.result new
-    c.requires.few sees did.keeps (subst H c.first_link.ensures
-    (had_told E B kept c.seen-sees.result old new links after c.first_link.result a b did.had)) u
+    c.requires.few sees did.keeps (subst H c.first_link.ensures did.had) u
 
 pub returns-clause-row : goal.returns-clause-row
 returns-clause-row g c =
-    let had = first_had g (goal.at.returns-clause-row g c).In_ok-sample_and_tell in
-    on_ok_weaker c.sample_from.result (λ on before given was u. on before given was (had before given was u))
-    c.sample_from.ensures.row
+    let had = first_had g (goal.at.returns-clause-row g c).In_ok-one in
+    λ before given was u. c.in_ok-others.ensures.row before given was (had before given was u)
 
-pub returns-clause-broken : goal.returns-clause-broken
-returns-clause-broken g c =
-    let had = first_had g (goal.at.returns-clause-broken g c).In_ok-sample_and_tell in
-    IfErr-weaker c.sample_from.result _ _ (λ f on before given was u. on before given was (had before given was u))
-    c.sample_from.ensures.broken
+pub returns-in_err-others-clause-broken : goal.returns-in_err-others-clause-broken
+returns-in_err-others-clause-broken g c =
+    let had = first_had g (goal.at.returns-in_err-others-clause-broken g c).In_ok-one in
+    let f = c.in_err-others.field-0.0 in
+    let is : c.from_residual-in_err-others.result ≡ Err f = search rules in
+    let P : _ → Type 0 = λ x. BreaksUnderway g.E.BusEnd g.B.Board c.args.struck c.args.level c.args.first
+    c.args.seats.now c.sample_from.new.seats c.args.links.now c.args.board.now x in
+    err_is P c.from_residual-in_err-others.result f is
+    (λ before given was u. c.in_err-others.ensures.broken before given was (had before given was u))
 
-pub returns-in_err-sample_and_tell-clause-sames : goal.returns-in_err-sample_and_tell-clause-sames
-returns-in_err-sample_and_tell-clause-sames g c = c.sample_and_tell.ensures.keeps.stays.sames
+pub returns-in_err-others-clause-sames : goal.returns-in_err-others-clause-sames
+returns-in_err-others-clause-sames g c = each_trans g.E.BusEnd.same g.met.E.BusEnd.same_trans c.args.links.now
+    c.sample_and_tell.new.links c.sample_from.new.links c.sample_and_tell.ensures.keeps.stays.sames
+    c.sample_from.ensures.sames
 
-pub returns-in_err-sample_and_tell-clause-board : goal.returns-in_err-sample_and_tell-clause-board
-returns-in_err-sample_and_tell-clause-board g c =
+pub returns-in_err-others-clause-board : goal.returns-in_err-others-clause-board
+returns-in_err-others-clause-board g c =
+    let k = c.args.first in let here = c.requires.few in
+    let n = (c.requires.seated.ready k c.index-seats-first.result here).own in
+    let set = length-set c.args.seats.now k c.sample_and_tell.new.self in
+    let kept = c.sample_from.ensures.board in (
+      kept.0 ∙ c.sample_and_tell.ensures.keeps.ports,
+      λ m far. g.met.B.Board.kept_trans c.args.board.now c.sample_and_tell.new.board c.sample_from.new.board m
+          (c.sample_and_tell.ensures.keeps.others m (λ e. omega (arith, e, n, far, here)))
+          (kept.1 m (omega (arith, far, set))),
+    )
+
+pub returns-in_err-one-clause-sames : goal.returns-in_err-one-clause-sames
+returns-in_err-one-clause-sames g c = c.sample_and_tell.ensures.keeps.stays.sames
+
+pub returns-in_err-one-clause-board : goal.returns-in_err-one-clause-board
+returns-in_err-one-clause-board g c =
     let here = c.requires.few in let keeps = c.sample_and_tell.ensures.keeps in
     let n = (c.requires.seated.ready c.args.first c.index-seats-first.result here).own in
     (keeps.ports, λ m far. keeps.others m (λ e. omega (arith, e, n, far, here)))
 
-pub returns-in_err-sample_and_tell-clause-broken : goal.returns-in_err-sample_and_tell-clause-broken
-returns-in_err-sample_and_tell-clause-broken g c =
+pub returns-in_err-one-clause-broken : goal.returns-in_err-one-clause-broken
+returns-in_err-one-clause-broken g c =
     let E = g.E.BusEnd in let D = g.B.Board in let k = c.args.first in let s = c.index-seats-first.result in
-    let f = c.in_err-sample_and_tell.field-0.0 in let new = c.sample_and_tell.new.self in
+    let f = c.in_err-one.field-0.0 in let new = c.sample_and_tell.new.self in
     let seats = c.args.seats.now in let old = slice_index_or seats k s in let near = c.requires.few in
     let is : c.from_residual.result ≡ Err f = search rules in
     let B : ℕ → Type 0 = λ base. BreaksInBit E old new c.args.links.now base f in
-    let broken = subst B c.first_link.ensures c.in_err-sample_and_tell.ensures.broken in
+    let broken = subst B c.first_link.ensures c.in_err-one.ensures.broken in
     let P : _ → Type 0 = λ x. BreaksUnderway E D c.args.struck c.args.level k seats (slice_set seats k new)
     c.args.links.now c.args.board.now x in
     err_is P c.from_residual.result f is

@@ -19,7 +19,7 @@ loop-k-preserved c =
         | inl fewer ↦ inr (
           k,
           within,
-          λ s. let P : Seat → Type 0 = λ x. x.journal.room - length x.journal.entries
+          λ s. let P : Seat → Type 0 = λ x. x.journal.room.all - length x.journal.entries
               ≤ c.min-free.result in subst P (sym (same s)) (omega (arith, less, here, fewer)),
         )
         | inr enough ↦ let free : c.min-free.result ≡ c.loop-k.free = omega (arith, less, enough) in
@@ -28,7 +28,7 @@ loop-k-preserved c =
       free = λ m s before few. elim (earlier_or_last m k before) [
         | inl earlier ↦ let room = inv.free m s earlier few in omega (arith, room, less)
         | inr now ↦
-            let P : Seat → Type 0 = λ x. c.min-free.result ≤ x.journal.room - length x.journal.entries in
+            let P : Seat → Type 0 = λ x. c.min-free.result ≤ x.journal.room.all - length x.journal.entries in
             let room : P (slice_index_or c.args.seats.now k seat) = omega (arith, less, here) in
             let is : slice_index_or c.args.seats.now m s ≡ slice_index_or c.args.seats.now k seat =
             ap (λ i. slice_index_or c.args.seats.now i s) now ∙ same s in

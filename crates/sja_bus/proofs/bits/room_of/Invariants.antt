@@ -9,6 +9,6 @@ abbrev pub invariant-loop-k : goal.invariant-loop-k
 invariant-loop-k l = record {
   most : l.free ≤ l.most;
   free : (m : ℕ) (s : Seat) → m < l.k → m < length l.seats →
-      l.free ≤ (slice_index_or l.seats m s).journal.room - length (slice_index_or l.seats m s).journal.entries;
+      l.free ≤ (slice_index_or l.seats m s).journal.room.all - length (slice_index_or l.seats m s).journal.entries;
   least : (l.free ≡ l.most) ⊎ SomeFull l.free l.seats;
 }

@@ -215,6 +215,23 @@ returns-in-Err-clause-breaks g c = λ steps left later enough rooms journals run
       left_so_far = left_is;
     }
 
+-- ---- the room for them
+
+pub returns-after-loop-run-clause-free : goal.returns-after-loop-run-clause-free
+returns-after-loop-run-clause-free g c = λ k s here.
+    let room = c.room_of.ensures.free k s here in let count = c.part-marks.ensures.count in
+    let within = c.loop-run.invariant.within in omega (arith, room, count, within)
+
+pub returns-else-goes_on-clause-free : goal.returns-else-goes_on-clause-free
+returns-else-goes_on-clause-free g c = λ k s here.
+    let room = c.room_of.ensures.free k s here in let count = c.part-marks.ensures.count in
+    let within = c.loop-run.invariant.within in omega (arith, room, count, within)
+
+pub returns-then-end-clause-free : goal.returns-then-end-clause-free
+returns-then-end-clause-free g c = λ k s here.
+    let room = c.room_of.ensures.free k s here in let count = c.part-marks.ensures.count in
+    let within : c.loop-run.run < length c.part-marks.result.now = search rules in omega (arith, room, count, within)
+
 -- ---- why they ended
 
 pub returns-after-loop-run-clause-ends : goal.returns-after-loop-run-clause-ends

@@ -1,5 +1,6 @@
 use Rattle.std.proofs.Common.{◌≡◌, ℕ, ◌+◌, ◌-◌, ◌<◌, ◌≤◌, List, length}
 use Rattle.std.specs.Prelude.{◌⊎◌}
+use Rattle.sja_link.specs.Written.{Room}
 use Rattle.sja_script.specs.Striking.{Strikes}
 use Rattle.lemmas.specs.Related.{EachRelated}
 use Rattle.sja_bus.specs.Several.{AreBits}
@@ -19,7 +20,7 @@ invariant-loop-run g l = record {
   bus : IsBus l.struck.script (l.from + l.run) l.seats;
   told : AreTold l.seats;
   sames : EachRelated g.E.BusEnd.same l.initial.links l.links;
-  rooms : (n : ℕ → ℕ) → HaveRoom n l.initial.seats → HaveRoom n l.seats;
+  rooms : (n : ℕ → Room) → HaveRoom n l.initial.seats → HaveRoom n l.seats;
   fresh : l.run ≡ 0 → l.seats ≡ l.initial.seats;
   unstruck : (i node : ℕ) → i < l.run → node < 8 → Strikes l.struck.script (l.from + i) node → ⊥;
   free : AreFree (length l.marks - l.run) l.seats;

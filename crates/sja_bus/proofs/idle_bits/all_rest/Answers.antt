@@ -12,7 +12,7 @@ pub rest-requires : goal.rest-requires
 rest-requires c =
     let k = c.loop-k.k in let s = c.index-seats-k.result in let n = c.args.count in
     let was : k < length c.args.seats.now = search rules in
-    let P : Seat → Type 0 = λ x. n ≤ x.journal.room - length x.journal.entries in
+    let P : Seat → Type 0 = λ x. n ≤ x.journal.room.all - length x.journal.entries in
     subst P (sym ((c.loop-k.invariant.done k s was).1 (omega arith))) (c.requires.free k s was)
 
 pub loop-k-preserved : goal.loop-k-preserved

@@ -2,6 +2,7 @@ use Rattle.std.proofs.Common.{◌≡◌, ◌≢◌, ◌+◌, ◌-◌, false, rep
 use Rattle.std.proofs.Common.{subst, arith, rules, ℕ, refl, Some}
 use Rattle.std.specs.Prelude.{◌⊎◌, Err, vec_capacity}
 use Rattle.lemmas.proofs.Related.{each_refl}
+use Rattle.sja_link.specs.Written.{Room}
 use Rattle.sja_bus.specs.declared.seat.Seat.{Seat}
 use Rattle.sja_wire.specs.Buses.{BusValue, IsBit}
 use Rattle.sja_bus.specs.Moment.{moment, Keeps}
@@ -84,7 +85,7 @@ whole : (g : _) (c : In-Ok g) → length c.bit_of_all.new.seats ≡ length c.sel
 whole g c len =
     let b = c.self.inside in let inv = c.self.invariant.0 in
     let some = (right g c).1 in let bits = inv.bits in let few = inv.few in let logs = inv.logs in
-    let H : List Seat → Type 0 = λ l. (n : ℕ → ℕ) → HaveRoom n l → HaveRoom n c.bit_of_all.new.seats in record {
+    let H : List Seat → Type 0 = λ l. (n : ℕ → Room) → HaveRoom n l → HaveRoom n c.bit_of_all.new.seats in record {
       few = omega (arith, len, few);
       bits = omega (arith, bits, some);
       most = inv.most;

@@ -4,6 +4,7 @@ use Rattle.std.specs.Prelude.{vec_capacity}
 use Rattle.lemmas.proofs.Related.{each_refl}
 use Rattle.sja_bus.specs.declared.seat.Seat.{Seat}
 use Rattle.sja_wire.specs.Lawful.{IsBusRun}
+use Rattle.sja_link.specs.Written.{Room}
 use Rattle.sja_link.specs.BitEntries.{MayHaveItems}
 use Rattle.sja_wire.specs.Buses.{BusValue, EachJournal, EachUntold, AllDry}
 use Rattle.sja_bus.specs.Inside.Rows.{journals_of, untold_of, EachSeat, SeatTakes, SeatUntold}
@@ -49,7 +50,7 @@ invariant_of-self g c =
     let N : List Seat → Type 0 = λ l. EachSeat SeatUntold l now in
     let untold : EachSeat SeatUntold was now = subst N v c.in-Ok.ensures.untold in
     let few = inv.few in let logs = inv.logs in
-    let H : List Seat → Type 0 = λ l. (n : ℕ → ℕ) → HaveRoom n l → HaveRoom n now in
+    let H : List Seat → Type 0 = λ l. (n : ℕ → Room) → HaveRoom n l → HaveRoom n now in
     let l : IsWhole b.struck b.steps.items b.run b.left b.fault now (vec_capacity b.logs) = record {
       few = omega (arith, len, few);
       bits = inv.bits;

@@ -1,7 +1,8 @@
 use Rattle.std.specs.Prelude.{slice_index_or}
 use Rattle.std.proofs.lemmas.List.{get_or_default as or_same}
-use Rattle.std.proofs.Common.{◌≡◌, ℕ, ◌+◌, ◌*◌, ◌<◌, ◌≤◌, Bool, false, None, List, [], length, replicate, rules, arith}
-use Rattle.std.proofs.Common.{sym, ap, ◌∙◌, subst, vec_capacity}
+use Rattle.std.proofs.Common.{◌≡◌, ℕ, ◌+◌, ◌<◌, ◌≤◌, Bool, false, None, List, [], length, replicate, rules}
+use Rattle.std.proofs.Common.{arith, sym, ap, ◌∙◌, subst, vec_capacity}
+use Rattle.sja_link.specs.Written.{room_in}
 use Rattle.sja_link.specs.declared.entry.Entry.{Entry}
 use Rattle.sja_bus.specs.declared.seat.Seat.{Seat}
 use Rattle.sja_wire.specs.Buses.{BusValue}
@@ -25,7 +26,7 @@ loop-node-preserved c =
     let here : c.index.result.now ≡ slice_index_or c.args.steps.items (length c.loop-node.seats.items) 0 =
     c.index.ensures ∙ or_same c.args.steps.items n c.index.result.now 0 less
     ∙ ap (λ (m : ℕ). slice_index_or c.args.steps.items m 0) (sym count) in
-    let own = made.room ∙ ap (λ (m : ℕ). 2 * c.args.bits + 2 * m + 100) here in
+    let own = made.room ∙ ap (λ (m : ℕ). room_in c.args.bits m) here in
     record {
       count = search rules;
       room = search rules;

@@ -99,7 +99,8 @@ returns-in-Ok-clause-runs g c =
     let some : n ≢ 0 = search rules in
     let quiet = c.quiet_for-bits.ensures.most in let min = c.min.ensures in
     let h = stretch_after orders told kept (λ node. g.met.B.Board.kept_refl board node) was
-    (inv.bus (is_right g at)).ready rest (asked g at) b.struck.script b.run n inv.few c.quiet_for-bits.ensures.quiet in
+    (inv.bus (is_right g at)).ready rest (asked g at) b.struck.script b.run n inv.few c.quiet_for-bits.ensures.quiet
+    (inv.bus (is_right g at)) in
     let N : List Seat → Type 0 = λ l.
     IsStretch orders told kept b.struck.script b.run n (untold_of was) (journals_of was) (journals_of l) in
     let none : untold_of was ≡ replicate (length was) false =

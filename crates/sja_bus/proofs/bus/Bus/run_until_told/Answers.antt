@@ -2,6 +2,7 @@ use Rattle.std.proofs.Common.{◌≡◌, ◌+◌, ◌-◌, ◌≤◌, ℕ, true,
 use Rattle.std.proofs.Common.{arith, rules}
 use Rattle.std.proofs.lemmas.Grind.{common_steps}
 use Rattle.std.specs.Prelude.{◌⊎◌, None, Result, Ok, Err, vec_capacity}
+use Rattle.sja_link.specs.Written.{Room}
 use Rattle.sja_script.specs.declared.strike.Strike.{Strike}
 use Rattle.sja_script.specs.Striking.{Strikes}
 use Rattle.sja_bus.specs.Inside.StrikesByBit.{Scripted}
@@ -10,15 +11,15 @@ use Rattle.sja_bus.specs.declared.seat.Seat.{Seat}
 use Rattle.sja_wire.specs.Buses.{BusValue}
 use Rattle.sja_bus.specs.Moment.{moment}
 use Rattle.sja_wire.specs.Reasons.{room_for}
-use Rattle.sja_bus.specs.Inside.Refusing.{HaveRoom}
+use Rattle.sja_bus.specs.Inside.Refusing.{AreFree, HaveRoom}
 use Rattle.sja_bus.specs.Inside.Rows.{AreSeated, journals_of}
-use Rattle.sja_bus.specs.UntilTold.{EndsUntilTold, RunsNone, WorksUntold}
+use Rattle.sja_bus.specs.UntilTold.{EndsUntilTold, HasFree, IsCalm, RunsNone, WorksUntold}
 use Rattle.sja_bus.specs.Inside.RunningOn.{bus_of, AnyBit, MayRunOn, RowsRunNone, SomeAborts, SomeUntold}
 use Rattle.sja_bus.specs.Inside.Whole.{IsWhole}
 use Rattle.sja_bus.proofs.AllNodes.RanOn.{bus_is, ran, stopped}
 use Rattle.sja_bus.proofs.AllNodes.Running.{count_is}
 use Rattle.sja_bus.proofs.AllNodes.SoFar.{none_yet}
-use Rattle.sja_bus.proofs.AllNodes.UntilTold.{ended, held_by_port, held_by_rows}
+use Rattle.sja_bus.proofs.AllNodes.UntilTold.{calm_bus, ended, free_bus, held_by_port, held_by_rows}
 use Rattle.sja_bus.proofs.bus.Bus.run_until_told.Goals.{After-untaken_bits}
 use Rattle.sja_bus.proofs.bus.Bus.run_until_told.Goals as goal
 
@@ -87,6 +88,33 @@ returns-in-Ok-clause-none g c = λ zero.
     count_in (Ok n) = n
     count_in (Err f) = 0
 
+pub returns-then-not-may_run_untaken-clause-calm : goal.returns-then-not-may_run_untaken-clause-calm
+returns-then-not-may_run_untaken-clause-calm g c = λ some. absurd (some refl)
+
+pub returns-in-Ok-clause-calm : goal.returns-in-Ok-clause-calm
+returns-in-Ok-clause-calm g c = λ some.
+    let b = c.self.inside in let asked = g.B.Board.orders_are c.args.board.now in
+    let may : c.may_run_untaken.result ≡ true = search rules in
+    let P : List Seat → Type 0 = λ l. MayRunOn g.B.Board c.args.board.now l in
+    let on = subst P c.as_slice.ensures.value (c.may_run_untaken.ensures.may may) in
+    subst (IsCalm asked) c.self.view_is
+    (calm_bus c.args.to_rest c.args.most b.struck.script b.steps.items b.run b.left b.fault b.seats.items asked
+    on.orders on.told)
+
+pub returns-then-not-may_run_untaken-clause-free : goal.returns-then-not-may_run_untaken-clause-free
+returns-then-not-may_run_untaken-clause-free g c = λ some. absurd (some refl)
+
+pub returns-in-Ok-clause-free : goal.returns-in-Ok-clause-free
+returns-in-Ok-clause-free g c = λ some.
+    let at = (goal.at.returns-in-Ok-clause-free g c).After-untaken_bits in
+    let b = c.self.inside in let whole = c.self.invariant.0 in let n = c.in-Ok.bits in
+    let N : ℕ → Type 0 = λ m. HaveRoom (room_for m b.steps.items) b.seats.items in
+    let F : List Seat → Type 0 = λ l. AreFree n l in
+    subst (HasFree n) c.self.view_is
+    (free_bus c.args.to_rest c.args.most b.struck.script b.steps.items b.run b.left b.fault b.seats.items n some
+    (subst F c.as_mut_slice-seats.ensures.value c.in-Ok.ensures.free)
+    (subst N (sym whole.bits) (whole.rooms (right g at))))
+
 pub returns-then-not-may_run_untaken-clause-longest : goal.returns-then-not-may_run_untaken-clause-longest
 returns-then-not-may_run_untaken-clause-longest g c = λ some. absurd (some refl)
 
@@ -98,7 +126,7 @@ returns-in-Ok-clause-longest g c = λ some.
     let most = c.in-Ok.ensures.most in let runs = c.in-Ok.ensures.runs in
     let was = moment c.args.self.now c.args.links.now c.args.board.now in
     let all : b.struck.bits ≡ (b.run + n) + (b.left - n) = omega (arith, bits, most, enough) in
-    let H : List Seat → Type 0 = λ l. (m : ℕ → ℕ) → HaveRoom m l → HaveRoom m now in
+    let H : List Seat → Type 0 = λ l. (m : ℕ → Room) → HaveRoom m l → HaveRoom m now in
     let N : ℕ → Type 0 = λ m. HaveRoom (room_for m b.steps.items) now in
     let P : BusValue → Type 0 = λ w. EndsUntilTold g.B.Board c.args.to_rest c.args.most was n
     (moment w c.untaken_bits.new.links c.untaken_bits.new.board) in
@@ -135,7 +163,7 @@ invariant_of-self g c =
     let b = c.self.inside in let n = c.in-Ok.bits in let now = c.untaken_bits.new.seats in
     let whole = c.self.invariant.0 in let few = whole.few in let logs = whole.logs in let bits = whole.bits in
     let len = same_count g at in let enough = enough_left g at in let most = c.in-Ok.ensures.most in
-    let H : List Seat → Type 0 = λ l. (m : ℕ → ℕ) → HaveRoom m l → HaveRoom m now in
+    let H : List Seat → Type 0 = λ l. (m : ℕ → Room) → HaveRoom m l → HaveRoom m now in
     let same = bits_are g at in let all = whole.most in
     let R : ℕ → Type 0 = λ m. HaveRoom (room_for m b.steps.items) now in
     let P : List Seat → Type 0 = λ l. IsWhole c.write.new.self b.steps.items (b.run + n) (b.left - n) b.fault l

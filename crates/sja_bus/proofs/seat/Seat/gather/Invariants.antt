@@ -17,4 +17,4 @@ invariant-loop-self g l = record {
 }
 
 abbrev pub decreases-loop-self : goal.decreases-loop-self
-decreases-loop-self g l = l.self.journal.room - length l.self.journal.entries
+decreases-loop-self g l = l.self.journal.room.all - length l.self.journal.entries

@@ -1,5 +1,6 @@
 use Rattle.std.proofs.Common.{◌≡◌, ◌≤◌, ℕ, suc, List, [], ◌∷◌, ◌++◌, length, refl, sym, ap, ◌∙◌, subst, rules}
 use Rattle.std.specs.Prelude.{Err}
+use Rattle.sja_link.specs.Written.{Room, IsFullFor}
 use Rattle.sja_link.specs.declared.entry.Entry.{Entry}
 use Rattle.sja_link.specs.declared.entry.Entry.TheVariants.{Bit}
 use Rattle.sja_link.specs.declared.link_id.LinkId.{LinkId}
@@ -110,13 +111,14 @@ returns-in_err-enter-in-Ok-2-clause-broken g c =
     let is : c.from_residual-in_err-enter-in-Ok-2.result ≡ Err f = search rules in
     let Q : _ → Type 0 = λ y. BreaksBy (IsJudgedShort room j x seen a m new.journal.entries) E.stands E.full
     c.args.end.now was new y in
-    let R : ℕ → Type 0 = λ n. n ≤ length mid.journal.entries in
-    let S : List Entry → Type 0 = λ l. room ≤ length l in
+    let R : Room → Type 0 = λ n. IsFullFor n mid.journal.entries (entry_of v m) in
+    let S : List Entry → Type 0 = λ l. IsFullFor room l (entry_of v m) in
+    let D : Entry → Type 0 = λ e. IsFullFor mid.journal.room mid.journal.entries e in
     let node : (link_of mid.ledger).node ≡ (link_of was.ledger).node
     = ap (λ (s : Seat). (link_of s.ledger).node) first.others ∙ ap (λ (l : LinkId). l.node) c.in-Ok.ensures.id in
     err_is Q c.from_residual-in_err-enter-in-Ok-2.result f is
     (subst Q (sym (full.is ∙ ap (λ k. JournalFull k) node)) (
       refl,
       verdict_unjudged room j new.journal.entries x seen a v m (full.same ∙ first.ok.0)
-          (subst S first.ok.0 (subst R first.room full.full)) due,
+          (subst S first.ok.0 (subst R first.room (subst D c.verdict_entry.ensures full.full))) due,
     ))

@@ -1,10 +1,8 @@
 use Rattle.std.proofs.Common.{◌≡◌, rules, ◌∙◌, subst}
-use Rattle.std.specs.Prelude.{OnOk}
+use Rattle.std.specs.Prelude.{IfOk}
 use Rattle.sja_bus.specs.declared.seat.Seat.{Seat}
 use Rattle.sja_bus.specs.Inside.SeatBits.{HadBit}
-use Rattle.std.proofs.lemmas.Result.{on_ok_weaker}
-use Rattle.sja_link.specs.BusLedgers.{link_of}
-use Rattle.sja_bus.proofs.AtPorts.SeatBits.{had_quiet, had_told, keeps_quiet}
+use Rattle.sja_bus.proofs.AtPorts.SeatBits.{had_quiet, keeps_quiet}
 use Rattle.sja_bus.proofs.seat.Seat.sample.Goals.{else-may_sample_quietly-via-else-may_sample_quietly}
 use Rattle.sja_bus.proofs.seat.Seat.sample.Goals as goal
 
@@ -20,7 +18,7 @@ returns-then-sample_quietly-clause-had g c =
     c.sample_quietly.new.self c.args.links.now c.args.base c.args.board.now c.requires.at.ready
     c.sample_quietly.ensures.ready (c.sample_quietly.ensures.quiet (search rules))
 
--- where it didn't sample quietly nothing changed, and in the other way its port is told
+-- where it didn't sample quietly nothing changed
 pub returns-clause-had : goal.returns-clause-had
 returns-clause-had g c =
     let E = g.E.BusEnd in let B = g.B.Board in let a = c.args.board.now in let z = c.sample_and_tell.new.board in
@@ -31,8 +29,6 @@ returns-clause-had g c =
           ∙ w.sample_quietly.ensures.same (search rules)
       | else-may_sample_quietly-via-else-may_sample_quietly w ↦ w.self-is
     ] in
-    let H : Seat → Type 0 = λ x. OnOk c.sample_and_tell.result (HadBit E B (B.kept a z (link_of x.ledger).node)
-    c.args.seen x new links after c.args.base a z) in
-    subst H is (on_ok_weaker c.sample_and_tell.result
-    (λ had. had_told E B (B.kept a z (link_of s.ledger).node) c.args.seen s new links after c.args.base a z had)
-    c.sample_and_tell.ensures.had)
+    let H : Seat → Type 0 = λ x. IfOk c.sample_and_tell.result (λ told. HadBit E B told c.args.seen x new links after
+    c.args.base a z) in
+    subst H is c.sample_and_tell.ensures.had

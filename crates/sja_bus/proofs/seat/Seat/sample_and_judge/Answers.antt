@@ -72,7 +72,8 @@ returns-in_ok-enter_bit-in-None-clause-moves g c =
 
 pub returns-in_ok-enter_bit-in-None-clause-verdict : goal.returns-in_ok-enter_bit-in-None-clause-verdict
 returns-in_ok-enter_bit-in-None-clause-verdict g c = has_alone c.args.self.now.journal.entries
-    c.enter_bit.new.self.journal.entries c.args.self.now.drives c.args.seen c.in_ok-enter_bit-in-None.ensures.ok.0
+    c.enter_bit.new.self.journal.entries c.args.self.now.drives c.args.seen _ refl
+    c.in_ok-enter_bit-in-None.ensures.ok.0
 
 pub returns-in_ok-overrun-in-Some-clause-mid : goal.returns-in_ok-overrun-in-Some-clause-mid
 returns-in_ok-overrun-in-Some-clause-mid g c =
@@ -119,8 +120,8 @@ returns-in_ok-overrun-in-Some-clause-verdict g c =
     let was = c.args.self.now.journal.entries in
     let two : length c.judge.new.self.journal.entries ≡ length was + 2 = omega (arith, grown) in
     has_judged c.args.self.now.journal.entries c.judge.new.self.journal.entries c.args.self.now.drives c.args.seen
-    (suc c.args.self.now.ended) c.in-Some.message c.in_ok-overrun-in-Some.overrun
-    c.in_ok-overrun-in-Some.ensures.judged
+    (suc c.args.self.now.ended) c.in-Some.message c.requires.runs.0 _
+    (c.in-Some.ensures c.requires.runs.0 c.requires.runs.1) c.in_ok-overrun-in-Some.ensures.judged
 
 pub returns-in_err-enter_bit-in-None-clause-broken : goal.returns-in_err-enter_bit-in-None-clause-broken
 returns-in_err-enter_bit-in-None-clause-broken g c =

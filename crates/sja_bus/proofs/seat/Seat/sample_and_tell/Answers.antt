@@ -2,7 +2,8 @@ use Rattle.std.proofs.Common.{ℕ, refl, sym, ◌∙◌, subst}
 use Rattle.sja_bus.specs.declared.seat.Seat.{Seat}
 use Rattle.sja_bus.specs.Inside.SeatBits.{HadBit, KeepsInBit}
 use Rattle.sja_link.specs.BusLedgers.{link_of}
-use Rattle.sja_bus.proofs.AtPorts.TurnsTold.{full_turns}
+use Rattle.sja_bus.specs.Inside.Turning.{TellsTurn}
+use Rattle.sja_bus.proofs.AtPorts.SeatBits.{had_fully}
 use Rattle.sja_bus.proofs.seat.Seat.sample_and_tell.Goals as goal
 
 pub returns-clause-keeps : goal.returns-clause-keeps
@@ -27,18 +28,15 @@ pub returns-clause-had : goal.returns-clause-had
 returns-clause-had g c =
     let E = g.E.BusEnd in let B = g.B.Board in let a = c.args.board.now in let z = c.tell.new.board in
     let s = c.args.self.now in let mid : Seat = record c.sample_fully.new.self { drives = c.drive-self.result } in
-    let did = c.in_ok-outcome.ensures in let turn = c.tell.ensures.told in
-    let T : ℕ → Type 0 = λ n. B.told a z n turn.0 in
-    let H : Seat → Type 0 = λ x. HadBit E B ⊥ c.args.seen s x c.args.links.now c.sample_fully.new.links c.args.base a z
-    in
-    subst H (sym c.tell.ensures.seat) (record {
-      ready = record {
-        sound = record { follows = did.sound.follows; reads = did.sound.reads };
-        seat = record { own = did.seat.own; few = did.seat.few; runs = did.seat.runs };
-        drives = c.drive-self.ensures;
-      };
-      goes = did.goes;
-      turns = full_turns (B.told a z (link_of s.ledger).node) ⊥ c.args.seen s mid c.in_ok-outcome.outcome turn.0
-          (subst T c.sample_fully.ensures.stays.node turn.1) c.requires.at.ready did.untold did.samples did.brings
-          did.sound.reads.begun turn.2;
-    })
+    let did = c.in_ok-outcome.ensures in let told = c.tell.ensures.told in let outcome = c.in_ok-outcome.outcome in
+    let stands = c.stands-stands.result in
+    let T : ℕ → Type 0 = λ n. TellsTurn (B.told a z n) a z mid stands c.tell.result told.0 in
+    let H : Seat → Type 0 = λ x. HadBit E B c.tell.result c.args.seen s x c.args.links.now c.sample_fully.new.links
+    c.args.base a z in
+    subst H (sym c.tell.ensures.seat) (had_fully E B g.met.B.Board.kept_refl c.tell.result c.args.seen s mid outcome
+    told.0 stands c.args.links.now c.sample_fully.new.links c.args.base a z c.requires.at.ready (record {
+      sound = record { follows = did.sound.follows; reads = did.sound.reads };
+      seat = record { own = did.seat.own; few = did.seat.few; runs = did.seat.runs };
+      drives = c.drive-self.ensures;
+    }) did.goes did.untold did.samples did.brings did.sound.reads.begun told.1 c.stands-stands.ensures.alone
+    (subst T c.sample_fully.ensures.stays.node told.2))

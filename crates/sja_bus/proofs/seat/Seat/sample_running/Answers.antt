@@ -1,6 +1,8 @@
 use Rattle.std.proofs.Common.{◌≡◌, ◌≤◌, ℕ, suc, length, Bool, true, false, rules, subst, ap}
 use Rattle.std.specs.Prelude.{Err}
 use Rattle.sja_bus.specs.Inside.Following.{FollowsBit}
+use Rattle.sja_link.specs.declared.entry.Entry.TheVariants.{Off}
+use Rattle.sja_link.specs.Written.{Room, IsFullFor}
 use Rattle.sja_link.specs.Inside.Moving.{Moves}
 use Rattle.sja_bus.specs.Inside.Seats.{IsMid}
 use Rattle.sja_bus.specs.Inside.Taking.{BreaksHere}
@@ -40,7 +42,7 @@ returns-in_err-go_off-clause-broken g c =
     let outcome = c.in_ok-outcome.ensures in let kept = outcome.kept in
     let is : c.from_residual-in_err-go_off.result ≡ Err f = search rules in
     let P : _ → Type 0 = λ x. BreaksHere E.stands E.full c.args.end.now was new x in
-    let R : ℕ → Type 0 = λ n. n ≤ length mid.journal.entries in
+    let R : Room → Type 0 = λ n. IsFullFor n mid.journal.entries Off in
     let W : Bool → Type 0 = λ w. FollowsBit mid.node mid.journal.entries w in
     let off : c.in_ok-outcome.outcome.events.went_off ≡ true = search rules in
     err_is P c.from_residual-in_err-go_off.result f is

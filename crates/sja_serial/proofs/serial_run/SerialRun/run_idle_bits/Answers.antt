@@ -4,7 +4,7 @@ use Rattle.std.proofs.lemmas.List.{with_items_is}
 use Rattle.sja_serial.specs.Inside.Going.{TakesAtOnce, run_now}
 use Rattle.sja_serial.specs.Serial.{SerialValue}
 use Rattle.sja_serial.proofs.ManyBits.AtOnce.{takes_at_once}
-use Rattle.sja_serial.proofs.ManyBits.Borrowed.{stands_there, lawful_there, put_back}
+use Rattle.sja_serial.proofs.ManyBits.Borrowed.{stands_there, put_back}
 use Rattle.sja_serial.proofs.ManyBits.Unstopped.{never_refused_there}
 use Rattle.sja_serial.proofs.serial_run.SerialRun.run_idle_bits.Goals as goal
 
@@ -21,7 +21,7 @@ returns g c = λ deeds h.
     (takes_at_once setup (run_now s.bus s.drivers.items ports c.as_mut_slice.result.now s.bits)
     (run_now now.self s.drivers.items ports now.links (s.bits + many)) deeds
     (stands_there same view setup deeds h) ok.right q.script q.steps q.nodes refl refl q.sames ok.kept
-    (lawful_there same view c.requires.1.1) most many ok.most ok.bits.0 ok.bits.1 refl
+    most many ok.most ok.bits.0 ok.bits.1 refl
     (λ zero. q.items (is ∙ ap (λ (x : ℕ). Ok x) zero)) (λ zero. q.untold (is ∙ ap (λ (x : ℕ). Ok x) zero))
     ok.stretch)
 

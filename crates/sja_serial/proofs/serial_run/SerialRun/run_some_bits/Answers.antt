@@ -30,6 +30,9 @@ returns-then-bits-eq0-clause-stays g c = let none : c.run_untold_bits-bits.resul
 
 -- ---- or those that were run
 
+pub returns-clause-calm : goal.returns-clause-calm
+returns-clause-calm g c = λ two. c.run_untold_bits-bits.ensures.calm (λ none. c.if-bits-eq0.false none)
+
 pub returns-clause-longest : goal.returns-clause-longest
 returns-clause-longest g c = c.run_untold_bits-bits.ensures.longest (λ none. c.if-bits-eq0.false none)
 

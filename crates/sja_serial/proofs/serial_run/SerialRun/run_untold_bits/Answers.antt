@@ -4,7 +4,7 @@ use Rattle.std.proofs.lemmas.List.{with_items_is}
 use Rattle.sja_script.specs.Striking.{Strikes}
 use Rattle.sja_bus.specs.Boards.{HasOrders}
 use Rattle.sja_bus.specs.Moment.{moment}
-use Rattle.sja_bus.specs.UntilTold.{RunsNone}
+use Rattle.sja_bus.specs.UntilTold.{IsCalm, RunsNone}
 use Rattle.sja_serial.specs.Serial.{SerialValue}
 use Rattle.sja_serial.proofs.ManyBits.Ending.{ended_told}
 use Rattle.sja_serial.proofs.ManyBits.ManyBits.{untold, no_break, bits_taken}
@@ -43,3 +43,8 @@ returns-clause-none g c = λ zero.
     let is : c.bits_until_told.result ≡ Ok 0 = search rules in
     let P : SerialValue → Type 0 = λ x. RunsNone (HasOrders x.ports) false c.args.count x.bus in
     subst P c.self.view_is (c.bits_until_told.ensures.none is)
+
+pub returns-clause-calm : goal.returns-clause-calm
+returns-clause-calm g c = λ some.
+    let P : SerialValue → Type 0 = λ x. IsCalm (HasOrders x.ports) x.bus in
+    subst P c.self.view_is (c.in-Ok.ensures.calm some)
