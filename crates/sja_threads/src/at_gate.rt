@@ -1,32 +1,41 @@
 //! [`AtGate`]: where the thread of a driver tries the steps of its script.
 
 use super::gate::Gate;
+use super::lobby::Lobby;
 use super::pass::Pass;
-use super::waits::wait_to_try;
+use super::waits::{SHORT, wait_a_while};
 use sja_regs::Port;
 use std::sync::{Mutex, Wait};
 use std::thread::Parker;
 
 /// Where the thread of a driver tries the steps of its script (this project's own rule): the port of its node, the gate
-/// that is asked before each try, the runtime by which the thread waits, and the parker on which it does.
+/// that is asked before each try, the runtime by which the thread waits, the parker on which it does, and the lobby
+/// where it says that it waits long, if there is one.
 #[derive(Drop)]
 pub(crate) struct AtGate<'a, R, G: Drop> {
     pub(crate) rt: &'a R,
     pub(crate) port: &'a Mutex<Port>,
     pub(crate) gate: G,
     pub(crate) parker: Parker,
+    pub(crate) lobby: Option<&'a Mutex<Lobby>>,
 }
 
 impl<'a, R: Wait, G: Gate> AtGate<'a, R, G> {
     ghost use Rattle.std.specs.Prelude.{◌≡◌, true, false};
 
     /// Where a thread tries steps at this port, as this gate lets it.
-    pub(crate) fn new(rt: &'a R, port: &'a Mutex<Port>, gate: G) -> AtGate<'a, R, G> {
+    pub(crate) fn new(
+        rt: &'a R,
+        port: &'a Mutex<Port>,
+        gate: G,
+        lobby: Option<&'a Mutex<Lobby>>,
+    ) -> AtGate<'a, R, G> {
         AtGate {
             rt,
             port,
             gate,
             parker: Parker::new(),
+            lobby,
         }
     }
 
@@ -45,9 +54,37 @@ impl<'a, R: Wait, G: Gate> AtGate<'a, R, G> {
         unreachable!()
     }
 
-    /// Waits after a try in vain, and counts the next one.
-    pub(crate) fn wait(&self, tries: &mut u32) {
-        wait_to_try(self.rt, &self.parker, *tries);
+    /// Waits a while, and counts the next try.
+    fn wait(&self, tries: &mut u32) {
+        wait_a_while(self.rt, &self.parker, *tries);
         *tries = tries.saturating_add(1);
+    }
+
+    /// Waits a while after a node's try in vain, and counts the next one: as the greatest number there is, where
+    /// nothing can end the wait any more.
+    pub(crate) fn wait_in_vain(&self, node: u8, tries: &mut u32) {
+        self.wait(tries);
+        if let Some(lobby) = self.lobby {
+            if *tries > SHORT && lobby.lock(self.rt).tell_try(node) {
+                *tries = u32::MAX;
+            }
+        }
+    }
+
+    /// A node's step is done, in so many tries.
+    pub(crate) fn leave(&self, node: u8, tries: u32) {
+        if let Some(lobby) = self.lobby {
+            if tries > SHORT {
+                lobby.lock(self.rt).leave(node);
+            }
+        }
+    }
+
+    /// A node's driver has ended.
+    pub(crate) fn end(&self, node: u8) {
+        self.port.lock(self.rt).finish();
+        if let Some(lobby) = self.lobby {
+            lobby.lock(self.rt).end(node);
+        }
     }
 }

@@ -1,8 +1,9 @@
 //! [`BusThread`]: the bus in the caller's thread, in rounds beside its drivers' threads and after them.
 
+use super::lobby::Lobby;
 use super::lock_board::LockBoard;
 use super::round::Round;
-use super::waits::wait_for_drivers;
+use super::waits::{SHORT, wait_a_while};
 use sja_bus::{Bus, BusFault};
 use sja_log::End;
 use sja_plan::Plan;
@@ -104,7 +105,8 @@ impl BusThread {
 
     /// The rounds of the bus beside its drivers' threads: it takes what they give, and runs the bits that are due,
     /// until all drivers have ended. Which have is asked before each taking, so that what a driver gave before it ended
-    /// is taken. Where a bit is due and none is left, the ports are closed, and taking goes on.
+    /// is taken. Where a bit is due and none is left, the ports are closed, and taking goes on. In the lobby the bus
+    /// says that nothing is due, once that was so for a hundred rounds.
     ///
     /// Error: what the bus answers for another cause than spent bits.
     pub(crate) fn rounds_beside_drivers<R: Wait>(
@@ -112,6 +114,7 @@ impl BusThread {
         rt: &R,
         plan: &Plan,
         ports: &[Mutex<Port>],
+        lobby: &Mutex<Lobby>,
     ) -> Result<(), BusFault>
         requires way { IsUnderWay plan.now self.old }
         requires ports { length plan.now.nodes ≤ length ports.now }
@@ -133,7 +136,10 @@ impl BusThread {
                 if all_ended(&ended) {
                     return Ok(());
                 }
-                wait_for_drivers(rt, &parker, idle);
+                if idle > SHORT {
+                    lobby.lock(rt).tell_round();
+                }
+                wait_a_while(rt, &parker, idle);
                 idle = idle.saturating_add(1);
             }
         }

@@ -83,9 +83,10 @@ impl<D: DriverEnd + Drop> DriverThread<D> {
     {
         for _ in at.rt.forever() {
             if let Some(answer) = self.try_deed(at.rt, at.port, deed) {
+                at.leave(self.node, *tries);
                 return Some(answer);
             }
-            at.wait(tries);
+            at.wait_in_vain(self.node, tries);
             if !at.lets_go(self.node, number, tries) {
                 return None;
             }
@@ -138,7 +139,7 @@ pub(crate) fn follow<D: DriverEnd + Drop, G: Gate, R: Wait>(
         links,
     };
     thread.do_steps(&at, steps);
-    at.port.lock(at.rt).finish();
+    at.end(node);
     let DriverThread { driver, links, .. } = thread;
     Worked { links, driver }
 }
@@ -160,11 +161,11 @@ pub(crate) fn follow<D: DriverEnd + Drop, G: Gate, R: Wait>(
 ///
 /// The drivers of [`run_threads`](crate::run_threads) do the same, from what is set after power-on. This call serves
 /// who runs a bus of his own, and the tests.
-pub fn work<D: DriverEnd + Drop, G: Gate>(
-    rt: &impl Wait,
+pub fn work<'a, D: DriverEnd + Drop, G: Gate>(
+    rt: &'a impl Wait,
     node: u8,
     links: Vec<D>,
-    port: &Mutex<Port>,
+    port: &'a Mutex<Port>,
     steps: &[Step],
     gate: G,
     log: WorkLog,
@@ -180,7 +181,7 @@ pub fn work<D: DriverEnd + Drop, G: Gate>(
 {
     let (bytes, set) = set_at(rt, port);
     follow(
-        AtGate::new(rt, port, gate),
+        AtGate::new(rt, port, gate, None),
         node,
         bytes,
         set,

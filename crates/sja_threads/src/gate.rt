@@ -14,7 +14,8 @@ pub trait Gate: Send + Drop {
     const QUITS: bool;
 
     /// Asked before each try of a step of this node's driver: steps are counted from 1, and so are the tries of a step;
-    /// each number stays at its type's greatest.
+    /// each number stays at its type's greatest. A try's number is that too where nothing can end the wait any more: in
+    /// [`run_threads`](crate::run_threads), where the bus rests and each driver has ended or tried in vain since.
     fn turn(&self, node: u8, step: u32, tries: u32) -> Pass
         ensures { result ≡ Quit → QUITS ≡ true };
 }

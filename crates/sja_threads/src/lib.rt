@@ -23,6 +23,7 @@ mod gate;
 mod joined_run;
 mod laws;
 mod left_on_links;
+mod lobby;
 mod lock_board;
 mod pass;
 mod round;

@@ -11,6 +11,7 @@ ghost use Rattle.sja_threads.specs.Inside.Making.{AreRunParts};
 use super::bus_thread::close_all;
 use super::gate::Gate;
 use super::joined_run::{JoinedRun, join_all};
+use super::lobby::Lobby;
 use super::run_end::end_run;
 use super::run_parts::{RunParts, ports_of};
 use super::thread_start::start_all;
@@ -26,7 +27,8 @@ use std::thread::{Scope, Threads};
 /// driver follows its script as its gate lets it ([`work`](crate::work)); the plan's turns are left out of account. The
 /// plan's version says what a step is, and the log has the plan's steps as done in every version.
 ///
-/// Each activation has a link of its own, and each port stands behind a lock; the threads share nothing else. Before
+/// Each activation has a link of its own, and each port stands behind a lock; beside these the threads share how long
+/// they have waited. A driver that waits sleeps between its tries, for a millisecond at most. Before
 /// each bit the bus takes what the drivers gave. No bit is run before the first start of each driver was taken or the
 /// driver had ended, and none where every controller is at rest. Where a bit is due and none is left, the ports are
 /// closed, and taking goes on. When all drivers have ended and are joined, the bus takes the rest and runs on until
@@ -60,7 +62,8 @@ pub fn run_threads<G: Gate, R: Threads + Wait + Sync>(
     }
     let parts = RunParts::new(alloc, plan, gates)?;
     let ports = ports_of(alloc, plan)?;
-    let joined = run_drivers(rt, plan, parts, ports.as_slice())?;
+    let lobby = Mutex::new(Lobby::new(plan.nodes()));
+    let joined = run_drivers(rt, plan, parts, ports.as_slice(), &lobby)?;
     end_run::<G, R>(rt, alloc, plan, joined, ports.as_slice())
 }
 
@@ -73,6 +76,7 @@ fn run_drivers<G: Gate, R: Threads + Wait + Sync>(
     plan: &Plan,
     parts: RunParts<G>,
     ports: &[Mutex<Port>],
+    lobby: &Mutex<Lobby>,
 ) -> Result<JoinedRun, RunFault>
     requires parts { AreRunParts plan.now parts }
     requires ports { length ports.now ≡ length plan.now.nodes }
@@ -88,9 +92,10 @@ fn run_drivers<G: Gate, R: Threads + Wait + Sync>(
             ensures ending { IfOk result (IsEnding G.QUITS plan.entry.now) }
             ensures fault { IfErr result (IsFaultOf plan.entry.now) }
         {
-            let joined = run_in(scope, rt, plan, parts, ports);
+            let joined = run_in(scope, rt, plan, parts, ports, lobby);
             if joined.is_err() {
                 close_all(rt, ports);
+                lobby.lock(rt).stop();
             }
             joined
         },
@@ -107,6 +112,7 @@ fn run_in<'s, E, G: Gate + 's, R: Threads + Wait + Sync>(
     plan: &'s Plan,
     parts: RunParts<G>,
     ports: &'s [Mutex<Port>],
+    lobby: &'s Mutex<Lobby>,
 ) -> Result<JoinedRun, RunFault>
     requires parts { AreRunParts plan.now parts }
     requires ports { length ports.now ≡ length plan.now.nodes }
@@ -119,8 +125,8 @@ fn run_in<'s, E, G: Gate + 's, R: Threads + Wait + Sync>(
         children,
         workeds,
     } = parts;
-    let children = start_all(scope, rt, plan, starts, ports, children)?;
-    match bus.rounds_beside_drivers(rt, plan, ports) {
+    let children = start_all(scope, rt, plan, starts, ports, lobby, children)?;
+    match bus.rounds_beside_drivers(rt, plan, ports, lobby) {
         Ok(()) => Ok(JoinedRun {
             bus,
             workeds: join_all(rt, children, workeds),

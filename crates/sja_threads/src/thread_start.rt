@@ -9,6 +9,7 @@ ghost use Rattle.sja_threads.specs.Inside.Promised.{IsFor};
 use super::at_gate::AtGate;
 use super::driver_thread::follow;
 use super::gate::Gate;
+use super::lobby::Lobby;
 use super::thread_promise::{Child, ThreadPromise};
 use super::worked::Worked;
 use sja_driver::{WorkLog, by_bytes};
@@ -38,6 +39,7 @@ fn serve<G: Gate>(
     plan: &Plan,
     start: ThreadStart<G>,
     port: &Mutex<Port>,
+    lobby: &Mutex<Lobby>,
 ) -> Worked<RingDriver>
     requires { IsThreadStart plan.now start }
     ensures { Serves G.QUITS plan.now start result }
@@ -51,7 +53,7 @@ fn serve<G: Gate>(
     let version = plan.version();
     let steps = plan.steps(usize::from(node));
     follow(
-        AtGate::new(rt, port, gate),
+        AtGate::new(rt, port, gate, Some(lobby)),
         node,
         by_bytes(version),
         DriverSettings::at_power_on(version),
@@ -70,6 +72,7 @@ fn start_one<'s, E, G: Gate + 's, R: Threads + Wait + Sync>(
     plan: &'s Plan,
     start: ThreadStart<G>,
     port: &'s Mutex<Port>,
+    lobby: &'s Mutex<Lobby>,
 ) -> Result<Child<G>, RunFault>
     requires { IsThreadStart plan.now start }
     ensures child { IfOk result (λ child. IsFor plan.now start child.promise) }
@@ -86,7 +89,7 @@ fn start_one<'s, E, G: Gate + 's, R: Threads + Wait + Sync>(
         move || -> Worked<RingDriver>
             requires { IsThreadStart plan.now start }
             ensures { Serves G.QUITS plan.entry.now start result }
-        { serve(rt, plan, start, port) },
+        { serve(rt, plan, start, port, lobby) },
     ) {
         Ok(child) => Ok(child),
         Err(_) => Err(RunFault::Thread),
@@ -102,6 +105,7 @@ pub(crate) fn start_all<'s, E, G: Gate + 's, R: Threads + Wait + Sync>(
     plan: &'s Plan,
     starts: Vec<ThreadStart<G>>,
     ports: &'s [Mutex<Port>],
+    lobby: &'s Mutex<Lobby>,
     children: Vec<Child<G>>,
 ) -> Result<Vec<Child<G>>, RunFault>
     requires starts { All (IsThreadStart plan.now) starts.items }
@@ -115,7 +119,7 @@ pub(crate) fn start_all<'s, E, G: Gate + 's, R: Threads + Wait + Sync>(
     let mut children = children;
     let mut next = 0;
     for start in starts {
-        let child = start_one(scope, rt, plan, start, &ports[next])?;
+        let child = start_one(scope, rt, plan, start, &ports[next], lobby)?;
         children.push_reserved(child);
         next += 1;
     }
