@@ -1,11 +1,12 @@
--- What a line of `sja live` asks for (this project's own rule). Words stand with one space between two; numbers, bytes,
--- messages and steps are spelled as in a plan.
+-- What a line of `sja live` asks for (this project's own rule). Words stand with one space between two; numbers,
+-- addresses, values, messages and steps are spelled as in a plan of the session's version.
 use Rattle.std.specs.Prelude.{◌≡◌, ℕ, List, [], ◌∷◌, codes}
 use Rattle.sja_live.specs.declared.live_command.LiveCommand.{LiveCommand}
 use Rattle.sja_live.specs.declared.live_command.LiveCommand.TheVariants.{Step, Read, Write, Run, Rest, Line, Strike}
 use Rattle.sja_live.specs.declared.live_command.LiveCommand.TheVariants.{Answer, Bits, Plan, End}
+use Rattle.sja_plan.specs.Accesses.{SpellsAddress, SpellsValue}
 use Rattle.sja_plan.specs.StepTexts.{AreStepWords}
-use Rattle.sja_plan.specs.Words.{Text, words, greatest, SpellsWithin, SpellsNode, SpellsByte}
+use Rattle.sja_plan.specs.Words.{Text, words, greatest, SpellsWithin, SpellsNode}
 
 -- ---- the forms of a line
 
@@ -40,9 +41,10 @@ abbrev pub AreCommandWords : ℕ → ℕ → List Text → LiveCommand → Type 
 AreCommandWords version nodes ws (Step node step) =
     (k : Text) × (rest : List Text) × IsStepLine ws k rest × SpellsNode nodes k node × AreStepWords version rest step
 AreCommandWords version nodes ws (Read node address) =
-    (k a : Text) × IsReadLine ws k a × SpellsNode nodes k node × SpellsWithin 0 255 a address
+    (k a : Text) × IsReadLine ws k a × SpellsNode nodes k node × SpellsAddress version a address
 AreCommandWords version nodes ws (Write node address value) =
-    (k a v : Text) × IsWriteLine ws k a v × SpellsNode nodes k node × SpellsWithin 0 255 a address × SpellsByte v value
+    (k a v : Text) × IsWriteLine ws k a v × SpellsNode nodes k node × SpellsAddress version a address
+    × SpellsValue version address v value
 AreCommandWords version nodes ws (Run count) = (n : Text) × IsRunLine ws n × SpellsWithin 0 greatest n count
 AreCommandWords version nodes ws Rest = ws ≡ codes "rest" ∷ []
 AreCommandWords version nodes ws Line = ws ≡ codes "line" ∷ []

@@ -4,8 +4,9 @@ use Rattle.sja_live.specs.Commands.{IsStepLine, IsReadLine, IsWriteLine, IsRunLi
 use Rattle.sja_live.specs.declared.line_fault.LineFault.{LineFault}
 use Rattle.sja_live.specs.declared.line_fault.LineFault.TheVariants.{Text as NoText, Command, Node, Number}
 use Rattle.sja_live.specs.declared.line_fault.LineFault.TheVariants.{Address, Byte, Step}
+use Rattle.sja_plan.specs.Accesses.{SpellsAddress, SpellsValue}
 use Rattle.sja_plan.specs.StepTexts.{AreStepWords}
-use Rattle.sja_plan.specs.Words.{Text, greatest, SpellsWithin, SpellsNode, SpellsByte}
+use Rattle.sja_plan.specs.Words.{Text, greatest, SpellsWithin, SpellsNode}
 use Rattle.sja_script.specs.declared.step.Step.{Step as StepOf}
 
 -- ---- the words of a line
@@ -28,15 +29,15 @@ HasForm ws = ((k : Text) × NamesNode ws k) ⊎ ((n : Text) × IsRunLine ws n) �
 
 -- ---- words that spell nothing
 
--- a word spells no node of so many, no address, no byte, no number
+-- a word spells no node of so many, no address, no value of the register at an address, no number
 abbrev pub IsNoNode : ℕ → Text → Type 0
 IsNoNode nodes k = (node : ℕ) → ¬ SpellsNode nodes k node
 
-abbrev pub IsNoAddress : Text → Type 0
-IsNoAddress a = (address : ℕ) → ¬ SpellsWithin 0 255 a address
+abbrev pub IsNoAddress : ℕ → Text → Type 0
+IsNoAddress version a = (address : ℕ) → ¬ SpellsAddress version a address
 
-abbrev pub IsNoByte : Text → Type 0
-IsNoByte v = (byte : ℕ) → ¬ SpellsByte v byte
+abbrev pub IsNoByte : ℕ → ℕ → Text → Type 0
+IsNoByte version address v = (byte : ℕ) → ¬ SpellsValue version address v byte
 
 abbrev pub IsNoNumber : Text → Type 0
 IsNoNumber n = (number : ℕ) → ¬ SpellsWithin 0 greatest n number
@@ -45,12 +46,9 @@ IsNoNumber n = (number : ℕ) → ¬ SpellsWithin 0 greatest n number
 abbrev pub IsNoStep : ℕ → List Text → Type 0
 IsNoStep version rest = (step : StepOf) → ¬ AreStepWords version rest step
 
--- and those that spell some
+-- and one that spells some node
 abbrev pub IsSomeNode : ℕ → Text → Type 0
 IsSomeNode nodes k = (node : ℕ) × SpellsNode nodes k node
-
-abbrev pub IsSomeAddress : Text → Type 0
-IsSomeAddress a = (address : ℕ) × SpellsWithin 0 255 a address
 
 -- ---- the first mistake
 
@@ -63,9 +61,11 @@ AreMistaken version nodes ws Node = (k : Text) × NamesNode ws k × IsNoNode nod
 AreMistaken version nodes ws Step =
     (k : Text) × (rest : List Text) × IsStepLine ws k rest × IsSomeNode nodes k × IsNoStep version rest
 AreMistaken version nodes ws Address =
-    (k a : Text) × (IsReadLine ws k a ⊎ ((v : Text) × IsWriteLine ws k a v)) × IsSomeNode nodes k × IsNoAddress a
+    (k a : Text) × (IsReadLine ws k a ⊎ ((v : Text) × IsWriteLine ws k a v)) × IsSomeNode nodes k
+    × IsNoAddress version a
 AreMistaken version nodes ws Byte =
-    (k a v : Text) × IsWriteLine ws k a v × IsSomeNode nodes k × IsSomeAddress a × IsNoByte v
+    (k a v : Text) × (address : ℕ) × IsWriteLine ws k a v × IsSomeNode nodes k × SpellsAddress version a address
+    × IsNoByte version address v
 AreMistaken version nodes ws Number =
     ((n : Text) × IsRunLine ws n × IsNoNumber n)
     ⊎ ((k b : Text) × IsStrikeLine ws k b × IsSomeNode nodes k × IsNoNumber b)

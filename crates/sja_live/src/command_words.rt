@@ -7,7 +7,9 @@ ghost use Rattle.sja_live.specs.Inside.Reading.{IsCommandRefusal};
 use super::command_refusal::CommandRefusal;
 use super::line_fault::LineFault;
 use super::live_command::LiveCommand;
-use sja_plan::{GREATEST_NUMBER, TextFault, byte, node_within, number_within, step_of};
+use sja_plan::{
+    GREATEST_NUMBER, TextFault, address_of, node_within, number_within, step_of, value_of,
+};
 use std::alloc::Global;
 
 /// What the words ask for, by this version of the rules, of a session of so many nodes.
@@ -29,8 +31,8 @@ pub(crate) fn command_of(
     match *words {
         [name] => of_one_word(name),
         [name, word] => of_two_words(nodes, name, word),
-        [name, node, word] => of_three_words(nodes, name, node, word),
-        [name, node, address, value] => of_four_words(nodes, name, node, address, value),
+        [name, node, word] => of_three_words(version, nodes, name, node, word),
+        [name, node, address, value] => of_four_words(version, nodes, name, node, address, value),
         _ => Err(CommandRefusal::Mistaken(LineFault::Command)),
     }
 }
@@ -95,6 +97,7 @@ fn of_two_words(nodes: usize, name: &str, word: &str) -> Result<LiveCommand, Com
 
 /// The command of a name, a node and the word behind it.
 fn of_three_words(
+    version: usize,
     nodes: usize,
     name: &str,
     node: &str,
@@ -102,9 +105,8 @@ fn of_three_words(
 ) -> Result<LiveCommand, CommandRefusal>
     requires few { nodes ≤ 8 }
     requires other { name.now ≡ codes "step" → ⊥ }
-    ensures ok { (version : ℕ) →
-        IfOk result (λ c. AreCommandWords version nodes (name.now ∷ node.now ∷ word.now ∷ []) c) }
-    ensures err { (version : ℕ) → IfErr result (IsCommandRefusal version nodes (name.now ∷ node.now ∷ word.now ∷ [])) }
+    ensures ok { IfOk result (λ c. AreCommandWords version nodes (name.now ∷ node.now ∷ word.now ∷ []) c) }
+    ensures err { IfErr result (IsCommandRefusal version nodes (name.now ∷ node.now ∷ word.now ∷ [])) }
 {
     let is_read = name == "read";
     if !is_read && name != "strike" {
@@ -114,8 +116,8 @@ fn of_three_words(
         return Err(CommandRefusal::Mistaken(LineFault::Node));
     };
     if is_read {
-        match number_within(word, 0, 255) {
-            Ok(address) => Ok(LiveCommand::Read(node, address as u8)),
+        match address_of(version, word) {
+            Ok(address) => Ok(LiveCommand::Read(node, address)),
             Err(_) => Err(CommandRefusal::Mistaken(LineFault::Address)),
         }
     } else {
@@ -126,8 +128,9 @@ fn of_three_words(
     }
 }
 
-/// The command of a name, a node, an address and a byte.
+/// The command of a name, a node, an address and a value.
 fn of_four_words(
+    version: usize,
     nodes: usize,
     name: &str,
     node: &str,
@@ -136,10 +139,9 @@ fn of_four_words(
 ) -> Result<LiveCommand, CommandRefusal>
     requires few { nodes ≤ 8 }
     requires other { name.now ≡ codes "step" → ⊥ }
-    ensures ok { (version : ℕ) → IfOk result (λ c.
+    ensures ok { IfOk result (λ c.
         AreCommandWords version nodes (name.now ∷ node.now ∷ address.now ∷ value.now ∷ []) c) }
-    ensures err { (version : ℕ) →
-        IfErr result (IsCommandRefusal version nodes (name.now ∷ node.now ∷ address.now ∷ value.now ∷ [])) }
+    ensures err { IfErr result (IsCommandRefusal version nodes (name.now ∷ node.now ∷ address.now ∷ value.now ∷ [])) }
 {
     if name != "write" {
         return Err(CommandRefusal::Mistaken(LineFault::Command));
@@ -147,11 +149,11 @@ fn of_four_words(
     let Ok(node) = node_within(nodes, node) else {
         return Err(CommandRefusal::Mistaken(LineFault::Node));
     };
-    let Ok(address) = number_within(address, 0, 255) else {
+    let Ok(address) = address_of(version, address) else {
         return Err(CommandRefusal::Mistaken(LineFault::Address));
     };
-    match byte(value) {
-        Ok(value) => Ok(LiveCommand::Write(node, address as u8, value)),
+    match value_of(version, address, value) {
+        Ok(value) => Ok(LiveCommand::Write(node, address, value)),
         Err(_) => Err(CommandRefusal::Mistaken(LineFault::Byte)),
     }
 }

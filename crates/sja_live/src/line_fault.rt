@@ -14,9 +14,9 @@ pub enum LineFault {
     Node,
     /// The words behind the node are no step of this version.
     Step,
-    /// A word isn't an address, 0 to 255.
+    /// A word isn't an address, as plans of the session's version spell it.
     Address,
-    /// A word isn't a byte, two hexadecimal digits.
+    /// A word isn't a value for that address, as they spell it.
     Byte,
     /// A word isn't a number of one to seven digits.
     Number,

@@ -3,3 +3,15 @@ pub mod PlanLimits
 pub mod OneReading
 pub mod Parts
 pub mod BeforeKeys
+pub mod ByKey
+pub mod RefusedItems
+pub mod OneKey
+pub mod GoodItems
+pub mod KeyTexts
+pub mod BareItems
+pub mod SortedItems
+pub mod Judged
+pub mod OneRun
+pub mod RoomItems
+pub mod ReadLines
+pub mod Strange

@@ -15,7 +15,7 @@ use std::alloc::Global;
 use toml::Table;
 
 /// The keys of a plan, the last of them in version 3 alone.
-const KEYS: [&str; 6] = ["version", "bits", "node", "turns", "faults", "strikes"];
+pub(crate) const KEYS: [&str; 6] = ["version", "bits", "node", "turns", "faults", "strikes"];
 
 /// What a document with a plan's keys says. Its texts stay where the document has them.
 #[derive(Drop)]

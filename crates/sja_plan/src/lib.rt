@@ -28,6 +28,7 @@ mod settings;
 mod step_text;
 mod strike_count;
 mod strike_text;
+mod tables;
 mod text_fault;
 mod turn;
 mod turn_text;

@@ -8,6 +8,7 @@ use super::document::read_document;
 use super::limits::most_bytes;
 use super::plan::Plan;
 use super::plan_fault::PlanFault;
+use super::tables::is_strange;
 use std::alloc::Global;
 use toml::table_from_str;
 
@@ -26,6 +27,9 @@ pub fn read_plan(alloc: Global, bytes: &[u8]) -> Result<Plan, PlanFault>
     let Ok(text) = str::from_utf8(bytes) else {
         return Err(PlanFault::NotText);
     };
+    if is_strange(alloc, text)? {
+        return Err(PlanFault::Key);
+    }
     let table = match table_from_str(alloc, text) {
         Ok(table) => table,
         Err(error) if error.is_memory() => return Err(PlanFault::Memory),

@@ -1,6 +1,6 @@
 -- The texts in which steps, turns and strikes are written (this project's own rule): words with one space between two,
--- numbers in decimal without leading zeros, and bytes with two hexadecimal digits each, in lower case.
-use Rattle.std.specs.Prelude.{◌==◌, ◌&&◌, if◌then◌else◌, List, [], ◌∷◌, codes, decimal}
+-- numbers in decimal without leading zeros, and bytes with two hexadecimal digits each, in lower case; or names.
+use Rattle.std.specs.Prelude.{◌==◌, ◌&&◌, if◌then◌else◌, Bool, true, false, List, [], ◌∷◌, codes, decimal}
 use Rattle.std.specs.List.{join_with_byte}
 use Rattle.hex.specs.Hex.{encode_lower}
 use Rattle.sja_plan.specs.Words.{Text}
@@ -10,6 +10,7 @@ use Rattle.sja_script.specs.declared.step.Step.TheVariants.{Write, Load, Command
 use Rattle.sja_script.specs.declared.strike.Strike.{Strike}
 use Rattle.sja_plan.specs.declared.turn.Turn.{Turn}
 use Rattle.sja_plan.specs.declared.turn.Turn.TheVariants.{Bus, Rest, Node, All, Irq, Go}
+use Rattle.sja_plan_text.specs.Names.{before_transmit, before_receive, address_word, value_word, message_word}
 
 -- words with one space between two
 abbrev pub joined : List Text → Text
@@ -32,6 +33,24 @@ step_words Interrupt = codes "interrupt" ∷ []
 -- the text of a step
 abbrev pub step_text : Step → Text
 step_text step = joined (step_words step)
+
+-- the words of a step with names; `command` writes CMR, which is at address 1
+abbrev pub named_words : Step → List Text
+named_words (Read address) = codes "read" ∷ address_word before_receive address ∷ []
+named_words (Write address value) =
+    codes "write" ∷ address_word before_transmit address ∷ value_word address value ∷ []
+named_words (Load message) = codes "load" ∷ message_word message ∷ []
+named_words (Command value) = codes "command" ∷ value_word 1 value ∷ []
+named_words this = step_words this
+
+-- the text of a step with names
+abbrev pub named_text : Step → Text
+named_text step = joined (named_words step)
+
+-- the text of a step with names, or without
+abbrev pub spelled_step : Bool → Step → Text
+spelled_step true step = named_text step
+spelled_step false step = step_text step
 
 -- the words of a turn
 abbrev pub turn_words : Turn → List Text

@@ -5,7 +5,7 @@ ghost use Rattle.toml.specs.Data.{member, no_members};
 ghost use Rattle.toml.specs.View.{view};
 ghost use Rattle.sja_plan_text.specs.HasTexts.{HasTexts};
 ghost use Rattle.sja_plan_text.specs.Document.{IsDocumentOf};
-ghost use Rattle.sja_plan_text.specs.Written.{IsWritten, IsPlanText, IsTooLong};
+ghost use Rattle.sja_plan_text.specs.Written.{IsWritten, IsPlanText, IsTooLong, has_names, strikes_key};
 ghost use Rattle.sja_plan_text.specs.Inside.Table.{with_strikes, Adds};
 ghost use Rattle.sja_plan_text.specs.declared.plan_text_fault.PlanTextFault.TheVariants.{NoMemory, TooLong};
 
@@ -13,7 +13,7 @@ use super::plan_text_fault::PlanTextFault;
 use super::spelled::text_list;
 use super::table::{node_list, one_member};
 use can_frame::OutOfMemory;
-use sja_plan::{Plan, most_bytes};
+use sja_plan::{Plan, RAW_VERSION, most_bytes};
 use sja_script::Strike;
 use std::alloc::Global;
 use toml::{Value, table_to_string, table_to_string_pretty};
@@ -22,7 +22,8 @@ use toml::{Value, table_to_string, table_to_string_pretty};
 /// [`has_texts`](crate::has_texts), as each one that was read has.
 ///
 /// The keys come in the order `version`, `bits`, `turns`, `faults` where there are strikes, and the nodes. Of a list
-/// with two items or more each has a line of its own, or all have one line where the document would be too long.
+/// with two items or more each has a line of its own, or all have one line where the document would be too long. In
+/// version 3 the first of these has names: `strikes` for `faults`, and steps as [`named_text`](crate::named_text).
 ///
 /// Errors: [`PlanTextFault::NoMemory`] where memory was refused; [`PlanTextFault::TooLong`] where the document has more
 /// than 65,536 bytes, or than 16 MiB in version 3, which is the first thing that it says (this project's own rule).
@@ -42,12 +43,14 @@ pub fn plan_text(alloc: Global, plan: &Plan) -> Result<String, PlanTextFault>
     Err(PlanTextFault::TooLong)
 }
 
-/// The document of a plan, however long it is. Where it is pretty, each item of a list has a line of its own.
+/// The document of a plan, however long it is. Where it is pretty, each item of a list has a line of its own, and in
+/// version 3 there are names.
 fn document(alloc: Global, plan: &Plan, pretty: bool) -> Result<String, OutOfMemory>
     requires { HasTexts plan.now }
     ensures { IfOk result (λ text. IsWritten pretty plan.now (string_bytes text)
         × IsDocumentOf (string_bytes text) plan.now) }
 {
+    let named = has_names(pretty, plan.version());
     let mut text = String::new(alloc);
     add(
         alloc,
@@ -57,12 +60,20 @@ fn document(alloc: Global, plan: &Plan, pretty: bool) -> Result<String, OutOfMem
         Value::from(plan.version()),
     )?;
     add(alloc, &mut text, pretty, "bits", Value::from(plan.bits()))?;
-    let turns = text_list(alloc, plan.turns())?;
+    let turns = text_list(alloc, named, plan.turns())?;
     add(alloc, &mut text, pretty, "turns", turns)?;
-    add_strikes(alloc, &mut text, pretty, plan.strikes())?;
+    add_strikes(alloc, &mut text, pretty, named, plan.strikes())?;
     text.push_str("\n")?;
-    add(alloc, &mut text, pretty, "node", node_list(alloc, plan)?)?;
+    let nodes = node_list(alloc, named, plan)?;
+    add(alloc, &mut text, pretty, "node", nodes)?;
     Ok(text)
+}
+
+/// Whether a document of this version has names.
+fn has_names(pretty: bool, version: u8) -> bool
+    ensures { result ≡ has_names pretty version }
+{
+    pretty && version >= RAW_VERSION
 }
 
 /// Writes the strikes, where there are some.
@@ -70,16 +81,24 @@ fn add_strikes(
     alloc: Global,
     text: &mut String,
     pretty: bool,
+    named: bool,
     strikes: &[Strike],
 ) -> Result<(), OutOfMemory>
-    ensures { OnOk result (Adds pretty (with_strikes strikes.now no_members)
+    ensures { OnOk result (Adds pretty (with_strikes named strikes.now no_members)
         (string_bytes text.old) (string_bytes text.new)) }
 {
     if strikes.is_empty() {
         return Ok(());
     }
-    let strikes = text_list(alloc, strikes)?;
-    add(alloc, text, pretty, "faults", strikes)
+    let strikes = text_list(alloc, named, strikes)?;
+    add(alloc, text, pretty, strikes_key(named), strikes)
+}
+
+/// The key of the strikes, with names or without.
+fn strikes_key(named: bool) -> &'static str
+    ensures { result.now ≡ strikes_key named }
+{
+    if named { "strikes" } else { "faults" }
 }
 
 /// Writes a value with its key.

@@ -1,13 +1,13 @@
 //! Laws of texts. Each is the contract of a function that does nothing.
 
-ghost use Rattle.std.specs.Prelude.{◌≡◌, ◌↔◌, ℕ, List, Bool};
+ghost use Rattle.std.specs.Prelude.{◌≡◌, ◌≤◌, ◌↔◌, ℕ, List, Bool};
 ghost use Rattle.sja_plan.specs.Words.{Text};
 ghost use Rattle.sja_plan.specs.StepTexts.{SaysStep};
 ghost use Rattle.sja_plan.specs.TurnTexts.{SaysTurn};
 ghost use Rattle.sja_plan.specs.StrikeTexts.{SaysStrike};
 ghost use Rattle.sja_plan.specs.Plan.{PlanValue, NamesNode, IsStrikeOn};
 ghost use Rattle.sja_plan.specs.Faults.{IsText, IsPlanOf};
-ghost use Rattle.sja_plan_text.specs.Texts.{step_text, turn_text, strike_text};
+ghost use Rattle.sja_plan_text.specs.Texts.{step_text, named_text, turn_text, strike_text};
 ghost use Rattle.sja_plan_text.specs.HasTexts.{HasStepText, HasTurnText, HasStrikeText, HasTexts};
 ghost use Rattle.sja_plan_text.specs.Document.{IsDocumentOf};
 ghost use Rattle.sja_plan_text.specs.Written.{IsWritten, IsPlanText, IsTooLong, EndsInFeed};
@@ -19,6 +19,12 @@ use sja_script::{Step, Strike};
 #[tactic(auto, using(crate::proofs::Spelling::Steps::step_said))]
 pub fn a_step_has_a_text()
     ensures { (version : ℕ) (s : Step) → HasStepText version s → SaysStep version (step_text s) s }
+{}
+
+/// In version 3 its text with names says it too.
+#[tactic(auto, using(crate::proofs::Spelling::Steps::named_said))]
+pub fn a_named_step_has_a_text()
+    ensures { (version : ℕ) (s : Step) → 3 ≤ version → HasStepText version s → SaysStep version (named_text s) s }
 {}
 
 /// A step that a text says is one that has a text.

@@ -21,21 +21,21 @@ pub(crate) fn one_member(alloc: Global, key: &str, value: Value) -> Result<Table
     Ok(table)
 }
 
-/// A table for each node of a plan.
-pub(crate) fn node_list(alloc: Global, plan: &Plan) -> Result<Value, OutOfMemory>
-    ensures { IfOk result (λ v. view v ≡ nodes_data plan.now.nodes) }
+/// A table for each node of a plan, with names or without.
+pub(crate) fn node_list(alloc: Global, named: bool, plan: &Plan) -> Result<Value, OutOfMemory>
+    ensures { IfOk result (λ v. view v ≡ nodes_data named plan.now.nodes) }
 {
     let mut nodes = Vec::new(alloc);
     for node in 0..plan.nodes() {
-        nodes.push(node_table(alloc, plan.steps(node))?)?;
+        nodes.push(node_table(alloc, named, plan.steps(node))?)?;
     }
     Ok(Value::from(nodes))
 }
 
 /// The table of a node.
-fn node_table(alloc: Global, steps: &[Step]) -> Result<Value, OutOfMemory>
-    ensures { IfOk result (λ v. view v ≡ node_data steps.now) }
+fn node_table(alloc: Global, named: bool, steps: &[Step]) -> Result<Value, OutOfMemory>
+    ensures { IfOk result (λ v. view v ≡ node_data named steps.now) }
 {
-    let steps = text_list(alloc, steps)?;
+    let steps = text_list(alloc, named, steps)?;
     Ok(Value::from(one_member(alloc, "steps", steps)?))
 }

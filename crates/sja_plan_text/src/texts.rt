@@ -2,12 +2,16 @@
 
 ghost use Rattle.std.specs.Prelude.{◌≡◌, IfOk, string_bytes};
 ghost use Rattle.hex.specs.Hex.{encode_lower};
-ghost use Rattle.sja_plan_text.specs.Texts.{step_text, turn_text, strike_text};
+ghost use Rattle.sja_plan_text.specs.Texts.{step_text, named_text, turn_text, strike_text};
 
+use super::names::{address_word, message_word, read_name, value_word, written_name};
 use can_frame::OutOfMemory;
 use sja_plan::Turn;
 use sja_script::{Step, Strike};
 use std::alloc::Global;
+
+/// The address of CMR, which a `command` writes (SJA1000 data sheet, 6.4.4).
+const COMMAND: u8 = 1;
 
 /// The text of a driver's step, as a plan spells it: numbers in decimal, bytes as two hexadecimal digits in lower case.
 ///
@@ -37,6 +41,36 @@ pub fn step_text(alloc: Global, step: &Step) -> Result<String, OutOfMemory>
         Step::Await(count) => Ok(format!(in alloc; "await {count}")?),
         Step::Sent => word(alloc, "sent"),
         Step::Interrupt => word(alloc, "interrupt"),
+    }
+}
+
+/// The text of a driver's step with names, as a plan of version 3 spells it: an address as the name of its register, a
+/// value as those of its bits, a message in can-utils' notation. What has no name is written as [`step_text`] does.
+///
+/// In version 3 it says the step where a text can, by [`has_step_text`](crate::has_step_text). Error: memory was
+/// refused (this project's own rule).
+pub fn named_text(alloc: Global, step: &Step) -> Result<String, OutOfMemory>
+    ensures { IfOk result (λ t. string_bytes t ≡ named_text step.now) }
+{
+    match step {
+        Step::Read(address) => {
+            let address = address_word(alloc, read_name(*address), *address)?;
+            Ok(format!(in alloc; "read {address}")?)
+        }
+        Step::Write(address, value) => {
+            let value = value_word(alloc, *address, *value)?;
+            let address = address_word(alloc, written_name(*address), *address)?;
+            Ok(format!(in alloc; "write {address} {value}")?)
+        }
+        Step::Load(message) => {
+            let message = message_word(alloc, message)?;
+            Ok(format!(in alloc; "load {message}")?)
+        }
+        Step::Command(value) => {
+            let value = value_word(alloc, COMMAND, *value)?;
+            Ok(format!(in alloc; "command {value}")?)
+        }
+        _ => step_text(alloc, step),
     }
 }
 

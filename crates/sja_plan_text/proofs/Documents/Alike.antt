@@ -12,10 +12,10 @@ use Rattle.sja_plan.specs.Plan.{PlanValue}
 use Rattle.sja_plan.specs.Words.{Text}
 use Rattle.sja_script.specs.declared.step.Step.{Step}
 use Rattle.sja_script.specs.declared.strike.Strike.{Strike}
-use Rattle.sja_plan_text.specs.Texts.{step_text, turn_text, strike_text}
+use Rattle.sja_plan_text.specs.Texts.{spelled_step, turn_text, strike_text}
 use Rattle.sja_plan_text.specs.Written.{texts_data}
-use Rattle.sja_plan_text.specs.Written.{pair, strike_lines, node_lines, plan_lines, IsWritten, IsLong, IsPlanText}
-use Rattle.sja_plan_text.specs.Written.{IsTooLong, EndsInFeed}
+use Rattle.sja_plan_text.specs.Written.{pair, strike_lines, node_lines, plan_lines, has_names, IsWritten, IsLong}
+use Rattle.sja_plan_text.specs.Written.{IsPlanText, IsTooLong, EndsInFeed}
 use Rattle.sja_plan_text.proofs.Tables.Plans.{is_short_document}
 use Rattle.sja_plan_text.proofs.Tables.Values.{text_items}
 
@@ -46,23 +46,24 @@ texts_sure pretty texts a b (r, whole, items) (q, whole2, items2) =
     ∙ ap (λ l. codes "[" ++ l) (same_items pretty (breaks_lines pretty (text_items texts)) true texts r q items items2)
     ∙ sym whole2
 
-nodes_sure : (pretty : Bool) (nodes : List (List Step)) → AreSure pretty (node_lines nodes)
-nodes_sure pretty [] = tt
-nodes_sure pretty (steps ∷ nodes) = (tt, (texts_sure pretty (map step_text steps), nodes_sure pretty nodes))
+nodes_sure : (pretty named : Bool) (nodes : List (List Step)) → AreSure pretty (node_lines named nodes)
+nodes_sure pretty named [] = tt
+nodes_sure pretty named (steps ∷ nodes) =
+    (tt, (texts_sure pretty (map (spelled_step named) steps), nodes_sure pretty named nodes))
 
-strikes_sure : (pretty : Bool) (strikes : List Strike) (es : List Expression) → AreSure pretty es →
-    AreSure pretty (strike_lines strikes ++ es)
-strikes_sure pretty [] es h = h
-strikes_sure pretty (s ∷ strikes) es h = (texts_sure pretty (map strike_text (s ∷ strikes)), h)
+strikes_sure : (pretty named : Bool) (strikes : List Strike) (es : List Expression) → AreSure pretty es →
+    AreSure pretty (strike_lines named strikes ++ es)
+strikes_sure pretty named [] es h = h
+strikes_sure pretty named (s ∷ strikes) es h = (texts_sure pretty (map strike_text (s ∷ strikes)), h)
 
-plan_sure : (pretty : Bool) (p : PlanValue) → AreSure pretty (plan_lines p)
-plan_sure pretty p = (
+plan_sure : (pretty named : Bool) (p : PlanValue) → AreSure pretty (plan_lines named p)
+plan_sure pretty named p = (
   (λ a b h k. h.0 ∙ sym k.0),
   (
     (λ a b h k. h.0 ∙ sym k.0),
     (
       texts_sure pretty (map turn_text p.turns),
-      strikes_sure pretty p.strikes (node_lines p.nodes) (nodes_sure pretty p.nodes),
+      strikes_sure pretty named p.strikes (node_lines named p.nodes) (nodes_sure pretty named p.nodes),
     ),
   ),
 )
@@ -89,7 +90,9 @@ same_lines pretty started (e ∷ es) a b sure (v, r, whole, line, more) (w, q, w
     ∙ sym whole2
 
 pub one_is_written : (pretty : Bool) (p : PlanValue) (a b : Text) → IsWritten pretty p a → IsWritten pretty p b → a ≡ b
-one_is_written pretty p a b h k = same_lines pretty false (plan_lines p) a b (plan_sure pretty p) h k
+one_is_written pretty p a b h k =
+    let named = has_names pretty p.version in
+    same_lines pretty false (plan_lines named p) a b (plan_sure pretty named p) h k
 
 -- ---- where it is too long
 
@@ -153,7 +156,7 @@ written_ends : (pretty : Bool) (p : PlanValue) (text : Text) → IsWritten prett
 written_ends pretty p text h =
     lines_end pretty false (pair (codes "version") (integer (pos p.version)))
     (pair (codes "bits") (integer (pos p.bits)) ∷ pair (codes "turns") (texts_data (map turn_text p.turns))
-    ∷ (strike_lines p.strikes ++ node_lines p.nodes)) text h
+    ∷ (strike_lines (has_names pretty p.version) p.strikes ++ node_lines (has_names pretty p.version) p.nodes)) text h
 
 form_ends : (p : PlanValue) (text : Text) → IsForm p text → EndsInFeed text
 form_ends p text (inl h) = written_ends true p text h

@@ -40,71 +40,84 @@ lines_read pretty ms e es text h printed sorted lead =
     document_some text doc (rw skipped (read ∙ lead ∙ ran)) ∙ rw (same, closed)
 
 -- the lines of the table, in the order of its keys
-abbrev sorted_lines : ℕ → ℕ → List Text → List Strike → List Expression → List Expression
-sorted_lines version bits turns strikes es =
-    pair (codes "bits") (integer (pos bits)) ∷ (strike_lines strikes
+abbrev sorted_lines : Bool → ℕ → ℕ → List Text → List Strike → List Expression → List Expression
+sorted_lines named version bits turns strikes es =
+    pair (codes "bits") (integer (pos bits)) ∷ (strike_lines named strikes
     ++ pair (codes "turns") (texts_data turns) ∷ pair (codes "version") (integer (pos version)) ∷ es)
 
-table_lines : (version bits : ℕ) (turns : List Text) (strikes : List Strike) (steps : List Step)
-    (nodes : List (List Step)) → expressions (members_of version bits (steps ∷ nodes) turns strikes)
-    ≡ sorted_lines version bits turns strikes (element_lines (steps ∷ nodes))
-table_lines version bits [] [] steps nodes =
-    rw (nodes_are_tables nodes) (ap (sorted_lines version bits [] []) (append-nil _))
-table_lines version bits [] (s ∷ strikes) steps nodes =
-    rw (nodes_are_tables nodes) (ap (sorted_lines version bits [] (s ∷ strikes)) (append-nil _))
-table_lines version bits (t ∷ turns) [] steps nodes =
-    rw (nodes_are_tables nodes) (ap (sorted_lines version bits (t ∷ turns) []) (append-nil _))
-table_lines version bits (t ∷ turns) (s ∷ strikes) steps nodes =
-    rw (nodes_are_tables nodes) (ap (sorted_lines version bits (t ∷ turns) (s ∷ strikes)) (append-nil _))
+table_lines : (named : Bool) (version bits : ℕ) (turns : List Text) (strikes : List Strike) (steps : List Step)
+    (nodes : List (List Step)) → expressions (members_of named version bits (steps ∷ nodes) turns strikes)
+    ≡ sorted_lines named version bits turns strikes (element_lines named (steps ∷ nodes))
+table_lines true version bits [] [] steps nodes =
+    rw (nodes_are_tables true nodes) (ap (sorted_lines true version bits [] []) (append-nil _))
+table_lines true version bits [] (s ∷ strikes) steps nodes =
+    rw (nodes_are_tables true nodes) (ap (sorted_lines true version bits [] (s ∷ strikes)) (append-nil _))
+table_lines true version bits (t ∷ turns) [] steps nodes =
+    rw (nodes_are_tables true nodes) (ap (sorted_lines true version bits (t ∷ turns) []) (append-nil _))
+table_lines true version bits (t ∷ turns) (s ∷ strikes) steps nodes =
+    rw (nodes_are_tables true nodes) (ap (sorted_lines true version bits (t ∷ turns) (s ∷ strikes)) (append-nil _))
+table_lines false version bits [] [] steps nodes =
+    rw (nodes_are_tables false nodes) (ap (sorted_lines false version bits [] []) (append-nil _))
+table_lines false version bits [] (s ∷ strikes) steps nodes =
+    rw (nodes_are_tables false nodes) (ap (sorted_lines false version bits [] (s ∷ strikes)) (append-nil _))
+table_lines false version bits (t ∷ turns) [] steps nodes =
+    rw (nodes_are_tables false nodes) (ap (sorted_lines false version bits (t ∷ turns) []) (append-nil _))
+table_lines false version bits (t ∷ turns) (s ∷ strikes) steps nodes =
+    rw (nodes_are_tables false nodes) (ap (sorted_lines false version bits (t ∷ turns) (s ∷ strikes)) (append-nil _))
 
 -- both orders lead to the same
-same_lead : (version bits : ℕ) (turns : List Text) (strikes : List Strike) (es : List Expression) →
-    run (no_nodes, []) (front_lines version bits turns strikes es)
-    ≡ run (no_nodes, []) (sorted_lines version bits turns strikes es)
+same_lead : (named : Bool) (version bits : ℕ) (turns : List Text) (strikes : List Strike) (es : List Expression) →
+    run (no_nodes, []) (front_lines named version bits turns strikes es)
+    ≡ run (no_nodes, []) (sorted_lines named version bits turns strikes es)
 unfolding define along_header along_dots at_key
-same_lead version bits turns [] es = refl
-same_lead version bits turns (s ∷ strikes) es = refl
+same_lead named version bits turns [] es = refl
+same_lead true version bits turns (s ∷ strikes) es = refl
+same_lead false version bits turns (s ∷ strikes) es = refl
 
-is_sorted : (version bits : ℕ) (turns : List Text) (strikes : List Strike) (nodes : List (List Step)) →
-    members_are_sorted (members_of version bits nodes turns strikes) ≡ true
-is_sorted version bits turns [] nodes = rw (texts_sorted turns, nodes_sorted nodes) refl
-is_sorted version bits turns (s ∷ strikes) nodes =
-    rw (texts_sorted turns, nodes_sorted nodes, texts_sorted _) refl
+is_sorted : (named : Bool) (version bits : ℕ) (turns : List Text) (strikes : List Strike) (nodes : List (List Step)) →
+    members_are_sorted (members_of named version bits nodes turns strikes) ≡ true
+is_sorted true version bits turns [] nodes = rw (texts_sorted turns, nodes_sorted true nodes) refl
+is_sorted true version bits turns (s ∷ strikes) nodes =
+    rw (texts_sorted turns, nodes_sorted true nodes, texts_sorted _) refl
+is_sorted false version bits turns [] nodes = rw (texts_sorted turns, nodes_sorted false nodes) refl
+is_sorted false version bits turns (s ∷ strikes) nodes =
+    rw (texts_sorted turns, nodes_sorted false nodes, texts_sorted _) refl
 
 -- what is written one after another has a plan's lines
-pub lines_written : (pretty : Bool) (version bits : ℕ) (turns : List Text) (strikes : List Strike)
+pub lines_written : (pretty named : Bool) (version bits : ℕ) (turns : List Text) (strikes : List Strike)
     (nodes : List (List Step)) (t₀ t₁ t₂ t₃ t₄ t₅ t₆ : Text) → 1 ≤ length nodes → t₀ ≡ [] →
     Adds pretty (member (codes "version") (integer (pos version)) no_members) t₀ t₁ →
     Adds pretty (member (codes "bits") (integer (pos bits)) no_members) t₁ t₂ →
     Adds pretty (member (codes "turns") (texts_data turns) no_members) t₂ t₃ →
-    Adds pretty (with_strikes strikes no_members) t₃ t₄ → t₅ ≡ t₄ ++ 10 ∷ [] →
-    Adds pretty (member (codes "node") (nodes_data nodes) no_members) t₅ t₆ →
-    IsLinesText pretty false (front_lines version bits turns strikes (node_lines nodes)) t₆
-lines_written pretty version bits turns strikes [] t₀ t₁ t₂ t₃ t₄ t₅ t₆ some nil ha hb hc hd line he =
+    Adds pretty (with_strikes named strikes no_members) t₃ t₄ → t₅ ≡ t₄ ++ 10 ∷ [] →
+    Adds pretty (member (codes "node") (nodes_data named nodes) no_members) t₅ t₆ →
+    IsLinesText pretty false (front_lines named version bits turns strikes (node_lines named nodes)) t₆
+lines_written pretty named version bits turns strikes [] t₀ t₁ t₂ t₃ t₄ t₅ t₆ some nil ha hb hc hd line he =
     absurd (omega arith)
-lines_written pretty version bits turns strikes (steps ∷ nodes) t₀ t₁ t₂ t₃ t₄ t₅ t₆ some nil (a, ea, ha) (b, eb, hb)
-    (c, ec, hc) (d, ed, hd) line (e, ee, he) =
+lines_written pretty named version bits turns strikes (steps ∷ nodes) t₀ t₁ t₂ t₃ t₄ t₅ t₆ some nil (a, ea, ha)
+    (b, eb, hb) (c, ec, hc) (d, ed, hd) line (e, ee, he) =
     let whole : t₆ ≡ a ++ (b ++ (c ++ (d ++ 10 ∷ e))) =
     rw (ee, line, ed, ec, eb, ea, nil) (simp append_assoc refl) in
-    let lines = all_lines pretty version bits turns strikes steps nodes a b c d e ha hb hc hd he in
-    let front = front_lines version bits turns strikes in
-    subst (λ es. IsLinesText pretty false (front es) t₆) (elements_are (steps ∷ nodes)) (rw whole lines)
+    let lines = all_lines pretty named version bits turns strikes steps nodes a b c d e ha hb hc hd he in
+    let front = front_lines named version bits turns strikes in
+    subst (λ es. IsLinesText pretty false (front es) t₆) (elements_are named (steps ∷ nodes)) (rw whole lines)
 
 -- a text that has a plan's lines is read as its table
-pub written_read : (pretty : Bool) (version bits : ℕ) (turns : List Text) (strikes : List Strike)
+pub written_read : (pretty named : Bool) (version bits : ℕ) (turns : List Text) (strikes : List Strike)
     (nodes : List (List Step)) (text : Text) → 1 ≤ length nodes →
-    IsLinesText pretty false (front_lines version bits turns strikes (node_lines nodes)) text →
-    parse_document text ≡ Some (members_of version bits nodes turns strikes)
-written_read pretty version bits turns strikes [] text some lines = absurd (omega arith)
-written_read pretty version bits turns strikes (steps ∷ nodes) text some written =
-    let node_part = element_lines (steps ∷ nodes) in
+    IsLinesText pretty false (front_lines named version bits turns strikes (node_lines named nodes)) text →
+    parse_document text ≡ Some (members_of named version bits nodes turns strikes)
+written_read pretty named version bits turns strikes [] text some lines = absurd (omega arith)
+written_read pretty named version bits turns strikes (steps ∷ nodes) text some written =
+    let node_part = element_lines named (steps ∷ nodes) in
     let rest = pair (codes "bits") (integer (pos bits)) ∷ pair (codes "turns") (texts_data turns)
-    ∷ (strike_lines strikes ++ node_part) in
-    let front = front_lines version bits turns strikes in
-    let lines = subst (λ es. IsLinesText pretty false (front es) text) (sym (elements_are (steps ∷ nodes))) written in
-    let lead = same_lead version bits turns strikes node_part
-    ∙ ap (run (no_nodes, [])) (sym (table_lines version bits turns strikes steps nodes)) in
-    let printed = all_printed version bits turns strikes (steps ∷ nodes) in
-    lines_read pretty (members_of version bits (steps ∷ nodes) turns strikes)
+    ∷ (strike_lines named strikes ++ node_part) in
+    let front = front_lines named version bits turns strikes in
+    let same = sym (elements_are named (steps ∷ nodes)) in
+    let lines = subst (λ es. IsLinesText pretty false (front es) text) same written in
+    let lead = same_lead named version bits turns strikes node_part
+    ∙ ap (run (no_nodes, [])) (sym (table_lines named version bits turns strikes steps nodes)) in
+    let printed = all_printed named version bits turns strikes (steps ∷ nodes) in
+    lines_read pretty (members_of named version bits (steps ∷ nodes) turns strikes)
     (pair (codes "version") (integer (pos version))) rest text lines printed
-    (is_sorted version bits turns strikes (steps ∷ nodes)) lead
+    (is_sorted named version bits turns strikes (steps ∷ nodes)) lead

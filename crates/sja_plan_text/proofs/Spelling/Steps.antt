@@ -1,32 +1,21 @@
 -- The texts of steps.
-use Rattle.std.proofs.Common.{◌≡◌, ◌<◌, ◌∙◌, inl, ℕ, Ok, [], ◌∷◌, codes, decimal, refl, arith}
-use Rattle.hex.specs.Hex.{encode_lower, decode_sized}
-use Rattle.hex.proofs.HexLemmas.{decode_of-encode_lower, decode_of-ok, decode_sized-twice}
+use Rattle.std.proofs.Common.{◌≡◌, ◌≤◌, inl, inr, ℕ, Bool, true, false, [], ◌∷◌, codes, decimal}
+use Rattle.std.proofs.Common.{refl, arith}
+use Rattle.hex.specs.Hex.{encode_lower}
+use Rattle.hex.proofs.HexLemmas.{decode_of-encode_lower}
 use Rattle.sja_plan.specs.Words.{Text}
-use Rattle.sja_plan.specs.Accesses.{SpellsAddress, SpellsValue}
 use Rattle.sja_plan.specs.StepTexts.{SaysStep}
 use Rattle.sja_plan.proofs.OneReading.OneMessage.{is_message}
 use Rattle.sja_script.specs.declared.step.Step.{Step}
 use Rattle.sja_script.specs.declared.step.Step.TheVariants.{Start, Stop, Window, Release, Read}
 use Rattle.sja_script.specs.declared.step.Step.TheVariants.{Write, Load, Command, Await, Sent, Interrupt}
-use Rattle.sja_plan_text.specs.Texts.{step_text}
+use Rattle.sja_plan_text.specs.Names.{before_transmit, before_receive, address_word, value_word, message_word}
+use Rattle.sja_plan_text.specs.Texts.{step_text, named_text, spelled_step}
 use Rattle.sja_plan_text.specs.HasTexts.{HasStepText}
 use Rattle.sja_plan_text.proofs.Spelling.Words.{words_joined, decimal_word, spells, encode_word, one_byte}
-use Rattle.sja_plan_text.proofs.Spelling.Messages.{message_bytes}
-
--- in each version decimal digits spell an address
-address_said : (version n : ℕ) → n < 256 → SpellsAddress version (decimal n) n
-address_said version n h =
-    let is = spells 0 255 n (omega arith) (omega arith) (omega arith) in (rw is.0 refl, omega arith)
-
--- and two hexadecimal digits a value
-value_said : (version address v : ℕ) → v < 256 → SpellsValue version address (encode_lower (v ∷ [])) v
-value_said version address v h =
-    let is = decode_of-encode_lower (v ∷ []) (one_byte v h) in
-    let size = (decode_of-ok (encode_lower (v ∷ [])) (v ∷ []) is).2 in
-    let sized : decode_sized (encode_lower (v ∷ [])) 1 ≡ Ok (v ∷ []) =
-    decode_sized-twice (encode_lower (v ∷ [])) 1 size ∙ is in
-    (rw sized refl, omega arith)
+use Rattle.sja_plan_text.proofs.Spelling.Messages.{message_bytes, message_said, message_is_word}
+use Rattle.sja_plan_text.proofs.Spelling.Addresses.{address_said, register_said}
+use Rattle.sja_plan_text.proofs.Spelling.Values.{value_said, bits_said}
 
 -- in each version a step's text says it
 pub step_said : (version : ℕ) (s : Step) → HasStepText version s → SaysStep version (step_text s) s
@@ -69,6 +58,43 @@ step_said version (Await n) h =
       words_joined (codes "await") (decimal n ∷ []) (rw word refl),
       spells 1 21 n (omega arith) h.0 h.1,
     )
+
+-- in version 3 its text with names says it too
+pub named_said : (version : ℕ) (s : Step) → 3 ≤ version → HasStepText version s → SaysStep version (named_text s) s
+named_said version (Read n) raw h =
+    let (word, said) = register_said version before_receive n raw (omega arith) in
+    let joined = words_joined (codes "read") (address_word before_receive n ∷ []) (rw word refl) in
+    (address_word before_receive n, joined, said)
+named_said version (Write n v) raw h =
+    let (address, said) = register_said version before_transmit n raw (omega (arith, h.0)) in
+    let (value, valued) = bits_said version n v raw h.1 in (
+      address_word before_transmit n,
+      value_word n v,
+      words_joined (codes "write") (address_word before_transmit n ∷ value_word n v ∷ []) (rw (address, value) refl),
+      said,
+      valued,
+    )
+named_said version (Load m) raw h = (
+  message_word m,
+  words_joined (codes "load") (message_word m ∷ []) (rw (message_is_word m) refl),
+  inr (raw, message_said m h),
+)
+named_said version (Command v) raw h =
+    let (word, said) = bits_said version 1 v raw h in
+    (value_word 1 v, words_joined (codes "command") (value_word 1 v ∷ []) (rw word refl), said)
+named_said version Start raw h = step_said version Start h
+named_said version Stop raw h = step_said version Stop h
+named_said version Window raw h = step_said version Window h
+named_said version Release raw h = step_said version Release h
+named_said version Sent raw h = step_said version Sent h
+named_said version Interrupt raw h = step_said version Interrupt h
+named_said version (Await n) raw h = step_said version (Await n) h
+
+-- with names or without
+pub spelled_said : (named : Bool) (version : ℕ) → (named ≡ true → 3 ≤ version) → (s : Step) → HasStepText version s →
+    SaysStep version (spelled_step named s) s
+spelled_said true version raw s h = named_said version s (raw refl) h
+spelled_said false version raw s h = step_said version s h
 
 -- a step that a text says has a text
 pub has_step_text : (version : ℕ) (text : Text) (s : Step) → SaysStep version text s → HasStepText version s

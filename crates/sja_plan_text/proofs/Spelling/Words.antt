@@ -1,12 +1,12 @@
 -- Words that are joined are found again, and numbers and bytes are words.
-use Rattle.std.proofs.Common.{◌≡◌, ◌==◌, ◌&&◌, ◌≤◌, ◌<◌, ◌∙◌, ℕ, zero, suc, Bool, true, false, not, Some}
-use Rattle.std.proofs.Common.{List, [], ◌∷◌, length, All, decimal, refl, ap, arith}
+use Rattle.std.proofs.Common.{◌≡◌, ◌≢◌, ◌==◌, ◌&&◌, ◌≤◌, ◌<◌, ◌∙◌, ◌⊎◌, inl, inr, ℕ, zero, suc, Bool, true, false, not}
+use Rattle.std.proofs.Common.{Some, List, [], ◌∷◌, ◌++◌, length, All, decimal, refl, ap, arith}
 use Rattle.std.proofs.lemmas.Bool.{and_parts, eqb-true, not-true}
-use Rattle.std.proofs.lemmas.Bool.Decides.{nat_tests}
+use Rattle.std.proofs.lemmas.Bool.Decides.{nat_tests, eqb_tells}
 use Rattle.std.proofs.lemmas.Fmt.{digits_value-decimal, digits_decimal, decimal_nonempty, length-decimal-le}
 use Rattle.std.proofs.lemmas.List.Elements.{All-nil, All-cons, All-head, All-tail}
 use Rattle.std.proofs.lemmas.List.Splits.{slice_split_none, slice_split_at}
-use Rattle.std.specs.List.{AllPass}
+use Rattle.std.specs.List.{AllPass, slice_split, join_with_byte}
 use Rattle.std.specs.Str.{all_ascii_digits}
 use Rattle.std.specs.Str.Parse.{digits_value}
 use Rattle.hex.specs.Hex.{IsBytes, encode_lower, is_hex_digit}
@@ -15,28 +15,56 @@ use Rattle.sja_plan.specs.Words.{Text, words, is_number, SpellsWithin}
 use Rattle.sja_plan.proofs.Spelling.Numbers.{own}
 use Rattle.sja_plan_text.specs.Texts.{joined}
 
+eqb-same : (n : ℕ) → (n == n) ≡ true
+eqb-same n = by_case (eqb_tells n n)
+  where
+    by_case : (((n == n) ≡ true) × (n ≡ n)) ⊎ (((n == n) ≡ false) × (n ≢ n)) → (n == n) ≡ true
+    by_case (inl h) = h.0
+    by_case (inr h) = absurd (h.1 refl)
+
+module _ (mark : ℕ) where
+  -- the text is without this character
+  abbrev pub is_without : Text → Bool
+  is_without [] = true
+  is_without (b ∷ bs) = not (b == mark) && is_without bs
+
+  abbrev pub are_without : List Text → Bool
+  are_without [] = true
+  are_without (w ∷ ws) = is_without w && are_without ws
+
+  none_there : (w : Text) → is_without w ≡ true → All (λ (b : ℕ). (b == mark) ≡ false) w
+  none_there [] h = All-nil (λ (b : ℕ). (b == mark) ≡ false)
+  none_there (b ∷ bs) h =
+      let (here, rest) = and_parts (not (b == mark)) (is_without bs) h in
+      All-cons (λ (c : ℕ). (c == mark) ≡ false) b bs (not-true (b == mark) here) (none_there bs rest)
+
+  -- texts with this character between two are found again
+  pub parts_joined : (w : Text) (ws : List Text) → are_without (w ∷ ws) ≡ true →
+      slice_split (λ b. b == mark) (join_with_byte mark (w ∷ ws)) ≡ w ∷ ws
+  parts_joined w [] h = slice_split_none (λ b. b == mark) w (none_there w (and_parts (is_without w) true h).0)
+  parts_joined w (v ∷ ws) h =
+      let (here, rest) = and_parts (is_without w) (are_without (v ∷ ws)) h in
+      slice_split_at (λ b. b == mark) w mark (join_with_byte mark (v ∷ ws)) (none_there w here) (eqb-same mark)
+      ∙ ap (λ l. w ∷ l) (parts_joined v ws rest)
+
+-- a text is without a character where both its parts are
+pub without_both : (mark : ℕ) (a b : Text) → is_without mark a ≡ true → is_without mark b ≡ true →
+    is_without mark (a ++ b) ≡ true
+without_both mark [] b h k = k
+without_both mark (x ∷ a) b h k =
+    let (here, rest) = and_parts (not (x == mark)) (is_without mark a) h in
+    rw (here, without_both mark a b rest k) refl
+
 -- the text has no space
 abbrev pub is_word : Text → Bool
-is_word [] = true
-is_word (b ∷ bs) = not (b == 32) && is_word bs
+is_word w = is_without 32 w
 
 abbrev pub are_words : List Text → Bool
-are_words [] = true
-are_words (w ∷ ws) = is_word w && are_words ws
-
-no_spaces : (w : Text) → is_word w ≡ true → All (λ (b : ℕ). (b == 32) ≡ false) w
-no_spaces [] h = All-nil (λ (b : ℕ). (b == 32) ≡ false)
-no_spaces (b ∷ bs) h =
-    let (here, rest) = and_parts (not (b == 32)) (is_word bs) h in
-    All-cons (λ (c : ℕ). (c == 32) ≡ false) b bs (not-true (b == 32) here) (no_spaces bs rest)
+are_words ws = are_without 32 ws
 
 -- joined words are found again
 pub words_joined : (w : Text) (ws : List Text) → are_words (w ∷ ws) ≡ true → words (joined (w ∷ ws)) ≡ w ∷ ws
-words_joined w [] h = slice_split_none (λ b. b == 32) w (no_spaces w (and_parts (is_word w) true h).0)
-words_joined w (v ∷ ws) h =
-    let (here, rest) = and_parts (is_word w) (are_words (v ∷ ws)) h in
-    slice_split_at (λ b. b == 32) w 32 (joined (v ∷ ws)) (no_spaces w here) refl
-    ∙ ap (λ l. w ∷ l) (words_joined v ws rest)
+words_joined w ws h = parts_joined 32 w ws h
 
 -- digits are a word
 digits_word : (w : Text) → all_ascii_digits w ≡ true → is_word w ≡ true

@@ -1,5 +1,5 @@
 -- What the table of a plan says is that plan.
-use Rattle.std.proofs.Common.{◌≡◌, ◌≤◌, ◌+◌, ◌∙◌, ℕ, List, [], ◌∷◌, length, map, All, Some}
+use Rattle.std.proofs.Common.{◌≡◌, ◌≤◌, ◌+◌, ◌∙◌, ℕ, Bool, true, List, [], ◌∷◌, length, map, All, Some}
 use Rattle.std.proofs.Common.{refl, sym, ap₂, subst, arith}
 use Rattle.std.proofs.lemmas.List.{length-map}
 use Rattle.std.proofs.lemmas.List.Elements.{All-map, All-weaker, All-head, All-tail}
@@ -16,12 +16,12 @@ use Rattle.sja_plan.specs.Checks.{SaysPlan}
 use Rattle.sja_plan.specs.Faults.{IsText, IsPlanOf}
 use Rattle.sja_script.specs.declared.step.Step.{Step}
 use Rattle.sja_script.specs.declared.strike.Strike.{Strike}
-use Rattle.sja_plan_text.specs.Texts.{step_text, turn_text, strike_text}
+use Rattle.sja_plan_text.specs.Texts.{spelled_step, turn_text, strike_text}
 use Rattle.sja_plan_text.specs.HasTexts.{HasStepText, HasTurnText, HasStrikeText, HasTexts}
 use Rattle.sja_plan_text.specs.Document.{IsDocumentOf}
 use Rattle.sja_plan_text.specs.Inside.Table.{plan_members, plan_document}
 use Rattle.sja_plan_text.proofs.Tables.Lists.{said_of_each, both_of_each}
-use Rattle.sja_plan_text.proofs.Spelling.Steps.{step_said}
+use Rattle.sja_plan_text.proofs.Spelling.Steps.{spelled_said}
 use Rattle.sja_plan_text.proofs.Spelling.Turns.{turn_said}
 use Rattle.sja_plan_text.proofs.Spelling.Strikes.{strike_said, count_is_times}
 use Rattle.sja_plan_text.proofs.Tables.Shapes.{plan_shape}
@@ -36,12 +36,18 @@ times_counted (s ∷ strikes) h =
     (times_counted strikes (All-tail HasStrikeText s strikes h))
     ∙ sym (sum_by-cons (λ (s : Strike). s.times) s strikes)
 
-few_texts : (most : ℕ) (steps : List Step) → length steps ≤ most → length (map step_text steps) ≤ most
-few_texts most steps h = omega (arith, h, length-map steps step_text)
+few_texts : (named : Bool) (most : ℕ) (steps : List Step) → length steps ≤ most →
+    length (map (spelled_step named) steps) ≤ most
+few_texts named most steps h = omega (arith, h, length-map steps (spelled_step named))
 
-pub plan_said : (p : PlanValue) → IsInLimits p → HasTexts p → SaysPlan (plan_document p) p
-plan_said p limits texts =
-    let count = length-map p.nodes (λ steps. map step_text steps) in
+-- with names in version 3 alone
+abbrev pub HasVersion : Bool → PlanValue → Type 0
+HasVersion named p = named ≡ true → 3 ≤ p.version
+
+pub plan_said : (named : Bool) (p : PlanValue) → HasVersion named p → IsInLimits p → HasTexts p →
+    SaysPlan (plan_document named p) p
+plan_said named p third limits texts =
+    let count = length-map p.nodes (λ steps. map (spelled_step named) steps) in
     let most = most_steps p.version in
     let says = SaysStep p.version in
     let has = HasStepText p.version in
@@ -49,11 +55,13 @@ plan_said p limits texts =
       version = (refl, limits.version.0, limits.version.1);
       bits = (refl, limits.bits.0, limits.bits.1);
       node_count = (omega (arith, count, limits.nodes.0), omega (arith, count, limits.nodes.1));
-      step_counts = All-map (λ (steps : List Text). length steps ≤ most) (map step_text) p.nodes
+      step_counts = All-map (λ (steps : List Text). length steps ≤ most) (map (spelled_step named)) p.nodes
           (All-weaker (λ (steps : List Step). length steps ≤ most)
-          (λ (steps : List Step). length (map step_text steps) ≤ most) (few_texts most) p.nodes texts.step_counts);
-      steps = said_of_each (map step_text) (AllZip says) (λ (steps : List Step). All has steps)
-          (λ steps h. said_of_each step_text says has (step_said p.version) steps h) p.nodes texts.steps;
+          (λ (steps : List Step). length (map (spelled_step named) steps) ≤ most) (few_texts named most) p.nodes
+          texts.step_counts);
+      steps = said_of_each (map (spelled_step named)) (AllZip says) (λ (steps : List Step). All has steps)
+          (λ steps h. said_of_each (spelled_step named) says has (spelled_said named p.version third) steps h) p.nodes
+          texts.steps;
       turn_count = omega (arith, length-map p.turns turn_text, limits.turn_count);
       turns = subst (λ n. AllZip (SaysTurn p.version n) (map turn_text p.turns) p.turns) (sym count)
           (said_of_each turn_text (SaysTurn p.version (length p.nodes))
@@ -68,10 +76,15 @@ plan_said p limits texts =
     }
 
 -- a text that parses as the table of a plan is a document of it
-pub is_document : (p : PlanValue) (text : Text) → IsInLimits p → HasTexts p →
-    parse_document text ≡ Some (plan_members p) → IsDocumentOf text p
-is_document p text limits texts parsed =
-    (plan_document p, plan_members p, parsed, plan_shape p, plan_said p limits texts)
+pub is_document : (named : Bool) (p : PlanValue) (text : Text) → HasVersion named p → IsInLimits p → HasTexts p →
+    parse_document text ≡ Some (plan_members named p) → IsDocumentOf text p
+is_document named p text third limits texts parsed = (
+  plan_document named p,
+  plan_members named p,
+  parsed,
+  plan_shape named p (λ e. let raw = third e in omega (arith, raw, limits.version.1)),
+  plan_said named p third limits texts,
+)
 
 -- bytes are a plan where they are a document of it, and a text that isn't too long
 pub is_plan : (bytes : Text) (p : PlanValue) → IsText bytes → IsDocumentOf bytes p → IsPlanOf bytes p

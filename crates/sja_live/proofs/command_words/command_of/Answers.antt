@@ -50,22 +50,22 @@ pub returns-in-len3-clause-ok : goal.returns-in-len3-clause-ok
 returns-in-len3-clause-ok c =
     subst (λ (l : List Text). IfOk c.of_three_words.result (λ x. AreCommandWords c.args.version c.args.nodes l x))
     (sym (three_words c.args.words.now none c.in-len3.len_at_least c.in-len3.len_below))
-    (c.of_three_words.ensures.ok c.args.version)
+    c.of_three_words.ensures.ok
 
 pub returns-in-len3-clause-err : goal.returns-in-len3-clause-err
 returns-in-len3-clause-err c =
     subst (λ (l : List Text). IfErr c.of_three_words.result (IsCommandRefusal c.args.version c.args.nodes l))
     (sym (three_words c.args.words.now none c.in-len3.len_at_least c.in-len3.len_below))
-    (c.of_three_words.ensures.err c.args.version)
+    c.of_three_words.ensures.err
 
 pub returns-in-len4-clause-ok : goal.returns-in-len4-clause-ok
 returns-in-len4-clause-ok c =
     subst (λ (l : List Text). IfOk c.of_four_words.result (λ x. AreCommandWords c.args.version c.args.nodes l x))
     (sym (four_words c.args.words.now none c.in-len4.len_at_least c.in-len4.len_below))
-    (c.of_four_words.ensures.ok c.args.version)
+    c.of_four_words.ensures.ok
 
 pub returns-in-len4-clause-err : goal.returns-in-len4-clause-err
 returns-in-len4-clause-err c =
     subst (λ (l : List Text). IfErr c.of_four_words.result (IsCommandRefusal c.args.version c.args.nodes l))
     (sym (four_words c.args.words.now none c.in-len4.len_at_least c.in-len4.len_below))
-    (c.of_four_words.ensures.err c.args.version)
+    c.of_four_words.ensures.err

@@ -5,7 +5,7 @@ use Rattle.sja_live.proofs.command_words.of_three_words.Goals as goal
 
 -- the second word is no node
 pub returns-in_default-clause-err : goal.returns-in_default-clause-err
-returns-in_default-clause-err c = λ version.
+returns-in_default-clause-err c =
     let node = c.args.node.now in let word = c.args.word.now in let no = c.in_default.ensures.err.1 in
     elim c.else-not-is_read.branch [
       | else-not-is_read-via-then-not-is_read+else-ne w ↦
@@ -18,7 +18,7 @@ returns-in_default-clause-err c = λ version.
 
 -- the third one is no address
 pub returns-in-Err-clause-err : goal.returns-in-Err-clause-err
-returns-in-Err-clause-err c = λ version.
+returns-in-Err-clause-err c =
     let node = c.args.node.now in let word = c.args.word.now in
     let name : c.args.name.now ≡ codes "read" = search rules in (
       node,

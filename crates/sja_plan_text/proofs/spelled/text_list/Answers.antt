@@ -24,5 +24,6 @@ returns g c =
     omega (arith, ap first_of c.from-2.ensures) in
     let written : view c.from-2.result ≡ array (array_view c.loop-item.values) = c.from-2.ensures in
     let whole = take_all c.loop-item.item-index c.args.items.now c.loop-item-test.false in
-    let texts = c.loop-item.invariant ∙ ap (λ l. map (λ (t : List ℕ). string t) (map g.T.Spelled.text l)) whole in
+    let text = g.T.Spelled.text c.args.named in
+    let texts = c.loop-item.invariant ∙ ap (λ l. map (λ (t : List ℕ). string t) (map text l)) whole in
     written ∙ ap (λ l. array (items_of l)) texts

@@ -6,4 +6,4 @@ use Rattle.sja_plan_text.proofs.spelled.text_list.Given as goal
 -- the texts so far
 abbrev pub invariant-loop-item : goal.invariant-loop-item
 invariant-loop-item g l = map view l.values.items
-    ≡ map (λ (t : List ℕ). string t) (map (g.T.Spelled.text) (take l.item-index l.items))
+    ≡ map (λ (t : List ℕ). string t) (map (g.T.Spelled.text l.named) (take l.item-index l.items))

@@ -1,0 +1,61 @@
+use Rattle.std.proofs.Common.{rules, ◌≡◌, ◌==◌, ◌-◌, ◌++◌, ◌∷◌, [], suc, false, sym, subst, length, arith}
+use Rattle.std.proofs.lemmas.Grind.{common_steps}
+use Rattle.toml_parser.specs.Lexical.{skip_blank}
+use Rattle.sja_plan.specs.Inside.Rooms.{items_in, section_in, item_behind}
+use Rattle.sja_plan.proofs.ReadLines.{ReadsFrom, reads_more, reads_end, bare_more}
+use Rattle.sja_plan.proofs.tables.reading.read.Goals as goal
+
+pub lines-init : goal.lines-init
+lines-init c = (
+  search rules,
+  c.skip_bom-rest.ensures.within,
+  c.new-room.ensures.sound,
+  suc (length c.args.text.now),
+  [],
+  omega (arith, c.skip_bom-rest.ensures.within),
+  sym c.new-room.ensures.items,
+  rw (c.skip_bom-rest.ensures.rest, c.new-room.ensures.section),
+)
+
+pub returns-then-is_empty : goal.returns-then-is_empty
+returns-then-is_empty c =
+    let l = c.lines in
+    let start_is = c.skip_blank-start.ensures.rest in
+    let none : length (skip_blank l.rest.now) ≡ 0 = grind (arith, common_steps) in
+    let m = l.invariant.3 in
+    let is = l.invariant.4 in
+    let room = l.invariant.5 in
+    record {
+      ok = (
+        is,
+        l.invariant.6,
+        reads_end c.args.text.now m is (section_in l.room) l.rest.now (omega arith) none
+            l.invariant.7,
+      );
+    }
+
+pub lines-preserved : goal.lines-preserved
+lines-preserved c =
+    let l = c.lines in
+    let start_is = c.skip_blank-start.ensures.rest in
+    let other : (length (skip_blank l.rest.now) == 0) ≡ false = grind (arith, common_steps) in
+    let shorter = c.in_ok-rest.ensures.shorter in
+    let before = c.skip_blank-start.ensures.within in
+    let (e, read, took) = c.in_ok-rest.ensures.ok in
+    let m = l.invariant.3 in
+    let is = l.invariant.4 in
+    let room = l.invariant.5 in
+    let section = section_in l.room in
+    let more = is ++ item_behind section e ∷ [] in
+    let after = c.in_ok-rest.rest.now in (
+      search rules,
+      omega (arith, l.invariant.1),
+      took.sound,
+      m - 1,
+      more,
+      omega arith,
+      bare_more is (items_in l.room) (items_in c.read_line.new.room) (item_behind section e) l.invariant.6 took.items,
+      subst (λ s. ReadsFrom c.args.text.now (m - 1) more s after) (sym took.section)
+          (reads_more c.args.text.now m is section l.rest.now after e (omega arith) other (rw start_is at read)
+          l.invariant.7),
+    )

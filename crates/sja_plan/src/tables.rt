@@ -1,0 +1,20 @@
+//! Whether a long text is a document that is no plan, without the tables that `toml` would build of it.
+//!
+//! A table of one key takes a kilobyte there, so that a document with many keys takes some hundred times its bytes.
+//! Here a key takes the bytes of its parts and a few numbers, and a value nothing.
+
+mod definition;
+mod grammar;
+mod judging;
+mod many;
+mod names;
+mod path;
+mod reading;
+mod refusal;
+mod room;
+mod state;
+mod strange;
+mod values;
+mod what;
+
+pub(crate) use strange::is_strange;

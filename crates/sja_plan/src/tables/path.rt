@@ -1,0 +1,24 @@
+//! Parts of keys, one after another.
+
+ghost use Rattle.std.specs.Prelude.{◌≡◌, ◌+◌, IfOk};
+
+use super::refusal::Refusal;
+
+/// Parts of keys, one after another: the number of the first, and how many there are.
+#[derive(Clone, Copy)]
+pub(crate) struct Path {
+    pub(crate) first: u32,
+    pub(crate) count: u32,
+}
+
+impl Path {
+    /// The parts behind the first.
+    pub(crate) fn behind(&self) -> Result<Path, Refusal>
+        ensures { IfOk result (λ p. (self.now.first + 1 ≡ p.first) × (p.count + 1 ≡ self.now.count)) }
+    {
+        match (self.first.checked_add(1), self.count.checked_sub(1)) {
+            (Some(first), Some(count)) => Ok(Path { first, count }),
+            _ => Err(Refusal::Open),
+        }
+    }
+}
