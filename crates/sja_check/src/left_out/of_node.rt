@@ -6,9 +6,13 @@ use super::super::document::Document;
 use super::super::outline::Spot;
 use super::super::page::{Page, Piece};
 use super::refused::{can_start, refused_hints};
-use super::undone::undone_hint;
+use super::steps_left::{left_hints, more_hints};
+use super::story::Story;
+use super::swallowed::swallowed_hints;
+use super::undone::{steps_in_turns, undone_hint};
+use super::waiting::waits_at;
 use sja_log::RunLog;
-use sja_plan::{Plan, RAW_VERSION};
+use sja_plan::{Plan, RAW_VERSION, Turn};
 use sja_script::Step;
 
 /// Says what there is to say of a node: that it is never started, the steps that were refused, and the first one that
@@ -19,6 +23,7 @@ pub(crate) fn node_hints(
     plan: &Plan,
     log: &RunLog,
     node: usize,
+    story: Option<&Story>,
 )
     requires { node < length plan.now.nodes }
 {
@@ -32,16 +37,29 @@ pub(crate) fn node_hints(
         &[line, Piece::Number(node as u64)],
     );
     refused_hints(page, document, plan.version(), node, steps, run.done());
-    if run.done().len() < steps.len() {
-        undone_hint(
-            page,
-            document,
-            node,
-            plan.turns(),
-            steps,
-            run.done().len(),
-            log.end(),
-        );
+    if let Some(story) = story {
+        swallowed_hints(page, document, node, steps, run.done(), story);
+    }
+    let done = run.done().len();
+    if done >= steps.len() {
+        return;
+    }
+    if plan.version() < RAW_VERSION {
+        undone_hint(page, document, node, plan.turns(), steps, done, log.end());
+    } else if waits_at(plan, log, node).is_some() {
+        more_hints(page, document, node, done.saturating_add(1), steps.len());
+    } else {
+        let why = why_left(plan.turns(), node, done);
+        left_hints(page, document, node, done, steps.len(), why);
+    }
+}
+
+/// Why the steps of a node behind so many are left, where it doesn't wait.
+fn why_left(turns: &[Turn], node: usize, done: usize) -> &'static str {
+    if steps_in_turns(turns, node) <= done as u64 {
+        "no turn came to it"
+    } else {
+        "the bits were spent before"
     }
 }
 

@@ -60,7 +60,7 @@ fn why_undone(step: Option<&Step>, end: End) -> &'static str {
 }
 
 /// How many steps the turns of a node have.
-fn steps_in_turns(turns: &[Turn], node: usize) -> u64 {
+pub(crate) fn steps_in_turns(turns: &[Turn], node: usize) -> u64 {
     let mut count = 0u64;
     for turn in turns {
         count = count.saturating_add(steps_in(turn, node));

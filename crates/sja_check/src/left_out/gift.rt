@@ -1,0 +1,63 @@
+//! [`Gift`]: what a driver gave the bus.
+
+use sja_link::{Entry, Journal, Up};
+use std::alloc::{AllocError, Global};
+
+/// What a driver gave the bus, and that its node went bus-off.
+#[derive(Clone, Copy)]
+pub(crate) enum Gift {
+    /// An activation; in listen only mode where that is true.
+    Start(bool),
+    /// The end of one.
+    Stop,
+    /// A request.
+    Send,
+    /// A released message.
+    Credit,
+    /// No gift: the node went bus-off.
+    Off,
+}
+
+/// A gift, with how many bits came before it.
+#[derive(Clone, Copy)]
+pub(crate) struct Given {
+    /// What it is.
+    pub(crate) gift: Gift,
+    /// How many bits came before it.
+    pub(crate) bits: u32,
+}
+
+/// How many bits at rest are passed at once at most.
+const MOST_AT_ONCE: usize = 1_000_000;
+
+/// What the driver of a node gave by its journal, in order.
+///
+/// Error: [`AllocError`] where memory was refused.
+pub(crate) fn gifts_in(alloc: Global, journal: &Journal) -> Result<Vec<Given>, AllocError> {
+    let mut gifts = Vec::new(alloc);
+    let mut bits = 0u32;
+    let mut entries = journal.entries();
+    while let Some(entry) = entries.next() {
+        if let Entry::Bit(_, _) = entry {
+            let rest = entries.rest_bits(MOST_AT_ONCE);
+            entries.skip_rest_bits(rest);
+            bits = bits.saturating_add(rest as u32).saturating_add(1);
+        }
+        if let Some(gift) = gift_in(&entry) {
+            gifts.push(Given { gift, bits })?;
+        }
+    }
+    Ok(gifts)
+}
+
+/// What an entry of a journal says of it.
+fn gift_in(entry: &Entry) -> Option<Gift> {
+    match entry {
+        Entry::Up(Up::Start(config)) => Some(Gift::Start(config.listen)),
+        Entry::Up(Up::Stop) => Some(Gift::Stop),
+        Entry::Up(Up::Send(_)) => Some(Gift::Send),
+        Entry::Up(Up::Credit(_)) => Some(Gift::Credit),
+        Entry::Off => Some(Gift::Off),
+        _ => None,
+    }
+}
