@@ -1,8 +1,8 @@
 # Completion of the words of sja in bash. A package has it as /usr/share/bash-completion/completions/sja; else
 # `. completions/sja.bash`. checks/completions compares it with what the program's help names.
 
-# _sja: of the words typed so far, which may come next; behind < or >, and behind run, check and trace, the names of
-# files
+# _sja: of the words typed so far, which may come next; behind < or >, and behind run, check, trace and plan, the names
+# of files
 _sja() {
     local current=${COMP_WORDS[COMP_CWORD]} before=${COMP_WORDS[COMP_CWORD - 1]}
     local at command= place=0
@@ -23,7 +23,7 @@ _sja() {
     done
     mapfile -t COMPREPLY < <(compgen -W "$(_sja_words "$command" "$place")" -- "$current")
     case $command in
-    run | check | trace)
+    run | check | trace | plan)
         compopt -o filenames 2>/dev/null
         [[ $current == -* ]] || mapfile -t -O "${#COMPREPLY[@]}" COMPREPLY < <(compgen -f -- "$current")
         ;;
@@ -32,14 +32,14 @@ _sja() {
 
 # _sja_words COMMAND PLACE: the words that may stand behind this command and so many arguments
 _sja_words() {
-    local commands="encode decode filter arbitrate message run wave trace frames picture candump check sweep live help"
+    local commands="encode decode filter arbitrate message run wave trace frames picture candump check sweep plan live help"
     case $1 in
     '') echo "$commands -h --help -V --version" ;;
-    encode | decode | arbitrate | message | live) echo "-h --help" ;;
+    encode | decode | arbitrate | message | plan | live) echo "-h --help" ;;
     run) echo "--threads --jobs -h --help" ;;
     wave | trace | frames) echo "--threads -h --help" ;;
     check) echo "--jobs -h --help" ;;
-    picture) echo "--svg --threads -h --help" ;;
+    picture) echo "--svg --threads --yes -h --help" ;;
     candump) echo "--errors --threads -h --help" ;;
     sweep) echo "--only --from --to --pairs --changed --rows --yes --jobs --plan -h --help" ;;
     filter) if [ "$2" = 0 ]; then echo "single dual -h --help"; else echo "-h --help"; fi ;;

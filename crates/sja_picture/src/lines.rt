@@ -9,6 +9,7 @@ use std::alloc::AllocError;
 use std::fmt::Write;
 
 /// The sign of a level.
+#[inline(always)]
 pub(crate) fn put_level(text: &mut String, level: Level) -> Result<(), AllocError>
     ensures { OnOk result (string_bytes text.new ≡ string_bytes text.old ++ level_sign level) }
 {

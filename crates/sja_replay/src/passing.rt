@@ -85,7 +85,8 @@ impl<'a> Replay<'a> {
         }
     }
 
-    /// What the node shows of a bit with these levels.
+    /// What the node shows of a bit with these levels. Where it is inlined, what isn't asked of it isn't looked for.
+    #[inline(always)]
     pub(crate) fn short(&self, driven: Level, seen: Level) -> ShortBit
         ensures { LooksAt self.now.node driven seen result }
     {

@@ -2,7 +2,7 @@
 use Rattle.std.specs.Prelude.{◌≡◌, ◌⊎◌, ◌<◌, ℕ, Bool, true, false, List, Option, Some, None, Result, Ok, Err, map}
 use Rattle.std.specs.Io.KnownBytes.{Appends, Keeps}
 use Rattle.sja_words.specs.Requests.{Request, encode, decode, filter, arbitrate, message, run, wave, trace, frames}
-use Rattle.sja_words.specs.Requests.{picture, candump, check, sweep, struck_plan, files, live}
+use Rattle.sja_words.specs.Requests.{picture, candump, check, sweep, struck_plan, spelled_plan, files, live}
 use Rattle.sja_texts.specs.declared.command_refusal.CommandRefusal.{CommandRefusal}
 use Rattle.sja_texts.specs.declared.command_refusal.CommandRefusal.TheVariants as refusal
 use Rattle.sja_texts.specs.Arbitrate.{IsArbitration, RefusesMessages}
@@ -14,7 +14,8 @@ use Rattle.sja_texts.specs.Given.{RefusesGiven}
 use Rattle.sja_texts.specs.Refusal.{refusal_line}
 use Rattle.sja_run.specs.Check.{HasHints, HasMistake}
 use Rattle.sja_run.specs.Input.{ReadsFew, RefusesInput}
-use Rattle.sja_run.specs.Run.{IsOfPlan, RefusesBy}
+use Rattle.sja_run.specs.PlanDocument.{IsInputSpelled, RefusesInputSpelled}
+use Rattle.sja_run.specs.Run.{IsOfPlan, RefusesBy, RefusesText}
 use Rattle.sja_run.specs.RunText.{IsTextOfRun, MayFault}
 use Rattle.sja_run.specs.Sweep.{IsStruck, IsSwept, RefusesOfPlan, RefusesStruck, RefusesSwept}
 use Rattle.sja_run.specs.declared.left.Left.{Left}
@@ -24,18 +25,19 @@ use Rattle.sja_run.specs.declared.run_text.RunText.{RunText}
 use Rattle.sja_run.specs.declared.run_text.RunText.TheVariants.{Report, Wave, Trace, Frames, Picture, Drawing, Candump}
 use Rattle.sja_run.specs.declared.threaded.Threaded.TheVariants.{Text, Sweep}
 
--- a plan is asked about: a text of its run, whether it is one, its sweep, or the plan with a strike more; or plans that
--- stand in files; or a session is driven. For these alone the input is read
+-- a plan is asked about: a text of its run, whether it is one, its sweep, or the plan as it is written, with a strike
+-- more or without; or plans that stand in files; or a session is driven. For these alone the input is read
 abbrev pub AsksForRun : Request → Type 0
 AsksForRun (run threads) = Unit {0}
 AsksForRun (wave threads) = Unit {0}
 AsksForRun (trace threads) = Unit {0}
 AsksForRun (frames threads) = Unit {0}
-AsksForRun (picture first last svg threads) = Unit {0}
+AsksForRun (picture first last svg threads meant) = Unit {0}
 AsksForRun (candump errors threads) = Unit {0}
 AsksForRun check = Unit {0}
 AsksForRun (sweep w) = Unit {0}
 AsksForRun (struck_plan node bit) = Unit {0}
+AsksForRun spelled_plan = Unit {0}
 AsksForRun (files asked jobs names) = Unit {0}
 AsksForRun live = Unit {0}
 AsksForRun other = ⊥
@@ -47,7 +49,7 @@ IsLeftOver (run true) = Unit {0}
 IsLeftOver (wave true) = Unit {0}
 IsLeftOver (trace true) = Unit {0}
 IsLeftOver (frames true) = Unit {0}
-IsLeftOver (picture first last svg true) = Unit {0}
+IsLeftOver (picture first last svg true meant) = Unit {0}
 IsLeftOver (candump errors true) = Unit {0}
 IsLeftOver (sweep w) = 1 < w.jobs
 IsLeftOver (files asked jobs names) = Unit {0}
@@ -66,14 +68,14 @@ request_for threads Report = run threads
 request_for threads Wave = wave threads
 request_for threads Trace = trace threads
 request_for threads Frames = frames threads
-request_for threads (Picture first last) = picture first last false threads
-request_for threads (Drawing first last) = picture first last true threads
+request_for threads (Picture first last meant) = picture first last false threads meant
+request_for threads (Drawing first last meant) = picture first last true threads meant
 request_for threads (Candump errors) = candump errors threads
 
 -- the text that `picture` asks for: a drawing in SVG (`true`), or a picture
-abbrev pub picture_or_drawing : Bool → ℕ → Option ℕ → RunText
-picture_or_drawing true first last = Drawing first last
-picture_or_drawing false first last = Picture first last
+abbrev pub picture_or_drawing : Bool → ℕ → Option ℕ → Bool → RunText
+picture_or_drawing true first last meant = Drawing first last meant
+picture_or_drawing false first last meant = Picture first last meant
 
 -- what is left to threads, as what was asked for
 abbrev pub request_left : Threaded → Request
@@ -102,12 +104,13 @@ IsPrinted (run threads) before after text = IsOfPlan (IsTextOfRun threads Report
 IsPrinted (wave threads) before after text = IsOfPlan (IsTextOfRun threads Wave) before after text
 IsPrinted (trace threads) before after text = IsOfPlan (IsTextOfRun threads Trace) before after text
 IsPrinted (frames threads) before after text = IsOfPlan (IsTextOfRun threads Frames) before after text
-IsPrinted (picture first last svg threads) before after text =
-    IsOfPlan (IsTextOfRun threads (picture_or_drawing svg first last)) before after text
+IsPrinted (picture first last svg threads meant) before after text =
+    IsOfPlan (IsTextOfRun threads (picture_or_drawing svg first last meant)) before after text
 IsPrinted (candump errors threads) before after text = IsOfPlan (IsTextOfRun threads (Candump errors)) before after text
 IsPrinted check before after text = HasHints before after text
 IsPrinted (sweep w) before after text = IsOfPlan (IsSwept w) before after text
 IsPrinted (struck_plan node bit) before after text = IsOfPlan (IsStruck node bit) before after text
+IsPrinted spelled_plan before after text = IsInputSpelled before after text
 IsPrinted (files asked jobs names) before after text = ⊥
 IsPrinted live before after text = ⊥
 
@@ -122,11 +125,13 @@ IsRefused (run threads) before after r = RefusesBy (MayFault threads) before aft
 IsRefused (wave threads) before after r = RefusesBy (MayFault threads) before after r
 IsRefused (trace threads) before after r = RefusesBy (MayFault threads) before after r
 IsRefused (frames threads) before after r = RefusesBy (MayFault threads) before after r
-IsRefused (picture first last svg threads) before after r = RefusesBy (MayFault threads) before after r
+IsRefused (picture first last svg threads meant) before after r =
+    RefusesText threads (picture_or_drawing svg first last meant) before after r
 IsRefused (candump errors threads) before after r = RefusesBy (MayFault threads) before after r
 IsRefused check before after r = RefusesInput before after r
 IsRefused (sweep w) before after r = RefusesOfPlan (RefusesSwept w) before after r
 IsRefused (struck_plan node bit) before after r = RefusesOfPlan (RefusesStruck node bit) before after r
+IsRefused spelled_plan before after r = RefusesInputSpelled before after r
 IsRefused (files asked jobs names) before after r = (r ≡ refusal.OutOfMemory) × ReadsFew before after
 IsRefused live before after r = (r ≡ refusal.OutOfMemory) × ReadsFew before after
 

@@ -1,5 +1,5 @@
--- What `run`, `check` and `trace` do over plans that stand in files (this project's own rule). What comes of each plan
--- hangs on its bytes alone.
+-- What `run`, `check`, `trace` and `plan` do over plans that stand in files (this project's own rule). What comes of
+-- each plan hangs on its bytes alone.
 use Rattle.std.specs.Prelude.{◌≡◌, ◌⊎◌, ◌++◌, ◌∷◌, ℕ, Bool, true, false, List, [], Option, Some, None}
 use Rattle.std.specs.Prelude.{codes, length, nat_lt, if◌then◌else◌}
 use Rattle.std.specs.List.{list_all}
@@ -14,6 +14,7 @@ use Rattle.sja_texts.specs.declared.command_refusal.CommandRefusal.TheVariants a
 use Rattle.sja_run.specs.Check.{IsExplained, IsHinted}
 use Rattle.sja_run.specs.Names.{shown_name}
 use Rattle.sja_run.specs.Input.{IsRead, IsReadFrom, RefusesInput}
+use Rattle.sja_run.specs.PlanDocument.{IsSpelling, RefusesSpelling}
 use Rattle.sja_run.specs.RunText.{IsTextOfRun, MayFault}
 use Rattle.sja_run.specs.declared.file_outcome.FileOutcome.{FileOutcome}
 use Rattle.sja_run.specs.declared.file_outcome.FileOutcome.TheVariants.{Printed, Mistaken, Refused, Unreadable}
@@ -31,6 +32,7 @@ abbrev pub IsAnswer : PlanQuestion → List ℕ → List ℕ → Type 0
 IsAnswer (question.Report threads) bytes text = IsTextIn threads Report bytes text
 IsAnswer (question.Trace threads) bytes text = IsTextIn threads Trace bytes text
 IsAnswer question.Check bytes text = IsHinted bytes text
+IsAnswer question.Plan bytes text = IsSpelling bytes text
 
 -- why there is no text of a run of that plan. Memory may be refused at any time. Else the bytes have this first fault,
 -- or they are a plan, and its run had this fault
@@ -46,6 +48,7 @@ abbrev pub IsUnanswered : PlanQuestion → List ℕ → CommandRefusal → Type 
 IsUnanswered (question.Report threads) bytes r = RefusesBytes threads bytes r
 IsUnanswered (question.Trace threads) bytes r = RefusesBytes threads bytes r
 IsUnanswered question.Check bytes r = r ≡ refusal.OutOfMemory
+IsUnanswered question.Plan bytes r = RefusesSpelling bytes r
 
 -- what was asked of the plan that these bytes are has this outcome
 abbrev pub Answers : PlanQuestion → List ℕ → FileOutcome → Type 0

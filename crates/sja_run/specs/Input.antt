@@ -40,3 +40,4 @@ RefusesInput before after (refusal.Notation fault) = ⊥
 RefusesInput before after (refusal.Plan fault) = ⊥
 RefusesInput before after (refusal.Run fault) = ⊥
 RefusesInput before after (refusal.Sweep why) = ⊥
+RefusesInput before after (refusal.Drawing levels) = ⊥

@@ -5,6 +5,7 @@ ghost use Rattle.sja_words.specs.Requests.{check, request_of};
 ghost use Rattle.sja_run.specs.Answer.{AsksForRun, IsLeftOver, IsPrinted, IsRefused, request_for};
 ghost use Rattle.sja_run.specs.Inside.Answers.{AsksForText};
 
+use super::plan_document::spelled_input;
 use super::run_text::{RunText, picture_or_drawing};
 use super::serial_text::written;
 use super::struck_plan::struck;
@@ -14,8 +15,8 @@ use sja_words::Task;
 use std::alloc::Global;
 use std::io::Read;
 
-/// The text that answers the task, which isn't left to another call and isn't `check`. Only for a text of a run and for
-/// `sweep` the input is read.
+/// The text that answers the task, which isn't left to another call and isn't `check`. Only for a text of a run, for
+/// `sweep` and for `plan` the input is read.
 #[tactic(auto, using(crate::proofs::Requested::Requests::once))]
 pub(crate) fn printed<R: Read>(
     alloc: Global,
@@ -42,6 +43,7 @@ pub(crate) fn printed<R: Read>(
         Task::Message(text) => translated(alloc, text),
         Task::Sweep(words) => told_sweep(alloc, words, input),
         Task::StruckPlan { node, bit } => struck(alloc, node, bit, input),
+        Task::Plan => spelled_input(alloc, input),
         of_run => written(alloc, text_asked(&of_run), input),
     }
 }
@@ -62,7 +64,8 @@ fn text_asked(task: &Task<'_>) -> RunText
             last,
             svg,
             threads: false,
-        } => picture_or_drawing(*first, *last, *svg),
+            meant,
+        } => picture_or_drawing(*first, *last, *svg, *meant),
         Task::Candump {
             errors,
             threads: false,

@@ -1,6 +1,6 @@
 //! Plans that stand in files: each is read, answered and told of, in order.
 
-ghost use Rattle.std.specs.Prelude.{◌≡◌, ◌⊎◌, IfOk, false, true, length, map};
+ghost use Rattle.std.specs.Prelude.{◌≡◌, ◌<◌, ◌≤◌, ◌⊎◌, IfOk, false, true, length, map, take};
 ghost use Rattle.sja_run.specs.Files.{AreOutcomes, ShowsFiles};
 ghost use Rattle.sja_run.specs.Inside.FileReads.{outcomes_in};
 
@@ -16,8 +16,15 @@ use std::io::{Read, Write};
 use std::sync::Wait;
 use std::thread::Threads;
 
+/// So many files a job are read at one time, where there are several jobs.
+const FILES_A_JOB: usize = 8;
+
+/// And so many bytes of plans a job, as many as one plan has at most.
+const BYTES_A_JOB: usize = 1 << 24;
+
 /// Answers what is asked of each plan in these files, and gives the exit status: 0 where each is answered, otherwise 1.
-/// As many files as there are jobs are read, answered, each in a thread of its own, and told of, and then as many more.
+/// With one job file after file is read, answered and told of. With more a portion of the files is read, answered in so
+/// many threads, and told of, and then the next: eight files a job, or fewer where their plans are long.
 pub(crate) fn reply_files<T: Threads + Wait + Sync, F: Sources, R: Read, O: Write, E: Write>(
     rt: &T,
     alloc: Global,
@@ -36,18 +43,24 @@ pub(crate) fn reply_files<T: Threads + Wait + Sync, F: Sources, R: Read, O: Writ
     let names = words.names.as_slice();
     let several = names.len() > 1;
     let jobs = words.jobs.max(1) as usize;
+    let most = if jobs == 1 {
+        1
+    } else {
+        jobs.saturating_mul(FILES_A_JOB)
+    };
     let mut all = true;
     let mut start = 0;
     while start < names.len() {
         if out.failed || err.failed {
             return 1;
         }
-        let end = start + jobs.min(names.len() - start);
-        let some = &names[start..end];
-        let outcomes = outcomes_of(rt, alloc, sources, words.question, some, input);
+        let end = start + most.min(names.len() - start);
+        let given = &names[start..end];
+        let (many, outcomes) = outcomes_of(rt, alloc, sources, words.question, jobs, given, input);
+        let some = &names[start..start + many];
         let answered = put_outcomes(several, some, &outcomes, out, err);
         all &= answered;
-        start = end;
+        start += many;
     }
     if all && !out.failed && !err.failed {
         0
@@ -56,21 +69,29 @@ pub(crate) fn reply_files<T: Threads + Wait + Sync, F: Sources, R: Read, O: Writ
     }
 }
 
-/// What comes of each of these files.
-///
-/// Error: [`AllocError`] where memory was refused, and so it is for each of them.
+/// What comes of the first of these files, and of how many. Where memory was refused, it was for each of them.
 fn outcomes_of<T: Threads + Wait + Sync, F: Sources, R: Read>(
     rt: &T,
     alloc: Global,
     sources: &F,
     question: PlanQuestion,
+    jobs: usize,
     names: &[&str],
     input: &mut R,
-) -> Result<Vec<FileOutcome>, AllocError>
-    ensures are { let given = map (λ name. name.now) names.now in AreOutcomes (F.holds sources.now) question given
-        (R.remaining input.old) (R.remaining input.new) (outcomes_in (λ v. v.items) given result) }
-    ensures len { IfOk result (λ outcomes. length outcomes.items ≡ length names.now) }
+) -> (usize, Result<Vec<FileOutcome>, AllocError>)
+    ensures are { let given = map (λ name. name.now) (take result.0 names.now) in
+        AreOutcomes (F.holds sources.now) question given
+        (R.remaining input.old) (R.remaining input.new) (outcomes_in (λ v. v.items) given result.1) }
+    ensures len { IfOk result.1 (λ outcomes. length outcomes.items ≡ result.0) }
+    ensures within { result.0 ≤ length names.now }
+    ensures some { 0 < length names.now → 0 < result.0 }
 {
-    let reads = read_files(alloc, sources, names, input)?;
-    answers_to(rt, alloc, question, reads)
+    let enough = jobs.saturating_mul(BYTES_A_JOB).max(1);
+    match read_files(alloc, sources, names, enough, input) {
+        Ok(reads) => {
+            let many = reads.len();
+            (many, answers_to(rt, alloc, question, jobs, reads))
+        }
+        Err(refused) => (names.len(), Err(refused)),
+    }
 }

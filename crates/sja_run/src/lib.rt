@@ -9,7 +9,8 @@
 //! ([`drawing`]), and for `candump` what each node received ([`candump`]); these calls are those of `sja_plan`,
 //! `sja_serial`, `sja_svg` and the crates of these names. For `check` it explains the plan's first fault, or says
 //! what the run left out ([`mistake`], [`hints`]), by `sja_check`. For `sweep` it says what each single bit error does
-//! to the run ([`sweep`]), by `sja_sweep`, or writes the plan with a strike more ([`plan_text`]), by `sja_plan_text`.
+//! to the run ([`sweep`]), by `sja_sweep`, or writes the plan with a strike more ([`plan_text`]), by `sja_plan_text`;
+//! for `plan` it writes the plan itself.
 //! The texts of the other commands, and of each refusal, are those of `sja_texts`. What is left to threads, to be done
 //! file by file ([`Sources`]), or to a talk by `sja_live`, is [`Left`]; [`sja`] does that too.
 #![tactic(auto)]
@@ -27,6 +28,7 @@ mod live;
 mod names;
 mod output;
 mod plan_check;
+mod plan_document;
 mod program;
 mod run_text;
 mod serial;

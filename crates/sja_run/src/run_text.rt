@@ -1,21 +1,26 @@
 //! [`RunText`]: what is written of a run.
 
-ghost use Rattle.std.specs.Prelude.{◌≡◌, Bool, IfOk, string_bytes};
+ghost use Rattle.std.specs.Prelude.{◌≡◌, Bool, IfOk, IfErr, OnOk, string_bytes};
 ghost use Rattle.sja_words.specs.Requests.{picture};
 ghost use Rattle.sja_run.specs.Answer.{picture_or_drawing, request_for};
-ghost use Rattle.sja_run.specs.RunText.{IsTextOf};
+ghost use Rattle.sja_run.specs.RunText.{IsTextOf, MayBeWritten, levels_drawn};
+ghost use Rattle.sja_run.specs.Inside.Runs.{RefusesTextOf};
 
 use can_frame::OutOfMemory;
 use sja_candump::candump;
 use sja_frames::frames;
 use sja_log::RunLog;
-use sja_picture::picture;
+use sja_picture::{Span, picture};
 use sja_plan::Plan;
 use sja_report::report;
 use sja_svg::drawing;
+use sja_texts::CommandRefusal;
 use sja_trace::trace;
 use sja_wave::wave;
 use std::alloc::Global;
+
+/// How many levels a drawing has at most, unless more are meant: some 20 MB (this project's own rule).
+const MOST_LEVELS: u64 = 150_000;
 
 /// What is written of a run (this project's own rule).
 #[derive(Clone, Copy, Debug, PartialEq, Eq)]
@@ -28,39 +33,68 @@ pub enum RunText {
     Trace,
     /// The bits of its frames.
     Frames,
-    /// Its picture from a bit on, up to another one or to its last.
-    Picture(u32, Option<u32>),
-    /// The same bits as a drawing in SVG.
-    Drawing(u32, Option<u32>),
+    /// Its picture from a bit on, up to another one or to its last; whether a larger drawing would be meant.
+    Picture(u32, Option<u32>, bool),
+    /// The same bits as a drawing in SVG; with more levels than 150,000, one of each node in each bit, only where that
+    /// is meant.
+    Drawing(u32, Option<u32>, bool),
     /// What each node received, with error frames where that is true.
     Candump(bool),
 }
 
 /// What `picture` writes of the bits from the first to the last one: with `svg` a drawing in SVG, otherwise a picture.
-pub(crate) fn picture_or_drawing(first: u32, last: Option<u32>, svg: bool) -> RunText
-    ensures text { result ≡ picture_or_drawing svg first last }
-    ensures asked { (threads : Bool) → request_for threads result ≡ picture first last svg threads }
+pub(crate) fn picture_or_drawing(first: u32, last: Option<u32>, svg: bool, meant: bool) -> RunText
+    ensures text { result ≡ picture_or_drawing svg first last meant }
+    ensures asked { (threads : Bool) → request_for threads result ≡ picture first last svg threads meant }
 {
     if svg {
-        RunText::Drawing(first, last)
+        RunText::Drawing(first, last, meant)
     } else {
-        RunText::Picture(first, last)
+        RunText::Picture(first, last, meant)
     }
 }
 
 /// This text of the run of a plan with this log.
 ///
-/// Error: [`OutOfMemory`] where memory was refused.
+/// Errors: [`CommandRefusal::OutOfMemory`] where memory was refused, and [`CommandRefusal::Drawing`] where a drawing
+/// would have more levels than 150,000, and it isn't said that so many are meant.
 pub(crate) fn text_of(
     alloc: Global,
     what: RunText,
     plan: &Plan,
     log: &RunLog,
-) -> Result<Vec<u8>, OutOfMemory>
-    ensures { IfOk result (λ text. IsTextOf what plan.now log.now text.items) }
+) -> Result<Vec<u8>, CommandRefusal>
+    ensures ok { IfOk result (λ text. MayBeWritten what plan.now log.now
+        × IsTextOf what plan.now log.now text.items) }
+    ensures err { IfErr result (RefusesTextOf what plan.now log.now) }
 {
+    judge(what, plan, log)?;
     let text = told(alloc, what, plan, log)?;
     Ok(text.into_bytes())
+}
+
+/// Looks whether this may be written of the run.
+///
+/// Error: [`CommandRefusal::Drawing`] where it is a drawing of too many levels.
+fn judge(what: RunText, plan: &Plan, log: &RunLog) -> Result<(), CommandRefusal>
+    ensures ok { OnOk result (MayBeWritten what plan.now log.now) }
+    ensures err { IfErr result (RefusesTextOf what plan.now log.now) }
+{
+    if let RunText::Drawing(first, last, false) = what {
+        let levels = levels_drawn(plan, log, first, last);
+        if levels > MOST_LEVELS {
+            return Err(CommandRefusal::Drawing(levels));
+        }
+    }
+    Ok(())
+}
+
+/// How many levels the drawing of these bits has.
+fn levels_drawn(plan: &Plan, log: &RunLog, first: u32, last: Option<u32>) -> u64
+    ensures { result ≡ levels_drawn plan.now log.now first last }
+{
+    let span = Span::of(first, last, log.bits());
+    plan.nodes() as u64 * u64::from(span.end.saturating_sub(span.first))
 }
 
 /// The same, not yet as bytes.
@@ -72,8 +106,8 @@ fn told(alloc: Global, what: RunText, plan: &Plan, log: &RunLog) -> Result<Strin
         RunText::Wave => wave(alloc, log),
         RunText::Trace => trace(alloc, plan, log),
         RunText::Frames => frames(alloc, log),
-        RunText::Picture(first, last) => picture(alloc, log, first, last),
-        RunText::Drawing(first, last) => drawing(alloc, log, first, last),
+        RunText::Picture(first, last, _) => picture(alloc, log, first, last),
+        RunText::Drawing(first, last, _) => drawing(alloc, log, first, last),
         RunText::Candump(errors) => candump(alloc, log, errors),
     }
 }

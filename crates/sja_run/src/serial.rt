@@ -26,8 +26,8 @@ use std::io::{Read, Write};
 ///
 /// The status is 0 where the text was written, 1 where an argument, the plan or memory was refused or a read or a write
 /// failed, and 2 where the words don't parse, or ask for help or the version; then `err` has the parser's own text.
-/// `input` is read for a text of a run, for `check` and for `sweep` alone: at most one byte more of it than a plan may
-/// have that begins so, in at most 33,554,434 reads.
+/// `input` is read for a text of a run, for `check`, `sweep` and `plan` alone: at most one byte more of it than a plan
+/// may have that begins so, in at most 33,554,434 reads.
 /// The words, texts and statuses are this project's own rule.
 #[tactic(auto, using(crate::proofs::BytesRead::FewBytes::unread))]
 pub fn sja_alone<'a, S: AsStr, R: Read, O: Write, E: Write>(
@@ -83,7 +83,8 @@ fn left_of<'a>(task: Task<'a>) -> Result<Left<'a>, Task<'a>>
             last,
             svg,
             threads: true,
-        } => Ok(Left::Threads(Threaded::Text(picture_or_drawing(first, last, svg)))),
+            meant,
+        } => Ok(Left::Threads(Threaded::Text(picture_or_drawing(first, last, svg, meant)))),
         Task::Candump {
             errors,
             threads: true,

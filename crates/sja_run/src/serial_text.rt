@@ -2,7 +2,7 @@
 
 ghost use Rattle.std.specs.Prelude.{IfOk, IfErr, false};
 ghost use Rattle.sja_run.specs.Inside.Runs.{RefusesRunOf};
-ghost use Rattle.sja_run.specs.Run.{IsOfPlan, RefusesRun};
+ghost use Rattle.sja_run.specs.Run.{IsOfPlan, RefusesText};
 ghost use Rattle.sja_run.specs.RunText.{IsTextOfRun};
 
 use super::input::plan_of_input;
@@ -14,7 +14,7 @@ use std::alloc::Global;
 use std::io::Read;
 
 /// This text of a run in one thread of the plan that the bytes of the input are.
-#[tactic(auto, using(crate::proofs::PlanAnswers::PlanRuns::run_refused))]
+#[tactic(auto, using(crate::proofs::BytesRead::FewBytes::no_run))]
 pub(crate) fn written<R: Read>(
     alloc: Global,
     what: RunText,
@@ -22,7 +22,7 @@ pub(crate) fn written<R: Read>(
 ) -> Result<Vec<u8>, CommandRefusal>
     ensures ok { IfOk result (λ text.
         IsOfPlan (IsTextOfRun false what) (R.remaining input.old) (R.remaining input.new) text.items) }
-    ensures err { IfErr result (RefusesRun (R.remaining input.old) (R.remaining input.new)) }
+    ensures err { IfErr result (RefusesText false what (R.remaining input.old) (R.remaining input.new)) }
 {
     let plan = plan_of_input(alloc, input)?;
     let text = written_of(alloc, what, &plan)?;
@@ -36,7 +36,7 @@ pub(crate) fn written_of(
     plan: &Plan,
 ) -> Result<Vec<u8>, CommandRefusal>
     ensures ok { IfOk result (λ text. IsTextOfRun false what plan.now text.items) }
-    ensures err { IfErr result (RefusesRunOf false plan.now) }
+    ensures err { IfErr result (RefusesRunOf false what plan.now) }
 {
     let log = run_serial(alloc, plan)?;
     let text = text_of(alloc, what, plan, &log)?;

@@ -2,8 +2,7 @@
 
 ghost use Rattle.std.specs.Prelude.{◌≡◌, IfOk, IfErr, true, vec_len};
 ghost use Rattle.sja_run.specs.Inside.Runs.{RefusesRunOf};
-ghost use Rattle.sja_run.specs.Run.{IsOfPlan};
-ghost use Rattle.sja_run.specs.Inside.Refusals.{RefusesThreads};
+ghost use Rattle.sja_run.specs.Run.{IsOfPlan, RefusesText};
 ghost use Rattle.sja_run.specs.RunText.{IsTextOfRun};
 
 use super::input::plan_of_input;
@@ -27,7 +26,7 @@ pub(crate) fn written_threads<T: Threads + Wait + Sync, R: Read>(
 ) -> Result<Vec<u8>, CommandRefusal>
     ensures ok { IfOk result (λ text.
         IsOfPlan (IsTextOfRun true what) (R.remaining input.old) (R.remaining input.new) text.items) }
-    ensures err { IfErr result (RefusesThreads (R.remaining input.old) (R.remaining input.new)) }
+    ensures err { IfErr result (RefusesText true what (R.remaining input.old) (R.remaining input.new)) }
 {
     let plan = plan_of_input(alloc, input)?;
     let text = written_threads_of(rt, alloc, what, &plan)?;
@@ -42,7 +41,7 @@ pub(crate) fn written_threads_of<T: Threads + Wait + Sync>(
     plan: &Plan,
 ) -> Result<Vec<u8>, CommandRefusal>
     ensures ok { IfOk result (λ text. IsTextOfRun true what plan.now text.items) }
-    ensures err { IfErr result (RefusesRunOf true plan.now) }
+    ensures err { IfErr result (RefusesRunOf true what plan.now) }
 {
     let gates = gates_of(alloc, plan.nodes())?;
     let log = run_threads(rt, alloc, plan, gates)?;

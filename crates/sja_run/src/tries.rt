@@ -9,7 +9,8 @@ use sja_threads::{Gate, Pass};
 const LAST_TRY: u32 = 10_000_000;
 
 /// The gate of `run --threads`: it lets a step be tried below 10,000,000 times, and then ends the script (this
-/// project's own rule). So a driver that waits for what never comes ends too.
+/// project's own rule). So a driver that waits for what never comes ends too: a try after which nothing can come any
+/// more has the greatest number there is.
 #[derive(Drop)]
 pub struct Tries;
 

@@ -85,6 +85,8 @@ refusal_text (refusal.Notation fault) = notation_fault_text fault
 refusal_text (refusal.Plan fault) = plan_fault_text fault
 refusal_text (refusal.Run fault) = run_fault_text fault
 refusal_text (refusal.Sweep why) = sweep_refusal_text why
+refusal_text (refusal.Drawing levels) =
+    codes "picture fault 1 TooMany: " ++ (decimal levels ++ codes " levels, which --yes draws")
 
 -- its line: the program's name before it, a line feed after it
 abbrev pub refusal_line : CommandRefusal → List ℕ

@@ -37,6 +37,8 @@ pub enum CommandRefusal {
     Run(RunFault),
     /// A plan has no sweep, or not with a strike more.
     Sweep(SweepRefusal),
+    /// A drawing has more levels than 150,000, and it isn't said that so many are meant: how many it may have.
+    Drawing(u64),
 }
 
 impl fmt::Display for CommandRefusal {
@@ -65,6 +67,10 @@ impl fmt::Display for CommandRefusal {
             CommandRefusal::Plan(fault) => write!(f, "{}", PlanFaultText(*fault)),
             CommandRefusal::Run(fault) => f.write_str(run_fault_text(*fault)),
             CommandRefusal::Sweep(why) => write!(f, "{why}"),
+            CommandRefusal::Drawing(levels) => write!(
+                f,
+                "picture fault 1 TooMany: {levels} levels, which --yes draws"
+            ),
         }
     }
 }

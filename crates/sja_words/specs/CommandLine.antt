@@ -110,14 +110,19 @@ check_app = and_rule (and_rule (bare_app (codes "check")) files_rule) (number_ru
 unfoldable pub trace_app : App
 trace_app = and_rule (threads_app (codes "trace")) file_rule
 
+-- `plan FILE`
+unfoldable pub spelled_app : App
+spelled_app = and_rule (bare_app (codes "plan")) file_rule
+
 -- an argument without a flag, which may be given and takes the number of a bit in decimal digits
 unfoldable pub bit_rule : Text → Rule
 bit_rule id = record (new_rule id) { action = Some Set; parser = Some (Unsigned 0 9999999) }
 
--- `picture`, with the first and the last bit, or without, and with or without `--svg` and `--threads`
+-- `picture`, with the first and the last bit, or without, and with or without `--svg`, `--threads` and `--yes`
 unfoldable pub picture_app : App
 picture_app =
     and_rule
+    (and_rule
     (and_rule
     (and_rule
     (and_rule
@@ -125,7 +130,8 @@ picture_app =
     (bit_rule (codes "FROM")))
     (bit_rule (codes "TO")))
     (flag_rule (codes "svg")))
-    (flag_rule (codes "threads"))
+    (flag_rule (codes "threads")))
+    (flag_rule (codes "yes"))
 
 -- `candump`, with or without `--errors` and `--threads`
 unfoldable pub candump_app : App
@@ -178,6 +184,6 @@ story_app =
 unfoldable pub view_app : App
 view_app = and_app (and_app story_app picture_app) candump_app
 
--- the whole: those, `check`, `sweep` and `live`
+-- the whole: those, `check`, `sweep`, `plan` and `live`
 unfoldable pub sja_app : App
-sja_app = and_app (and_app (and_app view_app check_app) sweep_app) live_app
+sja_app = and_app (and_app (and_app (and_app view_app check_app) sweep_app) spelled_app) live_app

@@ -25,16 +25,16 @@ arbitrate_in (Some messages) =
 
 -- what `picture` asks for, by the first and the last bit and the flags: where no bit is given from bit 0 on, and up to
 -- the last bit of the run
-abbrev pub picture_by : Option ℕ → Option (Option ℕ) → Bool → Bool → Option Request
-picture_by (Some first) (Some last) svg threads = Some (picture first last svg threads)
-picture_by (Some first) None svg threads = None
-picture_by None last svg threads = None
+abbrev pub picture_by : Option ℕ → Option (Option ℕ) → Bool → Bool → Bool → Option Request
+picture_by (Some first) (Some last) svg threads meant = Some (picture first last svg threads meant)
+picture_by (Some first) None svg threads meant = None
+picture_by None last svg threads meant = None
 
 abbrev pub picture_in : List Row → Option Request
 picture_in rows =
     picture_by (number_or 0 0 9999999 (first_of (codes "FROM") rows))
     (optional_in 9999999 (first_of (codes "TO") rows)) (flag_in (first_of (codes "svg") rows))
-    (flag_in (first_of (codes "threads") rows))
+    (flag_in (first_of (codes "threads") rows)) (flag_in (first_of (codes "yes") rows))
 
 -- what `candump` asks for, by its flags
 abbrev pub candump_in : List Row → Option Request
@@ -47,6 +47,7 @@ question_in name threads =
     if bytes_eq name (codes "run") then Some (question.Report threads)
     else if bytes_eq name (codes "check") then Some question.Check
     else if bytes_eq name (codes "trace") then Some (question.Trace threads)
+    else if bytes_eq name (codes "plan") then Some question.Plan
     else None
 
 -- what a question asks for, by the names of files and the number of plans at one time: of each plan in the files that

@@ -3,7 +3,7 @@ use Rattle.std.specs.Prelude.{ℕ, Bool, List, map, Option}
 use Rattle.sja_words.specs.declared.task.Task.{Task}
 use Rattle.sja_words.specs.declared.task.Task.TheVariants.{Encode, Decode, Filter, Arbitrate, Message, Run, Wave}
 use Rattle.sja_words.specs.declared.task.Task.TheVariants.{Trace, Frames, Picture, Candump, Check, Sweep, StruckPlan}
-use Rattle.sja_words.specs.declared.task.Task.TheVariants.{Files, Live}
+use Rattle.sja_words.specs.declared.task.Task.TheVariants.{Plan, Files, Live}
 use Rattle.sja_words.specs.declared.plan_question.PlanQuestion.{PlanQuestion}
 use Rattle.sja_words.specs.declared.plan_question.PlanQuestion.TheVariants as question
 use Rattle.sja_words.specs.declared.sweep_words.SweepWords.{SweepWords}
@@ -19,11 +19,12 @@ pub data Request : Type 0 where
   wave : Bool → Request
   trace : Bool → Request
   frames : Bool → Request
-  picture : ℕ → Option ℕ → Bool → Bool → Request
+  picture : ℕ → Option ℕ → Bool → Bool → Bool → Request
   candump : Bool → Bool → Request
   check : Request
   sweep : SweepWords → Request
   struck_plan : ℕ → ℕ → Request
+  spelled_plan : Request
   files : PlanQuestion → ℕ → List (List ℕ) → Request
   live : Request
 
@@ -38,16 +39,18 @@ request_of (Run threads) = run threads
 request_of (Wave threads) = wave threads
 request_of (Trace threads) = trace threads
 request_of (Frames threads) = frames threads
-request_of (Picture first last svg threads) = picture first last svg threads
+request_of (Picture first last svg threads meant) = picture first last svg threads meant
 request_of (Candump errors threads) = candump errors threads
 request_of Check = check
 request_of (Files w) = files w.question w.jobs (map (λ name. name.now) w.names.items)
 request_of Live = live
 request_of (Sweep asked_for) = sweep asked_for
 request_of (StruckPlan node bit) = struck_plan node bit
+request_of Plan = spelled_plan
 
 -- what is asked of a plan, as it is asked of the plan on the input
 abbrev pub request_about : PlanQuestion → Request
 request_about (question.Report threads) = run threads
 request_about question.Check = check
 request_about (question.Trace threads) = trace threads
+request_about question.Plan = spelled_plan

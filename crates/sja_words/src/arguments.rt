@@ -158,6 +158,13 @@ pub(crate) const YES: ArgumentRow<'static> = ArgumentRow {
     help: "Make more than 20000 runs, or of more than 2000000000 bits",
 };
 
+/// `--yes` of `picture`.
+pub(crate) const DRAW: ArgumentRow<'static> = ArgumentRow {
+    name: "yes",
+    takes: Takes::Nothing,
+    help: "Draw more than 150000 levels in SVG",
+};
+
 /// `--jobs N`.
 pub(crate) const JOBS: ArgumentRow<'static> = ArgumentRow {
     name: "jobs",

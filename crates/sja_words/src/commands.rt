@@ -5,8 +5,8 @@ ghost use Rattle.sja_words.specs.CommandLine.{empty_app, sja_app};
 ghost use Rattle.sja_words.specs.Inside.Table.{with_apps};
 
 use super::arguments::{
-    ACR, AMR, CHANGED, ERRORS, FILE, FILES, FILES_JOBS, FIRST, FROM, JOBS, LAST, LINE, MESSAGE,
-    MESSAGES, MODE, ONLY, PAIRS, ROWS, STRIKE, SVG, TEXT, THREADS, TO, YES,
+    ACR, AMR, CHANGED, DRAW, ERRORS, FILE, FILES, FILES_JOBS, FIRST, FROM, JOBS, LAST, LINE,
+    MESSAGE, MESSAGES, MODE, ONLY, PAIRS, ROWS, STRIKE, SVG, TEXT, THREADS, TO, YES,
 };
 use super::command_row::CommandRow;
 
@@ -70,7 +70,7 @@ const COMMANDS: &[CommandRow<'static>] = &[
     CommandRow {
         name: "picture",
         about: "Print the picture of a run of the plan on standard input, a column for each bit",
-        arguments: &[FIRST, LAST, SVG, THREADS],
+        arguments: &[FIRST, LAST, SVG, THREADS, DRAW],
     },
     CommandRow {
         name: "candump",
@@ -83,6 +83,11 @@ const COMMANDS: &[CommandRow<'static>] = &[
         arguments: &[FILES, FILES_JOBS],
     },
     SWEEP,
+    CommandRow {
+        name: "plan",
+        about: "Print the plan on standard input in the one way in which plans are written",
+        arguments: &[FILE],
+    },
     CommandRow {
         name: "live",
         about: "Drive a bus by lines on standard input, each answered by a line on standard output",

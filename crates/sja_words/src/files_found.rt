@@ -1,4 +1,4 @@
-//! What the words of `run`, `check` and `trace` ask for.
+//! What the words of `run`, `check`, `trace` and `plan` ask for.
 
 ghost use Rattle.std.specs.Prelude.{◌≡◌, IfOk, Some, map, option_map};
 ghost use Rattle.clap.specs.Words.{found_of, rows_of};
@@ -64,5 +64,6 @@ fn task_about<'a>(question: PlanQuestion) -> Task<'a>
         PlanQuestion::Report { threads } => Task::Run { threads },
         PlanQuestion::Check => Task::Check,
         PlanQuestion::Trace { threads } => Task::Trace { threads },
+        PlanQuestion::Plan => Task::Plan,
     }
 }

@@ -55,6 +55,7 @@ fn question_of(name: &str, threads: bool) -> Option<PlanQuestion>
         "run" => Some(PlanQuestion::Report { threads }),
         "check" => Some(PlanQuestion::Check),
         "trace" => Some(PlanQuestion::Trace { threads }),
+        "plan" => Some(PlanQuestion::Plan),
         _ => None,
     }
 }

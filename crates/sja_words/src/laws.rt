@@ -3,11 +3,11 @@
 ghost use Rattle.std.specs.Prelude.{◌≡◌, ◌==◌, ◌<◌, ◌≤◌, ◌∷◌, ◌^◌, [], ℕ, List, Some, None, codes, false, length, true};
 ghost use Rattle.sja_words.specs.Values.{HasNoFlag};
 ghost use Rattle.sja_words.specs.Requests.{Request, arbitrate, decode, encode, filter, message, candump, check, files};
-ghost use Rattle.sja_words.specs.Requests.{frames, live, picture, run, struck_plan, sweep, trace, wave};
+ghost use Rattle.sja_words.specs.Requests.{frames, live, picture, run, spelled_plan, struck_plan, sweep, trace, wave};
 ghost use Rattle.sja_words.specs.Sweeping.{all_swept};
 ghost use Rattle.sja_words.specs.Words.{ParsesAs, faults};
 ghost use Rattle.clap.specs.declared.error.kind.ErrorKind.TheVariants.{DisplayVersion};
-ghost use Rattle.sja_words.specs.declared.plan_question.PlanQuestion.TheVariants.{Check, Report, Trace};
+ghost use Rattle.sja_words.specs.declared.plan_question.PlanQuestion.TheVariants.{Check, Report, Trace, Plan};
 
 /// The program's name, `encode` and a text that doesn't begin with `-` (45) ask for the levels of this message.
 pub fn encode_and_a_text_parse()
@@ -97,18 +97,18 @@ pub fn frames_parses()
 /// from a bit on, or from one bit to another; with `--svg` for a drawing in SVG. A bit that no number of seven digits
 /// is, is refused.
 pub fn picture_parses()
-    ensures all { (name : List ℕ) → ParsesAs (name ∷ codes "picture" ∷ []) (picture 0 None false false) }
+    ensures all { (name : List ℕ) → ParsesAs (name ∷ codes "picture" ∷ []) (picture 0 None false false false) }
     ensures first { (name : List ℕ) → ParsesAs (name ∷ codes "picture" ∷ codes "11" ∷ [])
-        (picture 11 None false false) }
+        (picture 11 None false false false) }
     ensures both { (name : List ℕ) → ParsesAs (name ∷ codes "picture" ∷ codes "11" ∷ codes "75" ∷ [])
-        (picture 11 (Some 75) false false) }
+        (picture 11 (Some 75) false false false) }
     ensures threads { (name : List ℕ) → ParsesAs (name ∷ codes "picture" ∷ codes "--threads" ∷ codes "11" ∷ [])
-        (picture 11 None false true) }
+        (picture 11 None false true false) }
     ensures svg { (name : List ℕ) → ParsesAs (name ∷ codes "picture" ∷ codes "--svg" ∷ [])
-        (picture 0 None true false) }
+        (picture 0 None true false false) }
     ensures all_words { (name : List ℕ) → ParsesAs
-        (name ∷ codes "picture" ∷ codes "11" ∷ codes "75" ∷ codes "--svg" ∷ codes "--threads" ∷ [])
-        (picture 11 (Some 75) true true) }
+        (name ∷ codes "picture" ∷ codes "11" ∷ codes "75" ∷ codes "--svg" ∷ codes "--threads" ∷ codes "--yes" ∷ [])
+        (picture 11 (Some 75) true true true) }
     ensures past { (name : List ℕ) (r : Request)
         → ¬ ParsesAs (name ∷ codes "picture" ∷ codes "10000000" ∷ []) r }
 {}
@@ -130,6 +130,14 @@ pub fn check_parses()
     ensures files { (name : List ℕ) (names : List (List ℕ)) → HasNoFlag names
         → 1 ≤ length names → length names < 2 ^ 64
         → ParsesAs (name ∷ codes "check" ∷ names) (files Check 1 names) }
+{}
+
+/// The program's name and `plan` ask for the plan on the input as it is written; with one name behind them for the plan
+/// in this file. With two names they ask for nothing.
+pub fn plan_parses()
+    ensures input { (name : List ℕ) → ParsesAs (name ∷ codes "plan" ∷ []) spelled_plan }
+    ensures file { (name : List ℕ) → ParsesAs (name ∷ codes "plan" ∷ codes "a" ∷ []) (files Plan 1 (codes "a" ∷ [])) }
+    ensures two { (name : List ℕ) (r : Request) → ¬ ParsesAs (name ∷ codes "plan" ∷ codes "a" ∷ codes "b" ∷ []) r }
 {}
 
 /// The program's name and `live` ask for a session that is driven by the lines of the input.

@@ -24,6 +24,7 @@ pub(crate) fn picture_task<'a>(arguments: &ArgMatches<'a>) -> Option<Task<'a>>
             last,
             svg: flag_at(arguments, "svg"),
             threads: flag_at(arguments, "threads"),
+            meant: flag_at(arguments, "yes"),
         }),
         _ => None,
     }

@@ -15,4 +15,6 @@ pub enum PlanQuestion {
         /// As for `run`.
         threads: bool,
     },
+    /// `plan`: the plan, as it is written.
+    Plan,
 }

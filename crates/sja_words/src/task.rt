@@ -60,6 +60,8 @@ pub enum Task<'a> {
         svg: bool,
         /// As for `run`.
         threads: bool,
+        /// With `--yes`: more levels than a drawing has unasked are meant.
+        meant: bool,
     },
     /// `candump`: what each node received in the run of the plan on the input.
     Candump {
@@ -79,7 +81,9 @@ pub enum Task<'a> {
         /// The bit that is struck, counted from 0, at most 9,999,999.
         bit: u32,
     },
-    /// `run FILE..`, `check FILE..` and `trace FILE`: the same of each plan that stands in a file.
+    /// `plan`: the plan on the input, as it is written.
+    Plan,
+    /// `run FILE..`, `check FILE..`, `trace FILE` and `plan FILE`: the same of each plan that stands in a file.
     Files(FileWords<'a>),
     /// `live`: a session that is driven by the lines of the input.
     Live,

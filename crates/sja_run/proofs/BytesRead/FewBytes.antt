@@ -1,11 +1,11 @@
 -- Whatever becomes of a request, few bytes are read for it.
 use Rattle.std.proofs.Common.{◌≡◌, ◌<◌, ◌≤◌, ◌+◌, ◌⊎◌, ◌++◌, List, ℕ, [], Option, length, length-append, sym, subst}
-use Rattle.std.proofs.Common.{arith, inl, inr, false, true}
+use Rattle.std.proofs.Common.{Bool, arith, inl, inr, false, true}
 use Rattle.std.specs.Io.KnownBytes.{Consumes}
 use Rattle.std.proofs.KnownBytes.{Consumes-nil, Consumes-trans}
 use Rattle.sja_plan.specs.Plan.{PlanValue}
 use Rattle.sja_words.specs.Requests.{Request, encode, decode, filter, arbitrate, message, run, wave, trace, frames}
-use Rattle.sja_words.specs.Requests.{picture, candump, check, sweep, struck_plan, files, live}
+use Rattle.sja_words.specs.Requests.{picture, candump, check, sweep, struck_plan, spelled_plan, files, live}
 use Rattle.sja_words.specs.Words.{ParsesAs}
 use Rattle.sja_log.specs.declared.run_fault.RunFault.{RunFault}
 use Rattle.sja_texts.specs.declared.command_refusal.CommandRefusal.{CommandRefusal}
@@ -16,17 +16,18 @@ use Rattle.sja_run.specs.Inside.Answers.{IsChecked}
 use Rattle.sja_run.specs.declared.plan_check.PlanCheck.{PlanCheck}
 use Rattle.sja_run.specs.declared.plan_check.PlanCheck.TheVariants.{Hints, Mistake}
 use Rattle.sja_run.specs.Input.{most_read, ReadsFew, RefusesInput}
-use Rattle.sja_run.specs.Run.{IsOfPlan, RefusesBy, RefusesRun}
-use Rattle.sja_run.specs.Inside.Refusals.{RefusesThreads}
+use Rattle.sja_run.specs.PlanDocument.{RefusesInputSpelled}
+use Rattle.sja_run.specs.Run.{IsOfPlan, RefusesBy, RefusesRun, RefusesText}
 use Rattle.sja_run.specs.RunText.{IsTextOfRun, MayFault}
 use Rattle.sja_run.specs.Sweep.{IsStruck, IsSwept, RefusesOfPlan, RefusesStruck, RefusesSwept}
 use Rattle.sja_run.specs.declared.threaded.Threaded.{Threaded}
+use Rattle.sja_run.specs.declared.run_text.RunText.{RunText}
 use Rattle.sja_run.specs.declared.run_text.RunText.TheVariants.{Report, Wave, Trace, Frames, Candump}
 use Rattle.sja_texts.specs.declared.sweep_refusal.SweepRefusal.{SweepRefusal}
 use Rattle.sja_run.proofs.BytesRead.MostRead.{most_grows}
 use Rattle.sja_run.proofs.PlanAnswers.PlanRefusals.{few_of_plan}
 use Rattle.sja_run.proofs.Requested.Requests.{asks_left}
-use Rattle.sja_run.proofs.PlanAnswers.PlanRuns.{threads_refused}
+use Rattle.sja_run.proofs.PlanAnswers.PlanRuns.{run_refused, threads_refused}
 
 -- nothing was read
 pub unread : (input : Option (List ℕ)) → ReadsFew input input
@@ -69,6 +70,7 @@ few_unchecked before after refusal.Read h = (h.0, h.1, less (length h.0) (most_r
 few_unchecked before after (refusal.Plan fault) h = absurd h
 few_unchecked before after (refusal.Run fault) h = absurd h
 few_unchecked before after (refusal.Sweep why) h = absurd h
+few_unchecked before after (refusal.Drawing levels) h = absurd h
 few_unchecked before after refusal.NotHexadecimal h = absurd h
 few_unchecked before after refusal.NotALine h = absurd h
 few_unchecked before after (refusal.Layout fault) h = absurd h
@@ -83,6 +85,7 @@ few_refused May before after refusal.Read h = (h.0, h.1, less (length h.0) (most
 few_refused May before after (refusal.Plan fault) h = (h.0, h.1.0, h.1.1)
 few_refused May before after (refusal.Run fault) h = (h.0, h.2.0, h.2.1)
 few_refused May before after (refusal.Sweep why) h = absurd h
+few_refused May before after (refusal.Drawing levels) h = absurd h
 few_refused May before after refusal.NotHexadecimal h = absurd h
 few_refused May before after refusal.NotALine h = absurd h
 few_refused May before after (refusal.Layout fault) h = absurd h
@@ -97,6 +100,7 @@ refused_input before after refusal.Read h = h
 refused_input before after (refusal.Plan fault) h = absurd h
 refused_input before after (refusal.Run fault) h = absurd h
 refused_input before after (refusal.Sweep why) h = absurd h
+refused_input before after (refusal.Drawing levels) h = absurd h
 refused_input before after refusal.NotHexadecimal h = absurd h
 refused_input before after refusal.NotALine h = absurd h
 refused_input before after (refusal.Layout fault) h = absurd h
@@ -104,19 +108,59 @@ refused_input before after (refusal.Line fault) h = absurd h
 refused_input before after (refusal.Notation fault) h = absurd h
 
 -- what is refused before any run is refused of each
-pub refused_threads : (before after : Option (List ℕ)) (r : CommandRefusal) → RefusesRun before after r →
-    RefusesThreads before after r
-refused_threads before after refusal.OutOfMemory h = h
-refused_threads before after refusal.Read h = h
-refused_threads before after (refusal.Plan fault) h = h
-refused_threads before after (refusal.Run fault) h =
+pub refused_threads : (what : RunText) (before after : Option (List ℕ)) (r : CommandRefusal) →
+    RefusesRun before after r → RefusesText true what before after r
+refused_threads what before after refusal.OutOfMemory h = h
+refused_threads what before after refusal.Read h = h
+refused_threads what before after (refusal.Plan fault) h = h
+refused_threads what before after (refusal.Run fault) h =
     (h.0, h.1, h.2, h.3, subst (λ (f : RunFault). MayFault true h.1 f) (sym h.4) tt)
-refused_threads before after refusal.NotHexadecimal h = absurd h
-refused_threads before after refusal.NotALine h = absurd h
-refused_threads before after (refusal.Layout fault) h = absurd h
-refused_threads before after (refusal.Line fault) h = absurd h
-refused_threads before after (refusal.Notation fault) h = absurd h
-refused_threads before after (refusal.Sweep why) h = absurd h
+refused_threads what before after refusal.NotHexadecimal h = absurd h
+refused_threads what before after refusal.NotALine h = absurd h
+refused_threads what before after (refusal.Layout fault) h = absurd h
+refused_threads what before after (refusal.Line fault) h = absurd h
+refused_threads what before after (refusal.Notation fault) h = absurd h
+refused_threads what before after (refusal.Sweep why) h = absurd h
+refused_threads what before after (refusal.Drawing levels) h = absurd h
+
+pub refused_once : (what : RunText) (before after : Option (List ℕ)) (r : CommandRefusal) →
+    RefusesRun before after r → RefusesText false what before after r
+refused_once what before after (refusal.Drawing levels) h = absurd h
+refused_once what before after refusal.OutOfMemory h = h
+refused_once what before after refusal.Read h = h
+refused_once what before after (refusal.Plan fault) h = h
+refused_once what before after (refusal.Run fault) h = h
+refused_once what before after refusal.NotHexadecimal h = h
+refused_once what before after refusal.NotALine h = h
+refused_once what before after (refusal.Layout fault) h = h
+refused_once what before after (refusal.Line fault) h = h
+refused_once what before after (refusal.Notation fault) h = h
+refused_once what before after (refusal.Sweep why) h = h
+
+-- whatever of a text of a run is refused, few bytes were read
+few_untold : (threads : Bool) (what : RunText) (before after : Option (List ℕ)) (r : CommandRefusal) →
+    RefusesText threads what before after r → ReadsFew before after
+few_untold threads what before after (refusal.Drawing levels) h = (h.0, h.3.0, h.3.1)
+few_untold threads what before after refusal.OutOfMemory h =
+    few_refused (MayFault threads) before after refusal.OutOfMemory h
+few_untold threads what before after refusal.Read h =
+    few_refused (MayFault threads) before after refusal.Read h
+few_untold threads what before after (refusal.Plan fault) h =
+    few_refused (MayFault threads) before after (refusal.Plan fault) h
+few_untold threads what before after (refusal.Run fault) h =
+    few_refused (MayFault threads) before after (refusal.Run fault) h
+few_untold threads what before after refusal.NotHexadecimal h =
+    few_refused (MayFault threads) before after refusal.NotHexadecimal h
+few_untold threads what before after refusal.NotALine h =
+    few_refused (MayFault threads) before after refusal.NotALine h
+few_untold threads what before after (refusal.Layout fault) h =
+    few_refused (MayFault threads) before after (refusal.Layout fault) h
+few_untold threads what before after (refusal.Line fault) h =
+    few_refused (MayFault threads) before after (refusal.Line fault) h
+few_untold threads what before after (refusal.Notation fault) h =
+    few_refused (MayFault threads) before after (refusal.Notation fault) h
+few_untold threads what before after (refusal.Sweep why) h =
+    few_refused (MayFault threads) before after (refusal.Sweep why) h
 
 -- there is a text of a run, a sweep, or a plan with a strike more
 few_of : (Is : PlanValue → List ℕ → Type 0) (before after : Option (List ℕ)) (text : List ℕ) →
@@ -127,6 +171,12 @@ few_of Is before after text has = (has.0, has.2.0, has.2.1)
 few_of_none : (May : PlanValue → SweepRefusal → Type 0) (before after : Option (List ℕ)) (r : CommandRefusal) →
     RefusesOfPlan May before after r → ReadsFew before after
 few_of_none May before after r h = few_of_plan May before after r (few_refused (MayFault false) before after r) h
+
+-- there is no text of a plan
+few_unspelled : (before after : Option (List ℕ)) (r : CommandRefusal) → RefusesInputSpelled before after r →
+    ReadsFew before after
+few_unspelled before after r (inl h) = few_unchecked before after r h
+few_unspelled before after r (inr (bytes, read, h)) = (bytes, read.0, read.1)
 
 -- nothing was read
 few_same : (before after : Option (List ℕ)) → after ≡ before → ReadsFew before after
@@ -144,14 +194,15 @@ few_printed (trace threads) before after text (inl asks) printed =
     few_of (IsTextOfRun threads Trace) before after text printed
 few_printed (frames threads) before after text (inl asks) printed =
     few_of (IsTextOfRun threads Frames) before after text printed
-few_printed (picture first last svg threads) before after text (inl asks) printed =
-    few_of (IsTextOfRun threads (picture_or_drawing svg first last)) before after text printed
+few_printed (picture first last svg threads meant) before after text (inl asks) printed =
+    few_of (IsTextOfRun threads (picture_or_drawing svg first last meant)) before after text printed
 few_printed (candump errors threads) before after text (inl asks) printed =
     few_of (IsTextOfRun threads (Candump errors)) before after text printed
 few_printed check before after text (inl asks) printed = few_hinted before after text printed
 few_printed (sweep w) before after text (inl asks) printed = few_of (IsSwept w) before after text printed
 few_printed (struck_plan node bit) before after text (inl asks) printed =
     few_of (IsStruck node bit) before after text printed
+few_printed spelled_plan before after text (inl asks) printed = (printed.0, printed.1.0, printed.1.1)
 few_printed (files asked jobs names) before after text (inl asks) printed = absurd printed
 few_printed live before after text (inl asks) printed = absurd printed
 few_printed (encode digits) before after text (inl asks) printed = absurd asks
@@ -172,14 +223,15 @@ few_turned_down (trace threads) before after why (inl asks) refused =
     few_refused (MayFault threads) before after why refused
 few_turned_down (frames threads) before after why (inl asks) refused =
     few_refused (MayFault threads) before after why refused
-few_turned_down (picture first last svg threads) before after why (inl asks) refused =
-    few_refused (MayFault threads) before after why refused
+few_turned_down (picture first last svg threads meant) before after why (inl asks) refused =
+    few_untold threads (picture_or_drawing svg first last meant) before after why refused
 few_turned_down (candump errors threads) before after why (inl asks) refused =
     few_refused (MayFault threads) before after why refused
 few_turned_down check before after why (inl asks) refused = few_unchecked before after why refused
 few_turned_down (sweep w) before after why (inl asks) refused = few_of_none (RefusesSwept w) before after why refused
 few_turned_down (struck_plan node bit) before after why (inl asks) refused =
     few_of_none (RefusesStruck node bit) before after why refused
+few_turned_down spelled_plan before after why (inl asks) refused = few_unspelled before after why refused
 few_turned_down (files asked jobs names) before after why (inl asks) refused = refused.1
 few_turned_down live before after why (inl asks) refused = refused.1
 few_turned_down (encode digits) before after why (inl asks) refused = absurd asks
@@ -208,5 +260,7 @@ only_runs_read words r Same parses (inr same) none = same
 -- what was checked, or why there was nothing to check
 pub ruleset few = (few_checked, few_unchecked)
 
--- why there is no text of a run with threads
+-- why there is no text of a run in one thread, and in threads
+pub ruleset no_run = (refused_once, run_refused)
+
 pub ruleset no_threads = (refused_threads, threads_refused)

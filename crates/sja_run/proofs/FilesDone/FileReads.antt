@@ -1,14 +1,15 @@
 -- Plans that are read under names and then answered, as outcomes of files.
 use Rattle.std.proofs.Common.{◌≡◌, ◌<◌, ◌++◌, ℕ, List, [], ◌∷◌, Option, Result, Ok, Err, IfOk, length, get_or, refl}
 use Rattle.std.proofs.Common.{suc, sym, ap, subst, arith, inl, inr, ◌+◌, map, take}
-use Rattle.std.proofs.lemmas.List.{map_more}
+use Rattle.std.proofs.lemmas.List.{append-nil, map_more}
 use Rattle.std.specs.Borrow.{Bor}
 use Rattle.std.specs.List.{AllZip}
 use Rattle.sja_words.specs.declared.plan_question.PlanQuestion.{PlanQuestion}
-use Rattle.sja_words.specs.declared.plan_question.PlanQuestion.TheVariants.{Check, Report, Trace}
+use Rattle.sja_words.specs.declared.plan_question.PlanQuestion.TheVariants.{Check, Plan, Report, Trace}
 use Rattle.sja_texts.specs.declared.command_refusal.CommandRefusal.TheVariants.{OutOfMemory}
 use Rattle.sja_run.specs.Files.{AreOutcomes, IsOutcome, IsUnanswered, IsUnread}
-use Rattle.sja_run.specs.Inside.FileReads.{AreReads, ComeOf, ComesOf, IsReadOf, all_refused, outcomes_in}
+use Rattle.sja_run.specs.Inside.FileReads.{AreReads, ComeOf, ComesOf, IsReadOf, Settles, all_refused}
+use Rattle.sja_run.specs.Inside.FileReads.{outcomes_in}
 use Rattle.sja_run.specs.declared.file_outcome.FileOutcome.{FileOutcome}
 use Rattle.sja_run.specs.declared.file_outcome.FileOutcome.TheVariants.{Printed, Mistaken, Refused, Unreadable}
 use Rattle.sja_run.proofs.BytesRead.FewBytes.{few_unchecked}
@@ -36,6 +37,7 @@ unanswered : (q : PlanQuestion) (bytes : List ℕ) → IsUnanswered q bytes OutO
 unanswered (Report threads) bytes = tt
 unanswered (Trace threads) bytes = tt
 unanswered Check bytes = refl
+unanswered Plan bytes = tt
 
 -- and whatever was read
 refused_anyway : {V : Type 0} (items : V → List ℕ) (Holds : Holding) (q : PlanQuestion) (name : List ℕ)
@@ -137,17 +139,59 @@ as_many Holds q [] a b (o ∷ os) are = absurd are
 as_many Holds q (n ∷ ns) a b [] are = absurd are
 as_many Holds q (n ∷ ns) a b (o ∷ os) are = ap suc (as_many Holds q ns are.0 b os are.2)
 
--- ---- by their numbers
+-- ---- what comes of them, one after another
 
--- elements that go together by their numbers
-pub zip_from : {A B : Type 0} (R : A → B → Type 0) (xs : List A) (ys : List B) → length ys ≡ length xs →
-    ((i : ℕ) (d : B) → i < length xs → (a : A) × ((e : A) → get_or xs i e ≡ a) × R a (get_or ys i d)) →
-    AllZip R xs ys
-zip_from R [] [] len each = tt
-zip_from R [] (y ∷ ys) len each = absurd (omega (arith, len))
-zip_from R (x ∷ xs) [] len each = absurd (omega (arith, len))
-zip_from R (x ∷ xs) (y ∷ ys) len each =
-    let first = each 0 y (omega arith) in (
-      subst (λ a. R a y) (sym (first.1 x)) first.2,
-      zip_from R xs ys (omega (arith, len)) (λ i d less. each (suc i) d (omega (arith, less))),
+-- whatever comes of the rest, this comes of all of them
+abbrev pub ComeSoFar : {V : Type 0} → (V → List ℕ) → PlanQuestion → List (Result V FileOutcome) →
+    List (Result V FileOutcome) → List FileOutcome → Type 0
+ComeSoFar items q all rest done =
+    (outcomes : List FileOutcome) → ComeOf items q rest outcomes → ComeOf items q all (done ++ outcomes)
+
+-- none is left
+pub come_all : {V : Type 0} (items : V → List ℕ) (q : PlanQuestion) (all rest : List (Result V FileOutcome))
+    (done : List FileOutcome) → length rest ≡ 0 → ComeSoFar items q all rest done → ComeOf items q all done
+come_all items q all [] done none so_far = subst (ComeOf items q all) (append-nil done) (so_far [] tt)
+come_all items q all (r ∷ rs) done none so_far = absurd (omega (arith, none))
+
+-- what comes of those that stand for them
+pub come_settled : {V : Type 0} (items : V → List ℕ) (q : PlanQuestion) (before after : List (Result V FileOutcome))
+    (outcomes : List FileOutcome) → AllZip (Settles items q) before after → ComeOf items q after outcomes →
+    ComeOf items q before outcomes
+come_settled items q [] [] [] settled come = tt
+come_settled items q [] [] (o ∷ os) settled come = absurd come
+come_settled items q [] (x ∷ xs) os settled come = absurd settled
+come_settled items q (r ∷ rs) [] os settled come = absurd settled
+come_settled items q (r ∷ rs) (x ∷ xs) [] settled come = absurd come
+come_settled items q (r ∷ rs) (x ∷ xs) (o ∷ os) settled come =
+    (settled.0 o come.0, come_settled items q rs xs os settled.1 come.1)
+
+-- none of them came yet
+pub settled_as : {V : Type 0} (items : V → List ℕ) (q : PlanQuestion)
+    (all before after rest : List (Result V FileOutcome)) (done : List FileOutcome) → before ≡ all →
+    rest ≡ after → done ≡ [] → AllZip (Settles items q) before after → ComeSoFar items q all rest done
+settled_as {V} items q all before after rest done same is none settled os come =
+    subst (λ (l : List FileOutcome). ComeOf items q all (l ++ os)) (sym none)
+    (subst (λ (l : List (Result V FileOutcome)). ComeOf items q l os) same
+    (come_settled items q before after os settled
+    (subst (λ (l : List (Result V FileOutcome)). ComeOf items q l os) is come)))
+
+-- each stands for itself
+pub settled_alone : {V : Type 0} (items : V → List ℕ) (q : PlanQuestion) (reads : List (Result V FileOutcome)) →
+    AllZip (Settles items q) reads reads
+settled_alone items q [] = tt
+settled_alone items q (r ∷ rs) = ((λ outcome come. come), settled_alone items q rs)
+
+-- each stands for what is at its place
+pub settled_from : {V : Type 0} (items : V → List ℕ) (q : PlanQuestion) (xs ys : List (Result V FileOutcome)) →
+    length ys ≡ length xs →
+    ((i : ℕ) (d : Result V FileOutcome) → i < length xs → (a b : Result V FileOutcome) × (a ≡ get_or xs i d)
+    × (b ≡ get_or ys i d) × Settles items q a b) → AllZip (Settles items q) xs ys
+settled_from items q [] [] len each = tt
+settled_from items q [] (y ∷ ys) len each = absurd (omega (arith, len))
+settled_from items q (x ∷ xs) [] len each = absurd (omega (arith, len))
+settled_from {V} items q (x ∷ xs) (y ∷ ys) len each =
+    let first = each 0 x (omega arith) in (
+      (λ outcome come. subst (λ (r : Result V FileOutcome). ComesOf items q r outcome) first.2
+          (first.4 outcome (subst (λ (r : Result V FileOutcome). ComesOf items q r outcome) (sym first.3) come))),
+      settled_from items q xs ys (omega (arith, len)) (λ i d less. each (suc i) d (omega (arith, less))),
     )

@@ -1,15 +1,17 @@
 -- Files that are done portion by portion.
 use Rattle.std.proofs.Common.{◌≡◌, ◌≤◌, ◌++◌, ◌&&◌, ◌+◌, ◌-◌, ℕ, Bool, true, false, List, [], Option, length, map, take}
-use Rattle.std.proofs.Common.{drop, refl, sym, ap, ap₂, ◌∙◌, subst, append_assoc, arith, inl, inr, Some}
+use Rattle.std.proofs.Common.{Result, drop, refl, sym, ap, ap₂, ◌∙◌, subst, append_assoc, arith, inl, inr, Some}
 use Rattle.std.specs.Prelude.{if◌then◌else◌, nat_lt, slice_range}
 use Rattle.std.specs.Borrow.{Bor}
 use Rattle.std.specs.Io.KnownBytes.{Appends, Keeps}
 use Rattle.std.specs.List.{list_all}
-use Rattle.std.proofs.lemmas.List.{append-nil, drop-drop, map-append, take-append-drop}
+use Rattle.std.proofs.lemmas.List.{append-nil, drop-drop, length-take, map-append}
+use Rattle.std.proofs.lemmas.List.{take-append-drop, take-take}
 use Rattle.std.proofs.lemmas.List.Folds.{list_all-append}
 use Rattle.sja_words.specs.declared.plan_question.PlanQuestion.{PlanQuestion}
 use Rattle.sja_run.specs.Answer.{IsLeft}
 use Rattle.sja_run.specs.Files.{AreOutcomes, ShowsFiles, is_printed, of_each, printed_of, refused_of}
+use Rattle.sja_run.specs.Inside.FileReads.{outcomes_in}
 use Rattle.sja_run.specs.Inside.FileTexts.{AreDone, AreTold, Wrote}
 use Rattle.sja_run.specs.declared.file_outcome.FileOutcome.{FileOutcome}
 use Rattle.sja_run.proofs.FilesDone.FileReads.{as_many, outcomes_both}
@@ -50,6 +52,31 @@ cut_names names start end order =
     ∙ map-append (λ (name : Bor (List ℕ)). name.now) (take (end - start) (drop start names))
     (drop (end - start) (drop start names))
     ∙ ap (λ (l : List (Bor (List ℕ))). texts (slice_range names start end) ++ texts l) left
+
+-- the first of a portion are no more than it has
+pub few_taken : {A : Type 0} (names : List A) (start end many : ℕ) → many ≤ length (slice_range names start end) →
+    many ≤ end - start
+few_taken names start end many few = omega (arith, few, length-take (end - start) (drop start names))
+
+-- and they are the portion up to the last of them
+taken_range : {A : Type 0} (names : List A) (start end many : ℕ) → many ≤ length (slice_range names start end) →
+    take many (slice_range names start end) ≡ slice_range names start (start + many)
+taken_range names start end many few =
+    let on : start + many - start ≡ many = omega arith in
+    take-take many (end - start) (drop start names) (few_taken names start end many few)
+    ∙ ap (λ (k : ℕ). take k (drop start names)) (sym on)
+
+-- with the outcomes that they have
+pub range_outcomes : {W E : Type 0} (items : W → List FileOutcome) (Holds : List ℕ → Option (List ℕ) → Type 0)
+    (q : PlanQuestion) (names : List (Bor (List ℕ))) (start end many : ℕ) (a b : Option (List ℕ))
+    (came : Result W E) → many ≤ length (slice_range names start end) →
+    AreOutcomes Holds q (texts (take many (slice_range names start end))) a b
+    (outcomes_in items (texts (take many (slice_range names start end))) came) →
+    AreOutcomes Holds q (texts (slice_range names start (start + many))) a b
+    (outcomes_in items (texts (slice_range names start (start + many))) came)
+range_outcomes items Holds q names start end many a b came few are =
+    subst (λ (l : List (Bor (List ℕ))). AreOutcomes Holds q (texts l) a b (outcomes_in items (texts l) came))
+    (taken_range names start end many few) are
 
 -- a portion of the names more
 pub done_more : (Holds : List ℕ → Option (List ℕ) → Type 0) (q : PlanQuestion) (names : List (Bor (List ℕ)))

@@ -1,8 +1,9 @@
 -- Why there is no text of a plan, from why there is none of the plan on the input; and that there is one.
-use Rattle.std.proofs.Common.{◌≡◌, ◌≤◌, ◌<◌, ◌∷◌, List, ℕ, [], Option, length, arith, subst}
+use Rattle.std.proofs.Common.{◌≡◌, ◌≤◌, ◌<◌, ◌∷◌, List, ℕ, [], Option, length, inl, inr, arith, subst}
 use Rattle.std.specs.Prelude.{IfOk, IfErr, Result, Ok, Err, String, string_bytes}
 use Rattle.std.specs.Global.{Global}
 use Rattle.std.proofs.lemmas.List.Elements.{All-nil, All-cons, All-append}
+use Rattle.sja_plan.specs.Faults.{IsPlanOf}
 use Rattle.sja_plan.specs.Limits.{most_strikes}
 use Rattle.sja_plan.specs.Plan.{PlanValue, times_in}
 use Rattle.sja_plan.specs.Struck.{one_strike, struck_at}
@@ -12,11 +13,12 @@ use Rattle.sja_texts.specs.declared.sweep_refusal.SweepRefusal.{SweepRefusal}
 use Rattle.sja_texts.specs.declared.sweep_refusal.SweepRefusal.TheVariants.{NoNode, TooMany, StrikeCount, Bit, TooLong}
 use Rattle.sja_texts.specs.declared.command_refusal.CommandRefusal.{CommandRefusal}
 use Rattle.sja_texts.specs.declared.command_refusal.CommandRefusal.TheVariants as refusal
-use Rattle.sja_run.specs.Input.{ReadsFew}
+use Rattle.sja_run.specs.Input.{ReadsFew, RefusesInput}
 use Rattle.sja_run.specs.Run.{RefusesRun}
 use Rattle.sja_run.specs.Inside.Runs.{HoldsPlan}
 use Rattle.sja_run.specs.Sweep.{IsStruck, RefusesOfPlan, RefusesStruck}
-use Rattle.sja_run.specs.Inside.Refusals.{IsLong, RefusesPlan}
+use Rattle.sja_run.specs.Inside.Refusals.{IsLong, RefusesDocument, RefusesPlan}
+use Rattle.sja_run.specs.PlanDocument.{RefusesSpelling, RefusesInputSpelled}
 
 -- there is no plan, or memory was refused
 pub of_plan_refused : (May : PlanValue → SweepRefusal → Type 0) (before after : Option (List ℕ)) (r : CommandRefusal) →
@@ -31,6 +33,7 @@ of_plan_refused May before after (refusal.Layout fault) h = absurd h
 of_plan_refused May before after (refusal.Line fault) h = absurd h
 of_plan_refused May before after (refusal.Notation fault) h = absurd h
 of_plan_refused May before after (refusal.Sweep why) h = absurd h
+of_plan_refused May before after (refusal.Drawing levels) h = absurd h
 
 -- there is a plan
 pub plan_refused : (May : PlanValue → SweepRefusal → Type 0) (before after : Option (List ℕ)) (plan : PlanValue)
@@ -45,6 +48,7 @@ plan_refused May before after plan refusal.NotALine holds h = absurd h
 plan_refused May before after plan (refusal.Layout fault) holds h = absurd h
 plan_refused May before after plan (refusal.Line fault) holds h = absurd h
 plan_refused May before after plan (refusal.Notation fault) holds h = absurd h
+plan_refused May before after plan (refusal.Drawing levels) holds h = absurd h
 
 -- whatever of both it is, few bytes were read
 pub few_of_plan : (May : PlanValue → SweepRefusal → Type 0) (before after : Option (List ℕ)) (r : CommandRefusal) →
@@ -59,6 +63,7 @@ few_of_plan May before after refusal.NotALine few h = few h
 few_of_plan May before after (refusal.Layout fault) few h = few h
 few_of_plan May before after (refusal.Line fault) few h = few h
 few_of_plan May before after (refusal.Notation fault) few h = few h
+few_of_plan May before after (refusal.Drawing levels) few h = few h
 
 -- the document of a plan with a strike more is too long, and nothing else is wrong
 long_refused : (node bit : ℕ) (plan struck : PlanValue) (r : CommandRefusal) → node < length plan.nodes →
@@ -79,6 +84,7 @@ long_refused node bit plan struck refusal.NotALine there low room is h = absurd 
 long_refused node bit plan struck (refusal.Layout fault) there low room is h = absurd h
 long_refused node bit plan struck (refusal.Line fault) there low room is h = absurd h
 long_refused node bit plan struck (refusal.Notation fault) there low room is h = absurd h
+long_refused node bit plan struck (refusal.Drawing levels) there low room is h = absurd h
 
 pub long_refused_if : (r : Result (String Global) CommandRefusal) (node bit : ℕ) (plan struck : PlanValue) →
     node < length plan.nodes → bit ≤ 9999999 → times_in plan.strikes < most_strikes plan.version →
@@ -107,6 +113,26 @@ pub struck_text_is : (r : Result (String Global) CommandRefusal) (node bit : ℕ
 struck_text_is (Ok text) node bit plan struck there is h =
     (there, subst (λ p. IsPlanText p (string_bytes text)) is h)
 struck_text_is (Err e) node bit plan struck there is h = tt
+
+-- there is no text of the plan that bytes are
+pub unspelled : (bytes : List ℕ) (plan : PlanValue) (r : CommandRefusal) → IsPlanOf bytes plan →
+    RefusesDocument plan r → RefusesSpelling bytes r
+unspelled bytes plan refusal.OutOfMemory holds h = tt
+unspelled bytes plan (refusal.Plan fault) holds h = inr (h.0, plan, holds, h.1)
+unspelled bytes plan refusal.Read holds h = absurd h
+unspelled bytes plan (refusal.Run fault) holds h = absurd h
+unspelled bytes plan refusal.NotHexadecimal holds h = absurd h
+unspelled bytes plan refusal.NotALine holds h = absurd h
+unspelled bytes plan (refusal.Layout fault) holds h = absurd h
+unspelled bytes plan (refusal.Line fault) holds h = absurd h
+unspelled bytes plan (refusal.Notation fault) holds h = absurd h
+unspelled bytes plan (refusal.Sweep why) holds h = absurd h
+unspelled bytes plan (refusal.Drawing levels) holds h = absurd h
+
+-- nor is there one where there are no bytes
+pub no_input : (before after : Option (List ℕ)) (r : CommandRefusal) → RefusesInput before after r →
+    RefusesInputSpelled before after r
+no_input before after r h = inl h
 
 -- why there is no text of a plan, whether it is struck or not
 pub ruleset refusals = (of_plan_refused, plan_refused)

@@ -7,50 +7,84 @@ use Rattle.sja_texts.specs.declared.command_refusal.CommandRefusal.TheVariants a
 use Rattle.sja_run.specs.Inside.Answers.{IsChecked, IsSaidOf}
 use Rattle.sja_run.specs.Files.{RefusesBytes}
 use Rattle.sja_run.specs.Input.{IsRead}
-use Rattle.sja_run.specs.Inside.Runs.{RefusesRunOf, HoldsPlan}
-use Rattle.sja_run.specs.Run.{RefusesBy, RefusesRun}
-use Rattle.sja_run.specs.Inside.Refusals.{RefusesThreads}
-use Rattle.sja_run.specs.RunText.{MayFault}
+use Rattle.sja_log.specs.Log.{RunValue}
+use Rattle.sja_run.specs.Inside.Runs.{IsPlain, RefusesRunOf, HoldsPlan}
+use Rattle.sja_run.specs.Run.{RefusesBy, RefusesText}
+use Rattle.sja_run.specs.RunText.{IsTooLarge, MayFault}
+use Rattle.sja_run.specs.declared.run_text.RunText.{RunText}
+use Rattle.sja_run.specs.declared.run_text.RunText.TheVariants.{Report, Wave, Trace, Frames, Picture, Drawing, Candump}
 use Rattle.sja_run.specs.declared.plan_check.PlanCheck.{PlanCheck}
 use Rattle.sja_run.specs.declared.plan_check.PlanCheck.TheVariants.{Hints, Mistake}
 
+-- what is no drawing isn't too large
+none_large : (what : RunText) (plan : PlanValue) (log : RunValue) (levels : ℕ) → IsPlain what →
+    ¬ IsTooLarge what plan log levels
+none_large Report plan log levels plain large = large
+none_large Wave plan log levels plain large = large
+none_large Trace plan log levels plain large = large
+none_large Frames plan log levels plain large = large
+none_large (Picture first last meant) plan log levels plain large = large
+none_large (Drawing first last meant) plan log levels plain large = absurd plain
+none_large (Candump errors) plan log levels plain large = large
+
 -- of the plan that some bytes are
-pub bytes_refused : (threads : Bool) (bytes : List ℕ) (plan : PlanValue) (r : CommandRefusal) → IsPlanOf bytes plan →
-    RefusesRunOf threads plan r → RefusesBytes threads bytes r
-bytes_refused threads bytes plan refusal.OutOfMemory holds h = tt
-bytes_refused threads bytes plan (refusal.Run fault) holds h = (plan, holds, h)
-bytes_refused threads bytes plan refusal.Read holds h = absurd h
-bytes_refused threads bytes plan (refusal.Plan fault) holds h = absurd h
-bytes_refused threads bytes plan refusal.NotHexadecimal holds h = absurd h
-bytes_refused threads bytes plan refusal.NotALine holds h = absurd h
-bytes_refused threads bytes plan (refusal.Layout fault) holds h = absurd h
-bytes_refused threads bytes plan (refusal.Line fault) holds h = absurd h
-bytes_refused threads bytes plan (refusal.Notation fault) holds h = absurd h
-bytes_refused threads bytes plan (refusal.Sweep why) holds h = absurd h
+pub bytes_refused : (threads : Bool) (what : RunText) (bytes : List ℕ) (plan : PlanValue) (r : CommandRefusal) →
+    IsPlain what → IsPlanOf bytes plan → RefusesRunOf threads what plan r → RefusesBytes threads bytes r
+bytes_refused threads what bytes plan refusal.OutOfMemory plain holds h = tt
+bytes_refused threads what bytes plan (refusal.Run fault) plain holds h = (plan, holds, h)
+bytes_refused threads what bytes plan (refusal.Drawing levels) plain holds h =
+    absurd (none_large what plan h.0 levels plain h.2)
+bytes_refused threads what bytes plan refusal.Read plain holds h = absurd h
+bytes_refused threads what bytes plan (refusal.Plan fault) plain holds h = absurd h
+bytes_refused threads what bytes plan refusal.NotHexadecimal plain holds h = absurd h
+bytes_refused threads what bytes plan refusal.NotALine plain holds h = absurd h
+bytes_refused threads what bytes plan (refusal.Layout fault) plain holds h = absurd h
+bytes_refused threads what bytes plan (refusal.Line fault) plain holds h = absurd h
+bytes_refused threads what bytes plan (refusal.Notation fault) plain holds h = absurd h
+bytes_refused threads what bytes plan (refusal.Sweep why) plain holds h = absurd h
 
 -- of the plan on the input
-refused_by : (threads : Bool) (before after : Option (List ℕ)) (plan : PlanValue) (r : CommandRefusal) →
-    HoldsPlan before after plan → RefusesRunOf threads plan r → RefusesBy (MayFault threads) before after r
-refused_by threads before after plan refusal.OutOfMemory holds h = (holds.0, holds.1.0, holds.1.1)
-refused_by threads before after plan (refusal.Run fault) holds h = (holds.0, plan, holds.1, holds.2, h)
-refused_by threads before after plan refusal.Read holds h = absurd h
-refused_by threads before after plan (refusal.Plan fault) holds h = absurd h
-refused_by threads before after plan refusal.NotHexadecimal holds h = absurd h
-refused_by threads before after plan refusal.NotALine holds h = absurd h
-refused_by threads before after plan (refusal.Layout fault) holds h = absurd h
-refused_by threads before after plan (refusal.Line fault) holds h = absurd h
-refused_by threads before after plan (refusal.Notation fault) holds h = absurd h
-refused_by threads before after plan (refusal.Sweep why) holds h = absurd h
+refused_by : (threads : Bool) (what : RunText) (before after : Option (List ℕ)) (plan : PlanValue)
+    (r : CommandRefusal) → HoldsPlan before after plan → RefusesRunOf threads what plan r →
+    RefusesText threads what before after r
+refused_by threads what before after plan refusal.OutOfMemory holds h = (holds.0, holds.1.0, holds.1.1)
+refused_by threads what before after plan (refusal.Run fault) holds h = (holds.0, plan, holds.1, holds.2, h)
+refused_by threads what before after plan (refusal.Drawing levels) holds h =
+    (holds.0, plan, h.0, holds.1, holds.2, h.1, h.2)
+refused_by threads what before after plan refusal.Read holds h = absurd h
+refused_by threads what before after plan (refusal.Plan fault) holds h = absurd h
+refused_by threads what before after plan refusal.NotHexadecimal holds h = absurd h
+refused_by threads what before after plan refusal.NotALine holds h = absurd h
+refused_by threads what before after plan (refusal.Layout fault) holds h = absurd h
+refused_by threads what before after plan (refusal.Line fault) holds h = absurd h
+refused_by threads what before after plan (refusal.Notation fault) holds h = absurd h
+refused_by threads what before after plan (refusal.Sweep why) holds h = absurd h
 
 -- in one thread
-pub run_refused : (before after : Option (List ℕ)) (plan : PlanValue) (r : CommandRefusal) →
-    HoldsPlan before after plan → RefusesRunOf false plan r → RefusesRun before after r
+pub run_refused : (what : RunText) (before after : Option (List ℕ)) (plan : PlanValue) (r : CommandRefusal) →
+    HoldsPlan before after plan → RefusesRunOf false what plan r → RefusesText false what before after r
 run_refused = refused_by false
 
 -- and in threads
-pub threads_refused : (before after : Option (List ℕ)) (plan : PlanValue) (r : CommandRefusal) →
-    HoldsPlan before after plan → RefusesRunOf true plan r → RefusesThreads before after r
+pub threads_refused : (what : RunText) (before after : Option (List ℕ)) (plan : PlanValue) (r : CommandRefusal) →
+    HoldsPlan before after plan → RefusesRunOf true what plan r → RefusesText true what before after r
 threads_refused = refused_by true
+
+-- what is no drawing is refused as any run
+pub plain_refused : (threads : Bool) (what : RunText) (before after : Option (List ℕ)) (r : CommandRefusal) →
+    IsPlain what → RefusesText threads what before after r → RefusesBy (MayFault threads) before after r
+plain_refused threads what before after (refusal.Drawing levels) plain h =
+    absurd (none_large what h.1 h.2 levels plain h.6)
+plain_refused threads what before after refusal.OutOfMemory plain h = h
+plain_refused threads what before after refusal.Read plain h = h
+plain_refused threads what before after (refusal.Plan fault) plain h = h
+plain_refused threads what before after (refusal.Run fault) plain h = h
+plain_refused threads what before after refusal.NotHexadecimal plain h = h
+plain_refused threads what before after refusal.NotALine plain h = h
+plain_refused threads what before after (refusal.Layout fault) plain h = h
+plain_refused threads what before after (refusal.Line fault) plain h = h
+plain_refused threads what before after (refusal.Notation fault) plain h = h
+plain_refused threads what before after (refusal.Sweep why) plain h = h
 
 -- what is said of the bytes that were read is what is said of the input
 pub said_of_input : (before after : Option (List ℕ)) (bytes : List ℕ) (said : PlanCheck) → IsRead before after bytes →

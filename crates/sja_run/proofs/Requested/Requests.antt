@@ -3,14 +3,13 @@ use Rattle.std.proofs.Common.{◌≡◌, ◌⊎◌, ℕ, Bool, List, Option, Som
 use Rattle.std.proofs.Math.Decide.{dec_lt}
 use Rattle.std.specs.Io.KnownBytes.{Keeps}
 use Rattle.sja_words.specs.Requests.{Request, encode, decode, filter, arbitrate, message, run, wave, trace, frames}
-use Rattle.sja_words.specs.Requests.{picture, candump, check, sweep, struck_plan, files, live}
+use Rattle.sja_words.specs.Requests.{picture, candump, check, sweep, struck_plan, spelled_plan, files, live}
 use Rattle.sja_words.specs.Words.{ParsesAs}
 use Rattle.sja_texts.specs.declared.command_refusal.CommandRefusal.TheVariants.{OutOfMemory}
 use Rattle.sja_texts.specs.declared.command_refusal.CommandRefusal.{CommandRefusal}
 use Rattle.sja_run.specs.Answer.{AsksForOne, AsksForRun, IsLeftOver, IsPrinted, IsRefused, Shows, IsLeft}
 use Rattle.sja_run.specs.Answer.{request_for, request_left, request_over}
-use Rattle.sja_run.specs.Run.{IsOfPlan, RefusesRun}
-use Rattle.sja_run.specs.Inside.Refusals.{RefusesThreads}
+use Rattle.sja_run.specs.Run.{IsOfPlan, RefusesText}
 use Rattle.sja_run.specs.RunText.{IsTextOfRun}
 use Rattle.sja_run.specs.declared.run_text.RunText.{RunText}
 use Rattle.sja_run.specs.declared.run_text.RunText.TheVariants.{Report, Wave, Trace, Frames, Picture, Drawing, Candump}
@@ -19,6 +18,7 @@ use Rattle.sja_run.specs.declared.left.Left.TheVariants.{Threads, Files, Talk}
 use Rattle.sja_run.specs.declared.threaded.Threaded.{Threaded}
 use Rattle.sja_run.specs.declared.threaded.Threaded.TheVariants.{Text, Sweep}
 use Rattle.sja_run.specs.Input.{ReadsFew}
+use Rattle.sja_run.proofs.PlanAnswers.PlanRuns.{plain_refused}
 use Rattle.sja_run.proofs.Requested.RefusedMemory.{memory_refused}
 
 -- words ask for one thing
@@ -40,13 +40,14 @@ is_left_over (trace true) = inl tt
 is_left_over (trace false) = inr (λ asks. asks)
 is_left_over (frames true) = inl tt
 is_left_over (frames false) = inr (λ asks. asks)
-is_left_over (picture first last svg true) = inl tt
-is_left_over (picture first last svg false) = inr (λ asks. asks)
+is_left_over (picture first last svg true meant) = inl tt
+is_left_over (picture first last svg false meant) = inr (λ asks. asks)
 is_left_over (candump errors true) = inl tt
 is_left_over (candump errors false) = inr (λ asks. asks)
 is_left_over check = inr (λ asks. asks)
 is_left_over (sweep w) = elim (dec_lt 1 w.jobs) [ yes more ↦ inl more | no not ↦ inr not ]
 is_left_over (struck_plan node bit) = inr (λ asks. asks)
+is_left_over spelled_plan = inr (λ asks. asks)
 is_left_over (files asked jobs names) = inl tt
 is_left_over live = inl tt
 
@@ -56,8 +57,8 @@ asks_left (Text Report) = tt
 asks_left (Text Wave) = tt
 asks_left (Text Trace) = tt
 asks_left (Text Frames) = tt
-asks_left (Text (Picture first last)) = tt
-asks_left (Text (Drawing first last)) = tt
+asks_left (Text (Picture first last meant)) = tt
+asks_left (Text (Drawing first last meant)) = tt
 asks_left (Text (Candump errors)) = tt
 asks_left (Sweep w) = tt
 
@@ -73,8 +74,8 @@ one_left (Text Report) = tt
 one_left (Text Wave) = tt
 one_left (Text Trace) = tt
 one_left (Text Frames) = tt
-one_left (Text (Picture first last)) = tt
-one_left (Text (Drawing first last)) = tt
+one_left (Text (Picture first last meant)) = tt
+one_left (Text (Drawing first last meant)) = tt
 one_left (Text (Candump errors)) = tt
 one_left (Sweep w) = tt
 
@@ -85,20 +86,25 @@ left_printed Report before after text has = has
 left_printed Wave before after text has = has
 left_printed Trace before after text has = has
 left_printed Frames before after text has = has
-left_printed (Picture first last) before after text has = has
-left_printed (Drawing first last) before after text has = has
+left_printed (Picture first last meant) before after text has = has
+left_printed (Drawing first last meant) before after text has = has
 left_printed (Candump errors) before after text has = has
 
 -- and so is what is refused of it
 pub left_refused : (what : RunText) (before after : Option (List ℕ)) (why : CommandRefusal) →
-    RefusesThreads before after why → IsRefused (request_left (Text what)) before after why
-left_refused Report before after why has = has
-left_refused Wave before after why has = has
-left_refused Trace before after why has = has
-left_refused Frames before after why has = has
-left_refused (Picture first last) before after why has = has
-left_refused (Drawing first last) before after why has = has
-left_refused (Candump errors) before after why has = has
+    RefusesText true what before after why → IsRefused (request_left (Text what)) before after why
+left_refused Report before after why has =
+    plain_refused true Report before after why tt has
+left_refused Wave before after why has =
+    plain_refused true Wave before after why tt has
+left_refused Trace before after why has =
+    plain_refused true Trace before after why tt has
+left_refused Frames before after why has =
+    plain_refused true Frames before after why tt has
+left_refused (Picture first last meant) before after why has = has
+left_refused (Drawing first last meant) before after why has = has
+left_refused (Candump errors) before after why has =
+    plain_refused true (Candump errors) before after why tt has
 
 -- what is printed of a run in one thread is what was asked for
 pub once_told : (what : RunText) (before after : Option (List ℕ)) (text : List ℕ) →
@@ -107,8 +113,8 @@ once_told Report before after text has = has
 once_told Wave before after text has = has
 once_told Trace before after text has = has
 once_told Frames before after text has = has
-once_told (Picture first last) before after text has = has
-once_told (Drawing first last) before after text has = has
+once_told (Picture first last meant) before after text has = has
+once_told (Drawing first last meant) before after text has = has
 once_told (Candump errors) before after text has = has
 
 pub once_printed : (r : Request) (what : RunText) (before after : Option (List ℕ)) (text : List ℕ) →
@@ -118,17 +124,22 @@ once_printed r what before after text asks has =
 
 -- and so is what is refused of it
 pub once_denied : (what : RunText) (before after : Option (List ℕ)) (why : CommandRefusal) →
-    RefusesRun before after why → IsRefused (request_for false what) before after why
-once_denied Report before after why has = has
-once_denied Wave before after why has = has
-once_denied Trace before after why has = has
-once_denied Frames before after why has = has
-once_denied (Picture first last) before after why has = has
-once_denied (Drawing first last) before after why has = has
-once_denied (Candump errors) before after why has = has
+    RefusesText false what before after why → IsRefused (request_for false what) before after why
+once_denied Report before after why has =
+    plain_refused false Report before after why tt has
+once_denied Wave before after why has =
+    plain_refused false Wave before after why tt has
+once_denied Trace before after why has =
+    plain_refused false Trace before after why tt has
+once_denied Frames before after why has =
+    plain_refused false Frames before after why tt has
+once_denied (Picture first last meant) before after why has = has
+once_denied (Drawing first last meant) before after why has = has
+once_denied (Candump errors) before after why has =
+    plain_refused false (Candump errors) before after why tt has
 
 pub once_refused : (r : Request) (what : RunText) (before after : Option (List ℕ)) (why : CommandRefusal) →
-    r ≡ request_for false what → RefusesRun before after why → IsRefused r before after why
+    r ≡ request_for false what → RefusesText false what before after why → IsRefused r before after why
 once_refused r what before after why asks has =
     subst (λ q. IsRefused q before after why) (sym asks) (once_denied what before after why has)
 

@@ -15,7 +15,7 @@ AsksForText (run threads) = Unit {0}
 AsksForText (wave threads) = Unit {0}
 AsksForText (trace threads) = Unit {0}
 AsksForText (frames threads) = Unit {0}
-AsksForText (picture first last svg threads) = Unit {0}
+AsksForText (picture first last svg threads meant) = Unit {0}
 AsksForText (candump errors threads) = Unit {0}
 AsksForText other = ⊥
 

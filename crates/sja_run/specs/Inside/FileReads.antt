@@ -34,6 +34,12 @@ ComesOf items asked (Err given) outcome = outcome ≡ given
 abbrev pub ComeOf : {V : Type 0} → (V → List ℕ) → PlanQuestion → List (Result V FileOutcome) → List FileOutcome → Type 0
 ComeOf items asked reads outcomes = AllZip (ComesOf items asked) reads outcomes
 
+-- the second may stand for the first: what comes of it comes of the first too
+abbrev pub Settles :
+    {V : Type 0} → (V → List ℕ) → PlanQuestion → Result V FileOutcome → Result V FileOutcome → Type 0
+Settles items asked before after =
+    (outcome : FileOutcome) → ComesOf items asked after outcome → ComesOf items asked before outcome
+
 -- memory is refused for each file
 abbrev pub all_refused : List (List ℕ) → List FileOutcome
 all_refused names = map (λ name. Refused OutOfMemory) names

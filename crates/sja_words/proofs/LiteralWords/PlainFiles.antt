@@ -1,8 +1,8 @@
 -- What some words with names of files ask for, by computing the parser's answer.
 use Rattle.std.proofs.Common.{ℕ, List, [], ◌∷◌, codes, refl, false}
-use Rattle.sja_words.specs.Requests.{Request, files}
+use Rattle.sja_words.specs.Requests.{Request, files, spelled_plan}
 use Rattle.sja_words.specs.Words.{ParsesAs, asked, faults}
-use Rattle.sja_words.specs.declared.plan_question.PlanQuestion.TheVariants.{Report, Trace}
+use Rattle.sja_words.specs.declared.plan_question.PlanQuestion.TheVariants.{Report, Trace, Plan}
 use Rattle.sja_words.proofs.LiteralWords.OnWords.{sja_on_literals}
 
 -- three names, of which one is the input, and the number of threads among them
@@ -22,3 +22,19 @@ trace_file name = record { taken = refl; asks = refl }
 pub trace_files : (name : List ℕ) (r : Request) → ¬ ParsesAs (name ∷ codes "trace" ∷ codes "a" ∷ codes "b" ∷ []) r
 unfolding sja_on_literals faults
 trace_files name r parses = cc (parses.taken)
+
+-- `plan`
+pub plan_alone : (name : List ℕ) → ParsesAs (name ∷ codes "plan" ∷ []) spelled_plan
+unfolding sja_on_literals asked faults
+plan_alone name = record { taken = refl; asks = refl }
+
+-- `plan` and one name
+pub plan_file : (name : List ℕ) →
+    ParsesAs (name ∷ codes "plan" ∷ codes "a" ∷ []) (files Plan 1 (codes "a" ∷ []))
+unfolding sja_on_literals asked faults
+plan_file name = record { taken = refl; asks = refl }
+
+-- `plan` and two names
+pub plan_files : (name : List ℕ) (r : Request) → ¬ ParsesAs (name ∷ codes "plan" ∷ codes "a" ∷ codes "b" ∷ []) r
+unfolding sja_on_literals faults
+plan_files name r parses = cc (parses.taken)

@@ -5,36 +5,36 @@ use Rattle.sja_words.specs.Words.{ParsesAs, asked, faults}
 use Rattle.sja_words.proofs.LiteralWords.OnWords.{sja_on_literals}
 
 -- nothing behind it
-pub all : (name : List ℕ) → ParsesAs (name ∷ codes "picture" ∷ []) (picture 0 None false false)
+pub all : (name : List ℕ) → ParsesAs (name ∷ codes "picture" ∷ []) (picture 0 None false false false)
 unfolding sja_on_literals asked faults
 all name = record { taken = refl; asks = refl }
 
 -- the first bit
-pub first : (name : List ℕ) → ParsesAs (name ∷ codes "picture" ∷ codes "11" ∷ []) (picture 11 None false false)
+pub first : (name : List ℕ) → ParsesAs (name ∷ codes "picture" ∷ codes "11" ∷ []) (picture 11 None false false false)
 unfolding sja_on_literals asked faults
 first name = record { taken = refl; asks = refl }
 
 -- the first and the last bit
 pub both : (name : List ℕ) → ParsesAs (name ∷ codes "picture" ∷ codes "11" ∷ codes "75" ∷ [])
-    (picture 11 (Some 75) false false)
+    (picture 11 (Some 75) false false false)
 unfolding sja_on_literals asked faults
 both name = record { taken = refl; asks = refl }
 
 -- in threads
 pub threads : (name : List ℕ) → ParsesAs (name ∷ codes "picture" ∷ codes "--threads" ∷ codes "11" ∷ [])
-    (picture 11 None false true)
+    (picture 11 None false true false)
 unfolding sja_on_literals asked faults
 threads name = record { taken = refl; asks = refl }
 
 -- as a drawing
-pub svg : (name : List ℕ) → ParsesAs (name ∷ codes "picture" ∷ codes "--svg" ∷ []) (picture 0 None true false)
+pub svg : (name : List ℕ) → ParsesAs (name ∷ codes "picture" ∷ codes "--svg" ∷ []) (picture 0 None true false false)
 unfolding sja_on_literals asked faults
 svg name = record { taken = refl; asks = refl }
 
 -- both bits, as a drawing, in threads
 pub all_words : (name : List ℕ) →
-    ParsesAs (name ∷ codes "picture" ∷ codes "11" ∷ codes "75" ∷ codes "--svg" ∷ codes "--threads" ∷ [])
-    (picture 11 (Some 75) true true)
+    ParsesAs (name ∷ codes "picture" ∷ codes "11" ∷ codes "75" ∷ codes "--svg" ∷ codes "--threads" ∷ codes "--yes" ∷ [])
+    (picture 11 (Some 75) true true true)
 unfolding sja_on_literals asked faults
 all_words name = record { taken = refl; asks = refl }
 
