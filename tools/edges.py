@@ -10,6 +10,7 @@ COMMENT = "#" * 79 + "\n"
 VERSION_3 = "version = 3\n"
 SMALL = "bits = 1\n[[node]]\nsteps = []\n"
 REPORT = "sja version 3 bits 0 end turns\n"
+KEY = "sja: plan fault 4 Key\n"
 UNKNOWN = 'sja: plan fault 4 Key\nline 2: no key is called "N0"\n'
 
 
@@ -32,6 +33,21 @@ def keys(count):
     return VERSION_3 + "".join(f"N{number}=1\n" for number in range(count))
 
 
+def filled(line):
+    """A document of 15 MB with the line that each number gives, counted from 0."""
+    lines = [VERSION_3]
+    size = 0
+    while size < 15 << 20:
+        lines.append(line(len(lines) - 1))
+        size += len(lines[-1])
+    return "".join(lines)
+
+
+def deep(alike=1):
+    """A document of 15 MB of keys with 12 parts, of which so many begin alike."""
+    return filled(lambda n: f"{n // alike}.a.a.a.a.a.a.a.a.a.a.{n % alike}=1\n")
+
+
 def refused(count):
     """A plan of eight nodes whose drivers are refused so many steps each."""
     turns = "".join(f'"node {node} {count}",' for node in range(8))
@@ -50,9 +66,22 @@ def commented(before, behind):
     return COMMENT * before + VERSION_3 + SMALL + COMMENT * behind
 
 
+def drawn(bits):
+    """A plan of eight nodes that rest for so many bits."""
+    return f'{VERSION_3}bits = {bits}\nturns = ["bus {bits}"]\n' + "[[node]]\nsteps = []\n" * 8
+
+
+# a driver that waits for a message that never comes, beside one that only starts
+WAITING = f'{VERSION_3}bits = 500\n[[node]]\nsteps = ["start", "await 1"]\n[[node]]\nsteps = ["start"]\n'
+
+
 EDGES = [
     Edge("40,000 unknown keys", ["check"], lambda: keys(40000), 1, UNKNOWN, 1, 64),
     Edge("160,000 unknown keys", ["check"], lambda: keys(160000), 1, UNKNOWN, 2, 64),
+    Edge("15 MB of keys with 12 parts", ["run"], deep, 1, KEY, 2, 20),
+    Edge("the same, two of each begin alike", ["run"], lambda: deep(2), 1, KEY, 2, 20),
+    Edge("15 MB of keys with one part", ["run"], lambda: filled(lambda n: f"N{n}=1\n"), 1, KEY, 3, 20),
+    Edge("15 MB of headers", ["run"], lambda: filled(lambda n: f"[N{n}]\n"), 1, KEY, 3, 20),
     Edge("160,000 refused steps", ["check"], lambda: refused(20000), 0, "line 4: node 0 is never started", 3, 64),
     Edge("60,000 late strikes", ["check"], lambda: late(60000), 0, "line 4: node 0 is never started", 2, 64),
     Edge("64,000 bytes of comments before version 3", ["run"], lambda: commented(800, 820), 0, REPORT, 1, 4),
@@ -63,6 +92,10 @@ EDGES = [
          'one of version 3 may have 16777216 where "version = 3" stands before its other keys, to the byte\n', 1, 4),
     Edge("a name with escapes", ["run", "no\x1b[31m\tfile\x7f\u009b1m"], lambda: "", 1,
          "sja: can't read no\\u001b[31m\\u0009file\\u007f\\u009b1m\n", 1, 1),
+    Edge("a drawing of too many levels", ["picture", "--svg"], lambda: drawn(2000000), 1,
+         "sja: picture fault 1 TooMany: 16000000 levels, which --yes draws\n", 1, 64),
+    Edge("a wait in threads that never comes", ["run", "--threads"], lambda: WAITING, 0,
+         "sja version 3 bits 11 end rest\n", 0.1, 64),
 ]
 
 if __name__ == "__main__":

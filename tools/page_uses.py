@@ -52,7 +52,7 @@ def mistake(tab, *_):
     if tab.value('document.querySelectorAll(".wrong").length || document.body.classList.contains("is-old")'):
         raise AssertionError("a line is still marked")
     answers = tab.value('[...document.querySelectorAll(".answers")].map(it => it.textContent.trim())')
-    if answers != ["ok · ok · ok · 0c · 08 · 07", "ok · a8 · 5"]:
+    if answers != ["ok · ok · ok · ok · 0c · 08 · 07", "ok · ok · a8 · 5"]:
         raise AssertionError(f"the answers beside the steps are {answers}")
     return "is told, marked and taken back, and each step has its answer beside it"
 

@@ -3,8 +3,12 @@ checked."""
 
 from collections import Counter
 
+from plan_words import in_numbers
+
 REQUEST = 0x01  # bits of the command register: transmission request, self reception request
 SELF_REQUEST = 0x10
+RELEASE = 0x04
+RESET = 0x01  # RM, of the mode register
 
 NUMBER = "number"
 REGISTER = "register"
@@ -131,9 +135,20 @@ def most_activations(version):
     return 8 if version < 3 else 64
 
 
-def depends(version, step, active):
-    """Whether it isn't in the answer what a step did: in version 3 a write of MOD or CMR, or of the transmit buffer."""
-    return version >= 3 and step[0] == "write" and (int(step[1]) in (0, 1) or active and 16 <= int(step[1]) <= 28)
+def depends(version, step, active, before):
+    """Whether it isn't in the answer what a step did: in version 3 a write of MOD or CMR, or of the transmit buffer. Where
+    the step before loaded that buffer, a request is taken; and abort and CDO are neither here nor there."""
+    if version < 3 or step[0] != "write":
+        return False
+    at, byte = int(step[1]), int(step[2], 16)
+    if at == 1 and active and not byte & RELEASE:
+        return bool(byte & (REQUEST | SELF_REQUEST)) and before != "load"
+    return at in (0, 1) and (at == 1 or active or byte & RESET == 0) or active and 16 <= at <= 28
+
+
+def asks(step):
+    """Whether a step asks to send."""
+    return (step[0] == "command" or step[:2] == ["write", "1"]) and int(step[-1], 16) & (REQUEST | SELF_REQUEST)
 
 
 def walk(version, steps, answers):
@@ -146,10 +161,12 @@ def walk(version, steps, answers):
     released = 0
     asked = []
     buffer = bytearray(13)
+    before = None
     for step, answer in zip(steps, answers):
-        if depends(version, step, active):
+        if depends(version, step, active, before):
             return None
         name = step[0]
+        before = name if answer == ["ok"] else None
         done = answer[0] != "refused"
         if answer == ["refused", "WrongState"]:
             check(active == (name == "start"), f"{step} is answered {answer}")
@@ -173,8 +190,8 @@ def walk(version, steps, answers):
             buffer = bytearray(bytes.fromhex(step[1]).ljust(13, b"\0"))
         elif name == "write" and active and 16 <= int(step[1]) <= 28:
             buffer[int(step[1]) - 16] = int(step[2], 16)
-        elif name == "command" and int(step[1], 16) & (REQUEST | SELF_REQUEST):
-            asked.append((sent(buffer), bool(int(step[1], 16) & SELF_REQUEST)))
+        elif asks(step):
+            asked.append((sent(buffer), bool(int(step[-1], 16) & SELF_REQUEST)))
     return activations, asked
 
 
@@ -245,7 +262,7 @@ def wanted(plan, text):
 def judge(plan, text):
     """Raises what is wrong with the report of a run in threads."""
     lines = Lines(text)
-    nodes = [[step.split(" ") for step in node["steps"]] for node in plan["node"]]
+    nodes = [[in_numbers(step) for step in node["steps"]] for node in plan["node"]]
     check(lines.left[0][-1] in ("rest", "bits"), f"the run ends with {lines.left[0][-1]!r}")
     end = lines.left[0][-1]
     (bits,) = lines.take("sja", "version", str(plan["version"]), "bits", None, "end", end)
@@ -266,4 +283,4 @@ def judge(plan, text):
         return
     for k, (activations, _) in enumerate(walks):
         for activation in activations:
-            check_senders(k, activation, [asked for _, asked in walks], bool(plan.get("faults")))
+            check_senders(k, activation, [asked for _, asked in walks], bool(plan.get("faults") or plan.get("strikes")))

@@ -77,7 +77,8 @@ fn is_of_plan(task: &Task<'_>) -> bool {
         | Task::Candump { .. }
         | Task::Check
         | Task::Sweep(_)
-        | Task::StruckPlan { .. } => true,
+        | Task::StruckPlan { .. }
+        | Task::Plan => true,
         Task::Files(files) => files.names.iter().any(|name| *name == "-"),
         _ => false,
     }

@@ -90,3 +90,27 @@ fn the_reserved_entries_can_be_used_by_any_kind(rt: HostRuntime) -> Result<(), F
     assert!(rt; told.next().is_none());
     Ok(())
 }
+
+/// A run of 84 bits and no steps has room for 102 entries that are no bits, and then for its bits alone.
+#[test]
+fn entries_that_are_no_bits_have_a_room_of_their_own(rt: HostRuntime) -> Result<(), Fail> {
+    let mut journal = Journal::new(rt.alloc(), 84, 0)?;
+    for _ in 0..102 {
+        assert!(rt; journal.enter(Entry::Abort).is_ok());
+    }
+    assert!(rt; journal.enter(Entry::Off) == Err(Entry::Off));
+    for _ in 0..84 {
+        assert!(rt;
+            journal
+                .enter(Entry::Bit(Level::Recessive, Level::Dominant))
+                .is_ok()
+        );
+    }
+    assert!(rt;
+        journal
+            .enter_bit(Level::Recessive, Level::Recessive)
+            .is_err()
+    );
+    assert!(rt; journal.free() == 0);
+    Ok(())
+}
