@@ -1,4 +1,5 @@
 pub mod Settings
+pub mod AtPort
 pub mod Steps
 pub mod Room
 pub mod Parts

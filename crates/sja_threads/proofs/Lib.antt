@@ -1,3 +1,4 @@
+pub mod Twin
 pub mod Driver
 pub mod Start
 pub mod Rounds

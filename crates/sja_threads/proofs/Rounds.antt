@@ -2,3 +2,4 @@ pub mod TakesWithin
 pub mod StaysDue
 pub mod GoesOn
 pub mod Stops
+pub mod Told

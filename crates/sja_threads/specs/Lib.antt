@@ -1,3 +1,5 @@
+-- ---- one port
+pub mod Ordering
 -- ---- one driver
 pub mod Setting
 pub mod Accessing

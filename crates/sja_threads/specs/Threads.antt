@@ -5,18 +5,21 @@ use Rattle.sja_regs.specs.DriverSettings.{SettingsValue, settings_in}
 use Rattle.sja_regs.specs.Registers.{at_power_on}
 use Rattle.sja_plan.specs.Plan.{PlanValue, steps_at}
 use Rattle.sja_driver.specs.Accesses.{done_of}
-use Rattle.sja_log.specs.Log.{NodeValue, RunValue}
+use Rattle.sja_log.specs.Log.{NodeValue, RunValue, journals_in}
+use Rattle.sja_wire.specs.Wire.{journal_at}
 use Rattle.sja_log.specs.Runs.{IsRun}
 use Rattle.sja_threads.specs.Accessing.{Work, Follows, deeds_done, work_at}
 use Rattle.sja_threads.specs.Linked.{AreLinked}
 use Rattle.sja_threads.specs.Needed.{IsNeeded}
+use Rattle.sja_threads.specs.Ordering.{IsOrdered}
 use Rattle.sja_threads.specs.Setting.{LeadToSettings}
 
 -- of its drivers there is what each did of its script, by whose deeds the run is what every run is. Of each driver that
 -- is a front of the plan's steps, which the log has as done, each at what those before it have left, and where a gate
--- broke a write off some deeds of it; each deed is done with what the deeds before it have set, from power-on; some
--- order of events leads to what the link of each activation carried; each of its bits was due, and it ended duly; and
--- where no gate quits every driver did all its steps
+-- broke a write off some deeds of it; each deed is done with what the deeds before it have set, from power-on; at each
+-- port some order of what the bus told it and of the driver's deeds there leads from power-on on, and no bit was run
+-- before the node had begun; some order of events leads to what the link of each activation carried; each of its bits
+-- was due, and it ended duly; and where no gate quits every driver did all its steps
 pub record IsThreadedRun (plan : PlanValue) (log : RunValue) (quits : Bool) : Type 0 where
   pub works : List Work
   pub run : IsRun plan log (map (λ (w : Work). deeds_done w) works)
@@ -27,6 +30,8 @@ pub record IsThreadedRun (plan : PlanValue) (log : RunValue) (quits : Bool) : Ty
   pub sets : (node : ℕ) → node < length plan.nodes →
       (last : SettingsValue)
       × LeadToSettings (settings_in (at_power_on plan.version)) (deeds_done (work_at works node)) last
+  pub ordered : (node : ℕ) → node < length plan.nodes →
+      IsOrdered plan.version plan.bits (journal_at (journals_in log) node) (deeds_done (work_at works node))
   pub linked : (node : ℕ) (d : NodeValue) → node < length log.nodes → AreLinked (slice_index_or log.nodes node d)
   pub needed : IsNeeded plan.bits log
   pub all_done : quits ≡ false → (node : ℕ) (d : NodeValue) → node < length log.nodes →

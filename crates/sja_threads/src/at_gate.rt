@@ -2,9 +2,10 @@
 
 use super::gate::Gate;
 use super::lobby::Lobby;
+use super::locked_port::LockedPort;
+use super::order::Order;
 use super::pass::Pass;
 use super::waits::{SHORT, wait_a_while};
-use sja_regs::Port;
 use std::sync::{Mutex, Wait};
 use std::thread::Parker;
 
@@ -12,24 +13,24 @@ use std::thread::Parker;
 /// that is asked before each try, the runtime by which the thread waits, the parker on which it does, and the lobby
 /// where it says that it waits long, if there is one.
 #[derive(Drop)]
-pub(crate) struct AtGate<'a, R, G: Drop> {
+pub(crate) struct AtGate<'a, N: Order, R, G: Drop> {
     pub(crate) rt: &'a R,
-    pub(crate) port: &'a Mutex<Port>,
+    pub(crate) port: &'a Mutex<LockedPort<N>>,
     pub(crate) gate: G,
     pub(crate) parker: Parker,
     pub(crate) lobby: Option<&'a Mutex<Lobby>>,
 }
 
-impl<'a, R: Wait, G: Gate> AtGate<'a, R, G> {
+impl<'a, N: Order, R: Wait, G: Gate> AtGate<'a, N, R, G> {
     ghost use Rattle.std.specs.Prelude.{◌≡◌, true, false};
 
     /// Where a thread tries steps at this port, as this gate lets it.
     pub(crate) fn new(
         rt: &'a R,
-        port: &'a Mutex<Port>,
+        port: &'a Mutex<LockedPort<N>>,
         gate: G,
         lobby: Option<&'a Mutex<Lobby>>,
-    ) -> AtGate<'a, R, G> {
+    ) -> AtGate<'a, N, R, G> {
         AtGate {
             rt,
             port,

@@ -1,20 +1,19 @@
 //! [`BusThread`]: the bus in the caller's thread, in rounds beside its drivers' threads and after them.
 
+ghost use Rattle.std.specs.Prelude.{◌≡◌, ◌≤◌, ◌⊎◌, true, length, None};
+ghost use Rattle.sja_threads.specs.Inside.Boards.{AllBegun, turns_in};
+
 use super::lobby::Lobby;
-use super::lock_board::LockBoard;
+use super::order::Order;
 use super::round::Round;
+use super::turn_board::TurnBoard;
 use super::waits::{SHORT, wait_a_while};
 use sja_bus::{Bus, BusFault};
 use sja_log::End;
 use sja_plan::Plan;
-use sja_regs::Port;
 use sja_rings::RingBus;
-use sja_script::MOST_NODES;
 use std::sync::{Mutex, Wait};
 use std::thread::Parker;
-
-/// How many nodes a bus has at most.
-const NODES: usize = MOST_NODES as usize;
 
 /// The bus of a run in threads (this project's own rule): itself, its ends of all links, how many bits it has run, and
 /// whether they are spent: a bit was due, and none was left.
@@ -27,14 +26,16 @@ pub(crate) struct BusThread {
 }
 
 impl BusThread {
-    ghost use Rattle.std.specs.Prelude.{◌≡◌, ◌≤◌, ◌+◌, ◌*◌, true, length, Ok, IfOk, IfErr, OnOk};
+    ghost use Rattle.std.specs.Prelude.{◌≡◌, ◌≤◌, ◌+◌, ◌*◌, ℕ, true, List, length, Ok, IfOk, IfErr, OnOk};
     ghost use Rattle.sja_link.specs.Links.{Numbered};
     ghost use Rattle.sja_plan.specs.Plan.{PlanValue};
     ghost use Rattle.sja_rings.specs.Ends.{link_of_bus};
     ghost use Rattle.sja_threads.specs.declared.round.Round.TheVariants.{Ran, Rests, Spent};
     ghost use Rattle.sja_threads.specs.Needed.{AllAtRest};
     ghost use Rattle.sja_threads.specs.Stopping.{StopsWith};
-    ghost use Rattle.sja_threads.specs.Inside.Rounds.{IsUnderWay, GoesOn, EndsAs};
+    ghost use Rattle.sja_threads.specs.declared.told.Told.{Told};
+    ghost use Rattle.sja_threads.specs.Inside.Boards.{AllBegun, AllEnded, AreTold, turns_in};
+    ghost use Rattle.sja_threads.specs.Inside.Rounds.{EachHas, IsUnderWay, GoesOn, EndsAs};
 
     /// Takes what the drivers gave.
     ///
@@ -44,6 +45,8 @@ impl BusThread {
         requires ids { Numbered link_of_bus self.old.links.items }
         ensures on { OnOk result ((plan : PlanValue) → IsUnderWay plan self.old → GoesOn plan self.old self.new) }
         ensures run { self.new.run ≡ self.old.run }
+        ensures told { OnOk result ((all : ℕ) (told : List (List Told)) →
+            AreTold all self.old.bus.journals told → AreTold all self.new.bus.journals told) }
         ensures fault { IfErr result (λ f. (plan : PlanValue) → IsUnderWay plan self.old →
             StopsWith self.old.bus.steps plan f) }
     {
@@ -54,18 +57,24 @@ impl BusThread {
     ///
     /// Error: what the bus answers for another cause than spent bits.
     #[tactic(auto, using(crate::proofs::Rounds::GoesOn::stays_on, crate::proofs::Rounds::GoesOn::all_rest))]
-    fn bit_if_due<R: Wait>(
+    fn bit_if_due<N: Order, R: Wait>(
         &mut self,
         plan: &Plan,
-        board: &mut LockBoard<R>,
+        board: &mut TurnBoard<N, R>,
     ) -> Result<Round, BusFault>
         requires way { IsUnderWay plan.now self.old }
-        requires ports { length plan.now.nodes ≤ length board.old.ports.now }
+        requires ports { length plan.now.nodes ≤ length board.old.told.items }
+        requires begun { AllBegun self.old.bus.journals (turns_in board.old.told.items) }
         ensures on { OnOk result (GoesOn plan.now self.old self.new) }
-        ensures ports { length board.new.ports.now ≡ length board.old.ports.now }
+        ensures ports { length board.new.told.items ≡ length board.old.told.items }
+        ensures told { OnOk result (AreTold plan.now.bits self.old.bus.journals (turns_in board.old.told.items) →
+            AreTold plan.now.bits self.new.bus.journals (turns_in board.new.told.items)) }
+        ensures ended { OnOk result (AllEnded (length plan.now.nodes) (turns_in board.old.told.items) →
+            AllEnded (length plan.now.nodes) (turns_in board.new.told.items)) }
         ensures ran { result ≡ Ok Ran → self.new.run ≡ self.old.run + 1 }
         ensures rests { result ≡ Ok Rests → AllAtRest self.new.bus.journals }
         ensures spent { result ≡ Ok Spent → self.new.spent ≡ true }
+        ensures all { result ≡ Ok Spent → EachHas plan.now.bits self.new.bus.journals }
         ensures fault { IfErr result (StopsWith self.old.bus.steps plan.now) }
     {
         if self.bus.at_rest() {
@@ -80,27 +89,59 @@ impl BusThread {
         Ok(Round::Ran)
     }
 
-    /// One round of the bus beside its drivers' threads, of which these have ended: takes what the drivers gave, and
-    /// then runs a bit where one is due. None is before of each node a start was taken or its driver had ended.
+    /// One round of the bus beside its drivers' threads: takes what the drivers gave, and then runs a bit where one
+    /// is due. None is before of each node a start was taken or its driver was found to have ended.
     ///
     /// Error: what the bus answers for another cause than spent bits.
-    fn round_beside<R: Wait>(
+    fn round_beside<N: Order, R: Wait>(
         &mut self,
         plan: &Plan,
-        board: &mut LockBoard<R>,
-        ended: &[bool; NODES],
+        board: &mut TurnBoard<N, R>,
     ) -> Result<Round, BusFault>
         requires way { IsUnderWay plan.now self.old }
-        requires ports { length plan.now.nodes ≤ length board.old.ports.now }
+        requires ports { length plan.now.nodes ≤ length board.old.told.items }
         ensures on { OnOk result (GoesOn plan.now self.old self.new) }
-        ensures ports { length board.new.ports.now ≡ length board.old.ports.now }
+        ensures ports { length board.new.told.items ≡ length board.old.told.items }
+        ensures told { OnOk result (AreTold plan.now.bits self.old.bus.journals (turns_in board.old.told.items) →
+            AreTold plan.now.bits self.new.bus.journals (turns_in board.new.told.items)) }
+        ensures all { result ≡ Ok Spent → EachHas plan.now.bits self.new.bus.journals }
         ensures fault { IfErr result (StopsWith self.old.bus.steps plan.now) }
     {
         self.gather()?;
-        if !all_begun(&self.bus, ended) {
+        if !all_begun(&self.bus, board) {
             return Ok(Round::Rests);
         }
         self.bit_if_due(plan, board)
+    }
+
+    /// The same, but that each port is told first how many bits have run, and last, where none is left, that. It says
+    /// too whether all drivers had ended before.
+    ///
+    /// Error: what the bus answers for another cause than spent bits.
+    fn told_round<N: Order, R: Wait>(
+        &mut self,
+        plan: &Plan,
+        board: &mut TurnBoard<N, R>,
+    ) -> Result<(Round, bool), BusFault>
+        requires way { IsUnderWay plan.now self.old }
+        requires ports { length plan.now.nodes ≤ length board.old.told.items }
+        ensures on { OnOk result (GoesOn plan.now self.old self.new) }
+        ensures ports { length board.new.told.items ≡ length board.old.told.items }
+        ensures told { OnOk result (AreTold plan.now.bits self.old.bus.journals (turns_in board.old.told.items) →
+            AreTold plan.now.bits self.new.bus.journals (turns_in board.new.told.items)) }
+        ensures ended { IfOk result (λ r. r.1 ≡ true →
+            AllEnded (length plan.now.nodes) (turns_in board.new.told.items)) }
+        ensures fault { IfErr result (StopsWith self.old.bus.steps plan.now) }
+    {
+        board.tell_bits(self.bus.bits_run());
+        let round = self.round_beside(plan, board)?;
+        match round {
+            Round::Spent => {
+                board.close_all();
+                Ok((round, board.all_ended()))
+            }
+            _ => Ok((round, board.all_ended())),
+        }
     }
 
     /// The rounds of the bus beside its drivers' threads: it takes what they give, and runs the bits that are due,
@@ -109,31 +150,30 @@ impl BusThread {
     /// says that nothing is due, once that was so for a hundred rounds.
     ///
     /// Error: what the bus answers for another cause than spent bits.
-    pub(crate) fn rounds_beside_drivers<R: Wait>(
+    pub(crate) fn rounds_beside_drivers<N: Order, R: Wait>(
         &mut self,
-        rt: &R,
         plan: &Plan,
-        ports: &[Mutex<Port>],
+        board: &mut TurnBoard<N, R>,
         lobby: &Mutex<Lobby>,
     ) -> Result<(), BusFault>
         requires way { IsUnderWay plan.now self.old }
-        requires ports { length plan.now.nodes ≤ length ports.now }
+        requires ports { length plan.now.nodes ≤ length board.old.told.items }
         ensures on { OnOk result (GoesOn plan.now self.old self.new) }
+        ensures ports { length board.new.told.items ≡ length board.old.told.items }
+        ensures told { OnOk result (AreTold plan.now.bits self.old.bus.journals (turns_in board.old.told.items) →
+            AreTold plan.now.bits self.new.bus.journals (turns_in board.new.told.items)) }
+        ensures ended { OnOk result (AllEnded (length plan.now.nodes) (turns_in board.new.told.items)) }
         ensures fault { IfErr result (StopsWith self.old.bus.steps plan.now) }
     {
+        let rt = board.rt;
         let parker = Parker::new();
-        let mut board = LockBoard { rt, ports };
         let mut idle = 1u32;
         for _ in rt.forever() {
-            let ended = ended_of(rt, ports);
-            let round = self.round_beside(plan, &mut board, &ended)?;
+            let (round, over) = self.told_round(plan, board)?;
             if round == Round::Ran {
                 idle = 1;
             } else {
-                if round == Round::Spent {
-                    close_all(rt, ports);
-                }
-                if all_ended(&ended) {
+                if over {
                     return Ok(());
                 }
                 if idle > SHORT {
@@ -150,21 +190,23 @@ impl BusThread {
     /// every controller is at rest or the bits are spent. It says which of the two it was.
     ///
     /// Error: what the bus answers for another cause than spent bits.
-    pub(crate) fn rounds_after_drivers<R: Wait>(
+    pub(crate) fn rounds_after_drivers<N: Order, R: Wait>(
         &mut self,
-        rt: &R,
         plan: &Plan,
-        ports: &[Mutex<Port>],
+        board: &mut TurnBoard<N, R>,
     ) -> Result<End, BusFault>
         requires way { IsUnderWay plan.now self.old }
-        requires ports { length plan.now.nodes ≤ length ports.now }
+        requires ports { length plan.now.nodes ≤ length board.old.told.items }
+        requires ended { AllEnded (length plan.now.nodes) (turns_in board.old.told.items) }
         ensures ends { IfOk result (EndsAs plan.now self.old self.new) }
+        ensures ports { length board.new.told.items ≡ length board.old.told.items }
+        ensures told { OnOk result (AreTold plan.now.bits self.old.bus.journals (turns_in board.old.told.items) →
+            AreTold plan.now.bits self.new.bus.journals (turns_in board.new.told.items)) }
         ensures fault { IfErr result (StopsWith self.old.bus.steps plan.now) }
     {
-        let mut board = LockBoard { rt, ports };
         for _ in self.run..=plan.bits() {
             self.gather()?;
-            match self.bit_if_due(plan, &mut board)? {
+            match self.bit_if_due(plan, board)? {
                 Round::Ran => {}
                 Round::Rests if !self.spent => return Ok(End::Rest),
                 _ => return Ok(End::Bits),
@@ -174,40 +216,23 @@ impl BusThread {
     }
 }
 
-/// Which drivers have ended, by node. A node that isn't there counts as one whose driver has.
-fn ended_of(rt: &impl Wait, ports: &[Mutex<Port>]) -> [bool; NODES] {
-    let mut ended = [true; NODES];
-    for node in 0..NODES {
-        if node < ports.len() {
-            ended[node] = ports[node].lock(rt).orders().ended;
-        }
-    }
-    ended
-}
-
-/// Whether all these drivers have ended.
-fn all_ended(ended: &[bool; NODES]) -> bool {
-    for node in 0..NODES {
-        if !ended[node] {
+/// Whether of each node a start was taken, or its driver was found to have ended.
+fn all_begun<N: Order, R: Wait>(bus: &Bus, board: &TurnBoard<N, R>) -> bool
+    requires right { bus.now.fault ≡ None }
+    requires ports { length bus.now.journals ≤ length board.now.told.items }
+    ensures { result ≡ true → AllBegun bus.now.journals (turns_in board.now.told.items) }
+{
+    for node in 0..board.told.len() {
+        if !has_begun(bus.started(node as u8), board.told[node].ended) {
             return false;
         }
     }
     true
 }
 
-/// Whether of each node a start was taken, or its driver has ended.
-fn all_begun(bus: &Bus, ended: &[bool; NODES]) -> bool {
-    for node in 0..MOST_NODES {
-        if !ended[usize::from(node)] && !bus.started(node) {
-            return false;
-        }
-    }
-    true
-}
-
-/// Marks at all ports that the bus has no bits left.
-pub(crate) fn close_all(rt: &impl Wait, ports: &[Mutex<Port>]) {
-    for port in ports {
-        port.lock(rt).close();
-    }
+/// Whether a node has begun whose first start was taken or wasn't, and whose driver was found to have ended or wasn't.
+fn has_begun(started: bool, ended: bool) -> bool
+    ensures { result ≡ true → (started ≡ true) ⊎ (ended ≡ true) }
+{
+    started || ended
 }

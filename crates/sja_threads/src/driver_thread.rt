@@ -1,20 +1,25 @@
 //! [`DriverThread`]: a driver in a thread of its own, and the steps of its script, each tried as the gate lets it.
 
-ghost use Rattle.std.specs.Prelude.{◌≡◌, ◌≤◌, false, true, length, None};
-ghost use Rattle.sja_driver.specs.Accesses.{by_bytes as knows_bytes};
+ghost use Rattle.std.specs.Prelude.{◌≡◌, ◌≤◌, false, true, [], length, None};
 ghost use Rattle.lemmas.specs.Related.{EachRelated};
-ghost use Rattle.sja_regs.specs.DriverSettings.{SettingsValue};
+ghost use Rattle.sja_regs.specs.DriverSettings.{settings_in};
+ghost use Rattle.sja_regs.specs.Registers.{at_power_on};
 ghost use Rattle.sja_driver.specs.Holding.{NumberedFrom};
 ghost use Rattle.sja_driver.specs.LoggedDrivers.{log_of};
 ghost use Rattle.sja_driver.specs.Logs.{HasRoom, IsEmpty, done_in, done_room};
+ghost use Rattle.sja_threads.specs.Ordering.{is_at_port};
 ghost use Rattle.sja_threads.specs.Working.{HasWorked};
+ghost use Rattle.sja_threads.specs.Inside.Names.{IsNamed};
 
 use super::at_gate::AtGate;
+use super::deeds_of_node::DeedsOfNode;
 use super::gate::Gate;
+use super::locked_port::LockedPort;
+use super::order::Order;
 use super::worked::Worked;
 use sja_driver::{LoggedDriver, WorkLog, by_bytes};
 use sja_link::DriverEnd;
-use sja_regs::{DriverSettings, Port};
+use sja_regs::DriverSettings;
 use sja_script::{Step, StepAnswer};
 use std::sync::{Mutex, Wait};
 
@@ -23,40 +28,53 @@ use std::sync::{Mutex, Wait};
 ///
 /// What it has set is its own: it goes into the port before each try there, and what a step sets comes out of it.
 #[derive(Drop)]
-pub(crate) struct DriverThread<D: Drop> {
-    pub(crate) node: u8,
+pub(crate) struct DriverThread<N: Order, D: Drop> {
     pub(crate) bytes: bool,
     pub(crate) driver: LoggedDriver,
     pub(crate) set: DriverSettings,
     pub(crate) links: Vec<D>,
+    pub(crate) done: DeedsOfNode<N>,
 }
 
-impl<D: DriverEnd + Drop> DriverThread<D> {
+impl<N: Order, D: DriverEnd + Drop> DriverThread<N, D> {
     ghost use Rattle.sja_threads.specs.Inside.Accesses.{HasEnded};
     ghost use Rattle.sja_threads.specs.Inside.Steps.{MayWork, MayBegin, DoesDeed};
 
     /// Tries a deed at the port, which is held over the try, and gives its answer; none where it isn't done.
-    fn try_at_port(&mut self, rt: &impl Wait, port: &Mutex<Port>, deed: &Step) -> Option<StepAnswer>
-        requires { MayWork D.link self.old 1 }
+    fn try_at_port(
+        &mut self,
+        rt: &impl Wait,
+        port: &Mutex<LockedPort<N>>,
+        deed: &Step,
+    ) -> Option<StepAnswer>
+        requires may { MayWork D.link self.old 1 }
+        requires at_port { is_at_port deed.now ≡ true }
         ensures { DoesDeed D.DriverEnd self.old self.new deed.now result }
     {
         let mut held = port.lock(rt);
-        held.restore(&self.set);
-        match self
-            .driver
-            .step(self.links.as_mut_slice(), 0, &mut held, deed)
-        {
-            Some(answer) => {
-                self.set = held.settings();
-                Some(answer)
-            }
-            None => None,
+        if !held.is_of(self.done.node) {
+            return None;
         }
+        let Some(answer) = held.try_deed(
+            &mut self.done,
+            &mut self.driver,
+            self.links.as_mut_slice(),
+            deed,
+        ) else {
+            return None;
+        };
+        self.set = held.settings();
+        Some(answer)
     }
 
     /// Tries a deed, and gives its answer; none where it isn't done. The port is held over the try, but not over a
     /// window's or a release's, which see none.
-    fn try_deed(&mut self, rt: &impl Wait, port: &Mutex<Port>, deed: &Step) -> Option<StepAnswer>
+    fn try_deed(
+        &mut self,
+        rt: &impl Wait,
+        port: &Mutex<LockedPort<N>>,
+        deed: &Step,
+    ) -> Option<StepAnswer>
         requires { MayWork D.link self.old 1 }
         ensures { DoesDeed D.DriverEnd self.old self.new deed.now result }
     {
@@ -72,7 +90,7 @@ impl<D: DriverEnd + Drop> DriverThread<D> {
     /// the gate quit.
     pub(crate) fn do_deed<G: Gate, R: Wait>(
         &mut self,
-        at: &AtGate<R, G>,
+        at: &AtGate<N, R, G>,
         deed: &Step,
         number: u32,
         tries: &mut u32,
@@ -83,11 +101,11 @@ impl<D: DriverEnd + Drop> DriverThread<D> {
     {
         for _ in at.rt.forever() {
             if let Some(answer) = self.try_deed(at.rt, at.port, deed) {
-                at.leave(self.node, *tries);
+                at.leave(self.done.node, *tries);
                 return Some(answer);
             }
-            at.wait_in_vain(self.node, tries);
-            if !at.lets_go(self.node, number, tries) {
+            at.wait_in_vain(self.done.node, tries);
+            if !at.lets_go(self.done.node, number, tries) {
                 return None;
             }
         }
@@ -95,7 +113,7 @@ impl<D: DriverEnd + Drop> DriverThread<D> {
     }
 
     /// Does steps, one after the other, until the gate quits.
-    fn do_steps<G: Gate, R: Wait>(&mut self, at: &AtGate<R, G>, steps: &[Step])
+    fn do_steps<G: Gate, R: Wait>(&mut self, at: &AtGate<N, R, G>, steps: &[Step])
         requires { MayBegin D.link self.old (length steps.now) }
         ensures { HasEnded D.DriverEnd G.QUITS self.old self.new steps.now }
     {
@@ -111,37 +129,49 @@ impl<D: DriverEnd + Drop> DriverThread<D> {
 
 /// What [`work`] does, of a driver that knows addresses and bytes alone or doesn't (`bytes`) and has this set at its
 /// port.
-pub(crate) fn follow<D: DriverEnd + Drop, G: Gate, R: Wait>(
-    at: AtGate<R, G>,
-    node: u8,
-    bytes: bool,
-    set: DriverSettings,
+pub(crate) fn follow<N: Order, D: DriverEnd + Drop, G: Gate, R: Wait>(
+    at: AtGate<N, R, G>,
+    done: DeedsOfNode<N>,
     links: Vec<D>,
     log: WorkLog,
     steps: &[Step],
 ) -> Worked<D>
-    requires bytes { bytes ≡ knows_bytes set.version }
+    requires none { done.known.list ≡ [] }
     requires empty { IsEmpty log }
     requires room { HasRoom (length steps.now) log }
     requires steps { length steps.now ≤ done_room log }
     requires enough { 64 ≤ length links.items }
-    requires ids { NumberedFrom D.link links.items 0 node }
+    requires ids { NumberedFrom D.link links.items 0 done.node }
     ensures same { EachRelated D.same links.items result.links.items }
-    ensures worked { HasWorked D.stands set node steps.now links.items result }
+    ensures worked { HasWorked D.stands (settings_in (at_power_on done.version)) done.node steps.now links.items
+        result result.done.list }
+    ensures named { IsNamed N.deeds done.node result.done.name }
     ensures done { G.QUITS ≡ false → length (done_in (log_of result.driver)) ≡ length steps.now }
 {
-    let driver = LoggedDriver::new(node, log);
+    let bytes = by_bytes(done.version);
+    let set = DriverSettings::at_power_on(done.version);
+    let driver = LoggedDriver::new(done.node, log);
     let mut thread = DriverThread {
-        node,
         bytes,
         driver,
         set,
         links,
+        done,
     };
     thread.do_steps(&at, steps);
-    at.end(node);
-    let DriverThread { driver, links, .. } = thread;
-    Worked { links, driver }
+    at.end(thread.done.node);
+    let DriverThread {
+        driver,
+        links,
+        done,
+        ..
+    } = thread;
+    let DeedsOfNode { known, .. } = done;
+    Worked {
+        links,
+        driver,
+        done: known,
+    }
 }
 
 /// The part of a node's driver in a thread of its own (this project's own rule): the steps of its script, one after the
@@ -161,40 +191,25 @@ pub(crate) fn follow<D: DriverEnd + Drop, G: Gate, R: Wait>(
 ///
 /// The drivers of [`run_threads`](crate::run_threads) do the same, from what is set after power-on. This call serves
 /// who runs a bus of his own, and the tests.
-pub fn work<'a, D: DriverEnd + Drop, G: Gate>(
+pub fn work<'a, N: Order, D: DriverEnd + Drop, G: Gate>(
     rt: &'a impl Wait,
-    node: u8,
     links: Vec<D>,
-    port: &'a Mutex<Port>,
+    port: &'a Mutex<LockedPort<N>>,
+    done: DeedsOfNode<N>,
     steps: &[Step],
     gate: G,
     log: WorkLog,
 ) -> Worked<D>
+    requires none { done.known.list ≡ [] }
     requires empty { IsEmpty log }
     requires room { HasRoom (length steps.now) log }
     requires steps { length steps.now ≤ done_room log }
     requires enough { 64 ≤ length links.items }
-    requires ids { NumberedFrom D.link links.items 0 node }
+    requires ids { NumberedFrom D.link links.items 0 done.node }
     ensures same { EachRelated D.same links.items result.links.items }
-    ensures worked { (set : SettingsValue) × HasWorked D.stands set node steps.now links.items result }
+    ensures worked { HasWorked D.stands (settings_in (at_power_on done.version)) done.node steps.now links.items
+        result result.done.list }
     ensures done { G.QUITS ≡ false → length (done_in (log_of result.driver)) ≡ length steps.now }
 {
-    let (bytes, set) = set_at(rt, port);
-    follow(
-        AtGate::new(rt, port, gate, None),
-        node,
-        bytes,
-        set,
-        links,
-        log,
-        steps,
-    )
-}
-
-/// What a driver finds set at a port, and whether it knows addresses and bytes alone there.
-fn set_at(rt: &impl Wait, port: &Mutex<Port>) -> (bool, DriverSettings)
-    ensures { result.0 ≡ knows_bytes result.1.version }
-{
-    let held = port.lock(rt);
-    (by_bytes(held.version()), held.settings())
+    follow(AtGate::new(rt, port, gate, None), done, links, log, steps)
 }

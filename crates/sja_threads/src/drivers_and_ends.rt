@@ -32,7 +32,11 @@ impl DriversAndEnds {
         let mut drivers = Vec::new(alloc);
         let mut ends = Vec::new(alloc);
         for worked in workeds {
-            let Worked { mut links, driver } = worked;
+            let Worked {
+                mut links,
+                driver,
+                ..
+            } = worked;
             drivers.push(driver)?;
             ends.append(&mut links)?;
         }

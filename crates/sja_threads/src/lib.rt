@@ -3,7 +3,7 @@
 //! [`run_threads`] runs a plan: each driver in a thread of its own, the bus in the caller's, and gives the log of the
 //! run, with all that is promised of it. [`work`] is the driver's part: one step after the other, each tried until it
 //! is done. Before each try it asks a [`Gate`], which lets the step go, holds it, or quits the script. It hands back
-//! the ends of the node's links and the driver with its log ([`Worked`]). A [`LockBoard`] is the board of a bus whose
+//! the ends of the node's links and the driver with its log ([`Worked`]). A [`TurnBoard`] is the board of a bus whose
 //! drivers stand in threads.
 //!
 //! A step of a plan is one deed, and in version 3 a write is up to three. Contracts say which steps were done, and by
@@ -17,15 +17,25 @@
 
 mod at_gate;
 mod bus_thread;
+mod comparing;
+mod deeds_of_node;
 mod driver_thread;
 mod drivers_and_ends;
 mod gate;
+mod halves;
 mod joined_run;
+mod kept_half;
+mod known_half;
 mod laws;
 mod left_on_links;
 mod lobby;
-mod lock_board;
+mod locked_port;
+mod never;
+mod order;
+mod ordered_ports;
 mod pass;
+mod port_deed;
+mod port_lists;
 mod round;
 mod run;
 mod run_end;
@@ -33,13 +43,23 @@ mod run_parts;
 mod thread_promise;
 mod thread_start;
 mod thread_steps;
+mod told;
+mod turn_board;
+mod turns_of_node;
 mod waits;
 mod worked;
 
+pub use deeds_of_node::DeedsOfNode;
 pub use driver_thread::work;
 pub use gate::Gate;
 pub use laws::{a_driver_in_reset_finds_reset_mode, a_step_is_one_deed_before_version_3};
-pub use lock_board::LockBoard;
+pub use locked_port::LockedPort;
+pub use order::Order;
+pub use ordered_ports::port_of_node;
 pub use pass::Pass;
+pub use port_lists::PortLists;
 pub use run::run_threads;
+pub use told::Told;
+pub use turn_board::TurnBoard;
+pub use turns_of_node::TurnsOfNode;
 pub use worked::Worked;

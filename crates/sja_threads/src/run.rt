@@ -1,24 +1,32 @@
 //! Whole runs with each driver in a thread of its own.
 
-ghost use Rattle.std.specs.Prelude.{◌≡◌, ◌≢◌, length, vec_len, Err, IfOk, IfErr};
+ghost use Rattle.std.specs.Prelude.{◌≡◌, ◌≢◌, ◌≤◌, length, map, vec_len, Err, IfOk, IfErr};
 ghost use Rattle.sja_log.specs.Headline.{AreAccounts};
 ghost use Rattle.sja_log.specs.declared.run_fault.RunFault.TheVariants.{GateCount};
 ghost use Rattle.sja_threads.specs.Stopping.{IsFaultOf};
 ghost use Rattle.sja_threads.specs.Threads.{IsThreadedRun};
 ghost use Rattle.sja_threads.specs.Inside.JoinedRun.{IsEnding};
-ghost use Rattle.sja_threads.specs.Inside.Making.{AreRunParts};
+ghost use Rattle.sja_threads.specs.Inside.Making.{AreListed, AreRunParts};
+ghost use Rattle.sja_threads.specs.Inside.Boards.{NoneTold};
+ghost use Rattle.sja_threads.specs.Inside.Started.{AreOrdered};
+ghost use Rattle.sja_threads.specs.Inside.EndsInOrder.{IsEndingInOrder};
 
-use super::bus_thread::close_all;
 use super::gate::Gate;
 use super::joined_run::{JoinedRun, join_all};
 use super::lobby::Lobby;
+use super::locked_port::LockedPort;
+use super::order::Order;
+use super::ordered_ports::OrderedPorts;
+use super::port_lists::PortLists;
 use super::run_end::end_run;
-use super::run_parts::{RunParts, ports_of};
+use super::run_parts::RunParts;
 use super::thread_start::start_all;
+use super::turn_board::TurnBoard;
+use super::turns_of_node::TurnsOfNode;
 use sja_log::{RunFault, RunLog};
 use sja_plan::Plan;
-use sja_regs::Port;
 use std::alloc::Global;
+use std::marker::Brand;
 use std::sync::{Mutex, Wait};
 use std::thread;
 use std::thread::{Scope, Threads};
@@ -39,7 +47,9 @@ use std::thread::{Scope, Threads};
 /// exactly where it is longer than 64 less the bytes stored and not yet collected back. What each node saw in each bit
 /// is what all drove together, or the other level where the plan's faults strike it. What the link of each activation
 /// carried came by events of one link, each allowed when it came, in the order in which the journal has the bus's.
-/// Where no gate quits every step was done. No clause says that a thread is served, or that the call returns.
+/// Some order of what the bus told each port and of its driver's deeds there leads from power-on to the registers that
+/// each deed found; what was told is by the node's journal. Where no gate quits every step was done. No clause says
+/// that a thread is served, or that the call returns.
 ///
 /// Errors: [`RunFault::GateCount`] exactly where there isn't one gate for each node; [`RunFault::Memory`] where memory
 /// was refused; [`RunFault::Thread`] where a thread can't be started; [`RunFault::Bus`] where the bus doesn't go on for
@@ -60,41 +70,76 @@ pub fn run_threads<G: Gate, R: Threads + Wait + Sync>(
     if gates.len() != plan.nodes() {
         return Err(RunFault::GateCount);
     }
-    let parts = RunParts::new(alloc, plan, gates)?;
-    let ports = ports_of(alloc, plan)?;
-    let lobby = Mutex::new(Lobby::new(plan.nodes()));
-    let joined = run_drivers(rt, plan, parts, ports.as_slice(), &lobby)?;
-    end_run::<G, R>(rt, alloc, plan, joined, ports.as_slice())
+    let (parts, lists) = RunParts::new(alloc, plan, gates)?;
+    run_ordered::<Brand, G, R>(rt, alloc, plan, parts, lists)
 }
 
-/// Each driver in a thread of its own and the bus in this one, until all drivers have ended and are joined. Where the
-/// run stops before that, the ports are closed, so that the drivers end.
+/// The run that begins with these.
+///
+/// Errors: as [`run_threads`].
+fn run_ordered<N: Order + Send + Sync, G: Gate, R: Threads + Wait + Sync>(
+    rt: &R,
+    alloc: Global,
+    plan: &Plan,
+    parts: RunParts<G>,
+    lists: Vec<PortLists>,
+) -> Result<RunLog, RunFault>
+    requires parts { AreRunParts plan.now parts }
+    requires many { length lists.items ≡ length plan.now.nodes }
+    requires listed { AreListed (length plan.now.nodes) parts.starts.items lists.items }
+    requires version { N.version ≡ plan.now.version }
+    requires turns { map (λ l. l.turns.name) lists.items ≡ N.turns }
+    requires deeds { map (λ l. l.deeds.name) lists.items ≡ N.deeds }
+    ensures run { IfOk result (λ log. IsThreadedRun plan.now log G.QUITS) }
+    ensures fault { IfErr result (IsFaultOf plan.now) }
+{
+    let lobby = Mutex::new(Lobby::new(plan.nodes()));
+    let OrderedPorts { ports, told } = OrderedPorts::<N>::new(alloc, plan, lists)?;
+    let (joined, told) = run_drivers::<N, G, R>(rt, plan, parts, told, ports.as_slice(), &lobby)?;
+    let board = TurnBoard {
+        rt,
+        ports: ports.as_slice(),
+        told,
+    };
+    end_run::<N, G, R>(alloc, plan, joined, board)
+}
+
+/// Each driver in a thread of its own and the bus in this one, until all drivers have ended and are joined; and the
+/// turns that were told by then. Where the run stops before that, the ports are closed, so that the drivers end.
 ///
 /// Error: [`RunFault::Thread`] where a thread can't be started, and [`RunFault::Bus`] where the bus doesn't go on.
-fn run_drivers<G: Gate, R: Threads + Wait + Sync>(
+fn run_drivers<N: Order + Send + Sync, G: Gate, R: Threads + Wait + Sync>(
     rt: &R,
     plan: &Plan,
     parts: RunParts<G>,
-    ports: &[Mutex<Port>],
+    told: Vec<TurnsOfNode<N>>,
+    ports: &[Mutex<LockedPort<N>>],
     lobby: &Mutex<Lobby>,
-) -> Result<JoinedRun, RunFault>
+) -> Result<(JoinedRun, Vec<TurnsOfNode<N>>), RunFault>
     requires parts { AreRunParts plan.now parts }
+    requires order { AreOrdered N.version N.deeds plan.now.version parts.starts.items }
+    requires told { (length told.items ≡ length plan.now.nodes) × NoneTold told.items }
     requires ports { length ports.now ≡ length plan.now.nodes }
-    ensures ending { IfOk result (IsEnding G.QUITS plan.now) }
+    requires few { length plan.now.nodes ≤ 8 }
+    ensures ending { IfOk result (λ r. IsEnding G.QUITS plan.now r.0) }
+    ensures order { IfOk result (λ r. IsEndingInOrder N.deeds plan.now r.0 r.1.items) }
     ensures fault { IfErr result (IsFaultOf plan.now) }
 {
     thread::scope(
         thread::scope_env(),
         rt,
-        move |scope| -> Result<JoinedRun, RunFault>
+        move |scope| -> Result<(JoinedRun, Vec<TurnsOfNode<N>>), RunFault>
             requires parts { AreRunParts plan.now parts }
+            requires order { AreOrdered N.version N.deeds plan.now.version parts.starts.items }
+            requires told { (length told.items ≡ length plan.now.nodes) × NoneTold told.items }
             requires ports { length ports.now ≡ length plan.now.nodes }
-            ensures ending { IfOk result (IsEnding G.QUITS plan.entry.now) }
+            requires few { length plan.now.nodes ≤ 8 }
+            ensures ending { IfOk result (λ r. IsEnding G.QUITS plan.entry.now r.0) }
+            ensures order { IfOk result (λ r. IsEndingInOrder N.deeds plan.entry.now r.0 r.1.items) }
             ensures fault { IfErr result (IsFaultOf plan.entry.now) }
         {
-            let joined = run_in(scope, rt, plan, parts, ports, lobby);
+            let joined = run_in(scope, rt, plan, parts, told, ports, lobby);
             if joined.is_err() {
-                close_all(rt, ports);
                 lobby.lock(rt).stop();
             }
             joined
@@ -106,17 +151,22 @@ fn run_drivers<G: Gate, R: Threads + Wait + Sync>(
 ///
 /// Error: [`RunFault::Thread`] where a thread can't be started, and [`RunFault::Bus`] where the bus doesn't go on. Then
 /// those that were started run on.
-fn run_in<'s, E, G: Gate + 's, R: Threads + Wait + Sync>(
+fn run_in<'s, E, N: Order + Send + Sync + 's, G: Gate + 's, R: Threads + Wait + Sync>(
     scope: &Scope<'s, E>,
     rt: &'s R,
     plan: &'s Plan,
     parts: RunParts<G>,
-    ports: &'s [Mutex<Port>],
+    told: Vec<TurnsOfNode<N>>,
+    ports: &'s [Mutex<LockedPort<N>>],
     lobby: &'s Mutex<Lobby>,
-) -> Result<JoinedRun, RunFault>
+) -> Result<(JoinedRun, Vec<TurnsOfNode<N>>), RunFault>
     requires parts { AreRunParts plan.now parts }
+    requires order { AreOrdered N.version N.deeds plan.now.version parts.starts.items }
+    requires told { (length told.items ≡ length plan.now.nodes) × NoneTold told.items }
     requires ports { length ports.now ≡ length plan.now.nodes }
-    ensures ending { IfOk result (IsEnding G.QUITS plan.now) }
+    requires few { length plan.now.nodes ≤ 8 }
+    ensures ending { IfOk result (λ r. IsEnding G.QUITS plan.now r.0) }
+    ensures order { IfOk result (λ r. IsEndingInOrder N.deeds plan.now r.0 r.1.items) }
     ensures fault { IfErr result (IsFaultOf plan.now) }
 {
     let RunParts {
@@ -125,12 +175,23 @@ fn run_in<'s, E, G: Gate + 's, R: Threads + Wait + Sync>(
         children,
         workeds,
     } = parts;
-    let children = start_all(scope, rt, plan, starts, ports, lobby, children)?;
-    match bus.rounds_beside_drivers(rt, plan, ports, lobby) {
-        Ok(()) => Ok(JoinedRun {
-            bus,
-            workeds: join_all(rt, children, workeds),
-        }),
-        Err(stop) => Err(RunFault::Bus(stop)),
+    let mut board = TurnBoard { rt, ports, told };
+    let children = match start_all(scope, rt, plan, starts, ports, lobby, children) {
+        Ok(children) => children,
+        Err(fault) => {
+            board.close_all();
+            return Err(fault);
+        }
+    };
+    match bus.rounds_beside_drivers(plan, &mut board, lobby) {
+        Ok(()) => {
+            let workeds = join_all(rt, children, workeds);
+            let TurnBoard { told, .. } = board;
+            Ok((JoinedRun { bus, workeds }, told))
+        }
+        Err(stop) => {
+            board.close_all();
+            Err(RunFault::Bus(stop))
+        }
     }
 }

@@ -6,43 +6,53 @@ ghost use Rattle.sja_log.specs.Runs.{IsRun};
 ghost use Rattle.sja_log.specs.declared.run_fault.RunFault.TheVariants.{Memory, Unsettled};
 ghost use Rattle.sja_threads.specs.Stopping.{IsFaultOf};
 ghost use Rattle.sja_threads.specs.Threads.{IsThreadedRun};
+ghost use Rattle.sja_threads.specs.Inside.EndsInOrder.{IsEndingInOrder};
 ghost use Rattle.sja_threads.specs.Inside.Ended.{IsOver};
 ghost use Rattle.sja_threads.specs.Inside.JoinedRun.{IsEnding};
 ghost use Rattle.sja_threads.specs.Inside.Settling.{IsSettledLog};
 
 use super::bus_thread::BusThread;
+use super::comparing::compare_all;
 use super::drivers_and_ends::DriversAndEnds;
 use super::gate::Gate;
 use super::joined_run::JoinedRun;
 use super::left_on_links::settle_all;
+use super::order::Order;
+use super::turn_board::TurnBoard;
 use super::worked::Worked;
 use sja_log::{End, RunFault, RunLog, node_runs};
 use sja_plan::Plan;
-use sja_regs::Port;
 use sja_rings::RingDriver;
 use std::alloc::Global;
-use std::sync::{Mutex, Wait};
+use std::sync::Wait;
 
 /// The end of a run whose threads are all joined: the bus takes what is left and runs on until every controller is at
 /// rest or the bits are spent, and each link is settled.
 ///
 /// Error: [`RunFault::Bus`] where the bus doesn't go on, [`RunFault::Unsettled`] where a link can't be settled, and
 /// [`RunFault::Memory`] where memory was refused.
-pub(crate) fn end_run<G: Gate, R: Wait>(
-    rt: &R,
+pub(crate) fn end_run<N: Order, G: Gate, R: Wait>(
     alloc: Global,
     plan: &Plan,
     joined: JoinedRun,
-    ports: &[Mutex<Port>],
+    board: TurnBoard<N, R>,
 ) -> Result<RunLog, RunFault>
     requires ending { IsEnding G.QUITS plan.now joined }
-    requires ports { length plan.now.nodes ≤ length ports.now }
+    requires order { IsEndingInOrder N.deeds plan.now joined board.told.items }
+    requires version { N.version ≡ plan.now.version }
     ensures run { IfOk result (λ log. IsThreadedRun plan.now log G.QUITS) }
     ensures fault { IfErr result (IsFaultOf plan.now) }
 {
-    let JoinedRun { mut bus, workeds } = joined;
-    match bus.rounds_after_drivers(rt, plan, ports) {
-        Ok(end) => settled_log(alloc, plan, bus, workeds, end),
+    let JoinedRun {
+        mut bus,
+        mut workeds,
+    } = joined;
+    let mut board = board;
+    match bus.rounds_after_drivers(plan, &mut board) {
+        Ok(end) => {
+            compare_all(&mut board, &mut workeds, plan.nodes() as u8);
+            settled_log(alloc, plan, bus, workeds, end)
+        }
         Err(fault) => Err(RunFault::Bus(fault)),
     }
 }

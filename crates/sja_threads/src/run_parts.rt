@@ -2,11 +2,12 @@
 
 ghost use Rattle.std.specs.Prelude.{◌≡◌, ◌≤◌, ◌+◌, ◌*◌, ◌<◌, ℕ, [], length, slice_index_or, vec_len, OnOk, IfOk};
 ghost use Rattle.sja_rings.specs.declared.ring_bus.RingBus.{RingBus as BusEnd};
-ghost use Rattle.sja_threads.specs.Inside.Making.{AreNewEnds, AreMade};
+ghost use Rattle.sja_threads.specs.Inside.Making.{AreNewEnds, AreMade, AreListed};
 ghost use Rattle.sja_threads.specs.Stopping.{deed_counts};
 
 use super::bus_thread::BusThread;
 use super::gate::Gate;
+use super::port_lists::PortLists;
 use super::thread_promise::Child;
 use super::thread_start::ThreadStart;
 use super::worked::Worked;
@@ -16,10 +17,8 @@ use sja_driver::{WorkLog, most_deeds};
 use sja_link::{LINKS_PER_NODE, LinkId};
 use sja_log::script_of;
 use sja_plan::Plan;
-use sja_regs::Port;
 use sja_rings::{RingBus, RingDriver, ring_pair};
 use std::alloc::Global;
-use std::sync::Mutex;
 
 /// All that a run in threads begins with beside the ports (this project's own rule): the bus with its ends of all
 /// links, what each driver's thread begins with, and room for the threads and for what they hand back.
@@ -34,19 +33,27 @@ pub(crate) struct RunParts<G: Gate> {
 impl<G: Gate> RunParts<G> {
     ghost use Rattle.sja_threads.specs.Inside.Making.{AreRunParts};
 
-    /// All of it for a run of this plan, with a gate for each node.
+    /// All of it for a run of this plan, with a gate for each node; and the lists of what comes at the ports, by node.
     ///
     /// Error: [`OutOfMemory`] where memory was refused.
-    pub(crate) fn new(alloc: Global, plan: &Plan, gates: Vec<G>) -> Result<RunParts<G>, OutOfMemory>
+    pub(crate) fn new(
+        alloc: Global,
+        plan: &Plan,
+        gates: Vec<G>,
+    ) -> Result<(RunParts<G>, Vec<PortLists>), OutOfMemory>
         requires { vec_len gates ≡ length plan.now.nodes }
-        ensures { IfOk result (AreRunParts plan.now) }
+        ensures parts { IfOk result (λ made. AreRunParts plan.now made.0) }
+        ensures many { IfOk result (λ made. length made.1.items ≡ length plan.now.nodes) }
+        ensures listed { IfOk result (λ made.
+            AreListed (length plan.now.nodes) made.0.starts.items made.1.items) }
     {
         let nodes = plan.nodes();
         let script = script_of(alloc, plan)?;
         let steps = deeds_for(alloc, plan)?;
         let bus = Bus::new(alloc, plan.bits(), steps, script)?;
         let mut links = Vec::new(alloc);
-        let starts = starts_of(alloc, plan, gates, &mut links)?;
+        let mut lists = Vec::new(alloc);
+        let starts = starts_of(alloc, plan, gates, &mut links, &mut lists)?;
         let children = Vec::with_capacity(alloc, nodes)?;
         let workeds = Vec::with_capacity(alloc, nodes)?;
         let bus = BusThread {
@@ -55,12 +62,13 @@ impl<G: Gate> RunParts<G> {
             run: 0,
             spent: false,
         };
-        Ok(RunParts {
+        let parts = RunParts {
             bus,
             starts,
             children,
             workeds,
-        })
+        };
+        Ok((parts, lists))
     }
 }
 
@@ -83,7 +91,7 @@ fn deeds_for(alloc: Global, plan: &Plan) -> Result<Vec<u32>, OutOfMemory>
 }
 
 /// What the thread of each driver begins with, and the gate that it asks. The bus's ends of all links are added to
-/// `buses`, 64 a node, by node and activation.
+/// `buses`, 64 a node, by node and activation, and the lists of what comes at the ports to `lists`, by node.
 ///
 /// Error: [`OutOfMemory`] where memory was refused.
 fn starts_of<G: Gate>(
@@ -91,13 +99,18 @@ fn starts_of<G: Gate>(
     plan: &Plan,
     gates: Vec<G>,
     buses: &mut Vec<RingBus>,
+    lists: &mut Vec<PortLists>,
 ) -> Result<Vec<ThreadStart<G>>, OutOfMemory>
     requires gates { vec_len gates ≡ length plan.now.nodes }
     requires none { buses.old.items ≡ [] }
+    requires new { lists.old.items ≡ [] }
     ensures count { IfOk result (λ starts. length starts.items ≡ length plan.now.nodes) }
     ensures links { OnOk result (length buses.new.items ≡ 64 * length plan.now.nodes) }
     ensures made { IfOk result (λ starts.
         AreMade plan.now (length plan.now.nodes) starts.items buses.new.items) }
+    ensures many { OnOk result (length lists.new.items ≡ length plan.now.nodes) }
+    ensures listed { IfOk result (λ starts.
+        AreListed (length plan.now.nodes) starts.items lists.new.items) }
 {
     let mut starts = Vec::with_capacity(alloc, plan.nodes())?;
     let mut node = 0u8;
@@ -105,11 +118,14 @@ fn starts_of<G: Gate>(
         let steps = plan.steps(usize::from(node)).len() as u32;
         let log = WorkLog::new(alloc, steps, steps)?;
         let links = links_of(alloc, node, buses)?;
+        let (list, done) = PortLists::new(node);
+        lists.push(list)?;
         starts.push_reserved(ThreadStart {
             node,
             links,
             log,
             gate,
+            done,
         });
         node += 1;
     }
@@ -142,18 +158,4 @@ fn links_of(
         drivers.push(driver)?;
     }
     Ok(drivers)
-}
-
-/// The ports of the plan's nodes, each behind its lock, in the plan's version of the rules.
-///
-/// Error: [`OutOfMemory`] where memory was refused.
-pub(crate) fn ports_of(alloc: Global, plan: &Plan) -> Result<Vec<Mutex<Port>>, OutOfMemory>
-    ensures { IfOk result (λ ports. length ports.items ≡ length plan.now.nodes) }
-{
-    let nodes = plan.nodes();
-    let mut ports = Vec::with_capacity(alloc, nodes)?;
-    for _ in 0..nodes {
-        ports.push_reserved(Mutex::new(Port::new(plan.version())));
-    }
-    Ok(ports)
 }

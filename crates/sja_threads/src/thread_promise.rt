@@ -1,6 +1,8 @@
 //! [`ThreadPromise`]: what a driver's thread promises.
 
 use super::gate::Gate;
+use super::known_half::KnownHalf;
+use super::port_deed::PortDeed;
 use super::worked::Worked;
 use sja_plan::Plan;
 use sja_rings::RingDriver;
@@ -15,13 +17,14 @@ pub(crate) struct ThreadPromise<G: Gate> {
     pub(crate) plan: Snapshot<Plan>,
     pub(crate) node: u8,
     pub(crate) links: Snapshot<Vec<RingDriver>>,
+    pub(crate) done: Snapshot<KnownHalf<PortDeed>>,
     pub(crate) gate: PhantomData<G>,
 }
 
 impl<G: Gate> Promise<Worked<RingDriver>> for ThreadPromise<G> {
     ghost use Rattle.sja_threads.specs.Inside.Started.{HandsBack};
 
-    ghost kept_by = { λ p w. HandsBack G.QUITS p.plan.value p.node p.links.value.items w };
+    ghost kept_by = { λ p w. HandsBack G.QUITS p.plan.value p.node p.links.value.items p.done.value.name w };
 }
 
 /// A driver's thread.

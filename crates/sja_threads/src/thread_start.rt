@@ -3,19 +3,24 @@
 ghost use Rattle.std.specs.Prelude.{◌≡◌, ◌≤◌, [], length, map, vec_len, vec_capacity, All, IfOk, IfErr};
 ghost use Rattle.lemmas.specs.Related.{EachRelated};
 ghost use Rattle.sja_log.specs.declared.run_fault.RunFault.TheVariants.{Thread};
-ghost use Rattle.sja_threads.specs.Inside.Started.{IsThreadStart, Serves};
+ghost use Rattle.sja_threads.specs.Inside.Started.{IsThreadStart, AreOrdered, Serves};
+ghost use Rattle.sja_threads.specs.Inside.Names.{IsOrderOf};
 ghost use Rattle.sja_threads.specs.Inside.Promised.{IsFor};
 
 use super::at_gate::AtGate;
+use super::deeds_of_node::DeedsOfNode;
 use super::driver_thread::follow;
 use super::gate::Gate;
+use super::known_half::KnownHalf;
 use super::lobby::Lobby;
+use super::locked_port::LockedPort;
+use super::order::Order;
+use super::port_deed::PortDeed;
 use super::thread_promise::{Child, ThreadPromise};
 use super::worked::Worked;
-use sja_driver::{WorkLog, by_bytes};
+use sja_driver::WorkLog;
 use sja_log::RunFault;
 use sja_plan::Plan;
-use sja_regs::{DriverSettings, Port};
 use sja_rings::RingDriver;
 use std::marker::PhantomData;
 use std::snapshot::Snapshot;
@@ -30,18 +35,20 @@ pub(crate) struct ThreadStart<G: Drop> {
     pub(crate) links: Vec<RingDriver>,
     pub(crate) log: WorkLog,
     pub(crate) gate: G,
+    pub(crate) done: KnownHalf<PortDeed>,
 }
 
 /// The part of a driver, in its own thread. It begins with what is set after power-on, in the plan's version of the
 /// rules.
-fn serve<G: Gate>(
+fn serve<N: Order, G: Gate>(
     rt: &impl Wait,
     plan: &Plan,
     start: ThreadStart<G>,
-    port: &Mutex<Port>,
+    port: &Mutex<LockedPort<N>>,
     lobby: &Mutex<Lobby>,
 ) -> Worked<RingDriver>
-    requires { IsThreadStart plan.now start }
+    requires start { IsThreadStart plan.now start }
+    requires order { IsOrderOf N.version N.deeds plan.now.version start.node start.done.name }
     ensures { Serves G.QUITS plan.now start result }
 {
     let ThreadStart {
@@ -49,14 +56,13 @@ fn serve<G: Gate>(
         links,
         log,
         gate,
+        done,
     } = start;
-    let version = plan.version();
+    let done = DeedsOfNode::<N>::new(node, plan.version(), done);
     let steps = plan.steps(usize::from(node));
     follow(
         AtGate::new(rt, port, gate, Some(lobby)),
-        node,
-        by_bytes(version),
-        DriverSettings::at_power_on(version),
+        done,
         links,
         log,
         steps,
@@ -66,15 +72,16 @@ fn serve<G: Gate>(
 /// Starts the thread of a driver.
 ///
 /// Error: [`RunFault::Thread`] where no thread can be made.
-fn start_one<'s, E, G: Gate + 's, R: Threads + Wait + Sync>(
+fn start_one<'s, E, N: Order + Send + Sync + 's, G: Gate + 's, R: Threads + Wait + Sync>(
     scope: &Scope<'s, E>,
     rt: &'s R,
     plan: &'s Plan,
     start: ThreadStart<G>,
-    port: &'s Mutex<Port>,
+    port: &'s Mutex<LockedPort<N>>,
     lobby: &'s Mutex<Lobby>,
 ) -> Result<Child<G>, RunFault>
-    requires { IsThreadStart plan.now start }
+    requires start { IsThreadStart plan.now start }
+    requires order { IsOrderOf N.version N.deeds plan.now.version start.node start.done.name }
     ensures child { IfOk result (λ child. IsFor plan.now start child.promise) }
     ensures fault { IfErr result (λ f. f ≡ Thread) }
 {
@@ -82,12 +89,14 @@ fn start_one<'s, E, G: Gate + 's, R: Threads + Wait + Sync>(
         plan: Snapshot::of(plan),
         node: start.node,
         links: Snapshot::of(&start.links),
+        done: Snapshot::of(&start.done),
         gate: PhantomData,
     };
     match scope.spawn_with(
         promise,
         move || -> Worked<RingDriver>
-            requires { IsThreadStart plan.now start }
+            requires start { IsThreadStart plan.now start }
+            requires order { IsOrderOf N.version N.deeds plan.now.version start.node start.done.name }
             ensures { Serves G.QUITS plan.entry.now start result }
         { serve(rt, plan, start, port, lobby) },
     ) {
@@ -99,16 +108,17 @@ fn start_one<'s, E, G: Gate + 's, R: Threads + Wait + Sync>(
 /// Starts the threads of all drivers, in order.
 ///
 /// Error: [`RunFault::Thread`] where no thread can be made; those that were started run on.
-pub(crate) fn start_all<'s, E, G: Gate + 's, R: Threads + Wait + Sync>(
+pub(crate) fn start_all<'s, E, N: Order + Send + Sync + 's, G: Gate + 's, R: Threads + Wait + Sync>(
     scope: &Scope<'s, E>,
     rt: &'s R,
     plan: &'s Plan,
     starts: Vec<ThreadStart<G>>,
-    ports: &'s [Mutex<Port>],
+    ports: &'s [Mutex<LockedPort<N>>],
     lobby: &'s Mutex<Lobby>,
     children: Vec<Child<G>>,
 ) -> Result<Vec<Child<G>>, RunFault>
     requires starts { All (IsThreadStart plan.now) starts.items }
+    requires order { AreOrdered N.version N.deeds plan.now.version starts.items }
     requires ports { length ports.now ≡ vec_len starts }
     requires room { vec_len starts ≤ vec_capacity children }
     requires none { children.items ≡ [] }

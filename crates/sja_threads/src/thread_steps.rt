@@ -6,13 +6,15 @@ ghost use Rattle.sja_threads.specs.Inside.Accesses.{IsTold};
 use super::at_gate::AtGate;
 use super::driver_thread::DriverThread;
 use super::gate::Gate;
+use super::locked_port::LockedPort;
+use super::never::wait_for_ever;
+use super::order::Order;
 use sja_driver::{KeptBytes, WriteSteps, is_reset, steps_of_write};
 use sja_link::DriverEnd;
-use sja_regs::Port;
 use sja_script::{Step, StepAnswer};
 use std::sync::{Mutex, Wait};
 
-impl<D: DriverEnd + Drop> DriverThread<D> {
+impl<N: Order, D: DriverEnd + Drop> DriverThread<N, D> {
     ghost use Rattle.sja_regs.specs.declared.registers.Registers.{Registers as PortRegisters};
     ghost use Rattle.sja_regs.specs.DriverSettings.{HasSettings};
     ghost use Rattle.sja_driver.specs.Accesses.{kept_written};
@@ -26,7 +28,7 @@ impl<D: DriverEnd + Drop> DriverThread<D> {
     /// quit.
     pub(crate) fn do_step<G: Gate, R: Wait>(
         &mut self,
-        at: &AtGate<R, G>,
+        at: &AtGate<N, R, G>,
         step: &Step,
         number: u32,
     ) -> bool
@@ -45,7 +47,7 @@ impl<D: DriverEnd + Drop> DriverThread<D> {
     }
 
     /// Does a step that is one deed.
-    fn do_one<G: Gate, R: Wait>(&mut self, at: &AtGate<R, G>, step: &Step, number: u32) -> bool
+    fn do_one<G: Gate, R: Wait>(&mut self, at: &AtGate<N, R, G>, step: &Step, number: u32) -> bool
         requires may { MayStep D.link self.old 1 }
         requires one { IsNoWrite self.old.bytes step.now }
         ensures done { result ≡ true → DoesStep D.DriverEnd self.old self.new step.now }
@@ -53,7 +55,7 @@ impl<D: DriverEnd + Drop> DriverThread<D> {
         ensures never { result ≡ false → G.QUITS ≡ true }
     {
         let mut tries = 1u32;
-        if !at.lets_go(self.node, number, &mut tries) {
+        if !at.lets_go(self.done.node, number, &mut tries) {
             return false;
         }
         let bytes = self.bytes;
@@ -71,7 +73,7 @@ impl<D: DriverEnd + Drop> DriverThread<D> {
     /// Does a write of a driver that knows addresses and bytes alone: up to three deeds.
     fn do_write<G: Gate, R: Wait>(
         &mut self,
-        at: &AtGate<R, G>,
+        at: &AtGate<N, R, G>,
         address: u8,
         value: u8,
         number: u32,
@@ -83,7 +85,7 @@ impl<D: DriverEnd + Drop> DriverThread<D> {
         ensures never { result ≡ false → G.QUITS ≡ true }
     {
         let mut tries = 1u32;
-        if !at.lets_go(self.node, number, &mut tries) {
+        if !at.lets_go(self.done.node, number, &mut tries) {
             return false;
         }
         let (steps, mut kept) = self.begin_write(at.rt, at.port, address, value);
@@ -97,7 +99,7 @@ impl<D: DriverEnd + Drop> DriverThread<D> {
     /// Does the deeds that a write is, one after the other, and says whether all are done; else the gate quit.
     fn do_parts<G: Gate, R: Wait>(
         &mut self,
-        at: &AtGate<R, G>,
+        at: &AtGate<N, R, G>,
         steps: &WriteSteps,
         number: u32,
         tries: &mut u32,
@@ -120,7 +122,7 @@ impl<D: DriverEnd + Drop> DriverThread<D> {
     /// Does one of them, if it is there.
     fn do_part<G: Gate, R: Wait>(
         &mut self,
-        at: &AtGate<R, G>,
+        at: &AtGate<N, R, G>,
         part: &Option<Step>,
         number: u32,
         tries: &mut u32,
@@ -142,32 +144,45 @@ impl<D: DriverEnd + Drop> DriverThread<D> {
 
     /// The deeds that a write is by what the port shows now, and what is kept once it has written its value.
     fn begin_write(
-        &self,
+        &mut self,
         rt: &impl Wait,
-        port: &Mutex<Port>,
+        port: &Mutex<LockedPort<N>>,
         address: u8,
         value: u8,
     ) -> (WriteSteps, KeptBytes)
-        requires { IsLawful self.now.driver }
-        ensures { BeginsWrite self.now address value (steps_in result.0) result.1 }
+        requires { MayWork D.link self.old 1 }
+        ensures same { self.new ≡ self.old }
+        ensures begins { BeginsWrite self.old address value (steps_in result.0) result.1 }
     {
         let mut held = port.lock(rt);
-        held.restore(&self.set);
+        if !held.is_of(self.done.node) {
+            wait_for_ever(rt);
+        }
+        let found = held.found(&mut self.done);
         let mut kept = self.driver.kept();
-        kept.write(is_reset(&held), address, value);
-        (steps_of_write(&self.driver, &held, address, value), kept)
+        kept.write(is_reset(found), address, value);
+        (steps_of_write(&self.driver, found, address, value), kept)
     }
 
     /// What is kept for the driver once a step has written its value, if it writes one that is kept.
-    fn kept_by_step(&self, rt: &impl Wait, port: &Mutex<Port>, step: &Step) -> KeptBytes
-        ensures { (p : PortRegisters) × HasSettings p self.now.set
-            × (result ≡ kept_written p (kept_of self.now.driver) step.now) }
+    fn kept_by_step(
+        &mut self,
+        rt: &impl Wait,
+        port: &Mutex<LockedPort<N>>,
+        step: &Step,
+    ) -> KeptBytes
+        requires { MayWork D.link self.old 1 }
+        ensures same { self.new ≡ self.old }
+        ensures kept { (p : PortRegisters) × HasSettings p self.old.set
+            × (result ≡ kept_written p (kept_of self.old.driver) step.now) }
     {
         let mut kept = self.driver.kept();
         if let Step::Write(address, value) = step {
             let mut held = port.lock(rt);
-            held.restore(&self.set);
-            kept.write(is_reset(&held), *address, *value);
+            if !held.is_of(self.done.node) {
+                wait_for_ever(rt);
+            }
+            kept.write(is_reset(held.found(&mut self.done)), *address, *value);
         }
         kept
     }

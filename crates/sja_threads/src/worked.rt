@@ -1,5 +1,7 @@
 //! [`Worked`]: what a driver hands back when its script has ended.
 
+use super::known_half::KnownHalf;
+use super::port_deed::PortDeed;
 use sja_driver::LoggedDriver;
 
 /// What a driver hands back when its script has ended (this project's own rule): its ends of the node's links,
@@ -10,4 +12,6 @@ pub struct Worked<D: Drop> {
     pub links: Vec<D>,
     /// The driver, in either state, with its log.
     pub driver: LoggedDriver,
+    /// The list of what it did at its port.
+    pub(crate) done: KnownHalf<PortDeed>,
 }

@@ -21,6 +21,7 @@ use Rattle.sja_driver.specs.declared.write_steps.WriteSteps.{WriteSteps}
 use Rattle.sja_driver.specs.Kept.{moved_by_answer}
 use Rattle.sja_driver.specs.WriteLists.{steps_in}
 use Rattle.sja_driver.specs.Writes.{write_steps}
+use Rattle.sja_threads.specs.declared.order.Order.{Ghosts as Orders}
 use Rattle.sja_threads.specs.declared.driver_thread.DriverThread.{DriverThread}
 use Rattle.sja_threads.specs.Accessing.{IsAccessAt, IsBrokenOff, LeadOn}
 use Rattle.sja_threads.specs.Accessing.IsBrokenOff.{not_begun, begun}
@@ -33,7 +34,8 @@ use Rattle.sja_threads.proofs.Driver.Settings.{done_from}
 use Rattle.sja_threads.proofs.Driver.Steps.{may_less, does_none, does_entered}
 
 -- of a write that began so only the last of its deeds takes room in the log
-pub begun_last : {E : Type 0} (t : DriverThread E) (address value : ℕ) (steps : List Step) (kept : KeptBytes) →
+pub begun_last : {N E : Type 0} {o : Orders N} (t : DriverThread N E o) (address value : ℕ) (steps : List Step) (kept
+    : KeptBytes) →
     BeginsWrite t address value steps kept → LastTakes steps
 begun_last t address value steps kept b =
     subst LastTakes (sym b.steps_are) (write_last b.at (is_out (driver_of t.driver)) address value)
@@ -63,8 +65,8 @@ one_of s answer (d ∷ []) is = record {
 one_of s answer (d ∷ x ∷ deeds) is =
     absurd (let two = ap (λ (l : List Step). length l) is.0 in omega (arith, two))
 
-module _ {E : Type 0} (e : Ends E) (was mid : DriverThread E) (d : LoggedDriver) where
-  abbrev now : DriverThread E
+module _ {N E : Type 0} {o : Orders N} (e : Ends E) (was mid : DriverThread N E o) (d : LoggedDriver) where
+  abbrev now : DriverThread N E o
   now = record mid { driver = d }
 
   -- the step is entered as done
@@ -147,7 +149,7 @@ module _ {E : Type 0} (e : Ends E) (was mid : DriverThread E) (d : LoggedDriver)
 
 -- ---- a gate breaks it off
 
-module _ {E : Type 0} (e : Ends E) (was : DriverThread E) (may : MayStep e.link was 1) where
+module _ {N E : Type 0} {o : Orders N} (e : Ends E) (was : DriverThread N E o) (may : MayStep e.link was 1) where
   -- before anything of it was done
   pub broken_before : ((x : E) → e.same x x) → (s : Step) → BreaksOff e was was s
   unfolding does_none
@@ -160,7 +162,7 @@ module _ {E : Type 0} (e : Ends E) (was : DriverThread E) (may : MayStep e.link 
   }
 
   -- before its one deed was done
-  pub step_broken : (last : DriverThread E) (s : Step) (given : Option StepAnswer) → given ≡ None →
+  pub step_broken : (last : DriverThread N E o) (s : Step) (given : Option StepAnswer) → given ≡ None →
       DoesDeed e was last s given → BreaksOff e was last s
   step_broken last s given none q =
       let are : q.deeds ≡ [] = subst (λ (g : Option StepAnswer). IsDeedIf s g q.deeds) none q.are in record {
@@ -175,7 +177,7 @@ module _ {E : Type 0} (e : Ends E) (was : DriverThread E) (may : MayStep e.link 
       }
 
   -- with some of a write left
-  pub write_broken : (last : DriverThread E) (address value : ℕ) (steps : WriteSteps) (m : Bool)
+  pub write_broken : (last : DriverThread N E o) (address value : ℕ) (steps : WriteSteps) (m : Bool)
       (kept kept_now : KeptBytes) → m ≡ false → BeginsWrite was address value (steps_in steps) kept →
       DoesParts e was last (steps_in steps) m kept kept_now → by_bytes was.set.version ≡ true →
       BreaksOff e was last (Write address value)

@@ -12,6 +12,7 @@ use Rattle.sja_driver.specs.Deeds.{Deed}
 use Rattle.sja_driver.specs.declared.kept_bytes.KeptBytes.{KeptBytes}
 use Rattle.sja_driver.specs.Kept.{moved_by_answer}
 use Rattle.sja_driver.specs.WriteLists.{listed}
+use Rattle.sja_threads.specs.declared.order.Order.{Ghosts as Orders}
 use Rattle.sja_threads.specs.declared.driver_thread.DriverThread.{DriverThread}
 use Rattle.sja_threads.specs.Inside.Steps.{MayWork, DoesDeed, DoesParts, IsDeedIf, room_of, room_taken}
 use Rattle.sja_threads.proofs.Driver.Steps.{may_less, does_none, does_more}
@@ -34,11 +35,11 @@ kept_one kept (d ∷ []) answer are = ap (λ (a : StepAnswer). moved_by_answer k
 kept_one kept (d ∷ x ∷ deeds) answer are =
     absurd (let two = ap (λ (l : List StepAnswer). length l) are in omega (arith, two))
 
-module _ {E : Type 0} (e : Ends E) where
+module _ {N E : Type 0} {o : Orders N} (e : Ends E) where
   -- ---- one of the deeds
 
   -- where there is none
-  pub part_none : ((x : E) → e.same x x) → (t : DriverThread E) (o : Option Step) (kept : KeptBytes) → o ≡ None →
+  pub part_none : ((x : E) → e.same x x) → (t : DriverThread N E o) (o : Option Step) (kept : KeptBytes) → o ≡ None →
       DoesParts e t t (listed o) true kept kept
   unfolding does_none
   part_none r t o kept is = rw is (record {
@@ -53,7 +54,8 @@ module _ {E : Type 0} (e : Ends E) where
   })
 
   -- it was done
-  pub part_done : (a b : DriverThread E) (o : Option Step) (s : Step) (given : Option StepAnswer) (answer : StepAnswer)
+  pub part_done : (a b : DriverThread N E o) (o : Option Step) (s : Step) (given : Option StepAnswer) (answer :
+      StepAnswer)
       (kept kept_now : KeptBytes) → o ≡ Some s → given ≡ Some answer → DoesDeed e a b s given →
       kept_now ≡ moved_by_answer kept answer → DoesParts e a b (listed o) true kept kept_now
   part_done a b o s given answer kept kept_now is some d moved =
@@ -71,7 +73,8 @@ module _ {E : Type 0} (e : Ends E) where
       }
 
   -- or it wasn't
-  pub part_not : (a b : DriverThread E) (o : Option Step) (s : Step) (given : Option StepAnswer) (kept : KeptBytes) →
+  pub part_not : (a b : DriverThread N E o) (o : Option Step) (s : Step) (given : Option StepAnswer) (kept :
+      KeptBytes) →
       o ≡ Some s → given ≡ None → DoesDeed e a b s given → DoesParts e a b (listed o) false kept kept
   part_not a b o s given kept is none d =
       let are : d.deeds ≡ [] = subst (λ (g : Option StepAnswer). IsDeedIf s g d.deeds) none d.are in record {
@@ -89,7 +92,7 @@ module _ {E : Type 0} (e : Ends E) where
   -- ---- one after the other
 
   -- with more of them to come
-  pub parts_wide : (a b : DriverThread E) (xs ys : List Step) (m : Bool) (kept kept_now : KeptBytes) → m ≡ false →
+  pub parts_wide : (a b : DriverThread N E o) (xs ys : List Step) (m : Bool) (kept kept_now : KeptBytes) → m ≡ false →
       DoesParts e a b xs m kept kept_now → DoesParts e a b (xs ++ ys) false kept kept_now
   parts_wide a b xs ys m kept kept_now unmet p = record {
     deeds = p.deeds;
@@ -104,7 +107,7 @@ module _ {E : Type 0} (e : Ends E) where
   }
 
   -- all of these were done, and then some of the others
-  pub parts_more : (trans : (x y z : E) → e.same x y → e.same y z → e.same x z) → (a b c : DriverThread E)
+  pub parts_more : (trans : (x y z : E) → e.same x y → e.same y z → e.same x z) → (a b c : DriverThread N E o)
       (xs ys : List Step) (m n : Bool) (kept mid kept_now : KeptBytes) → m ≡ true → DoesParts e a b xs m kept mid →
       DoesParts e b c ys n mid kept_now → DoesParts e a c (xs ++ ys) n kept kept_now
   unfolding does_more
@@ -129,14 +132,14 @@ module _ {E : Type 0} (e : Ends E) where
           ∙ append-nil (map step_of p.deeds)
 
   -- they take no more room than all of them
-  pub parts_taken : (a b : DriverThread E) (xs : List Step) (m : Bool) (kept kept_now : KeptBytes) →
+  pub parts_taken : (a b : DriverThread N E o) (xs : List Step) (m : Bool) (kept kept_now : KeptBytes) →
       (p : DoesParts e a b xs m kept kept_now) → room_taken p.deeds ≤ total room_of xs
   parts_taken a b xs m kept kept_now p =
       let all = ap (total room_of) p.whole in
       let both = total_append room_of (map (λ (d : Deed). d.step) p.deeds) p.left in omega (arith, all, both)
 
   -- so the rest is left
-  pub parts_able : (a b : DriverThread E) (xs : List Step) (m : Bool) (kept kept_now : KeptBytes) →
+  pub parts_able : (a b : DriverThread N E o) (xs : List Step) (m : Bool) (kept kept_now : KeptBytes) →
       DoesParts e a b xs m kept kept_now → (n k : ℕ) → total room_of xs + n ≤ k → MayWork e.link a k →
       MayWork e.link b n
   parts_able a b xs m kept kept_now p n k few may =

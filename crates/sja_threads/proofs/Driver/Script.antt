@@ -8,6 +8,8 @@ use Rattle.sja_link.specs.declared.driver_end.DriverEnd.{Ghosts as Ends}
 use Rattle.sja_link.specs.declared.link_id.LinkId.{LinkId}
 use Rattle.sja_link.specs.declared.entry.Entry.{Entry}
 use Rattle.sja_link.specs.Lists.{Lists}
+use Rattle.sja_regs.specs.DriverSettings.{settings_in}
+use Rattle.sja_regs.specs.Registers.{at_power_on as regs_at_power_on}
 use Rattle.sja_script.specs.declared.done.Done.{Done}
 use Rattle.sja_script.specs.declared.step.Step.{Step}
 use Rattle.sja_driver.specs.declared.any_driver.AnyDriver.{AnyDriver}
@@ -22,6 +24,7 @@ use Rattle.sja_driver.specs.LoggedDrivers.{node_of, driver_of, log_of, kept_of, 
 use Rattle.sja_driver.specs.Logs.{HasRoom, IsEmpty, Traces, done_in, done_room}
 use Rattle.sja_driver.proofs.Step.NothingDone.{nothing_known, nothing_told}
 use Rattle.sja_log.proofs.Trace.AccessDeeds.{deeds_push}
+use Rattle.sja_threads.specs.declared.order.Order.{Ghosts as Orders}
 use Rattle.sja_threads.specs.declared.driver_thread.DriverThread.{DriverThread}
 use Rattle.sja_threads.specs.Accessing.{IsAccessAt, IsBrokenOff, LeadToAccesses, deeds_done}
 use Rattle.sja_threads.specs.Accessing.IsBrokenOff.{not_begun}
@@ -30,22 +33,28 @@ use Rattle.sja_threads.specs.Setting.LeadToSettings.{nothing_done}
 use Rattle.sja_threads.specs.Working.{AreUntouched, HasWorked}
 use Rattle.sja_threads.specs.Inside.Accesses.{DoesStep, BreaksOff, HasDone, HasEnded}
 use Rattle.sja_threads.specs.Inside.Steps.{MayStep, MayBegin, Does, room_taken}
+use Rattle.sja_threads.specs.Ordering.{active_by, done_at_port, done_in_order}
+use Rattle.sja_threads.specs.Inside.Ordered.{set_after}
 use Rattle.sja_threads.proofs.Driver.Settings.{lead_all}
 use Rattle.sja_threads.proofs.Driver.Steps.{may_less, does_none, does_more}
 
 -- ---- before the first step
 
 -- a driver as it is made, at its ends
-pub begins : {E : Type 0} (link : E → LinkId) (t : DriverThread E) (node steps : ℕ) (log : WorkLog) →
-    t.bytes ≡ by_bytes t.set.version → node_of t.driver ≡ node → log_of t.driver ≡ log →
+pub begins : {N E : Type 0} {o : Orders N} (link : E → LinkId) (t : DriverThread N E o) (node steps : ℕ) (log :
+    WorkLog) →
+    t.bytes ≡ by_bytes t.set.version → t.done.known.list ≡ [] →
+    t.set ≡ settings_in (regs_at_power_on t.done.version) → node_of t.driver ≡ node → log_of t.driver ≡ log →
     kept_of t.driver ≡ at_power_on → is_out (driver_of t.driver) ≡ false → IsLawful t.driver →
     ((version : ℕ) → Traces version (driver_of t.driver) (log_of t.driver) []) → IsEmpty log →
     HasRoom steps log → steps ≤ done_room log → 64 ≤ length t.links.items →
     NumberedFrom link t.links.items 0 node → MayBegin link t steps
-begins link t node steps log bytes own logs kept reset lawful none empty deeds room enough ids = record {
+begins link t node steps log bytes unseen first own logs kept reset lawful none empty deeds room enough ids = record {
   may = record {
     may = record {
       bytes = bytes;
+      set = ap (λ l. set_after t.done.version l) unseen ∙ sym first;
+      active = ap (λ l. active_by false (done_in_order l)) unseen ∙ sym reset;
       lawful = lawful;
       room = subst (λ (l : WorkLog). HasRoom steps l) (sym logs) deeds;
       enough = enough;
@@ -57,6 +66,7 @@ begins link t node steps log bytes own logs kept reset lawful none empty deeds r
   reset = reset;
   empty = subst (λ (l : WorkLog). IsEmpty l) (sym logs) empty;
   kept = kept;
+  none = unseen;
   traces = none;
 }
 
@@ -74,16 +84,17 @@ holds_new stands driver log j links base empty reset untouched = record {
 
 -- ---- steps
 
-module _ {E : Type 0} (e : Ends E) where
+module _ {N E : Type 0} {o : Orders N} (e : Ends E) where
   -- where fewer are asked for
-  pub step_less : (t : DriverThread E) (k n : ℕ) → k ≤ n → MayStep e.link t n → MayStep e.link t k
+  pub step_less : (t : DriverThread N E o) (k n : ℕ) → k ≤ n → MayStep e.link t n → MayStep e.link t k
   step_less t k n less m = record {
     may = may_less e t k n less m.may;
     room = let room = m.room in omega (arith, room, less);
   }
 
   -- once one is done the others may be
-  pub step_able : (was now : DriverThread E) (s : Step) (n : ℕ) → DoesStep e was now s → MayStep e.link was (n + 1) →
+  pub step_able : (was now : DriverThread N E o) (s : Step) (n : ℕ) → DoesStep e was now s → MayStep e.link was (n +
+      1) →
       MayStep e.link now n
   step_able was now s n d m = record {
     may = d.does.able n (may_less e was (room_taken d.access.deeds + n) (n + 1)
@@ -94,7 +105,7 @@ module _ {E : Type 0} (e : Ends E) where
   }
 
   module _ (trans : (x y z : E) → e.same x y → e.same y z → e.same x z) (r : (x : E) → e.same x x)
-      (first : DriverThread E)
+      (first : DriverThread N E o)
       (begun : (version : ℕ) → Traces version (driver_of first.driver) (log_of first.driver) [])
     where
       pub done_none : kept_of first.driver ≡ at_power_on → IsEmpty (log_of first.driver) → HasDone e first first []
@@ -108,7 +119,7 @@ module _ {E : Type 0} (e : Ends E) where
         done_are = sym empty.done;
       }
 
-      module _ (was : DriverThread E) (steps : List Step) (p : HasDone e first was steps) where
+      module _ (was : DriverThread N E o) (steps : List Step) (p : HasDone e first was steps) where
         traces : Traces first.set.version (driver_of was.driver) (log_of was.driver) (deeds_in p.accesses)
         traces = p.does.goes.traces [] (begun first.set.version)
 
@@ -117,7 +128,8 @@ module _ {E : Type 0} (e : Ends E) where
             (sym p.does.version) traces
 
         -- one more
-        pub done_more : (now : DriverThread E) (s : Step) → DoesStep e was now s → HasDone e first now (steps ++ s ∷ [])
+        pub done_more : (now : DriverThread N E o) (s : Step) → DoesStep e was now s → HasDone e first now (steps ++
+            s ∷ [])
         unfolding does_more
         done_more now s d = record {
           accesses = p.accesses ++ d.access ∷ [];
@@ -143,7 +155,7 @@ module _ {E : Type 0} (e : Ends E) where
           front = p.steps_are ∙ is ∙ ap (λ (n : ℕ). take n all) (sym count)
 
           -- a gate quit in the next one
-          pub ended_by : (quits : Bool) (now : DriverThread E) (s : Step) → k < length all →
+          pub ended_by : (quits : Bool) (now : DriverThread N E o) (s : Step) → k < length all →
               s ≡ slice_index_or all k s →
               BreaksOff e was now s → quits ≡ true → HasEnded e quits first now all
           unfolding does_more
@@ -194,16 +206,17 @@ module _ {E : Type 0} (e : Ends E) where
   -- ---- the whole of it
 
   -- what a driver hands back that began so and ended so
-  pub worked_by : (quits : Bool) (first last : DriverThread E) (steps : List Step) →
+  pub worked_by : (quits : Bool) (first last : DriverThread N E o) (steps : List Step) →
       MayBegin e.link first (length steps) → (h : HasEnded e quits first last steps) →
       HasWorked e.stands first.set (node_of first.driver) steps first.links.items
-      (record { links = last.links; driver = last.driver })
+      (record { links = last.links; driver = last.driver; done = last.done.known }) last.done.known.list
   worked_by quits first last steps may h = record {
     work = h.work;
     own = h.does.node;
     lawful = h.lawful;
     follows = h.follows;
     done = h.done;
+    noted = h.does.at_port ∙ ap (λ l. done_in_order l ++ done_at_port (deeds_done h.work)) may.none;
     leads = (
       last.set,
       lead_all first.set [] first.set (deeds_done h.work) last.set nothing_done
@@ -215,7 +228,8 @@ module _ {E : Type 0} (e : Ends E) where
   }
 
   -- all steps, where no gate quits
-  pub all_done : (quits : Bool) (first last : DriverThread E) (steps : List Step) → HasEnded e quits first last steps →
+  pub all_done : (quits : Bool) (first last : DriverThread N E o) (steps : List Step) → HasEnded e quits first last
+      steps →
       quits ≡ false → length (done_in (log_of last.driver)) ≡ length steps
   all_done quits first last steps h never =
       sym (ap (λ (l : List Done). length l) h.done) ∙ length-map h.work.accesses done_of ∙ h.all never

@@ -14,6 +14,7 @@ use Rattle.sja_script.specs.declared.step.Step.{Step}
 use Rattle.sja_script.specs.declared.step_answer.StepAnswer.{StepAnswer}
 use Rattle.sja_script.specs.declared.step_answer.StepAnswer.TheVariants.{Done as DoneAnswer, Released as ReleasedAnswer}
 use Rattle.sja_driver.specs.Accesses.{by_bytes}
+use Rattle.sja_driver.specs.AnyDrivers.{is_out}
 use Rattle.sja_driver.specs.Deeds.{Deed, is_active}
 use Rattle.sja_driver.specs.Holding.{HoldsBy, Goes}
 use Rattle.sja_driver.specs.LoggedDrivers.{driver_of, log_of, ended_of, StaysLawful, Steps}
@@ -24,10 +25,14 @@ use Rattle.sja_driver.specs.declared.kept_bytes.KeptBytes.{KeptBytes}
 use Rattle.sja_driver.specs.declared.logged_driver.LoggedDriver.{LoggedDriver}
 use Rattle.sja_driver.proofs.Step.Modes.{version_step}
 use Rattle.sja_driver.proofs.LogOfSteps.Logged.{room_less}
+use Rattle.sja_threads.specs.declared.order.Order.{Ghosts as Orders}
 use Rattle.sja_threads.specs.declared.driver_thread.DriverThread.{DriverThread}
 use Rattle.sja_threads.specs.Accessing.LeadOn.{nothing_more}
 use Rattle.sja_threads.specs.Inside.Steps.{MayWork, Does, DoesDeed, IsDeedIf, room_of, room_taken}
+use Rattle.sja_threads.specs.Ordering.{done_at_port, done_in_order}
 use Rattle.sja_threads.proofs.Driver.Settings.{leads_try, lead_more}
+use Rattle.sja_threads.proofs.Driver.AtPort.{both_at_port, NotesDeed, notes_node, notes_at_port, notes_set}
+use Rattle.sja_threads.proofs.Driver.AtPort.{notes_active}
 
 -- a try leaves the version of its port
 version_after : (p : Registers) (which : Step) (o : Tried) → (port_after p which o).version ≡ p.version
@@ -60,11 +65,13 @@ both_taken xs ys =
     step_of : Deed → Step
     step_of d = d.step
 
-module _ {E : Type 0} (e : Ends E) where
+module _ {N E : Type 0} {o : Orders N} (e : Ends E) where
   -- where fewer are asked for
-  pub may_less : (t : DriverThread E) (k n : ℕ) → k ≤ n → MayWork e.link t n → MayWork e.link t k
+  pub may_less : (t : DriverThread N E o) (k n : ℕ) → k ≤ n → MayWork e.link t n → MayWork e.link t k
   may_less t k n less m = record {
     bytes = m.bytes;
+    set = m.set;
+    active = m.active;
     lawful = m.lawful;
     room = room_less k n (log_of t.driver) less m.room;
     enough = m.enough;
@@ -72,7 +79,7 @@ module _ {E : Type 0} (e : Ends E) where
   }
 
   -- nothing was done
-  unfoldable pub does_none : ((x : E) → e.same x x) → (t : DriverThread E) → Does e t t []
+  unfoldable pub does_none : ((x : E) → e.same x x) → (t : DriverThread N E o) → Does e t t []
   does_none r t = record {
     version = refl;
     goes = record {
@@ -86,11 +93,13 @@ module _ {E : Type 0} (e : Ends E) where
     leads = λ before w. nothing_more;
     sames = each_refl e.same r t.links.items;
     node = refl;
+    same = refl;
+    at_port = sym (append-nil (done_in_order t.done.known.list));
     able = λ n m. may_less t n (0 + n) (omega arith) m;
   }
 
   -- deeds, and then more
-  unfoldable pub does_more : (trans : (a b c : E) → e.same a b → e.same b c → e.same a c) → (a b c : DriverThread E)
+  unfoldable pub does_more : (trans : (a b c : E) → e.same a b → e.same b c → e.same a c) → (a b c : DriverThread N E o)
       (xs ys : List Deed) → Does e a b xs → Does e b c ys → Does e a c (xs ++ ys)
   does_more trans a b c xs ys p q = record {
     version = q.version ∙ p.version;
@@ -109,6 +118,10 @@ module _ {E : Type 0} (e : Ends E) where
         (before ++ xs)) (sym p.version) (p.goes.traces before w)));
     sames = each_trans e.same trans a.links.items b.links.items c.links.items p.sames q.sames;
     node = q.node ∙ p.node;
+    same = q.same ∙ p.same;
+    at_port = q.at_port ∙ ap (λ l. l ++ done_at_port ys) p.at_port
+        ∙ append_assoc (done_in_order a.done.known.list) (done_at_port xs) (done_at_port ys)
+        ∙ ap (λ l. done_in_order a.done.known.list ++ l) (sym (both_at_port xs ys));
     able = λ n m.
         let count = both_taken xs ys in
         q.able n (p.able (room_taken ys + n)
@@ -122,7 +135,7 @@ module _ {E : Type 0} (e : Ends E) where
           (log_of c.driver) b.links.items c.links.items 0 ys) p.version q.goes
 
   -- and then a step is entered as done
-  unfoldable pub does_entered : (a b : DriverThread E) (d : LoggedDriver) (kept : KeptBytes) (deeds : List Deed) →
+  unfoldable pub does_entered : (a b : DriverThread N E o) (d : LoggedDriver) (kept : KeptBytes) (deeds : List Deed) →
       Does e a b deeds →
       d ≡ record b.driver { kept = kept; log = record (log_of b.driver) { done = (log_of d).done } } →
       Does e a (record b { driver = d }) deeds
@@ -140,8 +153,12 @@ module _ {E : Type 0} (e : Ends E) where
     leads = p.leads;
     sames = p.sames;
     node = p.node;
+    same = p.same;
+    at_port = p.at_port;
     able = λ n m. let may = p.able n m in record {
       bytes = may.bytes;
+      set = may.set;
+      active = may.active;
       lawful = may.lawful;
       room = record { releases = may.room.releases; left = may.room.left };
       enough = may.enough;
@@ -152,7 +169,7 @@ module _ {E : Type 0} (e : Ends E) where
   -- ---- a try
 
   -- a deed that isn't done yet
-  pub deed_none : ((x : E) → e.same x x) → (t : DriverThread E) (s : Step) → DoesDeed e t t s None
+  pub deed_none : ((x : E) → e.same x x) → (t : DriverThread N E o) (s : Step) → DoesDeed e t t s None
   unfolding does_none
   deed_none r t s = record {
     deeds = [];
@@ -162,7 +179,7 @@ module _ {E : Type 0} (e : Ends E) where
   }
 
   -- and another try
-  pub deed_then : (trans : (a b c : E) → e.same a b → e.same b c → e.same a c) → (a b c : DriverThread E) (s : Step)
+  pub deed_then : (trans : (a b c : E) → e.same a b → e.same b c → e.same a c) → (a b c : DriverThread N E o) (s : Step)
       (answer : Option StepAnswer) → DoesDeed e a b s None → DoesDeed e b c s answer → DoesDeed e a c s answer
   unfolding does_more
   deed_then trans a b c s answer p q = record {
@@ -174,43 +191,53 @@ module _ {E : Type 0} (e : Ends E) where
   }
 
   -- as much may be done then as before
-  pub deed_able : (a b : DriverThread E) (s : Step) (n : ℕ) → DoesDeed e a b s None → MayWork e.link a n →
+  pub deed_able : (a b : DriverThread N E o) (s : Step) (n : ℕ) → DoesDeed e a b s None → MayWork e.link a n →
       MayWork e.link b n
   deed_able a b s n p may =
       p.does.able n (may_less a (room_taken p.deeds + n) n
       (let none : room_taken p.deeds ≡ 0 = ap (λ (l : List Deed). room_taken l) p.are in omega (arith, none)) may)
 
   -- a try of a deed, with its ends lent for it
-  pub does_try : (a b : DriverThread E) (x y : List E) (p q : Registers) (which : Step) (answer : Option StepAnswer) →
+  pub does_try : (a b : DriverThread N E o) (x y : List E) (p q : Registers) (which : Step) (answer : Option
+      StepAnswer) →
       x ≡ a.links.items → b.links.items ≡ y → 64 ≤ length a.links.items → b.bytes ≡ a.bytes → HasSettings p a.set →
       ((s : StepAnswer) → answer ≡ Some s → b.set ≡ settings_in q) → (answer ≡ None → b.set ≡ a.set) →
+      NotesDeed a.done b.done which answer a.set b.set →
       StaysLawful e.link e.same a.driver b.driver x y 0 answer →
       Steps e.same e.stands e.dry e.full a.driver b.driver x y 0 p q which answer → (o : Option StepAnswer) →
       answer ≡ o → DoesDeed e a b which o
-  does_try a b x y p q which answer these those enough bytes has met unmet stays_lent steps_lent told is = record {
-    deeds = deeds_by p which steps.tried 0;
-    are = subst (λ (o : Option StepAnswer). IsDeedIf which o (deeds_by p which steps.tried 0))
-        (sym (sym is ∙ steps.met)) (deed_if p which steps.tried);
-    does = record {
-      version = version_is answer refl;
-      goes = subst (λ (n : ℕ). Goes e.stands n (driver_of a.driver) (driver_of b.driver) (log_of a.driver)
-          (log_of b.driver) a.links.items b.links.items 0 (deeds_by p which steps.tried 0)) has.version (steps.goes 0);
-      leads = λ before w.
-          leads_try e _ _ p q which (driver_of a.driver) (driver_of b.driver) a.set b.set has steps.tried
-          (λ s k. met s (steps.met ∙ k)) (λ k. unmet (steps.met ∙ k)) (steps.acts end end) before
-          (ap is_active (append-nil before) ∙ w.out);
-      sames = stays.same;
-      node = stays.node;
-      able = λ n may. record {
-        bytes = bytes ∙ may.bytes ∙ ap (λ (v : ℕ). by_bytes v) (sym (version_is answer refl));
-        lawful = stays.lawful;
-        room = room n may.room;
-        enough = let l = AllZip-long e.same a.links.items b.links.items stays.same in omega (arith, enough, l);
-        ids = stays.ids;
-      };
-    };
-    none = record { done = stays.done; kept = stays.kept };
-  }
+  does_try a b x y p q which answer these those enough bytes has met unmet notes stays_lent steps_lent told is =
+      record {
+        deeds = deeds_by p which steps.tried 0;
+        are = subst (λ (o : Option StepAnswer). IsDeedIf which o (deeds_by p which steps.tried 0))
+            (sym (sym is ∙ steps.met)) (deed_if p which steps.tried);
+        does = record {
+          version = version_is answer refl;
+          goes = subst (λ (n : ℕ). Goes e.stands n (driver_of a.driver) (driver_of b.driver) (log_of a.driver)
+              (log_of b.driver) a.links.items b.links.items 0 (deeds_by p which steps.tried 0)) has.version
+              (steps.goes 0);
+          leads = λ before w.
+              leads_try e _ _ p q which (driver_of a.driver) (driver_of b.driver) a.set b.set has steps.tried
+              (λ s k. met s (steps.met ∙ k)) (λ k. unmet (steps.met ∙ k)) (steps.acts end end) before
+              (ap is_active (append-nil before) ∙ w.out);
+          sames = stays.same;
+          node = stays.node;
+          same = notes_node a.done b.done which answer a.set b.set notes;
+          at_port = notes_at_port a.done b.done p which steps.tried answer a.set b.set notes steps.met;
+          able = λ n may. record {
+            bytes = bytes ∙ may.bytes ∙ ap (λ (v : ℕ). by_bytes v) (sym (version_is answer refl));
+            set = notes_set a.done b.done which answer a.set b.set notes unmet may.set;
+            active = notes_active a.done b.done which steps.tried answer a.set b.set (is_out (driver_of a.driver)) notes
+                steps.met
+                may.active ∙ sym (steps.acts end end).out;
+            lawful = stays.lawful;
+            room = room n may.room;
+            enough = let l = AllZip-long e.same a.links.items b.links.items stays.same in omega (arith, enough, l);
+            ids = stays.ids;
+          };
+        };
+        none = record { done = stays.done; kept = stays.kept };
+      }
     where
       end : E
       end = some_of a.links.items 0 (omega (arith, enough))

@@ -23,7 +23,8 @@ use Rattle.sja_threads.specs.Accessing.{Work, deeds_done, work_at}
 use Rattle.sja_threads.specs.Working.{AreUntouched}
 use Rattle.sja_threads.specs.Inside.Ended.{IsOver, IsOverAt}
 use Rattle.sja_threads.specs.Inside.Making.{IsMade, AreMade}
-use Rattle.sja_threads.specs.Inside.Started.{Serves}
+use Rattle.sja_threads.specs.Inside.Names.{IsNamed, IsOrderOf}
+use Rattle.sja_threads.specs.Inside.Started.{AreOrdered, Serves}
 use Rattle.sja_threads.specs.Inside.JoinedRun.{HasFollowed}
 use Rattle.sja_threads.specs.Inside.Rounds.{GoesOn}
 
@@ -172,4 +173,24 @@ module _ {G : Type 0} (quits : Bool) (plan : PlanValue) (starts : List (ThreadSt
       subst (λ (x : Worked RingDriver). HasFollowed quits plan node (work_at done.works node) x) (sym (p.worked_is w))
       (subst (λ (x : Work). HasFollowed quits plan node x p.worked) (sym p.work_is)
       (subst (λ (n : ℕ). HasFollowed quits plan n p.serves.worked.work p.worked) own.own
-      (record { follows = p.serves.worked.follows; done = p.serves.worked.done; all = p.serves.all })))
+      (record {
+        follows = p.serves.worked.follows;
+        done = p.serves.worked.done;
+        noted = p.serves.worked.noted;
+        all = p.serves.all;
+      })))
+
+  -- and has its node's list of deeds
+  pub all_named : (order_version : ℕ) (names : List ℕ) → AreOrdered order_version names plan.version starts →
+      (done : Done quits plan starts ws) (node : ℕ) (w : Worked RingDriver) → node < length plan.nodes →
+      IsNamed names node (slice_index_or ws node w).done.name
+  all_named order_version names ordered done node w few =
+      let p = done.places node (omega (arith, few, many)) in
+      let own : IsMade plan node p.start was.links.items =
+      subst (λ (x : ThreadStart G). IsMade plan node x was.links.items) (p.start_is p.start) (made node p.start few) in
+      let order : IsOrderOf order_version names plan.version p.start.node p.start.done.name =
+      subst (λ (x : ThreadStart G). IsOrderOf order_version names plan.version x.node x.done.name) (p.start_is p.start)
+      (ordered node p.start (omega (arith, few, many))) in
+      subst (λ (x : Worked RingDriver). IsNamed names node x.done.name) (sym (p.worked_is w))
+      (subst (λ (n : ℕ). IsNamed names node n) (sym p.serves.named)
+      (subst (λ (n : ℕ). IsNamed names n p.start.done.name) own.own order.1))

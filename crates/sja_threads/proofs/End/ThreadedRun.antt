@@ -13,15 +13,20 @@ use Rattle.sja_driver.specs.Deeds.{Deed}
 use Rattle.sja_log.specs.declared.end.End.{End}
 use Rattle.sja_log.specs.Log.{RunValue, journals_in}
 use Rattle.sja_log.specs.Runs.{IsRun}
+use Rattle.sja_wire.specs.Wire.{journal_at}
 use Rattle.sja_threads.specs.declared.bus_thread.BusThread.{BusThread}
 use Rattle.sja_threads.specs.declared.joined_run.JoinedRun.{JoinedRun}
 use Rattle.sja_threads.specs.declared.thread_start.ThreadStart.{ThreadStart}
+use Rattle.sja_threads.specs.declared.told.Told.{Told}
 use Rattle.sja_threads.specs.declared.worked.Worked.{Worked}
 use Rattle.sja_threads.specs.Accessing.{Work, deeds_done, work_at}
 use Rattle.sja_threads.specs.Needed.{AllDue, EndsDuly}
 use Rattle.sja_threads.specs.Setting.{LeadToSettings}
 use Rattle.sja_threads.specs.Stopping.{deed_counts}
 use Rattle.sja_threads.specs.Threads.{IsThreadedRun}
+use Rattle.sja_threads.specs.Ordering.{IsOrdered}
+use Rattle.sja_threads.specs.Inside.Boards.{AreTold, turns_at}
+use Rattle.sja_threads.specs.Inside.EndsInOrder.{AreInOrder}
 use Rattle.sja_threads.specs.Inside.Ended.{IsOver}
 use Rattle.sja_threads.specs.Inside.JoinedRun.{HasFollowed, IsEnding}
 use Rattle.sja_threads.specs.Inside.Making.{AreMade}
@@ -57,7 +62,9 @@ ending {G} quits plan starts was bus ws j there here many long made on room serv
 module _ (quits : Bool) (plan : PlanValue) (j : JoinedRun) (t : BusThread) (end : End) (log : RunValue)
     (ending : IsEnding quits plan j) (ends : EndsAs plan j.bus t end)
     (runs : (deeds : List (List Deed)) → IsOver plan t.bus t.links.items j.workeds.items deeds → IsRun plan log deeds)
-    (is : IsSettledLog t.bus j.workeds.items end log) where
+    (is : IsSettledLog t.bus j.workeds.items end log) (turns : List (List Told))
+    (told : AreTold plan.bits t.bus.journals turns)
+    (in_order : AreInOrder plan.version (length plan.nodes) turns j.workeds.items) where
   abbrev deeds : List (List Deed)
   deeds = map (λ (w : Work). deeds_done w) ending.works
 
@@ -85,6 +92,19 @@ module _ (quits : Bool) (plan : PlanValue) (j : JoinedRun) (t : BusThread) (end 
         subst (λ (l : List Deed). (last : SettingsValue)
         × LeadToSettings (settings_in (at_power_on plan.version)) l last) (deeds_of_work ending.works node)
         (over.nodes node (some node few) few).leads;
+    ordered = λ node few.
+        let w = some node few in let led = in_order node w few in
+        let deeds_there = deeds_done (work_at ending.works node) in
+        subst (λ (l : List (List Entry)). IsOrdered plan.version plan.bits (journal_at l node) deeds_there) (sym
+        is.journals)
+        (record {
+          told = turns_at turns node;
+          tells = told node (let e = over.journals_count in omega (arith, few, e));
+          done = (slice_index_or j.workeds.items node w).done.list;
+          same = (ending.followed node w few).noted;
+          last = led.0;
+          led = led.1;
+        });
     linked = is.linked;
     needed = record {
       due = subst (λ (n : ℕ). AllDue n (journals_in log)) (sym is.bits)

@@ -14,7 +14,8 @@ use Rattle.sja_plan.specs.Plan.{PlanValue, steps_at}
 use Rattle.sja_script.specs.declared.step.Step.{Step}
 use Rattle.sja_driver.specs.Logs.{HasRoom, IsEmpty, done_room}
 use Rattle.sja_threads.specs.declared.thread_start.ThreadStart.{ThreadStart}
-use Rattle.sja_threads.specs.Inside.Making.{IsNewBus, IsNewEnd, AreNewEnds, IsMade, AreMade}
+use Rattle.sja_threads.specs.declared.port_lists.PortLists.{PortLists}
+use Rattle.sja_threads.specs.Inside.Making.{IsNewBus, IsNewEnd, AreNewEnds, IsMade, AreMade, AreListed}
 
 -- what holds of so many elements from a place on, and of the next one, which is the last, holds of one more
 each_push : {A : Type 0} (P : ℕ → A → Type 0) (count : ℕ) (xs : List A) (base : ℕ) (x : A) → length xs ≡ base + count →
@@ -80,6 +81,7 @@ made_later plan node s buses after same m = record {
   room = m.room;
   steps = m.steps;
   enough = m.enough;
+  none = m.none;
   links = record {
     buses_new = λ a b less. subst (λ (x : RingBus). IsNewBus node (suc a) x) (sym (same a b less))
         (m.links.buses_new a b less);
@@ -98,6 +100,27 @@ made_push {G} plan count starts buses after s many long same so new =
     first_push (λ node x. IsMade plan node x after) count starts s many
     (λ node x less. made_later plan node (slice_index_or starts node x) buses after
     (λ a b few. same (64 * node + a) b (grind (arith, less, few, long))) (so node x less)) new
+
+-- the lists of one port more
+pub listed_push : {G : Type 0} (count : ℕ) (starts : List (ThreadStart G)) (lists : List PortLists)
+    (s : ThreadStart G) (l : PortLists) → length starts ≡ count → length lists ≡ count →
+    l.deeds.name ≡ s.done.name → AreListed count starts lists →
+    AreListed (count + 1) (starts ++ s ∷ []) (lists ++ l ∷ [])
+listed_push {G} count starts lists s l many long new so node x y less = elim (cases_eq node count) [
+  | inl last ↦
+      let this : node ≡ length starts = last ∙ sym many in
+      let that : node ≡ length lists = last ∙ sym long in
+      ap (λ (z : PortLists). z.deeds.name) (ap (λ (n : ℕ). slice_index_or (lists ++ l ∷ []) n y) that
+      ∙ get_or-append_seam lists l [] y) ∙ new
+      ∙ ap (λ (z : ThreadStart G). z.done.name) (sym (ap (λ (n : ℕ). slice_index_or (starts ++ s ∷ []) n x) this
+      ∙ get_or-append_seam starts s [] x))
+  | inr other ↦
+      let before : node < count = omega (arith, less, other) in
+      ap (λ (z : PortLists). z.deeds.name) (get_or_append_left lists (l ∷ []) y node (omega (arith, before, long)))
+      ∙ so node x y before
+      ∙ ap (λ (z : ThreadStart G). z.done.name)
+      (sym (get_or_append_left starts (s ∷ []) x node (omega (arith, before, many))))
+]
 
 -- ---- a pair as it was made
 
@@ -118,15 +141,16 @@ new_driver node place b d link one lists =
 
 -- what the thread of a node begins with, as it was made
 pub made_of : {G : Type 0} (plan : PlanValue) (node base : ℕ) (s : ThreadStart G) (after : List RingBus)
-    (steps : List Step) → s.node ≡ node → IsEmpty s.log → steps ≡ steps_at plan node →
+    (steps : List Step) → s.node ≡ node → IsEmpty s.log → s.done.list ≡ [] → steps ≡ steps_at plan node →
     HasRoom (length steps) s.log → length steps ≤ done_room s.log →
     length s.links.items ≡ 64 → base ≡ 64 * node → AreNewEnds 64 node after s.links.items base → IsMade plan node s
     after
-made_of plan node base s after steps own empty are room fits enough here links = record {
+made_of plan node base s after steps own empty none are room fits enough here links = record {
   own = own;
   empty = empty;
   room = subst (λ (l : List Step). HasRoom (length l) s.log) are room;
   steps = subst (λ (l : List Step). length l ≤ done_room s.log) are fits;
   enough = enough;
+  none = none;
   links = subst (λ (n : ℕ). AreNewEnds 64 node after s.links.items n) here links;
 }

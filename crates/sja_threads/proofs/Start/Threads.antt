@@ -1,7 +1,8 @@
 -- What the drivers' threads begin with, and what they hand back.
-use Rattle.std.proofs.Common.{◌≡◌, ℕ, suc, ◌+◌, ◌<◌, ◌≤◌, Bool, false, List, [], ◌∷◌, length, sym, ap, ◌∙◌, subst}
+use Rattle.std.proofs.Common.{◌≡◌, ℕ, suc, ◌+◌, ◌<◌, ◌≤◌, Bool, false, List, [], ◌∷◌, length, map, sym, ap, ◌∙◌, subst}
 use Rattle.std.proofs.Common.{arith, zero-add}
-use Rattle.std.specs.Prelude.{All, slice_index_or}
+use Rattle.std.specs.Prelude.{All, Some, slice_index_or}
+use Rattle.lemmas.proofs.Lists.{some_of}
 use Rattle.std.proofs.Math.Numerals.{suc-eq-add-one}
 use Rattle.sja_link.specs.declared.link_id.LinkId.{LinkId}
 use Rattle.lemmas.specs.Related.{EachRelated}
@@ -18,10 +19,13 @@ use Rattle.sja_driver.specs.Logs.{HasRoom, done_in, done_room}
 use Rattle.sja_threads.specs.declared.thread_start.ThreadStart.{ThreadStart}
 use Rattle.sja_threads.specs.declared.thread_promise.ThreadPromise.{ThreadPromise}
 use Rattle.sja_threads.specs.declared.worked.Worked.{Worked}
-use Rattle.sja_threads.specs.Inside.Making.{IsMade, AreMade}
+use Rattle.sja_threads.specs.declared.port_lists.PortLists.{PortLists}
+use Rattle.sja_threads.specs.Inside.Making.{IsMade, AreMade, AreListed}
+use Rattle.sja_threads.specs.Inside.Names.{IsNamed}
+use Rattle.sja_threads.proofs.Twin.Named.{get_placed}
 use Rattle.sja_threads.specs.Inside.Promised.{IsFor, IsPromised}
 use Rattle.sja_threads.specs.Working.{HasWorked}
-use Rattle.sja_threads.specs.Inside.Started.{IsThreadStart, HandsBack, Serves}
+use Rattle.sja_threads.specs.Inside.Started.{IsThreadStart, AreOrdered, HandsBack, Serves}
 
 module _ {G : Type 0} (plan : PlanValue) where
   -- what was made for a node is what its thread may begin with
@@ -33,6 +37,7 @@ module _ {G : Type 0} (plan : PlanValue) where
     room = subst (λ (n : ℕ). HasRoom (length (steps_at plan n)) s.log) (sym m.own) m.room;
     steps = subst (λ (n : ℕ). length (steps_at plan n) ≤ done_room s.log) (sym m.own) m.steps;
     enough = m.enough;
+    none = m.none;
     ids = subst (λ (n : ℕ). NumberedFrom link_of_driver s.links.items 0 n) (sym m.own) numbered;
   }
     where
@@ -58,17 +63,46 @@ module _ {G : Type 0} (plan : PlanValue) where
       subst (λ (l : List (ThreadStart G)). All (IsThreadStart plan) l) is starts in
       λ k d less. those (suc k) d (omega (arith, less))
 
+-- each thread's list of deeds is that of its port
+pub all_ordered : {G : Type 0} (plan : PlanValue) (starts : List (ThreadStart G)) (lists : List PortLists)
+    (buses : List RingBus) (names : List ℕ) (version : ℕ) → version ≡ plan.version →
+    map (λ (l : PortLists). l.deeds.name) lists ≡ names → length lists ≡ length plan.nodes →
+    length starts ≡ length plan.nodes → AreMade plan (length plan.nodes) starts buses →
+    AreListed (length plan.nodes) starts lists → AreOrdered version names plan.version starts
+all_ordered {G} plan starts lists buses names version same are many long made listed = λ k s less.
+    let few : k < length plan.nodes = omega (arith, less, long) in
+    let within : k < length lists = omega (arith, few, many) in
+    let l : PortLists = some_of lists k within in
+    let start : ThreadStart G = slice_index_or starts k s in (
+      sym same,
+      subst (λ (n : List ℕ). IsNamed n start.node start.done.name) are
+          (subst (λ (n : ℕ). IsNamed (map (λ (x : PortLists). x.deeds.name) lists) n start.done.name)
+          (sym (made k s few).own)
+          (get_placed (λ (x : PortLists). x.deeds.name) lists k l within ∙ ap Some (listed k s l few))),
+    )
+
+-- the lists of all but the first
+pub order_rest : {G : Type 0} (order_version : ℕ) (names : List ℕ) (version : ℕ) (all rest : List (ThreadStart G))
+    (s : ThreadStart G) → all ≡ s ∷ rest → AreOrdered order_version names version all →
+    AreOrdered order_version names version rest
+order_rest {G} order_version names version all rest s is starts =
+    let those : AreOrdered order_version names version (s ∷ rest) =
+    subst (λ (l : List (ThreadStart G)). AreOrdered order_version names version l) is starts in
+    λ k d less. those (suc k) d (omega (arith, less))
+
 -- what a thread hands back that began with what is set after power-on
 pub served_by : {G : Type 0} (plan : PlanValue) (s : ThreadStart G) (set : SettingsValue) (steps : List Step)
     (quits : Bool) (w : Worked RingDriver) → set ≡ settings_in (at_power_on plan.version) →
     steps ≡ steps_at plan s.node → EachRelated SameDriver s.links.items w.links.items →
-    HasWorked DriverLists set s.node steps s.links.items w →
+    w.done.name ≡ s.done.name → HasWorked DriverLists set s.node steps s.links.items w w.done.list →
     (quits ≡ false → length (done_in (log_of w.driver)) ≡ length steps) → Serves quits plan s w
-served_by plan s set steps quits w first are sames worked all = record {
+served_by plan s set steps quits w first are sames named worked all = record {
   sames = sames;
   worked =
-      subst (λ (x : SettingsValue). HasWorked DriverLists x s.node (steps_at plan s.node) s.links.items w) first
-      (subst (λ (l : List Step). HasWorked DriverLists set s.node l s.links.items w) are worked);
+      subst (λ (x : SettingsValue). HasWorked DriverLists x s.node (steps_at plan s.node) s.links.items w
+      w.done.list) first
+      (subst (λ (l : List Step). HasWorked DriverLists set s.node l s.links.items w w.done.list) are worked);
+  named = named;
   all = λ never. all never ∙ ap (λ (l : List Step). length l) are;
 }
 
@@ -77,9 +111,10 @@ module _ {G : Type 0} (quits : Bool) (plan : PlanValue) where
   kept_is : (s : ThreadStart G) (p : ThreadPromise G) (w : Worked RingDriver) → IsFor plan s p →
       IsPromised quits p w → Serves quits plan s w
   kept_is s p w f k =
-      subst (λ (l : List RingDriver). HandsBack quits plan s.node l w) f.same_links
-      (subst (λ (n : ℕ). HandsBack quits plan n p.links.value.items w) f.same_node
-      (subst (λ (v : PlanValue). HandsBack quits v p.node p.links.value.items w) f.same_plan k))
+      subst (λ (n : ℕ). HandsBack quits plan s.node s.links.items n w) f.same_name
+      (subst (λ (l : List RingDriver). HandsBack quits plan s.node l p.done.value.name w) f.same_links
+      (subst (λ (n : ℕ). HandsBack quits plan n p.links.value.items p.done.value.name w) f.same_node
+      (subst (λ (v : PlanValue). HandsBack quits v p.node p.links.value.items p.done.value.name w) f.same_plan k)))
 
   pub all_kept : (starts : List (ThreadStart G)) (ps : List (ThreadPromise G)) (ws : List (Worked RingDriver)) →
       EachRelated (IsFor plan) starts ps → EachRelated (IsPromised quits) ps ws →

@@ -20,6 +20,7 @@ use Rattle.sja_driver.specs.declared.kept_bytes.KeptBytes.{KeptBytes}
 use Rattle.sja_driver.specs.Kept.{kept_after}
 use Rattle.sja_driver.specs.Reads.{raw_value}
 use Rattle.sja_driver.specs.Writes.{write_steps}
+use Rattle.sja_threads.specs.declared.order.Order.{Ghosts as Orders}
 use Rattle.sja_threads.specs.declared.driver_thread.DriverThread.{DriverThread}
 use Rattle.sja_threads.specs.Accessing.{IsAccessAt, LeadToAccesses, IsBrokenOff, Work, Follows, deeds_done}
 use Rattle.sja_threads.specs.Inside.Steps.{Does, EntersNone, room_taken}
@@ -41,15 +42,16 @@ IsTold true kept (Read address) given answer =
 IsTold bytes kept other given answer = answer ≡ given
 
 -- a write began at registers that have what the driver had set: it is these steps then, and leaves that kept
-pub record BeginsWrite {E : Type 0} (t : DriverThread E) (address value : ℕ) (steps : List Step) (kept : KeptBytes) :
-    Type 0 where
+pub record BeginsWrite {N E : Type 0} {o : Orders N} (t : DriverThread N E o) (address value : ℕ)
+    (steps : List Step) (kept : KeptBytes) : Type 0 where
   pub at : Registers
   pub has : HasSettings at t.set
   pub steps_are : steps ≡ write_steps at (is_out (driver_of t.driver)) address value
   pub left : kept ≡ kept_after (kept_of t.driver) at.mode.rm address value
 
 -- a driver did this step, and its log has it as done
-pub record DoesStep {E : Type 0} (e : Ends E) (was now : DriverThread E) (step : Step) : Type 0 where
+pub record DoesStep {N E : Type 0} {o : Orders N} (e : Ends E) (was now : DriverThread N E o) (step : Step) :
+    Type 0 where
   pub access : Access
   pub step_is : access.step ≡ step
   pub does : Does e was now access.deeds
@@ -60,7 +62,8 @@ pub record DoesStep {E : Type 0} (e : Ends E) (was now : DriverThread E) (step :
   pub room : done_room (log_of now.driver) ≡ done_room (log_of was.driver)
 
 -- a gate quit in this step, whatever was to come: nothing of it was done, or some deeds of a write
-pub record BreaksOff {E : Type 0} (e : Ends E) (was now : DriverThread E) (step : Step) : Type 0 where
+pub record BreaksOff {N E : Type 0} {o : Orders N} (e : Ends E) (was now : DriverThread N E o) (step : Step) :
+    Type 0 where
   pub deeds : List Deed
   pub does : Does e was now deeds
   pub none : EntersNone was.driver now.driver
@@ -71,7 +74,8 @@ pub record BreaksOff {E : Type 0} (e : Ends E) (was now : DriverThread E) (step 
 -- ---- one after the other
 
 -- a driver that began so did these steps of its script, each once and in this order
-pub record HasDone {E : Type 0} (e : Ends E) (first now : DriverThread E) (steps : List Step) : Type 0 where
+pub record HasDone {N E : Type 0} {o : Orders N} (e : Ends E) (first now : DriverThread N E o) (steps : List Step) :
+    Type 0 where
   pub accesses : List Access
   pub does : Does e first now (deeds_in accesses)
   pub leads : LeadToAccesses first.set.version first.set accesses now.set (kept_of now.driver)
@@ -79,8 +83,8 @@ pub record HasDone {E : Type 0} (e : Ends E) (first now : DriverThread E) (steps
   pub done_are : map done_of accesses ≡ done_in (log_of now.driver)
 
 -- it ended so with its script: what it did of these steps
-pub record HasEnded {E : Type 0} (e : Ends E) (quits : Bool) (first now : DriverThread E) (steps : List Step) :
-    Type 0 where
+pub record HasEnded {N E : Type 0} {o : Orders N} (e : Ends E) (quits : Bool) (first now : DriverThread N E o)
+    (steps : List Step) : Type 0 where
   pub work : Work
   pub does : Does e first now (deeds_done work)
   pub lawful : IsLawful now.driver

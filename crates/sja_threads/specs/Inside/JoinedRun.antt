@@ -11,6 +11,7 @@ use Rattle.sja_threads.specs.declared.bus_thread.BusThread.{BusThread}
 use Rattle.sja_threads.specs.declared.joined_run.JoinedRun.{JoinedRun}
 use Rattle.sja_threads.specs.declared.worked.Worked.{Worked}
 use Rattle.sja_threads.specs.Accessing.{Work, Follows, deeds_done, work_at}
+use Rattle.sja_threads.specs.Ordering.{done_at_port, done_in_order}
 use Rattle.sja_threads.specs.Stopping.{deed_counts}
 use Rattle.sja_threads.specs.Inside.Ended.{IsOver}
 use Rattle.sja_threads.specs.Inside.Rounds.{IsUnderWay, GoesOn}
@@ -20,6 +21,7 @@ use Rattle.sja_threads.specs.Inside.Rounds.{IsUnderWay, GoesOn}
 pub record HasFollowed (quits : Bool) (plan : PlanValue) (node : ℕ) (work : Work) (w : Worked RingDriver) : Type 0 where
   pub follows : Follows plan.version (settings_in (at_power_on plan.version)) (steps_at plan node) work
   pub done : map done_of work.accesses ≡ done_in (log_of w.driver)
+  pub noted : done_in_order w.done.list ≡ done_at_port (deeds_done work)
   pub all : quits ≡ false → length (done_in (log_of w.driver)) ≡ length (steps_at plan node)
 
 -- its bus is under way, and has room for all deeds; each driver did what it did of its script, and however the bus goes

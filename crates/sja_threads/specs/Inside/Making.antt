@@ -9,6 +9,7 @@ use Rattle.sja_plan.specs.Plan.{PlanValue, steps_at}
 use Rattle.sja_driver.specs.Logs.{HasRoom, IsEmpty, done_room}
 use Rattle.sja_wire.specs.Buses.{new_bus}
 use Rattle.sja_threads.specs.declared.thread_start.ThreadStart.{ThreadStart}
+use Rattle.sja_threads.specs.declared.port_lists.PortLists.{PortLists}
 use Rattle.sja_threads.specs.declared.run_parts.RunParts.{RunParts}
 use Rattle.sja_threads.specs.Stopping.{deed_counts}
 
@@ -36,12 +37,18 @@ pub record IsMade {G : Type 0} (plan : PlanValue) (node : ℕ) (s : ThreadStart 
   pub room : HasRoom (length (steps_at plan node)) s.log
   pub steps : length (steps_at plan node) ≤ done_room s.log
   pub enough : length s.links.items ≡ 64
+  pub none : s.done.list ≡ []
   pub links : AreNewEnds 64 node buses s.links.items (64 * node)
 
 -- the same of the first so many nodes
 abbrev pub AreMade : {G : Type 0} → PlanValue → ℕ → List (ThreadStart G) → List RingBus → Type 0
 AreMade {G} plan count starts buses = (node : ℕ) (s : ThreadStart G) → node < count →
     IsMade plan node (slice_index_or starts node s) buses
+
+-- of the first so many nodes the port's half of a driver's list of deeds is that of the driver's half
+abbrev pub AreListed : {G : Type 0} → ℕ → List (ThreadStart G) → List PortLists → Type 0
+AreListed {G} count starts lists = (node : ℕ) (s : ThreadStart G) (l : PortLists) → node < count →
+    (slice_index_or lists node l).deeds.name ≡ (slice_index_or starts node s).done.name
 
 -- all that a run of this plan begins with beside the ports
 pub record AreRunParts {G : Type 0} (plan : PlanValue) (r : RunParts G) : Type 0 where

@@ -12,7 +12,8 @@ pub record IsFor {G : Type 0} (plan : PlanValue) (s : ThreadStart G) (p : Thread
   pub same_plan : p.plan.value ≡ plan
   pub same_node : p.node ≡ s.node
   pub same_links : p.links.value.items ≡ s.links.items
+  pub same_name : p.done.value.name ≡ s.done.name
 
 -- it was kept
 abbrev pub IsPromised : {G : Type 0} → Bool → ThreadPromise G → Worked RingDriver → Type 0
-IsPromised quits p w = HandsBack quits p.plan.value p.node p.links.value.items w
+IsPromised quits p w = HandsBack quits p.plan.value p.node p.links.value.items p.done.value.name w

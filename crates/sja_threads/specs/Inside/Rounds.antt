@@ -3,7 +3,7 @@ use Rattle.std.specs.Prelude.{◌≡◌, ◌⊎◌, ◌+◌, ◌*◌, ◌<◌, �
 use Rattle.sja_link.specs.declared.entry.Entry.{Entry}
 use Rattle.sja_link.specs.Accounts.{Account}
 use Rattle.sja_link.specs.Parts.{part}
-use Rattle.sja_link.specs.Carried.{taken_of}
+use Rattle.sja_link.specs.Carried.{bits_of, taken_of}
 use Rattle.lemmas.specs.Related.{EachRelated}
 use Rattle.sja_rings.specs.Ends.{BusLists, SameBus, link_of_bus}
 use Rattle.sja_plan.specs.Plan.{PlanValue}
@@ -16,6 +16,10 @@ use Rattle.sja_threads.specs.Needed.{IsBitDue, AllDue, EndsDuly}
 -- items were taken in the activations 1 to 64 alone
 abbrev pub TakesWithin : List Entry → Type 0
 TakesWithin j = (a : ℕ) → (a ≡ 0) ⊎ (64 < a) → taken_of (part j a) ≡ []
+
+-- each journal has so many bits
+abbrev pub EachHas : ℕ → List (List Entry) → Type 0
+EachHas bits journals = (node : ℕ) → node < length journals → length (bits_of (journal_at journals node)) ≡ bits
 
 -- a bit that was due by these journals was due by those too
 abbrev pub StayDue : List (List Entry) → List (List Entry) → Type 0

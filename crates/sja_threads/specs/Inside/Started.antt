@@ -1,5 +1,5 @@
 -- The threads of the drivers: what each begins with, and what it hands back.
-use Rattle.std.specs.Prelude.{◌≡◌, ◌<◌, ◌≤◌, ℕ, Bool, false, List, length}
+use Rattle.std.specs.Prelude.{◌≡◌, ◌<◌, ◌≤◌, ℕ, Bool, false, List, [], length, All}
 use Rattle.lemmas.specs.Related.{EachRelated}
 use Rattle.sja_rings.specs.declared.ring_driver.RingDriver.{RingDriver}
 use Rattle.sja_rings.specs.Ends.{DriverLists, SameDriver, link_of_driver}
@@ -12,6 +12,7 @@ use Rattle.sja_driver.specs.Logs.{HasRoom, IsEmpty, done_in, done_room}
 use Rattle.sja_threads.specs.declared.thread_start.ThreadStart.{ThreadStart}
 use Rattle.sja_threads.specs.declared.worked.Worked.{Worked}
 use Rattle.sja_threads.specs.Working.{HasWorked}
+use Rattle.sja_threads.specs.Inside.Names.{IsOrderOf}
 
 -- what the thread of a driver of this plan may begin with
 pub record IsThreadStart {G : Type 0} (plan : PlanValue) (s : ThreadStart G) : Type 0 where
@@ -21,14 +22,23 @@ pub record IsThreadStart {G : Type 0} (plan : PlanValue) (s : ThreadStart G) : T
   pub steps : length (steps_at plan s.node) ≤ done_room s.log
   pub enough : length s.links.items ≡ 64
   pub ids : NumberedFrom link_of_driver s.links.items 0 s.node
+  pub none : s.done.list ≡ []
 
--- what it hands back: the same ends, and a driver that followed its script with them, all of it where no gate quits
-pub record HandsBack (quits : Bool) (plan : PlanValue) (node : ℕ) (links : List RingDriver) (w : Worked RingDriver) :
-    Type 0 where
+-- each has its list of deeds in the order that the ports keep
+abbrev pub AreOrdered : {G : Type 0} → ℕ → List ℕ → ℕ → List (ThreadStart G) → Type 0
+AreOrdered {G} order_version names version starts =
+    All (λ (s : ThreadStart G). IsOrderOf order_version names version s.node s.done.name) starts
+
+-- what it hands back: the same ends and the same list of deeds, and a driver that followed its script with them, all of
+-- it where no gate quits
+pub record HandsBack (quits : Bool) (plan : PlanValue) (node : ℕ) (links : List RingDriver) (name : ℕ)
+    (w : Worked RingDriver) : Type 0 where
   pub sames : EachRelated SameDriver links w.links.items
   pub worked : HasWorked DriverLists (settings_in (at_power_on plan.version)) node (steps_at plan node) links w
+      w.done.list
+  pub named : w.done.name ≡ name
   pub all : quits ≡ false → length (done_in (log_of w.driver)) ≡ length (steps_at plan node)
 
 -- the same of what a thread began with
 abbrev pub Serves : {G : Type 0} → Bool → PlanValue → ThreadStart G → Worked RingDriver → Type 0
-Serves quits plan s w = HandsBack quits plan s.node s.links.items w
+Serves quits plan s w = HandsBack quits plan s.node s.links.items s.done.name w

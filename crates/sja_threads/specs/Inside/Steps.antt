@@ -16,8 +16,11 @@ use Rattle.sja_driver.specs.Logs.{HasRoom, IsEmpty, Traces, done_in, done_room}
 use Rattle.sja_driver.specs.declared.kept_bytes.KeptBytes.{KeptBytes}
 use Rattle.sja_driver.specs.declared.logged_driver.LoggedDriver.{LoggedDriver}
 use Rattle.sja_driver.specs.Kept.{at_power_on}
+use Rattle.sja_threads.specs.declared.order.Order.{Ghosts as Orders}
 use Rattle.sja_threads.specs.declared.driver_thread.DriverThread.{DriverThread}
 use Rattle.sja_threads.specs.Accessing.{LeadOn}
+use Rattle.sja_threads.specs.Ordering.{active_by, done_at_port, done_in_order}
+use Rattle.sja_threads.specs.Inside.Ordered.{set_after}
 
 -- ---- how much room a log needs
 
@@ -39,24 +42,28 @@ LastTakes (this ∷ next ∷ rest) = (room_of this ≡ 0) × LastTakes (next ∷
 -- ---- what may be done
 
 -- a driver may go on that releases so many messages more at most: its log has room for them, and its ends are those of
--- its node's links
-pub record MayWork {E : Type 0} (link : E → LinkId) (t : DriverThread E) (many : ℕ) : Type 0 where
+-- its node's links. What it has set, and whether it is out of reset, is so by its deeds at the port
+pub record MayWork {N E : Type 0} {o : Orders N} (link : E → LinkId) (t : DriverThread N E o) (many : ℕ) : Type 0 where
   pub bytes : t.bytes ≡ by_bytes t.set.version
+  pub set : set_after t.done.version t.done.known.list ≡ t.set
+  pub active : active_by false (done_in_order t.done.known.list) ≡ is_out (driver_of t.driver)
   pub lawful : IsLawful t.driver
   pub room : HasRoom many (log_of t.driver)
   pub enough : 64 ≤ length t.links.items
   pub ids : NumberedFrom link t.links.items 0 (node_of t.driver)
 
 -- it may do so many steps more, each of which releases one message at most
-pub record MayStep {E : Type 0} (link : E → LinkId) (t : DriverThread E) (steps : ℕ) : Type 0 where
+pub record MayStep {N E : Type 0} {o : Orders N} (link : E → LinkId) (t : DriverThread N E o) (steps : ℕ) : Type 0 where
   pub may : MayWork link t steps
   pub room : length (done_in (log_of t.driver)) + steps ≤ done_room (log_of t.driver)
 
 -- a driver did nothing yet, and may do so many steps
-pub record MayBegin {E : Type 0} (link : E → LinkId) (t : DriverThread E) (steps : ℕ) : Type 0 where
+pub record MayBegin {N E : Type 0} {o : Orders N} (link : E → LinkId) (t : DriverThread N E o) (steps : ℕ) :
+    Type 0 where
   pub may : MayStep link t steps
   pub reset : is_out (driver_of t.driver) ≡ false
   pub empty : IsEmpty (log_of t.driver)
+  pub none : t.done.known.list ≡ []
   pub kept : kept_of t.driver ≡ at_power_on
   pub traces : (version : ℕ) → Traces version (driver_of t.driver) (log_of t.driver) []
 
@@ -65,7 +72,8 @@ pub record MayBegin {E : Type 0} (link : E → LinkId) (t : DriverThread E) (ste
 -- a driver did these deeds, each once and in this order: with them its log and its ends went on, for all deeds before
 -- and for all journals, and so did what it has set, which is of the same version; its ends are the same ones, and it
 -- has the room left that they didn't take
-pub record Does {E : Type 0} (e : Ends E) (was now : DriverThread E) (deeds : List Deed) : Type 0 where
+pub record Does {N E : Type 0} {o : Orders N} (e : Ends E) (was now : DriverThread N E o) (deeds : List Deed) :
+    Type 0 where
   pub version : now.set.version ≡ was.set.version
   pub goes : Goes e.stands was.set.version (driver_of was.driver) (driver_of now.driver) (log_of was.driver)
       (log_of now.driver) was.links.items now.links.items 0 deeds
@@ -73,6 +81,8 @@ pub record Does {E : Type 0} (e : Ends E) (was now : DriverThread E) (deeds : Li
       LeadOn before was.set deeds now.set
   pub sames : EachRelated e.same was.links.items now.links.items
   pub node : node_of now.driver ≡ node_of was.driver
+  pub same : now.done.node ≡ was.done.node
+  pub at_port : done_in_order now.done.known.list ≡ done_in_order was.done.known.list ++ done_at_port deeds
   pub able : (n : ℕ) → MayWork e.link was (room_taken deeds + n) → MayWork e.link now n
 
 -- nothing more is entered as done, and what is kept stays
@@ -87,8 +97,8 @@ IsDeedIf this (Some answer) deeds =
     (map (λ (d : Deed). d.step) deeds ≡ this ∷ []) × (map (λ (d : Deed). d.answer) deeds ≡ answer ∷ [])
 
 -- that deed was done, which isn't entered yet
-pub record DoesDeed {E : Type 0} (e : Ends E) (was now : DriverThread E) (step : Step) (answer : Option StepAnswer) :
-    Type 0 where
+pub record DoesDeed {N E : Type 0} {o : Orders N} (e : Ends E) (was now : DriverThread N E o) (step : Step)
+    (answer : Option StepAnswer) : Type 0 where
   pub deeds : List Deed
   pub are : IsDeedIf step answer deeds
   pub does : Does e was now deeds
@@ -96,8 +106,8 @@ pub record DoesDeed {E : Type 0} (e : Ends E) (was now : DriverThread E) (step :
 
 -- of deeds of these steps, which are some or all of one write, the first were done, all of them or not, and aren't
 -- entered yet; what was released has moved RBSA on
-pub record DoesParts {E : Type 0} (e : Ends E) (was now : DriverThread E) (all : List Step) (done : Bool)
-    (kept kept_now : KeptBytes) : Type 0 where
+pub record DoesParts {N E : Type 0} {o : Orders N} (e : Ends E) (was now : DriverThread N E o) (all : List Step)
+    (done : Bool) (kept kept_now : KeptBytes) : Type 0 where
   pub deeds : List Deed
   pub left : List Step
   pub whole : all ≡ map (λ (d : Deed). d.step) deeds ++ left

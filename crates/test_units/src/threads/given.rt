@@ -5,12 +5,14 @@ use sja_driver::WorkLog;
 use sja_link::LinkId;
 use sja_log::{End, RunFault, RunLog};
 use sja_plan::{Plan, read_plan};
-use sja_regs::Port;
 use sja_report::put_answer;
 use sja_rings::{RingBus, RingDriver, ring_pair};
 use sja_script::{Done, Step};
-use sja_threads::{Gate, Worked, run_threads, work};
+use sja_threads::{
+    DeedsOfNode, Gate, LockedPort, PortLists, TurnsOfNode, Worked, port_of_node, run_threads, work,
+};
 use std::alloc::Global;
+use std::marker::Brand;
 use std::sync::atomic::AtomicU64;
 use std::sync::{Arc, Mutex, Wait};
 use std::test::Fail;
@@ -47,12 +49,20 @@ fn push_pair(
     Ok(())
 }
 
+/// The port of node 0 in version 1, the list of the turns that it is told, and that of its driver's deeds there.
+pub fn one_port() -> (LockedPort<Brand>, TurnsOfNode<Brand>, DeedsOfNode<Brand>) {
+    let (lists, done) = PortLists::new(0);
+    let (port, told) = port_of_node::<Brand>(0, 1, lists);
+    (port, told, DeedsOfNode::new(0, 1, done))
+}
+
 /// The part of node 0's driver at these ends, with a log of its own.
 pub fn drive<G: Gate>(
     rt: &impl Wait,
     alloc: Global,
     links: Vec<RingDriver>,
-    port: &Mutex<Port>,
+    port: &Mutex<LockedPort<Brand>>,
+    done: DeedsOfNode<Brand>,
     steps: &[Step],
     gate: G,
 ) -> Result<Worked<RingDriver>, Fail> {
@@ -60,7 +70,7 @@ pub fn drive<G: Gate>(
         return Err("too many steps, or not the driver's links")?;
     }
     let log = WorkLog::new(alloc, MOST as u32, MOST as u32)?;
-    Ok(work(rt, 0, links, port, steps, gate, log))
+    Ok(work(rt, links, port, done, steps, gate, log))
 }
 
 /// Fails where these aren't the answers of the steps that were done, in the words of a report with `, ` between two.

@@ -3,9 +3,10 @@
 use can_frame::Message;
 use sja_bus::Board;
 use sja_link::{BusEnd, Down, Up};
-use sja_regs::Port;
 use sja_rings::RingBus;
-use sja_threads::LockBoard;
+use sja_threads::{LockedPort, TurnBoard, TurnsOfNode};
+use std::alloc::Global;
+use std::marker::Brand;
 use std::sync::{Mutex, Wait};
 use std::thread::yield_now;
 use test_words::turn_of;
@@ -23,20 +24,33 @@ pub enum Part {
 
 impl Part {
     /// Does it. Whether the items that came were these.
-    pub fn is_done<R: Wait>(self, rt: &R, ends: Vec<RingBus>, ports: &[Mutex<Port>]) -> bool {
+    pub fn is_done<R: Wait>(
+        self,
+        rt: &R,
+        alloc: Global,
+        ends: Vec<RingBus>,
+        ports: &[Mutex<LockedPort<Brand>>],
+        told: TurnsOfNode<Brand>,
+    ) -> bool {
         let mut ends = ends;
         let Some(end) = ends.get_mut(0) else {
             return false;
         };
-        if ports.len() == 0 {
+        let mut turns = Vec::new(alloc);
+        if ports.len() == 0 || turns.push(told).is_err() {
             return false;
         }
+        let board = TurnBoard {
+            rt,
+            ports,
+            told: turns,
+        };
         let starts = matches!(taken(rt, end), Up::Start(_));
         starts
             && match self {
                 Part::HandOver(message) => hand_over(rt, end, message),
-                Part::Shut => shut(rt, ports),
-                Part::Warn => warn(rt, end, ports),
+                Part::Shut => shut(rt, board),
+                Part::Warn => warn(rt, end, board),
             }
     }
 }
@@ -61,8 +75,8 @@ fn hand_over(rt: &impl Wait, end: &mut RingBus, message: Message) -> bool {
 }
 
 /// Closes the port, and waits until the driver has ended.
-fn shut<R: Wait>(rt: &R, ports: &[Mutex<Port>]) -> bool {
-    let mut board = LockBoard { rt, ports };
+fn shut<R: Wait>(rt: &R, board: TurnBoard<Brand, R>) -> bool {
+    let mut board = board;
     board.close(0);
     for _ in rt.forever() {
         if board.orders(0).ended {
@@ -74,11 +88,11 @@ fn shut<R: Wait>(rt: &R, ports: &[Mutex<Port>]) -> bool {
 }
 
 /// Tells the port of a bit in which the receive error counter comes to its limit, and takes the stop.
-fn warn<R: Wait>(rt: &R, end: &mut RingBus, ports: &[Mutex<Port>]) -> bool {
+fn warn<R: Wait>(rt: &R, end: &mut RingBus, board: TurnBoard<Brand, R>) -> bool {
     let Some(turn) = turn_of(&["rx=60"]) else {
         return false;
     };
-    let mut board = LockBoard { rt, ports };
+    let mut board = board;
     board.bus_turn(0, turn);
     matches!(taken(rt, end), Up::Stop)
 }

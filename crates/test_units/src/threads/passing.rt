@@ -1,14 +1,14 @@
 //! A driver in a thread of its own, and the bus's ends in another.
 
 use super::gates::Open;
-use super::given::{GAVE_UP, WAITS, answers, drive, pairs};
+use super::given::{GAVE_UP, WAITS, answers, drive, one_port, pairs};
 use super::part::Part;
 use can_frame::Message;
-use sja_regs::Port;
 use sja_rings::RingDriver;
 use sja_script::Step;
-use sja_threads::Worked;
+use sja_threads::{DeedsOfNode, LockedPort, TurnsOfNode, Worked};
 use std::alloc::Global;
+use std::marker::Brand;
 use std::sync::{Mutex, Wait};
 use std::test::Fail;
 use std::thread::{Threads, join};
@@ -20,7 +20,9 @@ pub const HANDED: [u8; 3] = [0x00, 0x24, 0x40];
 fn both<R: Threads + Wait + Sync>(
     rt: &R,
     alloc: Global,
-    ports: &[Mutex<Port>],
+    ports: &[Mutex<LockedPort<Brand>>],
+    told: TurnsOfNode<Brand>,
+    done: DeedsOfNode<Brand>,
     steps: &[Step],
     part: Part,
 ) -> Result<(Worked<RingDriver>, bool), Fail> {
@@ -30,8 +32,10 @@ fn both<R: Threads + Wait + Sync>(
     let (ends, links) = pairs(alloc)?;
     let (worked, passed) = join(
         rt,
-        move || -> Result<Worked<RingDriver>, Fail> { drive(rt, alloc, links, port, steps, Open) },
-        move || -> bool { part.is_done(rt, ends, ports) },
+        move || -> Result<Worked<RingDriver>, Fail> {
+            drive(rt, alloc, links, port, done, steps, Open)
+        },
+        move || -> bool { part.is_done(rt, alloc, ends, ports, told) },
     );
     Ok((worked?, passed))
 }
@@ -45,8 +49,9 @@ pub fn released<R: Threads + Wait + Sync>(
     part: Part,
     expected: &str,
 ) -> Result<usize, Fail> {
-    let ports = [Mutex::new(Port::new(1))];
-    let (worked, passed) = both(rt, alloc, &ports, steps, part)?;
+    let (port, told, done) = one_port();
+    let ports = [Mutex::new(port)];
+    let (worked, passed) = both(rt, alloc, &ports, told, done, steps, part)?;
     if !passed || !ports[0].lock(rt).orders().ended {
         return Err("another item came, or the driver hasn't ended")?;
     }

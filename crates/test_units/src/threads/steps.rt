@@ -1,11 +1,11 @@
 //! A driver whose links nobody is at the other end of.
 
 use super::gates::{HoldsOnce, Open, Patience};
-use super::given::{GAVE_UP, WAITS, answers, drive, pairs};
-use sja_regs::Port;
+use super::given::{GAVE_UP, WAITS, answers, drive, one_port, pairs};
 use sja_script::Step;
-use sja_threads::Gate;
+use sja_threads::{DeedsOfNode, Gate, LockedPort};
 use std::alloc::Global;
+use std::marker::Brand;
 use std::sync::{Mutex, Wait};
 use std::test::Fail;
 
@@ -17,13 +17,14 @@ const LOOKS: [Step; 3] = [Step::Start, Step::Window, Step::Stop];
 fn activation_of<G: Gate>(
     rt: &impl Wait,
     alloc: Global,
-    port: &Mutex<Port>,
+    port: &Mutex<LockedPort<Brand>>,
+    done: DeedsOfNode<Brand>,
     steps: &[Step],
     gate: G,
     expected: &str,
 ) -> Result<u8, Fail> {
     let (_ends, links) = pairs(alloc)?;
-    let worked = drive(rt, alloc, links, port, steps, gate)?;
+    let worked = drive(rt, alloc, links, port, done, steps, gate)?;
     if !port.lock(rt).orders().ended || worked.links.len() != 64 {
         return Err("not ended, or another number of links")?;
     }
@@ -33,39 +34,45 @@ fn activation_of<G: Gate>(
 
 #[test]
 fn a_gate_that_quits_ends_the_script(rt: HostRuntime) -> Result<(), Fail> {
-    let port = Mutex::new(Port::new(1));
+    let (port, _told, done) = one_port();
+    let port = Mutex::new(port);
     let gate = Patience { tries: 1_000 };
-    assert!(rt; activation_of(&rt, rt.alloc(), &port, &WAITS, gate, "ok")? == 1);
+    assert!(rt; activation_of(&rt, rt.alloc(), &port, done, &WAITS, gate, "ok")? == 1);
     Ok(())
 }
 
 #[test]
 fn a_step_that_is_held_is_tried_again(rt: HostRuntime) -> Result<(), Fail> {
-    let port = Mutex::new(Port::new(1));
+    let (port, _told, done) = one_port();
+    let port = Mutex::new(port);
     let gate = HoldsOnce { last: 3 };
-    let _ = activation_of(&rt, rt.alloc(), &port, &LOOKS, gate, "ok, none, ok")?;
+    let _ = activation_of(&rt, rt.alloc(), &port, done, &LOOKS, gate, "ok, none, ok")?;
     Ok(())
 }
 
 #[test]
 fn steps_are_counted_from_1(rt: HostRuntime) -> Result<(), Fail> {
-    let port = Mutex::new(Port::new(1));
+    let (port, _told, done) = one_port();
+    let port = Mutex::new(port);
     let gate = HoldsOnce { last: 2 };
-    assert!(rt; activation_of(&rt, rt.alloc(), &port, &LOOKS, gate, "ok, none")? == 1);
+    assert!(rt; activation_of(&rt, rt.alloc(), &port, done, &LOOKS, gate, "ok, none")? == 1);
     Ok(())
 }
 
 #[test]
 fn a_wait_at_a_closed_port_is_given_up(rt: HostRuntime) -> Result<(), Fail> {
-    let port = Mutex::new(Port::new(1));
-    port.lock(&rt).close();
-    let _ = activation_of(&rt, rt.alloc(), &port, &WAITS, Open, GAVE_UP)?;
+    let (port, told, done) = one_port();
+    let port = Mutex::new(port);
+    let mut told = told;
+    port.lock(&rt).close(&mut told);
+    let _ = activation_of(&rt, rt.alloc(), &port, done, &WAITS, Open, GAVE_UP)?;
     Ok(())
 }
 
 #[test]
 fn a_script_without_steps_only_ends(rt: HostRuntime) -> Result<(), Fail> {
-    let port = Mutex::new(Port::new(1));
-    assert!(rt; activation_of(&rt, rt.alloc(), &port, &[], Open, "")? == 0);
+    let (port, _told, done) = one_port();
+    let port = Mutex::new(port);
+    assert!(rt; activation_of(&rt, rt.alloc(), &port, done, &[], Open, "")? == 0);
     Ok(())
 }

@@ -1,5 +1,10 @@
-use Rattle.std.proofs.Common.{ℕ, length, subst}
+use Rattle.std.proofs.Common.{ℕ, length, refl, sym, ap, ◌∙◌, subst}
+use Rattle.sja_regs.specs.DriverSettings.{SettingsValue, settings_in}
+use Rattle.sja_regs.specs.Registers.{at_power_on}
+use Rattle.sja_driver.specs.Accesses.{by_bytes}
+use Rattle.sja_driver.specs.LoggedDrivers.{node_of}
 use Rattle.sja_threads.specs.Working.{HasWorked}
+use Rattle.sja_threads.specs.Inside.Names.{IsNamed}
 use Rattle.sja_threads.specs.Inside.Steps.{MayBegin}
 use Rattle.sja_threads.proofs.Driver.Script.{all_done, begins, worked_by}
 use Rattle.sja_threads.proofs.driver_thread.follow.Given.{Over}
@@ -8,16 +13,18 @@ use Rattle.sja_threads.proofs.driver_thread.follow.Goals as goal
 
 -- as it begins
 may_begin : (g : Over) (c : After-new-driver g) → MayBegin g.D.DriverEnd.link (record {
-  node = c.args.node;
-  bytes = c.args.bytes;
+  bytes = c.by_bytes-bytes.result;
   driver = c.new-driver.result;
-  set = c.args.set;
+  set = c.at_power_on-set.result;
   links = c.args.links;
+  done = c.args.done;
 }) (length c.args.steps.now)
 may_begin g c =
     let first = c.new-driver.ensures in let r = c.requires in
-    begins g.D.DriverEnd.link _ c.args.node (length c.args.steps.now) c.args.log r.bytes first.node first.log
-    first.kept first.reset first.lawful first.traces r.empty r.room r.steps r.enough r.ids
+    begins g.D.DriverEnd.link _ c.args.done.node (length c.args.steps.now) c.args.log
+    (c.by_bytes-bytes.ensures ∙ ap (λ s. by_bytes s.version) (sym c.at_power_on-set.ensures)) r.none
+    c.at_power_on-set.ensures first.node first.log first.kept first.reset first.lawful first.traces r.empty r.room
+    r.steps r.enough r.ids
 
 pub do_steps-requires : goal.do_steps-requires
 do_steps-requires g c = (c.type_bounds.send-G, may_begin g (goal.at.do_steps-requires g c).After-new-driver)
@@ -28,10 +35,21 @@ returns-clause-same g c = c.do_steps.ensures.does.sames
 pub returns-clause-worked : goal.returns-clause-worked
 returns-clause-worked g c =
     let now = c.do_steps.new.self in
-    subst (λ (n : ℕ). HasWorked g.D.DriverEnd.stands c.args.set n c.args.steps.now c.args.links.items
-    (record { links = now.links; driver = now.driver })) c.new-driver.ensures.node
+    let first = c.new-driver.ensures in
+    subst (λ (n : ℕ). HasWorked g.D.DriverEnd.stands (settings_in (at_power_on c.args.done.version)) n
+    c.args.steps.now c.args.links.items
+    (record { links = now.links; driver = now.driver; done = now.done.known }) now.done.known.list) first.node
+    (subst (λ (s : SettingsValue). HasWorked g.D.DriverEnd.stands s (node_of c.new-driver.result) c.args.steps.now
+    c.args.links.items
+    (record { links = now.links; driver = now.driver; done = now.done.known }) now.done.known.list)
+    c.at_power_on-set.ensures
     (worked_by g.D.DriverEnd g.G.Gate.QUITS _ now c.args.steps.now
-    (may_begin g (goal.at.returns-clause-worked g c).After-new-driver) c.do_steps.ensures)
+    (may_begin g (goal.at.returns-clause-worked g c).After-new-driver) c.do_steps.ensures))
+
+pub returns-clause-named : goal.returns-clause-named
+returns-clause-named g c =
+    subst (λ (n : ℕ). IsNamed g.N.Order.deeds n c.do_steps.new.self.done.known.name) c.do_steps.ensures.does.same
+    c.do_steps.new.self.done.named
 
 pub returns-clause-done : goal.returns-clause-done
 returns-clause-done g c =

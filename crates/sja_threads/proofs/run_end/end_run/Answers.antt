@@ -1,17 +1,45 @@
-use Rattle.std.proofs.Common.{rules, ◌≡◌, ℕ, List, subst}
+use Rattle.std.proofs.Common.{rules, ◌≡◌, ℕ, List, length, map, sym, ap, subst, arith}
+use Rattle.sja_driver.specs.Deeds.{Deed}
+use Rattle.sja_log.specs.Runs.{IsRun}
+use Rattle.sja_threads.specs.Accessing.{Work, deeds_done}
 use Rattle.sja_threads.specs.Stopping.{StopsWith, deed_counts}
+use Rattle.sja_threads.specs.Inside.Boards.{turns_in}
+use Rattle.sja_threads.specs.Inside.EndsInOrder.{AreInOrder}
+use Rattle.sja_threads.specs.Inside.Ended.{IsOver}
+use Rattle.sja_threads.specs.Inside.Settling.{IsSettledLog}
 use Rattle.sja_threads.proofs.End.ThreadedRun.{threaded, if_both}
 use Rattle.sja_threads.proofs.run_end.end_run.Goals as goal
 
 pub settled_log-requires-clause-over : goal.settled_log-requires-clause-over
 settled_log-requires-clause-over g c =
-    let ending = c.requires.ending in (_, ending.over c.rounds_after_drivers.new.self c.in-Ok.ensures.ends.on)
+    let ending = c.requires.ending in
+    let t = c.rounds_after_drivers.new.self in
+    let deeds : List (List Deed) = map (λ (w : Work). deeds_done w) ending.works in (
+      deeds,
+      subst (λ l. IsOver c.args.plan.now t.bus t.links.items l deeds) (sym c.compare_all.ensures.workeds)
+          (ending.over t c.in-Ok.ensures.ends.on),
+    )
+
+pub compare_all-requires-clause-told : goal.compare_all-requires-clause-told
+compare_all-requires-clause-told g c =
+    let many = c.requires.order.many in
+    let kept = c.rounds_after_drivers.ensures.ports in
+    let nodes = c.nodes.ensures.value in omega (arith, many, kept, nodes)
 
 pub returns-in-Ok-clause-run : goal.returns-in-Ok-clause-run
 returns-in-Ok-clause-run g c =
+    let plan = c.args.plan.now in
+    let t = c.rounds_after_drivers.new.self in
+    let same = c.compare_all.ensures.workeds in
     if_both c.settled_log.result
-    (λ log run is. threaded g.G.Gate.QUITS c.args.plan.now c.args.joined c.rounds_after_drivers.new.self c.in-Ok.end log
-    c.requires.ending c.in-Ok.ensures.ends run is)
+    (λ log run is. threaded g.G.Gate.QUITS plan c.args.joined t c.in-Ok.end log c.requires.ending c.in-Ok.ensures.ends
+    (subst (λ l. (deeds : List (List Deed)) → IsOver plan t.bus t.links.items l deeds → IsRun plan log deeds) same run)
+    (subst (λ l. IsSettledLog t.bus l c.in-Ok.end log) same is)
+    (turns_in c.rounds_after_drivers.new.board.told.items) (c.in-Ok.ensures.told c.requires.order.told)
+    (subst (λ (v : ℕ). AreInOrder v (length plan.nodes) (turns_in c.rounds_after_drivers.new.board.told.items)
+    c.args.joined.workeds.items) c.requires.version
+    (subst (λ (n : ℕ). AreInOrder g.N.Order.version n (turns_in c.rounds_after_drivers.new.board.told.items)
+    c.args.joined.workeds.items) c.nodes.ensures.value c.compare_all.ensures.order)))
     c.settled_log.ensures.run c.settled_log.ensures.log
 
 -- the fault that is told is the one that the bus answers

@@ -1,7 +1,7 @@
-use Rattle.std.proofs.Common.{rules, ◌+◌, ℕ, refl, sym, ap, ◌∙◌, subst, arith}
+use Rattle.std.proofs.Common.{rules, ◌+◌, ◌++◌, ◌∷◌, [], ℕ, refl, sym, ap, ◌∙◌, subst, arith}
 use Rattle.sja_plan.specs.Plan.{steps_at}
-use Rattle.sja_threads.specs.Inside.Making.{AreMade}
-use Rattle.sja_threads.proofs.Start.LinksMade.{made_of, made_push}
+use Rattle.sja_threads.specs.Inside.Making.{AreListed, AreMade}
+use Rattle.sja_threads.proofs.Start.LinksMade.{listed_push, made_of, made_push}
 use Rattle.sja_threads.proofs.run_parts.starts_of.Goals as goal
 
 pub loop-gate-preserved : goal.loop-gate-preserved
@@ -20,8 +20,15 @@ loop-gate-preserved g c =
       made = subst (λ l. AreMade plan (node + 1) l after.items) (sym c.push_reserved.ensures.items)
           (made_push plan node c.loop-gate.starts.items c.loop-gate.buses.items after.items _ inv.count inv.links
           made.others inv.made
-          (made_of plan node _ _ after.items _ refl log.empty
+          (made_of plan node _ _ after.items _ refl log.empty c.new-list.ensures.none
           (c.steps.ensures.value ∙ ap (λ (n : ℕ). steps_at plan n) c.from.ensures)
           (let room = log.room.releases in record { releases = omega (arith, room); left = log.room.left })
           (let room = log.steps in omega (arith, room)) made.enough inv.links made.pairs));
+      many = search rules;
+      listed =
+          subst (λ l. AreListed (node + 1) c.push_reserved.new.self.items l) (sym c.in_ok-push.ensures.items)
+          (subst (λ l. AreListed (node + 1) l (c.loop-gate.lists.items ++ c.new-list.result.0 ∷ []))
+          (sym c.push_reserved.ensures.items)
+          (listed_push node c.loop-gate.starts.items c.loop-gate.lists.items _ c.new-list.result.0 inv.count inv.many
+          c.new-list.ensures.same inv.listed));
     }

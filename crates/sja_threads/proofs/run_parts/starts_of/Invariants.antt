@@ -1,6 +1,6 @@
 use Rattle.std.proofs.Common.{◌≡◌, ◌≤◌, ◌+◌, ◌*◌, length, vec_capacity}
 use Rattle.std.specs.Vec.Iter.{into_iter_len}
-use Rattle.sja_threads.specs.Inside.Making.{AreMade}
+use Rattle.sja_threads.specs.Inside.Making.{AreMade, AreListed}
 use Rattle.sja_threads.proofs.run_parts.starts_of.Given as goal
 
 abbrev pub invariant-loop-gate : goal.invariant-loop-gate
@@ -10,4 +10,6 @@ invariant-loop-gate g l = record {
   room : length l.plan.nodes ≤ vec_capacity l.starts;
   links : length l.buses.items ≡ 64 * l.node;
   made : AreMade l.plan l.node l.starts.items l.buses.items;
+  many : length l.lists.items ≡ l.node;
+  listed : AreListed l.node l.starts.items l.lists.items;
 }

@@ -1,13 +1,25 @@
-use Rattle.std.proofs.Common.{ap, ◌∙◌}
+use Rattle.std.proofs.Common.{ℕ, sym, ap, ◌∙◌, subst}
+use Rattle.sja_rings.specs.Ends.{DriverLists}
 use Rattle.sja_regs.specs.DriverSettings.{settings_in}
 use Rattle.sja_regs.specs.Registers.{at_power_on}
 use Rattle.sja_plan.specs.Plan.{steps_at}
+use Rattle.sja_threads.specs.Working.{HasWorked}
+use Rattle.sja_threads.specs.Inside.Names.{IsNamed}
 use Rattle.sja_threads.proofs.Start.Threads.{served_by}
+use Rattle.sja_threads.proofs.Twin.Led.{same_name}
 use Rattle.sja_threads.proofs.thread_start.serve.Goals as goal
 
 pub returns : goal.returns
 returns g c =
     let f = c.follow.ensures in
-    served_by c.args.plan.now c.args.start c.at_power_on.result c.steps-steps.result.now g.G.Gate.QUITS c.follow.result
-    (c.at_power_on.ensures ∙ ap (λ v. settings_in (at_power_on v)) c.version-version.ensures.value)
-    (c.steps-steps.ensures.value ∙ ap (λ n. steps_at c.args.plan.now n) c.from.ensures) f.same f.worked f.done
+    let d = c.new-done.ensures in
+    let s = c.args.start in
+    let w = c.follow.result in
+    served_by c.args.plan.now s (settings_in (at_power_on c.new-done.result.version)) c.steps-steps.result.now
+    g.G.Gate.QUITS w
+    (ap (λ v. settings_in (at_power_on v)) (d.version ∙ c.version.ensures.value))
+    (c.steps-steps.ensures.value ∙ ap (λ n. steps_at c.args.plan.now n) c.from.ensures) f.same
+    (same_name g.N.Order.deeds s.node w.done.name s.done.name
+    (subst (λ (n : ℕ). IsNamed g.N.Order.deeds n w.done.name) d.node f.named) c.requires.order.1)
+    (subst (λ (n : ℕ). HasWorked DriverLists (settings_in (at_power_on c.new-done.result.version)) n
+    c.steps-steps.result.now s.links.items w w.done.list) d.node f.worked) f.done

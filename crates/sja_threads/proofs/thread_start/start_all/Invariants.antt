@@ -3,7 +3,7 @@ use Rattle.std.specs.Prelude.{All}
 use Rattle.std.specs.Vec.Iter.{into_iter_items, into_iter_len}
 use Rattle.lemmas.specs.Related.{EachRelated}
 use Rattle.sja_threads.specs.Inside.Promised.{IsFor}
-use Rattle.sja_threads.specs.Inside.Started.{IsThreadStart}
+use Rattle.sja_threads.specs.Inside.Started.{IsThreadStart, AreOrdered}
 use Rattle.sja_threads.proofs.thread_start.start_all.Given as goal
 
 abbrev pub invariant-loop-start : goal.invariant-loop-start
@@ -13,5 +13,6 @@ invariant-loop-start g l = record {
   room : length l.ports ≤ vec_capacity l.children;
   rest : into_iter_items l.start-iterator ≡ drop l.next l.fn.starts.items;
   starts : All (IsThreadStart l.plan) (into_iter_items l.start-iterator);
+  order : AreOrdered g.N.Order.version g.N.Order.deeds l.plan.version (into_iter_items l.start-iterator);
   started : EachRelated (IsFor l.plan) (take l.next l.fn.starts.items) (map (λ child. child.promise) l.children.items);
 }

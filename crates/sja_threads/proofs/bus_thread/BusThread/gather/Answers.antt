@@ -3,6 +3,7 @@ use Rattle.std.specs.Vec.{with_items}
 use Rattle.std.proofs.lemmas.List.{with_items_is}
 use Rattle.sja_threads.proofs.Rounds.GoesOn.{gathered}
 use Rattle.sja_threads.proofs.Rounds.Stops.{stops_gather}
+use Rattle.sja_threads.proofs.Rounds.Told.{told_gather}
 use Rattle.sja_threads.proofs.bus_thread.BusThread.gather.Goals as goal
 
 pub returns-clause-on : goal.returns-clause-on
@@ -18,3 +19,8 @@ pub returns-clause-fault : goal.returns-clause-fault
 returns-clause-fault c =
     stops_gather c.args.self.now c.gather.new.self c.as_mut_slice.result.now c.gather.new.links c.gather.result
     c.gather.ensures.lawful c.gather.ensures.reason
+
+pub returns-clause-told : goal.returns-clause-told
+returns-clause-told c =
+    let e = c.gather.ensures in
+    told_gather c.args.self.now.bus.journals c.gather.new.self.journals e.nodes c.gather.result e.items

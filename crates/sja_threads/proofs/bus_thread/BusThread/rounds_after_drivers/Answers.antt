@@ -4,6 +4,7 @@ use Rattle.sja_log.specs.declared.end.End.{End}
 use Rattle.sja_log.specs.declared.end.End.TheVariants.{Rest, Bits, Turns}
 use Rattle.sja_threads.specs.declared.round.Round.{Round}
 use Rattle.sja_threads.specs.Stopping.{StopsWith}
+use Rattle.sja_threads.specs.Inside.Boards.{AreTold, turns_in}
 use Rattle.sja_threads.specs.Inside.Rounds.{GoesOn}
 use Rattle.sja_threads.proofs.Rounds.GoesOn.{stays_on, on_twice}
 use Rattle.sja_threads.proofs.bus_thread.BusThread.rounds_after_drivers.Given.{Over}
@@ -41,11 +42,21 @@ one_more g c =
     (c.in_ok-gather.ensures.on c.args.plan.now on.way) in
     on_twice c.args.plan.now c.args.self.now c.gather.new.self c.bit_if_due.new.self took c.in_ok-bit_if_due.ensures.on
 
+-- and what it told
+told_on : (g : Over) (c : In_ok-bit_if_due g) →
+    AreTold c.args.plan.now.bits c.args.self.now.bus.journals (turns_in c.args.board.now.told.items) →
+    AreTold c.args.plan.now.bits c.bit_if_due.new.self.bus.journals (turns_in c.bit_if_due.new.board.told.items)
+told_on g c are =
+    c.in_ok-bit_if_due.ensures.told (c.in_ok-gather.ensures.told c.args.plan.now.bits
+    (turns_in c.loop.board.told.items) (c.loop.invariant.told are))
+
 pub loop-init : goal.loop-init
 loop-init g c = record {
   on = stays_on c.args.plan.now c.args.self.now c.requires.way;
   count = refl;
-  ports = c.requires.ports;
+  ports = refl;
+  told = λ are. are;
+  ended = c.requires.ended;
 }
 
 pub returns-in_err-gather-clause-fault : goal.returns-in_err-gather-clause-fault
@@ -67,16 +78,22 @@ returns-in_err-bit_if_due-clause-fault g c =
 pub bit_if_due-requires-clause-way : goal.bit_if_due-requires-clause-way
 bit_if_due-requires-clause-way g c = (taken g (goal.at.bit_if_due-requires-clause-way g c).In_ok-gather).way
 
+pub bit_if_due-requires-clause-begun : goal.bit_if_due-requires-clause-begun
+bit_if_due-requires-clause-begun g c = λ node few.
+    let many = (taken g (goal.at.bit_if_due-requires-clause-begun g c).In_ok-gather).way.journals in
+    inr (c.loop.invariant.ended node (omega (arith, few, many)))
+
 pub loop-preserved : goal.loop-preserved
 loop-preserved g c =
     let count = c.loop.invariant.count in
     let taken = c.gather.ensures.run in
     let ran = c.bit_if_due.ensures.ran (c.in_ok-bit_if_due.was ∙ ap (λ (r : Round). Ok r) c.in-Ran.is) in
-    let ports = c.loop.invariant.ports in
-    let same = c.bit_if_due.ensures.ports in record {
+    record {
       on = one_more g (goal.at.loop-preserved g c).In_ok-bit_if_due;
       count = omega (arith, count, taken, ran);
-      ports = omega (arith, ports, same);
+      ports = c.bit_if_due.ensures.ports ∙ c.loop.invariant.ports;
+      told = told_on g (goal.at.loop-preserved g c).In_ok-bit_if_due;
+      ended = c.in_ok-bit_if_due.ensures.ended c.loop.invariant.ended;
     }
 
 pub returns-in-Rests-clause-ends : goal.returns-in-Rests-clause-ends
@@ -99,3 +116,12 @@ returns-in_default-2-clause-ends g c =
     let on = one_more g (goal.at.returns-in_default-2-clause-ends g c).In_ok-bit_if_due in
     let spent = on.way.spent (search rules) in
     record { on = on; duly = inr (bits_is _ (omega arith), spent.0, spent.1) }
+
+pub returns-in-Rests-clause-told : goal.returns-in-Rests-clause-told
+returns-in-Rests-clause-told g c = told_on g (goal.at.returns-in-Rests-clause-told g c).In_ok-bit_if_due
+
+pub returns-in_default-clause-told : goal.returns-in_default-clause-told
+returns-in_default-clause-told g c = told_on g (goal.at.returns-in_default-clause-told g c).In_ok-bit_if_due
+
+pub returns-in_default-2-clause-told : goal.returns-in_default-2-clause-told
+returns-in_default-2-clause-told g c = told_on g (goal.at.returns-in_default-2-clause-told g c).In_ok-bit_if_due

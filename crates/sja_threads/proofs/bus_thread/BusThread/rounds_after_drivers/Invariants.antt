@@ -1,4 +1,5 @@
-use Rattle.std.proofs.Common.{◌≡◌, ◌≤◌, length}
+use Rattle.std.proofs.Common.{◌≡◌, length}
+use Rattle.sja_threads.specs.Inside.Boards.{AllEnded, AreTold, turns_in}
 use Rattle.sja_threads.specs.Inside.Rounds.{GoesOn}
 use Rattle.sja_threads.proofs.bus_thread.BusThread.rounds_after_drivers.Given as goal
 
@@ -6,5 +7,8 @@ abbrev pub invariant-loop : goal.invariant-loop
 invariant-loop g l = record {
   on : GoesOn l.plan l.initial.self l.self;
   count : l.counter ≡ l.self.run;
-  ports : length l.plan.nodes ≤ length l.board.ports.now;
+  ports : length l.board.told.items ≡ length l.initial.board.told.items;
+  told : AreTold l.plan.bits l.initial.self.bus.journals (turns_in l.initial.board.told.items) →
+      AreTold l.plan.bits l.self.bus.journals (turns_in l.board.told.items);
+  ended : AllEnded (length l.plan.nodes) (turns_in l.board.told.items);
 }

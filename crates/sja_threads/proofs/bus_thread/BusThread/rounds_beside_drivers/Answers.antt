@@ -1,4 +1,4 @@
-use Rattle.std.proofs.Common.{rules, ◌≡◌, ℕ, List, Err, subst, arith}
+use Rattle.std.proofs.Common.{rules, ◌≡◌, ℕ, List, Err, refl, ◌∙◌, subst}
 use Rattle.lemmas.proofs.Results.{err_is}
 use Rattle.sja_threads.specs.Stopping.{StopsWith}
 use Rattle.sja_threads.specs.Inside.Rounds.{GoesOn}
@@ -8,28 +8,30 @@ use Rattle.sja_threads.proofs.bus_thread.BusThread.rounds_beside_drivers.Goals.{
 use Rattle.sja_threads.proofs.bus_thread.BusThread.rounds_beside_drivers.Goals as goal
 
 -- after one round more
-one_more : (g : Over) (c : In_ok-round g) → GoesOn c.args.plan.now c.args.self.now c.round_beside.new.self
+one_more : (g : Over) (c : In_ok-round g) → GoesOn c.args.plan.now c.args.self.now c.told_round.new.self
 one_more g c =
-    on_twice c.args.plan.now c.args.self.now c.loop.self c.round_beside.new.self c.loop.invariant.on
+    on_twice c.args.plan.now c.args.self.now c.loop.self c.told_round.new.self c.loop.invariant.on
     c.in_ok-round.ensures.on
 
 pub loop-init : goal.loop-init
 loop-init g c =
-    record { on = stays_on c.args.plan.now c.args.self.now c.requires.way; ports = c.requires.ports }
+    record { on = stays_on c.args.plan.now c.args.self.now c.requires.way; ports = refl; told = λ are. are }
 
-pub returns-then-all_ended-clause-on : goal.returns-then-all_ended-clause-on
-returns-then-all_ended-clause-on g c = one_more g (goal.at.returns-then-all_ended-clause-on g c).In_ok-round
+pub returns-then-over-clause-on : goal.returns-then-over-clause-on
+returns-then-over-clause-on g c = one_more g (goal.at.returns-then-over-clause-on g c).In_ok-round
 
 pub loop-preserved-then-eq : goal.loop-preserved-then-eq
 loop-preserved-then-eq g c = record {
   on = one_more g (goal.at.loop-preserved-then-eq g c).In_ok-round;
-  ports = let was = c.loop.invariant.ports in let same = c.round_beside.ensures.ports in omega (arith, was, same);
+  ports = c.told_round.ensures.ports ∙ c.loop.invariant.ports;
+  told = λ are. c.in_ok-round.ensures.told (c.loop.invariant.told are);
 }
 
 pub loop-preserved : goal.loop-preserved
 loop-preserved g c = record {
   on = one_more g (goal.at.loop-preserved g c).In_ok-round;
-  ports = let was = c.loop.invariant.ports in let same = c.round_beside.ensures.ports in omega (arith, was, same);
+  ports = c.told_round.ensures.ports ∙ c.loop.invariant.ports;
+  told = λ are. c.in_ok-round.ensures.told (c.loop.invariant.told are);
 }
 
 pub returns-in_err-round-clause-fault : goal.returns-in_err-round-clause-fault
@@ -39,3 +41,6 @@ returns-in_err-round-clause-fault g c =
     err_is (StopsWith c.args.self.now.bus.steps c.args.plan.now) c.from_residual.result f is
     (subst (λ (steps : List ℕ). StopsWith steps c.args.plan.now f) c.loop.invariant.on.steps
     c.in_err-round.ensures.fault)
+
+pub returns-then-over-clause-told : goal.returns-then-over-clause-told
+returns-then-over-clause-told g c = λ are. c.in_ok-round.ensures.told (c.loop.invariant.told are)

@@ -1,9 +1,12 @@
-use Rattle.std.proofs.Common.{◌≤◌, length}
+use Rattle.std.proofs.Common.{◌≡◌, length}
+use Rattle.sja_threads.specs.Inside.Boards.{AreTold, turns_in}
 use Rattle.sja_threads.specs.Inside.Rounds.{GoesOn}
 use Rattle.sja_threads.proofs.bus_thread.BusThread.rounds_beside_drivers.Given as goal
 
 abbrev pub invariant-loop : goal.invariant-loop
 invariant-loop g l = record {
   on : GoesOn l.plan l.initial.self l.self;
-  ports : length l.plan.nodes ≤ length l.board.ports.now;
+  ports : length l.board.told.items ≡ length l.initial.board.told.items;
+  told : AreTold l.plan.bits l.initial.self.bus.journals (turns_in l.initial.board.told.items) →
+      AreTold l.plan.bits l.self.bus.journals (turns_in l.board.told.items);
 }

@@ -1,4 +1,6 @@
-use Rattle.std.proofs.Common.{◌≡◌, true, sym, ◌∙◌}
+use Rattle.std.proofs.Common.{◌≡◌, true, sym, ◌∙◌, subst}
+use Rattle.sja_driver.specs.WriteLists.{steps_in}
+use Rattle.sja_threads.specs.Inside.Steps.{DoesParts}
 use Rattle.sja_driver.specs.Accesses.{by_bytes}
 use Rattle.sja_script.specs.declared.step.Step.TheVariants.{Write}
 use Rattle.sja_threads.proofs.Driver.OneStep.{begun_last, broken_before, write_broken, write_done}
@@ -6,7 +8,8 @@ use Rattle.sja_threads.proofs.driver_thread.DriverThread.do_write.Goals as goal
 
 pub do_parts-requires-clause-last : goal.do_parts-requires-clause-last
 do_parts-requires-clause-last g c κs within =
-    begun_last c.args.self.now c.args.address c.args.value _ c.begin_write-steps.result.1 c.begin_write-steps.ensures
+    begun_last c.args.self.now c.args.address c.args.value _ c.begin_write-steps.result.1
+    c.begin_write-steps.ensures.begins
 
 pub returns-then-not-lets_go-clause-quits : goal.returns-then-not-lets_go-clause-quits
 returns-then-not-lets_go-clause-quits g c = λ undone.
@@ -18,7 +21,10 @@ returns-then-not-do_parts-clause-quits g c = λ undone.
     let bytes : by_bytes c.args.self.now.set.version ≡ true = sym c.requires.may.may.bytes ∙ c.requires.bytes in
     write_broken g.D.DriverEnd c.args.self.now c.requires.may c.do_parts.new.self c.args.address c.args.value
     c.begin_write-steps.result.0 c.do_parts.result c.begin_write-steps.result.1 c.do_parts.new.kept
-    c.if-not-do_parts.true c.begin_write-steps.ensures c.do_parts.ensures.parts bytes
+    c.if-not-do_parts.true c.begin_write-steps.ensures.begins (subst (λ t. DoesParts g.D.DriverEnd t
+    c.do_parts.new.self (steps_in c.begin_write-steps.result.0)
+    c.do_parts.result c.begin_write-steps.result.1 c.do_parts.new.kept) c.begin_write-steps.ensures.same
+    c.do_parts.ensures.parts) bytes
 
 pub returns-clause-done : goal.returns-clause-done
 returns-clause-done g c = λ done.
@@ -26,4 +32,7 @@ returns-clause-done g c = λ done.
     let bytes : by_bytes c.args.self.now.set.version ≡ true = sym c.requires.may.may.bytes ∙ c.requires.bytes in
     write_done g.D.DriverEnd c.args.self.now c.do_parts.new.self c.enter.new.self c.args.address c.args.value
     c.begin_write-steps.result.0 c.do_parts.result c.begin_write-steps.result.1 c.do_parts.new.kept
-    c.if-not-do_parts.false c.begin_write-steps.ensures c.do_parts.ensures.parts (e.rest, e.done, e.room) bytes
+    c.if-not-do_parts.false c.begin_write-steps.ensures.begins (subst (λ t. DoesParts g.D.DriverEnd t
+    c.do_parts.new.self (steps_in c.begin_write-steps.result.0)
+    c.do_parts.result c.begin_write-steps.result.1 c.do_parts.new.kept) c.begin_write-steps.ensures.same
+    c.do_parts.ensures.parts) (e.rest, e.done, e.room) bytes

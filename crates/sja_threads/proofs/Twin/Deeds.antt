@@ -1,0 +1,50 @@
+-- The driver's half of the list of its deeds, as a port finds it.
+use Rattle.std.proofs.Common.{◌≡◌, ℕ, List, sym, subst}
+use mathlib.Core.HLevel.{is_prop→PathP}
+use Rattle.std.proofs.Props.{props}
+use Rattle.sja_regs.specs.declared.registers.Registers.{Registers}
+use Rattle.sja_regs.specs.DriverSettings.{HasSettings}
+use Rattle.sja_threads.specs.declared.deeds_of_node.DeedsOfNode.{DeedsOfNode}
+use Rattle.sja_threads.specs.declared.known_half.KnownHalf.{KnownHalf}
+use Rattle.sja_threads.specs.declared.order.Order.{Ghosts as Orders}
+use Rattle.sja_threads.specs.declared.port_deed.PortDeed.{PortDeed}
+use Rattle.sja_threads.specs.declared.told.Told.{Told}
+use Rattle.sja_threads.specs.Ordering.{LedBy}
+use Rattle.sja_threads.specs.Inside.Names.{IsNamed}
+use Rattle.sja_threads.specs.Inside.Ordered.{set_after}
+use Rattle.sja_threads.proofs.Twin.Led.{has_set}
+
+named_prop : (names : List ℕ) (node name : ℕ) → IsProp (IsNamed names node name)
+named_prop names node name = Prim.hlevel props
+
+same_prop : (a b : ℕ) → IsProp (a ≡ b)
+same_prop a b = Prim.hlevel props
+
+module _ {N : Type 0} {o : Orders N} (d : DeedsOfNode N o) where
+  -- it is the same where its list is
+  pub same_done : (k : KnownHalf PortDeed) (e : k ≡ d.known) (n : IsNamed o.deeds d.node k.name)
+      (v : d.version ≡ o.version) →
+      ◌≡◌ {A = DeedsOfNode N o} (record {
+        node = d.node;
+        version = d.version;
+        known = k;
+        order = d.order;
+        named = n;
+        version_is = v;
+      }) d
+  same_done k e n v = λ i. record {
+    node = d.node;
+    version = d.version;
+    known = e i;
+    order = d.order;
+    named = is_prop→PathP (λ j. IsNamed o.deeds d.node (e j).name) (λ j. named_prop o.deeds d.node (e j).name) n d.named
+        i;
+    version_is = is_prop→PathP (λ j. d.version ≡ o.version) (λ j. same_prop d.version o.version) v d.version_is i;
+  }
+
+  -- a port has what was set by it
+  pub has_done : (turns : List Told) (kept : List PortDeed) (p : Registers) → LedBy o.version turns kept p →
+      kept ≡ d.known.list → HasSettings p (set_after d.version d.known.list)
+  has_done turns kept p l same =
+      subst (λ (v : ℕ). HasSettings p (set_after v d.known.list)) (sym d.version_is)
+      (subst (λ (x : List PortDeed). HasSettings p (set_after o.version x)) same (has_set o.version turns kept p l))

@@ -1,0 +1,264 @@
+-- What turns and deeds lead to at a port.
+use Rattle.std.proofs.Common.{◌≡◌, ◌++◌, ℕ, Bool, true, false, Option, Some, None, List, [], ◌∷◌, length, refl, sym, ap}
+use Rattle.std.proofs.Common.{◌∙◌, subst}
+use Rattle.std.proofs.lemmas.Bool.{or_right}
+use Rattle.can_frame.specs.declared.seen.Seen.{Seen}
+use Rattle.sja_link.specs.Lists.{Lists}
+use Rattle.sja_link.specs.Showing.{seen_of}
+use Rattle.sja_regs.specs.declared.bus_turn.BusTurn.{BusTurn}
+use Rattle.sja_regs.specs.declared.registers.Registers.{Registers}
+use Rattle.sja_regs.specs.DriverSettings.{SettingsValue, settings_in, HasSettings}
+use Rattle.sja_regs.specs.Registers.{at_power_on}
+use Rattle.sja_regs.specs.Turns.{goes_off, after_turn}
+use Rattle.sja_script.specs.declared.step.Step.{Step}
+use Rattle.sja_script.specs.declared.step_answer.StepAnswer.{StepAnswer}
+use Rattle.sja_script.specs.declared.step_answer.StepAnswer.TheVariants.{Done as DoneAnswer, Released as ReleasedAnswer}
+use Rattle.sja_driver.specs.declared.any_driver.AnyDriver.{AnyDriver}
+use Rattle.sja_driver.specs.declared.any_driver.AnyDriver.TheVariants.{InReset, InActive}
+use Rattle.sja_driver.specs.Acting.{Acts}
+use Rattle.sja_driver.specs.AnyDrivers.{is_out, held_of, off_of, seen_by}
+use Rattle.sja_driver.specs.Carried.{Tells, ported}
+use Rattle.sja_driver.specs.Tries.{Tried, answer_of}
+use Rattle.sja_driver.specs.Tries.Tried.{Unmet, Answered, Released, Ended}
+use Rattle.sja_threads.specs.declared.port_deed.PortDeed.{PortDeed}
+use Rattle.sja_threads.specs.declared.told.Told.{Told}
+use Rattle.sja_threads.specs.declared.told.Told.TheVariants.{Turn, Ran, Spent}
+use Rattle.sja_threads.specs.Ordering.{LedBy, IsAnsweredAt, active_by, bits_told, bits_told_since, done_in_order}
+use Rattle.sja_threads.specs.Ordering.{ended_told_since}
+use Rattle.sja_threads.specs.Ordering.LedBy.{power_on, turn_told, bits_ran, spent, deed_done, ended}
+use Rattle.sja_threads.specs.Inside.Names.{IsNamed}
+use Rattle.sja_threads.specs.Inside.Ordered.{set_after}
+
+-- a node has one name
+pub same_name : (names : List ℕ) (node a b : ℕ) → IsNamed names node a → IsNamed names node b → a ≡ b
+same_name names node a b p q = let e : Some a ≡ Some b = sym p ∙ q in cc
+
+-- what is set after one deed more
+pub set_push : (version : ℕ) (deeds : List PortDeed) (d : PortDeed) → set_after version (deeds ++ d ∷ []) ≡ d.set
+set_push version [] d = refl
+set_push version (x ∷ []) d = refl
+set_push version (x ∷ y ∷ deeds) d = set_push version (y ∷ deeds) d
+
+has_own : (p : Registers) → HasSettings p (settings_in p)
+has_own p = record {
+  version = refl;
+  listen_only = refl;
+  self_test = refl;
+  filter_mode = refl;
+  reset = λ e. e;
+  enabled = refl;
+  ewlr = refl;
+  set_tec = refl;
+  set_rec = refl;
+  acr = refl;
+  amr = refl;
+  buffer = refl;
+}
+
+-- a turn leaves what is set
+has_turn : (p : Registers) (t : BusTurn) (s : SettingsValue) → HasSettings p s → HasSettings (after_turn p t) s
+has_turn p t s h = record {
+  version = h.version;
+  listen_only = h.listen_only;
+  self_test = h.self_test;
+  filter_mode = h.filter_mode;
+  reset = λ e. or_right (goes_off p t) p.mode.rm (h.reset e);
+  enabled = h.enabled;
+  ewlr = h.ewlr;
+  set_tec = h.set_tec;
+  set_rec = h.set_rec;
+  acr = h.acr;
+  amr = h.amr;
+  buffer = h.buffer;
+}
+
+has_closed : (p : Registers) (s : SettingsValue) → HasSettings p s → HasSettings (record p { closed = true }) s
+has_closed p s h = record {
+  version = h.version;
+  listen_only = h.listen_only;
+  self_test = h.self_test;
+  filter_mode = h.filter_mode;
+  reset = h.reset;
+  enabled = h.enabled;
+  ewlr = h.ewlr;
+  set_tec = h.set_tec;
+  set_rec = h.set_rec;
+  acr = h.acr;
+  amr = h.amr;
+  buffer = h.buffer;
+}
+
+has_ended : (p : Registers) (s : SettingsValue) → HasSettings p s → HasSettings (record p { ended = true }) s
+has_ended p s h = record {
+  version = h.version;
+  listen_only = h.listen_only;
+  self_test = h.self_test;
+  filter_mode = h.filter_mode;
+  reset = h.reset;
+  enabled = h.enabled;
+  ewlr = h.ewlr;
+  set_tec = h.set_tec;
+  set_rec = h.set_rec;
+  acr = h.acr;
+  amr = h.amr;
+  buffer = h.buffer;
+}
+
+-- a port has what its driver's deeds have set
+pub has_set : (version : ℕ) (turns : List Told) (deeds : List PortDeed) (p : Registers) →
+    LedBy version turns deeds p → HasSettings p (set_after version deeds)
+has_set version _ _ _ power_on = has_own _
+has_set version _ _ _ (turn_told turns deeds p t l) =
+    has_turn p t (set_after version deeds) (has_set version turns deeds p l)
+has_set version _ _ _ (bits_ran turns deeds p bits l) = has_set version turns deeds p l
+has_set version _ _ _ (deed_done turns deeds p d l answered set ran) =
+    subst (λ (s : SettingsValue). HasSettings (ported p d.step d.answer) s)
+    (sym (set_push version deeds d ∙ set)) (has_own (ported p d.step d.answer))
+has_set version _ _ _ (spent turns deeds p l) =
+    has_closed p (set_after version deeds) (has_set version turns deeds p l)
+has_set version _ _ _ (ended turns deeds p l) =
+    has_ended p (set_after version deeds) (has_set version turns deeds p l)
+
+-- ---- what a call leads to
+
+pub led_new : (version v : ℕ) (turns : List Told) (deeds : List PortDeed) (p : Registers) → turns ≡ [] →
+    deeds ≡ [] → p ≡ at_power_on v → v ≡ version → LedBy version turns deeds p
+led_new version v turns deeds p no_turn no_deed first same =
+    subst (λ (t : List Told). LedBy version t deeds p) (sym no_turn)
+    (subst (λ (d : List PortDeed). LedBy version [] d p) (sym no_deed)
+    (subst (λ (r : Registers). LedBy version [] [] r) (sym (first ∙ ap at_power_on same)) power_on))
+
+pub led_turn : (version : ℕ) (turns now : List Told) (deeds : List PortDeed) (p q : Registers) (t : BusTurn) →
+    q ≡ after_turn p t → now ≡ turns ++ Turn t ∷ [] → LedBy version turns deeds p → LedBy version now deeds q
+led_turn version turns now deeds p q t left is l =
+    subst (λ (x : List Told). LedBy version x deeds q) (sym is)
+    (subst (λ (r : Registers). LedBy version (turns ++ Turn t ∷ []) deeds r) (sym left) (turn_told turns deeds p t l))
+
+pub led_bits : (version : ℕ) (turns now : List Told) (deeds : List PortDeed) (p : Registers) (bits : ℕ)
+    (over : Bool) → over ≡ p.ended → now ≡ turns ++ Ran bits over ∷ [] → LedBy version turns deeds p →
+    LedBy version now deeds p
+led_bits version turns now deeds p bits over found is l =
+    subst (λ (x : List Told). LedBy version x deeds p) (sym (is ∙ ap (λ (e : Bool). turns ++ Ran bits e ∷ []) found))
+    (bits_ran turns deeds p bits l)
+
+pub led_spent : (version : ℕ) (turns now : List Told) (deeds : List PortDeed) (p q : Registers) →
+    q ≡ record p { closed = true } → now ≡ turns ++ Spent ∷ [] → LedBy version turns deeds p → LedBy version now deeds q
+led_spent version turns now deeds p q left is l =
+    subst (λ (x : List Told). LedBy version x deeds q) (sym is)
+    (subst (λ (r : Registers). LedBy version (turns ++ Spent ∷ []) deeds r) (sym left) (spent turns deeds p l))
+
+-- ---- how many bits have run by what was told, and whether its driver was found to have ended
+
+pub ran_push : (n bits : ℕ) (over : Bool) (turns : List Told) → bits_told_since n (turns ++ Ran bits over ∷ []) ≡ bits
+ran_push n bits over [] = refl
+ran_push n bits over (Ran m e ∷ turns) = ran_push m bits over turns
+ran_push n bits over (Turn t ∷ turns) = ran_push n bits over turns
+ran_push n bits over (Spent ∷ turns) = ran_push n bits over turns
+
+pub turn_push : (n : ℕ) (t : BusTurn) (turns : List Told) →
+    bits_told_since n (turns ++ Turn t ∷ []) ≡ bits_told_since n turns
+turn_push n t [] = refl
+turn_push n t (Ran m e ∷ turns) = turn_push m t turns
+turn_push n t (Turn u ∷ turns) = turn_push n t turns
+turn_push n t (Spent ∷ turns) = turn_push n t turns
+
+pub spent_push : (n : ℕ) (turns : List Told) → bits_told_since n (turns ++ Spent ∷ []) ≡ bits_told_since n turns
+spent_push n [] = refl
+spent_push n (Ran m e ∷ turns) = spent_push m turns
+spent_push n (Turn t ∷ turns) = spent_push n turns
+spent_push n (Spent ∷ turns) = spent_push n turns
+
+pub led_ended : (version : ℕ) (turns : List Told) (deeds : List PortDeed) (p q : Registers) →
+    q ≡ record p { ended = true } → LedBy version turns deeds p → LedBy version turns deeds q
+led_ended version turns deeds p q left l =
+    subst (λ (r : Registers). LedBy version turns deeds r) (sym left) (ended turns deeds p l)
+
+pub ended_ran : (found : Bool) (bits : ℕ) (over : Bool) (turns : List Told) →
+    ended_told_since found (turns ++ Ran bits over ∷ []) ≡ over
+ended_ran found bits over [] = refl
+ended_ran found bits over (Ran m e ∷ turns) = ended_ran e bits over turns
+ended_ran found bits over (Turn t ∷ turns) = ended_ran found bits over turns
+ended_ran found bits over (Spent ∷ turns) = ended_ran found bits over turns
+
+pub ended_turn : (found : Bool) (t : BusTurn) (turns : List Told) →
+    ended_told_since found (turns ++ Turn t ∷ []) ≡ ended_told_since found turns
+ended_turn found t [] = refl
+ended_turn found t (Ran m e ∷ turns) = ended_turn e t turns
+ended_turn found t (Turn u ∷ turns) = ended_turn found t turns
+ended_turn found t (Spent ∷ turns) = ended_turn found t turns
+
+pub ended_spent : (found : Bool) (turns : List Told) →
+    ended_told_since found (turns ++ Spent ∷ []) ≡ ended_told_since found turns
+ended_spent found [] = refl
+ended_spent found (Ran m e ∷ turns) = ended_spent e turns
+ended_spent found (Turn t ∷ turns) = ended_spent found turns
+ended_spent found (Spent ∷ turns) = ended_spent found turns
+
+-- ---- a try
+
+seen_is : (now : AnyDriver) → seen_by now ≡ seen_of (off_of now) (held_of now)
+seen_is (InReset d) = refl
+seen_is (InActive d) = refl
+
+module _ {E : Type 0} (alike : E → E → Type 0) (stands : E → Lists → Type 0) (dry full : E → Type 0) (a b : E)
+    (p q : Registers) (which : Step) (was now : AnyDriver) where
+  -- a deed that is done is answered by the registers as they were, and leaves them as it does
+  answered : (o : Tried) (answer : StepAnswer) → answer_of o ≡ Some answer → (active : Bool) →
+      active ≡ is_out was → Acts alike stands dry full a b p q which was now o →
+      IsAnsweredAt active p which answer × (q ≡ ported p which answer)
+  answered Unmet answer is active out acts = absurd cc
+  answered (Answered x) answer is active out acts =
+      let same : x ≡ answer = cc in
+      subst (λ (s : StepAnswer). IsAnsweredAt active p which s × (q ≡ ported p which s)) same (
+        record {
+          window = held_of now;
+          off = off_of now;
+          tells = subst (λ (o : Bool). Tells which o p (seen_of (off_of now) (held_of now)) x) (sym out)
+              (subst (λ (s : Seen). Tells which (is_out was) p s x) (seen_is now) acts.tells);
+        },
+        acts.port,
+      )
+  answered (Released m) answer is active out acts =
+      let same : ReleasedAnswer (length m) ≡ answer = cc in
+      subst (λ (s : StepAnswer). IsAnsweredAt active p which s × (q ≡ ported p which s)) same (
+        record {
+          window = [];
+          off = false;
+          tells = subst (λ (s : Step). Tells s active p (seen_of false []) (ReleasedAnswer (length m))) (sym
+              acts.kind) tt;
+        },
+        acts.port,
+      )
+  answered (Ended ledger) answer is active out acts =
+      let same : DoneAnswer ≡ answer = cc in
+      subst (λ (s : StepAnswer). IsAnsweredAt active p which s × (q ≡ ported p which s)) same (
+        record {
+          window = [];
+          off = false;
+          tells = subst (λ (s : Step). Tells s active p (seen_of false []) DoneAnswer) (sym acts.kind) tt;
+        },
+        acts.port,
+      )
+
+  -- what that leads to
+  pub led_deed : (version : ℕ) (turns : List Told) (deeds : List PortDeed) (o : Tried) (d : PortDeed) →
+      LedBy version turns deeds p → active_by false (done_in_order deeds) ≡ is_out was →
+      Acts alike stands dry full a b p q which was now o → answer_of o ≡ Some d.answer → d.step ≡ which →
+      d.set ≡ settings_in q → d.bits ≡ bits_told turns → LedBy version turns (deeds ++ d ∷ []) q
+  led_deed version turns deeds o d l out acts is same set ran =
+      let active = active_by false (done_in_order deeds) in
+      let done = answered o d.answer is active out acts in
+      let left : q ≡ ported p d.step d.answer = done.1 ∙ ap (λ (s : Step). ported p s d.answer) (sym same) in
+      subst (λ (r : Registers). LedBy version turns (deeds ++ d ∷ []) r) (sym left)
+      (deed_done turns deeds p d l (subst (λ (s : Step). IsAnsweredAt active p s d.answer) (sym same) done.0)
+      (set ∙ ap settings_in left) ran)
+
+  -- where it isn't done the registers stay
+  pub led_none : (version : ℕ) (turns : List Told) (deeds : List PortDeed) (o : Tried) →
+      LedBy version turns deeds p → Acts alike stands dry full a b p q which was now o → answer_of o ≡ None →
+      LedBy version turns deeds q
+  led_none version turns deeds Unmet l acts is =
+      subst (λ (r : Registers). LedBy version turns deeds r) (sym acts.port) l
+  led_none version turns deeds (Answered x) l acts is = absurd cc
+  led_none version turns deeds (Released m) l acts is = absurd cc
+  led_none version turns deeds (Ended ledger) l acts is = absurd cc

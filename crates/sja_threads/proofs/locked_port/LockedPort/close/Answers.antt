@@ -1,0 +1,20 @@
+use Rattle.std.proofs.Common.{ℕ, false, sym, ap, ◌∙◌, subst}
+use Rattle.sja_threads.specs.Ordering.{bits_told, ended_told}
+use Rattle.sja_threads.specs.Inside.Names.{IsNamed}
+use Rattle.sja_threads.proofs.Twin.Led.{ended_spent, led_spent, spent_push}
+use Rattle.sja_threads.proofs.locked_port.LockedPort.close.Goals as goal
+
+pub invariant_of-self : goal.invariant_of-self
+invariant_of-self g c = let inv = c.self.invariant in let a = c.add.ensures in record {
+  turns = subst (λ (n : ℕ). IsNamed g.N.Order.turns c.self.inside.node n) (sym a.kept_name) inv.turns;
+  deeds = inv.deeds;
+  bits = inv.bits ∙ sym (ap bits_told a.kept ∙ spent_push 0 c.self.inside.turns.list);
+  led = led_spent g.N.Order.version c.self.inside.turns.list c.add.new.kept.list c.self.inside.deeds.list
+      c.self.inside.port c.close.new.self c.close.ensures a.kept inv.led;
+}
+
+pub invariant_of-told : goal.invariant_of-told
+invariant_of-told g c = let told = c.args.told.now in let a = c.add.ensures in record {
+  named = subst (λ (n : ℕ). IsNamed g.N.Order.turns told.node n) (sym a.known_name) told.named;
+  ended_is = told.ended_is ∙ sym (ap ended_told a.known ∙ ended_spent false told.known.list);
+}

@@ -1,0 +1,40 @@
+-- A port behind its lock, with the lists of what came there.
+use Rattle.std.specs.Prelude.{◌≡◌, ℕ, Option, Some, None, List, [], ◌∷◌}
+use Rattle.sja_regs.specs.declared.registers.Registers.{Registers}
+use Rattle.sja_regs.specs.DriverSettings.{SettingsValue, settings_in}
+use Rattle.sja_regs.specs.Registers.{at_power_on}
+use Rattle.sja_script.specs.declared.step.Step.{Step}
+use Rattle.sja_script.specs.declared.step_answer.StepAnswer.{StepAnswer}
+use Rattle.sja_threads.specs.declared.port_deed.PortDeed.{PortDeed}
+use Rattle.sja_threads.specs.declared.told.Told.{Told}
+use Rattle.sja_threads.specs.Ordering.{LedBy, bits_told}
+use Rattle.sja_threads.specs.Inside.Names.{IsNamed}
+
+-- a port of a node, how many bits have run by what it was told, and the lists of what it was told and of its driver's
+-- deeds there, with their names
+pub record LockedValue : Type 0 where
+  pub node : ℕ
+  pub registers : Registers
+  pub bits : ℕ
+  pub turns_name : ℕ
+  pub turns : List Told
+  pub deeds_name : ℕ
+  pub deeds : List PortDeed
+
+-- the port is as its lists have led to, and these are those of its node
+pub record IsInOrder (version : ℕ) (turn_names deed_names : List ℕ) (l : LockedValue) : Type 0 where
+  pub turns : IsNamed turn_names l.node l.turns_name
+  pub deeds : IsNamed deed_names l.node l.deeds_name
+  pub bits : l.bits ≡ bits_told l.turns
+  pub led : LedBy version l.turns l.deeds l.registers
+
+-- what is set at a port of this version after these deeds
+abbrev pub set_after : ℕ → List PortDeed → SettingsValue
+set_after version [] = settings_in (at_power_on version)
+set_after version (d ∷ []) = d.set
+set_after version (d ∷ next ∷ deeds) = set_after version (next ∷ deeds)
+
+-- the deed of a step with this answer, if it is done
+abbrev pub done_if : Step → Option StepAnswer → List (Step × StepAnswer)
+done_if this None = []
+done_if this (Some answer) = (this, answer) ∷ []

@@ -1,0 +1,211 @@
+//! [`LockedPort`]: a port behind its lock.
+
+ghost use Rattle.std.specs.Prelude.{◌≡◌, ◌++◌, [], ◌∷◌, true, false, IfSome, IfNone};
+ghost use Rattle.sja_regs.specs.declared.registers.Registers.{Registers};
+ghost use Rattle.sja_regs.specs.DriverSettings.{HasSettings, settings_in};
+ghost use Rattle.sja_driver.specs.AnyDrivers.{is_out};
+ghost use Rattle.sja_driver.specs.LoggedDrivers.{driver_of, MayStep, StaysLawful, Steps};
+ghost use Rattle.sja_threads.specs.Ordering.{LedBy, active_by, bits_told, done_in_order};
+ghost use Rattle.sja_threads.specs.declared.told.Told.TheVariants.{Turn, Ran, Spent};
+ghost use Rattle.sja_threads.specs.Inside.Names.{IsNamed};
+ghost use Rattle.sja_threads.specs.Inside.Ordered.{LockedValue, IsInOrder, set_after, done_if};
+
+use super::deeds_of_node::DeedsOfNode;
+use super::halves::{add, agree};
+use super::kept_half::KeptHalf;
+use super::known_half::KnownHalf;
+use super::order::Order;
+use super::port_deed::PortDeed;
+use super::told::Told;
+use super::turns_of_node::TurnsOfNode;
+use sja_driver::LoggedDriver;
+use sja_link::DriverEnd;
+use sja_regs::{BusTurn, DriverSettings, Orders, Port};
+use sja_script::{Step, StepAnswer};
+use std::marker::{Model, PhantomData};
+
+/// A port behind its lock (this project's own rule): that of a node, how many bits have run by what it was told, and
+/// the lists of what it was told and of the deeds that its driver did there. The lists are known to contracts alone,
+/// and the port is always as they have led to. Who adds to one has its other half.
+#[derive(Drop)]
+pub struct LockedPort<N: Order> {
+    node: u8,
+    port: Port,
+    bits: u32,
+    turns: KeptHalf<Told>,
+    deeds: KeptHalf<PortDeed>,
+    order: PhantomData<N>,
+}
+
+impl<N: Order> Model for LockedPort<N> {
+    ghost Value = { LockedValue };
+
+    ghost view = { λ l. record {
+      node = l.node;
+      registers = l.port;
+      bits = l.bits;
+      turns_name = l.turns.name;
+      turns = l.turns.list;
+      deeds_name = l.deeds.name;
+      deeds = l.deeds.list;
+    } };
+
+    ghost invariant = { λ l. IsInOrder N.version N.turns N.deeds (record {
+      node = l.node;
+      registers = l.port;
+      bits = l.bits;
+      turns_name = l.turns.name;
+      turns = l.turns.list;
+      deeds_name = l.deeds.name;
+      deeds = l.deeds.list;
+    }) };
+}
+
+impl<N: Order> LockedPort<N> {
+    /// The port of a node after power-on, to which nothing came yet.
+    pub(crate) fn new(
+        node: u8,
+        version: u8,
+        turns: KeptHalf<Told>,
+        deeds: KeptHalf<PortDeed>,
+    ) -> LockedPort<N>
+        requires version { version ≡ N.version }
+        requires turns { IsNamed N.turns node turns.name × (turns.list ≡ []) }
+        requires deeds { IsNamed N.deeds node deeds.name × (deeds.list ≡ []) }
+    {
+        LockedPort {
+            node,
+            port: Port::new(version),
+            bits: 0,
+            turns,
+            deeds,
+            order: PhantomData,
+        }
+    }
+
+    /// Whether it is this node's.
+    pub(crate) fn is_of(&self, node: u8) -> bool
+        ensures { result ≡ true → self.now.node ≡ node }
+    {
+        self.node == node
+    }
+
+    /// What the driver wants of the bus.
+    pub fn orders(&self) -> Orders
+        ensures { result ≡ record { abort = self.now.registers.abort; ended = self.now.registers.ended } }
+    {
+        self.port.orders()
+    }
+
+    /// What its driver has set there.
+    pub(crate) fn settings(&self) -> DriverSettings
+        ensures { result ≡ settings_in self.now.registers }
+    {
+        self.port.settings()
+    }
+
+    /// Tells it what a bit brought.
+    pub(crate) fn bus_turn(&mut self, told: &mut TurnsOfNode<N>, turn: BusTurn)
+        requires { self.old.node ≡ told.old.node }
+        ensures told { told.new.known.list ≡ told.old.known.list ++ Turn turn ∷ [] }
+        ensures node { told.new.node ≡ told.old.node }
+    {
+        self.port.bus_turn(&turn);
+        add(&mut self.turns, &mut told.known, &Told::Turn(turn));
+    }
+
+    /// Tells it how many bits have run, and finds whether its driver has ended.
+    pub(crate) fn tell_bits(&mut self, told: &mut TurnsOfNode<N>, bits: u32)
+        requires { self.old.node ≡ told.old.node }
+        ensures told { told.new.known.list ≡ told.old.known.list ++ Ran bits told.new.ended ∷ [] }
+        ensures node { told.new.node ≡ told.old.node }
+    {
+        self.bits = bits;
+        told.ended = self.port.orders().ended;
+        add(
+            &mut self.turns,
+            &mut told.known,
+            &Told::Ran(bits, told.ended),
+        );
+    }
+
+    /// How many bits have run by what it was told.
+    pub fn bits(&self) -> u32
+        ensures { result ≡ bits_told self.now.turns }
+    {
+        self.bits
+    }
+
+    /// Marks that the bus has no bits left.
+    pub fn close(&mut self, told: &mut TurnsOfNode<N>)
+        requires { self.old.node ≡ told.old.node }
+        ensures told { told.new.known.list ≡ told.old.known.list ++ Spent ∷ [] }
+        ensures node { told.new.node ≡ told.old.node }
+    {
+        self.port.close();
+        add(&mut self.turns, &mut told.known, &Told::Spent);
+    }
+
+    /// Marks that the driver has ended.
+    pub(crate) fn finish(&mut self) {
+        self.port.finish();
+    }
+
+    /// The port, as its driver finds it.
+    pub(crate) fn found(&mut self, done: &mut DeedsOfNode<N>) -> &Port
+        requires { self.old.node ≡ done.old.node }
+        ensures has { HasSettings result.now (set_after done.old.version done.old.known.list) }
+        ensures done { done.new ≡ done.old }
+    {
+        agree(&mut self.deeds, &mut done.known);
+        &self.port
+    }
+
+    /// Compares it with these lists of its node.
+    pub(crate) fn compare(&mut self, told: &mut TurnsOfNode<N>, done: &mut KnownHalf<PortDeed>)
+        requires node { self.old.node ≡ told.old.node }
+        requires named { IsNamed N.deeds self.old.node done.old.name }
+        ensures told { (told.new.node ≡ told.old.node) × (told.new.known ≡ told.old.known) }
+        ensures done { done.new ≡ done.old }
+        ensures led { (p : Registers) × LedBy N.version told.old.known.list done.old.list p }
+    {
+        agree(&mut self.turns, &mut told.known);
+        agree(&mut self.deeds, done);
+    }
+
+    /// Tries a deed there, and gives its answer; none where it isn't done.
+    pub(crate) fn try_deed<D: DriverEnd>(
+        &mut self,
+        done: &mut DeedsOfNode<N>,
+        driver: &mut LoggedDriver,
+        links: &mut [D],
+        deed: &Step,
+    ) -> Option<StepAnswer>
+        requires node { self.old.node ≡ done.old.node }
+        requires active { active_by false (done_in_order done.old.known.list) ≡ is_out (driver_of driver.old) }
+        requires may { MayStep D.link driver.old links.old 0 }
+        ensures stays { StaysLawful D.link D.same driver.old driver.new links.old links.new 0 result }
+        ensures steps { Steps D.same D.stands D.dry D.full driver.old driver.new links.old links.new 0
+            self.old.registers self.new.registers deed.now result }
+        ensures has { HasSettings self.old.registers (set_after done.old.version done.old.known.list) }
+        ensures done { done_in_order done.new.known.list
+            ≡ done_in_order done.old.known.list ++ done_if deed.now result }
+        ensures set { IfSome result (λ a.
+            set_after done.new.version done.new.known.list ≡ settings_in self.new.registers) }
+        ensures waits { IfNone result (done.new ≡ done.old) }
+        ensures node { (done.new.node ≡ done.old.node) × (done.new.version ≡ done.old.version) }
+    {
+        agree(&mut self.deeds, &mut done.known);
+        let Some(answer) = driver.step(links, 0, &mut self.port, deed) else {
+            return None;
+        };
+        let one = PortDeed {
+            step: deed.copy(),
+            answer: answer.copy(),
+            set: self.port.settings(),
+            bits: self.bits,
+        };
+        add(&mut self.deeds, &mut done.known, &one);
+        Some(answer)
+    }
+}
