@@ -81,6 +81,10 @@ sja_answer sja_bits(sja *session, uint32_t count, uint32_t watch);
  * read or disabled. It clears nothing. */
 sja_answer sja_irq(sja *session, uint32_t node);
 
+/* Which interrupt lines are active: bit K of the value is 1 where node K is there and its line is active. As sja_irq of
+ * each node, in one call. It clears nothing. */
+sja_answer sja_lines(sja *session);
+
 /* Has a node see the other level in a bit that hasn't run, counted from 0. */
 sja_answer sja_strike(sja *session, uint32_t node, uint32_t bit);
 

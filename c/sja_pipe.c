@@ -569,6 +569,13 @@ sja_answer sja_irq(sja *session, uint32_t node)
     return active.status == SJA_DONE ? answer(SJA_DONE, active.value >> node & 1) : active;
 }
 
+sja_answer sja_lines(sja *session)
+{
+    uint32_t status = is_askable(session, 0);
+
+    return status == SJA_DONE ? lines(session) : answer(status, 0);
+}
+
 sja_answer sja_strike(sja *session, uint32_t node, uint32_t bit)
 {
     char said[LINE], heard[LINE];

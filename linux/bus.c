@@ -188,8 +188,9 @@ static void settle(void)
 
     while (any && bus.fault == 0) {
         any = shim_do_due();
+        uint64_t active = done(sja_lines(bus.session));
         for (unsigned node = 0; node < bus.nodes; node++)
-            any = handle(node) || any;
+            any = ((active >> node & 1) && handle(node)) || any;
         for (unsigned node = 0; node < bus.nodes; node++)
             any = shim_send_waiting(bus.devices[node]) || any;
     }

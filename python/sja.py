@@ -70,7 +70,7 @@ class _Library:
         u32, text, handle = ctypes.c_uint32, [ctypes.c_char_p, ctypes.c_size_t], [ctypes.c_void_p]
         arguments = {"make": [ctypes.POINTER(ctypes.c_void_p)], "begin": handle + [u32] * 3, "read": handle + [u32] * 2,
                      "write": handle + [u32] * 3, "bits": handle + [u32] * 2, "irq": handle + [u32],
-                     "strike": handle + [u32] * 2, "now": handle, "put_report": handle + text,
+                     "lines": handle, "strike": handle + [u32] * 2, "now": handle, "put_report": handle + text,
                      "put_plan": handle + text, "let_go": handle}
         for name, types in arguments.items():
             call = getattr(self.calls, f"sja_{name}")
@@ -163,7 +163,7 @@ class _Process:
         self._ask(f"write {node} {address} {value:02x}", "ok")
         return 0
 
-    def _lines(self):
+    def _active(self):
         return int(self._ask("line", "line").split()[1], 16)
 
     def _bits(self, count, watch):
@@ -183,7 +183,11 @@ class _Process:
 
     def _irq(self, node):
         self._judge((0 <= node < self.nodes, "NO_NODE"))
-        return self._lines() >> node & 1
+        return self._active() >> node & 1
+
+    def _lines(self):
+        self._judge()
+        return self._active()
 
     def _strike(self, node, bit):
         self._judge((0 <= node < self.nodes, "NO_NODE"), (0 <= bit < self.bits, "NO_BIT"))
@@ -298,6 +302,10 @@ class Session:
     def irq(self, node):
         """Whether the interrupt line of a node is active."""
         return bool(self._call("irq", node))
+
+    def lines(self):
+        """Which interrupt lines are active: bit K is 1 where that of node K is."""
+        return self._call("lines")
 
     def strike(self, node, bit):
         """Has a node see the other level in a bit that hasn't run."""

@@ -180,7 +180,8 @@ class Channel:
     def _run(self, most):
         ran = self.session.run(most, (1 << len(self.nodes)) - 1)
         self.bits += ran
-        lines = [node for node in self.nodes if node and self.session.irq(node.number)]
+        active = self.session.lines()
+        lines = [node for node in self.nodes if node and active >> node.number & 1]
         if not ran and not lines:
             raise SjaError("NO_BIT")
         for node in lines:

@@ -7,7 +7,8 @@ use Rattle.sja_c.specs.Answers.{Answers, answer, refusal}
 use Rattle.sja_c.specs.declared.answer.SjaAnswer.{SjaAnswer}
 use Rattle.sja_calls.specs.Beginnings.{IsNew, IsNoSession}
 use Rattle.sja_calls.specs.Calls.{IsRefusal, ReadsOf, IsReadFault, WritesOf, IsWriteFault, RunsOf, IsRunFault}
-use Rattle.sja_calls.specs.Calls.{LooksOf, IsLookFault, StrikesOf, IsStrikeFault, IsNowOf, IsNowFault}
+use Rattle.sja_calls.specs.Calls.{LooksOf, IsLookFault, LinesOf, IsLinesFault}
+use Rattle.sja_calls.specs.Calls.{StrikesOf, IsStrikeFault, IsNowOf, IsNowFault}
 use Rattle.sja_calls.specs.Texts.{Ends, PutsReport, IsReportFault, PutsPlan, IsNoPlanText, PutsRun, IsNoRun}
 use Rattle.sja_calls.specs.declared.call_fault.CallFault.TheVariants.{Memory}
 use Rattle.sja_calls.specs.declared.held.Held.{Held}
@@ -49,6 +50,11 @@ abbrev pub AnswersIrq : Held → Held → ℕ → SjaAnswer → Type 0
 AnswersIrq was now node =
     Answers (λ number. (number ≤ 1) × LooksOf was.state now.state node (number == 1))
     (λ fault. IsRefusal was.state (IsLookFault node) fault × (now ≡ was))
+
+-- bit K of the number is 1 where node K's line is active, and no other bit is
+abbrev pub AnswersLines : Held → Held → SjaAnswer → Type 0
+AnswersLines was now =
+    Answers (LinesOf was.state now.state) (λ fault. IsRefusal was.state IsLinesFault fault × (now ≡ was))
 
 abbrev pub AnswersStrike : Held → Held → ℕ → ℕ → SjaAnswer → Type 0
 AnswersStrike was now node bit =

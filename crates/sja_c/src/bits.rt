@@ -1,9 +1,9 @@
-//! `sja_bits`, `sja_irq`, `sja_strike` and `sja_now`.
+//! `sja_bits`, `sja_irq`, `sja_lines`, `sja_strike` and `sja_now`.
 
 ghost use types.Logic.{sem};
 ghost use Rattle.std.specs.Prelude.{◌≡◌};
 ghost use Rattle.sja_c.specs.Answers.{answer, no_handle_status};
-ghost use Rattle.sja_c.specs.Exports.{AnswersBits, AnswersIrq, AnswersStrike, AnswersNow};
+ghost use Rattle.sja_c.specs.Exports.{AnswersBits, AnswersIrq, AnswersLines, AnswersStrike, AnswersNow};
 ghost use Rattle.sja_c.specs.Handles.{is_handle, AtHandle};
 ghost use Rattle.sja_calls.specs.declared.held.Held.{Held as HeldOf};
 
@@ -55,6 +55,30 @@ fn irq_of(held: &mut Held, node: u32) -> SjaAnswer
     match held.irq(node) {
         Ok(true) => done(1),
         Ok(false) => done(0),
+        Err(fault) => refused(fault),
+    }
+}
+
+/// Looks at all interrupt lines: `sja_lines` of `c/sja.h`.
+#[unsafe(no_mangle)]
+pub unsafe extern "C" fn sja_lines(at: *mut u8) -> SjaAnswer
+    ghost held: { HeldOf }
+    requires* { sem 𝓛 (is_handle at held) }
+    ensures* { ∃ₛ (λ (after : HeldOf). sem 𝓛 (is_handle at after)
+        ∗ ⌜ AtHandle at (result ≡ answer no_handle_status 0) (AnswersLines held after result) ⌝) }
+{
+    if at.is_null() {
+        return no_handle();
+    }
+    lines_of(&mut *(at as *mut Held))
+}
+
+/// Looks at all interrupt lines.
+fn lines_of(held: &mut Held) -> SjaAnswer
+    ensures { AnswersLines held.old held.new result }
+{
+    match held.lines() {
+        Ok(lines) => done(u64::from(lines)),
         Err(fault) => refused(fault),
     }
 }

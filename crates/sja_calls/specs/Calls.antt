@@ -10,7 +10,7 @@ use Rattle.sja_calls.specs.declared.state.State.TheVariants.{Going, Ended as Has
 use Rattle.sja_driver.specs.Accesses.{Access}
 use Rattle.sja_regs.specs.Bits.{is_set}
 use Rattle.sja_session.specs.ByAddress.{Reads, Writes, MayWrite, IsWriteFault as IsWriteFaultOf}
-use Rattle.sja_session.specs.Lines.{Looks}
+use Rattle.sja_session.specs.Lines.{AreLines, IsStill, Looks}
 use Rattle.sja_session.specs.Running.{RunsBits, MayRun, LacksBusTurn}
 use Rattle.sja_session.specs.Sessions.{SessionValue, IsAt}
 use Rattle.sja_session.specs.Stepping.{MayStep, IsStepFault}
@@ -114,6 +114,16 @@ LooksOf was now node line =
 abbrev pub IsLookFault : ℕ → SessionValue → CallFault → Type 0
 IsLookFault node r NoNode = length r.plan.nodes ≤ node
 IsLookFault node r fault = ⊥
+
+-- the lines of all nodes were looked at, and nothing happened
+abbrev pub LinesOf : State → State → ℕ → Type 0
+LinesOf was now mask =
+    GoesOn was now (λ r s. (accesses : List (List Access)) → IsAt r accesses →
+    AreLines r accesses mask × IsStill r s accesses)
+
+-- a session that goes on always tells them
+abbrev pub IsLinesFault : SessionValue → CallFault → Type 0
+IsLinesFault r fault = ⊥
 
 -- a strike was taken
 abbrev pub StrikesOf : State → State → ℕ → ℕ → Type 0

@@ -17,7 +17,7 @@ use sja_session::{Session, StrikeFault, Watched};
 impl Held {
     ghost use Rattle.std.specs.Prelude.{◌≡◌, IfOk, IfErr, OnOk, OnErr};
     ghost use Rattle.sja_calls.specs.Calls.{IsRefusal, RunsOf, IsRunFault, LooksOf, IsLookFault};
-    ghost use Rattle.sja_calls.specs.Calls.{StrikesOf, IsStrikeFault, IsNowOf, IsNowFault};
+    ghost use Rattle.sja_calls.specs.Calls.{LinesOf, IsLinesFault, StrikesOf, IsStrikeFault, IsNowOf, IsNowFault};
 
     /// Runs so many bits, or as many as are left, or up to the first bit in which the interrupt line of a watched node
     /// rises: node K is watched where bit K of `watch` is 1. It says how many, and whose line rose.
@@ -45,6 +45,21 @@ impl Held {
     {
         match &mut self.state {
             State::Going(session) => irq_by(session, node),
+            State::Ended(_, _) => Err(CallFault::Ended),
+            State::Lost => Err(CallFault::Ended),
+        }
+    }
+
+    /// Which interrupt lines are active: bit K is 1 where node K is there and its line is active. It clears nothing.
+    ///
+    /// Error: [`CallFault::Ended`]; nothing changed.
+    pub fn lines(&mut self) -> Result<u8, CallFault>
+        ensures lines { IfOk result (LinesOf self.old.state self.new.state) }
+        ensures err { IfErr result (IsRefusal self.old.state IsLinesFault) }
+        ensures kept { OnErr result (self.new ≡ self.old) }
+    {
+        match &mut self.state {
+            State::Going(session) => Ok(session.lines()),
             State::Ended(_, _) => Err(CallFault::Ended),
             State::Lost => Err(CallFault::Ended),
         }

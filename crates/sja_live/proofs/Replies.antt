@@ -1,6 +1,5 @@
 -- What a line is answered.
 pub mod Writable
 pub mod Asked
-pub mod InterruptLines
 pub mod Told
 pub mod LineAnswers

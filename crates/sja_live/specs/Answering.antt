@@ -21,7 +21,7 @@ use Rattle.sja_script.specs.declared.step_answer.StepAnswer.TheVariants.{Done, V
 use Rattle.sja_serial.specs.Stepping.{with_accesses}
 use Rattle.sja_session.specs.Answering.{last_answer}
 use Rattle.sja_session.specs.ByAddress.{Reads, Writes, MayWrite, IsWriteFault}
-use Rattle.sja_session.specs.Lines.{IsStill, line_at}
+use Rattle.sja_session.specs.Lines.{AreLines, IsStill}
 use Rattle.sja_session.specs.Resting.{Rests}
 use Rattle.sja_session.specs.Running.{MayRun, LacksBusTurn}
 use Rattle.sja_session.specs.Sessions.{SessionValue, written}
@@ -36,20 +36,9 @@ use Rattle.sja_session.specs.declared.strike_fault.StrikeFault.TheVariants.{NoNo
 use Rattle.sja_session.specs.declared.strike_fault.StrikeFault.TheVariants.{NoBit as PastTheEnd, Memory}
 use Rattle.sja_session.specs.declared.strike_fault.StrikeFault.TheVariants.{StrikesUsed as AllStrikes}
 
--- ---- interrupt lines
-
 -- every node is watched
 abbrev pub all_watched : List Bool
 all_watched = replicate 8 true
-
--- of so many nodes from this one on the lines, the first one's as the lowest bit
-abbrev pub lines_from : (ℕ → Bool) → ℕ → ℕ → ℕ
-lines_from line node zero = 0
-lines_from line node (suc count) = (if line node then 1 else 0) + 2 * lines_from line (node + 1) count
-
--- bit K of the byte is 1 where the interrupt line of node K is active, and no other bit is
-abbrev pub AreLines : SessionValue → List (List Access) → ℕ → Type 0
-AreLines s accesses byte = byte ≡ lines_from (line_at s accesses) 0 (length s.plan.nodes)
 
 -- ---- refusals
 

@@ -3,7 +3,6 @@
 ghost use Rattle.sja_live.specs.Inside.Standing.{IsAnswered};
 ghost use Rattle.sja_live.specs.declared.live_command.LiveCommand.TheVariants.{Run, Rest};
 
-use super::interrupt_lines::lines;
 use super::live_answer::LiveAnswer;
 use super::used::Used;
 use sja_session::Session;
@@ -14,7 +13,7 @@ pub(crate) fn ran(session: &mut Session, count: u32) -> LiveAnswer
 {
     match session.watch(count, [true; 8]) {
         Ok(watched) => match watched.rose {
-            Some(_) => LiveAnswer::Rose(watched.bits, lines(session)),
+            Some(_) => LiveAnswer::Rose(watched.bits, session.lines()),
             None if watched.bits < count => LiveAnswer::Spent(watched.bits),
             None => LiveAnswer::Ran(watched.bits),
         },

@@ -8,7 +8,6 @@ ghost use Rattle.sja_live.specs.declared.live_command.LiveCommand.TheVariants.{S
 
 use super::answered_bits::{ran, rested};
 use super::answered_steps::{stepped, was_read, was_written};
-use super::interrupt_lines::lines;
 use super::line_fault::LineFault;
 use super::live_answer::LiveAnswer;
 use super::live_command::LiveCommand;
@@ -54,7 +53,7 @@ pub(crate) fn answered(
 fn looked(session: &mut Session) -> LiveAnswer
     ensures { IsAnswered session.old session.new Line result }
 {
-    LiveAnswer::Lines(lines(session))
+    LiveAnswer::Lines(session.lines())
 }
 
 /// How many bits were run.

@@ -15,7 +15,6 @@ mod answered_steps;
 mod answering;
 mod command_refusal;
 mod command_words;
-mod interrupt_lines;
 mod line_fault;
 mod line_words;
 mod live_answer;

@@ -2,4 +2,5 @@ pub mod WrittenPlan
 pub mod StepsDone
 pub mod BitsDone
 pub mod WatchedBits
+pub mod InterruptLines
 pub mod Lifetime

@@ -1,6 +1,6 @@
 -- A look at the interrupt line of a node of a session (the line: SJA1000 data sheet, 6.4.6; the look is this project's
 -- own rule).
-use Rattle.std.specs.Prelude.{◌≡◌, ◌<◌, ℕ, Bool, List, length, slice_index_or}
+use Rattle.std.specs.Prelude.{◌≡◌, ◌+◌, ◌*◌, ◌<◌, ℕ, zero, suc, Bool, List, length, slice_index_or, if◌then◌else◌}
 use Rattle.sja_wire.specs.Wire.{journal_at}
 use Rattle.sja_regs.specs.declared.registers.Registers.{Registers}
 use Rattle.sja_regs.specs.InterruptLine.{is_line_active}
@@ -38,3 +38,12 @@ pub record IsStill (was now : SessionValue) (accesses : List (List Access)) : Ty
 pub record Looks (was now : SessionValue) (node : ℕ) (line : Bool) (accesses : List (List Access)) : Type 0 where
   pub is : (p : Registers) → line ≡ line_by was node (deeds_in (accesses_at accesses node)) p
   pub still : IsStill was now accesses
+
+-- of so many nodes from this one on the lines, the first one's as the lowest bit
+abbrev pub lines_from : (ℕ → Bool) → ℕ → ℕ → ℕ
+lines_from line node zero = 0
+lines_from line node (suc count) = (if line node then 1 else 0) + 2 * lines_from line (node + 1) count
+
+-- bit K of the byte is 1 where the interrupt line of node K is active, and no other bit is
+abbrev pub AreLines : SessionValue → List (List Access) → ℕ → Type 0
+AreLines s accesses byte = byte ≡ lines_from (line_at s accesses) 0 (length s.plan.nodes)

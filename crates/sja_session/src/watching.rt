@@ -34,11 +34,11 @@ impl Session {
             return Err(TurnsUsed);
         }
         self.plan.limits();
-        let mut before = self.lines(&watched);
+        let mut before = self.looks(&watched);
         let mut bits = 0;
         while bits < count && self.run.bits() < self.plan.bits() {
             bits += self.run_until_told(count - bits);
-            let now = self.lines(&watched);
+            let now = self.looks(&watched);
             if let Some(node) = first_risen(&watched, &before, &now) {
                 return Ok(Watched {
                     bits,
@@ -68,7 +68,7 @@ impl Session {
 
     /// Which interrupt lines of watched nodes are active, a place for each node that there may be. Of the nodes that
     /// are there each that is watched is looked at.
-    fn lines(&mut self, watched: &[bool; 8]) -> [bool; 8]
+    fn looks(&mut self, watched: &[bool; 8]) -> [bool; 8]
         ensures still { (accesses : List (List Access)) → IsAt self.old accesses → IsStill self.old self.new accesses }
         ensures lines { (accesses : List (List Access)) → IsAt self.old accesses → (k : ℕ) →
             k < length self.old.plan.nodes → k < 8 → slice_index_or watched.now k false ≡ true →

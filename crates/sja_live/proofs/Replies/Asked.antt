@@ -3,7 +3,7 @@ use Rattle.std.proofs.Common.{◌≡◌, ℕ, List, refl, sym, ◌∙◌, subst,
 use Rattle.std.specs.Prelude.{Option, Some, None, ◌<◌, ◌≤◌, ◌⊎◌, String, string_bytes}
 use Rattle.std.specs.Global.{Global}
 use Rattle.sja_driver.specs.Accesses.{Access, accesses_at}
-use Rattle.sja_live.specs.Answering.{Answers, AreLines, strike_refusal}
+use Rattle.sja_live.specs.Answering.{Answers, strike_refusal}
 use Rattle.sja_live.specs.Answering.Answers.{line, strike, no_strike, nothing, bits, plan, no_plan}
 use Rattle.sja_live.specs.Answering.Answers.{answer as an_answer}
 use Rattle.sja_live.specs.Inside.Standing.{IsAnswered, IsLive}
@@ -24,7 +24,7 @@ use Rattle.sja_plan_text.specs.declared.plan_text_fault.PlanTextFault.TheVariant
 use Rattle.sja_script.specs.declared.step_answer.StepAnswer.{StepAnswer}
 use Rattle.sja_script.specs.declared.step_answer.StepAnswer.TheVariants.{Done}
 use Rattle.sja_session.specs.Answering.{last_answer}
-use Rattle.sja_session.specs.Lines.{IsStill}
+use Rattle.sja_session.specs.Lines.{AreLines, IsStill}
 use Rattle.sja_session.specs.Sessions.{SessionValue, IsAt, written}
 use Rattle.sja_session.specs.Striking.{MayStrike, IsStrikeFault, IsStruck}
 use Rattle.sja_session.specs.declared.strike_fault.StrikeFault.{StrikeFault}

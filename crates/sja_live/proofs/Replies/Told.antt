@@ -2,7 +2,7 @@
 use Rattle.std.proofs.Common.{◌≡◌, ℕ, ◌<◌, ◌≤◌, true, false, List, ◌∷◌, [], sym, subst, arith}
 use Rattle.std.specs.Prelude.{Some, None}
 use Rattle.sja_driver.specs.Accesses.{Access}
-use Rattle.sja_live.specs.Answering.{Answers, AreLines, all_watched, step_refusal}
+use Rattle.sja_live.specs.Answering.{Answers, all_watched, step_refusal}
 use Rattle.sja_live.specs.Answering.Answers.{step, waits, no_step, read, no_read, write, no_write, rose, ran, spent}
 use Rattle.sja_live.specs.Answering.Answers.{no_turn, rested, restless, no_rest}
 use Rattle.sja_live.specs.Inside.Standing.{IsAnswered, IsLiveAt}
@@ -19,7 +19,7 @@ use Rattle.sja_script.specs.declared.step_answer.StepAnswer.{StepAnswer}
 use Rattle.sja_script.specs.declared.step_answer.StepAnswer.TheVariants.{Done, Value}
 use Rattle.sja_serial.specs.Stepping.{with_accesses}
 use Rattle.sja_session.specs.ByAddress.{Reads, Writes, MayWrite, IsWriteFault}
-use Rattle.sja_session.specs.Lines.{IsStill}
+use Rattle.sja_session.specs.Lines.{AreLines, IsStill}
 use Rattle.sja_session.specs.Resting.{Rests}
 use Rattle.sja_session.specs.Running.{MayRun, LacksBusTurn}
 use Rattle.sja_session.specs.Sessions.{SessionValue, IsAt, written}

@@ -4,7 +4,7 @@ use Rattle.sja_live.proofs.answered_bits.ran.Goals as goal
 -- a line rose
 pub returns-in-Some : goal.returns-in-Some
 returns-in-Some c =
-    told_rose c.args.session.now c.watch.new.self c.lines.new.session c.args.count c.in-Ok.watched.bits
+    told_rose c.args.session.now c.watch.new.self c.lines.new.self c.args.count c.in-Ok.watched.bits
     c.in-Some.field-0 c.lines.result c.in-Ok.ensures.may (rw c.in-Some.is at c.in-Ok.ensures.watches)
     c.lines.ensures.lines c.lines.ensures.still
 

@@ -1,18 +1,17 @@
-use Rattle.std.proofs.Common.{◌≡◌, ◌<◌, ◌≤◌, ℕ, true, false, List, length}
-use Rattle.std.specs.Prelude.{slice_index_or}
+use Rattle.std.proofs.Common.{◌≡◌, ◌-◌, ◌<◌, ◌≤◌, ◌^◌, List, length}
 use Rattle.sja_driver.specs.Accesses.{Access}
-use Rattle.sja_session.specs.Lines.{IsStill, line_at}
+use Rattle.sja_session.specs.Lines.{IsStill, line_at, lines_from}
 use Rattle.sja_session.specs.Sessions.{IsAt}
 use Rattle.sja_session.proofs.session.Session.lines.Given as goal
 
--- nothing happened, and the lines of those that are watched, of so many nodes, are told
-abbrev pub invariant-loop-node : goal.invariant-loop-node
-invariant-loop-node l = record {
+-- nothing happened, and the lines of so many nodes, the last ones, are told
+abbrev pub invariant-loop-place : goal.invariant-loop-place
+invariant-loop-place l = record {
   still : (accesses : List (List Access)) → IsAt l.initial.self accesses → IsStill l.initial.self l.self accesses;
-  told : (accesses : List (List Access)) → IsAt l.initial.self accesses → (k : ℕ) → k < l.node →
-      k < length l.initial.self.plan.nodes → slice_index_or l.watched k false ≡ true →
-      slice_index_or l.lines k false ≡ line_at l.initial.self accesses k;
-  rest : (k : ℕ) → length l.initial.self.plan.nodes ≤ k → slice_index_or l.lines k false ≡ false;
-  nodes : length l.self.plan.nodes ≡ length l.initial.self.plan.nodes;
-  long : length l.lines ≡ 8;
+  value : (accesses : List (List Access)) → IsAt l.initial.self accesses →
+      l.lines ≡ lines_from (line_at l.initial.self accesses) (l.nodes - l.place) l.place;
+  few : l.lines < 2 ^ l.place;
+  nodes : l.nodes ≡ length l.initial.self.plan.nodes;
+  eight : l.nodes ≤ 8;
+  same : length l.self.plan.nodes ≡ length l.initial.self.plan.nodes;
 }

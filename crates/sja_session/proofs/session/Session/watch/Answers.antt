@@ -28,10 +28,10 @@ pub loop-bits-init : goal.loop-bits-init
 loop-bits-init c =
     let at = subst (λ (s : SessionValue). IsAt s c.self.invariant.accesses) c.self.view_is c.self.invariant.at in
     let may : MayRun c.args.self.now c.args.count = c.lacks_bus_turn.ensures.no (search rules) in record {
-      ran = λ accesses h. no_bit (c.lines-before.ensures.still accesses h);
-      told = λ accesses h k less few on. c.lines-before.ensures.lines accesses h k less few on
-          ∙ sym (line_still (c.lines-before.ensures.still accesses h) k);
-      may = λ some. may_still (c.lines-before.ensures.still c.self.invariant.accesses at)
+      ran = λ accesses h. no_bit (c.looks-before.ensures.still accesses h);
+      told = λ accesses h k less few on. c.looks-before.ensures.lines accesses h k less few on
+          ∙ sym (line_still (c.looks-before.ensures.still accesses h) k);
+      may = λ some. may_still (c.looks-before.ensures.still c.self.invariant.accesses at)
           (may_one c.args.self.now c.args.count some may);
       most = omega arith;
     }
@@ -50,13 +50,13 @@ returns-in-Some-clause-watches c = λ accesses h.
     let inv = c.loop-bits.invariant in let q = inv.ran accesses h in
     let u = c.run_until_told-bits.ensures.ran accesses (quiet_at q) in
     let rose = c.in-Some.ensures in
-    let active : bit (slice_index_or c.lines-now.result c.in-Some.node false) ≡ 1 =
+    let active : bit (slice_index_or c.looks-now.result c.in-Some.node false) ≡ 1 =
     omega (arith, place_now _ _ _ c.in-Some.node rose.some.0) in
     let few = c.run_until_told-bits.ensures.most in let most = inv.most in (
-      one_rises c.loop-bits.before c.lines-now.result h q u (inv.told accesses h)
-          (c.lines-now.ensures.lines accesses u.bit.at) c.lines-now.new.self (c.lines-now.ensures.still accesses
+      one_rises c.loop-bits.before c.looks-now.result h q u (inv.told accesses h)
+          (c.looks-now.ensures.lines accesses u.bit.at) c.looks-now.new.self (c.looks-now.ensures.still accesses
           u.bit.at)
-          c.in-Some.node rose.some.1 rose.some.0 rose.first (c.lines-now.ensures.none c.in-Some.node),
+          c.in-Some.node rose.some.1 rose.some.0 rose.first (c.looks-now.ensures.none c.in-Some.node),
       omega (arith, few, most),
     )
 
@@ -69,12 +69,12 @@ loop-bits-preserved c =
     let run = λ (accesses : List (List Access)) (h : IsAt c.args.self.now accesses).
     c.run_until_told-bits.ensures.ran accesses (quiet_at (inv.ran accesses h)) in
     let still = λ (accesses : List (List Access)) (h : IsAt c.args.self.now accesses).
-    c.lines-now.ensures.still accesses (run accesses h).bit.at in record {
-      ran = λ accesses h. none_rises c.loop-bits.before c.lines-now.result h (inv.ran accesses h) (run accesses h)
-          (inv.told accesses h) (c.lines-now.ensures.lines accesses (run accesses h).bit.at) c.lines-now.new.self
+    c.looks-now.ensures.still accesses (run accesses h).bit.at in record {
+      ran = λ accesses h. none_rises c.loop-bits.before c.looks-now.result h (inv.ran accesses h) (run accesses h)
+          (inv.told accesses h) (c.looks-now.ensures.lines accesses (run accesses h).bit.at) c.looks-now.new.self
           (still accesses h) most c.in_default.ensures.none;
       told = λ accesses h k less eight on.
-          c.lines-now.ensures.lines accesses (run accesses h).bit.at k
+          c.looks-now.ensures.lines accesses (run accesses h).bit.at k
           (let e = nodes_same h (run accesses h).bit.at in omega (arith, e, less)) eight on
           ∙ sym (line_still (still accesses h) k);
       may = λ some. may_still (still c.self.invariant.accesses at) c.run_until_told-bits.ensures.may;

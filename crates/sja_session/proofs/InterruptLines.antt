@@ -4,7 +4,7 @@ use Rattle.std.proofs.Common.{◌∙◌, add-one, arith}
 use Rattle.std.specs.Prelude.{if◌then◌else◌}
 use Rattle.std.proofs.Math.Nat.{two-pow-succ}
 use Rattle.std.proofs.Math.Pow.{pow_mono}
-use Rattle.sja_live.specs.Answering.{lines_from}
+use Rattle.sja_session.specs.Lines.{lines_from}
 
 -- ---- lines, one after another, from the last one on
 
