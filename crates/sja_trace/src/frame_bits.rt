@@ -1,17 +1,17 @@
 //! The lines of bits, where one reader serves all nodes that have read just the same of a frame.
 
-ghost use Rattle.std.specs.Prelude.{◌≡◌, ◌+◌, ◌^◌, ◌++◌, ◌<◌, ◌≤◌, true, false, List, string_bytes, IfOk, OnOk};
+ghost use Rattle.std.specs.Prelude.{◌≡◌, ◌+◌, ◌^◌, ◌++◌, ◌<◌, ◌≤◌, ℕ, true, false, List, length, slice_index_or};
+ghost use Rattle.std.specs.Prelude.{string_bytes, IfOk, OnOk};
 ghost use Rattle.lemmas.specs.Related.{EachRelated};
 ghost use Rattle.sja_report.specs.ReportLines.{numbered};
 ghost use Rattle.sja_trace.specs.declared.teller.Teller.{Teller as Telling};
 ghost use Rattle.sja_trace.specs.Inside.Coming.{AreUnderway};
 ghost use Rattle.sja_trace.specs.Inside.Passing.{hands_text};
-ghost use Rattle.sja_trace.specs.Inside.Reading.{Stands, RowGoesOn, TellsBits, other_line, other_lines};
+ghost use Rattle.sja_trace.specs.Inside.Reading.{Stands, RowGoesOn, TellsBits, HearsOne};
+ghost use Rattle.sja_trace.specs.Inside.Reading.{other_line, other_lines};
 
-use super::node_lines::put_node;
-use super::readers::{
-    bus_of_others, hear_all, hear_next, mark_all, pass_from_all, pass_others, reader_of,
-};
+use super::node_lines::put_unless_plain;
+use super::readers::{hear_next, mark_all, pass_from_all, pass_others, reader_of};
 use super::remarks::Remarks;
 use super::teller::Teller;
 use super::tellers::bus_of_hands;
@@ -72,15 +72,13 @@ fn put_row(
     ensures goes { IfOk result (λ reads. (vs : List Telling) → EachRelated (Stands reader.old) tellers.old vs
         → RowGoesOn bit vs (string_bytes text.old) reads reader.new tellers.new (string_bytes text.new)) }
 {
-    pass_others(tellers);
-    let bus = bus_of_others(tellers);
+    let bus = pass_others(tellers);
     let before = *reader;
     // The segments are asked for the proof alone: what the bit brought has them.
     let _segment = before.next_segment();
     if more && hear_next(tellers, bus, bit) && reader.take_inside(bus) {
         let _next = reader.next_segment();
-        hear_all(tellers);
-        put_others(alloc, text, remarks, tellers, bus, bit)?;
+        hear_all(alloc, text, remarks, tellers, bus, bit)?;
         return Ok(true);
     }
     pass_from_all(tellers, &before);
@@ -101,32 +99,36 @@ fn put_bit(
     let bus = bus_of_hands(tellers);
     let mut number = 0usize;
     for teller in tellers {
-        put_node(alloc, text, remarks, number, teller, bus, bit)?;
+        put_unless_plain(alloc, text, remarks, number, teller, bus, bit)?;
         number += 1;
     }
     Ok(())
 }
 
-/// The lines of the nodes in the bit at hand that aren't behind a reader, where the bus had this level.
-fn put_others(
+/// The lines of the nodes in the bit at hand that aren't behind a reader, where the bus had this level. Those that are
+/// go on past it.
+fn hear_all(
     alloc: Global,
     text: &mut String,
     remarks: &mut Remarks,
-    tellers: &[Teller<'_>],
+    tellers: &mut [Teller<'_>],
     bus: Level,
     bit: u32,
 ) -> Result<(), OutOfMemory>
-    ensures text { OnOk result (string_bytes text.new ≡ string_bytes text.old ++ other_lines bus bit tellers.now) }
+    requires { (k : ℕ) (t : Telling) → k < length tellers.old → (slice_index_or tellers.old k t).reads ≡ true
+        → (slice_index_or tellers.old k t).bits.replay.bits + 1 < 2 ^ 32 }
+    ensures hears { OnOk result (EachRelated HearsOne tellers.old tellers.new) }
+    ensures text { OnOk result (string_bytes text.new ≡ string_bytes text.old ++ other_lines bus bit tellers.new) }
 {
-    let mut number = 0usize;
-    for teller in tellers {
-        put_other(alloc, text, remarks, number, teller, bus, bit)?;
-        number += 1;
+    for k in 0..tellers.len() {
+        put_other(alloc, text, remarks, k, &tellers[k], bus, bit)?;
+        tellers[k].hear();
     }
     Ok(())
 }
 
 /// The lines of a node, where it isn't behind a reader.
+#[inline(always)]
 fn put_other(
     alloc: Global,
     text: &mut String,
@@ -141,5 +143,5 @@ fn put_other(
     if teller.reads {
         return Ok(());
     }
-    put_node(alloc, text, remarks, node, teller, bus, bit)
+    put_unless_plain(alloc, text, remarks, node, teller, bus, bit)
 }

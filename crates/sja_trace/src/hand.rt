@@ -21,6 +21,21 @@ pub(crate) fn counters_of(short: &Option<ShortBit>, bit: &Option<Happening>) -> 
     }
 }
 
+/// Keeps them.
+#[inline(always)]
+pub(crate) fn keep_counters(
+    counters: &mut Counters,
+    short: &Option<ShortBit>,
+    bit: &Option<Happening>,
+)
+    ensures { counters.new ≡ counters_of short.now bit.now }
+{
+    match short {
+        Some(short) => *counters = short.counters,
+        None => *counters = counters_after(bit),
+    }
+}
+
 /// The level that the node drove in it; recessive where there is none.
 pub fn driven_of(short: &Option<ShortBit>, bit: &Option<Happening>) -> Level
     ensures { result ≡ driven_of short.now bit.now }

@@ -1,6 +1,6 @@
 //! The lines of a node in a bit.
 
-ghost use Rattle.std.specs.Prelude.{◌≡◌, ◌++◌, decimal, string_bytes, OnOk};
+ghost use Rattle.std.specs.Prelude.{◌≡◌, ◌++◌, ℕ, true, [], decimal, string_bytes, OnOk};
 ghost use Rattle.sja_trace.specs.BitEvents.{all_said};
 ghost use Rattle.sja_trace.specs.Telling.{at_hand};
 ghost use Rattle.sja_trace.specs.TraceText.{joined, bit_line};
@@ -19,6 +19,39 @@ use can_node::Counters;
 use sja_replay::{Happening, ShortBit};
 use std::alloc::{AllocError, Global};
 use std::fmt::Write;
+
+/// The same lines, where the steps and the bit are looked at first: of most bits nothing is told.
+#[inline(always)]
+pub(crate) fn put_unless_plain(
+    alloc: Global,
+    text: &mut String,
+    remarks: &mut Remarks,
+    node: usize,
+    teller: &Teller<'_>,
+    bus: Level,
+    bit: u32,
+) -> Result<(), OutOfMemory>
+    ensures text { OnOk result (string_bytes text.new ≡ string_bytes text.old
+        ++ told_lines bus bit node teller.now) }
+{
+    if is_unsaid(teller, bus, bit) {
+        return Ok(());
+    }
+    put_node(alloc, text, remarks, node, teller, bus, bit)
+}
+
+/// Whether no step stands right before this bit, and nothing is said of the bit at hand, in which the bus had this
+/// level. It may be so where it isn't said.
+#[inline(always)]
+#[tactic(auto, using(crate::proofs::SoFar::Lines::unsaid))]
+fn is_unsaid(teller: &Teller<'_>, bus: Level, bit: u32) -> bool
+    ensures { result ≡ true → (node : ℕ) → told_lines bus bit node teller.now ≡ [] }
+{
+    match &teller.short {
+        Some(short) => teller.steps.is_quiet(bit) && is_plain(bus, teller.counters, short),
+        None => false,
+    }
+}
 
 /// The lines of the steps before this bit, in which the bus had this level, and then its own.
 #[tactic(auto, using(sja_report::proofs::WrittenLines::Written::two_texts))]

@@ -1,6 +1,6 @@
 //! [`NodeSteps`]: the steps of a node's driver, of which a trace tells bit by bit.
 
-ghost use Rattle.std.specs.Prelude.{◌≡◌, ◌-◌, true};
+ghost use Rattle.std.specs.Prelude.{◌≡◌, true};
 ghost use Rattle.sja_trace.specs.Inside.StepOrder.{Ascends, ArePast, ArePast-prop, AscendIf, AscendIf-prop};
 ghost use Rattle.sja_trace.specs.Inside.StepOrder.{IsNext, IsNext-prop};
 
@@ -17,14 +17,14 @@ pub(crate) struct NodeSteps<'a> {
     pub(crate) done: &'a [Done],
     /// Whether no step that was done has fewer bits before it than one before it has.
     in_order: bool,
-    /// How many bits were gone on past, with the one at hand.
-    bits: u32,
-    /// The steps before this place have fewer bits before them than the bit at hand has.
+    /// The steps before the place have fewer bits before them than so many.
+    past: u32,
+    /// The place up to which they were gone over.
     place: usize,
     /// The step at that place has so many bits before it, or more.
     next: u32,
     ghost ascends: { AscendIf in_order done.now } by { AscendIf-prop in_order done.now },
-    ghost past: { ArePast (bits - 1) place done.now } by { ArePast-prop (bits - 1) place done.now },
+    ghost are_past: { ArePast past place done.now } by { ArePast-prop past place done.now },
     ghost is_next: { IsNext next place done.now } by { IsNext-prop next place done.now },
 }
 
@@ -42,25 +42,24 @@ impl<'a> NodeSteps<'a> {
             steps,
             done,
             in_order: is_in_order(done),
-            bits: 0,
+            past: 0,
             place: 0,
             next: bits_at(done, 0),
         }
     }
 
-    /// Goes on past so many bits.
+    /// Goes on to this bit.
+    #[inline(always)]
     #[tactic(auto, using(crate::proofs::DriverSteps::StepOrders::past_later))]
-    pub(crate) fn go_on(&mut self, count: u32)
+    pub(crate) fn go_to(&mut self, bit: u32)
         ensures { HasSameSteps self.old self.new }
     {
-        let bits = self.bits.saturating_add(count);
-        let past = bits.saturating_sub(1);
-        if self.next < past {
-            let place = place_past(self.done, self.place, past);
+        if self.next < bit && self.past <= bit {
+            let place = place_past(self.done, self.place, bit);
             self.place = place;
             self.next = bits_at(self.done, place);
+            self.past = bit;
         }
-        self.bits = bits;
     }
 
     /// How many bits from this one on have no step right before them, at most so many. There may be more of them.
@@ -113,7 +112,7 @@ impl<'a> NodeSteps<'a> {
     pub(crate) fn is_quiet(&self, bit: u32) -> bool
         ensures { result ≡ true → (node : ℕ) → steps_due false bit node 1 self.now.steps.now self.now.done.now ≡ [] }
     {
-        if !self.in_order || bit < self.bits.saturating_sub(1) {
+        if !self.in_order || bit < self.past {
             return false;
         }
         bit < self.next
@@ -124,11 +123,7 @@ impl<'a> NodeSteps<'a> {
     fn first_at(&self, bit: u32) -> usize
         ensures { ArePast bit result self.now.done.now }
     {
-        if self.bits.saturating_sub(1) <= bit {
-            self.place
-        } else {
-            0
-        }
+        if self.past <= bit { self.place } else { 0 }
     }
 }
 

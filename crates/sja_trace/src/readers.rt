@@ -9,7 +9,6 @@ ghost use Rattle.sja_trace.specs.Inside.Coming.{AreUnderway};
 ghost use Rattle.sja_trace.specs.Inside.Reading.{Marks, OtherPasses, MayHear, HearsOne, PassesFrom, others_driven};
 
 use super::teller::Teller;
-use super::tellers::with_node;
 use can_bits::{Level, Shift};
 
 /// A reader that a node has which receives a frame, or a new one.
@@ -33,22 +32,15 @@ pub(crate) fn mark_all(tellers: &mut [Teller<'_>], reader: &Shift)
     }
 }
 
-/// Each that isn't behind a reader goes on past its next bit.
-pub(crate) fn pass_others(tellers: &mut [Teller<'_>])
-    ensures { EachRelated OtherPasses tellers.old tellers.new }
-{
-    for k in 0..tellers.len() {
-        tellers[k].pass_other();
-    }
-}
-
-/// The level of the bus in the bit at hand, where those behind a reader drive recessive.
-pub(crate) fn bus_of_others(tellers: &[Teller<'_>]) -> Level
-    ensures { result ≡ wired (others_driven tellers.now) }
+/// Each that isn't behind a reader goes on past its next bit. Answers the level of the bus in it, where those behind a
+/// reader drive recessive.
+pub(crate) fn pass_others(tellers: &mut [Teller<'_>]) -> Level
+    ensures passes { EachRelated OtherPasses tellers.old tellers.new }
+    ensures bus { result ≡ wired (others_driven tellers.new) }
 {
     let mut bus = Level::Recessive;
-    for teller in tellers {
-        bus = with_node(bus, teller.driven_beside());
+    for k in 0..tellers.len() {
+        bus = tellers[k].pass_other(bus);
     }
     bus
 }
@@ -64,17 +56,6 @@ pub(crate) fn hear_next(tellers: &[Teller<'_>], bus: Level, bit: u32) -> bool
         }
     }
     true
-}
-
-/// Each that is behind a reader goes on past that bit.
-pub(crate) fn hear_all(tellers: &mut [Teller<'_>])
-    requires { (k : ℕ) (t : Telling) → k < length tellers.old → (slice_index_or tellers.old k t).reads ≡ true
-        → (slice_index_or tellers.old k t).bits.replay.bits + 1 < 2 ^ 32 }
-    ensures { EachRelated HearsOne tellers.old tellers.new }
-{
-    for k in 0..tellers.len() {
-        tellers[k].hear();
-    }
 }
 
 /// Each that is behind this reader goes on to where it is, and past its next bit.

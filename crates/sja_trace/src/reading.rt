@@ -1,6 +1,7 @@
 //! A node that receives a frame, where another reader takes the levels for it.
 
-ghost use Rattle.std.specs.Prelude.{◌≡◌, ◌<◌, ◌+◌, ◌^◌, true};
+ghost use Rattle.std.specs.Prelude.{◌≡◌, ◌<◌, ◌+◌, ◌^◌, ◌∷◌, [], true};
+ghost use Rattle.sja_wire.specs.Wire.{wired};
 ghost use Rattle.sja_replay.specs.Reading.{Receives};
 ghost use Rattle.sja_trace.specs.Telling.{IsUnderway};
 ghost use Rattle.sja_trace.specs.Inside.Reading.{Stands, IsBehind, OtherPasses, MayHear, HearsOne, PassesFrom};
@@ -9,6 +10,7 @@ ghost use Rattle.sja_trace.specs.Inside.Reading.{other_driven};
 use super::counters::are_same;
 use super::hand::{counters_of, driven_of};
 use super::teller::Teller;
+use super::tellers::with_node;
 use can_bits::{Level, Shift};
 
 impl<'a> Teller<'a> {
@@ -33,26 +35,19 @@ impl<'a> Teller<'a> {
         are_same(self.bits.replay.counters(), left)
     }
 
-    /// Goes on past the next bit, if the node isn't behind a reader.
+    /// Goes on past the next bit, if the node isn't behind a reader. Answers the level on a bus of this level where the
+    /// node drives its bit too: behind a reader it drives recessive.
     #[inline(always)]
-    pub(crate) fn pass_other(&mut self)
-        ensures { OtherPasses self.old self.new }
-    {
-        if !self.reads {
-            self.pass_on();
-        }
-    }
-
-    /// The level that the node drives in its bit, if it isn't behind a reader: else it drives recessive.
-    #[inline(always)]
-    pub(crate) fn driven_beside(&self) -> Level
-        ensures { result ≡ other_driven self.now }
+    #[tactic(auto, using(crate::proofs::SoFar::InTurn::drives_nothing))]
+    pub(crate) fn pass_other(&mut self, bus: Level) -> Level
+        ensures passes { OtherPasses self.old self.new }
+        ensures driven { result ≡ wired (bus ∷ other_driven self.new ∷ []) }
     {
         if self.reads {
-            Level::Recessive
-        } else {
-            driven_of(&self.short, self.bits.bit())
+            return bus;
         }
+        self.pass_on();
+        with_node(bus, driven_of(&self.short, self.bits.bit()))
     }
 
     /// Whether the node may stay behind a reader that takes this level of this bit, or isn't behind one and nothing was
@@ -74,7 +69,6 @@ impl<'a> Teller<'a> {
         ensures { HearsOne self.old self.new }
     {
         if self.reads {
-            self.steps.go_on(1);
             self.bits.replay.hear();
         }
     }

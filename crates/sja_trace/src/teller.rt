@@ -1,7 +1,7 @@
 //! [`Teller`]: a node of which a trace tells.
 
 use super::counters::{are_same, counters_after};
-use super::hand::counters_of;
+use super::hand::{counters_of, keep_counters};
 use super::node_bits::NodeBits;
 use super::node_steps::NodeSteps;
 use can_node::Counters;
@@ -49,18 +49,19 @@ impl<'a> Teller<'a> {
     pub(crate) fn go_on(&mut self)
         ensures { TellerGoesOn self.old self.new }
     {
-        self.steps.go_on(1);
+        self.steps.go_to(self.bits.replay.bits());
         self.counters = counters_after(self.bits.bit());
         self.bits.go_on();
     }
 
     /// Goes on past the next bit, if there is one, in short where it tells nothing.
+    #[inline(always)]
     pub(crate) fn pass_on(&mut self)
         ensures passes { TellerPasses self.old self.new }
         ensures reads { self.new.reads ≡ self.old.reads }
     {
-        self.steps.go_on(1);
-        self.counters = counters_of(&self.short, self.bits.bit());
+        self.steps.go_to(self.bits.replay.bits());
+        keep_counters(&mut self.counters, &self.short, self.bits.bit());
         self.short = self.bits.pass();
         if self.short.is_none() {
             self.bits.go_on();
@@ -96,10 +97,10 @@ impl<'a> Teller<'a> {
         requires { RestsFor self.old.bits.replay count }
         ensures { HasRested count self.old self.new }
     {
-        self.steps.go_on(count);
         let short = self.bits.replay.rest(count);
         self.counters = short.counters;
         self.short = Some(short);
+        self.steps.go_to(self.bits.replay.bits());
     }
 
     /// Goes on to the end of the journal.

@@ -2,7 +2,7 @@
 use Rattle.std.proofs.Common.{◌≡◌, ℕ, ◌+◌, ◌<◌, ◌≤◌, Bool, List, [], ◌∷◌, ◌++◌, length}
 use Rattle.std.proofs.Common.{drop, get_or, refl, sym, ap, ap₂, ◌∙◌, append-nil, append_assoc}
 use Rattle.std.proofs.Math.ListN.{drop_of_length-le}
-use Rattle.std.specs.Prelude.{Option, None}
+use Rattle.std.specs.Prelude.{Option, Some, None, false}
 use Rattle.can_bits.specs.declared.level.Level.{Level}
 use Rattle.can_node.specs.declared.counters.Counters.{Counters}
 use Rattle.sja_replay.specs.declared.happening.Happening.{Happening}
@@ -11,7 +11,11 @@ use Rattle.sja_report.proofs.WrittenLines.Written.{rest_is}
 use Rattle.sja_script.specs.declared.done.Done.{Done}
 use Rattle.sja_script.specs.declared.step.Step.{Step}
 use Rattle.sja_trace.specs.TraceText.{joined, bit_line, step_line, is_due, line_where, steps_due}
-use Rattle.sja_trace.specs.Inside.Hands.{hand_line}
+use Rattle.sja_trace.specs.declared.teller.Teller.{Teller}
+use Rattle.sja_trace.specs.BitEvents.{all_said}
+use Rattle.sja_trace.specs.Telling.{at_hand}
+use Rattle.sja_trace.specs.Inside.Hands.{hand_line, happening_of}
+use Rattle.sja_trace.specs.Inside.Passing.{told_lines}
 use Rattle.sja_trace.specs.Inside.Saying.{is_any, line_if}
 
 -- ---- steps
@@ -71,3 +75,11 @@ pub no_line : (bus : Level) (bit node : ℕ) (left : Counters) (short : Option S
     (old : List ℕ) → short ≡ None → own ≡ None → old ≡ old ++ hand_line bus bit node left short own
 no_line bus bit node left short own old full none =
     sym (append-nil old) ∙ ap₂ (λ s x. old ++ hand_line bus bit node left s x) (sym full) (sym none)
+
+-- none where a bit is at hand in short of which nothing is said, and no step stands right before it
+pub unsaid : (bus : Level) (bit : ℕ) (t : Teller) (q : ShortBit) → t.short ≡ Some q →
+    ((node : ℕ) → steps_due false bit node 1 t.steps.steps.now t.steps.done.now ≡ []) →
+    all_said bus t.counters (happening_of q) ≡ [] → (node : ℕ) → told_lines bus bit node t ≡ []
+unsaid bus bit t q is quiet none node =
+    ap₂ (λ x y. x ++ y) (quiet node)
+    (ap (λ s. hand_line bus bit node t.counters s (at_hand t.bits)) is ∙ ap (bit_line bit node) none)

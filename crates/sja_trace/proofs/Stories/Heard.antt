@@ -46,6 +46,14 @@ one_level : (l : Level) → are_same l l ≡ true
 one_level Dominant = refl
 one_level Recessive = refl
 
+-- its lines are the same before it goes on past the bit
+pub line_before : (bus : Level) (bit node : ℕ) (t n : Teller) (b : Bool) → t.reads ≡ b → HearsOne t n →
+    other_line bus bit node t ≡ other_line bus bit node n
+line_before bus bit node t n false is h = ap (λ x. other_line bus bit node x) (sym (h.kept is))
+line_before bus bit node t n true is h =
+    ap (λ (x : Bool). if x then [] else told_lines bus bit node t) is
+    ∙ sym (ap (λ (x : Bool). if x then [] else told_lines bus bit node n) ((h.heard is).reads ∙ is))
+
 -- ---- one node, behind a reader that takes the level
 
 module _ (before after : Shift) (bus : Level) (segment next : Segment) (bit : ℕ) (takes : TakesInside before bus after)

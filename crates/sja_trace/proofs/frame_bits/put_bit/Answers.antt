@@ -8,7 +8,7 @@ pub loop-teller-preserved : goal.loop-teller-preserved
 loop-teller-preserved c = record {
   text = numbered_next (told_lines (wired (hands_driven c.args.tellers.now)) c.args.bit) c.args.tellers.now
       c.loop-teller.teller-index c.loop-teller.number c.teller-item.result _ _ _
-      c.loop-teller-test.true c.teller-item.is (rw c.bus_of_hands-bus.ensures at c.in_ok-put_node.ensures.text)
+      c.loop-teller-test.true c.teller-item.is (rw c.bus_of_hands-bus.ensures at c.in_ok-put_unless_plain.ensures.text)
       c.loop-teller.invariant.text;
   number = let n = c.loop-teller.invariant.number in omega (arith, n);
 }

@@ -1,16 +1,26 @@
-use Rattle.std.proofs.Common.{◌<◌, length, rules}
-use Rattle.sja_trace.specs.Inside.Reading.{OtherPasses}
+use Rattle.std.proofs.Common.{◌<◌, ◌∙◌, length, refl, rules}
+use Rattle.sja_trace.specs.Inside.Reading.{OtherPasses, other_driven}
 use Rattle.lemmas.proofs.ChangedInTurn.{part_none, part_next, part_all}
+use Rattle.sja_trace.proofs.SoFar.InTurn.{level_next, level_all}
 use Rattle.sja_trace.proofs.readers.pass_others.Goals as goal
 
 pub loop-k-init : goal.loop-k-init
-loop-k-init c = part_none OtherPasses c.args.tellers.now
+loop-k-init c = record { passes = part_none OtherPasses c.args.tellers.now; bus = refl }
 
 pub loop-k-preserved : goal.loop-k-preserved
 loop-k-preserved c =
     let here : c.loop-k.k < length c.loop-k.tellers = search rules in
-    part_next OtherPasses c.loop-k.k c.args.tellers.now c.loop-k.tellers c.index-tellers-k.result
-    c.pass_other.new.self c.loop-k.invariant here c.pass_other.ensures
+    record {
+      passes = part_next OtherPasses c.loop-k.k c.args.tellers.now c.loop-k.tellers c.index-tellers-k.result
+          c.pass_other-bus.new.self c.loop-k.invariant.passes here c.pass_other-bus.ensures.passes;
+      bus = level_next other_driven c.loop-k.k c.loop-k.tellers c.pass_other-bus.new.self c.loop-k.bus _ here
+          c.loop-k.invariant.bus c.pass_other-bus.ensures.driven;
+    }
 
-pub returns : goal.returns
-returns c = part_all OtherPasses c.loop-k.k c.args.tellers.now c.loop-k.tellers c.loop-k.invariant (search rules)
+pub returns-clause-passes : goal.returns-clause-passes
+returns-clause-passes c =
+    part_all OtherPasses c.loop-k.k c.args.tellers.now c.loop-k.tellers c.loop-k.invariant.passes (search rules)
+
+pub returns-clause-bus : goal.returns-clause-bus
+returns-clause-bus c =
+    c.loop-k.invariant.bus ∙ level_all other_driven c.loop-k.k c.loop-k.tellers (search rules)

@@ -7,17 +7,17 @@ use Rattle.sja_trace.proofs.teller.Teller.pass_on.Goals as goal
 pub returns-then-is_none-clause-passes : goal.returns-then-is_none-clause-passes
 returns-then-is_none-clause-passes c =
     let none : c.pass-self.result ≡ None = search rules in
-    let P : NodeBits → Type 0 = λ b. HandGoesOn b c.go_on-then-is_none.new.self c.pass-self.result in record {
-      same = c.go_on.ensures;
-      counters = c.counters_of-self.ensures ∙ ap (counters_of c.args.self.now.short) c.bit.ensures;
+    let P : NodeBits → Type 0 = λ b. HandGoesOn b c.go_on.new.self c.pass-self.result in record {
+      same = c.go_to.ensures;
+      counters = c.keep_counters.ensures ∙ ap (counters_of c.args.self.now.short) c.bit.ensures;
       bits = subst P (c.pass-self.ensures.none none)
-          (hand_on c.pass-self.new.self c.go_on-then-is_none.new.self c.pass-self.result none
-          c.go_on-then-is_none.ensures);
+          (hand_on c.pass-self.new.self c.go_on.new.self c.pass-self.result none
+          c.go_on.ensures);
     }
 
 pub returns-else-is_none-clause-passes : goal.returns-else-is_none-clause-passes
 returns-else-is_none-clause-passes c = record {
-  same = c.go_on.ensures;
-  counters = c.counters_of-self.ensures ∙ ap (counters_of c.args.self.now.short) c.bit.ensures;
+  same = c.go_to.ensures;
+  counters = c.keep_counters.ensures ∙ ap (counters_of c.args.self.now.short) c.bit.ensures;
   bits = search rules;
 }
