@@ -11,6 +11,7 @@ VERSION_3 = "version = 3\n"
 SMALL = "bits = 1\n[[node]]\nsteps = []\n"
 REPORT = "sja version 3 bits 0 end turns\n"
 KEY = "sja: plan fault 4 Key\n"
+UNKNOWN_0 = KEY + 'line 2: no key is called "0"\n'
 UNKNOWN = 'sja: plan fault 4 Key\nline 2: no key is called "N0"\n'
 
 
@@ -76,9 +77,10 @@ WAITING = f'{VERSION_3}bits = 500\n[[node]]\nsteps = ["start", "await 1"]\n[[nod
 
 
 EDGES = [
-    Edge("40,000 unknown keys", ["check"], lambda: keys(40000), 1, UNKNOWN, 1, 64),
-    Edge("160,000 unknown keys", ["check"], lambda: keys(160000), 1, UNKNOWN, 2, 64),
+    Edge("40,000 unknown keys", ["check"], lambda: keys(40000), 1, UNKNOWN, 1, 20),
+    Edge("160,000 unknown keys", ["check"], lambda: keys(160000), 1, UNKNOWN, 2, 20),
     Edge("15 MB of keys with 12 parts", ["run"], deep, 1, KEY, 2, 20),
+    Edge("the same, explained", ["check"], deep, 1, UNKNOWN_0, 3, 20),
     Edge("the same, two of each begin alike", ["run"], lambda: deep(2), 1, KEY, 2, 20),
     Edge("15 MB of keys with one part", ["run"], lambda: filled(lambda n: f"N{n}=1\n"), 1, KEY, 3, 20),
     Edge("15 MB of headers", ["run"], lambda: filled(lambda n: f"[N{n}]\n"), 1, KEY, 3, 20),

@@ -1,7 +1,7 @@
 //! [`Document`]: a plan's document as `toml` reads it, with its outline.
 
 use super::kind::Kind;
-use super::outline::{Outline, Spot};
+use super::outline::{Outline, Spot, Token};
 use super::page::{Page, Piece};
 use std::alloc::{AllocError, Global};
 use toml::{Value, table_from_str};
@@ -25,6 +25,21 @@ impl Document {
             return Err(AllocError);
         }
         Ok(Document { root, outline })
+    }
+
+    /// A document of which this key alone is looked at.
+    ///
+    /// Error: memory was refused.
+    pub(crate) fn of_key(alloc: Global, bytes: &[u8], key: Token) -> Result<Document, AllocError> {
+        Ok(Document {
+            root: Value::Boolean(false),
+            outline: Outline::of_key(alloc, bytes, key)?,
+        })
+    }
+
+    /// Its first key as it is written, where it is none of a node.
+    pub(crate) fn first_key(&self) -> Option<&str> {
+        self.outline.key_at(0)
     }
 
     /// The line of this, as a piece of what is said.

@@ -6,6 +6,7 @@ ghost use Rattle.sja_check.specs.Lines.{IsBrief};
 mod bytes;
 mod general;
 mod keys;
+mod long;
 mod node_keys;
 mod numbers;
 mod said;
@@ -21,6 +22,7 @@ use bytes::{no_text, too_long};
 use can_frame::OutOfMemory;
 use general::general;
 use keys::of_keys;
+use long::in_long;
 use numbers::of_count;
 use sja_plan::PlanFault;
 use std::alloc::Global;
@@ -53,10 +55,16 @@ fn explain(page: &mut Page, bytes: &[u8], fault: PlanFault) -> bool {
         PlanFault::NotText => no_text(page, bytes),
         PlanFault::Toml => no_toml(page, bytes),
         PlanFault::Memory => false,
-        _ => match Document::read(page.alloc, bytes) {
-            Ok(document) => in_document(page, &document, fault),
-            Err(_) => page.refuse(),
-        },
+        PlanFault::Key => in_long(page, bytes) || in_tables(page, bytes, fault),
+        _ => in_tables(page, bytes, fault),
+    }
+}
+
+/// Says what is wrong in the tables of a document, where it has this fault.
+fn in_tables(page: &mut Page, bytes: &[u8], fault: PlanFault) -> bool {
+    match Document::read(page.alloc, bytes) {
+        Ok(document) => in_document(page, &document, fault),
+        Err(_) => page.refuse(),
     }
 }
 

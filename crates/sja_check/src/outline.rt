@@ -4,12 +4,15 @@
 //! It is asked only of documents that `toml` reads; what it doesn't find has no line.
 
 mod entry;
+mod key_reader;
 mod line;
 mod outline_of;
 mod pieces;
 mod spot;
 mod token;
 
+pub(crate) use key_reader::first_unknown;
 pub(crate) use line::{column_at, line_at};
 pub(crate) use outline_of::Outline;
 pub(crate) use spot::Spot;
+pub(crate) use token::Token;

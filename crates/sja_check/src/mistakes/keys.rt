@@ -125,10 +125,14 @@ fn of_texts<'a>(document: &'a Document, kind: Kind) -> Said<'a> {
 
 /// That a key is unknown, of the first in the document, and which is meant.
 fn of_unknown<'a>(document: &'a Document) -> Said<'a> {
-    let Some(key) = unknown_key(document) else {
-        return Said::nothing();
-    };
-    let version = document.version();
+    match unknown_key(document) {
+        Some(key) => of_key(key, document.version()),
+        None => Said::nothing(),
+    }
+}
+
+/// That this key is unknown in a plan of this version, and which is meant.
+pub(crate) fn of_key<'a>(key: &'a str, version: u8) -> Said<'a> {
     let are = keys_are(version);
     let mut said = Said::at(Spot::Key(key), "{0}no key is called <{1}>", are, "");
     if key == "steps" {

@@ -28,6 +28,21 @@ impl Outline {
         }
     }
 
+    /// The outline of a document of which this key alone is looked at.
+    ///
+    /// Error: memory was refused.
+    pub(crate) fn of_key(alloc: Global, bytes: &[u8], key: Token) -> Result<Outline, AllocError> {
+        let mut outline = Outline::new(alloc);
+        outline.bytes.extend_from_slice(bytes)?;
+        outline.tokens.push(key)?;
+        outline.entries.push(Entry {
+            node: None,
+            key: 0,
+            value: None,
+        })?;
+        Ok(outline)
+    }
+
     /// Reads the document.
     ///
     /// Error: memory was refused.
@@ -231,7 +246,7 @@ impl Outline {
 }
 
 /// How many brackets and braces are open behind a piece that begins so.
-fn depth_behind(depth: usize, first: u8) -> usize {
+pub(crate) fn depth_behind(depth: usize, first: u8) -> usize {
     match first {
         b'[' | b'{' => depth.saturating_add(1),
         b']' | b'}' => depth.saturating_sub(1),
