@@ -1,7 +1,7 @@
 # Completion of the words of sja in bash. A package has it as /usr/share/bash-completion/completions/sja; else
 # `. completions/sja.bash`. checks/completions compares it with what the program's help names.
 
-# _sja: of the words typed so far, which may come next; behind < or >, and behind run, check, trace and plan, the names
+# _sja: of the words typed so far, which may come next; behind < or >, and behind run, check and their like, the names
 # of files
 _sja() {
     local current=${COMP_WORDS[COMP_CWORD]} before=${COMP_WORDS[COMP_CWORD - 1]}
@@ -23,7 +23,7 @@ _sja() {
     done
     mapfile -t COMPREPLY < <(compgen -W "$(_sja_words "$command" "$place")" -- "$current")
     case $command in
-    run | check | trace | plan)
+    run | wave | trace | frames | candump | check | sweep | plan)
         compopt -o filenames 2>/dev/null
         [[ $current == -* ]] || mapfile -t -O "${#COMPREPLY[@]}" COMPREPLY < <(compgen -f -- "$current")
         ;;
@@ -36,11 +36,11 @@ _sja_words() {
     case $1 in
     '') echo "$commands -h --help -V --version" ;;
     encode | decode | arbitrate | message | plan | live) echo "-h --help" ;;
-    run) echo "--threads --jobs -h --help" ;;
-    wave | trace | frames) echo "--threads -h --help" ;;
-    check) echo "--jobs -h --help" ;;
+    run | wave | frames) echo "--threads --jobs -h --help" ;;
+    trace) echo "--threads -h --help" ;;
+    check) echo "--jobs --strict -h --help" ;;
     picture) echo "--svg --threads --yes -h --help" ;;
-    candump) echo "--errors --threads -h --help" ;;
+    candump) echo "--errors --threads --jobs -h --help" ;;
     sweep) echo "--only --from --to --pairs --changed --rows --yes --jobs --plan -h --help" ;;
     filter) if [ "$2" = 0 ]; then echo "single dual -h --help"; else echo "-h --help"; fi ;;
     help) if [ "$2" = 0 ]; then echo "$commands"; fi ;;

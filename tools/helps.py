@@ -32,6 +32,7 @@ class Help:
         self.commands = dict(re.findall(r"^  (\w+) +(.*)", self.part(text, "Commands"), re.M))
         self.arguments = dict(re.findall(r"^  <(\w+)>(?:\.\.\.)? +(.*)", self.part(text, "Arguments"), re.M))
         self.optional = dict(re.findall(r"^  \[(\w+)\](?:\.\.\.)? +(.*)", self.part(text, "Arguments"), re.M))
+        self.after = text.partition("\nOptions:\n")[2].partition("\n\n")[2]
         self.options = {}
         for short, long, line in re.findall(r"^ +(?:(-\w), )?(--\w+)(?: <\w+>)* +(.*)", self.part(text, "Options"), re.M):
             self.options.update({option: line for option in (short, long) if option})

@@ -75,7 +75,7 @@ fn is_of_plan(task: &Task<'_>) -> bool {
         | Task::Frames { .. }
         | Task::Picture { .. }
         | Task::Candump { .. }
-        | Task::Check
+        | Task::Check { .. }
         | Task::Sweep(_)
         | Task::StruckPlan { .. }
         | Task::Plan => true,

@@ -12,7 +12,7 @@ use Rattle.sja_texts.specs.Filter.{IsFiltering, RefusesFilter}
 use Rattle.sja_texts.specs.Notation.{IsTranslation}
 use Rattle.sja_texts.specs.Given.{RefusesGiven}
 use Rattle.sja_texts.specs.Refusal.{refusal_line}
-use Rattle.sja_run.specs.Check.{HasHints, HasMistake}
+use Rattle.sja_run.specs.Check.{HasHints, HasMistake, IsFine}
 use Rattle.sja_run.specs.Input.{ReadsFew, RefusesInput}
 use Rattle.sja_run.specs.PlanDocument.{IsInputSpelled, RefusesInputSpelled}
 use Rattle.sja_run.specs.Run.{IsOfPlan, RefusesBy, RefusesText}
@@ -34,7 +34,7 @@ AsksForRun (trace threads) = Unit {0}
 AsksForRun (frames threads) = Unit {0}
 AsksForRun (picture first last svg threads meant) = Unit {0}
 AsksForRun (candump errors threads) = Unit {0}
-AsksForRun check = Unit {0}
+AsksForRun (check strict) = Unit {0}
 AsksForRun (sweep w) = Unit {0}
 AsksForRun (struck_plan node bit) = Unit {0}
 AsksForRun spelled_plan = Unit {0}
@@ -55,6 +55,11 @@ IsLeftOver (sweep w) = 1 < w.jobs
 IsLeftOver (files asked jobs names) = Unit {0}
 IsLeftOver live = Unit {0}
 IsLeftOver other = ⊥
+
+-- it is `check`
+abbrev pub IsCheck : Request → Type 0
+IsCheck (check strict) = Unit {0}
+IsCheck other = ⊥
 
 -- there is one answer, a text or a refusal: not one of each file, nor those of a session
 abbrev pub AsksForOne : Request → Type 0
@@ -107,7 +112,7 @@ IsPrinted (frames threads) before after text = IsOfPlan (IsTextOfRun threads Fra
 IsPrinted (picture first last svg threads meant) before after text =
     IsOfPlan (IsTextOfRun threads (picture_or_drawing svg first last meant)) before after text
 IsPrinted (candump errors threads) before after text = IsOfPlan (IsTextOfRun threads (Candump errors)) before after text
-IsPrinted check before after text = HasHints before after text
+IsPrinted (check strict) before after text = HasHints before after text × IsFine strict text
 IsPrinted (sweep w) before after text = IsOfPlan (IsSwept w) before after text
 IsPrinted (struck_plan node bit) before after text = IsOfPlan (IsStruck node bit) before after text
 IsPrinted spelled_plan before after text = IsInputSpelled before after text
@@ -128,7 +133,7 @@ IsRefused (frames threads) before after r = RefusesBy (MayFault threads) before 
 IsRefused (picture first last svg threads meant) before after r =
     RefusesText threads (picture_or_drawing svg first last meant) before after r
 IsRefused (candump errors threads) before after r = RefusesBy (MayFault threads) before after r
-IsRefused check before after r = RefusesInput before after r
+IsRefused (check strict) before after r = RefusesInput before after r
 IsRefused (sweep w) before after r = RefusesOfPlan (RefusesSwept w) before after r
 IsRefused (struck_plan node bit) before after r = RefusesOfPlan (RefusesStruck node bit) before after r
 IsRefused spelled_plan before after r = RefusesInputSpelled before after r
@@ -137,7 +142,8 @@ IsRefused live before after r = (r ≡ refusal.OutOfMemory) × ReadsFew before a
 
 -- The request, the exit status, and what the input, the output and the error output held before and hold after.
 -- Either the text is on the output and the status is 0; or the refusal's line, or what `check` says of a mistake, is on
--- the error output and the status is 1. The other writer keeps what it held.
+-- the error output and the status is 1; or hints that are asked to be none are on the output, and the status is 1. The
+-- other writer keeps what it held.
 abbrev pub Shows :
     Request → Option ℕ → Option (List ℕ) → Option (List ℕ) → Option (List ℕ) → Option (List ℕ) → Option (List ℕ)
     → Option (List ℕ) → Type 0
@@ -146,8 +152,10 @@ Shows request status in_old in_new out_old out_new err_old err_new =
     × Keeps err_old err_new)
     ⊎ ((r : CommandRefusal) × IsRefused request in_old in_new r × (status ≡ Some 1) × Keeps out_old out_new
     × Appends err_old err_new (refusal_line r))
-    ⊎ ((text : List ℕ) × (request ≡ check) × HasMistake in_old in_new text × (status ≡ Some 1) × Keeps out_old out_new
+    ⊎ ((text : List ℕ) × IsCheck request × HasMistake in_old in_new text × (status ≡ Some 1) × Keeps out_old out_new
     × Appends err_old err_new text)
+    ⊎ ((text : List ℕ) × (request ≡ check true) × HasHints in_old in_new text × (¬ IsFine true text)
+    × (status ≡ Some 1) × Appends out_old out_new text × Keeps err_old err_new)
 
 -- What the words ask for is left to another call: there is no status; or memory was refused, and where no write to the
 -- error output failed it has that refusal's line.

@@ -1,6 +1,6 @@
 -- What `check` says of the plan on the input, by what the input held before and holds after (this project's own rule).
 -- A fault of the plan is no reason to say nothing.
-use Rattle.std.specs.Prelude.{◌≡◌, ◌++◌, ℕ, List, Option}
+use Rattle.std.specs.Prelude.{◌≡◌, ◌++◌, ℕ, Bool, true, false, List, [], Option}
 use Rattle.sja_plan.specs.Plan.{PlanValue}
 use Rattle.sja_plan.specs.Faults.{IsPlanOf, IsFirstFault}
 use Rattle.sja_plan.specs.declared.plan_fault.PlanFault.{PlanFault}
@@ -22,6 +22,11 @@ abbrev pub IsExplained : List ℕ → List ℕ → Type 0
 IsExplained bytes text =
     (fault : PlanFault) × (words : List ℕ) × (¬ (fault ≡ Memory)) × IsFirstFault bytes fault
     × (text ≡ refusal_line (refusal.Plan fault) ++ words) × IsBrief words
+
+-- strictly no hint is fine
+abbrev pub IsFine : Bool → List ℕ → Type 0
+IsFine true text = text ≡ []
+IsFine false text = Unit {0}
 
 -- there are hints of the bytes that were read
 abbrev pub HasHints : Option (List ℕ) → Option (List ℕ) → List ℕ → Type 0

@@ -1,5 +1,5 @@
--- What `run`, `check`, `trace` and `plan` do over plans that stand in files (this project's own rule). What comes of
--- each plan hangs on its bytes alone.
+-- What `run`, `check` and their like do over plans that stand in files (this project's own rule). What comes of each
+-- plan hangs on its bytes alone.
 use Rattle.std.specs.Prelude.{◌≡◌, ◌⊎◌, ◌++◌, ◌∷◌, ℕ, Bool, true, false, List, [], Option, Some, None}
 use Rattle.std.specs.Prelude.{codes, length, nat_lt, if◌then◌else◌}
 use Rattle.std.specs.List.{list_all}
@@ -9,17 +9,19 @@ use Rattle.sja_plan.specs.Faults.{IsPlanOf, IsFirstFault}
 use Rattle.sja_words.specs.declared.plan_question.PlanQuestion.{PlanQuestion}
 use Rattle.sja_words.specs.declared.plan_question.PlanQuestion.TheVariants as question
 use Rattle.sja_texts.specs.Refusal.{refusal_line}
+use Rattle.sja_texts.specs.declared.sweep_refusal.SweepRefusal.{SweepRefusal}
 use Rattle.sja_texts.specs.declared.command_refusal.CommandRefusal.{CommandRefusal}
 use Rattle.sja_texts.specs.declared.command_refusal.CommandRefusal.TheVariants as refusal
-use Rattle.sja_run.specs.Check.{IsExplained, IsHinted}
+use Rattle.sja_run.specs.Check.{IsExplained, IsFine, IsHinted}
 use Rattle.sja_run.specs.Names.{shown_name}
 use Rattle.sja_run.specs.Input.{IsRead, IsReadFrom, RefusesInput}
 use Rattle.sja_run.specs.PlanDocument.{IsSpelling, RefusesSpelling}
 use Rattle.sja_run.specs.RunText.{IsTextOfRun, MayFault}
+use Rattle.sja_run.specs.Sweep.{IsStruck, IsSwept, RefusesStruck, RefusesSwept}
 use Rattle.sja_run.specs.declared.file_outcome.FileOutcome.{FileOutcome}
-use Rattle.sja_run.specs.declared.file_outcome.FileOutcome.TheVariants.{Printed, Mistaken, Refused, Unreadable}
+use Rattle.sja_run.specs.declared.file_outcome.FileOutcome.TheVariants.{Printed, Told, Mistaken, Refused, Unreadable}
 use Rattle.sja_run.specs.declared.run_text.RunText.{RunText}
-use Rattle.sja_run.specs.declared.run_text.RunText.TheVariants.{Report, Trace}
+use Rattle.sja_run.specs.declared.run_text.RunText.TheVariants.{Report, Wave, Trace, Frames, Candump}
 
 -- ---- the plan that some bytes are
 
@@ -27,11 +29,20 @@ use Rattle.sja_run.specs.declared.run_text.RunText.TheVariants.{Report, Trace}
 abbrev pub IsTextIn : Bool → RunText → List ℕ → List ℕ → Type 0
 IsTextIn threads what bytes text = (plan : PlanValue) × IsPlanOf bytes plan × IsTextOfRun threads what plan text
 
+-- the text is one of the plan that these bytes are
+abbrev pub IsTextFor : (PlanValue → List ℕ → Type 0) → List ℕ → List ℕ → Type 0
+IsTextFor Is bytes text = (plan : PlanValue) × IsPlanOf bytes plan × Is plan text
+
 -- the text is what was asked of that plan
 abbrev pub IsAnswer : PlanQuestion → List ℕ → List ℕ → Type 0
 IsAnswer (question.Report threads) bytes text = IsTextIn threads Report bytes text
+IsAnswer (question.Wave threads) bytes text = IsTextIn threads Wave bytes text
 IsAnswer (question.Trace threads) bytes text = IsTextIn threads Trace bytes text
-IsAnswer question.Check bytes text = IsHinted bytes text
+IsAnswer (question.Frames threads) bytes text = IsTextIn threads Frames bytes text
+IsAnswer (question.Candump errors threads) bytes text = IsTextIn threads (Candump errors) bytes text
+IsAnswer (question.Sweep w) bytes text = IsTextFor (IsSwept w) bytes text
+IsAnswer (question.StruckPlan node bit) bytes text = IsTextFor (IsStruck node bit) bytes text
+IsAnswer (question.Check strict) bytes text = IsHinted bytes text × IsFine strict text
 IsAnswer question.Plan bytes text = IsSpelling bytes text
 
 -- why there is no text of a run of that plan. Memory may be refused at any time. Else the bytes have this first fault,
@@ -43,17 +54,36 @@ RefusesBytes threads bytes (refusal.Run fault) =
     (plan : PlanValue) × IsPlanOf bytes plan × MayFault threads plan fault
 RefusesBytes threads bytes other = ⊥
 
+-- why there is no text of that plan without its run: as there is none of its run, but that the plan has no such text
+-- in place of a fault of the run
+abbrev pub RefusesTextFor : (PlanValue → SweepRefusal → Type 0) → List ℕ → CommandRefusal → Type 0
+RefusesTextFor May bytes refusal.OutOfMemory = Unit {0}
+RefusesTextFor May bytes (refusal.Plan fault) = IsFirstFault bytes fault
+RefusesTextFor May bytes (refusal.Sweep why) = (plan : PlanValue) × IsPlanOf bytes plan × May plan why
+RefusesTextFor May bytes other = ⊥
+
 -- why there is no answer. `check` has one of a fault of the plan too
 abbrev pub IsUnanswered : PlanQuestion → List ℕ → CommandRefusal → Type 0
 IsUnanswered (question.Report threads) bytes r = RefusesBytes threads bytes r
+IsUnanswered (question.Wave threads) bytes r = RefusesBytes threads bytes r
 IsUnanswered (question.Trace threads) bytes r = RefusesBytes threads bytes r
-IsUnanswered question.Check bytes r = r ≡ refusal.OutOfMemory
+IsUnanswered (question.Frames threads) bytes r = RefusesBytes threads bytes r
+IsUnanswered (question.Candump errors threads) bytes r = RefusesBytes threads bytes r
+IsUnanswered (question.Sweep w) bytes r = RefusesTextFor (RefusesSwept w) bytes r
+IsUnanswered (question.StruckPlan node bit) bytes r = RefusesTextFor (RefusesStruck node bit) bytes r
+IsUnanswered (question.Check strict) bytes r = r ≡ refusal.OutOfMemory
 IsUnanswered question.Plan bytes r = RefusesSpelling bytes r
+
+-- it is `check`
+abbrev pub IsCheck : PlanQuestion → Type 0
+IsCheck (question.Check strict) = Unit {0}
+IsCheck other = ⊥
 
 -- what was asked of the plan that these bytes are has this outcome
 abbrev pub Answers : PlanQuestion → List ℕ → FileOutcome → Type 0
 Answers asked bytes (Printed text) = IsAnswer asked bytes text.items
-Answers asked bytes (Mistaken text) = (asked ≡ question.Check) × IsExplained bytes text.items
+Answers asked bytes (Told text) = (asked ≡ question.Check true) × IsHinted bytes text.items × (¬ IsFine true text.items)
+Answers asked bytes (Mistaken text) = IsCheck asked × IsExplained bytes text.items
 Answers asked bytes (Refused r) = IsUnanswered asked bytes r
 Answers asked bytes Unreadable = ⊥
 
@@ -82,6 +112,7 @@ abbrev pub IsUnread :
 IsUnread Holds name before after Unreadable = (¬ (name ≡ input_name)) × Holds name None × (after ≡ before)
 IsUnread Holds name before after (Refused r) = RefusesName name before after r
 IsUnread Holds name before after (Printed text) = ⊥
+IsUnread Holds name before after (Told text) = ⊥
 IsUnread Holds name before after (Mistaken text) = ⊥
 
 -- what stands under names, what is asked, a name, what the input held before and holds after, and the outcome
@@ -117,6 +148,7 @@ unreadable_line name = codes "sja: can't read " ++ shown_name name ++ 10 ∷ []
 -- what is on the output of a file
 abbrev pub printed_of : Bool → List ℕ → FileOutcome → List ℕ
 printed_of several name (Printed text) = name_line several name ++ text.items
+printed_of several name (Told text) = name_line several name ++ text.items
 printed_of several name (Mistaken text) = []
 printed_of several name (Refused r) = []
 printed_of several name Unreadable = []
@@ -124,6 +156,7 @@ printed_of several name Unreadable = []
 -- and what is on the error output: of a file that can't be read a line with its name
 abbrev pub refused_of : Bool → List ℕ → FileOutcome → List ℕ
 refused_of several name (Printed text) = []
+refused_of several name (Told text) = []
 refused_of several name (Mistaken text) = name_line several name ++ text.items
 refused_of several name (Refused r) = name_line several name ++ refusal_line r
 refused_of several name Unreadable = unreadable_line name
@@ -134,9 +167,10 @@ of_each text [] outcomes = []
 of_each text (name ∷ names) [] = []
 of_each text (name ∷ names) (outcome ∷ outcomes) = text name outcome ++ of_each text names outcomes
 
--- a file is answered
+-- a file is answered, and strictly nothing was left out
 abbrev pub is_printed : FileOutcome → Bool
 is_printed (Printed text) = true
+is_printed (Told text) = false
 is_printed (Mistaken text) = false
 is_printed (Refused r) = false
 is_printed Unreadable = false

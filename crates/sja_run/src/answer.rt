@@ -1,8 +1,8 @@
 //! What is written for a task.
 
 ghost use Rattle.std.specs.Prelude.{◌≡◌, ◌⊎◌, IfOk, IfErr, false};
-ghost use Rattle.sja_words.specs.Requests.{check, request_of};
-ghost use Rattle.sja_run.specs.Answer.{AsksForRun, IsLeftOver, IsPrinted, IsRefused, request_for};
+ghost use Rattle.sja_words.specs.Requests.{request_of};
+ghost use Rattle.sja_run.specs.Answer.{AsksForRun, IsCheck, IsLeftOver, IsPrinted, IsRefused, request_for};
 ghost use Rattle.sja_run.specs.Inside.Answers.{AsksForText};
 
 use super::plan_document::spelled_input;
@@ -24,7 +24,7 @@ pub(crate) fn printed<R: Read>(
     input: &mut R,
 ) -> Result<Vec<u8>, CommandRefusal>
     requires alone { ¬ IsLeftOver (request_of task) }
-    requires printed { ¬ (request_of task ≡ check) }
+    requires printed { ¬ IsCheck (request_of task) }
     ensures ok { IfOk result (λ text.
         IsPrinted (request_of task.entry) (R.remaining input.old) (R.remaining input.new) text.items) }
     ensures err { IfErr result (IsRefused (request_of task.entry) (R.remaining input.old) (R.remaining input.new)) }

@@ -1,8 +1,9 @@
 //! What comes of the plans that were read under names.
 
-ghost use Rattle.std.specs.Prelude.{◌≡◌, IfOk, IfErr, length};
+ghost use Rattle.std.specs.Prelude.{◌≡◌, ℕ, List, IfOk, IfErr, length};
 ghost use Rattle.sja_words.specs.declared.plan_question.PlanQuestion.TheVariants.{Check};
-ghost use Rattle.sja_run.specs.Files.{Answers, IsTextIn, RefusesBytes};
+ghost use Rattle.sja_run.specs.Check.{IsHinted};
+ghost use Rattle.sja_run.specs.Files.{Answers, IsAnswer, IsCheck, IsTextIn, IsUnanswered, RefusesBytes};
 ghost use Rattle.std.specs.List.{AllZip};
 ghost use Rattle.sja_run.specs.Inside.FileReads.{ComeOf, ComesOf, Settles};
 ghost use Rattle.sja_run.specs.Inside.Runs.{IsPlain, RefusesRunOf};
@@ -14,6 +15,8 @@ use super::plan_check::PlanCheck;
 use super::plan_document::spelled;
 use super::run_text::RunText;
 use super::serial_text::written_of;
+use super::struck_plan::struck_in;
+use super::sweeps::swept_in;
 use super::threaded_text::written_threads_of;
 use sja_plan::{Plan, read_plan};
 use sja_texts::CommandRefusal;
@@ -103,42 +106,67 @@ fn answer_of<T: Threads + Wait + Sync>(
     ensures { Answers question bytes.now result }
 {
     match question {
-        PlanQuestion::Report { threads } => match written_in(
-            rt,
-            alloc,
-            threads,
-            RunText::Report,
-            bytes,
-        ) {
-            Ok(text) => FileOutcome::Printed(text),
-            Err(refusal) => FileOutcome::Refused(refusal),
-        },
-        PlanQuestion::Trace { threads } => match written_in(
-            rt,
-            alloc,
-            threads,
-            RunText::Trace,
-            bytes,
-        ) {
-            Ok(text) => FileOutcome::Printed(text),
-            Err(refusal) => FileOutcome::Refused(refusal),
-        },
-        PlanQuestion::Check => check_outcome(alloc, bytes),
-        PlanQuestion::Plan => match spelled(alloc, bytes) {
-            Ok(text) => FileOutcome::Printed(text),
-            Err(refusal) => FileOutcome::Refused(refusal),
-        },
+        PlanQuestion::Check { strict } => check_outcome(alloc, strict, bytes),
+        other => outcome_in(other, printed_of(rt, alloc, other, bytes)),
+    }
+}
+
+/// What is printed or refused of a plan, as what comes of it.
+fn outcome_in(question: PlanQuestion, printed: Result<Vec<u8>, CommandRefusal>) -> FileOutcome
+    ensures { (bytes : List ℕ) → IfOk printed (λ text. IsAnswer question bytes text.items)
+        → IfErr printed (IsUnanswered question bytes) → Answers question bytes result }
+{
+    match printed {
+        Ok(text) => FileOutcome::Printed(text),
+        Err(refusal) => FileOutcome::Refused(refusal),
+    }
+}
+
+/// The text that answers a question but `check` of the plan that these bytes are.
+fn printed_of<T: Threads + Wait + Sync>(
+    rt: &T,
+    alloc: Global,
+    question: PlanQuestion,
+    bytes: &[u8],
+) -> Result<Vec<u8>, CommandRefusal>
+    requires { ¬ IsCheck question }
+    ensures ok { IfOk result (λ text. IsAnswer question bytes.now text.items) }
+    ensures err { IfErr result (IsUnanswered question bytes.now) }
+{
+    match question {
+        PlanQuestion::Report { threads } => written_in(rt, alloc, threads, RunText::Report, bytes),
+        PlanQuestion::Wave { threads } => written_in(rt, alloc, threads, RunText::Wave, bytes),
+        PlanQuestion::Trace { threads } => written_in(rt, alloc, threads, RunText::Trace, bytes),
+        PlanQuestion::Frames { threads } => written_in(rt, alloc, threads, RunText::Frames, bytes),
+        PlanQuestion::Candump { errors, threads } => {
+            written_in(rt, alloc, threads, RunText::Candump(errors), bytes)
+        }
+        PlanQuestion::Sweep(words) => swept_in(rt, alloc, words, bytes),
+        PlanQuestion::StruckPlan { node, bit } => struck_in(alloc, node, bit, bytes),
+        PlanQuestion::Plan => spelled(alloc, bytes),
+        PlanQuestion::Check { .. } => unreachable!(),
     }
 }
 
 /// What `check` says of the plan that these bytes are.
-fn check_outcome(alloc: Global, bytes: &[u8]) -> FileOutcome
-    ensures { Answers Check bytes.now result }
+fn check_outcome(alloc: Global, strict: bool, bytes: &[u8]) -> FileOutcome
+    ensures { Answers (Check strict) bytes.now result }
 {
     match said_of(alloc, bytes) {
-        Ok(PlanCheck::Hints(text)) => FileOutcome::Printed(text),
+        Ok(PlanCheck::Hints(text)) => hints_outcome(strict, text),
         Ok(PlanCheck::Mistake(text)) => FileOutcome::Mistaken(text),
         Err(_) => FileOutcome::Refused(CommandRefusal::OutOfMemory),
+    }
+}
+
+/// What these hints come to.
+fn hints_outcome(strict: bool, text: Vec<u8>) -> FileOutcome
+    ensures { (bytes : List ℕ) → IsHinted bytes text.items → Answers (Check strict) bytes result }
+{
+    if strict && !text.is_empty() {
+        FileOutcome::Told(text)
+    } else {
+        FileOutcome::Printed(text)
     }
 }
 

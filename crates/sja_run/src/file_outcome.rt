@@ -7,6 +7,8 @@ use sja_texts::CommandRefusal;
 pub enum FileOutcome {
     /// The text that answers what was asked.
     Printed(Vec<u8>),
+    /// What `check --strict` says that a run left out.
+    Told(Vec<u8>),
     /// What `check` says of a mistake.
     Mistaken(Vec<u8>),
     /// There is no answer.

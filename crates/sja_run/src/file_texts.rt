@@ -106,6 +106,11 @@ fn put<O: Write, E: Write>(
             out.put(text.as_slice());
             true
         }
+        FileOutcome::Told(text) => {
+            out.put_name(several, name);
+            out.put(text.as_slice());
+            false
+        }
         FileOutcome::Mistaken(text) => {
             err.put_name(several, name);
             err.put(text.as_slice());

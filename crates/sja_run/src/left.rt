@@ -8,7 +8,7 @@ use sja_words::FileWords;
 pub enum Left<'a> {
     /// What is done in threads.
     Threads(Threaded),
-    /// `run FILE..`, `check FILE..` and `trace FILE`: what is done file by file.
+    /// `run FILE..`, `check FILE..` and their like: what is done file by file.
     Files(FileWords<'a>),
     /// `live`: a session that is driven line by line.
     Talk,

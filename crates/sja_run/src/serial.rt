@@ -1,10 +1,12 @@
 //! [`sja_alone`]: the program without threads, over words, a reader and two writers.
 
-ghost use Rattle.std.specs.Prelude.{◌≡◌, ◌⊎◌, Some, IfOk, IfErr, false, true, map};
+ghost use Rattle.std.specs.Prelude.{◌≡◌, ◌⊎◌, None, Some, IfOk, IfErr, IfSome, false, true, map};
 ghost use Rattle.sja_words.specs.Requests.{Request, check, request_of};
 ghost use Rattle.sja_words.specs.Words.{ParsesAs};
-ghost use Rattle.sja_run.specs.Answer.{AsksForRun, IsLeftOver, Shows, IsLeft, IsTurnedAway, request_over, status_in};
-ghost use Rattle.sja_run.specs.Inside.Answers.{IsOneWhereFailed};
+ghost use Rattle.sja_run.specs.Answer.{AsksForRun, IsCheck, IsLeftOver, Shows, IsLeft, IsTurnedAway};
+ghost use Rattle.sja_run.specs.Answer.{request_over, status_in};
+ghost use Rattle.sja_run.specs.Inside.Answers.{IsJudged, IsOneWhereFailed};
+ghost use Rattle.std.specs.Io.KnownBytes.{Appends};
 ghost use Rattle.sja_run.specs.Input.{ReadsFew};
 
 use super::answer::printed;
@@ -115,8 +117,8 @@ fn reply<R: Read, O: Write, E: Write>(
     ensures unread { AsksForRun (request_of task.entry) ⊎ (input.new ≡ input.old) }
     ensures few { ReadsFew (R.remaining input.old) (R.remaining input.new) }
 {
-    if is_check(&task) {
-        return reply_check(alloc, input, out, err);
+    if let Some(strict) = check_in(&task) {
+        return reply_check(alloc, strict, input, out, err);
     }
     match printed(alloc, task, input) {
         Ok(text) => out.print(text.as_slice()),
@@ -124,24 +126,29 @@ fn reply<R: Read, O: Write, E: Write>(
     }
 }
 
-/// Whether a task is `check`.
-fn is_check(task: &Task<'_>) -> bool
-    ensures check { result ≡ true → request_of task.now ≡ check }
-    ensures other { result ≡ false → ¬ (request_of task.now ≡ check) }
+/// Whether a task that is `check` is strict; nothing where it is another one.
+fn check_in(task: &Task<'_>) -> Option<bool>
+    ensures check { IfSome result (λ strict. request_of task.now ≡ check strict) }
+    ensures other { result ≡ None → ¬ IsCheck (request_of task.now) }
 {
-    matches!(task, Task::Check)
+    match task {
+        Task::Check { strict } => Some(*strict),
+        _ => None,
+    }
 }
 
-/// Does `check`, and gives the exit status: 1 where the plan has a mistake, which goes to the error output.
+/// Does `check`, and gives the exit status: 1 where the plan has a mistake, which goes to the error output, and where
+/// strictly its run left something out.
 #[tactic(auto, using(crate::proofs::BytesRead::FewBytes::few))]
 fn reply_check<R: Read, O: Write, E: Write>(
     alloc: Global,
+    strict: bool,
     input: &mut R,
     out: &mut Output<O>,
     err: &mut Output<E>,
 ) -> u8
     ensures answered { out.new.failed ≡ false → err.new.failed ≡ false
-        → Shows check (Some result) (R.remaining input.old) (R.remaining input.new)
+        → Shows (check strict) (Some result) (R.remaining input.old) (R.remaining input.new)
         (O.contents out.old.writer) (O.contents out.new.writer)
         (E.contents err.old.writer) (E.contents err.new.writer) }
     ensures one_writer { (out.new ≡ out.old) ⊎ (err.new ≡ err.old) }
@@ -149,11 +156,25 @@ fn reply_check<R: Read, O: Write, E: Write>(
     ensures few { ReadsFew (R.remaining input.old) (R.remaining input.new) }
 {
     match checked(alloc, input) {
-        Ok(PlanCheck::Hints(text)) => out.print(text.as_slice()),
+        Ok(PlanCheck::Hints(text)) => put_hints(strict, &text, out),
         Ok(PlanCheck::Mistake(text)) => {
             err.put(text.as_slice());
             1
         }
         Err(why) => err.refuse(why),
     }
+}
+
+/// Writes hints, and gives the exit status.
+fn put_hints<O: Write>(strict: bool, text: &Vec<u8>, out: &mut Output<O>) -> u8
+    ensures judged { out.new.failed ≡ false → IsJudged strict text.now.items result }
+    ensures failed { out.new.failed ≡ true → result ≡ 1 }
+    ensures written { out.new.failed ≡ false → (out.old.failed ≡ false)
+        × Appends (O.contents out.old.writer) (O.contents out.new.writer) text.now.items }
+{
+    let status = out.print(text.as_slice());
+    if strict && !text.is_empty() {
+        return 1;
+    }
+    status
 }

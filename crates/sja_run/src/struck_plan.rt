@@ -3,12 +3,13 @@
 ghost use Rattle.std.specs.Prelude.{IfOk, IfErr, string_bytes};
 ghost use Rattle.sja_plan_text.specs.HasTexts.{HasTexts};
 ghost use Rattle.sja_plan_text.specs.Written.{IsPlanText};
+ghost use Rattle.sja_run.specs.Files.{IsTextFor, RefusesTextFor};
 ghost use Rattle.sja_run.specs.Run.{IsOfPlan};
 ghost use Rattle.sja_run.specs.Sweep.{IsStruck, RefusesOfPlan, RefusesStruck};
 ghost use Rattle.sja_run.specs.Inside.Refusals.{IsLong, RefusesPlan};
 
 use super::input::plan_of_input;
-use sja_plan::{GREATEST_NUMBER, Plan, PlanFault};
+use sja_plan::{GREATEST_NUMBER, Plan, PlanFault, read_plan};
 use sja_plan_text::{PlanTextFault, a_plan_has_texts, plan_text};
 use sja_texts::{CommandRefusal, SweepRefusal};
 use std::alloc::Global;
@@ -28,6 +29,23 @@ pub(crate) fn struck<R: Read>(
         (RefusesOfPlan (RefusesStruck node bit) (R.remaining input.old) (R.remaining input.new)) }
 {
     let plan = plan_of_input(alloc, input)?;
+    a_plan_has_texts();
+    let text = struck_text(alloc, node, bit, &plan)?;
+    Ok(text.into_bytes())
+}
+
+/// The same of the plan that these bytes are.
+#[tactic(auto, using(crate::proofs::PlanAnswers::PlanRefusals::text_refused))]
+pub(crate) fn struck_in(
+    alloc: Global,
+    node: u32,
+    bit: u32,
+    bytes: &[u8],
+) -> Result<Vec<u8>, CommandRefusal>
+    ensures ok { IfOk result (λ text. IsTextFor (IsStruck node bit) bytes.now text.items) }
+    ensures err { IfErr result (RefusesTextFor (RefusesStruck node bit) bytes.now) }
+{
+    let plan = read_plan(alloc, bytes)?;
     a_plan_has_texts();
     let text = struck_text(alloc, node, bit, &plan)?;
     Ok(text.into_bytes())

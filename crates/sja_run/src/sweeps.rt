@@ -4,12 +4,13 @@ ghost use Rattle.std.specs.Prelude.{◌≡◌, IfOk, IfErr, string_bytes, if◌t
 ghost use Rattle.sja_plan.specs.Plan.{PlanValue};
 ghost use Rattle.sja_sweep.specs.Sweeps.{IsSweep, IsSweepFault};
 ghost use Rattle.sja_words.specs.Requests.{sweep};
+ghost use Rattle.sja_run.specs.Files.{IsTextFor, RefusesTextFor};
 ghost use Rattle.sja_run.specs.Inside.Answers.{IsAnswer};
 ghost use Rattle.sja_run.specs.Sweep.{IsSwept, RefusesSwept, sweeping_of};
 ghost use Rattle.sja_run.specs.Inside.Refusals.{RefusesPlan};
 
 use super::input::plan_of_input;
-use sja_plan::Plan;
+use sja_plan::read_plan;
 use sja_sweep::{SweepFault, SweepTexts, Sweeping, sweep, sweep_jobs};
 use sja_texts::{CommandRefusal, SweepRefusal};
 use sja_words::SweepWords;
@@ -43,6 +44,24 @@ pub(crate) fn told_sweep_jobs<T: Threads + Sync, R: Read>(
 {
     let jobs = words.jobs as usize;
     let plan = plan_of_input(alloc, input)?;
+    let swept = sweep_jobs(rt, alloc, &plan, &sweeping_of(words), jobs);
+    let text = told(words, swept)?;
+    Ok(text.into_bytes())
+}
+
+/// The same of the plan that these bytes are.
+#[tactic(auto, using(crate::proofs::PlanAnswers::PlanRefusals::text_refused))]
+pub(crate) fn swept_in<T: Threads + Sync>(
+    rt: &T,
+    alloc: Global,
+    words: SweepWords,
+    bytes: &[u8],
+) -> Result<Vec<u8>, CommandRefusal>
+    ensures ok { IfOk result (λ text. IsTextFor (IsSwept words) bytes.now text.items) }
+    ensures err { IfErr result (RefusesTextFor (RefusesSwept words) bytes.now) }
+{
+    let jobs = words.jobs as usize;
+    let plan = read_plan(alloc, bytes)?;
     let swept = sweep_jobs(rt, alloc, &plan, &sweeping_of(words), jobs);
     let text = told(words, swept)?;
     Ok(text.into_bytes())

@@ -98,13 +98,20 @@ files_rule = record (new_rule (codes "FILE")) {
 unfoldable pub file_rule : Rule
 file_rule = record (new_rule (codes "FILE")) { action = Some Set }
 
--- `run FILE..`, with or without `--threads` and `--jobs N`
-unfoldable pub run_app : App
-run_app = and_rule (and_rule (threads_app (codes "run")) files_rule) (number_rule (codes "jobs") 1 64)
+-- a command of this name with `FILE..`, with or without `--threads` and `--jobs N`
+unfoldable pub plans_app : Text → App
+plans_app name = and_rule (and_rule (threads_app name) files_rule) (number_rule (codes "jobs") 1 64)
 
--- `check FILE..`, with or without `--jobs N`
+-- `run FILE..`
+unfoldable pub run_app : App
+run_app = plans_app (codes "run")
+
+-- `check FILE..`, with or without `--jobs N` and `--strict`
 unfoldable pub check_app : App
-check_app = and_rule (and_rule (bare_app (codes "check")) files_rule) (number_rule (codes "jobs") 1 64)
+check_app =
+    and_rule
+    (and_rule (and_rule (bare_app (codes "check")) files_rule) (number_rule (codes "jobs") 1 64))
+    (flag_rule (codes "strict"))
 
 -- `trace FILE`, with or without `--threads`
 unfoldable pub trace_app : App
@@ -133,10 +140,14 @@ picture_app =
     (flag_rule (codes "threads")))
     (flag_rule (codes "yes"))
 
--- `candump`, with or without `--errors` and `--threads`
+-- `candump FILE..`, with or without `--errors`, `--threads` and `--jobs N`
 unfoldable pub candump_app : App
 candump_app =
-    and_rule (and_rule (bare_app (codes "candump")) (flag_rule (codes "errors"))) (flag_rule (codes "threads"))
+    and_rule
+    (and_rule
+    (and_rule (and_rule (bare_app (codes "candump")) (flag_rule (codes "errors"))) (flag_rule (codes "threads")))
+    files_rule)
+    (number_rule (codes "jobs") 1 64)
 
 -- `--plan K B`, which takes two of them, as many digits as the texts of strikes have
 unfoldable pub strike_rule : Rule
@@ -166,19 +177,19 @@ told_app =
     (flag_rule (codes "rows")))
     (flag_rule (codes "yes"))
 
--- with the number of threads, and `--plan K B`
+-- with the number of threads, `--plan K B` and `FILE`
 unfoldable pub sweep_app : App
-sweep_app = and_rule (and_rule told_app (number_rule (codes "jobs") 1 64)) strike_rule
+sweep_app = and_rule (and_rule (and_rule told_app (number_rule (codes "jobs") 1 64)) strike_rule) file_rule
 
 -- those and the commands over the run of a plan: `run` and `wave`
 unfoldable pub plan_app : App
 plan_app =
-    and_app (and_app notation_app run_app) (threads_app (codes "wave"))
+    and_app (and_app notation_app run_app) (plans_app (codes "wave"))
 
 -- those and the commands over what happened in it: `trace` and `frames`
 unfoldable pub story_app : App
 story_app =
-    and_app (and_app plan_app trace_app) (threads_app (codes "frames"))
+    and_app (and_app plan_app trace_app) (plans_app (codes "frames"))
 
 -- those and the commands that draw it and list what was received: `picture` and `candump`
 unfoldable pub view_app : App

@@ -1,4 +1,4 @@
--- What each command but `sweep` asks for, by the values of its arguments (this project's own rule).
+-- What each command asks for, by the values of its arguments (this project's own rule).
 use Rattle.std.specs.Prelude.{◌&&◌, ℕ, Bool, List, length, Option, Some, None, codes, option_map}
 use Rattle.std.specs.Prelude.{if◌then◌else◌, nat_lt, nat_le}
 use Rattle.std.specs.Str.{bytes_eq}
@@ -6,7 +6,8 @@ use Rattle.clap.specs.Words.{Row, Text, all_of, first_of}
 use Rattle.sja_words.specs.declared.plan_question.PlanQuestion.{PlanQuestion}
 use Rattle.sja_words.specs.declared.plan_question.PlanQuestion.TheVariants as question
 use Rattle.sja_words.specs.Values.{flag_in, number_or, optional_in, single_in}
-use Rattle.sja_words.specs.Requests.{Request, request_about, filter, arbitrate, picture, candump, files}
+use Rattle.sja_words.specs.Requests.{Request, request_about, filter, arbitrate, picture, files}
+use Rattle.sja_words.specs.Sweeping.{sweep_in}
 
 -- what `filter` asks for, by its four arguments, where they are there and the first is a mode
 abbrev pub filter_in : Option Text → Option Text → Option Text → Option Text → Option Request
@@ -36,19 +37,24 @@ picture_in rows =
     (optional_in 9999999 (first_of (codes "TO") rows)) (flag_in (first_of (codes "svg") rows))
     (flag_in (first_of (codes "threads") rows)) (flag_in (first_of (codes "yes") rows))
 
--- what `candump` asks for, by its flags
-abbrev pub candump_in : List Row → Option Request
-candump_in rows =
-    Some (candump (flag_in (first_of (codes "errors") rows)) (flag_in (first_of (codes "threads") rows)))
-
--- the question that a subcommand of this name asks of plans, with threads or without
-abbrev pub question_in : Text → Bool → Option PlanQuestion
-question_in name threads =
+-- the question that a subcommand of this name asks of plans for a text of a run, with threads or without
+abbrev pub text_question : Text → Bool → Option PlanQuestion
+text_question name threads =
     if bytes_eq name (codes "run") then Some (question.Report threads)
-    else if bytes_eq name (codes "check") then Some question.Check
+    else if bytes_eq name (codes "wave") then Some (question.Wave threads)
     else if bytes_eq name (codes "trace") then Some (question.Trace threads)
+    else if bytes_eq name (codes "frames") then Some (question.Frames threads)
     else if bytes_eq name (codes "plan") then Some question.Plan
     else None
+
+-- the question that a subcommand of this name asks of plans, by the values of its arguments
+abbrev pub question_in : Text → List Row → Option PlanQuestion
+question_in name rows =
+    if bytes_eq name (codes "check") then Some (question.Check (flag_in (first_of (codes "strict") rows)))
+    else if bytes_eq name (codes "candump") then
+    Some (question.Candump (flag_in (first_of (codes "errors") rows)) (flag_in (first_of (codes "threads") rows)))
+    else if bytes_eq name (codes "sweep") then sweep_in rows
+    else text_question name (flag_in (first_of (codes "threads") rows))
 
 -- what a question asks for, by the names of files and the number of plans at one time: of each plan in the files that
 -- are named, and of the plan on the input where none is named

@@ -21,7 +21,7 @@ pub data Request : Type 0 where
   frames : Bool → Request
   picture : ℕ → Option ℕ → Bool → Bool → Bool → Request
   candump : Bool → Bool → Request
-  check : Request
+  check : Bool → Request
   sweep : SweepWords → Request
   struck_plan : ℕ → ℕ → Request
   spelled_plan : Request
@@ -41,7 +41,7 @@ request_of (Trace threads) = trace threads
 request_of (Frames threads) = frames threads
 request_of (Picture first last svg threads meant) = picture first last svg threads meant
 request_of (Candump errors threads) = candump errors threads
-request_of Check = check
+request_of (Check strict) = check strict
 request_of (Files w) = files w.question w.jobs (map (λ name. name.now) w.names.items)
 request_of Live = live
 request_of (Sweep asked_for) = sweep asked_for
@@ -51,6 +51,11 @@ request_of Plan = spelled_plan
 -- what is asked of a plan, as it is asked of the plan on the input
 abbrev pub request_about : PlanQuestion → Request
 request_about (question.Report threads) = run threads
-request_about question.Check = check
+request_about (question.Check strict) = check strict
+request_about (question.Wave threads) = wave threads
 request_about (question.Trace threads) = trace threads
+request_about (question.Frames threads) = frames threads
+request_about (question.Candump errors threads) = candump errors threads
+request_about (question.Sweep w) = sweep w
+request_about (question.StruckPlan node bit) = struck_plan node bit
 request_about question.Plan = spelled_plan

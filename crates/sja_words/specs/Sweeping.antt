@@ -4,7 +4,8 @@ use Rattle.std.specs.Prelude.{is_some, option_and_then}
 use Rattle.clap.specs.Words.{Row, Text, first_of}
 use Rattle.sja_words.specs.declared.sweep_words.SweepWords.{SweepWords}
 use Rattle.sja_words.specs.Values.{flag_in, number_in, number_or, optional_in, second_of}
-use Rattle.sja_words.specs.Requests.{Request, sweep, struck_plan}
+use Rattle.sja_words.specs.declared.plan_question.PlanQuestion.{PlanQuestion}
+use Rattle.sja_words.specs.declared.plan_question.PlanQuestion.TheVariants.{Sweep, StruckPlan}
 
 -- a sweep of each node in each bit, one bit a run, of which every line is told, in one thread
 abbrev pub all_swept : SweepWords
@@ -64,19 +65,19 @@ abbrev pub is_alone : List Row → Bool
 is_alone rows = has_no_number rows && has_no_flag rows
 
 -- what `--plan K B` asks for, where both are numbers
-abbrev pub struck_by : Option ℕ → Option ℕ → Option Request
-struck_by (Some node) (Some bit) = Some (struck_plan node bit)
+abbrev pub struck_by : Option ℕ → Option ℕ → Option PlanQuestion
+struck_by (Some node) (Some bit) = Some (StruckPlan node bit)
 struck_by (Some node) None = None
 struck_by None bit = None
 
 -- what `sweep` asks for, by the first value of `--plan` and the values of its arguments
-abbrev pub sweep_by : Option Text → List Row → Option Request
-sweep_by None rows = option_map sweep (words_in rows)
+abbrev pub sweep_by : Option Text → List Row → Option PlanQuestion
+sweep_by None rows = option_map Sweep (words_in rows)
 sweep_by (Some node) rows =
     if is_alone rows then struck_by (number_in 0 9999999 node)
     (option_and_then (number_in 0 9999999) (second_of (codes "plan") rows))
     else None
 
 -- by the values of its arguments alone
-abbrev pub sweep_in : List Row → Option Request
+abbrev pub sweep_in : List Row → Option PlanQuestion
 sweep_in rows = sweep_by (first_of (codes "plan") rows) rows

@@ -4,10 +4,8 @@ use Rattle.std.specs.Str.{bytes_eq}
 use Rattle.clap.specs.Words.{Kinds, Row, Text, all_of, fault_of, first_of, subcommand_of}
 use Rattle.sja_words.specs.declared.plan_question.PlanQuestion.{PlanQuestion}
 use Rattle.sja_words.specs.CommandLine.{sja_app}
-use Rattle.sja_words.specs.Values.{flag_in}
-use Rattle.sja_words.specs.Requests.{Request, encode, decode, message, wave, frames, live}
-use Rattle.sja_words.specs.Commands.{filter_in, arbitrate_in, picture_in, candump_in, question_in, plan_in}
-use Rattle.sja_words.specs.Sweeping.{sweep_in}
+use Rattle.sja_words.specs.Requests.{Request, encode, decode, message, live}
+use Rattle.sja_words.specs.Commands.{filter_in, arbitrate_in, picture_in, question_in, plan_in}
 
 -- what a subcommand asks for that takes no files, by its name and the values of its arguments
 abbrev pub other_by : Text → List Row → Option Request
@@ -19,11 +17,7 @@ other_by name rows =
     (first_of (codes "AMR") rows) (first_of (codes "MESSAGE") rows)
     else if bytes_eq name (codes "arbitrate") then arbitrate_in (all_of (codes "MESSAGE") rows)
     else if bytes_eq name (codes "message") then option_map message (first_of (codes "TEXT") rows)
-    else if bytes_eq name (codes "wave") then Some (wave (flag_in (first_of (codes "threads") rows)))
-    else if bytes_eq name (codes "frames") then Some (frames (flag_in (first_of (codes "threads") rows)))
     else if bytes_eq name (codes "picture") then picture_in rows
-    else if bytes_eq name (codes "candump") then candump_in rows
-    else if bytes_eq name (codes "sweep") then sweep_in rows
     else if bytes_eq name (codes "live") then Some live
     else None
 
@@ -34,7 +28,7 @@ asked_by None name rows = other_by name rows
 
 -- what a subcommand asks for, by its name and the values of its arguments
 abbrev pub request_by : Text → List Row → Option Request
-request_by name rows = asked_by (question_in name (flag_in (first_of (codes "threads") rows))) name rows
+request_by name rows = asked_by (question_in name rows) name rows
 
 -- what the subcommand that was found asks for
 abbrev pub request_in : Option (Text × List Row) → Option Request

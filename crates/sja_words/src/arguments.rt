@@ -74,6 +74,13 @@ pub(crate) const FILES_JOBS: ArgumentRow<'static> = ArgumentRow {
     help: "Take N files at one time",
 };
 
+/// `--strict`.
+pub(crate) const STRICT: ArgumentRow<'static> = ArgumentRow {
+    name: "strict",
+    takes: Takes::Nothing,
+    help: "Exit with status 1 where anything was told",
+};
+
 /// `--threads`.
 pub(crate) const THREADS: ArgumentRow<'static> = ArgumentRow {
     name: "threads",

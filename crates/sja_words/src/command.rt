@@ -2,13 +2,14 @@
 
 ghost use Rattle.std.specs.Prelude.{◌≡◌, IfOk};
 ghost use Rattle.clap.specs.Words.{app_of};
-ghost use Rattle.sja_words.specs.CommandLine.{empty_app, sja_app};
+ghost use Rattle.sja_words.specs.CommandLine.{bare_app, empty_app, sja_app};
 ghost use Rattle.sja_words.specs.Inside.Parser.{IsHeld, IsHeldAs};
 ghost use Rattle.sja_words.specs.Inside.Table.{app_in, with_apps};
 
 use super::argument::argument_of;
 use super::command_row::CommandRow;
 use super::commands::commands;
+use super::details::details_of;
 use clap::Command;
 use std::alloc::{AllocError, Global};
 
@@ -46,13 +47,25 @@ fn empty_command<'a>(alloc: Global) -> Command<'a>
 }
 
 /// The command of a row of the table.
-#[tactic(auto, unfolding(crate::specs::Inside::Parser::IsHeldAs, crate::specs::CommandLine::bare_app))]
+#[tactic(auto, unfolding(crate::specs::Inside::Parser::IsHeldAs, crate::specs::Inside::Parser::IsHeld))]
 pub(crate) fn command_of<'a>(alloc: Global, row: &CommandRow<'a>) -> Result<Command<'a>, AllocError>
     ensures { IsHeldAs result (app_in row.now) }
 {
-    let mut command = Command::new(alloc, row.name).about(row.about);
+    let mut command = bare_command(alloc, row);
     for argument in row.arguments {
         command = command.arg(argument_of(alloc, argument))?;
     }
     Ok(command)
+}
+
+/// The same without its arguments, with what help says of it.
+#[tactic(auto, unfolding(crate::specs::Inside::Parser::IsHeld, crate::specs::CommandLine::bare_app))]
+fn bare_command<'a>(alloc: Global, row: &CommandRow<'a>) -> Command<'a>
+    ensures { IsHeld result (bare_app row.now.name.now) }
+{
+    let command = Command::new(alloc, row.name).about(row.about);
+    match details_of(row.name) {
+        Some(text) => command.after_help(text),
+        None => command,
+    }
 }

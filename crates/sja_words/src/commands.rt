@@ -6,7 +6,7 @@ ghost use Rattle.sja_words.specs.Inside.Table.{with_apps};
 
 use super::arguments::{
     ACR, AMR, CHANGED, DRAW, ERRORS, FILE, FILES, FILES_JOBS, FIRST, FROM, JOBS, LAST, LINE,
-    MESSAGE, MESSAGES, MODE, ONLY, PAIRS, ROWS, STRIKE, SVG, TEXT, THREADS, TO, YES,
+    MESSAGE, MESSAGES, MODE, ONLY, PAIRS, ROWS, STRICT, STRIKE, SVG, TEXT, THREADS, TO, YES,
 };
 use super::command_row::CommandRow;
 
@@ -21,7 +21,9 @@ pub(crate) const FILTER: CommandRow<'static> = CommandRow {
 pub(crate) const SWEEP: CommandRow<'static> = CommandRow {
     name: "sweep",
     about: "Print what each single bit error does to the run of the plan on standard input",
-    arguments: &[ONLY, FROM, TO, PAIRS, CHANGED, ROWS, YES, JOBS, STRIKE],
+    arguments: &[
+        ONLY, FROM, TO, PAIRS, CHANGED, ROWS, YES, JOBS, STRIKE, FILE,
+    ],
 };
 
 /// All commands, in the order in which help lists them.
@@ -55,7 +57,7 @@ const COMMANDS: &[CommandRow<'static>] = &[
     CommandRow {
         name: "wave",
         about: "Print the waveform of a run of the plan on standard input: sja wave < plan.toml",
-        arguments: &[THREADS],
+        arguments: &[THREADS, FILES, FILES_JOBS],
     },
     CommandRow {
         name: "trace",
@@ -65,7 +67,7 @@ const COMMANDS: &[CommandRow<'static>] = &[
     CommandRow {
         name: "frames",
         about: "Print the bits of each field of the frames in a run of the plan on standard input",
-        arguments: &[THREADS],
+        arguments: &[THREADS, FILES, FILES_JOBS],
     },
     CommandRow {
         name: "picture",
@@ -75,12 +77,12 @@ const COMMANDS: &[CommandRow<'static>] = &[
     CommandRow {
         name: "candump",
         about: "Print what each node received in a run of the plan on standard input, for can-utils",
-        arguments: &[ERRORS, THREADS],
+        arguments: &[ERRORS, THREADS, FILES, FILES_JOBS],
     },
     CommandRow {
         name: "check",
         about: "Print the first mistake in the plan on standard input, or what its run left out",
-        arguments: &[FILES, FILES_JOBS],
+        arguments: &[FILES, FILES_JOBS, STRICT],
     },
     SWEEP,
     CommandRow {

@@ -1,4 +1,4 @@
-//! What the words of `run`, `check`, `trace` and `plan` ask for.
+//! What the words ask for that take plans in files.
 
 ghost use Rattle.std.specs.Prelude.{◌≡◌, IfOk, Some, map, option_map};
 ghost use Rattle.clap.specs.Words.{found_of, rows_of};
@@ -62,8 +62,13 @@ fn task_about<'a>(question: PlanQuestion) -> Task<'a>
 {
     match question {
         PlanQuestion::Report { threads } => Task::Run { threads },
-        PlanQuestion::Check => Task::Check,
+        PlanQuestion::Check { strict } => Task::Check { strict },
+        PlanQuestion::Wave { threads } => Task::Wave { threads },
         PlanQuestion::Trace { threads } => Task::Trace { threads },
+        PlanQuestion::Frames { threads } => Task::Frames { threads },
+        PlanQuestion::Candump { errors, threads } => Task::Candump { errors, threads },
+        PlanQuestion::Sweep(words) => Task::Sweep(words),
+        PlanQuestion::StruckPlan { node, bit } => Task::StruckPlan { node, bit },
         PlanQuestion::Plan => Task::Plan,
     }
 }

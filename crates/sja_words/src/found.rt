@@ -4,13 +4,13 @@ ghost use Rattle.std.specs.Prelude.{◌≡◌, IfOk, codes, map, option_map};
 ghost use Rattle.clap.specs.Words.{all_of, first_of, found_of, rows_of, subcommand_rows_of};
 ghost use Rattle.sja_words.specs.Values.{flag_in, single_in};
 ghost use Rattle.sja_words.specs.Requests.{decode, encode, message, request_of};
-ghost use Rattle.sja_words.specs.Commands.{arbitrate_in, filter_in, question_in};
+ghost use Rattle.sja_words.specs.Commands.{arbitrate_in, filter_in, question_in, text_question};
 ghost use Rattle.sja_words.specs.Words.{request_by, request_in, other_by};
 
 use super::files_found::plan_task;
-use super::picture_found::{candump_task, picture_task};
+use super::picture_found::picture_task;
 use super::plan_question::PlanQuestion;
-use super::sweep_found::sweep_task;
+use super::sweep_found::sweep_question;
 use super::task::Task;
 use arrayvec::ArrayVec;
 use clap::ArgMatches;
@@ -41,20 +41,38 @@ fn task_by<'a>(
     ensures { IfOk result (λ task. option_map request_of task
         ≡ request_by name.now (rows_of (found_of arguments.now))) }
 {
-    match question_of(name, flag_at(arguments, "threads")) {
+    match question_of(name, arguments) {
         Some(question) => plan_task(alloc, question, arguments),
         None => Ok(other_task(name, arguments)),
     }
 }
 
 /// The question that a subcommand of this name asks of plans in files; nothing where it asks none.
-fn question_of(name: &str, threads: bool) -> Option<PlanQuestion>
-    ensures { result ≡ question_in name.now threads }
+fn question_of<'a>(name: &str, arguments: &ArgMatches<'a>) -> Option<PlanQuestion>
+    ensures { result ≡ question_in name.now (rows_of (found_of arguments.now)) }
+{
+    match name {
+        "check" => Some(PlanQuestion::Check {
+            strict: flag_at(arguments, "strict"),
+        }),
+        "candump" => Some(PlanQuestion::Candump {
+            errors: flag_at(arguments, "errors"),
+            threads: flag_at(arguments, "threads"),
+        }),
+        "sweep" => sweep_question(arguments),
+        of_run => text_question(of_run, flag_at(arguments, "threads")),
+    }
+}
+
+/// The question that a subcommand of this name asks that has `--threads` and no other flag.
+fn text_question(name: &str, threads: bool) -> Option<PlanQuestion>
+    ensures { result ≡ text_question name.now threads }
 {
     match name {
         "run" => Some(PlanQuestion::Report { threads }),
-        "check" => Some(PlanQuestion::Check),
+        "wave" => Some(PlanQuestion::Wave { threads }),
         "trace" => Some(PlanQuestion::Trace { threads }),
+        "frames" => Some(PlanQuestion::Frames { threads }),
         "plan" => Some(PlanQuestion::Plan),
         _ => None,
     }
@@ -70,15 +88,7 @@ fn other_task<'a>(name: &str, arguments: &ArgMatches<'a>) -> Option<Task<'a>>
         "filter" => filter_task(arguments),
         "arbitrate" => arbitrate_task(arguments),
         "message" => message_task(arguments),
-        "wave" => Some(Task::Wave {
-            threads: flag_at(arguments, "threads"),
-        }),
-        "frames" => Some(Task::Frames {
-            threads: flag_at(arguments, "threads"),
-        }),
         "picture" => picture_task(arguments),
-        "candump" => Some(candump_task(arguments)),
-        "sweep" => sweep_task(arguments),
         "live" => Some(Task::Live),
         _ => None,
     }

@@ -7,7 +7,9 @@ ghost use Rattle.sja_words.specs.Requests.{frames, live, picture, run, spelled_p
 ghost use Rattle.sja_words.specs.Sweeping.{all_swept};
 ghost use Rattle.sja_words.specs.Words.{ParsesAs, faults};
 ghost use Rattle.clap.specs.declared.error.kind.ErrorKind.TheVariants.{DisplayVersion};
-ghost use Rattle.sja_words.specs.declared.plan_question.PlanQuestion.TheVariants.{Check, Report, Trace, Plan};
+ghost use Rattle.sja_words.specs.declared.plan_question.PlanQuestion.TheVariants.{Candump, Check, Frames, Plan};
+ghost use Rattle.sja_words.specs.declared.plan_question.PlanQuestion.TheVariants.{Report, StruckPlan, Sweep, Trace};
+ghost use Rattle.sja_words.specs.declared.plan_question.PlanQuestion.TheVariants.{Wave};
 
 /// The program's name, `encode` and a text that doesn't begin with `-` (45) ask for the levels of this message.
 pub fn encode_and_a_text_parse()
@@ -70,8 +72,11 @@ pub fn run_parses()
     ensures threads { (name : List ℕ) → ParsesAs (name ∷ codes "run" ∷ codes "--threads" ∷ []) (run true) }
 {}
 
-/// The program's name and `wave` ask for the waveform of that plan, and with `--threads` for that of such a run.
+/// The program's name and `wave` ask for the waveform of that plan, and with `--threads` for that of such a run; with
+/// names behind them for that of each plan in these files.
 pub fn wave_parses()
+    ensures file { (name : List ℕ) → ParsesAs (name ∷ codes "wave" ∷ codes "a" ∷ [])
+        (files (Wave false) 1 (codes "a" ∷ [])) }
     ensures one { (name : List ℕ) → ParsesAs (name ∷ codes "wave" ∷ []) (wave false) }
     ensures threads { (name : List ℕ) → ParsesAs (name ∷ codes "wave" ∷ codes "--threads" ∷ []) (wave true) }
 {}
@@ -87,8 +92,11 @@ pub fn trace_parses()
 {}
 
 /// The program's name and `frames` ask for the bits of the frames in that plan's run, and with `--threads` for those of
-/// such a run.
+/// such a run; with names behind them of each plan in these files.
 pub fn frames_parses()
+    ensures jobs { (name : List ℕ) → ParsesAs
+        (name ∷ codes "frames" ∷ codes "a" ∷ codes "b" ∷ codes "--jobs" ∷ codes "2" ∷ [])
+        (files (Frames false) 2 (codes "a" ∷ codes "b" ∷ [])) }
     ensures one { (name : List ℕ) → ParsesAs (name ∷ codes "frames" ∷ []) (frames false) }
     ensures threads { (name : List ℕ) → ParsesAs (name ∷ codes "frames" ∷ codes "--threads" ∷ []) (frames true) }
 {}
@@ -114,8 +122,10 @@ pub fn picture_parses()
 {}
 
 /// The program's name and `candump` ask for what the nodes received in that plan's run, with error frames where
-/// `--errors` stands.
+/// `--errors` stands; with names behind them of each plan in these files.
 pub fn candump_parses()
+    ensures file { (name : List ℕ) → ParsesAs (name ∷ codes "candump" ∷ codes "--errors" ∷ codes "a" ∷ [])
+        (files (Candump true false) 1 (codes "a" ∷ [])) }
     ensures plain { (name : List ℕ) → ParsesAs (name ∷ codes "candump" ∷ []) (candump false false) }
     ensures errors { (name : List ℕ) → ParsesAs (name ∷ codes "candump" ∷ codes "--errors" ∷ [])
         (candump true false) }
@@ -124,12 +134,14 @@ pub fn candump_parses()
 {}
 
 /// The program's name and `check` ask for the first mistake in the plan on the input, or what its run left out; with
-/// names behind them that don't begin with `-` they ask so of each plan in these files.
+/// names behind them that don't begin with `-` they ask so of each plan in these files. With `--strict` they ask that
+/// nothing be left out.
 pub fn check_parses()
-    ensures input { (name : List ℕ) → ParsesAs (name ∷ codes "check" ∷ []) check }
+    ensures input { (name : List ℕ) → ParsesAs (name ∷ codes "check" ∷ []) (check false) }
+    ensures strict { (name : List ℕ) → ParsesAs (name ∷ codes "check" ∷ codes "--strict" ∷ []) (check true) }
     ensures files { (name : List ℕ) (names : List (List ℕ)) → HasNoFlag names
         → 1 ≤ length names → length names < 2 ^ 64
-        → ParsesAs (name ∷ codes "check" ∷ names) (files Check 1 names) }
+        → ParsesAs (name ∷ codes "check" ∷ names) (files (Check false) 1 names) }
 {}
 
 /// The program's name and `plan` ask for the plan on the input as it is written; with one name behind them for the plan
@@ -147,7 +159,7 @@ pub fn live_parses()
 
 /// The program's name and `sweep` ask for a sweep of the plan on the input: of each node in each bit, where nothing
 /// follows; of the node and the bits that are named; of two bits a run, and in several threads; with what the flags ask
-/// for. A node that no plan has is refused.
+/// for. One name is that of a file with the plan. A node that no plan has is refused.
 pub fn sweep_parses()
     ensures all { (name : List ℕ) → ParsesAs (name ∷ codes "sweep" ∷ [])
         (sweep all_swept) }
@@ -160,6 +172,8 @@ pub fn sweep_parses()
     ensures flags { (name : List ℕ) → ParsesAs
         (name ∷ codes "sweep" ∷ codes "--changed" ∷ codes "--rows" ∷ codes "--yes" ∷ [])
         (sweep (record all_swept { changed = true; rows = true; meant = true })) }
+    ensures file { (name : List ℕ) → ParsesAs (name ∷ codes "sweep" ∷ codes "--changed" ∷ codes "a" ∷ [])
+        (files (Sweep (record all_swept { changed = true })) 1 (codes "a" ∷ [])) }
     ensures past { (name : List ℕ) (r : Request)
         → ¬ ParsesAs (name ∷ codes "sweep" ∷ codes "--only" ∷ codes "8" ∷ []) r }
 {}
@@ -169,6 +183,9 @@ pub fn sweep_parses()
 pub fn a_struck_plan_parses()
     ensures numbers { (name : List ℕ)
         → ParsesAs (name ∷ codes "sweep" ∷ codes "--plan" ∷ codes "1" ∷ codes "59" ∷ []) (struck_plan 1 59) }
+    ensures file { (name : List ℕ)
+        → ParsesAs (name ∷ codes "sweep" ∷ codes "--plan" ∷ codes "1" ∷ codes "59" ∷ codes "a" ∷ [])
+        (files (StruckPlan 1 59) 1 (codes "a" ∷ [])) }
     ensures one { (name : List ℕ) (r : Request)
         → ¬ ParsesAs (name ∷ codes "sweep" ∷ codes "--plan" ∷ codes "1" ∷ []) r }
     ensures beside { (name : List ℕ) (r : Request) → ¬ ParsesAs

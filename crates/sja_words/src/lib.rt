@@ -10,6 +10,7 @@ mod arguments;
 mod command;
 mod command_row;
 mod commands;
+mod details;
 mod file_words;
 mod files_found;
 mod found;

@@ -9,7 +9,7 @@ ghost use Rattle.sja_words.specs.CommandLine.{sja_app};
 
 use super::command::sja_command;
 use super::found::task_of;
-use super::refused_text::{refused_text, refused_value};
+use super::refused_text::{live_help, refused_text, refused_value};
 use super::task::Task;
 use super::words_fault::WordsFault;
 use clap::error::{Error, ErrorKind};
@@ -72,10 +72,20 @@ fn fault_in<S: AsStr>(alloc: Global, words: &[S], error: &Error) -> WordsFault
 {
     match (error.kind(), words.get(1)) {
         (ErrorKind::OutOfMemory, _) => WordsFault::OutOfMemory,
+        (ErrorKind::UnknownArgument, Some(command)) if asks_live(command.as_str(), words.get(2)) =>
+            { unparsed(live_help(alloc, shown_name(words))) }
         (ErrorKind::InvalidValue | ErrorKind::ValueValidation, Some(command)) => {
             unparsed(refused_value(alloc, shown_name(words), command.as_str(), error))
         }
         _ => unparsed(error.to_string(alloc)),
+    }
+}
+
+/// Whether these are the words `live help`.
+fn asks_live<S: AsStr>(command: &str, word: Option<&S>) -> bool {
+    match word {
+        Some(word) => command == "live" && word.as_str() == "help",
+        None => false,
     }
 }
 

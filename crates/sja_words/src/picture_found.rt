@@ -1,9 +1,9 @@
-//! What the words of `picture` and `candump` ask for.
+//! What the words of `picture` ask for.
 
-ghost use Rattle.std.specs.Prelude.{◌≡◌, option_map, Some};
+ghost use Rattle.std.specs.Prelude.{◌≡◌, option_map};
 ghost use Rattle.clap.specs.Words.{found_of, rows_of};
 ghost use Rattle.sja_words.specs.Requests.{request_of};
-ghost use Rattle.sja_words.specs.Commands.{candump_in, picture_in};
+ghost use Rattle.sja_words.specs.Commands.{picture_in};
 
 use super::found::flag_at;
 use super::sweep_found::{number_at, optional_at};
@@ -27,15 +27,5 @@ pub(crate) fn picture_task<'a>(arguments: &ArgMatches<'a>) -> Option<Task<'a>>
             meant: flag_at(arguments, "yes"),
         }),
         _ => None,
-    }
-}
-
-/// `candump`, with its flags.
-pub(crate) fn candump_task<'a>(arguments: &ArgMatches<'a>) -> Task<'a>
-    ensures { Some (request_of result) ≡ candump_in (rows_of (found_of arguments.now)) }
-{
-    Task::Candump {
-        errors: flag_at(arguments, "errors"),
-        threads: flag_at(arguments, "threads"),
     }
 }

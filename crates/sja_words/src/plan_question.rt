@@ -1,5 +1,7 @@
 //! [`PlanQuestion`]: what is asked of each plan that stands in a file.
 
+use super::sweep_words::SweepWords;
+
 /// What is asked of each plan that stands in a file (this project's own rule).
 #[derive(Clone, Copy, Debug)]
 pub enum PlanQuestion {
@@ -9,11 +11,40 @@ pub enum PlanQuestion {
         threads: bool,
     },
     /// `check`: its first mistake, or what its run left out.
-    Check,
+    Check {
+        /// With `--strict`: what the run left out is no fine answer.
+        strict: bool,
+    },
+    /// `wave`: the waveform of its run.
+    Wave {
+        /// As for `run`.
+        threads: bool,
+    },
     /// `trace`: what happened in its run, event by event.
     Trace {
         /// As for `run`.
         threads: bool,
+    },
+    /// `frames`: the bits of each field of the frames in its run.
+    Frames {
+        /// As for `run`.
+        threads: bool,
+    },
+    /// `candump`: what each node received in its run.
+    Candump {
+        /// With `--errors`: error frames too.
+        errors: bool,
+        /// As for `run`.
+        threads: bool,
+    },
+    /// `sweep`: what came of each single bit error in its run.
+    Sweep(SweepWords),
+    /// `sweep --plan K B`: the plan with one strike more.
+    StruckPlan {
+        /// The node that is struck, counted from 0, at most 9,999,999.
+        node: u32,
+        /// The bit that is struck, counted from 0, at most 9,999,999.
+        bit: u32,
     },
     /// `plan`: the plan, as it is written.
     Plan,

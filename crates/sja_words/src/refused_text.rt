@@ -1,7 +1,7 @@
 //! What is said of words that the parser refuses, or took and that give no task all the same, where it says less than
 //! is wanted: with the usage of the command.
 
-use super::command::command_of;
+use super::command::{command_of, sja_command};
 use super::command_row::CommandRow;
 use super::commands::{FILTER, SWEEP, commands};
 use clap::error::{Error, ErrorKind};
@@ -111,4 +111,12 @@ fn row_named(name: &str) -> Option<&'static CommandRow<'static>> {
         }
     }
     None
+}
+
+/// The help of `live`, under the program's name `program`.
+pub(crate) fn live_help(alloc: Global, program: &str) -> Result<String, AllocError> {
+    match sja_command(alloc)?.try_get_matches_from(&[program, "live", "--help"]) {
+        Ok(_) => Ok(String::new(alloc)),
+        Err(error) => error.to_string(alloc),
+    }
 }

@@ -3,45 +3,45 @@
 ghost use Rattle.std.specs.Prelude.{◌≡◌, ◌≤◌, IfSome, Some, codes, option_and_then, option_map};
 ghost use Rattle.clap.specs.Words.{first_of, found_of, rows_of};
 ghost use Rattle.sja_words.specs.Values.{flag_in, number_in, number_or, optional_in, second_of};
-ghost use Rattle.sja_words.specs.Requests.{request_of, sweep};
+ghost use Rattle.sja_words.specs.declared.plan_question.PlanQuestion.TheVariants.{Sweep};
 ghost use Rattle.sja_words.specs.Sweeping.{has_no_flag, has_no_number, is_alone, struck_by, sweep_in, words_in};
 
 use super::found::{flag_at, text_at};
+use super::plan_question::PlanQuestion;
 use super::sweep_words::{GREATEST_NUMBER, LAST_NODE, MOST_JOBS, SweepWords};
-use super::task::Task;
 use clap::ArgMatches;
 
 /// `sweep`, or `sweep --plan K B`, beside which no option may stand.
-pub(crate) fn sweep_task<'a>(arguments: &ArgMatches<'a>) -> Option<Task<'a>>
-    ensures { option_map request_of result ≡ sweep_in (rows_of (found_of arguments.now)) }
+pub(crate) fn sweep_question<'a>(arguments: &ArgMatches<'a>) -> Option<PlanQuestion>
+    ensures { result ≡ sweep_in (rows_of (found_of arguments.now)) }
 {
     match text_at(arguments, "plan") {
-        Some(node) if is_alone(arguments) => struck_task(arguments, node),
+        Some(node) if is_alone(arguments) => struck_question(arguments, node),
         Some(_) => None,
-        None => swept_task(arguments),
+        None => swept_question(arguments),
     }
 }
 
 /// `sweep --plan K B`, of which this is the node.
-fn struck_task<'a>(arguments: &ArgMatches<'a>, node: &str) -> Option<Task<'a>>
-    ensures { option_map request_of result ≡ struck_by (number_in 0 9999999 node.now)
+fn struck_question<'a>(arguments: &ArgMatches<'a>, node: &str) -> Option<PlanQuestion>
+    ensures { result ≡ struck_by (number_in 0 9999999 node.now)
         (option_and_then (number_in 0 9999999) (second_of (codes "plan") (rows_of (found_of arguments.now)))) }
 {
     match (
         number_in(node, 0, GREATEST_NUMBER),
         second_number(arguments, "plan"),
     ) {
-        (Some(node), Some(bit)) => Some(Task::StruckPlan { node, bit }),
+        (Some(node), Some(bit)) => Some(PlanQuestion::StruckPlan { node, bit }),
         _ => None,
     }
 }
 
 /// `sweep` without `--plan`.
-fn swept_task<'a>(arguments: &ArgMatches<'a>) -> Option<Task<'a>>
-    ensures { option_map request_of result ≡ option_map sweep (words_in (rows_of (found_of arguments.now))) }
+fn swept_question<'a>(arguments: &ArgMatches<'a>) -> Option<PlanQuestion>
+    ensures { result ≡ option_map Sweep (words_in (rows_of (found_of arguments.now))) }
 {
     match sweep_words(arguments) {
-        Some(words) => Some(Task::Sweep(words)),
+        Some(words) => Some(PlanQuestion::Sweep(words)),
         None => None,
     }
 }

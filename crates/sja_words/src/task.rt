@@ -71,7 +71,10 @@ pub enum Task<'a> {
         threads: bool,
     },
     /// `check`: the first mistake in the plan on the input, or what its run left out.
-    Check,
+    Check {
+        /// With `--strict`: what the run left out is no fine answer.
+        strict: bool,
+    },
     /// `sweep`: what came of each single bit error in the run of the plan on the input.
     Sweep(SweepWords),
     /// `sweep --plan K B`: the plan on the input with one strike more.
@@ -83,7 +86,7 @@ pub enum Task<'a> {
     },
     /// `plan`: the plan on the input, as it is written.
     Plan,
-    /// `run FILE..`, `check FILE..`, `trace FILE` and `plan FILE`: the same of each plan that stands in a file.
+    /// `run FILE..`, `check FILE..` and their like: the same of each plan that stands in a file.
     Files(FileWords<'a>),
     /// `live`: a session that is driven by the lines of the input.
     Live,

@@ -198,7 +198,7 @@ few_printed (picture first last svg threads meant) before after text (inl asks) 
     few_of (IsTextOfRun threads (picture_or_drawing svg first last meant)) before after text printed
 few_printed (candump errors threads) before after text (inl asks) printed =
     few_of (IsTextOfRun threads (Candump errors)) before after text printed
-few_printed check before after text (inl asks) printed = few_hinted before after text printed
+few_printed (check strict) before after text (inl asks) printed = few_hinted before after text printed.0
 few_printed (sweep w) before after text (inl asks) printed = few_of (IsSwept w) before after text printed
 few_printed (struck_plan node bit) before after text (inl asks) printed =
     few_of (IsStruck node bit) before after text printed
@@ -227,7 +227,7 @@ few_turned_down (picture first last svg threads meant) before after why (inl ask
     few_untold threads (picture_or_drawing svg first last meant) before after why refused
 few_turned_down (candump errors threads) before after why (inl asks) refused =
     few_refused (MayFault threads) before after why refused
-few_turned_down check before after why (inl asks) refused = few_unchecked before after why refused
+few_turned_down (check strict) before after why (inl asks) refused = few_unchecked before after why refused
 few_turned_down (sweep w) before after why (inl asks) refused = few_of_none (RefusesSwept w) before after why refused
 few_turned_down (struck_plan node bit) before after why (inl asks) refused =
     few_of_none (RefusesStruck node bit) before after why refused

@@ -5,13 +5,14 @@ use Rattle.std.proofs.lemmas.List.{append-nil, map_more}
 use Rattle.std.specs.Borrow.{Bor}
 use Rattle.std.specs.List.{AllZip}
 use Rattle.sja_words.specs.declared.plan_question.PlanQuestion.{PlanQuestion}
-use Rattle.sja_words.specs.declared.plan_question.PlanQuestion.TheVariants.{Check, Plan, Report, Trace}
+use Rattle.sja_words.specs.declared.plan_question.PlanQuestion.TheVariants.{Candump, Check, Frames, Plan, Report}
+use Rattle.sja_words.specs.declared.plan_question.PlanQuestion.TheVariants.{StruckPlan, Sweep, Trace, Wave}
 use Rattle.sja_texts.specs.declared.command_refusal.CommandRefusal.TheVariants.{OutOfMemory}
 use Rattle.sja_run.specs.Files.{AreOutcomes, IsOutcome, IsUnanswered, IsUnread}
 use Rattle.sja_run.specs.Inside.FileReads.{AreReads, ComeOf, ComesOf, IsReadOf, Settles, all_refused}
 use Rattle.sja_run.specs.Inside.FileReads.{outcomes_in}
 use Rattle.sja_run.specs.declared.file_outcome.FileOutcome.{FileOutcome}
-use Rattle.sja_run.specs.declared.file_outcome.FileOutcome.TheVariants.{Printed, Mistaken, Refused, Unreadable}
+use Rattle.sja_run.specs.declared.file_outcome.FileOutcome.TheVariants.{Printed, Told, Mistaken, Refused, Unreadable}
 use Rattle.sja_run.proofs.BytesRead.FewBytes.{few_unchecked}
 
 -- what stands under names
@@ -35,8 +36,13 @@ outcome_from items Holds q name a b (Err given) outcome none is =
 -- memory may be refused, whatever the bytes are
 unanswered : (q : PlanQuestion) (bytes : List ℕ) → IsUnanswered q bytes OutOfMemory
 unanswered (Report threads) bytes = tt
+unanswered (Wave threads) bytes = tt
 unanswered (Trace threads) bytes = tt
-unanswered Check bytes = refl
+unanswered (Frames threads) bytes = tt
+unanswered (Candump errors threads) bytes = tt
+unanswered (Sweep w) bytes = tt
+unanswered (StruckPlan node bit) bytes = tt
+unanswered (Check strict) bytes = refl
 unanswered Plan bytes = tt
 
 -- and whatever was read
@@ -49,6 +55,7 @@ refused_anyway items Holds q name a b (Err Unreadable) none = inr (inr (refl, no
 refused_anyway items Holds q name a b (Err (Refused r)) (inl none) = inr (inl (none.0, few_unchecked a b r none.1))
 refused_anyway items Holds q name a b (Err (Refused r)) (inr none) = inr (inr (refl, none.1))
 refused_anyway items Holds q name a b (Err (Printed text)) none = absurd none
+refused_anyway items Holds q name a b (Err (Told text)) none = absurd none
 refused_anyway items Holds q name a b (Err (Mistaken text)) none = absurd none
 
 -- ---- several files

@@ -13,6 +13,8 @@ use Rattle.sja_texts.specs.declared.sweep_refusal.SweepRefusal.{SweepRefusal}
 use Rattle.sja_texts.specs.declared.sweep_refusal.SweepRefusal.TheVariants.{NoNode, TooMany, StrikeCount, Bit, TooLong}
 use Rattle.sja_texts.specs.declared.command_refusal.CommandRefusal.{CommandRefusal}
 use Rattle.sja_texts.specs.declared.command_refusal.CommandRefusal.TheVariants as refusal
+use Rattle.sja_plan.specs.Faults.{IsPlanOf}
+use Rattle.sja_run.specs.Files.{RefusesTextFor}
 use Rattle.sja_run.specs.Input.{ReadsFew, RefusesInput}
 use Rattle.sja_run.specs.Run.{RefusesRun}
 use Rattle.sja_run.specs.Inside.Runs.{HoldsPlan}
@@ -49,6 +51,21 @@ plan_refused May before after plan (refusal.Layout fault) holds h = absurd h
 plan_refused May before after plan (refusal.Line fault) holds h = absurd h
 plan_refused May before after plan (refusal.Notation fault) holds h = absurd h
 plan_refused May before after plan (refusal.Drawing levels) holds h = absurd h
+
+-- of the plan that some bytes are
+pub text_refused : (May : PlanValue → SweepRefusal → Type 0) (bytes : List ℕ) (plan : PlanValue) (r : CommandRefusal) →
+    IsPlanOf bytes plan → RefusesPlan May plan r → RefusesTextFor May bytes r
+text_refused May bytes plan refusal.OutOfMemory holds h = tt
+text_refused May bytes plan (refusal.Sweep why) holds h = (plan, holds, h)
+text_refused May bytes plan refusal.Read holds h = absurd h
+text_refused May bytes plan (refusal.Plan fault) holds h = absurd h
+text_refused May bytes plan (refusal.Run fault) holds h = absurd h
+text_refused May bytes plan refusal.NotHexadecimal holds h = absurd h
+text_refused May bytes plan refusal.NotALine holds h = absurd h
+text_refused May bytes plan (refusal.Layout fault) holds h = absurd h
+text_refused May bytes plan (refusal.Line fault) holds h = absurd h
+text_refused May bytes plan (refusal.Notation fault) holds h = absurd h
+text_refused May bytes plan (refusal.Drawing levels) holds h = absurd h
 
 -- whatever of both it is, few bytes were read
 pub few_of_plan : (May : PlanValue → SweepRefusal → Type 0) (before after : Option (List ℕ)) (r : CommandRefusal) →

@@ -7,7 +7,7 @@ use Rattle.sja_texts.specs.declared.command_refusal.CommandRefusal.TheVariants a
 use Rattle.sja_run.specs.Answer.{IsPrinted, IsRefused}
 use Rattle.sja_run.specs.declared.plan_check.PlanCheck.{PlanCheck}
 use Rattle.sja_run.specs.declared.plan_check.PlanCheck.TheVariants.{Hints, Mistake}
-use Rattle.sja_run.specs.Check.{IsHinted, IsExplained, HasHints, HasMistake}
+use Rattle.sja_run.specs.Check.{IsFine, IsHinted, IsExplained, HasHints, HasMistake}
 
 -- a text of a run is asked for, in threads or in one
 abbrev pub AsksForText : Request → Type 0
@@ -29,6 +29,11 @@ IsAnswer request before after result =
 abbrev pub IsOneWhereFailed : Bool → Bool → Bool → Bool → ℕ → Type 0
 IsOneWhereFailed out_old err_old out_new err_new status =
     out_old ≡ false → err_old ≡ false → (out_new ≡ true) ⊎ (err_new ≡ true) → status ≡ 1
+
+-- by what was left out the exit status is 0, or strictly 1
+abbrev pub IsJudged : Bool → List ℕ → ℕ → Type 0
+IsJudged strict text status =
+    ((status ≡ 0) × IsFine strict text) ⊎ ((status ≡ 1) × (strict ≡ true) × (¬ IsFine true text))
 
 -- which of both is said of these bytes: hints of a plan, or its mistake
 abbrev pub IsSaidOf : List ℕ → PlanCheck → Type 0

@@ -1,8 +1,10 @@
 -- What some words with names of files ask for, by computing the parser's answer.
-use Rattle.std.proofs.Common.{ℕ, List, [], ◌∷◌, codes, refl, false}
+use Rattle.std.proofs.Common.{ℕ, List, [], ◌∷◌, codes, refl, false, true}
 use Rattle.sja_words.specs.Requests.{Request, files, spelled_plan}
 use Rattle.sja_words.specs.Words.{ParsesAs, asked, faults}
-use Rattle.sja_words.specs.declared.plan_question.PlanQuestion.TheVariants.{Report, Trace, Plan}
+use Rattle.sja_words.specs.declared.plan_question.PlanQuestion.TheVariants.{Candump, Frames, Plan, Report, StruckPlan}
+use Rattle.sja_words.specs.declared.plan_question.PlanQuestion.TheVariants.{Sweep, Trace, Wave}
+use Rattle.sja_words.specs.Sweeping.{all_swept}
 use Rattle.sja_words.proofs.LiteralWords.OnWords.{sja_on_literals}
 
 -- three names, of which one is the input, and the number of threads among them
@@ -17,6 +19,40 @@ pub trace_file : (name : List ℕ) →
     ParsesAs (name ∷ codes "trace" ∷ codes "a" ∷ []) (files (Trace false) 1 (codes "a" ∷ []))
 unfolding sja_on_literals asked faults
 trace_file name = record { taken = refl; asks = refl }
+
+-- `wave` and one name
+pub wave_file : (name : List ℕ) →
+    ParsesAs (name ∷ codes "wave" ∷ codes "a" ∷ []) (files (Wave false) 1 (codes "a" ∷ []))
+unfolding sja_on_literals asked faults
+wave_file name = record { taken = refl; asks = refl }
+
+-- `frames`, two names, and the number of threads
+pub frames_jobs : (name : List ℕ) →
+    ParsesAs (name ∷ codes "frames" ∷ codes "a" ∷ codes "b" ∷ codes "--jobs" ∷ codes "2" ∷ [])
+    (files (Frames false) 2 (codes "a" ∷ codes "b" ∷ []))
+unfolding sja_on_literals asked faults
+frames_jobs name = record { taken = refl; asks = refl }
+
+-- `candump`, a flag and one name
+pub candump_file : (name : List ℕ) →
+    ParsesAs (name ∷ codes "candump" ∷ codes "--errors" ∷ codes "a" ∷ [])
+    (files (Candump true false) 1 (codes "a" ∷ []))
+unfolding sja_on_literals asked faults
+candump_file name = record { taken = refl; asks = refl }
+
+-- `sweep`, a flag and one name
+pub sweep_file : (name : List ℕ) →
+    ParsesAs (name ∷ codes "sweep" ∷ codes "--changed" ∷ codes "a" ∷ [])
+    (files (Sweep (record all_swept { changed = true })) 1 (codes "a" ∷ []))
+unfolding sja_on_literals asked faults
+sweep_file name = record { taken = refl; asks = refl }
+
+-- `sweep --plan`, two numbers and one name
+pub struck_file : (name : List ℕ) →
+    ParsesAs (name ∷ codes "sweep" ∷ codes "--plan" ∷ codes "1" ∷ codes "59" ∷ codes "a" ∷ [])
+    (files (StruckPlan 1 59) 1 (codes "a" ∷ []))
+unfolding sja_on_literals asked faults
+struck_file name = record { taken = refl; asks = refl }
 
 -- `trace` and two names
 pub trace_files : (name : List ℕ) (r : Request) → ¬ ParsesAs (name ∷ codes "trace" ∷ codes "a" ∷ codes "b" ∷ []) r

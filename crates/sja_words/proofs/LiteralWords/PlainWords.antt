@@ -120,9 +120,14 @@ unfolding sja_on_literals asked faults
 frames_in_threads name = record { taken = refl; asks = refl }
 
 -- `check`
-pub check_alone : (name : List ℕ) → ParsesAs (name ∷ codes "check" ∷ []) check
+pub check_alone : (name : List ℕ) → ParsesAs (name ∷ codes "check" ∷ []) (check false)
 unfolding sja_on_literals asked faults
 check_alone name = record { taken = refl; asks = refl }
+
+-- `check --strict`
+pub check_strict : (name : List ℕ) → ParsesAs (name ∷ codes "check" ∷ codes "--strict" ∷ []) (check true)
+unfolding sja_on_literals asked faults
+check_strict name = record { taken = refl; asks = refl }
 
 -- `live`
 pub live_alone : (name : List ℕ) → ParsesAs (name ∷ codes "live" ∷ []) live

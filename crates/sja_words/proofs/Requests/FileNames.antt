@@ -25,7 +25,7 @@ word true = codes "check"
 word false = codes "run"
 
 abbrev question : Bool → PlanQuestion
-question true = Check
+question true = Check false
 question false = Report false
 
 -- as the parser has built it
@@ -179,5 +179,5 @@ pub run_files : (name : Text) (names : List Text) → HasNoFlag names → 1 ≤ 
 run_files = asks_files false
 
 pub check_files : (name : Text) (names : List Text) → HasNoFlag names → 1 ≤ length names → length names < 2 ^ 64 →
-    ParsesAs (name ∷ codes "check" ∷ names) (files Check 1 names)
+    ParsesAs (name ∷ codes "check" ∷ names) (files (Check false) 1 names)
 check_files = asks_files true

@@ -10,6 +10,14 @@ returns-in-Printed-clause-out g c =
 pub returns-in-Printed-clause-err : goal.returns-in-Printed-clause-err
 returns-in-Printed-clause-err g c = rw c.in-Printed.is (wrote_nothing _ _)
 
+pub returns-in-Told-clause-out : goal.returns-in-Told-clause-out
+returns-in-Told-clause-out g c =
+    rw (c.in-Told.is, sym c.as_slice-in-Told.ensures.value)
+    (wrote_more _ _ _ _ _ _ _ _ c.put_name-in-Told.ensures c.put-in-Told.ensures.written)
+
+pub returns-in-Told-clause-err : goal.returns-in-Told-clause-err
+returns-in-Told-clause-err g c = rw c.in-Told.is (wrote_nothing _ _)
+
 pub returns-in-Mistaken-clause-out : goal.returns-in-Mistaken-clause-out
 returns-in-Mistaken-clause-out g c = rw c.in-Mistaken.is (wrote_nothing _ _)
 

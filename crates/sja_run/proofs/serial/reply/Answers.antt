@@ -35,13 +35,12 @@ line_shown request before after out_old out_new err_old err_new status why ended
     inr (inl (why, is, ap Some ended, subst (Keeps out_old) (sym same) (Keeps-refl out_old), more))
 
 -- the task is `check`
-pub returns-then-is_check-clause-answered : goal.returns-then-is_check-clause-answered
-returns-then-is_check-clause-answered g c = λ wrote told.
-    rw (c.is_check.ensures.check c.if-is_check.true) (c.reply_check.ensures.answered wrote told)
+pub returns-in-Some-clause-answered : goal.returns-in-Some-clause-answered
+returns-in-Some-clause-answered g c = λ wrote told.
+    rw c.in-Some.ensures.check (c.reply_check.ensures.answered wrote told)
 
-pub returns-then-is_check-clause-unread : goal.returns-then-is_check-clause-unread
-returns-then-is_check-clause-unread g c =
-    inl (subst AsksForRun (sym (c.is_check.ensures.check c.if-is_check.true)) tt)
+pub returns-in-Some-clause-unread : goal.returns-in-Some-clause-unread
+returns-in-Some-clause-unread g c = inl (subst AsksForRun (sym c.in-Some.ensures.check) tt)
 
 or_right : {A B C : Type 0} → (B → C) → A ⊎ B → A ⊎ C
 or_right f (inl a) = inl a

@@ -1,3 +1,4 @@
+use Rattle.sja_words.proofs.LiteralWords.PlainFiles.{struck_file}
 use Rattle.sja_words.proofs.LiteralWords.PlainSweeps.{plan, one_number, beside}
 use Rattle.sja_words.proofs.laws.a_struck_plan_parses.Goals as goal
 
@@ -9,3 +10,6 @@ returns-clause-one c = one_number
 
 pub returns-clause-beside : goal.returns-clause-beside
 returns-clause-beside c = beside
+
+pub returns-clause-file : goal.returns-clause-file
+returns-clause-file c = struck_file

@@ -1,3 +1,4 @@
+use Rattle.sja_words.proofs.LiteralWords.PlainFiles.{candump_file}
 use Rattle.sja_words.proofs.LiteralWords.PlainPictures.{plain, errors, candump_in_threads}
 use Rattle.sja_words.proofs.laws.candump_parses.Goals as goal
 
@@ -9,3 +10,6 @@ returns-clause-errors c = errors
 
 pub returns-clause-threads : goal.returns-clause-threads
 returns-clause-threads c = candump_in_threads
+
+pub returns-clause-file : goal.returns-clause-file
+returns-clause-file c = candump_file

@@ -1,3 +1,4 @@
+use Rattle.sja_words.proofs.LiteralWords.PlainFiles.{frames_jobs}
 use Rattle.sja_words.proofs.LiteralWords.PlainWords.{frames_alone, frames_in_threads}
 use Rattle.sja_words.proofs.laws.frames_parses.Goals as goal
 
@@ -6,3 +7,6 @@ returns-clause-one c = frames_alone
 
 pub returns-clause-threads : goal.returns-clause-threads
 returns-clause-threads c = frames_in_threads
+
+pub returns-clause-jobs : goal.returns-clause-jobs
+returns-clause-jobs c = frames_jobs

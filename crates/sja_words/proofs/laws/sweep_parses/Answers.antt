@@ -1,3 +1,4 @@
+use Rattle.sja_words.proofs.LiteralWords.PlainFiles.{sweep_file}
 use Rattle.sja_words.proofs.LiteralWords.PlainSweeps.{all, named, pairs, flags, past}
 use Rattle.sja_words.proofs.laws.sweep_parses.Goals as goal
 
@@ -15,3 +16,6 @@ returns-clause-flags c = flags
 
 pub returns-clause-past : goal.returns-clause-past
 returns-clause-past c = past
+
+pub returns-clause-file : goal.returns-clause-file
+returns-clause-file c = sweep_file

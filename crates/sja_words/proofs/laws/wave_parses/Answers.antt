@@ -1,3 +1,4 @@
+use Rattle.sja_words.proofs.LiteralWords.PlainFiles.{wave_file}
 use Rattle.sja_words.proofs.LiteralWords.PlainWords.{wave_alone, wave_in_threads}
 use Rattle.sja_words.proofs.laws.wave_parses.Goals as goal
 
@@ -6,3 +7,6 @@ returns-clause-one c = wave_alone
 
 pub returns-clause-threads : goal.returns-clause-threads
 returns-clause-threads c = wave_in_threads
+
+pub returns-clause-file : goal.returns-clause-file
+returns-clause-file c = wave_file
