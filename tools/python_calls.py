@@ -61,6 +61,7 @@ def calls(bus):
         ("NO_ADDRESS", "read", (0, -1)), ("NO_ADDRESS", "write", (9, 256, 256)), ("NO_BYTE", "write", (9, 4, 256)),
         ("NO_NODE", "read", (PAST, 2)), ("NO_NODE", "read", (-1, 2)), ("NO_NODE", "read", (2, 2)),
         ("NO_NODE", "irq", (2,)), ("NO_NODE", "irq", (-1,)), ("NO_NODE", "irq", (PAST,)), (False, "irq", (0,)),
+        (0, "lines", ()),
         ("NO_BIT", "strike", (0, 1000)), ("NO_BIT", "strike", (0, PAST)), ("NO_BIT", "strike", (0, -1)),
         ("NO_NODE", "strike", (PAST + 1, 5)), (None, "strike", (1, 999)), ("TypeError", "read", (0, 2.0)),
         ("TypeError", "run", (1.0,)), (0, "run", (0,)), ("NO_NUMBER", "run", (-1,)), ("NO_NUMBER", "run", (PAST,)),
@@ -74,7 +75,7 @@ def ended(bus, status):
     """Calls of a session that has ended, or was closed: each of them is refused."""
     for name, numbers in [
         ("read", (9, 256)), ("write", (0, 4, PAST)), ("run", (1,)), ("run", (-1,)), ("irq", (PAST,)),
-        ("strike", (0, 1)), ("now", ()),
+        ("lines", ()), ("strike", (0, 1)), ("now", ()),
     ]:
         yield f"{name}{numbers}, {status}", lambda name=name, numbers=numbers: getattr(bus, name)(*numbers), status
 

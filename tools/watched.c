@@ -1,9 +1,9 @@
 /* Where a watched run stops. Two sessions get the same random drivers, of each version and of one to eight nodes. One
- * runs its bits by `sja_bits(count, watch)`, the other bit by bit, with a look at each line by `sja_irq` after each.
- * Both have to stop at the same bit with the same lines active, and to read, plan and report the same. The words are a
- * seed and how many sessions, of which 100 have to meet some stops. Prints what was met, or what differs, with status
- * 1. Built with -DALL_ARE_WATCHED it wants a stop where a node rises that isn't watched, too, and has to find a
- * difference. `checks/c_library` runs it. */
+ * runs its bits by `sja_bits(count, watch)`, the other bit by bit, with a look at each line by `sja_irq` and
+ * `sja_lines` after each. Both have to stop at the same bit with the same lines active, and to read, plan and report
+ * the same. The words are a seed and how many sessions, of which 100 have to meet some stops. Prints what was met, or
+ * what differs, with status 1. Built with -DALL_ARE_WATCHED it wants a stop where a node rises that isn't watched,
+ * too, and has to find a difference. `checks/c_library` runs it. */
 #include <stdio.h>
 #include <stdlib.h>
 #include <string.h>
@@ -49,13 +49,14 @@ static void put(uint32_t node, uint32_t address, uint32_t value)
     same("sja_write", sja_write(watched, node, address, value), sja_write(stepped, node, address, value));
 }
 
-/* The lines that are active, a bit a node. */
+/* The lines that are active, a bit a node: told together, and of each node. */
 static sja_answer lines(sja *of)
 {
     sja_answer all = { .status = SJA_DONE };
 
     for (uint32_t node = 0; node < nodes; node++)
         all.value |= sja_irq(of, node).value << node;
+    same("sja_lines", all, sja_lines(of));
     return all;
 }
 
