@@ -6,7 +6,7 @@ use Rattle.std.proofs.lemmas.List.{nil_from_length, same_from_push}
 use Rattle.can_frame.specs.Frame.{FrameValue}
 use Rattle.can_bits.specs.declared.level.Level.{Level}
 use Rattle.can_bits.specs.declared.level.Level.TheVariants.{Dominant, Recessive}
-use Rattle.can_bits.specs.declared.gathered.Gathered.{Gathered}
+use Rattle.can_bits.specs.declared.body_word.BodyWord.{BodyWord}
 use Rattle.can_bits.specs.declared.frame_part.FramePart.{FramePart}
 use Rattle.can_bits.specs.declared.frame_part.FramePart.TheVariants.{Stuffed, FixedForm}
 use Rattle.can_bits.specs.declared.shift.Shift.{Shift}
@@ -33,7 +33,7 @@ broke_not_readable s l w h right =
     (subst P (h.whole ∙ sym (append_assoc h.front (h.wrong ∷ []) h.later)) right))
 
 -- how many levels have come after the stuffed part
-pub past_count : {g : Gathered} {came : ℕ} {f : FrameValue} {b c : List Level} (n : ℕ) (l part after : List Level) →
+pub past_count : {g : BodyWord} {came : ℕ} {f : FrameValue} {b c : List Level} (n : ℕ) (l part after : List Level) →
     IsPast n g came l →
     StuffedPart f b c part → l ≡ part ++ after → n ≡ length after
 past_count n l part after h k whole =
@@ -44,7 +44,7 @@ past_count n l part after h k whole =
     sym (length-take-le n (tail h.ack) h.within) ∙ ap length rest
 
 -- how many levels there are then
-pub past_length : {g : Gathered} {came n : ℕ} (l : List Level) (h : IsPast n g came l) → length l ≡ length h.part + n
+pub past_length : {g : BodyWord} {came n : ℕ} (l : List Level) (h : IsPast n g came l) → length l ≡ length h.part + n
 past_length {n = n} l h =
     let within = h.within in
     omega (arith, ap length h.whole, length-append h.part (take n (tail h.ack)), length-take-le n (tail h.ack) within)
@@ -62,7 +62,7 @@ inside_now s l right at h =
     subst (λ (e : FramePart). ReadsAt e s l) at (subst (λ (o : Option ShiftFault). StandsBy o s l) right h)
 
 -- in it no part has come
-pub inside_no_part : {g : Gathered} {came : ℕ} {last : Level} {n : ℕ} {f : FrameValue} {b c : List Level}
+pub inside_no_part : {g : BodyWord} {came : ℕ} {last : Level} {n : ℕ} {f : FrameValue} {b c : List Level}
     (l part after : List Level) →
     IsInside g came last n l → StuffedPart f b c part → l ≡ part ++ after → ⊥
 inside_no_part {f = f} {b = b} {c = c} l part after h k whole =
@@ -88,7 +88,7 @@ due_readable l h = record {
 }
 
 -- an ACK is due where the CRC sequence is right
-pub due_by : {g : Gathered} {came : ℕ} (r : Bool) (l : List Level) (h : IsPast 1 g came l) →
+pub due_by : {g : BodyWord} {came : ℕ} (r : Bool) (l : List Level) (h : IsPast 1 g came l) →
     SaysWhetherRight r h.body h.check → IsTrue r ↔ IsAckDue l
 due_by r l h says =
     let told = says_so r h.body h.check says in (
@@ -141,5 +141,5 @@ sixth_part f l h =
     ]
 
 -- a whole line has come
-pub over_by : {g : Gathered} {came : ℕ} (l : List Level) → IsPast 10 g came l → IsOver l
+pub over_by : {g : BodyWord} {came : ℕ} (l : List Level) → IsPast 10 g came l → IsOver l
 over_by l h = (h.frame, past_but_for 10 0 l h (omega arith) refl)

@@ -12,7 +12,7 @@ use Rattle.std.proofs.lemmas.Option.{slice_get-get_or, slice_get_within, get_or_
 use Rattle.can_frame.specs.Frame.{FrameValue}
 use Rattle.can_bits.specs.declared.level.Level.{Level}
 use Rattle.can_bits.specs.declared.level.Level.TheVariants.{Dominant, Recessive}
-use Rattle.can_bits.specs.declared.gathered.Gathered.{Gathered}
+use Rattle.can_bits.specs.declared.body_word.BodyWord.{BodyWord}
 use Rattle.can_bits.specs.Digits.{digit, level_of, opposite, value}
 use Rattle.can_bits.specs.Check.{IsMultiple, Crc}
 use Rattle.can_bits.specs.Fields.{level_at}
@@ -155,7 +155,7 @@ sent_inside {f = f} {b = b} {c = c} {part = part} l others before rest x ack non
     ]
 
 -- past the stuffed part a transmitter sends recessive levels
-pub sent_past : {f : FrameValue} {b c part : List Level} {g : Gathered} {came : ℕ} (n : ℕ)
+pub sent_past : {f : FrameValue} {b c part : List Level} {g : BodyWord} {came : ℕ} (n : ℕ)
     (l others before rest : List Level) (x ack : Level) →
     IsPast n g came l → StuffedPart f b c part → part ++ tail ack ≡ l ++ others →
     part ++ tail Recessive ≡ before ++ x ∷ rest →

@@ -11,7 +11,7 @@ use Rattle.can_bits.specs.declared.level.Level.{Level}
 use Rattle.can_bits.specs.declared.level.Level.TheVariants.{Dominant, Recessive}
 use Rattle.can_bits.specs.declared.frame_part.FramePart.{FramePart}
 use Rattle.can_bits.specs.declared.frame_part.FramePart.TheVariants.{Stuffed, FixedForm}
-use Rattle.can_bits.specs.declared.gathered.Gathered.{Gathered}
+use Rattle.can_bits.specs.declared.body_word.BodyWord.{BodyWord}
 use Rattle.can_bits.specs.declared.sent_body.SentBody.{SentBody}
 use Rattle.can_bits.specs.declared.shift.Shift.{Shift}
 use Rattle.can_bits.specs.Digits.{level_of, opposite, value}
@@ -67,7 +67,7 @@ packed_of_frame s f place h =
 -- ---- the next level
 
 -- it is the next one of the body and its CRC sequence
-pub packed_next : (g : Gathered) (s : SentBody) (f : FrameValue) (w c t : List Level) (x : Level) → IsSentBody s f →
+pub packed_next : (g : BodyWord) (s : SentBody) (f : FrameValue) (w c t : List Level) (x : Level) → IsSentBody s f →
     Gathers g w → Crc (sent_body f) c → sent_body f ++ c ≡ w ++ x ∷ t → or_crc (packed_level s g.place) g ≡ x
 packed_next g s f w c t x is h right whole =
     let b = sent_body f in

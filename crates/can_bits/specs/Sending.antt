@@ -8,7 +8,7 @@ use Rattle.can_bits.specs.declared.level.Level.{Level}
 use Rattle.can_bits.specs.declared.level.Level.TheVariants.{Recessive}
 use Rattle.can_bits.specs.declared.frame_part.FramePart.{FramePart}
 use Rattle.can_bits.specs.declared.frame_part.FramePart.TheVariants.{Stuffed, FixedForm}
-use Rattle.can_bits.specs.declared.gathered.Gathered.{Gathered}
+use Rattle.can_bits.specs.declared.body_word.BodyWord.{BodyWord}
 use Rattle.can_bits.specs.declared.sent_body.SentBody.{SentBody}
 use Rattle.can_bits.specs.declared.shift.Shift.{Shift}
 use Rattle.can_bits.specs.Acknowledging.{IsAckDue}
@@ -29,7 +29,7 @@ packed_level b place =
 
 -- the level, and past the body the highest digit of the CRC register: while the CRC sequence goes out the register is
 -- only shifted, so that is its next level (Bosch CAN 2.0 part A section 3.1.1, CRC_RG(14))
-abbrev pub or_crc : Option Level → Gathered → Level
+abbrev pub or_crc : Option Level → BodyWord → Level
 or_crc (Some x) g = x
 or_crc None g = level_of (g.register / 2 ^ 14 == 1)
 
@@ -88,5 +88,5 @@ sent_length body = if nat_le body.length 128 then body.length else 0
 
 -- up to which place levels of a body are taken at once: before the reader's next mark, with which more is known of the
 -- length; before the last level; and as far as 64 digits have the levels from the next one on
-abbrev pub plain_end : Gathered → SentBody → ℕ
+abbrev pub plain_end : BodyWord → SentBody → ℕ
 plain_end g body = min (min g.mark (sent_length body) - 1) (min (g.place + 64) 255)

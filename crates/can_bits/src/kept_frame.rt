@@ -6,7 +6,7 @@ ghost use Rattle.can_bits.specs.declared.level.Level.{Level as Bus};
 ghost use Rattle.can_bits.specs.Spelling.{Spells};
 ghost use Rattle.can_bits.specs.Inside.Gathering.{Gathers};
 
-use super::gathered::Gathered;
+use super::body_word::BodyWord;
 use can_frame::Frame;
 
 /// Room for a frame that a reader has read: another reader of the same levels is given it at once (this project's own
@@ -19,7 +19,7 @@ pub struct KeptFrame {
 /// A frame, and the levels of which it was read.
 #[derive(Debug, Drop)]
 struct ReadFrame {
-    gathered: Gathered,
+    gathered: BodyWord,
     frame: Frame,
     ghost right: { (f : FrameValue) (w b c : List Bus) → Gathers gathered w → Spells f b c w → frame ≡ f },
 }
@@ -31,7 +31,7 @@ impl KeptFrame {
     }
 }
 
-impl Gathered {
+impl BodyWord {
     ghost use Rattle.std.specs.Prelude.{◌≡◌, List, Some};
     ghost use Rattle.can_frame.specs.Frame.{FrameValue};
     ghost use Rattle.can_bits.specs.declared.level.Level.{Level as Bus};

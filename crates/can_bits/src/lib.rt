@@ -5,9 +5,9 @@
 //! Its tests stand in `crates/test_can/src/lines`.
 #![tactic(auto)]
 
+mod body_word;
 mod crc;
 mod frame_part;
-mod gathered;
 mod kept_frame;
 mod laws;
 mod layout;

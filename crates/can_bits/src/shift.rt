@@ -1,7 +1,7 @@
 //! A reader that is given one level at a time.
 
+use super::body_word::BodyWord;
 use super::frame_part::FramePart;
-use super::gathered::Gathered;
 use super::kept_frame::KeptFrame;
 use super::level::Level;
 use super::line_fault::LineFault;
@@ -11,7 +11,7 @@ use super::shift_event::ShiftEvent;
 use super::shift_fault::ShiftFault;
 use can_frame::Frame;
 
-mod answered;
+mod acknowledged_line;
 mod inside;
 mod past;
 mod quick;
@@ -38,7 +38,7 @@ pub struct Shift {
     last: Level,
     /// How many levels like the last one end them.
     run: u8,
-    gathered: Gathered,
+    gathered: BodyWord,
     frame_part: FramePart,
     /// What the first wrong level brought.
     wrong: Option<ShiftFault>,
@@ -64,7 +64,7 @@ impl Shift {
             count: 0,
             last: Level::Recessive,
             run: 0,
-            gathered: Gathered::new(),
+            gathered: BodyWord::new(),
             frame_part: FramePart::Stuffed,
             wrong: None,
         }

@@ -8,6 +8,7 @@
 #![tactic(auto)]
 
 mod buffer;
+mod buffer_view;
 mod byte_list;
 mod filter;
 mod frame;
@@ -18,8 +19,8 @@ mod layout_fault;
 mod message;
 mod out_of_memory;
 mod register;
-mod seen;
 
+pub use buffer_view::BufferView;
 pub use filter::Filter;
 pub use frame::{DATA_BYTES, Frame};
 pub use frame_fault::FrameFault;
@@ -27,4 +28,3 @@ pub use laws::{every_message_has_one_frame, frames_with_one_message_are_one};
 pub use layout_fault::LayoutFault;
 pub use message::Message;
 pub use out_of_memory::OutOfMemory;
-pub use seen::Seen;

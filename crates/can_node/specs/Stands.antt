@@ -3,8 +3,8 @@ use Rattle.std.specs.Prelude.{⊤, ◌≡◌, ◌≢◌, ◌⊎◌, ◌||◌, no
 use Rattle.std.specs.Prelude.{if◌then◌else◌, Option, Some, None, Result, Ok, Err, List, [], ◌∷◌, ◌++◌}
 use Rattle.can_bits.specs.declared.level.Level.{Level}
 use Rattle.can_node.specs.declared.request.Request.{Request}
-use Rattle.can_node.specs.declared.aborted.Aborted.{Aborted}
-use Rattle.can_node.specs.declared.aborted.Aborted.TheVariants.{Unchanged, Marked, Dropped}
+use Rattle.can_node.specs.declared.abort_outcome.AbortOutcome.{AbortOutcome}
+use Rattle.can_node.specs.declared.abort_outcome.AbortOutcome.TheVariants.{Unchanged, Marked, Dropped}
 use Rattle.can_node.specs.declared.phase.Phase.{Phase}
 use Rattle.can_node.specs.declared.counters.Counters.{Counters}
 use Rattle.can_node.specs.declared.state.State.{State}
@@ -185,18 +185,18 @@ Requests old new request (Err back) = (back ≡ request) × (new ≡ old)
     (h.cut.place ≡ AtReset) ⊎ (is_held (now_in h.cut).held ≡ true))
 
 -- a request in progress is marked, unless it would be dropped where it fails or loses anyway; any other is dropped
-abbrev pub abort_of : Bool → Option Request → Bool → Aborted
+abbrev pub abort_of : Bool → Option Request → Bool → AbortOutcome
 abort_of in_progress None marked = Unchanged
 abort_of true (Some request) marked = if request.single_shot || marked then Unchanged else Marked
 abort_of false (Some request) marked = Dropped
 
 -- an abort that changed nothing enters nothing
-abbrev pub EntersAbort : Node → Node → Aborted → Type 0
+abbrev pub EntersAbort : Node → Node → AbortOutcome → Type 0
 EntersAbort old new Unchanged = new ≡ old
 EntersAbort old new Marked = Enters old new Abort
 EntersAbort old new Dropped = Enters old new Abort
 
-abbrev pub Aborts : Node → Node → Aborted → Type 0
+abbrev pub Aborts : Node → Node → AbortOutcome → Type 0
 Aborts old new result = EntersAbort old new result
     × ((entries : List RecordEntry) (found : List FinishedPiece) (h : StandsAt old entries found) →
     let c = now_in h.cut in result ≡ abort_of (is_in_progress c h.cut.place) c.held c.aborted)

@@ -11,7 +11,7 @@
 //! Its tests stand in `crates/test_can/src/node` and `contention`.
 #![tactic(auto)]
 
-mod aborted;
+mod abort_outcome;
 mod after_bit;
 mod arbitration;
 mod arbitration_field;
@@ -51,7 +51,7 @@ mod state;
 mod together;
 mod transmit;
 
-pub use aborted::Aborted;
+pub use abort_outcome::AbortOutcome;
 pub use bit_events::BitEvents;
 pub use cause::Cause;
 pub use config::Config;

@@ -1,6 +1,6 @@
 //! [`Node`]: a CAN node, bit by bit.
 
-use super::aborted::Aborted;
+use super::abort_outcome::AbortOutcome;
 use super::after_bit::AfterBit;
 use super::bit_events::BitEvents;
 use super::config::Config;
@@ -119,22 +119,22 @@ impl Node {
 
     /// Aborts the request that is held: one in progress is marked, and dropped where it fails or loses arbitration, and
     /// any other is dropped at once.
-    pub fn abort(&mut self) -> Aborted
+    pub fn abort(&mut self) -> AbortOutcome
         ensures { Aborts self.old self.new result }
     {
         match &self.context.held {
-            None => Aborted::Unchanged,
+            None => AbortOutcome::Unchanged,
             Some(_) => {
                 if !self.is_in_progress() {
                     self.context.held = None;
                     self.next = self.next_level();
-                    Aborted::Dropped
+                    AbortOutcome::Dropped
                 } else if self.context.drops() {
-                    Aborted::Unchanged
+                    AbortOutcome::Unchanged
                 } else {
                     self.context.aborted = true;
                     self.next = self.next_level();
-                    Aborted::Marked
+                    AbortOutcome::Marked
                 }
             }
         }

@@ -1,9 +1,9 @@
 //! Aborts: what marks or drops the request of a controller before it drives a bit.
 
 use super::activity::Activity;
+use super::port_news::PortNews;
 use super::seat::Seat;
-use super::untold::Untold;
-use can_node::Aborted;
+use can_node::AbortOutcome;
 use sja_link::Entry;
 use sja_wire::BusFault;
 
@@ -35,14 +35,14 @@ impl Seat {
             return Ok(());
         };
         match self.node.abort() {
-            Aborted::Unchanged => Ok(()),
-            Aborted::Marked => self.enter_abort(Untold::Changed),
-            Aborted::Dropped => self.enter_abort(Untold::Dropped),
+            AbortOutcome::Unchanged => Ok(()),
+            AbortOutcome::Marked => self.enter_abort(PortNews::Changed),
+            AbortOutcome::Dropped => self.enter_abort(PortNews::Dropped),
         }
     }
 
     /// Writes an abort that changed the node.
-    fn enter_abort(&mut self, untold: Untold) -> Result<(), BusFault>
+    fn enter_abort(&mut self, untold: PortNews) -> Result<(), BusFault>
         requires follows { Follows self.old.node (self.old.journal.entries ++ AbortEntry ∷ []) }
         requires reads { Reads self.old.node (self.old.journal.entries ++ AbortEntry ∷ []) self.old.ended
             self.old.activity (free_in self.old.ledger) }

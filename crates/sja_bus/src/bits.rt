@@ -15,7 +15,7 @@ ghost use Rattle.sja_bus.specs.Inside.RunningOn.{AllAtRest, SomeAborts, SomeFull
 
 use super::all_nodes::sample_all;
 use super::board::Board;
-use super::broken_off::BrokenOff;
+use super::broken_bit::BrokenBit;
 use super::bus::Bus;
 use super::idle_bits::are_at_rest;
 use super::ports::are_told;
@@ -158,7 +158,7 @@ pub(crate) fn untaken_bits<E: BusEnd, B: Board>(
     from: u32,
     most: u32,
     to_rest: bool,
-) -> Result<u32, BrokenOff>
+) -> Result<u32, BrokenBit>
     requires seated { AreSeated E.link seats.old links.old (B.ports board.old) }
     requires may { MayRunOn B.Board board.old seats.old }
     requires bus { IsBus struck.now.script from seats.old }
@@ -179,7 +179,7 @@ pub(crate) fn untaken_bits<E: BusEnd, B: Board>(
     while run < marks.len() as u32 && goes_on(seats, marks[run as usize], to_rest) {
         let end = match sample_all(seats, links, level, StruckNodes::none(), board) {
             Ok(end) => end,
-            Err(fault) => return Err(BrokenOff { after: run, fault }),
+            Err(fault) => return Err(BrokenBit { after: run, fault }),
         };
         run += 1;
         if end.told {

@@ -9,8 +9,8 @@ ghost use Rattle.sja_bus.specs.Inside.Rows.{AreReady};
 
 use super::board::Board;
 use super::bus::Bus;
+use super::port_news::PortNews;
 use super::seat::Seat;
-use super::untold::Untold;
 use sja_link::BusEnd;
 use sja_wire::BusFault;
 
@@ -180,7 +180,7 @@ impl Seat {
         ensures no { result ≡ false → IsAwake self.now }
     {
         match self.untold {
-            Untold::Nothing => self.node.at_rest(),
+            PortNews::Nothing => self.node.at_rest(),
             _ => false,
         }
     }

@@ -2,8 +2,8 @@
 
 use super::activity::Activity;
 use super::board::Board;
+use super::port_news::PortNews;
 use super::seat::Seat;
-use super::untold::Untold;
 use can_node::{Config, Request};
 use sja_link::{BadCredit, BusEnd, BusLedger, Entry, LinkId, Up};
 use sja_wire::BusFault;
@@ -25,7 +25,7 @@ impl Seat {
     ghost use Rattle.sja_link.specs.declared.up.Up.TheVariants.{Start, Credit, Send, Stop};
     ghost use Rattle.sja_link.specs.declared.up.Up.{Up as Given};
     ghost use Rattle.sja_link.specs.Places.{past, place_of};
-    ghost use Rattle.sja_bus.specs.declared.untold.Untold.TheVariants.{Changed};
+    ghost use Rattle.sja_bus.specs.declared.port_news.PortNews.TheVariants.{Changed};
     ghost use Rattle.sja_link.specs.OutOfOrder.{IsOutOfOrder};
 
     /// Takes all that the links show, and then applies an abort that stands.
@@ -109,7 +109,7 @@ impl Seat {
             Ok(None) => Ok(false),
             Ok(Some(item)) => {
                 self.note(item)?;
-                self.untold = Untold::Changed;
+                self.untold = PortNews::Changed;
                 self.drives = self.node.drive();
                 Ok(true)
             }

@@ -3,9 +3,9 @@
 use super::activity::Activity;
 use super::bit_outcome::BitOutcome;
 use super::board::Board;
+use super::port_news::PortNews;
 use super::row_frame::RowFrame;
 use super::seat::Seat;
-use super::untold::Untold;
 use super::verdict::passing;
 use can_bits::Level;
 use sja_link::{BusEnd, Entry};
@@ -18,7 +18,7 @@ impl Seat {
     ghost use Rattle.sja_link.specs.Inside.Moving.{Goes, Moves};
     ghost use Rattle.sja_bus.specs.Inside.Seats.{IsSound, IsSeat, IsReady, IsMid};
     ghost use Rattle.sja_bus.specs.Inside.AtLinks.{HasLinks, KeepsLinks};
-    ghost use Rattle.sja_bus.specs.declared.untold.Untold.TheVariants.{Nothing};
+    ghost use Rattle.sja_bus.specs.declared.port_news.PortNews.TheVariants.{Nothing};
     ghost use Rattle.sja_bus.specs.Inside.SeatBits.{BreaksInBit, HadBit, KeepsInBit};
     ghost use Rattle.sja_bus.specs.Inside.Turning.{Brings, IsQuietBit, BringsVerdict};
     ghost use Rattle.can_frame.specs.declared.filter.Filter.{Filter as Filtering};
@@ -80,7 +80,7 @@ impl Seat {
         ensures told { result ≡ true → self.now.untold ≡ Nothing }
         ensures free { result ≡ true → length self.now.journal.entries < self.now.journal.room.all }
     {
-        if let Untold::Nothing = self.untold {
+        if let PortNews::Nothing = self.untold {
             self.journal.free() > 0
         } else {
             false

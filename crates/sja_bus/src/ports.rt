@@ -9,8 +9,8 @@ ghost use Rattle.sja_bus.specs.Inside.RunningOn.{SomeUntold};
 use super::activity::Activity;
 use super::bit_outcome::BitOutcome;
 use super::board::Board;
+use super::port_news::PortNews;
 use super::seat::Seat;
-use super::untold::Untold;
 use can_node::BitEvents;
 use sja_regs::BusTurn;
 
@@ -20,7 +20,7 @@ impl Seat {
     ghost use Rattle.sja_wire.specs.Telling.{SaysAlone};
     ghost use Rattle.can_node.specs.Stands.{nothing};
     ghost use Rattle.sja_link.specs.BusLedgers.{link_of};
-    ghost use Rattle.sja_bus.specs.declared.untold.Untold.TheVariants.{Nothing};
+    ghost use Rattle.sja_bus.specs.declared.port_news.PortNews.TheVariants.{Nothing};
     ghost use Rattle.sja_bus.specs.Inside.Following.{open_in};
     ghost use Rattle.sja_bus.specs.Inside.Turning.{TellsTurn, TurnOf, is_dropped};
     ghost use Rattle.sja_bus.specs.Inside.Seats.{IsSound, IsSeat};
@@ -50,7 +50,7 @@ impl Seat {
             return false;
         }
         board.bus_turn(self.number(), turn);
-        self.untold = Untold::Nothing;
+        self.untold = PortNews::Nothing;
         true
     }
 
@@ -62,7 +62,7 @@ impl Seat {
         ensures no { result ≡ false → self.now.untold ≡ Nothing → turn.now ≢ stands.now }
     {
         match self.untold {
-            Untold::Nothing => is_nothing(&turn.events) & says_as(turn, stands),
+            PortNews::Nothing => is_nothing(&turn.events) & says_as(turn, stands),
             _ => false,
         }
     }
@@ -116,7 +116,7 @@ impl Seat {
         ensures { result ≡ is_dropped self.now.untold }
     {
         match self.untold {
-            Untold::Dropped => true,
+            PortNews::Dropped => true,
             _ => false,
         }
     }
@@ -155,7 +155,7 @@ pub(crate) fn are_told(seats: &[Seat]) -> bool
     ensures no { result ≡ false → SomeUntold seats.now }
 {
     for k in 0..seats.len() {
-        let Untold::Nothing = seats[k].untold else {
+        let PortNews::Nothing = seats[k].untold else {
             return false;
         };
     }

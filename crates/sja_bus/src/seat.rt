@@ -3,7 +3,7 @@
 ghost use Rattle.std.specs.Prelude.{◌≡◌};
 
 use super::activity::Activity;
-use super::untold::Untold;
+use super::port_news::PortNews;
 use can_bits::Level;
 use can_frame::OutOfMemory;
 use can_node::Node;
@@ -24,7 +24,7 @@ pub(crate) struct Seat {
     pub(crate) ended: u8,
     pub(crate) activity: Activity,
     /// What the port isn't told yet.
-    pub(crate) untold: Untold,
+    pub(crate) untold: PortNews,
 }
 
 impl Seat {
@@ -36,7 +36,7 @@ impl Seat {
     ghost use Rattle.sja_bus.specs.Inside.Following.{Follows, Reads, open_in};
     ghost use Rattle.sja_bus.specs.Inside.Seats.{IsSound, IsReady};
     ghost use Rattle.sja_bus.specs.Inside.Taking.{IsFull};
-    ghost use Rattle.sja_bus.specs.declared.untold.Untold.TheVariants.{Nothing};
+    ghost use Rattle.sja_bus.specs.declared.port_news.PortNews.TheVariants.{Nothing};
 
     /// A controller to which nothing has happened, with room for a run of so many bits, in which its driver does so
     /// many steps.
@@ -63,7 +63,7 @@ impl Seat {
             journal,
             ended: 0,
             activity: Activity::Between,
-            untold: Untold::Nothing,
+            untold: PortNews::Nothing,
         })
     }
 

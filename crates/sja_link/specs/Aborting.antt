@@ -1,7 +1,7 @@
 -- What an abort that was ordered changes (SJA1000 data sheet, 6.4.4: abort transmission).
 use Rattle.std.specs.Prelude.{◌≡◌, ◌⊎◌, Bool, true, false, List}
-use Rattle.can_node.specs.declared.aborted.Aborted.{Aborted}
-use Rattle.can_node.specs.declared.aborted.Aborted.TheVariants.{Unchanged, Marked, Dropped}
+use Rattle.can_node.specs.declared.abort_outcome.AbortOutcome.{AbortOutcome}
+use Rattle.can_node.specs.declared.abort_outcome.AbortOutcome.TheVariants.{Unchanged, Marked, Dropped}
 use Rattle.can_node.specs.Effects.{is_in_progress}
 use Rattle.can_node.specs.NextBit.{now_in}
 use Rattle.can_node.specs.Stands.{abort_of}
@@ -12,11 +12,11 @@ use Rattle.sja_link.specs.Records.{record_of}
 use Rattle.sja_link.specs.Opening.{IsOpen}
 
 -- what an abort at the end of a record does, by its cut
-abbrev pub abort_in : {entries : List NodeEntry} {found : List FinishedPiece} → IsCut entries found → Aborted
+abbrev pub abort_in : {entries : List NodeEntry} {found : List FinishedPiece} → IsCut entries found → AbortOutcome
 abort_in cut = abort_of (is_in_progress (now_in cut) cut.place) (now_in cut).held (now_in cut).aborted
 
 -- whether it changes the node
-abbrev pub changes : Aborted → Bool
+abbrev pub changes : AbortOutcome → Bool
 changes Unchanged = false
 changes Marked = true
 changes Dropped = true

@@ -3,12 +3,12 @@
 use super::down::Down;
 use super::driver_end::DriverEnd;
 use super::link_id::LinkId;
+use super::lost_window::LostWindow;
 use super::release_fault::ReleaseFault;
 use super::sizes::ITEMS_DOWN;
-use super::stopped::Stopped;
 use super::up::Up;
 use arrayvec::ArrayVec;
-use can_frame::{Message, Seen};
+use can_frame::{BufferView, Message};
 
 /// The driver's account of one activation: the messages that it got and didn't release, and whether it got bus-off
 /// (SJA1000 data sheet, 6.4.14, receive buffer: the window shows the first message of the FIFO).
@@ -58,8 +58,8 @@ impl DriverLedger {
 
     /// Takes in all that the link shows, and says whether the window is there.
     ///
-    /// Error: [`Stopped`] where bus-off is known.
-    pub fn look<E: DriverEnd>(&mut self, end: &mut E) -> Result<(), Stopped>
+    /// Error: [`LostWindow`] where bus-off is known.
+    pub fn look<E: DriverEnd>(&mut self, end: &mut E) -> Result<(), LostWindow>
         requires { E.link end.old ≡ link_of self.old }
         ensures id { link_of self.new ≡ link_of self.old }
         ensures same { E.same end.old end.new }
@@ -76,8 +76,8 @@ impl DriverLedger {
     /// Takes in all that the link shows, and shows the first message that was got and not released, or none. A driver
     /// calls [`look`](DriverLedger::look) and [`first`](DriverLedger::first); tests alone call both at once.
     ///
-    /// Error: [`Stopped`] where bus-off is known.
-    pub fn window<E: DriverEnd>(&mut self, end: &mut E) -> Result<Option<&Message>, Stopped>
+    /// Error: [`LostWindow`] where bus-off is known.
+    pub fn window<E: DriverEnd>(&mut self, end: &mut E) -> Result<Option<&Message>, LostWindow>
         requires { E.link end.old ≡ link_of self.old }
         ensures same { E.same end.old end.new }
         ensures* after { sem 𝓛 (follows_so the_row the_row self.entry.ghost_name none (λ _ _. ⊤) (λ n.
@@ -149,11 +149,11 @@ impl DriverLedger {
 
     /// What a read of the controller's registers sees: the first message that was got and not released, and how many
     /// there are; none and 0 once bus-off is known. It takes in nothing.
-    pub fn seen(&self) -> Seen
+    pub fn seen(&self) -> BufferView
         ensures { result ≡ seen_of (knows_bus_off self.now) (held_by self.now) }
     {
         if self.off {
-            return Seen {
+            return BufferView {
                 first: None,
                 count: 0,
             };
@@ -162,7 +162,7 @@ impl DriverLedger {
             Some(message) => Some(message.copy()),
             None => None,
         };
-        Seen {
+        BufferView {
             first,
             count: self.held.len() as u8,
         }
@@ -177,12 +177,12 @@ impl DriverLedger {
 
     /// Says whether the window is there.
     ///
-    /// Error: [`Stopped`] where bus-off is known.
-    fn shown(&self) -> Result<(), Stopped>
+    /// Error: [`LostWindow`] where bus-off is known.
+    fn shown(&self) -> Result<(), LostWindow>
         ensures on { OnOk result (knows_bus_off self.now ≡ false) }
         ensures stopped { OnErr result (knows_bus_off self.now ≡ true) }
     {
-        if self.off { Err(Stopped) } else { Ok(()) }
+        if self.off { Err(LostWindow) } else { Ok(()) }
     }
 
     /// Takes in all that the link shows, until 22 messages are held or bus-off is known.

@@ -31,10 +31,10 @@ mod full;
 mod journal;
 mod laws;
 mod link_id;
+mod lost_window;
 mod release_fault;
 mod rest_bits;
 mod sizes;
-mod stopped;
 mod up;
 mod verdict;
 mod world;
@@ -57,9 +57,9 @@ pub use laws::{
     every_world_keeps_its_budget, what_was_kept_was_stored, what_was_released_and_left_was_stored,
 };
 pub use link_id::LinkId;
+pub use lost_window::LostWindow;
 pub use release_fault::ReleaseFault;
 pub use sizes::{ITEMS_DOWN, ITEMS_UP, LINKS_PER_NODE, RECEIVE_FIFO, first_link, most_activations};
-pub use stopped::Stopped;
 pub use up::Up;
 pub use verdict::Verdict;
 pub use world::World;

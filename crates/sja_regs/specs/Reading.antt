@@ -9,7 +9,7 @@ use Rattle.sja_regs.specs.declared.register.Register.TheVariants.{AcceptanceMask
 use Rattle.sja_regs.specs.declared.reg_fault.RegFault.{RegFault}
 use Rattle.sja_regs.specs.declared.reg_fault.RegFault.TheVariants.{NoRegister}
 use Rattle.sja_regs.specs.declared.registers.Registers.{Registers}
-use Rattle.can_frame.specs.declared.seen.Seen.{Seen}
+use Rattle.can_frame.specs.declared.buffer_view.BufferView.{BufferView}
 use Rattle.sja_regs.specs.Registers.{status_of, interrupts_in}
 use Rattle.sja_regs.specs.Modes.{mode_byte}
 use Rattle.sja_regs.specs.Statuses.{status_byte}
@@ -23,7 +23,7 @@ received_byte None i = 0
 received_byte (Some message) i = unwrap_or (slice_get message i) 0
 
 -- what each register reads as; the command register can't be read
-abbrev pub value_of : Registers → Seen → Register → Option ℕ
+abbrev pub value_of : Registers → BufferView → Register → Option ℕ
 value_of p seen Mode = Some (mode_byte p.mode)
 value_of p seen Command = None
 value_of p seen Status = Some (status_byte (status_of p seen))
@@ -47,7 +47,7 @@ after_reading p ErrorCodeCapture = record p { ecc = after_look p.ecc }
 after_reading p other = p
 
 -- what an address reads as, by the register that stands there, if one does
-abbrev pub value_at : Registers → Seen → Option Register → Option ℕ
+abbrev pub value_at : Registers → BufferView → Option Register → Option ℕ
 value_at p seen None = None
 value_at p seen (Some register) = value_of p seen register
 

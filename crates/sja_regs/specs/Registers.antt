@@ -5,7 +5,7 @@ use Rattle.can_node.specs.declared.config.Config.{Config}
 use Rattle.sja_regs.specs.declared.registers.Registers.{Registers}
 use Rattle.sja_regs.specs.declared.status.Status.{Status}
 use Rattle.sja_regs.specs.declared.interrupts.Interrupts.{Interrupts}
-use Rattle.can_frame.specs.declared.seen.Seen.{Seen}
+use Rattle.can_frame.specs.declared.buffer_view.BufferView.{BufferView}
 use Rattle.sja_regs.specs.declared.error_state.ErrorState.{ErrorState}
 use Rattle.sja_regs.specs.ErrorStates.{is_warning, is_passive, causes_between}
 use Rattle.sja_regs.specs.Interrupting.{no_interrupt, pending_after}
@@ -64,7 +64,7 @@ abbrev pub error_causes : Registers → Registers → Interrupts
 error_causes old new = causes_between (is_raw old) (shown_state old) (shown_state new)
 
 -- SR: RBS where a message is at the driver's end, ES and BS as the error state is shown, the others as they are kept
-abbrev pub status_of : Registers → Seen → Status
+abbrev pub status_of : Registers → BufferView → Status
 status_of p seen =
     record {
       rbs = is_some seen.first;
@@ -78,7 +78,7 @@ status_of p seen =
     }
 
 -- IR: RI exactly where RBS and its enable bit are 1, the others as they are pending
-abbrev pub interrupts_in : Registers → Seen → Interrupts
+abbrev pub interrupts_in : Registers → BufferView → Interrupts
 interrupts_in p seen = record p.pending { ri = is_some seen.first && p.enabled.ri }
 
 -- how the controller starts: acceptance filter, self test mode, listen only mode, and the error counters that were

@@ -2,7 +2,7 @@
 //! nothing.
 
 ghost use Rattle.std.specs.Prelude.{◌≡◌, ◌||◌, ◌<◌, ◌^◌, ℕ, false, List, Some, All};
-ghost use Rattle.can_frame.specs.declared.seen.Seen.{Seen};
+ghost use Rattle.can_frame.specs.declared.buffer_view.BufferView.{BufferView};
 ghost use Rattle.sja_regs.specs.declared.register.Register.{Register};
 ghost use Rattle.sja_regs.specs.declared.register.Register.TheVariants.{Interrupt, ArbitrationLostCapture};
 ghost use Rattle.sja_regs.specs.declared.register.Register.TheVariants.{ErrorCodeCapture};
@@ -48,7 +48,7 @@ pub fn tbs_waits_for_the_end()
 
 /// What is written to IER, EWLR, ACR0 to ACR3 and AMR0 to AMR3 is read back, and of MOD its four bits.
 pub fn what_is_written_is_read_back()
-    ensures { (p : Registers) (seen : Seen) (register : Register) (value read : ℕ)
+    ensures { (p : Registers) (seen : BufferView) (register : Register) (value read : ℕ)
         → RegisterFacts p → IsPlace register → value < 2 ^ 8 → read_back p register value ≡ Some read
         → value_of (after_writing p register value) seen register ≡ Some read }
 {}

@@ -33,7 +33,7 @@ mod turning;
 mod writing;
 
 pub use bus_turn::BusTurn;
-pub use can_frame::Seen;
+pub use can_frame::BufferView;
 pub use command::Command;
 pub use driver_settings::DriverSettings;
 pub use error_capture::error_code;

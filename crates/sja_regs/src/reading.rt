@@ -11,14 +11,14 @@ use super::port::Port;
 use super::reg_fault::RegFault;
 use super::register::Register;
 use super::registers::Registers;
-use can_frame::Seen;
+use can_frame::BufferView;
 
 impl Port {
     /// Reads the register at an address. What the driver sees of its messages is in the receive buffer, in RMC, in RBS
     /// and in RI. Reading IR clears it but for RI; reading ALC or ECC allows the next capture.
     ///
     /// Errors: [`RegFault::NoRegister`] where no register stands that can be read; nothing changes then.
-    pub fn read(&mut self, addr: u8, seen: &Seen) -> Result<u8, RegFault>
+    pub fn read(&mut self, addr: u8, seen: &BufferView) -> Result<u8, RegFault>
         ensures value { result ≡ or_no_register (value_at self.old seen.now (register_at self.old.mode.rm addr)) }
         ensures after { self.new ≡ after_reading_at self.old (register_at self.old.mode.rm addr) }
     {
@@ -31,7 +31,7 @@ impl Port {
     }
 
     /// What a register reads as.
-    fn value(&self, register: Register, seen: &Seen) -> Option<u8>
+    fn value(&self, register: Register, seen: &BufferView) -> Option<u8>
         requires { IsPlace register }
         ensures { result ≡ value_of self.now seen.now register }
     {
@@ -70,7 +70,7 @@ impl Registers {
 }
 
 /// A byte of the first message that is seen, or 0.
-fn received_byte(seen: &Seen, i: u8) -> u8
+fn received_byte(seen: &BufferView, i: u8) -> u8
     ensures { result ≡ received_byte seen.now.first i }
 {
     match &seen.first {

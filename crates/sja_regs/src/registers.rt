@@ -11,7 +11,7 @@ use super::error_state::ErrorState;
 use super::interrupts::Interrupts;
 use super::mode::Mode;
 use super::status::Status;
-use can_frame::{Filter, Seen};
+use can_frame::{BufferView, Filter};
 use can_node::{Config, ERROR_PASSIVE};
 
 /// A counter of this or more makes a node error passive.
@@ -194,7 +194,7 @@ impl Registers {
     }
 
     /// The status register.
-    pub(crate) fn status(&self, seen: &Seen) -> Status
+    pub(crate) fn status(&self, seen: &BufferView) -> Status
         ensures { result ≡ status_of self.now seen.now }
     {
         let shown = self.shown_state();
@@ -211,7 +211,7 @@ impl Registers {
     }
 
     /// The interrupt register.
-    pub(crate) fn interrupts(&self, seen: &Seen) -> Interrupts
+    pub(crate) fn interrupts(&self, seen: &BufferView) -> Interrupts
         ensures { result ≡ interrupts_in self.now seen.now }
     {
         Interrupts {

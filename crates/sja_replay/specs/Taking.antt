@@ -1,6 +1,6 @@
 -- What a node takes between two bits, by a cut of its record (this project's own rule).
 use Rattle.std.specs.Prelude.{◌≡◌, ◌≢◌, ◌+◌, ◌≤◌, Bool, true, false, None, List, [], ◌∷◌}
-use Rattle.can_node.specs.declared.aborted.Aborted.TheVariants.{Unchanged}
+use Rattle.can_node.specs.declared.abort_outcome.AbortOutcome.TheVariants.{Unchanged}
 use Rattle.can_node.specs.declared.phase.Phase.TheVariants.{Reset}
 use Rattle.can_node.specs.Pieces.Place.{AtReset}
 use Rattle.can_node.specs.Effects.{is_in_progress}

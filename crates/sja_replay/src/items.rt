@@ -3,7 +3,7 @@
 ghost use Rattle.std.specs.Prelude.{◌≡◌};
 
 use super::replay::Replay;
-use can_node::{Aborted, Config, Phase, Request};
+use can_node::{AbortOutcome, Config, Phase, Request};
 use sja_link::{Entry, RECEIVE_FIFO, Up};
 
 impl<'a> Replay<'a> {
@@ -84,7 +84,7 @@ impl<'a> Replay<'a> {
         ensures { Enters self.old self.new Abort result }
     {
         match self.node.abort() {
-            Aborted::Unchanged => false,
+            AbortOutcome::Unchanged => false,
             _ => {
                 self.aborted = true;
                 true

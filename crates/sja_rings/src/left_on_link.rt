@@ -8,8 +8,8 @@ ghost use Rattle.sja_rings.specs.Left.{IsLeft};
 
 use super::ended_bus::EndedBus;
 use super::ended_driver::EndedDriver;
-use super::settled::Settled;
-use super::unsettled::Unsettled;
+use super::missing_note::MissingNote;
+use super::remainder::Remainder;
 use arrayvec::ArrayVec;
 use rtrb::{Consumer, Finished};
 use sja_link::{Down, ITEMS_DOWN, ITEMS_UP, Up};
@@ -18,8 +18,8 @@ use sja_link::{Down, ITEMS_DOWN, ITEMS_UP, Up};
 /// what was taken and then this is what was given. Both ends come from one [`ring_pair`](crate::ring_pair), and may
 /// have been in any thread.
 ///
-/// Error: [`Unsettled`] where a ring gave no closing note.
-pub fn settle(bus: EndedBus, driver: EndedDriver) -> Result<Settled, Unsettled>
+/// Error: [`MissingNote`] where a ring gave no closing note.
+pub fn settle(bus: EndedBus, driver: EndedDriver) -> Result<Remainder, MissingNote>
     requires { OneEnded bus driver }
     ensures settled { IsOk result ↔ (HasBusNote bus × HasDriverNote driver) }
     ensures left { IfOk result (λ s. (l : Lists) → EndedBusLists bus l → EndedDriverLists driver l → IsLeft s l) }
@@ -33,12 +33,12 @@ pub fn settle(bus: EndedBus, driver: EndedDriver) -> Result<Settled, Unsettled>
         note: up_note,
     } = driver;
     let Some(down_note) = down_note else {
-        return Err(Unsettled);
+        return Err(MissingNote);
     };
     let Some(up_note) = up_note else {
-        return Err(Unsettled);
+        return Err(MissingNote);
     };
-    Ok(Settled {
+    Ok(Remainder {
         down: left::<Down, ITEMS_DOWN>(down, down_note),
         up: left::<Up, ITEMS_UP>(up, up_note),
     })

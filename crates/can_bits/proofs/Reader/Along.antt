@@ -3,7 +3,7 @@ use Rattle.std.proofs.Common.{◌≡◌, ◌≢◌, ◌+◌, ◌-◌, ◌%◌, �
 use Rattle.std.proofs.Common.{length, take, drop, set, slice_range, refl, ap, sym, subst, ◌∙◌, arith}
 use Rattle.std.proofs.lemmas.List.{length_push, length-drop, drop-set-add, take_more_set}
 use Rattle.can_bits.specs.declared.level.Level.{Level}
-use Rattle.can_bits.specs.declared.gathered.Gathered.{Gathered}
+use Rattle.can_bits.specs.declared.body_word.BodyWord.{BodyWord}
 use Rattle.can_bits.specs.declared.frame_part.FramePart.{FramePart}
 use Rattle.can_bits.specs.declared.frame_part.FramePart.TheVariants.{Stuffed}
 use Rattle.can_bits.specs.declared.shift_fault.ShiftFault.{ShiftFault}
@@ -22,7 +22,7 @@ use Rattle.can_bits.proofs.Reader.Taken.{taken_next}
 use Rattle.can_bits.proofs.Reader.Told.{reads_readable}
 
 -- a reader in the stuffed part, without a fault
-abbrev pub inside : Gathered → ℕ → Level → ℕ → Shift
+abbrev pub inside : BodyWord → ℕ → Level → ℕ → Shift
 inside g came last run =
     record { count = came; last = last; run = run; gathered = g; frame_part = Stuffed; wrong = None }
 
@@ -33,7 +33,7 @@ some_came (longer {x = x} {l = l} h e) k = omega (arith, ap length e, length_pus
 some_came (other {l = l} y h differs e) k = omega (arith, ap length e, length_push l y)
 
 -- it takes a right level with which the part isn't whole
-inside_next : (g n : Gathered) (came run more : ℕ) (last x : Level) (l : List Level) → 1 ≤ run →
+inside_next : (g n : BodyWord) (came run more : ℕ) (last x : Level) (l : List Level) → 1 ≤ run →
     (run ≡ 5 → x ≢ last) →
     ((w : List Level) → Gathers g w → length w < 118 → run ≢ 5 → Gathers n (w ++ x ∷ [])) → (run ≡ 5 → n ≡ g) →
     (x ≡ last → run < 5 → more ≡ run + 1) → (x ≢ last → more ≡ 1) → n.place ≢ n.mark →
@@ -51,7 +51,7 @@ inside_next g n came run more last x l begun differs bit stuff_bit same fresh go
     counted
 
 -- then it has taken it
-pub takes_one : (g n : Gathered) (came run more : ℕ) (last x : Level) → 1 ≤ run → (run ≡ 5 → x ≢ last) →
+pub takes_one : (g n : BodyWord) (came run more : ℕ) (last x : Level) → 1 ≤ run → (run ≡ 5 → x ≢ last) →
     ((w : List Level) → Gathers g w → length w < 118 → run ≢ 5 → Gathers n (w ++ x ∷ [])) → (run ≡ 5 → n ≡ g) →
     (x ≡ last → run < 5 → more ≡ run + 1) → (x ≢ last → more ≡ 1) → n.place ≢ n.mark → n.place ≤ suc g.place →
     TakesInside (inside g came last run) x (inside n ((came + 1) % 256) x more)

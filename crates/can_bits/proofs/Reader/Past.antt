@@ -7,7 +7,7 @@ use Rattle.std.proofs.lemmas.List.{length_push, take_more, take-append-drop, get
 use Rattle.can_frame.specs.Frame.{FrameValue}
 use Rattle.can_bits.specs.declared.level.Level.{Level}
 use Rattle.can_bits.specs.declared.level.Level.TheVariants.{Dominant, Recessive}
-use Rattle.can_bits.specs.declared.gathered.Gathered.{Gathered}
+use Rattle.can_bits.specs.declared.body_word.BodyWord.{BodyWord}
 use Rattle.can_bits.specs.declared.line_fault.LineFault.TheVariants.{Form, Crc as CheckFault, Trailing}
 use Rattle.can_bits.specs.Check.{Crc}
 use Rattle.can_bits.specs.Line.{StuffedPart, Line, tail}
@@ -19,7 +19,7 @@ use Rattle.can_bits.specs.Inside.FrameParts.{IsPast}
 use Rattle.can_bits.proofs.Ending.{line_at}
 
 -- the segment of the next level
-pub past_next : {g : Gathered} {count : ℕ} (n : ℕ) (l : List Level) → IsPast n g count l →
+pub past_next : {g : BodyWord} {count : ℕ} (n : ℕ) (l : List Level) → IsPast n g count l →
     IsNext l (segment_after n) false
 past_next n l h =
     let many : length (take n (tail h.ack)) ≡ n = length-take-le n (tail h.ack) h.within in
@@ -35,7 +35,7 @@ missing part after rest h line =
     omega (arith, count, length-append after rest)
 
 -- the line goes on
-past_line : {g : Gathered} {count : ℕ} (n : ℕ) (l : List Level) (h : IsPast n g count l) →
+past_line : {g : BodyWord} {count : ℕ} (n : ℕ) (l : List Level) (h : IsPast n g count l) →
     Line h.frame h.body h.check h.ack (l ++ drop n (tail h.ack))
 past_line n l h = record {
   part = h.part;
@@ -44,7 +44,7 @@ past_line n l h = record {
       ∙ ap (λ t. h.part ++ t) (take-append-drop n (tail h.ack));
 }
 
-pub past_readable : {g : Gathered} {count : ℕ} (n : ℕ) (l : List Level) → IsPast n g count l → IsReadable l
+pub past_readable : {g : BodyWord} {count : ℕ} (n : ℕ) (l : List Level) → IsPast n g count l → IsReadable l
 past_readable n l h = record {
   begun = record {
     frame = h.frame;
@@ -72,7 +72,7 @@ tail_next (suc (suc (suc (suc (suc (suc (suc (suc (suc zero))))))))) ack h other
 tail_next (suc (suc (suc (suc (suc (suc (suc (suc (suc (suc n)))))))))) ack h other = absurd (omega arith)
 
 -- a level more of the tail
-past_more : {g : Gathered} {count : ℕ} (n : ℕ) (l : List Level) (x ack : Level) (h : IsPast n g count l) → n < 10 →
+past_more : {g : BodyWord} {count : ℕ} (n : ℕ) (l : List Level) (x ack : Level) (h : IsPast n g count l) → n < 10 →
     take (n + 1) (tail ack) ≡ take n (tail h.ack) ++ x ∷ [] → (3 ≤ n + 1 → Crc h.body h.check) →
     IsPast (n + 1) g (count + 1) (l ++ x ∷ [])
 past_more n l x ack h few next right =
@@ -93,7 +93,7 @@ past_more n l x ack h few next right =
     }
 
 -- a recessive one
-pub past_recessive : {g : Gathered} {count : ℕ} (n : ℕ) (l : List Level) (x : Level) (h : IsPast n g count l) →
+pub past_recessive : {g : BodyWord} {count : ℕ} (n : ℕ) (l : List Level) (x : Level) (h : IsPast n g count l) →
     n < 10 → n ≢ 1 → x ≡ Recessive →
     (n ≡ 2 → Crc h.body h.check) → IsPast (n + 1) g (count + 1) (l ++ x ∷ [])
 past_recessive n l x h few other recessive right =
@@ -103,12 +103,12 @@ past_recessive n l x h few other recessive right =
     (λ three. elim (cases_eq n 2) [ inl two ↦ right two | inr many ↦ h.right (omega (arith, many, three)) ])
 
 -- either level in the ACK slot
-pub past_slot : {g : Gathered} {count : ℕ} (l : List Level) (x : Level) → IsPast 1 g count l →
+pub past_slot : {g : BodyWord} {count : ℕ} (l : List Level) (x : Level) → IsPast 1 g count l →
     IsPast 2 g (count + 1) (l ++ x ∷ [])
 past_slot l x h = past_more 1 l x x h (omega arith) refl (λ three. absurd (omega (arith, three)))
 
 -- the part has come
-abbrev pub past_is_past : {g : Gathered} {count : ℕ} (n : ℕ) (l : List Level) → IsPast n g count l → IsPastPart l
+abbrev pub past_is_past : {g : BodyWord} {count : ℕ} (n : ℕ) (l : List Level) → IsPast n g count l → IsPastPart l
 past_is_past n l h =
     record {
       frame = h.frame;
@@ -121,7 +121,7 @@ past_is_past n l h =
     }
 
 -- and with more levels
-abbrev pub past_with : {g : Gathered} {count : ℕ} (n : ℕ) (l later : List Level) → IsPast n g count l →
+abbrev pub past_with : {g : BodyWord} {count : ℕ} (n : ℕ) (l later : List Level) → IsPast n g count l →
     IsPastPart (l ++ later)
 past_with n l later h = record {
   frame = h.frame;
@@ -134,7 +134,7 @@ past_with n l later h = record {
 }
 
 -- how many levels are missing
-past_missing : {g : Gathered} {count : ℕ} {f : FrameValue} {b c : List Level} {ack : Level} (n : ℕ)
+past_missing : {g : BodyWord} {count : ℕ} {f : FrameValue} {b c : List Level} {ack : Level} (n : ℕ)
     (l more rest : List Level) → IsPast n g count l →
     Line f b c ack ((l ++ more) ++ rest) → n + length more + length rest ≡ 10
 past_missing {f = f} {b = b} {c = c} {ack = ack} n l more rest h line =
@@ -145,7 +145,7 @@ past_missing {f = f} {b = b} {c = c} {ack = ack} n l more rest h line =
     omega (arith, count, length-append (take n (tail h.ack)) more, length-take-le n (tail h.ack) h.within)
 
 -- a dominant level
-pub past_form : {g : Gathered} {count : ℕ} (n : ℕ) (l : List Level) (x : Level) → IsPast n g count l → n < 10 → n ≢ 1 →
+pub past_form : {g : BodyWord} {count : ℕ} (n : ℕ) (l : List Level) (x : Level) → IsPast n g count l → n < 10 → n ≢ 1 →
     x ≡ Dominant → BreaksWith l x (Form count)
 past_form n l x h few other dominant = (
   (λ begun.
@@ -172,13 +172,13 @@ past_form n l x h few other dominant = (
 )
 
 -- a wrong CRC sequence
-pub past_wrong : {g : Gathered} {count : ℕ} (l : List Level) (x : Level) (h : IsPast 2 g count l) →
+pub past_wrong : {g : BodyWord} {count : ℕ} (l : List Level) (x : Level) (h : IsPast 2 g count l) →
     (Crc h.body h.check → ⊥) → x ≡ Recessive → BreaksWith l x CheckFault
 past_wrong l x h wrong recessive =
     (record { past = past_is_past 2 l h; ack = h.ack; slot = refl; wrong = wrong }, recessive)
 
 -- the line but for its last levels
-pub past_but_for : {g : Gathered} {count : ℕ} (n m : ℕ) (l : List Level) (h : IsPast n g count l) → 3 ≤ n →
+pub past_but_for : {g : BodyWord} {count : ℕ} (n m : ℕ) (l : List Level) (h : IsPast n g count l) → 3 ≤ n →
     n + m ≡ 10 → IsLineButFor m h.frame l
 past_but_for n m l h three total = record {
   body = h.body;
@@ -191,13 +191,13 @@ past_but_for n m l h three total = record {
 }
 
 -- a level after the whole line
-pub past_trailing : {g : Gathered} {count : ℕ} (n : ℕ) (l : List Level) (x : Level) → IsPast n g count l → 10 ≤ n →
+pub past_trailing : {g : BodyWord} {count : ℕ} (n : ℕ) (l : List Level) (x : Level) → IsPast n g count l → 10 ≤ n →
     BreaksWith l x (Trailing count)
 past_trailing n l x h many = let within = h.within in
     ((h.frame, past_but_for n 0 l h (omega (arith, many)) (omega (arith, many, within))), h.count)
 
 -- no frame comes with another level than the sixth bit of EOF
-pub past_hides : {g : Gathered} {count : ℕ} (n : ℕ) (l : List Level) → IsPast n g count l → n ≢ 9 → ShowsFrame l None
+pub past_hides : {g : BodyWord} {count : ℕ} (n : ℕ) (l : List Level) → IsPast n g count l → n ≢ 9 → ShowsFrame l None
 past_hides n l h other = record {
   some = tt;
   only = λ f but.
@@ -208,7 +208,7 @@ past_hides n l h other = record {
 }
 
 -- with that bit it comes, and it can be told to the end
-pub past_shows : {g : Gathered} {count : ℕ} (n m : ℕ) (l : List Level) (h : IsPast n g count l) → 3 ≤ n → n + m ≡ 10 →
+pub past_shows : {g : BodyWord} {count : ℕ} (n m : ℕ) (l : List Level) (h : IsPast n g count l) → 3 ≤ n → n + m ≡ 10 →
     ShowsFrameBut m l (Some h.frame)
 past_shows n m l h three total = record {
   some = past_but_for n m l h three total;

@@ -6,7 +6,7 @@ use Rattle.std.proofs.lemmas.List.{length-reverse}
 use Rattle.can_bits.specs.declared.level.Level.{Level}
 use Rattle.can_bits.specs.declared.frame_part.FramePart.{FramePart}
 use Rattle.can_bits.specs.declared.frame_part.FramePart.TheVariants.{Stuffed, FixedForm}
-use Rattle.can_bits.specs.declared.gathered.Gathered.{Gathered}
+use Rattle.can_bits.specs.declared.body_word.BodyWord.{BodyWord}
 use Rattle.can_bits.specs.declared.shift.Shift.{Shift}
 use Rattle.can_bits.specs.declared.shift_fault.ShiftFault.{ShiftFault}
 use Rattle.can_bits.specs.Fields.{rtr_place}
@@ -57,7 +57,7 @@ inside_not_full {l = l} h less =
     five-is (reverse l) ∙ lt-leb 5 (run (reverse l)) (omega (arith, inside_run h, less, most))
 
 -- past the stuffed part the next level is past RTR
-pub past_late : {g : Gathered} {came : ℕ} (ext : Bool) (n : ℕ) (l : List Level) → IsPast n g came l →
+pub past_late : {g : BodyWord} {came : ℕ} (ext : Bool) (n : ℕ) (l : List Level) → IsPast n g came l →
     rtr_place ext < plain_count l
 past_late ext n l h =
     let P : List Level → Type 0 = λ m. rtr_place ext < plain_count m in

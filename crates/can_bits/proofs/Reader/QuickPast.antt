@@ -5,7 +5,7 @@ use Rattle.can_frame.specs.Frame.{FrameValue}
 use Rattle.can_bits.specs.declared.level.Level.{Level}
 use Rattle.can_bits.specs.declared.level.Level.TheVariants.{Dominant, Recessive}
 use Rattle.can_bits.specs.declared.line_fault.LineFault.TheVariants.{Form}
-use Rattle.can_bits.specs.declared.gathered.Gathered.{Gathered}
+use Rattle.can_bits.specs.declared.body_word.BodyWord.{BodyWord}
 use Rattle.can_bits.specs.Line.{tail}
 use Rattle.can_bits.specs.Streaming.{IsReadable, IsLineButFor, IsRightPast}
 use Rattle.can_bits.specs.Inside.FrameParts.{IsPast}
@@ -14,7 +14,7 @@ use Rattle.can_bits.proofs.Reader.Past.{past_is_past, past_readable, past_form, 
 use Rattle.can_bits.proofs.DueLemmas.{past_count, over_part, sixth_part}
 
 -- a level that was taken there, and wasn't the last one, was right
-pub right_past_by : {g : Gathered} {came : ℕ} (n : ℕ) (l : List Level) (x : Level) → IsPast n g came l → n ≢ 9 →
+pub right_past_by : {g : BodyWord} {came : ℕ} (n : ℕ) (l : List Level) (x : Level) → IsPast n g came l → n ≢ 9 →
     IsPast (n + 1) g (came + 1) (l ++ x ∷ []) → IsRightPast l x
 right_past_by n l x h other next = record {
   past = past_is_past n l h;
@@ -27,7 +27,7 @@ right_past_by n l x h other next = record {
 }
 
 -- where eight levels have come, a right one brings the frame
-pub frame_with : {g : Gathered} {came : ℕ} (l : List Level) (x : Level) → IsPast 8 g came l →
+pub frame_with : {g : BodyWord} {came : ℕ} (l : List Level) (x : Level) → IsPast 8 g came l →
     IsReadable (l ++ x ∷ []) → (f : FrameValue) × IsLineButFor 1 f (l ++ x ∷ [])
 frame_with {came = came} l Dominant h right =
     absurd (breaks_not_readable l Dominant (Form came)

@@ -6,7 +6,7 @@ use Rattle.std.proofs.lemmas.List.{append-nil, length-append, length-reverse, re
 use Rattle.can_frame.specs.Frame.{FrameValue}
 use Rattle.can_bits.specs.declared.level.Level.{Level}
 use Rattle.can_bits.specs.declared.level.Level.TheVariants.{Dominant, Recessive}
-use Rattle.can_bits.specs.declared.gathered.Gathered.{Gathered}
+use Rattle.can_bits.specs.declared.body_word.BodyWord.{BodyWord}
 use Rattle.can_bits.specs.Fields.{says_count}
 use Rattle.can_bits.specs.Line.{StuffedPart, tail}
 use Rattle.can_bits.specs.Spelling.{Spells}
@@ -66,7 +66,7 @@ count_small {l = l} {w = w} h =
     omega (arith, few, same, fits, says_count-most w, length-reverse l)
 
 -- and until the whole line has come
-pub past_small : {g : Gathered} {came : ℕ} (n : ℕ) (l : List Level) → IsPast n g came l → came < 200
+pub past_small : {g : BodyWord} {came : ℕ} (n : ℕ) (l : List Level) → IsPast n g came l → came < 200
 past_small n l h =
     let part = part_to h.is_part in
     let few = few_levels (reverse h.part) part.short in
@@ -127,7 +127,7 @@ so_far_next {l = l} {w = w} {last = last} {n = n} v x m h first differs kept sam
     so_far_by (subst P (sym (reverse-push l x)) next) ends
 
 -- the part is whole
-pub whole_here : {g : Gathered} {came : ℕ} {l w : List Level} {last : Level} {n : ℕ} → IsPartSoFar l w last n → n ≢ 5 →
+pub whole_here : {g : BodyWord} {came : ℕ} {l w : List Level} {last : Level} {n : ℕ} → IsPartSoFar l w last n → n ≢ 5 →
     length w ≡ says_count w → Gathers g w → came ≡ length l →
     IsPast 0 g came l
 whole_here {g = g} {l = l} {w = w} {last = last} {n = n} h less full gathers count =
@@ -153,7 +153,7 @@ whole_here {g = g} {l = l} {w = w} {last = last} {n = n} h less full gathers cou
     }
 
 -- the part goes on
-pub part_here : {g : Gathered} {came : ℕ} {l w : List Level} {last : Level} {n : ℕ} → IsPartSoFar l w last n →
+pub part_here : {g : BodyWord} {came : ℕ} {l w : List Level} {last : Level} {n : ℕ} → IsPartSoFar l w last n →
     (n ≢ 5 → length w ≡ says_count w → ⊥) → Gathers g w → came ≡ length l →
     IsInside g came last n l
 part_here {w = w} {n = n} h on gathers count = record {
@@ -168,7 +168,7 @@ part_here {w = w} {n = n} h on gathers count = record {
 }
 
 -- what goes on is right so far
-pub inside_readable : {g : Gathered} {came : ℕ} {last : Level} {n : ℕ} (l : List Level) → IsInside g came last n l →
+pub inside_readable : {g : BodyWord} {came : ℕ} {last : Level} {n : ℕ} (l : List Level) → IsInside g came last n l →
     IsReadable l
 inside_readable l h = open_readable l (inside_open l (goes_by h.part))
 
@@ -196,7 +196,7 @@ not_but_one {f = f} {b = b} {c = c} {l = l} part rest after h is_part whole shor
     ]
 
 -- and no frame has come
-pub inside_hides : {g : Gathered} {came : ℕ} {last : Level} {n : ℕ} (l : List Level) → IsInside g came last n l →
+pub inside_hides : {g : BodyWord} {came : ℕ} {last : Level} {n : ℕ} (l : List Level) → IsInside g came last n l →
     ShowsFrame l None
 inside_hides l h = record {
   some = tt;

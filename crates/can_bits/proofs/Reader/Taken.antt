@@ -5,7 +5,7 @@ use Rattle.std.proofs.lemmas.Bool.{cases_eq}
 use Rattle.std.proofs.lemmas.List.{length_push}
 use Rattle.can_bits.specs.declared.level.Level.{Level}
 use Rattle.can_bits.specs.declared.level.Level.TheVariants.{Dominant}
-use Rattle.can_bits.specs.declared.gathered.Gathered.{Gathered}
+use Rattle.can_bits.specs.declared.body_word.BodyWord.{BodyWord}
 use Rattle.can_bits.specs.declared.shift.Shift.{Shift}
 use Rattle.can_bits.specs.Inside.Gathering.{Gathers}
 use Rattle.can_bits.specs.Inside.PartSoFar.{IsPartSoFar}
@@ -15,13 +15,13 @@ use Rattle.can_bits.proofs.Reader.Inside.{holds_by, before_by}
 use Rattle.can_bits.proofs.Reader.Take.{count_small, so_far_next}
 
 -- the levels with one more, and what is gathered of them
-pub record Taken (l : List Level) (x : Level) (run : ℕ) (g : Gathered) : Type 0 where
+pub record Taken (l : List Level) (x : Level) (run : ℕ) (g : BodyWord) : Type 0 where
   pub plain : List Level
   pub so_far : IsPartSoFar (l ++ x ∷ []) plain x run
   pub gathers : Gathers g plain
 
 -- a right level is taken
-pub taken : (old : Shift) (l : List Level) (x : Level) (run : ℕ) (g : Gathered) →
+pub taken : (old : Shift) (l : List Level) (x : Level) (run : ℕ) (g : BodyWord) →
     IsInside old.gathered old.count old.last old.run l →
     (old.count ≡ 0 → x ≡ Dominant) → (old.run ≡ 5 → x ≢ old.last) →
     ((w : List Level) → Gathers old.gathered w → length w < 118 → old.run ≢ 5 → Gathers g (w ++ x ∷ [])) →
@@ -34,7 +34,7 @@ taken old l x run g h start differs bit stuff_bit same fresh =
     let most = holds.most in
     elim (cases_eq old.run 5) [
       | inl five ↦
-          let P : Gathered → Type 0 = λ k. Gathers k w in
+          let P : BodyWord → Type 0 = λ k. Gathers k w in
           record {
             plain = w;
             so_far = so_far_next w x run h.part first differs (inr (five, refl)) same fresh;

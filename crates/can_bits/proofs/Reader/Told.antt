@@ -5,7 +5,7 @@ use Rattle.std.proofs.lemmas.List.{append-nil}
 use Rattle.can_bits.specs.declared.level.Level.{Level}
 use Rattle.can_bits.specs.declared.frame_part.FramePart.{FramePart}
 use Rattle.can_bits.specs.declared.frame_part.FramePart.TheVariants.{Stuffed, FixedForm}
-use Rattle.can_bits.specs.declared.gathered.Gathered.{Gathered}
+use Rattle.can_bits.specs.declared.body_word.BodyWord.{BodyWord}
 use Rattle.can_bits.specs.declared.shift.Shift.{Shift}
 use Rattle.can_bits.specs.declared.shift_event.ShiftEvent.{ShiftEvent}
 use Rattle.can_bits.specs.declared.shift_fault.ShiftFault.{ShiftFault}
@@ -117,7 +117,7 @@ never_broke s l front later y h wrong whole =
     (subst P (whole ∙ sym (append_assoc front (y ∷ []) later)) (reads_readable s.frame_part s l h)))
 
 -- no stuffed part ends after a fault in it
-none_after : {g : Gathered} {came : ℕ} {last : Level} {n : ℕ} (front later : List Level) (y : Level) →
+none_after : {g : BodyWord} {came : ℕ} {last : Level} {n : ℕ} (front later : List Level) (y : Level) →
     IsInside g came last n front → ¬ IsReadable (front ++ y ∷ []) →
     ¬ IsPastPart (front ++ y ∷ later)
 none_after front later y h wrong = λ p.
@@ -171,7 +171,7 @@ says_so true b c h = (λ _. h, λ _. refl)
 says_so false b c h = (λ t. cc, λ right. absurd (h right))
 
 -- past it it is told
-tells_some : {g : Gathered} {came : ℕ} (r : Bool) (n : ℕ) (front later : List Level) (h : IsPast n g came front) →
+tells_some : {g : BodyWord} {came : ℕ} (r : Bool) (n : ℕ) (front later : List Level) (h : IsPast n g came front) →
     SaysWhetherRight r h.body h.check → TellsCheck (front ++ later) (Some r)
 tells_some r n front later h says = record {
   some = past_with n front later h;

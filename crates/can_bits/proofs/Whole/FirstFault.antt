@@ -5,7 +5,7 @@ use Rattle.std.proofs.lemmas.List.{same_from_push}
 use Rattle.can_frame.specs.Frame.{FrameValue}
 use Rattle.can_bits.specs.declared.level.Level.{Level}
 use Rattle.can_bits.specs.declared.level.Level.TheVariants.{Recessive}
-use Rattle.can_bits.specs.declared.gathered.Gathered.{Gathered}
+use Rattle.can_bits.specs.declared.body_word.BodyWord.{BodyWord}
 use Rattle.can_bits.specs.declared.line_fault.LineFault.{LineFault}
 use Rattle.can_bits.specs.declared.line_fault.LineFault.TheVariants.{Stuff, Form, Crc as CheckFault}
 use Rattle.can_bits.specs.declared.line_fault.LineFault.TheVariants.{NoAck, Truncated, Trailing}
@@ -97,7 +97,7 @@ first_fault l later x NoAck h broke = absurd broke
 first_fault l later x Truncated h broke = absurd broke
 
 -- a stuffed part and some levels of its tail, with more levels
-abbrev past_later : {g : Gathered} {came : ℕ} (n : ℕ) (l later : List Level) (x : Level) →
+abbrev past_later : {g : BodyWord} {came : ℕ} (n : ℕ) (l later : List Level) (x : Level) →
     IsPast n g came (l ++ x ∷ []) →
     IsPastPart (l ++ x ∷ later)
 past_later n l later x h =
@@ -114,14 +114,14 @@ past_later n l later x h =
     }
 
 -- a wrong CRC sequence, with its delimiter
-pub wrong_check_here : {g : Gathered} {came : ℕ} (l later : List Level) (x : Level)
+pub wrong_check_here : {g : BodyWord} {came : ℕ} (l later : List Level) (x : Level)
     (h : IsPast 1 g came (l ++ x ∷ [])) →
     (Crc h.body h.check → ⊥) → HasWrongCheck (l ++ x ∷ later)
 wrong_check_here l later x h wrong =
     record { past = past_later 1 l later x h; later = later; delimiter = refl; wrong = wrong }
 
 -- a recessive ACK slot
-pub no_ack_here : {g : Gathered} {came : ℕ} (l later : List Level) (x : Level) → IsPast 2 g came (l ++ x ∷ []) →
+pub no_ack_here : {g : BodyWord} {came : ℕ} (l later : List Level) (x : Level) → IsPast 2 g came (l ++ x ∷ []) →
     x ≡ Recessive →
     IsFaultless l → IsNotAcknowledged (l ++ x ∷ later)
 no_ack_here l later x h recessive good =
@@ -136,7 +136,7 @@ no_ack_here l later x h recessive good =
     }
 
 -- a right CRC sequence, with its delimiter
-pub right_check_here : {g : Gathered} {came : ℕ} (l : List Level) (h : IsPast 1 g came l) → Crc h.body h.check →
+pub right_check_here : {g : BodyWord} {came : ℕ} (l : List Level) (h : IsPast 1 g came l) → Crc h.body h.check →
     (b : Begins l) → Crc b.body b.check × (length b.rest ≡ 9)
 right_check_here l h right b =
     let P : List Level → Type 0 = λ m. Line b.frame b.body b.check b.ack (m ++ b.rest) in

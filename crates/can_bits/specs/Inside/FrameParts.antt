@@ -4,7 +4,7 @@ use Rattle.can_frame.specs.Frame.{FrameValue}
 use Rattle.can_bits.specs.declared.level.Level.{Level}
 use Rattle.can_bits.specs.declared.frame_part.FramePart.{FramePart}
 use Rattle.can_bits.specs.declared.frame_part.FramePart.TheVariants.{Stuffed, FixedForm}
-use Rattle.can_bits.specs.declared.gathered.Gathered.{Gathered}
+use Rattle.can_bits.specs.declared.body_word.BodyWord.{BodyWord}
 use Rattle.can_bits.specs.declared.shift.Shift.{Shift}
 use Rattle.can_bits.specs.Check.{Crc}
 use Rattle.can_bits.specs.Line.{StuffedPart, tail}
@@ -12,7 +12,7 @@ use Rattle.can_bits.specs.Inside.Gathering.{Gathers}
 use Rattle.can_bits.specs.Inside.PartSoFar.{BeginsPart}
 
 -- a reader with these fields is in a stuffed part
-pub record IsInside (g : Gathered) (came : ℕ) (last : Level) (run : ℕ) (l : List Level) : Type 0 where
+pub record IsInside (g : BodyWord) (came : ℕ) (last : Level) (run : ℕ) (l : List Level) : Type 0 where
   pub bits : List Level
   pub part : BeginsPart l bits last run
   pub gathers : Gathers g bits
@@ -20,7 +20,7 @@ pub record IsInside (g : Gathered) (came : ℕ) (last : Level) (run : ℕ) (l : 
 
 -- a reader with these fields is n levels past a whole stuffed part, and its CRC sequence is right once the ACK
 -- delimiter has come
-pub record IsPast (n : ℕ) (g : Gathered) (came : ℕ) (l : List Level) : Type 0 where
+pub record IsPast (n : ℕ) (g : BodyWord) (came : ℕ) (l : List Level) : Type 0 where
   pub frame : FrameValue
   pub body : List Level
   pub check : List Level

@@ -1,7 +1,7 @@
 -- What is kept of a body and its CRC sequence while their levels come.
 use Rattle.std.specs.Prelude.{◌≡◌, ◌+◌, ◌*◌, ◌<◌, ◌^◌, ℕ, Bool, true, false, nat_lt, if◌then◌else◌, List, length}
 use Rattle.can_bits.specs.declared.level.Level.{Level}
-use Rattle.can_bits.specs.declared.gathered.Gathered.{Gathered}
+use Rattle.can_bits.specs.declared.body_word.BodyWord.{BodyWord}
 use Rattle.can_bits.specs.Digits.{value}
 use Rattle.can_bits.specs.Check.{IsMultiple, Crc}
 use Rattle.can_bits.specs.Fields.{says_count}
@@ -14,7 +14,7 @@ abbrev pub mark_of : List Level → ℕ
 mark_of w = if nat_lt (length w) 19 then 19 else if nat_lt (length w) (data_place w) then data_place w else says_count w
 
 -- g is what the levels w say, without stuff bits. With the register after them they are a multiple of the generator
-pub record Gathers (g : Gathered) (w : List Level) : Type 0 where
+pub record Gathers (g : BodyWord) (w : List Level) : Type 0 where
   pub packs : Packs g.word g.place w
   pub mark : g.mark ≡ mark_of w
   pub fits : g.register < 2 ^ 15

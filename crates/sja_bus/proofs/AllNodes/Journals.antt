@@ -20,7 +20,7 @@ use Rattle.sja_wire.specs.Opens.{Opens}
 use Rattle.sja_link.specs.BitEntries.{MayHaveItems}
 use Rattle.sja_wire.specs.Telling.{SaysAlone, IsPassedOver, IsUntold}
 use Rattle.sja_wire.specs.Buses.{EachJournal, EachUntold, KeepsAll, AllDry, untold_at, IsNodeBit, IsBit}
-use Rattle.sja_bus.specs.declared.untold.Untold.TheVariants.{Nothing, Changed, Dropped}
+use Rattle.sja_bus.specs.declared.port_news.PortNews.TheVariants.{Nothing, Changed, Dropped}
 use Rattle.sja_bus.specs.Inside.Turning.{is_untold, is_dropped, TakesUntold, OpensUntold, Drops, Turns}
 use Rattle.sja_bus.specs.Inside.Rows.{AreReady, AreCalm, EachSeat, SeatTakes, SeatUntold, GoesAll, AllRead, journals_of}
 use Rattle.sja_bus.specs.Inside.Rows.{untold_of, driven_by, seen_by}

@@ -5,7 +5,7 @@ use Rattle.sja_link.specs.declared.bus_end.BusEnd.{Ghosts as Ends}
 use Rattle.lemmas.specs.Related.{EachRelated}
 use Rattle.sja_script.specs.declared.strike.Strike.{Strike}
 use Rattle.sja_bus.specs.declared.board.Board.{Ghosts as Ports}
-use Rattle.sja_bus.specs.declared.broken_off.BrokenOff.{BrokenOff}
+use Rattle.sja_bus.specs.declared.broken_bit.BrokenBit.{BrokenBit}
 use Rattle.sja_wire.specs.declared.bus_fault.BusFault.{BusFault}
 use Rattle.sja_bus.specs.declared.seat.Seat.{Seat}
 use Rattle.sja_bus.specs.Boards.{KeepsOthers}
@@ -84,7 +84,7 @@ module _ {E B : Type 0} (e : Ends E) (b : Ports B) (to_rest : Bool) (script : Li
       }))
 
   -- and one that didn't come to its end
-  pub stopped : (f : BrokenOff) (new : BusValue) → count ≤ left → HaveRoom (room_for (run + left) steps) was →
+  pub stopped : (f : BrokenBit) (new : BusValue) → count ≤ left → HaveRoom (room_for (run + left) steps) was →
       new.script ≡ script → new.steps ≡ steps → new.run ≡ run + f.after → new.left ≡ left - f.after → new.fault ≡ Some
       f.fault →
       new.journals ≡ journals_of now → RowsStop e b to_rest script run count was now links after board told f →

@@ -1,7 +1,7 @@
 -- What an abort changed, by every cut.
 use Rattle.std.proofs.Common.{◌≡◌, ◌≢◌, ℕ, true, false, List, [], ◌∷◌, ◌++◌, inl, inr, refl, sym, ap, ◌∙◌, subst}
 use Rattle.std.proofs.Common.{append-nil, arith}
-use Rattle.can_node.specs.declared.aborted.Aborted.{Aborted}
+use Rattle.can_node.specs.declared.abort_outcome.AbortOutcome.{AbortOutcome}
 use Rattle.can_node.specs.declared.node.Node.{Node}
 use Rattle.can_node.specs.Context.{ContextValue}
 use Rattle.can_node.specs.Record.{RecordEntry as Event}
@@ -33,7 +33,7 @@ abort_once entries found others h k =
 
 -- the node answered so
 pub applied_running : (old new : Node) (j : List Entry) (ended free : ℕ) (activity : Activity) (filter : _)
-    (answer : Aborted) → Aborts old new answer → Follows old j →
+    (answer : AbortOutcome) → Aborts old new answer → Follows old j →
     activity ≡ Running filter → Reads old j ended activity free → IsApplied j (changes answer)
 applied_running old new j ended free activity filter answer aborts follows is reads =
     let P : Activity → Type 0 = λ a. Reads old j ended a free in

@@ -7,7 +7,7 @@ use Rattle.sja_link.specs.Places.{place_of}
 use Rattle.sja_regs.specs.declared.bus_turn.BusTurn.{BusTurn}
 use Rattle.sja_wire.specs.Telling.{SaysAlone}
 use Rattle.sja_bus.specs.declared.bit_outcome.BitOutcome.{BitOutcome}
-use Rattle.sja_bus.specs.declared.untold.Untold.TheVariants.{Nothing}
+use Rattle.sja_bus.specs.declared.port_news.PortNews.TheVariants.{Nothing}
 use Rattle.sja_bus.specs.Inside.Following.{open_in}
 use Rattle.can_bits.specs.declared.level.Level.{Level}
 use Rattle.sja_link.specs.declared.bus_end.BusEnd.{Ghosts as Ends}

@@ -26,7 +26,7 @@ use Rattle.sja_wire.specs.Telling.{SaysAlone, IsTurn, is_overrun}
 use Rattle.sja_bus.specs.Inside.Following.{Follows}
 use Rattle.sja_bus.specs.Inside.Turning.{Drops, SaysAs, TurnOf, is_dropped}
 use Rattle.sja_bus.specs.declared.seat.Seat.{Seat}
-use Rattle.sja_bus.specs.declared.untold.Untold.TheVariants.{Nothing}
+use Rattle.sja_bus.specs.declared.port_news.PortNews.TheVariants.{Nothing}
 use Rattle.sja_bus.specs.Inside.Seats.{IsSound}
 use Rattle.can_node.specs.NextField.{ShowsRole}
 use Rattle.can_node.proofs.OneCut.SameCuts.{same_now, same_phase}

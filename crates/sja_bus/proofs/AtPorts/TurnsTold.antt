@@ -11,8 +11,8 @@ use Rattle.sja_link.specs.Places.{place_of}
 use Rattle.sja_regs.specs.declared.bus_turn.BusTurn.{BusTurn}
 use Rattle.sja_link.specs.BitEntries.{MayHaveItems, HasBit, judged_as, off_as}
 use Rattle.sja_wire.specs.Telling.{IsTurn, SaysAlone}
-use Rattle.sja_bus.specs.declared.untold.Untold.{Untold}
-use Rattle.sja_bus.specs.declared.untold.Untold.TheVariants.{Nothing, Changed, Dropped}
+use Rattle.sja_bus.specs.declared.port_news.PortNews.{PortNews}
+use Rattle.sja_bus.specs.declared.port_news.PortNews.TheVariants.{Nothing, Changed, Dropped}
 use Rattle.sja_bus.specs.declared.seat.Seat.{Seat}
 use Rattle.sja_bus.specs.declared.bit_outcome.BitOutcome.{BitOutcome}
 use Rattle.sja_bus.specs.UntilTold.{IsLastTurn}
@@ -23,13 +23,13 @@ use Rattle.sja_bus.specs.Inside.Turning.{TurnOf, Turns, is_dropped}
 use Rattle.std.proofs.lemmas.List.{length-append}
 use Rattle.sja_bus.proofs.AtPorts.Turning.{turn_is, still, still_alone, still_turn}
 
-pub not_dropped : (n : Untold) → n ≢ Dropped → is_dropped n ≡ false
+pub not_dropped : (n : PortNews) → n ≢ Dropped → is_dropped n ≡ false
 not_dropped Nothing h = refl
 not_dropped Changed h = refl
 not_dropped Dropped h = absurd (h refl)
 
 -- no abort changed the node
-pub drops_none : (j : List Entry) (n : Untold) → n ≢ Dropped → Drops false j (is_dropped n)
+pub drops_none : (j : List Entry) (n : PortNews) → n ≢ Dropped → Drops false j (is_dropped n)
 drops_none j n h found cut = not_dropped n h
 
 calm_not : (s : Seat) → s.untold ≡ Nothing → s.untold ≢ Dropped
@@ -56,11 +56,11 @@ aborts_none old new untold same = record {
   drops = λ ne. drops_none new.journal.entries new.untold (λ e. ne (sym untold ∙ e));
 }
 
-pub aborts_one : (old new : Seat) (untold : Untold) → new.untold ≡ untold → untold ≢ Nothing →
+pub aborts_one : (old new : Seat) (untold : PortNews) → new.untold ≡ untold → untold ≢ Nothing →
     new.journal.entries ≡ old.journal.entries ++ Abort ∷ [] →
     Drops true (old.journal.entries ++ Abort ∷ []) (is_dropped untold) → AbortsUntold old new
 aborts_one old new untold is some whole drops =
-    let P : Untold → Type 0 = λ n. Drops true (old.journal.entries ++ Abort ∷ []) (is_dropped n) in
+    let P : PortNews → Type 0 = λ n. Drops true (old.journal.entries ++ Abort ∷ []) (is_dropped n) in
     let Q : List Entry → Type 0 = λ l. Drops true l (is_dropped new.untold) in record {
       aborts = record { changed = true; whole = whole };
       still = λ e. absurd (some (sym is ∙ e));

@@ -3,8 +3,8 @@ use Rattle.std.proofs.Common.{◌≡◌, ◌≢◌, ℕ, true, false, List, [], 
 use Rattle.std.specs.Prelude.{Ok}
 use Rattle.can_node.specs.declared.config.Config.{Config}
 use Rattle.can_node.specs.declared.request.Request.{Request}
-use Rattle.can_node.specs.declared.aborted.Aborted.{Aborted}
-use Rattle.can_node.specs.declared.aborted.Aborted.TheVariants.{Unchanged, Marked, Dropped}
+use Rattle.can_node.specs.declared.abort_outcome.AbortOutcome.{AbortOutcome}
+use Rattle.can_node.specs.declared.abort_outcome.AbortOutcome.TheVariants.{Unchanged, Marked, Dropped}
 use Rattle.can_node.specs.declared.node.Node.{Node}
 use Rattle.can_node.specs.Record.{RecordEntry as Event}
 use Rattle.can_node.specs.Record.RecordEntry.{Start as Started, Stop as Stopped, Send as Asked, Abort as AbortedNow}
@@ -95,7 +95,8 @@ follows_drop node j request off h =
 
 -- ---- an abort
 
-pub follows_abort : (old new : Node) (j : List Entry) (result : Aborted) → result ≢ Unchanged → Aborts old new result →
+pub follows_abort : (old new : Node) (j : List Entry) (result : AbortOutcome) → result ≢ Unchanged →
+    Aborts old new result →
     Follows old j → Follows new (j ++ Abort ∷ [])
 follows_abort old new j Unchanged changed aborts h = absurd (changed refl)
 follows_abort old new j Marked changed aborts h = entered old new j Abort AbortedNow refl (λ p. refl) (λ n. refl)

@@ -16,7 +16,7 @@ use Rattle.sja_link.specs.declared.entry.Entry.{Entry}
 use Rattle.sja_link.specs.declared.entry.Entry.TheVariants.{Bit}
 use Rattle.sja_link.specs.Records.{record_of}
 use Rattle.sja_bus.specs.declared.seat.Seat.{Seat}
-use Rattle.sja_bus.specs.declared.untold.Untold.TheVariants.{Nothing}
+use Rattle.sja_bus.specs.declared.port_news.PortNews.TheVariants.{Nothing}
 use Rattle.sja_bus.specs.Inside.Seats.{IsReady}
 use Rattle.sja_bus.specs.Inside.Together.{after_reading, after_sending, read_bits}
 use Rattle.sja_bus.specs.Inside.Turning.{IsQuietBit}

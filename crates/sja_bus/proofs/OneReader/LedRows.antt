@@ -12,7 +12,7 @@ use Rattle.can_node.specs.Together.SendsBits.{no_bit, one_more as one_bit_more}
 use Rattle.can_node.proofs.Machine.Following.{read_last, read_none, sent_last, sent_none}
 use Rattle.sja_wire.specs.Wire.{wired}
 use Rattle.sja_bus.specs.declared.seat.Seat.{Seat}
-use Rattle.sja_bus.specs.declared.untold.Untold.TheVariants.{Nothing}
+use Rattle.sja_bus.specs.declared.port_news.PortNews.TheVariants.{Nothing}
 use Rattle.sja_bus.specs.Inside.Rows.{IsOf, AreReady, AreTold, EachSeat, driven_by}
 use Rattle.sja_bus.specs.Inside.Together.{AreQuietRows, IsQuietRow, after_reading, after_sending}
 use Rattle.sja_bus.specs.Inside.Together.AreQuietRows.{no_row, one_more}

@@ -22,8 +22,8 @@ use Rattle.can_node.specs.Stands.{DrivesNext, ShowsRest}
 use Rattle.can_node.proofs.OneCut.CutOnce.{whole_once}
 use Rattle.sja_link.specs.declared.entry.Entry.{Entry}
 use Rattle.sja_link.specs.Records.{record_of}
-use Rattle.sja_bus.specs.declared.untold.Untold.{Untold}
-use Rattle.sja_bus.specs.declared.untold.Untold.TheVariants.{Nothing, Changed, Dropped}
+use Rattle.sja_bus.specs.declared.port_news.PortNews.{PortNews}
+use Rattle.sja_bus.specs.declared.port_news.PortNews.TheVariants.{Nothing, Changed, Dropped}
 use Rattle.sja_bus.specs.declared.seat.Seat.{Seat}
 use Rattle.sja_wire.specs.Wire.{journal_at}
 use Rattle.sja_wire.specs.Buses.{BusValue, untold_at}
@@ -97,7 +97,7 @@ rest_recessive node j x h rests drives =
 
 -- ---- one of several isn't, or something is untold of it
 
-has_untold : (n : Untold) → n ≢ Nothing → is_untold n ≡ true
+has_untold : (n : PortNews) → n ≢ Nothing → is_untold n ≡ true
 has_untold Nothing some = absurd (some refl)
 has_untold Changed some = refl
 has_untold Dropped some = refl

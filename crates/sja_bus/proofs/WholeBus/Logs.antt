@@ -12,7 +12,7 @@ use Rattle.sja_wire.specs.declared.node_log.NodeLog.{NodeLog}
 use Rattle.sja_wire.specs.Lawful.{CountersAre}
 use Rattle.sja_bus.specs.Inside.Following.{Follows}
 use Rattle.sja_bus.specs.Inside.Ending.{IsLog}
-use Rattle.sja_bus.specs.declared.untold.Untold.TheVariants.{Nothing, Dropped}
+use Rattle.sja_bus.specs.declared.port_news.PortNews.TheVariants.{Nothing, Dropped}
 use Rattle.sja_bus.specs.Inside.Turning.{is_untold}
 use Rattle.sja_bus.specs.Inside.Rows.{IsOf, AreReady, AreCalm, journals_of, untold_of, IsBus}
 use Rattle.lemmas.proofs.Related.{related_push}

@@ -14,7 +14,7 @@ use Rattle.sja_regs.specs.declared.orders.Orders.{Orders}
 use Rattle.sja_regs.specs.declared.bus_turn.BusTurn.{BusTurn}
 use Rattle.sja_script.specs.declared.strike.Strike.{Strike}
 use Rattle.sja_bus.specs.declared.struck_nodes.StruckNodes.{StruckNodes}
-use Rattle.sja_bus.specs.declared.untold.Untold.TheVariants.{Nothing, Dropped}
+use Rattle.sja_bus.specs.declared.port_news.PortNews.TheVariants.{Nothing, Dropped}
 use Rattle.sja_bus.specs.declared.seat.Seat.{Seat}
 use Rattle.sja_bus.specs.UntilTold.{HasBitsMore}
 use Rattle.sja_wire.specs.Wire.{IsWired}

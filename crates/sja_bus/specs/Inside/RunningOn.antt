@@ -9,7 +9,7 @@ use Rattle.sja_regs.specs.declared.orders.Orders.{Orders}
 use Rattle.sja_script.specs.declared.strike.Strike.{Strike}
 use Rattle.sja_script.specs.Striking.{Strikes}
 use Rattle.sja_bus.specs.declared.board.Board.{Ghosts as Ports}
-use Rattle.sja_bus.specs.declared.broken_off.BrokenOff.{BrokenOff}
+use Rattle.sja_bus.specs.declared.broken_bit.BrokenBit.{BrokenBit}
 use Rattle.sja_link.specs.Written.{Room}
 use Rattle.sja_wire.specs.declared.bus_fault.BusFault.{BusFault}
 use Rattle.sja_bus.specs.declared.seat.Seat.{Seat}
@@ -24,7 +24,7 @@ use Rattle.sja_bus.specs.UntilTold.{IsLastTurn, WorksUntold}
 use Rattle.sja_bus.specs.Inside.Refusing.{AreFree, HaveRoom}
 use Rattle.sja_bus.specs.Inside.Turning.{IsIdleBit, is_untold}
 use Rattle.sja_bus.specs.Inside.Rows.{AreTold, EachSeat, IsBus, SeatHasBits, journals_of, seen_by, untold_of}
-use Rattle.sja_bus.specs.declared.untold.Untold.TheVariants.{Nothing}
+use Rattle.sja_bus.specs.declared.port_news.PortNews.TheVariants.{Nothing}
 use Rattle.can_bits.specs.declared.level.Level.{Level}
 
 -- each of so many ports has orders, and they want no abort
@@ -136,7 +136,7 @@ pub record RowsEnd (was_told : ℕ → BusTurn → Type 0) (to_rest : Bool) (scr
 
 -- fewer than so many, and then one that broke off: so for every bus that counts just the bits before it
 abbrev pub RowsStop : {E B : Type 0} → Ends E → Ports B → Bool → List Strike → ℕ → ℕ → List Seat → List Seat → List E →
-    List E → B → B → BrokenOff → Type 0
+    List E → B → B → BrokenBit → Type 0
 RowsStop e b to_rest script from most was now links after board told f =
     (steps : List ℕ) (left : ℕ) (bus : BusValue) → most ≤ left → HaveRoom (room_for (from + left) steps) was →
     bus.journals ≡ journals_of now → bus.run ≡ from + f.after → bus.left ≡ left - f.after →

@@ -12,7 +12,7 @@ use Rattle.sja_bus.specs.Inside.AtLinks.{KeepsLinks}
 use Rattle.sja_bus.specs.Inside.Seats.{IsReady}
 use Rattle.sja_bus.specs.Inside.Turning.{IsIdleBit, Turns}
 use Rattle.sja_bus.specs.UntilTold.{IsLastTurn}
-use Rattle.sja_bus.specs.declared.untold.Untold.TheVariants.{Nothing}
+use Rattle.sja_bus.specs.declared.port_news.PortNews.TheVariants.{Nothing}
 use Rattle.sja_regs.specs.declared.bus_turn.BusTurn.{BusTurn}
 
 -- what it keeps, also where it broke off: of links and seat what every call keeps, how many ports there are, and each

@@ -11,8 +11,8 @@ use Rattle.sja_link.specs.declared.entry.Entry.TheVariants.{Bit}
 use Rattle.sja_link.specs.Records.{record_of}
 use Rattle.sja_regs.specs.declared.bus_turn.BusTurn.{BusTurn}
 use Rattle.sja_bus.specs.declared.bit_outcome.BitOutcome.{BitOutcome}
-use Rattle.sja_bus.specs.declared.untold.Untold.{Untold}
-use Rattle.sja_bus.specs.declared.untold.Untold.TheVariants.{Nothing, Changed, Dropped}
+use Rattle.sja_bus.specs.declared.port_news.PortNews.{PortNews}
+use Rattle.sja_bus.specs.declared.port_news.PortNews.TheVariants.{Nothing, Changed, Dropped}
 use Rattle.sja_bus.specs.declared.seat.Seat.{Seat}
 use Rattle.sja_link.specs.BitEntries.{MayHaveItems, MayHaveAbort, MayHaveVerdict, HasBit}
 use Rattle.sja_wire.specs.Telling.{IsTurn, SaysAlone, is_overrun}
@@ -20,12 +20,12 @@ use Rattle.sja_bus.specs.Inside.Following.{open_in}
 use Rattle.sja_bus.specs.UntilTold.{TellsNothing}
 
 -- whether something is to be told, and whether it is that a request was dropped
-abbrev pub is_untold : Untold → Bool
+abbrev pub is_untold : PortNews → Bool
 is_untold Nothing = false
 is_untold Changed = true
 is_untold Dropped = true
 
-abbrev pub is_dropped : Untold → Bool
+abbrev pub is_dropped : PortNews → Bool
 is_dropped Nothing = false
 is_dropped Changed = false
 is_dropped Dropped = true

@@ -1,7 +1,7 @@
 -- An abort that a journal has changes its node.
 use Rattle.std.proofs.Common.{◌≡◌, ◌≢◌, inl, inr, Bool, true, false, List, refl, ap, ◌∙◌}
-use Rattle.can_node.specs.declared.aborted.Aborted.{Aborted}
-use Rattle.can_node.specs.declared.aborted.Aborted.TheVariants.{Unchanged}
+use Rattle.can_node.specs.declared.abort_outcome.AbortOutcome.{AbortOutcome}
+use Rattle.can_node.specs.declared.abort_outcome.AbortOutcome.TheVariants.{Unchanged}
 use Rattle.can_node.specs.Cut.{IsCut}
 use Rattle.can_node.specs.FinishedPieces.{FinishedPiece}
 use Rattle.sja_link.specs.declared.entry.Entry.{Entry}
@@ -9,7 +9,7 @@ use Rattle.sja_link.specs.Places.{place_of}
 use Rattle.sja_link.specs.Aborting.{abort_in, changes, IsApplied}
 use Rattle.sja_link.specs.Records.{record_of}
 
-same_changes : (changed : Bool) (a : Aborted) → changed ≡ changes a → a ≡ Unchanged → changed ≡ false
+same_changes : (changed : Bool) (a : AbortOutcome) → changed ≡ changes a → a ≡ Unchanged → changed ≡ false
 same_changes changed a is same = is ∙ ap changes same
 
 pub abort_changes : (j : List Entry) (found : List FinishedPiece) (h : IsCut (record_of j) found) → IsApplied j true →

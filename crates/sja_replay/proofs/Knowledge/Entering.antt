@@ -1,8 +1,8 @@
 -- A replay after an entry between two bits.
 use Rattle.std.proofs.Common.{◌≡◌, ◌≢◌, ℕ, ◌+◌, ◌≤◌, Bool, true, false, Ok, Err, Option, Some, None, List, [], ◌∷◌}
 use Rattle.std.proofs.Common.{◌++◌, refl, sym, ap, ◌∙◌, subst, arith, append-nil, inl, inr}
-use Rattle.can_node.specs.declared.aborted.Aborted.{Aborted}
-use Rattle.can_node.specs.declared.aborted.Aborted.TheVariants.{Unchanged, Marked, Dropped}
+use Rattle.can_node.specs.declared.abort_outcome.AbortOutcome.{AbortOutcome}
+use Rattle.can_node.specs.declared.abort_outcome.AbortOutcome.TheVariants.{Unchanged, Marked, Dropped}
 use Rattle.can_node.specs.declared.config.Config.{Config}
 use Rattle.can_node.specs.declared.node.Node.{Node}
 use Rattle.can_node.specs.declared.phase.Phase.{Phase}
@@ -170,7 +170,7 @@ send_refused r j request back new h on requests t =
 
 -- ---- an abort
 
-abbrev what_abort : {entries : List NodeEntry} {found : List FinishedPiece} → IsCut entries found → Aborted
+abbrev what_abort : {entries : List NodeEntry} {found : List FinishedPiece} → IsCut entries found → AbortOutcome
 what_abort cut = abort_of (is_in_progress (now_in cut) cut.place) (now_in cut).held (now_in cut).aborted
 
 same_abort : (entries : List NodeEntry) (found others : List FinishedPiece) (h : IsCut entries found)
@@ -181,20 +181,21 @@ same_abort entries found others h k =
     (same_place entries found others h k)
 
 -- one that changed the node enters it
-abort_enters : (old new : Node) (result : Aborted) → result ≢ Unchanged → Aborts old new result →
+abort_enters : (old new : Node) (result : AbortOutcome) → result ≢ Unchanged → Aborts old new result →
     NodeEnters old new NodeAborted
 abort_enters old new Unchanged changed aborts = absurd (changed refl)
 abort_enters old new Marked changed aborts = aborts.0
 abort_enters old new Dropped changed aborts = aborts.0
 
-pub aborts_on : (old new : Replay) (j : List Entry) (result : Aborted) (h : IsAt old j) → Keeps old new →
+pub aborts_on : (old new : Replay) (j : List Entry) (result : AbortOutcome) (h : IsAt old j) → Keeps old new →
     result ≢ Unchanged → Aborts old.node new.node result → new.off ≡ old.off → new.aborted ≡ true →
     new.free ≡ old.free → IsAt new (j ++ Abort ∷ [])
 aborts_on old new j result h k changed node off aborted free =
     enters old new j Abort NodeAborted h k refl (abort_enters old.node new.node result changed node) refl
     (off ∙ h.off) aborted (free_same old new j Abort h refl refl refl free)
 
-pub abort_taken : (r : Replay) (j : List Entry) (new : Node) (result : Aborted) (h : IsAt r j) → result ≢ Unchanged →
+pub abort_taken : (r : Replay) (j : List Entry) (new : Node) (result : AbortOutcome) (h : IsAt r j) →
+    result ≢ Unchanged →
     Aborts r.node new result → IsTaken j Abort
 abort_taken r j new result h changed aborts = record {
   found = h.found;
@@ -202,7 +203,8 @@ abort_taken r j new result h changed aborts = record {
   takes = λ same. changed (aborts.1 (record_of j) h.found h.stands ∙ same);
 }
 
-pub abort_refused : (r : Replay) (j : List Entry) (new : Node) (result : Aborted) (h : IsAt r j) → result ≡ Unchanged →
+pub abort_refused : (r : Replay) (j : List Entry) (new : Node) (result : AbortOutcome) (h : IsAt r j) →
+    result ≡ Unchanged →
     Aborts r.node new result → IsTaken j Abort → ⊥
 abort_refused r j new result h unchanged aborts t =
     t.takes (sym (same_abort (record_of j) h.found t.found h.stands.cut t.cut)

@@ -5,7 +5,7 @@ use Rattle.sja_regs.specs.Facts.{RegisterFacts}
 use Rattle.sja_regs.specs.Histories.{read_back}
 use Rattle.std.specs.Prelude.{◌==◌, ◌/◌, ◌^◌}
 use Rattle.can_frame.specs.Message.{bit}
-use Rattle.can_frame.specs.declared.seen.Seen.{Seen}
+use Rattle.can_frame.specs.declared.buffer_view.BufferView.{BufferView}
 use Rattle.sja_regs.specs.declared.register.Register.{Register}
 use Rattle.sja_regs.specs.declared.register.Register.TheVariants.{Mode, Command, Status, Interrupt, InterruptEnable}
 use Rattle.sja_regs.specs.declared.register.Register.TheVariants.{ArbitrationLostCapture, ErrorCodeCapture}
@@ -45,7 +45,7 @@ enable_back value few =
     )
     (omega (arith, few))
 
-mode_back : (p : Registers) (seen : Seen) (value : ℕ) → value < 256 →
+mode_back : (p : Registers) (seen : BufferView) (value : ℕ) → value < 256 →
     value_of (after_writing p Mode value) seen Mode
     ≡ Some (if is_forced p && not (is_set value 0) then value % 16 + 1 else value % 16)
 mode_back p seen value few = chosen (is_forced p) (is_set value 0) refl
@@ -59,7 +59,7 @@ mode_back p seen value few = chosen (is_forced p) (is_set value 0) refl
     chosen true false e = ap Some (forced_back value few e)
     chosen false set e = ap Some (byte_back value few)
 
-read_as_written : (p : Registers) (seen : Seen) (register : Register) (value read : ℕ) → RegisterFacts p →
+read_as_written : (p : Registers) (seen : BufferView) (register : Register) (value read : ℕ) → RegisterFacts p →
     IsPlace register → value < 256 → read_back p register value ≡ Some read →
     value_of (after_writing p register value) seen register ≡ Some read
 read_as_written p seen Mode value read facts place few back = mode_back p seen value few ∙ back

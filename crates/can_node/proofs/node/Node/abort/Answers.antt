@@ -1,5 +1,5 @@
 use Rattle.std.proofs.Common.{◌++◌, ◌∷◌, [], ◌≡◌, refl, arith, sym, ap, ◌∙◌, None, true, false, if◌then◌else◌}
-use Rattle.can_node.specs.declared.aborted.Aborted.TheVariants.{Unchanged, Marked}
+use Rattle.can_node.specs.declared.abort_outcome.AbortOutcome.TheVariants.{Unchanged, Marked}
 use Rattle.can_node.specs.declared.node.Node.{Node}
 use Rattle.can_node.specs.Context.{ContextValue}
 use Rattle.can_node.specs.Record.RecordEntry.{Abort}

@@ -1,13 +1,13 @@
 use Rattle.std.proofs.Common.{refl}
 use Rattle.std.proofs.lemmas.Result.{on_ok_weaker}
-use Rattle.can_node.specs.declared.aborted.Aborted.{Aborted}
-use Rattle.can_node.specs.declared.aborted.Aborted.TheVariants.{Unchanged, Marked, Dropped}
+use Rattle.can_node.specs.declared.abort_outcome.AbortOutcome.{AbortOutcome}
+use Rattle.can_node.specs.declared.abort_outcome.AbortOutcome.TheVariants.{Unchanged, Marked, Dropped}
 use Rattle.can_node.specs.Stands.{Aborts}
 use Rattle.sja_link.specs.BusLedgers.{free_in}
 use Rattle.sja_link.specs.Aborting.{changes, IsApplied}
 use Rattle.sja_bus.proofs.AtPorts.Applying.{applied_running, applied_resting, applies_none, applies_one}
 use Rattle.sja_bus.proofs.Journal.Steps.{follows_abort}
-use Rattle.sja_bus.specs.declared.untold.Untold.TheVariants.{Changed, Dropped as DroppedUntold}
+use Rattle.sja_bus.specs.declared.port_news.PortNews.TheVariants.{Changed, Dropped as DroppedUntold}
 use Rattle.sja_bus.proofs.AtPorts.Aborting.{marked_leaves, dropped_leaves}
 use Rattle.sja_bus.proofs.AtPorts.TurnsTold.{aborts_none, aborts_one}
 use Rattle.sja_bus.proofs.Journal.Reading.{reads_abort}
@@ -16,7 +16,7 @@ use Rattle.sja_bus.proofs.seat.Seat.abort.Goals.{After-abort}
 use Rattle.sja_bus.proofs.seat.Seat.abort.Goals as goal
 
 -- an abort that the node answered so changed it, or didn't
-applied : (c : After-abort) (answer : Aborted) → Aborts c.args.self.now.node c.abort.new.self answer →
+applied : (c : After-abort) (answer : AbortOutcome) → Aborts c.args.self.now.node c.abort.new.self answer →
     IsApplied c.args.self.now.journal.entries (changes answer)
 applied c answer aborts =
     let was = c.args.self.now in

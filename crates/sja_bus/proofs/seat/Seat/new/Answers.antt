@@ -1,7 +1,7 @@
 use Rattle.std.proofs.Common.{[], arith, refl, ap}
 use Rattle.sja_bus.specs.declared.seat.Seat.{Seat}
 use Rattle.sja_bus.specs.declared.activity.Activity.TheVariants.{Between}
-use Rattle.sja_bus.specs.declared.untold.Untold.TheVariants.{Nothing}
+use Rattle.sja_bus.specs.declared.port_news.PortNews.TheVariants.{Nothing}
 use Rattle.sja_bus.proofs.Journal.Steps.{follows_new}
 use Rattle.sja_bus.proofs.Journal.Reading.{reads_new}
 use Rattle.sja_bus.proofs.Links.Seating.{sound_by}

@@ -1,5 +1,0 @@
-use Rattle.std.proofs.Common.{arith}
-use Rattle.can_bits.proofs.gathered.Gathered.data_count.Goals as goal
-
-pub returns-else-rtr-clause-most : goal.returns-else-rtr-clause-most
-returns-else-rtr-clause-most c = omega arith
