@@ -1,15 +1,17 @@
 -- The steps of a driver as its author has them, and the deeds that they are (this project's own rule). In versions 1
--- and 2 a step is one deed. In version 3 a read and a write are those of a driver that knows addresses and bytes alone.
-use Rattle.std.specs.Prelude.{◌≡◌, ◌*◌, ℕ, Bool, true, if◌then◌else◌, List, [], ◌∷◌, map, nat_lt}
+-- and 2 a step is one deed. In version 3 a read and a write are those of a driver that knows addresses and bytes alone,
+-- and a wait for a bit is no deed.
+use Rattle.std.specs.Prelude.{◌≡◌, ◌<◌, ◌≤◌, ◌⊎◌, ◌*◌, ℕ, Bool, true, if◌then◌else◌, List, [], ◌∷◌, map, nat_lt}
 use Rattle.std.specs.Prelude.{slice_index_or}
-use Rattle.can_frame.specs.declared.seen.Seen.{Seen}
+use Rattle.can_frame.specs.declared.buffer_view.BufferView.{BufferView}
 use Rattle.lemmas.specs.Gathering.{gathered}
 use Rattle.sja_regs.specs.declared.registers.Registers.{Registers}
 use Rattle.sja_script.specs.declared.done.Done.{Done}
 use Rattle.sja_script.specs.declared.step.Step.{Step}
-use Rattle.sja_script.specs.declared.step.Step.TheVariants.{Read, Write}
+use Rattle.sja_script.specs.declared.step.Step.TheVariants.{Read, Write, At}
 use Rattle.sja_script.specs.declared.step_answer.StepAnswer.{StepAnswer}
-use Rattle.sja_script.specs.declared.step_answer.StepAnswer.TheVariants.{Done as DoneAnswer, Value}
+use Rattle.sja_script.specs.declared.step_answer.StepAnswer.TheVariants.{Done as DoneAnswer, Value, Refused}
+use Rattle.sja_script.specs.declared.refusal.Refusal.TheVariants.{Closed}
 use Rattle.sja_driver.specs.declared.kept_bytes.KeptBytes.{KeptBytes}
 use Rattle.sja_driver.specs.Deeds.{Deed}
 use Rattle.sja_driver.specs.Kept.{kept_after, moved_by_answer}
@@ -45,19 +47,25 @@ by_bytes version = nat_lt 2 version
 abbrev pub IsOneDeed : Bool → Step → Type 0
 IsOneDeed true (Read address) = ⊥
 IsOneDeed true (Write address value) = ⊥
+IsOneDeed true (At bits) = ⊥
 IsOneDeed bytes one = Unit {0}
 
 -- the steps of the deeds that a step is, at these registers, of a driver that is out of reset or isn't
 abbrev pub deed_steps : Bool → Registers → Bool → Step → List Step
 deed_steps true p active (Write address value) = write_steps p active address value
+deed_steps true p active (At bits) = []
 deed_steps bytes p active one = one ∷ []
 
--- what it answers: a read the value of the register that stands there, or of the kept one, or 0; a write is done; any
--- other step answers as its one deed does
-abbrev pub Answers : Bool → Registers → Seen → KeptBytes → Step → List Deed → StepAnswer → Type 0
-Answers true p seen kept (Read address) deeds answer = answer ≡ Value (raw_value p kept seen address)
-Answers true p seen kept (Write address value) deeds answer = answer ≡ DoneAnswer
-Answers bytes p seen kept one deeds answer = map (λ (d : Deed). d.answer) deeds ≡ answer ∷ []
+-- what it answers once so many bits have run: a read the value of the register that stands there, or of the kept one,
+-- or 0; a write is done; a wait for a bit is done where so many bits have run, and given up only where fewer have and
+-- they are spent; any other step answers as its one deed does
+abbrev pub Answers : Bool → Registers → BufferView → KeptBytes → ℕ → Step → List Deed → StepAnswer → Type 0
+Answers true p seen kept bits (Read address) deeds answer = answer ≡ Value (raw_value p kept seen address)
+Answers true p seen kept bits (Write address value) deeds answer = answer ≡ DoneAnswer
+Answers true p seen kept bits (At least) deeds answer =
+    ((answer ≡ DoneAnswer) × (least ≤ bits))
+    ⊎ ((answer ≡ Refused Closed) × (bits < least) × (p.closed ≡ true))
+Answers bytes p seen kept bits one deeds answer = map (λ (d : Deed). d.answer) deeds ≡ answer ∷ []
 
 -- what deeds leave of the kept registers: each release moves RBSA on
 abbrev pub kept_by : KeptBytes → List Deed → KeptBytes
@@ -71,10 +79,10 @@ kept_written p kept one = kept
 
 -- in this version, at these registers of its port, with what is seen of the messages, and with these bytes kept, this
 -- is what a driver did that is out of reset or isn't; then those are kept
-pub record IsAccess (version : ℕ) (p : Registers) (seen : Seen) (active : Bool) (kept : KeptBytes) (a : Access)
+pub record IsAccess (version : ℕ) (p : Registers) (seen : BufferView) (active : Bool) (kept : KeptBytes) (a : Access)
     (kept_now : KeptBytes) : Type 0 where
   pub steps : map (λ (d : Deed). d.step) a.deeds ≡ deed_steps (by_bytes version) p active a.step
-  pub answer : Answers (by_bytes version) p seen kept a.step a.deeds a.answer
+  pub answer : Answers (by_bytes version) p seen kept a.bits a.step a.deeds a.answer
   pub left : kept_now ≡ kept_by (kept_written p kept a.step) a.deeds
 
 -- ---- how many there may be

@@ -11,7 +11,7 @@ use Rattle.sja_regs.specs.InterruptLine.{is_line_active}
 use Rattle.sja_regs.specs.Refusals.{first_fault}
 use Rattle.sja_script.specs.declared.step.Step.{Step}
 use Rattle.sja_script.specs.declared.step.Step.TheVariants.{Start, Stop, Window, Release, Read}
-use Rattle.sja_script.specs.declared.step.Step.TheVariants.{Write, Load, Command, Await, Sent, Interrupt}
+use Rattle.sja_script.specs.declared.step.Step.TheVariants.{Write, Load, Command, Await, Sent, Interrupt, At}
 use Rattle.sja_driver.specs.declared.any_driver.AnyDriver.{AnyDriver}
 use Rattle.sja_driver.specs.declared.any_driver.AnyDriver.TheVariants.{InReset, InActive}
 use Rattle.sja_driver.specs.AnyDrivers.{is_out, opened_of, held_of, off_of, seen_by, IsDriverOf}
@@ -65,6 +65,7 @@ IfTakingNothing Stop P = P
 IfTakingNothing (Write address value) P = P
 IfTakingNothing (Load m) P = P
 IfTakingNothing (Command value) P = P
+IfTakingNothing (At bits) P = P
 IfTakingNothing other P = Unit {0}
 
 -- why a step is to be tried again. A start in reset with an activation left, a stop, and a release where bus-off isn't

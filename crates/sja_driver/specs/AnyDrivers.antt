@@ -1,6 +1,6 @@
 -- A driver in either state (this project's own rule).
 use Rattle.std.specs.Prelude.{◌≡◌, ◌<◌, ◌≤◌, ◌+◌, ℕ, Bool, true, false, List, []}
-use Rattle.can_frame.specs.declared.seen.Seen.{Seen}
+use Rattle.can_frame.specs.declared.buffer_view.BufferView.{BufferView}
 use Rattle.sja_link.specs.Showing.{seen_of}
 use Rattle.sja_driver.specs.declared.any_driver.AnyDriver.{AnyDriver}
 use Rattle.sja_driver.specs.declared.any_driver.AnyDriver.TheVariants.{InReset, InActive}
@@ -26,7 +26,7 @@ off_of (InReset d) = false
 off_of (InActive d) = off_in d
 
 -- what a read of the registers sees
-abbrev pub seen_by : AnyDriver → Seen
+abbrev pub seen_by : AnyDriver → BufferView
 seen_by (InReset d) = nothing_seen
 seen_by (InActive d) = seen_of (off_in d) (held_in d)
 

@@ -1,6 +1,6 @@
 -- What a step sees, and what it gives and leaves by the port (this project's own rule).
 use Rattle.std.specs.Prelude.{◌≡◌, ◌≤◌, ◌<◌, ◌⊎◌, ◌&&◌, not, ℕ, Bool, true, false, List, [], ◌∷◌, length}
-use Rattle.can_frame.specs.declared.seen.Seen.{Seen}
+use Rattle.can_frame.specs.declared.buffer_view.BufferView.{BufferView}
 use Rattle.sja_link.specs.declared.up.Up.{Up}
 use Rattle.sja_link.specs.declared.up.Up.TheVariants.{Start as StartItem, Credit, Stop as StopItem}
 use Rattle.sja_regs.specs.declared.registers.Registers.{Registers}
@@ -14,7 +14,7 @@ use Rattle.sja_regs.specs.Registers.{config_of, after_entering_reset}
 use Rattle.sja_regs.specs.Writing.{write_faults_at, after_writing_at, load_faults, after_loading}
 use Rattle.sja_script.specs.declared.step.Step.{Step}
 use Rattle.sja_script.specs.declared.step.Step.TheVariants.{Start, Stop, Window, Release, Read}
-use Rattle.sja_script.specs.declared.step.Step.TheVariants.{Write, Load, Command, Await, Sent, Interrupt}
+use Rattle.sja_script.specs.declared.step.Step.TheVariants.{Write, Load, Command, Await, Sent, Interrupt, At}
 use Rattle.sja_script.specs.declared.refusal.Refusal.TheVariants.{Stopped, Empty, Closed}
 use Rattle.sja_script.specs.declared.step_answer.StepAnswer.{StepAnswer}
 use Rattle.sja_script.specs.declared.step_answer.StepAnswer.TheVariants.{Done as DoneAnswer, NoMessage}
@@ -39,8 +39,9 @@ Sees other off window answer = Unit {0}
 
 -- what a step answers by the registers, by what is seen of the messages, and by whether the driver is out of reset. A
 -- wait is given up only where the bits are spent; `sent` passes exactly where TBS is 1, and `interrupt` exactly where
--- the interrupt line is active, whether the driver is out of reset or not
-abbrev pub Tells : Step → Bool → Registers → Seen → StepAnswer → Type 0
+-- the interrupt line is active, whether the driver is out of reset or not. A wait for a bit, which asks no register,
+-- passes at once: who counts the bits tries it when so many have run
+abbrev pub Tells : Step → Bool → Registers → BufferView → StepAnswer → Type 0
 Tells (Read address) active p seen answer =
     answer ≡ value_answer (or_no_register (value_at p seen (register_at p.mode.rm address)))
 Tells (Write address value) active p seen answer =
@@ -53,6 +54,7 @@ Tells Sent true p seen answer =
 Tells Interrupt active p seen answer =
     ((answer ≡ DoneAnswer) × (is_line_active p seen ≡ true))
     ⊎ ((answer ≡ Refused Closed) × (is_line_active p seen ≡ false) × (p.closed ≡ true))
+Tells (At bits) active p seen answer = answer ≡ DoneAnswer
 Tells other active p seen answer = Unit {0}
 
 -- ---- what a step gives, and what it leaves in the port

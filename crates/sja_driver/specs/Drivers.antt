@@ -1,6 +1,6 @@
 -- What a driver shows in each of its states (this project's own rule).
 use Rattle.std.specs.Prelude.{◌+◌, ℕ, Bool, None, List}
-use Rattle.can_frame.specs.declared.seen.Seen.{Seen}
+use Rattle.can_frame.specs.declared.buffer_view.BufferView.{BufferView}
 use Rattle.sja_link.specs.declared.link_id.LinkId.{LinkId}
 use Rattle.sja_link.specs.DriverLedgers.{link_of, held_by, knows_bus_off}
 use Rattle.sja_driver.specs.declared.driver.Driver.{Driver}
@@ -19,7 +19,7 @@ abbrev pub next_link : Driver Reset → LinkId
 next_link d = record { node = node_in d; activation = started_in d + 1 }
 
 -- in reset a driver sees no message
-abbrev pub nothing_seen : Seen
+abbrev pub nothing_seen : BufferView
 nothing_seen = record { first = None; count = 0 }
 
 -- out of reset: the link of the present activation, the messages that were got and not released, and whether bus-off

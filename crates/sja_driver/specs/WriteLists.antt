@@ -1,7 +1,7 @@
 -- The steps of a typed driver that a write is, as values (this project's own rule).
 use Rattle.std.specs.Prelude.{◌++◌, Option, Some, None, List, [], ◌∷◌}
 use Rattle.sja_script.specs.declared.step.Step.{Step}
-use Rattle.sja_script.specs.declared.step.Step.TheVariants.{Await, Sent, Interrupt}
+use Rattle.sja_script.specs.declared.step.Step.TheVariants.{Await, Sent, Interrupt, At}
 use Rattle.sja_driver.specs.declared.write_steps.WriteSteps.{WriteSteps}
 
 -- one step, or none
@@ -13,12 +13,13 @@ listed (Some step) = step ∷ []
 abbrev pub steps_in : WriteSteps → List Step
 steps_in w = listed w.first ++ (listed w.second ++ listed w.third)
 
--- a step that waits for no message, for no end of a request and for no line: it is tried again only where a link gives
--- its item back
+-- a step that waits for no message, for no end of a request, for no line and for no bit: it is tried again only where a
+-- link gives its item back
 abbrev pub IsPrompt : Step → Type 0
 IsPrompt (Await count) = ⊥
 IsPrompt Sent = ⊥
 IsPrompt Interrupt = ⊥
+IsPrompt (At bits) = ⊥
 IsPrompt other = Unit {0}
 
 abbrev pub IsPromptIf : Option Step → Type 0

@@ -11,7 +11,7 @@ ghost use Rattle.sja_driver.specs.Drivers.{node_in, started_in, link_in, held_in
 use super::driver::Driver;
 use super::reset::Reset;
 use can_frame::Message;
-use sja_link::{DriverEnd, DriverLedger, LinkId, ReleaseFault, Stopped, Up};
+use sja_link::{DriverEnd, DriverLedger, LinkId, LostWindow, ReleaseFault, Up};
 use sja_regs::Port;
 
 /// The state of a driver whose activation goes on: the ledger of its messages.
@@ -103,8 +103,8 @@ impl Driver<Active> {
 
     /// Takes in all that the link shows, and says whether the window is there.
     ///
-    /// Error: [`Stopped`] where bus-off is known.
-    pub fn look<E: DriverEnd>(&mut self, end: &mut E) -> Result<(), Stopped>
+    /// Error: [`LostWindow`] where bus-off is known.
+    pub fn look<E: DriverEnd>(&mut self, end: &mut E) -> Result<(), LostWindow>
         requires { E.link end.old ≡ link_in self.old }
         ensures same { E.same end.old end.new }
         ensures took { TakesIn E.stands E.dry end.old end.new self.old self.new }
@@ -117,8 +117,8 @@ impl Driver<Active> {
     /// Takes in all that the link shows, and shows the first message that was got and not released, or none. Nothing is
     /// given: a message that is shown is still held.
     ///
-    /// Error: [`Stopped`] where bus-off is known.
-    pub fn window<E: DriverEnd>(&mut self, end: &mut E) -> Result<Option<&Message>, Stopped>
+    /// Error: [`LostWindow`] where bus-off is known.
+    pub fn window<E: DriverEnd>(&mut self, end: &mut E) -> Result<Option<&Message>, LostWindow>
         requires { E.link end.old ≡ link_in self.old }
         ensures same { E.same end.old end.new }
         ensures* after { sem 𝓛 (follows_so (the_row active_row) (the_row active_row) self.entry.ghost_name none

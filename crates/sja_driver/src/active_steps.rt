@@ -10,8 +10,8 @@ use super::answers::{done_answer, refusal_of, shows_released};
 use super::any_driver::AnyDriver;
 use super::attempt::{Attempt, passed, refused};
 use super::command_fault::CommandFault;
-use can_frame::{Message, Seen};
-use sja_link::{DriverEnd, ReleaseFault, Stopped};
+use can_frame::{BufferView, Message};
+use sja_link::{DriverEnd, LostWindow, ReleaseFault};
 use sja_regs::{Port, address};
 use sja_script::{Refusal, StepAnswer};
 
@@ -28,7 +28,7 @@ pub(crate) fn window_step<E: DriverEnd>(driver: &mut AnyDriver, end: &mut E) -> 
     let answer = match driver.window(end) {
         Ok(Some(message)) => StepAnswer::Shown(message.copy()),
         Ok(None) => StepAnswer::NoMessage,
-        Err(Stopped) => StepAnswer::Refused(Refusal::Stopped),
+        Err(LostWindow) => StepAnswer::Refused(Refusal::Stopped),
     };
     Attempt::Answered(answer)
 }
@@ -147,7 +147,7 @@ fn is_released(port: &mut Port) -> bool
     ensures value { result ≡ port.old.tbs }
     ensures unchanged { port.new ≡ port.old }
 {
-    let nothing = Seen {
+    let nothing = BufferView {
         first: None,
         count: 0,
     };

@@ -11,7 +11,7 @@ use super::active_steps::{
     await_step, command_step, load_step, release_step, sent_step, window_step,
 };
 use super::any_driver::AnyDriver;
-use super::attempt::Attempt;
+use super::attempt::{Attempt, passed};
 use super::changing::{start_step, stop_step};
 use super::logged_driver::LoggedDriver;
 use super::register_steps::{interrupt_step, read_step, write_step};
@@ -121,5 +121,6 @@ fn try_step<E: DriverEnd>(
         Step::Await(count) => await_step(driver, end, port, *count),
         Step::Sent => sent_step(driver, end, port),
         Step::Interrupt => interrupt_step(driver, end, port),
+        Step::At(_) => passed(),
     }
 }

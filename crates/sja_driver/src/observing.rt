@@ -9,7 +9,7 @@ ghost use Rattle.sja_driver.specs.Observing.{MayObserve, Observes, Looked};
 
 use super::any_driver::AnyDriver;
 use super::logged_driver::LoggedDriver;
-use can_frame::Seen;
+use can_frame::BufferView;
 use sja_link::DriverEnd;
 use sja_regs::Port;
 
@@ -30,14 +30,14 @@ impl LoggedDriver {
 }
 
 /// Takes in all that the link shows, out of reset, and answers what a read of the registers sees then.
-pub(crate) fn observe<E: DriverEnd>(driver: &mut AnyDriver, end: &mut E) -> Seen
+pub(crate) fn observe<E: DriverEnd>(driver: &mut AnyDriver, end: &mut E) -> BufferView
     requires { FitsEnd E.link end.old driver.old }
     ensures same { E.same end.old end.new }
     ensures observes { Observes E.stands E.dry end.old end.new driver.old driver.new }
     ensures seen { result ≡ seen_by driver.new }
 {
     match driver {
-        AnyDriver::InReset(_) => Seen {
+        AnyDriver::InReset(_) => BufferView {
             first: None,
             count: 0,
         },

@@ -7,7 +7,7 @@ use super::kept_bytes::KeptBytes;
 use sja_script::StepAnswer;
 
 impl KeptBytes {
-    ghost use Rattle.can_frame.specs.declared.seen.Seen.{Seen as SeenMessages};
+    ghost use Rattle.can_frame.specs.declared.buffer_view.BufferView.{BufferView as SeenMessages};
     ghost use Rattle.sja_regs.specs.declared.registers.Registers.{Registers};
     ghost use Rattle.sja_regs.specs.Addresses.{register_at};
     ghost use Rattle.sja_regs.specs.Reading.{or_no_register, value_at};

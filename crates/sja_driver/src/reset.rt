@@ -16,7 +16,7 @@ ghost use Rattle.sja_driver.specs.Ports.{after_start};
 use super::active::Active;
 use super::driver::Driver;
 use super::start_fault::StartFault;
-use can_frame::Seen;
+use can_frame::BufferView;
 use sja_link::{DriverEnd, DriverLedger, LINKS_PER_NODE, LinkId, Up, most_activations};
 use sja_regs::{Port, RegFault};
 
@@ -115,7 +115,7 @@ impl Driver<Reset> {
         ensures value { result ≡ or_no_register (value_at port.old nothing_seen (register_at port.old.mode.rm addr)) }
         ensures after { port.new ≡ after_reading_at port.old (register_at port.old.mode.rm addr) }
     {
-        let nothing = Seen {
+        let nothing = BufferView {
             first: None,
             count: 0,
         };

@@ -1,7 +1,7 @@
 //! Laws of the registers.
 
 ghost use Rattle.std.specs.Prelude.{◌≡◌, ℕ, List};
-ghost use Rattle.can_frame.specs.declared.seen.Seen.{Seen};
+ghost use Rattle.can_frame.specs.declared.buffer_view.BufferView.{BufferView};
 ghost use Rattle.sja_link.specs.declared.entry.Entry.{Entry};
 ghost use Rattle.sja_regs.specs.declared.registers.Registers.{Registers};
 ghost use Rattle.sja_regs.specs.InterruptLine.{is_line_active};
@@ -19,6 +19,6 @@ pub fn entries_and_deeds_lead_to_one_port()
 /// A law: whether the interrupt line is active is a function of the entries of the journal, of the deeds of the driver
 /// and of what is seen of the messages.
 pub fn entries_and_deeds_say_one_line()
-    ensures { (version : ℕ) (j : List Entry) (deeds : List Deed) (p q : Registers) (seen : Seen)
+    ensures { (version : ℕ) (j : List Entry) (deeds : List Deed) (p q : Registers) (seen : BufferView)
         → LeadTo version j deeds p → LeadTo version j deeds q → is_line_active p seen ≡ is_line_active q seen }
 {}

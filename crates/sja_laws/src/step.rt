@@ -4,6 +4,7 @@ ghost use Rattle.std.specs.Prelude.{◌≡◌, ℕ, List, []};
 ghost use Rattle.lemmas.specs.Picking.{EachAfter};
 ghost use Rattle.sja_link.specs.declared.entry.Entry.{Entry};
 ghost use Rattle.sja_link.specs.Places.{place_of};
+ghost use Rattle.sja_script.specs.declared.step.Step.TheVariants.{At};
 ghost use Rattle.sja_regs.specs.declared.registers.Registers.{Registers};
 ghost use Rattle.sja_driver.specs.declared.kept_bytes.KeptBytes.{KeptBytes};
 ghost use Rattle.sja_driver.specs.Accesses.{Access, IsAccess, deeds_in};
@@ -27,7 +28,8 @@ pub fn a_step_does_one_thing()
 {}
 
 /// A law: a step that is done after these steps and entries is none that has to wait there, in whatever run goes on
-/// from them. So where a driver is stuck, and a turn of its node ends early, is one place.
+/// from them. So where a driver is stuck, and a turn of its node ends early, is one place. A wait for a bit has no deed
+/// that says after how many bits it was done: that is known of it.
 pub fn a_step_that_is_done_has_not_to_wait()
     ensures { (version : ℕ) (whole other j k : List Entry) (steps : List Access) (p q : Registers)
         (kept kept_now : KeptBytes) (a : Access) → AccessesLeadTo version j steps kept p
@@ -35,5 +37,6 @@ pub fn a_step_that_is_done_has_not_to_wait()
         → IsAccess version p (seen_now (is_active (deeds_in steps)) j (deeds_in steps)) (is_active (deeds_in steps))
         kept a kept_now → LeadOn (deeds_in steps) j p a.deeds k q
         → EachAfter (IsPromised version j) (deeds_in steps) a.deeds
+        → ((least : ℕ) → a.step ≡ At least → a.bits ≡ (place_of j).bits)
         → IsUnmet version whole (deeds_in steps) (place_of j).bits a.step → ⊥ }
 {}

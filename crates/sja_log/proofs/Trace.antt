@@ -3,3 +3,4 @@ pub mod Windows
 pub mod AbortsFirst
 pub mod TbsAndAbort
 pub mod AccessDeeds
+pub mod Stays

@@ -1,7 +1,7 @@
 -- The registers of a node's port through a run in one thread (this project's own rule).
 use Rattle.std.specs.Prelude.{◌≡◌, ◌<◌, ℕ, Bool, true, false, List, [], ◌∷◌, ◌++◌, length, slice_index_or}
 use Rattle.can_bits.specs.declared.level.Level.{Level}
-use Rattle.can_frame.specs.declared.seen.Seen.{Seen}
+use Rattle.can_frame.specs.declared.buffer_view.BufferView.{BufferView}
 use Rattle.sja_link.specs.declared.entry.Entry.{Entry}
 use Rattle.sja_link.specs.Places.{place_of}
 use Rattle.sja_link.specs.Showing.{seen_of}
@@ -25,7 +25,7 @@ use Rattle.sja_driver.specs.Windows.{off_by, window_of}
 
 -- what a read of the registers sees of the messages after these entries and deeds: out of reset what was put by then in
 -- the activation and not released, in reset nothing
-abbrev pub seen_now : Bool → List Entry → List Deed → Seen
+abbrev pub seen_now : Bool → List Entry → List Deed → BufferView
 seen_now true j deeds =
     let bits = (place_of j).bits in seen_of (off_by bits j (opened_by deeds)) (window_of j deeds bits)
 seen_now false j deeds = nothing_seen

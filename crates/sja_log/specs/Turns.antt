@@ -3,11 +3,11 @@ use Rattle.std.specs.Prelude.{◌≡◌, ◌+◌, ◌<◌, ◌≤◌, ◌⊎◌,
 use Rattle.std.specs.Prelude.{◌∷◌, length, take, set, slice_index, slice_index_or}
 use Rattle.sja_link.specs.declared.entry.Entry.{Entry}
 use Rattle.sja_script.specs.declared.step.Step.{Step}
-use Rattle.sja_script.specs.declared.step.Step.TheVariants.{Await, Sent, Interrupt}
+use Rattle.sja_script.specs.declared.step.Step.TheVariants.{Await, Sent, Interrupt, At}
 use Rattle.sja_plan.specs.declared.turn.Turn.{Turn}
 use Rattle.sja_plan.specs.declared.turn.Turn.TheVariants.{Bus, Rest, Node, All, Irq, Go}
 use Rattle.sja_plan.specs.Plan.{PlanValue}
-use Rattle.sja_driver.specs.Accesses.{Access, accesses_at, deeds_in}
+use Rattle.sja_driver.specs.Accesses.{Access, accesses_at, by_bytes, deeds_in}
 use Rattle.sja_driver.specs.Deeds.{Deed, given_in, is_active, opened_by}
 use Rattle.sja_log.specs.declared.end.End.{End}
 use Rattle.sja_log.specs.declared.end.End.TheVariants.{Turns as TurnsDone, Bits as BitsSpent}
@@ -57,13 +57,14 @@ AllAtRest r p bits = (k : ℕ) → k < length r.plan.nodes → IsAtRest (record_
 
 -- ---- steps
 
--- a step that waits has to wait on: too few messages have come, the transmit buffer isn't released, or the interrupt
--- line isn't active by the registers that entries and deeds have led to by then
+-- a step that waits has to wait on: too few messages have come, the transmit buffer isn't released, the interrupt line
+-- isn't active by the registers that entries and deeds have led to by then, or in version 3 fewer bits have run
 abbrev pub IsUnmet : ℕ → List Entry → List Deed → ℕ → Step → Type 0
 IsUnmet version j before bits (Await count) =
     (is_active before ≡ true) × (off_by bits j (opened_by before) ≡ false) × (length (window_of j before bits) < count)
 IsUnmet version j before bits Sent = (is_active before ≡ true) × IsHolding (record_at j before bits)
 IsUnmet version j before bits Interrupt = IsLineInactive version (at_moment bits (length (given_in before)) j) before
+IsUnmet version j before bits (At least) = (by_bytes version ≡ true) × (bits < least)
 IsUnmet version j before bits other = ⊥
 
 -- the driver has no step left, or its next one has to wait

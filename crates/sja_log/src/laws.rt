@@ -8,7 +8,7 @@ ghost use Rattle.sja_link.specs.Parts.{part};
 ghost use Rattle.sja_link.specs.Verdicts.{IsLawful};
 ghost use Rattle.sja_plan.specs.Plan.{PlanValue};
 ghost use Rattle.sja_regs.specs.declared.registers.Registers.{Registers};
-ghost use Rattle.can_frame.specs.declared.seen.Seen.{Seen};
+ghost use Rattle.can_frame.specs.declared.buffer_view.BufferView.{BufferView};
 ghost use Rattle.sja_driver.specs.declared.kept_bytes.KeptBytes.{KeptBytes};
 ghost use Rattle.sja_driver.specs.Accesses.{Access, IsAccess};
 ghost use Rattle.sja_driver.specs.Deeds.{Deed};
@@ -61,8 +61,8 @@ pub fn an_abort_stands_right_before_a_bit()
 /// So from registers and entries to others a step leads there just as a deed does, and of these versions a run in one
 /// thread is one of deeds.
 pub fn a_step_of_versions_1_and_2_is_one_deed()
-    ensures { (version : ℕ) (j k : List Entry) (p q : Registers) (seen : Seen) (before : List Deed) (active : Bool)
-        (kept kept_now : KeptBytes) (a : Access) → version < 3 → a.bits ≡ (place_of j).bits →
+    ensures { (version : ℕ) (j k : List Entry) (p q : Registers) (seen : BufferView) (before : List Deed)
+        (active : Bool) (kept kept_now : KeptBytes) (a : Access) → version < 3 → a.bits ≡ (place_of j).bits →
         IsAccess version p seen active kept a kept_now → LeadOn before j p a.deeds k q →
         (d : Deed) × (a.deeds ≡ d ∷ []) × (d.step ≡ a.step) × (d.answer ≡ a.answer) × (d.bits ≡ a.bits)
         × IsPortDeed p q j k before d }

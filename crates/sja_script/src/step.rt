@@ -27,6 +27,8 @@ pub enum Step {
     Sent,
     /// Waits until the interrupt line of the controller is active (SJA1000 data sheet, 6.4.6).
     Interrupt,
+    /// Waits until so many bits have run: from version 3 on, before that for nothing.
+    At(u32),
 }
 
 impl Step {
@@ -48,6 +50,7 @@ impl Step {
             Step::Await(count) => Step::Await(*count),
             Step::Sent => Step::Sent,
             Step::Interrupt => Step::Interrupt,
+            Step::At(bits) => Step::At(*bits),
         }
     }
 }

@@ -36,6 +36,7 @@ impl SerialRun {
                 self.write(node, *address, *value);
                 true
             }
+            Step::At(bits) => self.reach(node, *bits),
             _ => self.one_deed(node, step),
         }
     }
@@ -50,7 +51,7 @@ impl SerialRun {
     ghost use Rattle.sja_regs.specs.declared.registers.Registers.{Registers};
     ghost use Rattle.sja_driver.specs.Logs.{done_in, done_room};
     ghost use Rattle.sja_driver.specs.WriteLists.{IsPromptIf};
-    ghost use Rattle.sja_script.specs.declared.step.Step.TheVariants.{Read, Write};
+    ghost use Rattle.sja_script.specs.declared.step.Step.TheVariants.{Read, Write, At};
     ghost use Rattle.sja_serial.specs.Inside.Accessing.{DoesDeeds, DoesPart, Enters};
     ghost use Rattle.sja_serial.specs.Serial.{Setup, SerialValue, StandsBy, IsRunBy};
     ghost use Rattle.sja_serial.specs.Stepping.{DoesStep, WaitsFor, HasDeedLeft, HasRoomLeft};
@@ -98,6 +99,29 @@ impl SerialRun {
             }
             None => unreachable!(),
         }
+    }
+
+    /// A wait until so many bits have run, of a driver that knows addresses and bytes alone: it is no deed. It says
+    /// whether they have; else nothing happened.
+    #[inline(never)]
+    fn reach(&mut self, node: u8, bits: u32) -> bool
+        ghost setup: { Setup }
+        requires run { IsRunBy setup self.old }
+        requires room { HasRoomLeft setup self.old node }
+        requires bytes { by_bytes setup.version ≡ true }
+        ensures done { result ≡ true → (accesses : List (List Access)) → StandsBy setup self.old accesses →
+            DoesStep setup self.old self.new node (At bits) accesses }
+        ensures waits { result ≡ false → (accesses : List (List Access)) → StandsBy setup self.old accesses →
+            WaitsFor setup self.old self.new node (At bits) accesses }
+    {
+        // Asked for what holds of every bus.
+        let _ = self.bits_left();
+        if self.bits < bits {
+            return false;
+        }
+        let kept = self.kept_by_step(node, &Step::At(bits));
+        self.enter(node, StepAnswer::Done, kept);
+        true
     }
 
     /// What is kept for the driver of a node once a step has written its value, if it writes one that is kept.

@@ -3,9 +3,9 @@
 ghost use Rattle.std.specs.Prelude.{◌≡◌};
 ghost use Rattle.sja_driver.specs.Inside.Answered.{value_or};
 
-use super::answered::Answered;
 use super::session::Session;
 use super::step_fault::StepFault;
+use super::step_outcome::StepOutcome;
 use sja_driver::KeptBytes;
 use sja_plan::RAW_VERSION;
 use sja_script::{Step, StepAnswer};
@@ -33,8 +33,8 @@ impl Session {
         self.stands();
         let kept = self.kept(node);
         match self.step(node, Step::Read(address))? {
-            Answered::Answer(answer) => Ok(value_of(&answer, kept.read(address))),
-            Answered::Waits => unreachable!(),
+            StepOutcome::Answer(answer) => Ok(value_of(&answer, kept.read(address))),
+            StepOutcome::Waits => unreachable!(),
         }
     }
 
@@ -98,8 +98,8 @@ impl Session {
     {
         self.stands();
         match self.step(node, Step::Write(address, value))? {
-            Answered::Answer(_) => Ok(()),
-            Answered::Waits => unreachable!(),
+            StepOutcome::Answer(_) => Ok(()),
+            StepOutcome::Waits => unreachable!(),
         }
     }
 }

@@ -14,7 +14,6 @@
 //! [`Session::with_room`]; beside these `strike`, `plan` and `finish` alone take memory.
 #![tactic(auto)]
 
-mod answered;
 mod answers;
 mod beginning;
 mod by_address;
@@ -22,32 +21,33 @@ mod finish;
 mod interrupt_line;
 mod lists;
 mod plan_so_far;
-mod rested;
+mod rest_outcome;
 mod resting;
 mod running;
 mod session;
 mod session_fault;
 mod session_room;
 mod step_fault;
+mod step_outcome;
 mod stepping;
 mod strike_fault;
 mod striking;
 mod turns;
 mod turns_used;
 mod typed_write;
-mod watched;
+mod watch_outcome;
 mod watching;
 
-pub use answered::Answered;
 pub use beginning::LAST_VERSION;
 pub use lists::push_step;
 pub use plan_so_far::{copied_steps, copied_strikes, copied_turns};
-pub use rested::Rested;
+pub use rest_outcome::RestOutcome;
 pub use session::Session;
 pub use session_fault::SessionFault;
 pub use session_room::SessionRoom;
 pub use step_fault::StepFault;
+pub use step_outcome::StepOutcome;
 pub use strike_fault::StrikeFault;
 pub use turns::{goes_on_last, push_turn};
 pub use turns_used::TurnsUsed;
-pub use watched::Watched;
+pub use watch_outcome::WatchOutcome;

@@ -1,6 +1,6 @@
 //! The bits of a session until every controller is at rest.
 
-use super::rested::Rested;
+use super::rest_outcome::RestOutcome;
 use super::session::Session;
 use super::turns::push_bits;
 use super::turns_used::TurnsUsed;
@@ -17,7 +17,7 @@ impl Session {
     ///
     /// Error: [`TurnsUsed`] where as many turns were taken as there is room for, the last one isn't of the bus, and a
     /// bit is left. Nothing changed.
-    pub fn rest(&mut self) -> Result<Rested, TurnsUsed>
+    pub fn rest(&mut self) -> Result<RestOutcome, TurnsUsed>
         ensures rests { IfOk result (λ r. (accesses : List (List Access)) → IsAt self.old accesses →
             Rests self.old self.new r.bits r.at_rest accesses) }
         ensures may { OnOk result (MayRun self.old 1) }
@@ -31,6 +31,6 @@ impl Session {
         let at_rest = self.run.rest_turn();
         let bits = self.run.bits() - before;
         push_bits(&mut self.turns, bits);
-        Ok(Rested { bits, at_rest })
+        Ok(RestOutcome { bits, at_rest })
     }
 }

@@ -1,10 +1,10 @@
 //! The steps of a session.
 
-use super::answered::Answered;
 use super::answers::last_answer;
 use super::lists::push_step;
 use super::session::Session;
 use super::step_fault::StepFault;
+use super::step_outcome::StepOutcome;
 use super::turns::{goes_on_last, push_turn};
 use sja_plan::Turn;
 use sja_script::Step;
@@ -13,7 +13,7 @@ impl Session {
     ghost use Rattle.std.specs.Prelude.{◌≡◌, List, Ok, IfErr, OnOk, OnErr};
     ghost use Rattle.sja_driver.specs.Accesses.{Access};
     ghost use Rattle.sja_script.specs.declared.step_answer.StepAnswer.{StepAnswer as AnswerOfStep};
-    ghost use Rattle.sja_session.specs.declared.answered.Answered.TheVariants.{Answer, Waits as HasToWait};
+    ghost use Rattle.sja_session.specs.declared.step_outcome.StepOutcome.TheVariants.{Answer, Waits as HasToWait};
     ghost use Rattle.sja_session.specs.Sessions.{IsAt};
     ghost use Rattle.sja_session.specs.Stepping.{MayStep, IsStepFault, DoesStep, Waits};
 
@@ -24,7 +24,7 @@ impl Session {
     /// [`StepFault::StepsUsed`] where as many steps of it are done as there is room for; [`StepFault::TurnsUsed`] where
     /// as many turns were taken as there is room for, and the last one isn't of this node.
     #[inline(always)]
-    pub fn step(&mut self, node: u8, step: Step) -> Result<Answered, StepFault>
+    pub fn step(&mut self, node: u8, step: Step) -> Result<StepOutcome, StepFault>
         ensures done { (answer : AnswerOfStep) → result ≡ Ok (Answer answer) → (accesses : List (List Access)) →
             IsAt self.old accesses → DoesStep self.old self.new node step answer accesses }
         ensures waits { result ≡ Ok HasToWait → (accesses : List (List Access)) → IsAt self.old accesses →
@@ -36,12 +36,12 @@ impl Session {
         self.may_step(node)?;
         let place = usize::from(node);
         if !self.run.step(node, &step) {
-            return Ok(Answered::Waits);
+            return Ok(StepOutcome::Waits);
         }
         push_step(&mut self.steps, place, step);
         push_turn(&mut self.turns, Turn::Node(node, 1));
         match last_answer(&self.run, place) {
-            Some(answer) => Ok(Answered::Answer(answer)),
+            Some(answer) => Ok(StepOutcome::Answer(answer)),
             None => unreachable!(),
         }
     }

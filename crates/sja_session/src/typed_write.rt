@@ -3,9 +3,9 @@
 ghost use Rattle.std.specs.Prelude.{◌≡◌, length};
 ghost use Rattle.sja_driver.specs.WriteLists.{listed, steps_in};
 
-use super::answered::Answered;
 use super::session::Session;
 use super::step_fault::StepFault;
+use super::step_outcome::StepOutcome;
 use sja_driver::{WriteSteps, steps_of_write};
 use sja_plan::Turn;
 use sja_script::{Step, StepAnswer};
@@ -87,8 +87,8 @@ impl Session {
             DoesStep self.old self.new node step result accesses }
     {
         match self.step(node, step) {
-            Ok(Answered::Answer(answer)) => answer,
-            Ok(Answered::Waits) => unreachable!(),
+            Ok(StepOutcome::Answer(answer)) => answer,
+            Ok(StepOutcome::Waits) => unreachable!(),
             Err(_) => unreachable!(),
         }
     }

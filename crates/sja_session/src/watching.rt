@@ -6,7 +6,7 @@ ghost use Rattle.sja_session.specs.Inside.Risen.{risen};
 use super::session::Session;
 use super::turns::push_turn;
 use super::turns_used::TurnsUsed;
-use super::watched::Watched;
+use super::watch_outcome::WatchOutcome;
 use sja_plan::Turn;
 
 impl Session {
@@ -23,7 +23,7 @@ impl Session {
     /// from 0. It says how many were run, and whose line rose.
     ///
     /// Error: that of [`bits`](Session::bits). Nothing changed.
-    pub fn watch(&mut self, count: u32, watched: [bool; 8]) -> Result<Watched, TurnsUsed>
+    pub fn watch(&mut self, count: u32, watched: [bool; 8]) -> Result<WatchOutcome, TurnsUsed>
         ensures watches { IfOk result (λ w. (accesses : List (List Access)) → IsAt self.old accesses →
             Watches self.old self.new count watched w.bits w.rose accesses) }
         ensures may { OnOk result (MayRun self.old count) }
@@ -40,14 +40,14 @@ impl Session {
             bits += self.run_until_told(count - bits);
             let now = self.looks(&watched);
             if let Some(node) = first_risen(&watched, &before, &now) {
-                return Ok(Watched {
+                return Ok(WatchOutcome {
                     bits,
                     rose: Some(node),
                 });
             }
             before = now;
         }
-        Ok(Watched { bits, rose: None })
+        Ok(WatchOutcome { bits, rose: None })
     }
 
     /// Runs bits up to the first in which a port is told its turn, at most so many. It says how many. In none of the

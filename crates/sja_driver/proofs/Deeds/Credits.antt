@@ -21,7 +21,7 @@ use Rattle.sja_regs.specs.declared.registers.Registers.{Registers}
 use Rattle.sja_regs.specs.Commands.{command_of, requests}
 use Rattle.sja_script.specs.declared.step.Step.{Step}
 use Rattle.sja_script.specs.declared.step.Step.TheVariants.{Start, Stop, Window, Release, Read, Write, Load, Command}
-use Rattle.sja_script.specs.declared.step.Step.TheVariants.{Await, Sent, Interrupt}
+use Rattle.sja_script.specs.declared.step.Step.TheVariants.{Await, Sent, Interrupt, At}
 use Rattle.sja_script.specs.declared.step_answer.StepAnswer.{StepAnswer}
 use Rattle.sja_script.specs.declared.step_answer.StepAnswer.TheVariants.{Done, Released}
 use Rattle.sja_driver.specs.declared.any_driver.AnyDriver.{AnyDriver}
@@ -111,3 +111,4 @@ credit_lengths p (Load m) r n e = absurd cc
 credit_lengths p (Await k) r n e = absurd cc
 credit_lengths p Sent r n e = absurd cc
 credit_lengths p Interrupt r n e = absurd cc
+credit_lengths p (At bits) r n e = absurd cc

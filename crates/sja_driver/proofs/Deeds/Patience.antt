@@ -1,14 +1,14 @@
 -- No step that waits is given up while the bits aren't spent.
 use Rattle.std.proofs.Common.{◌≡◌, ◌≢◌, ℕ, Bool, true, false, List, [], ◌∷◌, refl, sym, ◌∙◌, inl, inr}
 use Rattle.std.specs.Prelude.{nat_lt, if◌then◌else◌, Option, Some, None, Result, Ok, Err}
-use Rattle.can_frame.specs.declared.seen.Seen.{Seen}
+use Rattle.can_frame.specs.declared.buffer_view.BufferView.{BufferView}
 use Rattle.sja_link.specs.Sizes.{most_activations}
 use Rattle.sja_regs.specs.declared.reg_fault.RegFault.{RegFault}
 use Rattle.sja_regs.specs.declared.reg_fault.RegFault.TheVariants as fault
 use Rattle.sja_regs.specs.declared.registers.Registers.{Registers}
 use Rattle.sja_script.specs.declared.step.Step.{Step}
 use Rattle.sja_script.specs.declared.step.Step.TheVariants.{Start, Stop, Window, Release, Read, Write, Load, Command}
-use Rattle.sja_script.specs.declared.step.Step.TheVariants.{Await, Sent, Interrupt}
+use Rattle.sja_script.specs.declared.step.Step.TheVariants.{Await, Sent, Interrupt, At}
 use Rattle.sja_script.specs.declared.refusal.Refusal.TheVariants.{Closed, NoActivationLeft}
 use Rattle.sja_script.specs.declared.step_answer.StepAnswer.{StepAnswer}
 use Rattle.sja_script.specs.declared.step_answer.StepAnswer.TheVariants.{Done, Refused}
@@ -52,7 +52,7 @@ release_never false (m ∷ window) answer h e = let x = sym h ∙ e in cc
 
 -- by the state, by what it saw and by the registers
 pub never_closed : (version : ℕ) (active : Bool) (n : ℕ) (step : Step) (answer : StepAnswer) (off : Bool)
-    (window : List (List ℕ)) (p : Registers) (seen : Seen) →
+    (window : List (List ℕ)) (p : Registers) (seen : BufferView) →
     FitsState version active n step answer → (active ≡ true → Sees step off window answer) → Tells step active p seen
     answer →
     p.closed ≡ false → answer ≢ Refused Closed
@@ -80,3 +80,4 @@ never_closed version true n Sent answer off window p seen f s (inr shut) c e = l
 never_closed version false n Sent answer off window p seen f s t c e = let x = sym f ∙ e in cc
 never_closed version active n Interrupt answer off window p seen f s (inl done) c e = let x = sym done.0 ∙ e in cc
 never_closed version active n Interrupt answer off window p seen f s (inr shut) c e = let x = sym c ∙ shut.2 in cc
+never_closed version active n (At bits) answer off window p seen f s done c e = let x = sym done ∙ e in cc

@@ -4,7 +4,7 @@ use Rattle.std.proofs.Common.{◌++◌, inl, inr, refl, sym, ap, ◌∙◌, subs
 use Rattle.std.specs.Prelude.{◌||◌, ◌&&◌, ◌⊎◌, if◌then◌else◌}
 use Rattle.std.proofs.lemmas.Bool.{cases_eq}
 use Rattle.can_bits.specs.declared.level.Level.{Level}
-use Rattle.can_node.specs.declared.aborted.Aborted.TheVariants.{Unchanged, Marked}
+use Rattle.can_node.specs.declared.abort_outcome.AbortOutcome.TheVariants.{Unchanged, Marked}
 use Rattle.can_node.specs.declared.request.Request.{Request}
 use Rattle.can_node.specs.Context.{ContextValue}
 use Rattle.can_node.specs.Effects.{is_in_progress, with_abort}

@@ -18,7 +18,7 @@ use Rattle.sja_regs.specs.Registers.{after_leaving_reset, is_forced}
 use Rattle.sja_regs.specs.Writing.{after_forced_off, after_writing_at, after_loading}
 use Rattle.sja_script.specs.declared.step.Step.{Step}
 use Rattle.sja_script.specs.declared.step.Step.TheVariants.{Start, Stop, Window, Release, Read, Write, Load}
-use Rattle.sja_script.specs.declared.step.Step.TheVariants.{Command, Await, Sent, Interrupt}
+use Rattle.sja_script.specs.declared.step.Step.TheVariants.{Command, Await, Sent, Interrupt, At}
 use Rattle.sja_script.specs.declared.step_answer.StepAnswer.{StepAnswer}
 use Rattle.sja_script.specs.declared.step_answer.StepAnswer.TheVariants.{Done, NoMessage, Shown, Released, Value}
 use Rattle.sja_script.specs.declared.step_answer.StepAnswer.TheVariants.{Refused}
@@ -114,6 +114,7 @@ alike_step p r Release answer starts h = h
 alike_step p r (Await count) answer starts h = h
 alike_step p r Sent answer starts h = h
 alike_step p r Interrupt answer starts h = h
+alike_step p r (At bits) answer starts h = h
 
 -- and carries the same from both
 pub carried_alike : (p r : Registers) (step : Step) (answer : StepAnswer) → AreAlike p r →
@@ -146,3 +147,4 @@ carried_alike p r (Load m) answer h = refl
 carried_alike p r (Await count) answer h = refl
 carried_alike p r Sent answer h = refl
 carried_alike p r Interrupt answer h = refl
+carried_alike p r (At bits) answer h = refl

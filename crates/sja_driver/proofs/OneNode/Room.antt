@@ -18,7 +18,7 @@ use Rattle.sja_regs.specs.declared.registers.Registers.{Registers}
 use Rattle.sja_regs.specs.Commands.{command_of, requests}
 use Rattle.sja_script.specs.declared.step.Step.{Step}
 use Rattle.sja_script.specs.declared.step.Step.TheVariants.{Start, Stop, Window, Release, Read, Write, Load, Command}
-use Rattle.sja_script.specs.declared.step.Step.TheVariants.{Await, Sent, Interrupt}
+use Rattle.sja_script.specs.declared.step.Step.TheVariants.{Await, Sent, Interrupt, At}
 use Rattle.sja_script.specs.declared.step_answer.StepAnswer.{StepAnswer}
 use Rattle.sja_script.specs.declared.step_answer.StepAnswer.TheVariants.{Done, Released}
 use Rattle.sja_driver.specs.Carried.{asks_abort}
@@ -79,6 +79,7 @@ one_each (Load m) r gave g = none_given gave g
 one_each (Await k) r gave g = none_given gave g
 one_each Sent r gave g = none_given gave g
 one_each Interrupt r gave g = none_given gave g
+one_each (At bits) r gave g = none_given gave g
 
 all_each : (before ds : List Deed) → EachAfter (λ b (d : Deed). Gives d.step d.answer d.gave) before ds →
     total gave_by ds + total asks_by ds ≤ length ds

@@ -2,7 +2,7 @@
 use Rattle.std.proofs.Common.{◌≡◌, ℕ, Bool, true, false, Option, Some, None, List, [], ◌∷◌, refl, sym, ap, ◌∙◌, subst}
 use Rattle.std.specs.Prelude.{◌==◌, ◌||◌, ◌&&◌, not, if◌then◌else◌, is_some, unwrap_or}
 use Rattle.std.proofs.Math.Bool.{or-true}
-use Rattle.can_frame.specs.declared.seen.Seen.{Seen}
+use Rattle.can_frame.specs.declared.buffer_view.BufferView.{BufferView}
 use Rattle.sja_link.specs.declared.entry.Entry.{Entry}
 use Rattle.sja_regs.specs.declared.bus_turn.BusTurn.{BusTurn}
 use Rattle.sja_regs.specs.declared.mode.Mode.{Mode as ModeBits}
@@ -23,7 +23,7 @@ use Rattle.sja_regs.specs.Turns.{rs_told, ts_told, stands_still, follows_node, r
 use Rattle.sja_regs.specs.Writing.{after_forced_off, write_faults_at, after_writing_at}
 use Rattle.sja_script.specs.declared.step.Step.{Step}
 use Rattle.sja_script.specs.declared.step.Step.TheVariants.{Start, Stop, Window, Release, Read}
-use Rattle.sja_script.specs.declared.step.Step.TheVariants.{Write, Load, Command, Await, Sent, Interrupt}
+use Rattle.sja_script.specs.declared.step.Step.TheVariants.{Write, Load, Command, Await, Sent, Interrupt, At}
 use Rattle.sja_script.specs.declared.step_answer.StepAnswer.{StepAnswer}
 use Rattle.sja_script.specs.declared.step_answer.StepAnswer.TheVariants.{Done}
 use Rattle.sja_driver.specs.Answers.{done_unless}
@@ -151,7 +151,7 @@ write_alike (Some (Buffer i)) v p h =
     record { counts = same_counts refl refl refl (λ t. refl); rs = refl; ts = refl; still = λ t. refl }
 write_alike (Some other) v p h = all_alike p
 
-step_alike : (p : Registers) (one : Step) (answer : StepAnswer) (active : Bool) (seen : Seen) →
+step_alike : (p : Registers) (one : Step) (answer : StepAnswer) (active : Bool) (seen : BufferView) →
     Tells one active p seen answer → carried p one answer ≡ [] → ShowAlike p (ported p one answer)
 step_alike p Start Done active seen tells none = absurd cc
 step_alike p Stop Done active seen tells none = absurd cc
@@ -172,6 +172,7 @@ step_alike p Release answer active seen tells none = all_alike p
 step_alike p (Await count) answer active seen tells none = all_alike p
 step_alike p Sent answer active seen tells none = all_alike p
 step_alike p Interrupt answer active seen tells none = all_alike p
+step_alike p (At bits) answer active seen tells none = all_alike p
 
 -- a counter or BS that a turn would leave in p, it leaves in q
 rxerr_on : (p q : Registers) (turn : BusTurn) → CountsOn p q → rxerr_after p turn ≡ p.rxerr →
@@ -198,7 +199,8 @@ shows_alike j p q same h = record {
 }
 
 -- a step that gives nothing leaves a port that shows the record
-pub shows_on : (j : List Entry) (p q : Registers) (one : Step) (answer : StepAnswer) (active : Bool) (seen : Seen) →
+pub shows_on : (j : List Entry) (p q : Registers) (one : Step) (answer : StepAnswer) (active : Bool)
+    (seen : BufferView) →
     Tells one active p seen answer → carried p one answer ≡ [] → q ≡ ported p one answer → ShowsRecord j p →
     ShowsRecord j q
 shows_on j p q one answer active seen tells none left h =

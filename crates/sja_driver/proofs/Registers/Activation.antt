@@ -6,7 +6,7 @@ use Rattle.sja_regs.specs.Addresses.{register_at}
 use Rattle.sja_regs.specs.Registers.{after_leaving_reset}
 use Rattle.sja_script.specs.declared.step.Step.{Step}
 use Rattle.sja_script.specs.declared.step.Step.TheVariants.{Start, Stop, Window, Release, Read}
-use Rattle.sja_script.specs.declared.step.Step.TheVariants.{Write, Load, Command, Await, Sent, Interrupt}
+use Rattle.sja_script.specs.declared.step.Step.TheVariants.{Write, Load, Command, Await, Sent, Interrupt, At}
 use Rattle.sja_script.specs.declared.step_answer.StepAnswer.{StepAnswer}
 use Rattle.sja_script.specs.declared.step_answer.StepAnswer.TheVariants.{Done}
 use Rattle.sja_driver.specs.Carried.{ported}
@@ -46,3 +46,4 @@ activation_step p Release answer starts = plus_none p.activation
 activation_step p (Await count) answer starts = plus_none p.activation
 activation_step p Sent answer starts = plus_none p.activation
 activation_step p Interrupt answer starts = plus_none p.activation
+activation_step p (At bits) answer starts = plus_none p.activation

@@ -1,14 +1,14 @@
 -- TBS is 1 in reset mode, and 0 as long as an abort stands: a step and a turn of the bus keep that.
 use Rattle.std.proofs.Common.{◌≡◌, ℕ, Bool, true, false, refl, sym, ap, ◌∙◌, inl, inr}
 use Rattle.std.specs.Prelude.{◌||◌, ◌&&◌, not}
-use Rattle.can_frame.specs.declared.seen.Seen.{Seen}
+use Rattle.can_frame.specs.declared.buffer_view.BufferView.{BufferView}
 use Rattle.sja_regs.specs.declared.bus_turn.BusTurn.{BusTurn}
 use Rattle.sja_regs.specs.declared.registers.Registers.{Registers}
 use Rattle.sja_regs.specs.Commands.{command_of, requests}
 use Rattle.sja_regs.specs.Turns.{ends, goes_off, after_turn}
 use Rattle.sja_script.specs.declared.step.Step.{Step}
 use Rattle.sja_script.specs.declared.step.Step.TheVariants.{Start, Stop, Window, Release, Read}
-use Rattle.sja_script.specs.declared.step.Step.TheVariants.{Write, Load, Command, Await, Sent, Interrupt}
+use Rattle.sja_script.specs.declared.step.Step.TheVariants.{Write, Load, Command, Await, Sent, Interrupt, At}
 use Rattle.sja_script.specs.declared.step_answer.StepAnswer.{StepAnswer}
 use Rattle.sja_script.specs.declared.step_answer.StepAnswer.TheVariants.{Done, Released}
 use Rattle.sja_driver.specs.Carried.{Tells, carried, ported, asks_abort}
@@ -23,7 +23,7 @@ pub record TbsIsRight (p : Registers) : Type 0 where
 -- ---- a step
 
 -- one that neither enters nor leaves reset mode, touches no TBS and asks for no abort
-quiet : (p : Registers) (s : Step) (r : StepAnswer) (active : Bool) (seen : Seen) → Tells s active p seen r →
+quiet : (p : Registers) (s : Step) (r : StepAnswer) (active : Bool) (seen : BufferView) → Tells s active p seen r →
     opened s r ≡ 0 → active_after true s r ≡ true → tbs_by p.tbs (carried p s r) ≡ p.tbs → asks_abort s r ≡ false →
     TbsIsRight p → TbsIsRight (ported p s r)
 quiet p s r active seen tells none still same asks h = record {
@@ -49,7 +49,8 @@ under_way false at true true h e = refl
 under_way false true false true h e = absurd cc
 under_way false false false true h e = absurd cc
 
-pub tbs_after_step : (version : ℕ) (p : Registers) (n : ℕ) (s : Step) (r : StepAnswer) (active : Bool) (seen : Seen) →
+pub tbs_after_step : (version : ℕ) (p : Registers) (n : ℕ) (s : Step) (r : StepAnswer) (active : Bool)
+    (seen : BufferView) →
     FitsState version active n s r → Tells s active p seen r → TbsIsRight p → TbsIsRight (ported p s r)
 tbs_after_step version p n Start Done active seen fits tells h = record {
   in_reset = λ e. let no = (rm_step p Start Done true active seen p.mode.rm tells refl).1 refl in absurd cc;
@@ -81,6 +82,7 @@ tbs_after_step version p n (Load m) r active seen fits tells h =
 tbs_after_step version p n (Await k) r active seen fits tells h = h
 tbs_after_step version p n Sent r active seen fits tells h = h
 tbs_after_step version p n Interrupt r active seen fits tells h = h
+tbs_after_step version p n (At bits) r active seen fits tells h = h
 
 -- ---- a turn of the bus
 

@@ -1,7 +1,7 @@
 -- What a step leaves of TBS, of a standing abort and of the activation, by what it gives.
 use Rattle.std.proofs.Common.{◌≡◌, ◌≢◌, ℕ, Bool, true, false, List, [], ◌∷◌, refl}
 use Rattle.std.specs.Prelude.{◌&&◌, not, if◌then◌else◌, Some, None}
-use Rattle.can_frame.specs.declared.seen.Seen.{Seen}
+use Rattle.can_frame.specs.declared.buffer_view.BufferView.{BufferView}
 use Rattle.can_node.specs.declared.request.Request.{Request}
 use Rattle.sja_link.specs.declared.up.Up.{Up}
 use Rattle.sja_link.specs.declared.up.Up.TheVariants.{Start as StartItem, Credit, Send as SendItem, Stop as StopItem}
@@ -18,7 +18,7 @@ use Rattle.sja_regs.specs.Registers.{after_leaving_reset}
 use Rattle.sja_regs.specs.Writing.{is_first_version}
 use Rattle.sja_script.specs.declared.step.Step.{Step}
 use Rattle.sja_script.specs.declared.step.Step.TheVariants.{Start, Stop, Window, Release, Read}
-use Rattle.sja_script.specs.declared.step.Step.TheVariants.{Write, Load, Command, Await, Sent, Interrupt}
+use Rattle.sja_script.specs.declared.step.Step.TheVariants.{Write, Load, Command, Await, Sent, Interrupt, At}
 use Rattle.sja_script.specs.declared.step_answer.StepAnswer.{StepAnswer}
 use Rattle.sja_script.specs.declared.step_answer.StepAnswer.TheVariants.{Done, Released}
 use Rattle.sja_driver.specs.Answers.{done_unless}
@@ -67,6 +67,7 @@ tbs_step p Window answer = refl
 tbs_step p (Await count) answer = refl
 tbs_step p Sent answer = refl
 tbs_step p Interrupt answer = refl
+tbs_step p (At bits) answer = refl
 
 -- ---- a stop drops a standing abort
 
@@ -91,6 +92,7 @@ stop_drops p (Load m) answer e = absurd cc
 stop_drops p (Await count) answer e = absurd cc
 stop_drops p Sent answer e = absurd cc
 stop_drops p Interrupt answer e = absurd cc
+stop_drops p (At bits) answer e = absurd cc
 
 -- ---- requests that are accepted
 
@@ -121,7 +123,8 @@ busy_none p v busy h =
     h busy)
 
 -- nothing is requested while the transmit buffer isn't released
-pub busy_sends_none : (version : ℕ) (p : Registers) (n : ℕ) (s : Step) (r : StepAnswer) (active : Bool) (seen : Seen) →
+pub busy_sends_none : (version : ℕ) (p : Registers) (n : ℕ) (s : Step) (r : StepAnswer) (active : Bool)
+    (seen : BufferView) →
     FitsState version active n s r → Tells s active p seen r → p.tbs ≡ false → total is_send (carried p s r) ≡ 0
 busy_sends_none version p n (Command v) Done true seen fits t busy = busy_none p v busy t
 busy_sends_none version p n (Command v) Done false seen fits t busy = absurd cc
@@ -139,6 +142,7 @@ busy_sends_none version p n (Load m) r active seen fits t busy = refl
 busy_sends_none version p n (Await k) r active seen fits t busy = refl
 busy_sends_none version p n Sent r active seen fits t busy = refl
 busy_sends_none version p n Interrupt r active seen fits t busy = refl
+busy_sends_none version p n (At bits) r active seen fits t busy = refl
 
 no_send : (asks at : Bool) (request : Request) → (at && not asks) ≡ true →
     send_of (if asks then Some request else None) ≡ []
@@ -160,6 +164,7 @@ abort_gives_none p (Load m) r h = absurd cc
 abort_gives_none p (Await k) r h = absurd cc
 abort_gives_none p Sent r h = absurd cc
 abort_gives_none p Interrupt r h = absurd cc
+abort_gives_none p (At bits) r h = absurd cc
 
 -- ---- no request is accepted in reset mode
 
@@ -177,7 +182,8 @@ accepted_out p v h =
     ((c.rrb, UseTyped) ∷ (c.srr && is_first_version p, NotInVersion) ∷ (requests c && p.mode.lom, ListenOnly)
     ∷ (requests c && not p.tbs, Locked) ∷ []) h
 
-pub reset_sends_none : (version : ℕ) (p : Registers) (n : ℕ) (s : Step) (r : StepAnswer) (active : Bool) (seen : Seen) →
+pub reset_sends_none : (version : ℕ) (p : Registers) (n : ℕ) (s : Step) (r : StepAnswer) (active : Bool)
+    (seen : BufferView) →
     FitsState version active n s r → Tells s active p seen r → p.mode.rm ≡ true → total is_send (carried p s r) ≡ 0
 reset_sends_none version p n (Command v) Done true seen fits t rm = let out = accepted_out p v t in absurd cc
 reset_sends_none version p n (Command v) Done false seen fits t rm = absurd cc
@@ -195,3 +201,4 @@ reset_sends_none version p n (Load m) r active seen fits t rm = refl
 reset_sends_none version p n (Await k) r active seen fits t rm = refl
 reset_sends_none version p n Sent r active seen fits t rm = refl
 reset_sends_none version p n Interrupt r active seen fits t rm = refl
+reset_sends_none version p n (At bits) r active seen fits t rm = refl

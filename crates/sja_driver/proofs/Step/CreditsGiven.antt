@@ -8,7 +8,7 @@ use Rattle.sja_link.proofs.JournalEntries.ListCounts.{credits_both}
 use Rattle.sja_regs.specs.Commands.{command_of, requests}
 use Rattle.sja_script.specs.declared.step.Step.{Step}
 use Rattle.sja_script.specs.declared.step.Step.TheVariants.{Start, Stop, Window, Release, Read, Write, Load, Command}
-use Rattle.sja_script.specs.declared.step.Step.TheVariants.{Await, Sent, Interrupt}
+use Rattle.sja_script.specs.declared.step.Step.TheVariants.{Await, Sent, Interrupt, At}
 use Rattle.sja_script.specs.declared.step_answer.StepAnswer.{StepAnswer}
 use Rattle.sja_script.specs.declared.step_answer.StepAnswer.TheVariants.{Done, Released}
 use Rattle.sja_driver.specs.Deeds.{Deed, opens_by, Gives, GivesSend, length_in, given_in, released_lengths}
@@ -34,6 +34,7 @@ credit_one (Load m) r gave g = ap credits_of g
 credit_one (Await k) r gave g = ap credits_of g
 credit_one Sent r gave g = ap credits_of g
 credit_one Interrupt r gave g = ap credits_of g
+credit_one (At bits) r gave g = ap credits_of g
 
 pub credits_in : (n : ℕ) (before ds : List Deed) (a : ℕ) →
     EachAfter (λ b (d : Deed). Gives d.step d.answer d.gave) before ds →

@@ -10,7 +10,7 @@ use Rattle.sja_link.specs.declared.up.Up.TheVariants.{Start as StartItem, Credit
 use Rattle.sja_regs.specs.Commands.{command_of, requests}
 use Rattle.sja_script.specs.declared.step.Step.{Step}
 use Rattle.sja_script.specs.declared.step.Step.TheVariants.{Start, Stop, Window, Release, Read, Write, Load, Command}
-use Rattle.sja_script.specs.declared.step.Step.TheVariants.{Await, Sent, Interrupt}
+use Rattle.sja_script.specs.declared.step.Step.TheVariants.{Await, Sent, Interrupt, At}
 use Rattle.sja_script.specs.declared.refusal.Refusal.TheVariants.{NoActivationLeft}
 use Rattle.sja_script.specs.declared.step_answer.StepAnswer.{StepAnswer}
 use Rattle.sja_script.specs.declared.step_answer.StepAnswer.TheVariants.{Done as DoneAnswer, NoMessage, Shown, Released}
@@ -86,6 +86,7 @@ kind_of version active n (Load m) r gave fits g = quiet g refl refl
 kind_of version active n (Await k) r gave fits g = quiet g refl refl
 kind_of version active n Sent r gave fits g = quiet g refl refl
 kind_of version active n Interrupt r gave fits g = quiet g refl refl
+kind_of version active n (At bits) r gave fits g = quiet g refl refl
 
 -- a driver was in reset where it opened an activation
 pub opened_from : (active : Bool) (n : ℕ) (s : Step) (r : StepAnswer) (gave : List Up) → Kind active n s r gave →

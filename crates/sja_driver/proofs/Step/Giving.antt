@@ -7,7 +7,7 @@ use Rattle.sja_regs.specs.Commands.{command_of, requests}
 use Rattle.sja_regs.specs.Registers.{config_of}
 use Rattle.sja_script.specs.declared.step.Step.{Step}
 use Rattle.sja_script.specs.declared.step.Step.TheVariants.{Start, Stop, Window, Release, Read, Write, Load, Command}
-use Rattle.sja_script.specs.declared.step.Step.TheVariants.{Await, Sent, Interrupt}
+use Rattle.sja_script.specs.declared.step.Step.TheVariants.{Await, Sent, Interrupt, At}
 use Rattle.sja_script.specs.declared.step_answer.StepAnswer.{StepAnswer}
 use Rattle.sja_script.specs.declared.step_answer.StepAnswer.TheVariants.{Done, NoMessage, Shown, Released, Value}
 use Rattle.sja_script.specs.declared.step_answer.StepAnswer.TheVariants.{Refused}
@@ -51,3 +51,4 @@ gives_carried p (Load m) answer = refl
 gives_carried p (Await count) answer = refl
 gives_carried p Sent answer = refl
 gives_carried p Interrupt answer = refl
+gives_carried p (At bits) answer = refl

@@ -2,7 +2,7 @@
 use Rattle.std.proofs.Common.{◌≡◌, ℕ, Bool, true, false, refl, sym, ◌∙◌, inl, inr, arith}
 use Rattle.std.specs.Prelude.{◌⊎◌, ◌==◌, ◌||◌, ◌&&◌, not, if◌then◌else◌, Option, Some, None, unwrap_or}
 use Rattle.std.proofs.lemmas.Bool.{and_parts}
-use Rattle.can_frame.specs.declared.seen.Seen.{Seen}
+use Rattle.can_frame.specs.declared.buffer_view.BufferView.{BufferView}
 use Rattle.sja_regs.specs.declared.reg_fault.RegFault.{RegFault}
 use Rattle.sja_regs.specs.declared.register.Register.{Register}
 use Rattle.sja_regs.specs.declared.register.Register.TheVariants.{Mode, TransmitErrorCounter}
@@ -17,7 +17,7 @@ use Rattle.sja_regs.specs.Writing.{write_faults_at, after_forced_off, after_writ
 use Rattle.sja_regs.proofs.Calls.KeepLemmas.{read_keeps, write_keeps, leaving_keeps}
 use Rattle.sja_script.specs.declared.step.Step.{Step}
 use Rattle.sja_script.specs.declared.step.Step.TheVariants.{Start, Stop, Window, Release, Read, Write, Load, Command}
-use Rattle.sja_script.specs.declared.step.Step.TheVariants.{Await, Sent, Interrupt}
+use Rattle.sja_script.specs.declared.step.Step.TheVariants.{Await, Sent, Interrupt, At}
 use Rattle.sja_script.specs.declared.step_answer.StepAnswer.{StepAnswer}
 use Rattle.sja_script.specs.declared.step_answer.StepAnswer.TheVariants.{Done}
 use Rattle.sja_driver.specs.Answers.{done_unless}
@@ -62,7 +62,8 @@ write_rm (Some TransmitErrorCounter) v p h = txerr_rm (v == 255) v p
 write_rm (Some other) v p h = refl
 
 -- a start leaves reset mode, a stop enters it, and no other step does either
-pub rm_step : (p : Registers) (step : Step) (answer : StepAnswer) (active out : Bool) (seen : Seen) (rest : Bool) →
+pub rm_step : (p : Registers) (step : Step) (answer : StepAnswer) (active out : Bool) (seen : BufferView)
+    (rest : Bool) →
     Tells step out p seen answer → p.mode.rm ≡ (not active || rest) →
     (opened step answer ≡ 0 → (ported p step answer).mode.rm ≡ (not (active_after active step answer) || rest)) ×
     (opened step answer ≡ 1 → (ported p step answer).mode.rm ≡ false)
@@ -86,6 +87,7 @@ rm_step p Release answer active out seen rest t e = (λ o. e, λ o. absurd (omeg
 rm_step p (Await count) answer active out seen rest t e = (λ o. e, λ o. absurd (omega (arith, o)))
 rm_step p Sent answer active out seen rest t e = (λ o. e, λ o. absurd (omega (arith, o)))
 rm_step p Interrupt answer active out seen rest t e = (λ o. e, λ o. absurd (omega (arith, o)))
+rm_step p (At bits) answer active out seen rest t e = (λ o. e, λ o. absurd (omega (arith, o)))
 
 -- ---- the bits aren't spent
 
@@ -109,6 +111,7 @@ closed_step p Release answer = refl
 closed_step p (Await count) answer = refl
 closed_step p Sent answer = refl
 closed_step p Interrupt answer = refl
+closed_step p (At bits) answer = refl
 
 -- no step changes its version
 pub version_step : (p : Registers) (step : Step) (answer : StepAnswer) → (ported p step answer).version ≡ p.version
@@ -130,6 +133,7 @@ version_step p Release answer = refl
 version_step p (Await count) answer = refl
 version_step p Sent answer = refl
 version_step p Interrupt answer = refl
+version_step p (At bits) answer = refl
 
 -- ---- a standing abort
 
@@ -162,3 +166,4 @@ abort_step p Release answer h = inl h
 abort_step p (Await count) answer h = inl h
 abort_step p Sent answer h = inl h
 abort_step p Interrupt answer h = inl h
+abort_step p (At bits) answer h = inl h

@@ -16,7 +16,7 @@ use Rattle.lemmas.proofs.Lists.{none_front}
 use Rattle.sja_link.proofs.JournalEntries.Entering.{of_part_later}
 use Rattle.sja_script.specs.declared.step.Step.{Step}
 use Rattle.sja_script.specs.declared.step.Step.TheVariants.{Start, Stop, Window, Release, Read, Write, Load, Command}
-use Rattle.sja_script.specs.declared.step.Step.TheVariants.{Await, Sent, Interrupt}
+use Rattle.sja_script.specs.declared.step.Step.TheVariants.{Await, Sent, Interrupt, At}
 use Rattle.sja_script.specs.declared.step_answer.StepAnswer.{StepAnswer}
 use Rattle.sja_script.specs.declared.step_answer.StepAnswer.TheVariants.{Done as DoneAnswer, NoMessage, Shown, Released}
 use Rattle.sja_script.specs.declared.step_answer.StepAnswer.TheVariants.{Value, Refused}
@@ -142,6 +142,7 @@ opening (Command v) r gave h = inl refl
 opening (Await n) r gave h = inl refl
 opening Sent r gave h = inl refl
 opening Interrupt r gave h = inl refl
+opening (At bits) r gave h = inl refl
 
 some_given : (n : ℕ) (before ds : List Deed) (a : ℕ) → EachAfter (λ b d. Gives d.step d.answer d.gave) before ds →
     n < a → a ≤ n + total opens_by ds →

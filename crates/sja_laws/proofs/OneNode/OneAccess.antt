@@ -1,6 +1,7 @@
 -- A step of a driver, as its author has it, does one thing.
-use Rattle.std.proofs.Common.{◌≡◌, ℕ, Bool, true, false, List, [], ◌∷◌, ◌++◌, refl, sym, ap, ◌∙◌, subst}
-use Rattle.can_frame.specs.declared.seen.Seen.{Seen}
+use Rattle.std.proofs.Common.{◌≡◌, ◌<◌, ◌≤◌, ◌⊎◌, inl, inr, ℕ, Bool, true, false, List, [], ◌∷◌, ◌++◌, refl, sym}
+use Rattle.std.proofs.Common.{ap, ◌∙◌, subst, arith}
+use Rattle.can_frame.specs.declared.buffer_view.BufferView.{BufferView}
 use Rattle.lemmas.specs.Picking.{EachAfter}
 use Rattle.sja_link.specs.declared.entry.Entry.{Entry}
 use Rattle.sja_link.specs.Looking.{off_among}
@@ -8,8 +9,10 @@ use Rattle.sja_link.specs.Places.{place_of}
 use Rattle.sja_regs.specs.declared.registers.Registers.{Registers}
 use Rattle.sja_script.specs.declared.step.Step.{Step}
 use Rattle.sja_script.specs.declared.step.Step.TheVariants.{Start, Stop, Window, Release, Read, Write, Load, Command}
-use Rattle.sja_script.specs.declared.step.Step.TheVariants.{Await, Sent, Interrupt}
+use Rattle.sja_script.specs.declared.step.Step.TheVariants.{Await, Sent, Interrupt, At}
+use Rattle.sja_script.specs.declared.refusal.Refusal.TheVariants.{Closed}
 use Rattle.sja_script.specs.declared.step_answer.StepAnswer.{StepAnswer}
+use Rattle.sja_script.specs.declared.step_answer.StepAnswer.TheVariants.{Done, Refused}
 use Rattle.sja_driver.specs.declared.kept_bytes.KeptBytes.{KeptBytes}
 use Rattle.sja_driver.specs.Accesses.{Access, Answers, IsAccess, by_bytes, deed_steps, kept_by, kept_written}
 use Rattle.sja_driver.specs.Carried.{Sees}
@@ -27,20 +30,31 @@ use Rattle.sja_laws.proofs.OneNode.OnePort.{bits_with_items}
 one_same : (xs : List StepAnswer) (a b : StepAnswer) → xs ≡ a ∷ [] → xs ≡ b ∷ [] → a ≡ b
 one_same xs a b h k = let e : a ∷ [] ≡ b ∷ [] = sym h ∙ k in cc
 
-told_once : (bytes : Bool) (p : Registers) (seen : Seen) (kept : KeptBytes) (s : Step) (deeds : List Deed)
-    (a b : StepAnswer) → Answers bytes p seen kept s deeds a → Answers bytes p seen kept s deeds b → a ≡ b
-told_once true p seen kept (Read address) deeds a b h k = h ∙ sym k
-told_once true p seen kept (Write address value) deeds a b h k = h ∙ sym k
-told_once true p seen kept Start deeds a b h k = one_same _ a b h k
-told_once true p seen kept Stop deeds a b h k = one_same _ a b h k
-told_once true p seen kept Window deeds a b h k = one_same _ a b h k
-told_once true p seen kept Release deeds a b h k = one_same _ a b h k
-told_once true p seen kept (Load m) deeds a b h k = one_same _ a b h k
-told_once true p seen kept (Command value) deeds a b h k = one_same _ a b h k
-told_once true p seen kept (Await count) deeds a b h k = one_same _ a b h k
-told_once true p seen kept Sent deeds a b h k = one_same _ a b h k
-told_once true p seen kept Interrupt deeds a b h k = one_same _ a b h k
-told_once false p seen kept s deeds a b h k = one_same _ a b h k
+-- a wait for a bit is done, or given up, as so many bits have run
+reached_once : (least bits : ℕ) (P : Type 0) (a b : StepAnswer) →
+    ((a ≡ Done) × (least ≤ bits)) ⊎ ((a ≡ Refused Closed) × (bits < least) × P) →
+    ((b ≡ Done) × (least ≤ bits)) ⊎ ((b ≡ Refused Closed) × (bits < least) × P) → a ≡ b
+reached_once least bits P a b (inl h) (inl k) = h.0 ∙ sym k.0
+reached_once least bits P a b (inl h) (inr k) = let past = h.1 in let few = k.1 in absurd (omega (arith, past, few))
+reached_once least bits P a b (inr h) (inl k) = let past = k.1 in let few = h.1 in absurd (omega (arith, past, few))
+reached_once least bits P a b (inr h) (inr k) = h.0 ∙ sym k.0
+
+told_once : (bytes : Bool) (p : Registers) (seen : BufferView) (kept : KeptBytes) (bits : ℕ) (s : Step)
+    (deeds : List Deed)
+    (a b : StepAnswer) → Answers bytes p seen kept bits s deeds a → Answers bytes p seen kept bits s deeds b → a ≡ b
+told_once true p seen kept bits (Read address) deeds a b h k = h ∙ sym k
+told_once true p seen kept bits (Write address value) deeds a b h k = h ∙ sym k
+told_once true p seen kept bits Start deeds a b h k = one_same _ a b h k
+told_once true p seen kept bits Stop deeds a b h k = one_same _ a b h k
+told_once true p seen kept bits Window deeds a b h k = one_same _ a b h k
+told_once true p seen kept bits Release deeds a b h k = one_same _ a b h k
+told_once true p seen kept bits (Load m) deeds a b h k = one_same _ a b h k
+told_once true p seen kept bits (Command value) deeds a b h k = one_same _ a b h k
+told_once true p seen kept bits (Await count) deeds a b h k = one_same _ a b h k
+told_once true p seen kept bits Sent deeds a b h k = one_same _ a b h k
+told_once true p seen kept bits Interrupt deeds a b h k = one_same _ a b h k
+told_once true p seen kept bits (At least) deeds a b h k = reached_once least bits (p.closed ≡ true) a b h k
+told_once false p seen kept bits s deeds a b h k = one_same _ a b h k
 
 pub record IsOneAccess (a b : Access) (kept_a kept_b : KeptBytes) (k l : List Entry) (q r : Registers) : Type 0 where
   pub access : a ≡ b
@@ -60,10 +74,11 @@ access_once version whole before j k l p q r kept kept_a kept_b a b same bits is
     let steps = is.steps ∙ ap (deed_steps (by_bytes version) p active) same ∙ sym it.steps in
     let one = deeds_once version whole before j p a.deeds b.deeds k l q r on lead steps h g in
     let seen = seen_now active j before in
-    let A : Step → List Deed → Type 0 = λ s d. Answers (by_bytes version) p seen kept s d b.answer in
-    let again : A a.step a.deeds =
-    subst (λ d. A a.step d) (sym one.deeds) (subst (λ s. A s b.deeds) (sym same) it.answer) in
-    let answer = told_once (by_bytes version) p seen kept a.step a.deeds a.answer b.answer is.answer again in
+    let A : ℕ → Step → List Deed → Type 0 = λ n s d. Answers (by_bytes version) p seen kept n s d b.answer in
+    let again : A a.bits a.step a.deeds =
+    subst (λ d. A a.bits a.step d) (sym one.deeds)
+    (subst (λ s. A a.bits s b.deeds) (sym same) (subst (λ n. A n b.step b.deeds) (sym bits) it.answer)) in
+    let answer = told_once (by_bytes version) p seen kept a.bits a.step a.deeds a.answer b.answer is.answer again in
     record {
       access = λ i. record { step = same i; answer = answer i; bits = bits i; deeds = one.deeds i };
       kept = is.left ∙ (λ i. kept_by (kept_written p kept (same i)) (one.deeds i)) ∙ sym it.left;

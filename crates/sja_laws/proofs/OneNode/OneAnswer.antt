@@ -2,7 +2,7 @@
 use Rattle.std.proofs.Common.{◌≡◌, ◌≢◌, ◌<◌, ◌≤◌, ◌⊎◌, ℕ, Bool, true, false, List, [], ◌∷◌, ◌++◌, length, map}
 use Rattle.std.proofs.Common.{refl, sym, ap, ◌∙◌, subst, inl, inr}
 use Rattle.std.proofs.lemmas.List.{same_from_push}
-use Rattle.can_frame.specs.declared.seen.Seen.{Seen}
+use Rattle.can_frame.specs.declared.buffer_view.BufferView.{BufferView}
 use Rattle.lemmas.specs.Picking.{EachAfter}
 use Rattle.lemmas.proofs.Picking.{each_front}
 use Rattle.sja_link.specs.declared.entry.Entry.{Entry}
@@ -13,7 +13,7 @@ use Rattle.sja_regs.specs.InterruptLine.{is_line_active}
 use Rattle.sja_script.specs.declared.refusal.Refusal.TheVariants.{Closed}
 use Rattle.sja_script.specs.declared.step.Step.{Step}
 use Rattle.sja_script.specs.declared.step.Step.TheVariants.{Start, Stop, Window, Release, Read, Write, Load, Command}
-use Rattle.sja_script.specs.declared.step.Step.TheVariants.{Await, Sent, Interrupt}
+use Rattle.sja_script.specs.declared.step.Step.TheVariants.{Await, Sent, Interrupt, At}
 use Rattle.sja_script.specs.declared.step_answer.StepAnswer.{StepAnswer}
 use Rattle.sja_script.specs.declared.step_answer.StepAnswer.TheVariants.{Done, Refused}
 use Rattle.sja_driver.specs.Carried.{Sees, Tells, carried, ported}
@@ -62,7 +62,7 @@ await_once count true window a b h k m n = h ∙ sym k
 await_once count false window a b h k m n =
     either_once a b Done (Refused Closed) (count ≤ length window) (length window < count) h k m n
 
-answer_once : (version : ℕ) (active : Bool) (opened : ℕ) (s : Step) (p : Registers) (seen : Seen) (off : Bool)
+answer_once : (version : ℕ) (active : Bool) (opened : ℕ) (s : Step) (p : Registers) (seen : BufferView) (off : Bool)
     (window : List (List ℕ)) (a b : StepAnswer) → FitsState version active opened s a →
     FitsState version active opened s b → Tells s active p seen a → Tells s active p seen b →
     SeesBy active s off window a → SeesBy active s off window b → a ≢ Refused Closed → b ≢ Refused Closed → a ≡ b
@@ -89,6 +89,7 @@ answer_once version false opened Sent p seen off window a b f g t u h k m n = f 
 answer_once version active opened Interrupt p seen off window a b f g t u h k m n =
     wait_once a b Done (Refused Closed) (is_line_active p seen ≡ true) (is_line_active p seen ≡ false)
     (p.closed ≡ true) t u m n
+answer_once version active opened (At bits) p seen off window a b f g t u h k m n = t ∙ sym u
 
 -- ---- a deed
 

@@ -1,7 +1,7 @@
 -- A step that is done in one run isn't one that has to wait in another.
-use Rattle.std.proofs.Common.{◌≡◌, ◌≢◌, ◌<◌, ℕ, Bool, true, false, not, Option, Some, None, List, [], ◌∷◌}
+use Rattle.std.proofs.Common.{◌≡◌, ◌≢◌, ◌<◌, ◌≤◌, ◌⊎◌, ℕ, Bool, true, false, not, Option, Some, None, List, [], ◌∷◌}
 use Rattle.std.proofs.Common.{◌++◌, length, map, refl, sym, ap, ◌∙◌, subst, arith, inl, inr, append-nil}
-use Rattle.can_frame.specs.declared.seen.Seen.{Seen}
+use Rattle.can_frame.specs.declared.buffer_view.BufferView.{BufferView}
 use Rattle.lemmas.specs.Picking.{EachAfter}
 use Rattle.lemmas.proofs.Gathered.{gathered_append, gathered_push}
 use Rattle.sja_link.specs.NodeWords.{NodeEntry}
@@ -20,11 +20,11 @@ use Rattle.sja_regs.specs.InterruptLine.{is_line_active}
 use Rattle.sja_script.specs.declared.refusal.Refusal.TheVariants.{Closed}
 use Rattle.sja_script.specs.declared.step.Step.{Step}
 use Rattle.sja_script.specs.declared.step.Step.TheVariants.{Start, Stop, Window, Release, Read, Write, Load, Command}
-use Rattle.sja_script.specs.declared.step.Step.TheVariants.{Await, Sent, Interrupt}
+use Rattle.sja_script.specs.declared.step.Step.TheVariants.{Await, Sent, Interrupt, At}
 use Rattle.sja_script.specs.declared.step_answer.StepAnswer.{StepAnswer}
-use Rattle.sja_script.specs.declared.step_answer.StepAnswer.TheVariants.{Refused}
+use Rattle.sja_script.specs.declared.step_answer.StepAnswer.TheVariants.{Done, Refused}
 use Rattle.sja_driver.specs.declared.kept_bytes.KeptBytes.{KeptBytes}
-use Rattle.sja_driver.specs.Accesses.{Access, IsAccess, by_bytes, deed_steps, deeds_in}
+use Rattle.sja_driver.specs.Accesses.{Access, Answers, IsAccess, by_bytes, deed_steps, deeds_in}
 use Rattle.sja_driver.specs.Carried.{Sees, Tells}
 use Rattle.sja_driver.specs.Deeds.{Deed, given_in, is_active, opened_by}
 use Rattle.sja_driver.specs.Moments.{at_moment}
@@ -37,6 +37,7 @@ use Rattle.sja_log.specs.Turns.{IsUnmet}
 use Rattle.sja_log.proofs.NodeLog.Onward.{moment_then, put_then, aborts_bit, aborts_items}
 use Rattle.sja_log.proofs.OneNode.OneDeed.{lead_one}
 use Rattle.sja_log.proofs.Trace.AccessDeeds.{forget}
+use Rattle.sja_log.proofs.Trace.Stays.{unclosed_led}
 use Rattle.sja_log.proofs.Trace.Windows.{window_later}
 use Rattle.sja_laws.specs.GoingOn.{GoesOn}
 use Rattle.sja_laws.specs.Promised.{IsPromised}
@@ -131,16 +132,22 @@ sees_active : (active : Bool) (j : List Entry) (before : List Deed) (d : Deed) �
 sees_active true j before d e h = h
 sees_active false j before d e h = absurd cc
 
-sent_met : (active : Bool) (p : Registers) (seen : Seen) (a : StepAnswer) → active ≡ true →
+sent_met : (active : Bool) (p : Registers) (seen : BufferView) (a : StepAnswer) → active ≡ true →
     Tells Sent active p seen a → p.tbs ≡ false → a ≢ Refused Closed → ⊥
 sent_met true p seen a e (inl h) busy patient = let never : true ≡ false = sym h.1 ∙ busy in absurd cc
 sent_met true p seen a e (inr h) busy patient = patient h.0
 sent_met false p seen a e h busy patient = absurd cc
 
-line_met : (active : Bool) (p : Registers) (seen : Seen) (a : StepAnswer) → Tells Interrupt active p seen a →
+line_met : (active : Bool) (p : Registers) (seen : BufferView) (a : StepAnswer) → Tells Interrupt active p seen a →
     is_line_active p seen ≡ false → a ≢ Refused Closed → ⊥
 line_met active p seen a (inl h) quiet patient = let never : true ≡ false = sym h.1 ∙ quiet in absurd cc
 line_met active p seen a (inr h) quiet patient = patient h.0
+
+reached_not : (least bits : ℕ) (closed : Bool) (a : StepAnswer) →
+    ((a ≡ Done) × (least ≤ bits)) ⊎ ((a ≡ Refused Closed) × (bits < least) × (closed ≡ true)) → closed ≡ false →
+    bits < least → ⊥
+reached_not least bits closed a (inl h) unclosed few = let past = h.1 in omega (arith, past, few)
+reached_not least bits closed a (inr h) unclosed few = let never : true ≡ false = sym h.2 ∙ unclosed in absurd cc
 
 -- ---- the whole step
 
@@ -150,7 +157,8 @@ module _ (version : ℕ) (whole seen j : List Entry) (accesses : List Access) (k
     (q : Registers) (kept_now : KeptBytes) (a : Access)
     (is : IsAccess version p (seen_now (is_active (deeds_in accesses)) j (deeds_in accesses))
     (is_active (deeds_in accesses)) kept a kept_now) (leads : LeadOn (deeds_in accesses) j p a.deeds k q)
-    (now : EachAfter (IsPromised version j) (deeds_in accesses) a.deeds) where
+    (now : EachAfter (IsPromised version j) (deeds_in accesses) a.deeds)
+    (at : (least : ℕ) → a.step ≡ At least → a.bits ≡ (place_of j).bits) where
   abbrev before : List Deed
   before = deeds_in accesses
 
@@ -230,10 +238,20 @@ module _ (version : ℕ) (whole seen j : List Entry) (accesses : List Access) (k
       line_met (is_active before) p (seen_now (is_active before) j before) d.answer (subst T h.step h.port.tells) quiet
       h.promise.patient
 
+  never_at : (least : ℕ) → a.step ≡ At least → IsUnmet version whole before bits (At least) → ⊥
+  never_at least e unmet =
+      let A : Bool → ℕ → Step → Type 0 =
+      λ b n s. Answers b p (seen_now (is_active before) j before) kept n s a.deeds a.answer in
+      let told : A true bits (At least) =
+      subst (λ b. A b bits (At least)) unmet.0 (subst (λ n. A (by_bytes version) n (At least)) (at least e)
+      (subst (λ s. A (by_bytes version) a.bits s) e is.answer)) in
+      reached_not least bits p.closed a.answer told (unclosed_led version j before p led) unmet.1
+
   pub never_unmet : (s : Step) → a.step ≡ s → IsUnmet version whole before bits s → ⊥
   never_unmet (Await count) e unmet = never_await count e unmet
   never_unmet Sent e unmet = never_sent e unmet
   never_unmet Interrupt e unmet = never_interrupt e unmet
+  never_unmet (At least) e unmet = never_at least e unmet
   never_unmet Start e unmet = unmet
   never_unmet Stop e unmet = unmet
   never_unmet Window e unmet = unmet

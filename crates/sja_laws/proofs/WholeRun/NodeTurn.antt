@@ -64,7 +64,7 @@ module _ (version : ℕ) (steps : List Step) (whole : List Entry) (all : List Ac
       (goes_on version whole all t.entries t.steps t.kept t.port t.one) next.entries next.port next.kept_now next.step
       next.is next.leads
       (promised_now version steps other others too t.entries t.steps t.kept t.port next
-      (goes_on version other others t.entries t.steps t.kept t.port t.two)) s refl
+      (goes_on version other others t.entries t.steps t.kept t.port t.two)) (λ least is. next.bits) s refl
       (subst C (sym t.bits_are) (subst B there (subst A done (unmet s))))
 
 module _ (version : ℕ) (steps : List Step) (whole : List Entry) (all : List Access) (other : List Entry)

@@ -63,9 +63,9 @@ sweep_once plan s text rows other others h g =
     λ p. AllZip (λ t (r : TrialRunValue). IsRan (struck_by plan t) r) (strikes_tried plan s p.log) g.runs in
     let runs = trials_once (struck_by plan) (strikes_tried plan s h.planned.log) h.runs g.runs h.as_struck
     (subst P (sym planned) g.as_struck) in (
-      h.text_is ∙ (λ i. sweep_text s.changed (planned i).log
-          (outcomes_of (planned i) (strikes_tried plan s (planned i).log) (runs i))) ∙ sym g.text_is,
-      h.rows_are ∙ (λ i. sweep_rows (outcomes_of (planned i) (strikes_tried plan s (planned i).log) (runs i)))
+      h.text_is ∙ (λ i. sweep_text s.asked (planned i).log
+          (outcomes_of plan (planned i) (strikes_tried plan s (planned i).log) (runs i))) ∙ sym g.text_is,
+      h.rows_are ∙ (λ i. sweep_rows (outcomes_of plan (planned i) (strikes_tried plan s (planned i).log) (runs i)))
           ∙ sym g.rows_are,
     )
 

@@ -4,7 +4,7 @@ use Rattle.sja_link.specs.declared.entry.Entry.{Entry}
 use Rattle.sja_link.specs.Places.{place_of}
 use Rattle.sja_script.specs.declared.step.Step.{Step}
 use Rattle.sja_script.specs.declared.step.Step.TheVariants.{Start, Stop, Window, Release, Read}
-use Rattle.sja_script.specs.declared.step.Step.TheVariants.{Write, Load, Command, Await, Sent, Interrupt}
+use Rattle.sja_script.specs.declared.step.Step.TheVariants.{Write, Load, Command, Await, Sent, Interrupt, At}
 use Rattle.sja_script.specs.declared.step_answer.StepAnswer.{StepAnswer}
 use Rattle.sja_driver.specs.Acting.{IfLooking}
 use Rattle.sja_driver.specs.Carried.{Sees}
@@ -25,6 +25,7 @@ sees_off (Load m) answer window other h = tt
 sees_off (Command v) answer window other h = tt
 sees_off Sent answer window other h = tt
 sees_off Interrupt answer window other h = tt
+sees_off (At n) answer window other h = tt
 
 sees_same : (one : Step) (answer : StepAnswer) (b off : Bool) (window other : List (List ℕ)) → off ≡ b →
     (b ≡ false → other ≡ window) → Sees one b window answer → Sees one off other answer
@@ -50,6 +51,7 @@ sees_shown j deeds (Load m) answer off window h s = tt
 sees_shown j deeds (Command v) answer off window h s = tt
 sees_shown j deeds Sent answer off window h s = tt
 sees_shown j deeds Interrupt answer off window h s = tt
+sees_shown j deeds (At n) answer off window h s = tt
 
 pub if_looking : (one : Step) (P Q : Type 0) → (P → Q) → IfLooking one P → IfLooking one Q
 if_looking Window P Q f h = f h
@@ -63,3 +65,4 @@ if_looking Stop P Q f h = tt
 if_looking (Write a v) P Q f h = tt
 if_looking (Load m) P Q f h = tt
 if_looking (Command v) P Q f h = tt
+if_looking (At n) P Q f h = tt

@@ -1,13 +1,13 @@
 -- What a read of the registers, or a wait for the interrupt line, sees of the messages.
 use Rattle.std.proofs.Common.{◌≡◌, ℕ, Bool, true, false, List, refl, sym, ap, ◌∙◌, subst}
-use Rattle.can_frame.specs.declared.seen.Seen.{Seen}
+use Rattle.can_frame.specs.declared.buffer_view.BufferView.{BufferView}
 use Rattle.sja_link.specs.declared.entry.Entry.{Entry}
 use Rattle.sja_link.specs.Places.{place_of}
 use Rattle.sja_link.specs.Showing.{seen_of}
 use Rattle.sja_regs.specs.declared.registers.Registers.{Registers}
 use Rattle.sja_script.specs.declared.step.Step.{Step}
 use Rattle.sja_script.specs.declared.step.Step.TheVariants.{Start, Stop, Window, Release, Read}
-use Rattle.sja_script.specs.declared.step.Step.TheVariants.{Write, Load, Command, Await, Sent, Interrupt}
+use Rattle.sja_script.specs.declared.step.Step.TheVariants.{Write, Load, Command, Await, Sent, Interrupt, At}
 use Rattle.sja_script.specs.declared.step_answer.StepAnswer.{StepAnswer}
 use Rattle.sja_driver.specs.declared.any_driver.AnyDriver.{AnyDriver}
 use Rattle.sja_driver.specs.declared.any_driver.AnyDriver.TheVariants.{InReset, InActive}
@@ -21,7 +21,7 @@ use Rattle.sja_driver.specs.Windows.{window_of}
 use Rattle.sja_log.proofs.Account.Looks.{IsShown}
 
 -- out of reset by what is known of bus-off and by the window, in reset nothing
-abbrev pub seen_as : Bool → Bool → List (List ℕ) → Seen
+abbrev pub seen_as : Bool → Bool → List (List ℕ) → BufferView
 seen_as true off window = seen_of off window
 seen_as false off window = nothing_seen
 
@@ -44,6 +44,7 @@ stays_out (Load m) a b i = absurd i
 stays_out (Command v) a b i = absurd i
 stays_out (Await n) a b i = absurd i
 stays_out Sent a b i = absurd i
+stays_out (At n) a b i = absurd i
 
 -- such a step of a driver sees what the driver knows and holds then
 pub seen_by_now : (w now : AnyDriver) (one : Step) (a : StepAnswer) → IsSeeing one →
@@ -57,11 +58,11 @@ seen_by_now w now one a i out = by now (is_out w) (out ∙ stays_out one a (is_o
     by (InActive d) false h = absurd cc
 
 -- no other step looks at them
-pub tells_seen : (one : Step) (answer : StepAnswer) (b : Bool) (p : Registers) (seen other : Seen) →
+pub tells_seen : (one : Step) (answer : StepAnswer) (b : Bool) (p : Registers) (seen other : BufferView) →
     (IsSeeing one → other ≡ seen) → Tells one b p seen answer → Tells one b p other answer
-tells_seen (Read a) answer b p seen other same h = subst (λ (x : Seen). Tells (Read a) b p x answer)
+tells_seen (Read a) answer b p seen other same h = subst (λ (x : BufferView). Tells (Read a) b p x answer)
     (sym (same tt)) h
-tells_seen Interrupt answer b p seen other same h = subst (λ (x : Seen). Tells Interrupt b p x answer)
+tells_seen Interrupt answer b p seen other same h = subst (λ (x : BufferView). Tells Interrupt b p x answer)
     (sym (same tt)) h
 tells_seen (Write a v) answer b p seen other same h = h
 tells_seen (Load m) answer true p seen other same h = h
@@ -72,6 +73,7 @@ tells_seen (Await n) answer true p seen other same h = h
 tells_seen (Await n) answer false p seen other same h = tt
 tells_seen Sent answer true p seen other same h = h
 tells_seen Sent answer false p seen other same h = tt
+tells_seen (At n) answer b p seen other same h = h
 tells_seen Start answer b p seen other same h = tt
 tells_seen Stop answer b p seen other same h = tt
 tells_seen Window answer b p seen other same h = tt
@@ -100,3 +102,4 @@ seen_shown j deeds (Load m) off window i s = absurd i
 seen_shown j deeds (Command v) off window i s = absurd i
 seen_shown j deeds (Await n) off window i s = absurd i
 seen_shown j deeds Sent off window i s = absurd i
+seen_shown j deeds (At n) off window i s = absurd i

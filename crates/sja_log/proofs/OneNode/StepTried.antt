@@ -3,7 +3,7 @@ use Rattle.std.proofs.Common.{◌≡◌, ℕ, suc, ◌+◌, ◌<◌, Bool, true,
 use Rattle.std.proofs.Common.{◌∷◌, ◌++◌, length, map, refl, sym, ap, ◌∙◌, subst, arith}
 use Rattle.std.specs.Prelude.{not, min, slice_index_or, Some}
 use Rattle.std.proofs.lemmas.List.{append_cancel_left}
-use Rattle.can_frame.specs.declared.seen.Seen.{Seen}
+use Rattle.can_frame.specs.declared.buffer_view.BufferView.{BufferView}
 use Rattle.sja_link.specs.declared.entry.Entry.{Entry}
 use Rattle.sja_link.specs.Accounts.{account}
 use Rattle.sja_link.specs.Deques.{Deques, Lies}
@@ -16,7 +16,7 @@ use Rattle.sja_regs.specs.declared.registers.Registers.{Registers}
 use Rattle.sja_regs.specs.InterruptLine.{is_line_active}
 use Rattle.sja_script.specs.declared.step.Step.{Step}
 use Rattle.sja_script.specs.declared.step.Step.TheVariants.{Start, Stop, Window, Release, Read}
-use Rattle.sja_script.specs.declared.step.Step.TheVariants.{Write, Load, Command, Await, Sent, Interrupt}
+use Rattle.sja_script.specs.declared.step.Step.TheVariants.{Write, Load, Command, Await, Sent, Interrupt, At}
 use Rattle.sja_script.specs.declared.step_answer.StepAnswer.{StepAnswer}
 use Rattle.sja_script.specs.declared.step_answer.StepAnswer.TheVariants.{Done, Released as ReleasedAnswer}
 use Rattle.sja_driver.specs.declared.any_driver.AnyDriver.{AnyDriver}
@@ -87,7 +87,8 @@ module _ (j : List Entry) (deeds : List Deed) (log : WorkLog) (links : List Dequ
 
   -- a step that was answered is the deed that comes next
   pub next_one : (p q : Registers) (one : Step) (answer : StepAnswer) (w : AnyDriver) (off : Bool)
-      (window : List (List ℕ)) (seen : Seen) → Traces p.version w log deeds → IsDriverOf node (length (left_in log)) w →
+      (window : List (List ℕ)) (seen : BufferView) → Traces p.version w log deeds →
+      IsDriverOf node (length (left_in log)) w →
       HoldsBy Lies deeds w log j links base → p.closed ≡ false →
       FitsState p.version (is_out w) (opened_of w) one answer →
       IfOut w (Sees one off window answer) → Tells one (is_out w) p seen answer →
@@ -220,7 +221,7 @@ module _ (j : List Entry) (deeds : List Deed) (log : WorkLog) (links : List Dequ
   )
   waits p Sent (InReset was) now out asked trace place h empty full = elim full [ ]
   waits p Interrupt w now out asked trace place h empty (closed, inactive, look) =
-      subst (λ (s : Seen). is_line_active p s ≡ false)
+      subst (λ (s : BufferView). is_line_active p s ≡ false)
       (seen_by_now w now Interrupt Done tt out ∙ seen_waiting w now trace place h look) inactive
   waits p Start (InReset was) now out asked trace place h empty (left, full) = not_used empty full
   waits p Start (InActive was) now out asked trace place h empty full = elim full [ ]
@@ -232,6 +233,7 @@ module _ (j : List Entry) (deeds : List Deed) (log : WorkLog) (links : List Dequ
   waits p (Read a) w now out asked trace place h empty full = elim full [ ]
   waits p (Write a v) w now out asked trace place h empty full = elim full [ ]
   waits p (Load m) w now out asked trace place h empty full = elim full [ ]
+  waits p (At n) w now out asked trace place h empty full = elim full [ ]
   waits p Release (InReset was) now out asked trace place h empty full = elim full [ ]
   waits p Release (InActive was) now out asked trace place h empty (on, r) =
       let a = min (length (left_in log)) 63 in

@@ -7,7 +7,7 @@ use Rattle.sja_link.specs.declared.entry.Entry.{Entry}
 use Rattle.sja_regs.specs.declared.registers.Registers.{Registers}
 use Rattle.sja_script.specs.declared.step.Step.{Step}
 use Rattle.sja_script.specs.declared.step.Step.TheVariants.{Start, Stop, Window, Release, Read, Write, Load, Command}
-use Rattle.sja_script.specs.declared.step.Step.TheVariants.{Await, Sent, Interrupt}
+use Rattle.sja_script.specs.declared.step.Step.TheVariants.{Await, Sent, Interrupt, At}
 use Rattle.sja_driver.specs.declared.kept_bytes.KeptBytes.{KeptBytes}
 use Rattle.sja_driver.specs.Accesses.{Access, by_bytes, deed_steps, deeds_in}
 use Rattle.sja_driver.specs.Deeds.{Deed}
@@ -32,6 +32,7 @@ few_of true p active (Command value) = omega arith
 few_of true p active (Await count) = omega arith
 few_of true p active Sent = omega arith
 few_of true p active Interrupt = omega arith
+few_of true p active (At n) = omega arith
 few_of false p active s = omega arith
 
 pub deeds_push : (accesses : List Access) (a : Access) → deeds_in (accesses ++ a ∷ []) ≡ deeds_in accesses ++ a.deeds

@@ -1,11 +1,11 @@
 -- A step of a driver that is done, or has to wait, by its deeds.
 use Rattle.std.proofs.Common.{◌≡◌, ◌+◌, ◌*◌, ◌<◌, ◌≤◌, ◌++◌, ℕ, Bool, true, false, cond, List, [], ◌∷◌, length, map}
-use Rattle.std.proofs.Common.{refl}
+use Rattle.std.proofs.Common.{refl, inl}
 use Rattle.std.proofs.Common.{sym, ap, ◌∙◌, subst, append-nil, append_assoc, arith}
 use Rattle.std.specs.Prelude.{◌/◌, Option, Some, None, slice_index_or}
 use Rattle.std.proofs.lemmas.List.{length-append, length-map, map-append}
 use Rattle.std.specs.Vec.{vec_capacity}
-use Rattle.can_frame.specs.declared.seen.Seen.{Seen}
+use Rattle.can_frame.specs.declared.buffer_view.BufferView.{BufferView}
 use Rattle.sja_link.specs.declared.entry.Entry.{Entry}
 use Rattle.sja_link.specs.Places.{place_of}
 use Rattle.sja_link.proofs.JournalEntries.Entering.{bits_counted}
@@ -14,7 +14,7 @@ use Rattle.sja_wire.specs.Wire.{journal_at}
 use Rattle.sja_regs.specs.declared.registers.Registers.{Registers}
 use Rattle.sja_script.specs.declared.step.Step.{Step}
 use Rattle.sja_script.specs.declared.step.Step.TheVariants.{Start, Stop, Window, Release, Read, Write, Load, Command}
-use Rattle.sja_script.specs.declared.step.Step.TheVariants.{Await, Sent, Interrupt}
+use Rattle.sja_script.specs.declared.step.Step.TheVariants.{Await, Sent, Interrupt, At}
 use Rattle.sja_script.specs.declared.step_answer.StepAnswer.{StepAnswer}
 use Rattle.sja_script.specs.declared.step_answer.StepAnswer.TheVariants.{Done as DoneAnswer, Value}
 use Rattle.sja_driver.specs.declared.kept_bytes.KeptBytes.{KeptBytes}
@@ -40,8 +40,9 @@ use Rattle.sja_serial.specs.Inside.Accessing.{DoesDeeds, DoesPart, Enters}
 use Rattle.sja_serial.specs.Serial.{Setup, SerialValue, StandsAt, StandsBy, all_deeds, most_steps}
 use Rattle.sja_serial.specs.Stepping.{DoesDeed, DoesNothing, DoesStep, HasDeedLeft, HasRoomLeft, WaitsFor}
 use Rattle.sja_serial.proofs.Deeds.Parts.{all_at, deeds_then, no_deeds_yet, one_deed_more}
-use Rattle.sja_serial.proofs.AllNodes.Several.{done_count, first_driver}
-use Rattle.sja_log.proofs.Trace.AccessDeeds.{few_deeds}
+use Rattle.sja_serial.proofs.AllNodes.Several.{does_none, done_count, first_driver}
+use Rattle.sja_log.proofs.Trace.AccessDeeds.{few_deeds, forget}
+use Rattle.sja_log.proofs.Trace.Stays.{version_led}
 use Rattle.sja_serial.proofs.Deeds.Entered.{step_done}
 
 -- ---- a step that is one deed
@@ -60,22 +61,24 @@ steps_one true p active (Command value) one = refl
 steps_one true p active (Await count) one = refl
 steps_one true p active Sent one = refl
 steps_one true p active Interrupt one = refl
+steps_one true p active (At bits) one = elim one [ ]
 
-answers_one : (bytes : Bool) (p : Registers) (seen : Seen) (kept : KeptBytes) (s : Step) (deeds : List Deed)
-    (answer : StepAnswer) → IsOneDeed bytes s → map (λ (d : Deed). d.answer) deeds ≡ answer ∷ [] →
-    Answers bytes p seen kept s deeds answer
-answers_one false p seen kept s deeds answer one is = is
-answers_one true p seen kept Start deeds answer one is = is
-answers_one true p seen kept Stop deeds answer one is = is
-answers_one true p seen kept Window deeds answer one is = is
-answers_one true p seen kept Release deeds answer one is = is
-answers_one true p seen kept (Read address) deeds answer one is = elim one [ ]
-answers_one true p seen kept (Write address value) deeds answer one is = elim one [ ]
-answers_one true p seen kept (Load m) deeds answer one is = is
-answers_one true p seen kept (Command value) deeds answer one is = is
-answers_one true p seen kept (Await count) deeds answer one is = is
-answers_one true p seen kept Sent deeds answer one is = is
-answers_one true p seen kept Interrupt deeds answer one is = is
+answers_one : (bytes : Bool) (p : Registers) (seen : BufferView) (kept : KeptBytes) (bits : ℕ) (s : Step)
+    (deeds : List Deed) (answer : StepAnswer) → IsOneDeed bytes s →
+    map (λ (d : Deed). d.answer) deeds ≡ answer ∷ [] → Answers bytes p seen kept bits s deeds answer
+answers_one false p seen kept bits s deeds answer one is = is
+answers_one true p seen kept bits Start deeds answer one is = is
+answers_one true p seen kept bits Stop deeds answer one is = is
+answers_one true p seen kept bits Window deeds answer one is = is
+answers_one true p seen kept bits Release deeds answer one is = is
+answers_one true p seen kept bits (Read address) deeds answer one is = elim one [ ]
+answers_one true p seen kept bits (Write address value) deeds answer one is = elim one [ ]
+answers_one true p seen kept bits (Load m) deeds answer one is = is
+answers_one true p seen kept bits (Command value) deeds answer one is = is
+answers_one true p seen kept bits (Await count) deeds answer one is = is
+answers_one true p seen kept bits Sent deeds answer one is = is
+answers_one true p seen kept bits Interrupt deeds answer one is = is
+answers_one true p seen kept bits (At least) deeds answer one is = elim one [ ]
 
 -- after as many bits as were run
 pub placed : {setup : Setup} {r : SerialValue} {deeds : List (List Deed)} {node : ℕ} → StandsAt setup r deeds →
@@ -92,7 +95,7 @@ module _ {setup : Setup} {was : SerialValue} {accesses : List (List Access)} {no
   abbrev before : List Deed
   before = deeds_in (accesses_at accesses node)
 
-  abbrev pub seen : Seen
+  abbrev pub seen : BufferView
   seen = seen_now (is_active before) (journal_at was.bus.journals node) before
 
   module _ {mid now : SerialValue} {s : Step} {answer given : StepAnswer} {kept : KeptBytes}
@@ -119,7 +122,7 @@ module _ {setup : Setup} {was : SerialValue} {accesses : List (List Access)} {no
           steps = ap (λ (t : Step). t ∷ []) d.step_is
               ∙ sym (steps_one (by_bytes setup.version) (slice_index_or was.ports node p) (is_active before) s one);
           answer = answers_one (by_bytes setup.version) (slice_index_or was.ports node p) seen
-              (kept_of (slice_index_or was.drivers node x)) s (d.deed ∷ []) given one
+              (kept_of (slice_index_or was.drivers node x)) was.bits s (d.deed ∷ []) given one
               (ap (λ (a : StepAnswer). a ∷ []) (d.answer_is ∙ sym same));
           left = left_is x p;
         })
@@ -181,6 +184,24 @@ module _ {setup : Setup} {was : SerialValue} {accesses : List (List Access)} {no
         steps = rw bytes (steps p);
         answer = rw bytes refl;
         left = left x p;
+      })
+
+  -- a wait for a bit that has run, of such a driver
+  pub done_as_reached : {now : SerialValue} {least : ℕ} {kept : KeptBytes} → Enters was now node DoneAnswer kept →
+      (place_of (journal_at was.bus.journals node)).bits ≡ was.bits → by_bytes setup.version ≡ true →
+      least ≤ was.bits →
+      ((x : LoggedDriver) → kept ≡ kept_of (slice_index_or was.drivers node x)) →
+      DoesStep setup was now node (At least) accesses
+  done_as_reached {least = least} e place bytes run left =
+      step_done h there (let a : Access = record {
+        step = At least;
+        answer = DoneAnswer;
+        bits = was.bits;
+        deeds = [];
+      } in a) (no_deeds_yet there h) refl e place refl (λ x p. record {
+        steps = rw bytes refl;
+        answer = rw bytes (inl (refl, run));
+        left = left x;
       })
 
 -- ---- a step that has to wait
@@ -274,6 +295,27 @@ never_waits p j deeds (Command value) prompt waits = waits
 never_waits p j deeds (Await count) prompt waits = prompt
 never_waits p j deeds Sent prompt waits = prompt
 never_waits p j deeds Interrupt prompt waits = prompt
+never_waits p j deeds (At bits) prompt waits = prompt
+
+-- fewer bits have run than are waited for
+pub not_reached : {setup : Setup} {was : SerialValue} {accesses : List (List Access)} {node least : ℕ} →
+    StandsBy setup was accesses → node < setup.nodes →
+    (place_of (journal_at was.bus.journals node)).bits ≡ was.bits → by_bytes setup.version ≡ true → was.bits < least →
+    WaitsFor setup was was node (At least) accesses
+not_reached {setup} {was} {accesses} {node} {least} h there place bytes few = waits_by h (record {
+  does = does_none setup was node (all_deeds accesses) h.stands;
+  why = λ p.
+      let d = first_driver was.drivers (let c = h.stands.count.drivers in omega (arith, c, there)) in
+      let led = forget setup.version (journal_at was.bus.journals node) (accesses_at accesses node) _
+      (slice_index_or was.ports node p) (h.nodes node d p there).led in (
+        ap by_bytes (version_led setup.version _ _ (slice_index_or was.ports node p) led) ∙ bytes,
+        subst (λ (n : ℕ). n < least) (sym place) few,
+      );
+  ports = refl;
+  journals = λ m less. refl;
+  logs = λ m d less. refl;
+  kept = λ m d less. refl;
+})
 
 -- ---- the parts of a write
 

@@ -18,8 +18,8 @@ use Rattle.sja_regs.specs.InterruptLine.{is_line_active}
 use Rattle.sja_regs.specs.Registers.{at_power_on}
 use Rattle.sja_script.specs.declared.step.Step.{Step}
 use Rattle.sja_script.specs.declared.step.Step.TheVariants.{Start, Stop, Window, Release, Read}
-use Rattle.sja_script.specs.declared.step.Step.TheVariants.{Write, Load, Command, Await, Sent, Interrupt}
-use Rattle.sja_driver.specs.Accesses.{Access, accesses_at, deeds_in}
+use Rattle.sja_script.specs.declared.step.Step.TheVariants.{Write, Load, Command, Await, Sent, Interrupt, At}
+use Rattle.sja_driver.specs.Accesses.{Access, accesses_at, by_bytes, deeds_in}
 use Rattle.sja_driver.specs.Deeds.{Deed, is_active, opened_by}
 use Rattle.sja_log.specs.declared.end.End.{End}
 use Rattle.sja_log.specs.Registering.{LeadTo, seen_now}
@@ -33,6 +33,7 @@ use Rattle.sja_serial.specs.Inside.Rounds.{past_all}
 use Rattle.sja_serial.specs.Serial.{SerialValue, StandsAt, all_deeds}
 use Rattle.sja_serial.specs.Stepping.{with_accesses}
 use Rattle.sja_log.specs.Waiting.{HasToWait}
+use Rattle.sja_log.proofs.Trace.Stays.{version_led}
 use Rattle.sja_serial.proofs.WholeRun.GoingOn.{acts_of, GoesOn, ArePresent, length_at, lengths_set, deeds_then}
 use Rattle.sja_serial.proofs.WholeRun.GoingOn.{entries_then, record_then, registers_then, window_then, off_then}
 
@@ -80,6 +81,11 @@ module _ (plan : PlanValue) (r : SerialValue) (accesses : List (List Access)) (j
             is_line_active port (seen_now (is_active (deeds_in (accesses_at accesses k))) l
             (deeds_in (accesses_at accesses k))) ≡ false) back w;
       }
+  unmet_then (At least) w = (
+    ap by_bytes (sym (version_led plan.version (journal_at r.bus.journals k) (deeds_in (accesses_at accesses k)) port
+        (registers_then (setup_of plan) r accesses journals all h present go k (at_power_on 1) less))) ∙ w.0,
+    subst (λ (n : ℕ). n < least) place_is w.1,
+  )
   unmet_then Start w = absurd w
   unmet_then Stop w = absurd w
   unmet_then Window w = absurd w

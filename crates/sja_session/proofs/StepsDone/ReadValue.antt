@@ -37,12 +37,12 @@ module _ {before : List Deed} {j k : List Entry} {p q : Registers} {deeds : List
       ∙ value_is (value_at p (seen_now (is_active before) j before) (register_at p.mode.rm address))
       (kept_at kept address)
 
-  by_version : (bytes : Bool) → map (λ (d : Deed). d.step) deeds ≡ deed_steps bytes p (is_active before)
+  by_version : (bytes : Bool) (bits : ℕ) → map (λ (d : Deed). d.step) deeds ≡ deed_steps bytes p (is_active before)
       (Read address) →
-      Answers bytes p (seen_now (is_active before) j before) kept (Read address) deeds answer →
+      Answers bytes p (seen_now (is_active before) j before) kept bits (Read address) deeds answer →
       value_or answer (kept_at kept address) ≡ raw_value p kept (seen_now (is_active before) j before) address
-  by_version true steps is = ap (λ a. value_or a (kept_at kept address)) is
-  by_version false steps is =
+  by_version true bits steps is = ap (λ a. value_or a (kept_at kept address)) is
+  by_version false bits steps is =
       let one = one_deed deeds (Read address) answer steps is in told one.0 one.1 one.2 one.3
 
 -- of a step that read an address
@@ -57,9 +57,10 @@ read_value {was} {now} {node} {address} {answer} {accesses} does d p =
     let port = slice_index_or was.run.ports node p in let kept = kept_of (slice_index_or was.run.drivers node d) in
     let active = is_active (deeds_in (accesses_at accesses node)) in
     let before = seen_now active (journal_at was.run.bus.journals node) (deeds_in (accesses_at accesses node)) in
-    by_version (does.on p) kept address answer bytes
+    by_version (does.on p) kept address answer bytes does.access.bits
     (subst (λ (s : Step). map (λ (e : Deed). e.step) does.access.deeds ≡ deed_steps bytes port active s) does.is
     what.steps)
-    (subst (λ (s : Step). Answers bytes port before kept s does.access.deeds answer) does.is
-    (subst (λ (a : StepAnswer). Answers bytes port before kept does.access.step does.access.deeds a) does.answered
+    (subst (λ (s : Step). Answers bytes port before kept does.access.bits s does.access.deeds answer) does.is
+    (subst (λ (a : StepAnswer). Answers bytes port before kept does.access.bits does.access.step does.access.deeds a)
+    does.answered
     what.answer))

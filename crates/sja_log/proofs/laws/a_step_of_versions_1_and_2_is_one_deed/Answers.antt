@@ -10,6 +10,6 @@ returns c = λ version j k p q seen before active kept kept_now a low when is on
     let typed : by_bytes version ≡ false = le-ltb 2 version (omega (arith, low)) in
     let steps = subst (λ (b : Bool). map (λ (d : Deed). d.step) a.deeds ≡ deed_steps b p active a.step) typed
     is.steps in
-    let answers = subst (λ (b : Bool). Answers b p seen kept a.step a.deeds a.answer) typed is.answer in
+    let answers = subst (λ (b : Bool). Answers b p seen kept a.bits a.step a.deeds a.answer) typed is.answer in
     let one = one_deed a.deeds a.step a.answer steps answers in
     let port = lead_one on one.1 in (one.0, one.1, one.2, one.3, port.now ∙ sym when, port)

@@ -31,3 +31,7 @@ read-requires g c = let past = c.if-version-lt-FIRST_BY_BYTES.false in
 pub write-requires : goal.write-requires
 write-requires g c = let past = c.if-version-lt-FIRST_BY_BYTES.false in
     (c.requires.0, (c.requires.1, since_it g.setup.version c.version.result c.version.ensures (omega (arith, past))))
+
+pub reach-requires : goal.reach-requires
+reach-requires g c = let past = c.if-version-lt-FIRST_BY_BYTES.false in
+    (c.requires.0, (c.requires.1, since_it g.setup.version c.version.result c.version.ensures (omega (arith, past))))

@@ -11,3 +11,6 @@ ghost-write g a = g.setup
 
 abbrev pub ghost-version : goal.ghost-version
 ghost-version g a = g.setup
+
+abbrev pub ghost-reach : goal.ghost-reach
+ghost-reach g a = g.setup

@@ -15,8 +15,8 @@ use Rattle.sja_driver.specs.Logs.{done_in}
 use Rattle.sja_serial.specs.Serial.{Setup}
 use Rattle.sja_serial.specs.Stepping.{DoesStep as DoesOnRun, HasRoomLeft, WaitsFor}
 use Rattle.sja_serial.proofs.AllNodes.Several.{by_own, from_own, first_driver, setup_is}
-use Rattle.sja_session.specs.declared.answered.Answered.{Answered}
-use Rattle.sja_session.specs.declared.answered.Answered.TheVariants.{Answer, Waits as HasToWait}
+use Rattle.sja_session.specs.declared.step_outcome.StepOutcome.{StepOutcome}
+use Rattle.sja_session.specs.declared.step_outcome.StepOutcome.TheVariants.{Answer, Waits as HasToWait}
 use Rattle.sja_session.specs.declared.step_fault.StepFault.{StepFault}
 use Rattle.sja_session.specs.Answering.{last_of}
 use Rattle.sja_session.specs.Sessions.{SessionValue, session_of, setup_by, IsAt, IsSession}
@@ -31,7 +31,7 @@ use Rattle.sja_session.proofs.session.Session.step.Goals.{After-step}
 use Rattle.sja_session.proofs.session.Session.step.Goals as goal
 
 -- the answer of a call, where it has one
-abbrev answer_in : Result Answered StepFault → StepAnswer → StepAnswer
+abbrev answer_in : Result StepOutcome StepFault → StepAnswer → StepAnswer
 answer_in (Ok (Answer a)) other = a
 answer_in (Ok HasToWait) other = other
 answer_in (Err fault) other = other
@@ -41,7 +41,7 @@ abbrev number_of : StepAnswer → ℕ
 number_of Done = 1
 number_of other = 2
 
-abbrev number_in : Result Answered StepFault → ℕ
+abbrev number_in : Result StepOutcome StepFault → ℕ
 number_in (Ok HasToWait) = 0
 number_in (Ok (Answer a)) = number_of a + 1
 number_in (Err fault) = 0
@@ -187,7 +187,7 @@ returns-clause-done c = λ answer e accesses h.
     let x = first_driver b.run.drivers (omega (arith, k, n, m)) in
     let whole = sym (answer_of at accesses own is_done x) ∙ sym (c.last_answer.ensures x) ∙ c.in-Some.is in
     let same : t.access.answer ≡ answer = ap (λ (o : Option StepAnswer). unwrap_or o answer) whole
-    ∙ ap (λ (r : Result Answered StepFault). answer_in r answer) e in
+    ∙ ap (λ (r : Result StepOutcome StepFault). answer_in r answer) e in
     let wrote : listed c.push_step.new.lists.items ≡ with_more (listed b.steps.items) c.args.node c.args.step =
     c.push_step.ensures.lists ∙ ap (λ k. with_more (listed b.steps.items) k c.args.step) (place_is at) in
     let took = turn_of b.turns.items _ _ c.args.node c.push_turn.ensures.turns (omega arith) in

@@ -2,7 +2,7 @@
 
 /// What comes of bits that were run until every controller is at rest (this project's own rule).
 #[derive(Clone, Copy, Debug, PartialEq, Eq)]
-pub struct Rested {
+pub struct RestOutcome {
     /// How many bits were run.
     pub bits: u32,
     /// Whether every controller is at rest now. If not, the plan has no bit left.
