@@ -5,7 +5,7 @@ use can_node::Cause;
 
 /// How a frame ended for its transmitter.
 #[derive(Clone, Copy, Debug)]
-pub(crate) enum Ending {
+pub enum Ending {
     /// It has all its bits.
     Whole,
     /// Arbitration was lost in the bit with this place code (SJA1000 data sheet, 6.4.8).

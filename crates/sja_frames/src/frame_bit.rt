@@ -6,13 +6,13 @@ use sja_replay::Happening;
 
 /// A bit of a frame after SOF.
 #[derive(Clone, Copy, Debug)]
-pub(crate) struct FrameBit {
+pub struct FrameBit {
     /// Its number.
-    pub(crate) bit: u32,
+    pub bit: u32,
     /// The field that it belongs to.
-    pub(crate) field: Field,
+    pub field: Field,
     /// Whether it is a stuff bit.
-    pub(crate) stuff: bool,
+    pub stuff: bool,
 }
 
 impl FrameBit {
@@ -40,7 +40,7 @@ impl FrameBit {
     }
 
     /// Whether it belongs to this field.
-    pub(crate) fn is_of(&self, field: Field) -> bool
+    pub fn is_of(&self, field: Field) -> bool
         ensures { result ≡ is_of field self.now }
     {
         self.field.is(field)

@@ -1,65 +1,67 @@
 //! [`frames`]: the list of the frames of a run.
 
-ghost use Rattle.std.specs.Prelude.{◌≡◌, string_bytes, IfOk};
-ghost use Rattle.std.specs.List.Sorted.{IsPermutation, IsSorted};
+ghost use Rattle.std.specs.Prelude.{◌≡◌, ◌++◌, string_bytes, IfOk, OnOk};
 ghost use Rattle.sja_report.specs.ReportLines.{numbered};
-ghost use Rattle.sja_frames.specs.FramesText.{IsFrameList, line_text, order};
-ghost use Rattle.sja_frames.specs.Inside.Walking.{values_of, HaveLines};
+ghost use Rattle.sja_frames.specs.FramesText.{IsFrameList, head_text, line_text};
+ghost use Rattle.sja_frames.specs.FrameStories.{value_of, values_of};
 
-use super::frame_line::FrameLine;
-use super::walk::put_lines;
-use can_frame::OutOfMemory;
-use sja_log::{NodeRun, RunLog};
+use super::field_texts::{put_fields, put_last};
+use super::started_frame::StartedFrame;
+use super::started_list::started_frames;
+use can_frame::{Frame, OutOfMemory};
+use sja_log::RunLog;
+use sja_trace::put_frame;
 use std::alloc::{AllocError, Global};
 use std::fmt::Write;
 
 /// The frames that the nodes of a run start: a line for each, with the bits of its fields and its stuff bits, in the
 /// order of the bits, and of nodes that start frames with one bit in that of the nodes.
 ///
-/// Each node's journal is gone over once. The lines are kept until the last one is known.
+/// Each node's journal is gone over once. The frames are kept until the last one is known.
 ///
 /// Error: [`OutOfMemory`] where memory was refused.
 pub fn frames(alloc: Global, log: &RunLog) -> Result<String, OutOfMemory>
     ensures { IfOk result (λ text. IsFrameList log.now (string_bytes text)) }
 {
-    let lines = lines_of(alloc, log.nodes())?;
-    let ordered = in_order(lines)?;
-    let text = text_of(alloc, ordered.as_slice())?;
+    let found = started_frames(alloc, log)?;
+    let text = text_of(alloc, found.as_slice())?;
     Ok(text)
 }
 
-/// The lines of all nodes.
-fn lines_of(alloc: Global, nodes: &[NodeRun]) -> Result<Vec<FrameLine>, AllocError>
-    ensures { IfOk result (λ lines. HaveLines nodes.now lines.items) }
-{
-    let mut lines = Vec::new(alloc);
-    let mut number = 0usize;
-    for node in nodes {
-        put_lines(alloc, &mut lines, number, node.journal())?;
-        number += 1;
-    }
-    Ok(lines)
-}
-
-/// Lines by SOF, and then by node.
-fn in_order(lines: Vec<FrameLine>) -> Result<Vec<FrameLine>, AllocError>
-    ensures same { IfOk result (λ ordered. IsPermutation (values_of lines.items) (values_of ordered.items)) }
-    ensures ordered { IfOk result (λ ordered. IsSorted order (values_of ordered.items)) }
-{
-    let mut lines = lines;
-    lines.sort_by_key(|line| (line.sof, line.node))?;
-    Ok(lines)
-}
-
-/// The text of lines.
-fn text_of(alloc: Global, lines: &[FrameLine]) -> Result<String, AllocError>
-    ensures { IfOk result (λ text. string_bytes text ≡ numbered line_text 1 (values_of lines.now)) }
+/// The text of frames.
+fn text_of(alloc: Global, found: &[StartedFrame]) -> Result<String, AllocError>
+    ensures { IfOk result (λ text. string_bytes text ≡ numbered line_text 1 (values_of found.now)) }
 {
     let mut text = String::new(alloc);
     let mut number = 1usize;
-    for line in lines {
-        writeln!(text, "frame {number}{}", line.text)?;
+    for frame in found {
+        put_line(alloc, &mut text, number, frame)?;
         number += 1;
     }
     Ok(text)
+}
+
+/// The line of a frame.
+fn put_line(
+    alloc: Global,
+    text: &mut String,
+    number: usize,
+    frame: &StartedFrame,
+) -> Result<(), AllocError>
+    ensures { OnOk result (string_bytes text.new ≡ string_bytes text.old ++ line_text number (value_of frame.now)) }
+{
+    write!(text, "frame {number}")?;
+    put_head(text, frame.node, &frame.frame, frame.sof)?;
+    put_fields(alloc, text, frame.frame.ext(), frame.bits.as_slice())?;
+    put_last(text, frame.last)?;
+    text.push_str("\n")
+}
+
+/// What the line of a frame says up to SOF.
+fn put_head(text: &mut String, node: usize, frame: &Frame, sof: u32) -> Result<(), AllocError>
+    ensures { OnOk result (string_bytes text.new ≡ string_bytes text.old ++ head_text node frame.now sof) }
+{
+    write!(text, " node {node} ")?;
+    put_frame(text, frame)?;
+    write!(text, ": SOF {sof}")
 }

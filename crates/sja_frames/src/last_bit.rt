@@ -7,9 +7,11 @@ use sja_replay::Happening;
 
 /// The last bit of a frame, and how the frame ended with it.
 #[derive(Clone, Copy, Debug)]
-pub(crate) struct LastBit {
-    pub(crate) bit: u32,
-    pub(crate) ending: Ending,
+pub struct LastBit {
+    /// Its number.
+    pub bit: u32,
+    /// How the frame ended.
+    pub ending: Ending,
 }
 
 impl LastBit {

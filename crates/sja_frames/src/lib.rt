@@ -1,7 +1,8 @@
 //! The frames that the nodes of a run start: of each the bits of its fields and its stuff bits, and how it ended.
 //!
-//! [`frames`] makes of the log of a run a text with a line for each frame, so that a strike can be aimed at a field.
-//! Which bits a frame has and how it ended is told by the cut of its node's record, as `sja_replay` tells it.
+//! [`started_frames`] finds them in the log of a run. [`frames`] makes of it a text with a line for each frame, so that
+//! a strike can be aimed at a field. Which bits a frame has, and how it ended, is told by the cut of its node's record,
+//! as `sja_replay` tells it.
 //!
 //! The fields and the runs of equal levels serve `sja_picture` too.
 //!
@@ -14,16 +15,22 @@ mod field;
 mod field_names;
 mod field_texts;
 mod frame_bit;
-mod frame_line;
 mod frame_list;
 mod last_bit;
 mod laws;
 mod open_frame;
 mod run;
+mod started_frame;
+mod started_list;
 mod starts;
 mod walk;
 
+pub use ending::Ending;
 pub use field::Field;
+pub use frame_bit::FrameBit;
 pub use frame_list::frames;
+pub use last_bit::LastBit;
 pub use laws::a_stuff_bit_is_one_of_the_line;
 pub use run::Run;
+pub use started_frame::StartedFrame;
+pub use started_list::started_frames;

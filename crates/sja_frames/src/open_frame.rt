@@ -1,27 +1,23 @@
 //! [`OpenFrame`]: a frame that a node started, as far as it came.
 
 use super::field::Field;
-use super::field_texts::{put_fields, put_last};
 use super::frame_bit::FrameBit;
-use super::frame_line::FrameLine;
 use super::last_bit::LastBit;
 use super::run::Run;
+use super::started_frame::StartedFrame;
 use super::starts::is_intermission;
 use can_frame::Frame;
 use sja_replay::{Happening, ShortBit};
-use sja_trace::{is_frame, put_frame};
+use sja_trace::is_frame;
 use std::alloc::{AllocError, Global};
-use std::fmt::Write;
 
 /// A frame that a node started, as far as it came.
 #[derive(Debug, Drop)]
 pub(crate) struct OpenFrame {
     /// The number of the bit that is its SOF.
     pub(crate) sof: u32,
-    /// Its format.
-    pub(crate) ext: bool,
-    /// What its line says up to SOF.
-    pub(crate) head: String,
+    /// The frame.
+    pub(crate) frame: Frame,
     /// Its bits after SOF.
     pub(crate) bits: Vec<FrameBit>,
     /// The run of equal levels that ends them.
@@ -33,31 +29,23 @@ pub(crate) struct OpenFrame {
 }
 
 impl OpenFrame {
-    ghost use Rattle.std.specs.Prelude.{◌≡◌, [], IfOk, OnOk};
-    ghost use Rattle.sja_frames.specs.Inside.Walking.{value_of, line_with, IsOpened, TakesIn};
+    ghost use Rattle.std.specs.Prelude.{◌≡◌, [], OnOk};
+    ghost use Rattle.sja_frames.specs.FrameStories.{value_of};
+    ghost use Rattle.sja_frames.specs.Inside.Walking.{story_with, IsOpened, TakesIn};
     ghost use Rattle.sja_frames.specs.Inside.Passing.{TakesShort};
 
     /// The frame that a bit starts.
-    pub(crate) fn of(
-        alloc: Global,
-        node: usize,
-        frame: &Frame,
-        bit: &Happening,
-    ) -> Result<OpenFrame, AllocError>
-        ensures { IfOk result (λ o. IsOpened node frame.now bit.now o) }
+    pub(crate) fn of(alloc: Global, frame: Frame, bit: &Happening) -> OpenFrame
+        ensures { IsOpened frame bit.now result }
     {
-        let mut head = String::new(alloc);
-        let sof = bit.bit;
-        put_head(&mut head, node, frame, sof)?;
-        Ok(OpenFrame {
-            sof,
-            ext: frame.ext(),
-            head,
+        OpenFrame {
+            sof: bit.bit,
+            frame,
             bits: Vec::new(alloc),
             run: Run::of(bit.seen),
             last: LastBit::of(bit),
             paused: false,
-        })
+        }
     }
 
     /// Takes a bit that belongs to it.
@@ -87,29 +75,16 @@ impl OpenFrame {
         Ok(())
     }
 
-    /// The line of the frame, with the bits that came.
-    pub(crate) fn line(self, alloc: Global, node: usize) -> Result<FrameLine, AllocError>
-        ensures { IfOk result (λ l. value_of l ≡ line_with node self []) }
+    /// The frame of this node, with the bits that came.
+    pub(crate) fn closed(self, node: usize) -> StartedFrame
+        ensures { value_of result ≡ story_with node self [] }
     {
-        let mut text = self.head;
-        put_fields(alloc, &mut text, self.ext, self.bits.as_slice())?;
-        put_last(&mut text, self.last)?;
-        Ok(FrameLine {
-            sof: self.sof,
+        StartedFrame {
             node,
-            text,
-        })
+            frame: self.frame,
+            sof: self.sof,
+            bits: self.bits,
+            last: self.last,
+        }
     }
-}
-
-ghost use Rattle.std.specs.Prelude.{◌≡◌, ◌++◌, OnOk, string_bytes};
-ghost use Rattle.sja_frames.specs.FramesText.{head_text};
-
-/// What the line of a frame says up to SOF.
-fn put_head(text: &mut String, node: usize, frame: &Frame, sof: u32) -> Result<(), AllocError>
-    ensures { OnOk result (string_bytes text.new ≡ string_bytes text.old ++ head_text node frame.now sof) }
-{
-    write!(text, " node {node} ")?;
-    put_frame(text, frame)?;
-    write!(text, ": SOF {sof}")
 }

@@ -8,7 +8,7 @@ use Rattle.toml.specs.Data.{same_key}
 use Rattle.toml.specs.Tables.{Definition, key_value, std_table, array_table}
 use Rattle.sja_plan.specs.Words.{Text}
 use Rattle.sja_plan.specs.Inside.Items.{Item, first_of, at_first}
-use Rattle.sja_plan.specs.Inside.Judging.{next, ends, below, kept_below, is_array, is_double, what_of, fresh}
+use Rattle.sja_plan.specs.Inside.Judging.{next, comes, ends, below, kept_below, is_array, is_double, what_of, fresh}
 use Rattle.sja_plan.specs.Inside.Judging.{split}
 use Rattle.sja_plan.specs.Inside.Definitions.{bare, bare_what, AreGood, AllAreGood, KeySplits}
 use Rattle.sja_plan.specs.declared.tables.state.State.{State}
@@ -28,6 +28,15 @@ next_by (k ∷ path) dots last what s = refl
 next_by [] (k ∷ dots) last what s = refl
 next_by [] [] last what s = rw (what_bare what)
 
+comes_by : (path dots : List Text) (last : Text) (what : Definition) →
+    let i : Item = record { path = path; dots = dots; last = last; what = what } in comes (bare i) ≡ comes i
+comes_by (k ∷ path) dots last what = refl
+comes_by [] (k ∷ dots) last what = refl
+comes_by [] [] last what = what_bare what
+
+pub comes_bare : (i : Item) → comes (bare i) ≡ comes i
+comes_bare i = comes_by i.path i.dots i.last i.what
+
 next_bare : (s : State) (i : Item) → next s (bare i) ≡ next s i
 next_bare s i = next_by i.path i.dots i.last i.what s
 
@@ -37,7 +46,7 @@ below_by (k ∷ path) dots last what = refl
 below_by [] (k ∷ dots) last what = refl
 below_by [] [] last what = refl
 
-below_bare : (i : Item) → below (bare i) ≡ bare (below i)
+pub below_bare : (i : Item) → below (bare i) ≡ bare (below i)
 below_bare i = below_by i.path i.dots i.last i.what
 
 array_bare : (i : Item) → is_array (bare i) ≡ is_array i
@@ -79,7 +88,7 @@ map_once : (inner : List Item) (o : Option (List (List Item))) →
 map_once inner None = refl
 map_once inner (Some gs) = refl
 
-split_bare : (is : List Item) (s : State) (inner : List Item) →
+pub split_bare : (is : List Item) (s : State) (inner : List Item) →
     split s (map bare inner) (map bare is) ≡ option_map (map (map bare)) (split s inner is)
 split_bare [] s inner = refl
 split_bare (i ∷ is) s inner =

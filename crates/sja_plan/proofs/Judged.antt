@@ -31,7 +31,7 @@ pub firsts_weaker : (p q : Text → Bool) → ((t : Text) → p t ≡ true → q
 firsts_weaker p q weaker [] all = tt
 firsts_weaker p q weaker (i ∷ is) all = (weaker (first_of i) all.0, firsts_weaker p q weaker is all.1)
 
-at_first_append : (k : Text) (is js : List Item) → at_first k (is ++ js) ≡ at_first k is ++ at_first k js
+pub at_first_append : (k : Text) (is js : List Item) → at_first k (is ++ js) ≡ at_first k is ++ at_first k js
 at_first_append k [] js = refl
 at_first_append k (i ∷ is) js =
     elim (cases_Bool (same_key k (first_of i))) [
@@ -67,6 +67,14 @@ before_other k t before =
 
     self_before : (t : Text) → is_lt (slice_cmp nat_cmp t t) ≡ false
     self_before t = by_tie (slice_cmp nat_cmp t t) (same_key-self t)
+
+-- those of a key, of which a run stands behind those of lesser keys
+pub front_of_run : (done run rest : List Item) (f : Text) → FirstsAre (λ t. is_lt (slice_cmp nat_cmp t f)) done →
+    FirstsAre (same_key f) run → at_first f (done ++ (run ++ rest)) ≡ run ++ at_first f rest
+front_of_run done run rest f before all =
+    let none : at_first f done ≡ [] = at_first_none f done (firsts_weaker (λ t. is_lt (slice_cmp nat_cmp t f))
+    (λ t. not (same_key f t)) (before_other f) done before) in
+    at_first_append f done (run ++ rest) ∙ rw (none, at_first_append f run rest, at_first_all f run all)
 
 -- behind those of lesser keys, which split, those of one key that split
 pub keys_more : (done run : List Item) (f : Text) → FirstsAre (λ t. is_lt (slice_cmp nat_cmp t f)) done →

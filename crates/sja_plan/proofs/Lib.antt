@@ -14,4 +14,16 @@ pub mod Judged
 pub mod OneRun
 pub mod RoomItems
 pub mod ReadLines
+pub mod ReadMembers
+pub mod Refusals
+pub mod RefusedTexts
+pub mod BadItems
+pub mod Lists
+pub mod FlatValues
+pub mod Kept
+pub mod ClosedKeys
+pub mod OddKeys
+pub mod OddNodes
+pub mod OddPairs
+pub mod OddPlans
 pub mod Strange

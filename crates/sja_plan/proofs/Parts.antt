@@ -1,2 +1,3 @@
 -- The nodes of a plan, and its steps.
 pub mod Nodes
+pub mod Items

@@ -1,106 +1,31 @@
--- A document with a key that no plan has is misshapen.
-use Rattle.std.proofs.Common.{◌≡◌, ℕ, zero, suc, ℤ, pos, negsuc, ◌==◌, Bool, true, false, ◌||◌, ◌&&◌, List, [], ◌∷◌}
-use Rattle.std.proofs.Common.{map, length, ◌<◌}
-use Rattle.std.proofs.Common.{Some, option_map, refl, sym, ap, subst, ◌∙◌, inl, inr}
-use Rattle.std.proofs.Common.{◌⊎◌, nat_cmp, codes, arith}
-use Rattle.std.specs.Cmp.Lexicographic.{slice_cmp}
+-- A document with a definition that no plan has is misshapen.
+use Rattle.std.proofs.Common.{◌≡◌, ℕ, zero, suc, ℤ, pos, negsuc, ◌==◌, Bool, true, false, ◌||◌, List, [], ◌∷◌}
+use Rattle.std.proofs.Common.{map, length, ◌<◌, Some, option_map, refl, sym, ap, subst, ◌∙◌, inl, inr, ◌⊎◌, codes}
+use Rattle.std.proofs.Common.{arith}
 use Rattle.std.specs.List.{list_any, slice_index_or}
 use Rattle.std.specs.Str.{bytes_eq}
 use Rattle.std.proofs.lemmas.Bool.{cases_Bool, false≢true}
-use Rattle.std.proofs.lemmas.Map.Lookups.{exact_bytes}
-use Rattle.std.proofs.lemmas.Option.{none-some, same_Some}
-use Rattle.toml.specs.Data.{Data, Members, no_members, member, get_member, same_key}
-use Rattle.toml.specs.Tables.{Node, Nodes, no_nodes, node, close, close_node, get_node}
+use Rattle.std.proofs.lemmas.Option.{none-some}
+use Rattle.toml.specs.Data.{Data, Members, get_member}
+use Rattle.toml.specs.Tables.{Node, Nodes, no_nodes, close, close_node, get_node}
 use Rattle.sja_plan.specs.Words.{Text}
-use Rattle.sja_plan.specs.Document.{knows, plan_keys, newer_keys, IsMisshapen}
-use Rattle.sja_plan.specs.Inside.Items.{Item, apply, run, first_of, step, set_node}
+use Rattle.sja_plan.specs.Document.{plan_keys, newer_keys, IsMisshapen}
+use Rattle.sja_plan.specs.Inside.Items.{Item, apply, run, first_of, step}
+use Rattle.sja_plan.specs.Inside.Judging.{below}
 use Rattle.sja_plan.specs.Inside.Definitions.{bare, item_of, items_of, AreGood}
 use Rattle.sja_plan.specs.Inside.Reading.{IsRead}
 use Rattle.sja_plan.specs.Inside.Rooms.{items_in}
-use Rattle.sja_plan.specs.Inside.Strange.{all_keys, HasFirst, HasStrange, IsStrange}
+use Rattle.sja_plan.specs.Inside.Strange.{all_keys, is_nodes, IsStrangeIn, IsStrangeItem, HasStrange, IsStrange}
+use Rattle.sja_plan.specs.Inside.Values.{IsOddPair, HasOddPair}
 use Rattle.sja_plan.specs.declared.tables.definition.Definition.{Definition}
 use Rattle.sja_plan.specs.declared.tables.room.Room.{Room}
-use Rattle.sja_plan.proofs.BareItems.{first_bare}
-use Rattle.sja_plan.proofs.ByKey.{cases_option, cases_ordering, same_is, apply_ok, apply_bad, get_set, get_set_other}
-
--- what a key holds, and that it holds something
-abbrev Holds : Text → Nodes → Type 0
-Holds k ns = (x : Node) × (get_node k ns ≡ Some x)
-
--- a definition leaves something at its first key, and at each where something was
-apply_holds : (i : Item) (ns end : Nodes) → apply i ns ≡ Some end →
-    Holds (first_of i) end × ((k : Text) → Holds k ns → Holds k end)
-apply_holds i ns end goes =
-    let f = first_of i in
-    elim (cases_option (step i (get_node f ns))) [
-      | inl refused ↦ absurd (none-some end (sym (apply_bad i ns refused) ∙ goes))
-      | inr found ↦
-          let (x, is_some) = found in
-          let end_is : set_node f x ns (get_node f ns) ≡ end = same_Some _ _ (sym (apply_ok i ns x is_some) ∙ goes) in
-          let here : Holds f (set_node f x ns (get_node f ns)) = (x, get_set f x ns (get_node f ns) refl) in (
-            subst (Holds f) end_is here,
-            λ k held. elim (cases_Bool (same_key k f)) [
-              | inl same ↦ subst (Holds k) end_is (rw (same_is k f same) here)
-              | inr other ↦ subst (Holds k) end_is (held.0, get_set_other k f x ns (get_node f ns) other ∙ held.1)
-            ],
-          )
-    ]
-
--- and so do all, one after another
-run_holds : (is : List Item) (ns end : Nodes) → run is ns ≡ Some end → (k : Text) → Holds k ns ⊎ HasFirst k is →
-    Holds k end
-run_holds [] ns end goes k (inl held) = subst (Holds k) (same_Some ns end goes) held
-run_holds [] ns end goes k (inr found) = absurd found
-run_holds (i ∷ is) ns end goes k found =
-    elim (cases_option (apply i ns)) [
-      | inl none ↦ absurd (none-some end (rw none at goes))
-      | inr made ↦
-          let (next, is_next) = made in
-          let (mine, kept) = apply_holds i ns next is_next in
-          run_holds is next end (rw is_next at goes) k (elim found [
-            | inl held ↦ inl (kept k held)
-            | inr later ↦ elim later [
-              | inl here ↦ inl (rw here mine)
-              | inr behind ↦ inr behind
-            ]
-          ])
-    ]
-
--- the members of what nodes stand for
-close_get : (k : Text) (ns : Nodes) (x : Node) → get_node k ns ≡ Some x → get_member k (close ns) ≡ Some (close_node x)
-close_get k no_nodes x is = absurd (none-some x is)
-close_get k (node l y ns) x is =
-    elim (cases_ordering (slice_cmp nat_cmp k l)) [
-      | inl less ↦ rw less (close_get k ns x (rw less at is))
-      | inr more ↦ elim more [
-        | inl tie ↦ rw tie (ap (λ n. Some (close_node n)) (same_Some y x (rw tie at is)))
-        | inr greater ↦ rw greater (close_get k ns x (rw greater at is))
-      ]
-    ]
-
-both_front : (a b : Bool) → a && b ≡ true → a ≡ true
-both_front true b e = refl
-both_front false b e = absurd (false≢true e)
-
-both_back : (a b : Bool) → a && b ≡ true → b ≡ true
-both_back true b e = e
-both_back false b e = absurd (false≢true e)
-
--- where all keys are known, each is
-each_known : (allowed : List Text) (ms : Members) (k : Text) (d : Data) → get_member k ms ≡ Some d →
-    knows allowed ms ≡ true →
-    list_any (λ a. bytes_eq a k) allowed ≡ true
-each_known allowed no_members k d is known = absurd (none-some d is)
-each_known allowed (member l e ms) k d is known =
-    let here = both_front (list_any (λ a. bytes_eq a l) allowed) (knows allowed ms) known in
-    let later = both_back (list_any (λ a. bytes_eq a l) allowed) (knows allowed ms) known in
-    elim (cases_ordering (slice_cmp nat_cmp k l)) [
-      | inl less ↦ each_known allowed ms k d (rw less at is) later
-      | inr more ↦ elim more [
-        | inl tie ↦ rw (exact_bytes k l tie) here
-        | inr greater ↦ each_known allowed ms k d (rw greater at is) later
-      ]
-    ]
+use Rattle.sja_plan.proofs.BareItems.{first_bare, comes_bare, below_bare}
+use Rattle.sja_plan.proofs.ByKey.{cases_option}
+use Rattle.sja_plan.proofs.ClosedKeys.{close_get, each_known}
+use Rattle.sja_plan.proofs.Kept.{apply_makes, run_keeps}
+use Rattle.sja_plan.proofs.OddNodes.{Wrong, wrong_stays, wrong_made}
+use Rattle.sja_plan.proofs.OddPairs.{pair_made}
+use Rattle.sja_plan.proofs.OddPlans.{wrong_misshapen}
 
 -- the keys of a plan of a version are among those of all
 or_front : (a b : Bool) → a || b ≡ false → a ≡ false
@@ -150,29 +75,86 @@ misshapen : (ms : Members) (k : Text) (d : Data) → get_member k ms ≡ Some d 
 misshapen ms k d is none value shape =
     false≢true (sym (not_known k none value.version) ∙ each_known (plan_keys value.version) ms k d is shape.known)
 
-first_kept : (k : Text) (is bs : List Item) → map bare is ≡ bs → HasFirst k bs → HasFirst k is
-first_kept k is bs same found = in_bare k is (rw (← same) at found)
-  where
-    in_bare : (k : Text) (is : List Item) → HasFirst k (map bare is) → HasFirst k is
-    in_bare k [] found = found
-    in_bare k (i ∷ is) (inl here) = inl (here ∙ first_bare i)
-    in_bare k (i ∷ is) (inr later) = inr (in_bare k is later)
+-- a definition that no plan has
+unknown_here : (i : Item) (is : List Item) (ns next end : Nodes) → apply i ns ≡ Some next → run is next ≡ Some end →
+    list_any (λ known. bytes_eq known (first_of i)) all_keys ≡ false → IsMisshapen (close end)
+unknown_here i is ns next end goes later unknown =
+    let k = first_of i in
+    let (x, held, _) = run_keeps (λ y. Unit {0}) (λ j y z e u. tt) is next end k later
+    (apply_makes (λ y. Unit {0}) i ns next goes (λ y e. tt)) in
+    misshapen (close end) k (close_node x) (close_get k end x held) unknown
 
--- what was read, with a key that no plan has, where its definitions go together
-pub strange_is : (text : List ℕ) (room : Room) → IsRead text room → HasStrange (items_in room) →
-    AreGood (items_in room) → IsStrange text
-strange_is text room (is, same, reads) (k, found, none) good =
+wrong_here : (i : Item) (is : List Item) (ns next end : Nodes) → apply i ns ≡ Some next → run is next ≡ Some end →
+    ((y : Node) → step i (get_node (first_of i) ns) ≡ Some y → Wrong (is_nodes (first_of i)) y) →
+    IsMisshapen (close end)
+wrong_here i is ns next end goes later makes =
+    let k = first_of i in
+    let node = is_nodes k in
+    let (x, held, wrong) = run_keeps (Wrong node) (wrong_stays node) is next end k later
+    (apply_makes (Wrong node) i ns next goes makes) in
+    elim (cases_Bool (list_any (λ known. bytes_eq known k) all_keys)) [
+      | inl known ↦ wrong_misshapen (close end) k x (close_get k end x held) wrong known
+      | inr unknown ↦ misshapen (close end) k (close_node x) (close_get k end x held) unknown
+    ]
+
+strange_here : (i : Item) (is : List Item) (ns next end : Nodes) → apply i ns ≡ Some next → run is next ≡ Some end →
+    IsStrangeItem i ⊎ IsOddPair i → IsMisshapen (close end)
+strange_here i is ns next end goes later (inl (inl unknown)) = unknown_here i is ns next end goes later unknown
+strange_here i is ns next end goes later (inl (inr odd)) =
+    wrong_here i is ns next end goes later (wrong_made i (get_node (first_of i) ns) odd)
+strange_here i is ns next end goes later (inr odd) =
+    wrong_here i is ns next end goes later (pair_made i (get_node (first_of i) ns) odd)
+
+run_strange : (is : List Item) (ns end : Nodes) → run is ns ≡ Some end → HasStrange is ⊎ HasOddPair is →
+    IsMisshapen (close end)
+run_strange [] ns end goes (inl found) = absurd found
+run_strange [] ns end goes (inr found) = absurd found
+run_strange (i ∷ is) ns end goes found =
+    elim (cases_option (apply i ns)) [
+      | inl none ↦ absurd (none-some end (rw none at goes))
+      | inr made ↦
+          let (next, is_next) = made in
+          let later = rw is_next at goes in
+          elim found [
+            | inl (inl here) ↦ strange_here i is ns next end is_next later (inl here)
+            | inl (inr behind) ↦ run_strange is next end later (inl behind)
+            | inr (inl here) ↦ strange_here i is ns next end is_next later (inr here)
+            | inr (inr behind) ↦ run_strange is next end later (inr behind)
+          ]
+    ]
+
+in_bare : (i : Item) → IsStrangeIn (bare i) → IsStrangeIn i
+in_bare i (inl unknown) = inl (rw (first_bare i) at unknown)
+in_bare i (inr odd) = inr (rw (comes_bare i) at odd)
+
+one_bare : (i : Item) → IsStrangeItem (bare i) → IsStrangeItem i
+one_bare i (inl unknown) = inl (rw (first_bare i) at unknown)
+one_bare i (inr (inl odd)) = inr (inl (rw (first_bare i, comes_bare i) at odd))
+one_bare i (inr (inr (node, through, strange))) =
+    inr (inr (rw (first_bare i) at node, through, in_bare (below i) (rw (below_bare i) at strange)))
+
+strange_bare : (is : List Item) → HasStrange (map bare is) → HasStrange is
+strange_bare [] found = found
+strange_bare (i ∷ is) (inl here) = inl (one_bare i here)
+strange_bare (i ∷ is) (inr later) = inr (strange_bare is later)
+
+-- what was read, with a definition that no plan has, where its definitions go together
+pub strange_is : (text : List ℕ) (room : Room) → IsRead text room →
+    HasStrange (items_in room) ⊎ (room.odd ≡ true) → AreGood (items_in room) → IsStrange text
+strange_is text room (is, same, reads, odd) found good =
     let (ns, goes) = good is same in
-    let held = run_holds is no_nodes ns goes k (inr (first_kept k is (items_in room) same found)) in (
+    let off : HasStrange is ⊎ HasOddPair is = elim found [
+      | inl keys ↦ inl (strange_bare is (subst HasStrange (sym same) keys))
+      | inr values ↦ inr (odd values)
+    ] in (
       close ns,
       reads ∙ ap (option_map close) goes,
-      misshapen (close ns) k (close_node held.0)
-          (close_get k ns held.0 held.1) none,
+      run_strange is no_nodes ns goes off,
     )
 
--- a definition that was looked at begins with its first key
-pub found_at : (ts : List Text) (ds : List Definition) (i : ℕ) (d : Definition) → i < length ds →
-    HasFirst (first_of (item_of ts (slice_index_or ds i d))) (items_of ts ds)
-found_at ts [] i d within = absurd (omega arith)
-found_at ts (e ∷ ds) zero d within = inl refl
-found_at ts (e ∷ ds) (suc i) d within = inr (found_at ts ds i d (omega arith))
+-- a definition that was looked at
+pub strange_at : (ts : List Text) (ds : List Definition) (i : ℕ) (d : Definition) → i < length ds →
+    IsStrangeItem (item_of ts (slice_index_or ds i d)) → HasStrange (items_of ts ds)
+strange_at ts [] i d within here = absurd (omega arith)
+strange_at ts (e ∷ ds) zero d within here = inl here
+strange_at ts (e ∷ ds) (suc i) d within here = inr (strange_at ts ds i d (omega arith) here)

@@ -7,3 +7,4 @@ pub mod Names
 pub mod Definitions
 pub mod Rooms
 pub mod Strange
+pub mod Values

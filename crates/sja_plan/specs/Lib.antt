@@ -6,6 +6,8 @@ pub mod Messages
 pub mod StepTexts
 pub mod TurnTexts
 pub mod StrikeTexts
+pub mod PlaceNames
+pub mod PlacedTexts
 pub mod Texts
 pub mod Document
 pub mod Limits
@@ -14,6 +16,8 @@ pub mod Struck
 pub mod Growing
 pub mod Checks
 pub mod Faults
+pub mod PlacedPlans
+pub mod FaultyLines
 pub mod Inside
 pub use Rattle.toml.specs.Data
 pub use Rattle.toml.specs.Parse

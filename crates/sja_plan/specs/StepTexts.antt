@@ -5,10 +5,10 @@ use Rattle.sja_plan.specs.Accesses.{SpellsAddress, SpellsValue}
 use Rattle.sja_plan.specs.Messages.{SpellsMessageIn}
 use Rattle.sja_script.specs.declared.step.Step.{Step}
 use Rattle.sja_script.specs.declared.step.Step.TheVariants.{Start, Stop, Window, Release, Read}
-use Rattle.sja_script.specs.declared.step.Step.TheVariants.{Write, Load, Command, Await, Sent, Interrupt}
+use Rattle.sja_script.specs.declared.step.Step.TheVariants.{Write, Load, Command, Await, Sent, Interrupt, At}
 
 -- in this version of the rules these are the words of this step. `command` writes CMR, which is at address 1. Only in
--- version 3 drivers have an interrupt line
+-- version 3 drivers have an interrupt line, and wait for a bit, of which a run has 2,000,000 at most
 abbrev pub AreStepWords : ℕ → List Text → Step → Type 0
 AreStepWords version ws Start = ws ≡ codes "start" ∷ []
 AreStepWords version ws Stop = ws ≡ codes "stop" ∷ []
@@ -23,6 +23,8 @@ AreStepWords version ws (Command value) = (v : Text) × (ws ≡ codes "command" 
 AreStepWords version ws (Await count) = (n : Text) × (ws ≡ codes "await" ∷ n ∷ []) × SpellsWithin 1 21 n count
 AreStepWords version ws Sent = ws ≡ codes "sent" ∷ []
 AreStepWords version ws Interrupt = (3 ≤ version) × (ws ≡ codes "interrupt" ∷ [])
+AreStepWords version ws (At least) =
+    (3 ≤ version) × (n : Text) × (ws ≡ codes "at" ∷ n ∷ []) × SpellsWithin 0 2000000 n least
 
 -- in this version the text says this step
 abbrev pub SaysStep : ℕ → Text → Step → Type 0

@@ -1,7 +1,7 @@
 //! The checks of a document's numbers and of the lengths of its lists.
 
 ghost use Rattle.std.specs.Prelude.{◌≡◌, ◌<◌, ◌≤◌, ◌↔◌, ℕ, pos, true, None, IfOk, IfErr, IfSome, OnOk};
-ghost use Rattle.sja_plan.specs.Inside.Views.{document_view};
+ghost use Rattle.sja_plan.specs.Inside.Views.{document_view, IsOther};
 ghost use Rattle.sja_plan.specs.Checks.{version_of, HasNodes, HasFewSteps};
 ghost use Rattle.sja_plan.specs.Limits.{most_bits};
 ghost use Rattle.sja_plan.specs.Faults.{IsDocumentFault};
@@ -28,6 +28,7 @@ pub(crate) fn settings_of(document: &Document) -> Result<Settings, PlanFault>
         × (1 ≤ s.bits) × (s.bits ≤ most_bits s.version)) }
     ensures counts { OnOk result (HasNodes (document_view document.now) × HasFewSteps (document_view document.now)) }
     ensures err { IfErr result (IsDocumentFault (document_view document.now)) }
+    ensures other { IfErr result IsOther }
 {
     let Some(version) = within(document.version, 1, LAST_VERSION) else {
         return Err(PlanFault::Version);

@@ -5,7 +5,7 @@ ghost use Rattle.sja_plan.specs.Words.{words};
 ghost use Rattle.sja_plan.specs.StepTexts.{AreStepWords};
 
 use super::access_words::{address_of, value_of};
-use super::limits::RAW_VERSION;
+use super::limits::{MOST_RAW_BITS, RAW_VERSION};
 use super::message_word::message;
 use super::plan_text::PlanText;
 use super::text_fault::TextFault;
@@ -74,6 +74,11 @@ fn of_two_words(alloc: Global, version: usize, name: &str, word: &str) -> Result
         "load" => Ok(Step::Load(message(alloc, version, word)?)),
         "command" => Ok(Step::Command(value_of(version, COMMAND, word)?)),
         "await" => Ok(Step::Await(number_within(word, 1, 21)? as u8)),
+        "at" if version >= usize::from(RAW_VERSION) => Ok(Step::At(number_within(
+            word,
+            0,
+            MOST_RAW_BITS,
+        )?)),
         _ => Err(TextFault::Bad),
     }
 }

@@ -28,7 +28,7 @@ impl PlanText for Strike {
 }
 
 /// The strike of these words: of two words as of four of which the last two are 1.
-fn strike_of(nodes: usize, words: &[&str]) -> Result<Strike, TextFault>
+pub(crate) fn strike_of(nodes: usize, words: &[&str]) -> Result<Strike, TextFault>
     requires { nodes ≤ 8 }
     ensures ok { IfOk result (λ s. AreStrikeWords nodes (map (λ w. w.now) words.now) s) }
     ensures err { IfErr result (λ e. (e ≡ TextFault.Bad)

@@ -4,8 +4,11 @@
 //! Here a key takes the bytes of its parts and a few numbers, and a value nothing.
 
 mod definition;
+mod faulty;
+mod flat;
 mod grammar;
 mod judging;
+mod look;
 mod many;
 mod names;
 mod path;
@@ -17,4 +20,6 @@ mod strange;
 mod values;
 mod what;
 
-pub(crate) use strange::is_strange;
+pub use faulty::faulty_line;
+pub(crate) use look::Look;
+pub(crate) use strange::look_at;

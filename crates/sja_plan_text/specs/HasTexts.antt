@@ -7,13 +7,14 @@ use Rattle.sja_plan.specs.Limits.{most_steps}
 use Rattle.sja_plan.specs.Plan.{PlanValue}
 use Rattle.sja_script.specs.declared.step.Step.{Step}
 use Rattle.sja_script.specs.declared.step.Step.TheVariants.{Start, Stop, Window, Release, Read}
-use Rattle.sja_script.specs.declared.step.Step.TheVariants.{Write, Load, Command, Await, Sent, Interrupt}
+use Rattle.sja_script.specs.declared.step.Step.TheVariants.{Write, Load, Command, Await, Sent, Interrupt, At}
 use Rattle.sja_script.specs.declared.strike.Strike.{Strike}
 use Rattle.sja_plan.specs.declared.turn.Turn.{Turn}
 use Rattle.sja_plan.specs.declared.turn.Turn.TheVariants.{Bus, Rest, Node, All as AllSteps, Irq, Go}
 
 -- in this version of the rules: what is read, written or commanded is a byte, what is loaded is a message, and 1 to 21
--- messages are awaited; a wait for the interrupt line has a text in version 3 alone
+-- messages are awaited; a wait for the interrupt line, and one for a bit that a run may have, has a text in version 3
+-- alone
 abbrev pub HasStepText : ℕ → Step → Type 0
 HasStepText version Start = Unit {0}
 HasStepText version Stop = Unit {0}
@@ -26,6 +27,7 @@ HasStepText version (Command value) = value < 256
 HasStepText version (Await count) = (1 ≤ count) × (count ≤ 21)
 HasStepText version Sent = Unit {0}
 HasStepText version Interrupt = 3 ≤ version
+HasStepText version (At least) = (3 ≤ version) × (least ≤ 2000000)
 
 -- seven digits spell each number, and the bus runs one bit at least; in version 3 alone drivers do all that they can,
 -- and there are turns up to an interrupt

@@ -6,7 +6,7 @@ use Rattle.hex.specs.Hex.{encode_lower}
 use Rattle.sja_plan.specs.Words.{Text}
 use Rattle.sja_script.specs.declared.step.Step.{Step}
 use Rattle.sja_script.specs.declared.step.Step.TheVariants.{Start, Stop, Window, Release, Read}
-use Rattle.sja_script.specs.declared.step.Step.TheVariants.{Write, Load, Command, Await, Sent, Interrupt}
+use Rattle.sja_script.specs.declared.step.Step.TheVariants.{Write, Load, Command, Await, Sent, Interrupt, At}
 use Rattle.sja_script.specs.declared.strike.Strike.{Strike}
 use Rattle.sja_plan.specs.declared.turn.Turn.{Turn}
 use Rattle.sja_plan.specs.declared.turn.Turn.TheVariants.{Bus, Rest, Node, All, Irq, Go}
@@ -29,6 +29,7 @@ step_words (Command value) = codes "command" ∷ encode_lower (value ∷ []) ∷
 step_words (Await count) = codes "await" ∷ decimal count ∷ []
 step_words Sent = codes "sent" ∷ []
 step_words Interrupt = codes "interrupt" ∷ []
+step_words (At least) = codes "at" ∷ decimal least ∷ []
 
 -- the text of a step
 abbrev pub step_text : Step → Text

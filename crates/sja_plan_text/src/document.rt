@@ -10,8 +10,8 @@ ghost use Rattle.sja_plan_text.specs.Inside.Table.{with_strikes, Adds};
 ghost use Rattle.sja_plan_text.specs.declared.plan_text_fault.PlanTextFault.TheVariants.{NoMemory, TooLong};
 
 use super::plan_text_fault::PlanTextFault;
-use super::spelled::text_list;
 use super::table::{node_list, one_member};
+use super::text_form::text_list;
 use can_frame::OutOfMemory;
 use sja_plan::{Plan, RAW_VERSION, most_bytes};
 use sja_script::Strike;

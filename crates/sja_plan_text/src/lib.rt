@@ -10,8 +10,8 @@ mod document;
 mod laws;
 mod names;
 mod plan_text_fault;
-mod spelled;
 mod table;
+mod text_form;
 mod texts;
 mod writable;
 

@@ -5,7 +5,7 @@ ghost use Rattle.toml.specs.Data.{member, no_members};
 ghost use Rattle.toml.specs.View.{view, table_view};
 ghost use Rattle.sja_plan_text.specs.Inside.Table.{node_data, nodes_data};
 
-use super::spelled::text_list;
+use super::text_form::text_list;
 use can_frame::OutOfMemory;
 use sja_plan::Plan;
 use sja_script::Step;

@@ -41,6 +41,7 @@ pub fn step_text(alloc: Global, step: &Step) -> Result<String, OutOfMemory>
         Step::Await(count) => Ok(format!(in alloc; "await {count}")?),
         Step::Sent => word(alloc, "sent"),
         Step::Interrupt => word(alloc, "interrupt"),
+        Step::At(bits) => Ok(format!(in alloc; "at {bits}")?),
     }
 }
 

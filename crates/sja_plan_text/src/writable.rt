@@ -4,7 +4,7 @@ ghost use Rattle.std.specs.Prelude.{◌↔◌, ◌≤◌, IsTrue, All, length};
 ghost use Rattle.sja_plan.specs.Limits.{most_steps};
 ghost use Rattle.sja_plan_text.specs.HasTexts.{HasStepText, HasTurnText, HasStrikeText, HasTexts};
 
-use sja_plan::{GREATEST_NUMBER, Plan, RAW_VERSION, Turn, most_steps};
+use sja_plan::{GREATEST_NUMBER, MOST_RAW_BITS, Plan, RAW_VERSION, Turn, most_steps};
 use sja_script::{Step, Strike};
 
 /// Whether no node of a plan has more steps than a document may have, and each of its steps, turns and strikes has a
@@ -60,8 +60,8 @@ fn strikes_have_texts(strikes: &[Strike]) -> bool
     true
 }
 
-/// Whether in this version a text says this step: all but an `Await` of 0 or of more than 21 messages, and an
-/// `Interrupt` before version 3 (this project's own rule).
+/// Whether in this version a text says this step: all but an `Await` of 0 or of more than 21 messages, an `At` of more
+/// bits than a run has, and an `Interrupt` and an `At` before version 3 (this project's own rule).
 pub fn has_step_text(version: u8, step: &Step) -> bool
     ensures { IsTrue result ↔ HasStepText version step.now }
 {
@@ -86,6 +86,7 @@ pub fn has_step_text(version: u8, step: &Step) -> bool
         }
         Step::Await(count) => 1 <= *count && *count <= 21,
         Step::Interrupt => version >= RAW_VERSION,
+        Step::At(bits) => version >= RAW_VERSION && *bits <= MOST_RAW_BITS,
     }
 }
 

@@ -3,19 +3,18 @@ use Rattle.std.proofs.Common.{◌≡◌, ◌<◌, ◌+◌, ℕ, zero, suc, List,
 use Rattle.std.specs.List.Sorted.{IsSorted, IsSortedByKey}
 use Rattle.std.specs.Ordering.{is_lt, nat_cmp, ordering_then}
 use Rattle.std.proofs.lemmas.List.{length-map}
-use Rattle.sja_frames.specs.declared.frame_line.FrameLine.{FrameLine}
-use Rattle.sja_frames.specs.FramesText.{LineValue, order}
-use Rattle.sja_frames.specs.Inside.Walking.{value_of, values_of}
+use Rattle.sja_frames.specs.declared.started_frame.StartedFrame.{StartedFrame}
+use Rattle.sja_frames.specs.FrameStories.{NodeStory, order, value_of, values_of}
 
-get_value : (lines : List FrameLine) (k : ℕ) (d : LineValue) (e : FrameLine) → k < length lines →
+get_value : (lines : List StartedFrame) (k : ℕ) (d : NodeStory) (e : StartedFrame) → k < length lines →
     slice_index_or (values_of lines) k d ≡ value_of (slice_index_or lines k e)
 get_value [] k d e less = absurd (omega (arith, less))
 get_value (l ∷ lines) zero d e less = refl
 get_value (l ∷ lines) (suc k) d e less = get_value lines k d e (omega (arith, less))
 
 -- lines sorted by SOF and node
-pub sorted_values : (lines : List FrameLine) →
-    IsSortedByKey {K = ℕ × ℕ} (λ (l : FrameLine). (l.sof, l.node))
+pub sorted_values : (lines : List StartedFrame) →
+    IsSortedByKey {K = ℕ × ℕ} (λ (l : StartedFrame). (l.sof, l.node))
     (λ x y. ordering_then (nat_cmp x.0 y.0) (nat_cmp x.1 y.1)) lines →
     IsSorted order (values_of lines)
 sorted_values [] sorted = λ k d low high. absurd (omega (arith, high))

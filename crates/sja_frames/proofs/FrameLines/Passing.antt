@@ -11,22 +11,22 @@ use Rattle.sja_replay.specs.Short.{PassesBit}
 use Rattle.sja_replay.specs.Silent.{PassesSilently}
 use Rattle.sja_replay.proofs.BitTaken.Silent.{goes_both}
 use Rattle.sja_replay.proofs.BitTaken.Walks.{past_none, goes_on as none_on}
-use Rattle.sja_frames.specs.declared.frame_line.FrameLine.{FrameLine}
+use Rattle.sja_frames.specs.declared.started_frame.StartedFrame.{StartedFrame}
 use Rattle.sja_frames.specs.declared.open_frame.OpenFrame.{OpenFrame}
-use Rattle.sja_frames.specs.FramesText.{LineValue, lines_of}
-use Rattle.sja_frames.specs.Inside.Walking.{values_of, lines_from, Goes}
+use Rattle.sja_frames.specs.FrameStories.{NodeStory, stories_of, values_of}
+use Rattle.sja_frames.specs.Inside.Walking.{stories_from, Goes}
 use Rattle.sja_frames.specs.Inside.Passing.{GoesShort, Walked, Walks}
 use Rattle.sja_frames.proofs.FrameLines.Walks.{IsWalking, walk_next}
 use Rattle.sja_frames.proofs.FrameLines.Shorts.{short_none}
 
 -- ---- one behind the other
 
-pub walk_still : (node : ℕ) (lines : List FrameLine) (current : Option OpenFrame) (r : Replay) →
+pub walk_still : (node : ℕ) (lines : List StartedFrame) (current : Option OpenFrame) (r : Replay) →
     Walks node lines lines current current r r
 walk_still node lines current r = λ before at.
     record { told = []; goes = none_on r r before (past_none r before at); are = λ more. refl }
 
-pub walk_both : (node : ℕ) (first mid last : List FrameLine) (x y z : Option OpenFrame) (a b c : Replay) →
+pub walk_both : (node : ℕ) (first mid last : List StartedFrame) (x y z : Option OpenFrame) (a b c : Replay) →
     Walks node first mid x y a b → Walks node mid last y z b c → Walks node first last x z a c
 walk_both node first mid last x y z a b c before_them next = λ before at.
     let f = before_them before at in
@@ -35,12 +35,12 @@ walk_both node first mid last x y z a b c before_them next = λ before at.
       told = f.told ++ n.told;
       goes = goes_both a b c before f.told n.told f.goes n.goes;
       are = λ more.
-          ap (λ (l : List Happening). values_of first ++ lines_from node x l) (append_assoc f.told n.told more)
+          ap (λ (l : List Happening). values_of first ++ stories_from node x l) (append_assoc f.told n.told more)
           ∙ f.are (n.told ++ more) ∙ n.are more;
     }
 
 -- a bit in short
-pub walk_short : (node : ℕ) (olds news : List FrameLine) (x y : Option OpenFrame) (old new : Replay) (q : ShortBit)
+pub walk_short : (node : ℕ) (olds news : List StartedFrame) (x y : Option OpenFrame) (old new : Replay) (q : ShortBit)
     (number : ℕ) → number ≡ old.bits → ((before : List Entry) → IsAt old before → PassesBit old new before q) →
     GoesShort node number q olds news x y → Walks node olds news x y old new
 walk_short node olds news x y old new q number is passes goes = λ before at.
@@ -48,19 +48,19 @@ walk_short node olds news x y old new q number is passes goes = λ before at.
     record { told = p.happened ∷ []; goes = p.goes; are = goes p.happened p.short (p.number ∙ sym is) }
 
 -- where no frame is under way
-pub walk_silent : (node : ℕ) (lines : List FrameLine) (old new : Replay) → PassesSilently old new →
+pub walk_silent : (node : ℕ) (lines : List StartedFrame) (old new : Replay) → PassesSilently old new →
     Walks node lines lines None None old new
 walk_silent node lines old new silent = λ before at.
     let s = silent before at in
     record {
       told = s.told;
       goes = s.goes;
-      are = λ more. ap (λ (l : List LineValue). values_of lines ++ l) (short_none node s.told more s.short);
+      are = λ more. ap (λ (l : List NodeStory). values_of lines ++ l) (short_none node s.told more s.short);
     }
 
 -- ---- a node
 
-pub walk_on : (node : ℕ) (journal : List Entry) (first olds news : List FrameLine) (x y : Option OpenFrame)
+pub walk_on : (node : ℕ) (journal : List Entry) (first olds news : List StartedFrame) (x y : Option OpenFrame)
     (old new : Replay) → IsWalking node journal first olds x old → Walks node olds news x y old new →
     IsWalking node journal first news y new
 walk_on node journal first olds news x y old new w walks =
@@ -74,12 +74,12 @@ walk_on node journal first olds news x y old new w walks =
           subst P (sym (append_assoc w.told g.told more)) (w.leads (g.told ++ more) (g.goes.leads more x)));
       are = λ more.
           (sym (g.are more) ∙ w.are (g.told ++ more)
-          ∙ ap (λ (l : List Happening). values_of first ++ lines_of node l) (sym (append_assoc w.told g.told more)));
+          ∙ ap (λ (l : List Happening). values_of first ++ stories_of node l) (sym (append_assoc w.told g.told more)));
     }
 
 -- past a bit, and such bits behind it
-pub both_shorter : (node : ℕ) (journal : List Entry) (first olds mids news : List FrameLine) (x y z : Option OpenFrame)
-    (old mid new : Replay) (h : Happening) → IsWalking node journal first olds x old →
+pub both_shorter : (node : ℕ) (journal : List Entry) (first olds mids news : List StartedFrame)
+    (x y z : Option OpenFrame) (old mid new : Replay) (h : Happening) → IsWalking node journal first olds x old →
     ((before : List Entry) → IsAt old before → GoesOn old mid before (h ∷ [])) → Goes node h olds mids x y →
     Walks node mids news y z mid new → length (left_of new) < length (left_of old)
 both_shorter node journal first olds mids news x y z old mid new h w goes step walks =

@@ -16,16 +16,15 @@ use Rattle.sja_trace.proofs.BitSaid.Shorts.{no_start}
 use Rattle.sja_frames.specs.declared.field.Field.{Field}
 use Rattle.sja_frames.specs.declared.field.Field.TheVariants.{Pause}
 use Rattle.sja_frames.specs.declared.frame_bit.FrameBit.{FrameBit}
-use Rattle.sja_frames.specs.declared.frame_line.FrameLine.{FrameLine}
+use Rattle.sja_frames.specs.declared.started_frame.StartedFrame.{StartedFrame}
 use Rattle.sja_frames.specs.declared.last_bit.LastBit.{LastBit}
 use Rattle.sja_frames.specs.declared.open_frame.OpenFrame.{OpenFrame}
 use Rattle.sja_frames.specs.declared.run.Run.{Run}
 use Rattle.sja_frames.specs.Fields.{field_if, is_stuffed}
 use Rattle.sja_frames.specs.FrameBits.{is_intermission, field_in, bit_after, belongs, started_by, frame_in, run_on}
 use Rattle.sja_frames.specs.FrameEnds.{ending_of, ends_in}
-use Rattle.sja_frames.specs.FrameStories.{begun, stories_in}
-use Rattle.sja_frames.specs.FramesText.{line_of, lines_of}
-use Rattle.sja_frames.specs.Inside.Walking.{values_of, line_with}
+use Rattle.sja_frames.specs.FrameStories.{begun, stories_in, of_node, stories_of, values_of}
+use Rattle.sja_frames.specs.Inside.Walking.{story_with}
 use Rattle.sja_frames.specs.Inside.Passing.{field_by, bit_by, last_by, belongs_by, TakesShort, GoesShort}
 use Rattle.sja_frames.proofs.FrameLines.Walks.{keeps_on, keeps_none, goes_on}
 
@@ -60,16 +59,15 @@ module _ (h : Happening) (q : ShortBit) (s : IsInShort h q) where
 
 -- ---- such a bit of a frame
 
-pub takes_short : (old new : OpenFrame) (number : ℕ) (q : ShortBit) → new.sof ≡ old.sof → new.ext ≡ old.ext →
-    new.head ≡ old.head →
+pub takes_short : (old new : OpenFrame) (number : ℕ) (q : ShortBit) → new.sof ≡ old.sof →
+    new.frame ≡ old.frame →
     new.bits.items ≡ old.bits.items ++ bit_by old.run number (field_by q.phase q.segment) ∷ [] →
     new.run ≡ run_on old.run q.seen →
     new.last ≡ (if is_frame q.phase then last_by number q.phase else old.last) →
     new.paused ≡ is_intermission q.phase → TakesShort number q old new
-takes_short old new number q sof ext head bits run last paused = λ h s is. record {
+takes_short old new number q sof frame bits run last paused = λ h s is. record {
   sof = sof;
-  ext = ext;
-  head = head;
+  frame = frame;
   bits = bits ∙ ap (λ (b : FrameBit). old.bits.items ++ b ∷ []) (sym (bit_same h q s old.run number is));
   run = run ∙ ap (λ (l : Level). run_on old.run l) (sym s.seen);
   last = last ∙ sym (ap₂ (λ (p : Phase) (l : LastBit). if is_frame p then l else old.last) s.phase
@@ -78,15 +76,15 @@ takes_short old new number q sof ext head bits run last paused = λ h s is. reco
 }
 
 -- it goes on with the bit
-pub short_keeps : (node : ℕ) (lines : List FrameLine) (o n : OpenFrame) (q : ShortBit) (number : ℕ) →
+pub short_keeps : (node : ℕ) (lines : List StartedFrame) (o n : OpenFrame) (q : ShortBit) (number : ℕ) →
     belongs_by o.paused q ≡ true → TakesShort number q o n → GoesShort node number q lines lines (Some o) (Some n)
 short_keeps node lines o n q number within takes = λ h s is.
     goes_on node h lines lines (Some o) (Some n)
     (keeps_on node lines o n h (belongs_same h q s o.paused ∙ within) (takes h s is)) (sym (none_started h q s))
 
 -- or it is over
-pub short_ends : (node : ℕ) (olds news : List FrameLine) (o : OpenFrame) (q : ShortBit) (number : ℕ) →
-    belongs_by o.paused q ≡ false → values_of news ≡ values_of olds ++ line_with node o [] ∷ [] →
+pub short_ends : (node : ℕ) (olds news : List StartedFrame) (o : OpenFrame) (q : ShortBit) (number : ℕ) →
+    belongs_by o.paused q ≡ false → values_of news ≡ values_of olds ++ story_with node o [] ∷ [] →
     GoesShort node number q olds news (Some o) None
 short_ends node olds news o q number outside wrote = λ h s is.
     goes_on node h olds news (Some o) None
@@ -94,8 +92,9 @@ short_ends node olds news o q number outside wrote = λ h s is.
 
 -- ---- several where none is under way
 
-pub short_none : (node : ℕ) (hs more : List Happening) → AreShort hs → lines_of node (hs ++ more) ≡ lines_of node more
+pub short_none : (node : ℕ) (hs more : List Happening) → AreShort hs →
+    stories_of node (hs ++ more) ≡ stories_of node more
 short_none node [] more short = refl
 short_none node (h ∷ hs) more short =
-    ap (λ (o : Option FrameValue). map (line_of node) (begun o h (hs ++ more) ++ stories_in (hs ++ more)))
+    ap (λ (o : Option FrameValue). map (of_node node) (begun o h (hs ++ more) ++ stories_in (hs ++ more)))
     (none_started h short.0.0 short.0.1) ∙ short_none node hs more short.1

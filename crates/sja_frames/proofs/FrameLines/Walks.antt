@@ -9,18 +9,17 @@ use Rattle.sja_replay.specs.declared.happening.Happening.{Happening}
 use Rattle.sja_replay.specs.declared.replay.Replay.{Replay}
 use Rattle.sja_replay.specs.Happened.{Happened}
 use Rattle.sja_replay.specs.Replaying.{left_of, IsAt, GoesOn}
-use Rattle.sja_frames.specs.declared.frame_line.FrameLine.{FrameLine}
+use Rattle.sja_frames.specs.declared.started_frame.StartedFrame.{StartedFrame}
 use Rattle.sja_frames.specs.declared.open_frame.OpenFrame.{OpenFrame}
 use Rattle.sja_frames.specs.FrameBits.{started_by, starts, is_some, belongs, part_of, is_intermission, bits_after}
 use Rattle.sja_frames.specs.FrameBits.{bit_after, run_on}
-use Rattle.sja_frames.specs.FrameStories.{begun, stories_in}
-use Rattle.sja_frames.specs.FramesText.{LineValue, line_of, lines_of}
-use Rattle.sja_frames.specs.Inside.Walking.{value_of, values_of, line_with, line_if, line_before, line_after}
-use Rattle.sja_frames.specs.Inside.Walking.{IsOpened, TakesIn, Keeps, lines_from, Goes, PutsLines}
+use Rattle.sja_frames.specs.FrameStories.{begun, stories_in, NodeStory, of_node, stories_of, value_of, values_of}
+use Rattle.sja_frames.specs.Inside.Walking.{story_with, story_if, story_before, story_after}
+use Rattle.sja_frames.specs.Inside.Walking.{IsOpened, TakesIn, Keeps, stories_from, Goes, PutsFrames}
 
 -- ---- a line more
 
-pub values_more : (olds news : List FrameLine) (l : FrameLine) (v : LineValue) → news ≡ olds ++ l ∷ [] →
+pub values_more : (olds news : List StartedFrame) (l : StartedFrame) (v : NodeStory) → news ≡ olds ++ l ∷ [] →
     value_of l ≡ v → values_of news ≡ values_of olds ++ v ∷ []
 values_more olds news l v are is =
     ap values_of are ∙ map_push value_of olds l ∙ ap (λ x. values_of olds ++ x ∷ []) is
@@ -28,111 +27,111 @@ values_more olds news l v are is =
 -- ---- a bit of the frame that is under way
 
 taken : (node : ℕ) (o n : OpenFrame) (h : Happening) (part : List Happening) → TakesIn o n h →
-    line_with node o (h ∷ part) ≡ line_with node n part
+    story_with node o (h ∷ part) ≡ story_with node n part
 taken node o n h part t =
     let bits = append_assoc o.bits.items (bit_after o.run h ∷ []) (bits_after (run_on o.run h.seen) part) in
     let sof = t.sof in
-    let ext = t.ext in
-    let head = t.head in
+    let frame = t.frame in
     let more = t.bits in
     let run = t.run in
     let last = t.last in
     cc
 
 taken_if : (node : ℕ) (o n : OpenFrame) (h : Happening) (part : List Happening) (s : Bool) → TakesIn o n h →
-    line_with node o (h ∷ (if s then [] else part)) ∷ []
-    ≡ (if s then line_with node n [] ∷ [] else line_with node n part ∷ [])
+    story_with node o (h ∷ (if s then [] else part)) ∷ []
+    ≡ (if s then story_with node n [] ∷ [] else story_with node n part ∷ [])
 taken_if node o n h part true t = ap (λ l. l ∷ []) (taken node o n h [] t)
 taken_if node o n h part false t = ap (λ l. l ∷ []) (taken node o n h part t)
 
 -- it belongs to it
-pub keeps_on : (node : ℕ) (lines : List FrameLine) (o n : OpenFrame) (h : Happening) → belongs o.paused h ≡ true →
+pub keeps_on : (node : ℕ) (lines : List StartedFrame) (o n : OpenFrame) (h : Happening) → belongs o.paused h ≡ true →
     TakesIn o n h → Keeps node h lines lines (Some o) (Some n)
 keeps_on node lines o n h within t =
     λ more.
     (let rest = part_of (is_intermission h.before.phase) more in
     let all = if starts h then [] else rest in
     let mine : part_of o.paused (h ∷ more) ≡ h ∷ all = ap (λ (b : Bool). if b then h ∷ all else []) within in
-    let here : line_before node (Some o) (h ∷ more) ≡ line_with node o (h ∷ all) ∷ [] =
-    ap (λ (l : List Happening). line_with node o l ∷ []) mine in
+    let here : story_before node (Some o) (h ∷ more) ≡ story_with node o (h ∷ all) ∷ [] =
+    ap (λ (l : List Happening). story_with node o l ∷ []) mine in
     let then_line = λ (p : Bool).
-    (if starts h then line_if node (Some n) [] else line_with node n (part_of p more) ∷ []) in
-    ap (λ (l : List LineValue). values_of lines ++ l)
+    (if starts h then story_if node (Some n) [] else story_with node n (part_of p more) ∷ []) in
+    ap (λ (l : List NodeStory). values_of lines ++ l)
     (here ∙ taken_if node o n h rest (starts h) t ∙ ap then_line (sym t.paused)))
 
 -- it doesn't
-none_after : (s : Bool) → [] ≡ (let l : List LineValue = [] in if s then l else l)
+none_after : (s : Bool) → [] ≡ (let l : List NodeStory = [] in if s then l else l)
 none_after true = refl
 none_after false = refl
 
-pub keeps_none : (node : ℕ) (olds news : List FrameLine) (o : OpenFrame) (h : Happening) →
-    belongs o.paused h ≡ false → values_of news ≡ values_of olds ++ line_with node o [] ∷ [] →
+pub keeps_none : (node : ℕ) (olds news : List StartedFrame) (o : OpenFrame) (h : Happening) →
+    belongs o.paused h ≡ false → values_of news ≡ values_of olds ++ story_with node o [] ∷ [] →
     Keeps node h olds news (Some o) None
 keeps_none node olds news o h outside wrote =
     λ more.
     (let all = if starts h then [] else part_of (is_intermission h.before.phase) more in
     let mine : part_of o.paused (h ∷ more) ≡ [] = ap (λ (b : Bool). if b then h ∷ all else []) outside in
-    ap (λ (l : List Happening). values_of olds ++ line_with node o l ∷ []) mine ∙ sym wrote
-    ∙ sym (append-nil (values_of news)) ∙ ap (λ (l : List LineValue). values_of news ++ l) (none_after (starts h)))
+    ap (λ (l : List Happening). values_of olds ++ story_with node o l ∷ []) mine ∙ sym wrote
+    ∙ sym (append-nil (values_of news)) ∙ ap (λ (l : List NodeStory). values_of news ++ l) (none_after (starts h)))
 
 -- there is none
-pub none_kept : (node : ℕ) (lines : List FrameLine) (h : Happening) → Keeps node h lines lines None None
-none_kept node lines h = λ more. ap (λ (l : List LineValue). values_of lines ++ l) (none_after (starts h))
+pub none_kept : (node : ℕ) (lines : List StartedFrame) (h : Happening) → Keeps node h lines lines None None
+none_kept node lines h = λ more. ap (λ (l : List NodeStory). values_of lines ++ l) (none_after (starts h))
 
 -- ---- a bit
 
 -- with which no frame starts
-pub goes_on : (node : ℕ) (h : Happening) (olds news : List FrameLine) (current next : Option OpenFrame) →
+pub goes_on : (node : ℕ) (h : Happening) (olds news : List StartedFrame) (current next : Option OpenFrame) →
     Keeps node h olds news current next → None ≡ started_by h → Goes node h olds news current next
 goes_on node h olds news current next keeps none =
     λ more.
-    (let same : line_after node h next more ≡ line_before node next more =
-    ap (λ (o : Option FrameValue). if is_some o then line_if node next [] else line_before node next more) (sym none) in
-    let lines : lines_of node (h ∷ more) ≡ lines_of node more =
-    ap (λ (o : Option FrameValue). map (line_of node) (begun o h more ++ stories_in more)) (sym none) in
-    sym (append_assoc (values_of olds) (line_before node current (h ∷ more)) (lines_of node (h ∷ more)))
-    ∙ ap₂ (λ a b. a ++ b) (keeps more ∙ ap (λ (l : List LineValue). values_of news ++ l) same) lines
-    ∙ append_assoc (values_of news) (line_before node next more) (lines_of node more))
+    (let same : story_after node h next more ≡ story_before node next more =
+    ap (λ (o : Option FrameValue). if is_some o then story_if node next [] else story_before node next more)
+    (sym none) in
+    let lines : stories_of node (h ∷ more) ≡ stories_of node more =
+    ap (λ (o : Option FrameValue). map (of_node node) (begun o h more ++ stories_in more)) (sym none) in
+    sym (append_assoc (values_of olds) (story_before node current (h ∷ more)) (stories_of node (h ∷ more)))
+    ∙ ap₂ (λ a b. a ++ b) (keeps more ∙ ap (λ (l : List NodeStory). values_of news ++ l) same) lines
+    ∙ append_assoc (values_of news) (story_before node next more) (stories_of node more))
 
 -- with which one starts
-opened : (node : ℕ) (h : Happening) (f : FrameValue) (n : OpenFrame) (more : List Happening) → IsOpened node f h n →
-    map (line_of node) (begun (Some f) h more) ≡ line_before node (Some n) more
+opened : (node : ℕ) (h : Happening) (f : FrameValue) (n : OpenFrame) (more : List Happening) → IsOpened f h n →
+    map (of_node node) (begun (Some f) h more) ≡ story_before node (Some n) more
 opened node h f n more o =
     let sof = o.sof in
-    let ext = o.ext in
-    let head = o.head in
+    let frame = o.frame in
     let bits = o.bits in
     let run = o.run in
     let last = o.last in
     let paused = o.paused in cc
 
-pub goes_anew : (node : ℕ) (h : Happening) (olds mid news : List FrameLine) (current kept : Option OpenFrame)
+pub goes_anew : (node : ℕ) (h : Happening) (olds mid news : List StartedFrame) (current kept : Option OpenFrame)
     (f : FrameValue) (n : OpenFrame) → Keeps node h olds mid current kept → Some f ≡ started_by h →
-    values_of news ≡ values_of mid ++ line_if node kept [] → IsOpened node f h n →
+    values_of news ≡ values_of mid ++ story_if node kept [] → IsOpened f h n →
     Goes node h olds news current (Some n)
 goes_anew node h olds mid news current kept f n keeps some wrote is =
     λ more.
-    (let same : line_after node h kept more ≡ line_if node kept [] =
-    ap (λ (o : Option FrameValue). if is_some o then line_if node kept [] else line_before node kept more) (sym some) in
-    let lines : lines_of node (h ∷ more) ≡ lines_from node (Some n) more =
-    ap (λ (o : Option FrameValue). map (line_of node) (begun o h more ++ stories_in more)) (sym some)
-    ∙ ap (λ (l : List LineValue). l ++ lines_of node more) (opened node h f n more is) in
-    sym (append_assoc (values_of olds) (line_before node current (h ∷ more)) (lines_of node (h ∷ more)))
-    ∙ ap₂ (λ a b. a ++ b) (keeps more ∙ ap (λ (l : List LineValue). values_of mid ++ l) same ∙ sym wrote) lines)
+    (let same : story_after node h kept more ≡ story_if node kept [] =
+    ap (λ (o : Option FrameValue). if is_some o then story_if node kept [] else story_before node kept more)
+    (sym some) in
+    let lines : stories_of node (h ∷ more) ≡ stories_from node (Some n) more =
+    ap (λ (o : Option FrameValue). map (of_node node) (begun o h more ++ stories_in more)) (sym some)
+    ∙ ap (λ (l : List NodeStory). l ++ stories_of node more) (opened node h f n more is) in
+    sym (append_assoc (values_of olds) (story_before node current (h ∷ more)) (stories_of node (h ∷ more)))
+    ∙ ap₂ (λ a b. a ++ b) (keeps more ∙ ap (λ (l : List NodeStory). values_of mid ++ l) same ∙ sym wrote) lines)
 
 -- ---- a node
 
 -- what the lines so far and the rest of a journal come to
-pub record IsWalking (node : ℕ) (journal : List Entry) (first lines : List FrameLine) (current : Option OpenFrame)
+pub record IsWalking (node : ℕ) (journal : List Entry) (first lines : List StartedFrame) (current : Option OpenFrame)
     (r : Replay) : Type 0 where
   pub told : List Happening
   pub before : List Entry
   pub at : IsAt r before
   pub leads : (more : List Happening) → Happened before (left_of r) more → Happened [] journal (told ++ more)
   pub are : (more : List Happening) →
-      values_of lines ++ lines_from node current more ≡ values_of first ++ lines_of node (told ++ more)
+      values_of lines ++ stories_from node current more ≡ values_of first ++ stories_of node (told ++ more)
 
-pub walk_first : (node : ℕ) (journal : List Entry) (lines : List FrameLine) (r : Replay) → IsAt r [] →
+pub walk_first : (node : ℕ) (journal : List Entry) (lines : List StartedFrame) (r : Replay) → IsAt r [] →
     left_of r ≡ journal → IsWalking node journal lines lines None r
 walk_first node journal lines r at left = record {
   told = [];
@@ -142,8 +141,9 @@ walk_first node journal lines r at left = record {
   are = λ more. refl;
 }
 
-pub walk_next : (node : ℕ) (journal : List Entry) (first olds news : List FrameLine) (current next : Option OpenFrame)
-    (old new : Replay) (h : Happening) → IsWalking node journal first olds current old →
+pub walk_next : (node : ℕ) (journal : List Entry) (first olds news : List StartedFrame)
+    (current next : Option OpenFrame) (old new : Replay) (h : Happening) →
+    IsWalking node journal first olds current old →
     ((before : List Entry) → IsAt old before → GoesOn old new before (h ∷ [])) → Goes node h olds news current next →
     IsWalking node journal first news next new
 walk_next node journal first olds news current next old new h w goes step =
@@ -157,10 +157,11 @@ walk_next node journal first olds news current next old new h w goes step =
           subst P (sym (append_assoc w.told (h ∷ []) more)) (w.leads (h ∷ more) (g.leads more x)));
       are = λ more.
           (sym (step more) ∙ w.are (h ∷ more)
-          ∙ ap (λ (l : List Happening). values_of first ++ lines_of node l) (sym (append_assoc w.told (h ∷ []) more)));
+          ∙ ap (λ (l : List Happening). values_of first ++ stories_of node l)
+          (sym (append_assoc w.told (h ∷ []) more)));
     }
 
-pub walk_shorter : (node : ℕ) (journal : List Entry) (first lines : List FrameLine) (current : Option OpenFrame)
+pub walk_shorter : (node : ℕ) (journal : List Entry) (first lines : List StartedFrame) (current : Option OpenFrame)
     (old new : Replay) (h : Happening) → IsWalking node journal first lines current old →
     ((before : List Entry) → IsAt old before → GoesOn old new before (h ∷ [])) →
     length (left_of new) < length (left_of old)
@@ -168,20 +169,20 @@ walk_shorter node journal first lines current old new h w goes =
     let few = (goes w.before w.at).fewer in omega (arith, few)
 
 -- the last line
-left_over : (node : ℕ) (current : Option OpenFrame) → line_before node current [] ≡ line_if node current []
+left_over : (node : ℕ) (current : Option OpenFrame) → story_before node current [] ≡ story_if node current []
 left_over node None = refl
 left_over node (Some o) = refl
 
-pub walk_last : (node : ℕ) (journal : List Entry) (first lines news : List FrameLine) (current : Option OpenFrame)
+pub walk_last : (node : ℕ) (journal : List Entry) (first lines news : List StartedFrame) (current : Option OpenFrame)
     (r : Replay) → IsWalking node journal first lines current r →
     ((before : List Entry) → IsAt r before → Happened before (left_of r) []) →
-    values_of news ≡ values_of lines ++ line_if node current [] → PutsLines node journal first news
+    values_of news ≡ values_of lines ++ story_if node current [] → PutsFrames node journal first news
 walk_last node journal first lines news current r w none wrote = record {
   told = w.told;
   have =
       let P : List Happening → Type 0 = λ l. Happened [] journal l in
       subst P (append-nil w.told) (w.leads [] (none w.before w.at));
-  are = wrote ∙ ap (λ (l : List LineValue). values_of lines ++ l) (sym (left_over node current))
-      ∙ ap (λ (l : List LineValue). values_of lines ++ l) (sym (append-nil (line_before node current []))) ∙ w.are []
-      ∙ ap (λ (l : List Happening). values_of first ++ lines_of node l) (append-nil w.told);
+  are = wrote ∙ ap (λ (l : List NodeStory). values_of lines ++ l) (sym (left_over node current))
+      ∙ ap (λ (l : List NodeStory). values_of lines ++ l) (sym (append-nil (story_before node current []))) ∙ w.are []
+      ∙ ap (λ (l : List Happening). values_of first ++ stories_of node l) (append-nil w.told);
 }

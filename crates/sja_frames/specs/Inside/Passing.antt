@@ -11,14 +11,15 @@ use Rattle.sja_replay.specs.Short.{IsInShort}
 use Rattle.sja_frames.specs.declared.field.Field.{Field}
 use Rattle.sja_frames.specs.declared.field.Field.TheVariants.{Pause}
 use Rattle.sja_frames.specs.declared.frame_bit.FrameBit.{FrameBit}
-use Rattle.sja_frames.specs.declared.frame_line.FrameLine.{FrameLine}
+use Rattle.sja_frames.specs.declared.started_frame.StartedFrame.{StartedFrame}
 use Rattle.sja_frames.specs.declared.last_bit.LastBit.{LastBit}
 use Rattle.sja_frames.specs.declared.open_frame.OpenFrame.{OpenFrame}
 use Rattle.sja_frames.specs.declared.run.Run.{Run}
 use Rattle.sja_frames.specs.Fields.{field_if, is_stuffed}
 use Rattle.sja_frames.specs.FrameBits.{is_intermission}
 use Rattle.sja_frames.specs.FrameEnds.{ending_of}
-use Rattle.sja_frames.specs.Inside.Walking.{TakesIn, Goes, values_of, lines_from}
+use Rattle.sja_frames.specs.FrameStories.{values_of}
+use Rattle.sja_frames.specs.Inside.Walking.{TakesIn, Goes, stories_from}
 use Rattle.sja_trace.specs.Events.{is_frame}
 
 -- ---- what is said of such a bit, by what is known of it in short
@@ -40,21 +41,23 @@ belongs_by paused q = is_intermission q.phase || (not paused && (is_frame q.phas
 abbrev pub TakesShort : ℕ → ShortBit → OpenFrame → OpenFrame → Type 0
 TakesShort number q old new = (h : Happening) → IsInShort h q → h.bit ≡ number → TakesIn old new h
 
-abbrev pub GoesShort : ℕ → ℕ → ShortBit → List FrameLine → List FrameLine → Option OpenFrame → Option OpenFrame → Type 0
+abbrev pub GoesShort :
+    ℕ → ℕ → ShortBit → List StartedFrame → List StartedFrame → Option OpenFrame → Option OpenFrame → Type 0
 GoesShort node number q old new current next =
     (h : Happening) → IsInShort h q → h.bit ≡ number → Goes node h old new current next
 
 -- ---- several of them
 
--- the replay went on past some bits. The lines that were written before, with those of what comes from them on, are the
--- lines that are written after them, with those of what comes then
-pub record Walked (node : ℕ) (lines news : List FrameLine) (current next : Option OpenFrame) (old new : Replay)
+-- the replay went on past some bits. The frames that were found before, with those of what comes from them on, are the
+-- frames that are found after them, with those of what comes then
+pub record Walked (node : ℕ) (lines news : List StartedFrame) (current next : Option OpenFrame) (old new : Replay)
     (before : List Entry) : Type 0 where
   pub told : List Happening
   pub goes : GoesOn old new before told
   pub are : (more : List Happening) →
-      values_of lines ++ lines_from node current (told ++ more) ≡ values_of news ++ lines_from node next more
+      values_of lines ++ stories_from node current (told ++ more) ≡ values_of news ++ stories_from node next more
 
-abbrev pub Walks : ℕ → List FrameLine → List FrameLine → Option OpenFrame → Option OpenFrame → Replay → Replay → Type 0
+abbrev pub Walks :
+    ℕ → List StartedFrame → List StartedFrame → Option OpenFrame → Option OpenFrame → Replay → Replay → Type 0
 Walks node lines news current next old new =
     (before : List Entry) → IsAt old before → Walked node lines news current next old new before

@@ -10,7 +10,7 @@ use Rattle.sja_plan.specs.TurnTexts.{AreTurnWords, SaysTurn}
 use Rattle.sja_plan.specs.StrikeTexts.{AreStrikeWords, SaysStrike}
 use Rattle.sja_script.specs.declared.step.Step.{Step}
 use Rattle.sja_script.specs.declared.step.Step.TheVariants.{Start, Stop, Window, Release, Read}
-use Rattle.sja_script.specs.declared.step.Step.TheVariants.{Write, Load, Command, Await, Sent, Interrupt}
+use Rattle.sja_script.specs.declared.step.Step.TheVariants.{Write, Load, Command, Await, Sent, Interrupt, At}
 use Rattle.sja_plan.specs.declared.turn.Turn.{Turn}
 use Rattle.sja_plan.specs.declared.turn.Turn.TheVariants.{Bus, Rest, Node, All, Irq, Go}
 use Rattle.sja_script.specs.declared.strike.Strike.{Strike}
@@ -42,6 +42,7 @@ with_one p version name a =
     else if bytes_eq name (codes "load") then Some (Load p)
     else if bytes_eq name (codes "command") then option_map Command (value_of version 1 a)
     else if bytes_eq name (codes "await") then option_map Await (number_of a)
+    else if bytes_eq name (codes "at") then option_map At (number_of a)
     else None
 
 -- where a load is of this message
@@ -70,6 +71,7 @@ step_is p version ws (Write n v) same (a, b, e, k, i) = rw (e, k.0) (ap (option_
 step_is p version ws (Load m) same (d, e, k) = rw e (ap (λ l. Some (Load l)) (sym same))
 step_is p version ws (Command v) same (a, e, k) = rw e (ap (option_map Command) k.0)
 step_is p version ws (Await n) same (a, e, k) = rw e (ap (option_map Await) k.0)
+step_is p version ws (At n) same (v, a, e, k) = rw e (ap (option_map At) k.0)
 
 -- of two steps with the same words both load this, where they load something
 twice : (p : List ℕ) (s : Step) → loaded (loaded p s) s ≡ loaded p s
@@ -84,6 +86,7 @@ twice p (Write n v) = refl
 twice p (Load m) = refl
 twice p (Command v) = refl
 twice p (Await n) = refl
+twice p (At n) = refl
 
 alike : (version : ℕ) (ws : List Text) (m : List ℕ) (t : Step) → AreStepWords version ws (Load m) →
     AreStepWords version ws t → loaded m t ≡ m
@@ -97,6 +100,7 @@ alike version ws m (Read n) h k = refl
 alike version ws m (Write n v) h k = refl
 alike version ws m (Command v) h k = refl
 alike version ws m (Await n) h k = refl
+alike version ws m (At n) h k = refl
 alike version ws m (Load n) (d, e, h) (b, f, k) =
     let same : b ≡ d = cc in one_message version d n m (subst (λ w. SpellsMessageIn version w n) same k) h
 
@@ -116,6 +120,7 @@ both_load version ws (Read n) t h k = (loaded [] t, (refl, twice [] t))
 both_load version ws (Write n v) t h k = (loaded [] t, (refl, twice [] t))
 both_load version ws (Command v) t h k = (loaded [] t, (refl, twice [] t))
 both_load version ws (Await n) t h k = (loaded [] t, (refl, twice [] t))
+both_load version ws (At n) t h k = (loaded [] t, (refl, twice [] t))
 
 pub one_step : (version : ℕ) (text : Text) (s t : Step) → SaysStep version text s → SaysStep version text t → s ≡ t
 one_step version text s t h k =

@@ -1,9 +1,11 @@
 -- Faults that are passed on.
-use Rattle.std.proofs.Common.{◌≡◌, ◌⊎◌, List, ℕ, Some, inl, inr, sym, subst}
+use Rattle.std.proofs.Common.{◌≡◌, ◌⊎◌, List, ℕ, Some, false, inl, inr, sym, subst}
 use Rattle.toml.specs.Data.{Members}
 use Rattle.toml.specs.Parse.{parse_document}
 use Rattle.sja_plan.specs.Document.{DocumentValue, HasShape, IsMisshapen}
 use Rattle.sja_plan.specs.Faults.{IsFirstFault, IsDocumentFault, IsText}
+use Rattle.sja_plan.specs.PlacedPlans.{IsPlacedFault}
+use Rattle.sja_plan.proofs.Parts.Items.{plain_fault, plain_plan}
 use Rattle.sja_plan.specs.declared.plan_fault.PlanFault.{PlanFault}
 use Rattle.sja_plan.specs.declared.plan_fault.PlanFault.TheVariants.{TooLong, NotText, Toml, Key, Version, Bits}
 use Rattle.sja_plan.specs.declared.plan_fault.PlanFault.TheVariants.{NodeCount, StepCount, Step, TurnCount}
@@ -33,5 +35,10 @@ document_fault bytes ms d (Turn number) t p s h = (d, (ms, t, p, s), h)
 document_fault bytes ms d StrikeCount t p s h = (d, (ms, t, p, s), h)
 document_fault bytes ms d (Strike number) t p s h = (d, (ms, t, p, s), h)
 
--- both, for whoever passes a fault on
-pub ruleset passed_on = (shape_fault, document_fault)
+-- the same where no strike may name a place
+pub plain_document_fault : (bytes : List ℕ) (ms : Members) (d : DocumentValue) (e : PlanFault) → IsText bytes →
+    parse_document bytes ≡ Some ms → HasShape ms d → IsPlacedFault false d e → IsFirstFault bytes e
+plain_document_fault bytes ms d e t p s h = document_fault bytes ms d e t p s (plain_fault d e h)
+
+-- all, for whoever passes a fault on
+pub ruleset passed_on = (shape_fault, plain_document_fault, plain_plan)

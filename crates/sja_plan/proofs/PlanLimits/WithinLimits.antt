@@ -44,7 +44,7 @@ name_nodes version nodes (x ∷ xs) (y ∷ ys) z zero d w = names_node version n
 name_nodes version nodes (x ∷ xs) (y ∷ ys) z (suc k) d w = name_nodes version nodes xs ys z.1 k d (omega arith)
 
 -- a strike that is read is on a node
-strike_node : (nodes : ℕ) (ws : List Text) (s : Strike) → AreStrikeWords nodes ws s → IsStrikeOn nodes s
+pub strike_node : (nodes : ℕ) (ws : List Text) (s : Strike) → AreStrikeWords nodes ws s → IsStrikeOn nodes s
 strike_node nodes [] s h = absurd h
 strike_node nodes (k ∷ []) s h = absurd h
 strike_node nodes (k ∷ b ∷ []) s h =
@@ -70,7 +70,7 @@ is_spelled word n h = by_test (is_number word) refl
     by_test false is = absurd (cc (rw is at h))
 
 -- a strike that is read counts as often as it strikes
-count_is_times : (nodes : ℕ) (ws : List Text) (s : Strike) → AreStrikeWords nodes ws s → strike_count ws ≡ s.times
+pub count_is_times : (nodes : ℕ) (ws : List Text) (s : Strike) → AreStrikeWords nodes ws s → strike_count ws ≡ s.times
 count_is_times nodes [] s h = absurd h
 count_is_times nodes (k ∷ []) s h = absurd h
 count_is_times nodes (k ∷ b ∷ []) s h = sym h.times

@@ -12,7 +12,7 @@ use Rattle.sja_plan.specs.declared.text_fault.TextFault.{TextFault}
 use Rattle.sja_plan.specs.declared.text_fault.TextFault.TheVariants.{Bad, NoMemory}
 use Rattle.sja_script.specs.declared.step.Step.{Step}
 use Rattle.sja_script.specs.declared.step.Step.TheVariants.{Start, Stop, Window, Release, Read}
-use Rattle.sja_script.specs.declared.step.Step.TheVariants.{Write, Load, Command, Await, Sent, Interrupt}
+use Rattle.sja_script.specs.declared.step.Step.TheVariants.{Write, Load, Command, Await, Sent, Interrupt, At}
 
 -- neither bytes nor notation is no message
 pub no_message : (version : ℕ) (word : Text) (e : TextFault) → ((m : List ℕ) → ¬ SpellsMessage word m) →
@@ -40,6 +40,7 @@ no_read version name a is none Window = λ h. cc
 no_read version name a is none Release = λ h. cc
 no_read version name a is none Sent = λ h. cc
 no_read version name a is none Interrupt = λ h. let e = h.1 in cc
+no_read version name a is none (At n) = λ h. let e = h.2 in cc
 no_read version name a is none (Read n) = λ h.
     let e = h.1 in let same : h.0 ≡ a = cc in none n (subst (λ x. SpellsAddress version x n) same h.2)
 no_read version name a is none (Write n v) = λ h. let e = h.2 in cc
@@ -57,6 +58,7 @@ no_load version name w is none Window = λ h. cc
 no_load version name w is none Release = λ h. cc
 no_load version name w is none Sent = λ h. cc
 no_load version name w is none Interrupt = λ h. let e = h.1 in cc
+no_load version name w is none (At n) = λ h. let e = h.2 in cc
 no_load version name w is none (Load m) = λ h.
     let e = h.1 in let same : h.0 ≡ w = cc in none m (subst (λ x. SpellsMessageIn version x m) same h.2)
 no_load version name w is none (Write n v) = λ h. let e = h.2 in cc
@@ -74,6 +76,7 @@ no_write version name a w none Window = λ h. cc
 no_write version name a w none Release = λ h. cc
 no_write version name a w none Sent = λ h. cc
 no_write version name a w none Interrupt = λ h. let e = h.1 in cc
+no_write version name a w none (At n) = λ h. let e = h.2 in cc
 no_write version name a w none (Write n v) = λ h.
     let e = h.2 in let same : h.0 ≡ a = cc in none n (subst (λ x. SpellsAddress version x n) same h.3)
 no_write version name a w none (Load m) = λ h. let e = h.1 in cc
@@ -90,6 +93,7 @@ no_written version name a w n is none Window = λ h. cc
 no_written version name a w n is none Release = λ h. cc
 no_written version name a w n is none Sent = λ h. cc
 no_written version name a w n is none Interrupt = λ h. let e = h.1 in cc
+no_written version name a w n is none (At m) = λ h. let e = h.2 in cc
 no_written version name a w n is none (Write m v) = λ h.
     let e = h.2 in let at : h.0 ≡ a = cc in let by : h.1 ≡ w = cc in
     let number = ap (unwrap n) (sym (subst (λ x. address_of version x ≡ Some m) at h.3.0) ∙ is.0) in
@@ -108,6 +112,7 @@ no_command version name w is none Window = λ h. cc
 no_command version name w is none Release = λ h. cc
 no_command version name w is none Sent = λ h. cc
 no_command version name w is none Interrupt = λ h. let e = h.1 in cc
+no_command version name w is none (At n) = λ h. let e = h.2 in cc
 no_command version name w is none (Read n) = λ h. let e = h.1 in cc
 no_command version name w is none (Write n v) = λ h. let e = h.2 in cc
 no_command version name w is none (Load m) = λ h. let e = h.1 in cc
@@ -124,6 +129,7 @@ few_words version ws Window h = let n = ap length h in (omega arith, omega arith
 few_words version ws Release h = let n = ap length h in (omega arith, omega arith)
 few_words version ws Sent h = let n = ap length h in (omega arith, omega arith)
 few_words version ws Interrupt h = let n = ap length h.1 in (omega arith, omega arith)
+few_words version ws (At n) h = let m = ap length h.2 in (omega arith, omega arith)
 few_words version ws (Read n) h = let m = ap length h.1 in (omega arith, omega arith)
 few_words version ws (Load m) h = let n = ap length h.1 in (omega arith, omega arith)
 few_words version ws (Command v) h = let n = ap length h.1 in (omega arith, omega arith)

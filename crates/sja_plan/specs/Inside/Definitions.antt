@@ -1,5 +1,5 @@
 -- What a definition's numbers stand for. Of a value nothing is kept, so that `false` stands for it.
-use Rattle.std.specs.Prelude.{◌≡◌, Bool, true, false, List, [], ◌∷◌, map, Some}
+use Rattle.std.specs.Prelude.{◌≡◌, ◌⊎◌, Bool, true, false, List, [], ◌∷◌, map, Some}
 use Rattle.std.specs.Ordering.{nat_cmp, is_lt}
 use Rattle.std.specs.Cmp.Lexicographic.{slice_cmp}
 use Rattle.toml.specs.Data.{boolean}
@@ -57,6 +57,19 @@ Splits bs = (gs : List (List Item)) × (split Absent [] bs ≡ Some gs) × AllAr
 
 abbrev pub KeySplits : List Item → Text → Type 0
 KeySplits bs k = Splits (at_first k bs)
+
+-- whatever the values are, these don't go together
+abbrev pub AreBad : List Item → Type 0
+AreBad bs = (is : List Item) → map bare is ≡ bs → IsGood is → ⊥
+
+-- some of these don't
+abbrev pub HasBad : List (List Item) → Type 0
+HasBad [] = ⊥
+HasBad (g ∷ gs) = AreBad g ⊎ HasBad gs
+
+-- those of one key don't follow each other, or some of those below don't go together
+abbrev pub SplitsBad : List Item → Type 0
+SplitsBad bs = (gs : List (List Item)) → split Absent [] bs ≡ Some gs → HasBad gs
 
 -- the first keys of definitions pass this
 abbrev pub FirstsAre : (Text → Bool) → List Item → Type 0

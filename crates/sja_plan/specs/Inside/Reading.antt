@@ -1,5 +1,5 @@
 -- How what is read of a document's text stands to its grammar.
-use Rattle.std.specs.Prelude.{◌≡◌, List, ℕ, map, Option, Some, None, option_map, Result, MatchResult, IfOk}
+use Rattle.std.specs.Prelude.{◌≡◌, true, List, ℕ, map, Option, Some, None, option_map, Result, MatchResult, IfOk, IfErr}
 use Rattle.std.specs.Borrow.{Bor}
 use Rattle.toml_parser.specs.Lexical.{Read}
 use Rattle.toml_parser.specs.Reading.{key_view}
@@ -10,9 +10,10 @@ use Rattle.toml_parser.specs.declared.key.Key as code
 use Rattle.sja_plan.specs.Inside.Items.{Item, run}
 use Rattle.sja_plan.specs.Inside.Definitions.{bare}
 use Rattle.sja_plan.specs.Inside.Rooms.{items_in}
+use Rattle.sja_plan.specs.Inside.Values.{HasOddPair}
 use Rattle.sja_plan.specs.declared.tables.room.Room.{Room}
 use Rattle.sja_plan.specs.declared.tables.refusal.Refusal.{Refusal}
-use Rattle.sja_plan.specs.declared.tables.refusal.Refusal.TheVariants.{NoMemory}
+use Rattle.sja_plan.specs.declared.tables.refusal.Refusal.TheVariants.{NoMemory, NoToml}
 
 -- the result is what the grammar gives, seen through f, unless memory was refused
 abbrev pub Takes : {A B : Type 0} → (A → B) → Result A Refusal → Option B → Type 0
@@ -26,7 +27,11 @@ TakesKey r expected = Takes (λ p. (key_view p.0, p.1.now)) r expected
 abbrev pub Passes : {A : Type 0} → Result (Bor (List ℕ)) Refusal → Read A → Type 0
 Passes {A} r expected = IfOk r (λ rest. (a : A) × (expected ≡ Some (a, rest.now)))
 
--- the document's definitions are these, but for their values
+-- this holds where the result says that the text isn't TOML
+abbrev pub Refuses : {A : Type 0} → Result A Refusal → Type 0 → Type 0
+Refuses r P = IfErr r (λ e. e ≡ NoToml → P)
+
+-- the document's definitions are these, but for their values, of which some may be seen to be none that a plan has
 abbrev pub IsRead : List ℕ → Room → Type 0
 IsRead text room = (is : List Item) × (map bare is ≡ items_in room) × (parse_document text ≡ option_map close
-    (run is no_nodes))
+    (run is no_nodes)) × (room.odd ≡ true → HasOddPair is)

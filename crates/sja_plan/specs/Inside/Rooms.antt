@@ -1,5 +1,5 @@
 -- What is kept of a document while it is read.
-use Rattle.std.specs.Prelude.{◌≡◌, ◌+◌, ◌<◌, ◌≤◌, ℕ, List, [], ◌∷◌, ◌++◌, length, Some}
+use Rattle.std.specs.Prelude.{◌≡◌, ◌⊎◌, ◌+◌, ◌<◌, ◌≤◌, ℕ, true, List, [], ◌∷◌, ◌++◌, length, Some}
 use Rattle.std.specs.List.{All}
 use Rattle.toml_parser.specs.Strings.{Key, recursion_limit}
 use Rattle.toml.specs.Data.{Data}
@@ -9,6 +9,7 @@ use Rattle.sja_plan.specs.Words.{Text}
 use Rattle.sja_plan.specs.Inside.Items.{Item}
 use Rattle.sja_plan.specs.Inside.Names.{texts_of, IsWhole}
 use Rattle.sja_plan.specs.Inside.Definitions.{path_of, items_of, bare, definition_of}
+use Rattle.sja_plan.specs.Inside.Values.{IsOddPair}
 use Rattle.sja_plan.specs.declared.tables.definition.Definition as code
 use Rattle.sja_plan.specs.declared.tables.path.Path.{Path}
 use Rattle.sja_plan.specs.declared.tables.what.What.{What}
@@ -61,6 +62,7 @@ pub record TookIn (old new : Room) (e : Expression) : Type 0 where
   pub items : items_in new ≡ items_in old ++ bare (item_behind (section_in old) e) ∷ []
   pub section : section_in new ≡ section_behind (section_in old) e
   pub sound : IsSound new
+  pub odd : new.odd ≡ true → (old.odd ≡ true) ⊎ IsOddPair (item_behind (section_in old) e)
 
 -- and that is what the grammar reads at the front of a text
 abbrev pub TakesPair : Room → Room → List ℕ → List ℕ → Type 0
@@ -73,6 +75,7 @@ pub record TakesHeader (old new : Room) (what : What) (text rest : List ℕ) : T
   pub items : items_in new ≡ items_in old ++ header_item k (definition_of what) ∷ []
   pub section : section_in new ≡ k.0 ++ k.1 ∷ []
   pub sound : IsSound new
+  pub odd : new.odd ≡ old.odd
 
 abbrev pub TakesExpression : Room → Room → List ℕ → List ℕ → Type 0
 TakesExpression old new text rest = (e : Expression) × (expression text ≡ Some (e, rest)) × TookIn old new e

@@ -3,6 +3,7 @@ use Rattle.std.specs.Prelude.{◌≡◌, ◌+◌, ℕ, ℤ, List, map, codes, So
 use Rattle.toml.specs.Data.{Members, get_member}
 use Rattle.sja_plan.specs.Words.{Text}
 use Rattle.sja_plan.specs.Texts.{IsFirstBad}
+use Rattle.sja_plan.specs.Faults.{IsText, IsFirstFault}
 use Rattle.sja_plan.specs.Document.{DocumentValue, nodes_in, strike_texts, turn_texts}
 use Rattle.sja_plan.specs.declared.document.Document.{Document}
 use Rattle.sja_plan.specs.declared.text_fault.TextFault.{TextFault}
@@ -44,3 +45,17 @@ pub record HasLists (ms : Members) (v b : ℤ) (d : DocumentValue) : Type 0 wher
 abbrev pub step_fault : ℕ → ListFault → PlanFault
 step_fault node NoMemory = PlanFaults.Memory
 step_fault node (Bad number) = PlanFaults.Step node number
+
+-- the fault is one of bytes that are no TOML document or have a key that no plan has, or memory was refused
+abbrev pub IsEarlyFault : List ℕ → PlanFault → Type 0
+IsEarlyFault bytes PlanFaults.TooLong = IsFirstFault bytes PlanFaults.TooLong
+IsEarlyFault bytes PlanFaults.NotText = IsFirstFault bytes PlanFaults.NotText
+IsEarlyFault bytes PlanFaults.Toml = IsFirstFault bytes PlanFaults.Toml
+IsEarlyFault bytes PlanFaults.Key = IsFirstFault bytes PlanFaults.Key
+IsEarlyFault bytes PlanFaults.Memory = IsText bytes
+IsEarlyFault bytes fault = ⊥
+
+-- the fault is none of a strike's text
+abbrev pub IsOther : PlanFault → Type 0
+IsOther (PlanFaults.Strike number) = ⊥
+IsOther fault = Unit {0}

@@ -6,6 +6,7 @@ ghost use Rattle.sja_plan.specs.Inside.Items.{first_of};
 ghost use Rattle.sja_plan.specs.Inside.Judging.{ends, comes, below, is_array};
 ghost use Rattle.sja_plan.specs.Inside.Names.{text_at};
 ghost use Rattle.sja_plan.specs.Inside.Definitions.{item_of};
+ghost use Rattle.sja_plan.specs.Inside.Reading.{Refuses};
 
 use super::path::Path;
 use super::refusal::Refusal;
@@ -64,7 +65,8 @@ impl Definition {
 
     /// The same below the table of its first part.
     pub(crate) fn below(&self) -> Result<Definition, Refusal>
-        ensures { IfOk result (λ d. (ts : List Text) → item_of ts d ≡ below (item_of ts self.now)) }
+        ensures below { IfOk result (λ d. (ts : List Text) → item_of ts d ≡ below (item_of ts self.now)) }
+        ensures never { Refuses result ⊥ }
     {
         let mut definition = *self;
         if self.path.count > 0 {

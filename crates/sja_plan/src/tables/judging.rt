@@ -7,7 +7,9 @@ ghost use Rattle.toml.specs.Data.{same_key};
 ghost use Rattle.sja_plan.specs.Words.{Text};
 ghost use Rattle.sja_plan.specs.Inside.Items.{first_of, at_first};
 ghost use Rattle.sja_plan.specs.Inside.Names.{texts_of};
-ghost use Rattle.sja_plan.specs.Inside.Definitions.{item_of, items_of, AreGood, Splits, FirstsAre, is_before};
+ghost use Rattle.sja_plan.specs.Inside.Definitions.{item_of, items_of, AreGood, AreBad};
+ghost use Rattle.sja_plan.specs.Inside.Definitions.{Splits, SplitsBad, FirstsAre, is_before};
+ghost use Rattle.sja_plan.specs.Inside.Reading.{Refuses};
 
 use super::definition::Definition;
 use super::names::Names;
@@ -24,6 +26,7 @@ pub(crate) fn judge(
     depth: usize,
 ) -> Result<(), Refusal>
     ensures good { OnOk result (AreGood (items_of (texts_of names.now) definitions.old)) }
+    ensures bad { Refuses result (AreBad (items_of (texts_of names.now) definitions.old)) }
     ensures len { length definitions.new ≡ length definitions.old }
 {
     if definitions.len() < 2 {
@@ -51,6 +54,7 @@ fn judge_key(
     depth: usize,
 ) -> Result<(), Refusal>
     ensures good { OnOk result (Splits (items_of (texts_of names.now) run.old)) }
+    ensures bad { Refuses result (SplitsBad (items_of (texts_of names.now) run.old)) }
     ensures len { length run.new ≡ length run.old }
 {
     let mut state = State::Absent;
@@ -79,6 +83,7 @@ fn sort(alloc: Global, names: &Names, definitions: &mut [Definition]) -> Result<
     ensures sorted { OnOk result (IsSortedBy (is_before (texts_of names.now)) definitions.new) }
     ensures stable { (k : Text) → at_first k (items_of (texts_of names.now) definitions.new)
         ≡ at_first k (items_of (texts_of names.now) definitions.old) }
+    ensures never { Refuses result ⊥ }
 {
     definitions.sort_by(alloc, |one, other| {
         names.part(one.first()).cmp(names.part(other.first()))

@@ -1,8 +1,11 @@
 //! Keys of a document, part after part.
 
 ghost use Rattle.std.specs.Prelude.{◌≡◌, ◌+◌, [], ◌∷◌, ◌++◌, map, length, take, drop, string_bytes, OnOk, IfOk};
+ghost use Rattle.std.specs.List.{list_any};
+ghost use Rattle.std.specs.Str.{bytes_eq};
 ghost use Rattle.toml_parser.specs.Reading.{path_view};
 ghost use Rattle.sja_plan.specs.Inside.Names.{texts_of, text_at, IsWhole};
+ghost use Rattle.sja_plan.specs.Inside.Reading.{Refuses};
 
 use super::path::Path;
 use super::refusal::Refusal;
@@ -47,6 +50,7 @@ impl Names {
         requires { IsWhole self.old }
         ensures whole { IsWhole self.new }
         ensures texts { OnOk result (texts_of self.new ≡ texts_of self.old ++ map string_bytes parts.now) }
+        ensures never { Refuses result ⊥ }
     {
         for part in parts {
             self.add(part)?;
@@ -59,6 +63,7 @@ impl Names {
         requires { IsWhole self.old }
         ensures whole { IsWhole self.new }
         ensures texts { OnOk result (texts_of self.new ≡ texts_of self.old ++ part.now ∷ []) }
+        ensures never { Refuses result ⊥ }
     {
         let start = number_of(self.bytes.len())?;
         let len = number_of(part.len())?;
@@ -87,6 +92,7 @@ impl Names {
             ≡ texts_of self.old ++ path_view key.now.path.items ++ string_bytes key.now.last ∷ []) }
         ensures places { IfOk result (λ p. (p.0.first ≡ length (texts_of self.old))
             × (p.0.count ≡ length key.now.path.items) × (p.0.first + p.0.count ≡ p.1)) }
+        ensures never { Refuses result ⊥ }
     {
         let first = number_of(self.len())?;
         self.add_all(&key.path)?;
@@ -114,10 +120,18 @@ fn piece(bytes: &[u8], start: usize, len: usize) -> &[u8]
 
 /// The number in four bytes, where it has room there.
 pub(crate) fn number_of(number: usize) -> Result<u32, Refusal>
-    ensures { IfOk result (λ n. n ≡ number) }
+    ensures value { IfOk result (λ n. n ≡ number) }
+    ensures never { Refuses result ⊥ }
 {
     match u32::try_from(number) {
         Ok(number) => Ok(number),
         Err(_) => Err(Refusal::Open),
     }
+}
+
+/// Whether this is one of these keys.
+pub(crate) fn is_among(keys: &[&str], key: &[u8]) -> bool
+    ensures { result ≡ list_any (λ name. bytes_eq name.now key.now) keys.now }
+{
+    keys.iter().any(|name| name.as_bytes() == key)
 }

@@ -1,6 +1,7 @@
 //! Parts of keys, one after another.
 
 ghost use Rattle.std.specs.Prelude.{◌≡◌, ◌+◌, IfOk};
+ghost use Rattle.sja_plan.specs.Inside.Reading.{Refuses};
 
 use super::refusal::Refusal;
 
@@ -14,7 +15,8 @@ pub(crate) struct Path {
 impl Path {
     /// The parts behind the first.
     pub(crate) fn behind(&self) -> Result<Path, Refusal>
-        ensures { IfOk result (λ p. (self.now.first + 1 ≡ p.first) × (p.count + 1 ≡ self.now.count)) }
+        ensures behind { IfOk result (λ p. (self.now.first + 1 ≡ p.first) × (p.count + 1 ≡ self.now.count)) }
+        ensures never { Refuses result ⊥ }
     {
         match (self.first.checked_add(1), self.count.checked_sub(1)) {
             (Some(first), Some(count)) => Ok(Path { first, count }),

@@ -1,7 +1,9 @@
 //! The lines of a document, without what its values say.
 
-ghost use Rattle.std.specs.Prelude.{◌<◌, length, IfOk};
-ghost use Rattle.sja_plan.specs.Inside.Reading.{IsRead};
+ghost use Rattle.std.specs.Prelude.{◌≡◌, ◌<◌, None, length, IfOk};
+ghost use Rattle.toml_parser.specs.Strings.{recursion_limit};
+ghost use Rattle.toml.specs.Parse as spec;
+ghost use Rattle.sja_plan.specs.Inside.Reading.{IsRead, Refuses};
 ghost use Rattle.sja_plan.specs.Inside.Rooms.{IsSound, TakesPair, TakesHeader, TakesExpression, TakesLine};
 
 use super::grammar::{behind, header_key, key_equals, line_end, skip_bom};
@@ -16,6 +18,7 @@ use toml_parser::text::{byte_at, first, skip, skip_blank};
 /// The definitions of a document.
 pub(crate) fn read(alloc: Global, text: &str) -> Result<Room, Refusal>
     ensures ok { IfOk result (IsRead text.now) }
+    ensures bad { Refuses result (spec.parse_document text.now ≡ None) }
 {
     let mut room = Room::new(alloc);
     let mut rest = skip_bom(text);
@@ -29,9 +32,14 @@ pub(crate) fn read(alloc: Global, text: &str) -> Result<Room, Refusal>
 }
 
 /// Takes in a line. Answers what stands behind it.
-fn read_line<'a>(alloc: Global, room: &mut Room, text: &'a str) -> Result<&'a str, Refusal>
+pub(crate) fn read_line<'a>(
+    alloc: Global,
+    room: &mut Room,
+    text: &'a str,
+) -> Result<&'a str, Refusal>
     requires { IsSound room.old }
     ensures ok { IfOk result (λ rest. TakesLine room.old room.new text.now rest.now) }
+    ensures bad { Refuses result (spec.line text.now ≡ None) }
     ensures shorter { IfOk result (λ rest. length rest.now < length text.now) }
 {
     let rest = read_expression(alloc, room, text)?;
@@ -43,6 +51,7 @@ fn read_line<'a>(alloc: Global, room: &mut Room, text: &'a str) -> Result<&'a st
 fn read_expression<'a>(alloc: Global, room: &mut Room, text: &'a str) -> Result<&'a str, Refusal>
     requires { IsSound room.old }
     ensures ok { IfOk result (λ rest. TakesExpression room.old room.new text.now rest.now) }
+    ensures bad { Refuses result (spec.expression text.now ≡ None) }
     ensures shorter { IfOk result (λ rest. length rest.now < length text.now) }
 {
     if first(text) != b'[' {
@@ -67,6 +76,7 @@ fn read_header<'a>(
 ) -> Result<&'a str, Refusal>
     requires { IsSound room.old }
     ensures ok { IfOk result (λ rest. TakesHeader room.old room.new what text.now rest.now) }
+    ensures bad { Refuses result (spec.header_key text.now ≡ None) }
     ensures shorter { IfOk result (λ rest. length rest.now < length text.now) }
 {
     let (key, rest) = header_key(alloc, text)?;
@@ -78,10 +88,12 @@ fn read_header<'a>(
 fn read_pair<'a>(alloc: Global, room: &mut Room, text: &'a str) -> Result<&'a str, Refusal>
     requires { IsSound room.old }
     ensures ok { IfOk result (λ rest. TakesPair room.old room.new text.now rest.now) }
+    ensures bad { Refuses result (spec.keyval (spec.val recursion_limit) text.now ≡ None) }
     ensures shorter { IfOk result (λ rest. length rest.now < length text.now) }
 {
     let (key, value) = key_equals(alloc, text)?;
-    room.pair(&key)?;
+    let pair = room.pair(&key)?;
     let rest = pass_value(alloc, value, RECURSION_LIMIT)?;
+    room.look(alloc, pair, value)?;
     Ok(rest)
 }

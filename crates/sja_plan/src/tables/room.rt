@@ -1,13 +1,17 @@
 //! What is kept of a document while it is read.
 
-ghost use Rattle.std.specs.Prelude.{◌≡◌, [], ◌∷◌, ◌++◌, false, OnOk};
+ghost use Rattle.std.specs.Prelude.{◌≡◌, ◌⊎◌, [], ◌∷◌, ◌++◌, true, false, IfOk, OnOk};
 ghost use Rattle.toml_parser.specs.Reading.{key_view};
 ghost use Rattle.toml.specs.Data.{boolean};
 ghost use Rattle.toml.specs.Tables.{key_value};
-ghost use Rattle.sja_plan.specs.Inside.Definitions.{definition_of, AreGood};
+ghost use Rattle.sja_plan.specs.Inside.Names.{texts_of};
+ghost use Rattle.sja_plan.specs.Inside.Definitions.{definition_of, item_of, AreGood, AreBad};
+ghost use Rattle.sja_plan.specs.Inside.Reading.{Refuses};
 ghost use Rattle.sja_plan.specs.Inside.Rooms.{IsSound, items_in, section_in, header_item, pair_item};
+ghost use Rattle.sja_plan.specs.Inside.Values.{HoldsTexts, BeginsOdd};
 
 use super::definition::Definition;
+use super::flat::{holds_texts, is_flat};
 use super::judging::judge;
 use super::names::Names;
 use super::path::Path;
@@ -19,12 +23,14 @@ use toml_parser::Key;
 /// In how many tables, one in another, a key stands at most: a header has 80 parts at most, and so has a pair.
 const MOST_DEEP: usize = 200;
 
-/// What is kept of a document: the parts of its keys, its definitions, and the key of the last header.
+/// What is kept of a document: the parts of its keys, its definitions, the key of the last header, and whether a value
+/// was seen that no plan has where it stands.
 #[derive(Drop)]
 pub(crate) struct Room {
     pub(crate) names: Names,
     pub(crate) definitions: Vec<Definition>,
     section: Path,
+    pub(crate) odd: bool,
 }
 
 impl Room {
@@ -33,11 +39,13 @@ impl Room {
         ensures sound { IsSound result }
         ensures items { items_in result ≡ [] }
         ensures section { section_in result ≡ [] }
+        ensures odd { result.odd ≡ false }
     {
         Room {
             names: Names::new(alloc),
             definitions: Vec::new(alloc),
             section: Path { first: 0, count: 0 },
+            odd: false,
         }
     }
 
@@ -48,6 +56,8 @@ impl Room {
         ensures items { OnOk result (items_in self.new
             ≡ items_in self.old ++ header_item (key_view key.now) (definition_of what) ∷ []) }
         ensures section { OnOk result (section_in self.new ≡ (key_view key.now).0 ++ (key_view key.now).1 ∷ []) }
+        ensures odd { self.new.odd ≡ self.old.odd }
+        ensures never { Refuses result ⊥ }
     {
         let (path, last) = self.names.add_key(key)?;
         if path.count == u32::MAX {
@@ -71,28 +81,57 @@ impl Room {
         Ok(())
     }
 
-    /// Takes in a pair, which stands below the last header.
-    pub(crate) fn pair(&mut self, key: &Key) -> Result<(), Refusal>
+    /// Takes in a pair, which stands below the last header. Answers what it defines.
+    pub(crate) fn pair(&mut self, key: &Key) -> Result<Definition, Refusal>
         requires { IsSound self.old }
         ensures sound { OnOk result (IsSound self.new) }
         ensures items { OnOk result (items_in self.new
             ≡ items_in self.old ++ pair_item (section_in self.old) (key_view key.now) (boolean false) ∷ []) }
         ensures section { OnOk result (section_in self.new ≡ section_in self.old) }
+        ensures is { IfOk result (λ d. item_of (texts_of self.new.names) d
+            ≡ pair_item (section_in self.old) (key_view key.now) (boolean false)) }
+        ensures odd { self.new.odd ≡ self.old.odd }
+        ensures never { Refuses result ⊥ }
     {
         let (dots, last) = self.names.add_key(key)?;
         let path = self.section;
-        self.definitions.push(Definition {
+        let definition = Definition {
             path,
             dots,
             last,
             what: What::Pair,
-        })?;
+        };
+        self.definitions.push(definition)?;
+        Ok(definition)
+    }
+
+    /// Looks at the value of a pair that was taken in, with which this text begins.
+    pub(crate) fn look(
+        &mut self,
+        alloc: Global,
+        pair: Definition,
+        value: &str,
+    ) -> Result<(), Refusal>
+        requires { IsSound self.old }
+        ensures sound { IsSound self.new }
+        ensures items { items_in self.new ≡ items_in self.old }
+        ensures section { section_in self.new ≡ section_in self.old }
+        ensures odd { OnOk result (self.new.odd ≡ true → (self.old.odd ≡ true)
+            ⊎ (HoldsTexts (item_of (texts_of self.old.names) pair) × BeginsOdd value.now)) }
+        ensures never { Refuses result ⊥ }
+    {
+        if self.odd || !holds_texts(&self.names, pair) {
+            return Ok(());
+        }
+        let flat = is_flat(alloc, value)?;
+        self.odd = !flat;
         Ok(())
     }
 
     /// Whether its definitions go together. They aren't kept.
     pub(crate) fn judge(&mut self, alloc: Global) -> Result<(), Refusal>
-        ensures { OnOk result (AreGood (items_in self.old)) }
+        ensures good { OnOk result (AreGood (items_in self.old)) }
+        ensures bad { Refuses result (AreBad (items_in self.old)) }
     {
         judge(
             alloc,

@@ -1,63 +1,123 @@
-//! Whether a long document has a key that no plan has.
+//! Whether a long text is no document, or one with a definition that no plan has.
 
-ghost use Rattle.std.specs.Prelude.{◌≡◌, true, IfOk};
-ghost use Rattle.std.specs.List.{list_any};
-ghost use Rattle.std.specs.Str.{bytes_eq};
+ghost use Rattle.std.specs.Prelude.{◌≡◌, ◌⊎◌, true, false, None, IfOk};
+ghost use Rattle.toml.specs.Parse.{parse_document};
 ghost use Rattle.sja_plan.specs.Inside.Names.{texts_of};
-ghost use Rattle.sja_plan.specs.Inside.Definitions.{items_of};
-ghost use Rattle.sja_plan.specs.Inside.Strange.{IsStrange, HasStrange};
+ghost use Rattle.sja_plan.specs.Inside.Definitions.{item_of, items_of};
+ghost use Rattle.sja_plan.specs.Inside.Reading.{Refuses};
+ghost use Rattle.sja_plan.specs.Inside.Rooms.{items_in};
+ghost use Rattle.sja_plan.specs.Inside.Judging.{ends, below};
+ghost use Rattle.sja_plan.specs.Inside.Strange.{IsStrange, IsStrangeIn, IsStrangeItem, HasStrange, IsSeen, is_odd};
 
 use super::definition::Definition;
+use super::look::Look;
 use super::many::has_many_keys;
-use super::names::Names;
+use super::names::{Names, is_among};
 use super::reading::read;
 use super::refusal::Refusal;
+use super::room::Room;
+use super::what::What;
 use crate::document::KEYS;
 use crate::limits::MOST_BYTES;
 use std::alloc::{AllocError, Global};
 
-/// Whether this is a document with a key that no plan has, as far as that is seen without its tables.
-pub(crate) fn is_strange(alloc: Global, text: &str) -> Result<bool, AllocError>
-    ensures { IfOk result (λ strange. strange ≡ true → IsStrange text.now) }
+/// What is seen of a text without its tables: nothing where it is short, or they wouldn't take many times its bytes.
+pub(crate) fn look_at(alloc: Global, text: &str) -> Result<Look, AllocError>
+    ensures { IfOk result (IsSeen text.now) }
 {
     if text.len() <= MOST_BYTES || !has_many_keys(text) {
-        return Ok(false);
+        return Ok(Look::Open);
     }
-    match look(alloc, text) {
-        Ok(strange) => Ok(strange),
+    match is_strange(alloc, text) {
+        Ok(true) => Ok(Look::Strange),
+        Ok(false) | Err(Refusal::Open) => Ok(Look::Open),
+        Err(Refusal::NoToml) => Ok(Look::NoToml),
         Err(Refusal::NoMemory) => Err(AllocError),
-        Err(_) => Ok(false),
     }
 }
 
-/// The same; what isn't seen is refused.
-fn look(alloc: Global, text: &str) -> Result<bool, Refusal>
-    ensures { IfOk result (λ strange. strange ≡ true → IsStrange text.now) }
+/// Whether this is a document with a definition that no plan has.
+fn is_strange(alloc: Global, text: &str) -> Result<bool, Refusal>
+    ensures strange { IfOk result (λ strange. strange ≡ true → IsStrange text.now) }
+    ensures bad { Refuses result (parse_document text.now ≡ None) }
 {
     let mut room = read(alloc, text)?;
-    if !has_strange(&room.names, &room.definitions) {
-        return Ok(false);
-    }
+    let strange = is_off(&room);
     room.judge(alloc)?;
-    Ok(true)
+    Ok(strange)
 }
 
-/// Whether a definition begins with a key that no plan has.
+/// Whether there is a definition that no plan has, by its keys or by its value.
+fn is_off(room: &Room) -> bool
+    ensures { result ≡ true → HasStrange (items_in room.now) ⊎ (room.now.odd ≡ true) }
+{
+    if room.odd {
+        return true;
+    }
+    has_strange(&room.names, &room.definitions)
+}
+
+/// Whether there is a definition that no plan has.
 fn has_strange(names: &Names, definitions: &[Definition]) -> bool
     ensures { result ≡ true → HasStrange (items_of (texts_of names.now) definitions.now) }
 {
     for place in 0..definitions.len() {
-        let definition = definitions[place];
-        if !is_among(&KEYS, names.part(definition.first())) {
+        if is_strange_one(names, definitions[place]) {
             return true;
         }
     }
     false
 }
 
-/// Whether this is one of these keys.
-fn is_among(keys: &[&str], key: &[u8]) -> bool
-    ensures { result ≡ list_any (λ name. bytes_eq name.now key.now) keys.now }
+/// Whether no plan has this definition.
+fn is_strange_one(names: &Names, definition: Definition) -> bool
+    ensures { result ≡ true → IsStrangeItem (item_of (texts_of names.now) definition) }
 {
-    keys.iter().any(|name| name.as_bytes() == key)
+    let key = names.part(definition.first());
+    let known = is_among(&KEYS, key);
+    if !known {
+        return true;
+    }
+    let nodes = is_among(&["node"], key);
+    let odd = is_odd(nodes, definition.comes(), definition.ends());
+    if odd || !nodes {
+        return odd;
+    }
+    is_strange_below(names, definition)
+}
+
+/// Whether no node's table has what this definition makes of it.
+fn is_strange_below(names: &Names, definition: Definition) -> bool
+    ensures { result ≡ true → (ends (item_of (texts_of names.now) definition) ≡ false)
+        × IsStrangeIn (below (item_of (texts_of names.now) definition)) }
+{
+    if definition.ends() {
+        return false;
+    }
+    match definition.below() {
+        Ok(inner) => is_strange_in(names, inner),
+        Err(_) => false,
+    }
+}
+
+/// Whether no node's table has this.
+fn is_strange_in(names: &Names, definition: Definition) -> bool
+    ensures { result ≡ true → IsStrangeIn (item_of (texts_of names.now) definition) }
+{
+    let known = is_among(&["steps"], names.part(definition.first()));
+    if !known {
+        return true;
+    }
+    is_odd(false, definition.comes(), definition.ends())
+}
+
+/// Whether no plan has this at the key of its nodes, or else at another key of a plan.
+fn is_odd(nodes: bool, comes: What, ends: bool) -> bool
+    ensures { result ≡ is_odd nodes comes ends }
+{
+    match (comes, ends) {
+        (What::Pair, ends) => !ends,
+        (What::Table, true) => true,
+        (What::Table, false) | (What::Array, _) => !nodes,
+    }
 }

@@ -7,6 +7,8 @@ use Rattle.sja_plan.specs.StrikeTexts.{SaysStrike}
 use Rattle.sja_plan.specs.Words.{Text}
 use Rattle.sja_plan.specs.Limits.{most_steps}
 use Rattle.sja_plan.specs.Plan.{PlanValue}
+use Rattle.sja_plan.specs.Checks.{SaysPlan}
+use Rattle.sja_plan.specs.Document.{DocumentValue}
 use Rattle.sja_plan.specs.Faults.{IsPlanOf}
 use Rattle.sja_script.specs.declared.step.Step.{Step}
 use Rattle.sja_plan.proofs.PlanLimits.ByVersion.{version_is}
@@ -17,8 +19,8 @@ use Rattle.sja_plan_text.proofs.Spelling.Steps.{has_step_text}
 use Rattle.sja_plan_text.proofs.Spelling.Turns.{has_turn_text}
 use Rattle.sja_plan_text.proofs.Spelling.Strikes.{has_strike_text}
 
-pub read_has_texts : (bytes : List ℕ) (p : PlanValue) → IsPlanOf bytes p → HasTexts p
-read_has_texts bytes p (d, h, s) =
+pub said_has_texts : (d : DocumentValue) (p : PlanValue) → SaysPlan d p → HasTexts p
+said_has_texts d p s =
     let most = most_steps p.version in
     let says = SaysStep p.version in
     let has = HasStepText p.version in
@@ -34,3 +36,6 @@ read_has_texts bytes p (d, h, s) =
       strikes = all_said (SaysStrike (length d.nodes)) HasStrikeText
           (λ text t said. (has_strike_text (length d.nodes) text t said).1) d.faults p.strikes s.strikes;
     }
+
+pub read_has_texts : (bytes : List ℕ) (p : PlanValue) → IsPlanOf bytes p → HasTexts p
+read_has_texts bytes p (d, h, s) = said_has_texts d p s

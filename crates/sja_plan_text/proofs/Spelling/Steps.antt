@@ -8,7 +8,7 @@ use Rattle.sja_plan.specs.StepTexts.{SaysStep}
 use Rattle.sja_plan.proofs.OneReading.OneMessage.{is_message}
 use Rattle.sja_script.specs.declared.step.Step.{Step}
 use Rattle.sja_script.specs.declared.step.Step.TheVariants.{Start, Stop, Window, Release, Read}
-use Rattle.sja_script.specs.declared.step.Step.TheVariants.{Write, Load, Command, Await, Sent, Interrupt}
+use Rattle.sja_script.specs.declared.step.Step.TheVariants.{Write, Load, Command, Await, Sent, Interrupt, At}
 use Rattle.sja_plan_text.specs.Names.{before_transmit, before_receive, address_word, value_word, message_word}
 use Rattle.sja_plan_text.specs.Texts.{step_text, named_text, spelled_step}
 use Rattle.sja_plan_text.specs.HasTexts.{HasStepText}
@@ -58,6 +58,13 @@ step_said version (Await n) h =
       words_joined (codes "await") (decimal n ∷ []) (rw word refl),
       spells 1 21 n (omega arith) h.0 h.1,
     )
+step_said version (At n) h =
+    let few = h.1 in let word = decimal_word n (omega (arith, few)) in (
+      h.0,
+      decimal n,
+      words_joined (codes "at") (decimal n ∷ []) (rw word refl),
+      spells 0 2000000 n (omega (arith, few)) (omega arith) few,
+    )
 
 -- in version 3 its text with names says it too
 pub named_said : (version : ℕ) (s : Step) → 3 ≤ version → HasStepText version s → SaysStep version (named_text s) s
@@ -89,6 +96,7 @@ named_said version Release raw h = step_said version Release h
 named_said version Sent raw h = step_said version Sent h
 named_said version Interrupt raw h = step_said version Interrupt h
 named_said version (Await n) raw h = step_said version (Await n) h
+named_said version (At n) raw h = step_said version (At n) h
 
 -- with names or without
 pub spelled_said : (named : Bool) (version : ℕ) → (named ≡ true → 3 ≤ version) → (s : Step) → HasStepText version s →
@@ -109,3 +117,4 @@ has_step_text version text (Write n v) (a, b, e, k, i) = (omega (arith, k.1), om
 has_step_text version text (Load m) (a, e, k) = is_message version a m k
 has_step_text version text (Command v) (a, e, k) = omega (arith, k.1)
 has_step_text version text (Await n) (a, e, k) = (k.1, k.2)
+has_step_text version text (At n) (v, a, e, k) = (v, k.2)

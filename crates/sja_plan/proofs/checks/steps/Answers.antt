@@ -11,7 +11,7 @@ returns-in-Err-clause-err c = λ before.
     let is = rw items at c.texts-item.is in
     let len : c.len-in-Err.result ≡ length c.loop-texts.found.items = search rules in
     let unread = rw (c.as_slice.ensures.value, c.within_of-within.ensures) at c.in-Err.ensures.err in
-    rw (c.step_fault.ensures, len)
+    rw (c.step_fault.ensures.is, len)
     (step_is_bad (document_view c.args.document.now) c.args.version c.args.document.now.nodes.items
     c.loop-texts.found.items c.loop-texts.texts-index c.texts-item.result c.in-Err.fault before
     (sym c.requires.version) refl within read is unread)

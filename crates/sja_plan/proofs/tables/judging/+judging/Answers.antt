@@ -10,11 +10,13 @@ use Rattle.toml.specs.Data.{same_key}
 use Rattle.sja_plan.specs.Inside.Items.{Item, first_of, at_first}
 use Rattle.sja_plan.specs.Inside.Judging.{next, ends, comes, behind, is_array, below, split}
 use Rattle.sja_plan.specs.Inside.Names.{texts_of}
-use Rattle.sja_plan.specs.Inside.Definitions.{item_of, items_of, FirstsAre, Splits, AreGood}
+use Rattle.sja_plan.specs.Inside.Definitions.{item_of, items_of, FirstsAre, Splits, SplitsBad, AreGood, AreBad}
 use Rattle.sja_plan.specs.declared.tables.definition.Definition.{Definition}
 use Rattle.sja_plan.specs.declared.tables.what.What.TheVariants as whats
 use Rattle.sja_plan.specs.declared.tables.state.State.TheVariants.{Absent}
+use Rattle.sja_plan.proofs.BadItems.{run_refused, next_refused, below_refused, last_refused}
 use Rattle.sja_plan.proofs.BareItems.{good_of_keys}
+use Rattle.sja_plan.proofs.Refusals.{refuses_err, on_refused}
 use Rattle.sja_plan.proofs.Judged.{keys_step, before_step, same_at, other_at, on_ok}
 use Rattle.sja_plan.proofs.OneRun.{few_good, pass_one, end_one, begin_one, good_push, splits_end, run_next, tail_step}
 use Rattle.sja_plan.proofs.OneRun.{kept_push, behind_new}
@@ -126,7 +128,7 @@ judge_key-run-preserved t c =
       | judge_key-then-not-ends+in_ok-run w ↦
           let through : ends i ≡ false = sym (c.ends-ends.ensures ts) ∙ w.if-not-ends.true in
           let x = w.in_ok-run.field-0 in
-          let pushed = kept_push ts run kept x (below i) (omega arith) (w.in_ok-run.ensures ts) in
+          let pushed = kept_push ts run kept x (below i) (omega arith) (w.in_ok-run.ensures.below ts) in
           rw (w.kept-is, w.run-is) (record {
             within = omega arith;
             long = grind (arith, common_steps, inv.long);
@@ -177,3 +179,81 @@ judge_key-returns-clause-good t c =
     let ended = so ∙ ap (λ l. option_map (λ gs. done ++ gs) (split c.run.state inner l)) over in
     on_ok {P = AreGood inner} {Q = Splits all} c.judge-2.result (λ last. splits_end all done c.run.state inner ended
     good last) c.judge-2.ensures.good
+
+pub judge-returns-in_err-judge_key-clause-bad : goal.judge-returns-in_err-judge_key-clause-bad
+judge-returns-in_err-judge_key-clause-bad t c =
+    let ts = texts_of c.args.names.now in
+    let defs = c.keys.definitions in
+    let ys = c.sort.new.definitions in
+    let at = c.keys.at in
+    let n = c.run_length.result in
+    let inv = c.keys.invariant in
+    let tail : take (length defs - at) (drop at defs) ≡ drop at ys = take_rest defs at ∙ inv.rest in
+    let count : at + n - at ≡ n = omega arith in
+    let first : Definition = record {
+      path = record { first = 0; count = 0 };
+      dots = record { first = 0; count = 0 };
+      last = 0;
+      what = whats.Pair;
+    } in
+    let same = same_at ts ys at n first
+    (subst (λ r. FirstsAre (same_key (first_of (item_of ts (slice_index_or r 0 first)))) (items_of ts (take n r)))
+    tail (c.run_length.ensures.same first)) in
+    refuses_err c.from_residual-in_err-judge_key.result c.in_err-judge_key.field-0.0 _
+    c.from_residual-in_err-judge_key.ensures.1 λ refused.
+    let run_bad : SplitsBad (items_of ts (take n (drop at ys))) =
+    subst (λ r. SplitsBad (items_of ts (take n r))) inv.rest
+    (subst (λ m. SplitsBad (items_of ts (take m (drop at defs)))) count (c.in_err-judge_key.ensures.bad refused)) in
+    let f = first_of (item_of ts (slice_index_or ys at first)) in
+    run_refused ts c.args.definitions.now ys at n f (c.in_ok-sort.ensures.stable f)
+    (inv.before first (omega arith)) same run_bad
+
+pub judge_key-returns-in_err-judge-clause-bad : goal.judge_key-returns-in_err-judge-clause-bad
+judge_key-returns-in_err-judge-clause-bad t c =
+    let ts = texts_of c.args.names.now in
+    let run = c.run.run in
+    let at = c.run.at in
+    let inv = c.run.invariant in
+    let (done, good, so) = inv.splits in
+    let all = items_of ts c.args.run.now in
+    let inner = items_of ts (take c.run.kept run) in
+    let later = items_of ts (drop (at + 1) c.args.run.now) in
+    let none : Definition = record {
+      path = record { first = 0; count = 0 };
+      dots = record {
+        first = 0;
+        count =
+            0;
+      };
+      last = 0;
+      what = whats.Pair;
+    } in
+    let i : Item = item_of ts (slice_index_or run at none) in
+    let within : at < length run = grind (arith, inv.long) in
+    let begins : split Absent [] all ≡ option_map (λ gs. done ++ gs) (split c.run.state inner (i ∷ later)) =
+    so ∙ ap (λ l. option_map (λ gs. done ++ gs) (split c.run.state inner l)) (run_next ts run c.args.run.now at
+    none within inv.rest) in
+    let is_next : next c.run.state i ≡ Some c.in-Some.next =
+    ap (λ w. behind c.run.state w (ends i)) (sym (c.comes.ensures ts))
+    ∙ ap (λ e. behind c.run.state c.comes.result e) (sym (c.ends-ends.ensures ts)) ∙ sym c.behind.ensures
+    ∙ c.in-Some.is in
+    let last : ends i ≡ true = sym (c.ends-ends.ensures ts) ∙ c.if-not-ends.false in
+    let array : is_array i ≡ true = sym (c.is_array.ensures ts) ∙ c.if-is_array.true in
+    refuses_err c.from_residual-in_err-judge.result c.in_err-judge.field-0.0 _ c.from_residual-in_err-judge.ensures.1
+    λ refused.
+    below_refused all done c.in-Some.next inner later []
+    (begin_one all done c.run.state c.in-Some.next inner i later begins is_next last array)
+    (c.in_err-judge.ensures.bad refused)
+
+pub judge_key-returns-clause-bad : goal.judge_key-returns-clause-bad
+judge_key-returns-clause-bad t c =
+    let ts = texts_of c.args.names.now in
+    let inv = c.run.invariant in
+    let (done, good, so) = inv.splits in
+    let all = items_of ts c.args.run.now in
+    let inner = items_of ts (take c.run.kept c.run.run) in
+    let over : items_of ts (drop c.run.at c.args.run.now) ≡ [] =
+    ap (items_of ts) (drop_all c.run.at c.args.run.now (grind (arith, inv.long))) in
+    let ended = so ∙ ap (λ l. option_map (λ gs. done ++ gs) (split c.run.state inner l)) over in
+    on_refused {P = AreBad inner} {Q = SplitsBad all} c.judge-2.result (λ bad. last_refused all done c.run.state inner
+    ended bad) c.judge-2.ensures.bad

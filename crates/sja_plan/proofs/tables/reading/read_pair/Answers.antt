@@ -1,7 +1,12 @@
+use Rattle.std.proofs.Common.{◌≡◌, sym, subst, refl, ◌∙◌, inl, inr, false}
 use Rattle.toml_parser.specs.Reading.{key_view}
 use Rattle.toml_parser.specs.Strings.{recursion_limit}
+use Rattle.toml.specs.Data.{boolean}
 use Rattle.toml.specs.Parse.{val}
 use Rattle.toml.proofs.Turns.{keyval_ok}
+use Rattle.sja_plan.specs.Inside.Rooms.{section_in}
+use Rattle.sja_plan.specs.Inside.Values.{HoldsTexts}
+use Rattle.sja_plan.proofs.OddPairs.{holds_by}
 use Rattle.sja_plan.proofs.tables.reading.read_pair.Goals as goal
 
 pub returns-clause-ok : goal.returns-clause-ok
@@ -13,9 +18,19 @@ returns-clause-ok c =
       keyval_ok (val recursion_limit) c.args.text.now c.in_ok-key.value.now c.in_ok-rest.rest.now k d
           c.in_ok-key.ensures.value read,
       record {
-        items = c.in_ok-pair.ensures.items;
-        section = c.in_ok-pair.ensures.section;
-        sound =
-            c.in_ok-pair.ensures.sound;
+        items = c.look.ensures.items ∙ c.in_ok-pair.ensures.items;
+        section = c.look.ensures.section ∙ c.in_ok-pair.ensures.section;
+        sound = c.look.ensures.sound;
+        odd = λ seen. elim (c.in_ok-look.ensures.odd seen) [
+          | inl before ↦ inl (sym c.in_ok-pair.ensures.odd ∙ before)
+          | inr (place, begins) ↦
+              inr (
+                d,
+                holds_by (section_in c.args.room.now) k.0 k.1 (boolean false) d
+                    (subst HoldsTexts c.in_ok-pair.ensures.is place),
+                refl,
+                begins d c.in_ok-rest.rest.now read,
+              )
+        ];
       },
     )

@@ -1,8 +1,12 @@
-use Rattle.std.proofs.Common.{◌≡◌, ℕ, ◌+◌, ◌*◌, ◌<◌, ◌≤◌, length}
+use Rattle.std.proofs.Common.{◌≡◌, ℕ, ◌+◌, ◌*◌, ◌<◌, ◌≤◌, List, [], map, length}
 use denote.Text.{Utf8}
 use denote.Shadow.{shadow}
 use Rattle.toml.specs.Data.{Items}
 use Rattle.toml.specs.Parse.{val, items}
+use Rattle.sja_plan.specs.Inside.Items.{Item}
+use Rattle.sja_plan.specs.Inside.Definitions.{bare}
+use Rattle.sja_plan.specs.Inside.Rooms.{IsSound, items_in, section_in}
+use Rattle.sja_plan.proofs.ReadMembers.{MembersFrom}
 use Rattle.sja_plan.proofs.tables.values.+passing.Given as goal
 
 abbrev pub decreases-pass_array : goal.decreases-pass_array
@@ -19,3 +23,16 @@ invariant-pass_array-items l =
 
 abbrev pub decreases-pass_array-items : goal.decreases-pass_array-items
 decreases-pass_array-items l = length l.rest
+
+abbrev pub decreases-pass_table : goal.decreases-pass_table
+decreases-pass_table l = 2 * l.depth + 2
+
+abbrev pub invariant-pass_table-members : goal.invariant-pass_table-members
+invariant-pass_table-members l =
+    shadow (Utf8 l.rest) × (length l.rest ≤ length l.fn.text) × IsSound l.room × (section_in l.room ≡ [])
+    × ((n : ℕ) → length l.fn.text < n → (m : ℕ) × (is : List Item) × (length l.rest < m) ×
+    (map bare is ≡ items_in l.room)
+    × MembersFrom (val l.fn.depth) l.fn.text n m is l.rest)
+
+abbrev pub decreases-pass_table-members : goal.decreases-pass_table-members
+decreases-pass_table-members l = length l.rest

@@ -1,7 +1,7 @@
-use Rattle.std.proofs.Common.{◌≡◌, true, false, sym, ◌∙◌, string_bytes}
+use Rattle.std.proofs.Common.{rules, ◌≡◌, true, false, sym, ◌∙◌, string_bytes}
 use Rattle.toml_parser.specs.Strings.{starts_string}
 use Rattle.toml.specs.Data.{string}
-use Rattle.toml.specs.Parse.{scalar_data}
+use Rattle.toml.specs.Parse.{atom, scalar_data}
 use Rattle.sja_plan.proofs.ReadLines.{atom_string, atom_scalar}
 use Rattle.sja_plan.proofs.tables.values.pass_atom.Goals as goal
 
@@ -17,3 +17,11 @@ returns-in_ok-rest-2-clause-value c =
       scalar_data c.in_ok-rest-2.field-0-0,
       atom_scalar c.args.text.now c.in_ok-rest-2.rest.now c.in_ok-rest-2.field-0-0 starts c.in_ok-rest-2.ensures.value,
     )
+
+pub returns-in_err-rest-clause-bad : goal.returns-in_err-rest-clause-bad
+unfolding atom
+returns-in_err-rest-clause-bad c = search rules
+
+pub returns-in_err-rest-2-clause-bad : goal.returns-in_err-rest-2-clause-bad
+unfolding atom
+returns-in_err-rest-2-clause-bad c = search rules

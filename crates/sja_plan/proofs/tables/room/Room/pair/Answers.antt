@@ -24,3 +24,14 @@ returns-clause-section c =
     let path = path_view c.args.key.now.path.items in
     let last = string_bytes c.args.key.now.last in
     rw c.in_ok-dots.ensures.texts (section_stays ts path last c.args.self.now.section c.requires.section)
+
+pub returns-clause-is : goal.returns-clause-is
+returns-clause-is c =
+    let ts = texts_of c.args.self.now.names in
+    let path = path_view c.args.key.now.path.items in
+    let last = string_bytes c.args.key.now.last in
+    let at = c.in_ok-dots.ensures.places in
+    let count : c.in_ok-dots.dots.count ≡ length path = at.1 ∙ sym (length-map c.args.key.now.path.items string_bytes)
+    in
+    rw c.in_ok-dots.ensures.texts (pair_is ts path last c.in_ok-dots.dots c.in_ok-dots.last at.0 count at.2
+    c.args.self.now.section c.requires.section)
