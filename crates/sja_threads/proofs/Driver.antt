@@ -5,6 +5,7 @@ pub mod Room
 pub mod Parts
 pub mod Kinds
 pub mod OneStep
+pub mod Waits
 pub mod Script
 pub mod Typed
 pub mod InReset

@@ -1,4 +1,6 @@
 pub mod RunOver
+pub mod EndsJoined
+pub mod CameFrom
 pub mod LeftOnLinks
 pub mod NodeOver
 pub mod LinksOver

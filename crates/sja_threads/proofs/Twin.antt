@@ -2,6 +2,7 @@ pub mod Steps
 pub mod Walks
 pub mod Going
 pub mod Led
+pub mod Aborts
 pub mod Named
 pub mod Deeds
 pub mod Boards

@@ -2,7 +2,7 @@
 -- the other, and the bus goes on meanwhile.
 use Rattle.std.specs.Prelude.{◌≡◌, ◌++◌, ◌≤◌, ℕ, Bool, true, List, [], ◌∷◌, drop, length, map, take}
 use Rattle.std.specs.Prelude.{slice_index_or}
-use Rattle.can_frame.specs.declared.seen.Seen.{Seen}
+use Rattle.can_frame.specs.declared.buffer_view.BufferView.{BufferView}
 use Rattle.sja_regs.specs.declared.registers.Registers.{Registers}
 use Rattle.sja_regs.specs.DriverSettings.{SettingsValue, settings_in, HasSettings}
 use Rattle.sja_script.specs.declared.step.Step.{Step}
@@ -28,14 +28,15 @@ pub data LeadOn (before : List Deed) (from : SettingsValue) : List Deed → Sett
 -- ---- one step
 
 -- a driver that had this set, that was out of reset or wasn't, and for which these bytes were kept, did this; then
--- those are kept. It is what any driver does at some registers that the port had meanwhile: they have what was set, TBS
--- is as the bus left it then, and RM may be 1 by bus-off. It counts no bits
+-- those are kept. It is what any driver does at some registers that the port had meanwhile, after some number of bits:
+-- they have what was set, TBS is as the bus left it then, and RM may be 1 by bus-off. Its log counts no bits
 pub record IsAccessAt (version : ℕ) (set : SettingsValue) (active : Bool) (kept : KeptBytes) (a : Access)
     (kept_now : KeptBytes) : Type 0 where
   pub at : Registers
-  pub seen : Seen
+  pub seen : BufferView
+  pub run : ℕ
   pub has : HasSettings at set
-  pub is : IsAccess version at seen active kept a kept_now
+  pub is : IsAccess version at seen active kept (record a { bits = run }) kept_now
   pub bits : a.bits ≡ 0
   -- of a read these are the registers and the messages by which its deed was answered
   pub read : (address : ℕ) (d : Deed) → a.step ≡ Read address → a.deeds ≡ d ∷ [] →

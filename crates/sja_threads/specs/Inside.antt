@@ -13,6 +13,7 @@ pub mod Started
 pub mod Promised
 -- ---- the bus beside its drivers, and after them
 pub mod Rounds
+pub mod EndsJoined
 pub mod JoinedRun
 pub mod EndsInOrder
 -- ---- the end of a run

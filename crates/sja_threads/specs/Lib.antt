@@ -1,6 +1,7 @@
 -- ---- one port
 pub mod Ordering
 -- ---- one driver
+pub mod Asking
 pub mod Setting
 pub mod Accessing
 pub mod Working

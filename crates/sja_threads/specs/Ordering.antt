@@ -1,5 +1,6 @@
 -- In which order turns of the bus and deeds of the driver came at the port of a node (this project's own rule).
-use Rattle.std.specs.Prelude.{◌≡◌, ◌≢◌, ◌⊎◌, ◌++◌, ℕ, Bool, true, false, if◌then◌else◌, List, [], ◌∷◌, length, map}
+use Rattle.std.specs.Prelude.{◌≡◌, ◌≢◌, ◌<◌, ◌⊎◌, ◌++◌, ◌||◌, ℕ, Bool, true, false, if◌then◌else◌, List, [], ◌∷◌}
+use Rattle.std.specs.Prelude.{length, map, All}
 use Rattle.can_bits.specs.declared.level.Level.{Level}
 use Rattle.sja_link.specs.declared.entry.Entry.{Entry}
 use Rattle.sja_link.specs.BitEntries.{MayHaveItems}
@@ -7,20 +8,22 @@ use Rattle.sja_link.specs.Carried.{bits_of}
 use Rattle.sja_link.specs.Places.{place_of}
 use Rattle.sja_link.specs.Showing.{seen_of}
 use Rattle.sja_regs.specs.declared.bus_turn.BusTurn.{BusTurn}
+use Rattle.sja_regs.specs.declared.orders.Orders.{Orders}
 use Rattle.sja_regs.specs.declared.registers.Registers.{Registers}
 use Rattle.sja_regs.specs.DriverSettings.{SettingsValue, settings_in}
 use Rattle.sja_regs.specs.Registers.{at_power_on}
 use Rattle.sja_regs.specs.Turns.{after_turn}
 use Rattle.sja_script.specs.declared.step.Step.{Step}
-use Rattle.sja_script.specs.declared.step.Step.TheVariants.{Window, Release}
+use Rattle.sja_script.specs.declared.step.Step.TheVariants.{Window, Release, Stop}
 use Rattle.sja_script.specs.declared.step_answer.StepAnswer.{StepAnswer}
-use Rattle.sja_driver.specs.Carried.{Tells, ported}
+use Rattle.sja_script.specs.declared.step_answer.StepAnswer.TheVariants.{Done as DoneAnswer}
+use Rattle.sja_driver.specs.Carried.{Tells, ported, asks_abort}
 use Rattle.sja_driver.specs.Deeds.{Deed, active_after}
 use Rattle.sja_wire.specs.Buses.{IsNodeBit}
 use Rattle.sja_threads.specs.declared.port_deed.PortDeed.{PortDeed}
-use Rattle.sja_threads.specs.declared.told.Told.{Told}
-use Rattle.sja_threads.specs.declared.told.Told.TheVariants.{Turn, Ran, Spent}
-use Rattle.sja_threads.specs.Stopping.{any_orders}
+use Rattle.sja_threads.specs.declared.notice.Notice.{Notice}
+use Rattle.sja_threads.specs.declared.notice.Notice.TheVariants.{Turn, Ran, Spent}
+use Rattle.sja_threads.specs.Needed.{most_awaited}
 
 -- ---- what came at a port
 
@@ -40,24 +43,35 @@ abbrev pub done_in_order : List PortDeed → List (Step × StepAnswer)
 done_in_order deeds = map (λ (d : PortDeed). (d.step, d.answer)) deeds
 
 -- so many bits have run by what a port was told: by the last number that it was told, and none before the first one
-abbrev pub bits_told_since : ℕ → List Told → ℕ
+abbrev pub bits_told_since : ℕ → List Notice → ℕ
 bits_told_since n [] = n
-bits_told_since n (Ran many over ∷ told) = bits_told_since many told
+bits_told_since n (Ran many orders ∷ told) = bits_told_since many told
 bits_told_since n (Turn t ∷ told) = bits_told_since n told
 bits_told_since n (Spent ∷ told) = bits_told_since n told
 
-abbrev pub bits_told : List Told → ℕ
+abbrev pub bits_told : List Notice → ℕ
 bits_told told = bits_told_since 0 told
 
--- its driver was found to have ended, or wasn't, as it was told that last
-abbrev pub ended_told_since : Bool → List Told → Bool
+-- its driver was found to have ended, as it was told one of these numbers, or wasn't yet
+abbrev pub ended_told_since : Bool → List Notice → Bool
 ended_told_since found [] = found
-ended_told_since found (Ran many over ∷ told) = ended_told_since over told
+ended_told_since found (Ran many orders ∷ told) = ended_told_since (found || orders.ended) told
 ended_told_since found (Turn t ∷ told) = ended_told_since found told
 ended_told_since found (Spent ∷ told) = ended_told_since found told
 
-abbrev pub ended_told : List Told → Bool
+abbrev pub ended_told : List Notice → Bool
 ended_told told = ended_told_since false told
+
+-- an abort was found to stand, as it was told such a number, and it was told nothing since
+abbrev pub abort_found : Notice → Bool
+abort_found (Ran many orders) = orders.abort
+abort_found (Turn t) = false
+abort_found Spent = false
+
+abbrev pub abort_told : List Notice → Bool
+abort_told [] = false
+abort_told (t ∷ []) = abort_found t
+abort_told (t ∷ next ∷ told) = abort_told (next ∷ told)
 
 -- ---- what it led to
 
@@ -73,55 +87,89 @@ pub record IsAnsweredAt (active : Bool) (p : Registers) (step : Step) (answer : 
   pub off : Bool
   pub tells : Tells step active p (seen_of off window) answer
 
+-- what a driver orders at these registers: that its request is aborted, and that it has ended
+abbrev pub orders_of : Registers → Orders
+orders_of p = record { abort = p.abort; ended = p.ended }
+
 -- from power-on in this version what a port was told and deeds that were done, each in its own order, lead in some
 -- order of both to these registers: a turn makes of them what a turn makes of registers, and where no bits are left
--- they are marked so; that its driver has ended was found by their mark. A deed is answered by them as they stand then,
+-- they are marked so; what its driver orders was found by their marks. A deed is answered by them as they stand then,
 -- leaves what such a deed leaves there, and has how many bits had run by what was told before. Between two of these
 -- nothing changes but the mark that the driver has ended
-pub data LedBy (version : ℕ) : List Told → List PortDeed → Registers → Type 0 where
+pub data LedBy (version : ℕ) : List Notice → List PortDeed → Registers → Type 0 where
   power_on : LedBy version [] [] (at_power_on version)
-  turn_told : (told : List Told) (deeds : List PortDeed) (p : Registers) (t : BusTurn) →
+  turn_told : (told : List Notice) (deeds : List PortDeed) (p : Registers) (t : BusTurn) →
       LedBy version told deeds p → LedBy version (told ++ Turn t ∷ []) deeds (after_turn p t)
-  bits_ran : (told : List Told) (deeds : List PortDeed) (p : Registers) (bits : ℕ) →
-      LedBy version told deeds p → LedBy version (told ++ Ran bits p.ended ∷ []) deeds p
-  spent : (told : List Told) (deeds : List PortDeed) (p : Registers) →
+  bits_ran : (told : List Notice) (deeds : List PortDeed) (p : Registers) (bits : ℕ) →
+      LedBy version told deeds p → LedBy version (told ++ Ran bits (orders_of p) ∷ []) deeds p
+  spent : (told : List Notice) (deeds : List PortDeed) (p : Registers) →
       LedBy version told deeds p → LedBy version (told ++ Spent ∷ []) deeds (record p { closed = true })
-  deed_done : (told : List Told) (deeds : List PortDeed) (p : Registers) (d : PortDeed) →
+  deed_done : (told : List Notice) (deeds : List PortDeed) (p : Registers) (d : PortDeed) →
       LedBy version told deeds p →
       IsAnsweredAt (active_by false (done_in_order deeds)) p d.step d.answer →
       d.set ≡ settings_in (ported p d.step d.answer) → d.bits ≡ bits_told told →
       LedBy version told (deeds ++ d ∷ []) (ported p d.step d.answer)
-  ended : (told : List Told) (deeds : List PortDeed) (p : Registers) →
+  ended : (told : List Notice) (deeds : List PortDeed) (p : Registers) →
       LedBy version told deeds p → LedBy version told deeds (record p { ended = true })
+
+-- an accepted stop: reset mode is entered, and no abort stands any more
+abbrev pub is_stop : Step → StepAnswer → Bool
+is_stop Stop DoneAnswer = true
+is_stop other answer = false
+
+-- one of these deeds commanded an abort, and the driver didn't stop since
+pub record HasCommandedAbort (deeds : List PortDeed) : Type 0 where
+  pub before : List PortDeed
+  pub command : PortDeed
+  pub after : List PortDeed
+  pub whole : deeds ≡ before ++ command ∷ after
+  pub asks : asks_abort command.step command.answer ≡ true
+  pub no_stop : All (λ (d : PortDeed). is_stop d.step d.answer ≡ false) after
+
+-- a front of these deeds did
+pub record HadCommandedAbort (deeds : List PortDeed) : Type 0 where
+  pub front : List PortDeed
+  pub rest : List PortDeed
+  pub whole : deeds ≡ front ++ rest
+  pub has : HasCommandedAbort front
 
 -- ---- what the bus told
 
--- the node's first start was taken, or its driver was found to have ended
-abbrev pub HasBegun : List Entry → List Told → Type 0
-HasBegun j told = ((place_of j).activation ≢ 0) ⊎ (ended_told told ≡ true)
+-- the node's first start was taken, or its driver was found to have ended, or a step of its script waits for a later
+-- bit
+abbrev pub HasBegun : List Step → List Entry → List Notice → Type 0
+HasBegun steps j told =
+    ((place_of j).activation ≢ 0) ⊎ (ended_told told ≡ true) ⊎ (length (bits_of j) < most_awaited steps)
 
--- as this journal of a run of so many bits came to be the bus told the node's port this: nothing as items were taken; a
--- turn in each bit but those in which there was nothing to tell; between two bits how many have run, which is how many
--- the journal has; and that none are left where it has all of them. No bit was run before the node had begun
-pub data TellsPort (all : ℕ) : List Entry → List Told → Type 0 where
-  nothing_yet : TellsPort all [] []
-  items : (j k : List Entry) (told : List Told) → TellsPort all j told → MayHaveItems j k → TellsPort all k told
-  bit : (j k : List Entry) (told more : List Told) (untold : Bool) (driven seen : Level) → TellsPort all j told →
-      HasBegun j told →
-      IsNodeBit (any_orders 0) (λ t. more ≡ told ++ Turn t ∷ []) (more ≡ told) untold j k driven seen →
-      TellsPort all k more
-  bits : (j : List Entry) (told : List Told) (many : ℕ) (ended : Bool) → TellsPort all j told →
-      length (bits_of j) ≡ many → TellsPort all j (told ++ Ran many ended ∷ [])
-  none_left : (j : List Entry) (told : List Told) → TellsPort all j told → length (bits_of j) ≡ all →
-      TellsPort all j (told ++ Spent ∷ [])
+-- what the driver of a port that was told this may order in a bit: an abort that was found to stand just before
+abbrev pub MayOrder : List Notice → Orders → Type 0
+MayOrder told orders = orders.abort ≡ true → abort_told told ≡ true
+
+-- as this journal of a run of so many bits came to be, of a node with this script, the bus told the node's port this:
+-- nothing as items were taken; a turn in each bit but those in which there was nothing to tell; between two bits how
+-- many have run, which is how many the journal has; and that none are left where it has all of them. No bit was run
+-- before the node had begun, and an abort was applied in one only where it was found to stand just before
+pub data TellsPort (all : ℕ) (steps : List Step) : List Entry → List Notice → Type 0 where
+  nothing_yet : TellsPort all steps [] []
+  items : (j k : List Entry) (told : List Notice) → TellsPort all steps j told → MayHaveItems j k →
+      TellsPort all steps k told
+  bit : (j k : List Entry) (told more : List Notice) (untold : Bool) (driven seen : Level) →
+      TellsPort all steps j told →
+      HasBegun steps j told →
+      IsNodeBit (MayOrder told) (λ t. more ≡ told ++ Turn t ∷ []) (more ≡ told) untold j k driven seen →
+      TellsPort all steps k more
+  bits : (j : List Entry) (told : List Notice) (many : ℕ) (orders : Orders) → TellsPort all steps j told →
+      length (bits_of j) ≡ many → TellsPort all steps j (told ++ Ran many orders ∷ [])
+  none_left : (j : List Entry) (told : List Notice) → TellsPort all steps j told → length (bits_of j) ≡ all →
+      TellsPort all steps j (told ++ Spent ∷ [])
 
 -- ---- both
 
--- some order of what the bus told by this journal of a run of so many bits and of these deeds of the driver leads from
--- power-on to registers
-pub record IsOrdered (version all : ℕ) (j : List Entry) (deeds : List Deed) : Type 0 where
-  pub told : List Told
-  pub tells : TellsPort all j told
+-- some order of what the bus told by this journal of a run of so many bits, of a node with this script, and of these
+-- deeds of the driver leads from power-on to registers
+pub record IsOrdered (version all : ℕ) (steps : List Step) (j : List Entry) (deeds : List Deed) : Type 0 where
+  pub told : List Notice
+  pub tells : TellsPort all steps j told
   pub done : List PortDeed
   pub same : done_in_order done ≡ done_at_port deeds
   pub last : Registers

@@ -1,17 +1,27 @@
 -- Why a run in threads has no log (this project's own rule).
-use Rattle.std.specs.Prelude.{◌≡◌, ◌≢◌, ◌+◌, ◌⊎◌, ℕ, None, List, length, map}
+use Rattle.std.specs.Prelude.{◌≡◌, ◌≢◌, ◌+◌, ◌*◌, ◌<◌, ◌⊎◌, ◌++◌, ℕ, suc, None, List, length, map, slice_index_or}
+use Rattle.rtrb.specs.Ring.{received}
+use Rattle.sja_link.specs.declared.entry.Entry.{Entry}
+use Rattle.sja_link.specs.declared.up.Up.{Up}
+use Rattle.sja_link.specs.Accounts.{Account}
+use Rattle.sja_link.specs.Links.{Kept, Numbered}
 use Rattle.sja_rings.specs.declared.ring_bus.RingBus.{RingBus}
-use Rattle.sja_rings.specs.Ends.{BusLists, places_down}
-use Rattle.sja_plan.specs.Plan.{PlanValue}
+use Rattle.sja_rings.specs.Ends.{BusLists, link_of_bus, places_down}
+use Rattle.sja_plan.specs.Plan.{PlanValue, steps_at}
 use Rattle.sja_driver.specs.Accesses.{most_deeds}
+use Rattle.sja_driver.specs.Deeds.{given_in, deeds_of}
 use Rattle.sja_regs.specs.declared.orders.Orders.{Orders}
+use Rattle.sja_regs.specs.DriverSettings.{settings_in}
+use Rattle.sja_regs.specs.Registers.{at_power_on}
 use Rattle.sja_wire.specs.declared.bus_fault.BusFault.{BusFault}
 use Rattle.sja_wire.specs.declared.bus_fault.BusFault.TheVariants.{BitsSpent}
 use Rattle.sja_wire.specs.Buses.{BusValue}
 use Rattle.sja_wire.specs.Lawful.{IsBusRun}
 use Rattle.sja_wire.specs.Reasons.{IsTakenAndRefused, StopsBit}
+use Rattle.sja_wire.specs.Wire.{journal_at}
 use Rattle.sja_log.specs.declared.run_fault.RunFault.{RunFault}
 use Rattle.sja_log.specs.declared.run_fault.RunFault.TheVariants.{Memory, GateCount, Bus, Thread, Unsettled}
+use Rattle.sja_threads.specs.Accessing.{Work, Follows, deeds_done, work_at}
 
 -- an end of a ring knows of no free place
 abbrev pub HasNoPlace : RingBus → Type 0
@@ -21,19 +31,28 @@ HasNoPlace b = places_down b ≡ 0
 abbrev pub any_orders : ℕ → Orders → Type 0
 any_orders node orders = Unit {0}
 
+-- the bus's ends of the links of a run of this plan, 64 of each node, stand for these journals, whatever the drivers
+-- got and gave
+pub record StandFor (plan : PlanValue) (journals : List (List Entry)) (links : List RingBus) : Type 0 where
+  pub count : length links ≡ 64 * length plan.nodes
+  pub ids : Numbered link_of_bus links
+  pub kept : (node : ℕ) (h : ℕ → Account) → node < length plan.nodes →
+      Kept BusLists (journal_at journals node) links (64 * node) h
+
 -- the bus of a run of this plan whose drivers may do so many deeds, by node, without a fault so far, stopped with
--- this one: it didn't take an item of a driver, or a bit didn't come to its end; it isn't that the bits were spent
-pub record StopsWith (counts : List ℕ) (plan : PlanValue) (f : BusFault) : Type 0 where
+-- this one: it didn't take an item of a driver, or a bit didn't come to its end; it isn't that the bits were spent. Its
+-- ends of the links stood for its journals before, and are these ones now
+pub record StopsOn (counts : List ℕ) (plan : PlanValue) (after : List RingBus) (f : BusFault) : Type 0 where
   pub was : BusValue
   pub now : BusValue
   pub links : List RingBus
-  pub after : List RingBus
   pub script : was.script ≡ plan.strikes
   pub steps : was.steps ≡ counts
   pub bits : was.run + was.left ≡ plan.bits
   pub nodes : length was.journals ≡ length plan.nodes
   pub right : was.fault ≡ None
   pub lawful : IsBusRun was.script was.run was.journals
+  pub stood : StandFor plan was.journals links
   pub why : IsTakenAndRefused BusLists plan.bits counts was.journals now.journals links after f
       ⊎ StopsBit BusLists HasNoPlace any_orders was now links after f
   pub not_spent : f ≢ BitsSpent
@@ -42,10 +61,26 @@ pub record StopsWith (counts : List ℕ) (plan : PlanValue) (f : BusFault) : Typ
 abbrev pub deed_counts : PlanValue → List ℕ
 deed_counts plan = map (λ steps. most_deeds plan.version (length steps)) plan.nodes
 
+-- what came out of an end of the bus is a front of these items
+abbrev pub CameFirst : RingBus → List Up → Type 0
+CameFirst b items = (rest : List Up) × (items ≡ received b.up ++ rest)
+
+-- the bus of a run of this plan stopped so. Of its drivers there is what each did of its script, and of the link of
+-- each activation what came out at the bus, an item that wasn't taken among it, is a front of what the driver gave
+pub record StopsWith (plan : PlanValue) (f : BusFault) : Type 0 where
+  pub after : List RingBus
+  pub stop : StopsOn (deed_counts plan) plan after f
+  pub works : List Work
+  pub follows : (node : ℕ) → node < length plan.nodes →
+      Follows plan.version (settings_in (at_power_on plan.version)) (steps_at plan node) (work_at works node)
+  pub came : (node a : ℕ) (b : RingBus) → node < length plan.nodes → a < 64 →
+      CameFirst (slice_index_or after (64 * node + a) b)
+      (given_in (deeds_of (deeds_done (work_at works node)) (suc a)))
+
 -- what a run of this plan may answer for want of a log, once its gates are counted
 abbrev pub IsFaultOf : PlanValue → RunFault → Type 0
 IsFaultOf plan Memory = Unit {0}
 IsFaultOf plan GateCount = ⊥
-IsFaultOf plan (Bus f) = StopsWith (deed_counts plan) plan f
+IsFaultOf plan (Bus f) = StopsWith plan f
 IsFaultOf plan Thread = Unit {0}
 IsFaultOf plan Unsettled = Unit {0}

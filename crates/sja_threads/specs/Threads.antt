@@ -31,8 +31,9 @@ pub record IsThreadedRun (plan : PlanValue) (log : RunValue) (quits : Bool) : Ty
       (last : SettingsValue)
       × LeadToSettings (settings_in (at_power_on plan.version)) (deeds_done (work_at works node)) last
   pub ordered : (node : ℕ) → node < length plan.nodes →
-      IsOrdered plan.version plan.bits (journal_at (journals_in log) node) (deeds_done (work_at works node))
+      IsOrdered plan.version plan.bits (steps_at plan node) (journal_at (journals_in log) node)
+      (deeds_done (work_at works node))
   pub linked : (node : ℕ) (d : NodeValue) → node < length log.nodes → AreLinked (slice_index_or log.nodes node d)
-  pub needed : IsNeeded plan.bits log
+  pub needed : IsNeeded plan log
   pub all_done : quits ≡ false → (node : ℕ) (d : NodeValue) → node < length log.nodes →
       length (slice_index_or log.nodes node d).done ≡ length (steps_at plan node)

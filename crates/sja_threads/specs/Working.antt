@@ -10,7 +10,7 @@ use Rattle.sja_driver.specs.Holding.{HoldsBy}
 use Rattle.sja_driver.specs.LoggedDrivers.{node_of, driver_of, log_of, IsLawful}
 use Rattle.sja_driver.specs.Logs.{Traces, done_in}
 use Rattle.sja_threads.specs.declared.port_deed.PortDeed.{PortDeed}
-use Rattle.sja_threads.specs.declared.worked.Worked.{Worked}
+use Rattle.sja_threads.specs.declared.handover.Handover.{Handover}
 use Rattle.sja_threads.specs.Accessing.{Work, Follows, deeds_done}
 use Rattle.sja_threads.specs.Ordering.{done_at_port, done_in_order}
 use Rattle.sja_threads.specs.Setting.{LeadToSettings}
@@ -25,7 +25,7 @@ AreUntouched {E} stands j links base = (a : ℕ) (d : E) → a < 64 →
 -- answered each as its state and what was set before it have it, what it released is theirs, and, whatever the journal
 -- of the node is, its ends stand beside it for these deeds; those at its port were noted there
 pub record HasWorked {E : Type 0} (stands : E → Lists → Type 0) (set : SettingsValue) (node : ℕ) (steps : List Step)
-    (links : List E) (w : Worked E) (at_port : List PortDeed) : Type 0 where
+    (links : List E) (w : Handover E) (at_port : List PortDeed) : Type 0 where
   pub work : Work
   pub own : node_of w.driver ≡ node
   pub lawful : IsLawful w.driver

@@ -6,6 +6,7 @@ use super::locked_port::LockedPort;
 use super::order::Order;
 use super::pass::Pass;
 use super::waits::{SHORT, wait_a_while};
+use sja_script::StepAnswer;
 use std::sync::{Mutex, Wait};
 use std::thread::Parker;
 
@@ -22,7 +23,9 @@ pub(crate) struct AtGate<'a, N: Order, R, G: Drop> {
 }
 
 impl<'a, N: Order, R: Wait, G: Gate> AtGate<'a, N, R, G> {
-    ghost use Rattle.std.specs.Prelude.{◌≡◌, true, false};
+    ghost use Rattle.std.specs.Prelude.{◌≡◌, true, false, None, IfSome};
+    ghost use Rattle.sja_threads.specs.Asking.{IsNextNumber};
+    ghost use Rattle.sja_threads.specs.Inside.Accesses.{EndsWait};
 
     /// Where a thread tries steps at this port, as this gate lets it.
     pub(crate) fn new(
@@ -43,7 +46,9 @@ impl<'a, N: Order, R: Wait, G: Gate> AtGate<'a, N, R, G> {
     /// Asks the gate about a try of a node's step, whose number stands in `tries`, until it lets one go, whose number
     /// stands there then. It says whether it does; else it quit.
     pub(crate) fn lets_go(&self, node: u8, step: u32, tries: &mut u32) -> bool
-        ensures { result ≡ false → G.QUITS ≡ true }
+        requires { G.asks self.now.gate node step tries.old }
+        ensures never { result ≡ false → G.QUITS ≡ true }
+        ensures asked { G.asks self.now.gate node step tries.new }
     {
         for _ in self.rt.forever() {
             match self.gate.turn(node, step, *tries) {
@@ -56,19 +61,55 @@ impl<'a, N: Order, R: Wait, G: Gate> AtGate<'a, N, R, G> {
     }
 
     /// Waits a while, and counts the next try.
-    fn wait(&self, tries: &mut u32) {
+    fn wait(&self, tries: &mut u32)
+        ensures { IsNextNumber tries.old tries.new }
+    {
         wait_a_while(self.rt, &self.parker, *tries);
         *tries = tries.saturating_add(1);
     }
 
     /// Waits a while after a node's try in vain, and counts the next one: as the greatest number there is, where
     /// nothing can end the wait any more.
-    pub(crate) fn wait_in_vain(&self, node: u8, tries: &mut u32) {
+    pub(crate) fn wait_in_vain(&self, node: u8, tries: &mut u32)
+        ensures { IsNextNumber tries.old tries.new }
+    {
         self.wait(tries);
         if let Some(lobby) = self.lobby {
             if *tries > SHORT && lobby.lock(self.rt).tell_try(node) {
                 *tries = u32::MAX;
             }
+        }
+    }
+
+    /// Waits in a node's step of this number until so many bits have run: what the step answers then; none where the
+    /// gate quit, which is asked before each look.
+    pub(crate) fn wait_for(&self, node: u8, bits: u32, step: u32) -> Option<StepAnswer>
+        requires { G.asks self.now.gate node step 1 }
+        ensures ends { IfSome result (EndsWait bits) }
+        ensures never { result ≡ None → G.QUITS ≡ true }
+    {
+        let mut tries = 1u32;
+        for _ in self.rt.forever() {
+            if !self.lets_go(node, step, &mut tries) {
+                return None;
+            }
+            if let Some(answer) = self.reached(bits) {
+                self.leave(node, tries);
+                return Some(answer);
+            }
+            self.wait_in_vain(node, &mut tries);
+        }
+        unreachable!()
+    }
+
+    /// How a wait until so many bits have run ends now by what the port was told; none where it goes on. Where there is
+    /// no lobby no bits are told, and the gate alone holds the step.
+    fn reached(&self, bits: u32) -> Option<StepAnswer>
+        ensures { IfSome result (EndsWait bits) }
+    {
+        match self.lobby {
+            Some(_) => self.port.lock(self.rt).reached(bits),
+            None => Some(StepAnswer::Done),
         }
     }
 

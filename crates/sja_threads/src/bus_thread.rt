@@ -1,8 +1,10 @@
 //! [`BusThread`]: the bus in the caller's thread, in rounds beside its drivers' threads and after them.
 
-ghost use Rattle.std.specs.Prelude.{◌≡◌, ◌≤◌, ◌⊎◌, true, length, None};
+ghost use Rattle.std.specs.Prelude.{◌≡◌, ◌≤◌, ◌<◌, ◌⊎◌, true, false, length, None};
 ghost use Rattle.sja_threads.specs.Inside.Boards.{AllBegun, turns_in};
+ghost use Rattle.sja_threads.specs.Needed.{most_awaited};
 
+use super::last_awaited::{last_awaited, most_awaited};
 use super::lobby::Lobby;
 use super::order::Order;
 use super::round::Round;
@@ -12,6 +14,7 @@ use sja_bus::{Bus, BusFault};
 use sja_log::End;
 use sja_plan::Plan;
 use sja_rings::RingBus;
+use sja_script::Step;
 use std::sync::{Mutex, Wait};
 use std::thread::Parker;
 
@@ -31,11 +34,10 @@ impl BusThread {
     ghost use Rattle.sja_plan.specs.Plan.{PlanValue};
     ghost use Rattle.sja_rings.specs.Ends.{link_of_bus};
     ghost use Rattle.sja_threads.specs.declared.round.Round.TheVariants.{Ran, Rests, Spent};
-    ghost use Rattle.sja_threads.specs.Needed.{AllAtRest};
-    ghost use Rattle.sja_threads.specs.Stopping.{StopsWith};
-    ghost use Rattle.sja_threads.specs.declared.told.Told.{Told};
+    ghost use Rattle.sja_threads.specs.Needed.{AllAtRest, last_awaited};
+    ghost use Rattle.sja_threads.specs.declared.notice.Notice.{Notice};
     ghost use Rattle.sja_threads.specs.Inside.Boards.{AllBegun, AllEnded, AreTold, turns_in};
-    ghost use Rattle.sja_threads.specs.Inside.Rounds.{EachHas, IsUnderWay, GoesOn, EndsAs};
+    ghost use Rattle.sja_threads.specs.Inside.Rounds.{EachHas, IsUnderWay, GoesOn, Stops, EndsAs};
 
     /// Takes what the drivers gave.
     ///
@@ -45,15 +47,16 @@ impl BusThread {
         requires ids { Numbered link_of_bus self.old.links.items }
         ensures on { OnOk result ((plan : PlanValue) → IsUnderWay plan self.old → GoesOn plan self.old self.new) }
         ensures run { self.new.run ≡ self.old.run }
-        ensures told { OnOk result ((all : ℕ) (told : List (List Told)) →
-            AreTold all self.old.bus.journals told → AreTold all self.new.bus.journals told) }
+        ensures told { OnOk result ((plan : PlanValue) (told : List (List Notice)) →
+            AreTold plan self.old.bus.journals told → AreTold plan self.new.bus.journals told) }
         ensures fault { IfErr result (λ f. (plan : PlanValue) → IsUnderWay plan self.old →
-            StopsWith self.old.bus.steps plan f) }
+            Stops plan self.old self.new f) }
     {
         self.bus.gather(self.links.as_mut_slice())
     }
 
-    /// Runs a bit where one is due: where some controller isn't at rest. Where none is left the bits are spent.
+    /// Runs a bit where one is due: where some controller isn't at rest, or fewer have run than a step of the plan
+    /// waits for. Where none is left the bits are spent.
     ///
     /// Error: what the bus answers for another cause than spent bits.
     #[tactic(auto, using(crate::proofs::Rounds::GoesOn::stays_on, crate::proofs::Rounds::GoesOn::all_rest))]
@@ -61,23 +64,26 @@ impl BusThread {
         &mut self,
         plan: &Plan,
         board: &mut TurnBoard<N, R>,
+        awaited: u32,
     ) -> Result<Round, BusFault>
         requires way { IsUnderWay plan.now self.old }
         requires ports { length plan.now.nodes ≤ length board.old.told.items }
-        requires begun { AllBegun self.old.bus.journals (turns_in board.old.told.items) }
+        requires begun { AllBegun plan.now self.old.bus.journals (turns_in board.old.told.items) }
+        requires awaited { awaited ≡ last_awaited plan.now.nodes }
         ensures on { OnOk result (GoesOn plan.now self.old self.new) }
         ensures ports { length board.new.told.items ≡ length board.old.told.items }
-        ensures told { OnOk result (AreTold plan.now.bits self.old.bus.journals (turns_in board.old.told.items) →
-            AreTold plan.now.bits self.new.bus.journals (turns_in board.new.told.items)) }
+        ensures told { OnOk result (AreTold plan.now self.old.bus.journals (turns_in board.old.told.items) →
+            AreTold plan.now self.new.bus.journals (turns_in board.new.told.items)) }
         ensures ended { OnOk result (AllEnded (length plan.now.nodes) (turns_in board.old.told.items) →
             AllEnded (length plan.now.nodes) (turns_in board.new.told.items)) }
         ensures ran { result ≡ Ok Ran → self.new.run ≡ self.old.run + 1 }
-        ensures rests { result ≡ Ok Rests → AllAtRest self.new.bus.journals }
+        ensures rests { result ≡ Ok Rests → (awaited ≤ self.new.run) × AllAtRest self.new.bus.journals }
         ensures spent { result ≡ Ok Spent → self.new.spent ≡ true }
         ensures all { result ≡ Ok Spent → EachHas plan.now.bits self.new.bus.journals }
-        ensures fault { IfErr result (StopsWith self.old.bus.steps plan.now) }
+        ensures fault { IfErr result (Stops plan.now self.old self.new) }
     {
-        if self.bus.at_rest() {
+        let rests = self.bus.at_rest();
+        if !is_wanted(rests, self.run, awaited) {
             return Ok(Round::Rests);
         }
         if self.run >= plan.bits() {
@@ -90,28 +96,31 @@ impl BusThread {
     }
 
     /// One round of the bus beside its drivers' threads: takes what the drivers gave, and then runs a bit where one
-    /// is due. None is before of each node a start was taken or its driver was found to have ended.
+    /// is due. None is before of each node a start was taken, or its driver was found to have ended or to wait for a
+    /// later bit.
     ///
     /// Error: what the bus answers for another cause than spent bits.
     fn round_beside<N: Order, R: Wait>(
         &mut self,
         plan: &Plan,
         board: &mut TurnBoard<N, R>,
+        awaited: u32,
     ) -> Result<Round, BusFault>
         requires way { IsUnderWay plan.now self.old }
         requires ports { length plan.now.nodes ≤ length board.old.told.items }
+        requires awaited { awaited ≡ last_awaited plan.now.nodes }
         ensures on { OnOk result (GoesOn plan.now self.old self.new) }
         ensures ports { length board.new.told.items ≡ length board.old.told.items }
-        ensures told { OnOk result (AreTold plan.now.bits self.old.bus.journals (turns_in board.old.told.items) →
-            AreTold plan.now.bits self.new.bus.journals (turns_in board.new.told.items)) }
+        ensures told { OnOk result (AreTold plan.now self.old.bus.journals (turns_in board.old.told.items) →
+            AreTold plan.now self.new.bus.journals (turns_in board.new.told.items)) }
         ensures all { result ≡ Ok Spent → EachHas plan.now.bits self.new.bus.journals }
-        ensures fault { IfErr result (StopsWith self.old.bus.steps plan.now) }
+        ensures fault { IfErr result (Stops plan.now self.old self.new) }
     {
         self.gather()?;
-        if !all_begun(&self.bus, board) {
+        if !all_begun(plan, &self.bus, board) {
             return Ok(Round::Rests);
         }
-        self.bit_if_due(plan, board)
+        self.bit_if_due(plan, board, awaited)
     }
 
     /// The same, but that each port is told first how many bits have run, and last, where none is left, that. It says
@@ -122,19 +131,21 @@ impl BusThread {
         &mut self,
         plan: &Plan,
         board: &mut TurnBoard<N, R>,
+        awaited: u32,
     ) -> Result<(Round, bool), BusFault>
         requires way { IsUnderWay plan.now self.old }
         requires ports { length plan.now.nodes ≤ length board.old.told.items }
+        requires awaited { awaited ≡ last_awaited plan.now.nodes }
         ensures on { OnOk result (GoesOn plan.now self.old self.new) }
         ensures ports { length board.new.told.items ≡ length board.old.told.items }
-        ensures told { OnOk result (AreTold plan.now.bits self.old.bus.journals (turns_in board.old.told.items) →
-            AreTold plan.now.bits self.new.bus.journals (turns_in board.new.told.items)) }
+        ensures told { OnOk result (AreTold plan.now self.old.bus.journals (turns_in board.old.told.items) →
+            AreTold plan.now self.new.bus.journals (turns_in board.new.told.items)) }
         ensures ended { IfOk result (λ r. r.1 ≡ true →
             AllEnded (length plan.now.nodes) (turns_in board.new.told.items)) }
-        ensures fault { IfErr result (StopsWith self.old.bus.steps plan.now) }
+        ensures fault { IfErr result (Stops plan.now self.old self.new) }
     {
         board.tell_bits(self.bus.bits_run());
-        let round = self.round_beside(plan, board)?;
+        let round = self.round_beside(plan, board, awaited)?;
         match round {
             Round::Spent => {
                 board.close_all();
@@ -160,16 +171,17 @@ impl BusThread {
         requires ports { length plan.now.nodes ≤ length board.old.told.items }
         ensures on { OnOk result (GoesOn plan.now self.old self.new) }
         ensures ports { length board.new.told.items ≡ length board.old.told.items }
-        ensures told { OnOk result (AreTold plan.now.bits self.old.bus.journals (turns_in board.old.told.items) →
-            AreTold plan.now.bits self.new.bus.journals (turns_in board.new.told.items)) }
+        ensures told { OnOk result (AreTold plan.now self.old.bus.journals (turns_in board.old.told.items) →
+            AreTold plan.now self.new.bus.journals (turns_in board.new.told.items)) }
         ensures ended { OnOk result (AllEnded (length plan.now.nodes) (turns_in board.new.told.items)) }
-        ensures fault { IfErr result (StopsWith self.old.bus.steps plan.now) }
+        ensures fault { IfErr result (Stops plan.now self.old self.new) }
     {
         let rt = board.rt;
         let parker = Parker::new();
+        let awaited = last_awaited(plan);
         let mut idle = 1u32;
         for _ in rt.forever() {
-            let (round, over) = self.told_round(plan, board)?;
+            let (round, over) = self.told_round(plan, board, awaited)?;
             if round == Round::Ran {
                 idle = 1;
             } else {
@@ -186,8 +198,8 @@ impl BusThread {
         unreachable!()
     }
 
-    /// The rounds of the bus after its drivers' threads: it takes what is left, and runs the bits that are due, until
-    /// every controller is at rest or the bits are spent. It says which of the two it was.
+    /// The rounds of the bus after its drivers' threads: it tells each port how many bits have run, takes what is left,
+    /// and runs the bits that are due, until none is or the bits are spent. It says which of the two it was.
     ///
     /// Error: what the bus answers for another cause than spent bits.
     pub(crate) fn rounds_after_drivers<N: Order, R: Wait>(
@@ -200,13 +212,15 @@ impl BusThread {
         requires ended { AllEnded (length plan.now.nodes) (turns_in board.old.told.items) }
         ensures ends { IfOk result (EndsAs plan.now self.old self.new) }
         ensures ports { length board.new.told.items ≡ length board.old.told.items }
-        ensures told { OnOk result (AreTold plan.now.bits self.old.bus.journals (turns_in board.old.told.items) →
-            AreTold plan.now.bits self.new.bus.journals (turns_in board.new.told.items)) }
-        ensures fault { IfErr result (StopsWith self.old.bus.steps plan.now) }
+        ensures told { OnOk result (AreTold plan.now self.old.bus.journals (turns_in board.old.told.items) →
+            AreTold plan.now self.new.bus.journals (turns_in board.new.told.items)) }
+        ensures fault { IfErr result (Stops plan.now self.old self.new) }
     {
+        let awaited = last_awaited(plan);
         for _ in self.run..=plan.bits() {
+            board.tell_bits(self.bus.bits_run());
             self.gather()?;
-            match self.bit_if_due(plan, board)? {
+            match self.bit_if_due(plan, board, awaited)? {
                 Round::Ran => {}
                 Round::Rests if !self.spent => return Ok(End::Rest),
                 _ => return Ok(End::Bits),
@@ -216,23 +230,43 @@ impl BusThread {
     }
 }
 
-/// Whether of each node a start was taken, or its driver was found to have ended.
-fn all_begun<N: Order, R: Wait>(bus: &Bus, board: &TurnBoard<N, R>) -> bool
-    requires right { bus.now.fault ≡ None }
-    requires ports { length bus.now.journals ≤ length board.now.told.items }
-    ensures { result ≡ true → AllBegun bus.now.journals (turns_in board.now.told.items) }
+/// Whether a bit is to be run after so many, where every controller rests or doesn't.
+fn is_wanted(rests: bool, run: u32, awaited: u32) -> bool
+    ensures yes { result ≡ true → (rests ≡ false) ⊎ (run < awaited) }
+    ensures no { result ≡ false → (rests ≡ true) × (awaited ≤ run) }
 {
-    for node in 0..board.told.len() {
-        if !has_begun(bus.started(node as u8), board.told[node].ended) {
+    !rests || run < awaited
+}
+
+/// Whether of each node a start was taken, or its driver was found to have ended, or to wait for a later bit.
+fn all_begun<N: Order, R: Wait>(plan: &Plan, bus: &Bus, board: &TurnBoard<N, R>) -> bool
+    requires right { bus.now.fault ≡ None }
+    requires nodes { length bus.now.journals ≡ length plan.now.nodes }
+    requires ports { length plan.now.nodes ≤ length board.now.told.items }
+    ensures { result ≡ true → AllBegun plan.now bus.now.journals (turns_in board.now.told.items) }
+{
+    let run = bus.bits_run();
+    for node in 0..plan.nodes() {
+        let told = &board.told[node];
+        let waits = waits_for_later(plan.steps(node), run, told.awaited);
+        if !has_begun(bus.started(node as u8), told.ended, waits) {
             return false;
         }
     }
     true
 }
 
-/// Whether a node has begun whose first start was taken or wasn't, and whose driver was found to have ended or wasn't.
-fn has_begun(started: bool, ended: bool) -> bool
-    ensures { result ≡ true → (started ≡ true) ⊎ (ended ≡ true) }
+/// Whether the driver of this script, which was found to wait for so many bits, waits for more than have run.
+fn waits_for_later(steps: &[Step], run: u32, awaited: u32) -> bool
+    ensures { result ≡ true → run < most_awaited steps.now }
 {
-    started || ended
+    run < awaited && run < most_awaited(steps)
+}
+
+/// Whether a node has begun whose first start was taken or wasn't, and whose driver was found to have ended, and to
+/// wait for a later bit, or wasn't.
+fn has_begun(started: bool, ended: bool, waits: bool) -> bool
+    ensures { result ≡ true → (started ≡ true) ⊎ (ended ≡ true) ⊎ (waits ≡ true) }
+{
+    started || ended || waits
 }

@@ -3,12 +3,13 @@
 ghost use Rattle.std.specs.Prelude.{◌≡◌, ◌≤◌, ◌<◌, ℕ, length, slice_index_or};
 ghost use Rattle.sja_rings.specs.declared.ring_driver.RingDriver.{RingDriver as Driver};
 ghost use Rattle.sja_regs.specs.declared.registers.Registers.{Registers};
-ghost use Rattle.sja_threads.specs.declared.worked.Worked.{Worked as WorkedValue};
+ghost use Rattle.sja_threads.specs.declared.handover.Handover.{Handover as WorkedValue};
 ghost use Rattle.sja_threads.specs.Ordering.{LedBy};
 ghost use Rattle.sja_threads.specs.Inside.Boards.{turns_in};
 ghost use Rattle.sja_threads.specs.Inside.EndsInOrder.{AreInOrder};
 ghost use Rattle.sja_threads.specs.Inside.Names.{IsNamed};
 
+use super::handover::Handover;
 use super::known_half::KnownHalf;
 use super::locked_port::LockedPort;
 use super::never::wait_for_ever;
@@ -16,14 +17,13 @@ use super::order::Order;
 use super::port_deed::PortDeed;
 use super::turn_board::TurnBoard;
 use super::turns_of_node::TurnsOfNode;
-use super::worked::Worked;
 use sja_rings::RingDriver;
 use std::sync::{Mutex, Wait};
 
 /// Compares the port of each of so many nodes with the turns that the bus told and with what the driver handed back.
 pub(crate) fn compare_all<N: Order, R: Wait>(
     board: &mut TurnBoard<N, R>,
-    workeds: &mut Vec<Worked<RingDriver>>,
+    workeds: &mut Vec<Handover<RingDriver>>,
     nodes: u8,
 )
     requires told { nodes ≤ length board.old.told.items }

@@ -14,9 +14,9 @@ ghost use Rattle.sja_threads.specs.Inside.Names.{IsNamed};
 use super::at_gate::AtGate;
 use super::deeds_of_node::DeedsOfNode;
 use super::gate::Gate;
+use super::handover::Handover;
 use super::locked_port::LockedPort;
 use super::order::Order;
-use super::worked::Worked;
 use sja_driver::{LoggedDriver, WorkLog, by_bytes};
 use sja_link::DriverEnd;
 use sja_regs::DriverSettings;
@@ -95,9 +95,11 @@ impl<N: Order, D: DriverEnd + Drop> DriverThread<N, D> {
         number: u32,
         tries: &mut u32,
     ) -> Option<StepAnswer>
-        requires { MayWork D.link self.old 1 }
+        requires may { MayWork D.link self.old 1 }
+        requires asked { G.asks at.now.gate self.old.done.node number tries.old }
         ensures done { DoesDeed D.DriverEnd self.old self.new deed.now result }
         ensures never { result ≡ None → G.QUITS ≡ true }
+        ensures asked { G.asks at.now.gate self.old.done.node number tries.new }
     {
         for _ in at.rt.forever() {
             if let Some(answer) = self.try_deed(at.rt, at.port, deed) {
@@ -110,6 +112,24 @@ impl<N: Order, D: DriverEnd + Drop> DriverThread<N, D> {
             }
         }
         unreachable!()
+    }
+
+    /// What it hands back when its script has ended.
+    fn hand_back(self) -> Handover<D>
+        ensures { result ≡ record { links = self.links; driver = self.driver; done = self.done.known } }
+    {
+        let DriverThread {
+            driver,
+            links,
+            done,
+            ..
+        } = self;
+        let DeedsOfNode { known, .. } = done;
+        Handover {
+            links,
+            driver,
+            done: known,
+        }
     }
 
     /// Does steps, one after the other, until the gate quits.
@@ -135,7 +155,7 @@ pub(crate) fn follow<N: Order, D: DriverEnd + Drop, G: Gate, R: Wait>(
     links: Vec<D>,
     log: WorkLog,
     steps: &[Step],
-) -> Worked<D>
+) -> Handover<D>
     requires none { done.known.list ≡ [] }
     requires empty { IsEmpty log }
     requires room { HasRoom (length steps.now) log }
@@ -160,18 +180,7 @@ pub(crate) fn follow<N: Order, D: DriverEnd + Drop, G: Gate, R: Wait>(
     };
     thread.do_steps(&at, steps);
     at.end(thread.done.node);
-    let DriverThread {
-        driver,
-        links,
-        done,
-        ..
-    } = thread;
-    let DeedsOfNode { known, .. } = done;
-    Worked {
-        links,
-        driver,
-        done: known,
-    }
+    thread.hand_back()
 }
 
 /// The part of a node's driver in a thread of its own (this project's own rule): the steps of its script, one after the
@@ -187,7 +196,8 @@ pub(crate) fn follow<N: Order, D: DriverEnd + Drop, G: Gate, R: Wait>(
 /// A step is one deed. In version 3 a write is up to three, one after the other, by what the port shows as it begins:
 /// what the driver has set is known, and what the bus brought meanwhile isn't. Where a link gives an item back, the
 /// gate is asked again, and the deeds that are left are tried. `Read` and `Write` are those of any address there, in
-/// either mode, and no controller refuses them.
+/// either mode, and no controller refuses them. `At` is no deed, and counts no bits here: the gate alone holds it. In
+/// [`run_threads`](crate::run_threads) it passes once so many bits have run, and is given up where they are spent.
 ///
 /// The drivers of [`run_threads`](crate::run_threads) do the same, from what is set after power-on. This call serves
 /// who runs a bus of his own, and the tests.
@@ -199,7 +209,7 @@ pub fn work<'a, N: Order, D: DriverEnd + Drop, G: Gate>(
     steps: &[Step],
     gate: G,
     log: WorkLog,
-) -> Worked<D>
+) -> Handover<D>
     requires none { done.known.list ≡ [] }
     requires empty { IsEmpty log }
     requires room { HasRoom (length steps.now) log }

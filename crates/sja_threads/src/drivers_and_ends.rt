@@ -3,7 +3,7 @@
 ghost use Rattle.std.specs.Prelude.{◌≡◌, IfOk};
 ghost use Rattle.sja_threads.specs.Inside.Settling.{all_drivers, all_ends};
 
-use super::worked::Worked;
+use super::handover::Handover;
 use can_frame::OutOfMemory;
 use sja_driver::LoggedDriver;
 use sja_rings::RingDriver;
@@ -24,7 +24,7 @@ impl DriversAndEnds {
     /// Error: [`OutOfMemory`] where memory was refused.
     pub(crate) fn of(
         alloc: Global,
-        workeds: Vec<Worked<RingDriver>>,
+        workeds: Vec<Handover<RingDriver>>,
     ) -> Result<DriversAndEnds, OutOfMemory>
         ensures drivers { IfOk result (λ apart. apart.drivers.items ≡ all_drivers workeds.items) }
         ensures ends { IfOk result (λ apart. apart.ends.items ≡ all_ends workeds.items) }
@@ -32,7 +32,7 @@ impl DriversAndEnds {
         let mut drivers = Vec::new(alloc);
         let mut ends = Vec::new(alloc);
         for worked in workeds {
-            let Worked {
+            let Handover {
                 mut links,
                 driver,
                 ..

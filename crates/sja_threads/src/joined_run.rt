@@ -6,8 +6,8 @@ ghost use Rattle.sja_threads.specs.Inside.Promised.{IsPromised};
 
 use super::bus_thread::BusThread;
 use super::gate::Gate;
+use super::handover::Handover;
 use super::thread_promise::Child;
-use super::worked::Worked;
 use sja_rings::RingDriver;
 use std::thread::Threads;
 
@@ -16,15 +16,15 @@ use std::thread::Threads;
 #[derive(Drop)]
 pub(crate) struct JoinedRun {
     pub(crate) bus: BusThread,
-    pub(crate) workeds: Vec<Worked<RingDriver>>,
+    pub(crate) workeds: Vec<Handover<RingDriver>>,
 }
 
 /// Joins the threads of all drivers, and gives what each handed back, in order.
 pub(crate) fn join_all<G: Gate, R: Threads>(
     rt: &R,
     children: Vec<Child<G>>,
-    workeds: Vec<Worked<RingDriver>>,
-) -> Vec<Worked<RingDriver>>
+    workeds: Vec<Handover<RingDriver>>,
+) -> Vec<Handover<RingDriver>>
     requires room { vec_len children ≤ vec_capacity workeds }
     requires none { workeds.items ≡ [] }
     ensures { EachRelated (IsPromised G.QUITS) (map (λ child. child.promise) children.items) result.items }

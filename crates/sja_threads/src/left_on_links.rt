@@ -1,11 +1,11 @@
 //! What is left on the links of a run that is over.
 
-ghost use Rattle.std.specs.Prelude.{◌≡◌, ◌⊎◌, ◌<◌, ℕ, length, slice_index_or, IfOk, IfErr};
+ghost use Rattle.std.specs.Prelude.{◌≡◌, ◌⊎◌, ◌<◌, ℕ, true, length, slice_index_or, IfOk, IfErr};
 ghost use Rattle.sja_rings.specs.declared.ring_bus.RingBus.{RingBus as Bus};
 ghost use Rattle.sja_rings.specs.declared.ring_driver.RingDriver.{RingDriver as Driver};
 ghost use Rattle.sja_rings.specs.Ends.{OneLink};
 ghost use Rattle.sja_log.specs.declared.run_fault.RunFault.TheVariants.{Memory, Unsettled};
-ghost use Rattle.sja_threads.specs.Inside.Settling.{IsLeftOn, AreLeftOn};
+ghost use Rattle.sja_threads.specs.Inside.Settling.{CameFrom, IsLeftOn, AreLeftOn};
 
 use sja_log::{LeftDown, RunFault};
 use sja_rings::{RingBus, RingDriver, end_bus, end_driver, settle};
@@ -31,7 +31,39 @@ fn settle_link(alloc: Global, bus: RingBus, driver: RingDriver) -> Result<LeftDo
     Ok(left_down)
 }
 
-/// The same of each of these links.
+/// Ends both ends of each of these links, and says whether each gave an account. Then what came out upward at each is a
+/// front of what went in there.
+pub(crate) fn all_account(links: Vec<RingBus>, ends: Vec<RingDriver>) -> bool
+    requires count { length links.items ≡ length ends.items }
+    requires pairs { (i : ℕ) (b : Bus) (d : Driver) → i < length links.items →
+        OneLink (slice_index_or links.items i b) (slice_index_or ends.items i d) }
+    ensures { result ≡ true → (i : ℕ) (b : Bus) (d : Driver) → i < length links.items →
+        CameFrom (slice_index_or links.items i b) (slice_index_or ends.items i d) }
+{
+    let mut ends = ends.into_iter();
+    for link in links {
+        let Some(end) = ends.next() else {
+            unreachable!()
+        };
+        if !accounts(link, end) {
+            return false;
+        }
+    }
+    true
+}
+
+/// The same of one.
+fn accounts(bus: RingBus, driver: RingDriver) -> bool
+    requires { OneLink bus driver }
+    ensures { result ≡ true → CameFrom bus driver }
+{
+    match settle(end_bus(bus), end_driver(driver)) {
+        Ok(_) => true,
+        Err(_) => false,
+    }
+}
+
+/// What lies downward on each of these links.
 ///
 /// Error: [`RunFault::Unsettled`] where something lies upward on a link, or one of its ends gave no account;
 /// [`RunFault::Memory`] where memory was refused.

@@ -3,14 +3,14 @@
 //! [`run_threads`] runs a plan: each driver in a thread of its own, the bus in the caller's, and gives the log of the
 //! run, with all that is promised of it. [`work`] is the driver's part: one step after the other, each tried until it
 //! is done. Before each try it asks a [`Gate`], which lets the step go, holds it, or quits the script. It hands back
-//! the ends of the node's links and the driver with its log ([`Worked`]). A [`TurnBoard`] is the board of a bus whose
+//! the ends of the node's links and the driver with its log ([`Handover`]). A [`TurnBoard`] is the board of a bus whose
 //! drivers stand in threads.
 //!
-//! A step of a plan is one deed, and in version 3 a write is up to three. Contracts say which steps were done, and by
-//! which deeds, `HasWorked` of `specs/Working.antt`: for every journal, so whatever the bus does meanwhile, and with
-//! what the steps before have set (`Follows` of `specs/Accessing.antt`); and of a whole run what every run has, by
-//! which events each link carried what it did, and when its bits were due, `IsThreadedRun` of `specs/Threads.antt`. No
-//! clause says that a wait ends, or how a port stands behind its lock.
+//! A step of a plan is one deed; in version 3 a write is up to three, and a wait for a bit none. Contracts say which
+//! steps were done, and by which deeds, `HasWorked` of `specs/Working.antt`: for every journal, so whatever the bus
+//! does meanwhile, and with what the steps before have set (`Follows` of `specs/Accessing.antt`); and of a whole run
+//! what every run has, by which events each link carried what it did, and when its bits were due, `IsThreadedRun` of
+//! `specs/Threads.antt`. No clause says that a wait ends, or how a port stands behind its lock.
 //!
 //! The run alone takes memory, none of it for a bit.
 #![tactic(auto)]
@@ -23,14 +23,17 @@ mod driver_thread;
 mod drivers_and_ends;
 mod gate;
 mod halves;
+mod handover;
 mod joined_run;
 mod kept_half;
 mod known_half;
+mod last_awaited;
 mod laws;
 mod left_on_links;
 mod lobby;
 mod locked_port;
 mod never;
+mod notice;
 mod order;
 mod ordered_ports;
 mod pass;
@@ -43,23 +46,23 @@ mod run_parts;
 mod thread_promise;
 mod thread_start;
 mod thread_steps;
-mod told;
 mod turn_board;
 mod turns_of_node;
 mod waits;
-mod worked;
 
 pub use deeds_of_node::DeedsOfNode;
 pub use driver_thread::work;
 pub use gate::Gate;
-pub use laws::{a_driver_in_reset_finds_reset_mode, a_step_is_one_deed_before_version_3};
+pub use handover::Handover;
+pub use laws::{
+    a_driver_in_reset_finds_reset_mode, a_step_is_one_deed_before_version_3, an_abort_was_commanded,
+};
 pub use locked_port::LockedPort;
+pub use notice::Notice;
 pub use order::Order;
 pub use ordered_ports::port_of_node;
 pub use pass::Pass;
 pub use port_lists::PortLists;
 pub use run::run_threads;
-pub use told::Told;
 pub use turn_board::TurnBoard;
 pub use turns_of_node::TurnsOfNode;
-pub use worked::Worked;

@@ -1,12 +1,14 @@
 //! [`LockedPort`]: a port behind its lock.
 
-ghost use Rattle.std.specs.Prelude.{◌≡◌, ◌++◌, [], ◌∷◌, true, false, IfSome, IfNone};
+ghost use Rattle.std.specs.Prelude.{◌≡◌, ◌≤◌, ◌++◌, [], ◌∷◌, true, false, Some, IfSome, IfNone};
 ghost use Rattle.sja_regs.specs.declared.registers.Registers.{Registers};
 ghost use Rattle.sja_regs.specs.DriverSettings.{HasSettings, settings_in};
 ghost use Rattle.sja_driver.specs.AnyDrivers.{is_out};
 ghost use Rattle.sja_driver.specs.LoggedDrivers.{driver_of, MayStep, StaysLawful, Steps};
-ghost use Rattle.sja_threads.specs.Ordering.{LedBy, active_by, bits_told, done_in_order};
-ghost use Rattle.sja_threads.specs.declared.told.Told.TheVariants.{Turn, Ran, Spent};
+ghost use Rattle.sja_threads.specs.Ordering.{LedBy, active_by, bits_told, done_in_order, orders_of};
+ghost use Rattle.sja_threads.specs.declared.notice.Notice.TheVariants.{Turn, Ran, Spent};
+ghost use Rattle.sja_script.specs.declared.step_answer.StepAnswer.TheVariants.{Done};
+ghost use Rattle.sja_threads.specs.Inside.Accesses.{EndsWait};
 ghost use Rattle.sja_threads.specs.Inside.Names.{IsNamed};
 ghost use Rattle.sja_threads.specs.Inside.Ordered.{LockedValue, IsInOrder, set_after, done_if};
 
@@ -14,25 +16,26 @@ use super::deeds_of_node::DeedsOfNode;
 use super::halves::{add, agree};
 use super::kept_half::KeptHalf;
 use super::known_half::KnownHalf;
+use super::notice::Notice;
 use super::order::Order;
 use super::port_deed::PortDeed;
-use super::told::Told;
 use super::turns_of_node::TurnsOfNode;
 use sja_driver::LoggedDriver;
 use sja_link::DriverEnd;
 use sja_regs::{BusTurn, DriverSettings, Orders, Port};
-use sja_script::{Step, StepAnswer};
+use sja_script::{Refusal, Step, StepAnswer};
 use std::marker::{Model, PhantomData};
 
-/// A port behind its lock (this project's own rule): that of a node, how many bits have run by what it was told, and
-/// the lists of what it was told and of the deeds that its driver did there. The lists are known to contracts alone,
-/// and the port is always as they have led to. Who adds to one has its other half.
+/// A port behind its lock (this project's own rule): that of a node, how many bits have run by what it was told, for
+/// how many its driver waits, and the lists of what it was told and of the deeds that its driver did there. The lists
+/// are known to contracts alone, and the port is always as they have led to. Who adds to one has its other half.
 #[derive(Drop)]
 pub struct LockedPort<N: Order> {
     node: u8,
     port: Port,
     bits: u32,
-    turns: KeptHalf<Told>,
+    awaited: u32,
+    turns: KeptHalf<Notice>,
     deeds: KeptHalf<PortDeed>,
     order: PhantomData<N>,
 }
@@ -66,7 +69,7 @@ impl<N: Order> LockedPort<N> {
     pub(crate) fn new(
         node: u8,
         version: u8,
-        turns: KeptHalf<Told>,
+        turns: KeptHalf<Notice>,
         deeds: KeptHalf<PortDeed>,
     ) -> LockedPort<N>
         requires version { version ≡ N.version }
@@ -77,6 +80,7 @@ impl<N: Order> LockedPort<N> {
             node,
             port: Port::new(version),
             bits: 0,
+            awaited: 0,
             turns,
             deeds,
             order: PhantomData,
@@ -92,7 +96,7 @@ impl<N: Order> LockedPort<N> {
 
     /// What the driver wants of the bus.
     pub fn orders(&self) -> Orders
-        ensures { result ≡ record { abort = self.now.registers.abort; ended = self.now.registers.ended } }
+        ensures { result ≡ orders_of self.now.registers }
     {
         self.port.orders()
     }
@@ -111,22 +115,22 @@ impl<N: Order> LockedPort<N> {
         ensures node { told.new.node ≡ told.old.node }
     {
         self.port.bus_turn(&turn);
-        add(&mut self.turns, &mut told.known, &Told::Turn(turn));
+        told.abort = false;
+        add(&mut self.turns, &mut told.known, &Notice::Turn(turn));
     }
 
-    /// Tells it how many bits have run, and finds whether its driver has ended.
+    /// Tells it how many bits have run, and finds what its driver orders, and for how many it waits.
     pub(crate) fn tell_bits(&mut self, told: &mut TurnsOfNode<N>, bits: u32)
         requires { self.old.node ≡ told.old.node }
-        ensures told { told.new.known.list ≡ told.old.known.list ++ Ran bits told.new.ended ∷ [] }
+        ensures told { told.new.known.list ≡ told.old.known.list ++ Ran bits (orders_of self.old.registers) ∷ [] }
         ensures node { told.new.node ≡ told.old.node }
     {
         self.bits = bits;
-        told.ended = self.port.orders().ended;
-        add(
-            &mut self.turns,
-            &mut told.known,
-            &Told::Ran(bits, told.ended),
-        );
+        let orders = self.port.orders();
+        told.ended |= orders.ended;
+        told.abort = orders.abort;
+        told.awaited = self.awaited;
+        add(&mut self.turns, &mut told.known, &Notice::Ran(bits, orders));
     }
 
     /// How many bits have run by what it was told.
@@ -136,6 +140,22 @@ impl<N: Order> LockedPort<N> {
         self.bits
     }
 
+    /// How its driver's wait until so many bits have run ends now: it is done where they have by what was told, and
+    /// else given up where none are left; none where it goes on.
+    pub(crate) fn reached(&mut self, bits: u32) -> Option<StepAnswer>
+        ensures ends { IfSome result (EndsWait bits) }
+        ensures done { result ≡ Some Done → bits ≤ bits_told self.old.turns }
+    {
+        if self.bits >= bits {
+            return Some(StepAnswer::Done);
+        }
+        if self.port.closed() {
+            return Some(StepAnswer::Refused(Refusal::Closed));
+        }
+        self.awaited = bits;
+        None
+    }
+
     /// Marks that the bus has no bits left.
     pub fn close(&mut self, told: &mut TurnsOfNode<N>)
         requires { self.old.node ≡ told.old.node }
@@ -143,7 +163,8 @@ impl<N: Order> LockedPort<N> {
         ensures node { told.new.node ≡ told.old.node }
     {
         self.port.close();
-        add(&mut self.turns, &mut told.known, &Told::Spent);
+        told.abort = false;
+        add(&mut self.turns, &mut told.known, &Notice::Spent);
     }
 
     /// Marks that the driver has ended.

@@ -75,6 +75,8 @@ pub fn port_of_node<N: Order>(
         node,
         known: told,
         ended: false,
+        abort: false,
+        awaited: 0,
         order: PhantomData,
     };
     (port, turns)

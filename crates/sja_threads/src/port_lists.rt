@@ -5,16 +5,16 @@ ghost use Rattle.std.specs.Prelude.{◌≡◌, []};
 use super::halves::both_halves;
 use super::kept_half::KeptHalf;
 use super::known_half::KnownHalf;
+use super::notice::Notice;
 use super::port_deed::PortDeed;
-use super::told::Told;
 
 /// The lists of what comes at the port of a node, which are empty (this project's own rule): both halves of the list of
 /// what it is told, and the port's half of that of its driver's deeds.
 #[derive(Drop)]
 pub struct PortLists {
     pub(crate) node: u8,
-    pub(crate) turns: KeptHalf<Told>,
-    pub(crate) told: KnownHalf<Told>,
+    pub(crate) turns: KeptHalf<Notice>,
+    pub(crate) told: KnownHalf<Notice>,
     pub(crate) deeds: KeptHalf<PortDeed>,
     ghost same: { turns.name ≡ told.name },
     ghost no_turns: { turns.list ≡ [] },
@@ -29,7 +29,7 @@ impl PortLists {
         ensures same { result.0.deeds.name ≡ result.1.name }
         ensures none { result.1.list ≡ [] }
     {
-        let (turns, told) = both_halves::<Told>();
+        let (turns, told) = both_halves::<Notice>();
         let (deeds, done) = both_halves::<PortDeed>();
         let lists = PortLists {
             node,

@@ -1,6 +1,7 @@
 //! Whole runs with each driver in a thread of its own.
 
-ghost use Rattle.std.specs.Prelude.{◌≡◌, ◌≢◌, ◌≤◌, length, map, vec_len, Err, IfOk, IfErr};
+ghost use Rattle.std.specs.Prelude.{◌≡◌, ◌≢◌, ◌≤◌, [], length, map, vec_len, vec_capacity, Err, IfOk, IfErr};
+ghost use Rattle.sja_plan.specs.Plan.{PlanValue};
 ghost use Rattle.sja_log.specs.Headline.{AreAccounts};
 ghost use Rattle.sja_log.specs.declared.run_fault.RunFault.TheVariants.{GateCount};
 ghost use Rattle.sja_threads.specs.Stopping.{IsFaultOf};
@@ -9,22 +10,28 @@ ghost use Rattle.sja_threads.specs.Inside.JoinedRun.{IsEnding};
 ghost use Rattle.sja_threads.specs.Inside.Making.{AreListed, AreRunParts};
 ghost use Rattle.sja_threads.specs.Inside.Boards.{NoneTold};
 ghost use Rattle.sja_threads.specs.Inside.Started.{AreOrdered};
+ghost use Rattle.sja_threads.specs.Inside.Promised.{StopsFor};
 ghost use Rattle.sja_threads.specs.Inside.EndsInOrder.{IsEndingInOrder};
 
+use super::bus_thread::BusThread;
 use super::gate::Gate;
+use super::handover::Handover;
 use super::joined_run::{JoinedRun, join_all};
 use super::lobby::Lobby;
 use super::locked_port::LockedPort;
 use super::order::Order;
 use super::ordered_ports::OrderedPorts;
 use super::port_lists::PortLists;
-use super::run_end::end_run;
+use super::run_end::{end_run, stopped};
 use super::run_parts::RunParts;
+use super::thread_promise::Child;
 use super::thread_start::start_all;
 use super::turn_board::TurnBoard;
 use super::turns_of_node::TurnsOfNode;
+use sja_bus::BusFault;
 use sja_log::{RunFault, RunLog};
 use sja_plan::Plan;
+use sja_rings::RingDriver;
 use std::alloc::Global;
 use std::marker::Brand;
 use std::sync::{Mutex, Wait};
@@ -38,9 +45,9 @@ use std::thread::{Scope, Threads};
 /// Each activation has a link of its own, and each port stands behind a lock; beside these the threads share how long
 /// they have waited. A driver that waits sleeps between its tries, for a millisecond at most. Before
 /// each bit the bus takes what the drivers gave. No bit is run before the first start of each driver was taken or the
-/// driver had ended, and none where every controller is at rest. Where a bit is due and none is left, the ports are
-/// closed, and taking goes on. When all drivers have ended and are joined, the bus takes the rest and runs on until
-/// every controller is at rest or the bits are spent.
+/// driver had ended or waited for a later bit, and none where every controller is at rest and no step of the plan waits
+/// for a later bit. Where a bit is due and none is left, the ports are closed, and taking goes on. When all drivers
+/// have ended and are joined, the bus takes the rest and runs on until no bit is due or the bits are spent.
 ///
 /// What each driver released in an activation, followed by what it left unread, is, in order and each once, the frames
 /// its controller validly received and its filter passed, less those marked overrun; and a frame is marked overrun
@@ -48,13 +55,14 @@ use std::thread::{Scope, Threads};
 /// is what all drove together, or the other level where the plan's faults strike it. What the link of each activation
 /// carried came by events of one link, each allowed when it came, in the order in which the journal has the bus's.
 /// Some order of what the bus told each port and of its driver's deeds there leads from power-on to the registers that
-/// each deed found; what was told is by the node's journal. Where no gate quits every step was done. No clause says
-/// that a thread is served, or that the call returns.
+/// each deed found; what was told is by the node's journal. An abort is applied in a bit only where it stood as the bus
+/// told the port how many bits had run, just before. A gate is asked with the step's number and its tries from 1. Where
+/// no gate quits every step was done. No clause says that a thread is served, or that the call returns.
 ///
 /// Errors: [`RunFault::GateCount`] exactly where there isn't one gate for each node; [`RunFault::Memory`] where memory
 /// was refused; [`RunFault::Thread`] where a thread can't be started; [`RunFault::Bus`] where the bus doesn't go on for
-/// another cause than spent bits; [`RunFault::Unsettled`] where a link gave no account at its end, or items were left
-/// on it that the bus didn't take.
+/// another cause than spent bits, as the journals show it and what the drivers gave on the links of this run;
+/// [`RunFault::Unsettled`] where a link gave no account at its end, or items were left on it that the bus didn't take.
 pub fn run_threads<G: Gate, R: Threads + Wait + Sync>(
     rt: &R,
     alloc: Global,
@@ -95,7 +103,15 @@ fn run_ordered<N: Order + Send + Sync, G: Gate, R: Threads + Wait + Sync>(
 {
     let lobby = Mutex::new(Lobby::new(plan.nodes()));
     let OrderedPorts { ports, told } = OrderedPorts::<N>::new(alloc, plan, lists)?;
-    let (joined, told) = run_drivers::<N, G, R>(rt, plan, parts, told, ports.as_slice(), &lobby)?;
+    let (joined, told) = run_drivers::<N, G, R>(
+        rt,
+        alloc,
+        plan,
+        parts,
+        told,
+        ports.as_slice(),
+        &lobby,
+    )?;
     let board = TurnBoard {
         rt,
         ports: ports.as_slice(),
@@ -110,6 +126,7 @@ fn run_ordered<N: Order + Send + Sync, G: Gate, R: Threads + Wait + Sync>(
 /// Error: [`RunFault::Thread`] where a thread can't be started, and [`RunFault::Bus`] where the bus doesn't go on.
 fn run_drivers<N: Order + Send + Sync, G: Gate, R: Threads + Wait + Sync>(
     rt: &R,
+    alloc: Global,
     plan: &Plan,
     parts: RunParts<G>,
     told: Vec<TurnsOfNode<N>>,
@@ -138,7 +155,7 @@ fn run_drivers<N: Order + Send + Sync, G: Gate, R: Threads + Wait + Sync>(
             ensures order { IfOk result (λ r. IsEndingInOrder N.deeds plan.entry.now r.0 r.1.items) }
             ensures fault { IfErr result (IsFaultOf plan.entry.now) }
         {
-            let joined = run_in(scope, rt, plan, parts, told, ports, lobby);
+            let joined = run_in(scope, rt, alloc, plan, parts, told, ports, lobby);
             if joined.is_err() {
                 lobby.lock(rt).stop();
             }
@@ -149,11 +166,12 @@ fn run_drivers<N: Order + Send + Sync, G: Gate, R: Threads + Wait + Sync>(
 
 /// Starts the threads of all drivers, runs the bus beside them until they have ended, and joins them.
 ///
-/// Error: [`RunFault::Thread`] where a thread can't be started, and [`RunFault::Bus`] where the bus doesn't go on. Then
-/// those that were started run on.
+/// Error: [`RunFault::Thread`] where a thread can't be started; those that were started run on. Others as of
+/// [`stop_run`].
 fn run_in<'s, E, N: Order + Send + Sync + 's, G: Gate + 's, R: Threads + Wait + Sync>(
     scope: &Scope<'s, E>,
     rt: &'s R,
+    alloc: Global,
     plan: &'s Plan,
     parts: RunParts<G>,
     told: Vec<TurnsOfNode<N>>,
@@ -163,8 +181,7 @@ fn run_in<'s, E, N: Order + Send + Sync + 's, G: Gate + 's, R: Threads + Wait + 
     requires parts { AreRunParts plan.now parts }
     requires order { AreOrdered N.version N.deeds plan.now.version parts.starts.items }
     requires told { (length told.items ≡ length plan.now.nodes) × NoneTold told.items }
-    requires ports { length ports.now ≡ length plan.now.nodes }
-    requires few { length plan.now.nodes ≤ 8 }
+    requires ports { (length ports.now ≡ length plan.now.nodes) × (length plan.now.nodes ≤ 8) }
     ensures ending { IfOk result (λ r. IsEnding G.QUITS plan.now r.0) }
     ensures order { IfOk result (λ r. IsEndingInOrder N.deeds plan.now r.0 r.1.items) }
     ensures fault { IfErr result (IsFaultOf plan.now) }
@@ -176,12 +193,9 @@ fn run_in<'s, E, N: Order + Send + Sync + 's, G: Gate + 's, R: Threads + Wait + 
         workeds,
     } = parts;
     let mut board = TurnBoard { rt, ports, told };
-    let children = match start_all(scope, rt, plan, starts, ports, lobby, children) {
-        Ok(children) => children,
-        Err(fault) => {
-            board.close_all();
-            return Err(fault);
-        }
+    let Ok(children) = start_all(scope, rt, plan, starts, ports, lobby, children) else {
+        board.close_all();
+        return Err(RunFault::Thread);
     };
     match bus.rounds_beside_drivers(plan, &mut board, lobby) {
         Ok(()) => {
@@ -189,9 +203,31 @@ fn run_in<'s, E, N: Order + Send + Sync + 's, G: Gate + 's, R: Threads + Wait + 
             let TurnBoard { told, .. } = board;
             Ok((JoinedRun { bus, workeds }, told))
         }
-        Err(stop) => {
-            board.close_all();
-            Err(RunFault::Bus(stop))
-        }
+        Err(stop) => Err(stop_run(alloc, bus, board, lobby, children, workeds, stop)),
     }
+}
+
+/// Why a run has no log whose bus stopped with this fault beside its drivers' threads. The ports are closed, the
+/// drivers are told that the bus makes no more rounds, and are joined.
+fn stop_run<N: Order, G: Gate, R: Threads + Wait>(
+    alloc: Global,
+    bus: BusThread,
+    board: TurnBoard<N, R>,
+    lobby: &Mutex<Lobby>,
+    children: Vec<Child<G>>,
+    workeds: Vec<Handover<RingDriver>>,
+    stop: BusFault,
+) -> RunFault
+    requires room { vec_len children ≤ vec_capacity workeds }
+    requires none { workeds.items ≡ [] }
+    requires stops { (plan : PlanValue) × StopsFor G.QUITS plan bus.links.items
+        (map (λ child. child.promise) children.items) stop }
+    ensures { (plan : PlanValue) → StopsFor G.QUITS plan bus.links.items
+        (map (λ child. child.promise) children.items) stop → IsFaultOf plan result }
+{
+    let mut board = board;
+    board.close_all();
+    lobby.lock(board.rt).stop();
+    let workeds = join_all(board.rt, children, workeds);
+    stopped(alloc, bus, workeds, stop)
 }

@@ -2,12 +2,14 @@
 
 ghost use Rattle.std.specs.Prelude.{◌≡◌, ◌⊎◌, ◌≤◌, List, length, IfOk, IfErr};
 ghost use Rattle.sja_driver.specs.Deeds.{Deed};
+ghost use Rattle.sja_plan.specs.Plan.{PlanValue};
 ghost use Rattle.sja_log.specs.Runs.{IsRun};
-ghost use Rattle.sja_log.specs.declared.run_fault.RunFault.TheVariants.{Memory, Unsettled};
+ghost use Rattle.sja_log.specs.declared.run_fault.RunFault.TheVariants.{Memory, Bus, Unsettled};
 ghost use Rattle.sja_threads.specs.Stopping.{IsFaultOf};
 ghost use Rattle.sja_threads.specs.Threads.{IsThreadedRun};
 ghost use Rattle.sja_threads.specs.Inside.EndsInOrder.{IsEndingInOrder};
 ghost use Rattle.sja_threads.specs.Inside.Ended.{IsOver};
+ghost use Rattle.sja_threads.specs.Inside.EndsJoined.{IsStopped};
 ghost use Rattle.sja_threads.specs.Inside.JoinedRun.{IsEnding};
 ghost use Rattle.sja_threads.specs.Inside.Settling.{IsSettledLog};
 
@@ -15,11 +17,12 @@ use super::bus_thread::BusThread;
 use super::comparing::compare_all;
 use super::drivers_and_ends::DriversAndEnds;
 use super::gate::Gate;
+use super::handover::Handover;
 use super::joined_run::JoinedRun;
-use super::left_on_links::settle_all;
+use super::left_on_links::{all_account, settle_all};
 use super::order::Order;
 use super::turn_board::TurnBoard;
-use super::worked::Worked;
+use sja_bus::BusFault;
 use sja_log::{End, RunFault, RunLog, node_runs};
 use sja_plan::Plan;
 use sja_rings::RingDriver;
@@ -53,8 +56,36 @@ pub(crate) fn end_run<N: Order, G: Gate, R: Wait>(
             compare_all(&mut board, &mut workeds, plan.nodes() as u8);
             settled_log(alloc, plan, bus, workeds, end)
         }
-        Err(fault) => Err(RunFault::Bus(fault)),
+        Err(stop) => Err(stopped(alloc, bus, workeds, stop)),
     }
+}
+
+/// Why a run has no log whose bus stopped with this fault, once all threads are joined: that, where each link gives an
+/// account of what came there. `workeds` are what the drivers handed back, by node.
+pub(crate) fn stopped(
+    alloc: Global,
+    bus: BusThread,
+    workeds: Vec<Handover<RingDriver>>,
+    stop: BusFault,
+) -> RunFault
+    requires { (plan : PlanValue) × IsStopped plan bus.links.items workeds.items stop }
+    ensures { (plan : PlanValue) → IsStopped plan bus.links.items workeds.items stop → IsFaultOf plan result }
+{
+    let Ok(apart) = DriversAndEnds::of(alloc, workeds) else {
+        return RunFault::Memory;
+    };
+    if all_account(bus.links, apart.ends) {
+        as_told(stop)
+    } else {
+        RunFault::Unsettled
+    }
+}
+
+/// What is told of a fault of the bus: it.
+fn as_told(stop: BusFault) -> RunFault
+    ensures { result ≡ Bus stop }
+{
+    RunFault::Bus(stop)
 }
 
 /// The log of a run that is over, and ends so: of each node its journal, its error counters, the steps done, and of
@@ -67,7 +98,7 @@ fn settled_log(
     alloc: Global,
     plan: &Plan,
     bus: BusThread,
-    workeds: Vec<Worked<RingDriver>>,
+    workeds: Vec<Handover<RingDriver>>,
     end: End,
 ) -> Result<RunLog, RunFault>
     requires over { (deeds : List (List Deed)) × IsOver plan.now bus.bus bus.links.items workeds.items deeds }

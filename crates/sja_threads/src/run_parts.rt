@@ -7,10 +7,10 @@ ghost use Rattle.sja_threads.specs.Stopping.{deed_counts};
 
 use super::bus_thread::BusThread;
 use super::gate::Gate;
+use super::handover::Handover;
 use super::port_lists::PortLists;
 use super::thread_promise::Child;
 use super::thread_start::ThreadStart;
-use super::worked::Worked;
 use can_frame::OutOfMemory;
 use sja_bus::Bus;
 use sja_driver::{WorkLog, most_deeds};
@@ -27,7 +27,7 @@ pub(crate) struct RunParts<G: Gate> {
     pub(crate) bus: BusThread,
     pub(crate) starts: Vec<ThreadStart<G>>,
     pub(crate) children: Vec<Child<G>>,
-    pub(crate) workeds: Vec<Worked<RingDriver>>,
+    pub(crate) workeds: Vec<Handover<RingDriver>>,
 }
 
 impl<G: Gate> RunParts<G> {

@@ -1,9 +1,9 @@
 //! [`ThreadPromise`]: what a driver's thread promises.
 
 use super::gate::Gate;
+use super::handover::Handover;
 use super::known_half::KnownHalf;
 use super::port_deed::PortDeed;
-use super::worked::Worked;
 use sja_plan::Plan;
 use sja_rings::RingDriver;
 use std::marker::PhantomData;
@@ -21,11 +21,11 @@ pub(crate) struct ThreadPromise<G: Gate> {
     pub(crate) gate: PhantomData<G>,
 }
 
-impl<G: Gate> Promise<Worked<RingDriver>> for ThreadPromise<G> {
+impl<G: Gate> Promise<Handover<RingDriver>> for ThreadPromise<G> {
     ghost use Rattle.sja_threads.specs.Inside.Started.{HandsBack};
 
     ghost kept_by = { λ p w. HandsBack G.QUITS p.plan.value p.node p.links.value.items p.done.value.name w };
 }
 
 /// A driver's thread.
-pub(crate) type Child<G> = PromisedHandle<Worked<RingDriver>, ThreadPromise<G>>;
+pub(crate) type Child<G> = PromisedHandle<Handover<RingDriver>, ThreadPromise<G>>;

@@ -11,13 +11,13 @@ use super::at_gate::AtGate;
 use super::deeds_of_node::DeedsOfNode;
 use super::driver_thread::follow;
 use super::gate::Gate;
+use super::handover::Handover;
 use super::known_half::KnownHalf;
 use super::lobby::Lobby;
 use super::locked_port::LockedPort;
 use super::order::Order;
 use super::port_deed::PortDeed;
 use super::thread_promise::{Child, ThreadPromise};
-use super::worked::Worked;
 use sja_driver::WorkLog;
 use sja_log::RunFault;
 use sja_plan::Plan;
@@ -46,7 +46,7 @@ fn serve<N: Order, G: Gate>(
     start: ThreadStart<G>,
     port: &Mutex<LockedPort<N>>,
     lobby: &Mutex<Lobby>,
-) -> Worked<RingDriver>
+) -> Handover<RingDriver>
     requires start { IsThreadStart plan.now start }
     requires order { IsOrderOf N.version N.deeds plan.now.version start.node start.done.name }
     ensures { Serves G.QUITS plan.now start result }
@@ -94,7 +94,7 @@ fn start_one<'s, E, N: Order + Send + Sync + 's, G: Gate + 's, R: Threads + Wait
     };
     match scope.spawn_with(
         promise,
-        move || -> Worked<RingDriver>
+        move || -> Handover<RingDriver>
             requires start { IsThreadStart plan.now start }
             requires order { IsOrderOf N.version N.deeds plan.now.version start.node start.done.name }
             ensures { Serves G.QUITS plan.entry.now start result }

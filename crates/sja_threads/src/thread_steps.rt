@@ -1,4 +1,4 @@
-//! The steps of a driver in its thread: each is one deed, or in version 3 a write up to three.
+//! The steps of a driver in its thread: each is one deed; in version 3 a write is up to three, a wait for a bit none.
 
 ghost use Rattle.std.specs.Prelude.{◌≡◌, true, false, length};
 ghost use Rattle.sja_threads.specs.Inside.Accesses.{IsTold};
@@ -20,8 +20,8 @@ impl<N: Order, D: DriverEnd + Drop> DriverThread<N, D> {
     ghost use Rattle.sja_driver.specs.Accesses.{kept_written};
     ghost use Rattle.sja_driver.specs.LoggedDrivers.{kept_of, IsLawful};
     ghost use Rattle.sja_driver.specs.WriteLists.{listed, steps_in};
-    ghost use Rattle.sja_script.specs.declared.step.Step.TheVariants.{Write};
-    ghost use Rattle.sja_threads.specs.Inside.Accesses.{IsNoWrite, BeginsWrite, DoesStep, BreaksOff};
+    ghost use Rattle.sja_script.specs.declared.step.Step.TheVariants.{Write, At};
+    ghost use Rattle.sja_threads.specs.Inside.Accesses.{HasOneDeed, BeginsWrite, DoesStep, BreaksOff};
     ghost use Rattle.sja_threads.specs.Inside.Steps.{MayWork, MayStep, DoesParts, LastTakes};
 
     /// Does a step of this number: the gate is asked before each try. It says whether the step is done; else the gate
@@ -32,7 +32,8 @@ impl<N: Order, D: DriverEnd + Drop> DriverThread<N, D> {
         step: &Step,
         number: u32,
     ) -> bool
-        requires { MayStep D.link self.old 1 }
+        requires may { MayStep D.link self.old 1 }
+        requires asks { G.asks at.now.gate self.old.done.node number 1 }
         ensures done { result ≡ true → DoesStep D.DriverEnd self.old self.new step.now }
         ensures quits { result ≡ false → BreaksOff D.DriverEnd self.old self.new step.now }
         ensures never { result ≡ false → G.QUITS ≡ true }
@@ -40,16 +41,35 @@ impl<N: Order, D: DriverEnd + Drop> DriverThread<N, D> {
         if !self.bytes {
             return self.do_one(at, step, number);
         }
-        let Step::Write(address, value) = step else {
-            return self.do_one(at, step, number);
+        match step {
+            Step::Write(address, value) => self.do_write(at, *address, *value, number),
+            Step::At(bits) => self.do_wait(at, *bits, number),
+            _ => self.do_one(at, step, number),
+        }
+    }
+
+    /// Waits until so many bits have run, of a driver that knows addresses and bytes alone: no deed.
+    fn do_wait<G: Gate, R: Wait>(&mut self, at: &AtGate<N, R, G>, bits: u32, number: u32) -> bool
+        requires may { MayStep D.link self.old 1 }
+        requires bytes { self.old.bytes ≡ true }
+        requires asks { G.asks at.now.gate self.old.done.node number 1 }
+        ensures done { result ≡ true → DoesStep D.DriverEnd self.old self.new (At bits) }
+        ensures quits { result ≡ false → BreaksOff D.DriverEnd self.old self.new (At bits) }
+        ensures never { result ≡ false → G.QUITS ≡ true }
+    {
+        let Some(answer) = at.wait_for(self.done.node, bits, number) else {
+            return false;
         };
-        self.do_write(at, *address, *value, number)
+        let kept = self.driver.kept();
+        self.driver.enter(answer, 0, kept);
+        true
     }
 
     /// Does a step that is one deed.
     fn do_one<G: Gate, R: Wait>(&mut self, at: &AtGate<N, R, G>, step: &Step, number: u32) -> bool
         requires may { MayStep D.link self.old 1 }
-        requires one { IsNoWrite self.old.bytes step.now }
+        requires one { HasOneDeed self.old.bytes step.now }
+        requires asks { G.asks at.now.gate self.old.done.node number 1 }
         ensures done { result ≡ true → DoesStep D.DriverEnd self.old self.new step.now }
         ensures quits { result ≡ false → BreaksOff D.DriverEnd self.old self.new step.now }
         ensures never { result ≡ false → G.QUITS ≡ true }
@@ -80,6 +100,7 @@ impl<N: Order, D: DriverEnd + Drop> DriverThread<N, D> {
     ) -> bool
         requires may { MayStep D.link self.old 1 }
         requires bytes { self.old.bytes ≡ true }
+        requires asks { G.asks at.now.gate self.old.done.node number 1 }
         ensures done { result ≡ true → DoesStep D.DriverEnd self.old self.new (Write address value) }
         ensures quits { result ≡ false → BreaksOff D.DriverEnd self.old self.new (Write address value) }
         ensures never { result ≡ false → G.QUITS ≡ true }
@@ -107,6 +128,7 @@ impl<N: Order, D: DriverEnd + Drop> DriverThread<N, D> {
     ) -> bool
         requires may { MayWork D.link self.old 1 }
         requires last { LastTakes (steps_in steps.now) }
+        requires asked { G.asks at.now.gate self.old.done.node number tries.old }
         ensures parts { DoesParts D.DriverEnd self.old self.new (steps_in steps.now) result kept.old kept.new }
         ensures never { result ≡ false → G.QUITS ≡ true }
     {
@@ -128,9 +150,11 @@ impl<N: Order, D: DriverEnd + Drop> DriverThread<N, D> {
         tries: &mut u32,
         kept: &mut KeptBytes,
     ) -> bool
-        requires { MayWork D.link self.old (length (listed part.now)) }
+        requires may { MayWork D.link self.old (length (listed part.now)) }
+        requires asked { G.asks at.now.gate self.old.done.node number tries.old }
         ensures parts { DoesParts D.DriverEnd self.old self.new (listed part.now) result kept.old kept.new }
         ensures never { result ≡ false → G.QUITS ≡ true }
+        ensures asked { G.asks at.now.gate self.old.done.node number tries.new }
     {
         let Some(deed) = part else {
             return true;

@@ -1,7 +1,7 @@
 //! [`TurnBoard`]: the ports of a run in threads, as its bus has them.
 
 ghost use Rattle.std.specs.Prelude.{◌≡◌, ◌≢◌, ◌≤◌, ◌<◌, ◌++◌, ◌∷◌, [], ℕ, false, true, length};
-ghost use Rattle.sja_threads.specs.declared.told.Told.{Told as ToldValue};
+ghost use Rattle.sja_threads.specs.declared.notice.Notice.{Notice as ToldValue};
 ghost use Rattle.sja_threads.specs.Inside.Boards.{AllEnded, EachTold, SaysBits, SaysSpent, turns_at, turns_in};
 
 use super::locked_port::LockedPort;
@@ -13,7 +13,8 @@ use sja_regs::{BusTurn, Orders};
 use std::sync::{Mutex, Wait};
 
 /// The ports of a run in threads, as its bus has them (this project's own rule): each behind its lock, and the lists of
-/// what they were told. Each call takes the lock of the node's port.
+/// what they were told. Each call takes the lock of the node's port. An abort is one that was found to stand as the
+/// port was told last how many bits have run, and that stands still.
 #[derive(Drop)]
 pub struct TurnBoard<'a, N: Order, R: Wait> {
     /// What a lock is waited for with.
@@ -27,7 +28,7 @@ pub struct TurnBoard<'a, N: Order, R: Wait> {
 }
 
 impl<'a, N: Order, R: Wait> TurnBoard<'a, N, R> {
-    /// Tells each port how many bits have run, and finds which drivers have ended.
+    /// Tells each port how many bits have run, and finds what the drivers order.
     pub(crate) fn tell_bits(&mut self, bits: u32)
         ensures many { length self.new.told.items ≡ length self.old.told.items }
         ensures told { EachTold (SaysBits bits) (turns_in self.old.told.items) (turns_in self.new.told.items) }
@@ -98,12 +99,13 @@ impl<'a, N: Order, R: Wait> TurnBoard<'a, N, R> {
 impl<'a, N: Order, R: Wait> Board for TurnBoard<'a, N, R> {
     ghost use Rattle.std.specs.Prelude.{◌≡◌, ◌++◌, [], ◌∷◌, length, refl};
     ghost use Rattle.std.proofs.Common.{◌∙◌, ap};
-    ghost use Rattle.sja_threads.specs.declared.told.Told.TheVariants.{Turn, Spent};
+    ghost use Rattle.sja_threads.specs.declared.notice.Notice.TheVariants.{Turn, Spent};
+    ghost use Rattle.sja_threads.specs.Ordering.{MayOrder};
     ghost use Rattle.sja_threads.specs.Inside.Boards.{turns_at, turns_in};
 
     ghost ports = { λ b. length b.told.items };
 
-    ghost orders_are = { λ b node orders. Unit {0} };
+    ghost orders_are = { λ b node orders. MayOrder (turns_at (turns_in b.told.items) node) orders };
 
     ghost shows = { λ b node turn. ⊥ };
 
@@ -118,7 +120,15 @@ impl<'a, N: Order, R: Wait> Board for TurnBoard<'a, N, R> {
     ghost facts = { λ b node. Unit {0} };
 
     fn orders(&self, node: u8) -> Orders {
-        self.ports[node as usize].lock(self.rt).orders()
+        let told = &self.told[node as usize];
+        let mut abort = told.abort;
+        if abort {
+            abort = self.ports[node as usize].lock(self.rt).orders().abort;
+        }
+        Orders {
+            abort,
+            ended: told.ended,
+        }
     }
 
     fn bus_turn(&mut self, node: u8, turn: BusTurn) {
@@ -144,7 +154,7 @@ impl<'a, N: Order, R: Wait> Board for TurnBoard<'a, N, R> {
 
     ghost told_same = { λ b k t p. absurd p };
 
-    ghost has_orders = { λ b k few. (record { abort = false; ended = false }, tt) };
+    ghost has_orders = { λ b k few. (record { abort = false; ended = false }, λ e. absurd cc) };
 
     ghost facts_go_on = { λ a b k count few so facts. tt };
 }

@@ -7,7 +7,7 @@ use Rattle.sja_regs.specs.declared.registers.Registers.{Registers}
 use Rattle.sja_regs.specs.DriverSettings.{SettingsValue, HasSettings}
 use Rattle.sja_script.specs.declared.step.Step.{Step}
 use Rattle.sja_script.specs.declared.step.Step.TheVariants.{Window, Release, Start, Stop, Read}
-use Rattle.sja_script.specs.declared.step.Step.TheVariants.{Write, Load, Command, Await, Sent, Interrupt}
+use Rattle.sja_script.specs.declared.step.Step.TheVariants.{Write, Load, Command, Await, Sent, Interrupt, At}
 use Rattle.sja_script.specs.declared.step_answer.StepAnswer.{StepAnswer}
 use Rattle.sja_script.specs.declared.step_answer.StepAnswer.TheVariants.{Done as DoneAnswer, Released as ReleasedAnswer}
 use Rattle.sja_driver.specs.Deeds.{Deed, active_after}
@@ -85,6 +85,7 @@ stays_out active (Command v) o e = absurd (let t : true ≡ false = e in cc)
 stays_out active (Await n) o e = absurd (let t : true ≡ false = e in cc)
 stays_out active Sent o e = absurd (let t : true ≡ false = e in cc)
 stays_out active Interrupt o e = absurd (let t : true ≡ false = e in cc)
+stays_out active (At n) o e = absurd (let t : true ≡ false = e in cc)
 
 -- whether it is out of reset by one deed more
 active_push : (active : Bool) (done : List (Step × StepAnswer)) (d : Step × StepAnswer) →

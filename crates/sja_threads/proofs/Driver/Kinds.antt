@@ -1,12 +1,12 @@
 -- A step that is one deed, of each kind: a read, a write, or another one.
 use Rattle.std.proofs.Common.{◌≡◌, ℕ, Bool, true, false, List, [], ◌∷◌, map, refl, sym, ap, ◌∙◌, subst}
-use Rattle.can_frame.specs.declared.seen.Seen.{Seen}
+use Rattle.can_frame.specs.declared.buffer_view.BufferView.{BufferView}
 use Rattle.sja_link.specs.Showing.{seen_of}
 use Rattle.sja_regs.specs.declared.registers.Registers.{Registers}
 use Rattle.sja_regs.specs.DriverSettings.{SettingsValue, HasSettings}
 use Rattle.sja_script.specs.declared.step.Step.{Step}
 use Rattle.sja_script.specs.declared.step.Step.TheVariants.{Start, Stop, Window, Release, Read, Write, Load, Command}
-use Rattle.sja_script.specs.declared.step.Step.TheVariants.{Await, Sent, Interrupt}
+use Rattle.sja_script.specs.declared.step.Step.TheVariants.{Await, Sent, Interrupt, At}
 use Rattle.sja_script.specs.declared.step_answer.StepAnswer.{StepAnswer}
 use Rattle.sja_script.specs.declared.step_answer.StepAnswer.TheVariants.{Value}
 use Rattle.sja_driver.specs.Accesses.{Answers, by_bytes, deed_steps, kept_written}
@@ -16,26 +16,29 @@ use Rattle.sja_driver.specs.declared.kept_bytes.KeptBytes.{KeptBytes}
 use Rattle.sja_driver.specs.Kept.{moved_by_answer}
 use Rattle.sja_driver.specs.Reads.{raw_value}
 use Rattle.sja_threads.specs.Accessing.{IsAccessAt}
-use Rattle.sja_threads.specs.Inside.Accesses.{IsNoWrite, IsTold}
+use Rattle.sja_threads.specs.Inside.Accesses.{HasOneDeed, IsTold}
 use Rattle.sja_threads.proofs.Driver.Settings.{IsDoneFrom}
 
--- neither a read nor a write: the deed that it is, what it answers, by what that is told, and what it leaves kept
+-- neither a read nor a write, nor a wait for a bit: the deed that it is, what it answers, by what that is told, and
+-- what it leaves kept
 abbrev IsPlain : Step → Type 0
 IsPlain s =
     ((p : Registers) (active : Bool) → deed_steps true p active s ≡ s ∷ [])
-    × ((p : Registers) (seen : Seen) (kept : KeptBytes) (deeds : List Deed) (answer : StepAnswer) →
-    map (λ (d : Deed). d.answer) deeds ≡ answer ∷ [] → Answers true p seen kept s deeds answer)
+    × ((p : Registers) (seen : BufferView) (kept : KeptBytes) (deeds : List Deed) (answer : StepAnswer) →
+    map (λ (d : Deed). d.answer) deeds ≡ answer ∷ [] → Answers true p seen kept 0 s deeds answer)
     × ((kept : KeptBytes) (given answer : StepAnswer) → IsTold true kept s given answer → answer ≡ given)
     × ((p : Registers) (kept : KeptBytes) → kept_written p kept s ≡ kept)
 
 data Kind : Step → Type 0 where
   is_read : (address : ℕ) → Kind (Read address)
   is_write : (address value : ℕ) → Kind (Write address value)
+  is_wait : (least : ℕ) → Kind (At least)
   is_plain : (s : Step) → IsPlain s → Kind s
 
 kind_of : (s : Step) → Kind s
 kind_of (Read address) = is_read address
 kind_of (Write address value) = is_write address value
+kind_of (At least) = is_wait least
 kind_of Start = is_plain Start (λ p a. refl, λ p n k d x is. is, λ k g a is. is, λ p k. refl)
 kind_of Stop = is_plain Stop (λ p a. refl, λ p n k d x is. is, λ k g a is. is, λ p k. refl)
 kind_of Window = is_plain Window (λ p a. refl, λ p n k d x is. is, λ k g a is. is, λ p k. refl)
@@ -49,21 +52,22 @@ kind_of Interrupt = is_plain Interrupt (λ p a. refl, λ p n k d x is. is, λ k 
 module _ (version : ℕ) (set : SettingsValue) (active : Bool) (was kept moved : KeptBytes) (d : Deed)
     (told : StepAnswer) (from : IsDoneFrom set active d) (p : Registers) (has : HasSettings p set)
     (now : moved ≡ moved_by_answer kept d.answer) where
-  abbrev seen : Seen
+  abbrev seen : BufferView
   seen = seen_of from.done.off from.done.window
 
   -- at the registers at which the deed was done, or at those of the write's kept byte
-  abbrev At : Registers → Step → Bool → Type 0
-  At at s bytes =
-      (d.step ∷ [] ≡ deed_steps bytes at active s) × Answers bytes at seen was s (d ∷ []) told
+  abbrev IsAt : Registers → Step → Bool → Type 0
+  IsAt at s bytes =
+      (d.step ∷ [] ≡ deed_steps bytes at active s) × Answers bytes at seen was 0 s (d ∷ []) told
       × (moved ≡ moved_by_answer (kept_written at was s) d.answer)
 
-  accessed : (at : Registers) (s : Step) → HasSettings at set → At at s (by_bytes version) →
+  accessed : (at : Registers) (s : Step) → HasSettings at set → IsAt at s (by_bytes version) →
       ((address : ℕ) → s ≡ Read address → Tells (Read address) active at seen d.answer) →
       IsAccessAt version set active was (record { step = s; answer = told; bits = 0; deeds = d ∷ [] }) moved
   accessed at s has is read = record {
     at = at;
     seen = seen;
+    run = 0;
     has = has;
     is = record { steps = is.0; answer = is.1; left = is.2 };
     bits = refl;
@@ -79,12 +83,12 @@ module _ (version : ℕ) (set : SettingsValue) (active : Bool) (was kept moved :
   tells s step address is =
       subst (λ (x : Step). Tells x active from.at seen d.answer) (step ∙ is) from.done.tells
 
-  by_kind : (s : Step) → Kind s → (bytes : Bool) → bytes ≡ by_bytes version → d.step ≡ s → IsNoWrite bytes s →
+  by_kind : (s : Step) → Kind s → (bytes : Bool) → bytes ≡ by_bytes version → d.step ≡ s → HasOneDeed bytes s →
       IsTold bytes kept s d.answer told → kept ≡ kept_written p was s →
       IsAccessAt version set active was (record { step = s; answer = told; bits = 0; deeds = d ∷ [] }) moved
   by_kind _ (is_read address) true bytes step one is written =
       accessed from.at (Read address) from.has
-      (subst (λ (b : Bool). At from.at (Read address) b) bytes (
+      (subst (λ (b : Bool). IsAt from.at (Read address) b) bytes (
         ap (λ (x : Step). x ∷ []) step,
         is.1 ∙ ap Value (is.2 from.at seen (tells (Read address) step address refl)
             ∙ ap (λ (k : KeptBytes). raw_value from.at k seen address) written),
@@ -92,7 +96,7 @@ module _ (version : ℕ) (set : SettingsValue) (active : Bool) (was kept moved :
       )) (tells (Read address) step)
   by_kind _ (is_read address) false bytes step one is written =
       accessed from.at (Read address) from.has
-      (subst (λ (b : Bool). At from.at (Read address) b) bytes (
+      (subst (λ (b : Bool). IsAt from.at (Read address) b) bytes (
         ap (λ (x : Step). x ∷ []) step,
         ap (λ (a : StepAnswer). a ∷ []) (sym is),
         now ∙ ap (λ (k : KeptBytes). moved_by_answer k d.answer) written,
@@ -100,14 +104,22 @@ module _ (version : ℕ) (set : SettingsValue) (active : Bool) (was kept moved :
   by_kind _ (is_write address value) true bytes step one is written = absurd one
   by_kind _ (is_write address value) false bytes step one is written =
       accessed p (Write address value) has
-      (subst (λ (b : Bool). At p (Write address value) b) bytes (
+      (subst (λ (b : Bool). IsAt p (Write address value) b) bytes (
         ap (λ (x : Step). x ∷ []) step,
         ap (λ (a : StepAnswer). a ∷ []) (sym is),
         now ∙ ap (λ (k : KeptBytes). moved_by_answer k d.answer) written,
       )) (λ other same. absurd (let two : Write address value ≡ Read other = same in cc))
+  by_kind _ (is_wait least) true bytes step one is written = absurd one
+  by_kind _ (is_wait least) false bytes step one is written =
+      accessed from.at (At least) from.has
+      (subst (λ (b : Bool). IsAt from.at (At least) b) bytes (
+        ap (λ (x : Step). x ∷ []) step,
+        ap (λ (a : StepAnswer). a ∷ []) (sym is),
+        now ∙ ap (λ (k : KeptBytes). moved_by_answer k d.answer) written,
+      )) (tells (At least) step)
   by_kind s (is_plain _ plain) true bytes step one is written =
       accessed from.at s from.has
-      (subst (λ (b : Bool). At from.at s b) bytes (
+      (subst (λ (b : Bool). IsAt from.at s b) bytes (
         ap (λ (x : Step). x ∷ []) step ∙ sym (plain.0 from.at active),
         plain.1 from.at seen was (d ∷ []) told
             (ap (λ (a : StepAnswer). a ∷ []) (sym (plain.2 kept d.answer told is))),
@@ -116,7 +128,7 @@ module _ (version : ℕ) (set : SettingsValue) (active : Bool) (was kept moved :
       )) (tells s step)
   by_kind s (is_plain _ plain) false bytes step one is written =
       accessed from.at s from.has
-      (subst (λ (b : Bool). At from.at s b) bytes (
+      (subst (λ (b : Bool). IsAt from.at s b) bytes (
         ap (λ (x : Step). x ∷ []) step,
         ap (λ (a : StepAnswer). a ∷ []) (sym is),
         now ∙ ap (λ (k : KeptBytes). moved_by_answer k d.answer)
@@ -124,7 +136,7 @@ module _ (version : ℕ) (set : SettingsValue) (active : Bool) (was kept moved :
       )) (tells s step)
 
   -- by its one deed a step is what it is
-  pub access_at : (s : Step) (bytes : Bool) → bytes ≡ by_bytes version → d.step ≡ s → IsNoWrite bytes s →
+  pub access_at : (s : Step) (bytes : Bool) → bytes ≡ by_bytes version → d.step ≡ s → HasOneDeed bytes s →
       IsTold bytes kept s d.answer told → kept ≡ kept_written p was s →
       IsAccessAt version set active was (record { step = s; answer = told; bits = 0; deeds = d ∷ [] }) moved
   access_at s = by_kind s (kind_of s)

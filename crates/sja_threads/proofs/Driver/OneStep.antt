@@ -25,7 +25,7 @@ use Rattle.sja_threads.specs.declared.order.Order.{Ghosts as Orders}
 use Rattle.sja_threads.specs.declared.driver_thread.DriverThread.{DriverThread}
 use Rattle.sja_threads.specs.Accessing.{IsAccessAt, IsBrokenOff, LeadOn}
 use Rattle.sja_threads.specs.Accessing.IsBrokenOff.{not_begun, begun}
-use Rattle.sja_threads.specs.Inside.Accesses.{IsNoWrite, IsTold, BeginsWrite, DoesStep, BreaksOff}
+use Rattle.sja_threads.specs.Inside.Accesses.{HasOneDeed, IsTold, BeginsWrite, DoesStep, BreaksOff}
 use Rattle.sja_threads.specs.Inside.Steps.{MayStep, DoesDeed, DoesParts, IsDeedIf, LastTakes, room_taken}
 use Rattle.sja_threads.proofs.Driver.Kinds.{access_at}
 use Rattle.sja_threads.proofs.Driver.Parts.{parts_able, parts_taken}
@@ -80,7 +80,7 @@ module _ {N E : Type 0} {o : Orders N} (e : Ends E) (was mid : DriverThread N E 
 
   pub step_done : (s : Step) (given : Option StepAnswer) (answer told : StepAnswer) (kept moved : KeptBytes) →
       given ≡ Some answer → DoesDeed e was mid s given → Entered moved told → MayStep e.link was 1 →
-      IsNoWrite was.bytes s →
+      HasOneDeed was.bytes s →
       (p : Registers) × HasSettings p was.set × (kept ≡ kept_written p (kept_of was.driver) s) →
       moved ≡ moved_by_answer kept answer → IsTold was.bytes kept s answer told → DoesStep e was now s
   unfolding does_entered
@@ -125,12 +125,13 @@ module _ {N E : Type 0} {o : Orders N} (e : Ends E) (was mid : DriverThread N E 
     is = λ before w. record {
       at = b.at;
       seen = nothing_seen;
+      run = 0;
       has = b.has;
       is = record {
         steps = subst (λ (k : Bool). map (λ (x : Deed). x.step) q.deeds
             ≡ deed_steps k b.at (is_active before) (Write address value)) (sym bytes)
             (whole ∙ ap (λ (k : Bool). write_steps b.at k address value) (sym w.out));
-        answer = subst (λ (k : Bool). Answers k b.at nothing_seen (kept_of was.driver) (Write address value) q.deeds
+        answer = subst (λ (k : Bool). Answers k b.at nothing_seen (kept_of was.driver) 0 (Write address value) q.deeds
             DoneAnswer) (sym bytes) refl;
         left = ap (λ (x : LoggedDriver). kept_of x) entered.0 ∙ q.moved
             ∙ ap (λ (k : KeptBytes). kept_by k q.deeds) b.left;

@@ -13,7 +13,7 @@ use Rattle.sja_regs.specs.Registers.{is_forced}
 use Rattle.sja_regs.specs.Writing.{is_other_mode}
 use Rattle.sja_script.specs.declared.step.Step.{Step}
 use Rattle.sja_script.specs.declared.step.Step.TheVariants.{Start, Stop, Window, Release, Read, Write, Load, Command}
-use Rattle.sja_script.specs.declared.step.Step.TheVariants.{Await, Sent, Interrupt}
+use Rattle.sja_script.specs.declared.step.Step.TheVariants.{Await, Sent, Interrupt, At}
 use Rattle.sja_driver.specs.declared.write_steps.WriteSteps.{WriteSteps}
 use Rattle.sja_driver.specs.CommandWrites.{command_byte, command_steps, commands, doable, releases}
 use Rattle.sja_driver.specs.ModeWrites.{closing, leaving, mode_steps, reset_byte}
@@ -35,6 +35,7 @@ one_at_most (Command value) = omega arith
 one_at_most (Await count) = omega arith
 one_at_most Sent = omega arith
 one_at_most Interrupt = omega arith
+one_at_most (At least) = omega arith
 
 -- one where a step is to come
 abbrev pub one_if : List Step → ℕ

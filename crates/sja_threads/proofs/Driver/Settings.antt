@@ -2,7 +2,7 @@
 use Rattle.std.proofs.Common.{◌≡◌, ◌++◌, Bool, true, List, [], ◌∷◌, length, refl, sym, ap, ◌∙◌, subst}
 use Rattle.std.proofs.Common.{Some, None, arith, append-nil, append_assoc}
 use Rattle.std.proofs.lemmas.List.{length-append}
-use Rattle.can_frame.specs.declared.seen.Seen.{Seen}
+use Rattle.can_frame.specs.declared.buffer_view.BufferView.{BufferView}
 use Rattle.sja_link.specs.declared.driver_end.DriverEnd.{Ghosts as Ends}
 use Rattle.sja_link.specs.DriverLedgers.{held_by, knows_bus_off}
 use Rattle.sja_link.specs.Showing.{seen_of}
@@ -69,7 +69,7 @@ module _ {E : Type 0} (e : Ends E) (a b : E) (p q : Registers) (which : Step) (w
         window = held_of now;
         off = off_of now;
         tells = subst (λ (b : Bool). Tells which b p (seen_of (off_of now) (held_of now)) answer) (sym out)
-            (subst (λ (s : Seen). Tells which (is_out was) p s answer) (seen_is now) acts.tells);
+            (subst (λ (s : BufferView). Tells which (is_out was) p s answer) (seen_is now) acts.tells);
         sees = λ active. if_out was (Sees which (off_of now) (held_of now) answer) acts.sees (sym out ∙ active);
         gave = refl;
         bits = refl;

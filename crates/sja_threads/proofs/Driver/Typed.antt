@@ -28,7 +28,7 @@ one_deed : (version : ℕ) (set : SettingsValue) (active : Bool) (kept kept_now 
     IsAccessAt version set active kept a kept_now → by_bytes version ≡ false → IsDeedIf a.step (Some a.answer) a.deeds
 one_deed version set active kept kept_now a is typed = (
   is.is.steps ∙ ap (λ (b : Bool). deed_steps b is.at active a.step) typed,
-  subst (λ (b : Bool). Answers b is.at is.seen kept a.step a.deeds a.answer) typed is.is.answer,
+  subst (λ (b : Bool). Answers b is.at is.seen kept is.run a.step a.deeds a.answer) typed is.is.answer,
 )
 
 -- and as a log has it

@@ -12,8 +12,9 @@ use Rattle.sja_plan.specs.Plan.{PlanValue}
 use Rattle.sja_driver.specs.declared.logged_driver.LoggedDriver.{LoggedDriver}
 use Rattle.sja_driver.specs.Deeds.{Deed}
 use Rattle.sja_driver.specs.LoggedDrivers.{IsLawful}
-use Rattle.sja_threads.specs.declared.worked.Worked.{Worked}
+use Rattle.sja_threads.specs.declared.handover.Handover.{Handover}
 use Rattle.sja_threads.specs.Inside.Ended.{IsOver}
+use Rattle.sja_threads.specs.Inside.EndsJoined.{AreJoined}
 use Rattle.sja_threads.specs.Inside.Settling.{all_drivers, all_ends}
 use Rattle.sja_threads.proofs.End.LeftOnLinks.{HaveEnough, enough_length, enough_at}
 
@@ -37,36 +38,52 @@ in_links k n a m less few e = omega (arith, less, few, e)
 in_nodes : (k n a m : ℕ) → 64 * k + a < m → m ≡ 64 * n → k < n
 in_nodes k n a m less e = omega (arith, less, e)
 
-module _ (plan : PlanValue) (bus : BusValue) (links : List RingBus) (workeds : List (Worked RingDriver))
+module _ (nodes : ℕ) (links : List RingBus) (workeds : List (Handover RingDriver)) (h : AreJoined nodes links workeds)
+  where
+    pub all_enough : HaveEnough (λ (w : Handover RingDriver). w.links.items) workeds
+    all_enough k w less = let c = h.workeds_count in h.enough k w (omega (arith, c, less))
+
+    pub ends_count : length links ≡ length (all_ends workeds)
+    ends_count =
+        let e = enough_length (λ (w : Handover RingDriver). w.links.items) workeds all_enough in
+        let l = h.links_count in let c = h.workeds_count in omega (arith, e, l, c)
+
+    -- the ends of one of a node's links
+    pub end_at : (node a : ℕ) (w : Handover RingDriver) (d : RingDriver) → node < nodes → a < 64 →
+        slice_index_or (all_ends workeds) (64 * node + a) d
+        ≡ slice_index_or (slice_index_or workeds node w).links.items a d
+    end_at node a w d few less = let c = h.workeds_count in
+        enough_at (λ (x : Handover RingDriver). x.links.items) workeds all_enough node a w d (omega (arith, c, few))
+        less
+
+    pub one_link : (i : ℕ) (b : RingBus) (d : RingDriver) → i < length links →
+        OneLink (slice_index_or links i b) (slice_index_or (all_ends workeds) i d)
+    one_link i b d less =
+        let p = place_of_link i in
+        let here : 64 * p.node + p.place < length links = let e = p.is in omega (arith, e, less) in
+        let few : p.node < nodes = in_nodes p.node nodes p.place (length links) here h.links_count in
+        let there : p.node < length workeds = let c = h.workeds_count in omega (arith, c, few) in
+        let w = some_of workeds 0 (omega (arith, there)) in
+        subst (λ (n : ℕ). OneLink (slice_index_or links n b) (slice_index_or (all_ends workeds) n d)) (sym p.is)
+        (subst (λ (x : RingDriver). OneLink (slice_index_or links (64 * p.node + p.place) b) x)
+        (sym (end_at p.node p.place w d few p.few)) (h.pairs p.node p.place w b d few p.few))
+
+module _ (plan : PlanValue) (bus : BusValue) (links : List RingBus) (workeds : List (Handover RingDriver))
     (deeds : List (List Deed)) (h : IsOver plan bus links workeds deeds) where
-  pub all_enough : HaveEnough (λ (w : Worked RingDriver). w.links.items) workeds
-  all_enough k w less = let c = h.workeds_count in (h.nodes k w (omega (arith, c, less))).enough
-
-  pub ends_count : length links ≡ length (all_ends workeds)
-  ends_count =
-      let e = enough_length (λ (w : Worked RingDriver). w.links.items) workeds all_enough in
-      let l = h.links_count in let c = h.workeds_count in omega (arith, e, l, c)
-
-  pub one_link : (i : ℕ) (b : RingBus) (d : RingDriver) → i < length links →
-      OneLink (slice_index_or links i b) (slice_index_or (all_ends workeds) i d)
-  one_link i b d less =
-      let p = place_of_link i in
-      let here : 64 * p.node + p.place < length links = let e = p.is in omega (arith, e, less) in
-      let few : p.node < length plan.nodes =
-      in_nodes p.node (length plan.nodes) p.place (length links) here h.links_count in
-      let there : p.node < length workeds = let c = h.workeds_count in omega (arith, c, few) in
-      let w = some_of workeds 0 (omega (arith, there)) in
-      subst (λ (n : ℕ). OneLink (slice_index_or links n b) (slice_index_or (all_ends workeds) n d)) (sym p.is)
-      (subst (λ (x : RingDriver). OneLink (slice_index_or links (64 * p.node + p.place) b) x)
-      (sym (enough_at (λ (x : Worked RingDriver). x.links.items) workeds all_enough p.node p.place w d there p.few))
-      ((h.nodes p.node w few).pairs p.place b d p.few))
+  pub joined_over : AreJoined (length plan.nodes) links workeds
+  joined_over = record {
+    links_count = h.links_count;
+    workeds_count = h.workeds_count;
+    enough = λ node w few. (h.nodes node w few).enough;
+    pairs = λ node a w b d few less. (h.nodes node w few).pairs a b d less;
+  }
 
   pub all_lawful : (k : ℕ) (d : LoggedDriver) → k < length (all_drivers workeds) →
       IsLawful (slice_index_or (all_drivers workeds) k d)
   all_lawful k d less =
-      let many = length-map workeds (λ (w : Worked RingDriver). w.driver) in
+      let many = length-map workeds (λ (w : Handover RingDriver). w.driver) in
       let there : k < length workeds = omega (arith, many, less) in
       let c = h.workeds_count in let w = some_of workeds 0 (omega (arith, there)) in
       subst (λ (x : LoggedDriver). IsLawful x)
-      (sym (get_or-map (λ (x : Worked RingDriver). x.driver) workeds k w d there))
+      (sym (get_or-map (λ (x : Handover RingDriver). x.driver) workeds k w d there))
       (h.nodes k w (omega (arith, c, there))).lawful

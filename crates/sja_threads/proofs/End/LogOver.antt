@@ -27,16 +27,16 @@ use Rattle.sja_log.specs.Settling.{AreSettled}
 use Rattle.sja_log.specs.Finishing.{IsNodeEnd, AreNodeEnds}
 use Rattle.sja_log.proofs.NodeLog.NodeEnds.{AreEnds, trace_of, settled_of, nodes_count, some_log, some_driver}
 use Rattle.sja_log.proofs.NodeLog.NodeEnds.{node_end, journal_is, journals_in_log, run_of_ends}
-use Rattle.sja_threads.specs.declared.worked.Worked.{Worked}
+use Rattle.sja_threads.specs.declared.handover.Handover.{Handover}
 use Rattle.sja_threads.specs.Inside.Ended.{IsOverAt, IsOver}
 use Rattle.sja_threads.specs.Inside.Settling.{all_drivers, all_ends, IsLeftOn, AreLeftOn, IsSettledLog}
 use Rattle.sja_threads.proofs.End.LeftOnLinks.{enough_at}
 use Rattle.sja_threads.proofs.Events.ActivationLinked.{linked_by}
 use Rattle.sja_threads.proofs.End.NodeOver.{given_all, settled_all}
-use Rattle.sja_threads.proofs.End.LinksOver.{all_enough, in_links}
+use Rattle.sja_threads.proofs.End.LinksOver.{all_enough, in_links, joined_over}
 
 -- what the log of a run that is over is made of
-pub record AreLogParts (plan : PlanValue) (bus : BusValue) (links : List RingBus) (workeds : List (Worked RingDriver))
+pub record AreLogParts (plan : PlanValue) (bus : BusValue) (links : List RingBus) (workeds : List (Handover RingDriver))
     (end : End) (log : RunValue) (logs : List NodeLog) (left_down : List (List Down)) : Type 0 where
   pub version : log.version ≡ plan.version
   pub bits : log.bits ≡ bus.run
@@ -49,14 +49,14 @@ pub record AreLogParts (plan : PlanValue) (bus : BusValue) (links : List RingBus
       CountersAre (slice_index_or logs k g).journal.entries (slice_index_or logs k g).txerr
       (slice_index_or logs k g).rxerr
 
-module _ (plan : PlanValue) (bus : BusValue) (links : List RingBus) (workeds : List (Worked RingDriver)) (end : End)
+module _ (plan : PlanValue) (bus : BusValue) (links : List RingBus) (workeds : List (Handover RingDriver)) (end : End)
     (log : RunValue) (logs : List NodeLog) (left_down : List (List Down))
     (m : AreLogParts plan bus links workeds end log logs left_down) (deeds : List (List Deed))
     (h : IsOver plan bus links workeds deeds) where
   are : AreEnds plan log logs bus.journals (all_drivers workeds) left_down
   are = record {
     nodes = m.nodes;
-    drivers_count = length-map workeds (λ (w : Worked RingDriver). w.driver) ∙ h.workeds_count;
+    drivers_count = length-map workeds (λ (w : Handover RingDriver). w.driver) ∙ h.workeds_count;
     journals_count = h.journals_count;
     journals_are = m.journals;
     counters = m.counters;
@@ -70,10 +70,10 @@ module _ (plan : PlanValue) (bus : BusValue) (links : List RingBus) (workeds : L
     in_workeds : k < length workeds
     in_workeds = let c = h.workeds_count in let i = in_plan in omega (arith, c, i)
 
-    some : Worked RingDriver
+    some : Handover RingDriver
     some = let i = in_workeds in some_of workeds 0 (omega (arith, i))
 
-    abbrev handed : Worked RingDriver
+    abbrev handed : Handover RingDriver
     handed = slice_index_or workeds k some
 
     over : IsOverAt (settings_in (at_power_on plan.version)) k (journal_at bus.journals k) (deeds_at deeds k) handed
@@ -91,13 +91,14 @@ module _ (plan : PlanValue) (bus : BusValue) (links : List RingBus) (workeds : L
     left_there a few =
         subst (λ (d : RingDriver). IsLeftOn (slice_index_or links (64 * k + a) some_bus) d
         (slice_index_or left_down (64 * k + a) []))
-        (enough_at (λ (w : Worked RingDriver). w.links.items) workeds (all_enough plan bus links workeds deeds h)
+        (enough_at (λ (w : Handover RingDriver). w.links.items) workeds (all_enough (length plan.nodes) links workeds
+        (joined_over plan bus links workeds deeds h))
         k a some some_end in_workeds few)
         (m.left.each (64 * k + a) some_bus some_end []
         (in_links k (length plan.nodes) a (length links) in_plan few h.links_count))
 
     driver_is : (d : LoggedDriver) → slice_index_or (all_drivers workeds) k d ≡ handed.driver
-    driver_is d = get_or-map (λ (w : Worked RingDriver). w.driver) workeds k some d in_workeds
+    driver_is d = get_or-map (λ (w : Handover RingDriver). w.driver) workeds k some d in_workeds
 
     abbrev journal : List Entry
     journal = journal_at bus.journals k
@@ -143,12 +144,12 @@ module _ (plan : PlanValue) (bus : BusValue) (links : List RingBus) (workeds : L
     orderly_there : AreOrderly there.journal
     orderly_there = subst (λ (j : List Entry). AreOrderly j) (sym same) (bus_there.orderly k in_journals)
 
-    done_there : (w : Worked RingDriver) → there.done ≡ done_in (log_of (slice_index_or workeds k w).driver)
+    done_there : (w : Handover RingDriver) → there.done ≡ done_in (log_of (slice_index_or workeds k w).driver)
     done_there w =
         end_there.done
         ∙ ap (λ (d : LoggedDriver). done_in (log_of d))
-        (sym (get_or-map (λ (x : Worked RingDriver). x.driver) workeds k some handed.driver in_workeds)
-        ∙ get_or-map (λ (x : Worked RingDriver). x.driver) workeds k w handed.driver in_workeds)
+        (sym (get_or-map (λ (x : Handover RingDriver). x.driver) workeds k some handed.driver in_workeds)
+        ∙ get_or-map (λ (x : Handover RingDriver). x.driver) workeds k w handed.driver in_workeds)
 
   pub run_over : IsRun plan log deeds
   run_over =

@@ -22,12 +22,12 @@ use Rattle.sja_log.specs.Log.{ActivationValue}
 use Rattle.sja_log.specs.Settling.{IsSettled}
 use Rattle.sja_log.specs.Finishing.{held_after, activation_after}
 use Rattle.sja_log.proofs.NodeLog.NodeEnds.{opened_few}
-use Rattle.sja_threads.specs.declared.worked.Worked.{Worked}
+use Rattle.sja_threads.specs.declared.handover.Handover.{Handover}
 use Rattle.sja_threads.specs.Inside.Ended.{IsOverAt}
 use Rattle.sja_threads.specs.Inside.Settling.{IsLeftOn}
 use Rattle.sja_driver.proofs.LogOfSteps.GivenOutside.{given_outside}
 
-module _ (set : SettingsValue) (node : ℕ) (j : List Entry) (deeds : List Deed) (w : Worked RingDriver)
+module _ (set : SettingsValue) (node : ℕ) (j : List Entry) (deeds : List Deed) (w : Handover RingDriver)
     (links : List RingBus) (base : ℕ) (h : IsOverAt set node j deeds w links base) (left_down : List (List Down))
     (bus : RingBus) (end : RingDriver)
     (left : (a : ℕ) → a < 64 → IsLeftOn (slice_index_or links (base + a) bus) (slice_index_or w.links.items a end)

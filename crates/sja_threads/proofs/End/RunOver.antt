@@ -18,7 +18,7 @@ use Rattle.sja_driver.specs.Deeds.{Deed, deeds_at}
 use Rattle.sja_wire.specs.Wire.{journal_at}
 use Rattle.sja_threads.specs.declared.bus_thread.BusThread.{BusThread}
 use Rattle.sja_threads.specs.declared.thread_start.ThreadStart.{ThreadStart}
-use Rattle.sja_threads.specs.declared.worked.Worked.{Worked}
+use Rattle.sja_threads.specs.declared.handover.Handover.{Handover}
 use Rattle.sja_threads.specs.Accessing.{Work, deeds_done, work_at}
 use Rattle.sja_threads.specs.Working.{AreUntouched}
 use Rattle.sja_threads.specs.Inside.Ended.{IsOver, IsOverAt}
@@ -29,7 +29,7 @@ use Rattle.sja_threads.specs.Inside.JoinedRun.{HasFollowed}
 use Rattle.sja_threads.specs.Inside.Rounds.{GoesOn}
 
 -- both ends still come from one pair
-still_one : (b c : RingBus) (d e : RingDriver) → OneLink b d → SameBus b c → SameDriver d e → OneLink c e
+pub still_one : (b c : RingBus) (d e : RingDriver) → OneLink b d → SameBus b c → SameDriver d e → OneLink c e
 still_one b c d e one p q = (
   q.0 ∙ one.0 ∙ sym p.0,
   (
@@ -48,22 +48,22 @@ still_one b c d e one p q = (
 
 -- what stands at one place of both lists, and what that node's driver did
 pub record Place {G : Type 0} (quits : Bool) (plan : PlanValue) (starts : List (ThreadStart G))
-    (ws : List (Worked RingDriver)) (works : List Work) (i : ℕ) : Type 0 where
+    (ws : List (Handover RingDriver)) (works : List Work) (i : ℕ) : Type 0 where
   pub start : ThreadStart G
-  pub worked : Worked RingDriver
+  pub worked : Handover RingDriver
   pub start_is : (x : ThreadStart G) → slice_index_or starts i x ≡ start
-  pub worked_is : (y : Worked RingDriver) → slice_index_or ws i y ≡ worked
+  pub worked_is : (y : Handover RingDriver) → slice_index_or ws i y ≡ worked
   pub serves : Serves quits plan start worked
   pub work_is : work_at works i ≡ serves.worked.work
 
 pub record Done {G : Type 0} (quits : Bool) (plan : PlanValue) (starts : List (ThreadStart G))
-    (ws : List (Worked RingDriver)) : Type 0 where
+    (ws : List (Handover RingDriver)) : Type 0 where
   pub works : List Work
   pub count : length works ≡ length starts
   pub places : (i : ℕ) → i < length starts → Place quits plan starts ws works i
 
 pub all_done : {G : Type 0} (quits : Bool) (plan : PlanValue) (starts : List (ThreadStart G))
-    (ws : List (Worked RingDriver)) → EachRelated (Serves quits plan) starts ws → Done quits plan starts ws
+    (ws : List (Handover RingDriver)) → EachRelated (Serves quits plan) starts ws → Done quits plan starts ws
 all_done quits plan [] [] p =
     record { works = []; count = refl; places = λ i less. absurd (omega (arith, less)) }
 all_done quits plan [] (w ∷ ws) p = absurd p
@@ -103,12 +103,13 @@ deeds_of_work [] (suc node) = refl
 deeds_of_work (w ∷ works) zero = refl
 deeds_of_work (w ∷ works) (suc node) = deeds_of_work works node
 
-module _ {G : Type 0} (quits : Bool) (plan : PlanValue) (starts : List (ThreadStart G)) (ws : List (Worked RingDriver))
+module _ {G : Type 0} (quits : Bool) (plan : PlanValue) (starts : List (ThreadStart G))
+    (ws : List (Handover RingDriver))
     (was now : BusThread) (many : length starts ≡ length plan.nodes)
     (long : length was.links.items ≡ 64 * length plan.nodes)
     (made : AreMade plan (length plan.nodes) starts was.links.items) where
   -- one node
-  over_at : GoesOn plan was now → (node : ℕ) (s : ThreadStart G) (w : Worked RingDriver) (deeds : List Deed) →
+  over_at : GoesOn plan was now → (node : ℕ) (s : ThreadStart G) (w : Handover RingDriver) (deeds : List Deed) →
       node < length plan.nodes → IsMade plan node s was.links.items → (v : Serves quits plan s w) →
       deeds ≡ deeds_done v.worked.work →
       IsOverAt (settings_in (at_power_on plan.version)) node (journal_at now.bus.journals node)
@@ -155,7 +156,7 @@ module _ {G : Type 0} (quits : Bool) (plan : PlanValue) (starts : List (ThreadSt
     nodes = λ node w few.
         let p = done.places node (omega (arith, few, many)) in
         let deeds = deeds_at (map (λ (x : Work). deeds_done x) done.works) node in
-        subst (λ (x : Worked RingDriver). IsOverAt (settings_in (at_power_on plan.version)) node
+        subst (λ (x : Handover RingDriver). IsOverAt (settings_in (at_power_on plan.version)) node
         (journal_at now.bus.journals node) deeds x now.links.items (64 * node)) (sym (p.worked_is w))
         (over_at on node p.start p.worked deeds few
         (subst (λ (x : ThreadStart G). IsMade plan node x was.links.items) (p.start_is p.start)
@@ -164,13 +165,14 @@ module _ {G : Type 0} (quits : Bool) (plan : PlanValue) (starts : List (ThreadSt
   }
 
   -- and each did what it did of its script
-  pub all_followed : (done : Done quits plan starts ws) (node : ℕ) (w : Worked RingDriver) → node < length plan.nodes →
+  pub all_followed : (done : Done quits plan starts ws) (node : ℕ) (w : Handover RingDriver) →
+      node < length plan.nodes →
       HasFollowed quits plan node (work_at done.works node) (slice_index_or ws node w)
   all_followed done node w few =
       let p = done.places node (omega (arith, few, many)) in
       let own : IsMade plan node p.start was.links.items =
       subst (λ (x : ThreadStart G). IsMade plan node x was.links.items) (p.start_is p.start) (made node p.start few) in
-      subst (λ (x : Worked RingDriver). HasFollowed quits plan node (work_at done.works node) x) (sym (p.worked_is w))
+      subst (λ (x : Handover RingDriver). HasFollowed quits plan node (work_at done.works node) x) (sym (p.worked_is w))
       (subst (λ (x : Work). HasFollowed quits plan node x p.worked) (sym p.work_is)
       (subst (λ (n : ℕ). HasFollowed quits plan n p.serves.worked.work p.worked) own.own
       (record {
@@ -182,7 +184,7 @@ module _ {G : Type 0} (quits : Bool) (plan : PlanValue) (starts : List (ThreadSt
 
   -- and has its node's list of deeds
   pub all_named : (order_version : ℕ) (names : List ℕ) → AreOrdered order_version names plan.version starts →
-      (done : Done quits plan starts ws) (node : ℕ) (w : Worked RingDriver) → node < length plan.nodes →
+      (done : Done quits plan starts ws) (node : ℕ) (w : Handover RingDriver) → node < length plan.nodes →
       IsNamed names node (slice_index_or ws node w).done.name
   all_named order_version names ordered done node w few =
       let p = done.places node (omega (arith, few, many)) in
@@ -191,6 +193,6 @@ module _ {G : Type 0} (quits : Bool) (plan : PlanValue) (starts : List (ThreadSt
       let order : IsOrderOf order_version names plan.version p.start.node p.start.done.name =
       subst (λ (x : ThreadStart G). IsOrderOf order_version names plan.version x.node x.done.name) (p.start_is p.start)
       (ordered node p.start (omega (arith, few, many))) in
-      subst (λ (x : Worked RingDriver). IsNamed names node x.done.name) (sym (p.worked_is w))
+      subst (λ (x : Handover RingDriver). IsNamed names node x.done.name) (sym (p.worked_is w))
       (subst (λ (n : ℕ). IsNamed names node n) (sym p.serves.named)
       (subst (λ (n : ℕ). IsNamed names n p.start.done.name) own.own order.1))

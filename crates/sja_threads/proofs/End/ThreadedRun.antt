@@ -4,10 +4,14 @@ use Rattle.std.specs.Prelude.{Result, Ok, Err, IfOk, slice_index_or}
 use Rattle.sja_link.specs.declared.entry.Entry.{Entry}
 use Rattle.lemmas.specs.Related.{EachRelated}
 use Rattle.lemmas.proofs.Lists.{some_of}
+use Rattle.lemmas.proofs.Related.{each_trans}
+use Rattle.sja_rings.specs.declared.ring_bus.RingBus.{RingBus}
 use Rattle.sja_rings.specs.declared.ring_driver.RingDriver.{RingDriver}
+use Rattle.sja_rings.specs.Ends.{SameBus}
+use Rattle.sja_rings.proofs.SameEnd.{bus_trans}
 use Rattle.sja_regs.specs.DriverSettings.{SettingsValue, settings_in}
 use Rattle.sja_regs.specs.Registers.{at_power_on}
-use Rattle.sja_plan.specs.Plan.{PlanValue}
+use Rattle.sja_plan.specs.Plan.{PlanValue, steps_at}
 use Rattle.sja_script.specs.declared.done.Done.{Done as DoneStep}
 use Rattle.sja_driver.specs.Deeds.{Deed}
 use Rattle.sja_log.specs.declared.end.End.{End}
@@ -17,10 +21,10 @@ use Rattle.sja_wire.specs.Wire.{journal_at}
 use Rattle.sja_threads.specs.declared.bus_thread.BusThread.{BusThread}
 use Rattle.sja_threads.specs.declared.joined_run.JoinedRun.{JoinedRun}
 use Rattle.sja_threads.specs.declared.thread_start.ThreadStart.{ThreadStart}
-use Rattle.sja_threads.specs.declared.told.Told.{Told}
-use Rattle.sja_threads.specs.declared.worked.Worked.{Worked}
+use Rattle.sja_threads.specs.declared.notice.Notice.{Notice}
+use Rattle.sja_threads.specs.declared.handover.Handover.{Handover}
 use Rattle.sja_threads.specs.Accessing.{Work, deeds_done, work_at}
-use Rattle.sja_threads.specs.Needed.{AllDue, EndsDuly}
+use Rattle.sja_threads.specs.Needed.{AllDue, EndsDuly, last_awaited}
 use Rattle.sja_threads.specs.Setting.{LeadToSettings}
 use Rattle.sja_threads.specs.Stopping.{deed_counts}
 use Rattle.sja_threads.specs.Threads.{IsThreadedRun}
@@ -28,17 +32,19 @@ use Rattle.sja_threads.specs.Ordering.{IsOrdered}
 use Rattle.sja_threads.specs.Inside.Boards.{AreTold, turns_at}
 use Rattle.sja_threads.specs.Inside.EndsInOrder.{AreInOrder}
 use Rattle.sja_threads.specs.Inside.Ended.{IsOver}
+use Rattle.sja_threads.specs.Inside.EndsJoined.{AreJoined, AreGivenBy}
 use Rattle.sja_threads.specs.Inside.JoinedRun.{HasFollowed, IsEnding}
 use Rattle.sja_threads.specs.Inside.Making.{AreMade}
 use Rattle.sja_threads.specs.Inside.Rounds.{IsUnderWay, GoesOn, EndsAs}
 use Rattle.sja_threads.specs.Inside.Settling.{IsSettledLog}
 use Rattle.sja_threads.specs.Inside.Started.{Serves}
+use Rattle.sja_threads.proofs.End.EndsJoined.{ends_given, ends_joined}
 use Rattle.sja_threads.proofs.End.RunOver.{all_done, all_followed, deeds_of_work, is_over}
 use Rattle.sja_threads.proofs.Rounds.GoesOn.{on_twice}
 
 -- once all threads are joined
 pub ending : {G : Type 0} (quits : Bool) (plan : PlanValue) (starts : List (ThreadStart G)) (was : BusThread)
-    (bus : BusThread) (ws : List (Worked RingDriver)) (j : JoinedRun) → j.bus ≡ bus → j.workeds.items ≡ ws →
+    (bus : BusThread) (ws : List (Handover RingDriver)) (j : JoinedRun) → j.bus ≡ bus → j.workeds.items ≡ ws →
     length starts ≡ length plan.nodes → length was.links.items ≡ 64 * length plan.nodes →
     AreMade plan (length plan.nodes) starts was.links.items → GoesOn plan was bus →
     was.bus.steps ≡ deed_counts plan → EachRelated (Serves quits plan) starts ws → IsEnding quits plan j
@@ -48,12 +54,20 @@ ending {G} quits plan starts was bus ws j there here many long made on room serv
       steps = ap (λ (b : BusThread). b.bus.steps) there ∙ on.steps ∙ room;
       works = done.works;
       over = λ t more.
-          subst (λ (l : List (Worked RingDriver)). IsOver plan t.bus t.links.items l
+          subst (λ (l : List (Handover RingDriver)). IsOver plan t.bus t.links.items l
           (map (λ (w : Work). deeds_done w) done.works)) (sym here)
           (is_over quits plan starts ws was t many long made
           (on_twice plan was bus t on (subst (λ (b : BusThread). GoesOn plan b t) there more)) served done);
+      joined = λ links same.
+          subst (λ (l : List (Handover RingDriver)). AreJoined (length plan.nodes) links l) (sym here)
+          (ends_joined quits plan starts ws was many long made served done links
+          (each_trans SameBus bus_trans was.links.items bus.links.items links on.sames
+          (subst (λ (b : BusThread). EachRelated SameBus b.links.items links) there same)));
+      given =
+          subst (λ (l : List (Handover RingDriver)). AreGivenBy (length plan.nodes) done.works l) (sym here)
+          (ends_given quits plan starts ws was many long made served done);
       followed = λ node w few.
-          subst (λ (l : List (Worked RingDriver)). HasFollowed quits plan node (work_at done.works node)
+          subst (λ (l : List (Handover RingDriver)). HasFollowed quits plan node (work_at done.works node)
           (slice_index_or l node w)) (sym here)
           (all_followed quits plan starts ws was bus many long made done node w few);
     }
@@ -62,11 +76,14 @@ ending {G} quits plan starts was bus ws j there here many long made on room serv
 module _ (quits : Bool) (plan : PlanValue) (j : JoinedRun) (t : BusThread) (end : End) (log : RunValue)
     (ending : IsEnding quits plan j) (ends : EndsAs plan j.bus t end)
     (runs : (deeds : List (List Deed)) → IsOver plan t.bus t.links.items j.workeds.items deeds → IsRun plan log deeds)
-    (is : IsSettledLog t.bus j.workeds.items end log) (turns : List (List Told))
-    (told : AreTold plan.bits t.bus.journals turns)
+    (is : IsSettledLog t.bus j.workeds.items end log) (turns : List (List Notice))
+    (told : AreTold plan t.bus.journals turns)
     (in_order : AreInOrder plan.version (length plan.nodes) turns j.workeds.items) where
   abbrev deeds : List (List Deed)
   deeds = map (λ (w : Work). deeds_done w) ending.works
+
+  abbrev awaited : ℕ
+  awaited = last_awaited plan.nodes
 
   over : IsOver plan t.bus t.links.items j.workeds.items deeds
   over = ending.over t ends.on
@@ -74,7 +91,7 @@ module _ (quits : Bool) (plan : PlanValue) (j : JoinedRun) (t : BusThread) (end 
   run : IsRun plan log deeds
   run = runs deeds over
 
-  some : (node : ℕ) → node < length plan.nodes → Worked RingDriver
+  some : (node : ℕ) → node < length plan.nodes → Handover RingDriver
   some node few = some_of j.workeds.items 0 (let e = over.workeds_count in omega (arith, few, e))
 
   in_plan : (node : ℕ) → node < length log.nodes → node < length plan.nodes
@@ -95,8 +112,8 @@ module _ (quits : Bool) (plan : PlanValue) (j : JoinedRun) (t : BusThread) (end 
     ordered = λ node few.
         let w = some node few in let led = in_order node w few in
         let deeds_there = deeds_done (work_at ending.works node) in
-        subst (λ (l : List (List Entry)). IsOrdered plan.version plan.bits (journal_at l node) deeds_there) (sym
-        is.journals)
+        subst (λ (l : List (List Entry)). IsOrdered plan.version plan.bits (steps_at plan node) (journal_at l node)
+        deeds_there) (sym is.journals)
         (record {
           told = turns_at turns node;
           tells = told node (let e = over.journals_count in omega (arith, few, e));
@@ -107,11 +124,11 @@ module _ (quits : Bool) (plan : PlanValue) (j : JoinedRun) (t : BusThread) (end 
         });
     linked = is.linked;
     needed = record {
-      due = subst (λ (n : ℕ). AllDue n (journals_in log)) (sym is.bits)
-          (subst (λ (l : List (List Entry)). AllDue t.bus.run l) (sym is.journals) ends.on.way.due);
-      ends = subst (λ (e : End). EndsDuly plan.bits e log.bits (journals_in log)) (sym is.ends)
-          (subst (λ (n : ℕ). EndsDuly plan.bits end n (journals_in log)) (sym (is.bits ∙ ends.on.way.run))
-          (subst (λ (l : List (List Entry)). EndsDuly plan.bits end t.run l) (sym is.journals) ends.duly));
+      due = subst (λ (n : ℕ). AllDue awaited n (journals_in log)) (sym is.bits)
+          (subst (λ (l : List (List Entry)). AllDue awaited t.bus.run l) (sym is.journals) ends.on.way.due);
+      ends = subst (λ (e : End). EndsDuly awaited plan.bits e log.bits (journals_in log)) (sym is.ends)
+          (subst (λ (n : ℕ). EndsDuly awaited plan.bits end n (journals_in log)) (sym (is.bits ∙ ends.on.way.run))
+          (subst (λ (l : List (List Entry)). EndsDuly awaited plan.bits end t.run l) (sym is.journals) ends.duly));
     };
     all_done = λ never node d less.
         let few = in_plan node less in

@@ -1,5 +1,6 @@
 -- The bus of a run in threads goes on from one round to the next.
-use Rattle.std.proofs.Common.{◌≡◌, ℕ, ◌+◌, ◌<◌, ◌≤◌, false, true, List, length, refl, sym, ap, ◌∙◌, subst, arith}
+use Rattle.std.proofs.Common.{◌≡◌, ℕ, ◌+◌, ◌<◌, ◌≤◌, ◌⊎◌, Bool, false, true, List, length, refl, sym, ap, ◌∙◌}
+use Rattle.std.proofs.Common.{subst, arith, inl, inr}
 use Rattle.std.specs.Prelude.{None, Result, Ok, Err, OnOk}
 use Rattle.std.proofs.lemmas.Slice.Zip.{AllZip-long}
 use Rattle.sja_link.specs.declared.entry.Entry.{Entry}
@@ -20,15 +21,10 @@ use Rattle.sja_wire.specs.Lawful.{IsBusRun}
 use Rattle.sja_link.specs.BitEntries.{MayHaveItems}
 use Rattle.sja_wire.specs.Wire.{journal_at}
 use Rattle.sja_threads.specs.declared.bus_thread.BusThread.{BusThread}
-use Rattle.sja_threads.specs.Needed.{IsBitDue, AllDue, AllAtRest}
+use Rattle.sja_threads.specs.Needed.{IsBitDue, AllDue, AllAtRest, last_awaited}
 use Rattle.sja_threads.specs.Inside.Rounds.{TakesWithin, IsUnderWay, GoesOn}
-use Rattle.sja_threads.proofs.Rounds.StaysDue.{AllGrow, due_stays, due_kept, due_more, due_now}
+use Rattle.sja_threads.proofs.Rounds.StaysDue.{AllGrow, IsWanted, due_stays, due_kept, due_more, due_now}
 use Rattle.sja_threads.proofs.Rounds.TakesWithin.{within_items, items_grow, within_bit, bit_grows}
-
--- some node isn't at rest
-abbrev pub SomeWorks : List (List Entry) → Type 0
-SomeWorks journals =
-    (node : ℕ) × (node < length journals) × RestsAs (record_of (journal_at journals node)) false
 
 -- with its links lent for a call
 module _ (was now : BusThread) (lent after : List RingBus) (these : lent ≡ was.links.items)
@@ -53,8 +49,9 @@ module _ (was now : BusThread) (lent after : List RingBus) (these : lent ≡ was
     -- the bus is under way still, where its bits are counted, items were taken in such activations, and bits were due
     goes_on : now.bus.run + now.bus.left ≡ plan.bits →
         ((node : ℕ) → node < length plan.nodes → TakesWithin (journal_at now.bus.journals node)) →
-        AllDue now.bus.run now.bus.journals → now.bus.run ≡ now.run →
-        (now.spent ≡ true → (now.run ≡ plan.bits) × IsBitDue plan.bits now.bus.journals) → GoesOn plan was now
+        AllDue (last_awaited plan.nodes) now.bus.run now.bus.journals → now.bus.run ≡ now.run →
+        (now.spent ≡ true → (now.run ≡ plan.bits)
+        × IsBitDue (last_awaited plan.nodes) plan.bits now.bus.journals) → GoesOn plan was now
     goes_on all within due run spent = record {
       way = record {
         right = right;
@@ -81,33 +78,36 @@ module _ (was now : BusThread) (lent after : List RingBus) (these : lent ≡ was
         (let all = w.all_bits in let run = bits.0 in let left = bits.1 in omega (arith, all, run, left))
         (λ node less. within_items (journal_at was.bus.journals node) (journal_at now.bus.journals node)
         (items node (few node less)) (w.within node less))
-        (subst (λ (n : ℕ). AllDue n now.bus.journals) (sym bits.0) (due_kept was.bus.run was.bus.journals
-        now.bus.journals nodes grow w.due))
+        (subst (λ (n : ℕ). AllDue (last_awaited plan.nodes) n now.bus.journals) (sym bits.0)
+        (due_kept (last_awaited plan.nodes) was.bus.run was.bus.journals now.bus.journals nodes grow w.due))
         (bits.0 ∙ w.run ∙ sym same_run)
         (λ e.
         let all = w.spent (sym same_spent ∙ e) in (
           same_run ∙ all.0,
-          due_stays was.bus.journals now.bus.journals nodes grow plan.bits all.1,
+          due_stays (last_awaited plan.nodes) was.bus.journals now.bus.journals nodes grow plan.bits all.1,
         ))
       where
         grow : AllGrow was.bus.journals now.bus.journals
         grow node less =
             items_grow (journal_at was.bus.journals node) (journal_at now.bus.journals node) (items node less)
 
-    -- a bit was run, before which a node wasn't at rest
+    -- a bit was run, which was due
     pub after_bit : (orders_are : ℕ → Orders → Type 0) (was_told : ℕ → BusTurn → Type 0) (was_kept : ℕ → Type 0) →
         (now.bus.run ≡ was.bus.run + 1) × (now.bus.left + 1 ≡ was.bus.left) →
-        IsBusRun was.bus.script was.bus.run was.bus.journals → SomeWorks was.bus.journals → was.run < plan.bits →
+        IsBusRun was.bus.script was.bus.run was.bus.journals →
+        IsWanted (last_awaited plan.nodes) was.run was.bus.journals → was.run < plan.bits →
         IsBit orders_are was_told was_kept was.bus.script was.bus.run was.bus.untold was.bus.journals
         now.bus.journals → now.run ≡ was.run + 1 → now.spent ≡ was.spent → GoesOn plan was now
-    after_bit orders_are was_told was_kept bits laws busy less bit next_run same_spent = goes_on
+    after_bit orders_are was_told was_kept bits laws wanted less bit next_run same_spent = goes_on
         (let all = w.all_bits in let run = bits.0 in let left = bits.1 in omega (arith, all, run, left))
         (λ node less. within_bit _ _ _ _ (journal_at was.bus.journals node) (journal_at now.bus.journals node) _ _
         (bit.nodes node (few node less)) (w.within node less))
-        (subst (λ (n : ℕ). AllDue n now.bus.journals) (sym bits.0) (due_more was.bus.run was.bus.journals
-        now.bus.journals busy.0 nodes
+        (subst (λ (n : ℕ). AllDue (last_awaited plan.nodes) n now.bus.journals) (sym bits.0)
+        (due_more (last_awaited plan.nodes) was.bus.run was.bus.journals now.bus.journals nodes
         (λ node less. bit_grows _ _ _ _ (journal_at was.bus.journals node) (journal_at now.bus.journals node) _ _
-        (bit.nodes node less)) busy.1 (laws.wired.count busy.0 busy.1) busy.2 w.due))
+        (bit.nodes node less))
+        (due_now (last_awaited plan.nodes) was.bus.run was.bus.journals laws.wired.count
+        (subst (λ (n : ℕ). IsWanted (last_awaited plan.nodes) n was.bus.journals) (sym w.run) wanted)) w.due))
         (bits.0 ∙ ap (λ (n : ℕ). n + 1) w.run ∙ sym next_run)
         (λ e. let all = (w.spent (sym same_spent ∙ e)).0 in absurd (omega (arith, all, less)))
 
@@ -145,11 +145,11 @@ pub on_then : (plan : PlanValue) (a b c : BusThread) → GoesOn plan a b → {A 
 on_then plan a b c p (Ok x) q = on_twice plan a b c p q
 on_then plan a b c p (Err x) q = tt
 
--- the bits are spent, and a node isn't at rest
+-- the bits are spent, and one more is due
 pub spent_now : (plan : PlanValue) (t : BusThread) → IsUnderWay plan t → plan.bits ≤ t.run →
-    IsBusRun t.bus.script t.bus.run t.bus.journals → SomeWorks t.bus.journals →
+    IsBusRun t.bus.script t.bus.run t.bus.journals → IsWanted (last_awaited plan.nodes) t.run t.bus.journals →
     GoesOn plan t (record t { spent = true })
-spent_now plan t w many laws busy =
+spent_now plan t w many laws wanted =
     let all = w.all_bits in let same = w.run in
     let last : t.run ≡ plan.bits = omega (arith, all, same, many) in record {
       way = record {
@@ -165,12 +165,21 @@ spent_now plan t w many laws busy =
         run = w.run;
         spent = λ e. (
           last,
-          due_now plan.bits t.bus.journals busy.0 busy.1 (laws.wired.count busy.0 busy.1 ∙ same ∙ last) busy.2,
+          due_now (last_awaited plan.nodes) plan.bits t.bus.journals
+              (λ node few. laws.wired.count node few ∙ same ∙ last)
+              (subst (λ (n : ℕ). IsWanted (last_awaited plan.nodes) n t.bus.journals) last wanted),
         );
       };
       steps = refl;
       sames = each_refl SameBus bus_refl t.links.items;
     }
+
+-- a bit is wanted, where not all rest, or fewer have run than are waited for
+pub wanted_now : (awaited last : ℕ) (t : BusThread) (rests : Bool) → awaited ≡ last →
+    (rests ≡ false) ⊎ (t.run < awaited) → (rests ≡ false → (node : ℕ) × (node < length t.bus.journals)
+    × RestsAs (record_of (journal_at t.bus.journals node)) false) → IsWanted last t.run t.bus.journals
+wanted_now awaited last t rests same (inl not) busy = inr (busy not)
+wanted_now awaited last t rests same (inr few) busy = inl (omega (arith, same, few))
 
 -- where each node is at rest, it is so by a cut
 pub all_rest : (journals : List (List Entry)) →

@@ -1,6 +1,6 @@
 -- Bits that were due stay so as the journals grow.
-use Rattle.std.proofs.Common.{◌≡◌, ℕ, ◌+◌, ◌<◌, false, List, [], ◌++◌, length, sym, ap, ◌∙◌, append_assoc, append-nil}
-use Rattle.std.proofs.Common.{arith, inl, inr}
+use Rattle.std.proofs.Common.{◌≡◌, ℕ, ◌+◌, ◌<◌, ◌⊎◌, false, List, [], ◌++◌, length, sym, ap, ◌∙◌, append_assoc}
+use Rattle.std.proofs.Common.{append-nil, subst, arith, inl, inr}
 use Rattle.lemmas.proofs.Numbers.{earlier_or_last}
 use Rattle.sja_link.specs.declared.entry.Entry.{Entry}
 use Rattle.sja_link.specs.Carried.{bits_of}
@@ -24,38 +24,46 @@ works_grows j k bits g w = record {
 abbrev pub AllGrow : List (List Entry) → List (List Entry) → Type 0
 AllGrow old new = (node : ℕ) → node < length old → Grows (journal_at old node) (journal_at new node)
 
-pub due_stays : (old new : List (List Entry)) → length new ≡ length old → AllGrow old new → StayDue old new
-due_stays old new count grow i w = (
+pub due_stays : (awaited : ℕ) (old new : List (List Entry)) → length new ≡ length old → AllGrow old new →
+    StayDue awaited old new
+due_stays awaited old new count grow i (inl few) = inl few
+due_stays awaited old new count grow i (inr w) = inr (
   w.0,
   (let few = w.1 in omega (arith, few, count)),
   works_grows (journal_at old w.0) (journal_at new w.0) i (grow w.0 w.1) w.2,
 )
 
-pub due_kept : (bits : ℕ) (old new : List (List Entry)) → length new ≡ length old → AllGrow old new →
-    AllDue bits old → AllDue bits new
-due_kept bits old new count grow due i less = due_stays old new count grow i (due i less)
+pub due_kept : (awaited bits : ℕ) (old new : List (List Entry)) → length new ≡ length old → AllGrow old new →
+    AllDue awaited bits old → AllDue awaited bits new
+due_kept awaited bits old new count grow due i less = due_stays awaited old new count grow i (due i less)
 
--- where a node isn't at rest after so many bits one more is due
-pub due_now : (bits : ℕ) (journals : List (List Entry)) (node : ℕ) → node < length journals →
-    length (bits_of (journal_at journals node)) ≡ bits → RestsAs (record_of (journal_at journals node)) false →
-    IsBitDue bits journals
-due_now bits journals node few many busy = (
+-- fewer bits have run than are waited for, or some node isn't at rest
+abbrev pub IsWanted : ℕ → ℕ → List (List Entry) → Type 0
+IsWanted awaited bits journals = (bits < awaited)
+    ⊎ ((node : ℕ) × (node < length journals) × RestsAs (record_of (journal_at journals node)) false)
+
+-- so after so many bits one more is due
+pub due_now : (awaited bits : ℕ) (journals : List (List Entry)) →
+    ((node : ℕ) → node < length journals → length (bits_of (journal_at journals node)) ≡ bits) →
+    IsWanted awaited bits journals → IsBitDue awaited bits journals
+due_now awaited bits journals many (inl few) = inl few
+due_now awaited bits journals many (inr (node, few, busy)) = inr (
   node,
   few,
   record {
     before = journal_at journals node;
     after = [];
     whole = sym (append-nil (journal_at journals node));
-    many = many;
+    many = many node few;
     works = (busy.found, busy.cut, busy.is);
   },
 )
 
--- a bit more, before which a node wasn't at rest
-pub due_more : (bits : ℕ) (old new : List (List Entry)) (node : ℕ) → length new ≡ length old → AllGrow old new →
-    node < length old → length (bits_of (journal_at old node)) ≡ bits →
-    RestsAs (record_of (journal_at old node)) false → AllDue bits old → AllDue (bits + 1) new
-due_more bits old new node count grow few many busy due i less = elim (earlier_or_last i bits less) [
-  | inl before ↦ due_kept bits old new count grow due i before
-  | inr last ↦ due_stays old new count grow i (due_now i old node few (many ∙ sym last) busy)
+-- a bit more, which was due
+pub due_more : (awaited bits : ℕ) (old new : List (List Entry)) → length new ≡ length old → AllGrow old new →
+    IsBitDue awaited bits old → AllDue awaited bits old → AllDue awaited (bits + 1) new
+due_more awaited bits old new count grow one due i less = elim (earlier_or_last i bits less) [
+  | inl before ↦ due_kept awaited bits old new count grow due i before
+  | inr last ↦ due_stays awaited old new count grow i
+      (subst (λ (n : ℕ). IsBitDue awaited n old) (sym last) one)
 ]

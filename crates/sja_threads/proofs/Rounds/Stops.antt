@@ -3,9 +3,12 @@ use Rattle.std.proofs.Common.{◌≡◌, ◌≢◌, ℕ, ◌+◌, ◌*◌, ◌<�
 use Rattle.std.specs.Prelude.{◌⊎◌, None, Result, Ok, Err, IfErr}
 use Rattle.sja_link.specs.declared.entry.Entry.{Entry}
 use Rattle.sja_link.specs.Lists.{Lists}
+use Rattle.lemmas.specs.Related.{EachRelated}
+use Rattle.lemmas.proofs.Related.{each_trans}
 use Rattle.sja_regs.specs.declared.orders.Orders.{Orders}
 use Rattle.sja_rings.specs.declared.ring_bus.RingBus.{RingBus}
-use Rattle.sja_rings.specs.Ends.{BusLists}
+use Rattle.sja_rings.specs.Ends.{BusLists, SameBus}
+use Rattle.sja_rings.proofs.SameEnd.{bus_trans}
 use Rattle.sja_plan.specs.Plan.{PlanValue}
 use Rattle.sja_wire.specs.declared.bus_fault.BusFault.{BusFault}
 use Rattle.sja_wire.specs.declared.bus_fault.BusFault.TheVariants.{BitsSpent, JournalFull}
@@ -16,8 +19,8 @@ use Rattle.sja_wire.specs.Reasons.StopsBit.{spent, not_taken, not_aborted, broke
 use Rattle.sja_link.specs.Links.{per_node}
 use Rattle.sja_wire.specs.Wire.{journal_at}
 use Rattle.sja_threads.specs.declared.bus_thread.BusThread.{BusThread}
-use Rattle.sja_threads.specs.Stopping.{HasNoPlace, any_orders, StopsWith}
-use Rattle.sja_threads.specs.Inside.Rounds.{IsUnderWay}
+use Rattle.sja_threads.specs.Stopping.{HasNoPlace, any_orders, StandFor, StopsOn}
+use Rattle.sja_threads.specs.Inside.Rounds.{IsUnderWay, GoesOn, Stops}
 
 -- an item that wasn't taken is no want of bits
 taken_not_spent : {E : Type 0} (stands : E → Lists → Type 0) (bits : ℕ) (steps : List ℕ)
@@ -43,29 +46,72 @@ bit_not_spent stands full orders_are before now links after f some (broken_off n
     subst (λ (x : BusFault). IsBrokenFor stands full n.node (room_for (before.run + before.left) before.steps n.node)
     n.opened (journal_at now.journals n.node) n.between (per_node * n.node) x) e n.broken
 
-module _ (plan : PlanValue) (t : BusThread) (now : BusValue) (links after : List RingBus) (f : BusFault)
+-- why a bit doesn't come to its end, whatever the ports order
+pub by_any_orders : {E : Type 0} {stands : E → Lists → Type 0} {full : E → Type 0} (before now : BusValue)
+    (links after : List E) (f : BusFault) (orders_are : ℕ → Orders → Type 0) →
+    StopsBit stands full orders_are before now links after f → StopsBit stands full any_orders before now links after f
+by_any_orders before now links after f orders_are (spent is none) = spent is none
+by_any_orders before now links after f orders_are (not_taken n) = not_taken n
+by_any_orders before now links after f orders_are (not_aborted n) = not_aborted (record {
+  node = n.node;
+  few = n.few;
+  is = n.is;
+  items = n.items;
+  orders = n.orders;
+  are_orders = tt;
+  ordered = n.ordered;
+  due = n.due;
+  full = n.full;
+  kept = n.kept;
+})
+by_any_orders before now links after f orders_are (broken_off n) = broken_off (record {
+  node = n.node;
+  few = n.few;
+  opened = n.opened;
+  between = n.between;
+  opens = record {
+    taken = n.opens.taken;
+    items = n.opens.items;
+    aborts = n.opens.aborts;
+    orders = n.opens.orders;
+    are_orders = tt;
+    unasked = n.opens.unasked;
+    applied = n.opens.applied;
+  };
+  kept = n.kept;
+  broken = n.broken;
+})
+
+module _ (plan : PlanValue) (t next : BusThread) (now : BusValue) (links after : List RingBus) (f : BusFault)
+    (these : links ≡ t.links.items) (those : next.links.items ≡ after) (same : EachRelated SameBus links after)
     (w : IsUnderWay plan t) (laws : IsBusRun t.bus.script t.bus.run t.bus.journals) where
   stops_for : IsTakenAndRefused BusLists plan.bits t.bus.steps t.bus.journals now.journals links after f
-      ⊎ StopsBit BusLists HasNoPlace any_orders t.bus now links after f → f ≢ BitsSpent →
-      StopsWith t.bus.steps plan f
+      ⊎ StopsBit BusLists HasNoPlace any_orders t.bus now links after f → f ≢ BitsSpent → Stops plan t next f
   stops_for why unspent = record {
-    was = t.bus;
-    now = now;
-    links = links;
-    after = after;
-    script = w.script;
-    steps = refl;
-    bits = w.all_bits;
-    nodes = w.journals;
-    right = w.right;
-    lawful = laws;
-    why = why;
-    not_spent = unspent;
+    stop = subst (λ (l : List RingBus). StopsOn t.bus.steps plan l f) (sym those) (record {
+      was = t.bus;
+      now = now;
+      links = links;
+      script = w.script;
+      steps = refl;
+      bits = w.all_bits;
+      nodes = w.journals;
+      right = w.right;
+      lawful = laws;
+      stood =
+          subst (λ (l : List RingBus). StandFor plan t.bus.journals l) (sym these)
+          (record { count = w.count; ids = w.ids; kept = w.kept });
+      why = why;
+      not_spent = unspent;
+    });
+    sames =
+        subst (λ (l : List RingBus). EachRelated SameBus l next.links.items) these
+        (subst (λ (l : List RingBus). EachRelated SameBus links l) (sym those) same);
   }
 
   -- an item wasn't taken
   pub stops_taking : IsTakenAndRefused BusLists (t.bus.run + t.bus.left) t.bus.steps t.bus.journals now.journals links
-      after f → StopsWith t.bus.steps plan f
+      after f → Stops plan t next f
   stops_taking n = stops_for
       (inl (subst (λ (bits : ℕ). IsTakenAndRefused BusLists bits t.bus.steps t.bus.journals now.journals links after f)
       w.all_bits n))
@@ -73,17 +119,31 @@ module _ (plan : PlanValue) (t : BusThread) (now : BusValue) (links after : List
 
   -- a bit didn't come to its end, where bits were left
   pub stops_bit : t.run < plan.bits → StopsBit BusLists HasNoPlace any_orders t.bus now links after f →
-      StopsWith t.bus.steps plan f
+      Stops plan t next f
   stops_bit less b = stops_for (inr b)
       (bit_not_spent BusLists HasNoPlace any_orders t.bus now links after f
       (λ none. let all = w.all_bits in let run = w.run in omega (arith, all, none, run, less)) b)
 
 -- an item that wasn't taken, by what the bus answers
-pub stops_gather : (t : BusThread) (now : BusValue) (links after : List RingBus) {A : Type 0} (r : Result A BusFault) →
+pub stops_gather : (t next : BusThread) (now : BusValue) (links after : List RingBus) → links ≡ t.links.items →
+    next.links.items ≡ after → EachRelated SameBus links after → {A : Type 0} (r : Result A BusFault) →
     (t.bus.fault ≡ None → IsBusRun t.bus.script t.bus.run t.bus.journals) →
     IfErr r (λ f. t.bus.fault ≡ None →
     IsTakenAndRefused BusLists (t.bus.run + t.bus.left) t.bus.steps t.bus.journals now.journals links after f) →
-    IfErr r (λ f. (plan : PlanValue) → IsUnderWay plan t → StopsWith t.bus.steps plan f)
-stops_gather t now links after (Ok a) laws why = tt
-stops_gather t now links after (Err f) laws why = λ plan w.
-    stops_taking plan t now links after f w (laws w.right) (why w.right)
+    IfErr r (λ f. (plan : PlanValue) → IsUnderWay plan t → Stops plan t next f)
+stops_gather t next now links after these those same (Ok a) laws why = tt
+stops_gather t next now links after these those same (Err f) laws why = λ plan w.
+    stops_taking plan t next now links after f these those same w (laws w.right) (why w.right)
+
+-- it went on, and then stopped
+pub stops_later : (plan : PlanValue) (a b c : BusThread) (f : BusFault) → GoesOn plan a b → Stops plan b c f →
+    Stops plan a c f
+stops_later plan a b c f on stops = record {
+  stop = subst (λ (steps : List ℕ). StopsOn steps plan c.links.items f) on.steps stops.stop;
+  sames = each_trans SameBus bus_trans a.links.items b.links.items c.links.items on.sames stops.sames;
+}
+
+pub stops_then : (plan : PlanValue) (a b c : BusThread) → GoesOn plan a b → {A : Type 0} (r : Result A BusFault) →
+    IfErr r (Stops plan b c) → IfErr r (Stops plan a c)
+stops_then plan a b c on (Ok x) stops = tt
+stops_then plan a b c on (Err f) stops = stops_later plan a b c f on stops

@@ -18,7 +18,7 @@ use Rattle.sja_driver.specs.LoggedDrivers.{log_of}
 use Rattle.sja_driver.specs.Logs.{HasRoom, done_in, done_room}
 use Rattle.sja_threads.specs.declared.thread_start.ThreadStart.{ThreadStart}
 use Rattle.sja_threads.specs.declared.thread_promise.ThreadPromise.{ThreadPromise}
-use Rattle.sja_threads.specs.declared.worked.Worked.{Worked}
+use Rattle.sja_threads.specs.declared.handover.Handover.{Handover}
 use Rattle.sja_threads.specs.declared.port_lists.PortLists.{PortLists}
 use Rattle.sja_threads.specs.Inside.Making.{IsMade, AreMade, AreListed}
 use Rattle.sja_threads.specs.Inside.Names.{IsNamed}
@@ -92,7 +92,7 @@ order_rest {G} order_version names version all rest s is starts =
 
 -- what a thread hands back that began with what is set after power-on
 pub served_by : {G : Type 0} (plan : PlanValue) (s : ThreadStart G) (set : SettingsValue) (steps : List Step)
-    (quits : Bool) (w : Worked RingDriver) → set ≡ settings_in (at_power_on plan.version) →
+    (quits : Bool) (w : Handover RingDriver) → set ≡ settings_in (at_power_on plan.version) →
     steps ≡ steps_at plan s.node → EachRelated SameDriver s.links.items w.links.items →
     w.done.name ≡ s.done.name → HasWorked DriverLists set s.node steps s.links.items w w.done.list →
     (quits ≡ false → length (done_in (log_of w.driver)) ≡ length steps) → Serves quits plan s w
@@ -108,7 +108,7 @@ served_by plan s set steps quits w first are sames named worked all = record {
 
 module _ {G : Type 0} (quits : Bool) (plan : PlanValue) where
   -- a promise that was kept is what the thread that began so hands back
-  kept_is : (s : ThreadStart G) (p : ThreadPromise G) (w : Worked RingDriver) → IsFor plan s p →
+  kept_is : (s : ThreadStart G) (p : ThreadPromise G) (w : Handover RingDriver) → IsFor plan s p →
       IsPromised quits p w → Serves quits plan s w
   kept_is s p w f k =
       subst (λ (n : ℕ). HandsBack quits plan s.node s.links.items n w) f.same_name
@@ -116,7 +116,7 @@ module _ {G : Type 0} (quits : Bool) (plan : PlanValue) where
       (subst (λ (n : ℕ). HandsBack quits plan n p.links.value.items p.done.value.name w) f.same_node
       (subst (λ (v : PlanValue). HandsBack quits v p.node p.links.value.items p.done.value.name w) f.same_plan k)))
 
-  pub all_kept : (starts : List (ThreadStart G)) (ps : List (ThreadPromise G)) (ws : List (Worked RingDriver)) →
+  pub all_kept : (starts : List (ThreadStart G)) (ps : List (ThreadPromise G)) (ws : List (Handover RingDriver)) →
       EachRelated (IsFor plan) starts ps → EachRelated (IsPromised quits) ps ws →
       EachRelated (Serves quits plan) starts ws
   all_kept [] [] [] f k = tt

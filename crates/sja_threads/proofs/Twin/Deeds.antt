@@ -8,7 +8,7 @@ use Rattle.sja_threads.specs.declared.deeds_of_node.DeedsOfNode.{DeedsOfNode}
 use Rattle.sja_threads.specs.declared.known_half.KnownHalf.{KnownHalf}
 use Rattle.sja_threads.specs.declared.order.Order.{Ghosts as Orders}
 use Rattle.sja_threads.specs.declared.port_deed.PortDeed.{PortDeed}
-use Rattle.sja_threads.specs.declared.told.Told.{Told}
+use Rattle.sja_threads.specs.declared.notice.Notice.{Notice}
 use Rattle.sja_threads.specs.Ordering.{LedBy}
 use Rattle.sja_threads.specs.Inside.Names.{IsNamed}
 use Rattle.sja_threads.specs.Inside.Ordered.{set_after}
@@ -43,7 +43,7 @@ module _ {N : Type 0} {o : Orders N} (d : DeedsOfNode N o) where
   }
 
   -- a port has what was set by it
-  pub has_done : (turns : List Told) (kept : List PortDeed) (p : Registers) → LedBy o.version turns kept p →
+  pub has_done : (turns : List Notice) (kept : List PortDeed) (p : Registers) → LedBy o.version turns kept p →
       kept ≡ d.known.list → HasSettings p (set_after d.version d.known.list)
   has_done turns kept p l same =
       subst (λ (v : ℕ). HasSettings p (set_after v d.known.list)) (sym d.version_is)

@@ -1,11 +1,12 @@
 -- What turns and deeds lead to at a port.
-use Rattle.std.proofs.Common.{◌≡◌, ◌++◌, ℕ, Bool, true, false, Option, Some, None, List, [], ◌∷◌, length, refl, sym, ap}
-use Rattle.std.proofs.Common.{◌∙◌, subst}
+use Rattle.std.proofs.Common.{◌≡◌, ◌++◌, ◌||◌, ℕ, Bool, true, false, Option, Some, None, List, [], ◌∷◌, length, refl}
+use Rattle.std.proofs.Common.{sym, ap, ◌∙◌, subst}
 use Rattle.std.proofs.lemmas.Bool.{or_right}
-use Rattle.can_frame.specs.declared.seen.Seen.{Seen}
+use Rattle.can_frame.specs.declared.buffer_view.BufferView.{BufferView}
 use Rattle.sja_link.specs.Lists.{Lists}
 use Rattle.sja_link.specs.Showing.{seen_of}
 use Rattle.sja_regs.specs.declared.bus_turn.BusTurn.{BusTurn}
+use Rattle.sja_regs.specs.declared.orders.Orders.{Orders}
 use Rattle.sja_regs.specs.declared.registers.Registers.{Registers}
 use Rattle.sja_regs.specs.DriverSettings.{SettingsValue, settings_in, HasSettings}
 use Rattle.sja_regs.specs.Registers.{at_power_on}
@@ -21,10 +22,10 @@ use Rattle.sja_driver.specs.Carried.{Tells, ported}
 use Rattle.sja_driver.specs.Tries.{Tried, answer_of}
 use Rattle.sja_driver.specs.Tries.Tried.{Unmet, Answered, Released, Ended}
 use Rattle.sja_threads.specs.declared.port_deed.PortDeed.{PortDeed}
-use Rattle.sja_threads.specs.declared.told.Told.{Told}
-use Rattle.sja_threads.specs.declared.told.Told.TheVariants.{Turn, Ran, Spent}
+use Rattle.sja_threads.specs.declared.notice.Notice.{Notice}
+use Rattle.sja_threads.specs.declared.notice.Notice.TheVariants.{Turn, Ran, Spent}
 use Rattle.sja_threads.specs.Ordering.{LedBy, IsAnsweredAt, active_by, bits_told, bits_told_since, done_in_order}
-use Rattle.sja_threads.specs.Ordering.{ended_told_since}
+use Rattle.sja_threads.specs.Ordering.{abort_found, abort_told, ended_told_since, orders_of}
 use Rattle.sja_threads.specs.Ordering.LedBy.{power_on, turn_told, bits_ran, spent, deed_done, ended}
 use Rattle.sja_threads.specs.Inside.Names.{IsNamed}
 use Rattle.sja_threads.specs.Inside.Ordered.{set_after}
@@ -105,7 +106,7 @@ has_ended p s h = record {
 }
 
 -- a port has what its driver's deeds have set
-pub has_set : (version : ℕ) (turns : List Told) (deeds : List PortDeed) (p : Registers) →
+pub has_set : (version : ℕ) (turns : List Notice) (deeds : List PortDeed) (p : Registers) →
     LedBy version turns deeds p → HasSettings p (set_after version deeds)
 has_set version _ _ _ power_on = has_own _
 has_set version _ _ _ (turn_told turns deeds p t l) =
@@ -121,78 +122,86 @@ has_set version _ _ _ (ended turns deeds p l) =
 
 -- ---- what a call leads to
 
-pub led_new : (version v : ℕ) (turns : List Told) (deeds : List PortDeed) (p : Registers) → turns ≡ [] →
+pub led_new : (version v : ℕ) (turns : List Notice) (deeds : List PortDeed) (p : Registers) → turns ≡ [] →
     deeds ≡ [] → p ≡ at_power_on v → v ≡ version → LedBy version turns deeds p
 led_new version v turns deeds p no_turn no_deed first same =
-    subst (λ (t : List Told). LedBy version t deeds p) (sym no_turn)
+    subst (λ (t : List Notice). LedBy version t deeds p) (sym no_turn)
     (subst (λ (d : List PortDeed). LedBy version [] d p) (sym no_deed)
     (subst (λ (r : Registers). LedBy version [] [] r) (sym (first ∙ ap at_power_on same)) power_on))
 
-pub led_turn : (version : ℕ) (turns now : List Told) (deeds : List PortDeed) (p q : Registers) (t : BusTurn) →
+pub led_turn : (version : ℕ) (turns now : List Notice) (deeds : List PortDeed) (p q : Registers) (t : BusTurn) →
     q ≡ after_turn p t → now ≡ turns ++ Turn t ∷ [] → LedBy version turns deeds p → LedBy version now deeds q
 led_turn version turns now deeds p q t left is l =
-    subst (λ (x : List Told). LedBy version x deeds q) (sym is)
+    subst (λ (x : List Notice). LedBy version x deeds q) (sym is)
     (subst (λ (r : Registers). LedBy version (turns ++ Turn t ∷ []) deeds r) (sym left) (turn_told turns deeds p t l))
 
-pub led_bits : (version : ℕ) (turns now : List Told) (deeds : List PortDeed) (p : Registers) (bits : ℕ)
-    (over : Bool) → over ≡ p.ended → now ≡ turns ++ Ran bits over ∷ [] → LedBy version turns deeds p →
+pub led_bits : (version : ℕ) (turns now : List Notice) (deeds : List PortDeed) (p : Registers) (bits : ℕ)
+    (orders : Orders) → orders ≡ orders_of p → now ≡ turns ++ Ran bits orders ∷ [] → LedBy version turns deeds p →
     LedBy version now deeds p
-led_bits version turns now deeds p bits over found is l =
-    subst (λ (x : List Told). LedBy version x deeds p) (sym (is ∙ ap (λ (e : Bool). turns ++ Ran bits e ∷ []) found))
+led_bits version turns now deeds p bits orders found is l =
+    subst (λ (x : List Notice). LedBy version x deeds p) (sym (is ∙ ap (λ (o : Orders). turns ++ Ran bits o ∷ [])
+    found))
     (bits_ran turns deeds p bits l)
 
-pub led_spent : (version : ℕ) (turns now : List Told) (deeds : List PortDeed) (p q : Registers) →
+pub led_spent : (version : ℕ) (turns now : List Notice) (deeds : List PortDeed) (p q : Registers) →
     q ≡ record p { closed = true } → now ≡ turns ++ Spent ∷ [] → LedBy version turns deeds p → LedBy version now deeds q
 led_spent version turns now deeds p q left is l =
-    subst (λ (x : List Told). LedBy version x deeds q) (sym is)
+    subst (λ (x : List Notice). LedBy version x deeds q) (sym is)
     (subst (λ (r : Registers). LedBy version (turns ++ Spent ∷ []) deeds r) (sym left) (spent turns deeds p l))
 
 -- ---- how many bits have run by what was told, and whether its driver was found to have ended
 
-pub ran_push : (n bits : ℕ) (over : Bool) (turns : List Told) → bits_told_since n (turns ++ Ran bits over ∷ []) ≡ bits
-ran_push n bits over [] = refl
-ran_push n bits over (Ran m e ∷ turns) = ran_push m bits over turns
-ran_push n bits over (Turn t ∷ turns) = ran_push n bits over turns
-ran_push n bits over (Spent ∷ turns) = ran_push n bits over turns
+pub ran_push : (n bits : ℕ) (orders : Orders) (turns : List Notice) →
+    bits_told_since n (turns ++ Ran bits orders ∷ []) ≡ bits
+ran_push n bits orders [] = refl
+ran_push n bits orders (Ran m e ∷ turns) = ran_push m bits orders turns
+ran_push n bits orders (Turn t ∷ turns) = ran_push n bits orders turns
+ran_push n bits orders (Spent ∷ turns) = ran_push n bits orders turns
 
-pub turn_push : (n : ℕ) (t : BusTurn) (turns : List Told) →
+pub turn_push : (n : ℕ) (t : BusTurn) (turns : List Notice) →
     bits_told_since n (turns ++ Turn t ∷ []) ≡ bits_told_since n turns
 turn_push n t [] = refl
 turn_push n t (Ran m e ∷ turns) = turn_push m t turns
 turn_push n t (Turn u ∷ turns) = turn_push n t turns
 turn_push n t (Spent ∷ turns) = turn_push n t turns
 
-pub spent_push : (n : ℕ) (turns : List Told) → bits_told_since n (turns ++ Spent ∷ []) ≡ bits_told_since n turns
+pub spent_push : (n : ℕ) (turns : List Notice) → bits_told_since n (turns ++ Spent ∷ []) ≡ bits_told_since n turns
 spent_push n [] = refl
 spent_push n (Ran m e ∷ turns) = spent_push m turns
 spent_push n (Turn t ∷ turns) = spent_push n turns
 spent_push n (Spent ∷ turns) = spent_push n turns
 
-pub led_ended : (version : ℕ) (turns : List Told) (deeds : List PortDeed) (p q : Registers) →
+pub led_ended : (version : ℕ) (turns : List Notice) (deeds : List PortDeed) (p q : Registers) →
     q ≡ record p { ended = true } → LedBy version turns deeds p → LedBy version turns deeds q
 led_ended version turns deeds p q left l =
     subst (λ (r : Registers). LedBy version turns deeds r) (sym left) (ended turns deeds p l)
 
-pub ended_ran : (found : Bool) (bits : ℕ) (over : Bool) (turns : List Told) →
-    ended_told_since found (turns ++ Ran bits over ∷ []) ≡ over
-ended_ran found bits over [] = refl
-ended_ran found bits over (Ran m e ∷ turns) = ended_ran e bits over turns
-ended_ran found bits over (Turn t ∷ turns) = ended_ran found bits over turns
-ended_ran found bits over (Spent ∷ turns) = ended_ran found bits over turns
+pub ended_ran : (found : Bool) (bits : ℕ) (orders : Orders) (turns : List Notice) →
+    ended_told_since found (turns ++ Ran bits orders ∷ []) ≡ (ended_told_since found turns || orders.ended)
+ended_ran found bits orders [] = refl
+ended_ran found bits orders (Ran m e ∷ turns) = ended_ran (found || e.ended) bits orders turns
+ended_ran found bits orders (Turn t ∷ turns) = ended_ran found bits orders turns
+ended_ran found bits orders (Spent ∷ turns) = ended_ran found bits orders turns
 
-pub ended_turn : (found : Bool) (t : BusTurn) (turns : List Told) →
+pub ended_turn : (found : Bool) (t : BusTurn) (turns : List Notice) →
     ended_told_since found (turns ++ Turn t ∷ []) ≡ ended_told_since found turns
 ended_turn found t [] = refl
-ended_turn found t (Ran m e ∷ turns) = ended_turn e t turns
+ended_turn found t (Ran m e ∷ turns) = ended_turn (found || e.ended) t turns
 ended_turn found t (Turn u ∷ turns) = ended_turn found t turns
 ended_turn found t (Spent ∷ turns) = ended_turn found t turns
 
-pub ended_spent : (found : Bool) (turns : List Told) →
+pub ended_spent : (found : Bool) (turns : List Notice) →
     ended_told_since found (turns ++ Spent ∷ []) ≡ ended_told_since found turns
 ended_spent found [] = refl
-ended_spent found (Ran m e ∷ turns) = ended_spent e turns
+ended_spent found (Ran m e ∷ turns) = ended_spent (found || e.ended) turns
 ended_spent found (Turn t ∷ turns) = ended_spent found turns
 ended_spent found (Spent ∷ turns) = ended_spent found turns
+
+-- and whether an abort was found to stand
+pub abort_push : (t : Notice) (turns : List Notice) → abort_told (turns ++ t ∷ []) ≡ abort_found t
+abort_push t [] = refl
+abort_push t (x ∷ []) = refl
+abort_push t (x ∷ y ∷ turns) = abort_push t (y ∷ turns)
 
 -- ---- a try
 
@@ -214,7 +223,7 @@ module _ {E : Type 0} (alike : E → E → Type 0) (stands : E → Lists → Typ
           window = held_of now;
           off = off_of now;
           tells = subst (λ (o : Bool). Tells which o p (seen_of (off_of now) (held_of now)) x) (sym out)
-              (subst (λ (s : Seen). Tells which (is_out was) p s x) (seen_is now) acts.tells);
+              (subst (λ (s : BufferView). Tells which (is_out was) p s x) (seen_is now) acts.tells);
         },
         acts.port,
       )
@@ -241,7 +250,7 @@ module _ {E : Type 0} (alike : E → E → Type 0) (stands : E → Lists → Typ
       )
 
   -- what that leads to
-  pub led_deed : (version : ℕ) (turns : List Told) (deeds : List PortDeed) (o : Tried) (d : PortDeed) →
+  pub led_deed : (version : ℕ) (turns : List Notice) (deeds : List PortDeed) (o : Tried) (d : PortDeed) →
       LedBy version turns deeds p → active_by false (done_in_order deeds) ≡ is_out was →
       Acts alike stands dry full a b p q which was now o → answer_of o ≡ Some d.answer → d.step ≡ which →
       d.set ≡ settings_in q → d.bits ≡ bits_told turns → LedBy version turns (deeds ++ d ∷ []) q
@@ -254,7 +263,7 @@ module _ {E : Type 0} (alike : E → E → Type 0) (stands : E → Lists → Typ
       (set ∙ ap settings_in left) ran)
 
   -- where it isn't done the registers stay
-  pub led_none : (version : ℕ) (turns : List Told) (deeds : List PortDeed) (o : Tried) →
+  pub led_none : (version : ℕ) (turns : List Notice) (deeds : List PortDeed) (o : Tried) →
       LedBy version turns deeds p → Acts alike stands dry full a b p q which was now o → answer_of o ≡ None →
       LedBy version turns deeds q
   led_none version turns deeds Unmet l acts is =

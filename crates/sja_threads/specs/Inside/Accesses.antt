@@ -1,15 +1,16 @@
 -- The steps of a driver in its thread.
-use Rattle.std.specs.Prelude.{◌≡◌, ◌++◌, ◌≤◌, ℕ, Bool, true, false, List, [], ◌∷◌, length, map}
-use Rattle.can_frame.specs.declared.seen.Seen.{Seen}
+use Rattle.std.specs.Prelude.{◌≡◌, ◌++◌, ◌≤◌, ◌⊎◌, ℕ, Bool, true, false, List, [], ◌∷◌, length, map}
+use Rattle.can_frame.specs.declared.buffer_view.BufferView.{BufferView}
 use Rattle.sja_link.specs.declared.driver_end.DriverEnd.{Ghosts as Ends}
 use Rattle.sja_regs.specs.declared.registers.Registers.{Registers}
 use Rattle.sja_regs.specs.Addresses.{register_at}
 use Rattle.sja_regs.specs.DriverSettings.{HasSettings}
 use Rattle.sja_regs.specs.Reading.{or_no_register, value_at}
 use Rattle.sja_script.specs.declared.step.Step.{Step}
-use Rattle.sja_script.specs.declared.step.Step.TheVariants.{Read, Write}
+use Rattle.sja_script.specs.declared.step.Step.TheVariants.{Read, Write, At}
+use Rattle.sja_script.specs.declared.refusal.Refusal.TheVariants.{Closed}
 use Rattle.sja_script.specs.declared.step_answer.StepAnswer.{StepAnswer}
-use Rattle.sja_script.specs.declared.step_answer.StepAnswer.TheVariants.{Value}
+use Rattle.sja_script.specs.declared.step_answer.StepAnswer.TheVariants.{Done as DoneAnswer, Refused, Value}
 use Rattle.sja_driver.specs.Accesses.{Access, deeds_in, done_of}
 use Rattle.sja_driver.specs.Answers.{value_answer}
 use Rattle.sja_driver.specs.AnyDrivers.{is_out}
@@ -27,17 +28,23 @@ use Rattle.sja_threads.specs.Inside.Steps.{Does, EntersNone, room_taken}
 
 -- ---- one step
 
--- no write of a driver that knows addresses and bytes alone (`true`), so one deed
-abbrev pub IsNoWrite : Bool → Step → Type 0
-IsNoWrite true (Write address value) = ⊥
-IsNoWrite bytes other = Unit {0}
+-- of a driver that knows addresses and bytes alone (`true`) no write, and no wait for a bit; so one deed
+abbrev pub HasOneDeed : Bool → Step → Type 0
+HasOneDeed true (Write address value) = ⊥
+HasOneDeed true (At least) = ⊥
+HasOneDeed bytes other = Unit {0}
+
+-- a wait until so many bits have run ends with this answer: it is done, or given up where there are bits to wait for
+abbrev pub EndsWait : ℕ → StepAnswer → Type 0
+EndsWait least answer = (answer ≡ DoneAnswer) ⊎ ((answer ≡ Refused Closed) × (1 ≤ least))
 
 -- what a step answers whose deed answered this, of a driver that knows addresses and bytes alone or doesn't: then a
 -- read the value of the register that stands there, or of the kept one, or 0; any other step the same
 abbrev pub IsTold : Bool → KeptBytes → Step → StepAnswer → StepAnswer → Type 0
 IsTold true kept (Read address) given answer =
     (value : ℕ) × (answer ≡ Value value)
-    × ((p : Registers) (seen : Seen) → given ≡ value_answer (or_no_register (value_at p seen (register_at p.mode.rm
+    × ((p : Registers) (seen : BufferView) → given ≡ value_answer (or_no_register (value_at p seen
+    (register_at p.mode.rm
     address))) → value ≡ raw_value p kept seen address)
 IsTold bytes kept other given answer = answer ≡ given
 

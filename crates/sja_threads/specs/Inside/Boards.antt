@@ -1,52 +1,54 @@
 -- The lists of what the bus of a run in threads has told, by node.
-use Rattle.std.specs.Prelude.{◌≡◌, ◌<◌, ◌≤◌, ◌++◌, ◌∷◌, ℕ, Bool, true, List, [], length, map, slice_index_or, All}
+use Rattle.std.specs.Prelude.{◌≡◌, ◌<◌, ◌≤◌, ◌++◌, ◌∷◌, ℕ, true, List, [], length, map, slice_index_or, All}
 use Rattle.sja_link.specs.declared.entry.Entry.{Entry}
+use Rattle.sja_regs.specs.declared.orders.Orders.{Orders}
+use Rattle.sja_plan.specs.Plan.{PlanValue, steps_at}
 use Rattle.sja_wire.specs.Wire.{journal_at}
-use Rattle.sja_threads.specs.declared.order.Order.{Ghosts as Orders}
-use Rattle.sja_threads.specs.declared.told.Told.{Told}
-use Rattle.sja_threads.specs.declared.told.Told.TheVariants.{Ran, Spent}
+use Rattle.sja_threads.specs.declared.order.Order.{Ghosts as PortOrders}
+use Rattle.sja_threads.specs.declared.notice.Notice.{Notice}
+use Rattle.sja_threads.specs.declared.notice.Notice.TheVariants.{Ran, Spent}
 use Rattle.sja_threads.specs.Ordering.{TellsPort, HasBegun, ended_told}
 use Rattle.sja_threads.specs.declared.turns_of_node.TurnsOfNode.{TurnsOfNode}
 
-abbrev pub turns_in : {N : Type 0} {o : Orders N} → List (TurnsOfNode N o) → List (List Told)
+abbrev pub turns_in : {N : Type 0} {o : PortOrders N} → List (TurnsOfNode N o) → List (List Notice)
 turns_in {N} {o} told = map (λ (t : TurnsOfNode N o). t.known.list) told
 
 -- what the port of a node was told
-abbrev pub turns_at : List (List Told) → ℕ → List Told
+abbrev pub turns_at : List (List Notice) → ℕ → List Notice
 turns_at turns node = slice_index_or turns node []
 
--- as these journals of a run of so many bits came to be the bus told each node's port this
-abbrev pub AreTold : ℕ → List (List Entry) → List (List Told) → Type 0
-AreTold all journals turns =
-    (node : ℕ) → node < length journals → TellsPort all (journal_at journals node) (turns_at turns node)
+-- as these journals of a run of this plan came to be the bus told each node's port this
+abbrev pub AreTold : PlanValue → List (List Entry) → List (List Notice) → Type 0
+AreTold plan journals turns = (node : ℕ) → node < length journals →
+    TellsPort plan.bits (steps_at plan node) (journal_at journals node) (turns_at turns node)
 
 -- the first so many ports were told one thing more, of this kind, and the others nothing
-pub record FirstTold (IsMore : Told → Type 0) (many : ℕ) (before after : List (List Told)) : Type 0 where
+pub record FirstTold (IsMore : Notice → Type 0) (many : ℕ) (before after : List (List Notice)) : Type 0 where
   pub told : (k : ℕ) → k < many →
-      (more : Told) × IsMore more × (turns_at after k ≡ turns_at before k ++ more ∷ [])
+      (more : Notice) × IsMore more × (turns_at after k ≡ turns_at before k ++ more ∷ [])
   pub others : (k : ℕ) → many ≤ k → turns_at after k ≡ turns_at before k
 
 -- each port was
-abbrev pub EachTold : (Told → Type 0) → List (List Told) → List (List Told) → Type 0
+abbrev pub EachTold : (Notice → Type 0) → List (List Notice) → List (List Notice) → Type 0
 EachTold IsMore before after = (node : ℕ) → node < length before →
-    (more : Told) × IsMore more × (turns_at after node ≡ turns_at before node ++ more ∷ [])
+    (more : Notice) × IsMore more × (turns_at after node ≡ turns_at before node ++ more ∷ [])
 
 -- how many bits have run; and that none are left
-abbrev pub SaysBits : ℕ → Told → Type 0
-SaysBits bits more = (ended : Bool) × (more ≡ Ran bits ended)
+abbrev pub SaysBits : ℕ → Notice → Type 0
+SaysBits bits more = (orders : Orders) × (more ≡ Ran bits orders)
 
-abbrev pub SaysSpent : Told → Type 0
+abbrev pub SaysSpent : Notice → Type 0
 SaysSpent more = more ≡ Spent
 
 -- of each of so many nodes the driver was found to have ended
-abbrev pub AllEnded : ℕ → List (List Told) → Type 0
+abbrev pub AllEnded : ℕ → List (List Notice) → Type 0
 AllEnded nodes turns = (node : ℕ) → node < nodes → ended_told (turns_at turns node) ≡ true
 
 -- each node has begun
-abbrev pub AllBegun : List (List Entry) → List (List Told) → Type 0
-AllBegun journals turns =
-    (node : ℕ) → node < length journals → HasBegun (journal_at journals node) (turns_at turns node)
+abbrev pub AllBegun : PlanValue → List (List Entry) → List (List Notice) → Type 0
+AllBegun plan journals turns = (node : ℕ) → node < length journals →
+    HasBegun (steps_at plan node) (journal_at journals node) (turns_at turns node)
 
 -- no port was told anything yet
-abbrev pub NoneTold : {N : Type 0} {o : Orders N} → List (TurnsOfNode N o) → Type 0
+abbrev pub NoneTold : {N : Type 0} {o : PortOrders N} → List (TurnsOfNode N o) → Type 0
 NoneTold {N} {o} told = All (λ (t : TurnsOfNode N o). t.known.list ≡ []) told

@@ -17,13 +17,13 @@ use Rattle.sja_driver.specs.Logs.{Traces}
 use Rattle.sja_wire.specs.Buses.{BusValue}
 use Rattle.sja_link.specs.Links.{Kept}
 use Rattle.sja_wire.specs.Wire.{journal_at}
-use Rattle.sja_threads.specs.declared.worked.Worked.{Worked}
+use Rattle.sja_threads.specs.declared.handover.Handover.{Handover}
 use Rattle.sja_threads.specs.Setting.{LeadToSettings}
 
 -- of one node, when its driver and the bus have ended: what its driver had set first, its journal, what its driver
 -- handed back, and the bus's ends of its links, from this place on
 pub record IsOverAt (set : SettingsValue) (node : ℕ) (j : List Entry) (deeds : List Deed)
-    (w : Worked RingDriver) (links : List RingBus) (base : ℕ) : Type 0 where
+    (w : Handover RingDriver) (links : List RingBus) (base : ℕ) : Type 0 where
   -- its driver did these deeds
   pub own : node_of w.driver ≡ node
   pub lawful : IsLawful w.driver
@@ -42,7 +42,7 @@ pub record IsOverAt (set : SettingsValue) (node : ℕ) (j : List Entry) (deeds :
 
 -- of all nodes of a plan: its bus, the bus's ends of all links, 64 of each node, and what the drivers handed back,
 -- which did these deeds, a list for each node
-pub record IsOver (plan : PlanValue) (bus : BusValue) (links : List RingBus) (workeds : List (Worked RingDriver))
+pub record IsOver (plan : PlanValue) (bus : BusValue) (links : List RingBus) (workeds : List (Handover RingDriver))
     (deeds : List (List Deed)) : Type 0 where
   pub right : bus.fault ≡ None
   pub script : bus.script ≡ plan.strikes
@@ -51,6 +51,6 @@ pub record IsOver (plan : PlanValue) (bus : BusValue) (links : List RingBus) (wo
   pub links_count : length links ≡ 64 * length plan.nodes
   pub workeds_count : length workeds ≡ length plan.nodes
   pub deeds_count : length deeds ≡ length plan.nodes
-  pub nodes : (node : ℕ) (w : Worked RingDriver) → node < length plan.nodes →
+  pub nodes : (node : ℕ) (w : Handover RingDriver) → node < length plan.nodes →
       IsOverAt (settings_in (at_power_on plan.version)) node (journal_at bus.journals node) (deeds_at deeds node)
       (slice_index_or workeds node w) links (64 * node)

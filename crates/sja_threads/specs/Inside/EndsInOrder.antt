@@ -5,9 +5,9 @@ use Rattle.sja_regs.specs.declared.registers.Registers.{Registers}
 use Rattle.sja_plan.specs.Plan.{PlanValue}
 use Rattle.sja_threads.specs.declared.order.Order.{Ghosts as Orders}
 use Rattle.sja_threads.specs.declared.joined_run.JoinedRun.{JoinedRun}
-use Rattle.sja_threads.specs.declared.told.Told.{Told}
+use Rattle.sja_threads.specs.declared.notice.Notice.{Notice}
 use Rattle.sja_threads.specs.declared.turns_of_node.TurnsOfNode.{TurnsOfNode}
-use Rattle.sja_threads.specs.declared.worked.Worked.{Worked}
+use Rattle.sja_threads.specs.declared.handover.Handover.{Handover}
 use Rattle.sja_threads.specs.Ordering.{LedBy}
 use Rattle.sja_threads.specs.Inside.Boards.{AllEnded, AreTold, turns_at, turns_in}
 use Rattle.sja_threads.specs.Inside.Names.{IsNamed}
@@ -16,13 +16,13 @@ use Rattle.sja_threads.specs.Inside.Names.{IsNamed}
 -- has its node's list of deeds
 pub record IsEndingInOrder {N : Type 0} {o : Orders N} (names : List ℕ) (plan : PlanValue) (j : JoinedRun)
     (lists : List (TurnsOfNode N o)) : Type 0 where
-  pub told : AreTold plan.bits j.bus.bus.journals (turns_in lists)
+  pub told : AreTold plan j.bus.bus.journals (turns_in lists)
   pub many : length lists ≡ length plan.nodes
   pub ended : AllEnded (length plan.nodes) (turns_in lists)
-  pub named : (node : ℕ) (w : Worked RingDriver) → node < length plan.nodes →
+  pub named : (node : ℕ) (w : Handover RingDriver) → node < length plan.nodes →
       IsNamed names node (slice_index_or j.workeds.items node w).done.name
 
 -- of each of so many nodes what was told and the deeds of which its driver handed the list back lead to some registers
-abbrev pub AreInOrder : ℕ → ℕ → List (List Told) → List (Worked RingDriver) → Type 0
-AreInOrder version nodes turns workeds = (node : ℕ) (w : Worked RingDriver) → node < nodes →
+abbrev pub AreInOrder : ℕ → ℕ → List (List Notice) → List (Handover RingDriver) → Type 0
+AreInOrder version nodes turns workeds = (node : ℕ) (w : Handover RingDriver) → node < nodes →
     (p : Registers) × LedBy version (turns_at turns node) (slice_index_or workeds node w).done.list p

@@ -1,6 +1,9 @@
 -- A run in threads once all threads are joined.
 use Rattle.std.specs.Prelude.{◌≡◌, ◌<◌, ℕ, Bool, false, List, length, map, slice_index_or}
+use Rattle.lemmas.specs.Related.{EachRelated}
+use Rattle.sja_rings.specs.declared.ring_bus.RingBus.{RingBus}
 use Rattle.sja_rings.specs.declared.ring_driver.RingDriver.{RingDriver}
+use Rattle.sja_rings.specs.Ends.{SameBus}
 use Rattle.sja_regs.specs.DriverSettings.{settings_in}
 use Rattle.sja_regs.specs.Registers.{at_power_on}
 use Rattle.sja_plan.specs.Plan.{PlanValue, steps_at}
@@ -9,28 +12,34 @@ use Rattle.sja_driver.specs.LoggedDrivers.{log_of}
 use Rattle.sja_driver.specs.Logs.{done_in}
 use Rattle.sja_threads.specs.declared.bus_thread.BusThread.{BusThread}
 use Rattle.sja_threads.specs.declared.joined_run.JoinedRun.{JoinedRun}
-use Rattle.sja_threads.specs.declared.worked.Worked.{Worked}
+use Rattle.sja_threads.specs.declared.handover.Handover.{Handover}
 use Rattle.sja_threads.specs.Accessing.{Work, Follows, deeds_done, work_at}
 use Rattle.sja_threads.specs.Ordering.{done_at_port, done_in_order}
 use Rattle.sja_threads.specs.Stopping.{deed_counts}
 use Rattle.sja_threads.specs.Inside.Ended.{IsOver}
+use Rattle.sja_threads.specs.Inside.EndsJoined.{AreJoined, AreGivenBy}
 use Rattle.sja_threads.specs.Inside.Rounds.{IsUnderWay, GoesOn}
 
 -- what the driver of a node did of its script in a run of this plan, which handed this back; all of it where no gate
 -- quits
-pub record HasFollowed (quits : Bool) (plan : PlanValue) (node : ℕ) (work : Work) (w : Worked RingDriver) : Type 0 where
+pub record HasFollowed (quits : Bool) (plan : PlanValue) (node : ℕ) (work : Work) (w : Handover RingDriver) :
+    Type 0 where
   pub follows : Follows plan.version (settings_in (at_power_on plan.version)) (steps_at plan node) work
   pub done : map done_of work.accesses ≡ done_in (log_of w.driver)
   pub noted : done_in_order w.done.list ≡ done_at_port (deeds_done work)
   pub all : quits ≡ false → length (done_in (log_of w.driver)) ≡ length (steps_at plan node)
 
 -- its bus is under way, and has room for all deeds; each driver did what it did of its script, and however the bus goes
--- on from here, with what the threads handed back the run of their deeds is over then
+-- on from here, with what the threads handed back the run of their deeds is over then; and its ends of all links and
+-- the drivers' come from one pair each
 pub record IsEnding (quits : Bool) (plan : PlanValue) (j : JoinedRun) : Type 0 where
   pub way : IsUnderWay plan j.bus
   pub steps : j.bus.bus.steps ≡ deed_counts plan
   pub works : List Work
   pub over : (t : BusThread) → GoesOn plan j.bus t →
       IsOver plan t.bus t.links.items j.workeds.items (map (λ (w : Work). deeds_done w) works)
-  pub followed : (node : ℕ) (w : Worked RingDriver) → node < length plan.nodes →
+  pub joined : (links : List RingBus) → EachRelated SameBus j.bus.links.items links →
+      AreJoined (length plan.nodes) links j.workeds.items
+  pub given : AreGivenBy (length plan.nodes) works j.workeds.items
+  pub followed : (node : ℕ) (w : Handover RingDriver) → node < length plan.nodes →
       HasFollowed quits plan node (work_at works node) (slice_index_or j.workeds.items node w)

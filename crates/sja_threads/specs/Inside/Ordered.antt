@@ -6,7 +6,7 @@ use Rattle.sja_regs.specs.Registers.{at_power_on}
 use Rattle.sja_script.specs.declared.step.Step.{Step}
 use Rattle.sja_script.specs.declared.step_answer.StepAnswer.{StepAnswer}
 use Rattle.sja_threads.specs.declared.port_deed.PortDeed.{PortDeed}
-use Rattle.sja_threads.specs.declared.told.Told.{Told}
+use Rattle.sja_threads.specs.declared.notice.Notice.{Notice}
 use Rattle.sja_threads.specs.Ordering.{LedBy, bits_told}
 use Rattle.sja_threads.specs.Inside.Names.{IsNamed}
 
@@ -17,7 +17,7 @@ pub record LockedValue : Type 0 where
   pub registers : Registers
   pub bits : ℕ
   pub turns_name : ℕ
-  pub turns : List Told
+  pub turns : List Notice
   pub deeds_name : ℕ
   pub deeds : List PortDeed
 

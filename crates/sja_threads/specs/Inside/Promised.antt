@@ -1,10 +1,14 @@
 -- What the threads of the drivers promise.
-use Rattle.std.specs.Prelude.{◌≡◌, Bool}
+use Rattle.std.specs.Prelude.{◌≡◌, Bool, List}
+use Rattle.lemmas.specs.Related.{EachRelated}
+use Rattle.sja_rings.specs.declared.ring_bus.RingBus.{RingBus}
 use Rattle.sja_rings.specs.declared.ring_driver.RingDriver.{RingDriver}
 use Rattle.sja_plan.specs.Plan.{PlanValue}
 use Rattle.sja_threads.specs.declared.thread_start.ThreadStart.{ThreadStart}
 use Rattle.sja_threads.specs.declared.thread_promise.ThreadPromise.{ThreadPromise}
-use Rattle.sja_threads.specs.declared.worked.Worked.{Worked}
+use Rattle.sja_threads.specs.declared.handover.Handover.{Handover}
+use Rattle.sja_wire.specs.declared.bus_fault.BusFault.{BusFault}
+use Rattle.sja_threads.specs.Inside.EndsJoined.{IsStopped}
 use Rattle.sja_threads.specs.Inside.Started.{HandsBack}
 
 -- the promise of the thread that begins with this, in a run of this plan
@@ -15,5 +19,10 @@ pub record IsFor {G : Type 0} (plan : PlanValue) (s : ThreadStart G) (p : Thread
   pub same_name : p.done.value.name ≡ s.done.name
 
 -- it was kept
-abbrev pub IsPromised : {G : Type 0} → Bool → ThreadPromise G → Worked RingDriver → Type 0
+abbrev pub IsPromised : {G : Type 0} → Bool → ThreadPromise G → Handover RingDriver → Type 0
 IsPromised quits p w = HandsBack quits p.plan.value p.node p.links.value.items p.done.value.name w
+
+-- the bus of a run of this plan stopped with this fault, whatever these threads hand back once they are joined
+abbrev pub StopsFor : {G : Type 0} → Bool → PlanValue → List RingBus → List (ThreadPromise G) → BusFault → Type 0
+StopsFor quits plan links promises f = (workeds : List (Handover RingDriver)) →
+    EachRelated (IsPromised quits) promises workeds → IsStopped plan links workeds f

@@ -8,10 +8,12 @@ use Rattle.lemmas.specs.Related.{EachRelated}
 use Rattle.sja_rings.specs.Ends.{BusLists, SameBus, link_of_bus}
 use Rattle.sja_plan.specs.Plan.{PlanValue}
 use Rattle.sja_link.specs.Links.{Kept, Numbered}
+use Rattle.sja_wire.specs.declared.bus_fault.BusFault.{BusFault}
 use Rattle.sja_wire.specs.Wire.{journal_at}
 use Rattle.sja_log.specs.declared.end.End.{End}
 use Rattle.sja_threads.specs.declared.bus_thread.BusThread.{BusThread}
-use Rattle.sja_threads.specs.Needed.{IsBitDue, AllDue, EndsDuly}
+use Rattle.sja_threads.specs.Needed.{IsBitDue, AllDue, EndsDuly, last_awaited}
+use Rattle.sja_threads.specs.Stopping.{StopsOn}
 
 -- items were taken in the activations 1 to 64 alone
 abbrev pub TakesWithin : List Entry → Type 0
@@ -22,8 +24,8 @@ abbrev pub EachHas : ℕ → List (List Entry) → Type 0
 EachHas bits journals = (node : ℕ) → node < length journals → length (bits_of (journal_at journals node)) ≡ bits
 
 -- a bit that was due by these journals was due by those too
-abbrev pub StayDue : List (List Entry) → List (List Entry) → Type 0
-StayDue before after = (bits : ℕ) → IsBitDue bits before → IsBitDue bits after
+abbrev pub StayDue : ℕ → List (List Entry) → List (List Entry) → Type 0
+StayDue awaited before after = (bits : ℕ) → IsBitDue awaited bits before → IsBitDue awaited bits after
 
 -- the bus of a run of this plan without a fault, and its ends of all links, 64 of each
 -- node, which stand for the parts of the journals, whatever the drivers got and gave; each bit so far was due, and
@@ -38,9 +40,9 @@ pub record IsUnderWay (plan : PlanValue) (t : BusThread) : Type 0 where
   pub kept : (node : ℕ) (h : ℕ → Account) → node < length plan.nodes →
       Kept BusLists (journal_at t.bus.journals node) t.links.items (64 * node) h
   pub within : (node : ℕ) → node < length plan.nodes → TakesWithin (journal_at t.bus.journals node)
-  pub due : AllDue t.bus.run t.bus.journals
+  pub due : AllDue (last_awaited plan.nodes) t.bus.run t.bus.journals
   pub run : t.bus.run ≡ t.run
-  pub spent : t.spent ≡ true → (t.run ≡ plan.bits) × IsBitDue plan.bits t.bus.journals
+  pub spent : t.spent ≡ true → (t.run ≡ plan.bits) × IsBitDue (last_awaited plan.nodes) plan.bits t.bus.journals
 
 -- it went on with the same ends, and with room for as many steps
 pub record GoesOn (plan : PlanValue) (was now : BusThread) : Type 0 where
@@ -48,7 +50,12 @@ pub record GoesOn (plan : PlanValue) (was now : BusThread) : Type 0 where
   pub steps : now.bus.steps ≡ was.bus.steps
   pub sames : EachRelated SameBus was.links.items now.links.items
 
+-- it stopped with this fault, with the same ends
+pub record Stops (plan : PlanValue) (was now : BusThread) (f : BusFault) : Type 0 where
+  pub stop : StopsOn was.bus.steps plan now.links.items f
+  pub sames : EachRelated SameBus was.links.items now.links.items
+
 -- it went on to the end of the run, which is this one
 pub record EndsAs (plan : PlanValue) (was now : BusThread) (end : End) : Type 0 where
   pub on : GoesOn plan was now
-  pub duly : EndsDuly plan.bits end now.run now.bus.journals
+  pub duly : EndsDuly (last_awaited plan.nodes) plan.bits end now.run now.bus.journals

@@ -1,5 +1,6 @@
 -- What is left on the links of a run that is over.
 use Rattle.std.specs.Prelude.{◌≡◌, ◌<◌, ◌++◌, ℕ, List, length, map, slice_index_or}
+use Rattle.rtrb.specs.Ring.{sent}
 use Rattle.sja_link.specs.declared.down.Down.{Down}
 use Rattle.lemmas.specs.Gathering.{gathered}
 use Rattle.sja_link.specs.Lists.{Lists}
@@ -12,21 +13,26 @@ use Rattle.sja_driver.specs.Logs.{done_in}
 use Rattle.sja_wire.specs.Buses.{BusValue}
 use Rattle.sja_log.specs.declared.end.End.{End}
 use Rattle.sja_log.specs.Log.{NodeValue, RunValue, journals_in}
-use Rattle.sja_threads.specs.declared.worked.Worked.{Worked}
+use Rattle.sja_threads.specs.declared.handover.Handover.{Handover}
 use Rattle.sja_threads.specs.Linked.{AreLinked}
+use Rattle.sja_threads.specs.Stopping.{CameFirst}
 
 -- the drivers that were handed back, and their ends of all links, one driver's after the other's
-abbrev pub all_drivers : List (Worked RingDriver) → List LoggedDriver
-all_drivers workeds = map (λ (w : Worked RingDriver). w.driver) workeds
+abbrev pub all_drivers : List (Handover RingDriver) → List LoggedDriver
+all_drivers workeds = map (λ (w : Handover RingDriver). w.driver) workeds
 
-abbrev pub all_ends : List (Worked RingDriver) → List RingDriver
-all_ends workeds = gathered (λ (w : Worked RingDriver). w.links.items) workeds
+abbrev pub all_ends : List (Handover RingDriver) → List RingDriver
+all_ends workeds = gathered (λ (w : Handover RingDriver). w.links.items) workeds
 
 -- all that was given on a link was taken, and of what was put this wasn't got, whatever the lists are that its two ends
 -- stand for
 abbrev pub IsLeftOn : RingBus → RingDriver → List Down → Type 0
 IsLeftOn b d down =
     (l : Lists) → BusLists b l → DriverLists d l → (l.put ≡ l.got ++ down) × (l.given ≡ l.taken)
+
+-- what came out at the bus's end is a front of what went in at the driver's
+abbrev pub CameFrom : RingBus → RingDriver → Type 0
+CameFrom b d = CameFirst b (sent d.up)
 
 -- so it is on the first so many links
 pub record AreLeftOn (buses : List RingBus) (drivers : List RingDriver) (count : ℕ) (left_down : List (List Down)) :
@@ -37,11 +43,11 @@ pub record AreLeftOn (buses : List RingBus) (drivers : List RingDriver) (count :
 
 -- a log says how many bits were run, why the run ended, the journals of the bus, and the steps that each driver did;
 -- and some order of events leads to what each activation's link carried
-pub record IsSettledLog (bus : BusValue) (workeds : List (Worked RingDriver)) (end : End) (log : RunValue) :
+pub record IsSettledLog (bus : BusValue) (workeds : List (Handover RingDriver)) (end : End) (log : RunValue) :
     Type 0 where
   pub bits : log.bits ≡ bus.run
   pub ends : log.end ≡ end
   pub journals : journals_in log ≡ bus.journals
-  pub done : (node : ℕ) (n : NodeValue) (w : Worked RingDriver) → node < length log.nodes →
+  pub done : (node : ℕ) (n : NodeValue) (w : Handover RingDriver) → node < length log.nodes →
       (slice_index_or log.nodes node n).done ≡ done_in (log_of (slice_index_or workeds node w).driver)
   pub linked : (node : ℕ) (n : NodeValue) → node < length log.nodes → AreLinked (slice_index_or log.nodes node n)

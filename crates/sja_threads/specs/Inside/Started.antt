@@ -10,7 +10,7 @@ use Rattle.sja_driver.specs.Holding.{NumberedFrom}
 use Rattle.sja_driver.specs.LoggedDrivers.{log_of}
 use Rattle.sja_driver.specs.Logs.{HasRoom, IsEmpty, done_in, done_room}
 use Rattle.sja_threads.specs.declared.thread_start.ThreadStart.{ThreadStart}
-use Rattle.sja_threads.specs.declared.worked.Worked.{Worked}
+use Rattle.sja_threads.specs.declared.handover.Handover.{Handover}
 use Rattle.sja_threads.specs.Working.{HasWorked}
 use Rattle.sja_threads.specs.Inside.Names.{IsOrderOf}
 
@@ -32,7 +32,7 @@ AreOrdered {G} order_version names version starts =
 -- what it hands back: the same ends and the same list of deeds, and a driver that followed its script with them, all of
 -- it where no gate quits
 pub record HandsBack (quits : Bool) (plan : PlanValue) (node : ℕ) (links : List RingDriver) (name : ℕ)
-    (w : Worked RingDriver) : Type 0 where
+    (w : Handover RingDriver) : Type 0 where
   pub sames : EachRelated SameDriver links w.links.items
   pub worked : HasWorked DriverLists (settings_in (at_power_on plan.version)) node (steps_at plan node) links w
       w.done.list
@@ -40,5 +40,5 @@ pub record HandsBack (quits : Bool) (plan : PlanValue) (node : ℕ) (links : Lis
   pub all : quits ≡ false → length (done_in (log_of w.driver)) ≡ length (steps_at plan node)
 
 -- the same of what a thread began with
-abbrev pub Serves : {G : Type 0} → Bool → PlanValue → ThreadStart G → Worked RingDriver → Type 0
+abbrev pub Serves : {G : Type 0} → Bool → PlanValue → ThreadStart G → Handover RingDriver → Type 0
 Serves quits plan s w = HandsBack quits plan s.node s.links.items s.done.name w

@@ -2,7 +2,7 @@ use Rattle.std.proofs.Common.{◌≡◌, ℕ, ◌<◌, length, sym, ap, ◌∙�
 use Rattle.std.specs.Prelude.{slice_index_or, slice_set}
 use lib.Seq.{map-set_same, set-get_or}
 use Rattle.std.proofs.lemmas.List.{get_or_default, get_or-map, length-set}
-use Rattle.sja_threads.specs.declared.worked.Worked.{Worked}
+use Rattle.sja_threads.specs.declared.handover.Handover.{Handover}
 use Rattle.sja_rings.specs.declared.ring_driver.RingDriver.{RingDriver}
 use Rattle.sja_threads.specs.Inside.Boards.{turns_at, turns_in}
 use Rattle.sja_threads.proofs.Twin.InOrder.{order_more}
@@ -38,7 +38,7 @@ loop-node-preserved g c =
           (ap (λ l. turns_at l c.loop-node.node) (sym inv.told)
           ∙ ap (λ n. turns_at (turns_in told) n) (sym node)
           ∙ get_or-map (λ x. x.known.list) told place t _ here ∙ ap (λ x. x.known.list) (sym value))
-          (λ (d : Worked RingDriver).
+          (λ (d : Handover RingDriver).
           ap (λ l. slice_index_or l c.loop-node.node d) (sym inv.workeds)
           ∙ ap (λ n. slice_index_or ws n d) (sym node)
           ∙ get_or_default ws place d w there ∙ sym worked)

@@ -2,7 +2,9 @@ use Rattle.std.proofs.Common.{ℕ, length, refl, sym, ap, ◌∙◌, subst}
 use Rattle.sja_regs.specs.DriverSettings.{SettingsValue, settings_in}
 use Rattle.sja_regs.specs.Registers.{at_power_on}
 use Rattle.sja_driver.specs.Accesses.{by_bytes}
-use Rattle.sja_driver.specs.LoggedDrivers.{node_of}
+use Rattle.lemmas.specs.Related.{EachRelated}
+use Rattle.sja_driver.specs.LoggedDrivers.{node_of, log_of}
+use Rattle.sja_driver.specs.Logs.{done_in}
 use Rattle.sja_threads.specs.Working.{HasWorked}
 use Rattle.sja_threads.specs.Inside.Names.{IsNamed}
 use Rattle.sja_threads.specs.Inside.Steps.{MayBegin}
@@ -30,13 +32,18 @@ pub do_steps-requires : goal.do_steps-requires
 do_steps-requires g c = (c.type_bounds.send-G, may_begin g (goal.at.do_steps-requires g c).After-new-driver)
 
 pub returns-clause-same : goal.returns-clause-same
-returns-clause-same g c = c.do_steps.ensures.does.sames
+returns-clause-same g c =
+    subst (λ w. EachRelated g.D.DriverEnd.same c.args.links.items w.links.items)
+    (sym c.hand_back.ensures) c.do_steps.ensures.does.sames
 
 pub returns-clause-worked : goal.returns-clause-worked
 returns-clause-worked g c =
     let now = c.do_steps.new.self in
     let first = c.new-driver.ensures in
-    subst (λ (n : ℕ). HasWorked g.D.DriverEnd.stands (settings_in (at_power_on c.args.done.version)) n
+    subst (λ w. HasWorked g.D.DriverEnd.stands (settings_in (at_power_on c.args.done.version)) c.args.done.node
+    c.args.steps.now c.args.links.items w w.done.list)
+    (sym c.hand_back.ensures)
+    (subst (λ (n : ℕ). HasWorked g.D.DriverEnd.stands (settings_in (at_power_on c.args.done.version)) n
     c.args.steps.now c.args.links.items
     (record { links = now.links; driver = now.driver; done = now.done.known }) now.done.known.list) first.node
     (subst (λ (s : SettingsValue). HasWorked g.D.DriverEnd.stands s (node_of c.new-driver.result) c.args.steps.now
@@ -44,13 +51,16 @@ returns-clause-worked g c =
     (record { links = now.links; driver = now.driver; done = now.done.known }) now.done.known.list)
     c.at_power_on-set.ensures
     (worked_by g.D.DriverEnd g.G.Gate.QUITS _ now c.args.steps.now
-    (may_begin g (goal.at.returns-clause-worked g c).After-new-driver) c.do_steps.ensures))
+    (may_begin g (goal.at.returns-clause-worked g c).After-new-driver) c.do_steps.ensures)))
 
 pub returns-clause-named : goal.returns-clause-named
 returns-clause-named g c =
-    subst (λ (n : ℕ). IsNamed g.N.Order.deeds n c.do_steps.new.self.done.known.name) c.do_steps.ensures.does.same
-    c.do_steps.new.self.done.named
+    subst (λ w. IsNamed g.N.Order.deeds c.args.done.node w.done.name)
+    (sym c.hand_back.ensures)
+    (subst (λ (n : ℕ). IsNamed g.N.Order.deeds n c.do_steps.new.self.done.known.name) c.do_steps.ensures.does.same
+    c.do_steps.new.self.done.named)
 
 pub returns-clause-done : goal.returns-clause-done
-returns-clause-done g c =
-    all_done g.D.DriverEnd g.G.Gate.QUITS _ c.do_steps.new.self c.args.steps.now c.do_steps.ensures
+returns-clause-done g c = λ never.
+    ap (λ w. length (done_in (log_of w.driver))) c.hand_back.ensures
+    ∙ all_done g.D.DriverEnd g.G.Gate.QUITS _ c.do_steps.new.self c.args.steps.now c.do_steps.ensures never

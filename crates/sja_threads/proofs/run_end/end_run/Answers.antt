@@ -2,11 +2,11 @@ use Rattle.std.proofs.Common.{rules, ◌≡◌, ℕ, List, length, map, sym, ap,
 use Rattle.sja_driver.specs.Deeds.{Deed}
 use Rattle.sja_log.specs.Runs.{IsRun}
 use Rattle.sja_threads.specs.Accessing.{Work, deeds_done}
-use Rattle.sja_threads.specs.Stopping.{StopsWith, deed_counts}
 use Rattle.sja_threads.specs.Inside.Boards.{turns_in}
 use Rattle.sja_threads.specs.Inside.EndsInOrder.{AreInOrder}
 use Rattle.sja_threads.specs.Inside.Ended.{IsOver}
 use Rattle.sja_threads.specs.Inside.Settling.{IsSettledLog}
+use Rattle.sja_threads.proofs.End.EndsJoined.{stopped_after}
 use Rattle.sja_threads.proofs.End.ThreadedRun.{threaded, if_both}
 use Rattle.sja_threads.proofs.run_end.end_run.Goals as goal
 
@@ -42,10 +42,15 @@ returns-in-Ok-clause-run g c =
     c.args.joined.workeds.items) c.nodes.ensures.value c.compare_all.ensures.order)))
     c.settled_log.ensures.run c.settled_log.ensures.log
 
--- the fault that is told is the one that the bus answers
-pub returns-in-Err-clause-fault : goal.returns-in-Err-clause-fault
-returns-in-Err-clause-fault g c =
-    subst (StopsWith (deed_counts c.args.plan.now) c.args.plan.now)
-    (let told : c.in-Err.fault ≡ _ = search rules in told)
-    (subst (λ (steps : List ℕ). StopsWith steps c.args.plan.now c.in-Err.fault) c.requires.ending.steps
-    c.in-Err.ensures.fault)
+pub stopped-requires : goal.stopped-requires
+stopped-requires g c = (
+  c.args.plan.now,
+  stopped_after g.G.Gate.QUITS c.args.plan.now c.args.joined c.rounds_after_drivers.new.self c.in-Err.stop
+      c.requires.ending c.in-Err.ensures.fault,
+)
+
+pub returns-clause-fault : goal.returns-clause-fault
+returns-clause-fault g c =
+    c.stopped.ensures c.args.plan.now
+    (stopped_after g.G.Gate.QUITS c.args.plan.now c.args.joined c.rounds_after_drivers.new.self c.in-Err.stop
+    c.requires.ending c.in-Err.ensures.fault)

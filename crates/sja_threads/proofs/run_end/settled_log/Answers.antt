@@ -9,7 +9,7 @@ use Rattle.sja_driver.specs.LoggedDrivers.{IsLawful}
 use Rattle.sja_log.specs.Finishing.{AreNodeEnds}
 use Rattle.sja_log.specs.Log.{NodeValue, RunValue}
 use Rattle.sja_threads.specs.Inside.Settling.{all_drivers, AreLeftOn}
-use Rattle.sja_threads.proofs.End.LinksOver.{ends_count, one_link, all_lawful}
+use Rattle.sja_threads.proofs.End.LinksOver.{ends_count, joined_over, one_link, all_lawful}
 use Rattle.sja_threads.proofs.End.LogOver.{AreLogParts, run_over, log_over}
 use Rattle.sja_threads.proofs.run_end.settled_log.Goals.{After-of-2}
 use Rattle.sja_threads.proofs.run_end.settled_log.Goals as goal
@@ -17,8 +17,8 @@ use Rattle.sja_threads.proofs.run_end.settled_log.Goals as goal
 pub settle_all-requires-clause-count : goal.settle_all-requires-clause-count
 settle_all-requires-clause-count c =
     let o = c.requires.over in
-    ends_count c.args.plan.now c.args.bus.bus c.args.bus.links.items c.args.workeds.items o.0
-    o.1
+    ends_count (length c.args.plan.now.nodes) c.args.bus.links.items c.args.workeds.items
+    (joined_over c.args.plan.now c.args.bus.bus c.args.bus.links.items c.args.workeds.items o.0 o.1)
     ∙ sym (ap (λ (l : List RingDriver). length l) c.in_ok-drivers.ensures.ends)
 
 pub settle_all-requires-clause-pairs : goal.settle_all-requires-clause-pairs
@@ -28,7 +28,8 @@ settle_all-requires-clause-pairs c =
     let P : List RingDriver → Type 0 = λ es. (i : ℕ) (b : RingBus) (d : RingDriver) → i < length links →
     OneLink (slice_index_or links i b) (slice_index_or es i d) in
     subst P (sym c.in_ok-drivers.ensures.ends)
-    (one_link c.args.plan.now c.args.bus.bus links c.args.workeds.items o.0 o.1)
+    (one_link (length c.args.plan.now.nodes) links c.args.workeds.items
+    (joined_over c.args.plan.now c.args.bus.bus links c.args.workeds.items o.0 o.1))
 
 pub node_runs-requires-clause-lawful : goal.node_runs-requires-clause-lawful
 node_runs-requires-clause-lawful c =

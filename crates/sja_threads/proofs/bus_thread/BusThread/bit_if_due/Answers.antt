@@ -1,20 +1,20 @@
-use Rattle.std.proofs.Common.{rules, ◌≡◌, false, Err, length, refl, ◌∙◌, arith}
+use Rattle.std.proofs.Common.{rules, ◌≡◌, Err, length, refl, ◌∙◌, arith}
 use Rattle.std.specs.Vec.{with_items}
 use Rattle.std.proofs.lemmas.List.{with_items_is}
 use Rattle.lemmas.proofs.Results.{err_is}
 use Rattle.sja_threads.specs.Inside.Boards.{turns_in}
-use Rattle.sja_threads.specs.Stopping.{StopsWith}
-use Rattle.sja_threads.proofs.Rounds.GoesOn.{after_bit, spent_now}
-use Rattle.sja_threads.proofs.Rounds.Stops.{stops_bit}
+use Rattle.sja_threads.specs.Inside.Rounds.{Stops}
+use Rattle.sja_threads.proofs.Rounds.GoesOn.{after_bit, all_rest, spent_now, wanted_now}
+use Rattle.sja_threads.proofs.Rounds.Stops.{by_any_orders, stops_bit}
 use Rattle.sja_threads.proofs.Rounds.Told.{ended_bit, told_bit}
 use Rattle.sja_threads.proofs.bus_thread.BusThread.bit_if_due.Goals as goal
 
 pub returns-then-self-bits-clause-on : goal.returns-then-self-bits-clause-on
 returns-then-self-bits-clause-on g c =
     let w = c.requires.way in
-    let busy : c.at_rest.result ≡ false = search rules in
-    spent_now c.args.plan.now c.args.self.now w (search rules) (c.at_rest.ensures.lawful w.right)
-    (c.at_rest.ensures.busy w.right busy)
+    spent_now c.args.plan.now c.args.self.now w (search rules) (c.at_rest-rests.ensures.lawful w.right)
+    (wanted_now c.args.awaited _ c.args.self.now c.at_rest-rests.result c.requires.awaited
+    (c.is_wanted.ensures.yes (search rules)) (c.at_rest-rests.ensures.busy w.right))
 
 pub returns-clause-on : goal.returns-clause-on
 returns-clause-on g c =
@@ -22,26 +22,33 @@ returns-clause-on g c =
     let o = c.in_ok-bit.ensures.bit in
     let k = o.keeps in
     let links = c.args.self.now.links in
-    let busy : c.at_rest.result ≡ false = search rules in
     let those : (with_items links c.bit.new.links).items ≡ c.bit.new.links =
     with_items_is links c.bit.new.links (omega (arith, c.bit.auto.links, c.as_mut_slice.ensures.len)) in
     after_bit c.args.self.now _ c.as_mut_slice.result.now c.bit.new.links c.as_mut_slice.ensures.value those k.script
-    k.steps k.nodes k.sames c.args.plan.now w o.right o.kept _ _ _ (o.run, o.left) (c.at_rest.ensures.lawful w.right)
-    (c.at_rest.ensures.busy w.right busy) (search rules) o.bit refl refl
+    k.steps k.nodes k.sames c.args.plan.now w o.right o.kept _ _ _ (o.run, o.left)
+    (c.at_rest-rests.ensures.lawful w.right)
+    (wanted_now c.args.awaited _ c.args.self.now c.at_rest-rests.result c.requires.awaited
+    (c.is_wanted.ensures.yes (search rules)) (c.at_rest-rests.ensures.busy w.right)) (search rules) o.bit refl refl
 
 pub returns-in_err-bit-clause-fault : goal.returns-in_err-bit-clause-fault
 returns-in_err-bit-clause-fault g c =
     let w = c.requires.way in
     let f = c.in_err-bit.field-0.0 in
     let is : c.from_residual.result ≡ Err f = search rules in
-    err_is (StopsWith c.args.self.now.bus.steps c.args.plan.now) c.from_residual.result f is
-    (stops_bit c.args.plan.now c.args.self.now c.bit.new.self c.as_mut_slice.result.now c.bit.new.links f w
-    (c.at_rest.ensures.lawful w.right) (search rules) (c.in_err-bit.ensures.reason w.right))
+    let links = c.args.self.now.links in
+    let those : (with_items links c.bit.new.links).items ≡ c.bit.new.links =
+    with_items_is links c.bit.new.links (omega (arith, c.bit.auto.links, c.as_mut_slice.ensures.len)) in
+    err_is (Stops c.args.plan.now c.args.self.now _) c.from_residual.result f is
+    (stops_bit c.args.plan.now c.args.self.now _ c.bit.new.self c.as_mut_slice.result.now c.bit.new.links f
+    c.as_mut_slice.ensures.value those c.bit.ensures.keeps.sames w
+    (c.at_rest-rests.ensures.lawful w.right) (search rules)
+    (by_any_orders c.args.self.now.bus c.bit.new.self c.as_mut_slice.result.now c.bit.new.links f _
+    (c.in_err-bit.ensures.reason w.right)))
 
 pub returns-clause-told : goal.returns-clause-told
 returns-clause-told g c =
     let o = c.in_ok-bit.ensures.bit in
-    told_bit c.args.plan.now.bits _ _ (turns_in c.args.board.now.told.items) (turns_in c.bit.new.board.told.items) _
+    told_bit c.args.plan.now _ _ (turns_in c.args.board.now.told.items) (turns_in c.bit.new.board.told.items) _
     _ _ o.keeps.nodes o.bit c.requires.begun
 
 pub returns-clause-ended : goal.returns-clause-ended
@@ -55,7 +62,14 @@ returns-clause-ended g c =
 pub returns-then-self-bits-clause-all : goal.returns-then-self-bits-clause-all
 returns-then-self-bits-clause-all g c = λ is.
     let w = c.requires.way in
-    let laws = c.at_rest.ensures.lawful w.right in
+    let laws = c.at_rest-rests.ensures.lawful w.right in
     let on = spent_now c.args.plan.now c.args.self.now w (search rules) laws
-    (c.at_rest.ensures.busy w.right (search rules)) in
+    (wanted_now c.args.awaited _ c.args.self.now c.at_rest-rests.result c.requires.awaited
+    (c.is_wanted.ensures.yes (search rules)) (c.at_rest-rests.ensures.busy w.right)) in
     λ node few. laws.wired.count node few ∙ w.run ∙ (on.way.spent refl).0
+
+pub returns-then-not-is_wanted-clause-rests : goal.returns-then-not-is_wanted-clause-rests
+returns-then-not-is_wanted-clause-rests g c = λ is.
+    let w = c.requires.way in
+    let no = c.is_wanted.ensures.no (search rules) in
+    (no.1, all_rest c.args.self.now.bus.journals (c.at_rest-rests.ensures.rest w.right no.0))

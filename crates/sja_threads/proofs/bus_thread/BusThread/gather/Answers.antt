@@ -17,8 +17,12 @@ returns-clause-on c =
 
 pub returns-clause-fault : goal.returns-clause-fault
 returns-clause-fault c =
-    stops_gather c.args.self.now c.gather.new.self c.as_mut_slice.result.now c.gather.new.links c.gather.result
-    c.gather.ensures.lawful c.gather.ensures.reason
+    let e = c.gather.ensures in
+    let links = c.args.self.now.links in
+    let those : (with_items links c.gather.new.links).items ≡ c.gather.new.links =
+    with_items_is links c.gather.new.links (omega (arith, c.gather.auto.links, c.as_mut_slice.ensures.len)) in
+    stops_gather c.args.self.now _ c.gather.new.self c.as_mut_slice.result.now c.gather.new.links
+    c.as_mut_slice.ensures.value those e.sames c.gather.result e.lawful e.reason
 
 pub returns-clause-told : goal.returns-clause-told
 returns-clause-told c =

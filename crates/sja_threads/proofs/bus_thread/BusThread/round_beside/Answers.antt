@@ -1,8 +1,9 @@
-use Rattle.std.proofs.Common.{rules, ◌≡◌, ℕ, List, Err, IfErr, subst, arith}
+use Rattle.std.proofs.Common.{rules, ◌≡◌, Err, arith}
 use Rattle.lemmas.proofs.Results.{err_is}
 use Rattle.sja_threads.specs.Inside.Boards.{turns_in}
-use Rattle.sja_threads.specs.Stopping.{StopsWith}
+use Rattle.sja_threads.specs.Inside.Rounds.{Stops}
 use Rattle.sja_threads.proofs.Rounds.GoesOn.{on_then}
+use Rattle.sja_threads.proofs.Rounds.Stops.{stops_then}
 use Rattle.sja_threads.proofs.Rounds.Told.{told_then}
 use Rattle.sja_threads.proofs.bus_thread.BusThread.round_beside.Goals as goal
 
@@ -10,7 +11,7 @@ pub returns-in_err-gather-clause-fault : goal.returns-in_err-gather-clause-fault
 returns-in_err-gather-clause-fault g c =
     let f = c.in_err-gather.field-0.0 in
     let is : c.from_residual.result ≡ Err f = search rules in
-    err_is (StopsWith c.args.self.now.bus.steps c.args.plan.now) c.from_residual.result f is
+    err_is (Stops c.args.plan.now c.args.self.now c.gather.new.self) c.from_residual.result f is
     (c.in_err-gather.ensures.fault c.args.plan.now c.requires.way)
 
 pub returns-then-not-all_begun-clause-on : goal.returns-then-not-all_begun-clause-on
@@ -26,25 +27,23 @@ returns-clause-on g c =
 
 pub returns-clause-fault : goal.returns-clause-fault
 returns-clause-fault g c =
-    subst (λ (steps : List ℕ). IfErr c.bit_if_due.result (StopsWith steps c.args.plan.now))
-    (c.in_ok-gather.ensures.on c.args.plan.now c.requires.way).steps c.bit_if_due.ensures.fault
+    stops_then c.args.plan.now c.args.self.now c.gather.new.self c.bit_if_due.new.self
+    (c.in_ok-gather.ensures.on c.args.plan.now c.requires.way) c.bit_if_due.result c.bit_if_due.ensures.fault
 
 pub returns-then-not-all_begun-clause-told : goal.returns-then-not-all_begun-clause-told
 returns-then-not-all_begun-clause-told g c =
-    c.in_ok-gather.ensures.told c.args.plan.now.bits (turns_in c.args.board.now.told.items)
+    c.in_ok-gather.ensures.told c.args.plan.now (turns_in c.args.board.now.told.items)
 
 pub returns-clause-told : goal.returns-clause-told
 returns-clause-told g c =
-    told_then c.args.plan.now.bits c.args.self.now.bus.journals c.gather.new.self.bus.journals
+    told_then c.args.plan.now c.args.self.now.bus.journals c.gather.new.self.bus.journals
     c.bit_if_due.new.self.bus.journals
     (turns_in c.args.board.now.told.items) (turns_in c.bit_if_due.new.board.told.items)
-    (c.in_ok-gather.ensures.told c.args.plan.now.bits (turns_in c.args.board.now.told.items)) c.bit_if_due.result
+    (c.in_ok-gather.ensures.told c.args.plan.now (turns_in c.args.board.now.told.items)) c.bit_if_due.result
     c.bit_if_due.ensures.told
 
 pub all_begun-requires-clause-right : goal.all_begun-requires-clause-right
 all_begun-requires-clause-right g c = (c.in_ok-gather.ensures.on c.args.plan.now c.requires.way).way.right
 
-pub all_begun-requires-clause-ports : goal.all_begun-requires-clause-ports
-all_begun-requires-clause-ports g c =
-    let many = (c.in_ok-gather.ensures.on c.args.plan.now c.requires.way).way.journals in
-    let ports = c.requires.ports in omega (arith, many, ports)
+pub all_begun-requires-clause-nodes : goal.all_begun-requires-clause-nodes
+all_begun-requires-clause-nodes g c = (c.in_ok-gather.ensures.on c.args.plan.now c.requires.way).way.journals

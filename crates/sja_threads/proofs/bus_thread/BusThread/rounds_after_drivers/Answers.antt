@@ -1,14 +1,17 @@
-use Rattle.std.proofs.Common.{rules, ◌≡◌, ℕ, List, Ok, Err, refl, ap, ◌∙◌, subst, arith, inl, inr}
+use Rattle.std.proofs.Common.{rules, ◌≡◌, ◌≤◌, ℕ, List, Ok, Err, length, refl, sym, ap, ◌∙◌, subst, arith, inl, inr}
+use Rattle.std.proofs.lemmas.List.{length-map}
 use Rattle.lemmas.proofs.Results.{err_is}
 use Rattle.sja_log.specs.declared.end.End.{End}
 use Rattle.sja_log.specs.declared.end.End.TheVariants.{Rest, Bits, Turns}
 use Rattle.sja_threads.specs.declared.round.Round.{Round}
-use Rattle.sja_threads.specs.Stopping.{StopsWith}
-use Rattle.sja_threads.specs.Inside.Boards.{AreTold, turns_in}
-use Rattle.sja_threads.specs.Inside.Rounds.{GoesOn}
+use Rattle.sja_threads.specs.Inside.Boards.{AllEnded, AreTold, turns_in}
+use Rattle.sja_threads.specs.Inside.Rounds.{GoesOn, Stops}
 use Rattle.sja_threads.proofs.Rounds.GoesOn.{stays_on, on_twice}
+use Rattle.sja_threads.proofs.Rounds.Stops.{stops_later}
+use Rattle.sja_threads.proofs.Rounds.Told.{ended_more, told_ran}
 use Rattle.sja_threads.proofs.bus_thread.BusThread.rounds_after_drivers.Given.{Over}
-use Rattle.sja_threads.proofs.bus_thread.BusThread.rounds_after_drivers.Goals.{In_ok-gather, In_ok-bit_if_due}
+use Rattle.sja_threads.proofs.bus_thread.BusThread.rounds_after_drivers.Goals.{After-tell_bits, In_ok-gather}
+use Rattle.sja_threads.proofs.bus_thread.BusThread.rounds_after_drivers.Goals.{In_ok-bit_if_due}
 use Rattle.sja_threads.proofs.bus_thread.BusThread.rounds_after_drivers.Goals as goal
 
 -- how a run ends, by number
@@ -44,11 +47,34 @@ one_more g c =
 
 -- and what it told
 told_on : (g : Over) (c : In_ok-bit_if_due g) →
-    AreTold c.args.plan.now.bits c.args.self.now.bus.journals (turns_in c.args.board.now.told.items) →
-    AreTold c.args.plan.now.bits c.bit_if_due.new.self.bus.journals (turns_in c.bit_if_due.new.board.told.items)
+    AreTold c.args.plan.now c.args.self.now.bus.journals (turns_in c.args.board.now.told.items) →
+    AreTold c.args.plan.now c.bit_if_due.new.self.bus.journals (turns_in c.bit_if_due.new.board.told.items)
 told_on g c are =
-    c.in_ok-bit_if_due.ensures.told (c.in_ok-gather.ensures.told c.args.plan.now.bits
-    (turns_in c.loop.board.told.items) (c.loop.invariant.told are))
+    let w = c.loop.invariant.on.way in
+    let laws = c.bits_run.ensures.lawful w.right in
+    let told = c.loop.board.told.items in
+    let many = w.journals in
+    let ports = c.loop.invariant.ports in
+    let first = c.requires.ports in
+    let long = length-map told (λ x. x.known.list) in
+    c.in_ok-bit_if_due.ensures.told (c.in_ok-gather.ensures.told c.args.plan.now
+    (turns_in c.tell_bits.new.self.told.items)
+    (told_ran c.args.plan.now c.bits_run.result c.loop.self.bus.journals (turns_in told)
+    (turns_in c.tell_bits.new.self.told.items)
+    (λ node few. laws.wired.count node few ∙ sym c.bits_run.ensures.value)
+    (omega (arith, many, ports, first, long)) c.tell_bits.ensures.told (c.loop.invariant.told are)))
+
+-- each driver was found to have ended, and stays so
+ended_there : (g : Over) (c : After-tell_bits g) →
+    AllEnded (length c.args.plan.now.nodes) (turns_in c.tell_bits.new.self.told.items)
+ended_there g c =
+    let told = c.loop.board.told.items in
+    let ports = c.loop.invariant.ports in
+    let first = c.requires.ports in
+    let long = length-map told (λ x. x.known.list) in
+    ended_more (length c.args.plan.now.nodes) c.bits_run.result (turns_in told)
+    (turns_in c.tell_bits.new.self.told.items)
+    (omega (arith, ports, first, long)) c.tell_bits.ensures.told c.loop.invariant.ended
 
 pub loop-init : goal.loop-init
 loop-init g c = record {
@@ -63,8 +89,8 @@ pub returns-in_err-gather-clause-fault : goal.returns-in_err-gather-clause-fault
 returns-in_err-gather-clause-fault g c =
     let f = c.in_err-gather.field-0.0 in
     let is : c.from_residual.result ≡ Err f = search rules in
-    err_is (StopsWith c.args.self.now.bus.steps c.args.plan.now) c.from_residual.result f is
-    (subst (λ (steps : List ℕ). StopsWith steps c.args.plan.now f) c.loop.invariant.on.steps
+    err_is (Stops c.args.plan.now c.args.self.now c.gather.new.self) c.from_residual.result f is
+    (stops_later c.args.plan.now c.args.self.now c.loop.self c.gather.new.self f c.loop.invariant.on
     (c.in_err-gather.ensures.fault c.args.plan.now c.loop.invariant.on.way))
 
 pub returns-in_err-bit_if_due-clause-fault : goal.returns-in_err-bit_if_due-clause-fault
@@ -72,8 +98,9 @@ returns-in_err-bit_if_due-clause-fault g c =
     let f = c.in_err-bit_if_due.field-0.0 in
     let is : c.from_residual-in_err-bit_if_due.result ≡ Err f = search rules in
     let took = taken g (goal.at.returns-in_err-bit_if_due-clause-fault g c).In_ok-gather in
-    err_is (StopsWith c.args.self.now.bus.steps c.args.plan.now) c.from_residual-in_err-bit_if_due.result f is
-    (subst (λ (steps : List ℕ). StopsWith steps c.args.plan.now f) took.steps c.in_err-bit_if_due.ensures.fault)
+    err_is (Stops c.args.plan.now c.args.self.now c.bit_if_due.new.self) c.from_residual-in_err-bit_if_due.result f is
+    (stops_later c.args.plan.now c.args.self.now c.gather.new.self c.bit_if_due.new.self f took
+    c.in_err-bit_if_due.ensures.fault)
 
 pub bit_if_due-requires-clause-way : goal.bit_if_due-requires-clause-way
 bit_if_due-requires-clause-way g c = (taken g (goal.at.bit_if_due-requires-clause-way g c).In_ok-gather).way
@@ -81,7 +108,8 @@ bit_if_due-requires-clause-way g c = (taken g (goal.at.bit_if_due-requires-claus
 pub bit_if_due-requires-clause-begun : goal.bit_if_due-requires-clause-begun
 bit_if_due-requires-clause-begun g c = λ node few.
     let many = (taken g (goal.at.bit_if_due-requires-clause-begun g c).In_ok-gather).way.journals in
-    inr (c.loop.invariant.ended node (omega (arith, few, many)))
+    inr (inl (ended_there g (goal.at.bit_if_due-requires-clause-begun g c).After-tell_bits node
+    (omega (arith, few, many))))
 
 pub loop-preserved : goal.loop-preserved
 loop-preserved g c =
@@ -91,18 +119,21 @@ loop-preserved g c =
     record {
       on = one_more g (goal.at.loop-preserved g c).In_ok-bit_if_due;
       count = omega (arith, count, taken, ran);
-      ports = c.bit_if_due.ensures.ports ∙ c.loop.invariant.ports;
+      ports = c.bit_if_due.ensures.ports ∙ c.tell_bits.ensures.many ∙ c.loop.invariant.ports;
       told = told_on g (goal.at.loop-preserved g c).In_ok-bit_if_due;
-      ended = c.in_ok-bit_if_due.ensures.ended c.loop.invariant.ended;
+      ended = c.in_ok-bit_if_due.ensures.ended (ended_there g (goal.at.loop-preserved g c).After-tell_bits);
     }
 
 pub returns-in-Rests-clause-ends : goal.returns-in-Rests-clause-ends
 returns-in-Rests-clause-ends g c = record {
   on = one_more g (goal.at.returns-in-Rests-clause-ends g c).In_ok-bit_if_due;
-  duly = inl (
-    rest_is _ (omega arith),
-    c.bit_if_due.ensures.rests (c.in_ok-bit_if_due.was ∙ ap (λ (r : Round). Ok r) c.in-Rests.is),
-  );
+  duly =
+      let rests = c.bit_if_due.ensures.rests (c.in_ok-bit_if_due.was ∙ ap (λ (r : Round). Ok r) c.in-Rests.is) in
+      inl (
+        rest_is _ (omega arith),
+        subst (λ (n : ℕ). n ≤ c.bit_if_due.new.self.run) c.last_awaited-awaited.ensures rests.0,
+        rests.1,
+      );
 }
 
 pub returns-in_default-clause-ends : goal.returns-in_default-clause-ends

@@ -1,8 +1,8 @@
-use Rattle.std.proofs.Common.{rules, ◌≡◌, ℕ, List, Err, refl, ◌∙◌, subst}
+use Rattle.std.proofs.Common.{rules, ◌≡◌, Err, refl, ◌∙◌}
 use Rattle.lemmas.proofs.Results.{err_is}
-use Rattle.sja_threads.specs.Stopping.{StopsWith}
-use Rattle.sja_threads.specs.Inside.Rounds.{GoesOn}
+use Rattle.sja_threads.specs.Inside.Rounds.{GoesOn, Stops}
 use Rattle.sja_threads.proofs.Rounds.GoesOn.{stays_on, on_twice}
+use Rattle.sja_threads.proofs.Rounds.Stops.{stops_later}
 use Rattle.sja_threads.proofs.bus_thread.BusThread.rounds_beside_drivers.Given.{Over}
 use Rattle.sja_threads.proofs.bus_thread.BusThread.rounds_beside_drivers.Goals.{In_ok-round}
 use Rattle.sja_threads.proofs.bus_thread.BusThread.rounds_beside_drivers.Goals as goal
@@ -38,8 +38,8 @@ pub returns-in_err-round-clause-fault : goal.returns-in_err-round-clause-fault
 returns-in_err-round-clause-fault g c =
     let f = c.in_err-round.field-0.0 in
     let is : c.from_residual.result ≡ Err f = search rules in
-    err_is (StopsWith c.args.self.now.bus.steps c.args.plan.now) c.from_residual.result f is
-    (subst (λ (steps : List ℕ). StopsWith steps c.args.plan.now f) c.loop.invariant.on.steps
+    err_is (Stops c.args.plan.now c.args.self.now c.told_round.new.self) c.from_residual.result f is
+    (stops_later c.args.plan.now c.args.self.now c.loop.self c.told_round.new.self f c.loop.invariant.on
     c.in_err-round.ensures.fault)
 
 pub returns-then-over-clause-told : goal.returns-then-over-clause-told

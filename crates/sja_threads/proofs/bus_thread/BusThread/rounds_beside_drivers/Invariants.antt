@@ -7,6 +7,6 @@ abbrev pub invariant-loop : goal.invariant-loop
 invariant-loop g l = record {
   on : GoesOn l.plan l.initial.self l.self;
   ports : length l.board.told.items ≡ length l.initial.board.told.items;
-  told : AreTold l.plan.bits l.initial.self.bus.journals (turns_in l.initial.board.told.items) →
-      AreTold l.plan.bits l.self.bus.journals (turns_in l.board.told.items);
+  told : AreTold l.plan l.initial.self.bus.journals (turns_in l.initial.board.told.items) →
+      AreTold l.plan l.self.bus.journals (turns_in l.board.told.items);
 }

@@ -2,7 +2,7 @@ use Rattle.std.proofs.Common.{rules, ◌≡◌, ℕ, ◌≤◌, List, Ok, Err, l
 use Rattle.std.proofs.lemmas.List.{length-map}
 use Rattle.lemmas.proofs.Results.{err_is}
 use Rattle.sja_threads.specs.declared.round.Round.{Round}
-use Rattle.sja_threads.specs.Stopping.{StopsWith}
+use Rattle.sja_threads.specs.Inside.Rounds.{Stops}
 use Rattle.sja_threads.specs.Inside.Boards.{AreTold, turns_in}
 use Rattle.sja_threads.proofs.Rounds.Told.{told_ran, told_spent}
 use Rattle.sja_threads.proofs.bus_thread.BusThread.told_round.Given.{Over}
@@ -11,8 +11,8 @@ use Rattle.sja_threads.proofs.bus_thread.BusThread.told_round.Goals as goal
 
 -- what was told first, and by the round
 ran_first : (g : Over) (c : In_ok-round g) →
-    AreTold c.args.plan.now.bits c.args.self.now.bus.journals (turns_in c.args.board.now.told.items) →
-    AreTold c.args.plan.now.bits c.round_beside.new.self.bus.journals (turns_in c.round_beside.new.board.told.items)
+    AreTold c.args.plan.now c.args.self.now.bus.journals (turns_in c.args.board.now.told.items) →
+    AreTold c.args.plan.now c.round_beside.new.self.bus.journals (turns_in c.round_beside.new.board.told.items)
 ran_first g c are =
     let w = c.requires.way in
     let laws = c.bits_run.ensures.lawful w.right in
@@ -20,7 +20,7 @@ ran_first g c are =
     let many = w.journals in
     let ports = c.requires.ports in
     let long = length-map told (λ x. x.known.list) in
-    c.in_ok-round.ensures.told (told_ran c.args.plan.now.bits c.bits_run.result c.args.self.now.bus.journals
+    c.in_ok-round.ensures.told (told_ran c.args.plan.now c.bits_run.result c.args.self.now.bus.journals
     (turns_in told) (turns_in c.tell_bits.new.self.told.items)
     (λ node few. laws.wired.count node few ∙ sym c.bits_run.ensures.value) (omega (arith, many, ports, long))
     c.tell_bits.ensures.told are)
@@ -33,7 +33,7 @@ returns-in-Spent-clause-told g c = λ are.
     let second = c.tell_bits.ensures.many in
     let third = c.round_beside.ensures.ports in
     let long = length-map told (λ x. x.known.list) in
-    told_spent c.args.plan.now.bits c.round_beside.new.self.bus.journals (turns_in told)
+    told_spent c.args.plan.now c.round_beside.new.self.bus.journals (turns_in told)
     (turns_in c.close_all.new.self.told.items) (c.in_ok-round.ensures.all (ap (λ (r : Round). Ok r) c.in-Spent.is))
     (omega (arith, many, first, second, third, long)) c.close_all.ensures.told
     (ran_first g (goal.at.returns-in-Spent-clause-told g c).In_ok-round are)
@@ -45,5 +45,5 @@ pub returns-in_err-round-clause-fault : goal.returns-in_err-round-clause-fault
 returns-in_err-round-clause-fault g c =
     let f = c.in_err-round.field-0.0 in
     let is : c.from_residual.result ≡ Err f = search rules in
-    err_is (StopsWith c.args.self.now.bus.steps c.args.plan.now) c.from_residual.result f is
+    err_is (Stops c.args.plan.now c.args.self.now c.round_beside.new.self) c.from_residual.result f is
     c.in_err-round.ensures.fault

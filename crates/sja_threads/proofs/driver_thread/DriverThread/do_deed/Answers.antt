@@ -1,13 +1,22 @@
-use Rattle.std.proofs.Common.{Some, None}
+use Rattle.std.proofs.Common.{◌≡◌, ℕ, Some, None, sym, ◌∙◌, subst}
 use Rattle.sja_threads.proofs.Driver.Steps.{deed_able, deed_none, deed_then}
+use Rattle.sja_threads.proofs.driver_thread.DriverThread.do_deed.Given.{Over}
+use Rattle.sja_threads.proofs.driver_thread.DriverThread.do_deed.Goals.{In_default}
 use Rattle.sja_threads.proofs.driver_thread.DriverThread.do_deed.Goals as goal
 
+-- a try in vain leaves the list with its node
+same_node : (g : Over) (c : In_default g) → c.try_deed.new.self.done.node ≡ c.args.self.now.done.node
+same_node g c = c.in_default.ensures.does.same ∙ c.loop.invariant.none.does.same
+
 pub loop-init : goal.loop-init
-loop-init g c = record { none = deed_none g.D.DriverEnd g.met.D.DriverEnd.same_refl c.args.self.now c.args.deed.now }
+loop-init g c = record {
+  none = deed_none g.D.DriverEnd g.met.D.DriverEnd.same_refl c.args.self.now c.args.deed.now;
+  asked = c.requires.asked;
+}
 
 pub try_deed-requires : goal.try_deed-requires
 try_deed-requires g c =
-    deed_able g.D.DriverEnd c.args.self.now c.loop.self c.args.deed.now 1 c.loop.invariant.none c.requires
+    deed_able g.D.DriverEnd c.args.self.now c.loop.self c.args.deed.now 1 c.loop.invariant.none c.requires.may
 
 pub returns-in-Some-try_deed-clause-done : goal.returns-in-Some-try_deed-clause-done
 returns-in-Some-try_deed-clause-done g c =
@@ -23,4 +32,21 @@ pub loop-preserved : goal.loop-preserved
 loop-preserved g c = record {
   none = deed_then g.D.DriverEnd g.met.D.DriverEnd.same_trans c.args.self.now c.loop.self c.try_deed.new.self
       c.args.deed.now None c.loop.invariant.none c.in_default.ensures;
+  asked = subst (λ (node : ℕ). g.G.Gate.asks c.args.at.now.gate node c.args.number c.lets_go.new.tries)
+      (same_node g (goal.at.loop-preserved g c).In_default) c.lets_go.ensures.asked;
 }
+
+pub returns-then-not-lets_go-clause-asked : goal.returns-then-not-lets_go-clause-asked
+returns-then-not-lets_go-clause-asked g c =
+    subst (λ (node : ℕ). g.G.Gate.asks c.args.at.now.gate node c.args.number c.lets_go.new.tries)
+    (same_node g (goal.at.returns-then-not-lets_go-clause-asked g c).In_default) c.lets_go.ensures.asked
+
+pub lets_go-requires : goal.lets_go-requires
+lets_go-requires g c =
+    let laws = g.met.G.Gate g.world.𝓛 g.world.𝓜 g.world.𝓡 ((λ s x. x), (λ x. x), (λ x. x), λ x. x) in (
+      c.type_bounds.send-G,
+      subst (λ (node : ℕ). g.G.Gate.asks c.args.at.now.gate node c.args.number c.wait_in_vain.new.tries)
+          (sym (same_node g (goal.at.lets_go-requires g c).In_default))
+          (laws.next_try c.args.at.now.gate c.args.self.now.done.node c.args.number c.loop.tries
+          c.wait_in_vain.new.tries c.loop.invariant.asked c.wait_in_vain.ensures),
+    )

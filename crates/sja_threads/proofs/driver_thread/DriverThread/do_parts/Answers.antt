@@ -1,4 +1,4 @@
-use Rattle.std.proofs.Common.{◌++◌, ◌+◌, length, arith}
+use Rattle.std.proofs.Common.{◌++◌, ◌+◌, ℕ, length, sym, subst, arith}
 use Rattle.lemmas.specs.Gathering.{total}
 use Rattle.sja_driver.specs.WriteLists.{listed}
 use Rattle.sja_threads.specs.Inside.Steps.{room_of}
@@ -6,12 +6,22 @@ use Rattle.sja_threads.proofs.Driver.Parts.{parts_able, parts_more, parts_wide}
 use Rattle.sja_threads.proofs.Driver.Room.{room_second, room_third}
 use Rattle.sja_threads.proofs.driver_thread.DriverThread.do_parts.Goals as goal
 
-pub do_part-requires-2-after_bounds : goal.do_part-requires-2-after_bounds
-do_part-requires-2-after_bounds g c κs within =
+pub do_part-requires-2-clause-may : goal.do_part-requires-2-clause-may
+do_part-requires-2-clause-may g c κs within =
     let s = c.args.steps.now in
     parts_able g.D.DriverEnd c.args.self.now c.do_part.new.self (listed s.first) c.do_part.result c.args.kept.now
     c.do_part.new.kept c.do_part.ensures.parts (length (listed s.second)) 1 (room_second s c.requires.last)
     c.requires.may
+
+pub do_part-requires-2-clause-asked : goal.do_part-requires-2-clause-asked
+do_part-requires-2-clause-asked g c κs within =
+    subst (λ (node : ℕ). g.G.Gate.asks c.args.at.now.gate node c.args.number c.do_part.new.tries)
+    (sym c.do_part.ensures.parts.does.same) c.do_part.ensures.asked
+
+pub do_part-requires-3-clause-asked : goal.do_part-requires-3-clause-asked
+do_part-requires-3-clause-asked g c κs within =
+    subst (λ (node : ℕ). g.G.Gate.asks c.args.at.now.gate node c.args.number c.do_part-2.new.tries)
+    (sym c.do_part-2.ensures.parts.does.same) c.do_part-2.ensures.asked
 
 pub returns-then-not-do_part-clause-parts : goal.returns-then-not-do_part-clause-parts
 returns-then-not-do_part-clause-parts g c =
@@ -28,8 +38,8 @@ returns-then-not-do_part-2-clause-parts g c =
     (parts_wide g.D.DriverEnd c.do_part.new.self c.do_part-2.new.self (listed s.second) (listed s.third)
     c.do_part-2.result c.do_part.new.kept c.do_part-2.new.kept c.if-not-do_part-2.true c.do_part-2.ensures.parts)
 
-pub do_part-requires-3-after_bounds : goal.do_part-requires-3-after_bounds
-do_part-requires-3-after_bounds g c κs within =
+pub do_part-requires-3-clause-may : goal.do_part-requires-3-clause-may
+do_part-requires-3-clause-may g c κs within =
     let s = c.args.steps.now in
     let third = length (listed s.third) in
     let second = total room_of (listed s.second) in

@@ -1,4 +1,4 @@
-use Rattle.std.proofs.Common.{take, ◌-◌, ◌+◌, ◌++◌, List, [], ◌∷◌, length, refl, sym, ap, ◌∙◌, subst, arith}
+use Rattle.std.proofs.Common.{take, rules, ℕ, ◌-◌, ◌+◌, ◌++◌, List, [], ◌∷◌, length, refl, sym, ap, ◌∙◌, subst, arith}
 use Rattle.std.proofs.lemmas.List.{take_more}
 use Rattle.sja_script.specs.declared.step.Step.{Step}
 use Rattle.sja_threads.specs.Inside.Accesses.{HasDone}
@@ -6,12 +6,15 @@ use Rattle.sja_threads.proofs.Driver.Script.{done_none, done_more, ended_all, en
 use Rattle.sja_threads.proofs.driver_thread.DriverThread.do_steps.Goals as goal
 
 pub loop-k-init : goal.loop-k-init
-loop-k-init g c = record {
-  able = step_less g.D.DriverEnd c.args.self.now (length c.args.steps.now - 0) (length c.args.steps.now) (omega arith)
-      c.requires.may;
-  done = done_none g.D.DriverEnd g.met.D.DriverEnd.same_trans g.met.D.DriverEnd.same_refl c.args.self.now
-      c.requires.traces c.requires.kept c.requires.empty;
-}
+loop-k-init g c =
+    let w = g.world in
+    let laws = g.met.G.Gate w.𝓛 w.𝓜 w.𝓡 ((λ s x. x), (λ x. x), (λ x. x), λ x. x) in record {
+      able = step_less g.D.DriverEnd c.args.self.now (length c.args.steps.now - 0) (length c.args.steps.now)
+          (omega arith) c.requires.may;
+      done = done_none g.D.DriverEnd g.met.D.DriverEnd.same_trans g.met.D.DriverEnd.same_refl c.args.self.now
+          c.requires.traces c.requires.kept c.requires.empty;
+      asks = laws.first_step c.args.at.now.gate c.args.self.now.done.node;
+    }
 
 pub loop-k-preserved : goal.loop-k-preserved
 loop-k-preserved g c =
@@ -19,6 +22,8 @@ loop-k-preserved g c =
     let s = c.index-steps-k.result in
     let all = c.args.steps.now in
     let k = c.loop-k.k in
+    let laws = g.met.G.Gate g.world.𝓛 g.world.𝓜 g.world.𝓡 ((λ s x. x), (λ x. x), (λ x. x), λ x. x) in
+    let next = c.saturating_add-number.result in
     let does = c.do_step.ensures.done c.if-not-do_step.false in record {
       able = step_able g.D.DriverEnd c.loop-k.self c.do_step.new.self s (length all - (k + 1)) does
           (step_less g.D.DriverEnd c.loop-k.self (length all - (k + 1) + 1) (length all - k) (omega (arith, few))
@@ -27,6 +32,9 @@ loop-k-preserved g c =
           (sym (take_more all k s few ∙ ap (λ (x : Step). take k all ++ x ∷ []) (sym c.index-steps-k.is)))
           (done_more g.D.DriverEnd g.met.D.DriverEnd.same_trans g.met.D.DriverEnd.same_refl c.args.self.now
           c.requires.traces c.loop-k.self (take k all) c.loop-k.invariant.done c.do_step.new.self s does);
+      asks = subst (λ (node : ℕ). g.G.Gate.asks c.args.at.now.gate node next 1) (sym does.does.same)
+          (laws.next_step c.args.at.now.gate c.loop-k.self.done.node c.loop-k.number 1 next c.loop-k.invariant.asks
+          (search rules));
     }
 
 pub returns-then-not-do_step : goal.returns-then-not-do_step

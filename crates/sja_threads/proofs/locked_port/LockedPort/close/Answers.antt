@@ -1,7 +1,8 @@
 use Rattle.std.proofs.Common.{ℕ, false, sym, ap, ◌∙◌, subst}
-use Rattle.sja_threads.specs.Ordering.{bits_told, ended_told}
+use Rattle.sja_threads.specs.declared.notice.Notice.TheVariants.{Spent}
+use Rattle.sja_threads.specs.Ordering.{abort_told, bits_told, ended_told}
 use Rattle.sja_threads.specs.Inside.Names.{IsNamed}
-use Rattle.sja_threads.proofs.Twin.Led.{ended_spent, led_spent, spent_push}
+use Rattle.sja_threads.proofs.Twin.Led.{abort_push, ended_spent, led_spent, spent_push}
 use Rattle.sja_threads.proofs.locked_port.LockedPort.close.Goals as goal
 
 pub invariant_of-self : goal.invariant_of-self
@@ -17,4 +18,5 @@ pub invariant_of-told : goal.invariant_of-told
 invariant_of-told g c = let told = c.args.told.now in let a = c.add.ensures in record {
   named = subst (λ (n : ℕ). IsNamed g.N.Order.turns told.node n) (sym a.known_name) told.named;
   ended_is = told.ended_is ∙ sym (ap ended_told a.known ∙ ended_spent false told.known.list);
+  abort_is = sym (ap abort_told a.known ∙ abort_push Spent told.known.list);
 }

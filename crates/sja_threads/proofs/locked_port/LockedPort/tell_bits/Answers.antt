@@ -1,21 +1,24 @@
-use Rattle.std.proofs.Common.{ℕ, false, sym, ap, ◌∙◌, subst}
-use Rattle.sja_threads.specs.Ordering.{bits_told, ended_told}
+use Rattle.std.proofs.Common.{ℕ, ◌||◌, Bool, false, sym, ap, ◌∙◌, subst}
+use Rattle.sja_threads.specs.declared.notice.Notice.TheVariants.{Ran}
+use Rattle.sja_threads.specs.Ordering.{abort_told, bits_told, ended_told}
 use Rattle.sja_threads.specs.Inside.Names.{IsNamed}
-use Rattle.sja_threads.proofs.Twin.Led.{ended_ran, led_bits, ran_push}
+use Rattle.sja_threads.proofs.Twin.Led.{abort_push, ended_ran, led_bits, ran_push}
 use Rattle.sja_threads.proofs.locked_port.LockedPort.tell_bits.Goals as goal
 
 pub invariant_of-self : goal.invariant_of-self
 invariant_of-self g c = let inv = c.self.invariant in let a = c.add.ensures in record {
   turns = subst (λ (n : ℕ). IsNamed g.N.Order.turns c.self.inside.node n) (sym a.kept_name) inv.turns;
   deeds = inv.deeds;
-  bits = sym (ap bits_told a.kept ∙ ran_push 0 c.args.bits c.orders.result.ended c.self.inside.turns.list);
+  bits = sym (ap bits_told a.kept ∙ ran_push 0 c.args.bits c.orders-orders.result c.self.inside.turns.list);
   led = led_bits g.N.Order.version c.self.inside.turns.list c.add.new.kept.list c.self.inside.deeds.list
-      c.self.inside.port c.args.bits c.orders.result.ended (ap (λ o. o.ended) c.orders.ensures.orders) a.kept inv.led;
+      c.self.inside.port c.args.bits c.orders-orders.result c.orders-orders.ensures.orders a.kept inv.led;
 }
 
 pub invariant_of-told : goal.invariant_of-told
 invariant_of-told g c = let told = c.args.told.now in let a = c.add.ensures in record {
   named = subst (λ (n : ℕ). IsNamed g.N.Order.turns told.node n) (sym a.known_name) told.named;
-  ended_is = sym (ap ended_told a.known
-      ∙ ended_ran false c.args.bits c.orders.result.ended told.known.list);
+  ended_is =
+      ap (λ (b : Bool). b || c.orders-orders.result.ended) told.ended_is
+      ∙ sym (ap ended_told a.known ∙ ended_ran false c.args.bits c.orders-orders.result told.known.list);
+  abort_is = sym (ap abort_told a.known ∙ abort_push (Ran c.args.bits c.orders-orders.result) told.known.list);
 }

@@ -1,4 +1,4 @@
-use Rattle.sja_threads.specs.declared.told.Told.TheVariants.{Turn}
+use Rattle.sja_threads.specs.declared.notice.Notice.TheVariants.{Turn}
 use Rattle.sja_threads.proofs.Twin.Boards.{told_here, told_there}
 use Rattle.sja_threads.proofs.turn_board.TurnBoardBoard.bus_turn.Goals as goal
 

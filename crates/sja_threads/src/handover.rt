@@ -1,4 +1,4 @@
-//! [`Worked`]: what a driver hands back when its script has ended.
+//! [`Handover`]: what a driver hands back when its script has ended.
 
 use super::known_half::KnownHalf;
 use super::port_deed::PortDeed;
@@ -7,7 +7,7 @@ use sja_driver::LoggedDriver;
 /// What a driver hands back when its script has ended (this project's own rule): its ends of the node's links,
 /// and the driver with the log of what it did. An open activation stays open.
 #[derive(Drop)]
-pub struct Worked<D: Drop> {
+pub struct Handover<D: Drop> {
     /// Its ends, by activation.
     pub links: Vec<D>,
     /// The driver, in either state, with its log.

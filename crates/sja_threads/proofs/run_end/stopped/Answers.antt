@@ -1,0 +1,33 @@
+use Rattle.std.proofs.Common.{rules, ◌≡◌, ◌<◌, ℕ, List, length, sym, ap, ◌∙◌, subst}
+use Rattle.std.specs.Prelude.{slice_index_or}
+use Rattle.sja_rings.specs.declared.ring_bus.RingBus.{RingBus}
+use Rattle.sja_rings.specs.declared.ring_driver.RingDriver.{RingDriver}
+use Rattle.sja_rings.specs.Ends.{OneLink}
+use Rattle.sja_threads.specs.Stopping.{IsFaultOf}
+use Rattle.sja_threads.specs.Inside.Settling.{CameFrom}
+use Rattle.sja_threads.proofs.End.CameFrom.{stops_with}
+use Rattle.sja_threads.proofs.End.LinksOver.{ends_count, one_link}
+use Rattle.sja_threads.proofs.run_end.stopped.Goals as goal
+
+pub all_account-requires-clause-count : goal.all_account-requires-clause-count
+all_account-requires-clause-count c =
+    let r = c.requires in
+    ends_count (length r.0.nodes) c.args.bus.links.items c.args.workeds.items r.1.joined
+    ∙ sym (ap (λ (l : List RingDriver). length l) c.in-Ok.ensures.ends)
+
+pub all_account-requires-clause-pairs : goal.all_account-requires-clause-pairs
+all_account-requires-clause-pairs c =
+    let r = c.requires in
+    let links = c.args.bus.links.items in
+    let P : List RingDriver → Type 0 = λ es. (i : ℕ) (b : RingBus) (d : RingDriver) → i < length links →
+    OneLink (slice_index_or links i b) (slice_index_or es i d) in
+    subst P (sym c.in-Ok.ensures.ends) (one_link (length r.0.nodes) links c.args.workeds.items r.1.joined)
+
+pub returns-then-all_account : goal.returns-then-all_account
+returns-then-all_account c = λ plan is.
+    let links = c.args.bus.links.items in
+    let P : List RingDriver → Type 0 = λ es. (i : ℕ) (b : RingBus) (d : RingDriver) → i < length links →
+    CameFrom (slice_index_or links i b) (slice_index_or es i d) in
+    subst (IsFaultOf plan) (sym c.as_told.ensures)
+    (stops_with plan links c.args.workeds.items c.args.stop is
+    (subst P c.in-Ok.ensures.ends (c.all_account.ensures (search rules))))
