@@ -1,18 +1,20 @@
 -- What is otherwise than without a strike (this project's own rule). Each item begins with "; ".
-use Rattle.std.specs.Prelude.{◌+◌, ◌==◌, ℕ, Bool, true, false, max, if◌then◌else◌, List, [], ◌++◌, length}
+use Rattle.std.specs.Prelude.{◌+◌, ◌==◌, ℕ, Bool, true, false, max, if◌then◌else◌, Option, List, [], ◌++◌, length}
 use Rattle.std.specs.Prelude.{codes, decimal}
 use Rattle.std.specs.List.{range_with_len}
 use Rattle.lemmas.specs.Gathering.{gathered, total}
 use Rattle.sja_link.specs.declared.entry.Entry.{Entry}
 use Rattle.sja_link.specs.declared.entry.Entry.TheVariants.{Bit, Up as Item, Abort, Stored, Overrun, Off}
 use Rattle.sja_link.specs.Carried.{overrun_of}
+use Rattle.sja_plan.specs.Plan.{PlanValue}
+use Rattle.sja_script.specs.declared.step.Step.{Step}
 use Rattle.sja_log.specs.Log.{ActivationValue, NodeValue, RunValue}
 use Rattle.sja_log.specs.declared.end.End.{End}
 use Rattle.sja_log.specs.declared.end.End.TheVariants.{Turns, Rest, Bits}
 use Rattle.sja_log.specs.EndWord.{end_word}
 use Rattle.sja_sweep.specs.Nodes.{node_at, activation_at}
 use Rattle.sja_sweep.specs.Messages.{list_items}
-use Rattle.sja_sweep.specs.Steps.{step_items}
+use Rattle.sja_sweep.specs.Steps.{script_at, step_items}
 
 -- ---- messages
 
@@ -59,12 +61,13 @@ off_item k without now =
 
 -- ---- a node, and a run
 
--- all that is otherwise at a node: messages, steps, and bus-off
-abbrev pub node_items : ℕ → NodeValue → NodeValue → List ℕ
-node_items k without now =
+-- all that is otherwise at a node: messages, steps, and bus-off; other answers to reads of ECC in this script
+-- are left out
+abbrev pub node_items : List Step → ℕ → NodeValue → NodeValue → List ℕ
+node_items script k without now =
     activations_items k without.activations now.activations
     ++ overrun_items k without.journal now.journal
-    ++ step_items k without.done now.done
+    ++ step_items script k without.done now.done
     ++ off_item k without.journal now.journal
 
 -- whether two runs ended for one reason
@@ -83,8 +86,10 @@ same_end Bits Bits = true
 abbrev pub end_item : End → End → List ℕ
 end_item without now = if same_end without now then [] else codes "; end " ++ end_word now
 
--- all that is otherwise in a run, node after node
-abbrev pub all_items : RunValue → RunValue → List ℕ
-all_items without now =
-    gathered (λ k. node_items k (node_at without.nodes k) (node_at now.nodes k)) (range_with_len 0 (length now.nodes))
+-- all that is otherwise in a run, node after node; other answers to reads of ECC are left out, where a plan
+-- says which these are
+abbrev pub all_items : Option PlanValue → RunValue → RunValue → List ℕ
+all_items out without now =
+    gathered (λ k. node_items (script_at out k) k (node_at without.nodes k) (node_at now.nodes k))
+    (range_with_len 0 (length now.nodes))
     ++ end_item without.end now.end

@@ -6,6 +6,7 @@ pub mod Errors
 pub mod FirstErrors
 pub mod Messages
 pub mod Steps
+pub mod Kinds
 pub mod Changes
 pub mod Outcome
 -- ---- the text

@@ -2,6 +2,7 @@
 use Rattle.std.specs.Prelude.{◌+◌, ◌==◌, ◌&&◌, ℕ, Bool, true, false, if◌then◌else◌, Option, Some, None, List, [], ◌∷◌}
 use Rattle.std.specs.Str.{bytes_eq}
 use Rattle.sja_sweep.specs.declared.first_error.FirstError.{FirstError}
+use Rattle.sja_sweep.specs.declared.kinds.Kinds.{Kinds}
 use Rattle.sja_sweep.specs.declared.target.Target.{Target}
 use Rattle.sja_sweep.specs.declared.trial.Trial.{Trial}
 use Rattle.sja_sweep.specs.Outcome.{Outcome}
@@ -14,7 +15,7 @@ pub record SpanValue : Type 0 where
   pub from : Option FirstError
   pub to : Option FirstError
   pub words : List ℕ
-  pub changed : Bool
+  pub kinds : Kinds
 
 -- one trial alone
 abbrev pub span_of : Outcome → SpanValue
@@ -24,7 +25,7 @@ span_of o = record {
   from = o.error;
   to = o.error;
   words = o.words;
-  changed = o.changed;
+  kinds = o.kinds;
 }
 
 -- whether a strike is of the same node as another one, in the next bit

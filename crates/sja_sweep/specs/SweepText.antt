@@ -9,9 +9,13 @@ use Rattle.lemmas.specs.Gathering.{gathered, total}
 use Rattle.sja_log.specs.Log.{ActivationValue, NodeValue, RunValue}
 use Rattle.sja_log.specs.EndWord.{end_word}
 use Rattle.sja_sweep.specs.declared.first_error.FirstError.{FirstError}
+use Rattle.sja_sweep.specs.declared.kind.Kind.{Kind}
+use Rattle.sja_sweep.specs.declared.kind.Kind.TheVariants.{Same, Ecc, Twice, Lost, Stuck, Other, Changed}
+use Rattle.sja_sweep.specs.declared.kinds.Kinds.{Kinds}
 use Rattle.sja_sweep.specs.declared.target.Target.{Target}
 use Rattle.sja_sweep.specs.declared.trial.Trial.{Trial}
 use Rattle.sja_sweep.specs.Nodes.{node_at, activation_at}
+use Rattle.sja_sweep.specs.Kinds.{is_of, shows}
 use Rattle.sja_sweep.specs.Outcome.{Outcome, counters}
 use Rattle.sja_sweep.specs.Spans.{SpanValue, spans}
 
@@ -88,25 +92,43 @@ struck_words t u =
 abbrev pub span_line : SpanValue → List ℕ
 span_line s = struck_words s.first s.last ++ errors_words s.from s.to ++ s.words ++ 10 ∷ []
 
--- the line, unless it is as without a strike and lines with another outcome alone are asked for
-abbrev pub shown_line : Bool → SpanValue → List ℕ
-shown_line changed s = if changed && not s.changed then [] else span_line s
+-- the line, unless lines of other kinds alone are asked for
+abbrev pub shown_line : Kinds → SpanValue → List ℕ
+shown_line asked s = if shows asked s.kinds then span_line s else []
 
 -- ---- how many there are
 
-abbrev pub changed_in : Outcome → ℕ
-changed_in o = if o.changed then 1 else 0
+-- how many outcomes are of a kind
+abbrev pub is_one : Kind → Outcome → ℕ
+is_one kind o = if is_of o.kinds kind then 1 else 0
 
+abbrev pub count_of : Kind → List Outcome → ℕ
+count_of kind os = total (is_one kind) os
+
+-- a word, and that number
+abbrev pub count_words : List ℕ → Kind → List Outcome → List ℕ
+count_words word kind os = word ++ decimal (count_of kind os)
+
+-- before all others: how many of each kind
+abbrev pub first_line : List Outcome → List ℕ
+first_line os =
+    count_words (codes "outcomes: as without a strike ") Same os ++ count_words (codes ", told by ECC ") Ecc os
+    ++ count_words (codes ", twice ") Twice os ++ count_words (codes ", lost ") Lost os
+    ++ count_words (codes ", stuck ") Stuck os ++ count_words (codes ", other ") Other os ++ 10 ∷ []
+
+-- behind all others: how many runs there were
 abbrev pub last_line : List Outcome → List ℕ
 last_line os =
     codes "runs " ++ (decimal (length os) ++ (codes ", with another outcome "
-    ++ (decimal (total changed_in os) ++ 10 ∷ [])))
+    ++ (decimal (count_of Changed os) ++ 10 ∷ [])))
 
 -- ---- the texts
 
--- the plan as it is, a line for each run of bits with one outcome, and how many runs there were
-abbrev pub sweep_text : Bool → RunValue → List Outcome → List ℕ
-sweep_text changed planned os = planned_line planned ++ gathered (shown_line changed) (spans os) ++ last_line os
+-- how many outcomes of each kind there were, the plan as it is, a line for each run of bits with one outcome, and how
+-- many runs there were
+abbrev pub sweep_text : Kinds → RunValue → List Outcome → List ℕ
+sweep_text asked planned os =
+    first_line os ++ planned_line planned ++ gathered (shown_line asked) (spans os) ++ last_line os
 
 -- a row: the node, the bit, of a pair the second ones too, whether the outcome is another one, the first error, and
 -- the outcome
@@ -128,7 +150,7 @@ row_beginning t changed = target_row t.first ++ second_row t.second ++ kind_word
 
 abbrev pub row_line : Outcome → List ℕ
 row_line o =
-    row_beginning o.trial o.changed ++ errors_words o.error o.error ++ o.words ++ 10 ∷ []
+    row_beginning o.trial o.kinds.changed ++ errors_words o.error o.error ++ o.words ++ 10 ∷ []
 
 -- a row for each run, in order
 abbrev pub sweep_rows : List Outcome → List ℕ

@@ -42,8 +42,8 @@ pub record IsSweep (plan : PlanValue) (s : Sweeping) (text rows : List ℕ) : Ty
   pub as_struck : AllZip (λ (t : Trial) (r : TrialRunValue). IsRan (struck_by plan t) r)
       (strikes_tried plan s planned.log) runs
   pub text_is : text
-      ≡ sweep_text s.changed planned.log (outcomes_of planned (strikes_tried plan s planned.log) runs)
-  pub rows_are : rows ≡ sweep_rows (outcomes_of planned (strikes_tried plan s planned.log) runs)
+      ≡ sweep_text s.asked planned.log (outcomes_of plan planned (strikes_tried plan s planned.log) runs)
+  pub rows_are : rows ≡ sweep_rows (outcomes_of plan planned (strikes_tried plan s planned.log) runs)
   pub few : s.meant ≡ false → AreFew plan (length (strikes_tried plan s planned.log))
   pub room : 0 < length (strikes_tried plan s planned.log) →
       times_in plan.strikes + strikes_a_run s.pairs ≤ most_strikes plan.version

@@ -65,7 +65,7 @@ fn of_activation(alloc: Global, node: usize, place: usize, word: &str) -> Result
 }
 
 /// The messages that were released in the activation at a place.
-fn released_at(activations: &[ActivationLog], place: usize) -> &[Message]
+pub(crate) fn released_at(activations: &[ActivationLog], place: usize) -> &[Message]
     ensures { result.now ≡ (activation_at activations.now place).released }
 {
     if place < activations.len() {
@@ -76,7 +76,7 @@ fn released_at(activations: &[ActivationLog], place: usize) -> &[Message]
 }
 
 /// The messages that were left unread in it.
-fn unread_at(activations: &[ActivationLog], place: usize) -> &[Message]
+pub(crate) fn unread_at(activations: &[ActivationLog], place: usize) -> &[Message]
     ensures { result.now ≡ (activation_at activations.now place).unread }
 {
     if place < activations.len() {

@@ -13,7 +13,10 @@ mod between;
 mod counters;
 mod error_words;
 mod first_error;
+mod gains;
 mod jobs;
+mod kind;
+mod kinds;
 mod limits;
 mod message_changes;
 mod messages;
@@ -39,6 +42,7 @@ mod trials;
 mod whole_sweep;
 mod written;
 
+pub use kinds::Kinds;
 pub use limits::{MOST_RUNS, MOST_SWEPT_BITS};
 pub use sweep_fault::SweepFault;
 pub use sweep_texts::SweepTexts;

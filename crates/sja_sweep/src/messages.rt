@@ -15,7 +15,7 @@ pub(crate) fn is_more(list: &[Message], other: &[Message], place: usize) -> bool
 }
 
 /// How often a message of these bytes stands in a list.
-fn times_of(message: &[u8], list: &[Message]) -> usize
+pub(crate) fn times_of(message: &[u8], list: &[Message]) -> usize
     ensures { result ≡ times_of message.now list.now }
 {
     list.iter().filter(|other| message == other.bytes()).count()

@@ -51,7 +51,7 @@ fn tried(
 {
     let struck = struck_by(alloc, plan, trial)?;
     let now = run_plan(alloc, &struck)?;
-    Ok(told_of(alloc, planned, trial, &now)?)
+    Ok(told_of(alloc, plan, planned, trial, &now)?)
 }
 
 /// The plan with one strike more, or two.

@@ -5,6 +5,7 @@ ghost use Rattle.sja_sweep.specs.Spans.{is_next, are_next, span_of, goes_on, joi
 ghost use Rattle.sja_sweep.specs.Inside.Reaching.{outcome_value, span_value};
 
 use super::first_error::FirstError;
+use super::kinds::Kinds;
 use super::target::Target;
 use super::trial::Trial;
 use super::trial_outcome::TrialOutcome;
@@ -22,8 +23,8 @@ pub(crate) struct Span<'a> {
     pub(crate) to: Option<FirstError>,
     /// The outcome.
     pub(crate) words: &'a str,
-    /// Whether it is another one than that of the plan as it is.
-    pub(crate) changed: bool,
+    /// Of what kinds it is.
+    pub(crate) kinds: Kinds,
 }
 
 impl<'a> Span<'a> {
@@ -41,7 +42,7 @@ impl<'a> Span<'a> {
             from: told.error,
             to: told.error,
             words: told.words.as_str(),
-            changed: told.changed,
+            kinds: told.kinds,
         }
     }
 
@@ -64,7 +65,7 @@ impl<'a> Span<'a> {
             from: self.from,
             to: next.to,
             words: next.words,
-            changed: next.changed,
+            kinds: next.kinds,
         }
     }
 }

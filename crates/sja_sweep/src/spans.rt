@@ -9,6 +9,7 @@ ghost use Rattle.sja_sweep.specs.SweepText.{sweep_rows};
 ghost use Rattle.sja_sweep.specs.Inside.Reaching.{outcome_value, span_value};
 
 use super::error_words::put_errors;
+use super::kinds::Kinds;
 use super::span::Span;
 use super::target::Target;
 use super::trial::Trial;
@@ -19,11 +20,11 @@ use std::fmt::Write;
 /// A line for each run of successive bits with one outcome.
 pub(crate) fn put_spans(
     text: &mut String,
-    changed: bool,
+    asked: Kinds,
     tolds: &[TrialOutcome],
 ) -> Result<(), AllocError>
     ensures { OnOk result (string_bytes text.new ≡ string_bytes text.old
-        ++ gathered (shown_line changed) (spans (map outcome_value tolds.now))) }
+        ++ gathered (shown_line asked) (spans (map outcome_value tolds.now))) }
 {
     let Some((first, rest)) = tolds.split_first() else {
         return Ok(());
@@ -34,22 +35,23 @@ pub(crate) fn put_spans(
         if open.goes_on(next) {
             open = open.joined(next);
         } else {
-            put_shown(text, changed, open)?;
+            put_shown(text, asked, open)?;
             open = next;
         }
     }
-    put_shown(text, changed, open)
+    put_shown(text, asked, open)
 }
 
-/// The line, unless it is as without a strike and lines with another outcome alone are asked for.
-fn put_shown(text: &mut String, changed: bool, span: Span<'_>) -> Result<(), AllocError>
+/// The line, unless lines of other kinds alone are asked for.
+fn put_shown(text: &mut String, asked: Kinds, span: Span<'_>) -> Result<(), AllocError>
     ensures { OnOk result (string_bytes text.new ≡ string_bytes text.old
-        ++ shown_line changed (span_value span.entry)) }
+        ++ shown_line asked (span_value span.entry)) }
 {
-    if changed && !span.changed {
-        return Ok(());
+    if asked.shows(span.kinds) {
+        put_span(text, span)
+    } else {
+        Ok(())
     }
-    put_span(text, span)
 }
 
 /// The line of successive bits with one outcome.
@@ -115,7 +117,7 @@ pub(crate) fn put_rows(text: &mut String, tolds: &[TrialOutcome]) -> Result<(), 
 fn put_row(text: &mut String, told: &TrialOutcome) -> Result<(), AllocError>
     ensures { OnOk result (string_bytes text.new ≡ string_bytes text.old ++ row_line (outcome_value told.now)) }
 {
-    put_kind(text, told.trial, told.changed)?;
+    put_kind(text, told.trial, told.kinds.changed)?;
     put_errors(text, told.error, told.error)?;
     text.push_str(told.words.as_str())?;
     text.push('\n')?;

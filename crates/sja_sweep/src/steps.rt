@@ -3,26 +3,33 @@
 ghost use Rattle.std.specs.Prelude.{◌≡◌, ◌++◌, string_bytes, slice_get, OnOk, IfOk};
 ghost use Rattle.std.specs.Option.{option_copied};
 ghost use Rattle.std.specs.Str.{bytes_eq};
-ghost use Rattle.sja_sweep.specs.Steps.{step_words, answer_text, step_item, step_items};
+ghost use Rattle.sja_sweep.specs.Steps.{step_words, answer_text, reads_ecc, step_item, step_items};
 
 use sja_report::put_answer;
-use sja_script::Done;
+use sja_script::{Done, Step};
 use std::alloc::{AllocError, Global};
 use std::fmt::Write;
 
-/// The steps of a node that aren't done any more, or that answer otherwise.
+/// The address of ECC.
+const ECC: u8 = 12;
+
+/// The steps of a node that aren't done any more, or that answer otherwise; other answers to reads of ECC in the script
+/// are left out.
 pub(crate) fn put_steps(
     alloc: Global,
     text: &mut String,
+    script: &[Step],
     node: usize,
     without: &[Done],
     now: &[Done],
 ) -> Result<(), AllocError>
-    ensures { OnOk result (string_bytes text.new ≡ string_bytes text.old ++ step_items node without.now now.now) }
+    ensures { OnOk result (string_bytes text.new ≡ string_bytes text.old
+        ++ step_items script.now node without.now now.now) }
 {
     for place in 0..without.len().max(now.len()) {
         let (before, after) = (done_at(without, place), done_at(now, place));
-        put_step(alloc, text, node, place, before, after)?;
+        let out = step_at(script, place);
+        put_step(alloc, text, out, node, place, before, after)?;
     }
     Ok(())
 }
@@ -34,17 +41,25 @@ fn done_at(done: &[Done], place: usize) -> Option<&Done>
     done.get(place)
 }
 
-/// A step, if it isn't done any more, or answers otherwise.
+/// The step of a script at a place; none past the end.
+fn step_at(script: &[Step], place: usize) -> Option<&Step>
+    ensures { option_copied result ≡ slice_get script.now place }
+{
+    script.get(place)
+}
+
+/// A step, if it isn't done any more, or answers otherwise, unless it is left out as a read of ECC.
 fn put_step(
     alloc: Global,
     text: &mut String,
+    out: Option<&Step>,
     node: usize,
     place: usize,
     without: Option<&Done>,
     now: Option<&Done>,
 ) -> Result<(), AllocError>
     ensures { OnOk result (string_bytes text.new ≡ string_bytes text.old
-        ++ step_item node place (option_copied without.entry) (option_copied now.entry)) }
+        ++ step_item (option_copied out.entry) node place (option_copied without.entry) (option_copied now.entry)) }
 {
     match (without, now) {
         (None, None) => Ok(()),
@@ -54,11 +69,21 @@ fn put_step(
         }
         (None, Some(now)) => put_answered(text, node, place, now),
         (Some(without), Some(now)) => {
-            if same_answer(alloc, without, now)? {
+            if same_answer(alloc, without, now)? || reads_ecc(out) {
                 return Ok(());
             }
             put_answered(text, node, place, now)
         }
+    }
+}
+
+/// Whether a step reads ECC.
+fn reads_ecc(step: Option<&Step>) -> bool
+    ensures { result ≡ reads_ecc (option_copied step.entry) }
+{
+    match step {
+        Some(Step::Read(address)) => *address == ECC,
+        _ => false,
     }
 }
 

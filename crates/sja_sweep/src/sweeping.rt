@@ -1,5 +1,7 @@
 //! [`Sweeping`]: what is asked of a sweep.
 
+use super::kinds::Kinds;
+
 /// What is asked of a sweep (this project's own rule).
 #[derive(Clone, Copy, Debug, PartialEq, Eq)]
 pub struct Sweeping {
@@ -11,8 +13,8 @@ pub struct Sweeping {
     pub last: u32,
     /// No number: each run has one strike more. A number: each run has two, which are at most so many bits apart.
     pub pairs: Option<u32>,
-    /// Whether only lines with another outcome are told.
-    pub changed: bool,
+    /// Lines of which kinds of outcome alone are told; all where it is none.
+    pub asked: Kinds,
     /// Whether more runs than [`MOST_RUNS`](super::limits::MOST_RUNS), or more bits than
     /// [`MOST_SWEPT_BITS`](super::limits::MOST_SWEPT_BITS), are meant.
     pub meant: bool,
@@ -28,7 +30,7 @@ impl Sweeping {
           first = 0;
           last = 4294967295;
           pairs = None;
-          changed = false;
+          asked = record { changed = false; ecc = false; twice = false; lost = false; stuck = false };
           meant = false;
         } }
     {
@@ -37,7 +39,7 @@ impl Sweeping {
             first: 0,
             last: u32::MAX,
             pairs: None,
-            changed: false,
+            asked: Kinds::none(),
             meant: false,
         }
     }

@@ -79,5 +79,5 @@ fn texts(
         → AreTried plan (trial_run_value begun.now.planned) begun.now.trials.items (map outcome_value tolds.now)
         → IfOk result (λ swept. IsSweep plan sweeping.now (string_bytes swept.text) (string_bytes swept.rows)) }
 {
-    written(alloc, sweeping.changed, &begun.planned.log, tolds)
+    written(alloc, sweeping.asked, &begun.planned.log, tolds)
 }

@@ -102,9 +102,13 @@ file_rule = record (new_rule (codes "FILE")) { action = Some Set }
 unfoldable pub plans_app : Text → App
 plans_app name = and_rule (and_rule (threads_app name) files_rule) (number_rule (codes "jobs") 1 64)
 
--- `run FILE..`
+-- an option of this name, which takes a text
+unfoldable pub named_rule : Text → Rule
+named_rule name = record (new_rule name) { long = Some name; action = Some Set; value_names = 1 }
+
+-- `run FILE..`, with `--expect FILE` or without
 unfoldable pub run_app : App
-run_app = plans_app (codes "run")
+run_app = and_rule (plans_app (codes "run")) (named_rule (codes "expect"))
 
 -- `check FILE..`, with or without `--jobs N` and `--strict`
 unfoldable pub check_app : App
@@ -166,14 +170,25 @@ struck_app =
     (number_rule (codes "to") 0 9999999))
     (number_rule (codes "pairs") 0 9999999)
 
--- with what is told of them, and whether so many are meant
-unfoldable pub told_app : App
-told_app =
+-- with the kinds of outcome that are told
+unfoldable pub kinds_app : App
+kinds_app =
     and_rule
+    (and_rule
     (and_rule
     (and_rule
     struck_app
     (flag_rule (codes "changed")))
+    (flag_rule (codes "twice")))
+    (flag_rule (codes "lost")))
+    (flag_rule (codes "stuck"))
+
+-- with rows in place of lines, and whether so many are meant
+unfoldable pub told_app : App
+told_app =
+    and_rule
+    (and_rule
+    kinds_app
     (flag_rule (codes "rows")))
     (flag_rule (codes "yes"))
 

@@ -1,12 +1,12 @@
 -- What each command asks for, by the values of its arguments (this project's own rule).
-use Rattle.std.specs.Prelude.{◌&&◌, ℕ, Bool, List, length, Option, Some, None, codes, option_map}
+use Rattle.std.specs.Prelude.{◌&&◌, ◌∷◌, ℕ, Bool, List, [], length, Option, Some, None, codes, option_map, is_some}
 use Rattle.std.specs.Prelude.{if◌then◌else◌, nat_lt, nat_le}
 use Rattle.std.specs.Str.{bytes_eq}
 use Rattle.clap.specs.Words.{Row, Text, all_of, first_of}
 use Rattle.sja_words.specs.declared.plan_question.PlanQuestion.{PlanQuestion}
 use Rattle.sja_words.specs.declared.plan_question.PlanQuestion.TheVariants as question
 use Rattle.sja_words.specs.Values.{flag_in, number_or, optional_in, single_in}
-use Rattle.sja_words.specs.Requests.{Request, request_about, filter, arbitrate, picture, files}
+use Rattle.sja_words.specs.Requests.{Request, request_about, filter, arbitrate, picture, expected, files}
 use Rattle.sja_words.specs.Sweeping.{sweep_in}
 
 -- what `filter` asks for, by its four arguments, where they are there and the first is a mode
@@ -47,10 +47,33 @@ text_question name threads =
     else if bytes_eq name (codes "plan") then Some question.Plan
     else None
 
--- the question that a subcommand of this name asks of plans, by the values of its arguments
+-- the name of the one file with a plan, or of the input where none is named
+abbrev pub plan_named : Option (List Text) → Option Text
+plan_named None = Some (codes "-")
+plan_named (Some []) = None
+plan_named (Some (name ∷ [])) = Some name
+plan_named (Some (name ∷ other ∷ more)) = None
+
+-- what `run --expect` asks for, by the file of the report and that of the plan
+abbrev pub expected_by : Bool → Option Text → Option Text → Option Request
+expected_by threads (Some report) (Some plan) = Some (expected threads plan report)
+expected_by threads (Some report) None = None
+expected_by threads None plan = None
+
+abbrev pub expected_in : List Row → Option Request
+expected_in rows =
+    expected_by (flag_in (first_of (codes "threads") rows)) (first_of (codes "expect") rows)
+    (plan_named (all_of (codes "FILE") rows))
+
+-- the words are of `run --expect`
+abbrev pub is_expected : Text → List Row → Bool
+is_expected name rows = bytes_eq name (codes "run") && is_some (first_of (codes "expect") rows)
+
+-- the question that a subcommand of this name asks of plans, by the values of its arguments; none with `--expect`
 abbrev pub question_in : Text → List Row → Option PlanQuestion
 question_in name rows =
-    if bytes_eq name (codes "check") then Some (question.Check (flag_in (first_of (codes "strict") rows)))
+    if is_expected name rows then None
+    else if bytes_eq name (codes "check") then Some (question.Check (flag_in (first_of (codes "strict") rows)))
     else if bytes_eq name (codes "candump") then
     Some (question.Candump (flag_in (first_of (codes "errors") rows)) (flag_in (first_of (codes "threads") rows)))
     else if bytes_eq name (codes "sweep") then sweep_in rows

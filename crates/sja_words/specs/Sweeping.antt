@@ -15,6 +15,9 @@ all_swept = record {
   last = 4294967295;
   pairs = None;
   changed = false;
+  twice = false;
+  lost = false;
+  stuck = false;
   rows = false;
   meant = false;
   jobs = 1;
@@ -30,6 +33,9 @@ words_by (Some only) (Some first) (Some last) (Some pairs) (Some jobs) rows = So
   last = last;
   pairs = pairs;
   changed = flag_in (first_of (codes "changed") rows);
+  twice = flag_in (first_of (codes "twice") rows);
+  lost = flag_in (first_of (codes "lost") rows);
+  stuck = flag_in (first_of (codes "stuck") rows);
   rows = flag_in (first_of (codes "rows") rows);
   meant = flag_in (first_of (codes "yes") rows);
   jobs = jobs;
@@ -54,11 +60,16 @@ has_no_number rows =
     && not (is_some (first_of (codes "to") rows)) && not (is_some (first_of (codes "pairs") rows))
     && not (is_some (first_of (codes "jobs") rows))
 
+-- none does that asks for a kind of outcome
+abbrev pub has_no_kind : List Row → Bool
+has_no_kind rows =
+    not (flag_in (first_of (codes "changed") rows)) && not (flag_in (first_of (codes "twice") rows))
+    && not (flag_in (first_of (codes "lost") rows)) && not (flag_in (first_of (codes "stuck") rows))
+
 -- no flag does
 abbrev pub has_no_flag : List Row → Bool
 has_no_flag rows =
-    not (flag_in (first_of (codes "changed") rows)) && not (flag_in (first_of (codes "rows") rows))
-    && not (flag_in (first_of (codes "yes") rows))
+    has_no_kind rows && not (flag_in (first_of (codes "rows") rows)) && not (flag_in (first_of (codes "yes") rows))
 
 -- no option stands beside it
 abbrev pub is_alone : List Row → Bool

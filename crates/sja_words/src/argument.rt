@@ -31,6 +31,9 @@ pub(crate) fn argument_of<'a>(alloc: Global, row: &ArgumentRow<'a>) -> Arg<'a>
             u64::from(GREATEST_NUMBER),
         )),
         Takes::Nothing => taking(alloc, row, ArgAction::SetTrue).long(row.name),
+        Takes::Named(names) => taking(alloc, row, ArgAction::Set)
+            .long(row.name)
+            .value_names(names),
         Takes::Numbers(names, least, most) => taking(alloc, row, ArgAction::Set)
             .long(row.name)
             .value_names(names)

@@ -81,6 +81,13 @@ pub(crate) const STRICT: ArgumentRow<'static> = ArgumentRow {
     help: "Exit with status 1 where anything was told",
 };
 
+/// `--expect FILE`.
+pub(crate) const EXPECT: ArgumentRow<'static> = ArgumentRow {
+    name: "expect",
+    takes: Takes::Named(&["FILE"]),
+    help: "Print where the report isn't the one in FILE, with status 1",
+};
+
 /// `--threads`.
 pub(crate) const THREADS: ArgumentRow<'static> = ArgumentRow {
     name: "threads",
@@ -149,6 +156,27 @@ pub(crate) const CHANGED: ArgumentRow<'static> = ArgumentRow {
     name: "changed",
     takes: Takes::Nothing,
     help: "Print only lines with another outcome",
+};
+
+/// `--twice`.
+pub(crate) const TWICE: ArgumentRow<'static> = ArgumentRow {
+    name: "twice",
+    takes: Takes::Nothing,
+    help: "Print only lines where a message came twice",
+};
+
+/// `--lost`.
+pub(crate) const LOST: ArgumentRow<'static> = ArgumentRow {
+    name: "lost",
+    takes: Takes::Nothing,
+    help: "Print only lines where a message was lost",
+};
+
+/// `--stuck`.
+pub(crate) const STUCK: ArgumentRow<'static> = ArgumentRow {
+    name: "stuck",
+    takes: Takes::Nothing,
+    help: "Print only lines where a driver did fewer steps",
 };
 
 /// `--rows`.

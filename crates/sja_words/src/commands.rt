@@ -5,8 +5,9 @@ ghost use Rattle.sja_words.specs.CommandLine.{empty_app, sja_app};
 ghost use Rattle.sja_words.specs.Inside.Table.{with_apps};
 
 use super::arguments::{
-    ACR, AMR, CHANGED, DRAW, ERRORS, FILE, FILES, FILES_JOBS, FIRST, FROM, JOBS, LAST, LINE,
-    MESSAGE, MESSAGES, MODE, ONLY, PAIRS, ROWS, STRICT, STRIKE, SVG, TEXT, THREADS, TO, YES,
+    ACR, AMR, CHANGED, DRAW, ERRORS, EXPECT, FILE, FILES, FILES_JOBS, FIRST, FROM, JOBS, LAST,
+    LINE, LOST, MESSAGE, MESSAGES, MODE, ONLY, PAIRS, ROWS, STRICT, STRIKE, STUCK, SVG, TEXT,
+    THREADS, TO, TWICE, YES,
 };
 use super::command_row::CommandRow;
 
@@ -17,12 +18,19 @@ pub(crate) const FILTER: CommandRow<'static> = CommandRow {
     arguments: &[MODE, ACR, AMR, MESSAGE],
 };
 
+/// `run`.
+pub(crate) const RUN: CommandRow<'static> = CommandRow {
+    name: "run",
+    about: "Print the report of a run of the plan on standard input: sja run < plan.toml",
+    arguments: &[THREADS, FILES, FILES_JOBS, EXPECT],
+};
+
 /// `sweep`.
 pub(crate) const SWEEP: CommandRow<'static> = CommandRow {
     name: "sweep",
     about: "Print what each single bit error does to the run of the plan on standard input",
     arguments: &[
-        ONLY, FROM, TO, PAIRS, CHANGED, ROWS, YES, JOBS, STRIKE, FILE,
+        ONLY, FROM, TO, PAIRS, CHANGED, TWICE, LOST, STUCK, ROWS, YES, JOBS, STRIKE, FILE,
     ],
 };
 
@@ -49,11 +57,7 @@ const COMMANDS: &[CommandRow<'static>] = &[
         about: "Print a message in can-utils' notation, or the message of that notation",
         arguments: &[TEXT],
     },
-    CommandRow {
-        name: "run",
-        about: "Print the report of a run of the plan on standard input: sja run < plan.toml",
-        arguments: &[THREADS, FILES, FILES_JOBS],
-    },
+    RUN,
     CommandRow {
         name: "wave",
         about: "Print the waveform of a run of the plan on standard input: sja wave < plan.toml",

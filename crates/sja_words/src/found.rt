@@ -4,9 +4,10 @@ ghost use Rattle.std.specs.Prelude.{◌≡◌, IfOk, codes, map, option_map};
 ghost use Rattle.clap.specs.Words.{all_of, first_of, found_of, rows_of, subcommand_rows_of};
 ghost use Rattle.sja_words.specs.Values.{flag_in, single_in};
 ghost use Rattle.sja_words.specs.Requests.{decode, encode, message, request_of};
-ghost use Rattle.sja_words.specs.Commands.{arbitrate_in, filter_in, question_in, text_question};
+ghost use Rattle.sja_words.specs.Commands.{arbitrate_in, filter_in, is_expected, question_in, text_question};
 ghost use Rattle.sja_words.specs.Words.{request_by, request_in, other_by};
 
+use super::expected_found::expected_task;
 use super::files_found::plan_task;
 use super::picture_found::picture_task;
 use super::plan_question::PlanQuestion;
@@ -51,6 +52,9 @@ fn task_by<'a>(
 fn question_of<'a>(name: &str, arguments: &ArgMatches<'a>) -> Option<PlanQuestion>
     ensures { result ≡ question_in name.now (rows_of (found_of arguments.now)) }
 {
+    if is_expected(name, arguments) {
+        return None;
+    }
     match name {
         "check" => Some(PlanQuestion::Check {
             strict: flag_at(arguments, "strict"),
@@ -62,6 +66,13 @@ fn question_of<'a>(name: &str, arguments: &ArgMatches<'a>) -> Option<PlanQuestio
         "sweep" => sweep_question(arguments),
         of_run => text_question(of_run, flag_at(arguments, "threads")),
     }
+}
+
+/// Whether the words are of `run --expect`.
+fn is_expected<'a>(name: &str, arguments: &ArgMatches<'a>) -> bool
+    ensures { result ≡ is_expected name.now (rows_of (found_of arguments.now)) }
+{
+    name == "run" && text_at(arguments, "expect").is_some()
 }
 
 /// The question that a subcommand of this name asks that has `--threads` and no other flag.
@@ -89,6 +100,7 @@ fn other_task<'a>(name: &str, arguments: &ArgMatches<'a>) -> Option<Task<'a>>
         "arbitrate" => arbitrate_task(arguments),
         "message" => message_task(arguments),
         "picture" => picture_task(arguments),
+        "run" => expected_task(arguments),
         "live" => Some(Task::Live),
         _ => None,
     }

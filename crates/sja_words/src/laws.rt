@@ -2,8 +2,9 @@
 
 ghost use Rattle.std.specs.Prelude.{◌≡◌, ◌==◌, ◌<◌, ◌≤◌, ◌∷◌, ◌^◌, [], ℕ, List, Some, None, codes, false, length, true};
 ghost use Rattle.sja_words.specs.Values.{HasNoFlag};
-ghost use Rattle.sja_words.specs.Requests.{Request, arbitrate, decode, encode, filter, message, candump, check, files};
-ghost use Rattle.sja_words.specs.Requests.{frames, live, picture, run, spelled_plan, struck_plan, sweep, trace, wave};
+ghost use Rattle.sja_words.specs.Requests.{Request, arbitrate, decode, encode, filter, message, candump, check};
+ghost use Rattle.sja_words.specs.Requests.{expected, files, frames, live, picture, run, spelled_plan, struck_plan};
+ghost use Rattle.sja_words.specs.Requests.{sweep, trace, wave};
 ghost use Rattle.sja_words.specs.Sweeping.{all_swept};
 ghost use Rattle.sja_words.specs.Words.{ParsesAs, faults};
 ghost use Rattle.clap.specs.declared.error.kind.ErrorKind.TheVariants.{DisplayVersion};
@@ -70,6 +71,18 @@ pub fn run_parses()
         (files (Report false) 3 (codes "a" ∷ codes "-" ∷ codes "b" ∷ [])) }
     ensures one { (name : List ℕ) → ParsesAs (name ∷ codes "run" ∷ []) (run false) }
     ensures threads { (name : List ℕ) → ParsesAs (name ∷ codes "run" ∷ codes "--threads" ∷ []) (run true) }
+{}
+
+/// The program's name, `run`, `--expect` and a name ask whether the report of the plan on the input is the one in this
+/// file; with one name more of the plan in that file. With two names more they ask for nothing.
+pub fn expected_parses()
+    ensures input { (name : List ℕ) → ParsesAs (name ∷ codes "run" ∷ codes "--expect" ∷ codes "r" ∷ [])
+        (expected false (codes "-") (codes "r")) }
+    ensures file { (name : List ℕ) → ParsesAs
+        (name ∷ codes "run" ∷ codes "a" ∷ codes "--threads" ∷ codes "--expect" ∷ codes "r" ∷ [])
+        (expected true (codes "a") (codes "r")) }
+    ensures two { (name : List ℕ) (r : Request) → ¬ ParsesAs
+        (name ∷ codes "run" ∷ codes "a" ∷ codes "b" ∷ codes "--expect" ∷ codes "r" ∷ []) r }
 {}
 
 /// The program's name and `wave` ask for the waveform of that plan, and with `--threads` for that of such a run; with
@@ -172,6 +185,9 @@ pub fn sweep_parses()
     ensures flags { (name : List ℕ) → ParsesAs
         (name ∷ codes "sweep" ∷ codes "--changed" ∷ codes "--rows" ∷ codes "--yes" ∷ [])
         (sweep (record all_swept { changed = true; rows = true; meant = true })) }
+    ensures kinds { (name : List ℕ) → ParsesAs
+        (name ∷ codes "sweep" ∷ codes "--twice" ∷ codes "--lost" ∷ codes "--stuck" ∷ [])
+        (sweep (record all_swept { twice = true; lost = true; stuck = true })) }
     ensures file { (name : List ℕ) → ParsesAs (name ∷ codes "sweep" ∷ codes "--changed" ∷ codes "a" ∷ [])
         (files (Sweep (record all_swept { changed = true })) 1 (codes "a" ∷ [])) }
     ensures past { (name : List ℕ) (r : Request)

@@ -11,6 +11,8 @@ mod command;
 mod command_row;
 mod commands;
 mod details;
+mod expected_found;
+mod expected_words;
 mod file_words;
 mod files_found;
 mod found;
@@ -25,12 +27,13 @@ mod takes;
 mod task;
 mod words_fault;
 
+pub use expected_words::ExpectedWords;
 pub use file_words::FileWords;
 pub use laws::{
     a_message_is_needed, a_struck_plan_parses, arbitrate_and_texts_parse, candump_parses,
-    check_parses, decode_and_a_text_parse, encode_and_a_text_parse, filter_and_texts_parse,
-    frames_parses, live_parses, message_and_a_text_parses, picture_parses, plan_parses, run_parses,
-    sweep_parses, trace_parses, version_is_asked_for, wave_parses,
+    check_parses, decode_and_a_text_parse, encode_and_a_text_parse, expected_parses,
+    filter_and_texts_parse, frames_parses, live_parses, message_and_a_text_parses, picture_parses,
+    plan_parses, run_parses, sweep_parses, trace_parses, version_is_asked_for, wave_parses,
 };
 pub use parsing::parse;
 pub use plan_question::PlanQuestion;

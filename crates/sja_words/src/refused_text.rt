@@ -3,7 +3,7 @@
 
 use super::command::{command_of, sja_command};
 use super::command_row::CommandRow;
-use super::commands::{FILTER, SWEEP, commands};
+use super::commands::{FILTER, RUN, SWEEP, commands};
 use clap::error::{Error, ErrorKind};
 use clap::{ArgMatches, Command};
 use std::alloc::{AllocError, Global};
@@ -16,6 +16,9 @@ const BEHIND: &str = "\n\nFor more information, try '--help'.\n";
 
 /// What is said of an option beside `--plan`.
 const PLAN_SAID: &str = "'--plan <K> <B>' can't be used with another option";
+
+/// What is said of several files beside `--expect`.
+const EXPECT_SAID: &str = "'--expect <FILE>' can't be used with several files";
 
 /// What is said of a MODE that is none.
 const MODE_SAID: &str = "MODE is neither 'single' nor 'dual'";
@@ -34,6 +37,13 @@ pub(crate) fn refused_text<'a>(
             program,
             ErrorKind::ArgumentConflict,
             PLAN_SAID,
+        ),
+        Some("run") => text_of(
+            alloc,
+            &RUN,
+            program,
+            ErrorKind::ArgumentConflict,
+            EXPECT_SAID,
         ),
         _ => text_of(alloc, &FILTER, program, ErrorKind::InvalidValue, MODE_SAID),
     }

@@ -4,7 +4,8 @@ ghost use Rattle.std.specs.Prelude.{◌≡◌, ◌≤◌, IfSome, Some, codes, o
 ghost use Rattle.clap.specs.Words.{first_of, found_of, rows_of};
 ghost use Rattle.sja_words.specs.Values.{flag_in, number_in, number_or, optional_in, second_of};
 ghost use Rattle.sja_words.specs.declared.plan_question.PlanQuestion.TheVariants.{Sweep};
-ghost use Rattle.sja_words.specs.Sweeping.{has_no_flag, has_no_number, is_alone, struck_by, sweep_in, words_in};
+ghost use Rattle.sja_words.specs.Sweeping.{has_no_flag, has_no_kind, has_no_number, is_alone, struck_by};
+ghost use Rattle.sja_words.specs.Sweeping.{sweep_in, words_in};
 
 use super::found::{flag_at, text_at};
 use super::plan_question::PlanQuestion;
@@ -64,6 +65,9 @@ fn sweep_words<'a>(arguments: &ArgMatches<'a>) -> Option<SweepWords>
             pairs,
             jobs,
             changed: flag_at(arguments, "changed"),
+            twice: flag_at(arguments, "twice"),
+            lost: flag_at(arguments, "lost"),
+            stuck: flag_at(arguments, "stuck"),
             rows: flag_at(arguments, "rows"),
             meant: flag_at(arguments, "yes"),
         }),
@@ -98,7 +102,17 @@ fn has_no_number<'a>(arguments: &ArgMatches<'a>) -> bool
 fn has_no_flag<'a>(arguments: &ArgMatches<'a>) -> bool
     ensures { result ≡ has_no_flag (rows_of (found_of arguments.now)) }
 {
-    !flag_at(arguments, "changed") && !flag_at(arguments, "rows") && !flag_at(arguments, "yes")
+    has_no_kind(arguments) && !flag_at(arguments, "rows") && !flag_at(arguments, "yes")
+}
+
+/// Whether none stands for a kind of outcome.
+fn has_no_kind<'a>(arguments: &ArgMatches<'a>) -> bool
+    ensures { result ≡ has_no_kind (rows_of (found_of arguments.now)) }
+{
+    !flag_at(arguments, "changed")
+        && !flag_at(arguments, "twice")
+        && !flag_at(arguments, "lost")
+        && !flag_at(arguments, "stuck")
 }
 
 /// The node of `--only`: none where it doesn't stand, nothing where it is no number from 0 to 7.

@@ -23,6 +23,12 @@ pub struct SweepWords {
     pub pairs: Option<u32>,
     /// `--changed`: only lines with another outcome are told.
     pub changed: bool,
+    /// `--twice`: only lines with a message that was got more often are told, or another one that is asked for.
+    pub twice: bool,
+    /// `--lost`: the same of a message that was got less often.
+    pub lost: bool,
+    /// `--stuck`: the same of a driver that did fewer steps.
+    pub stuck: bool,
     /// `--rows`: a row for each run is told, and no line.
     pub rows: bool,
     /// `--yes`: more runs or bits than the limits of a sweep are meant.

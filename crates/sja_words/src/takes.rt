@@ -15,6 +15,8 @@ pub(crate) enum Takes<'a> {
     Bit,
     /// Nothing: it is a flag, which stands or doesn't.
     Nothing,
+    /// It is an option, behind which stands a text, which help calls by this name.
+    Named(&'a [&'a str]),
     /// It is an option, behind which stand as many numbers as there are names here, which help calls them by. Each is
     /// from the first to the second of these two.
     Numbers(&'a [&'a str], u32, u32),

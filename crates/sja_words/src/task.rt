@@ -1,5 +1,6 @@
 //! [`Task`]: what the program is asked to do.
 
+use super::expected_words::ExpectedWords;
 use super::file_words::FileWords;
 use super::sweep_words::SweepWords;
 use arrayvec::ArrayVec;
@@ -86,6 +87,8 @@ pub enum Task<'a> {
     },
     /// `plan`: the plan on the input, as it is written.
     Plan,
+    /// `run --expect FILE`: whether the report of a run is the one in this file.
+    Expected(ExpectedWords<'a>),
     /// `run FILE..`, `check FILE..` and their like: the same of each plan that stands in a file.
     Files(FileWords<'a>),
     /// `live`: a session that is driven by the lines of the input.

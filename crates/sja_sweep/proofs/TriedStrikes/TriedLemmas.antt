@@ -23,7 +23,7 @@ use Rattle.sja_sweep.specs.Inside.Tried.{IsTried, AreTried, IsBegun}
 pub record HaveRuns (plan : PlanValue) (planned : TrialRunValue) (ts : List Trial) (os : List Outcome) : Type 0 where
   pub runs : List TrialRunValue
   pub are : AllZip (λ (t : Trial) (r : TrialRunValue). IsRan (struck_by plan t) r) ts runs
-  pub outcomes : os ≡ outcomes_of planned ts runs
+  pub outcomes : os ≡ outcomes_of plan planned ts runs
 
 pub have_runs : (plan : PlanValue) (planned : TrialRunValue) (ts : List Trial) (os : List Outcome) →
     AreTried plan planned ts os → HaveRuns plan planned ts os
@@ -77,7 +77,7 @@ tried_both plan planned ts part whole old tolds new both added so_far more =
 -- a sweep whose trials were made, and whose texts tell their outcomes
 sweep_is : (plan : PlanValue) (s : Sweeping) (planned : TrialRunValue) (trials : List Trial) (outcomes : List Outcome)
     (text rows : List ℕ) → IsBegun plan s planned trials → AreTried plan planned trials outcomes →
-    text ≡ sweep_text s.changed planned.log outcomes → rows ≡ sweep_rows outcomes → IsSweep plan s text rows
+    text ≡ sweep_text s.asked planned.log outcomes → rows ≡ sweep_rows outcomes → IsSweep plan s text rows
 sweep_is plan s planned trials outcomes text rows begun tried text_is rows_are =
     let P : List Trial → Type 0 = λ ts. AreTried plan planned ts outcomes in
     let Few : List Trial → Type 0 = λ ts.
@@ -90,7 +90,7 @@ sweep_is plan s planned trials outcomes text rows begun tried text_is rows_are =
       runs = found.runs;
       as_planned = begun.as_planned;
       as_struck = found.are;
-      text_is = text_is ∙ ap (sweep_text s.changed planned.log) found.outcomes;
+      text_is = text_is ∙ ap (sweep_text s.asked planned.log) found.outcomes;
       rows_are = rows_are ∙ ap sweep_rows found.outcomes;
       few = subst Few begun.trials_are begun.few;
       room = subst Room begun.trials_are begun.room;
@@ -101,7 +101,7 @@ sweep_is plan s planned trials outcomes text rows begun tried text_is rows_are =
 pub sweep_texts : {X : Type 0} (plan : PlanValue) (s : Sweeping) (planned : TrialRunValue) (trials : List Trial)
     (outcomes : List Outcome) (texts : Result SweepTexts X) → IsBegun plan s planned trials →
     AreTried plan planned trials outcomes →
-    IfOk texts (λ swept. string_bytes swept.text ≡ sweep_text s.changed planned.log outcomes) →
+    IfOk texts (λ swept. string_bytes swept.text ≡ sweep_text s.asked planned.log outcomes) →
     IfOk texts (λ swept. string_bytes swept.rows ≡ sweep_rows outcomes) →
     IfOk texts (λ swept. IsSweep plan s (string_bytes swept.text) (string_bytes swept.rows))
 sweep_texts plan s planned trials outcomes (Ok swept) begun tried text rows =

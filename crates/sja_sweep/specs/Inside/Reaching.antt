@@ -21,6 +21,7 @@ use Rattle.sja_sweep.specs.declared.target.Target.{Target}
 use Rattle.sja_sweep.specs.declared.trial.Trial.{Trial}
 use Rattle.sja_sweep.specs.Nodes.{node_at}
 use Rattle.sja_sweep.specs.Changes.{node_items}
+use Rattle.sja_sweep.specs.Steps.{script_at}
 use Rattle.sja_sweep.specs.Outcome.{Outcome}
 use Rattle.sja_sweep.specs.Spans.{SpanValue}
 use Rattle.sja_sweep.specs.SweepText.{short_node}
@@ -31,7 +32,7 @@ outcome_value t = record {
   trial = t.trial;
   error = t.error;
   words = string_bytes t.words;
-  changed = t.changed;
+  kinds = t.kinds;
 }
 
 -- a run of bits, with the bytes of its words
@@ -42,7 +43,7 @@ span_value s = record {
   from = s.from;
   to = s.to;
   words = s.words.now;
-  changed = s.changed;
+  kinds = s.kinds;
 }
 
 -- a run and its errors, as lists
@@ -60,9 +61,9 @@ off_item_by k without now =
     if without == now then [] else codes "; node " ++ (decimal k ++ (codes " bus-off " ++ decimal now))
 
 -- what is otherwise at each node
-abbrev pub nodes_items : List NodeValue → List NodeValue → List ℕ
-nodes_items without now =
-    gathered (λ k. node_items k (node_at without k) (node_at now k)) (range_with_len 0 (length now))
+abbrev pub nodes_items : Option PlanValue → List NodeValue → List NodeValue → List ℕ
+nodes_items out without now =
+    gathered (λ k. node_items (script_at out k) k (node_at without k) (node_at now k)) (range_with_len 0 (length now))
 
 -- the activations of each node, in short
 abbrev pub short_nodes : List NodeValue → List ℕ

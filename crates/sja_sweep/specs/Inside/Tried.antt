@@ -18,7 +18,7 @@ use Rattle.sja_sweep.specs.Outcome.{Outcome, outcome_of}
 pub record IsTried (plan : PlanValue) (planned : TrialRunValue) (t : Trial) (o : Outcome) : Type 0 where
   pub ran : TrialRunValue
   pub run : IsRan (struck_by plan t) ran
-  pub outcome : o ≡ outcome_of planned t ran
+  pub outcome : o ≡ outcome_of plan planned t ran
 
 -- each of them
 abbrev pub AreTried : PlanValue → TrialRunValue → List Trial → List Outcome → Type 0

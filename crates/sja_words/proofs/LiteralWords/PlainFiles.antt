@@ -1,6 +1,6 @@
 -- What some words with names of files ask for, by computing the parser's answer.
 use Rattle.std.proofs.Common.{ℕ, List, [], ◌∷◌, codes, refl, false, true}
-use Rattle.sja_words.specs.Requests.{Request, files, spelled_plan}
+use Rattle.sja_words.specs.Requests.{Request, expected, files, spelled_plan}
 use Rattle.sja_words.specs.Words.{ParsesAs, asked, faults}
 use Rattle.sja_words.specs.declared.plan_question.PlanQuestion.TheVariants.{Candump, Frames, Plan, Report, StruckPlan}
 use Rattle.sja_words.specs.declared.plan_question.PlanQuestion.TheVariants.{Sweep, Trace, Wave}
@@ -58,6 +58,25 @@ struck_file name = record { taken = refl; asks = refl }
 pub trace_files : (name : List ℕ) (r : Request) → ¬ ParsesAs (name ∷ codes "trace" ∷ codes "a" ∷ codes "b" ∷ []) r
 unfolding sja_on_literals faults
 trace_files name r parses = cc (parses.taken)
+
+-- `run --expect` and one name
+pub expected_input : (name : List ℕ) →
+    ParsesAs (name ∷ codes "run" ∷ codes "--expect" ∷ codes "r" ∷ []) (expected false (codes "-") (codes "r"))
+unfolding sja_on_literals asked faults
+expected_input name = record { taken = refl; asks = refl }
+
+-- with the name of a plan before it
+pub expected_file : (name : List ℕ) →
+    ParsesAs (name ∷ codes "run" ∷ codes "a" ∷ codes "--threads" ∷ codes "--expect" ∷ codes "r" ∷ [])
+    (expected true (codes "a") (codes "r"))
+unfolding sja_on_literals asked faults
+expected_file name = record { taken = refl; asks = refl }
+
+-- with two
+pub expected_files : (name : List ℕ) (r : Request) →
+    ¬ ParsesAs (name ∷ codes "run" ∷ codes "a" ∷ codes "b" ∷ codes "--expect" ∷ codes "r" ∷ []) r
+unfolding sja_on_literals asked
+expected_files name r parses = cc (parses.asks)
 
 -- `plan`
 pub plan_alone : (name : List ℕ) → ParsesAs (name ∷ codes "plan" ∷ []) spelled_plan

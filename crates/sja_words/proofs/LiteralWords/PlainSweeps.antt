@@ -31,6 +31,13 @@ pub flags : (name : List ℕ) → ParsesAs
 unfolding sja_on_literals asked faults
 flags name = record { taken = refl; asks = refl }
 
+-- the kinds of outcome
+pub kinds : (name : List ℕ) → ParsesAs
+    (name ∷ codes "sweep" ∷ codes "--twice" ∷ codes "--lost" ∷ codes "--stuck" ∷ [])
+    (sweep (record all_swept { twice = true; lost = true; stuck = true }))
+unfolding sja_on_literals asked faults
+kinds name = record { taken = refl; asks = refl }
+
 -- a node that no plan has
 pub past : (name : List ℕ) (r : Request) → ¬ ParsesAs (name ∷ codes "sweep" ∷ codes "--only" ∷ codes "8" ∷ []) r
 unfolding sja_on_literals faults

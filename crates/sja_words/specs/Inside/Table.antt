@@ -9,7 +9,7 @@ use Rattle.sja_words.specs.CommandLine.{and_app, and_rule, bare_app}
 use Rattle.sja_words.specs.declared.argument_row.ArgumentRow.{ArgumentRow}
 use Rattle.sja_words.specs.declared.command_row.CommandRow.{CommandRow}
 use Rattle.sja_words.specs.declared.takes.Takes.{Takes}
-use Rattle.sja_words.specs.declared.takes.Takes.TheVariants.{Texts, File, Files, Bit, Nothing, Numbers}
+use Rattle.sja_words.specs.declared.takes.Takes.TheVariants.{Texts, File, Files, Bit, Nothing, Named, Numbers}
 use Rattle.sja_words.specs.declared.takes.Takes.TheVariants as what
 
 -- an argument of this name that does this with what it takes
@@ -31,6 +31,11 @@ rule_by name Files = record (new_rule name) {
 }
 rule_by name Bit = record (new_rule name) { action = Some action.Set; parser = Some (Unsigned 0 9999999) }
 rule_by name Nothing = record (new_rule name) { long = Some name; action = Some action.SetTrue }
+rule_by name (Named names) = record (new_rule name) {
+  long = Some name;
+  action = Some action.Set;
+  value_names = length names.now;
+}
 rule_by name (Numbers names least most) = record (new_rule name) {
   long = Some name;
   action = Some action.Set;

@@ -16,12 +16,12 @@ loop-told-preserved c =
     let first = told_next rest i c.told-item.result n c.loop-told-test.true c.told-item.is c.of-next.ensures in
     elim c.if-goes_on.branch [
       | then-goes_on w ↦
-          step_joined (shown_line c.args.changed) (string_bytes c.loop-told.text) (string_bytes c.if-goes_on.text) _
+          step_joined (shown_line c.args.asked) (string_bytes c.loop-told.text) (string_bytes c.if-goes_on.text) _
           o n (span_value c.if-goes_on.open) ss (spans (map outcome_value (drop i rest))) c.goes_on.result
           w.if-goes_on.true c.goes_on.ensures (ap span_value w.open-is ∙ w.joined-open.ensures)
           (ap string_bytes w.text-is) first c.loop-told.invariant
       | else-goes_on+in_ok-put_shown w ↦
-          step_apart (shown_line c.args.changed) (string_bytes c.loop-told.text) (string_bytes c.if-goes_on.text) _
+          step_apart (shown_line c.args.asked) (string_bytes c.loop-told.text) (string_bytes c.if-goes_on.text) _
           o n (span_value c.if-goes_on.open) ss (spans (map outcome_value (drop i rest))) c.goes_on.result
           w.if-goes_on.false c.goes_on.ensures (ap span_value w.open-is)
           (ap string_bytes w.text-is ∙ w.in_ok-put_shown.ensures) first c.loop-told.invariant

@@ -8,6 +8,6 @@ use Rattle.sja_sweep.proofs.spans.put_spans.Given as goal
 -- what was written, and the lines of the open one with the rest, are the whole
 abbrev pub invariant-loop-told : goal.invariant-loop-told
 invariant-loop-told l =
-    string_bytes l.text ++ gathered (shown_line l.changed)
+    string_bytes l.text ++ gathered (shown_line l.asked)
     (before_all (span_value l.open) (spans (map outcome_value (drop l.told-index l.rest))))
-    ≡ string_bytes l.fn.text ++ gathered (shown_line l.changed) (spans (map outcome_value l.tolds))
+    ≡ string_bytes l.fn.text ++ gathered (shown_line l.asked) (spans (map outcome_value l.tolds))

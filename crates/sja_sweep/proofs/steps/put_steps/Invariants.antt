@@ -9,4 +9,5 @@ use Rattle.sja_sweep.proofs.steps.put_steps.Given as goal
 abbrev pub invariant-loop-place : goal.invariant-loop-place
 invariant-loop-place l =
     string_bytes l.text ≡ string_bytes l.fn.text
-    ++ gathered (λ i. step_item l.node i (slice_get l.without i) (slice_get l.now i)) (range_with_len 0 l.place)
+    ++ gathered (λ i. step_item (slice_get l.script i) l.node i (slice_get l.without i) (slice_get l.now i))
+    (range_with_len 0 l.place)

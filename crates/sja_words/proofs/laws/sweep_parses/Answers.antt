@@ -1,5 +1,5 @@
 use Rattle.sja_words.proofs.LiteralWords.PlainFiles.{sweep_file}
-use Rattle.sja_words.proofs.LiteralWords.PlainSweeps.{all, named, pairs, flags, past}
+use Rattle.sja_words.proofs.LiteralWords.PlainSweeps.{all, named, pairs, flags, kinds, past}
 use Rattle.sja_words.proofs.laws.sweep_parses.Goals as goal
 
 pub returns-clause-all : goal.returns-clause-all
@@ -13,6 +13,9 @@ returns-clause-pairs c = pairs
 
 pub returns-clause-flags : goal.returns-clause-flags
 returns-clause-flags c = flags
+
+pub returns-clause-kinds : goal.returns-clause-kinds
+returns-clause-kinds c = kinds
 
 pub returns-clause-past : goal.returns-clause-past
 returns-clause-past c = past
