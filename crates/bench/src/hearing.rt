@@ -1,7 +1,7 @@
 //! The figure `hearing`: a node receives the longest kind of frame again and again.
 
+use super::long_frame::long_line;
 use super::wire::Wire;
-use super::worked::long_line;
 use can_bits::Level;
 use std::alloc::Global;
 

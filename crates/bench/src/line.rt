@@ -1,6 +1,6 @@
 //! The figure `line`: the received line of one frame is read whole again and again.
 
-use super::worked::long_line;
+use super::long_frame::long_line;
 use can_bits::read_line;
 use std::alloc::Global;
 

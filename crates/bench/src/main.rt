@@ -14,6 +14,7 @@ mod hearing;
 mod idle;
 mod line;
 mod long;
+mod long_frame;
 mod node;
 mod plans;
 mod running;
@@ -26,7 +27,6 @@ mod talk;
 mod tally;
 mod watching;
 mod wire;
-mod worked;
 
 use figure::{FIGURES, Figure};
 use std::env;

@@ -1,9 +1,9 @@
 //! The figure `node`: three nodes on one wire send one frame in turn. Of each frame one node is the sender and the
 //! others receive it; each node's bits are counted.
 
+use super::long_frame::long_frame;
 use super::tally::Tally;
 use super::wire::EVERY_FRAME;
-use super::worked::long_frame;
 use can_bits::Level;
 use can_frame::Frame;
 use can_node::{Config, Node, Outcome, Request};

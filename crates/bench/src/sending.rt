@@ -1,7 +1,7 @@
 //! The figure `sending`: a node alone on the bus sends the longest kind of frame again and again, in self test.
 
+use super::long_frame::long_frame;
 use super::wire::Wire;
-use super::worked::long_frame;
 use can_bits::Level;
 use std::alloc::Global;
 

@@ -1,6 +1,6 @@
 //! The figure `shift`: a reader of one level at a time is given the received line of one frame again and again.
 
-use super::worked::long_line;
+use super::long_frame::long_line;
 use can_bits::{Level, Shift, ShiftEvent};
 use std::alloc::Global;
 use std::fmt::{Display, Error, Formatter, Write};

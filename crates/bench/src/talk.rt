@@ -1,6 +1,6 @@
 //! The figure of talks: a session is asked for a register, line by line.
 
-use sja_live::{Talked, talk};
+use sja_live::{TalkEnd, talk};
 use std::alloc::{AllocError, Global};
 
 /// Has a talk of so many lines, each a read of SR, over bytes in memory.
@@ -9,7 +9,7 @@ pub fn told(alloc: Global, count: u32) -> Option<String> {
     let mut input = said.as_bytes();
     let mut answers = Vec::new(alloc);
     match talk(alloc, &mut input, &mut answers) {
-        Ok(Talked::Reported) => {
+        Ok(TalkEnd::Reported) => {
             let bytes = answers.len();
             format!(in alloc; "lines {count} bytes {bytes}").ok()
         }

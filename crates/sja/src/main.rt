@@ -79,6 +79,7 @@ fn is_of_plan(task: &Task<'_>) -> bool {
         | Task::Sweep(_)
         | Task::StruckPlan { .. }
         | Task::Plan => true,
+        Task::Expected(words) => words.plan == "-",
         Task::Files(files) => files.names.iter().any(|name| *name == "-"),
         _ => false,
     }

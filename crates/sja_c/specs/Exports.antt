@@ -11,7 +11,7 @@ use Rattle.sja_calls.specs.Calls.{LooksOf, IsLookFault, LinesOf, IsLinesFault}
 use Rattle.sja_calls.specs.Calls.{StrikesOf, IsStrikeFault, IsNowOf, IsNowFault}
 use Rattle.sja_calls.specs.Texts.{Ends, PutsReport, IsReportFault, PutsPlan, IsNoPlanText, PutsRun, IsNoRun}
 use Rattle.sja_calls.specs.declared.call_fault.CallFault.TheVariants.{Memory}
-use Rattle.sja_calls.specs.declared.held.Held.{Held}
+use Rattle.sja_calls.specs.declared.held_session.HeldSession.{HeldSession}
 use Rattle.sja_calls.specs.declared.state.State.TheVariants.{Lost}
 
 -- ---- the beginning
@@ -21,7 +21,7 @@ abbrev pub AnswersMake : Ptr → SjaAnswer → Type 0
 AnswersMake at r = ((at ≢ null_ptr) × (r ≡ answer 0 0)) ⊎ ((at ≡ null_ptr) × (r ≡ refusal Memory))
 
 -- a session to which nothing happened stands there, in place of what there was; or it doesn't, for this reason
-abbrev pub AnswersBegin : Held → Held → ℕ → ℕ → ℕ → SjaAnswer → Type 0
+abbrev pub AnswersBegin : HeldSession → HeldSession → ℕ → ℕ → ℕ → SjaAnswer → Type 0
 AnswersBegin was now version bits nodes =
     Answers (λ number. (number ≡ 0) × IsNew version bits nodes now.state)
     (λ fault. IsNoSession version bits nodes fault × (now ≡ was))
@@ -29,56 +29,56 @@ AnswersBegin was now version bits nodes =
 -- ---- calls of a session, as it was and as it is after
 
 -- a byte was read, and is the number
-abbrev pub AnswersRead : Held → Held → ℕ → ℕ → SjaAnswer → Type 0
+abbrev pub AnswersRead : HeldSession → HeldSession → ℕ → ℕ → SjaAnswer → Type 0
 AnswersRead was now node address =
     Answers (λ number. ReadsOf was.state now.state node address number)
     (λ fault. IsRefusal was.state (IsReadFault node address) fault × (now ≡ was))
 
-abbrev pub AnswersWrite : Held → Held → ℕ → ℕ → ℕ → SjaAnswer → Type 0
+abbrev pub AnswersWrite : HeldSession → HeldSession → ℕ → ℕ → ℕ → SjaAnswer → Type 0
 AnswersWrite was now node address value =
     Answers (λ number. (number ≡ 0) × WritesOf was.state now.state node address value)
     (λ fault. IsRefusal was.state (IsWriteFault node address value) fault × (now ≡ was))
 
 -- bits were run, as many as the number says
-abbrev pub AnswersBits : Held → Held → ℕ → ℕ → SjaAnswer → Type 0
+abbrev pub AnswersBits : HeldSession → HeldSession → ℕ → ℕ → SjaAnswer → Type 0
 AnswersBits was now count watch =
     Answers (λ number. (rose : Option ℕ) × RunsOf was.state now.state count watch number rose)
     (λ fault. IsRefusal was.state (IsRunFault count) fault × (now ≡ was))
 
 -- the number is 1 where the line is active, else 0
-abbrev pub AnswersIrq : Held → Held → ℕ → SjaAnswer → Type 0
+abbrev pub AnswersIrq : HeldSession → HeldSession → ℕ → SjaAnswer → Type 0
 AnswersIrq was now node =
     Answers (λ number. (number ≤ 1) × LooksOf was.state now.state node (number == 1))
     (λ fault. IsRefusal was.state (IsLookFault node) fault × (now ≡ was))
 
 -- bit K of the number is 1 where node K's line is active, and no other bit is
-abbrev pub AnswersLines : Held → Held → SjaAnswer → Type 0
+abbrev pub AnswersLines : HeldSession → HeldSession → SjaAnswer → Type 0
 AnswersLines was now =
     Answers (LinesOf was.state now.state) (λ fault. IsRefusal was.state IsLinesFault fault × (now ≡ was))
 
-abbrev pub AnswersStrike : Held → Held → ℕ → ℕ → SjaAnswer → Type 0
+abbrev pub AnswersStrike : HeldSession → HeldSession → ℕ → ℕ → SjaAnswer → Type 0
 AnswersStrike was now node bit =
     Answers (λ number. (number ≡ 0) × StrikesOf was.state now.state node bit)
     (λ fault. IsRefusal was.state (IsStrikeFault node bit) fault × (now ≡ was))
 
 -- so many bits were run before, and nothing changes
-abbrev pub AnswersNow : Held → Held → SjaAnswer → Type 0
+abbrev pub AnswersNow : HeldSession → HeldSession → SjaAnswer → Type 0
 AnswersNow was now r =
     Answers (λ number. IsNowOf was.state number) (λ fault. IsRefusal was.state IsNowFault fault) r × (now ≡ was)
 
 -- there is no session any more, as after `sja_make`
-abbrev pub AnswersLetGo : Held → SjaAnswer → Type 0
+abbrev pub AnswersLetGo : HeldSession → SjaAnswer → Type 0
 AnswersLetGo now r = (r ≡ answer 0 0) × (now.state ≡ Lost)
 
 -- ---- calls that put a text into a room, as it was and as it is after; where none is put the room stays
 
-abbrev pub AnswersReport : Held → Held → List ℕ → List ℕ → SjaAnswer → Type 0
+abbrev pub AnswersReport : HeldSession → HeldSession → List ℕ → List ℕ → SjaAnswer → Type 0
 AnswersReport was now room text r =
     Ends was.state now.state
     × Answers (λ number. PutsReport now.state room text number)
     (λ fault. IsReportFault now.state room fault × (text ≡ room)) r
 
-abbrev pub AnswersPlan : Held → Held → List ℕ → List ℕ → SjaAnswer → Type 0
+abbrev pub AnswersPlan : HeldSession → HeldSession → List ℕ → List ℕ → SjaAnswer → Type 0
 AnswersPlan was now room text r =
     Answers (λ number. PutsPlan was.state room text number)
     (λ fault. IsNoPlanText was.state room fault × (text ≡ room)) r

@@ -5,10 +5,10 @@ ghost use Rattle.std.specs.Prelude.{◌≡◌};
 ghost use Rattle.sja_c.specs.Answers.{answer, no_handle_status};
 ghost use Rattle.sja_c.specs.Exports.{AnswersBits, AnswersIrq, AnswersLines, AnswersStrike, AnswersNow};
 ghost use Rattle.sja_c.specs.Handles.{is_handle, AtHandle};
-ghost use Rattle.sja_calls.specs.declared.held.Held.{Held as HeldOf};
+ghost use Rattle.sja_calls.specs.declared.held_session.HeldSession.{HeldSession as HeldOf};
 
 use super::answer::{SjaAnswer, done, no_handle, refused};
-use sja_calls::Held;
+use sja_calls::HeldSession;
 
 /// Runs bits: `sja_bits` of `c/sja.h`.
 #[unsafe(no_mangle)]
@@ -21,11 +21,11 @@ pub unsafe extern "C" fn sja_bits(at: *mut u8, count: u32, watch: u32) -> SjaAns
     if at.is_null() {
         return no_handle();
     }
-    bits_of(&mut *(at as *mut Held), count, watch)
+    bits_of(&mut *(at as *mut HeldSession), count, watch)
 }
 
 /// Runs bits.
-fn bits_of(held: &mut Held, count: u32, watch: u32) -> SjaAnswer
+fn bits_of(held: &mut HeldSession, count: u32, watch: u32) -> SjaAnswer
     ensures { AnswersBits held.old held.new count watch result }
 {
     match held.bits(count, watch) {
@@ -45,11 +45,11 @@ pub unsafe extern "C" fn sja_irq(at: *mut u8, node: u32) -> SjaAnswer
     if at.is_null() {
         return no_handle();
     }
-    irq_of(&mut *(at as *mut Held), node)
+    irq_of(&mut *(at as *mut HeldSession), node)
 }
 
 /// Looks at an interrupt line.
-fn irq_of(held: &mut Held, node: u32) -> SjaAnswer
+fn irq_of(held: &mut HeldSession, node: u32) -> SjaAnswer
     ensures { AnswersIrq held.old held.new node result }
 {
     match held.irq(node) {
@@ -70,11 +70,11 @@ pub unsafe extern "C" fn sja_lines(at: *mut u8) -> SjaAnswer
     if at.is_null() {
         return no_handle();
     }
-    lines_of(&mut *(at as *mut Held))
+    lines_of(&mut *(at as *mut HeldSession))
 }
 
 /// Looks at all interrupt lines.
-fn lines_of(held: &mut Held) -> SjaAnswer
+fn lines_of(held: &mut HeldSession) -> SjaAnswer
     ensures { AnswersLines held.old held.new result }
 {
     match held.lines() {
@@ -94,11 +94,11 @@ pub unsafe extern "C" fn sja_strike(at: *mut u8, node: u32, bit: u32) -> SjaAnsw
     if at.is_null() {
         return no_handle();
     }
-    strike_of(&mut *(at as *mut Held), node, bit)
+    strike_of(&mut *(at as *mut HeldSession), node, bit)
 }
 
 /// Has a node see the other level in a bit.
-fn strike_of(held: &mut Held, node: u32, bit: u32) -> SjaAnswer
+fn strike_of(held: &mut HeldSession, node: u32, bit: u32) -> SjaAnswer
     ensures { AnswersStrike held.old held.new node bit result }
 {
     match held.strike(node, bit) {
@@ -118,11 +118,11 @@ pub unsafe extern "C" fn sja_now(at: *mut u8) -> SjaAnswer
     if at.is_null() {
         return no_handle();
     }
-    now_of(&mut *(at as *mut Held))
+    now_of(&mut *(at as *mut HeldSession))
 }
 
 /// Tells how many bits were run.
-fn now_of(held: &mut Held) -> SjaAnswer
+fn now_of(held: &mut HeldSession) -> SjaAnswer
     ensures { AnswersNow held.old held.new result }
 {
     match held.now() {

@@ -5,11 +5,11 @@ ghost use Rattle.std.specs.Prelude.{◌≡◌};
 ghost use Rattle.sja_c.specs.Answers.{answer, no_handle_status};
 ghost use Rattle.sja_c.specs.Exports.{AnswersMake, AnswersBegin, AnswersLetGo};
 ghost use Rattle.sja_c.specs.Handles.{is_handle, empty, AtHandle};
-ghost use Rattle.sja_calls.specs.declared.held.Held.{Held as HeldOf};
+ghost use Rattle.sja_calls.specs.declared.held_session.HeldSession.{HeldSession as HeldOf};
 
 use super::answer::{SjaAnswer, done, no_handle, refused};
-use super::made::{Made, make};
-use sja_calls::Held;
+use super::new_handle::{NewHandle, make};
+use sja_calls::HeldSession;
 use std::alloc::Global;
 
 /// Makes the place of a session, in which there is none: `sja_make` of `c/sja.h`.
@@ -17,7 +17,7 @@ use std::alloc::Global;
 pub extern "C" fn sja_make(alloc: Global, session: &mut *mut u8) -> SjaAnswer
     ensures* { sem 𝓛 (is_handle session.new (empty alloc)) ∗ ⌜ AnswersMake session.new result ⌝ }
 {
-    let Made { at, answer } = make(alloc);
+    let NewHandle { at, answer } = make(alloc);
     *session = at;
     answer
 }
@@ -33,14 +33,14 @@ pub unsafe extern "C" fn sja_begin(at: *mut u8, version: u32, bits: u32, nodes: 
     if at.is_null() {
         return no_handle();
     }
-    begin_of(&mut *(at as *mut Held), version, bits, nodes)
+    begin_of(&mut *(at as *mut HeldSession), version, bits, nodes)
 }
 
 /// Begins a session to which nothing happened.
-fn begin_of(held: &mut Held, version: u32, bits: u32, nodes: u32) -> SjaAnswer
+fn begin_of(held: &mut HeldSession, version: u32, bits: u32, nodes: u32) -> SjaAnswer
     ensures { AnswersBegin held.old held.new version bits nodes result }
 {
-    match Held::new(held.alloc, version, bits, nodes) {
+    match HeldSession::new(held.alloc, version, bits, nodes) {
         Ok(begun) => {
             *held = begun;
             done(0)
@@ -61,11 +61,11 @@ pub unsafe extern "C" fn sja_let_go(at: *mut u8) -> SjaAnswer
     if at.is_null() {
         return no_handle();
     }
-    let_go(&mut *(at as *mut Held))
+    let_go(&mut *(at as *mut HeldSession))
 }
 
 /// Lets go of all that a session has in memory.
-fn let_go(held: &mut Held) -> SjaAnswer
+fn let_go(held: &mut HeldSession) -> SjaAnswer
     ensures { AnswersLetGo held.new result }
 {
     held.let_go();

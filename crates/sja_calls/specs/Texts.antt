@@ -9,7 +9,10 @@ use Rattle.sja_log.specs.Headline.{AreAccounts}
 use Rattle.sja_log.specs.Log.{RunValue}
 use Rattle.sja_log.specs.Runs.{IsSerialRun}
 use Rattle.sja_log.specs.declared.end.End.TheVariants.{Turns as TurnsDone}
-use Rattle.sja_plan.specs.Faults.{IsPlanOf, IsFirstFault}
+use Rattle.sja_places.specs.PlanRead.{IsRunPlan, IsReadFault}
+use Rattle.sja_places.specs.declared.place_fault.PlaceFault.TheVariants.{Memory as NoPlaceMemory, Run as PlaceRun}
+use Rattle.sja_places.specs.declared.read_fault.ReadFault.{ReadFault}
+use Rattle.sja_places.specs.declared.read_fault.ReadFault.TheVariants.{Plan as PlanRead, Place as Placed}
 use Rattle.sja_plan.specs.Plan.{PlanValue}
 use Rattle.sja_plan.specs.declared.plan_fault.PlanFault.{PlanFault}
 use Rattle.sja_plan.specs.declared.plan_fault.PlanFault.TheVariants.{Memory as NoPlanMemory}
@@ -101,14 +104,22 @@ IsNoPlanText Lost room fault = fault ≡ Memory
 -- the report of a run of the plan that these bytes are was put
 abbrev pub PutsRun : List ℕ → List ℕ → List ℕ → ℕ → Type 0
 PutsRun bytes was now count =
-    (plan : PlanValue) × (log : RunValue) × IsPlanOf bytes plan × IsSerialRun plan log × AreAccounts log
+    (plan : PlanValue) × (log : RunValue) × IsRunPlan bytes plan × IsSerialRun plan log × AreAccounts log
     × Puts (report_text log) was now count
+
+-- why there is no plan to run: memory was refused, or it is none
+abbrev pub no_plan : ReadFault → CallFault
+no_plan (PlanRead NoPlanMemory) = Memory
+no_plan (PlanRead fault) = NoPlan
+no_plan (Placed NoPlaceMemory) = Memory
+no_plan (Placed (PlaceRun fault)) = Memory
+no_plan (Placed fault) = NoPlan
 
 -- why none was: the bytes are no plan, for this reason; the report doesn't fit; or memory was refused
 abbrev pub IsNoRun : List ℕ → List ℕ → CallFault → Type 0
-IsNoRun bytes room NoPlan = (fault : PlanFault) × IsFirstFault bytes fault × (fault ≢ NoPlanMemory)
+IsNoRun bytes room NoPlan = (fault : ReadFault) × IsReadFault bytes fault × (no_plan fault ≡ NoPlan)
 IsNoRun bytes room (NoRoom size) =
-    (plan : PlanValue) × (log : RunValue) × IsPlanOf bytes plan × IsSerialRun plan log
+    (plan : PlanValue) × (log : RunValue) × IsRunPlan bytes plan × IsSerialRun plan log
     × LacksRoom (report_text log) room size
 IsNoRun bytes room Memory = Unit {0}
 IsNoRun bytes room fault = ⊥

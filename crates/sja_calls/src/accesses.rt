@@ -8,12 +8,12 @@ ghost use Rattle.sja_session.specs.Sessions.{IsAt};
 ghost use Rattle.sja_session.specs.Stepping.{MayStep};
 
 use super::call_fault::CallFault;
-use super::held::Held;
+use super::held_session::HeldSession;
 use super::numbers::node_in;
 use super::state::State;
 use sja_session::{Session, StepFault};
 
-impl Held {
+impl HeldSession {
     ghost use Rattle.std.specs.Prelude.{◌≡◌, IfOk, IfErr, OnOk, OnErr};
     ghost use Rattle.sja_calls.specs.Calls.{IsRefusal, ReadsOf, IsReadFault, WritesOf, IsWriteFault};
 

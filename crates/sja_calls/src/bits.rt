@@ -9,12 +9,12 @@ ghost use Rattle.sja_session.specs.Sessions.{IsAt};
 ghost use Rattle.sja_session.specs.Striking.{IsStruck, MayStrike};
 
 use super::call_fault::CallFault;
-use super::held::Held;
+use super::held_session::HeldSession;
 use super::numbers::{node_in, watched_by};
 use super::state::State;
-use sja_session::{Session, StrikeFault, Watched};
+use sja_session::{Session, StrikeFault, WatchOutcome};
 
-impl Held {
+impl HeldSession {
     ghost use Rattle.std.specs.Prelude.{◌≡◌, IfOk, IfErr, OnOk, OnErr};
     ghost use Rattle.sja_calls.specs.Calls.{IsRefusal, RunsOf, IsRunFault, LooksOf, IsLookFault};
     ghost use Rattle.sja_calls.specs.Calls.{LinesOf, IsLinesFault, StrikesOf, IsStrikeFault, IsNowOf, IsNowFault};
@@ -23,7 +23,7 @@ impl Held {
     /// rises: node K is watched where bit K of `watch` is 1. It says how many, and whose line rose.
     ///
     /// Errors, the first that holds, and nothing changed: [`CallFault::Ended`]; [`CallFault::TurnsUsed`].
-    pub fn bits(&mut self, count: u32, watch: u32) -> Result<Watched, CallFault>
+    pub fn bits(&mut self, count: u32, watch: u32) -> Result<WatchOutcome, CallFault>
         ensures runs { IfOk result (λ w. RunsOf self.old.state self.new.state count watch w.bits w.rose) }
         ensures err { IfErr result (IsRefusal self.old.state (IsRunFault count)) }
         ensures kept { OnErr result (self.new ≡ self.old) }
@@ -97,7 +97,7 @@ impl Held {
 }
 
 /// Runs bits, up to the rise of a watched line where one is watched.
-fn bits_by(session: &mut Session, count: u32, watch: u32) -> Result<Watched, CallFault>
+fn bits_by(session: &mut Session, count: u32, watch: u32) -> Result<WatchOutcome, CallFault>
     ensures runs { IfOk result (λ w. (accesses : List (List Access)) → IsAt session.old accesses →
         RunsBy (watches watch) session.old session.new count watch w.bits w.rose accesses) }
     ensures may { OnOk result (MayRun session.old count) }
@@ -111,7 +111,7 @@ fn bits_by(session: &mut Session, count: u32, watch: u32) -> Result<Watched, Cal
         };
     }
     match session.bits(count) {
-        Ok(bits) => Ok(Watched { bits, rose: None }),
+        Ok(bits) => Ok(WatchOutcome { bits, rose: None }),
         Err(_) => Err(CallFault::TurnsUsed),
     }
 }

@@ -41,7 +41,7 @@ pub enum CallFault {
     /// As many strikes were taken as a plan has.
     #[error("all strikes are used")]
     StrikesUsed,
-    /// The bytes are no plan.
+    /// The bytes are no plan, or its run has no place of a strike.
     #[error("no plan")]
     NoPlan,
     /// No document says the plan.

@@ -1,7 +1,7 @@
 //! What a program in C asks of a session, as calls with numbers of any size.
 //!
-//! [`Held`] is a session that goes on, or has ended. Its calls take the numbers of a C program, judge them, and are
-//! refused with a [`CallFault`]. [`run_plan`] puts the report of a plan into a text. `crates/sja_c` exports them as
+//! [`HeldSession`] is a session that goes on, or has ended. Its calls take the numbers of a C program, judge them, and
+//! are refused with a [`CallFault`]. [`run_plan`] puts the report of a plan into a text. `crates/sja_c` exports them as
 //! functions of C; `docs/use/DRIVER.md` tells how they are called.
 //!
 //! `specs/Beginnings.antt` says how a session begins, `specs/Calls.antt` what each call does and why it isn't done, and
@@ -11,7 +11,7 @@
 mod accesses;
 mod bits;
 mod call_fault;
-mod held;
+mod held_session;
 mod numbers;
 mod plan_runs;
 mod put_text;
@@ -19,6 +19,6 @@ mod state;
 mod texts;
 
 pub use call_fault::CallFault;
-pub use held::Held;
+pub use held_session::HeldSession;
 pub use plan_runs::run_plan;
 pub use state::State;

@@ -5,7 +5,7 @@ ghost use Rattle.sja_calls.specs.Texts.{Puts, IsNoReport, PutsPlanOf, IsPlanFaul
 ghost use Rattle.sja_report.specs.ReportLines.{report_text};
 
 use super::call_fault::CallFault;
-use super::held::Held;
+use super::held_session::HeldSession;
 use super::put_text::put_text;
 use super::state::State;
 use sja_log::RunLog;
@@ -15,7 +15,7 @@ use sja_report::report;
 use std::alloc::Global;
 use std::mem::replace;
 
-impl Held {
+impl HeldSession {
     ghost use Rattle.std.specs.Prelude.{◌≡◌, IfOk, IfErr, OnErr};
     ghost use Rattle.sja_calls.specs.Texts.{Ends, PutsReport, IsReportFault, PutsPlan, IsNoPlanText};
 

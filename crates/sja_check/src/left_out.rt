@@ -9,14 +9,14 @@ mod driver_state;
 mod gift;
 mod late;
 mod of_node;
-mod refused;
+mod refused_steps;
 mod remedy;
 mod requests;
 mod starts;
 mod steps_left;
 mod story;
-mod swallowed;
-mod undone;
+mod swallowed_accesses;
+mod undone_steps;
 mod waiting;
 
 use super::document::Document;

@@ -11,6 +11,7 @@ mod document;
 mod kind;
 mod left_out;
 mod lines;
+mod misplaced_strikes;
 mod mistakes;
 mod near;
 mod outline;
@@ -18,4 +19,5 @@ mod page;
 mod texts;
 
 pub use left_out::hints;
+pub use misplaced_strikes::{misplaced, too_many_places};
 pub use mistakes::mistake;

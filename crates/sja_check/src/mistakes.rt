@@ -9,9 +9,9 @@ mod keys;
 mod long;
 mod node_keys;
 mod numbers;
-mod said;
 mod toml_fault;
 mod values;
+mod wording;
 
 use super::document::Document;
 use super::kind::Kind;

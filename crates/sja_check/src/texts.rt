@@ -5,13 +5,15 @@ mod argument;
 mod form;
 mod judge;
 mod layout;
+mod leading_names;
 mod message;
-mod named;
 mod number;
+mod placed;
 mod said;
 mod step;
 mod strike;
 mod turn;
 
+pub(crate) use placed::are_placed;
 pub(crate) use said::text_words;
 pub(crate) use strike::strikes_in;

@@ -13,8 +13,8 @@ use Rattle.sja_live.specs.declared.opening_fault.OpeningFault.{OpeningFault}
 use Rattle.sja_live.specs.declared.opening_fault.OpeningFault.TheVariants.{Long as LongLine, Text as NoLineText}
 use Rattle.sja_live.specs.declared.opening_fault.OpeningFault.TheVariants.{Command as NoLive, Version, Bits as NoBits}
 use Rattle.sja_live.specs.declared.opening_fault.OpeningFault.TheVariants.{Nodes}
-use Rattle.sja_live.specs.declared.used.Used.{Used}
-use Rattle.sja_live.specs.declared.used.Used.TheVariants.{Steps, Turns, Strikes, Document}
+use Rattle.sja_live.specs.declared.shortage.Shortage.{Shortage}
+use Rattle.sja_live.specs.declared.shortage.Shortage.TheVariants.{Steps, Turns, Strikes, Document}
 use Rattle.sja_plan.specs.Words.{Text}
 use Rattle.sja_report.specs.ReportLines.{line_text}
 use Rattle.sja_report.specs.ReportWords.{byte_word}
@@ -43,7 +43,7 @@ fault_word Byte = codes "BYTE"
 fault_word Number = codes "NUMBER"
 
 -- what is used up
-abbrev pub used_word : Used → Text
+abbrev pub used_word : Shortage → Text
 used_word Steps = codes "STEPS"
 used_word Turns = codes "TURNS"
 used_word Strikes = codes "STRIKES"

@@ -12,8 +12,8 @@ use Rattle.sja_live.specs.declared.live_answer.LiveAnswer.TheVariants.{Mistaken}
 use Rattle.sja_live.specs.declared.live_command.LiveCommand.{LiveCommand}
 use Rattle.sja_live.specs.declared.live_command.LiveCommand.TheVariants.{Step, Read, Write, Run as RunBits, Rest}
 use Rattle.sja_live.specs.declared.live_command.LiveCommand.TheVariants.{Line, Strike, Answer, Bits, Plan}
-use Rattle.sja_live.specs.declared.used.Used.TheVariants.{Steps as StepsUsed, Turns as TurnsUsed}
-use Rattle.sja_live.specs.declared.used.Used.TheVariants.{Strikes as StrikesUsed, Document}
+use Rattle.sja_live.specs.declared.shortage.Shortage.TheVariants.{Steps as StepsUsed, Turns as TurnsUsed}
+use Rattle.sja_live.specs.declared.shortage.Shortage.TheVariants.{Strikes as StrikesUsed, Document}
 use Rattle.sja_plan_text.specs.Written.{IsPlanText, IsTooLong}
 use Rattle.sja_script.specs.declared.step.Step.{Step as StepOf}
 use Rattle.sja_script.specs.declared.step_answer.StepAnswer.{StepAnswer}

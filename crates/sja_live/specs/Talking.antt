@@ -21,8 +21,8 @@ use Rattle.sja_live.specs.declared.opening.Opening.{Opening}
 use Rattle.sja_live.specs.declared.opening_fault.OpeningFault.{OpeningFault}
 use Rattle.sja_live.specs.declared.talk_fault.TalkFault.{TalkFault}
 use Rattle.sja_live.specs.declared.talk_fault.TalkFault.TheVariants.{Memory, Read, Write}
-use Rattle.sja_live.specs.declared.talked.Talked.{Talked}
-use Rattle.sja_live.specs.declared.talked.Talked.TheVariants.{Reported, Unopened}
+use Rattle.sja_live.specs.declared.talk_end.TalkEnd.{TalkEnd}
+use Rattle.sja_live.specs.declared.talk_end.TalkEnd.TheVariants.{Reported, Unopened}
 use Rattle.sja_log.specs.Log.{RunValue}
 use Rattle.sja_plan.specs.Words.{Text, words}
 use Rattle.sja_report.specs.ReportLines.{report_text}
@@ -96,7 +96,7 @@ pub record IsNoTalk (input output left : Text) : Type 0 where
   pub behind : left ≡ behind_line input
 
 -- how it ended
-abbrev pub IsTold : Talked → Text → Text → Text → Type 0
+abbrev pub IsTold : TalkEnd → Text → Text → Text → Type 0
 IsTold Reported input output left = IsTalk input output left
 IsTold Unopened input output left = IsNoTalk input output left
 

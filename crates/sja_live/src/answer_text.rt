@@ -9,7 +9,7 @@ ghost use Rattle.sja_script.specs.Refusals.{refusal_name};
 
 use super::line_fault::LineFault;
 use super::live_answer::LiveAnswer;
-use super::used::Used;
+use super::shortage::Shortage;
 use hex::encode;
 use sja_report::put_answer as put_spaced;
 use sja_script::{Refusal, StepAnswer};
@@ -102,7 +102,7 @@ fn put_fault(text: &mut String, fault: LineFault) -> Result<(), AllocError>
 /// Writes the line of what is used up.
 ///
 /// Error: memory was refused.
-fn put_used(text: &mut String, used: Used) -> Result<(), AllocError>
+fn put_used(text: &mut String, used: Shortage) -> Result<(), AllocError>
     ensures { OnOk result (string_bytes text.new
         ≡ string_bytes text.old ++ line_text (codes "full" ∷ used_word used ∷ [])) }
 {

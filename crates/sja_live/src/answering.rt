@@ -6,12 +6,12 @@ ghost use Rattle.sja_live.specs.Inside.Standing.{IsAnswered, IsLive, IsWritable}
 ghost use Rattle.sja_plan.specs.Words.{greatest};
 ghost use Rattle.sja_live.specs.declared.live_command.LiveCommand.TheVariants.{Strike, Answer, Plan, Bits, Line};
 
-use super::answered_bits::{ran, rested};
-use super::answered_steps::{stepped, was_read, was_written};
+use super::bit_answers::{ran, rested};
 use super::line_fault::LineFault;
 use super::live_answer::LiveAnswer;
 use super::live_command::LiveCommand;
-use super::used::Used;
+use super::shortage::Shortage;
+use super::step_answers::{stepped, was_read, was_written};
 use can_frame::OutOfMemory;
 use sja_plan_text::{PlanTextFault, plan_text};
 use sja_script::StepAnswer;
@@ -89,7 +89,7 @@ fn not_struck(fault: StrikeFault) -> Option<LiveAnswer>
         StrikeFault::NoNode => Some(LiveAnswer::Mistaken(LineFault::Node)),
         StrikeFault::NoBit => Some(LiveAnswer::NoBit),
         StrikeFault::Past => Some(LiveAnswer::NoBit),
-        StrikeFault::StrikesUsed => Some(LiveAnswer::Full(Used::Strikes)),
+        StrikeFault::StrikesUsed => Some(LiveAnswer::Full(Shortage::Strikes)),
         StrikeFault::Memory => None,
     }
 }
@@ -115,7 +115,7 @@ fn plan_answer(alloc: Global, session: &Session) -> Result<LiveAnswer, OutOfMemo
     plan.limits();
     match plan_text(alloc, &plan) {
         Ok(document) => Ok(LiveAnswer::PlanSoFar(document)),
-        Err(PlanTextFault::TooLong) => Ok(LiveAnswer::Full(Used::Document)),
+        Err(PlanTextFault::TooLong) => Ok(LiveAnswer::Full(Shortage::Document)),
         Err(PlanTextFault::NoMemory) => Err(OutOfMemory),
     }
 }

@@ -10,9 +10,8 @@
 #![tactic(auto)]
 
 mod answer_text;
-mod answered_bits;
-mod answered_steps;
 mod answering;
+mod bit_answers;
 mod command_refusal;
 mod command_words;
 mod line_fault;
@@ -25,17 +24,18 @@ mod opening;
 mod opening_fault;
 mod opening_refusal;
 mod opening_words;
+mod shortage;
+mod step_answers;
+mod talk_end;
 mod talk_fault;
-mod talked;
 mod talking;
-mod used;
 
 pub use line_fault::LineFault;
 pub use live_answer::LiveAnswer;
 pub use live_command::LiveCommand;
 pub use opening::Opening;
 pub use opening_fault::OpeningFault;
+pub use shortage::Shortage;
+pub use talk_end::TalkEnd;
 pub use talk_fault::TalkFault;
-pub use talked::Talked;
 pub use talking::talk;
-pub use used::Used;

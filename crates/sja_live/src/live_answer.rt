@@ -1,7 +1,7 @@
 //! What a line is answered.
 
 use super::line_fault::LineFault;
-use super::used::Used;
+use super::shortage::Shortage;
 use sja_script::StepAnswer;
 
 /// What a line is answered (this project's own rule).
@@ -31,7 +31,7 @@ pub enum LiveAnswer {
     /// The bit isn't one that is still to run: `no BIT`.
     NoBit,
     /// Something is used up: `full TURNS` and its like.
-    Full(Used),
+    Full(Shortage),
     /// The line has more than 64 bytes: `long`.
     Long,
 }

@@ -8,15 +8,15 @@ ghost use Rattle.sja_live.specs.Inside.Standing.{IsLive, IsLiveAt};
 ghost use Rattle.sja_live.specs.Inside.Going.{AppendsReport, IsBegun, IsOver};
 ghost use Rattle.sja_live.specs.Talking.{IsTold, IsBrokenOff, Speaks};
 ghost use Rattle.sja_live.specs.declared.talk_fault.TalkFault.TheVariants.{Memory as MemoryFault, Write as WriteFault};
-ghost use Rattle.sja_live.specs.declared.talked.Talked.TheVariants.{Reported};
+ghost use Rattle.sja_live.specs.declared.talk_end.TalkEnd.TheVariants.{Reported};
 ghost use Rattle.sja_plan.specs.Words.{Text};
 
 use super::answer_text::put_answer;
 use super::live_answer::LiveAnswer;
 use super::next_answer::{first_said, next_answer};
 use super::opening_fault::OpeningFault;
+use super::talk_end::TalkEnd;
 use super::talk_fault::TalkFault;
-use super::talked::Talked;
 use sja_report::report;
 use sja_session::Session;
 use std::alloc::Global;
@@ -33,7 +33,7 @@ pub fn talk<R: Read, W: Write>(
     alloc: Global,
     input: &mut R,
     out: &mut W,
-) -> Result<Talked, TalkFault>
+) -> Result<TalkEnd, TalkFault>
     ensures told { IfOk result (λ talked. Speaks (R.remaining input.old) (R.remaining input.new) (W.contents out.old)
         (W.contents out.new) (IsTold talked)) }
     ensures broken { IfErr result (λ fault. fault ≢ WriteFault →
@@ -44,14 +44,14 @@ pub fn talk<R: Read, W: Write>(
         Ok(opening) => opening,
         Err(fault) => {
             put(out, opening_line(fault))?;
-            return Ok(Talked::Unopened);
+            return Ok(TalkEnd::Unopened);
         }
     };
     let Ok(session) = Session::new(alloc, opening.version, opening.bits, opening.nodes) else {
         return Err(TalkFault::Memory);
     };
     talk_on(alloc, input, out, session)?;
-    Ok(Talked::Reported)
+    Ok(TalkEnd::Reported)
 }
 
 /// Goes on with a talk whose first line opened this session, to its report.

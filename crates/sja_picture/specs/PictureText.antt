@@ -5,7 +5,7 @@ use Rattle.std.specs.List.{range_with_len}
 use Rattle.can_bits.specs.declared.level.Level.{Level}
 use Rattle.lemmas.specs.Gathering.{gathered}
 use Rattle.lemmas.specs.Related.{EachRelated}
-use Rattle.sja_frames.specs.FramesText.{HasTold}
+use Rattle.sja_frames.specs.FrameStories.{HasTold}
 use Rattle.sja_log.specs.Log.{RunValue}
 use Rattle.sja_replay.specs.declared.happening.Happening.{Happening}
 use Rattle.sja_report.specs.ReportLines.{numbered}

@@ -2,3 +2,4 @@
 pub mod FileReads
 pub mod FileSteps
 pub mod FileTexts
+pub mod ReportsMet

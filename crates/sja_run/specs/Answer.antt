@@ -2,7 +2,7 @@
 use Rattle.std.specs.Prelude.{◌≡◌, ◌⊎◌, ◌<◌, ℕ, Bool, true, false, List, Option, Some, None, Result, Ok, Err, map}
 use Rattle.std.specs.Io.KnownBytes.{Appends, Keeps}
 use Rattle.sja_words.specs.Requests.{Request, encode, decode, filter, arbitrate, message, run, wave, trace, frames}
-use Rattle.sja_words.specs.Requests.{picture, candump, check, sweep, struck_plan, spelled_plan, files, live}
+use Rattle.sja_words.specs.Requests.{picture, candump, check, sweep, struck_plan, spelled_plan, expected, files, live}
 use Rattle.sja_texts.specs.declared.command_refusal.CommandRefusal.{CommandRefusal}
 use Rattle.sja_texts.specs.declared.command_refusal.CommandRefusal.TheVariants as refusal
 use Rattle.sja_texts.specs.Arbitrate.{IsArbitration, RefusesMessages}
@@ -18,12 +18,12 @@ use Rattle.sja_run.specs.PlanDocument.{IsInputSpelled, RefusesInputSpelled}
 use Rattle.sja_run.specs.Run.{IsOfPlan, RefusesBy, RefusesText}
 use Rattle.sja_run.specs.RunText.{IsTextOfRun, MayFault}
 use Rattle.sja_run.specs.Sweep.{IsStruck, IsSwept, RefusesOfPlan, RefusesStruck, RefusesSwept}
-use Rattle.sja_run.specs.declared.left.Left.{Left}
-use Rattle.sja_run.specs.declared.left.Left.TheVariants.{Threads, Files, Talk}
-use Rattle.sja_run.specs.declared.threaded.Threaded.{Threaded}
+use Rattle.sja_run.specs.declared.further_task.FurtherTask.{FurtherTask}
+use Rattle.sja_run.specs.declared.further_task.FurtherTask.TheVariants.{Threads, Files, Expected, Talk}
+use Rattle.sja_run.specs.declared.thread_task.ThreadTask.{ThreadTask}
 use Rattle.sja_run.specs.declared.run_text.RunText.{RunText}
 use Rattle.sja_run.specs.declared.run_text.RunText.TheVariants.{Report, Wave, Trace, Frames, Picture, Drawing, Candump}
-use Rattle.sja_run.specs.declared.threaded.Threaded.TheVariants.{Text, Sweep}
+use Rattle.sja_run.specs.declared.thread_task.ThreadTask.TheVariants.{Text, Sweep}
 
 -- a plan is asked about: a text of its run, whether it is one, its sweep, or the plan as it is written, with a strike
 -- more or without; or plans that stand in files; or a session is driven. For these alone the input is read
@@ -38,6 +38,7 @@ AsksForRun (check strict) = Unit {0}
 AsksForRun (sweep w) = Unit {0}
 AsksForRun (struck_plan node bit) = Unit {0}
 AsksForRun spelled_plan = Unit {0}
+AsksForRun (expected threads plan report) = Unit {0}
 AsksForRun (files asked jobs names) = Unit {0}
 AsksForRun live = Unit {0}
 AsksForRun other = ⊥
@@ -52,6 +53,7 @@ IsLeftOver (frames true) = Unit {0}
 IsLeftOver (picture first last svg true meant) = Unit {0}
 IsLeftOver (candump errors true) = Unit {0}
 IsLeftOver (sweep w) = 1 < w.jobs
+IsLeftOver (expected threads plan report) = Unit {0}
 IsLeftOver (files asked jobs names) = Unit {0}
 IsLeftOver live = Unit {0}
 IsLeftOver other = ⊥
@@ -61,8 +63,9 @@ abbrev pub IsCheck : Request → Type 0
 IsCheck (check strict) = Unit {0}
 IsCheck other = ⊥
 
--- there is one answer, a text or a refusal: not one of each file, nor those of a session
+-- there is one answer, a text or a refusal: not one of a file or of each, nor those of a session
 abbrev pub AsksForOne : Request → Type 0
+AsksForOne (expected threads plan report) = ⊥
 AsksForOne (files asked jobs names) = ⊥
 AsksForOne live = ⊥
 AsksForOne other = Unit {0}
@@ -83,18 +86,19 @@ picture_or_drawing true first last meant = Drawing first last meant
 picture_or_drawing false first last meant = Picture first last meant
 
 -- what is left to threads, as what was asked for
-abbrev pub request_left : Threaded → Request
+abbrev pub request_left : ThreadTask → Request
 request_left (Text what) = request_for true what
 request_left (Sweep w) = sweep w
 
 -- what is left to another call, as what was asked for
-abbrev pub request_over : Left → Request
+abbrev pub request_over : FurtherTask → Request
 request_over (Threads threaded) = request_left threaded
 request_over (Files w) = files w.question w.jobs (map (λ name. name.now) w.names.items)
+request_over (Expected w) = expected w.threads w.plan.now w.report.now
 request_over Talk = live
 
 -- the exit status, where nothing is left to another call
-abbrev pub status_in : Result ℕ Left → Option ℕ
+abbrev pub status_in : Result ℕ FurtherTask → Option ℕ
 status_in (Ok status) = Some status
 status_in (Err left) = None
 
@@ -116,6 +120,7 @@ IsPrinted (check strict) before after text = HasHints before after text × IsFin
 IsPrinted (sweep w) before after text = IsOfPlan (IsSwept w) before after text
 IsPrinted (struck_plan node bit) before after text = IsOfPlan (IsStruck node bit) before after text
 IsPrinted spelled_plan before after text = IsInputSpelled before after text
+IsPrinted (expected threads plan report) before after text = ⊥
 IsPrinted (files asked jobs names) before after text = ⊥
 IsPrinted live before after text = ⊥
 
@@ -137,6 +142,7 @@ IsRefused (check strict) before after r = RefusesInput before after r
 IsRefused (sweep w) before after r = RefusesOfPlan (RefusesSwept w) before after r
 IsRefused (struck_plan node bit) before after r = RefusesOfPlan (RefusesStruck node bit) before after r
 IsRefused spelled_plan before after r = RefusesInputSpelled before after r
+IsRefused (expected threads plan report) before after r = (r ≡ refusal.OutOfMemory) × ReadsFew before after
 IsRefused (files asked jobs names) before after r = (r ≡ refusal.OutOfMemory) × ReadsFew before after
 IsRefused live before after r = (r ≡ refusal.OutOfMemory) × ReadsFew before after
 

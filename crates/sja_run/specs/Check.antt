@@ -2,26 +2,34 @@
 -- A fault of the plan is no reason to say nothing.
 use Rattle.std.specs.Prelude.{◌≡◌, ◌++◌, ℕ, Bool, true, false, List, [], Option}
 use Rattle.sja_plan.specs.Plan.{PlanValue}
-use Rattle.sja_plan.specs.Faults.{IsPlanOf, IsFirstFault}
-use Rattle.sja_plan.specs.declared.plan_fault.PlanFault.{PlanFault}
+use Rattle.sja_plan.specs.PlacedPlans.{IsFirstPlacedFault}
+use Rattle.sja_places.specs.PlanRead.{IsRunPlan}
 use Rattle.sja_plan.specs.declared.plan_fault.PlanFault.TheVariants.{Memory}
 use Rattle.sja_log.specs.Log.{RunValue}
 use Rattle.sja_log.specs.Runs.{IsSerialRun}
 use Rattle.sja_check.specs.Lines.{IsBrief, AreHints}
 use Rattle.sja_texts.specs.Refusal.{refusal_line}
+use Rattle.sja_texts.specs.declared.command_refusal.CommandRefusal.{CommandRefusal}
 use Rattle.sja_texts.specs.declared.command_refusal.CommandRefusal.TheVariants as refusal
 use Rattle.sja_run.specs.Input.{IsRead}
+use Rattle.sja_run.specs.Run.{RefusesRunPlan}
 
 -- these bytes are a plan, which has a run in one thread, and the text is a line for each hint
 abbrev pub IsHinted : List ℕ → List ℕ → Type 0
-IsHinted bytes text = (plan : PlanValue) × (log : RunValue) × IsPlanOf bytes plan × IsSerialRun plan log × AreHints text
+IsHinted bytes text =
+    (plan : PlanValue) × (log : RunValue) × IsRunPlan bytes plan × IsSerialRun plan log × AreHints text
 
--- these bytes have this first fault, which is no refused memory: the text is the line that `run` has for it, and then
--- one line or two
+-- what is explained: the first fault of these bytes, which is no refused memory, or that a strike by place has no bit
+abbrev pub IsExplainable : List ℕ → CommandRefusal → Type 0
+IsExplainable bytes (refusal.Plan fault) = (¬ (fault ≡ Memory)) × IsFirstPlacedFault bytes fault
+IsExplainable bytes (refusal.Place number) = RefusesRunPlan bytes (refusal.Place number)
+IsExplainable bytes refusal.Strikes = RefusesRunPlan bytes refusal.Strikes
+IsExplainable bytes other = ⊥
+
+-- the text is the line that `run` has for it, and then one line or two
 abbrev pub IsExplained : List ℕ → List ℕ → Type 0
 IsExplained bytes text =
-    (fault : PlanFault) × (words : List ℕ) × (¬ (fault ≡ Memory)) × IsFirstFault bytes fault
-    × (text ≡ refusal_line (refusal.Plan fault) ++ words) × IsBrief words
+    (r : CommandRefusal) × (words : List ℕ) × IsExplainable bytes r × (text ≡ refusal_line r ++ words) × IsBrief words
 
 -- strictly no hint is fine
 abbrev pub IsFine : Bool → List ℕ → Type 0

@@ -5,7 +5,7 @@ use Rattle.std.specs.Prelude.{codes, length, nat_lt, if◌then◌else◌}
 use Rattle.std.specs.List.{list_all}
 use Rattle.std.specs.Io.KnownBytes.{Appends, Keeps}
 use Rattle.sja_plan.specs.Plan.{PlanValue}
-use Rattle.sja_plan.specs.Faults.{IsPlanOf, IsFirstFault}
+use Rattle.sja_places.specs.PlanRead.{IsRunPlan}
 use Rattle.sja_words.specs.declared.plan_question.PlanQuestion.{PlanQuestion}
 use Rattle.sja_words.specs.declared.plan_question.PlanQuestion.TheVariants as question
 use Rattle.sja_texts.specs.Refusal.{refusal_line}
@@ -16,6 +16,7 @@ use Rattle.sja_run.specs.Check.{IsExplained, IsFine, IsHinted}
 use Rattle.sja_run.specs.Names.{shown_name}
 use Rattle.sja_run.specs.Input.{IsRead, IsReadFrom, RefusesInput}
 use Rattle.sja_run.specs.PlanDocument.{IsSpelling, RefusesSpelling}
+use Rattle.sja_run.specs.Run.{RefusesRunPlan}
 use Rattle.sja_run.specs.RunText.{IsTextOfRun, MayFault}
 use Rattle.sja_run.specs.Sweep.{IsStruck, IsSwept, RefusesStruck, RefusesSwept}
 use Rattle.sja_run.specs.declared.file_outcome.FileOutcome.{FileOutcome}
@@ -27,11 +28,11 @@ use Rattle.sja_run.specs.declared.run_text.RunText.TheVariants.{Report, Wave, Tr
 
 -- the text is this one of a run of the plan that these bytes are: in threads (`true`) or in one
 abbrev pub IsTextIn : Bool → RunText → List ℕ → List ℕ → Type 0
-IsTextIn threads what bytes text = (plan : PlanValue) × IsPlanOf bytes plan × IsTextOfRun threads what plan text
+IsTextIn threads what bytes text = (plan : PlanValue) × IsRunPlan bytes plan × IsTextOfRun threads what plan text
 
 -- the text is one of the plan that these bytes are
 abbrev pub IsTextFor : (PlanValue → List ℕ → Type 0) → List ℕ → List ℕ → Type 0
-IsTextFor Is bytes text = (plan : PlanValue) × IsPlanOf bytes plan × Is plan text
+IsTextFor Is bytes text = (plan : PlanValue) × IsRunPlan bytes plan × Is plan text
 
 -- the text is what was asked of that plan
 abbrev pub IsAnswer : PlanQuestion → List ℕ → List ℕ → Type 0
@@ -49,17 +50,21 @@ IsAnswer question.Plan bytes text = IsSpelling bytes text
 -- or they are a plan, and its run had this fault
 abbrev pub RefusesBytes : Bool → List ℕ → CommandRefusal → Type 0
 RefusesBytes threads bytes refusal.OutOfMemory = Unit {0}
-RefusesBytes threads bytes (refusal.Plan fault) = IsFirstFault bytes fault
+RefusesBytes threads bytes (refusal.Plan fault) = RefusesRunPlan bytes (refusal.Plan fault)
+RefusesBytes threads bytes (refusal.Place number) = RefusesRunPlan bytes (refusal.Place number)
+RefusesBytes threads bytes refusal.Strikes = RefusesRunPlan bytes refusal.Strikes
 RefusesBytes threads bytes (refusal.Run fault) =
-    (plan : PlanValue) × IsPlanOf bytes plan × MayFault threads plan fault
+    (plan : PlanValue) × IsRunPlan bytes plan × MayFault threads plan fault
 RefusesBytes threads bytes other = ⊥
 
 -- why there is no text of that plan without its run: as there is none of its run, but that the plan has no such text
 -- in place of a fault of the run
 abbrev pub RefusesTextFor : (PlanValue → SweepRefusal → Type 0) → List ℕ → CommandRefusal → Type 0
 RefusesTextFor May bytes refusal.OutOfMemory = Unit {0}
-RefusesTextFor May bytes (refusal.Plan fault) = IsFirstFault bytes fault
-RefusesTextFor May bytes (refusal.Sweep why) = (plan : PlanValue) × IsPlanOf bytes plan × May plan why
+RefusesTextFor May bytes (refusal.Plan fault) = RefusesRunPlan bytes (refusal.Plan fault)
+RefusesTextFor May bytes (refusal.Place number) = RefusesRunPlan bytes (refusal.Place number)
+RefusesTextFor May bytes refusal.Strikes = RefusesRunPlan bytes refusal.Strikes
+RefusesTextFor May bytes (refusal.Sweep why) = (plan : PlanValue) × IsRunPlan bytes plan × May plan why
 RefusesTextFor May bytes other = ⊥
 
 -- why there is no answer. `check` has one of a fault of the plan too

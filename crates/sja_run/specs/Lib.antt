@@ -8,5 +8,7 @@ pub mod Answer
 pub mod Live
 pub mod Names
 pub mod Files
+pub mod Difference
+pub mod Expected
 -- ---- definitions of private contracts alone
 pub mod Inside

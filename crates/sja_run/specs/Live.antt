@@ -5,14 +5,14 @@ use Rattle.std.specs.Io.KnownBytes.{Appends, Keeps}
 use Rattle.sja_live.specs.Talking.{IsBrokenOff, IsTold, Speaks}
 use Rattle.sja_live.specs.declared.talk_fault.TalkFault.{TalkFault}
 use Rattle.sja_live.specs.declared.talk_fault.TalkFault.TheVariants.{Memory, Read, Write}
-use Rattle.sja_live.specs.declared.talked.Talked.{Talked}
-use Rattle.sja_live.specs.declared.talked.Talked.TheVariants.{Reported, Unopened}
+use Rattle.sja_live.specs.declared.talk_end.TalkEnd.{TalkEnd}
+use Rattle.sja_live.specs.declared.talk_end.TalkEnd.TheVariants.{Reported, Unopened}
 use Rattle.sja_texts.specs.Refusal.{refusal_line}
 use Rattle.sja_texts.specs.declared.command_refusal.CommandRefusal.{CommandRefusal}
 use Rattle.sja_texts.specs.declared.command_refusal.CommandRefusal.TheVariants as refusal
 
 -- the status of a talk: 0 where it ended with a report, 1 where its first line opened no session
-abbrev pub talk_status : Talked → ℕ
+abbrev pub talk_status : TalkEnd → ℕ
 talk_status Reported = 0
 talk_status Unopened = 1
 
@@ -29,7 +29,7 @@ abbrev pub ShowsTalk :
     ℕ → Option (List ℕ) → Option (List ℕ) → Option (List ℕ) → Option (List ℕ) → Option (List ℕ) → Option (List ℕ)
     → Type 0
 ShowsTalk status in_old in_new out_old out_new err_old err_new =
-    ((talked : Talked) × (status ≡ talk_status talked) × Speaks in_old in_new out_old out_new (IsTold talked)
+    ((talked : TalkEnd) × (status ≡ talk_status talked) × Speaks in_old in_new out_old out_new (IsTold talked)
     × Keeps err_old err_new)
     ⊎ ((fault : TalkFault) × (r : CommandRefusal) × SaysWhy r fault × (status ≡ 1)
     × Speaks in_old in_new out_old out_new (IsBrokenOff fault) × Appends err_old err_new (refusal_line r))

@@ -1,23 +1,27 @@
 -- What `plan` prints and refuses (this project's own rule).
 use Rattle.std.specs.Prelude.{◌≡◌, ◌⊎◌, List, ℕ, Option}
 use Rattle.sja_plan.specs.Plan.{PlanValue}
-use Rattle.sja_plan.specs.Faults.{IsPlanOf, IsFirstFault}
+use Rattle.sja_places.specs.PlanRead.{IsRunPlan}
 use Rattle.sja_plan.specs.declared.plan_fault.PlanFault.TheVariants.{TooLong}
 use Rattle.sja_plan_text.specs.Written.{IsPlanText, IsTooLong}
 use Rattle.sja_texts.specs.declared.command_refusal.CommandRefusal.{CommandRefusal}
 use Rattle.sja_texts.specs.declared.command_refusal.CommandRefusal.TheVariants as refusal
 use Rattle.sja_run.specs.Input.{IsRead, RefusesInput}
+use Rattle.sja_run.specs.Run.{RefusesRunPlan}
 
 -- these bytes are a plan, and the text is the one in which it is written
 abbrev pub IsSpelling : List ℕ → List ℕ → Type 0
-IsSpelling bytes text = (plan : PlanValue) × IsPlanOf bytes plan × IsPlanText plan text
+IsSpelling bytes text = (plan : PlanValue) × IsRunPlan bytes plan × IsPlanText plan text
 
--- why there is no such text. Memory may be refused at any time. Else the bytes have this first fault, or they are a
--- plan whose text would be longer than a document may be
+-- why there is no such text. Memory may be refused at any time. Else there is no plan to run, or its text would be
+-- longer than a document may be
 abbrev pub RefusesSpelling : List ℕ → CommandRefusal → Type 0
 RefusesSpelling bytes refusal.OutOfMemory = Unit {0}
 RefusesSpelling bytes (refusal.Plan fault) =
-    IsFirstFault bytes fault ⊎ ((fault ≡ TooLong) × (plan : PlanValue) × IsPlanOf bytes plan × IsTooLong plan)
+    RefusesRunPlan bytes (refusal.Plan fault)
+    ⊎ ((fault ≡ TooLong) × (plan : PlanValue) × IsRunPlan bytes plan × IsTooLong plan)
+RefusesSpelling bytes (refusal.Place number) = RefusesRunPlan bytes (refusal.Place number)
+RefusesSpelling bytes refusal.Strikes = RefusesRunPlan bytes refusal.Strikes
 RefusesSpelling bytes other = ⊥
 
 -- the text of the plan on the input, by what the input held before and holds after

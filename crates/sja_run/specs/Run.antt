@@ -1,8 +1,12 @@
 -- Why there is a text of the plan on the input, and why there is none, by what the input held before and holds after
 -- (this project's own rule).
-use Rattle.std.specs.Prelude.{ℕ, Bool, false, List, Option}
+use Rattle.std.specs.Prelude.{◌⊎◌, ℕ, Bool, false, List, Option}
 use Rattle.sja_plan.specs.Plan.{PlanValue}
-use Rattle.sja_plan.specs.Faults.{IsPlanOf, IsFirstFault}
+use Rattle.sja_plan.specs.PlacedPlans.{ArePlacedPlan, IsFirstPlacedFault}
+use Rattle.sja_plan.specs.declared.placed_strike.PlacedStrike.{PlacedStrike}
+use Rattle.sja_places.specs.PlanRead.{IsRunPlan}
+use Rattle.sja_places.specs.Counting.{AreMany}
+use Rattle.sja_places.specs.Resolving.{HasNoPlace, HasNoRoom}
 use Rattle.sja_log.specs.Log.{RunValue}
 use Rattle.sja_log.specs.declared.run_fault.RunFault.{RunFault}
 use Rattle.sja_texts.specs.declared.command_refusal.CommandRefusal.{CommandRefusal}
@@ -14,7 +18,24 @@ use Rattle.sja_run.specs.declared.run_text.RunText.{RunText}
 -- the text is such a one of the plan that the bytes which were read are
 abbrev pub IsOfPlan : (PlanValue → List ℕ → Type 0) → Option (List ℕ) → Option (List ℕ) → List ℕ → Type 0
 IsOfPlan Is before after text =
-    (bytes : List ℕ) × (plan : PlanValue) × IsRead before after bytes × IsPlanOf bytes plan × Is plan text
+    (bytes : List ℕ) × (plan : PlanValue) × IsRead before after bytes × IsRunPlan bytes plan × Is plan text
+
+-- the bytes are a plan, and this holds of it with its strikes by place
+abbrev pub OfPlaced : List ℕ → (PlanValue → List PlacedStrike → Type 0) → Type 0
+OfPlaced bytes Is = (p : PlanValue) × (placed : List PlacedStrike) × ArePlacedPlan bytes p placed × Is p placed
+
+-- the run has no place of the strike of this number, and none of those that are left
+abbrev pub MissesPlace : ℕ → PlanValue → List PlacedStrike → Type 0
+MissesPlace number p placed = (frames : ℕ) × (last : Option ℕ) × HasNoPlace p placed number frames last
+
+-- why there is no plan to run. Memory may be refused at any time. Else the bytes have this first fault, or they are a
+-- plan, and its strikes by place have no bits
+abbrev pub RefusesRunPlan : List ℕ → CommandRefusal → Type 0
+RefusesRunPlan bytes refusal.OutOfMemory = Unit {0}
+RefusesRunPlan bytes (refusal.Plan fault) = IsFirstPlacedFault bytes fault
+RefusesRunPlan bytes (refusal.Place number) = OfPlaced bytes (MissesPlace number)
+RefusesRunPlan bytes refusal.Strikes = OfPlaced bytes (λ p placed. AreMany p.bits placed ⊎ HasNoRoom p placed)
+RefusesRunPlan bytes other = ⊥
 
 -- why there is no text of a run. Memory may be refused at any time, and a read may fail. Else the bytes that were read
 -- have this first fault, or they are a plan, and its run had one of these faults
@@ -22,9 +43,13 @@ abbrev pub RefusesBy : (PlanValue → RunFault → Type 0) → Option (List ℕ)
 RefusesBy May before after refusal.OutOfMemory = ReadsFew before after
 RefusesBy May before after refusal.Read = BreaksOff before after
 RefusesBy May before after (refusal.Plan fault) =
-    (bytes : List ℕ) × IsRead before after bytes × IsFirstFault bytes fault
+    (bytes : List ℕ) × IsRead before after bytes × RefusesRunPlan bytes (refusal.Plan fault)
+RefusesBy May before after (refusal.Place number) =
+    (bytes : List ℕ) × IsRead before after bytes × RefusesRunPlan bytes (refusal.Place number)
+RefusesBy May before after refusal.Strikes =
+    (bytes : List ℕ) × IsRead before after bytes × RefusesRunPlan bytes refusal.Strikes
 RefusesBy May before after (refusal.Run fault) =
-    (bytes : List ℕ) × (plan : PlanValue) × IsRead before after bytes × IsPlanOf bytes plan × May plan fault
+    (bytes : List ℕ) × (plan : PlanValue) × IsRead before after bytes × IsRunPlan bytes plan × May plan fault
 RefusesBy May before after refusal.NotHexadecimal = ⊥
 RefusesBy May before after refusal.NotALine = ⊥
 RefusesBy May before after (refusal.Layout fault) = ⊥
@@ -41,6 +66,6 @@ RefusesRun = RefusesBy (MayFault false)
 -- drawing of its bits has more levels than may be drawn unasked
 abbrev pub RefusesText : Bool → RunText → Option (List ℕ) → Option (List ℕ) → CommandRefusal → Type 0
 RefusesText threads what before after (refusal.Drawing levels) =
-    (bytes : List ℕ) × (plan : PlanValue) × (log : RunValue) × IsRead before after bytes × IsPlanOf bytes plan
+    (bytes : List ℕ) × (plan : PlanValue) × (log : RunValue) × IsRead before after bytes × IsRunPlan bytes plan
     × IsRunOf threads plan log × IsTooLarge what plan log levels
 RefusesText threads what before after other = RefusesBy (MayFault threads) before after other

@@ -1,8 +1,8 @@
 -- What `sweep` prints and refuses, by what the input held before and holds after (this project's own rule).
-use Rattle.std.specs.Prelude.{◌≡◌, ◌<◌, ◌≤◌, ℕ, List, Option, if◌then◌else◌, length}
+use Rattle.std.specs.Prelude.{◌≡◌, ◌<◌, ◌≤◌, ℕ, false, List, Option, if◌then◌else◌, length}
 use Rattle.sja_plan.specs.Limits.{most_strikes}
 use Rattle.sja_plan.specs.Plan.{PlanValue, times_in}
-use Rattle.sja_plan.specs.Faults.{IsPlanOf}
+use Rattle.sja_places.specs.PlanRead.{IsRunPlan}
 use Rattle.sja_plan.specs.Struck.{struck_at}
 use Rattle.sja_plan_text.specs.Written.{IsPlanText, IsTooLong}
 use Rattle.sja_sweep.specs.declared.sweeping.Sweeping.{Sweeping}
@@ -24,7 +24,7 @@ sweeping_of w = record {
   first = w.first;
   last = w.last;
   pairs = w.pairs;
-  changed = w.changed;
+  asked = record { changed = w.changed; ecc = false; twice = w.twice; lost = w.lost; stuck = w.stuck };
   meant = w.meant;
 }
 
@@ -69,5 +69,5 @@ RefusesStruck node bit plan (TooMany runs bits) = ⊥
 abbrev pub RefusesOfPlan :
     (PlanValue → SweepRefusal → Type 0) → Option (List ℕ) → Option (List ℕ) → CommandRefusal → Type 0
 RefusesOfPlan May before after (refusal.Sweep why) =
-    (bytes : List ℕ) × (plan : PlanValue) × IsRead before after bytes × IsPlanOf bytes plan × May plan why
+    (bytes : List ℕ) × (plan : PlanValue) × IsRead before after bytes × IsRunPlan bytes plan × May plan why
 RefusesOfPlan May before after other = RefusesRun before after other

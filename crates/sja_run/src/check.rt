@@ -12,10 +12,11 @@ ghost use Rattle.sja_run.specs.Input.{RefusesInput};
 
 use super::input::read_input;
 use super::plan_check::PlanCheck;
+use super::unplaced::unplaced;
 use can_frame::OutOfMemory;
 use sja_check::{hints, mistake};
-use sja_log::RunFault;
-use sja_plan::{Plan, PlanFault, read_plan};
+use sja_places::{ReadFault, plan_of};
+use sja_plan::{Plan, PlanFault};
 use sja_serial::run_serial;
 use sja_texts::CommandRefusal;
 use std::alloc::Global;
@@ -36,13 +37,15 @@ pub(crate) fn checked<R: Read>(alloc: Global, input: &mut R) -> Result<PlanCheck
 /// What there is to be said of the plan that these bytes are. A plan is run in one thread.
 ///
 /// Error: [`OutOfMemory`] where memory was refused.
+#[tactic(auto, using(crate::proofs::PlanAnswers::Places::places))]
 pub(crate) fn said_of(alloc: Global, bytes: &[u8]) -> Result<PlanCheck, OutOfMemory>
     ensures { IfOk result (IsSaidOf bytes.now) }
 {
-    match read_plan(alloc, bytes) {
+    match plan_of(alloc, bytes) {
         Ok(plan) => Ok(PlanCheck::Hints(hinted(alloc, bytes, &plan)?)),
-        Err(PlanFault::Memory) => Err(OutOfMemory),
-        Err(fault) => Ok(PlanCheck::Mistake(explained(alloc, bytes, fault)?)),
+        Err(ReadFault::Plan(PlanFault::Memory)) => Err(OutOfMemory),
+        Err(ReadFault::Plan(fault)) => Ok(PlanCheck::Mistake(explained(alloc, bytes, fault)?)),
+        Err(ReadFault::Place(fault)) => Ok(PlanCheck::Mistake(unplaced(alloc, bytes, fault)?)),
     }
 }
 

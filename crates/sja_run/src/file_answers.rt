@@ -13,12 +13,13 @@ use super::check::said_of;
 use super::file_outcome::FileOutcome;
 use super::plan_check::PlanCheck;
 use super::plan_document::spelled;
+use super::run_plan::plan_in;
 use super::run_text::RunText;
 use super::serial_text::written_of;
 use super::struck_plan::struck_in;
 use super::sweeps::swept_in;
-use super::threaded_text::written_threads_of;
-use sja_plan::{Plan, read_plan};
+use super::thread_text::written_threads_of;
+use sja_plan::Plan;
 use sja_texts::CommandRefusal;
 use sja_words::PlanQuestion;
 use std::alloc::{AllocError, Global};
@@ -172,7 +173,7 @@ fn hints_outcome(strict: bool, text: Vec<u8>) -> FileOutcome
 
 /// This text of a run of the plan that these bytes are, which is no drawing: with each driver in a thread of its own,
 /// or with all in one.
-#[tactic(auto, using(crate::proofs::PlanAnswers::PlanRuns::bytes_refused))]
+#[tactic(auto, using(crate::proofs::PlanAnswers::PlanRuns::of_bytes))]
 fn written_in<T: Threads + Wait + Sync>(
     rt: &T,
     alloc: Global,
@@ -184,13 +185,13 @@ fn written_in<T: Threads + Wait + Sync>(
     ensures ok { IfOk result (λ text. IsTextIn threads what bytes.now text.items) }
     ensures err { IfErr result (RefusesBytes threads bytes.now) }
 {
-    let plan = read_plan(alloc, bytes)?;
+    let plan = plan_in(alloc, bytes)?;
     let text = written_by(rt, alloc, threads, what, &plan)?;
     Ok(text)
 }
 
 /// This text of a run of this plan.
-fn written_by<T: Threads + Wait + Sync>(
+pub(crate) fn written_by<T: Threads + Wait + Sync>(
     rt: &T,
     alloc: Global,
     threads: bool,

@@ -55,7 +55,7 @@ fn length_of(read: &Result<Vec<u8>, FileOutcome>) -> usize {
 }
 
 /// The bytes under this name, or what came of the file where none are had.
-fn read_file<F: Sources, R: Read>(
+pub(crate) fn read_file<F: Sources, R: Read>(
     alloc: Global,
     sources: &F,
     name: &str,

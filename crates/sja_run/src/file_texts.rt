@@ -87,7 +87,7 @@ fn refuse_all<O: Write, E: Write>(
 }
 
 /// Writes what came of the file with this name, and says whether it was answered.
-fn put<O: Write, E: Write>(
+pub(crate) fn put<O: Write, E: Write>(
     several: bool,
     name: &str,
     outcome: &FileOutcome,

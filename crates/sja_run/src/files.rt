@@ -43,11 +43,7 @@ pub(crate) fn reply_files<T: Threads + Wait + Sync, F: Sources, R: Read, O: Writ
     let names = words.names.as_slice();
     let several = names.len() > 1;
     let jobs = words.jobs.max(1) as usize;
-    let most = if jobs == 1 {
-        1
-    } else {
-        jobs.saturating_mul(FILES_A_JOB)
-    };
+    let most = files_at_once(jobs);
     let mut all = true;
     let mut start = 0;
     while start < names.len() {
@@ -66,6 +62,18 @@ pub(crate) fn reply_files<T: Threads + Wait + Sync, F: Sources, R: Read, O: Writ
         0
     } else {
         1
+    }
+}
+
+/// How many files so many jobs, one or more, read at one time at most.
+fn files_at_once(jobs: usize) -> usize
+    requires { 1 ≤ jobs }
+    ensures { 1 ≤ result }
+{
+    if jobs == 1 {
+        1
+    } else {
+        jobs.saturating_mul(FILES_A_JOB)
     }
 }
 

@@ -6,7 +6,8 @@ ghost use Rattle.sja_run.specs.Input.{most_read, RefusesInput};
 ghost use Rattle.sja_run.specs.Run.{RefusesRun};
 ghost use Rattle.sja_run.specs.Inside.Runs.{HoldsPlan};
 
-use sja_plan::{MOST_BYTES, MOST_RAW_BYTES, Plan, most_bytes, read_plan};
+use super::run_plan::plan_in;
+use sja_plan::{MOST_BYTES, MOST_RAW_BYTES, Plan, most_bytes};
 use sja_texts::CommandRefusal;
 use std::alloc::Global;
 use std::io::Read;
@@ -19,14 +20,14 @@ const ROOM: usize = 1_024;
 
 /// The plan that the bytes of the input are.
 ///
-/// Errors: those of [`read_input`]; [`CommandRefusal::Plan`] where they are no plan.
-#[tactic(auto, using(crate::proofs::BytesRead::FewBytes::refused_input))]
+/// Errors: those of [`read_input`] and of [`plan_in`].
+#[tactic(auto, using(crate::proofs::BytesRead::FewBytes::of_input))]
 pub(crate) fn plan_of_input<R: Read>(alloc: Global, input: &mut R) -> Result<Plan, CommandRefusal>
     ensures ok { IfOk result (HoldsPlan (R.remaining input.old) (R.remaining input.new)) }
     ensures err { IfErr result (RefusesRun (R.remaining input.old) (R.remaining input.new)) }
 {
     let bytes = read_input(alloc, input)?;
-    let plan = read_plan(alloc, bytes.as_slice())?;
+    let plan = plan_in(alloc, bytes.as_slice())?;
     Ok(plan)
 }
 

@@ -5,7 +5,7 @@ ghost use Rattle.sja_run.specs.Inside.Answers.{IsOneWhereFailed};
 ghost use Rattle.sja_run.specs.Live.{ShowsTalk};
 
 use super::output::Output;
-use sja_live::{TalkFault, Talked, talk};
+use sja_live::{TalkEnd, TalkFault, talk};
 use sja_texts::CommandRefusal;
 use std::alloc::Global;
 use std::io::{Read, Write};
@@ -28,8 +28,8 @@ pub(crate) fn reply_live<R: Read, O: Write, E: Write>(
         return 1;
     }
     match talk(alloc, input, &mut out.writer) {
-        Ok(Talked::Reported) => 0,
-        Ok(Talked::Unopened) => 1,
+        Ok(TalkEnd::Reported) => 0,
+        Ok(TalkEnd::Unopened) => 1,
         Err(TalkFault::Memory) => err.refuse(CommandRefusal::OutOfMemory),
         Err(TalkFault::Read) => err.refuse(CommandRefusal::Read),
         Err(TalkFault::Write) => {

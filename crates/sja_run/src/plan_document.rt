@@ -1,20 +1,21 @@
 //! `plan`: a plan, as it is written.
 
 ghost use Rattle.std.specs.Prelude.{IfOk, IfErr, string_bytes};
-ghost use Rattle.sja_plan.specs.Faults.{IsPlanOf};
 ghost use Rattle.sja_plan_text.specs.HasTexts.{HasTexts};
 ghost use Rattle.sja_plan_text.specs.Written.{IsPlanText};
 ghost use Rattle.sja_run.specs.PlanDocument.{IsSpelling, IsInputSpelled, RefusesSpelling, RefusesInputSpelled};
 ghost use Rattle.sja_run.specs.Inside.Refusals.{RefusesDocument};
 
 use super::input::read_input;
-use sja_plan::{Plan, PlanFault, read_plan};
-use sja_plan_text::{PlanTextFault, a_plan_has_texts, plan_text};
+use super::run_plan::plan_in;
+use sja_places::a_run_plan_has_texts;
+use sja_plan::{Plan, PlanFault};
+use sja_plan_text::{PlanTextFault, plan_text};
 use sja_texts::CommandRefusal;
 use std::alloc::Global;
 use std::io::Read;
 
-/// The plan that the bytes of the input are, as it is written.
+/// The plan that the bytes of the input are, as `spelled` has it.
 ///
 /// Errors: those of [`read_input`], and of [`spelled`].
 #[tactic(auto, using(crate::proofs::PlanAnswers::PlanRefusals::no_input))]
@@ -30,17 +31,17 @@ pub(crate) fn spelled_input<R: Read>(
     spelled(alloc, bytes.as_slice())
 }
 
-/// The plan that these bytes are, as it is written.
+/// The plan that these bytes are, as it is written, with each strike by place at its bit.
 ///
-/// Errors: [`CommandRefusal::Plan`] where they are no plan, and, with [`PlanFault::TooLong`], where the document would
-/// be longer than one may be; [`CommandRefusal::OutOfMemory`].
-#[tactic(auto, using(crate::proofs::PlanAnswers::PlanRefusals::unspelled))]
+/// Errors: those of [`plan_in`], and [`CommandRefusal::Plan`] with [`PlanFault::TooLong`] where the document would be
+/// longer than one may be.
+#[tactic(auto, using(crate::proofs::PlanAnswers::PlanRefusals::spelling))]
 pub(crate) fn spelled(alloc: Global, bytes: &[u8]) -> Result<Vec<u8>, CommandRefusal>
     ensures ok { IfOk result (λ text. IsSpelling bytes.now text.items) }
     ensures err { IfErr result (RefusesSpelling bytes.now) }
 {
-    let plan = read_plan(alloc, bytes)?;
-    a_plan_has_texts();
+    let plan = plan_in(alloc, bytes)?;
+    a_run_plan_has_texts();
     let text = document(alloc, &plan)?;
     Ok(text.into_bytes())
 }

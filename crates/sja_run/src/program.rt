@@ -1,24 +1,26 @@
 //! [`sja`]: the whole program over words, a reader and two writers.
 
-ghost use Rattle.std.specs.Prelude.{◌≡◌, ◌⊎◌, ℕ, List, IfOk, IfErr, Some, false, true, map};
-ghost use Rattle.sja_words.specs.Requests.{Request, files, live};
+ghost use Rattle.std.specs.Prelude.{◌≡◌, ◌⊎◌, ℕ, Bool, List, IfOk, IfErr, Some, false, true, map};
+ghost use Rattle.sja_words.specs.Requests.{Request, expected, files, live};
 ghost use Rattle.sja_words.specs.Words.{ParsesAs};
 ghost use Rattle.sja_words.specs.declared.plan_question.PlanQuestion.{PlanQuestion};
 ghost use Rattle.sja_run.specs.Answer.{AsksForOne, AsksForRun, IsPrinted, IsRefused, IsTurnedAway, Shows, request_left};
 ghost use Rattle.sja_run.specs.Inside.Answers.{IsOneWhereFailed};
+ghost use Rattle.sja_run.specs.Expected.{ShowsExpected};
 ghost use Rattle.sja_run.specs.Files.{ShowsFiles};
 ghost use Rattle.sja_run.specs.Input.{ReadsFew};
 ghost use Rattle.sja_run.specs.Live.{ShowsTalk};
 
+use super::expected::reply_expected;
 use super::files::reply_files;
-use super::left::Left;
+use super::further_task::FurtherTask;
 use super::live::reply_live;
 use super::output::Output;
 use super::serial::sja_alone;
 use super::sources::Sources;
 use super::sweeps::told_sweep_jobs;
-use super::threaded::Threaded;
-use super::threaded_text::written_threads;
+use super::thread_task::ThreadTask;
+use super::thread_text::written_threads;
 use sja_texts::CommandRefusal;
 use std::alloc::Global;
 use std::convert::AsStr;
@@ -35,7 +37,8 @@ use std::thread::Threads;
 /// `input` is read for a text of a run, with `--threads` or without, and for `check` and `sweep` alone: at most one
 /// byte more of it than a plan may have that begins so, in at most 33,554,434 reads.
 /// For `live` it is read to the line that ends the talk, each line after the answer of the one before it.
-/// Of plans in files, which `sources` has, each is read, answered and told of, in order; `-` is the input.
+/// Of plans in files, which `sources` has, each is read, answered and told of, in order; `-` is the input. A report
+/// that is expected is read before its plan.
 /// For `--threads`, and for several files or a sweep with `--jobs` above 1, alone it starts threads, and waits.
 /// The words, texts and statuses are this project's own rule.
 pub fn sja<T: Threads + Wait + Sync, F: Sources, S: AsStr, R: Read, O: Write, E: Write>(
@@ -56,6 +59,11 @@ pub fn sja<T: Threads + Wait + Sync, F: Sources, S: AsStr, R: Read, O: Write, E:
         → ShowsFiles (F.holds sources.now) asked names result (R.remaining input.old) (R.remaining input.new)
         (O.contents out.old.writer) (O.contents out.new.writer)
         (E.contents err.old.writer) (E.contents err.new.writer) }
+    ensures expects { (threads : Bool) (plan report : List ℕ)
+        → ParsesAs (map S.text words.now) (expected threads plan report) → out.new.failed ≡ false
+        → err.new.failed ≡ false → ShowsExpected (F.holds sources.now) threads plan report result
+        (R.remaining input.old) (R.remaining input.new) (O.contents out.old.writer) (O.contents out.new.writer)
+        (E.contents err.old.writer) (E.contents err.new.writer) }
     ensures talks { ParsesAs (map S.text words.now) live → out.new.failed ≡ false → err.new.failed ≡ false
         → ShowsTalk result (R.remaining input.old) (R.remaining input.new)
         (O.contents out.old.writer) (O.contents out.new.writer)
@@ -73,9 +81,14 @@ pub fn sja<T: Threads + Wait + Sync, F: Sources, S: AsStr, R: Read, O: Write, E:
 {
     match sja_alone(alloc, words, input, out, err) {
         Ok(status) => status,
-        Err(Left::Files(files)) => { reply_files(rt, alloc, sources, &files, input, out, err) }
-        Err(Left::Talk) => reply_live(alloc, input, out, err),
-        Err(Left::Threads(threaded)) => reply_threads(rt, alloc, threaded, input, out, err),
+        Err(FurtherTask::Files(files)) => {
+            reply_files(rt, alloc, sources, &files, input, out, err)
+        }
+        Err(FurtherTask::Expected(words)) => {
+            reply_expected(rt, alloc, sources, words, input, out, err)
+        }
+        Err(FurtherTask::Talk) => reply_live(alloc, input, out, err),
+        Err(FurtherTask::Threads(threaded)) => reply_threads(rt, alloc, threaded, input, out, err),
     }
 }
 
@@ -84,7 +97,7 @@ pub fn sja<T: Threads + Wait + Sync, F: Sources, S: AsStr, R: Read, O: Write, E:
 fn reply_threads<T: Threads + Wait + Sync, R: Read, O: Write, E: Write>(
     rt: &T,
     alloc: Global,
-    threaded: Threaded,
+    threaded: ThreadTask,
     input: &mut R,
     out: &mut Output<O>,
     err: &mut Output<E>,
@@ -107,7 +120,7 @@ fn reply_threads<T: Threads + Wait + Sync, R: Read, O: Write, E: Write>(
 fn printed_threads<T: Threads + Wait + Sync, R: Read>(
     rt: &T,
     alloc: Global,
-    threaded: Threaded,
+    threaded: ThreadTask,
     input: &mut R,
 ) -> Result<Vec<u8>, CommandRefusal>
     ensures ok { IfOk result (λ text.
@@ -116,7 +129,7 @@ fn printed_threads<T: Threads + Wait + Sync, R: Read>(
         (IsRefused (request_left threaded) (R.remaining input.old) (R.remaining input.new)) }
 {
     match threaded {
-        Threaded::Text(what) => written_threads(rt, alloc, what, input),
-        Threaded::Sweep(words) => told_sweep_jobs(rt, alloc, words, input),
+        ThreadTask::Text(what) => written_threads(rt, alloc, what, input),
+        ThreadTask::Sweep(words) => told_sweep_jobs(rt, alloc, words, input),
     }
 }

@@ -11,11 +11,11 @@ ghost use Rattle.sja_run.specs.Input.{ReadsFew};
 
 use super::answer::printed;
 use super::check::checked;
-use super::left::Left;
+use super::further_task::FurtherTask;
 use super::output::Output;
 use super::plan_check::PlanCheck;
 use super::run_text::{RunText, picture_or_drawing};
-use super::threaded::Threaded;
+use super::thread_task::ThreadTask;
 use sja_texts::CommandRefusal;
 use sja_words::{Task, WordsFault, parse};
 use std::alloc::Global;
@@ -38,7 +38,7 @@ pub fn sja_alone<'a, S: AsStr, R: Read, O: Write, E: Write>(
     input: &mut R,
     out: &mut Output<O>,
     err: &mut Output<E>,
-) -> Result<u8, Left<'a>>
+) -> Result<u8, FurtherTask<'a>>
     ensures answered { (r : Request) → ParsesAs (map S.text words.now) r → ¬ IsLeftOver r
         → out.new.failed ≡ false → err.new.failed ≡ false
         → Shows r (status_in result) (R.remaining input.old) (R.remaining input.new)
@@ -70,30 +70,35 @@ pub fn sja_alone<'a, S: AsStr, R: Read, O: Write, E: Write>(
 }
 
 /// What a task leaves to another call; or the task itself, where it leaves nothing.
-fn left_of<'a>(task: Task<'a>) -> Result<Left<'a>, Task<'a>>
+fn left_of<'a>(task: Task<'a>) -> Result<FurtherTask<'a>, Task<'a>>
     ensures left { IfOk result (λ left. (request_of task.entry ≡ request_over left)
         × IsLeftOver (request_over left)) }
     ensures other { IfErr result (λ other. (other ≡ task.entry) × ¬ IsLeftOver (request_of task.entry)) }
 {
     match task {
-        Task::Run { threads: true } => Ok(Left::Threads(Threaded::Text(RunText::Report))),
-        Task::Wave { threads: true } => Ok(Left::Threads(Threaded::Text(RunText::Wave))),
-        Task::Trace { threads: true } => Ok(Left::Threads(Threaded::Text(RunText::Trace))),
-        Task::Frames { threads: true } => Ok(Left::Threads(Threaded::Text(RunText::Frames))),
+        Task::Run { threads: true } => Ok(FurtherTask::Threads(ThreadTask::Text(RunText::Report))),
+        Task::Wave { threads: true } => Ok(FurtherTask::Threads(ThreadTask::Text(RunText::Wave))),
+        Task::Trace { threads: true } => Ok(FurtherTask::Threads(ThreadTask::Text(RunText::Trace))),
+        Task::Frames { threads: true } => Ok(FurtherTask::Threads(ThreadTask::Text(
+            RunText::Frames,
+        ))),
         Task::Picture {
             first,
             last,
             svg,
             threads: true,
             meant,
-        } => Ok(Left::Threads(Threaded::Text(picture_or_drawing(first, last, svg, meant)))),
+        } => Ok(FurtherTask::Threads(ThreadTask::Text(picture_or_drawing(
+            first, last, svg, meant,
+        )))),
         Task::Candump {
             errors,
             threads: true,
-        } => Ok(Left::Threads(Threaded::Text(RunText::Candump(errors)))),
-        Task::Sweep(words) if words.jobs > 1 => Ok(Left::Threads(Threaded::Sweep(words))),
-        Task::Files(words) => Ok(Left::Files(words)),
-        Task::Live => Ok(Left::Talk),
+        } => Ok(FurtherTask::Threads(ThreadTask::Text(RunText::Candump(errors)))),
+        Task::Sweep(words) if words.jobs > 1 => Ok(FurtherTask::Threads(ThreadTask::Sweep(words))),
+        Task::Files(words) => Ok(FurtherTask::Files(words)),
+        Task::Expected(words) => Ok(FurtherTask::Expected(words)),
+        Task::Live => Ok(FurtherTask::Talk),
         other => Err(other),
     }
 }

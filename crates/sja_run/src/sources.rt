@@ -19,4 +19,11 @@ pub trait Sources {
         ensures held { IfOk result (λ bytes. (whole : List ℕ) × holds self.now name.now (Some whole)
             × IsReadFrom whole bytes.items) }
         ensures nothing { IfErr result (λ fault. fault ≡ Unreadable → holds self.now name.now None) };
+
+    /// The bytes that stand under this name, as a whole.
+    ///
+    /// Errors: as [`Sources::read`] has them.
+    fn whole(&self, alloc: Global, name: &str) -> Result<Vec<u8>, SourceFault>
+        ensures held { IfOk result (λ bytes. holds self.now name.now (Some bytes.items)) }
+        ensures nothing { IfErr result (λ fault. fault ≡ Unreadable → holds self.now name.now None) };
 }

@@ -9,8 +9,10 @@ ghost use Rattle.sja_run.specs.Sweep.{IsStruck, RefusesOfPlan, RefusesStruck};
 ghost use Rattle.sja_run.specs.Inside.Refusals.{IsLong, RefusesPlan};
 
 use super::input::plan_of_input;
-use sja_plan::{GREATEST_NUMBER, Plan, PlanFault, read_plan};
-use sja_plan_text::{PlanTextFault, a_plan_has_texts, plan_text};
+use super::run_plan::plan_in;
+use sja_places::a_run_plan_has_texts;
+use sja_plan::{GREATEST_NUMBER, Plan, PlanFault};
+use sja_plan_text::{PlanTextFault, plan_text};
 use sja_texts::{CommandRefusal, SweepRefusal};
 use std::alloc::Global;
 use std::io::Read;
@@ -29,13 +31,13 @@ pub(crate) fn struck<R: Read>(
         (RefusesOfPlan (RefusesStruck node bit) (R.remaining input.old) (R.remaining input.new)) }
 {
     let plan = plan_of_input(alloc, input)?;
-    a_plan_has_texts();
+    a_run_plan_has_texts();
     let text = struck_text(alloc, node, bit, &plan)?;
     Ok(text.into_bytes())
 }
 
 /// The same of the plan that these bytes are.
-#[tactic(auto, using(crate::proofs::PlanAnswers::PlanRefusals::text_refused))]
+#[tactic(auto, using(crate::proofs::PlanAnswers::PlanRefusals::of_text))]
 pub(crate) fn struck_in(
     alloc: Global,
     node: u32,
@@ -45,8 +47,8 @@ pub(crate) fn struck_in(
     ensures ok { IfOk result (λ text. IsTextFor (IsStruck node bit) bytes.now text.items) }
     ensures err { IfErr result (RefusesTextFor (RefusesStruck node bit) bytes.now) }
 {
-    let plan = read_plan(alloc, bytes)?;
-    a_plan_has_texts();
+    let plan = plan_in(alloc, bytes)?;
+    a_run_plan_has_texts();
     let text = struck_text(alloc, node, bit, &plan)?;
     Ok(text.into_bytes())
 }

@@ -10,8 +10,8 @@ ghost use Rattle.sja_run.specs.Sweep.{IsSwept, RefusesSwept, sweeping_of};
 ghost use Rattle.sja_run.specs.Inside.Refusals.{RefusesPlan};
 
 use super::input::plan_of_input;
-use sja_plan::read_plan;
-use sja_sweep::{SweepFault, SweepTexts, Sweeping, sweep, sweep_jobs};
+use super::run_plan::plan_in;
+use sja_sweep::{Kinds, SweepFault, SweepTexts, Sweeping, sweep, sweep_jobs};
 use sja_texts::{CommandRefusal, SweepRefusal};
 use sja_words::SweepWords;
 use std::alloc::Global;
@@ -50,7 +50,7 @@ pub(crate) fn told_sweep_jobs<T: Threads + Sync, R: Read>(
 }
 
 /// The same of the plan that these bytes are.
-#[tactic(auto, using(crate::proofs::PlanAnswers::PlanRefusals::text_refused))]
+#[tactic(auto, using(crate::proofs::PlanAnswers::PlanRefusals::of_text))]
 pub(crate) fn swept_in<T: Threads + Sync>(
     rt: &T,
     alloc: Global,
@@ -61,7 +61,7 @@ pub(crate) fn swept_in<T: Threads + Sync>(
     ensures err { IfErr result (RefusesTextFor (RefusesSwept words) bytes.now) }
 {
     let jobs = words.jobs as usize;
-    let plan = read_plan(alloc, bytes)?;
+    let plan = plan_in(alloc, bytes)?;
     let swept = sweep_jobs(rt, alloc, &plan, &sweeping_of(words), jobs);
     let text = told(words, swept)?;
     Ok(text.into_bytes())
@@ -95,7 +95,13 @@ fn sweeping_of(words: SweepWords) -> Sweeping
         first: words.first,
         last: words.last,
         pairs: words.pairs,
-        changed: words.changed,
+        asked: Kinds {
+            changed: words.changed,
+            ecc: false,
+            twice: words.twice,
+            lost: words.lost,
+            stuck: words.stuck,
+        },
         meant: words.meant,
     }
 }

@@ -19,6 +19,8 @@ impl Gate for Tries {
 
     ghost QUITS = { true };
 
+    ghost asks = { λ g node step tries. Unit {0} };
+
     const QUITS: bool = true;
 
     fn turn(&self, _node: u8, _step: u32, tries: u32) -> Pass
@@ -31,4 +33,10 @@ impl Gate for Tries {
             Pass::Quit
         }
     }
+
+    ghost first_step = { λ g node. tt };
+
+    ghost next_try = { λ g node step tries next so numbered. tt };
+
+    ghost next_step = { λ g node step tries next so numbered. tt };
 }

@@ -3,7 +3,7 @@ use Rattle.std.specs.Prelude.{◌≡◌, ◌-◌, ℕ, Option, List, ◌++◌, l
 use Rattle.std.specs.List.{range_with_len}
 use Rattle.lemmas.specs.Gathering.{gathered}
 use Rattle.lemmas.specs.Related.{EachRelated}
-use Rattle.sja_frames.specs.FramesText.{HasTold}
+use Rattle.sja_frames.specs.FrameStories.{HasTold}
 use Rattle.sja_log.specs.Log.{RunValue}
 use Rattle.sja_picture.specs.PictureText.{end_after}
 use Rattle.sja_picture.specs.Rows.{bus_in}

@@ -7,7 +7,7 @@ use Rattle.can_frame.specs.Message.{message}
 use Rattle.sja_texts.specs.declared.command_refusal.CommandRefusal.{CommandRefusal}
 use Rattle.sja_texts.specs.declared.command_refusal.CommandRefusal.TheVariants.{OutOfMemory, NotHexadecimal, NotALine}
 use Rattle.sja_texts.specs.declared.command_refusal.CommandRefusal.TheVariants.{Read, Layout, Line, Notation, Plan, Run}
-use Rattle.sja_texts.specs.declared.command_refusal.CommandRefusal.TheVariants.{Drawing, Sweep}
+use Rattle.sja_texts.specs.declared.command_refusal.CommandRefusal.TheVariants.{Drawing, Place, Strikes, Sweep}
 use Rattle.sja_texts.specs.BytesText.{bytes_text}
 use Rattle.sja_texts.specs.LineText.{symbol}
 
@@ -32,5 +32,7 @@ RefusesLine digits (Layout fault) = ⊥
 RefusesLine digits (Notation fault) = ⊥
 RefusesLine digits (Plan fault) = ⊥
 RefusesLine digits (Run fault) = ⊥
+RefusesLine digits (Place number) = ⊥
+RefusesLine digits Strikes = ⊥
 RefusesLine digits (Sweep why) = ⊥
 RefusesLine digits (Drawing levels) = ⊥

@@ -7,7 +7,7 @@ use Rattle.can_frame.specs.declared.layout_fault.LayoutFault.TheVariants.{Short,
 use Rattle.sja_texts.specs.declared.command_refusal.CommandRefusal.{CommandRefusal}
 use Rattle.sja_texts.specs.declared.command_refusal.CommandRefusal.TheVariants.{OutOfMemory, NotHexadecimal, NotALine}
 use Rattle.sja_texts.specs.declared.command_refusal.CommandRefusal.TheVariants.{Read, Layout, Line, Notation, Plan, Run}
-use Rattle.sja_texts.specs.declared.command_refusal.CommandRefusal.TheVariants.{Drawing, Sweep}
+use Rattle.sja_texts.specs.declared.command_refusal.CommandRefusal.TheVariants.{Drawing, Place, Strikes, Sweep}
 
 -- the digits spell these bytes
 abbrev pub ReadsAs : List ℕ → List ℕ → Type 0
@@ -32,5 +32,7 @@ RefusesMessage digits (Line fault) = ⊥
 RefusesMessage digits (Notation fault) = ⊥
 RefusesMessage digits (Plan fault) = ⊥
 RefusesMessage digits (Run fault) = ⊥
+RefusesMessage digits (Place number) = ⊥
+RefusesMessage digits Strikes = ⊥
 RefusesMessage digits (Sweep why) = ⊥
 RefusesMessage digits (Drawing levels) = ⊥

@@ -84,6 +84,8 @@ refusal_text (refusal.Line fault) = line_fault_text fault
 refusal_text (refusal.Notation fault) = notation_fault_text fault
 refusal_text (refusal.Plan fault) = plan_fault_text fault
 refusal_text (refusal.Run fault) = run_fault_text fault
+refusal_text (refusal.Place number) = codes "run fault 6 Place " ++ decimal number
+refusal_text refusal.Strikes = codes "run fault 7 Strikes"
 refusal_text (refusal.Sweep why) = sweep_refusal_text why
 refusal_text (refusal.Drawing levels) =
     codes "picture fault 1 TooMany: " ++ (decimal levels ++ codes " levels, which --yes draws")

@@ -35,6 +35,10 @@ pub enum CommandRefusal {
     Plan(PlanFault),
     /// A run has no log.
     Run(RunFault),
+    /// A run has no place of the strike of this number, counted from 1.
+    Place(usize),
+    /// The strikes by place are more than a plan may have.
+    Strikes,
     /// A plan has no sweep, or not with a strike more.
     Sweep(SweepRefusal),
     /// A drawing has more levels than 150,000, and it isn't said that so many are meant: how many it may have.
@@ -66,6 +70,8 @@ impl fmt::Display for CommandRefusal {
             CommandRefusal::Notation(fault) => f.write_str(notation_fault_text(*fault)),
             CommandRefusal::Plan(fault) => write!(f, "{}", PlanFaultText(*fault)),
             CommandRefusal::Run(fault) => f.write_str(run_fault_text(*fault)),
+            CommandRefusal::Place(number) => write!(f, "run fault 6 Place {number}"),
+            CommandRefusal::Strikes => f.write_str("run fault 7 Strikes"),
             CommandRefusal::Sweep(why) => write!(f, "{why}"),
             CommandRefusal::Drawing(levels) => write!(
                 f,

@@ -4,15 +4,15 @@ use super::bits::of_bits;
 use super::contention::{contended, together};
 use super::deeds::of_driver;
 use super::frames::of_frames;
-use super::generated::of_generated;
+use super::generation::of_generated;
 use super::hexadecimal::number;
 use super::levels::level_of;
 use super::lines::of_lines;
 use super::node::Station;
 use super::notation::of_notation;
+use super::row_answers::RowAnswers;
 use super::shown::of_station;
 use super::streaming::{codes, of_reader, segments};
-use super::told::Told;
 use super::wire::Wire;
 use super::words::{config_of, request_of};
 use can_bits::Shift;
@@ -23,7 +23,7 @@ use test_frames::nodes::PLAIN;
 #[derive(Drop)]
 pub struct Bench {
     alloc: Global,
-    told: Told,
+    told: RowAnswers,
     reader: Shift,
     wire: Wire,
     /// The place of the station that a call speaks of.
@@ -35,7 +35,7 @@ impl Bench {
     pub fn new(alloc: Global) -> Bench {
         Bench {
             alloc,
-            told: Told::new(alloc),
+            told: RowAnswers::new(alloc),
             reader: Shift::new(),
             wire: Wire::new(alloc),
             place: 0,

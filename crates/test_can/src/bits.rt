@@ -1,11 +1,11 @@
 //! Calls that are bits of one station alone, which sees given levels or what it drives.
 
-use super::confined::{is_struck, recovers};
+use super::confinement::{is_struck, recovers};
 use super::events::tell;
 use super::hexadecimal::number;
 use super::levels::level_of;
 use super::node::Station;
-use super::told::Told;
+use super::row_answers::RowAnswers;
 use can_bits::Level;
 use can_node::{Counters, Phase};
 
@@ -17,7 +17,7 @@ use can_node::{Counters, Phase};
 /// as `see`, with each phase before these bits and how many it has; `count 0 8`, as `see`, with the error counters
 /// after these bits alone, and how many they last; `pass 1 700`, `see` with nothing said, and `run 700`, `echo` with
 /// nothing said; and `struck 698` and `falls`, of [`is_struck`] and [`recovers`].
-pub fn of_bits(told: &mut Told, station: &mut Station, name: &str, rest: &str) {
+pub fn of_bits(told: &mut RowAnswers, station: &mut Station, name: &str, rest: &str) {
     match name {
         "flip" => {
             let level = station.drives().opposite();
@@ -40,7 +40,7 @@ fn level_and_bits(rest: &str) -> Option<(Level, u32)> {
 }
 
 /// So many bits with what the station drives.
-fn own(told: &mut Told, station: &mut Station, name: &str, bits: u32) {
+fn own(told: &mut RowAnswers, station: &mut Station, name: &str, bits: u32) {
     match name {
         "echo" => echo(told, station, bits),
         "struck" => struck(told, station, bits),
@@ -54,7 +54,7 @@ fn own(told: &mut Told, station: &mut Station, name: &str, bits: u32) {
 }
 
 /// So many bits with a given level.
-fn given(told: &mut Told, station: &mut Station, name: &str, level: Level, bits: u32) {
+fn given(told: &mut RowAnswers, station: &mut Station, name: &str, level: Level, bits: u32) {
     match name {
         "see" => see(told, station, level, bits),
         "phases" => phases(told, station, level, bits),
@@ -69,14 +69,14 @@ fn given(told: &mut Told, station: &mut Station, name: &str, level: Level, bits:
 }
 
 /// A bit with this level; says what it brings.
-fn one(told: &mut Told, station: &mut Station, level: Level) {
+fn one(told: &mut RowAnswers, station: &mut Station, level: Level) {
     let bit = station.bit;
     let events = station.sees(level);
     tell(told, bit, &events);
 }
 
 /// A bit with this level; says where the station drives dominant, and what the bit brings.
-fn seen(told: &mut Told, station: &mut Station, level: Level) {
+fn seen(told: &mut RowAnswers, station: &mut Station, level: Level) {
     if station.drives() == Level::Dominant {
         told.at(station.bit, "drives");
     }
@@ -84,7 +84,7 @@ fn seen(told: &mut Told, station: &mut Station, level: Level) {
 }
 
 /// So many bits with this level.
-fn see(told: &mut Told, station: &mut Station, level: Level, bits: u32) {
+fn see(told: &mut RowAnswers, station: &mut Station, level: Level, bits: u32) {
     let words = told.words();
     for _ in 0..bits {
         seen(told, station, level);
@@ -93,7 +93,7 @@ fn see(told: &mut Told, station: &mut Station, level: Level, bits: u32) {
 }
 
 /// So many bits with what the station drives.
-fn echo(told: &mut Told, station: &mut Station, bits: u32) {
+fn echo(told: &mut RowAnswers, station: &mut Station, bits: u32) {
     let words = told.words();
     for _ in 0..bits {
         let level = station.drives();
@@ -103,7 +103,7 @@ fn echo(told: &mut Told, station: &mut Station, bits: u32) {
 }
 
 /// These levels, dominant where the station drives dominant.
-fn hear(told: &mut Told, station: &mut Station, levels: &str) {
+fn hear(told: &mut RowAnswers, station: &mut Station, levels: &str) {
     let words = told.words();
     for digit in levels.as_bytes() {
         let own = station.drives();
@@ -114,7 +114,7 @@ fn hear(told: &mut Told, station: &mut Station, levels: &str) {
 }
 
 /// A bit of a wire in which the station drives this level.
-fn heard(told: &mut Told, station: &mut Station, own: Level, wire: Level) {
+fn heard(told: &mut RowAnswers, station: &mut Station, own: Level, wire: Level) {
     let bit = station.bit;
     if own == Level::Dominant {
         told.at(bit, "drives");
@@ -127,7 +127,7 @@ fn heard(told: &mut Told, station: &mut Station, own: Level, wire: Level) {
 }
 
 /// So many bits with this level; says each phase before them, and how many bits have it.
-fn phases(told: &mut Told, station: &mut Station, level: Level, bits: u32) {
+fn phases(told: &mut RowAnswers, station: &mut Station, level: Level, bits: u32) {
     let mut now = station.phase();
     let mut count = 0u32;
     for _ in 0..bits {
@@ -144,13 +144,13 @@ fn phases(told: &mut Told, station: &mut Station, level: Level, bits: u32) {
 }
 
 /// Says a phase, and how many bits have it.
-fn tell_phase(told: &mut Told, phase: Phase, count: u32) {
+fn tell_phase(told: &mut RowAnswers, phase: Phase, count: u32) {
     told.name(phase);
     told.show(count);
 }
 
 /// So many bits with this level; says the error counters after them, and how many bits they last.
-fn count(told: &mut Told, station: &mut Station, level: Level, bits: u32) {
+fn count(told: &mut RowAnswers, station: &mut Station, level: Level, bits: u32) {
     let mut now = station.counters();
     let mut count = 0u32;
     for _ in 0..bits {
@@ -169,7 +169,7 @@ fn count(told: &mut Told, station: &mut Station, level: Level, bits: u32) {
 }
 
 /// Says the error counters, that of the transmitter first.
-pub fn tell_counters(told: &mut Told, counters: Counters) {
+pub fn tell_counters(told: &mut RowAnswers, counters: Counters) {
     told.show(counters.tec);
     told.join("/");
     told.join_number(u32::from(counters.rec));
@@ -177,7 +177,7 @@ pub fn tell_counters(told: &mut Told, counters: Counters) {
 
 /// So many bits with what the station drives, or the other level where they are struck; says of how many struck bits it
 /// was idle, drove dominant and had a fault, and else what they bring.
-fn struck(told: &mut Told, station: &mut Station, bits: u32) {
+fn struck(told: &mut RowAnswers, station: &mut Station, bits: u32) {
     let mut starts = 0u32;
     for bit in 0..bits {
         let own = station.drives();

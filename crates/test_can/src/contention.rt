@@ -2,7 +2,7 @@
 
 use super::hexadecimal::frame_of;
 use super::node::Station;
-use super::told::Told;
+use super::row_answers::RowAnswers;
 use super::wire::Wire;
 use can_frame::Frame;
 use can_node::contend;
@@ -10,7 +10,7 @@ use std::alloc::Global;
 
 /// Says where frames that start together lose arbitration: `contend 002460 402470`, the place code of each by
 /// comparison, or `-` where its transmitter goes on.
-pub fn contended(alloc: Global, told: &mut Told, rest: &str) {
+pub fn contended(alloc: Global, told: &mut RowAnswers, rest: &str) {
     let Some(frames) = frames_of(alloc, rest) else {
         return told.unread();
     };
@@ -37,7 +37,7 @@ fn frames_of(alloc: Global, messages: &str) -> Option<Vec<Frame>> {
 }
 
 /// Goes on with a place code.
-fn join_code(told: &mut Told, code: Option<u8>) {
+fn join_code(told: &mut RowAnswers, code: Option<u8>) {
     match code {
         Some(code) => told.join_number(u32::from(code)),
         None => told.join("-"),
@@ -47,7 +47,7 @@ fn join_code(told: &mut Told, code: Option<u8>) {
 /// Says where frames that start together lose arbitration, by comparison and on a wire: `together 002460 402470`, of
 /// each the place codes by comparison, of its first loss and of its last one; and behind them whether each was sent
 /// behind the one before it, and each station received the frames of all others.
-pub fn together(alloc: Global, told: &mut Told, rest: &str) {
+pub fn together(alloc: Global, told: &mut RowAnswers, rest: &str) {
     let Some(frames) = frames_of(alloc, rest) else {
         return told.unread();
     };
@@ -65,7 +65,7 @@ pub fn together(alloc: Global, told: &mut Told, rest: &str) {
 }
 
 /// Says the place codes of a station's losses, behind that by comparison.
-fn losses(told: &mut Told, station: &Station, place: Option<u8>) {
+fn losses(told: &mut RowAnswers, station: &Station, place: Option<u8>) {
     told.say("");
     join_code(told, place);
     told.join("/");

@@ -1,14 +1,14 @@
 //! Calls that a driver makes of a station.
 
 use super::node::Station;
-use super::told::Told;
+use super::row_answers::RowAnswers;
 use super::words::{config_of, request_of};
 
 /// Does a call of a driver.
 ///
 /// `give 000000`, a request, and whether the node takes it or gives it `back`; `abort`, and what it comes to; `stop`;
 /// `start tec=100`, where it is in reset; and `restart tec=100`, a stop and a start.
-pub fn of_driver(told: &mut Told, station: &mut Station, name: &str, rest: &str) {
+pub fn of_driver(told: &mut RowAnswers, station: &mut Station, name: &str, rest: &str) {
     match name {
         "give" => told.say(given(station, rest)),
         "abort" => told.name(station.abort()),

@@ -1,6 +1,6 @@
 //! What a bit brings, in words.
 
-use super::told::Told;
+use super::row_answers::RowAnswers;
 use can_node::{BitEvents, Outcome};
 
 /// Whether a bit brought nothing.
@@ -15,7 +15,7 @@ pub fn is_quiet(events: &BitEvents) -> bool {
 
 /// Says what a bit brought, each event behind the bit's number: `received`, `sent` or `failed`, `lost/10` with the
 /// place code, `Ack/AckSlot/sending` with the kind of a fault, its segment and the node's part, `off` and `recovered`.
-pub fn tell(told: &mut Told, bit: u32, events: &BitEvents) {
+pub fn tell(told: &mut RowAnswers, bit: u32, events: &BitEvents) {
     if !is_quiet(events) {
         tell_frames(told, bit, events);
         tell_faults(told, bit, events);
@@ -23,7 +23,7 @@ pub fn tell(told: &mut Told, bit: u32, events: &BitEvents) {
 }
 
 /// Says which frames a bit brought to an end.
-fn tell_frames(told: &mut Told, bit: u32, events: &BitEvents) {
+fn tell_frames(told: &mut RowAnswers, bit: u32, events: &BitEvents) {
     if events.received.is_some() {
         told.at(bit, "received");
     }
@@ -39,7 +39,7 @@ fn tell_frames(told: &mut Told, bit: u32, events: &BitEvents) {
 }
 
 /// Says which faults a bit brought.
-fn tell_faults(told: &mut Told, bit: u32, events: &BitEvents) {
+fn tell_faults(told: &mut RowAnswers, bit: u32, events: &BitEvents) {
     if let Some((cause, segment)) = events.fault {
         told.at(bit, "");
         told.join_name(cause);

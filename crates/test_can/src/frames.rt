@@ -1,7 +1,7 @@
 //! Calls of frames, of their messages, and of filters.
 
 use super::hexadecimal::{bytes_of, message_of, number};
-use super::told::Told;
+use super::row_answers::RowAnswers;
 use can_frame::{Filter, Frame, FrameFault, Message};
 
 /// Does a call of frames.
@@ -11,7 +11,7 @@ use can_frame::{Filter, Frame, FrameFault, Message};
 /// `byte 0224601122 3`, one of them; `default`, the message that is made without bytes; `single 246f1122 00000000
 /// 0224601122`, whether a single filter with this code and this mask passes the frame of a message, and `dual`, whether
 /// a dual one does.
-pub fn of_frames(told: &mut Told, name: &str, rest: &str) {
+pub fn of_frames(told: &mut RowAnswers, name: &str, rest: &str) {
     match name {
         "frame" => frame(told, rest),
         "message" => message(told, rest),
@@ -25,7 +25,7 @@ pub fn of_frames(told: &mut Told, name: &str, rest: &str) {
 }
 
 /// Says the message of the frame of these values, or what is wrong with them.
-fn frame(told: &mut Told, rest: &str) {
+fn frame(told: &mut RowAnswers, rest: &str) {
     match frame_of_values(rest) {
         Some(Ok(frame)) => match message_both_ways(&frame) {
             Some(message) => told.message(&message),
@@ -60,7 +60,7 @@ fn message_both_ways(frame: &Frame) -> Option<Message> {
 }
 
 /// Says the values that the frame of a message shows, or why the bytes are no message.
-fn message(told: &mut Told, rest: &str) {
+fn message(told: &mut RowAnswers, rest: &str) {
     let Some(bytes) = bytes_of(rest) else {
         return told.unread();
     };
@@ -71,7 +71,7 @@ fn message(told: &mut Told, rest: &str) {
 }
 
 /// Says the values that a frame shows.
-fn values(told: &mut Told, frame: &Frame) {
+fn values(told: &mut RowAnswers, frame: &Frame) {
     told.say(if frame.ext() { "ext" } else { "std" });
     told.show_id(frame.id());
     told.say(if frame.rtr() { "rtr" } else { "data" });
@@ -83,7 +83,7 @@ fn values(told: &mut Told, frame: &Frame) {
 }
 
 /// Says how many bytes a message has.
-fn length(told: &mut Told, rest: &str) {
+fn length(told: &mut RowAnswers, rest: &str) {
     match message_of(rest) {
         Some(message) => told.show(message.len()),
         None => told.unread(),
@@ -91,7 +91,7 @@ fn length(told: &mut Told, rest: &str) {
 }
 
 /// Says a byte of a message.
-fn byte(told: &mut Told, rest: &str) {
+fn byte(told: &mut RowAnswers, rest: &str) {
     match byte_at(rest) {
         Some(Some(byte)) => {
             told.say("");
@@ -134,7 +134,7 @@ fn four_of(word: &str) -> Option<[u8; 4]> {
 }
 
 /// Says whether a filter passes a frame.
-fn passed(told: &mut Told, passes: Option<bool>) {
+fn passed(told: &mut RowAnswers, passes: Option<bool>) {
     match passes {
         Some(so) => told.said(so),
         None => told.unread(),

@@ -2,8 +2,8 @@
 
 use super::hexadecimal::{frame_of, number};
 use super::levels::{digit, level_of, levels_of, line_of_message};
-use super::stuffed::received_line;
-use super::told::Told;
+use super::row_answers::RowAnswers;
+use super::stuffing::received_line;
 use can_bits::{Level, LineFault, SentBody, Shift, crc_of, read_line};
 use can_frame::{Frame, Message};
 use std::alloc::{AllocError, Global};
@@ -15,7 +15,7 @@ use std::alloc::{AllocError, Global};
 /// line of a frame reads as before and after it is acknowledged; `body 0110`, what the acknowledged line of a body
 /// reads as; `fronts 0110`, how many shorter beginnings of levels are refused as truncated, and what all of them read
 /// as; `says 000000`, whether a reader says each level of a line before it comes; and `levels`, of [`Level`].
-pub fn of_lines(alloc: Global, told: &mut Told, name: &str, rest: &str) {
+pub fn of_lines(alloc: Global, told: &mut RowAnswers, name: &str, rest: &str) {
     match name {
         "line" => line(alloc, told, rest, None),
         "front" => match rest.split_once(' ') {
@@ -34,7 +34,7 @@ pub fn of_lines(alloc: Global, told: &mut Told, name: &str, rest: &str) {
 }
 
 /// Says the levels of the line of the frame of a message, or the first of them.
-fn line(alloc: Global, told: &mut Told, message: &str, count: Option<u32>) {
+fn line(alloc: Global, told: &mut RowAnswers, message: &str, count: Option<u32>) {
     let Some(line) = line_of_message(alloc, message) else {
         return told.unread();
     };
@@ -49,7 +49,7 @@ fn line(alloc: Global, told: &mut Told, message: &str, count: Option<u32>) {
 }
 
 /// Says the CRC sequence of levels.
-fn crc(alloc: Global, told: &mut Told, text: &str) {
+fn crc(alloc: Global, told: &mut RowAnswers, text: &str) {
     let Ok(levels) = levels_of(alloc, text) else {
         return told.refuse();
     };
@@ -58,7 +58,7 @@ fn crc(alloc: Global, told: &mut Told, text: &str) {
 }
 
 /// Says what levels read as.
-fn reads(alloc: Global, told: &mut Told, text: &str) {
+fn reads(alloc: Global, told: &mut RowAnswers, text: &str) {
     let Ok(levels) = levels_of(alloc, text) else {
         return told.refuse();
     };
@@ -66,7 +66,7 @@ fn reads(alloc: Global, told: &mut Told, text: &str) {
 }
 
 /// Says the message of a frame that was read, or what is wrong with the line.
-fn tell(told: &mut Told, read: Result<Frame, LineFault>) {
+fn tell(told: &mut RowAnswers, read: Result<Frame, LineFault>) {
     match read {
         Ok(frame) => told.message(&Message::of(&frame)),
         Err(fault) => told.name(fault),
@@ -74,7 +74,7 @@ fn tell(told: &mut Told, read: Result<Frame, LineFault>) {
 }
 
 /// Says what the line of a frame reads as, and what with its ACK slot, the ninth level from the end, dominant.
-fn again(alloc: Global, told: &mut Told, message: &str) {
+fn again(alloc: Global, told: &mut RowAnswers, message: &str) {
     let Some(mut line) = line_of_message(alloc, message) else {
         return told.unread();
     };
@@ -87,7 +87,7 @@ fn again(alloc: Global, told: &mut Told, message: &str) {
 }
 
 /// Says what the acknowledged line of a body reads as.
-fn body(alloc: Global, told: &mut Told, text: &str) {
+fn body(alloc: Global, told: &mut RowAnswers, text: &str) {
     match line_of_body(alloc, text) {
         Ok(line) => tell(told, read_line(line.as_slice())),
         Err(_) => told.refuse(),
@@ -100,7 +100,7 @@ fn line_of_body(alloc: Global, text: &str) -> Result<Vec<Level>, AllocError> {
 }
 
 /// Says how many shorter beginnings of levels are truncated, and what all of them read as.
-fn fronts(alloc: Global, told: &mut Told, text: &str) {
+fn fronts(alloc: Global, told: &mut RowAnswers, text: &str) {
     let Ok(levels) = levels_of(alloc, text) else {
         return told.refuse();
     };
@@ -122,7 +122,7 @@ fn truncated_in(levels: &[Level]) -> u32 {
 
 /// Says whether a reader of one level at a time says each level of a frame's line before it comes, also past a dominant
 /// ACK slot.
-fn says(alloc: Global, told: &mut Told, message: &str) {
+fn says(alloc: Global, told: &mut RowAnswers, message: &str) {
     match says_each(alloc, message) {
         Some(so) => told.said(so),
         None => told.unread(),
@@ -146,7 +146,7 @@ fn says_each(alloc: Global, message: &str) -> Option<bool> {
 
 /// Says the level that is made without a digit, that of the digit 1, the digit of a recessive level, and the level that
 /// a dominant one isn't.
-fn levels(told: &mut Told) {
+fn levels(told: &mut RowAnswers) {
     told.name(Level::default());
     told.name(Level::of(true));
     told.show(Level::Recessive.digit());

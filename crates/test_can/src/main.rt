@@ -10,12 +10,12 @@
 mod agreement;
 mod bench;
 mod bits;
-mod confined;
+mod confinement;
 mod contention;
 mod deeds;
 mod events;
 mod frames;
-mod generated;
+mod generation;
 mod hexadecimal;
 mod levels;
 mod lines;
@@ -24,11 +24,11 @@ mod notation;
 mod plain;
 mod quick;
 mod random;
+mod row_answers;
 mod sets;
 mod shown;
 mod streaming;
-mod stuffed;
-mod told;
+mod stuffing;
 mod wire;
 mod words;
 
@@ -36,14 +36,14 @@ use bench::Bench;
 use std::alloc::Global;
 use std::io;
 use std::process::ExitCode;
-use test_rows::{Given, Rows, answer_rows};
+use test_rows::{GivenLines, Rows, answer_rows};
 
 /// What calls of the crates below the controller answer.
 struct Calls;
 
 impl Rows for Calls {
     /// What the calls of a row answer, each answer behind a blank.
-    fn answered(&self, alloc: Global, _given: &Given, row: &str) -> io::Result<String> {
+    fn answered(&self, alloc: Global, _given: &GivenLines, row: &str) -> io::Result<String> {
         let mut bench = Bench::new(alloc);
         for call in row.split("; ") {
             bench.does(call);

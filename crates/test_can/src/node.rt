@@ -2,7 +2,7 @@
 
 use can_bits::Level;
 use can_frame::Frame;
-use can_node::{Aborted, BitEvents, Config, Counters, Node, Outcome, Phase, Request};
+use can_node::{AbortOutcome, BitEvents, Config, Counters, Node, Outcome, Phase, Request};
 use test_frames::nodes::PLAIN;
 
 /// A node on a wire, and what it was told so far. Each call is that of the node; what the node's call promises stays
@@ -95,7 +95,7 @@ impl Station {
     }
 
     /// What an order to abort comes to.
-    pub fn abort(&mut self) -> Aborted {
+    pub fn abort(&mut self) -> AbortOutcome {
         self.node.abort()
     }
 

@@ -3,7 +3,7 @@
 use super::bits::tell_counters;
 use super::levels::digit;
 use super::node::Station;
-use super::told::Told;
+use super::row_answers::RowAnswers;
 use can_frame::Message;
 
 /// Says what a station shows.
@@ -12,7 +12,7 @@ use can_frame::Message;
 /// whether bus-off stands. Of what it was told: `got`, how many frames it received, and the message of the last;
 /// `sent`, the bit in which its own was; `failed`, how many of its requests did; `lost`, where it lost arbitration
 /// first and last, the bit and the place code.
-pub fn of_station(told: &mut Told, station: &Station, name: &str) {
+pub fn of_station(told: &mut RowAnswers, station: &Station, name: &str) {
     match name {
         "counts" => tell_counters(told, station.counters()),
         "state" => told.name(station.counters().state()),
@@ -32,7 +32,7 @@ pub fn of_station(told: &mut Told, station: &Station, name: &str) {
 }
 
 /// Says how many frames a station received, and the message of the last one.
-fn got(told: &mut Told, station: &Station) {
+fn got(told: &mut RowAnswers, station: &Station) {
     told.show(station.received);
     if let Some(frame) = &station.last {
         told.message(&Message::of(frame));
@@ -40,7 +40,7 @@ fn got(told: &mut Told, station: &Station) {
 }
 
 /// Says where arbitration was lost.
-fn lost(told: &mut Told, lost: Option<(u32, u8)>) {
+fn lost(told: &mut RowAnswers, lost: Option<(u32, u8)>) {
     match lost {
         Some((bit, code)) => {
             told.show(bit);

@@ -2,7 +2,7 @@
 
 use super::hexadecimal::number;
 use super::levels::line_of_message;
-use super::told::Told;
+use super::row_answers::RowAnswers;
 use can_bits::{Level, Segment, Shift, ShiftEvent};
 use can_frame::Message;
 use std::alloc::Global;
@@ -15,7 +15,7 @@ use test_frames::segments::SEGMENTS;
 /// 0110`, levels of which the faults alone are told; `untold 0110`, before how many of these levels it doesn't say
 /// whether the CRC sequence is right; `matches`, whether it is; `due`, whether the ACK slot is next and to be answered;
 /// `over`, whether a whole line has come.
-pub fn of_reader(told: &mut Told, shift: &mut Shift, name: &str, rest: &str) {
+pub fn of_reader(told: &mut RowAnswers, shift: &mut Shift, name: &str, rest: &str) {
     match name {
         "stream" => stream(told, shift, rest),
         "take" => take(told, shift, rest),
@@ -31,7 +31,7 @@ pub fn of_reader(told: &mut Told, shift: &mut Shift, name: &str, rest: &str) {
 }
 
 /// Says what the reader tells of each level.
-fn stream(told: &mut Told, shift: &mut Shift, levels: &str) {
+fn stream(told: &mut RowAnswers, shift: &mut Shift, levels: &str) {
     let mut segment = None;
     for digit in levels.as_bytes() {
         let level = Level::of(*digit == b'1');
@@ -57,7 +57,7 @@ fn letter(level: Level, stuff: bool) -> &'static str {
 }
 
 /// Goes on with the frame that a level brought, and with what is wrong with it.
-fn brought(told: &mut Told, event: &ShiftEvent) {
+fn brought(told: &mut RowAnswers, event: &ShiftEvent) {
     if let Some(frame) = &event.frame {
         told.join("[");
         told.join_bytes(Message::of(frame).bytes());
@@ -71,7 +71,7 @@ fn brought(told: &mut Told, event: &ShiftEvent) {
 }
 
 /// Takes levels, and says which of them is wrong.
-fn take(told: &mut Told, shift: &mut Shift, levels: &str) {
+fn take(told: &mut RowAnswers, shift: &mut Shift, levels: &str) {
     for digit in levels.as_bytes() {
         if let Some(fault) = shift.step(Level::of(*digit == b'1')).fault {
             told.name(fault);
@@ -93,7 +93,7 @@ fn untold(shift: &mut Shift, levels: &str) -> u32 {
 
 /// Says the place codes of a message's line: `codes 000000 0 1`, behind so many levels, and whether the stuff bit that
 /// comes is an early one, within the identifier.
-pub fn codes(alloc: Global, told: &mut Told, rest: &str) {
+pub fn codes(alloc: Global, told: &mut RowAnswers, rest: &str) {
     let (message, places) = rest.split_once(' ').unwrap_or((rest, ""));
     let Some(line) = line_of_message(alloc, message) else {
         return told.unread();
@@ -107,7 +107,7 @@ pub fn codes(alloc: Global, told: &mut Told, rest: &str) {
 }
 
 /// Says the place code behind so many levels.
-fn code(told: &mut Told, line: &[Level], count: usize) {
+fn code(told: &mut RowAnswers, line: &[Level], count: usize) {
     let mut shift = Shift::new();
     for level in line.iter().take(count) {
         shift.step(*level);
@@ -119,7 +119,7 @@ fn code(told: &mut Told, line: &[Level], count: usize) {
 }
 
 /// Says the codes of segments: `segment Ide Data`.
-pub fn segments(told: &mut Told, names: &str) {
+pub fn segments(told: &mut RowAnswers, names: &str) {
     for name in names.split(' ') {
         match segment_of(name) {
             Some(segment) => {

@@ -1,21 +1,21 @@
 //! A bus and its typed drivers: [`bench`] says which file has which calls.
 
-mod begun;
 mod bench;
+mod bus_start;
 mod buses;
 mod drivers;
 mod hand;
 mod late;
-mod lawless;
 mod lawless_calls;
+mod lawless_ends;
 mod left;
 mod logs;
 mod many;
 mod places;
 mod rig;
+mod row_answers;
 mod scripts;
-mod told;
-mod wired;
+mod wired_bus;
 mod words;
 
 use bench::Bench;

@@ -6,14 +6,14 @@
 mod answers;
 mod calls;
 mod link;
-mod linked;
+mod queue_link;
 mod rings;
 mod words;
 mod worlds;
 
 use calls::does;
 use link::Link;
-use linked::Linked;
+use queue_link::QueueLink;
 use rings::Rings;
 use std::alloc::{AllocError, Global};
 use std::io;
@@ -23,7 +23,7 @@ use worlds::allowed;
 pub fn answered(alloc: Global, row: &str) -> io::Result<String> {
     let (kind, calls) = row.split_once("; ").unwrap_or((row, ""));
     match kind {
-        "queues" => Ok(told_of(alloc, Linked::new(alloc)?, calls)?),
+        "queues" => Ok(told_of(alloc, QueueLink::new(alloc)?, calls)?),
         "rings" => Ok(told_of(alloc, Rings::new(alloc)?, calls)?),
         "world" => Ok(allowed(alloc, calls)?),
         _ => Ok(String::from_str(alloc, " ?")?),

@@ -17,14 +17,14 @@ mod sessions;
 use std::alloc::Global;
 use std::io;
 use std::process::ExitCode;
-use test_rows::{Given, Rows, answer_rows};
+use test_rows::{GivenLines, Rows, answer_rows};
 
 /// What the calls of rows answer.
 struct ControllerRows;
 
 impl Rows for ControllerRows {
     /// What the calls of a row answer, each behind a blank, where a line above it names what they are of.
-    fn answered(&self, alloc: Global, given: &Given, row: &str) -> io::Result<String> {
+    fn answered(&self, alloc: Global, given: &GivenLines, row: &str) -> io::Result<String> {
         match given.kind() {
             "port" => registers::answered(alloc, row),
             "link" => links::answered(alloc, row),

@@ -8,8 +8,8 @@ mod addresses;
 mod answer;
 mod bench;
 mod calls;
-mod ended;
 mod many;
+mod session_ends;
 mod struck;
 
 use bench::Bench;

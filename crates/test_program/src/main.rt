@@ -19,7 +19,7 @@ use std::io;
 use std::process::ExitCode;
 use std::sync::Wait;
 use std::thread::Threads;
-use test_rows::{Given, Rows, answer_rows};
+use test_rows::{GivenLines, Rows, answer_rows};
 
 /// What comes of words and of plans, with a handle for the program's threads.
 #[derive(Drop)]
@@ -29,7 +29,7 @@ struct ProductRows<'a, T> {
 
 impl<T: Threads + Wait + Sync> Rows for ProductRows<'_, T> {
     /// What comes of a row; nothing where no line above it names what.
-    fn answered(&self, alloc: Global, given: &Given, row: &str) -> io::Result<String> {
+    fn answered(&self, alloc: Global, given: &GivenLines, row: &str) -> io::Result<String> {
         match given.kind() {
             "program" => program::answered(self.rt, alloc, given, row),
             kind => plans::answered(alloc, kind, given, row),

@@ -6,9 +6,9 @@
 //! or, where error frames are asked for too, with `errors `.
 
 mod answer;
-mod asked;
 mod kind;
 mod reading;
+mod row_options;
 mod run_text;
 mod said;
 mod writing;
@@ -17,10 +17,15 @@ use answer::answer;
 use kind::Kind;
 use std::alloc::Global;
 use std::io;
-use test_rows::Given;
+use test_rows::GivenLines;
 
 /// What is made of the row's document; nothing where this names no kind.
-pub(crate) fn answered(alloc: Global, kind: &str, given: &Given, row: &str) -> io::Result<String> {
+pub(crate) fn answered(
+    alloc: Global,
+    kind: &str,
+    given: &GivenLines,
+    row: &str,
+) -> io::Result<String> {
     match Kind::named(kind) {
         Some(kind) => answer(alloc, kind, given, row),
         None => Ok(String::new(alloc)),

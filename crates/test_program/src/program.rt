@@ -6,17 +6,17 @@
 //! `<0 .>` in a document's place is an empty one.
 
 mod answer;
-mod asked;
 mod beginnings;
-mod fed;
+mod fed_input;
 mod groups;
 mod narrow;
 mod parts;
+mod row_questions;
 mod shelf;
 mod talks;
-mod tried;
+mod trial;
 mod waves;
 mod ways;
 mod writes;
 
-pub(crate) use asked::answered;
+pub(crate) use row_questions::answered;

@@ -8,14 +8,14 @@
 
 mod bits;
 mod documents;
-mod given;
+mod given_lines;
 mod line;
 mod marks;
 mod rows;
 
 pub use bits::Bits;
 pub use documents::document;
-pub use given::Given;
+pub use given_lines::GivenLines;
 pub use line::Line;
 pub use marks::marked;
 pub use rows::{Rows, answer_rows};

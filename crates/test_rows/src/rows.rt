@@ -1,6 +1,6 @@
 //! [`Rows`]: what a program answers to rows, and the input with these answers.
 
-use super::given::Given;
+use super::given_lines::GivenLines;
 use std::alloc::Global;
 use std::io;
 use std::process::ExitCode;
@@ -10,7 +10,7 @@ pub trait Rows {
     /// What a row answers, as the lines above it give it, without the end of its last line.
     ///
     /// Errors: memory was refused.
-    fn answered(&self, alloc: Global, given: &Given, row: &str) -> io::Result<String>;
+    fn answered(&self, alloc: Global, given: &GivenLines, row: &str) -> io::Result<String>;
 }
 
 /// Prints each line of the input, and behind a row this text and what the row answers.
@@ -26,7 +26,7 @@ pub fn answer_rows<R: Rows>(rt: &HostRuntime, behind: &str, rows: &R) -> ExitCod
 
 /// Prints each line of the input, and behind a row the text and what the row answers.
 fn rows_are_told<R: Rows>(rt: &HostRuntime, behind: &str, rows: &R) -> io::Result<()> {
-    let mut given = Given::nothing(rt.alloc());
+    let mut given = GivenLines::nothing(rt.alloc());
     for line in rt.lines(rt.alloc()) {
         let line = line?;
         if given.takes(line.as_str())? {

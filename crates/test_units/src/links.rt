@@ -4,4 +4,4 @@
 pub(crate) mod given;
 mod journals;
 mod numbers;
-mod refused;
+mod refusals;

@@ -1,7 +1,7 @@
 //! Plans run over links of two rings, with a turn loop of the tests' own: bus, drivers and ledgers are those of links
 //! in one thread, unchanged.
 
+mod message_fates;
 mod ring_run;
 mod rows;
-mod told;
 mod worker;

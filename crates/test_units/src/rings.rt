@@ -3,5 +3,5 @@
 
 mod given;
 mod gone;
-mod refused;
+mod refusals;
 mod threads;

@@ -1,23 +1,23 @@
 //! Words in rows of text, for the tests over controllers: bytes, addresses, names of things, messages, steps
-//! ([`step_of`]), what they answer ([`Told`]), and a bit of the bus ([`turn_of`]).
+//! ([`step_of`]), what they answer ([`AnswerText`]), and a bit of the bus ([`turn_of`]).
 //!
 //! Beside them stand a link of the tests' own, which gives an item back ([`Returning`]), and whether ends are those of
 //! a driver ([`are_links_of_node`]).
 #![tactic(auto)]
 
+mod answer_text;
 mod ready;
 mod returning;
 mod step;
-mod told;
 mod turn;
 
+pub use answer_text::{AnswerText, Bytes};
 pub use ready::are_links_of_node;
 pub use returning::Returning;
 use sja_regs::address::{
     ACR0, ALC, AMR0, BUFFER, CMR, ECC, EWLR, IER, IR, MOD, RMC, RXERR, SR, TXERR,
 };
 pub use step::{message_of, step_of};
-pub use told::{Bytes, Told};
 pub use turn::turn_of;
 
 /// The names of registers, with their addresses (SJA1000 data sheet, 6.4.1, address allocation).

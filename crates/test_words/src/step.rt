@@ -5,7 +5,7 @@ use can_frame::Message;
 use sja_script::Step;
 
 /// The step of these words: `start`, `stop`, `window`, `release`, `sent`, `interrupt`, `read SR`, `write IER 01`,
-/// `load 00 24 60`, `command 01` or `await 2`; none where they are none.
+/// `load 00 24 60`, `command 01`, `await 2` or `at 500`; none where they are none.
 pub fn step_of(words: &[&str]) -> Option<Step> {
     match words {
         [name] => of_one_word(name),
@@ -13,6 +13,7 @@ pub fn step_of(words: &[&str]) -> Option<Step> {
         ["write", at, value] => Some(Step::Write(address(at)?, byte(value)?)),
         ["command", value] => Some(Step::Command(byte(value)?)),
         ["await", count] => Some(Step::Await(byte(count)?)),
+        ["at", bits] => Some(Step::At(bits.parse::<u32>().ok()?)),
         ["load", words @ ..] => Some(Step::Load(message_of(words)?)),
         _ => None,
     }

@@ -1,4 +1,4 @@
--- The machine values of a `Made`: what is owned tells them, and is made of its parts.
+-- The machine values of a `NewHandle`: what is owned tells them, and is made of its parts.
 use Rattle.std.proofs.Common.{◌≡◌, List, [], ◌∷◌, ◌++◌, refl, subst, ◌∙◌, lit<}
 use mathlib.Core.Bool.{true, ◌&&◌}
 use lib.Dec.{T}
@@ -20,9 +20,9 @@ use Rattle.sja_c.proofs.OwnedParts.LooseParts.{both, both_tt}
 use Rattle.sja_c.proofs.answer.SjaAnswer.TheLaws as laws
 use Rattle.sja_c.specs.Handles.{is_handle}
 use Rattle.sja_c.specs.contracts.answer.SjaAnswer as answers
-use Rattle.sja_c.specs.contracts.made.Made as made
+use Rattle.sja_c.specs.contracts.new_handle.NewHandle as made
 use Rattle.sja_c.specs.declared.answer.SjaAnswer.{SjaAnswer}
-use Rattle.sja_c.specs.declared.made.Made.{Made}
+use Rattle.sja_c.specs.declared.new_handle.NewHandle.{NewHandle}
 
 -- the one machine value of an answer
 abbrev pub word : SjaAnswer → Val
@@ -39,8 +39,8 @@ made_good p r fits =
     (both_tt _ (has_ty (layout answers.the_row) (word r)) (ptr_good p).0 fits.0, ((ptr_good p).1, (fits.1, tt)))
 
 module _ {M : Type 1} {𝓤 : Ura M} {𝓛 : Logic 𝓤} {K : Type 0} {Γ : List (Item 𝓤)} {G : Goal 𝓤 𝓛.H} where
-  -- a `Made` is what lies at its handle, and an answer
-  pub made_in : K → (x : Made)
+  -- a `NewHandle` is what lies at its handle, and an answer
+  pub made_in : K → (x : NewHandle)
       → Step K 𝓛 (‵ (made.the_row.own_val x (both (ptr_val x.at) (word x.answer) ∷ [])) ∷ Γ) G
       (‵ (is_handle x.at x.held) ∷ ‵ (answers.the_row.own_val x.answer (word x.answer ∷ [])) ∷ Γ) G
   made_in t x = step (λ s. let v : Val = both (ptr_val x.at) (word x.answer) in
@@ -52,7 +52,7 @@ module _ {M : Type 1} {𝓤 : Ura M} {𝓛 : Logic 𝓤} {K : Type 0} {Γ : List
       (ptr_val x.at ∷ [], (word x.answer ∷ [], tt)) $
       fjoin t $ s)
 
-  pub made_out : K → (x : Made) (vs : List Val)
+  pub made_out : K → (x : NewHandle) (vs : List Val)
       → (vs ≡ both (ptr_val x.at) (word x.answer) ∷ [] → Is answers.the_row x.answer (word x.answer ∷ [])
       → Seq K 𝓛 (‵ (is_handle x.at x.held) ∷ ‵ (answers.the_row.own_val x.answer (word x.answer ∷ [])) ∷ Γ) G)
       → Seq K 𝓛 (‵ (made.the_row.own_val x vs) ∷ Γ) G

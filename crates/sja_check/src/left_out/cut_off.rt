@@ -6,7 +6,7 @@ use super::super::document::Document;
 use super::super::kind::Kind;
 use super::super::outline::Spot;
 use super::super::page::{Page, Piece};
-use super::undone::turns_for;
+use super::undone_steps::turns_for;
 use sja_log::{End, RunLog};
 use sja_plan::{Plan, Turn};
 use sja_script::Step;
@@ -69,7 +69,7 @@ fn cut_turn(plan: &Plan, log: &RunLog) -> Option<usize> {
 /// Whether one of the first so many steps, or the one behind them, waits for something.
 fn waits(steps: &[Step], done: usize) -> bool {
     for step in steps.get(..done.saturating_add(1)).unwrap_or(steps) {
-        if let Step::Await(_) | Step::Sent | Step::Interrupt = step {
+        if let Step::Await(_) | Step::Sent | Step::Interrupt | Step::At(_) = step {
             return true;
         }
     }

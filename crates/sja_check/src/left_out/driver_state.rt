@@ -1,6 +1,6 @@
 //! [`DriverState`]: what a driver's steps have led to.
 
-use super::gift::{Gift, Given};
+use super::gift::{Gift, TimedGift};
 use super::story::Story;
 
 /// What a driver's steps have led to, as they go on.
@@ -63,7 +63,7 @@ impl<'a> DriverState<'a> {
     /// Bus-off has come by then, where it comes next.
     fn meet_off(&mut self, bits: u32) {
         if let Some(
-            Given {
+            TimedGift {
                 gift: Gift::Off,
                 bits: at,
             },

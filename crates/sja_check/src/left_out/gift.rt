@@ -20,7 +20,7 @@ pub(crate) enum Gift {
 
 /// A gift, with how many bits came before it.
 #[derive(Clone, Copy)]
-pub(crate) struct Given {
+pub(crate) struct TimedGift {
     /// What it is.
     pub(crate) gift: Gift,
     /// How many bits came before it.
@@ -33,7 +33,7 @@ const MOST_AT_ONCE: usize = 1_000_000;
 /// What the driver of a node gave by its journal, in order.
 ///
 /// Error: [`AllocError`] where memory was refused.
-pub(crate) fn gifts_in(alloc: Global, journal: &Journal) -> Result<Vec<Given>, AllocError> {
+pub(crate) fn gifts_in(alloc: Global, journal: &Journal) -> Result<Vec<TimedGift>, AllocError> {
     let mut gifts = Vec::new(alloc);
     let mut bits = 0u32;
     let mut entries = journal.entries();
@@ -44,7 +44,7 @@ pub(crate) fn gifts_in(alloc: Global, journal: &Journal) -> Result<Vec<Given>, A
             bits = bits.saturating_add(rest as u32).saturating_add(1);
         }
         if let Some(gift) = gift_in(&entry) {
-            gifts.push(Given { gift, bits })?;
+            gifts.push(TimedGift { gift, bits })?;
         }
     }
     Ok(gifts)

@@ -3,7 +3,10 @@
 use super::super::document::Document;
 use super::super::kind::Kind;
 use super::super::page::{Page, Piece};
+use super::super::texts::are_placed;
 use sja_script::Strike;
+use std::alloc::{AllocError, Global};
+use toml::Value;
 
 /// Says which strikes strike a bit past the last one of a run of so many bits.
 pub(crate) fn late_strikes(page: &mut Page, document: &Document, strikes: &[Strike], bits: u32) {
@@ -28,7 +31,36 @@ pub(crate) fn late_strikes(page: &mut Page, document: &Document, strikes: &[Stri
             Piece::Number(u64::from(second)),
         );
         let told = [first, second, Piece::Number(u64::from(bits))];
-        document.say(page, (Kind::Strike, place), template, told);
+        let item = item_of(page.alloc, document, place);
+        document.say(page, (Kind::Strike, item), template, told);
+    }
+}
+
+/// Where the text of a strike by bits stands among all strikes of the document, by its place among those by bits; past
+/// them where there is none.
+fn item_of(alloc: Global, document: &Document, place: usize) -> usize {
+    let values = document.values(Kind::Strike);
+    let mut left = place;
+    for (item, value) in values.iter().enumerate() {
+        if is_by_bits(alloc, value) {
+            if left == 0 {
+                return item;
+            }
+            left = left.saturating_sub(1);
+        }
+    }
+    values.len()
+}
+
+/// Whether the text of a strike names no place.
+fn is_by_bits(alloc: Global, value: &Value) -> bool {
+    let Value::String(text) = value else {
+        return true;
+    };
+    let words: Result<Vec<&str>, AllocError> = text.as_str().split(' ').collect(alloc);
+    match words {
+        Ok(words) => !are_placed(words.as_slice()),
+        Err(_) => true,
     }
 }
 

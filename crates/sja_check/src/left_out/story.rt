@@ -1,6 +1,6 @@
 //! [`Story`]: what a node's journal says of its driver.
 
-use super::gift::{Gift, Given, gifts_in};
+use super::gift::{Gift, TimedGift, gifts_in};
 use super::requests::{Requests, requests_in};
 use sja_log::RunLog;
 use std::alloc::{AllocError, Global};
@@ -9,7 +9,7 @@ use std::alloc::{AllocError, Global};
 #[derive(Drop)]
 pub(crate) struct Story {
     /// What the driver gave the bus, in order.
-    pub(crate) gifts: Vec<Given>,
+    pub(crate) gifts: Vec<TimedGift>,
     /// What became of its requests.
     pub(crate) requests: Requests,
 }

@@ -5,7 +5,7 @@ ghost use Rattle.std.specs.Prelude.{◌<◌, length};
 use super::super::document::Document;
 use super::super::kind::Kind;
 use super::super::page::{Page, Piece};
-use super::undone::{steps_in_turns, turns_for};
+use super::undone_steps::{steps_in_turns, turns_for};
 use sja_log::{End, NodeRun, RunLog};
 use sja_plan::{Plan, Turn};
 use sja_script::Step;
@@ -42,7 +42,7 @@ pub(crate) fn waits_at(plan: &Plan, log: &RunLog, node: usize) -> Option<usize>
 {
     let done = log.nodes().get(node)?.done().len();
     let steps = plan.steps(node);
-    let Some(Step::Await(_) | Step::Sent | Step::Interrupt) = steps.get(done) else {
+    let Some(Step::Await(_) | Step::Sent | Step::Interrupt | Step::At(_)) = steps.get(done) else {
         return None;
     };
     let turns = plan.turns();
@@ -86,6 +86,7 @@ fn lack_of(step: Option<&Step>, run: Option<&NodeRun>) -> &'static str {
     match step {
         Some(Step::Sent) => "its request isn't over",
         Some(Step::Interrupt) => "its interrupt line isn't active",
+        Some(Step::At(_)) => "fewer bits have run",
         _ if unread_of(run) > 0 => "too few messages are there",
         _ => "no message is there",
     }

@@ -5,8 +5,8 @@ use super::super::kind::Kind;
 use super::super::outline::Spot;
 use super::general::KEYS_ARE;
 use super::node_keys::of_nodes;
-use super::said::Said;
 use super::values::{kind_of, of_list};
+use super::wording::Wording;
 use sja_plan::RAW_VERSION;
 use toml::Value;
 
@@ -20,7 +20,7 @@ static RAW_KEYS: [&str; 6] = ["version", "bits", "node", "turns", "strikes", "fa
 static FAULTS: [&str; 3] = ["strikes", "strike", "errors"];
 
 /// Which key is wrong, and what would be right. The keys are judged in the order in which `sja_plan` judges them.
-pub(crate) fn of_keys<'a>(document: &'a Document) -> Said<'a> {
+pub(crate) fn of_keys<'a>(document: &'a Document) -> Wording<'a> {
     let mut said = of_unknown(document);
     if said.is_nothing() {
         said = of_number(document, "version", "write version = 1");
@@ -60,7 +60,7 @@ fn keys_are(version: u8) -> &'static str {
 }
 
 /// That the strikes aren't a list of texts, or stand at two keys.
-fn of_strikes<'a>(document: &'a Document) -> Said<'a> {
+fn of_strikes<'a>(document: &'a Document) -> Wording<'a> {
     let said = of_texts(document, Kind::Strike);
     let Some(value) = document.value("strikes") else {
         return said;
@@ -74,7 +74,7 @@ fn of_strikes<'a>(document: &'a Document) -> Said<'a> {
         let right = "write strikes = [\"1 60\"], a text a strike, in quotes";
         let [wrong, _] = listed.told;
         let [number, most] = listed.numbers;
-        let mut said = Said::at(spot, wrong, right, listed.kind);
+        let mut said = Wording::at(spot, wrong, right, listed.kind);
         said.numbers = [number, most];
         return said;
     }
@@ -82,11 +82,11 @@ fn of_strikes<'a>(document: &'a Document) -> Said<'a> {
         Some(_) => "{0}\"strikes\" and \"faults\" are two names of one list",
         None => "",
     };
-    Said::at(spot, wrong, "write one of the two", "")
+    Wording::at(spot, wrong, "write one of the two", "")
 }
 
 /// That the value of a key isn't a whole number, or that the key is missing.
-fn of_number<'a>(document: &'a Document, key: &'static str, right: &'static str) -> Said<'a> {
+fn of_number<'a>(document: &'a Document, key: &'static str, right: &'static str) -> Wording<'a> {
     let value = document.value(key);
     if value.is_none() {
         let said = of_misplaced(document, key);
@@ -102,39 +102,39 @@ fn of_number<'a>(document: &'a Document, key: &'static str, right: &'static str)
         ),
         None => ("{0}the key \"{1}\" is missing", ""),
     };
-    Said::at(Spot::Key(key), wrong, right, kind)
+    Wording::at(Spot::Key(key), wrong, right, kind)
 }
 
 /// What is wrong with the nodes where this key stands below one of them.
-fn of_misplaced<'a>(document: &'a Document, key: &str) -> Said<'a> {
+fn of_misplaced<'a>(document: &'a Document, key: &str) -> Wording<'a> {
     for node in document.nodes() {
         if member_of(node, key).is_some() {
             return of_nodes(document);
         }
     }
-    Said::nothing()
+    Wording::nothing()
 }
 
 /// That the value of the key of these texts isn't a list of texts.
-fn of_texts<'a>(document: &'a Document, kind: Kind) -> Said<'a> {
+fn of_texts<'a>(document: &'a Document, kind: Kind) -> Wording<'a> {
     match document.value(kind.key()) {
         Some(value) => of_list(kind, value),
-        None => Said::nothing(),
+        None => Wording::nothing(),
     }
 }
 
 /// That a key is unknown, of the first in the document, and which is meant.
-fn of_unknown<'a>(document: &'a Document) -> Said<'a> {
+fn of_unknown<'a>(document: &'a Document) -> Wording<'a> {
     match unknown_key(document) {
         Some(key) => of_key(key, document.version()),
-        None => Said::nothing(),
+        None => Wording::nothing(),
     }
 }
 
 /// That this key is unknown in a plan of this version, and which is meant.
-pub(crate) fn of_key<'a>(key: &'a str, version: u8) -> Said<'a> {
+pub(crate) fn of_key<'a>(key: &'a str, version: u8) -> Wording<'a> {
     let are = keys_are(version);
-    let mut said = Said::at(Spot::Key(key), "{0}no key is called <{1}>", are, "");
+    let mut said = Wording::at(Spot::Key(key), "{0}no key is called <{1}>", are, "");
     if key == "steps" {
         said.told = [
             "{0}\"steps\" belongs below a [[node]], and not above all of them",

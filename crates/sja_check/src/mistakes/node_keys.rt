@@ -4,8 +4,8 @@ use super::super::document::{Document, member_of};
 use super::super::kind::Kind;
 use super::super::outline::Spot;
 use super::keys::{keys_of, other_key};
-use super::said::Said;
 use super::values::{kind_of, of_list};
+use super::wording::Wording;
 use toml::Value;
 
 /// All keys of a node.
@@ -16,29 +16,29 @@ const NODE_IS: &str =
     "write the line [[node]], and below it steps = [\"start\"], once for each node";
 
 /// What is wrong with the key `node`.
-pub(crate) fn of_nodes<'a>(document: &'a Document) -> Said<'a> {
+pub(crate) fn of_nodes<'a>(document: &'a Document) -> Wording<'a> {
     let wrong = match document.value("node") {
         Some(Value::Array(_)) => return of_items(document),
         Some(Value::Table(_)) => "{0}[node] makes one table, and nodes are a list: [[node]]",
         Some(_) => "{0}node is a list of tables, one for each node",
         None => "the key \"node\" is missing: there is no node",
     };
-    Said::at(Spot::Key("node"), wrong, NODE_IS, "")
+    Wording::at(Spot::Key("node"), wrong, NODE_IS, "")
 }
 
 /// What is wrong with the first node that isn't right.
-fn of_items<'a>(document: &'a Document) -> Said<'a> {
+fn of_items<'a>(document: &'a Document) -> Wording<'a> {
     for (node, value) in document.nodes().iter().enumerate() {
         let said = of_node(document.version(), node, value);
         if !said.is_nothing() {
             return said;
         }
     }
-    Said::nothing()
+    Wording::nothing()
 }
 
 /// What is wrong with this node.
-fn of_node<'a>(version: u8, node: usize, value: &'a Value) -> Said<'a> {
+fn of_node<'a>(version: u8, node: usize, value: &'a Value) -> Wording<'a> {
     if let Some(key) = other_key(value, &STEPS) {
         return of_key(version, node, key);
     }
@@ -49,18 +49,18 @@ fn of_node<'a>(version: u8, node: usize, value: &'a Value) -> Said<'a> {
         Value::Table(_) => "{0}node {5} has no key \"steps\"",
         _ => "{0}node {5} is a table, and here it is {2}",
     };
-    Said::at(Spot::Node(node), wrong, NODE_IS, kind_of(value))
+    Wording::at(Spot::Node(node), wrong, NODE_IS, kind_of(value))
 }
 
 /// That this key of a node isn't `steps`, and what to do with it.
-fn of_key<'a>(version: u8, node: usize, key: &'a str) -> Said<'a> {
+fn of_key<'a>(version: u8, node: usize, key: &'a str) -> Wording<'a> {
     let wrong = "{0}node {5} has the key <{1}>, and a node takes \"steps\" alone";
     let right = if keys_of(version).contains(&key) {
         "what stands below [[node]] is that node's: put {1} above the first [[node]]"
     } else {
         "a note goes into a comment, which begins with #"
     };
-    let mut said = Said::at(Spot::NodeKey(node, key), wrong, right, "");
+    let mut said = Wording::at(Spot::NodeKey(node, key), wrong, right, "");
     said.near = [wrong, "did you mean \"steps\"?"];
     said.names = &STEPS;
     said

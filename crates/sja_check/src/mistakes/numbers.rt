@@ -4,12 +4,12 @@ use super::super::document::Document;
 use super::super::kind::Kind;
 use super::super::outline::Spot;
 use super::super::texts::strikes_in;
-use super::said::Said;
+use super::wording::Wording;
 use sja_plan::{LAST_VERSION, PlanFault, most_bits, most_steps, most_strikes, most_turns};
 use sja_script::MOST_NODES;
 
 /// Which number is out of range, or which list is too long, in a document with this fault.
-pub(crate) fn of_count(document: &Document, fault: PlanFault) -> Said<'static> {
+pub(crate) fn of_count(document: &Document, fault: PlanFault) -> Wording<'static> {
     let node = crowded(document, most_steps(document.version()));
     let numbers = numbers_of(document, fault, node);
     let [number, most] = numbers;
@@ -22,7 +22,7 @@ pub(crate) fn of_count(document: &Document, fault: PlanFault) -> Said<'static> {
     } else {
         template_of(fault, number)
     };
-    let mut said = Said::at(spot_of(fault, number, node), wrong, more_of(fault), "");
+    let mut said = Wording::at(spot_of(fault, number, node), wrong, more_of(fault), "");
     said.numbers = numbers;
     if fault == PlanFault::StrikeCount && document.value("strikes").is_some() {
         said.spot = Spot::Key("strikes");

@@ -2,6 +2,8 @@
 
 use super::super::outline::{column_at, line_at};
 use super::super::page::{Page, Piece};
+use sja_plan::{MOST_BYTES, PlanFault, faulty_line, read_plan};
+use std::alloc::{AllocError, Global};
 use toml::table_from_str;
 
 /// A fault of a document as `toml` names it, short enough for a line, and what to look for.
@@ -65,12 +67,37 @@ pub(crate) fn no_toml(page: &mut Page, bytes: &[u8]) -> bool {
     let Ok(text) = str::from_utf8(bytes) else {
         return false;
     };
-    match table_from_str(page.alloc, text) {
+    let Ok(rest) = faulty_rest(page.alloc, text) else {
+        return page.refuse();
+    };
+    let begun = text.len().saturating_sub(rest.len());
+    match table_from_str(page.alloc, rest) {
         Ok(_) => false,
         Err(error) => match error.span() {
-            Some(span) => fault_words(page, bytes, span.start, error.message()),
+            Some(span) => {
+                let place = begun.saturating_add(span.start);
+                fault_words(page, bytes, place, error.message())
+            }
             None => page.refuse(),
         },
+    }
+}
+
+/// The text from its first line on that isn't TOML, where a long one has such a line behind a document; else all of
+/// it. So no tables are built of what stands before.
+///
+/// Error: memory was refused.
+fn faulty_rest<'a>(alloc: Global, text: &'a str) -> Result<&'a str, AllocError> {
+    if text.len() <= MOST_BYTES {
+        return Ok(text);
+    }
+    let Some(rest) = faulty_line(alloc, text)? else {
+        return Ok(text);
+    };
+    let begun = text.len().saturating_sub(rest.len());
+    match read_plan(alloc, text.as_bytes().get(..begun).unwrap_or(&[])) {
+        Err(PlanFault::Toml | PlanFault::Memory) => Ok(text),
+        _ => Ok(rest),
     }
 }
 

@@ -2,11 +2,11 @@
 
 use super::super::kind::Kind;
 use super::super::outline::Spot;
-use super::said::Said;
+use super::wording::Wording;
 use toml::Value;
 
 /// That a value isn't a list of texts: that of the key of these texts.
-pub(crate) fn of_list(kind: Kind, value: &Value) -> Said<'static> {
+pub(crate) fn of_list(kind: Kind, value: &Value) -> Wording<'static> {
     let (number, is) = match value {
         Value::Array(items) => other_item(items.as_slice()),
         _ => (0, kind_of(value)),
@@ -28,7 +28,7 @@ pub(crate) fn of_list(kind: Kind, value: &Value) -> Said<'static> {
     } else {
         template_of(is_step, number == 0)
     };
-    let mut said = Said::at(spot, wrong, right, is);
+    let mut said = Wording::at(spot, wrong, right, is);
     said.numbers = [number, 0];
     said
 }

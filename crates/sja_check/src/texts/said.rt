@@ -4,7 +4,7 @@ use super::super::document::Document;
 use super::super::kind::Kind;
 use super::super::page::{Page, Piece};
 use super::judge::{behind, word_at};
-use super::named::named_words;
+use super::leading_names::named_words;
 use super::strike::strike_words;
 
 /// Says why the text of this kind and number says nothing. Numbers count from 1.
@@ -31,7 +31,7 @@ fn words_of(page: &mut Page, document: &Document, kind: Kind, text: &str) -> boo
     let words = words.as_slice();
     let (version, nodes) = (document.version(), document.nodes().len());
     let is_said = match kind {
-        Kind::Strike => strike_words(page, nodes, words),
+        Kind::Strike => strike_words(page, version, nodes, words),
         _ => named_words(page, matches!(kind, Kind::Step(_)), version, nodes, words),
     };
     is_said || spacing_words(page, text, words)

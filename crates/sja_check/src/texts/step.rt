@@ -2,13 +2,13 @@
 
 use super::argument::Argument;
 use super::form::Form;
-use sja_plan::RAW_VERSION;
+use sja_plan::{MOST_RAW_BITS, RAW_VERSION};
 
 /// What is said where something stands behind a step that stands alone.
 const ALONE: &str = "this step stands alone: <{0}>";
 
 /// The forms of steps. The first of a name that a version has is its form there.
-pub(crate) static STEPS: [Form; 15] = [
+pub(crate) static STEPS: [Form; 16] = [
     Form {
         name: "read",
         since: RAW_VERSION,
@@ -99,10 +99,16 @@ pub(crate) static STEPS: [Form; 15] = [
         arguments: &[],
         usage: ALONE,
     },
+    Form {
+        name: "at",
+        since: RAW_VERSION,
+        arguments: &[Argument::Number("B of \"at B\"", 0, MOST_RAW_BITS)],
+        usage: "the form is \"at B\", B bits from 0 to 2000000: \"at 500\"",
+    },
 ];
 
-/// What steps begin with; version 3 alone has the last.
-static NAMES: [&str; 11] = [
+/// What steps begin with; version 3 alone has the last two.
+static NAMES: [&str; 12] = [
     "start",
     "stop",
     "window",
@@ -114,6 +120,7 @@ static NAMES: [&str; 11] = [
     "await",
     "sent",
     "interrupt",
+    "at",
 ];
 
 /// Words that begin no step, with what is said of them.
@@ -146,16 +153,23 @@ const TURNS: &str = "turns begin so, and stand in the list turns: <{0}>";
 const WAITING: &str =
     "a driver doesn't wait for bits: the turns \"bus N\" and \"rest\" let them run";
 
+/// What is said in version 3 where that is said before it.
+const WAITING_FOR_BITS: &str = "\"at B\" waits until B bits have run: \"at 500\"";
+
 /// Whether a step of this version begins with this word.
 pub(crate) fn begins_step(version: u8, word: &str) -> bool {
     names_of(version).contains(&word)
 }
 
-/// What is known of a word that begins no step; nothing where it isn't among those.
-pub(crate) fn known_of(name: &str) -> &'static str {
+/// What is known of a word that begins no step of this version; nothing where it isn't among those.
+pub(crate) fn known_of(version: u8, name: &str) -> &'static str {
     for row in &KNOWN {
         if row.0 == name {
-            return row.1;
+            return if version >= RAW_VERSION && row.1 == WAITING {
+                WAITING_FOR_BITS
+            } else {
+                row.1
+            };
         }
     }
     ""
@@ -163,7 +177,7 @@ pub(crate) fn known_of(name: &str) -> &'static str {
 
 /// What steps of this version begin with.
 pub(crate) fn names_of(version: u8) -> &'static [&'static str] {
-    let count = if version < RAW_VERSION { 10 } else { 11 };
+    let count = if version < RAW_VERSION { 10 } else { 12 };
     NAMES.get(..count).unwrap_or(&[])
 }
 
@@ -172,6 +186,6 @@ pub(crate) fn steps_are(version: u8) -> &'static str {
     if version < RAW_VERSION {
         "steps are start, stop, window, release, read, write, load, command, await, sent"
     } else {
-        "steps are start, stop, window, release, read, write, load, command, await, sent, interrupt"
+        "steps are start, stop, window, release, read, write, load, command, await, sent, interrupt, at"
     }
 }

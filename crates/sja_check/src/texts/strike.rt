@@ -4,7 +4,8 @@ use super::super::page::{Page, Piece};
 use super::argument::Argument;
 use super::judge::{argument_words, behind, word_at};
 use super::number::number_in;
-use sja_plan::GREATEST_NUMBER;
+use super::placed::{are_placed, placed_words};
+use sja_plan::{GREATEST_NUMBER, RAW_VERSION};
 use toml::Value;
 
 /// The forms of strikes, in words.
@@ -19,8 +20,16 @@ static NUMBERS: [Argument; 4] = [
     Argument::Number("T of \"K B E T\"", 1, GREATEST_NUMBER),
 ];
 
-/// Says why words say no strike of a plan with so many nodes, and what would; false where they say one.
-pub(crate) fn strike_words<'a>(page: &mut Page, nodes: usize, words: &'a [&'a str]) -> bool {
+/// Says why words say no strike of a plan of this version with so many nodes, and what would; false where they say one.
+pub(crate) fn strike_words<'a>(
+    page: &mut Page,
+    version: u8,
+    nodes: usize,
+    words: &'a [&'a str],
+) -> bool {
+    if version == RAW_VERSION && are_placed(words) {
+        return placed_words(page, nodes, words);
+    }
     let is_named = word_at(words, 0) == "node";
     let first = usize::from(is_named);
     let count = words.len().saturating_sub(first);

@@ -12,7 +12,7 @@ use Rattle.sja_live.specs.declared.live_answer.LiveAnswer.TheVariants.{Full}
 use Rattle.sja_live.specs.declared.live_answer.LiveAnswer.{LiveAnswer}
 use Rattle.sja_live.specs.declared.live_command.LiveCommand.{LiveCommand}
 use Rattle.sja_live.specs.declared.live_command.LiveCommand.TheVariants.{Line, Strike, Answer, Bits, Plan}
-use Rattle.sja_live.specs.declared.used.Used.TheVariants.{Document}
+use Rattle.sja_live.specs.declared.shortage.Shortage.TheVariants.{Document}
 use Rattle.sja_live.proofs.Spelling.Spelled.{has_texts, live_by, spelled_strike, still_live}
 use Rattle.sja_live.proofs.Replies.Told.{stays}
 use Rattle.sja_plan.specs.Plan.{PlanValue, IsInLimits}

@@ -10,7 +10,7 @@ use Rattle.sja_live.specs.declared.live_answer.LiveAnswer.{LiveAnswer}
 use Rattle.sja_live.specs.declared.live_answer.LiveAnswer.TheVariants.{Told, Waits as WaitsAnswer, Ran, Rose, Spent}
 use Rattle.sja_live.specs.declared.live_answer.LiveAnswer.TheVariants.{Full}
 use Rattle.sja_live.specs.declared.live_command.LiveCommand.TheVariants.{Step, Read, Write, Run as RunBits, Rest}
-use Rattle.sja_live.specs.declared.used.Used.TheVariants.{Turns as TurnsUsed}
+use Rattle.sja_live.specs.declared.shortage.Shortage.TheVariants.{Turns as TurnsUsed}
 use Rattle.sja_live.proofs.Spelling.Spelled.{live_by, spelled_bits, still_live, watched_live}
 use Rattle.sja_live.proofs.Spelling.SpelledSteps.{live_step, live_write}
 use Rattle.sja_plan_text.specs.HasTexts.{HasStepText}

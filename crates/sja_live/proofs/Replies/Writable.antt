@@ -12,7 +12,8 @@ use Rattle.sja_plan.specs.Words.{Text}
 use Rattle.sja_plan_text.specs.HasTexts.{HasStepText}
 use Rattle.sja_script.specs.declared.step.Step.{Step as StepOf}
 use Rattle.sja_script.specs.declared.step.Step.TheVariants.{Start, Stop, Window, Release, Read as ReadAt}
-use Rattle.sja_script.specs.declared.step.Step.TheVariants.{Write as WriteAt, Load, Command, Await, Sent, Interrupt}
+use Rattle.sja_script.specs.declared.step.Step.TheVariants.{Write as WriteAt, Load, Command, Await}
+use Rattle.sja_script.specs.declared.step.Step.TheVariants.{Sent, Interrupt, At}
 
 -- a step that words spell has a text
 spelled_step : (version : ℕ) (ws : List Text) (one : StepOf) → AreStepWords version ws one → HasStepText version one
@@ -27,6 +28,7 @@ spelled_step version ws (WriteAt n v) (a, b, e, k, i) = (omega (arith, k.1), ome
 spelled_step version ws (Load m) (a, e, k) = is_message version a m k
 spelled_step version ws (Command v) (a, e, k) = omega (arith, k.1)
 spelled_step version ws (Await n) (a, e, k) = (k.1, k.2)
+spelled_step version ws (At n) (v, a, e, k) = (v, k.2)
 
 pub writable : (s : SessionValue) (version : ℕ) (ws : List Text) (c : LiveCommand) → version ≡ s.plan.version →
     AreCommandWords version (length s.plan.nodes) ws c → ¬ (c ≡ End) → IsWritable s c

@@ -17,7 +17,7 @@ use Rattle.sja_live.specs.Talking.Talks.{begin, go_on}
 use Rattle.sja_live.specs.declared.live_answer.LiveAnswer.{LiveAnswer}
 use Rattle.sja_live.specs.declared.opening.Opening.{Opening}
 use Rattle.sja_live.specs.declared.opening_fault.OpeningFault.{OpeningFault}
-use Rattle.sja_live.specs.declared.talked.Talked.TheVariants.{Reported, Unopened}
+use Rattle.sja_live.specs.declared.talk_end.TalkEnd.TheVariants.{Reported, Unopened}
 use Rattle.sja_plan.specs.Words.{Text}
 use Rattle.sja_report.specs.ReportLines.{report_text}
 

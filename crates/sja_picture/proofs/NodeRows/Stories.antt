@@ -2,7 +2,7 @@
 use Rattle.std.proofs.Common.{◌≡◌, ℕ, ◌+◌, ◌≤◌, suc, List, [], ◌∷◌, map, sym, ◌∙◌, subst, arith}
 use Rattle.std.specs.Prelude.{Option, slice_get}
 use Rattle.lemmas.specs.Related.{EachRelated}
-use Rattle.sja_frames.specs.FramesText.{HasTold}
+use Rattle.sja_frames.specs.FrameStories.{HasTold}
 use Rattle.sja_log.specs.Log.{NodeValue}
 use Rattle.sja_replay.specs.declared.happening.Happening.{Happening}
 use Rattle.sja_trace.specs.declared.teller.Teller.{Teller}

@@ -5,7 +5,7 @@ use Rattle.std.specs.Io.KnownBytes.{Consumes}
 use Rattle.std.proofs.KnownBytes.{Consumes-nil, Consumes-trans}
 use Rattle.sja_plan.specs.Plan.{PlanValue}
 use Rattle.sja_words.specs.Requests.{Request, encode, decode, filter, arbitrate, message, run, wave, trace, frames}
-use Rattle.sja_words.specs.Requests.{picture, candump, check, sweep, struck_plan, spelled_plan, files, live}
+use Rattle.sja_words.specs.Requests.{picture, candump, check, sweep, struck_plan, spelled_plan, expected, files, live}
 use Rattle.sja_words.specs.Words.{ParsesAs}
 use Rattle.sja_log.specs.declared.run_fault.RunFault.{RunFault}
 use Rattle.sja_texts.specs.declared.command_refusal.CommandRefusal.{CommandRefusal}
@@ -20,14 +20,14 @@ use Rattle.sja_run.specs.PlanDocument.{RefusesInputSpelled}
 use Rattle.sja_run.specs.Run.{IsOfPlan, RefusesBy, RefusesRun, RefusesText}
 use Rattle.sja_run.specs.RunText.{IsTextOfRun, MayFault}
 use Rattle.sja_run.specs.Sweep.{IsStruck, IsSwept, RefusesOfPlan, RefusesStruck, RefusesSwept}
-use Rattle.sja_run.specs.declared.threaded.Threaded.{Threaded}
+use Rattle.sja_run.specs.declared.thread_task.ThreadTask.{ThreadTask}
 use Rattle.sja_run.specs.declared.run_text.RunText.{RunText}
 use Rattle.sja_run.specs.declared.run_text.RunText.TheVariants.{Report, Wave, Trace, Frames, Candump}
 use Rattle.sja_texts.specs.declared.sweep_refusal.SweepRefusal.{SweepRefusal}
 use Rattle.sja_run.proofs.BytesRead.MostRead.{most_grows}
 use Rattle.sja_run.proofs.PlanAnswers.PlanRefusals.{few_of_plan}
 use Rattle.sja_run.proofs.Requested.Requests.{asks_left}
-use Rattle.sja_run.proofs.PlanAnswers.PlanRuns.{run_refused, threads_refused}
+use Rattle.sja_run.proofs.PlanAnswers.PlanRuns.{document_refused, run_refused, threads_refused}
 
 -- nothing was read
 pub unread : (input : Option (List ℕ)) → ReadsFew input input
@@ -68,6 +68,8 @@ pub few_unchecked : (before after : Option (List ℕ)) (r : CommandRefusal) → 
 few_unchecked before after refusal.OutOfMemory h = h
 few_unchecked before after refusal.Read h = (h.0, h.1, less (length h.0) (most_read h.0) h.2)
 few_unchecked before after (refusal.Plan fault) h = absurd h
+few_unchecked before after (refusal.Place number) h = absurd h
+few_unchecked before after refusal.Strikes h = absurd h
 few_unchecked before after (refusal.Run fault) h = absurd h
 few_unchecked before after (refusal.Sweep why) h = absurd h
 few_unchecked before after (refusal.Drawing levels) h = absurd h
@@ -83,6 +85,8 @@ few_refused : (May : PlanValue → RunFault → Type 0) (before after : Option (
 few_refused May before after refusal.OutOfMemory h = h
 few_refused May before after refusal.Read h = (h.0, h.1, less (length h.0) (most_read h.0) h.2)
 few_refused May before after (refusal.Plan fault) h = (h.0, h.1.0, h.1.1)
+few_refused May before after (refusal.Place number) h = (h.0, h.1.0, h.1.1)
+few_refused May before after refusal.Strikes h = (h.0, h.1.0, h.1.1)
 few_refused May before after (refusal.Run fault) h = (h.0, h.2.0, h.2.1)
 few_refused May before after (refusal.Sweep why) h = absurd h
 few_refused May before after (refusal.Drawing levels) h = absurd h
@@ -98,6 +102,8 @@ pub refused_input : (before after : Option (List ℕ)) (r : CommandRefusal) → 
 refused_input before after refusal.OutOfMemory h = h
 refused_input before after refusal.Read h = h
 refused_input before after (refusal.Plan fault) h = absurd h
+refused_input before after (refusal.Place number) h = absurd h
+refused_input before after refusal.Strikes h = absurd h
 refused_input before after (refusal.Run fault) h = absurd h
 refused_input before after (refusal.Sweep why) h = absurd h
 refused_input before after (refusal.Drawing levels) h = absurd h
@@ -107,12 +113,17 @@ refused_input before after (refusal.Layout fault) h = absurd h
 refused_input before after (refusal.Line fault) h = absurd h
 refused_input before after (refusal.Notation fault) h = absurd h
 
+-- for whoever passes a refusal on of what the input is
+pub ruleset of_input = (refused_input, document_refused)
+
 -- what is refused before any run is refused of each
 pub refused_threads : (what : RunText) (before after : Option (List ℕ)) (r : CommandRefusal) →
     RefusesRun before after r → RefusesText true what before after r
 refused_threads what before after refusal.OutOfMemory h = h
 refused_threads what before after refusal.Read h = h
 refused_threads what before after (refusal.Plan fault) h = h
+refused_threads what before after (refusal.Place number) h = h
+refused_threads what before after refusal.Strikes h = h
 refused_threads what before after (refusal.Run fault) h =
     (h.0, h.1, h.2, h.3, subst (λ (f : RunFault). MayFault true h.1 f) (sym h.4) tt)
 refused_threads what before after refusal.NotHexadecimal h = absurd h
@@ -129,6 +140,8 @@ refused_once what before after (refusal.Drawing levels) h = absurd h
 refused_once what before after refusal.OutOfMemory h = h
 refused_once what before after refusal.Read h = h
 refused_once what before after (refusal.Plan fault) h = h
+refused_once what before after (refusal.Place number) h = h
+refused_once what before after refusal.Strikes h = h
 refused_once what before after (refusal.Run fault) h = h
 refused_once what before after refusal.NotHexadecimal h = h
 refused_once what before after refusal.NotALine h = h
@@ -147,6 +160,10 @@ few_untold threads what before after refusal.Read h =
     few_refused (MayFault threads) before after refusal.Read h
 few_untold threads what before after (refusal.Plan fault) h =
     few_refused (MayFault threads) before after (refusal.Plan fault) h
+few_untold threads what before after (refusal.Place number) h =
+    few_refused (MayFault threads) before after (refusal.Place number) h
+few_untold threads what before after refusal.Strikes h =
+    few_refused (MayFault threads) before after refusal.Strikes h
 few_untold threads what before after (refusal.Run fault) h =
     few_refused (MayFault threads) before after (refusal.Run fault) h
 few_untold threads what before after refusal.NotHexadecimal h =
@@ -203,6 +220,7 @@ few_printed (sweep w) before after text (inl asks) printed = few_of (IsSwept w) 
 few_printed (struck_plan node bit) before after text (inl asks) printed =
     few_of (IsStruck node bit) before after text printed
 few_printed spelled_plan before after text (inl asks) printed = (printed.0, printed.1.0, printed.1.1)
+few_printed (expected threads plan report) before after text (inl asks) printed = absurd printed
 few_printed (files asked jobs names) before after text (inl asks) printed = absurd printed
 few_printed live before after text (inl asks) printed = absurd printed
 few_printed (encode digits) before after text (inl asks) printed = absurd asks
@@ -232,6 +250,7 @@ few_turned_down (sweep w) before after why (inl asks) refused = few_of_none (Ref
 few_turned_down (struck_plan node bit) before after why (inl asks) refused =
     few_of_none (RefusesStruck node bit) before after why refused
 few_turned_down spelled_plan before after why (inl asks) refused = few_unspelled before after why refused
+few_turned_down (expected threads plan report) before after why (inl asks) refused = refused.1
 few_turned_down (files asked jobs names) before after why (inl asks) refused = refused.1
 few_turned_down live before after why (inl asks) refused = refused.1
 few_turned_down (encode digits) before after why (inl asks) refused = absurd asks
@@ -241,12 +260,12 @@ few_turned_down (arbitrate messages) before after why (inl asks) refused = absur
 few_turned_down (message given) before after why (inl asks) refused = absurd asks
 
 -- of what is left to threads
-pub few_left_printed : (left : Threaded) (before after : Option (List ℕ)) (text : List ℕ) →
+pub few_left_printed : (left : ThreadTask) (before after : Option (List ℕ)) (text : List ℕ) →
     IsPrinted (request_left left) before after text → ReadsFew before after
 few_left_printed left before after text printed =
     few_printed (request_left left) before after text (inl (asks_left left)) printed
 
-pub few_left_refused : (left : Threaded) (before after : Option (List ℕ)) (why : CommandRefusal) →
+pub few_left_refused : (left : ThreadTask) (before after : Option (List ℕ)) (why : CommandRefusal) →
     IsRefused (request_left left) before after why → ReadsFew before after
 few_left_refused left before after why refused =
     few_turned_down (request_left left) before after why (inl (asks_left left)) refused

@@ -3,7 +3,7 @@ use Rattle.std.proofs.Common.{◌≡◌, ◌≤◌, ◌<◌, ◌∷◌, List, �
 use Rattle.std.specs.Prelude.{IfOk, IfErr, Result, Ok, Err, String, string_bytes}
 use Rattle.std.specs.Global.{Global}
 use Rattle.std.proofs.lemmas.List.Elements.{All-nil, All-cons, All-append}
-use Rattle.sja_plan.specs.Faults.{IsPlanOf}
+use Rattle.sja_places.specs.PlanRead.{IsRunPlan}
 use Rattle.sja_plan.specs.Limits.{most_strikes}
 use Rattle.sja_plan.specs.Plan.{PlanValue, times_in}
 use Rattle.sja_plan.specs.Struck.{one_strike, struck_at}
@@ -13,10 +13,9 @@ use Rattle.sja_texts.specs.declared.sweep_refusal.SweepRefusal.{SweepRefusal}
 use Rattle.sja_texts.specs.declared.sweep_refusal.SweepRefusal.TheVariants.{NoNode, TooMany, StrikeCount, Bit, TooLong}
 use Rattle.sja_texts.specs.declared.command_refusal.CommandRefusal.{CommandRefusal}
 use Rattle.sja_texts.specs.declared.command_refusal.CommandRefusal.TheVariants as refusal
-use Rattle.sja_plan.specs.Faults.{IsPlanOf}
 use Rattle.sja_run.specs.Files.{RefusesTextFor}
 use Rattle.sja_run.specs.Input.{ReadsFew, RefusesInput}
-use Rattle.sja_run.specs.Run.{RefusesRun}
+use Rattle.sja_run.specs.Run.{RefusesRun, RefusesRunPlan}
 use Rattle.sja_run.specs.Inside.Runs.{HoldsPlan}
 use Rattle.sja_run.specs.Sweep.{IsStruck, RefusesOfPlan, RefusesStruck}
 use Rattle.sja_run.specs.Inside.Refusals.{IsLong, RefusesDocument, RefusesPlan}
@@ -28,6 +27,8 @@ pub of_plan_refused : (May : PlanValue → SweepRefusal → Type 0) (before afte
 of_plan_refused May before after refusal.OutOfMemory h = h
 of_plan_refused May before after refusal.Read h = h
 of_plan_refused May before after (refusal.Plan fault) h = h
+of_plan_refused May before after (refusal.Place number) h = h
+of_plan_refused May before after refusal.Strikes h = h
 of_plan_refused May before after (refusal.Run fault) h = h
 of_plan_refused May before after refusal.NotHexadecimal h = absurd h
 of_plan_refused May before after refusal.NotALine h = absurd h
@@ -44,6 +45,8 @@ plan_refused May before after plan refusal.OutOfMemory holds h = (holds.0, holds
 plan_refused May before after plan (refusal.Sweep why) holds h = (holds.0, plan, holds.1, holds.2, h)
 plan_refused May before after plan refusal.Read holds h = absurd h
 plan_refused May before after plan (refusal.Plan fault) holds h = absurd h
+plan_refused May before after plan (refusal.Place number) holds h = absurd h
+plan_refused May before after plan refusal.Strikes holds h = absurd h
 plan_refused May before after plan (refusal.Run fault) holds h = absurd h
 plan_refused May before after plan refusal.NotHexadecimal holds h = absurd h
 plan_refused May before after plan refusal.NotALine holds h = absurd h
@@ -54,11 +57,13 @@ plan_refused May before after plan (refusal.Drawing levels) holds h = absurd h
 
 -- of the plan that some bytes are
 pub text_refused : (May : PlanValue → SweepRefusal → Type 0) (bytes : List ℕ) (plan : PlanValue) (r : CommandRefusal) →
-    IsPlanOf bytes plan → RefusesPlan May plan r → RefusesTextFor May bytes r
+    IsRunPlan bytes plan → RefusesPlan May plan r → RefusesTextFor May bytes r
 text_refused May bytes plan refusal.OutOfMemory holds h = tt
 text_refused May bytes plan (refusal.Sweep why) holds h = (plan, holds, h)
 text_refused May bytes plan refusal.Read holds h = absurd h
 text_refused May bytes plan (refusal.Plan fault) holds h = absurd h
+text_refused May bytes plan (refusal.Place number) holds h = absurd h
+text_refused May bytes plan refusal.Strikes holds h = absurd h
 text_refused May bytes plan (refusal.Run fault) holds h = absurd h
 text_refused May bytes plan refusal.NotHexadecimal holds h = absurd h
 text_refused May bytes plan refusal.NotALine holds h = absurd h
@@ -67,6 +72,26 @@ text_refused May bytes plan (refusal.Line fault) holds h = absurd h
 text_refused May bytes plan (refusal.Notation fault) holds h = absurd h
 text_refused May bytes plan (refusal.Drawing levels) holds h = absurd h
 
+-- of bytes that are no plan to run
+pub no_text : (May : PlanValue → SweepRefusal → Type 0) (bytes : List ℕ) (r : CommandRefusal) → RefusesRunPlan bytes r →
+    RefusesTextFor May bytes r
+no_text May bytes refusal.OutOfMemory h = tt
+no_text May bytes (refusal.Plan fault) h = h
+no_text May bytes (refusal.Place number) h = h
+no_text May bytes refusal.Strikes h = h
+no_text May bytes refusal.Read h = absurd h
+no_text May bytes (refusal.Run fault) h = absurd h
+no_text May bytes refusal.NotHexadecimal h = absurd h
+no_text May bytes refusal.NotALine h = absurd h
+no_text May bytes (refusal.Layout fault) h = absurd h
+no_text May bytes (refusal.Line fault) h = absurd h
+no_text May bytes (refusal.Notation fault) h = absurd h
+no_text May bytes (refusal.Sweep why) h = absurd h
+no_text May bytes (refusal.Drawing levels) h = absurd h
+
+-- for whoever passes a refusal on of what bytes are
+pub ruleset of_text = (text_refused, no_text)
+
 -- whatever of both it is, few bytes were read
 pub few_of_plan : (May : PlanValue → SweepRefusal → Type 0) (before after : Option (List ℕ)) (r : CommandRefusal) →
     (RefusesRun before after r → ReadsFew before after) → RefusesOfPlan May before after r → ReadsFew before after
@@ -74,6 +99,8 @@ few_of_plan May before after (refusal.Sweep why) few h = (h.0, h.2.0, h.2.1)
 few_of_plan May before after refusal.OutOfMemory few h = few h
 few_of_plan May before after refusal.Read few h = few h
 few_of_plan May before after (refusal.Plan fault) few h = few h
+few_of_plan May before after (refusal.Place number) few h = few h
+few_of_plan May before after refusal.Strikes few h = few h
 few_of_plan May before after (refusal.Run fault) few h = few h
 few_of_plan May before after refusal.NotHexadecimal few h = few h
 few_of_plan May before after refusal.NotALine few h = few h
@@ -95,6 +122,8 @@ long_refused node bit plan struck (refusal.Sweep StrikeCount) there low room is 
 long_refused node bit plan struck (refusal.Sweep Bit) there low room is h = absurd h
 long_refused node bit plan struck refusal.Read there low room is h = absurd h
 long_refused node bit plan struck (refusal.Plan fault) there low room is h = absurd h
+long_refused node bit plan struck (refusal.Place number) there low room is h = absurd h
+long_refused node bit plan struck refusal.Strikes there low room is h = absurd h
 long_refused node bit plan struck (refusal.Run fault) there low room is h = absurd h
 long_refused node bit plan struck refusal.NotHexadecimal there low room is h = absurd h
 long_refused node bit plan struck refusal.NotALine there low room is h = absurd h
@@ -132,11 +161,13 @@ struck_text_is (Ok text) node bit plan struck there is h =
 struck_text_is (Err e) node bit plan struck there is h = tt
 
 -- there is no text of the plan that bytes are
-pub unspelled : (bytes : List ℕ) (plan : PlanValue) (r : CommandRefusal) → IsPlanOf bytes plan →
+pub unspelled : (bytes : List ℕ) (plan : PlanValue) (r : CommandRefusal) → IsRunPlan bytes plan →
     RefusesDocument plan r → RefusesSpelling bytes r
 unspelled bytes plan refusal.OutOfMemory holds h = tt
 unspelled bytes plan (refusal.Plan fault) holds h = inr (h.0, plan, holds, h.1)
 unspelled bytes plan refusal.Read holds h = absurd h
+unspelled bytes plan (refusal.Place number) holds h = absurd h
+unspelled bytes plan refusal.Strikes holds h = absurd h
 unspelled bytes plan (refusal.Run fault) holds h = absurd h
 unspelled bytes plan refusal.NotHexadecimal holds h = absurd h
 unspelled bytes plan refusal.NotALine holds h = absurd h
@@ -145,6 +176,25 @@ unspelled bytes plan (refusal.Line fault) holds h = absurd h
 unspelled bytes plan (refusal.Notation fault) holds h = absurd h
 unspelled bytes plan (refusal.Sweep why) holds h = absurd h
 unspelled bytes plan (refusal.Drawing levels) holds h = absurd h
+
+-- there is no plan to run
+pub no_spelling : (bytes : List ℕ) (r : CommandRefusal) → RefusesRunPlan bytes r → RefusesSpelling bytes r
+no_spelling bytes refusal.OutOfMemory h = tt
+no_spelling bytes (refusal.Plan fault) h = inl h
+no_spelling bytes (refusal.Place number) h = h
+no_spelling bytes refusal.Strikes h = h
+no_spelling bytes refusal.Read h = absurd h
+no_spelling bytes (refusal.Run fault) h = absurd h
+no_spelling bytes refusal.NotHexadecimal h = absurd h
+no_spelling bytes refusal.NotALine h = absurd h
+no_spelling bytes (refusal.Layout fault) h = absurd h
+no_spelling bytes (refusal.Line fault) h = absurd h
+no_spelling bytes (refusal.Notation fault) h = absurd h
+no_spelling bytes (refusal.Sweep why) h = absurd h
+no_spelling bytes (refusal.Drawing levels) h = absurd h
+
+-- both
+pub ruleset spelling = (unspelled, no_spelling)
 
 -- nor is there one where there are no bytes
 pub no_input : (before after : Option (List ℕ)) (r : CommandRefusal) → RefusesInput before after r →

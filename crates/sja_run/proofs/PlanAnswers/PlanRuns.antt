@@ -1,7 +1,7 @@
 -- A plan that was read and then run: why there is no text, from why there is none of its run.
 use Rattle.std.proofs.Common.{Bool, true, false, List, ℕ, Option}
 use Rattle.sja_plan.specs.Plan.{PlanValue}
-use Rattle.sja_plan.specs.Faults.{IsPlanOf}
+use Rattle.sja_places.specs.PlanRead.{IsRunPlan}
 use Rattle.sja_texts.specs.declared.command_refusal.CommandRefusal.{CommandRefusal}
 use Rattle.sja_texts.specs.declared.command_refusal.CommandRefusal.TheVariants as refusal
 use Rattle.sja_run.specs.Inside.Answers.{IsChecked, IsSaidOf}
@@ -9,7 +9,7 @@ use Rattle.sja_run.specs.Files.{RefusesBytes}
 use Rattle.sja_run.specs.Input.{IsRead}
 use Rattle.sja_log.specs.Log.{RunValue}
 use Rattle.sja_run.specs.Inside.Runs.{IsPlain, RefusesRunOf, HoldsPlan}
-use Rattle.sja_run.specs.Run.{RefusesBy, RefusesText}
+use Rattle.sja_run.specs.Run.{RefusesBy, RefusesRun, RefusesRunPlan, RefusesText}
 use Rattle.sja_run.specs.RunText.{IsTooLarge, MayFault}
 use Rattle.sja_run.specs.declared.run_text.RunText.{RunText}
 use Rattle.sja_run.specs.declared.run_text.RunText.TheVariants.{Report, Wave, Trace, Frames, Picture, Drawing, Candump}
@@ -29,19 +29,58 @@ none_large (Candump errors) plan log levels plain large = large
 
 -- of the plan that some bytes are
 pub bytes_refused : (threads : Bool) (what : RunText) (bytes : List ℕ) (plan : PlanValue) (r : CommandRefusal) →
-    IsPlain what → IsPlanOf bytes plan → RefusesRunOf threads what plan r → RefusesBytes threads bytes r
+    IsPlain what → IsRunPlan bytes plan → RefusesRunOf threads what plan r → RefusesBytes threads bytes r
 bytes_refused threads what bytes plan refusal.OutOfMemory plain holds h = tt
 bytes_refused threads what bytes plan (refusal.Run fault) plain holds h = (plan, holds, h)
 bytes_refused threads what bytes plan (refusal.Drawing levels) plain holds h =
     absurd (none_large what plan h.0 levels plain h.2)
 bytes_refused threads what bytes plan refusal.Read plain holds h = absurd h
 bytes_refused threads what bytes plan (refusal.Plan fault) plain holds h = absurd h
+bytes_refused threads what bytes plan (refusal.Place number) plain holds h = absurd h
+bytes_refused threads what bytes plan refusal.Strikes plain holds h = absurd h
 bytes_refused threads what bytes plan refusal.NotHexadecimal plain holds h = absurd h
 bytes_refused threads what bytes plan refusal.NotALine plain holds h = absurd h
 bytes_refused threads what bytes plan (refusal.Layout fault) plain holds h = absurd h
 bytes_refused threads what bytes plan (refusal.Line fault) plain holds h = absurd h
 bytes_refused threads what bytes plan (refusal.Notation fault) plain holds h = absurd h
 bytes_refused threads what bytes plan (refusal.Sweep why) plain holds h = absurd h
+
+-- of bytes that are no plan to run
+pub document_bytes : (threads : Bool) (bytes : List ℕ) (r : CommandRefusal) → RefusesRunPlan bytes r →
+    RefusesBytes threads bytes r
+document_bytes threads bytes refusal.OutOfMemory h = tt
+document_bytes threads bytes (refusal.Plan fault) h = h
+document_bytes threads bytes (refusal.Place number) h = h
+document_bytes threads bytes refusal.Strikes h = h
+document_bytes threads bytes (refusal.Run fault) h = absurd h
+document_bytes threads bytes refusal.Read h = absurd h
+document_bytes threads bytes refusal.NotHexadecimal h = absurd h
+document_bytes threads bytes refusal.NotALine h = absurd h
+document_bytes threads bytes (refusal.Layout fault) h = absurd h
+document_bytes threads bytes (refusal.Line fault) h = absurd h
+document_bytes threads bytes (refusal.Notation fault) h = absurd h
+document_bytes threads bytes (refusal.Sweep why) h = absurd h
+document_bytes threads bytes (refusal.Drawing levels) h = absurd h
+
+-- where they were read from the input
+pub document_refused : (before after : Option (List ℕ)) (bytes : List ℕ) (r : CommandRefusal) →
+    IsRead before after bytes → RefusesRunPlan bytes r → RefusesRun before after r
+document_refused before after bytes refusal.OutOfMemory read h = (bytes, read.0, read.1)
+document_refused before after bytes (refusal.Plan fault) read h = (bytes, read, h)
+document_refused before after bytes (refusal.Place number) read h = (bytes, read, h)
+document_refused before after bytes refusal.Strikes read h = (bytes, read, h)
+document_refused before after bytes (refusal.Run fault) read h = absurd h
+document_refused before after bytes refusal.Read read h = absurd h
+document_refused before after bytes refusal.NotHexadecimal read h = absurd h
+document_refused before after bytes refusal.NotALine read h = absurd h
+document_refused before after bytes (refusal.Layout fault) read h = absurd h
+document_refused before after bytes (refusal.Line fault) read h = absurd h
+document_refused before after bytes (refusal.Notation fault) read h = absurd h
+document_refused before after bytes (refusal.Sweep why) read h = absurd h
+document_refused before after bytes (refusal.Drawing levels) read h = absurd h
+
+-- for whoever passes a refusal on of what bytes are
+pub ruleset of_bytes = (bytes_refused, document_bytes)
 
 -- of the plan on the input
 refused_by : (threads : Bool) (what : RunText) (before after : Option (List ℕ)) (plan : PlanValue)
@@ -53,6 +92,8 @@ refused_by threads what before after plan (refusal.Drawing levels) holds h =
     (holds.0, plan, h.0, holds.1, holds.2, h.1, h.2)
 refused_by threads what before after plan refusal.Read holds h = absurd h
 refused_by threads what before after plan (refusal.Plan fault) holds h = absurd h
+refused_by threads what before after plan (refusal.Place number) holds h = absurd h
+refused_by threads what before after plan refusal.Strikes holds h = absurd h
 refused_by threads what before after plan refusal.NotHexadecimal holds h = absurd h
 refused_by threads what before after plan refusal.NotALine holds h = absurd h
 refused_by threads what before after plan (refusal.Layout fault) holds h = absurd h
@@ -78,6 +119,8 @@ plain_refused threads what before after (refusal.Drawing levels) plain h =
 plain_refused threads what before after refusal.OutOfMemory plain h = h
 plain_refused threads what before after refusal.Read plain h = h
 plain_refused threads what before after (refusal.Plan fault) plain h = h
+plain_refused threads what before after (refusal.Place number) plain h = h
+plain_refused threads what before after refusal.Strikes plain h = h
 plain_refused threads what before after (refusal.Run fault) plain h = h
 plain_refused threads what before after refusal.NotHexadecimal plain h = h
 plain_refused threads what before after refusal.NotALine plain h = h

@@ -3,7 +3,7 @@ use Rattle.std.proofs.Common.{◌≡◌, ◌⊎◌, ℕ, Bool, List, Option, Som
 use Rattle.std.proofs.Math.Decide.{dec_lt}
 use Rattle.std.specs.Io.KnownBytes.{Keeps}
 use Rattle.sja_words.specs.Requests.{Request, encode, decode, filter, arbitrate, message, run, wave, trace, frames}
-use Rattle.sja_words.specs.Requests.{picture, candump, check, sweep, struck_plan, spelled_plan, files, live}
+use Rattle.sja_words.specs.Requests.{picture, candump, check, sweep, struck_plan, spelled_plan, expected, files, live}
 use Rattle.sja_words.specs.Words.{ParsesAs}
 use Rattle.sja_texts.specs.declared.command_refusal.CommandRefusal.TheVariants.{OutOfMemory}
 use Rattle.sja_texts.specs.declared.command_refusal.CommandRefusal.{CommandRefusal}
@@ -13,10 +13,10 @@ use Rattle.sja_run.specs.Run.{IsOfPlan, RefusesText}
 use Rattle.sja_run.specs.RunText.{IsTextOfRun}
 use Rattle.sja_run.specs.declared.run_text.RunText.{RunText}
 use Rattle.sja_run.specs.declared.run_text.RunText.TheVariants.{Report, Wave, Trace, Frames, Picture, Drawing, Candump}
-use Rattle.sja_run.specs.declared.left.Left.{Left}
-use Rattle.sja_run.specs.declared.left.Left.TheVariants.{Threads, Files, Talk}
-use Rattle.sja_run.specs.declared.threaded.Threaded.{Threaded}
-use Rattle.sja_run.specs.declared.threaded.Threaded.TheVariants.{Text, Sweep}
+use Rattle.sja_run.specs.declared.further_task.FurtherTask.{FurtherTask}
+use Rattle.sja_run.specs.declared.further_task.FurtherTask.TheVariants.{Threads, Files, Expected, Talk}
+use Rattle.sja_run.specs.declared.thread_task.ThreadTask.{ThreadTask}
+use Rattle.sja_run.specs.declared.thread_task.ThreadTask.TheVariants.{Text, Sweep}
 use Rattle.sja_run.specs.Input.{ReadsFew}
 use Rattle.sja_run.proofs.PlanAnswers.PlanRuns.{plain_refused}
 use Rattle.sja_run.proofs.Requested.RefusedMemory.{memory_refused}
@@ -48,11 +48,12 @@ is_left_over (check strict) = inr (λ asks. asks)
 is_left_over (sweep w) = elim (dec_lt 1 w.jobs) [ yes more ↦ inl more | no not ↦ inr not ]
 is_left_over (struck_plan node bit) = inr (λ asks. asks)
 is_left_over spelled_plan = inr (λ asks. asks)
+is_left_over (expected threads plan report) = inl tt
 is_left_over (files asked jobs names) = inl tt
 is_left_over live = inl tt
 
 -- whatever is left to threads asks about a plan
-pub asks_left : (left : Threaded) → AsksForRun (request_left left)
+pub asks_left : (left : ThreadTask) → AsksForRun (request_left left)
 asks_left (Text Report) = tt
 asks_left (Text Wave) = tt
 asks_left (Text Trace) = tt
@@ -63,13 +64,14 @@ asks_left (Text (Candump errors)) = tt
 asks_left (Sweep w) = tt
 
 -- and so does whatever is left to another call, or it asks for a talk
-pub asks_over : (left : Left) → AsksForRun (request_over left)
+pub asks_over : (left : FurtherTask) → AsksForRun (request_over left)
 asks_over (Threads threaded) = asks_left threaded
 asks_over (Files w) = tt
+asks_over (Expected w) = tt
 asks_over Talk = tt
 
 -- a text of a run or a sweep is one answer
-pub one_left : (left : Threaded) → AsksForOne (request_left left)
+pub one_left : (left : ThreadTask) → AsksForOne (request_left left)
 one_left (Text Report) = tt
 one_left (Text Wave) = tt
 one_left (Text Trace) = tt

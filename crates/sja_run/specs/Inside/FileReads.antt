@@ -1,8 +1,9 @@
 -- Plans that are read under names, and then answered.
-use Rattle.std.specs.Prelude.{◌≡◌, ◌∷◌, ℕ, List, [], Option, Result, Ok, Err, map}
+use Rattle.std.specs.Prelude.{◌≡◌, ◌∷◌, ℕ, Bool, List, [], Option, Result, Ok, Err, map}
 use Rattle.std.specs.List.{AllZip}
 use Rattle.sja_words.specs.declared.plan_question.PlanQuestion.{PlanQuestion}
 use Rattle.sja_texts.specs.declared.command_refusal.CommandRefusal.TheVariants.{OutOfMemory}
+use Rattle.sja_run.specs.Expected.{Meets}
 use Rattle.sja_run.specs.Files.{Answers, IsReadAs, IsUnread}
 use Rattle.sja_run.specs.declared.file_outcome.FileOutcome.{FileOutcome}
 use Rattle.sja_run.specs.declared.file_outcome.FileOutcome.TheVariants.{Refused}
@@ -39,6 +40,11 @@ abbrev pub Settles :
     {V : Type 0} → (V → List ℕ) → PlanQuestion → Result V FileOutcome → Result V FileOutcome → Type 0
 Settles items asked before after =
     (outcome : FileOutcome) → ComesOf items asked after outcome → ComesOf items asked before outcome
+
+-- what comes of a plan that was read, beside the report that is expected
+abbrev pub IsMetBy : {V : Type 0} → (V → List ℕ) → Bool → List ℕ → Result V FileOutcome → FileOutcome → Type 0
+IsMetBy items threads expected (Ok bytes) outcome = Meets threads (items bytes) expected outcome
+IsMetBy items threads expected (Err given) outcome = outcome ≡ given
 
 -- memory is refused for each file
 abbrev pub all_refused : List (List ℕ) → List FileOutcome

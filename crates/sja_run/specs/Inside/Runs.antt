@@ -7,7 +7,7 @@ use Rattle.sja_log.specs.Log.{RunValue}
 use Rattle.sja_run.specs.RunText.{IsRunOf, IsTooLarge, MayFault}
 use Rattle.sja_run.specs.declared.run_text.RunText.{RunText}
 use Rattle.sja_run.specs.declared.run_text.RunText.TheVariants.{Drawing}
-use Rattle.sja_plan.specs.Faults.{IsPlanOf}
+use Rattle.sja_places.specs.PlanRead.{IsRunPlan}
 use Rattle.sja_run.specs.Input.{IsRead}
 
 -- why there is none of these texts of a run with this log: memory was refused, or its drawing is too large
@@ -32,4 +32,4 @@ IsPlain other = Unit {0}
 
 -- the bytes that were read are this plan
 abbrev pub HoldsPlan : Option (List ℕ) → Option (List ℕ) → PlanValue → Type 0
-HoldsPlan before after plan = (bytes : List ℕ) × IsRead before after bytes × IsPlanOf bytes plan
+HoldsPlan before after plan = (bytes : List ℕ) × IsRead before after bytes × IsRunPlan bytes plan

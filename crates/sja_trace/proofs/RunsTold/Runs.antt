@@ -1,7 +1,7 @@
 -- Along the steps and bits that have led to a journal each of its bits is told.
 use Rattle.std.proofs.Common.{◌≡◌, ◌≢◌, ◌<◌, ◌+◌, ◌^◌, ℕ, Bool, true, false, List, [], ◌∷◌, ◌++◌, length, length-append}
 use Rattle.std.proofs.Common.{refl, sym, ap, ◌∙◌, subst, arith, append_assoc, append-nil}
-use Rattle.can_node.specs.declared.aborted.Aborted.TheVariants.{Unchanged}
+use Rattle.can_node.specs.declared.abort_outcome.AbortOutcome.TheVariants.{Unchanged}
 use Rattle.lemmas.specs.Picking.{EachAfter}
 use Rattle.lemmas.proofs.Picking.{each_front}
 use Rattle.sja_link.specs.NodeWords.{NodeAborted, FinishedPiece, received, IsCut}

@@ -1,14 +1,14 @@
 //! [`Bench`]: the bus of a row, what is left of it, and what its calls have answered.
 
-use super::begun::{Begun, bus_begun};
+use super::bus_start::{BusStart, bus_begun};
 use super::buses::of_bus;
 use super::drivers::of_driver;
 use super::late::leaves_the_same;
 use super::lawless_calls::of_end;
 use super::left::of_left;
 use super::logs::are_same_logs;
+use super::row_answers::RowAnswers;
 use super::scripts::of_script;
-use super::told::Told;
 use sja_bus::NodeLog;
 use std::alloc::{AllocError, Global};
 use std::mem;
@@ -17,8 +17,8 @@ use std::mem;
 #[derive(Drop)]
 pub struct Bench {
     alloc: Global,
-    told: Told,
-    bus: Option<Begun>,
+    told: RowAnswers,
+    bus: Option<BusStart>,
     /// What is left of the bus that ended last.
     left: Vec<NodeLog>,
     /// What is left of one that ended before, and is kept.
@@ -30,7 +30,7 @@ impl Bench {
     pub fn new(alloc: Global) -> Bench {
         Bench {
             alloc,
-            told: Told::new(alloc),
+            told: RowAnswers::new(alloc),
             bus: None,
             left: Vec::new(alloc),
             kept: Vec::new(alloc),
@@ -74,8 +74,8 @@ impl Bench {
     /// Ends the bus, if there is one.
     fn ends(&mut self) {
         match self.bus.take() {
-            Some(Begun::Driven(rig)) => self.left = rig.finish(),
-            Some(Begun::Lawless(bus)) => self.left = bus.finish(),
+            Some(BusStart::Driven(rig)) => self.left = rig.finish(),
+            Some(BusStart::Lawless(bus)) => self.left = bus.finish(),
             None => {}
         }
     }
@@ -91,7 +91,7 @@ impl Bench {
         let told = &mut self.told;
         match &mut self.bus {
             None => of_left(told, self.left.as_slice(), name, rest),
-            Some(Begun::Driven(rig)) => match name {
+            Some(BusStart::Driven(rig)) => match name {
                 "start"
                 | "stop"
                 | "load"
@@ -107,7 +107,7 @@ impl Bench {
                 | "severals" => of_driver(told, rig, name, rest),
                 _ => of_bus(told, &mut rig.bus, words),
             },
-            Some(Begun::Lawless(bus)) => match name {
+            Some(BusStart::Lawless(bus)) => match name {
                 "shows" | "waits" | "back" | "tries" => of_end(told, bus, name, rest),
                 _ => of_bus(told, bus, words),
             },

@@ -1,7 +1,7 @@
 //! Calls of a bus, whatever its links are.
 
-use super::told::Told;
-use super::wired::Wired;
+use super::row_answers::RowAnswers;
+use super::wired_bus::WiredBus;
 use super::words::{number, small, strike_of};
 use sja_link::BusEnd;
 
@@ -15,7 +15,7 @@ use sja_link::BusEnd;
 /// `rests`, whether every node is at rest; `started 1`, whether a start of this node was taken; `strike 1/60/1/1`,
 /// whether a strike more is taken; `until_told 400`, at most so many bits, up to the first in which a port is told its
 /// turn, and how many they are; and `until_rest 400`, the same as long as some node works.
-pub fn of_bus<E: BusEnd + Drop>(told: &mut Told, bus: &mut Wired<E>, words: &[&str]) {
+pub fn of_bus<E: BusEnd + Drop>(told: &mut RowAnswers, bus: &mut WiredBus<E>, words: &[&str]) {
     match words {
         ["gather"] => told.done(bus.gather()),
         ["bit"] => told.done(bus.bit()),
@@ -42,7 +42,7 @@ pub fn of_bus<E: BusEnd + Drop>(told: &mut Told, bus: &mut Wired<E>, words: &[&s
 }
 
 /// Runs bits.
-fn runs<E: BusEnd + Drop>(told: &mut Told, bus: &mut Wired<E>, name: &str, bits: u32) {
+fn runs<E: BusEnd + Drop>(told: &mut RowAnswers, bus: &mut WiredBus<E>, name: &str, bits: u32) {
     match name {
         "bits" => told.done(bus.bits(bits)),
         "several" => told.count(bus.several(bits, false)),
@@ -57,7 +57,7 @@ fn runs<E: BusEnd + Drop>(told: &mut Told, bus: &mut Wired<E>, name: &str, bits:
 }
 
 /// Bits up to the first fault, at most so many; says how many went well, and the fault.
-fn until<E: BusEnd + Drop>(told: &mut Told, bus: &mut Wired<E>, most: u32) {
+fn until<E: BusEnd + Drop>(told: &mut RowAnswers, bus: &mut WiredBus<E>, most: u32) {
     for bits in 0..most {
         match bus.bit() {
             Some(Ok(())) => {}
@@ -73,7 +73,7 @@ fn until<E: BusEnd + Drop>(told: &mut Told, bus: &mut Wired<E>, most: u32) {
 }
 
 /// So many bits, as many at once as the bus can, and one where it can't; says how many were run at once each time.
-fn at_once<E: BusEnd + Drop>(told: &mut Told, bus: &mut Wired<E>, bits: u32) {
+fn at_once<E: BusEnd + Drop>(told: &mut RowAnswers, bus: &mut WiredBus<E>, bits: u32) {
     let mut left = bits;
     for _ in 0..bits {
         if left == 0 {

@@ -2,7 +2,7 @@
 
 use super::many::{rounds, sends, severals};
 use super::rig::Rig;
-use super::told::Told;
+use super::row_answers::RowAnswers;
 use super::words::{item_of, small};
 use sja_driver::CommandFault;
 use sja_link::{Down, ReleaseFault};
@@ -15,7 +15,7 @@ use test_words::{address, byte, message_of};
 /// `release 0`; `unread 0`, how many messages it got and didn't release; past the driver `give 1 1 start`, whether an
 /// item is taken on the link of the first activation of node 1, and `get 1 1`, the next one on it; and [`rounds`],
 /// [`sends`] and [`severals`].
-pub fn of_driver(told: &mut Told, rig: &mut Rig, name: &str, rest: &[&str]) {
+pub fn of_driver(told: &mut RowAnswers, rig: &mut Rig, name: &str, rest: &[&str]) {
     match (name, rest) {
         ("start" | "stop", [node]) => told.made(changed(rig, name, node)),
         ("command", [node, value]) => told.done(commanded(rig, node, value)),
@@ -55,7 +55,7 @@ fn unread(rig: &Rig, node: &str) -> Option<u32> {
 }
 
 /// Reads or writes a register, or loads the transmit buffer.
-fn of_registers(told: &mut Told, rig: &mut Rig, name: &str, node: &str, rest: &[&str]) {
+fn of_registers(told: &mut RowAnswers, rig: &mut Rig, name: &str, node: &str, rest: &[&str]) {
     match (name, rest) {
         ("read", addresses) => reads(told, rig, node, addresses),
         ("write", [addr, value]) => told.done(written(rig, node, addr, value)),
@@ -64,7 +64,7 @@ fn of_registers(told: &mut Told, rig: &mut Rig, name: &str, node: &str, rest: &[
 }
 
 /// Reads registers, one after the other.
-fn reads(told: &mut Told, rig: &mut Rig, node: &str, addresses: &[&str]) {
+fn reads(told: &mut RowAnswers, rig: &mut Rig, node: &str, addresses: &[&str]) {
     for addr in addresses {
         match read(rig, node, addr) {
             Some(Ok(value)) => told.value(value),
@@ -90,7 +90,7 @@ fn loaded(rig: &mut Rig, node: &str, bytes: &[&str]) -> Option<()> {
 }
 
 /// Does a call past the drivers, or one many times.
-fn past(told: &mut Told, rig: &mut Rig, name: &str, rest: &[&str]) {
+fn past(told: &mut RowAnswers, rig: &mut Rig, name: &str, rest: &[&str]) {
     match (name, rest) {
         ("give", [node, activation, item]) => told.asked(given(rig, node, activation, item)),
         ("get", [node, activation]) => match got(rig, node, activation) {

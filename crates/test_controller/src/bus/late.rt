@@ -1,6 +1,6 @@
 //! A strike that a bus takes on the way.
 
-use super::begun::asked;
+use super::bus_start::asked;
 use super::logs::are_same_logs;
 use super::rig::Rig;
 use super::words::{number, strike_of};

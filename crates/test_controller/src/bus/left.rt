@@ -3,7 +3,7 @@
 use super::logs::{
     bits_in, ends_off, entries_in, first_in, next_dominant, stored_by_activation, verdicts_in,
 };
-use super::told::Told;
+use super::row_answers::RowAnswers;
 use super::words::small;
 use sja_bus::NodeLog;
 
@@ -14,7 +14,7 @@ use sja_bus::NodeLog;
 /// the error counters, that of the transmitter first; `ends_off`, whether the journal ends with bus-off; `activations`,
 /// how many messages it stored in the first activation and in the second; `dominant`, in which bits the node saw a
 /// dominant level.
-pub fn of_left(told: &mut Told, logs: &[NodeLog], name: &str, rest: &[&str]) {
+pub fn of_left(told: &mut RowAnswers, logs: &[NodeLog], name: &str, rest: &[&str]) {
     match (name, rest) {
         ("nodes", []) => told.length(logs.len()),
         (_, [node]) => match log_of(logs, node) {
@@ -31,7 +31,7 @@ fn log_of<'a>(logs: &'a [NodeLog], node: &str) -> Option<&'a NodeLog> {
 }
 
 /// Says what is left of a node.
-fn of_node(told: &mut Told, log: &NodeLog, name: &str) {
+fn of_node(told: &mut RowAnswers, log: &NodeLog, name: &str) {
     match name {
         "stored" => pair(told, verdicts_in(&log.journal)),
         "activations" => pair(told, stored_by_activation(&log.journal)),
@@ -49,13 +49,13 @@ fn of_node(told: &mut Told, log: &NodeLog, name: &str) {
 }
 
 /// Says two numbers.
-fn pair(told: &mut Told, numbers: (u32, u32)) {
+fn pair(told: &mut RowAnswers, numbers: (u32, u32)) {
     told.number(numbers.0);
     told.number(numbers.1);
 }
 
 /// Says in which bits a node saw a dominant level, up to nine.
-fn dominant(told: &mut Told, log: &NodeLog) {
+fn dominant(told: &mut RowAnswers, log: &NodeLog) {
     let mut from = 0u32;
     for _ in 0..9 {
         match next_dominant(&log.journal, from) {

@@ -2,7 +2,7 @@
 
 use super::hand::Hand;
 use super::places::{link_at, port_at};
-use super::wired::Wired;
+use super::wired_bus::WiredBus;
 use can_frame::Message;
 use sja_bus::{NodeLog, serial_links};
 use sja_driver::CommandFault;
@@ -15,7 +15,7 @@ use std::alloc::Global;
 /// driver has no such call in its state.
 #[derive(Drop)]
 pub struct Rig {
-    pub bus: Wired<DequeLink>,
+    pub bus: WiredBus<DequeLink>,
     hands: Vec<Hand>,
 }
 
@@ -30,7 +30,7 @@ impl Rig {
     ) -> Option<Rig> {
         let hands = hands_of(alloc, nodes)?;
         let links = serial_links(alloc, nodes).ok()?;
-        let bus = Wired::new(alloc, version, nodes, bits, strikes, links)?;
+        let bus = WiredBus::new(alloc, version, nodes, bits, strikes, links)?;
         Some(Rig { bus, hands })
     }
 

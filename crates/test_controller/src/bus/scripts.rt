@@ -1,6 +1,6 @@
 //! Scripts of strikes.
 
-use super::told::Told;
+use super::row_answers::RowAnswers;
 use super::words::{number, script_of, small};
 use sja_script::FaultScript;
 use std::alloc::Global;
@@ -9,7 +9,7 @@ use std::alloc::Global;
 ///
 /// `struck 0 40 0/3/4/3`, which of the first 40 bits strike node 0, of these strikes; `strikes 20 0 0/3/4/3`, whether
 /// bit 20 strikes it; `listed 0/3/4/3`, how many strikes a script has.
-pub fn of_script(alloc: Global, told: &mut Told, words: &[&str]) {
+pub fn of_script(alloc: Global, told: &mut RowAnswers, words: &[&str]) {
     match words {
         ["struck", node, bits, strikes @ ..] => {
             match (small(node), number(bits), script_of(alloc, strikes)) {
@@ -32,7 +32,7 @@ pub fn of_script(alloc: Global, told: &mut Told, words: &[&str]) {
 }
 
 /// Says which of the first so many bits strike a node.
-fn struck(told: &mut Told, script: &FaultScript, node: u8, bits: u32) {
+fn struck(told: &mut RowAnswers, script: &FaultScript, node: u8, bits: u32) {
     let mut any = false;
     for bit in 0..bits {
         if script.strikes(bit, node) {

@@ -3,7 +3,7 @@
 use super::link::Link;
 use super::words::{push_message, push_up};
 use can_frame::Message;
-use sja_link::{BadCredit, Busy, ReleaseFault, Stopped, Up};
+use sja_link::{BadCredit, Busy, LostWindow, ReleaseFault, Up};
 use std::alloc::{AllocError, Global};
 use std::fmt;
 
@@ -56,7 +56,7 @@ fn off_of(put: Option<Result<(), Busy>>) -> &'static str {
 fn push_looked(
     alloc: Global,
     text: &mut String,
-    looked: Option<Result<(), Stopped>>,
+    looked: Option<Result<(), LostWindow>>,
 ) -> Result<(), AllocError> {
     match looked {
         Some(Ok(())) => text.push_str(" ok"),
@@ -69,7 +69,7 @@ fn push_looked(
 fn push_window(
     alloc: Global,
     text: &mut String,
-    shown: Option<Result<Option<Message>, Stopped>>,
+    shown: Option<Result<Option<Message>, LostWindow>>,
 ) -> Result<(), AllocError> {
     match shown {
         Some(Ok(Some(message))) => push_message(alloc, text, &message),

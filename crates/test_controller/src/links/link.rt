@@ -1,7 +1,7 @@
 //! [`Link`]: a link with both its ends and ledgers in one hand.
 
-use can_frame::{Message, Seen};
-use sja_link::{BadCredit, Busy, Down, ReleaseFault, Stopped, Up, Verdict};
+use can_frame::{BufferView, Message};
+use sja_link::{BadCredit, Busy, Down, LostWindow, ReleaseFault, Up, Verdict};
 use std::alloc::{AllocError, Global};
 
 /// A link with both its ends and ledgers in one hand. What the calls of a ledger promise stays out of what a row's
@@ -36,10 +36,10 @@ pub trait Link {
     fn free(&self) -> u8;
 
     /// Whether the window of the driver's ledger is there.
-    fn look(&mut self) -> Option<Result<(), Stopped>>;
+    fn look(&mut self) -> Option<Result<(), LostWindow>>;
 
     /// A copy of what its window shows.
-    fn window(&mut self) -> Option<Result<Option<Message>, Stopped>>;
+    fn window(&mut self) -> Option<Result<Option<Message>, LostWindow>>;
 
     /// What it releases.
     fn release(&mut self) -> Option<Result<u8, ReleaseFault>>;
@@ -48,7 +48,7 @@ pub trait Link {
     fn unread(&self) -> &[Message];
 
     /// What a read of the registers sees of them.
-    fn seen(&self) -> Seen;
+    fn seen(&self) -> BufferView;
 
     /// Writes what is left on the link after the last act of both ends, where it is one that can be settled.
     fn settle(self, alloc: Global, text: &mut String) -> Result<(), AllocError>;

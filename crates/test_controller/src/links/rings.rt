@@ -1,12 +1,12 @@
 //! [`Rings`]: a link of two rings.
 
 use super::link::Link;
-use super::linked::LINK;
+use super::queue_link::LINK;
 use super::words::{push_down, push_up};
-use can_frame::{Message, Seen};
+use can_frame::{BufferView, Message};
 use sja_link::{
-    BadCredit, BusEnd, BusLedger, Busy, Down, DriverEnd, DriverLedger, ReleaseFault, Stopped, Up,
-    Verdict,
+    BadCredit, BusEnd, BusLedger, Busy, Down, DriverEnd, DriverLedger, LostWindow, ReleaseFault,
+    Up, Verdict,
 };
 use sja_rings::{RingBus, RingDriver, end_bus, end_driver, ring_pair, settle};
 use std::alloc::{AllocError, Global};
@@ -62,7 +62,7 @@ fn off(ledger: &mut BusLedger, bus: &mut RingBus) -> Option<Result<(), Busy>> {
 }
 
 /// Whether the window is there.
-fn looked(ledger: &mut DriverLedger, driver: &mut RingDriver) -> Option<Result<(), Stopped>> {
+fn looked(ledger: &mut DriverLedger, driver: &mut RingDriver) -> Option<Result<(), LostWindow>> {
     if driver.id() != ledger.id() {
         return None;
     }
@@ -115,11 +115,11 @@ impl Link for Rings {
         self.judge.free()
     }
 
-    fn look(&mut self) -> Option<Result<(), Stopped>> {
+    fn look(&mut self) -> Option<Result<(), LostWindow>> {
         looked(&mut self.reader, &mut self.driver)
     }
 
-    fn window(&mut self) -> Option<Result<Option<Message>, Stopped>> {
+    fn window(&mut self) -> Option<Result<Option<Message>, LostWindow>> {
         match looked(&mut self.reader, &mut self.driver)? {
             Ok(()) => Some(Ok(self.reader.first().map(Message::copy))),
             Err(stopped) => Some(Err(stopped)),
@@ -134,7 +134,7 @@ impl Link for Rings {
         self.reader.unread()
     }
 
-    fn seen(&self) -> Seen {
+    fn seen(&self) -> BufferView {
         self.reader.seen()
     }
 

@@ -4,24 +4,24 @@ use super::answer::Answer;
 use super::call::{CALLS, Call};
 use super::controller::Controller;
 use can_frame::{Frame, Message};
-use sja_regs::Seen;
+use sja_regs::BufferView;
 use sja_regs::address::{BUFFER, BUFFER_END};
 use std::alloc::Global;
 use std::io;
 use test_words::{address, byte, bytes, message_of, named, turn_of};
 
 /// No message at the driver's end.
-fn nothing_seen() -> Seen {
-    Seen {
+fn nothing_seen() -> BufferView {
+    BufferView {
         first: None,
         count: 0,
     }
 }
 
 /// Two messages, the first of them with the identifier 123 and the data 11 22.
-fn two_seen() -> Option<Seen> {
+fn two_seen() -> Option<BufferView> {
     let frame = Frame::new(false, 0x123, false, 2, &[0x11, 0x22]).ok()?;
-    Some(Seen {
+    Some(BufferView {
         first: Some(Message::of(&frame)),
         count: 2,
     })
@@ -32,7 +32,7 @@ fn two_seen() -> Option<Seen> {
 pub struct Bench {
     alloc: Global,
     controller: Controller,
-    seen: Seen,
+    seen: BufferView,
     text: String,
 }
 

@@ -2,7 +2,7 @@
 
 use can_frame::Message;
 use can_node::{Config, Request};
-use sja_regs::{BusTurn, Orders, Port, RegFault, Seen};
+use sja_regs::{BufferView, BusTurn, Orders, Port, RegFault};
 
 /// A controller's registers. Each call is that of the port; what the port's call promises stays out of what a row's
 /// program has to prove.
@@ -35,7 +35,7 @@ impl Controller {
     }
 
     /// What a read answers.
-    pub fn read(&mut self, addr: u8, seen: &Seen) -> Result<u8, RegFault> {
+    pub fn read(&mut self, addr: u8, seen: &BufferView) -> Result<u8, RegFault> {
         self.port.read(addr, seen)
     }
 
@@ -60,7 +60,7 @@ impl Controller {
     }
 
     /// Whether the interrupt line is active.
-    pub fn irq(&self, seen: &Seen) -> bool {
+    pub fn irq(&self, seen: &BufferView) -> bool {
         self.port.irq(seen)
     }
 

@@ -1,18 +1,18 @@
 //! What a driver's log says.
 
-use super::script::Asked;
+use super::script::Query;
 use sja_driver::LoggedDriver;
 use std::alloc::{AllocError, Global};
-use test_words::{Bytes, Told};
+use test_words::{Bytes, AnswerText};
 
 /// The answers of the steps that were done, each behind a blank, and what is asked. All are done after 7 bits.
-pub fn answers(alloc: Global, driver: &LoggedDriver, asked: Asked) -> Result<String, AllocError> {
+pub fn answers(alloc: Global, driver: &LoggedDriver, asked: Query) -> Result<String, AllocError> {
     let mut text = String::new(alloc);
     for one in driver.log().done() {
         if one.bits != 7 {
             text.push_str(" after other bits")?;
         }
-        let answer = format!(in alloc; " {}", Told(&one.answer))?;
+        let answer = format!(in alloc; " {}", AnswerText(&one.answer))?;
         text.push_str(answer.as_str())?;
     }
     if asked.released {

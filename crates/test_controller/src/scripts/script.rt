@@ -11,7 +11,7 @@ use test_words::{byte, message_of, step_of, turn_of};
 
 /// What is asked of a driver and its log behind the answers.
 #[derive(Clone, Copy)]
-pub struct Asked {
+pub struct Query {
     /// `released`: the messages that were released, with their activations.
     pub released: bool,
     /// `left`: the messages that each activation left unread.
@@ -29,7 +29,7 @@ pub struct Script {
     /// Windows and releases are done by the calls that see no port.
     apart: bool,
     /// What is asked behind the answers.
-    pub asked: Asked,
+    pub asked: Query,
 }
 
 impl Script {
@@ -40,7 +40,7 @@ impl Script {
             items: Vec::new(alloc),
             steps: Vec::new(alloc),
             apart: false,
-            asked: Asked {
+            asked: Query {
                 released: false,
                 left: false,
                 counts: false,

@@ -1,9 +1,11 @@
 //! [`Answer`]: what a call of a session answers.
 
 use sja_script::StepAnswer;
-use sja_session::{Rested, SessionFault, SessionRoom, StepFault, StrikeFault, TurnsUsed, Watched};
+use sja_session::{
+    RestOutcome, SessionFault, SessionRoom, StepFault, StrikeFault, TurnsUsed, WatchOutcome,
+};
 use std::fmt;
-use test_words::Told;
+use test_words::AnswerText;
 
 /// What a call of a session answers.
 #[derive(Drop)]
@@ -29,9 +31,9 @@ pub enum Answer {
     /// Whose line rose.
     Rose(Option<u8>),
     /// Bits until all are at rest.
-    Rested(Rested),
+    Rested(RestOutcome),
     /// Bits until a line rises.
-    Watched(Watched),
+    Watched(WatchOutcome),
     /// Room for steps and turns.
     Room(SessionRoom),
     /// There is no such session.
@@ -73,7 +75,7 @@ impl Answer {
 /// Writes an answer of more than a word.
 fn write_answer<W: fmt::Write>(f: &mut fmt::Formatter<W>, answer: &Answer) -> fmt::Result {
     match answer {
-        Answer::Step(answer) => fmt::Display::fmt(&Told(answer), f),
+        Answer::Step(answer) => fmt::Display::fmt(&AnswerText(answer), f),
         Answer::OtherLast(answer) => write_other(f, answer),
         Answer::Rested(rested) => write_rested(f, *rested),
         Answer::Watched(watched) => write_watched(f, *watched),
@@ -111,7 +113,7 @@ fn write_byte<W: fmt::Write>(f: &mut fmt::Formatter<W>, value: u8) -> fmt::Resul
 
 /// Writes an answer that isn't the one that the session tells as the node's last.
 fn write_other<W: fmt::Write>(f: &mut fmt::Formatter<W>, answer: &StepAnswer) -> fmt::Result {
-    fmt::Display::fmt(&Told(answer), f)?;
+    fmt::Display::fmt(&AnswerText(answer), f)?;
     f.write_str(" and another last")
 }
 
@@ -131,7 +133,7 @@ fn write_room<W: fmt::Write>(f: &mut fmt::Formatter<W>, room: SessionRoom) -> fm
 }
 
 /// Writes bits until all are at rest.
-fn write_rested<W: fmt::Write>(f: &mut fmt::Formatter<W>, rested: Rested) -> fmt::Result {
+fn write_rested<W: fmt::Write>(f: &mut fmt::Formatter<W>, rested: RestOutcome) -> fmt::Result {
     fmt::Display::fmt(&rested.bits, f)?;
     f.write_str(if rested.at_rest {
         " to rest"
@@ -141,7 +143,7 @@ fn write_rested<W: fmt::Write>(f: &mut fmt::Formatter<W>, rested: Rested) -> fmt
 }
 
 /// Writes bits until a line rises.
-fn write_watched<W: fmt::Write>(f: &mut fmt::Formatter<W>, watched: Watched) -> fmt::Result {
+fn write_watched<W: fmt::Write>(f: &mut fmt::Formatter<W>, watched: WatchOutcome) -> fmt::Result {
     fmt::Display::fmt(&watched.bits, f)?;
     f.write_str(" ")?;
     write_rose(f, watched.rose)

@@ -3,7 +3,7 @@
 use super::addresses::swept;
 use super::answer::Answer;
 use super::calls::{byte_by_byte, called, node_of, number};
-use super::ended::{ended, push_plan};
+use super::session_ends::{ended, push_plan};
 use super::struck::alike;
 use sja_session::{Session, SessionFault, SessionRoom};
 use std::alloc::{AllocError, Global};
@@ -146,10 +146,10 @@ fn push_plan_of(alloc: Global, text: &mut String, session: &Session) -> Result<(
 }
 
 /// What is asked of a session: its version, its bits and its nodes, and room where some is asked for.
-type Asked = (u8, u32, u8, Option<SessionRoom>);
+type Query = (u8, u32, u8, Option<SessionRoom>);
 
 /// What these words ask; none where they say none.
-fn asked_of(words: &[&str]) -> Option<Asked> {
+fn asked_of(words: &[&str]) -> Option<Query> {
     let [version, bits, nodes, room @ ..] = words else {
         return None;
     };
@@ -170,7 +170,7 @@ fn room_of(words: &[&str]) -> Option<Option<SessionRoom>> {
 }
 
 /// The session that is asked for.
-fn session_of(alloc: Global, asked: Asked) -> Result<Session, SessionFault> {
+fn session_of(alloc: Global, asked: Query) -> Result<Session, SessionFault> {
     let (version, bits, nodes, room) = asked;
     match room {
         Some(room) => Session::with_room(alloc, version, bits, nodes, room),

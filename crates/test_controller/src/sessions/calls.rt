@@ -4,7 +4,7 @@ use super::answer::Answer;
 use super::bench::say_asked;
 use super::many::many;
 use sja_script::Step;
-use sja_session::{Answered, Session};
+use sja_session::{Session, StepOutcome};
 use std::alloc::{AllocError, Global};
 use test_words::{address, byte, step_of};
 
@@ -123,11 +123,11 @@ fn stepped(session: &mut Session, node: &str, words: &[&str]) -> Option<Answer> 
 /// Does a step.
 pub fn step(session: &mut Session, node: u8, step: Step) -> Answer {
     match session.step(node, step) {
-        Ok(Answered::Answer(answer)) if session.answer(node).as_ref() == Some(&answer) => {
+        Ok(StepOutcome::Answer(answer)) if session.answer(node).as_ref() == Some(&answer) => {
             Answer::Step(answer)
         }
-        Ok(Answered::Answer(answer)) => Answer::OtherLast(answer),
-        Ok(Answered::Waits) => Answer::Waits,
+        Ok(StepOutcome::Answer(answer)) => Answer::OtherLast(answer),
+        Ok(StepOutcome::Waits) => Answer::Waits,
         Err(fault) => Answer::NoStep(fault),
     }
 }

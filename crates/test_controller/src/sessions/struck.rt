@@ -1,7 +1,7 @@
 //! Strikes on the way, and the same before the first bit.
 
 use super::calls::{node_of, number, step};
-use super::ended::is_report_of;
+use super::session_ends::is_report_of;
 use sja_log::RunLog;
 use sja_plan::{Plan, read_plan};
 use sja_plan_text::{has_texts, plan_text};

@@ -1,8 +1,8 @@
 //! What a row answers.
 
-use super::asked::Asked;
 use super::kind::Kind;
 use super::reading::reading;
+use super::row_options::RowOptions;
 use super::run_text::RunText;
 use super::said::said;
 use super::writing::writing;
@@ -11,16 +11,21 @@ use sja_plan::{Plan, PlanFault, read_plan};
 use sja_serial::run_serial;
 use std::alloc::{AllocError, Global};
 use std::io;
-use test_rows::{Given, marked};
+use test_rows::{GivenLines, marked};
 
 /// What a row answers where this is made of it.
-pub(crate) fn answer(alloc: Global, kind: Kind, given: &Given, row: &str) -> io::Result<String> {
+pub(crate) fn answer(
+    alloc: Global,
+    kind: Kind,
+    given: &GivenLines,
+    row: &str,
+) -> io::Result<String> {
     match kind {
         Kind::Plan => reading(alloc, given.document(alloc, row)?.as_slice()),
         Kind::PlanText => writing(alloc, given.document(alloc, row)?.as_slice()),
         Kind::Check => said(alloc, given.document(alloc, row)?.as_slice()),
         Kind::Run(text) => {
-            let (asked, rest) = Asked::by(given.bits(), row);
+            let (asked, rest) = RowOptions::by(given.bits(), row);
             let bytes = given.document(alloc, rest)?;
             Ok(of_run(alloc, text, bytes.as_slice(), asked)?)
         }
@@ -28,7 +33,12 @@ pub(crate) fn answer(alloc: Global, kind: Kind, given: &Given, row: &str) -> io:
 }
 
 /// A text of the run of the plan that these bytes are, each line behind `> `; one line `> no plan` where they are none.
-fn of_run(alloc: Global, text: RunText, bytes: &[u8], asked: Asked) -> Result<String, AllocError> {
+fn of_run(
+    alloc: Global,
+    text: RunText,
+    bytes: &[u8],
+    asked: RowOptions,
+) -> Result<String, AllocError> {
     let plan = match read_plan(alloc, bytes) {
         Ok(plan) => plan,
         Err(PlanFault::Memory) => return Err(AllocError),

@@ -1,6 +1,6 @@
 //! [`RunText`]: a text of a run.
 
-use super::asked::Asked;
+use super::row_options::RowOptions;
 use sja_candump::candump;
 use sja_frames::frames;
 use sja_log::RunLog;
@@ -32,7 +32,7 @@ impl RunText {
         alloc: Global,
         plan: &Plan,
         log: &RunLog,
-        asked: Asked,
+        asked: RowOptions,
     ) -> Result<String, AllocError> {
         match self {
             RunText::Trace => traced(alloc, plan, log),
@@ -55,16 +55,16 @@ fn listed(alloc: Global, log: &RunLog) -> Result<String, AllocError> {
 }
 
 /// The picture of the bits that are asked for.
-fn pictured(alloc: Global, log: &RunLog, asked: Asked) -> Result<String, AllocError> {
+fn pictured(alloc: Global, log: &RunLog, asked: RowOptions) -> Result<String, AllocError> {
     picture(alloc, log, asked.bits.first, asked.bits.last).or(Err(AllocError))
 }
 
 /// The drawing of the bits that are asked for.
-fn drawn(alloc: Global, log: &RunLog, asked: Asked) -> Result<String, AllocError> {
+fn drawn(alloc: Global, log: &RunLog, asked: RowOptions) -> Result<String, AllocError> {
     drawing(alloc, log, asked.bits.first, asked.bits.last).or(Err(AllocError))
 }
 
 /// What the drivers of a run could have received, with error frames where they are asked for.
-fn received(alloc: Global, log: &RunLog, asked: Asked) -> Result<String, AllocError> {
+fn received(alloc: Global, log: &RunLog, asked: RowOptions) -> Result<String, AllocError> {
     candump(alloc, log, asked.errors).or(Err(AllocError))
 }

@@ -1,7 +1,8 @@
 //! What is said of a plan, as text.
 
 use sja_check::{hints, mistake};
-use sja_plan::{PlanFault, read_plan};
+use sja_places::{ReadFault, plan_of};
+use sja_plan::PlanFault;
 use sja_serial::run_serial;
 use std::alloc::{AllocError, Global};
 use std::io;
@@ -12,7 +13,7 @@ use test_rows::marked;
 ///
 /// Errors: memory was refused, to what is tested too.
 pub(crate) fn said(alloc: Global, bytes: &[u8]) -> io::Result<String> {
-    let (mut text, said) = match read_plan(alloc, bytes) {
+    let (mut text, said) = match plan_of(alloc, bytes) {
         Ok(plan) => {
             let log = run_serial(alloc, &plan).or(Err(AllocError))?;
             let (bits, end) = (log.bits(), log.end());
@@ -20,8 +21,10 @@ pub(crate) fn said(alloc: Global, bytes: &[u8]) -> io::Result<String> {
             let said = hints(alloc, bytes, &plan, &log).or(Err(AllocError))?;
             (head, said)
         }
-        Err(PlanFault::Memory) => return Err(AllocError.into()),
-        Err(fault) => {
+        Err(ReadFault::Plan(PlanFault::Memory) | ReadFault::Place(_)) => {
+            return Err(AllocError.into());
+        }
+        Err(ReadFault::Plan(fault)) => {
             let head = format!(in alloc; "{fault:?}\n")?;
             let said = mistake(alloc, bytes, fault).or(Err(AllocError))?;
             (head, said)

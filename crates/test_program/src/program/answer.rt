@@ -1,7 +1,7 @@
 //! What the program answers, as text.
 
-use super::fed::Fed;
-use super::tried::Outcome;
+use super::fed_input::FedInput;
+use super::trial::Outcome;
 use std::alloc::Global;
 use std::fmt::Write;
 use std::{io, str};
@@ -9,7 +9,7 @@ use std::{io, str};
 /// The status, what was read, and the lines that were written, behind `> `, or told as an error, behind `! `.
 ///
 /// `usage` stands for status 2 with nothing on the output and some text on the error output, `left` for no status.
-pub(crate) fn shown(alloc: Global, tried: &Outcome, input: &Fed<'_>) -> io::Result<String> {
+pub(crate) fn shown(alloc: Global, tried: &Outcome, input: &FedInput<'_>) -> io::Result<String> {
     let mut text = head(alloc, tried, input)?;
     put_lines(&mut text, "\n> ", &tried.written)?;
     if !is_usage(tried) {
@@ -19,7 +19,7 @@ pub(crate) fn shown(alloc: Global, tried: &Outcome, input: &Fed<'_>) -> io::Resu
 }
 
 /// The status, and what was read.
-pub(crate) fn head(alloc: Global, tried: &Outcome, input: &Fed<'_>) -> io::Result<String> {
+pub(crate) fn head(alloc: Global, tried: &Outcome, input: &FedInput<'_>) -> io::Result<String> {
     let mut text = String::from_str(alloc, " -> ")?;
     put_status(&mut text, tried)?;
     if input.left.is_empty() {

@@ -1,9 +1,9 @@
 //! What the program answers to each beginning of a word, or of its input.
 
 use super::answer::{put_status, shown};
-use super::fed::{Behind, Fed};
+use super::fed_input::{Behind, FedInput};
 use super::groups::Groups;
-use super::tried::{Outcome, tried};
+use super::trial::{Outcome, tried};
 use std::alloc::Global;
 use std::fmt::Write;
 use std::sync::Wait;
@@ -23,7 +23,7 @@ pub(crate) fn of_word<T: Threads + Wait + Sync>(
         let beginning = last.as_bytes().get(..count).unwrap_or(b"");
         let beginning = str::from_utf8(beginning).unwrap_or("");
         words.push(String::from_str(alloc, beginning)?)?;
-        let tried = tried(rt, alloc, &words, &mut Fed::whole(document));
+        let tried = tried(rt, alloc, &words, &mut FedInput::whole(document));
         groups.add(count, judged(alloc, &tried)?)?;
         words.pop();
     }
@@ -42,7 +42,7 @@ pub(crate) fn of_input<T: Threads + Wait + Sync>(
     let mut groups = Groups::new(alloc);
     for count in 0..=document.len() {
         let beginning = document.get(..count).unwrap_or(b"");
-        let mut input = Fed::new(beginning, usize::MAX, behind);
+        let mut input = FedInput::new(beginning, usize::MAX, behind);
         let tried = tried(rt, alloc, words, &mut input);
         let text = match behind {
             Behind::Interrupted => with_reads(alloc, &tried, &input)?,
@@ -54,7 +54,7 @@ pub(crate) fn of_input<T: Threads + Wait + Sync>(
 }
 
 /// The answer, and how many reads are made.
-fn with_reads(alloc: Global, tried: &Outcome, input: &Fed<'_>) -> io::Result<String> {
+fn with_reads(alloc: Global, tried: &Outcome, input: &FedInput<'_>) -> io::Result<String> {
     let mut text = shown(alloc, tried, input)?;
     write!(text, "\nin {} reads", input.reads)?;
     Ok(text)

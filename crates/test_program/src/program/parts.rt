@@ -1,9 +1,9 @@
 //! A part of what the program writes.
 
 use super::answer::{head, put_lines};
-use super::fed::Fed;
+use super::fed_input::FedInput;
 use super::talks::talk_of;
-use super::tried::tried;
+use super::trial::tried;
 use super::waves::{changes_of, levels_of, values_of};
 use std::alloc::Global;
 use std::sync::Wait;
@@ -18,7 +18,7 @@ pub(crate) fn part<T: Threads + Wait + Sync>(
     document: &[u8],
     (kind, more): (&str, &str),
 ) -> io::Result<String> {
-    let mut input = Fed::whole(document);
+    let mut input = FedInput::whole(document);
     let tried = tried(rt, alloc, words, &mut input);
     let text = str::from_utf8(&tried.written).unwrap_or("");
     let part = part_of(alloc, text, kind, more)?;

@@ -1,8 +1,8 @@
 //! The ways in which the program is tried.
 
 use super::answer::shown;
-use super::fed::{Behind, Fed};
-use super::tried::{tried, tried_alone};
+use super::fed_input::{Behind, FedInput};
+use super::trial::{tried, tried_alone};
 use std::alloc::Global;
 use std::fmt::Write;
 use std::io;
@@ -26,7 +26,7 @@ pub(crate) fn by_both<T: Threads + Wait + Sync>(
 
 /// The answer of one thread.
 pub(crate) fn alone(alloc: Global, words: &[String], document: &[u8]) -> io::Result<String> {
-    let mut input = Fed::whole(document);
+    let mut input = FedInput::whole(document);
     let tried = tried_alone(alloc, words, &mut input);
     shown(alloc, &tried, &input)
 }
@@ -38,7 +38,7 @@ fn by_threads<T: Threads + Wait + Sync>(
     words: &[String],
     document: &[u8],
 ) -> io::Result<String> {
-    let mut input = Fed::whole(document);
+    let mut input = FedInput::whole(document);
     let tried = tried(rt, alloc, words, &mut input);
     shown(alloc, &tried, &input)
 }
@@ -76,7 +76,7 @@ pub(crate) fn fed<T: Threads + Wait + Sync>(
         "more" => Behind::More,
         _ => Behind::End,
     };
-    let mut input = Fed::new(document, most.parse::<usize>().unwrap_or(0), behind);
+    let mut input = FedInput::new(document, most.parse::<usize>().unwrap_or(0), behind);
     let tried = tried(rt, alloc, words, &mut input);
     let mut text = shown(alloc, &tried, &input)?;
     write!(text, "\n{} bytes in {} reads", input.bytes, input.reads)?;

@@ -1,10 +1,10 @@
 //! What the program answers where its writers take so much and no more.
 
 use super::answer::put_status;
-use super::fed::Fed;
+use super::fed_input::FedInput;
 use super::groups::Groups;
 use super::narrow::Room;
-use super::tried::{Outcome, tried_within};
+use super::trial::{Outcome, tried_within};
 use std::alloc::Global;
 use std::fmt::Write;
 use std::io;
@@ -68,7 +68,13 @@ fn taken<T: Threads + Wait + Sync>(
     number: usize,
     room: Room,
 ) -> io::Result<String> {
-    let tried = tried_within(rt, alloc, words, &mut Fed::whole(document), (room, room));
+    let tried = tried_within(
+        rt,
+        alloc,
+        words,
+        &mut FedInput::whole(document),
+        (room, room),
+    );
     let mut text = String::from_str(alloc, " -> ")?;
     put_status(&mut text, &tried)?;
     write!(
@@ -105,7 +111,7 @@ pub(crate) fn so_many<T: Threads + Wait + Sync>(
 ) -> io::Result<String> {
     let (out, err) = numbers.split_once(' ').unwrap_or((numbers, ""));
     let rooms = (writes_of(out), writes_of(err));
-    let tried = tried_within(rt, alloc, words, &mut Fed::whole(document), rooms);
+    let tried = tried_within(rt, alloc, words, &mut FedInput::whole(document), rooms);
     let mut text = String::from_str(alloc, " -> ")?;
     put_status(&mut text, &tried)?;
     write!(text, ", bytes {}", tried.written.len())?;

@@ -4,18 +4,18 @@ use super::endless::Endless;
 use super::given::{NODE, link_with, message, started};
 use can_frame::Message;
 use sja_driver::{Active, Driver};
-use sja_link::{BusEnd, Down, DriverEnd, LinkId, ReleaseFault, Stopped, Up};
+use sja_link::{BusEnd, Down, DriverEnd, LinkId, LostWindow, ReleaseFault, Up};
 use sja_regs::address::{BUFFER, CMR, RMC, SR};
 use sja_regs::{Port, RegFault};
 use std::test::Fail;
 
-/// A copy of what the window shows; `Stopped` also for a link of another activation.
+/// A copy of what the window shows; `LostWindow` also for a link of another activation.
 fn shown<E: DriverEnd>(
     driver: &mut Driver<Active>,
     end: &mut E,
-) -> Result<Option<Message>, Stopped> {
+) -> Result<Option<Message>, LostWindow> {
     if driver.link() != end.id() {
-        return Err(Stopped);
+        return Err(LostWindow);
     }
     match driver.window(end)? {
         Some(message) => Ok(Some(message.copy())),
@@ -91,7 +91,7 @@ fn after_bus_off_the_window_is_gone(rt: HostRuntime) -> Result<(), Fail> {
     let Some(mut driver) = started(Driver::new(NODE), &mut link, &mut port) else {
         return Err(Fail::new(format_args!("start")));
     };
-    assert!(rt; shown(&mut driver, &mut link) == Err(Stopped));
+    assert!(rt; shown(&mut driver, &mut link) == Err(LostWindow));
     assert!(rt; released(&mut driver, &mut link) == Err(ReleaseFault::Stopped));
     assert!(rt; read(&mut driver, &mut link, &mut port, RMC) == Ok(0));
     assert!(rt; driver.unread() == [message(1)?].as_slice());

@@ -1,7 +1,7 @@
 //! Each address, read and written, in reset mode and out of it.
 
 use sja_regs::address::MOD;
-use sja_regs::{Port, RegFault, Register, Seen};
+use sja_regs::{BufferView, Port, RegFault, Register};
 
 /// What a read of one address answers after power-on, and what a write.
 type Answers = (Result<u8, RegFault>, Result<(), RegFault>);
@@ -40,7 +40,7 @@ fn wanted(addr: u8) -> (Answers, Answers) {
 
 /// What an address answers on this port.
 fn answers(mut port: Port, addr: u8, value: u8) -> Answers {
-    let seen = Seen {
+    let seen = BufferView {
         first: None,
         count: 0,
     };

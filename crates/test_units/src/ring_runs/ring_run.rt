@@ -1,6 +1,6 @@
 //! [`RingRun`]: a plan that is run over links of two rings.
 
-use super::told::Told;
+use super::message_fates::MessageFates;
 use super::worker::Worker;
 use can_frame::{Message, OutOfMemory};
 use sja_bus::{Bus, BusFault, NodeLog, SerialBoard, are_links_of};
@@ -122,7 +122,7 @@ impl RingRun {
     }
 
     /// What became of the messages of this activation of a node, once all is done.
-    pub fn told(self, alloc: Global, node: u8, activation: u8) -> Result<Told, Fail> {
+    pub fn told(self, alloc: Global, node: u8, activation: u8) -> Result<MessageFates, Fail> {
         let RingRun { bus, workers, .. } = self;
         let mut workers = workers;
         let place = usize::from(node);

@@ -1,7 +1,7 @@
 //! Plans whose reports are known: an overrun, the last EOF bit struck, a stop with unread messages.
 
+use super::message_fates::MessageFates;
 use super::ring_run::RingRun;
-use super::told::Told;
 use can_frame::Message;
 use sja_plan::{Plan, read_plan};
 use std::alloc::Global;
@@ -9,7 +9,7 @@ use std::test::Fail;
 use test_frames::runs::{RECEIVER_STRUCK, TRANSMITTER_STRUCK};
 
 /// Runs the plan: how many bits, and what became of the messages of an activation of node 1.
-fn told_of(alloc: Global, plan: &Plan, activation: u8) -> Result<(u32, Told), Fail> {
+fn told_of(alloc: Global, plan: &Plan, activation: u8) -> Result<(u32, MessageFates), Fail> {
     let mut run = RingRun::new(alloc, plan)?;
     let bits = run.run(plan)?;
     Ok((bits, run.told(alloc, 1, activation)?))

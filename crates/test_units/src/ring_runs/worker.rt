@@ -1,6 +1,6 @@
 //! [`Worker`]: the driver of a node with its script and its ends of links of two rings.
 
-use super::told::Told;
+use super::message_fates::MessageFates;
 use sja_driver::{LoggedDriver, WorkLog};
 use sja_link::{Down, DriverEnd};
 use sja_regs::Port;
@@ -74,8 +74,8 @@ impl Worker {
     }
 
     /// What its log and its links tell of this activation.
-    pub fn told(&mut self, alloc: Global, activation: u8) -> Result<Told, Fail> {
-        let mut told = Told::new(alloc);
+    pub fn told(&mut self, alloc: Global, activation: u8) -> Result<MessageFates, Fail> {
+        let mut told = MessageFates::new(alloc);
         for release in self.driver.log().released() {
             if release.activation == activation {
                 told.released.push(release.message.copy())?;

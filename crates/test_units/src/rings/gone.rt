@@ -4,7 +4,7 @@
 use super::given::Rings;
 use crate::links::given::LINK;
 use sja_link::{BusEnd, Down, DriverEnd, LinkId, Up};
-use sja_rings::{EndedBus, EndedDriver, Unsettled, end_bus, end_driver, settle};
+use sja_rings::{EndedBus, EndedDriver, MissingNote, end_bus, end_driver, settle};
 use std::alloc::Global;
 use std::test::Fail;
 
@@ -59,7 +59,7 @@ fn without_a_note_nothing_is_settled(rt: HostRuntime) -> Result<(), Fail> {
     if bus.has_note() || driver.has_note() {
         return Err("a note of a ring whose other end is gone".into());
     }
-    assert!(rt; settle(bus, driver) == Err(Unsettled));
+    assert!(rt; settle(bus, driver) == Err(MissingNote));
     Ok(())
 }
 

@@ -6,7 +6,7 @@ use sja_plan::Plan;
 use sja_regs::address::{BUFFER, CMR, IER, IR, MOD, SR};
 use sja_report::report;
 use sja_script::Step;
-use sja_session::{Answered, Session};
+use sja_session::{Session, StepOutcome};
 use std::alloc::Global;
 use std::test::Fail;
 
@@ -71,7 +71,7 @@ fn goes(session: &mut Session) -> Result<bool, Fail> {
         line_rises(session)?
             && received(session)? == [0x01, 0x1d, 0x24]
             && released(session)? == 0x00
-            && step(session, 0, Step::Sent)? == Answered::Waits
+            && step(session, 0, Step::Sent)? == StepOutcome::Waits
             && status_at_rest(session)? == 0x0c,
     )
 }

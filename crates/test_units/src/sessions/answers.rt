@@ -3,7 +3,7 @@
 use super::calls::{has, has_none, read, session_of, step, write};
 use sja_regs::address::{CMR, MOD};
 use sja_script::{Step, StepAnswer};
-use sja_session::{Answered, Session};
+use sja_session::{Session, StepOutcome};
 use std::test::Fail;
 
 /// The last answer is that of the last step that is done; one that waits has none, nor has a node that isn't there.
@@ -27,6 +27,6 @@ fn is_done_by_a_write(session: &mut Session) -> Result<bool, Fail> {
 /// Whether it's that of a read, though a step was tried after it that waits.
 fn is_kept_by_a_wait(session: &mut Session) -> Result<bool, Fail> {
     let _ = read(session, 0, MOD)?;
-    let waits = step(session, 0, Step::Sent)? == Answered::Waits;
+    let waits = step(session, 0, Step::Sent)? == StepOutcome::Waits;
     Ok(waits && has(session, 0, StepAnswer::Value(0x00)))
 }

@@ -5,7 +5,7 @@ use sja_log::RunLog;
 use sja_plan::Plan;
 use sja_script::{Step, StepAnswer};
 use sja_serial::run_serial;
-use sja_session::{Answered, Session};
+use sja_session::{Session, StepOutcome};
 use std::alloc::Global;
 use std::test::Fail;
 
@@ -26,7 +26,7 @@ pub(crate) fn read(session: &mut Session, node: u8, address: u8) -> Result<u8, F
 }
 
 /// Does a step, if it hasn't to wait.
-pub(crate) fn step(session: &mut Session, node: u8, step: Step) -> Result<Answered, Fail> {
+pub(crate) fn step(session: &mut Session, node: u8, step: Step) -> Result<StepOutcome, Fail> {
     Ok(session.step(node, step)?)
 }
 

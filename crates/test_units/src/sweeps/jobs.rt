@@ -1,7 +1,7 @@
 //! Sweeps in several threads.
 
 use super::given::{one_frame, swept, swept_in};
-use sja_sweep::Sweeping;
+use sja_sweep::{Kinds, Sweeping};
 use std::test::Fail;
 
 /// One, two, three and eight threads give the texts of one thread, and none counts as one.
@@ -24,7 +24,7 @@ fn each_of_few_runs_is_made_once(rt: HostRuntime) -> Result<(), Fail> {
         first: 58,
         last: 60,
         pairs: None,
-        changed: false,
+        asked: Kinds::none(),
         meant: false,
     };
     let alone = swept(rt.alloc(), one_frame(), sweeping)?;

@@ -1,7 +1,7 @@
 //! Lines of sweeps: a frame that comes twice to another receiver, one that is lost, and a plan without bits.
 
 use super::given::{swept, unfolded};
-use sja_sweep::Sweeping;
+use sja_sweep::{Kinds, Sweeping};
 use std::test::Fail;
 
 /// One sender and two receivers.
@@ -18,7 +18,9 @@ steps = [\"start\"]
 
 /// Node 1 tells an error in the last but one bit of EOF. Node 2 sees its flag in the last bit, when the frame is valid
 /// for it already; node 0 sends again. Node 1's flag ends first, which counts 8 more: 9, and 8 after the frame.
-const ANOTHER_RECEIVER: &str = "as planned: bits 64 end turns
+const ANOTHER_RECEIVER: &str =
+    "outcomes: as without a strike 0, told by ECC 0, twice 1, lost 0, stuck 0, other 0
+as planned: bits 64 end turns
     ; node 0 activation 1 released 0 unread 0
     ; node 1 activation 1 released 0 unread 1
     ; node 2 activation 1 released 0 unread 1
@@ -45,7 +47,9 @@ steps = [\"start\", \"release\"]
 
 /// Up to bit 58 the frame isn't valid for node 1 when it sees the error flag. It has an error of its own and is sent no
 /// frame that would take it back.
-const LOST: &str = "as planned: bits 64 end turns
+const LOST: &str =
+    "outcomes: as without a strike 2, told by ECC 0, twice 0, lost 2, stuck 0, other 0
+as planned: bits 64 end turns
     ; node 0 activation 1 released 0 unread 0
     ; node 1 activation 1 released 1 unread 0
     ; node 0 tec 0 rec 0
@@ -70,7 +74,9 @@ steps = [\"start\"]
 ";
 
 /// No run, and no line of a strike.
-const NONE: &str = "as planned: bits 0 end turns
+const NONE: &str =
+    "outcomes: as without a strike 0, told by ECC 0, twice 0, lost 0, stuck 0, other 0
+as planned: bits 0 end turns
     ; node 0 tec 0 rec 0
 runs 0, with another outcome 0
 ";
@@ -82,7 +88,7 @@ fn from_to(node: u8, first: u32, last: u32) -> Sweeping {
         first,
         last,
         pairs: None,
-        changed: false,
+        asked: Kinds::none(),
         meant: false,
     }
 }

@@ -1,7 +1,7 @@
 //! The sweep of one frame between two nodes, whole.
 
 use super::given::{one_frame, swept, unfolded};
-use sja_sweep::Sweeping;
+use sja_sweep::{Kinds, Sweeping};
 use std::test::Fail;
 
 /// The lines of the sweep. Each is worked by hand from Bosch CAN 2.0 part A, sections 3.1 (frames), 5 (bit
@@ -26,7 +26,9 @@ use std::test::Fail;
 /// in 29 to 32 (DLC) it takes the frame for a longer one, and in 47 to 50 its CRC sequence is wrong: it doesn't
 /// acknowledge, and node 0 tells the error. From bit 51 to 59 it tells an error, and the frame comes again; in bits
 /// 60 and 61 an overload.
-const LINES: &str = "as planned: bits 64 end turns
+const LINES: &str =
+    "outcomes: as without a strike 126, told by ECC 0, twice 2, lost 0, stuck 0, other 0
+as planned: bits 64 end turns
     ; node 0 activation 1 released 0 unread 0
     ; node 1 activation 1 released 1 unread 0
     ; node 0 tec 0 rec 0
@@ -136,7 +138,9 @@ runs 128, with another outcome 2
 ";
 
 /// Of the same sweep what is asked for: node 0 from bit 58 to bit 60, and only lines with another outcome.
-const TWICE: &str = "as planned: bits 64 end turns
+const TWICE: &str =
+    "outcomes: as without a strike 1, told by ECC 0, twice 2, lost 0, stuck 0, other 0
+as planned: bits 64 end turns
     ; node 0 activation 1 released 0 unread 0
     ; node 1 activation 1 released 1 unread 0
     ; node 0 tec 0 rec 0
@@ -185,7 +189,10 @@ fn a_sweep_strikes_what_is_asked_for(rt: HostRuntime) -> Result<(), Fail> {
         first: 58,
         last: 60,
         pairs: None,
-        changed: true,
+        asked: Kinds {
+            changed: true,
+            ..Kinds::none()
+        },
         meant: false,
     };
     let swept = swept(rt.alloc(), one_frame(), sweeping)?;

@@ -1,14 +1,16 @@
 //! Sweeps of pairs of strikes.
 
 use super::given::{one_frame, swept, unfolded};
-use sja_sweep::Sweeping;
+use sja_sweep::{Kinds, Sweeping};
 use std::test::Fail;
 
 /// Both nodes of the frame see dominant in the same bit of EOF, and tell it in the next one. Up to its last but one
 /// bit, 59, it is an error for both: the frame isn't valid for node 1, and comes once, when it is sent again. In the
 /// last bit, 60, it is an error for node 0 alone, an overload for node 1, and the frame comes twice. The flags end
 /// together: node 1 counts 1 for its error, and 1 less for the next frame.
-const BOTH: &str = "as planned: bits 64 end turns
+const BOTH: &str =
+    "outcomes: as without a strike 2, told by ECC 0, twice 1, lost 0, stuck 0, other 0
+as planned: bits 64 end turns
     ; node 0 activation 1 released 0 unread 0
     ; node 1 activation 1 released 1 unread 0
     ; node 0 tec 0 rec 0
@@ -52,7 +54,8 @@ steps = [\"start\"]
 ";
 
 /// Of two nodes in two bits each two: six pairs. Those of nodes 0 and 1 in one bit are two bits of one line.
-const SIX: &str = "as planned: bits 2 end turns
+const SIX: &str = "outcomes: as without a strike 6, told by ECC 0, twice 0, lost 0, stuck 0, other 0
+as planned: bits 2 end turns
     ; node 0 activation 1 released 0 unread 0
     ; node 1 activation 1 released 0 unread 0
     ; node 0 tec 0 rec 0
@@ -88,7 +91,7 @@ fn two_strikes_in_one_bit_are_told_with_both_nodes(rt: HostRuntime) -> Result<()
         first: 58,
         last: 60,
         pairs: Some(0),
-        changed: false,
+        asked: Kinds::none(),
         meant: false,
     };
     let swept = swept(rt.alloc(), one_frame(), sweeping)?;

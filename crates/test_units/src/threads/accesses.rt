@@ -1,7 +1,7 @@
 //! Whole runs in threads whose drivers know addresses and bytes alone.
 
+use super::driver_threads::{are_answers, open_gates, run};
 use super::gates::{HoldsOnce, Patience};
-use super::given::{are_answers, open_gates, run};
 use sja_log::{End, RunLog};
 use std::alloc::Global;
 use std::test::Fail;

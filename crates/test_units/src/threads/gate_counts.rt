@@ -1,6 +1,6 @@
 //! Runs in threads with too few or too many gates.
 
-use super::given::{open_gates, run_of};
+use super::driver_threads::{open_gates, run_of};
 use sja_log::RunFault;
 use sja_plan::read_plan;
 use std::alloc::Global;
@@ -41,10 +41,12 @@ fn is_refused<R: Threads + Wait + Sync>(
 
 /// Whether a run of two nodes is refused with no gate, with one, and with three, and made with two.
 fn takes_two<R: Threads + Wait + Sync>(rt: &R, alloc: Global, text: &str) -> Result<bool, Fail> {
-    Ok(is_refused(rt, alloc, text, 0)?
-        && is_refused(rt, alloc, text, 1)?
-        && !is_refused(rt, alloc, text, 2)?
-        && is_refused(rt, alloc, text, 3)?)
+    Ok(
+        is_refused(rt, alloc, text, 0)?
+            && is_refused(rt, alloc, text, 1)?
+            && !is_refused(rt, alloc, text, 2)?
+            && is_refused(rt, alloc, text, 3)?,
+    )
 }
 
 #[test]

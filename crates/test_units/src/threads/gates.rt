@@ -14,11 +14,19 @@ impl Gate for Open {
 
     ghost QUITS = { false };
 
+    ghost asks = { λ g node step tries. Unit {0} };
+
     const QUITS: bool = false;
 
     fn turn(&self, _node: u8, _step: u32, _tries: u32) -> Pass {
         Pass::Go
     }
+
+    ghost first_step = { λ g node. tt };
+
+    ghost next_try = { λ g node step tries next so numbered. tt };
+
+    ghost next_step = { λ g node step tries next so numbered. tt };
 }
 
 /// A gate that quits at this try of a step.
@@ -32,6 +40,8 @@ impl Gate for Patience {
 
     ghost QUITS = { true };
 
+    ghost asks = { λ g node step tries. Unit {0} };
+
     const QUITS: bool = true;
 
     fn turn(&self, _node: u8, _step: u32, tries: u32) -> Pass {
@@ -41,6 +51,12 @@ impl Gate for Patience {
             Pass::Go
         }
     }
+
+    ghost first_step = { λ g node. tt };
+
+    ghost next_try = { λ g node step tries next so numbered. tt };
+
+    ghost next_step = { λ g node step tries next so numbered. tt };
 }
 
 /// A gate that holds each step once, lets its second try go, and quits at a third and past this step.
@@ -54,6 +70,8 @@ impl Gate for HoldsOnce {
 
     ghost QUITS = { true };
 
+    ghost asks = { λ g node step tries. Unit {0} };
+
     const QUITS: bool = true;
 
     fn turn(&self, _node: u8, step: u32, tries: u32) -> Pass {
@@ -65,6 +83,12 @@ impl Gate for HoldsOnce {
             Pass::Hold
         }
     }
+
+    ghost first_step = { λ g node. tt };
+
+    ghost next_try = { λ g node step tries next so numbered. tt };
+
+    ghost next_step = { λ g node step tries next so numbered. tt };
 }
 
 /// How often a step is tried that waits for another driver.
@@ -87,6 +111,8 @@ impl Gate for Meeting {
 
     ghost QUITS = { true };
 
+    ghost asks = { λ g node step tries. Unit {0} };
+
     const QUITS: bool = true;
 
     fn turn(&self, _node: u8, step: u32, tries: u32) -> Pass {
@@ -99,4 +125,10 @@ impl Gate for Meeting {
         }
         Pass::Go
     }
+
+    ghost first_step = { λ g node. tt };
+
+    ghost next_try = { λ g node step tries next so numbered. tt };
+
+    ghost next_step = { λ g node step tries next so numbered. tt };
 }

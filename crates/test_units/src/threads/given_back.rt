@@ -1,7 +1,7 @@
 //! Writes of a driver that knows addresses and bytes alone, over a link that gives an item back: the steps from that
 //! one on are left, as a write of some byte has them too, and the next try does them.
 
-use super::given::are_answers;
+use super::driver_threads::are_answers;
 use can_frame::Message;
 use sja_driver::address::RBSA;
 use sja_driver::{KeptBytes, LoggedDriver, WorkLog, WriteSteps, is_reset, steps_of_write};
@@ -84,9 +84,11 @@ impl Writer {
 
     /// Tries the steps that are left of a write, one after the other, and says whether none is left.
     fn goes_on(&mut self, left: &mut WriteSteps) -> Result<bool, Fail> {
-        Ok(self.does(&mut left.first)?
-            && self.does(&mut left.second)?
-            && self.does(&mut left.third)?)
+        Ok(
+            self.does(&mut left.first)?
+                && self.does(&mut left.second)?
+                && self.does(&mut left.third)?,
+        )
     }
 
     /// Tries a step of a write, where it is left, and says whether it isn't any more.

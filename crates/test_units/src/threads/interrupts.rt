@@ -1,6 +1,6 @@
 //! Drivers in threads of their own that wait for the interrupt line.
 
-use super::given::GAVE_UP;
+use super::driver_threads::GAVE_UP;
 use super::part::Part;
 use super::passing::{HANDED, released};
 use can_frame::Message;

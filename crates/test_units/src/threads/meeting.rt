@@ -1,6 +1,6 @@
 //! Drivers that wait for each other.
 
-use super::given::{ended, two_gates};
+use super::driver_threads::{ended, two_gates};
 use sja_log::{End, RunLog};
 use sja_report::report;
 use std::alloc::Global;

@@ -16,7 +16,7 @@ use test_words::turn_of;
 pub enum Part {
     /// It puts this message, and takes a credit and the stop.
     HandOver(Message),
-    /// Its bits are spent: it closes the port, and waits until the driver has ended.
+    /// Its bits are spent: it closes the port, and takes the stop.
     Shut,
     /// It tells the port of a bit in which the receive error counter comes to its limit, and takes the stop.
     Warn,
@@ -49,7 +49,7 @@ impl Part {
         starts
             && match self {
                 Part::HandOver(message) => hand_over(rt, end, message),
-                Part::Shut => shut(rt, board),
+                Part::Shut => shut(rt, end, board),
                 Part::Warn => warn(rt, end, board),
             }
     }
@@ -74,17 +74,11 @@ fn hand_over(rt: &impl Wait, end: &mut RingBus, message: Message) -> bool {
     puts && credits && stops
 }
 
-/// Closes the port, and waits until the driver has ended.
-fn shut<R: Wait>(rt: &R, board: TurnBoard<Brand, R>) -> bool {
+/// Closes the port, and takes the stop that comes once the wait was given up.
+fn shut<R: Wait>(rt: &R, end: &mut RingBus, board: TurnBoard<Brand, R>) -> bool {
     let mut board = board;
     board.close(0);
-    for _ in rt.forever() {
-        if board.orders(0).ended {
-            return true;
-        }
-        yield_now();
-    }
-    unreachable!()
+    matches!(taken(rt, end), Up::Stop)
 }
 
 /// Tells the port of a bit in which the receive error counter comes to its limit, and takes the stop.

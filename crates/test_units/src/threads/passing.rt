@@ -1,12 +1,12 @@
 //! A driver in a thread of its own, and the bus's ends in another.
 
+use super::driver_threads::{GAVE_UP, WAITS, answers, drive, one_port, pairs};
 use super::gates::Open;
-use super::given::{GAVE_UP, WAITS, answers, drive, one_port, pairs};
 use super::part::Part;
 use can_frame::Message;
 use sja_rings::RingDriver;
 use sja_script::Step;
-use sja_threads::{DeedsOfNode, LockedPort, TurnsOfNode, Worked};
+use sja_threads::{DeedsOfNode, Handover, LockedPort, TurnsOfNode};
 use std::alloc::Global;
 use std::marker::Brand;
 use std::sync::{Mutex, Wait};
@@ -25,14 +25,14 @@ fn both<R: Threads + Wait + Sync>(
     done: DeedsOfNode<Brand>,
     steps: &[Step],
     part: Part,
-) -> Result<(Worked<RingDriver>, bool), Fail> {
+) -> Result<(Handover<RingDriver>, bool), Fail> {
     let Some(port) = ports.get(0) else {
         return Err("no port")?;
     };
     let (ends, links) = pairs(alloc)?;
     let (worked, passed) = join(
         rt,
-        move || -> Result<Worked<RingDriver>, Fail> {
+        move || -> Result<Handover<RingDriver>, Fail> {
             drive(rt, alloc, links, port, done, steps, Open)
         },
         move || -> bool { part.is_done(rt, alloc, ends, ports, told) },

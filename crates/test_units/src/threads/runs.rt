@@ -1,7 +1,7 @@
 //! Whole runs in threads whose gates quit. Whole runs with open gates stand in the rows of `test_program`.
 
+use super::driver_threads::ended;
 use super::gates::Patience;
-use super::given::ended;
 use sja_log::End;
 use std::alloc::Global;
 use std::test::Fail;

@@ -1,7 +1,7 @@
 //! A driver whose links nobody is at the other end of.
 
+use super::driver_threads::{GAVE_UP, WAITS, answers, drive, one_port, pairs};
 use super::gates::{HoldsOnce, Open, Patience};
-use super::given::{GAVE_UP, WAITS, answers, drive, one_port, pairs};
 use sja_script::Step;
 use sja_threads::{DeedsOfNode, Gate, LockedPort};
 use std::alloc::Global;

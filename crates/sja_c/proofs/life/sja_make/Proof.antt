@@ -29,13 +29,13 @@ use Rattle.std.proofs.alloc.Global.TheLaws as global_laws
 use Rattle.std.specs.contracts.alloc.Global as global
 use Rattle.sja_c.proofs.OwnedParts.MadeParts.{word, ptr_good, made_good, made_out}
 use Rattle.sja_c.proofs.answer.SjaAnswer.TheLaws as laws
-use Rattle.sja_c.proofs.made.make.Met as call_met
+use Rattle.sja_c.proofs.new_handle.make.Met as call_met
 use Rattle.sja_c.specs.Exports.{AnswersMake}
 use Rattle.sja_c.specs.Handles.{is_handle, empty}
-use Rattle.sja_c.specs.contracts.made.Made as made
-use Rattle.sja_c.specs.contracts.made.make as call
-use Rattle.sja_c.specs.declared.made.Made.{Made}
-use Rattle.sja_calls.specs.declared.held.Held.{Held}
+use Rattle.sja_c.specs.contracts.new_handle.NewHandle as made
+use Rattle.sja_c.specs.contracts.new_handle.make as call
+use Rattle.sja_c.specs.declared.new_handle.NewHandle.{NewHandle}
+use Rattle.sja_calls.specs.declared.held_session.HeldSession.{HeldSession}
 use Rattle.sja_c.specs.contracts.life.sja_make.{ended, clauses}
 use Rattle.sja_c.specs.contracts.life.sja_make.Key.{name as #self}
 use Rattle.sja_c.proofs.life.sja_make.Statement.{statement}
@@ -66,9 +66,9 @@ sja_make_spec 𝓤 𝓛 𝓜 𝓡 wired =
     (((global_laws.the_row_laws.lawful 𝓛).typed alloc _ are.0).0, ((tt, tt), tt)) $
     nothing ! $ move ! (1 ∷ 0 ∷ []) $ join ! $ nothing ! $ join ! $ nothing ! $ move ! (1 ∷ 0 ∷ []) $
     use2 𝓛 (raw (G.pre y)) (id⊢ 𝓤 _) $
-    calls_at ! (framed 𝓤 𝓛.H 𝓜 𝓣) G (call_met.met 𝓤 𝓛 𝓜 𝓡 (code.calls-sja_c::made::make 𝓡.env wired)) y
+    calls_at ! (framed 𝓤 𝓛.H 𝓜 𝓣) G (call_met.met 𝓤 𝓛 𝓜 𝓡 (code.calls-sja_c::new_handle::make 𝓡.env wired)) y
     (and_then ! (get ! refl) (no_more !)) (λ v.
-    use1 𝓛 (later (some (λ (x : Made). (‵ ftrue ⊛ ‵ (made.the_row.own_val x (v ∷ []))) ⊛
+    use1 𝓛 (later (some (λ (x : NewHandle). (‵ ftrue ⊛ ‵ (made.the_row.own_val x (v ∷ []))) ⊛
     some (λ (ws : Unit {0} × Unit {0}). ‵ (lasts call.ended y.0.0 y.0.3 ws) ⊛
     (raw (fact 𝓤 (x.held ≡ empty alloc)) ⊛ raw (fact 𝓤 (AnswersMake x.at x.answer))))))) (id⊢ 𝓤 _) $
     await ! tt $ pick ! (λ x. split ! $ split ! $ drop ! $ move ! (1 ∷ []) $
@@ -90,7 +90,7 @@ sja_make_spec 𝓤 𝓛 𝓜 𝓡 wired =
     move ! (3 ∷ 0 ∷ 1 ∷ []) $ fjoin3 ! $ nothing ! $ move ! (1 ∷ 0 ∷ []) $ fjoin ! $ nothing ! $ fjoin ! $
     move ! (1 ∷ []) $ nothing ! $ move ! (1 ∷ 0 ∷ []) $ join ! $
     -- [the token; the caller's place; what lies at the handle; the answer]
-    move ! (2 ∷ []) $ rewrite ! 0 (λ (h : Held). ‵ (is_handle x.at h)) is_empty refl $
+    move ! (2 ∷ []) $ rewrite ! 0 (λ (h : HeldSession). ‵ (is_handle x.at h)) is_empty refl $
     use0 𝓛 (raw (fact 𝓤 (AnswersMake x.at x.answer))) (fact_i 𝓤 (AnswersMake x.at x.answer) (emp 𝓤) said) $
     move ! (1 ∷ 0 ∷ []) $ join ! $ keep ! (1 ∷ 2 ∷ 3 ∷ 0 ∷ []) $
     by ! (leaves 𝓛 ended hs c ((κs, qs, bounds, a, (allocs, (mut_vals session, tt))), g) (word x.answer) x.answer

@@ -1,18 +1,10 @@
-use Rattle.std.proofs.Common.{inl}
-use Rattle.std.proofs.lemmas.Result.{err_from_is_err_and}
 use Rattle.sja_run.proofs.plan_document.spelled.Goals as goal
 
 -- a plan that was read has texts
 pub document-requires : goal.document-requires
-document-requires c = c.a_plan_has_texts.ensures c.args.bytes.now c.in_ok-plan.plan c.in_ok-plan.ensures.ok
+document-requires c = c.a_run_plan_has_texts.ensures c.args.bytes.now c.in_ok-plan.plan c.in_ok-plan.ensures.ok
 
 -- the text is that of the plan
 pub returns-clause-ok : goal.returns-clause-ok
 returns-clause-ok c =
     (c.in_ok-plan.plan, c.in_ok-plan.ensures.ok, rw c.into_bytes.ensures.value c.in_ok-text.ensures.ok)
-
--- the bytes are no plan
-pub returns-in_err-plan-clause-err : goal.returns-in_err-plan-clause-err
-returns-in_err-plan-clause-err c =
-    let told = err_from_is_err_and c.from_residual.result c.from_residual.ensures.1 in
-    rw (told.1, told.2) (inl c.in_err-plan.ensures.err)

@@ -3,7 +3,7 @@ use Rattle.sja_run.proofs.struck_plan.struck.Goals as goal
 -- a plan that was read has texts
 pub struck_text-requires : goal.struck_text-requires
 struck_text-requires g c =
-    let holds = c.in_ok-plan.ensures.ok in c.a_plan_has_texts.ensures holds.0 c.in_ok-plan.plan holds.2
+    let holds = c.in_ok-plan.ensures.ok in c.a_run_plan_has_texts.ensures holds.0 c.in_ok-plan.plan holds.2
 
 -- the document is that of the plan that was read, with the strike more
 pub returns-clause-ok : goal.returns-clause-ok

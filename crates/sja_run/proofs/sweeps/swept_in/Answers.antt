@@ -17,9 +17,3 @@ returns-in_err-text-clause-err g c =
     let plan = c.in_ok-plan.plan in
     let why = c.in_err-text.ensures.err plan (rw (sym c.sweeping_of.ensures) c.sweep_jobs-swept.ensures.err) in
     rw (told.1, told.2) (text_refused _ _ plan _ c.in_ok-plan.ensures.ok why)
-
--- the bytes are no plan
-pub returns-in_err-plan-clause-err : goal.returns-in_err-plan-clause-err
-returns-in_err-plan-clause-err g c =
-    let told = err_from_is_err_and c.from_residual.result c.from_residual.ensures.1 in
-    rw (told.1, told.2) c.in_err-plan.ensures.err

@@ -1,0 +1,10 @@
+//! How a talk ends.
+
+/// How a talk ended (this project's own rule).
+#[derive(Clone, Copy, Debug, PartialEq, Eq)]
+pub enum TalkEnd {
+    /// With the report of its session.
+    Reported,
+    /// With its first line, which opens no session.
+    Unopened,
+}
