@@ -40,7 +40,7 @@ enum sja_status {
     SJA_STEPS_USED = 11,  /* the node has no room for the access: a step, before version 3 up to three for a write */
     SJA_TURNS_USED = 12,  /* as many turns were taken as a session has */
     SJA_STRIKES_USED = 13,/* as many strikes were taken as a session has */
-    SJA_NO_PLAN = 14,     /* the bytes are no plan */
+    SJA_NO_PLAN = 14,     /* the bytes are no plan, or its run has no place of a strike */
     SJA_NO_DOCUMENT = 15, /* no document says the plan, or it would be too long */
     SJA_NO_ROOM = 16,     /* the text doesn't fit: the value is the size that it needs, with the NUL at its end */
     SJA_NO_MEMORY = 17,   /* memory was refused; of sja_plan and sja_report also: no session stands at the handle */

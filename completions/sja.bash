@@ -36,12 +36,13 @@ _sja_words() {
     case $1 in
     '') echo "$commands -h --help -V --version" ;;
     encode | decode | arbitrate | message | plan | live) echo "-h --help" ;;
-    run | wave | frames) echo "--threads --jobs -h --help" ;;
+    run) echo "--threads --jobs --expect -h --help" ;;
+    wave | frames) echo "--threads --jobs -h --help" ;;
     trace) echo "--threads -h --help" ;;
     check) echo "--jobs --strict -h --help" ;;
     picture) echo "--svg --threads --yes -h --help" ;;
     candump) echo "--errors --threads --jobs -h --help" ;;
-    sweep) echo "--only --from --to --pairs --changed --rows --yes --jobs --plan -h --help" ;;
+    sweep) echo "--only --from --to --pairs --changed --twice --lost --stuck --rows --yes --jobs --plan -h --help" ;;
     filter) if [ "$2" = 0 ]; then echo "single dual -h --help"; else echo "-h --help"; fi ;;
     help) if [ "$2" = 0 ]; then echo "$commands"; fi ;;
     esac

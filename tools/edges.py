@@ -11,6 +11,7 @@ VERSION_3 = "version = 3\n"
 SMALL = "bits = 1\n[[node]]\nsteps = []\n"
 REPORT = "sja version 3 bits 0 end turns\n"
 KEY = "sja: plan fault 4 Key\n"
+TOML = "sja: plan fault 3 Toml\n"
 UNKNOWN_0 = KEY + 'line 2: no key is called "0"\n'
 UNKNOWN = 'sja: plan fault 4 Key\nline 2: no key is called "N0"\n'
 
@@ -49,6 +50,21 @@ def deep(alike=1):
     return filled(lambda n: f"{n // alike}.a.a.a.a.a.a.a.a.a.a.{n % alike}=1\n")
 
 
+def below(key):
+    """A document of 15 MB of keys with 9 parts below a key of a plan."""
+    return filled(lambda n: f"{key}.a{n}.a.a.a.a.a.a.a=1\n")
+
+
+def nodes(line):
+    """A document of 15 MB of nodes with such a line each."""
+    return filled(lambda n: f"[[node]]\n{line}\n")
+
+
+def listed(item, key="N"):
+    """A document of 15 MB with a list of such items behind this, of which the last is a key."""
+    return f"{VERSION_3}{key}=[{item * (15000000 // len(item))}]\n"
+
+
 def refused(count):
     """A plan of eight nodes whose drivers are refused so many steps each."""
     turns = "".join(f'"node {node} {count}",' for node in range(8))
@@ -82,6 +98,16 @@ EDGES = [
     Edge("15 MB of keys with 12 parts", ["run"], deep, 1, KEY, 2, 20),
     Edge("the same, explained", ["check"], deep, 1, UNKNOWN_0, 3, 20),
     Edge("the same, two of each begin alike", ["run"], lambda: deep(2), 1, KEY, 2, 20),
+    Edge("the same, with a line that is no TOML at its end", ["run"], lambda: deep() + "!\n", 1, TOML, 2, 20),
+    Edge("the same, explained", ["check"], lambda: deep() + "!\n", 1, TOML, 5, 20),
+    Edge("15 MB of keys with 9 parts below bits", ["run"], lambda: below("bits"), 1, KEY, 2, 20),
+    Edge("15 MB of nodes with a key of 9 parts", ["run"], lambda: nodes("a.a.a.a.a.a.a.a.a=1"), 1, KEY, 2, 20),
+    Edge("15 MB of nodes with a header of 9 parts", ["run"], lambda: nodes("[node.a.a.a.a.a.a.a.a]"), 1, KEY, 2, 20),
+    Edge("15 MB of inline tables", ["run"], lambda: listed("{a.a=1,a.b=1},"), 1, KEY, 2, 20),
+    Edge("the same at turns", ["run"], lambda: listed("{a.a=1,a.b=1},", "turns"), 1, KEY, 2, 20),
+    Edge("15 MB of inline tables, one in another", ["run"], lambda: listed("{a={a={a={a=1}}}},"), 1, KEY, 2, 20),
+    Edge("15 MB of lists, one in another", ["run"], lambda: listed("[[[[[[[[]]]]]]]],", "turns"), 1, KEY, 2, 20),
+    Edge("15 MB of steps in lists", ["run"], lambda: listed("[1],", "[[node]]\nsteps"), 1, KEY, 2, 20),
     Edge("15 MB of keys with one part", ["run"], lambda: filled(lambda n: f"N{n}=1\n"), 1, KEY, 3, 20),
     Edge("15 MB of headers", ["run"], lambda: filled(lambda n: f"[N{n}]\n"), 1, KEY, 3, 20),
     Edge("160,000 refused steps", ["check"], lambda: refused(20000), 0, "line 4: node 0 is never started", 3, 64),

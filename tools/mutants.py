@@ -90,10 +90,11 @@ def step(rng, version):
 
 
 def access(rng):
-    """What a driver does that knows addresses and bytes alone: it reads, writes, and waits for its interrupt line."""
+    """What a driver does that knows addresses and bytes alone: it reads, writes, and waits for its interrupt line, or
+    for a bit."""
     kind = rng.randrange(8)
     if kind == 0:
-        return "interrupt"
+        return rng.choice(["interrupt", f"at {rng.choice([0, 1, 30, 300, 5000, 2000000, 2000001])}"])
     if kind < 4:
         return f"read {rng.choice(NAMES if rng.random() < 0.4 else READ)}"
     if kind == 4:
@@ -120,6 +121,23 @@ def strike(rng, nodes):
     return f"{rng.randrange(nodes)} {rng.randrange(400)} {rng.choice([1, 18, 26, 53, 1000])} {rng.choice([1, 2, 16, 40, 300])}"
 
 
+def placed(rng, nodes):
+    """A strike of one of so many nodes at a place of a frame."""
+    place = rng.choice(["SOF", "ID.28", "RTR", "DLC.0", "data 1.7", "data 8.0", "CRC.14", "CRC delimiter", "ACK", "EOF.7", "stuff.1", "stuff.9"])
+    if rng.random() < 0.7:
+        return f"{rng.randrange(nodes)} frame {rng.choice([1, 1, 2, 3, 40])} {place}"
+    return f"{rng.randrange(nodes)} {place} x{rng.choice([1, 2, 9])}"
+
+
+def strikes(rng, nodes, version, counts):
+    """Strikes of so many nodes, of which in version 3 some may be at places."""
+    found = [strike(rng, nodes) for _ in range(rng.choice(counts))]
+    if version == 3 and rng.random() < 0.2:
+        found += [placed(rng, nodes) for _ in range(rng.choice([1, 1, 3]))]
+    rng.shuffle(found)
+    return found
+
+
 def listed(texts):
     """A list of texts."""
     return "[" + ", ".join(f'"{it}"' for it in texts) + "]"
@@ -142,7 +160,7 @@ def made(rng):
     turns = [turn(rng, nodes) for _ in range(rng.choice([2, 5, 10, 30]))]
     if rng.random() < 0.5:
         turns = [f"node {it} {rng.choice([1, 3, 4])}" for it in range(nodes)] + turns
-    faults = [strike(rng, nodes) for _ in range(rng.choice([0, 0, 1, 2, 8]))]
+    faults = strikes(rng, nodes, version, [0, 0, 1, 2, 8])
     bits = rng.choice([1, 60, 64, 200, 200, 1000, 2000, 5000, 30000, 200000])
     return written(rng, version, bits, turns, faults, scripts)
 
@@ -200,7 +218,7 @@ def accessed(rng):
         turns.append(rng.choice([f"node {node} {rng.choice([1, 3, 10, 50])}", f"node {node}"]))
         turns.append(rng.choice(["rest", "bus 1", "bus 11", "bus 60", "bus 300", f"irq {node} {rng.choice([1, 60, 300])}", "go"]))
     turns += [f"node {it} 1000" for it in range(nodes)]
-    faults = [strike(rng, nodes) for _ in range(rng.choice([0, 0, 1, 2, 8]))]
+    faults = strikes(rng, nodes, 3, [0, 0, 1, 2, 8])
     return written(rng, 3, rng.choice([60, 2000, 30000, 200000]), turns, faults, scripts)
 
 

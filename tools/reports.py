@@ -25,6 +25,7 @@ MAY_ANSWER = {
     "await": {"ok"},
     "sent": {"ok"},
     "interrupt": {"ok"},
+    "at": {"ok"},
 }
 REGISTER_FAULTS = {
     "NoRegister", "ReadOnly", "ResetOnly", "Locked", "UseTyped", "NotInVersion", "ActiveOnly", "ListenOnly",
@@ -41,6 +42,7 @@ MAY_REFUSE = {
     "await": {"Stopped", "Closed", "WrongState"},
     "sent": {"Closed", "WrongState"},
     "interrupt": {"Closed"},
+    "at": {"Closed"},
 }
 
 
@@ -177,7 +179,7 @@ def walk(version, steps, answers):
             if done:
                 activations.append(Activation())
                 released = 0
-        elif name not in ("read", "write", "interrupt"):
+        elif name not in ("read", "write", "interrupt", "at"):
             check(active, f"{step} in reset is answered {answer}")
         if not done:
             continue

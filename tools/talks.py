@@ -75,7 +75,7 @@ class Talk:
             return [f"write {node} {dice.randrange(dice.choice((32, 256)))} {dice.randrange(256):02x}"]
         if kind < 0.94:
             steps = STEPS + (f"await {dice.randrange(1, 4)}", f"read {dice.randrange(32)}", "interrupt",
-                             f"write {dice.randrange(32)} {dice.randrange(256):02x}")
+                             f"write {dice.randrange(32)} {dice.randrange(256):02x}", f"at {dice.randrange(2000)}")
             return [f"step {node} {dice.choice(steps)}"]
         return [dice.choice(("line", "bits", f"answer {node}", "run", "step 9 start", "strike 0 x"))]
 
