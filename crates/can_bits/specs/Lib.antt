@@ -10,6 +10,7 @@ pub mod Spelling
 -- Lines read: a whole list of levels, or one level at a time.
 pub mod Reading
 pub mod Segments
+pub mod FramePlaces
 pub mod Streaming
 pub mod Acknowledging
 -- Places of the arbitration field.

@@ -8,6 +8,8 @@
 mod body_word;
 mod crc;
 mod frame_part;
+mod frame_place;
+mod index;
 mod kept_frame;
 mod laws;
 mod layout;
@@ -25,6 +27,7 @@ mod shift_fault;
 mod stuffing;
 
 pub use crc::crc_of;
+pub use frame_place::FramePlace;
 pub use kept_frame::KeptFrame;
 pub use laws::{
     a_frame_has_one_sent_line, a_good_beginning_can_go_on, a_list_has_one_check_sequence,

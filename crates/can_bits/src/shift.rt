@@ -13,6 +13,7 @@ use can_frame::Frame;
 
 mod acknowledged_line;
 mod inside;
+mod next_place;
 mod past;
 mod quick;
 mod quick_past;

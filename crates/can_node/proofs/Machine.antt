@@ -16,6 +16,7 @@ pub mod Told
 pub mod Sampled
 pub mod SampleSteps
 pub mod Segments
+pub mod Places
 pub mod Shown
 pub mod Along
 pub mod Quiet

@@ -21,6 +21,7 @@ pub mod Events
 pub mod Stands
 pub mod Together
 pub mod NextField
+pub mod NextPlace
 -- ---- frames that start together
 pub mod Contending
 -- ---- a record worked by hand

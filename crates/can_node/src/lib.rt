@@ -38,10 +38,12 @@ mod laws;
 mod next_field;
 mod next_place;
 mod node;
+mod node_place;
 mod outcome;
 mod overload_condition;
 mod own_bit;
 mod phase;
+mod placing;
 mod quiet;
 mod receive;
 mod request;
@@ -64,6 +66,7 @@ pub use laws::{
     a_record_has_one_cut, each_eleven_takes_one, pieces_are_told_apart,
 };
 pub use node::Node;
+pub use node_place::NodePlace;
 pub use outcome::Outcome;
 pub use phase::Phase;
 pub use request::Request;

@@ -1,5 +1,6 @@
 -- ---- what holds of every bus
 pub mod Resting
+pub mod Placing
 -- ---- the ports of the nodes
 pub mod Boards
 -- ---- all nodes of a bus

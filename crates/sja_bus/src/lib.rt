@@ -26,6 +26,7 @@ mod looking;
 mod node_bit;
 mod node_links;
 mod node_log;
+mod placing;
 mod port_news;
 mod ports;
 mod row_frame;

@@ -5,6 +5,7 @@ pub mod UntilTold
 pub mod Serial
 pub mod Stepping
 pub mod Striking
+pub mod Placing
 -- ---- its end
 pub mod Ending
 -- ---- definitions of private contracts alone

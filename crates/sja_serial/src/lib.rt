@@ -24,6 +24,8 @@ mod irq_turn;
 mod left_on_links;
 mod looking;
 mod node_turns;
+mod place_names;
+mod placing;
 mod run;
 mod serial_run;
 mod stepping;

@@ -2,4 +2,5 @@
 pub mod AfterBits
 pub mod BitsRun
 pub mod RestRun
+pub mod PlaceRun
 pub mod Looked

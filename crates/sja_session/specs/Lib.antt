@@ -12,5 +12,6 @@ pub mod Resting
 pub mod Lines
 pub mod Watching
 pub mod Striking
+pub mod Placing
 pub mod ByAddress
 pub mod Inside

@@ -3,7 +3,8 @@
 //! A [`Session`] is a bus of one to eight controllers with their drivers, by the rules of any version.
 //! [`Session::step`] does one step of a driver now and gives its answer; [`Session::read`] and [`Session::write`] are
 //! the accesses of a driver that knows addresses and bytes. [`Session::bits`] runs bits, and [`Session::strike`] has a
-//! node see the other level in a bit to come. [`Session::answer`] is the last answer of a node, [`Session::now`] says
+//! node see the other level in a bit to come. [`Session::to_place`] runs up to a place of a frame, and
+//! [`Session::place`] tells where a node is. [`Session::answer`] is the last answer of a node, [`Session::now`] says
 //! how many bits were run. What was done is written down: [`Session::plan`] is the plan so far, and
 //! [`Session::finish`] gives that plan with the log of the session, which is the log of a run in one thread of just
 //! that plan, with all that is promised of it.
@@ -20,6 +21,9 @@ mod by_address;
 mod finish;
 mod interrupt_line;
 mod lists;
+mod place_outcome;
+mod place_refusal;
+mod placing;
 mod plan_so_far;
 mod rest_outcome;
 mod resting;
@@ -40,6 +44,8 @@ mod watching;
 
 pub use beginning::LAST_VERSION;
 pub use lists::push_step;
+pub use place_outcome::PlaceOutcome;
+pub use place_refusal::PlaceRefusal;
 pub use plan_so_far::{copied_steps, copied_strikes, copied_turns};
 pub use rest_outcome::RestOutcome;
 pub use session::Session;

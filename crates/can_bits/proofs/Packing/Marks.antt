@@ -8,6 +8,7 @@ use Rattle.can_bits.specs.declared.level.Level.TheVariants.{Dominant}
 use Rattle.can_bits.specs.Fields.{is_recessive, says_ext, says_count, dlc_place}
 use Rattle.can_bits.specs.Inside.Data.{data_place}
 use Rattle.can_bits.specs.Segments.{segment_in, segments_of, segment_at}
+use Rattle.can_bits.specs.FramePlaces.{index_in, index_at}
 use Rattle.can_bits.specs.Inside.Gathering.{mark_of}
 use Rattle.can_bits.proofs.SaidCounts.{says_count-more}
 
@@ -107,4 +108,18 @@ mark_segment w p within =
     elim (cases_lt (length w) (data_place w)) [
       | inl before ↦ segment_early (says_ext w) (mark_of w) (says_count w) p (omega (arith, within, before))
       | inr past ↦ ap (λ n. segment_in (segments_of (says_ext w) n) p) (mark_said w past)
+    ]
+
+-- and so are the levels of a segment before them
+index_early : (e : Bool) (c d p : ℕ) → p < dlc_place e + 4 →
+    index_in 0 (segments_of e c) p ≡ index_in 0 (segments_of e d) p
+index_early false c d p h = rw (lt-ltb p 19 h) refl
+index_early true c d p h = rw (lt-ltb p 39 h) refl
+
+pub mark_index : (w : List Level) (p : ℕ) → p ≤ length w →
+    index_in 0 (segments_of (says_ext w) (mark_of w)) p ≡ index_at w p
+mark_index w p within =
+    elim (cases_lt (length w) (data_place w)) [
+      | inl before ↦ index_early (says_ext w) (mark_of w) (says_count w) p (omega (arith, within, before))
+      | inr past ↦ ap (λ n. index_in 0 (segments_of (says_ext w) n) p) (mark_said w past)
     ]

@@ -12,6 +12,9 @@ use Rattle.can_bits.specs.Line.{tail}
 use Rattle.can_bits.specs.Reading.{Begins, IsPastPart}
 use Rattle.can_bits.specs.Segments.{IsNext, segment_at}
 use Rattle.can_bits.specs.Segments.IsNext.{bit, stuff_bit}
+use Rattle.can_bits.specs.declared.frame_place.FramePlace.TheVariants.{Plain, StuffBit}
+use Rattle.can_bits.specs.FramePlaces.{IsNextPlace, index_at}
+use Rattle.can_bits.specs.FramePlaces.IsNextPlace.{plain as plain_place, stuff_bit as stuff_place}
 use Rattle.can_bits.specs.Streaming.{IsOver, BreaksWith}
 use Rattle.can_bits.specs.Inside.PartSoFar.{EndsInRun, IsPartSoFar, BeginsPart}
 use Rattle.can_bits.specs.Inside.PartSoFar.EndsInRun.{nothing, longer, other}
@@ -99,6 +102,18 @@ next_bit {w = w} h less = bit w h.so_far.unstuffed (few h less) (not_past h)
 pub next_stuff_bit : {l w : List Level} {last : Level} {n : ℕ} → BeginsPart l w last n → n ≡ 5 →
     IsNext l (segment_at w (length w - 1)) true
 next_stuff_bit {w = w} h full = stuff_bit w h.so_far.unstuffed (five h full) (not_past h)
+
+-- its place
+pub next_plain_place : {l w : List Level} {last : Level} {n : ℕ} (segment : Segment) (index : ℕ) →
+    BeginsPart l w last n → n ≢ 5 → segment ≡ segment_at w (length w) → index ≡ index_at w (length w) →
+    IsNextPlace l (Plain segment index)
+next_plain_place {l = l} {w = w} segment index h less is at =
+    rw (is, at) (plain_place w h.so_far.unstuffed (few h less) (not_past h))
+
+pub next_stuff_place : {l w : List Level} {last : Level} {n : ℕ} (number : ℕ) → BeginsPart l w last n → n ≡ 5 →
+    number ≡ length l - length w + 1 → IsNextPlace l (StuffBit number)
+next_stuff_place {l = l} {w = w} number h full is =
+    rw is (stuff_place w h.so_far.unstuffed (five h full) (not_past h))
 
 -- the two in one
 pub next_here : {l w : List Level} {last : Level} {n : ℕ} (segment : Segment) → BeginsPart l w last n →

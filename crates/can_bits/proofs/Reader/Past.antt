@@ -14,6 +14,8 @@ use Rattle.can_bits.specs.Line.{StuffedPart, Line, tail}
 use Rattle.can_bits.specs.Reading.{IsPastPart}
 use Rattle.can_bits.specs.Segments.{IsNext, segment_after}
 use Rattle.can_bits.specs.Segments.IsNext.{after_part}
+use Rattle.can_bits.specs.FramePlaces.{IsNextPlace, place_after}
+use Rattle.can_bits.specs.FramePlaces.IsNextPlace.{after_part as after_place}
 use Rattle.can_bits.specs.Streaming.{IsReadable, IsLineButFor, BreaksWith, ShowsFrame, ShowsFrameBut}
 use Rattle.can_bits.specs.Inside.FrameParts.{IsPast}
 use Rattle.can_bits.proofs.Ending.{line_at}
@@ -24,6 +26,14 @@ pub past_next : {g : BodyWord} {count : ℕ} (n : ℕ) (l : List Level) → IsPa
 past_next n l h =
     let many : length (take n (tail h.ack)) ≡ n = length-take-le n (tail h.ack) h.within in
     subst (λ (k : ℕ). IsNext l (segment_after k) false) many (after_part h.part (take n (tail h.ack)) h.is_part h.whole)
+
+-- its place
+pub past_place : {g : BodyWord} {count : ℕ} (n : ℕ) (l : List Level) → IsPast n g count l →
+    IsNextPlace l (place_after n)
+past_place n l h =
+    let many : length (take n (tail h.ack)) ≡ n = length-take-le n (tail h.ack) h.within in
+    subst (λ (k : ℕ). IsNextPlace l (place_after k)) many
+    (after_place h.part (take n (tail h.ack)) h.is_part h.whole)
 
 -- what a part and some of its tail are missing
 pub missing : {f g : FrameValue} {b c d e : List Level} {ack : Level} (part after rest : List Level) →

@@ -1,6 +1,7 @@
 //! What the next level of a body and its CRC sequence is.
 
 use super::BodyWord;
+use crate::index::index_of;
 use crate::layout::rtr_place;
 use crate::level::Level;
 use crate::place::segment_of;
@@ -14,6 +15,7 @@ impl BodyWord {
     ghost use Rattle.can_bits.specs.Check.{Crc};
     ghost use Rattle.can_bits.specs.Body.{sent_body};
     ghost use Rattle.can_bits.specs.Fields.{rtr_place};
+    ghost use Rattle.can_bits.specs.FramePlaces.{index_at};
     ghost use Rattle.can_bits.specs.Segments.{segment_at};
     ghost use Rattle.can_frame.specs.Frame.{FrameValue};
     ghost use Rattle.can_bits.specs.Digits.{level_of};
@@ -33,6 +35,20 @@ impl BodyWord {
         ensures { (w : List Bus) → Gathers self.now w → result ≡ segment_at w (length w - 1) }
     {
         segment_of(self.ext(), self.mark, self.place.saturating_sub(1))
+    }
+
+    /// How many levels of its segment stand before the next level.
+    pub(crate) fn next_index(&self) -> u8
+        ensures { (w : List Bus) → Gathers self.now w → result ≡ index_at w (length w) }
+    {
+        index_of(self.ext(), self.mark, self.place)
+    }
+
+    /// Of so many levels, stuff bits counted, the number of the next stuff bit.
+    pub(crate) fn next_stuff_bit(&self, count: u8) -> u16
+        ensures { (w : List Bus) → Gathers self.now w → result ≡ count - length w + 1 }
+    {
+        u16::from(count.saturating_sub(self.place)) + 1
     }
 
     /// Whether the next level isn't past RTR of that format.

@@ -27,8 +27,8 @@ use Rattle.can_node.proofs.Machine.FrameTurns.{transmitting_readable}
 use Rattle.can_node.proofs.Reception.ReceiverBits.{receiving_readable}
 
 -- what either role has seen of a frame can go on
-readable_by : (role : Role) (c now : ContextValue) (place : Place) (bits : List Bit) → ByRole role c now place bits →
-    IsReadable (seen_of (frame_bits place bits))
+pub readable_by : (role : Role) (c now : ContextValue) (place : Place) (bits : List Bit) →
+    ByRole role c now place bits → IsReadable (seen_of (frame_bits place bits))
 readable_by Transmitter c now place bits h = transmitting_readable c now place bits h
 readable_by Receiver c now place bits h = receiving_readable c place bits h
 

@@ -1,0 +1,15 @@
+use Rattle.std.proofs.Common.{◌∙◌, ap, length, arith}
+use Rattle.can_bits.specs.Fields.{says_ext}
+use Rattle.can_bits.specs.Segments.{segments_of}
+use Rattle.can_bits.specs.FramePlaces.{index_in}
+use Rattle.can_bits.specs.Inside.Gathering.{mark_of}
+use Rattle.can_bits.proofs.Packing.Marks.{mark_index}
+use Rattle.can_bits.proofs.body_word.BodyWord.next_index.Goals as goal
+
+pub returns : goal.returns
+returns c w g =
+    let s = c.args.self.now in
+    c.index_of.ensures ∙ ap (λ e. index_in 0 (segments_of e s.mark) s.place) (c.ext.ensures w g.packs)
+    ∙ ap (λ m. index_in 0 (segments_of (says_ext w) m) s.place) g.mark
+    ∙ ap (λ p. index_in 0 (segments_of (says_ext w) (mark_of w)) p) g.packs.place_is
+    ∙ mark_index w (length w) (omega arith)
