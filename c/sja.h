@@ -44,8 +44,32 @@ enum sja_status {
     SJA_NO_DOCUMENT = 15, /* no document says the plan, or it would be too long */
     SJA_NO_ROOM = 16,     /* the text doesn't fit: the value is the size that it needs, with the NUL at its end */
     SJA_NO_MEMORY = 17,   /* memory was refused; of sja_plan and sja_report also: no session stands at the handle */
-    SJA_BROKEN = 18       /* sja_pipe.c alone: the process of the session can't be started, or doesn't answer and
+    SJA_BROKEN = 18,      /* sja_pipe.c alone: the process of the session can't be started, or doesn't answer and
                            * didn't say by its status that memory was refused */
+    SJA_NO_PLACE = 19     /* the number is no place's; told before SJA_NO_NODE */
+};
+
+/* The places of a frame, and of the intermission after it, as the data sheet and the standard name them. Behind each
+ * stands what is added to it: SJA_ID + 28 to SJA_ID + 0, SJA_DATA + 23 for bit 3 of data byte 2, SJA_STUFF + 2 for the
+ * second stuff bit. Bytes and stuff bits count from 1, bits of EOF and of intermission too. */
+enum sja_places {
+    SJA_NOWHERE = 0,             /* at none of them */
+    SJA_SOF = 0x100,             /* who starts a frame with the next bit is at SOF */
+    SJA_ID = 0x200,              /* 28 to 18, and in an extended frame to 0 */
+    SJA_SRR = 0x300,             /* a receiver takes it for SJA_RTR: the format is known with SJA_IDE */
+    SJA_RTR = 0x400,
+    SJA_IDE = 0x500,
+    SJA_R1 = 0x600,
+    SJA_R0 = 0x700,
+    SJA_DLC = 0x800,             /* 3 to 0 */
+    SJA_DATA = 0x900,            /* 10 times the byte, 1 to 8, and its bit, 7 to 0 */
+    SJA_CRC = 0xa00,             /* 14 to 0 */
+    SJA_CRC_DELIMITER = 0xb00,
+    SJA_ACK = 0xc00,
+    SJA_ACK_DELIMITER = 0xd00,
+    SJA_EOF = 0xe00,             /* 1 to 7 */
+    SJA_INTERMISSION = 0xf00,    /* 1 to 3 */
+    SJA_STUFF = 0x1000           /* 1 to 29 */
 };
 
 /* What a call answers: how it went, and a number. The number is 0 where nothing else is said. */
@@ -90,6 +114,14 @@ sja_answer sja_strike(sja *session, uint32_t node, uint32_t bit);
 
 /* The value is how many bits were run: the number of the next one. */
 sja_answer sja_now(sja *session);
+
+/* At which place of a frame the next bit of a node is, of one that it sends or receives. In the library alone. */
+sja_answer sja_place(sja *session, uint32_t node);
+
+/* Runs bits up to the one before which the next bit of a node is at a place, at most so many, and as many as are left;
+ * none where it is there already. The value is 1 where it is there then, else 0. sja_strike of the node at sja_now
+ * strikes it there. In the library alone. */
+sja_answer sja_to(sja *session, uint32_t node, uint32_t place, uint32_t limit);
 
 /* As sja_report, sja_plan and sja_run_plan below, but that neither a text nor a plan is null. */
 sja_answer sja_put_report(sja *session, char *text, size_t size);

@@ -21,7 +21,7 @@ import subprocess
 BESIDE = os.path.join(os.path.dirname(os.path.realpath(__file__)), "libsja.so")
 
 STATUSES = """DONE NO_HANDLE ENDED NO_VERSION NO_BITS NO_NODES NO_ADDRESS NO_BYTE NO_NODE NO_BIT PAST STEPS_USED
-TURNS_USED STRIKES_USED NO_PLAN NO_DOCUMENT NO_ROOM NO_MEMORY BROKEN""".split()
+TURNS_USED STRIKES_USED NO_PLAN NO_DOCUMENT NO_ROOM NO_MEMORY BROKEN NO_PLACE""".split()
 
 LINES = {"no VERSION": "NO_VERSION", "no BITS": "NO_BITS", "no NODES": "NO_NODES", "no NODE": "NO_NODE",
          "no ADDRESS": "NO_ADDRESS", "no BYTE": "NO_BYTE", "no BIT": "PAST", "full STEPS": "STEPS_USED",
@@ -31,10 +31,30 @@ LINES = {"no VERSION": "NO_VERSION", "no BITS": "NO_BITS", "no NODES": "NO_NODES
 # The greatest number that a call of c/sja.h takes.
 GREATEST = 2**32 - 1
 
+# The names of enum sja_places, in its order, as plans have them.
+NAMES = ["SOF", "ID", "SRR", "RTR", "IDE", "r1", "r0", "DLC", "data", "CRC", "CRC delimiter", "ACK", "ACK delimiter",
+         "EOF", "intermission", "stuff"]
+NUMBERED = ("ID", "DLC", "CRC", "EOF", "intermission", "stuff")
+
+
+def _place_of(number):
+    """The place of a number, as plans name it. None of 0."""
+    name, own = NAMES[(number >> 8) - 1], number & 255
+    if not number:
+        return None
+    if name == "data":
+        return f"data {own // 10}.{own % 10}"
+    return f"{name}.{own}" if name in NUMBERED else name
+
+
+PLACES = {_place_of((kind + 1) * 256 + own): (kind + 1) * 256 + own
+          for kind, name in enumerate(NAMES) for own in range(100 if name in NUMBERED or name == "data" else 1)}
+
 
 class SjaError(Exception):
     """A call that isn't done. `status` is its name in enum sja_status, without SJA_; or NO_NUMBER, where `run` is given
-    a number that isn't one from 0 to 2^32-1. NO_HANDLE says that the session was closed."""
+    a number that isn't one from 0 to 2^32-1, or NO_LIBRARY, where a call is of the library alone. NO_HANDLE says that
+    the session was closed."""
 
     def __init__(self, status):
         super().__init__(status)
@@ -70,7 +90,8 @@ class _Library:
         u32, text, handle = ctypes.c_uint32, [ctypes.c_char_p, ctypes.c_size_t], [ctypes.c_void_p]
         arguments = {"make": [ctypes.POINTER(ctypes.c_void_p)], "begin": handle + [u32] * 3, "read": handle + [u32] * 2,
                      "write": handle + [u32] * 3, "bits": handle + [u32] * 2, "irq": handle + [u32],
-                     "lines": handle, "strike": handle + [u32] * 2, "now": handle, "put_report": handle + text,
+                     "lines": handle, "strike": handle + [u32] * 2, "now": handle, "place": handle + [u32],
+                     "to": handle + [u32] * 3, "put_report": handle + text,
                      "put_plan": handle + text, "let_go": handle}
         for name, types in arguments.items():
             call = getattr(self.calls, f"sja_{name}")
@@ -194,6 +215,11 @@ class _Process:
         self._ask(f"strike {node} {bit}", "ok")
         return 0
 
+    def _place(self, *_):
+        raise SjaError("NO_LIBRARY")
+
+    _to = _place
+
     def _now(self):
         self._judge()
         return int(self._ask("bits", "bits").split()[1])
@@ -310,6 +336,15 @@ class Session:
     def strike(self, node, bit):
         """Has a node see the other level in a bit that hasn't run."""
         self._call("strike", node, bit)
+
+    def place(self, node):
+        """At which place of a frame the next bit of a node is, as plans name it; None at none. The library alone."""
+        return _place_of(self._call("place", node))
+
+    def to(self, node, place, limit):
+        """Runs bits, up to the one before which the next bit of a node is at a place, at most so many. Whether it is
+        there then. The library alone."""
+        return bool(self._call("to", node, PLACES.get(place, 0), limit))
 
     def now(self):
         """How many bits were run."""

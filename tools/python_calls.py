@@ -80,9 +80,29 @@ def ended(bus, status):
         yield f"{name}{numbers}, {status}", lambda name=name, numbers=numbers: getattr(bus, name)(*numbers), status
 
 
+def places(bus):
+    """Places of a frame, as examples/own_case.toml has it. A process has none of these calls."""
+    for address, value in [(0, 0), (16, 2), (17, 0x24), (18, 0x60), (19, 0x11), (20, 0x22), (1, 1)]:
+        bus.write(0, address, value)
+    bus.write(1, 0, 0)
+    has_places = bus._session.__class__.__name__ == "_Library"
+    for wanted, name, numbers in [
+        (None, "place", (0,)), ("NO_NODE", "place", (2,)), ("NO_PLACE", "to", (0, "stuff.30", 9)),
+        ("NO_PLACE", "to", (2, "nowhere", 9)), ("NO_NODE", "to", (2, "SOF", 9)), (True, "to", (1, "stuff.2", 200)),
+        ("stuff.2", "place", (0,)), ("stuff.2", "place", (1,)), (True, "to", (1, "stuff.2", 0)),
+        (True, "to", (0, "CRC delimiter", 12)), (False, "to", (0, "data 2.3", 9)), (72, "now", ()),
+    ]:
+        wanted = wanted if has_places or name == "now" else "NO_LIBRARY"
+        wanted = 0 if name == "now" and not has_places else wanted
+        yield f"{name}{numbers}", lambda name=name, numbers=numbers: getattr(bus, name)(*numbers), wanted
+
+
 def rows():
     """What is called, and what it has to answer."""
     yield from openings()
+    framed = Session(3, 1000, 2)
+    yield from places(framed)
+    framed.close()
     bus = Session(3, 1000, 2)
     yield from calls(bus)
     plan = bus.plan()

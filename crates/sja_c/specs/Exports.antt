@@ -9,6 +9,7 @@ use Rattle.sja_calls.specs.Beginnings.{IsNew, IsNoSession}
 use Rattle.sja_calls.specs.Calls.{IsRefusal, ReadsOf, IsReadFault, WritesOf, IsWriteFault, RunsOf, IsRunFault}
 use Rattle.sja_calls.specs.Calls.{LooksOf, IsLookFault, LinesOf, IsLinesFault}
 use Rattle.sja_calls.specs.Calls.{StrikesOf, IsStrikeFault, IsNowOf, IsNowFault}
+use Rattle.sja_calls.specs.Placing.{IsAtPlaceOf, IsPlaceFault, ComesToOf, IsToFault}
 use Rattle.sja_calls.specs.Texts.{Ends, PutsReport, IsReportFault, PutsPlan, IsNoPlanText, PutsRun, IsNoRun}
 use Rattle.sja_calls.specs.declared.call_fault.CallFault.TheVariants.{Memory}
 use Rattle.sja_calls.specs.declared.held_session.HeldSession.{HeldSession}
@@ -60,6 +61,17 @@ abbrev pub AnswersStrike : HeldSession → HeldSession → ℕ → ℕ → SjaAn
 AnswersStrike was now node bit =
     Answers (λ number. (number ≡ 0) × StrikesOf was.state now.state node bit)
     (λ fault. IsRefusal was.state (IsStrikeFault node bit) fault × (now ≡ was))
+
+-- the node is at the place of the number, or at none where it is 0, and nothing changes
+abbrev pub AnswersPlace : HeldSession → HeldSession → ℕ → SjaAnswer → Type 0
+AnswersPlace was now node r =
+    Answers (IsAtPlaceOf was.state node) (λ fault. IsRefusal was.state (IsPlaceFault node) fault) r × (now ≡ was)
+
+-- the number is 1 where the node came to the place, else 0
+abbrev pub AnswersTo : HeldSession → HeldSession → ℕ → ℕ → ℕ → SjaAnswer → Type 0
+AnswersTo was now node place limit =
+    Answers (λ number. (number ≤ 1) × ComesToOf was.state now.state node place limit (number == 1))
+    (λ fault. IsRefusal was.state (IsToFault node place limit) fault × (now ≡ was))
 
 -- so many bits were run before, and nothing changes
 abbrev pub AnswersNow : HeldSession → HeldSession → SjaAnswer → Type 0

@@ -57,6 +57,7 @@ pub(crate) fn refused(fault: CallFault) -> SjaAnswer
             value: size as u64,
         },
         CallFault::Memory => plain(17),
+        CallFault::NoPlace => plain(19),
     }
 }
 

@@ -13,6 +13,7 @@ mod bits;
 mod life;
 mod loose;
 mod new_handle;
+mod placing;
 mod texts;
 
 pub use answer::SjaAnswer;

@@ -23,6 +23,9 @@ pub enum CallFault {
     /// The value is past 255.
     #[error("no byte")]
     NoByte,
+    /// The number is no place's.
+    #[error("no such place")]
+    NoPlace,
     /// There is no such node.
     #[error("no such node")]
     NoNode,

@@ -4,8 +4,8 @@
 //! are refused with a [`CallFault`]. [`run_plan`] puts the report of a plan into a text. `crates/sja_c` exports them as
 //! functions of C; `docs/use/DRIVER.md` tells how they are called.
 //!
-//! `specs/Beginnings.antt` says how a session begins, `specs/Calls.antt` what each call does and why it isn't done, and
-//! `specs/Texts.antt` how one ends and which texts are put.
+//! `specs/Beginnings.antt` says how a session begins, `specs/Calls.antt` and `specs/Placing.antt` what each call does
+//! and why it isn't done, and `specs/Texts.antt` how one ends and which texts are put.
 #![tactic(auto)]
 
 mod accesses;
@@ -13,6 +13,8 @@ mod bits;
 mod call_fault;
 mod held_session;
 mod numbers;
+mod place_numbers;
+mod placing;
 mod plan_runs;
 mod put_text;
 mod state;
