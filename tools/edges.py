@@ -11,9 +11,16 @@ VERSION_3 = "version = 3\n"
 SMALL = "bits = 1\n[[node]]\nsteps = []\n"
 REPORT = "sja version 3 bits 0 end turns\n"
 KEY = "sja: plan fault 4 Key\n"
-TOML = "sja: plan fault 3 Toml\n"
+BAD_TOML = "sja: plan fault 3 Toml\n"
+TOML = BAD_TOML + "line 510962, column 1: no TOML: a key is expected here\n"
 UNKNOWN_0 = KEY + 'line 2: no key is called "0"\n'
-UNKNOWN = 'sja: plan fault 4 Key\nline 2: no key is called "N0"\n'
+UNKNOWN_N = KEY + 'line 2: no key is called "N"\n'
+UNKNOWN = KEY + 'line 2: no key is called "N0"\n'
+UNTOLD = KEY + "a key is unknown, missing or of the wrong kind\n"
+MISSING = KEY + 'the key "bits" is missing\n'
+TABLE = KEY + "line 2: bits is a whole number, and here it is a table\n"
+CROWDED = "sja: plan fault 7 NodeCount\n"
+NODE_0 = 'line {}: node 0 has the key "a"'
 
 
 class Edge:
@@ -65,6 +72,16 @@ def listed(item, key="N"):
     return f"{VERSION_3}{key}=[{item * (15000000 // len(item))}]\n"
 
 
+def headed(line):
+    """The same behind the number of bits."""
+    return filled(lambda n: ("" if n else "bits=1\n") + f"[[node]]\n{line}\n")
+
+
+def inline(node):
+    """A document of 15 MB with a list of such nodes."""
+    return f"{VERSION_3}bits=1\nnode=[{node * (15000000 // len(node))}]\n"
+
+
 def refused(count):
     """A plan of eight nodes whose drivers are refused so many steps each."""
     turns = "".join(f'"node {node} {count}",' for node in range(8))
@@ -95,21 +112,30 @@ WAITING = f'{VERSION_3}bits = 500\n[[node]]\nsteps = ["start", "await 1"]\n[[nod
 EDGES = [
     Edge("40,000 unknown keys", ["check"], lambda: keys(40000), 1, UNKNOWN, 1, 20),
     Edge("160,000 unknown keys", ["check"], lambda: keys(160000), 1, UNKNOWN, 2, 20),
-    Edge("15 MB of keys with 12 parts", ["run"], deep, 1, KEY, 2, 20),
-    Edge("the same, explained", ["check"], deep, 1, UNKNOWN_0, 3, 20),
-    Edge("the same, two of each begin alike", ["run"], lambda: deep(2), 1, KEY, 2, 20),
-    Edge("the same, with a line that is no TOML at its end", ["run"], lambda: deep() + "!\n", 1, TOML, 2, 20),
-    Edge("the same, explained", ["check"], lambda: deep() + "!\n", 1, TOML, 5, 20),
-    Edge("15 MB of keys with 9 parts below bits", ["run"], lambda: below("bits"), 1, KEY, 2, 20),
-    Edge("15 MB of nodes with a key of 9 parts", ["run"], lambda: nodes("a.a.a.a.a.a.a.a.a=1"), 1, KEY, 2, 20),
-    Edge("15 MB of nodes with a header of 9 parts", ["run"], lambda: nodes("[node.a.a.a.a.a.a.a.a]"), 1, KEY, 2, 20),
-    Edge("15 MB of inline tables", ["run"], lambda: listed("{a.a=1,a.b=1},"), 1, KEY, 2, 20),
-    Edge("the same at turns", ["run"], lambda: listed("{a.a=1,a.b=1},", "turns"), 1, KEY, 2, 20),
-    Edge("15 MB of inline tables, one in another", ["run"], lambda: listed("{a={a={a={a=1}}}},"), 1, KEY, 2, 20),
-    Edge("15 MB of lists, one in another", ["run"], lambda: listed("[[[[[[[[]]]]]]]],", "turns"), 1, KEY, 2, 20),
-    Edge("15 MB of steps in lists", ["run"], lambda: listed("[1],", "[[node]]\nsteps"), 1, KEY, 2, 20),
-    Edge("15 MB of keys with one part", ["run"], lambda: filled(lambda n: f"N{n}=1\n"), 1, KEY, 3, 20),
-    Edge("15 MB of headers", ["run"], lambda: filled(lambda n: f"[N{n}]\n"), 1, KEY, 3, 20),
+    Edge("15 MB of keys with 12 parts", ["run"], deep, 1, UNKNOWN_0, 3, 20),
+    Edge("the same, two of each begin alike", ["run"], lambda: deep(2), 1, UNKNOWN_0, 4, 20),
+    Edge("the same, with a line that is no TOML at its end", ["run"], lambda: deep() + "!\n", 1, TOML, 5, 20),
+    Edge("15 MB of keys with 9 parts below bits", ["run"], lambda: below("bits"), 1, TABLE, 4, 20),
+    Edge("15 MB of nodes with a key of 9 parts", ["run"], lambda: nodes("a.a.a.a.a.a.a.a.a=1"), 1, MISSING, 4, 20),
+    Edge("15 MB of nodes with a header of 9 parts", ["run"], lambda: nodes("[node.a.a.a.a.a.a.a.a]"), 1, MISSING, 4, 20),
+    Edge("15 MB of inline tables", ["run"], lambda: listed("{a.a=1,a.b=1},"), 1, UNKNOWN_N, 4, 20),
+    Edge("the same at turns", ["run"], lambda: listed("{a.a=1,a.b=1},", "turns"), 1, UNTOLD, 4, 20),
+    Edge("15 MB of inline tables, one in another", ["run"], lambda: listed("{a={a={a={a=1}}}},"), 1, UNKNOWN_N, 4, 20),
+    Edge("15 MB of lists, one in another", ["run"], lambda: listed("[[[[[[[[]]]]]]]],", "turns"), 1, UNTOLD, 4, 20),
+    Edge("15 MB of steps in lists", ["run"], lambda: listed("[1],", "[[node]]\nsteps"), 1, MISSING, 4, 20),
+    Edge("15 MB of nodes in a list, of another key", ["run"], lambda: inline("{a=1},"), 1, KEY, 2, 20),
+    Edge("the same, explained", ["check"], lambda: inline("{a=1},"), 1, KEY + NODE_0.format(3), 4, 20),
+    Edge("15 MB of nodes with another key, explained", ["check"], lambda: headed("a.a.a.a=1"), 1,
+         KEY + NODE_0.format(4), 4, 20),
+    Edge("15 MB of keys with 9 parts below bits, explained", ["check"], lambda: below("bits"), 1, KEY + "line 2: bits",
+         4, 20),
+    Edge("15 MB of nodes with a key twice, explained", ["check"], lambda: headed("a=1\na=1"), 1, BAD_TOML + "line 5, ", 4,
+         20),
+    Edge("15 MB of too many nodes", ["run"], lambda: headed("steps=[]"), 1, CROWDED, 5, 64),
+    Edge("the same, explained", ["check"], lambda: headed("steps=[]"), 1, CROWDED + "line 19: the", 5, 64),
+    Edge("15 MB of too many nodes in a list", ["run"], lambda: inline("{steps=[]},"), 1, CROWDED, 9, 110),
+    Edge("15 MB of keys with one part", ["run"], lambda: filled(lambda n: f"N{n}=1\n"), 1, UNKNOWN, 5, 20),
+    Edge("15 MB of headers", ["run"], lambda: filled(lambda n: f"[N{n}]\n"), 1, UNKNOWN, 5, 20),
     Edge("160,000 refused steps", ["check"], lambda: refused(20000), 0, "line 4: node 0 is never started", 3, 64),
     Edge("60,000 late strikes", ["check"], lambda: late(60000), 0, "line 4: node 0 is never started", 2, 64),
     Edge("64,000 bytes of comments before version 3", ["run"], lambda: commented(800, 820), 0, REPORT, 1, 4),

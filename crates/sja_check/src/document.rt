@@ -1,7 +1,7 @@
 //! [`Document`]: a plan's document as `toml` reads it, with its outline.
 
 use super::kind::Kind;
-use super::outline::{Outline, Spot, Token};
+use super::outline::{Front, Outline, Spot, Token};
 use super::page::{Page, Piece};
 use std::alloc::{AllocError, Global};
 use toml::{Value, table_from_str};
@@ -37,9 +37,29 @@ impl Document {
         })
     }
 
+    /// The front of a long document, of at most so many bytes.
+    ///
+    /// Error: memory was refused.
+    pub(crate) fn of_front(
+        alloc: Global,
+        bytes: &[u8],
+        most: usize,
+    ) -> Result<Document, AllocError> {
+        let (end, closing) = Front::of(bytes, most).end();
+        let mut front = Vec::new(alloc);
+        front.extend_from_slice(bytes.get(..end).unwrap_or(&[]))?;
+        front.extend_from_slice(closing)?;
+        Document::read(alloc, &front)
+    }
+
     /// Its first key as it is written, where it is none of a node.
     pub(crate) fn first_key(&self) -> Option<&str> {
         self.outline.key_at(0)
+    }
+
+    /// Whether it has a header of a node.
+    pub(crate) fn has_header(&self) -> bool {
+        self.outline.has_header()
     }
 
     /// The line of this, as a piece of what is said.

@@ -4,6 +4,7 @@
 //! It is asked only of documents that `toml` reads; what it doesn't find has no line.
 
 mod entry;
+mod front;
 mod key_reader;
 mod line;
 mod outline_of;
@@ -11,7 +12,8 @@ mod pieces;
 mod spot;
 mod token;
 
-pub(crate) use key_reader::first_unknown;
+pub(crate) use front::Front;
+pub(crate) use key_reader::{first_unknown, nodes_in};
 pub(crate) use line::{column_at, line_at};
 pub(crate) use outline_of::Outline;
 pub(crate) use spot::Spot;

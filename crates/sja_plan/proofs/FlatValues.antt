@@ -26,7 +26,7 @@ read_made f (Some (a, r)) b rest e =
     let same = same_Some (f a, r) (b, rest) e in
     (a, ap (λ r2. Some (a, r2)) (ap (λ p. p.1) same), ap (λ p. p.0) same)
 
-less_one : (n : ℕ) → suc n - 1 ≡ n
+pub less_one : (n : ℕ) → suc n - 1 ≡ n
 less_one n = omega arith
 
 -- what is refused of the items so far is refused of all

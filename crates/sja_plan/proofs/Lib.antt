@@ -25,5 +25,6 @@ pub mod ClosedKeys
 pub mod OddKeys
 pub mod OddNodes
 pub mod OddPairs
+pub mod NodeItems
 pub mod OddPlans
 pub mod Strange

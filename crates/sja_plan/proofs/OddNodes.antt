@@ -60,7 +60,7 @@ no_number (open_table origin ns) odd = refl
 no_number (open_array done ns) odd = refl
 
 -- and no node's table
-table_refused : (ns : Nodes) → OddIn ns → node_of (table (close ns)) ≡ None
+pub table_refused : (ns : Nodes) → OddIn ns → node_of (table (close ns)) ≡ None
 table_refused ns odd =
     elim (cases_Bool (knows (codes "steps" ∷ []) (close ns))) [
       | inr not_known ↦ rw not_known
@@ -79,7 +79,7 @@ no_nodes_in (open_array done ns) (inl front) = front_refused node_of done (table
 no_nodes_in (open_array done ns) (inr inside) = last_refused node_of done (table (close ns)) (table_refused ns inside)
 
 -- a node's table, which a definition goes on with
-in_keeps : (i : Item) (ns end : Nodes) → apply i ns ≡ Some end → OddIn ns → OddIn end
+pub in_keeps : (i : Item) (ns end : Nodes) → apply i ns ≡ Some end → OddIn ns → OddIn end
 in_keeps i ns end goes (inl (k, held, unknown)) =
     inl (k, apply_keeps (λ x. Unit {0}) (λ j x y e u. tt) i ns end k goes held, unknown)
 in_keeps i ns end goes (inr odd) = inr (apply_keeps Odd odd_stays i ns end (codes "steps") goes odd)
@@ -91,7 +91,7 @@ in_holds k ns (x, is, odd) =
       | inr unknown ↦ inl (k, (x, is, tt), unknown)
     ]
 
-in_makes : (i : Item) (ns end : Nodes) → apply i ns ≡ Some end → IsStrangeIn i → OddIn end
+pub in_makes : (i : Item) (ns end : Nodes) → apply i ns ≡ Some end → IsStrangeIn i → OddIn end
 in_makes i ns end goes (inl unknown) =
     inl (first_of i, apply_makes (λ x. Unit {0}) i ns end goes (λ y e. tt), unknown)
 in_makes i ns end goes (inr odd) =

@@ -9,7 +9,7 @@ use Rattle.sja_plan.specs.Words.{Text}
 use Rattle.sja_plan.specs.Inside.Items.{Item, first_of, apply, step}
 use Rattle.sja_plan.specs.Inside.Judging.{ends, below}
 use Rattle.sja_plan.specs.Inside.Strange.{is_nodes}
-use Rattle.sja_plan.specs.Inside.Values.{IsOddValue, HoldsTexts, IsOddPair, HasOddPair}
+use Rattle.sja_plan.specs.Inside.Values.{IsOddValue, IsOddAt, IsOddPair, HasOddPair}
 use Rattle.sja_plan.proofs.Kept.{apply_makes}
 use Rattle.sja_plan.proofs.OddKeys.{Odd, made}
 use Rattle.sja_plan.proofs.OddNodes.{OddNode, Wrong, in_holds}
@@ -17,20 +17,20 @@ use Rattle.sja_plan.proofs.OddNodes.{OddNode, Wrong, in_holds}
 -- at its own key the value stands
 value_by : (last : Text) (d : Data) (o : Option Node) (y : Node) →
     let i : Item = record { path = []; dots = []; last = last; what = key_value d } in
-    IsOddValue d → step i o ≡ Some y → Odd y
-value_by last d None y odd goes = rw (← same_Some _ y goes) odd
-value_by last d (Some (value e)) y odd goes = absurd (none-some y goes)
-value_by last d (Some (open_table header ns)) y odd goes = absurd (none-some y goes)
-value_by last d (Some (open_table implicit ns)) y odd goes = absurd (none-some y goes)
-value_by last d (Some (open_table dotted ns)) y odd goes = absurd (none-some y goes)
-value_by last d (Some (open_array done ns)) y odd goes = absurd (none-some y goes)
+    step i o ≡ Some y → value d ≡ y
+value_by last d None y goes = same_Some _ y goes
+value_by last d (Some (value e)) y goes = absurd (none-some y goes)
+value_by last d (Some (open_table header ns)) y goes = absurd (none-some y goes)
+value_by last d (Some (open_table implicit ns)) y goes = absurd (none-some y goes)
+value_by last d (Some (open_table dotted ns)) y goes = absurd (none-some y goes)
+value_by last d (Some (open_array done ns)) y goes = absurd (none-some y goes)
 
 ends_by : (path dots : List Text) (last : Text) (d : Data) (o : Option Node) (y : Node) →
     let i : Item = record { path = path; dots = dots; last = last; what = key_value d } in
-    ends i ≡ true → IsOddValue d → step i o ≡ Some y → Odd y
-ends_by (k ∷ path) dots last d o y over odd goes = absurd (false≢true over)
-ends_by [] (k ∷ dots) last d o y over odd goes = absurd (false≢true over)
-ends_by [] [] last d o y over odd goes = value_by last d o y odd goes
+    ends i ≡ true → step i o ≡ Some y → value d ≡ y
+ends_by (k ∷ path) dots last d o y over goes = absurd (false≢true over)
+ends_by [] (k ∷ dots) last d o y over goes = absurd (false≢true over)
+ends_by [] [] last d o y over goes = value_by last d o y goes
 
 -- and in a node's table
 node_by : (path dots : List Text) (last : Text) (d : Data) (o : Option Node) (y : Node) →
@@ -44,7 +44,7 @@ node_by (k ∷ path) dots last d (Some (open_array done ns)) y through over odd 
     let (end, inner, is) = made (open_array done) _ y goes in
     let i : Item = record { path = path; dots = dots; last = last; what = key_value d } in
     rw (← is) (inr (in_holds (first_of i) end (apply_makes Odd i ns end inner
-    (λ z e. ends_by path dots last d (get_node (first_of i) ns) z over odd e))))
+    (λ z e. rw (← ends_by path dots last d (get_node (first_of i) ns) z over e) odd))))
 node_by [] (k ∷ dots) last d None y through over odd goes = rw (← (made (open_table dotted) _ y goes).2) tt
 node_by [] (k ∷ dots) last d (Some (value e)) y through over odd goes = absurd (none-some y goes)
 node_by [] (k ∷ dots) last d (Some (open_table header ns)) y through over odd goes = absurd (none-some y goes)
@@ -57,12 +57,13 @@ node_by [] [] last d o y through over odd goes = absurd (false≢true (sym throu
 
 pub pair_made : (i : Item) (o : Option Node) → IsOddPair i → (y : Node) → step i o ≡ Some y →
     Wrong (is_nodes (first_of i)) y
-pair_made i o (d, place, what_is, odd) y goes =
+pair_made i o (d, what_is, place) y goes =
     let stepped = subst (λ w. step (record { path = i.path; dots = i.dots; last = i.last; what = w }) o ≡ Some y)
     what_is goes in
     elim place [
-      | inl (over, other) ↦ rw other (ends_by i.path i.dots i.last d o y over odd stepped)
-      | inr (through, node, over) ↦
+      | inl (inl (over, other), odd) ↦ rw (other, ← ends_by i.path i.dots i.last d o y over stepped) odd
+      | inr ((over, node), none) ↦ rw (node, ← ends_by i.path i.dots i.last d o y over stepped) none
+      | inl (inr (through, node, over), odd) ↦
           let over_below = subst (λ w. ends (below (record {
             path = i.path;
             dots = i.dots;
@@ -73,12 +74,12 @@ pair_made i o (d, place, what_is, odd) y goes =
     ]
 
 -- where a pair stands doesn't hang on its value
-pub holds_by : (path dots : List Text) (last : Text) (d e : Data) →
-    HoldsTexts (record { path = path; dots = dots; last = last; what = key_value d }) →
-    HoldsTexts (record { path = path; dots = dots; last = last; what = key_value e })
-holds_by (k ∷ path) dots last d e h = h
-holds_by [] (k ∷ dots) last d e h = h
-holds_by [] [] last d e h = h
+pub odd_by : (path dots : List Text) (last : Text) (d e x : Data) →
+    IsOddAt (record { path = path; dots = dots; last = last; what = key_value d }) x →
+    IsOddAt (record { path = path; dots = dots; last = last; what = key_value e }) x
+odd_by (k ∷ path) dots last d e x h = h
+odd_by [] (k ∷ dots) last d e x h = h
+odd_by [] [] last d e x h = h
 
 -- one more, or one among those that were there
 pub odd_more : (is : List Item) (i : Item) → HasOddPair is ⊎ IsOddPair i → HasOddPair (is ++ i ∷ [])

@@ -12,7 +12,7 @@ use Rattle.sja_plan.specs.Inside.Rooms.{pair_item}
 use Rattle.sja_plan.proofs.ByKey.{cases_option}
 use Rattle.sja_plan.proofs.OneKey.{run_more}
 
-put_is : (k : Key) (d : Data) (ns : Nodes) → put k d ns ≡ apply (pair_item [] k d) ns
+pub put_is : (k : Key) (d : Data) (ns : Nodes) → put k d ns ≡ apply (pair_item [] k d) ns
 unfolding along_header
 put_is k d ns = refl
 

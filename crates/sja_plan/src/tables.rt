@@ -11,6 +11,7 @@ mod judging;
 mod look;
 mod many;
 mod names;
+mod node_list;
 mod path;
 mod reading;
 mod refusal;

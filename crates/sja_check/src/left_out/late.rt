@@ -10,6 +10,11 @@ use toml::Value;
 
 /// Says which strikes strike a bit past the last one of a run of so many bits.
 pub(crate) fn late_strikes(page: &mut Page, document: &Document, strikes: &[Strike], bits: u32) {
+    let mut items = Vec::new(page.alloc);
+    match by_bits(page.alloc, document.values(Kind::Strike)) {
+        Ok(found) => items = found,
+        Err(_) => page.refused = true,
+    }
     for (place, strike) in strikes.iter().enumerate() {
         let came = times_below(strike, bits);
         let (template, [first, second]) = if came >= strike.times {
@@ -31,37 +36,36 @@ pub(crate) fn late_strikes(page: &mut Page, document: &Document, strikes: &[Stri
             Piece::Number(u64::from(second)),
         );
         let told = [first, second, Piece::Number(u64::from(bits))];
-        let item = item_of(page.alloc, document, place);
+        let item = match items.get(place) {
+            Some(item) => *item,
+            None => usize::MAX,
+        };
         document.say(page, (Kind::Strike, item), template, told);
     }
 }
 
-/// Where the text of a strike by bits stands among all strikes of the document, by its place among those by bits; past
-/// them where there is none.
-fn item_of(alloc: Global, document: &Document, place: usize) -> usize {
-    let values = document.values(Kind::Strike);
-    let mut left = place;
+/// Where the texts of strikes by bits stand among those of all strikes.
+///
+/// Error: [`AllocError`] where memory was refused.
+fn by_bits(alloc: Global, values: &[Value]) -> Result<Vec<usize>, AllocError> {
+    let mut items = Vec::new(alloc);
     for (item, value) in values.iter().enumerate() {
-        if is_by_bits(alloc, value) {
-            if left == 0 {
-                return item;
-            }
-            left = left.saturating_sub(1);
+        if !is_placed(alloc, value)? {
+            items.push(item)?;
         }
     }
-    values.len()
+    Ok(items)
 }
 
-/// Whether the text of a strike names no place.
-fn is_by_bits(alloc: Global, value: &Value) -> bool {
+/// Whether the text of a strike names a place.
+///
+/// Error: [`AllocError`] where memory was refused.
+fn is_placed(alloc: Global, value: &Value) -> Result<bool, AllocError> {
     let Value::String(text) = value else {
-        return true;
+        return Ok(false);
     };
     let words: Result<Vec<&str>, AllocError> = text.as_str().split(' ').collect(alloc);
-    match words {
-        Ok(words) => !are_placed(words.as_slice()),
-        Err(_) => true,
-    }
+    Ok(are_placed(words?.as_slice()))
 }
 
 /// How many bits it strikes below this one.

@@ -41,6 +41,17 @@ pub(crate) fn of_keys<'a>(document: &'a Document) -> Wording<'a> {
     said
 }
 
+/// The same of a document of which this one is the front: nothing of a key that may stand behind it.
+pub(crate) fn of_front<'a>(document: &'a Document) -> Wording<'a> {
+    let said = of_keys(document);
+    match said.spot {
+        Spot::Key(key) if document.value(key).is_none() && !document.has_header() => {
+            Wording::nothing()
+        }
+        _ => said,
+    }
+}
+
 /// The keys that a plan of this version has.
 pub(crate) fn keys_of(version: u8) -> &'static [&'static str] {
     if version < RAW_VERSION {

@@ -1,6 +1,6 @@
 //! Text that is no TOML document.
 
-use super::super::outline::{column_at, line_at};
+use super::super::outline::{Front, column_at, line_at};
 use super::super::page::{Page, Piece};
 use sja_plan::{MOST_BYTES, PlanFault, faulty_line, read_plan};
 use std::alloc::{AllocError, Global};
@@ -67,11 +67,10 @@ pub(crate) fn no_toml(page: &mut Page, bytes: &[u8]) -> bool {
     let Ok(text) = str::from_utf8(bytes) else {
         return false;
     };
-    let Ok(rest) = faulty_rest(page.alloc, text) else {
+    let Ok((begun, part)) = faulty_part(page.alloc, text) else {
         return page.refuse();
     };
-    let begun = text.len().saturating_sub(rest.len());
-    match table_from_str(page.alloc, rest) {
+    match table_from_str(page.alloc, part) {
         Ok(_) => false,
         Err(error) => match error.span() {
             Some(span) => {
@@ -83,21 +82,28 @@ pub(crate) fn no_toml(page: &mut Page, bytes: &[u8]) -> bool {
     }
 }
 
-/// The text from its first line on that isn't TOML, where a long one has such a line behind a document; else all of
-/// it. So no tables are built of what stands before.
+/// The part of a text that has its fault, and where it begins, so that of a long one no tables are built of more: its
+/// front, where that isn't TOML; from its first line on that isn't TOML, where such a line stands behind a document;
+/// else all of it.
 ///
 /// Error: memory was refused.
-fn faulty_rest<'a>(alloc: Global, text: &'a str) -> Result<&'a str, AllocError> {
+fn faulty_part<'a>(alloc: Global, text: &'a str) -> Result<(usize, &'a str), AllocError> {
     if text.len() <= MOST_BYTES {
-        return Ok(text);
+        return Ok((0, text));
+    }
+    let front = text
+        .get(..Front::of(text.as_bytes(), MOST_BYTES).line)
+        .unwrap_or("");
+    if table_from_str(alloc, front).is_err() {
+        return Ok((0, front));
     }
     let Some(rest) = faulty_line(alloc, text)? else {
-        return Ok(text);
+        return Ok((0, text));
     };
     let begun = text.len().saturating_sub(rest.len());
     match read_plan(alloc, text.as_bytes().get(..begun).unwrap_or(&[])) {
-        Err(PlanFault::Toml | PlanFault::Memory) => Ok(text),
-        _ => Ok(rest),
+        Err(PlanFault::Toml | PlanFault::Memory) => Ok((0, text)),
+        _ => Ok((begun, rest)),
     }
 }
 

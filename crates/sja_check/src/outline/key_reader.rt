@@ -1,7 +1,6 @@
 //! [`KeyReader`]: which pieces of a document are keys, piece after piece.
 
-use super::outline_of::depth_behind;
-use super::pieces::end_of_piece;
+use super::pieces::{depth_behind, end_of_piece};
 use super::token::Token;
 
 /// The first key above all headers, or name of a header, that isn't among these. Nothing is kept of the others.
@@ -19,6 +18,28 @@ pub(crate) fn first_unknown(bytes: &[u8], known: &[&str]) -> Option<Token> {
         }
     }
     None
+}
+
+/// How many headers have the name of the nodes.
+pub(crate) fn nodes_in(bytes: &[u8]) -> usize {
+    let mut reader = KeyReader::new();
+    let mut end = 0;
+    let mut nodes = 0usize;
+    for (start, first) in bytes.iter().enumerate() {
+        let first = *first;
+        if start >= end {
+            end = end_of_piece(bytes, start, first);
+            let token = Token::new(first, start, end);
+            if !b" \t\r#".contains(&first)
+                && reader.take(first)
+                && !reader.is_above
+                && is_among(bytes, token, &["node"])
+            {
+                nodes = nodes.saturating_add(1);
+            }
+        }
+    }
+    nodes
 }
 
 /// Whether a piece is one of these keys.

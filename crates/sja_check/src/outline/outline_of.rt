@@ -3,7 +3,7 @@
 use super::super::kind::Kind;
 use super::entry::Entry;
 use super::line::line_at;
-use super::pieces::end_of_piece;
+use super::pieces::{depth_behind, end_of_piece};
 use super::spot::Spot;
 use super::token::Token;
 use std::alloc::{AllocError, Global};
@@ -66,6 +66,11 @@ impl Outline {
         }
         let token = self.tokens.as_slice().get(entry.key)?;
         str::from_utf8(token.text(self.bytes.as_slice())).ok()
+    }
+
+    /// Whether there is a header of a node.
+    pub(crate) fn has_header(&self) -> bool {
+        !self.headers.is_empty()
     }
 
     /// The line of this.
@@ -242,14 +247,5 @@ impl Outline {
             Some(token) => token.says(self.bytes.as_slice(), key),
             None => false,
         }
-    }
-}
-
-/// How many brackets and braces are open behind a piece that begins so.
-pub(crate) fn depth_behind(depth: usize, first: u8) -> usize {
-    match first {
-        b'[' | b'{' => depth.saturating_add(1),
-        b']' | b'}' => depth.saturating_sub(1),
-        _ => depth,
     }
 }

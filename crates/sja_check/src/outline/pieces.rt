@@ -55,3 +55,12 @@ fn ends(bytes: &[u8], place: usize, quote: u8, is_long: bool) -> bool {
 fn is_triple(bytes: &[u8], place: usize, quote: u8) -> bool {
     bytes.get(place..place.saturating_add(3)) == Some([quote; 3].as_slice())
 }
+
+/// How many brackets and braces are open behind a piece that begins so.
+pub(crate) fn depth_behind(depth: usize, first: u8) -> usize {
+    match first {
+        b'[' | b'{' => depth.saturating_add(1),
+        b']' | b'}' => depth.saturating_sub(1),
+        _ => depth,
+    }
+}

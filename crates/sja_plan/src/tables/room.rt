@@ -8,10 +8,10 @@ ghost use Rattle.sja_plan.specs.Inside.Names.{texts_of};
 ghost use Rattle.sja_plan.specs.Inside.Definitions.{definition_of, item_of, AreGood, AreBad};
 ghost use Rattle.sja_plan.specs.Inside.Reading.{Refuses};
 ghost use Rattle.sja_plan.specs.Inside.Rooms.{IsSound, items_in, section_in, header_item, pair_item};
-ghost use Rattle.sja_plan.specs.Inside.Values.{HoldsTexts, BeginsOdd};
+ghost use Rattle.sja_plan.specs.Inside.Values.{IsOddAt, Begins};
 
 use super::definition::Definition;
-use super::flat::{holds_texts, is_flat};
+use super::flat::may_hold;
 use super::judging::judge;
 use super::names::Names;
 use super::path::Path;
@@ -117,14 +117,14 @@ impl Room {
         ensures items { items_in self.new ≡ items_in self.old }
         ensures section { section_in self.new ≡ section_in self.old }
         ensures odd { OnOk result (self.new.odd ≡ true → (self.old.odd ≡ true)
-            ⊎ (HoldsTexts (item_of (texts_of self.old.names) pair) × BeginsOdd value.now)) }
+            ⊎ Begins (IsOddAt (item_of (texts_of self.old.names) pair)) value.now) }
         ensures never { Refuses result ⊥ }
     {
-        if self.odd || !holds_texts(&self.names, pair) {
+        if self.odd {
             return Ok(());
         }
-        let flat = is_flat(alloc, value)?;
-        self.odd = !flat;
+        let may = may_hold(alloc, &self.names, pair, value)?;
+        self.odd = !may;
         Ok(())
     }
 

@@ -5,8 +5,8 @@ use Rattle.toml.specs.Data.{boolean}
 use Rattle.toml.specs.Parse.{val}
 use Rattle.toml.proofs.Turns.{keyval_ok}
 use Rattle.sja_plan.specs.Inside.Rooms.{section_in}
-use Rattle.sja_plan.specs.Inside.Values.{HoldsTexts}
-use Rattle.sja_plan.proofs.OddPairs.{holds_by}
+use Rattle.sja_plan.specs.Inside.Values.{IsOddAt}
+use Rattle.sja_plan.proofs.OddPairs.{odd_by}
 use Rattle.sja_plan.proofs.tables.reading.read_pair.Goals as goal
 
 pub returns-clause-ok : goal.returns-clause-ok
@@ -23,13 +23,12 @@ returns-clause-ok c =
         sound = c.look.ensures.sound;
         odd = λ seen. elim (c.in_ok-look.ensures.odd seen) [
           | inl before ↦ inl (sym c.in_ok-pair.ensures.odd ∙ before)
-          | inr (place, begins) ↦
+          | inr begins ↦
               inr (
                 d,
-                holds_by (section_in c.args.room.now) k.0 k.1 (boolean false) d
-                    (subst HoldsTexts c.in_ok-pair.ensures.is place),
                 refl,
-                begins d c.in_ok-rest.rest.now read,
+                odd_by (section_in c.args.room.now) k.0 k.1 (boolean false) d d
+                    (subst (λ i. IsOddAt i d) c.in_ok-pair.ensures.is (begins d c.in_ok-rest.rest.now read)),
               )
         ];
       },

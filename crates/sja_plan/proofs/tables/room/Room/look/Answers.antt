@@ -4,4 +4,4 @@ use Rattle.sja_plan.proofs.tables.room.Room.look.Goals as goal
 
 pub returns-clause-odd : goal.returns-clause-odd
 returns-clause-odd c odd =
-    inr (c.holds_texts.ensures c.if-not-holds_texts.false, c.in_ok-flat.ensures.no (not_true c.in_ok-flat.flat odd))
+    inr (c.in_ok-may.ensures.no (not_true c.in_ok-may.may odd))
