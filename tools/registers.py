@@ -232,12 +232,16 @@ class Registers:
         self.complete = self.complete if self.released else None
         self.released = self.released or None
         self.overrun = self.overrun or None
-        self.window = self.window if self.some else [None] * 13
-        self.some, self.unread = self.some or None, None
+        self.put()
         self.alc = self.ecc = self.txerr = self.rxerr = self.off = self.receiving = self.sending = None
         self.shown = (None, None, None)
         for interrupt in (TI, EI, DOI, EPI, ALI, BEI):
             self.cause(interrupt, None)
+
+    def put(self):
+        """A message may have come, of which the port isn't told."""
+        self.window = self.window if self.some else [None] * 13
+        self.some, self.unread = self.some or None, None
 
     def go_off(self):
         """The node went bus-off in these bits: reset mode is entered, with EI."""
@@ -276,8 +280,15 @@ def after_busy(found):
     return apart(after)
 
 
+def without_bits(found):
+    """What may stand there before an access of a thread, where its port was told no bit since the access before."""
+    for it in found:
+        it.reset or it.put()
+    return apart(found)
+
+
 def at_any_time(found):
-    """The same before an access of a thread beside which bits run: in reset mode counters and BS may be told late."""
+    """The same where bits were told: in reset mode counters and BS may be told late."""
     after = after_busy(found)
     for it in after:
         if it.reset and it.counts:

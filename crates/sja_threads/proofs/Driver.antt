@@ -1,5 +1,6 @@
 pub mod Settings
 pub mod AtPort
+pub mod Counts
 pub mod Steps
 pub mod Room
 pub mod Parts

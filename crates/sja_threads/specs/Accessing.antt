@@ -13,6 +13,7 @@ use Rattle.sja_driver.specs.Deeds.{Deed, is_active}
 use Rattle.sja_driver.specs.declared.kept_bytes.KeptBytes.{KeptBytes}
 use Rattle.sja_driver.specs.Kept.{at_power_on}
 use Rattle.sja_driver.specs.Writes.{write_steps}
+use Rattle.sja_threads.specs.Counting.{AreCounted, IsCounted}
 use Rattle.sja_threads.specs.Setting.{IsDoneAt}
 
 -- ---- what was set
@@ -28,16 +29,14 @@ pub data LeadOn (before : List Deed) (from : SettingsValue) : List Deed → Sett
 -- ---- one step
 
 -- a driver that had this set, that was out of reset or wasn't, and for which these bytes were kept, did this; then
--- those are kept. It is what any driver does at some registers that the port had meanwhile, after some number of bits:
--- they have what was set, TBS is as the bus left it then, and RM may be 1 by bus-off. Its log counts no bits
+-- those are kept. It is what any driver does at some registers that the port had meanwhile, after as many bits as it
+-- counts: they have what was set, TBS is as the bus left it then, and RM may be 1 by bus-off
 pub record IsAccessAt (version : ℕ) (set : SettingsValue) (active : Bool) (kept : KeptBytes) (a : Access)
     (kept_now : KeptBytes) : Type 0 where
   pub at : Registers
   pub seen : BufferView
-  pub run : ℕ
   pub has : HasSettings at set
-  pub is : IsAccess version at seen active kept (record a { bits = run }) kept_now
-  pub bits : a.bits ≡ 0
+  pub is : IsAccess version at seen active kept a kept_now
   -- of a read these are the registers and the messages by which its deed was answered
   pub read : (address : ℕ) (d : Deed) → a.step ≡ Read address → a.deeds ≡ d ∷ [] →
       Tells (Read address) active at seen d.answer
@@ -45,14 +44,14 @@ pub record IsAccessAt (version : ℕ) (set : SettingsValue) (active : Bool) (kep
 -- ---- one after the other
 
 -- from what a driver had set first, and from the bytes kept after power-on, its steps lead on: each is some deeds more,
--- at what the steps before it have left
+-- at what the steps before it have left, and counts bits on from theirs
 pub data LeadToAccesses (version : ℕ) (first : SettingsValue) :
-    List Access → SettingsValue → KeptBytes → Type 0 where
-  nothing_done : LeadToAccesses version first [] first at_power_on
-  access_done : (accesses : List Access) (a : Access) (s t : SettingsValue) (kept kept_now : KeptBytes) →
-      LeadToAccesses version first accesses s kept → LeadOn (deeds_in accesses) s a.deeds t →
-      IsAccessAt version s (is_active (deeds_in accesses)) kept a kept_now →
-      LeadToAccesses version first (accesses ++ a ∷ []) t kept_now
+    List Access → SettingsValue → KeptBytes → ℕ → Type 0 where
+  nothing_done : LeadToAccesses version first [] first at_power_on 0
+  access_done : (accesses : List Access) (a : Access) (s t : SettingsValue) (kept kept_now : KeptBytes) (found : ℕ) →
+      LeadToAccesses version first accesses s kept found → LeadOn (deeds_in accesses) s a.deeds t →
+      IsAccessAt version s (is_active (deeds_in accesses)) kept a kept_now → IsCounted found a →
+      LeadToAccesses version first (accesses ++ a ∷ []) t kept_now a.bits
 
 -- ---- the end
 
@@ -86,5 +85,7 @@ pub record Follows (version : ℕ) (set : SettingsValue) (steps : List Step) (w 
   pub first : map (λ (a : Access). a.step) w.accesses ≡ take (length w.accesses) steps
   pub last : SettingsValue
   pub kept : KeptBytes
-  pub leads : LeadToAccesses version set w.accesses last kept
+  pub found : ℕ
+  pub leads : LeadToAccesses version set w.accesses last kept found
+  pub counted : AreCounted found w.broken
   pub broken : IsBrokenOff version last (is_active (deeds_in w.accesses)) (drop (length w.accesses) steps) w.broken

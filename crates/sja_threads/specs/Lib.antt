@@ -3,6 +3,7 @@ pub mod Ordering
 -- ---- one driver
 pub mod Asking
 pub mod Setting
+pub mod Counting
 pub mod Accessing
 pub mod Working
 -- ---- a whole run

@@ -1,6 +1,6 @@
 -- In which order turns of the bus and deeds of the driver came at the port of a node (this project's own rule).
 use Rattle.std.specs.Prelude.{◌≡◌, ◌≢◌, ◌<◌, ◌⊎◌, ◌++◌, ◌||◌, ℕ, Bool, true, false, if◌then◌else◌, List, [], ◌∷◌}
-use Rattle.std.specs.Prelude.{length, map, All}
+use Rattle.std.specs.Prelude.{◌+◌, ◌-◌, ◌^◌, min, length, map, All}
 use Rattle.can_bits.specs.declared.level.Level.{Level}
 use Rattle.sja_link.specs.declared.entry.Entry.{Entry}
 use Rattle.sja_link.specs.BitEntries.{MayHaveItems}
@@ -10,7 +10,7 @@ use Rattle.sja_link.specs.Showing.{seen_of}
 use Rattle.sja_regs.specs.declared.bus_turn.BusTurn.{BusTurn}
 use Rattle.sja_regs.specs.declared.orders.Orders.{Orders}
 use Rattle.sja_regs.specs.declared.registers.Registers.{Registers}
-use Rattle.sja_regs.specs.DriverSettings.{SettingsValue, settings_in}
+use Rattle.sja_regs.specs.DriverSettings.{settings_in}
 use Rattle.sja_regs.specs.Registers.{at_power_on}
 use Rattle.sja_regs.specs.Turns.{after_turn}
 use Rattle.sja_script.specs.declared.step.Step.{Step}
@@ -33,20 +33,25 @@ is_at_port Window = false
 is_at_port Release = false
 is_at_port other = true
 
--- of its deeds those at the port: what was done, and what that answered
-abbrev pub done_at_port : List Deed → List (Step × StepAnswer)
+-- of its deeds those at the port: what was done, what that answered, and how many bits it counts
+abbrev pub done_at_port : List Deed → List (Step × StepAnswer × ℕ)
 done_at_port [] = []
 done_at_port (d ∷ deeds) =
-    if is_at_port d.step then (d.step, d.answer) ∷ done_at_port deeds else done_at_port deeds
+    if is_at_port d.step then (d.step, d.answer, d.bits) ∷ done_at_port deeds else done_at_port deeds
 
-abbrev pub done_in_order : List PortDeed → List (Step × StepAnswer)
-done_in_order deeds = map (λ (d : PortDeed). (d.step, d.answer)) deeds
+abbrev pub done_in_order : List PortDeed → List (Step × StepAnswer × ℕ)
+done_in_order deeds = map (λ (d : PortDeed). (d.step, d.answer, d.bits)) deeds
 
--- so many bits have run by what a port was told: by the last number that it was told, and none before the first one
+-- one bit more, as far as a count goes
+abbrev pub one_more : ℕ → ℕ
+one_more n = min (n + 1) (2 ^ 32 - 1)
+
+-- so many bits have run by what a port was told: by the last number that it was told, and none before the first one;
+-- and since then a bit with each turn
 abbrev pub bits_told_since : ℕ → List Notice → ℕ
 bits_told_since n [] = n
 bits_told_since n (Ran many orders ∷ told) = bits_told_since many told
-bits_told_since n (Turn t ∷ told) = bits_told_since n told
+bits_told_since n (Turn t ∷ told) = bits_told_since (one_more n) told
 bits_told_since n (Spent ∷ told) = bits_told_since n told
 
 abbrev pub bits_told : List Notice → ℕ
@@ -76,7 +81,7 @@ abort_told (t ∷ next ∷ told) = abort_told (next ∷ told)
 -- ---- what it led to
 
 -- a driver that was out of reset or wasn't is so after this was done at its port
-abbrev pub active_by : Bool → List (Step × StepAnswer) → Bool
+abbrev pub active_by : Bool → List (Step × StepAnswer × ℕ) → Bool
 active_by active [] = active
 active_by active (d ∷ done) = active_by (active_after active d.0 d.1) done
 

@@ -9,14 +9,13 @@ use Rattle.sja_driver.specs.Carried.{Sees, Tells, carried, ported}
 use Rattle.sja_driver.specs.Deeds.{Deed, is_active}
 
 -- a step of a driver that is out of reset or isn't was done at these registers: it answers by them and by some window,
--- gives what it gives by them, and counts no bits
+-- and gives what it gives by them
 pub record IsDoneAt (active : Bool) (p : Registers) (d : Deed) : Type 0 where
   pub window : List (List ℕ)
   pub off : Bool
   pub tells : Tells d.step active p (seen_of off window) d.answer
   pub sees : active ≡ true → Sees d.step off window d.answer
   pub gave : d.gave ≡ carried p d.step d.answer
-  pub bits : d.bits ≡ 0
 
 -- from settings of the driver its deeds lead to others: each step is done at registers that have the settings which
 -- the steps before it have left, and leaves what it leaves

@@ -81,9 +81,9 @@ impl<'a, N: Order, R: Wait, G: Gate> AtGate<'a, N, R, G> {
         }
     }
 
-    /// Waits in a node's step of this number until so many bits have run: what the step answers then; none where the
-    /// gate quit, which is asked before each look.
-    pub(crate) fn wait_for(&self, node: u8, bits: u32, step: u32) -> Option<StepAnswer>
+    /// Waits in a node's step of this number until so many bits have run: what the step answers then, and after how
+    /// many; none where the gate quit, which is asked before each look.
+    pub(crate) fn wait_for(&self, node: u8, bits: u32, step: u32) -> Option<(StepAnswer, u32)>
         requires { G.asks self.now.gate node step 1 }
         ensures ends { IfSome result (EndsWait bits) }
         ensures never { result ≡ None → G.QUITS ≡ true }
@@ -93,23 +93,23 @@ impl<'a, N: Order, R: Wait, G: Gate> AtGate<'a, N, R, G> {
             if !self.lets_go(node, step, &mut tries) {
                 return None;
             }
-            if let Some(answer) = self.reached(bits) {
+            if let Some(end) = self.reached(bits) {
                 self.leave(node, tries);
-                return Some(answer);
+                return Some(end);
             }
             self.wait_in_vain(node, &mut tries);
         }
         unreachable!()
     }
 
-    /// How a wait until so many bits have run ends now by what the port was told; none where it goes on. Where there is
-    /// no lobby no bits are told, and the gate alone holds the step.
-    fn reached(&self, bits: u32) -> Option<StepAnswer>
+    /// How a wait until so many bits have run ends now by what the port was told, and after how many; none where it
+    /// goes on. Where there is no lobby no bits are told, and the gate alone holds the step.
+    fn reached(&self, bits: u32) -> Option<(StepAnswer, u32)>
         ensures { IfSome result (EndsWait bits) }
     {
         match self.lobby {
             Some(_) => self.port.lock(self.rt).reached(bits),
-            None => Some(StepAnswer::Done),
+            None => Some((StepAnswer::Done, bits)),
         }
     }
 

@@ -24,7 +24,8 @@ use sja_script::{Step, StepAnswer};
 use std::sync::{Mutex, Wait};
 
 /// A driver in a thread of its own (this project's own rule): its node, whether it knows addresses and bytes alone, the
-/// driver with its log, what it has set at its port, and its ends of the node's links, by activation.
+/// driver with its log, what it has set at its port, how many bits had run by what that was told as it last did
+/// something there, and its ends of the node's links, by activation.
 ///
 /// What it has set is its own: it goes into the port before each try there, and what a step sets comes out of it.
 #[derive(Drop)]
@@ -32,6 +33,7 @@ pub(crate) struct DriverThread<N: Order, D: Drop> {
     pub(crate) bytes: bool,
     pub(crate) driver: LoggedDriver,
     pub(crate) set: DriverSettings,
+    pub(crate) found: u32,
     pub(crate) links: Vec<D>,
     pub(crate) done: DeedsOfNode<N>,
 }
@@ -55,6 +57,7 @@ impl<N: Order, D: DriverEnd + Drop> DriverThread<N, D> {
         if !held.is_of(self.done.node) {
             return None;
         }
+        let found = held.bits();
         let Some(answer) = held.try_deed(
             &mut self.done,
             &mut self.driver,
@@ -64,6 +67,7 @@ impl<N: Order, D: DriverEnd + Drop> DriverThread<N, D> {
             return None;
         };
         self.set = held.settings();
+        self.found = found;
         Some(answer)
     }
 
@@ -175,6 +179,7 @@ pub(crate) fn follow<N: Order, D: DriverEnd + Drop, G: Gate, R: Wait>(
         bytes,
         driver,
         set,
+        found: 0,
         links,
         done,
     };
@@ -196,8 +201,11 @@ pub(crate) fn follow<N: Order, D: DriverEnd + Drop, G: Gate, R: Wait>(
 /// A step is one deed. In version 3 a write is up to three, one after the other, by what the port shows as it begins:
 /// what the driver has set is known, and what the bus brought meanwhile isn't. Where a link gives an item back, the
 /// gate is asked again, and the deeds that are left are tried. `Read` and `Write` are those of any address there, in
-/// either mode, and no controller refuses them. `At` is no deed, and counts no bits here: the gate alone holds it. In
+/// either mode, and no controller refuses them. `At` is no deed, and here the gate alone holds it. In
 /// [`run_threads`](crate::run_threads) it passes once so many bits have run, and is given up where they are spent.
+///
+/// In the log a step has how many bits had run by what the port was told as the driver last did something there, and a
+/// wait for a bit as many as it found.
 ///
 /// The drivers of [`run_threads`](crate::run_threads) do the same, from what is set after power-on. This call serves
 /// who runs a bus of his own, and the tests.

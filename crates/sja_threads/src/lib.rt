@@ -10,7 +10,8 @@
 //! steps were done, and by which deeds, `HasWorked` of `specs/Working.antt`: for every journal, so whatever the bus
 //! does meanwhile, and with what the steps before have set (`Follows` of `specs/Accessing.antt`); and of a whole run
 //! what every run has, by which events each link carried what it did, and when its bits were due, `IsThreadedRun` of
-//! `specs/Threads.antt`. No clause says that a wait ends, or how a port stands behind its lock.
+//! `specs/Threads.antt`. At each port some order of what the bus told it and of the driver's deeds there leads to what
+//! each deed found, `LedBy` of `specs/Ordering.antt`. No clause says that a wait ends.
 //!
 //! The run alone takes memory, none of it for a bit.
 #![tactic(auto)]

@@ -1,13 +1,12 @@
 //! [`LockedPort`]: a port behind its lock.
 
-ghost use Rattle.std.specs.Prelude.{◌≡◌, ◌≤◌, ◌++◌, [], ◌∷◌, true, false, Some, IfSome, IfNone};
+ghost use Rattle.std.specs.Prelude.{◌≡◌, ◌++◌, [], ◌∷◌, true, false, IfSome, IfNone};
 ghost use Rattle.sja_regs.specs.declared.registers.Registers.{Registers};
 ghost use Rattle.sja_regs.specs.DriverSettings.{HasSettings, settings_in};
 ghost use Rattle.sja_driver.specs.AnyDrivers.{is_out};
 ghost use Rattle.sja_driver.specs.LoggedDrivers.{driver_of, MayStep, StaysLawful, Steps};
 ghost use Rattle.sja_threads.specs.Ordering.{LedBy, active_by, bits_told, done_in_order, orders_of};
 ghost use Rattle.sja_threads.specs.declared.notice.Notice.TheVariants.{Turn, Ran, Spent};
-ghost use Rattle.sja_script.specs.declared.step_answer.StepAnswer.TheVariants.{Done};
 ghost use Rattle.sja_threads.specs.Inside.Accesses.{EndsWait};
 ghost use Rattle.sja_threads.specs.Inside.Names.{IsNamed};
 ghost use Rattle.sja_threads.specs.Inside.Ordered.{LockedValue, IsInOrder, set_after, done_if};
@@ -115,6 +114,7 @@ impl<N: Order> LockedPort<N> {
         ensures node { told.new.node ≡ told.old.node }
     {
         self.port.bus_turn(&turn);
+        self.bits = self.bits.saturating_add(1);
         told.abort = false;
         add(&mut self.turns, &mut told.known, &Notice::Turn(turn));
     }
@@ -135,22 +135,23 @@ impl<N: Order> LockedPort<N> {
 
     /// How many bits have run by what it was told.
     pub fn bits(&self) -> u32
-        ensures { result ≡ bits_told self.now.turns }
+        ensures told { result ≡ bits_told self.now.turns }
+        ensures bits { result ≡ self.now.bits }
     {
         self.bits
     }
 
-    /// How its driver's wait until so many bits have run ends now: it is done where they have by what was told, and
-    /// else given up where none are left; none where it goes on.
-    pub(crate) fn reached(&mut self, bits: u32) -> Option<StepAnswer>
+    /// How its driver's wait until so many bits have run ends now, and after how many by what was told: it is done
+    /// where these have, and else given up where none are left; none where it goes on.
+    pub(crate) fn reached(&mut self, bits: u32) -> Option<(StepAnswer, u32)>
         ensures ends { IfSome result (EndsWait bits) }
-        ensures done { result ≡ Some Done → bits ≤ bits_told self.old.turns }
+        ensures bits { IfSome result (λ end. end.1 ≡ bits_told self.old.turns) }
     {
         if self.bits >= bits {
-            return Some(StepAnswer::Done);
+            return Some((StepAnswer::Done, self.bits));
         }
         if self.port.closed() {
-            return Some(StepAnswer::Refused(Refusal::Closed));
+            return Some((StepAnswer::Refused(Refusal::Closed), self.bits));
         }
         self.awaited = bits;
         None
@@ -210,7 +211,7 @@ impl<N: Order> LockedPort<N> {
             self.old.registers self.new.registers deed.now result }
         ensures has { HasSettings self.old.registers (set_after done.old.version done.old.known.list) }
         ensures done { done_in_order done.new.known.list
-            ≡ done_in_order done.old.known.list ++ done_if deed.now result }
+            ≡ done_in_order done.old.known.list ++ done_if deed.now result self.old.bits }
         ensures set { IfSome result (λ a.
             set_after done.new.version done.new.known.list ≡ settings_in self.new.registers) }
         ensures waits { IfNone result (done.new ≡ done.old) }

@@ -57,11 +57,12 @@ impl<N: Order, D: DriverEnd + Drop> DriverThread<N, D> {
         ensures quits { result ≡ false → BreaksOff D.DriverEnd self.old self.new (At bits) }
         ensures never { result ≡ false → G.QUITS ≡ true }
     {
-        let Some(answer) = at.wait_for(self.done.node, bits, number) else {
+        let Some((answer, found)) = at.wait_for(self.done.node, bits, number) else {
             return false;
         };
         let kept = self.driver.kept();
-        self.driver.enter(answer, 0, kept);
+        self.found = found;
+        self.driver.enter(answer, found, kept);
         true
     }
 
@@ -86,7 +87,7 @@ impl<N: Order, D: DriverEnd + Drop> DriverThread<N, D> {
         let mut moved = kept;
         moved.answered(&answer);
         self.driver
-            .enter(told(bytes, &kept, step, answer), 0, moved);
+            .enter(told(bytes, &kept, step, answer), self.found, moved);
         true
     }
 
@@ -113,7 +114,7 @@ impl<N: Order, D: DriverEnd + Drop> DriverThread<N, D> {
         if !self.do_parts(at, &steps, number, &mut tries, &mut kept) {
             return false;
         }
-        self.driver.enter(StepAnswer::Done, 0, kept);
+        self.driver.enter(StepAnswer::Done, self.found, kept);
         true
     }
 

@@ -29,7 +29,7 @@ pub struct TurnBoard<'a, N: Order, R: Wait> {
 
 impl<'a, N: Order, R: Wait> TurnBoard<'a, N, R> {
     /// Tells each port how many bits have run, and finds what the drivers order.
-    pub(crate) fn tell_bits(&mut self, bits: u32)
+    pub fn tell_bits(&mut self, bits: u32)
         ensures many { length self.new.told.items ≡ length self.old.told.items }
         ensures told { EachTold (SaysBits bits) (turns_in self.old.told.items) (turns_in self.new.told.items) }
     {
@@ -120,10 +120,11 @@ impl<'a, N: Order, R: Wait> Board for TurnBoard<'a, N, R> {
     ghost facts = { λ b node. Unit {0} };
 
     fn orders(&self, node: u8) -> Orders {
-        let told = &self.told[node as usize];
+        let place = place_of(node);
+        let told = &self.told[place];
         let mut abort = told.abort;
         if abort {
-            abort = self.ports[node as usize].lock(self.rt).orders().abort;
+            abort = self.ports[place].lock(self.rt).orders().abort;
         }
         Orders {
             abort,
@@ -132,8 +133,9 @@ impl<'a, N: Order, R: Wait> Board for TurnBoard<'a, N, R> {
     }
 
     fn bus_turn(&mut self, node: u8, turn: BusTurn) {
-        let mut held = self.ports[node as usize].lock(self.rt);
-        let told = &mut self.told[node as usize];
+        let place = place_of(node);
+        let mut held = self.ports[place].lock(self.rt);
+        let told = &mut self.told[place];
         if !held.is_of(told.node) {
             wait_for_ever(self.rt);
         }
@@ -141,7 +143,7 @@ impl<'a, N: Order, R: Wait> Board for TurnBoard<'a, N, R> {
     }
 
     fn close(&mut self, node: u8) {
-        self.close_at(node as usize);
+        self.close_at(place_of(node));
     }
 
     ghost kept_refl = { λ b k. refl };
@@ -157,4 +159,11 @@ impl<'a, N: Order, R: Wait> Board for TurnBoard<'a, N, R> {
     ghost has_orders = { λ b k few. (record { abort = false; ended = false }, λ e. absurd cc) };
 
     ghost facts_go_on = { λ a b k count few so facts. tt };
+}
+
+/// The place of a node's port, and of the list of what it was told.
+fn place_of(node: u8) -> usize
+    ensures { result ≡ node }
+{
+    usize::from(node)
 }

@@ -12,3 +12,4 @@ mod part;
 mod passing;
 mod runs;
 mod steps;
+mod telling;

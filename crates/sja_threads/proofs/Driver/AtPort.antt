@@ -21,7 +21,7 @@ use Rattle.sja_threads.specs.Inside.Ordered.{done_if, set_after}
 
 -- ---- of deeds, and then of more
 
-more_at_port : (here : Bool) (x : Step × StepAnswer) (xs ys : List Deed) → done_at_port (xs ++ ys) ≡ done_at_port xs
+more_at_port : (here : Bool) (x : Step × StepAnswer × ℕ) (xs ys : List Deed) → done_at_port (xs ++ ys) ≡ done_at_port xs
     ++ done_at_port ys →
     (if here then x ∷ done_at_port (xs ++ ys) else done_at_port (xs ++ ys))
     ≡ (if here then x ∷ done_at_port xs else done_at_port xs) ++ done_at_port ys
@@ -30,18 +30,18 @@ more_at_port false x xs ys e = e
 
 pub both_at_port : (xs ys : List Deed) → done_at_port (xs ++ ys) ≡ done_at_port xs ++ done_at_port ys
 both_at_port [] ys = refl
-both_at_port (d ∷ xs) ys = more_at_port (is_at_port d.step) (d.step, d.answer) xs ys (both_at_port xs ys)
+both_at_port (d ∷ xs) ys = more_at_port (is_at_port d.step) (d.step, d.answer, d.bits) xs ys (both_at_port xs ys)
 
 -- ---- one try
 
--- a try at the port is noted there, if it is done, with what is set then; another isn't
+-- a try at the port is noted there, if it is done, with the bits that it counts and what is set then; another isn't
 pub data NotesDeed {N : Type 0} {o : Orders N} (was now : DeedsOfNode N o) (which : Step) (answer : Option StepAnswer)
-    (set_was set : SettingsValue) : Type 0 where
+    (bits : ℕ) (set_was set : SettingsValue) : Type 0 where
   at_port : is_at_port which ≡ true → now.node ≡ was.node → now.version ≡ was.version →
-      done_in_order now.known.list ≡ done_in_order was.known.list ++ done_if which answer →
+      done_in_order now.known.list ≡ done_in_order was.known.list ++ done_if which answer bits →
       ((s : StepAnswer) → answer ≡ Some s → set_after now.version now.known.list ≡ set) →
-      (answer ≡ None → now ≡ was) → NotesDeed was now which answer set_was set
-  elsewhere : is_at_port which ≡ false → now ≡ was → set ≡ set_was → NotesDeed was now which answer set_was set
+      (answer ≡ None → now ≡ was) → NotesDeed was now which answer bits set_was set
+  elsewhere : is_at_port which ≡ false → now ≡ was → set ≡ set_was → NotesDeed was now which answer bits set_was set
 
 if_here : {A : Type 0} (here : Bool) (x : A) → here ≡ true → (if here then x ∷ [] else []) ≡ x ∷ []
 if_here here x e = ap (λ b. if b then x ∷ [] else []) e
@@ -49,22 +49,22 @@ if_here here x e = ap (λ b. if b then x ∷ [] else []) e
 if_away : {A : Type 0} (here : Bool) (x : A) → here ≡ false → (if here then x ∷ [] else []) ≡ []
 if_away here x e = ap (λ b. if b then x ∷ [] else []) e
 
-noted_here : (p : Registers) (which : Step) (o : Tried) → is_at_port which ≡ true →
-    done_at_port (deeds_by p which o 0) ≡ done_if which (answer_of o)
-noted_here p which Unmet e = refl
-noted_here p which (Answered answer) e = if_here (is_at_port which) (which, answer) e
-noted_here p which (Released m) e = if_here (is_at_port which) (which, answer_by m) e
+noted_here : (p : Registers) (which : Step) (o : Tried) (bits : ℕ) → is_at_port which ≡ true →
+    done_at_port (deeds_by p which o bits) ≡ done_if which (answer_of o) bits
+noted_here p which Unmet bits e = refl
+noted_here p which (Answered answer) bits e = if_here (is_at_port which) (which, answer, bits) e
+noted_here p which (Released m) bits e = if_here (is_at_port which) (which, answer_by m, bits) e
   where
     answer_by : List ℕ → StepAnswer
     answer_by m = ReleasedAnswer (length m)
-noted_here p which (Ended ledger) e = if_here (is_at_port which) (which, DoneAnswer) e
+noted_here p which (Ended ledger) bits e = if_here (is_at_port which) (which, DoneAnswer, bits) e
 
-noted_away : (p : Registers) (which : Step) (o : Tried) → is_at_port which ≡ false →
-    done_at_port (deeds_by p which o 0) ≡ []
-noted_away p which Unmet e = refl
-noted_away p which (Answered answer) e = if_away (is_at_port which) (which, answer) e
-noted_away p which (Released m) e = if_away (is_at_port which) (which, ReleasedAnswer (length m)) e
-noted_away p which (Ended ledger) e = if_away (is_at_port which) (which, DoneAnswer) e
+noted_away : (p : Registers) (which : Step) (o : Tried) (bits : ℕ) → is_at_port which ≡ false →
+    done_at_port (deeds_by p which o bits) ≡ []
+noted_away p which Unmet bits e = refl
+noted_away p which (Answered answer) bits e = if_away (is_at_port which) (which, answer, bits) e
+noted_away p which (Released m) bits e = if_away (is_at_port which) (which, ReleasedAnswer (length m), bits) e
+noted_away p which (Ended ledger) bits e = if_away (is_at_port which) (which, DoneAnswer, bits) e
 
 -- a step away from the port leaves a driver in its state
 stays_out : (active : Bool) (which : Step) (o : Tried) → is_at_port which ≡ false → is_out_after active which o ≡ active
@@ -88,54 +88,52 @@ stays_out active Interrupt o e = absurd (let t : true ≡ false = e in cc)
 stays_out active (At n) o e = absurd (let t : true ≡ false = e in cc)
 
 -- whether it is out of reset by one deed more
-active_push : (active : Bool) (done : List (Step × StepAnswer)) (d : Step × StepAnswer) →
+active_push : (active : Bool) (done : List (Step × StepAnswer × ℕ)) (d : Step × StepAnswer × ℕ) →
     active_by active (done ++ d ∷ []) ≡ active_after (active_by active done) d.0 d.1
 active_push active [] d = refl
 active_push active (x ∷ done) d = active_push (active_after active x.0 x.1) done d
 
-active_if : (done : List (Step × StepAnswer)) (which : Step) (o : Tried) →
-    active_by false (done ++ done_if which (answer_of o)) ≡ is_out_after (active_by false done) which o
-active_if done which Unmet = ap (λ l. active_by false l) (append-nil done)
-active_if done which (Answered answer) = active_push false done (which, answer)
-active_if done which (Released m) = active_push false done (which, ReleasedAnswer (length m))
-active_if done which (Ended ledger) = active_push false done (which, DoneAnswer)
+active_if : (done : List (Step × StepAnswer × ℕ)) (which : Step) (o : Tried) (bits : ℕ) →
+    active_by false (done ++ done_if which (answer_of o) bits) ≡ is_out_after (active_by false done) which o
+active_if done which Unmet bits = ap (λ l. active_by false l) (append-nil done)
+active_if done which (Answered answer) bits = active_push false done (which, answer, bits)
+active_if done which (Released m) bits = active_push false done (which, ReleasedAnswer (length m), bits)
+active_if done which (Ended ledger) bits = active_push false done (which, DoneAnswer, bits)
 
 module _ {N : Type 0} {o : Orders N} (was now : DeedsOfNode N o) where
-  pub notes_node : (which : Step) (answer : Option StepAnswer) (set_was set : SettingsValue) →
-      NotesDeed was now which answer set_was set → now.node ≡ was.node
-  notes_node which answer set_was set (at_port here node version done sets waits) = node
-  notes_node which answer set_was set (elsewhere away same kept) = ap (λ d. d.node) same
+  pub notes_node : (which : Step) (answer : Option StepAnswer) (bits : ℕ) (set_was set : SettingsValue) →
+      NotesDeed was now which answer bits set_was set → now.node ≡ was.node
+  notes_node which answer bits set_was set (at_port here node version done sets waits) = node
+  notes_node which answer bits set_was set (elsewhere away same kept) = ap (λ d. d.node) same
 
-  pub notes_at_port : (p : Registers) (which : Step) (o : Tried) (answer : Option StepAnswer) (set_was set :
-      SettingsValue) →
-      NotesDeed was now which answer set_was set → answer ≡ answer_of o →
-      done_in_order now.known.list ≡ done_in_order was.known.list ++ done_at_port (deeds_by p which o 0)
-  notes_at_port p which o answer set_was set (at_port here node version done sets waits) met =
-      done ∙ ap (λ a. done_in_order was.known.list ++ done_if which a) met
-      ∙ ap (λ l. done_in_order was.known.list ++ l) (sym (noted_here p which o here))
-  notes_at_port p which o answer set_was set (elsewhere away same kept) met =
+  pub notes_at_port : (p : Registers) (which : Step) (o : Tried) (answer : Option StepAnswer) (bits : ℕ)
+      (set_was set : SettingsValue) → NotesDeed was now which answer bits set_was set → answer ≡ answer_of o →
+      done_in_order now.known.list ≡ done_in_order was.known.list ++ done_at_port (deeds_by p which o bits)
+  notes_at_port p which o answer bits set_was set (at_port here node version done sets waits) met =
+      done ∙ ap (λ a. done_in_order was.known.list ++ done_if which a bits) met
+      ∙ ap (λ l. done_in_order was.known.list ++ l) (sym (noted_here p which o bits here))
+  notes_at_port p which o answer bits set_was set (elsewhere away same kept) met =
       ap (λ d. done_in_order d.known.list) same ∙ sym (append-nil (done_in_order was.known.list))
-      ∙ ap (λ l. done_in_order was.known.list ++ l) (sym (noted_away p which o away))
+      ∙ ap (λ l. done_in_order was.known.list ++ l) (sym (noted_away p which o bits away))
 
-  pub notes_active : (which : Step) (o : Tried) (answer : Option StepAnswer) (set_was set : SettingsValue) (out :
-      Bool) →
-      NotesDeed was now which answer set_was set → answer ≡ answer_of o →
+  pub notes_active : (which : Step) (o : Tried) (answer : Option StepAnswer) (bits : ℕ) (set_was set : SettingsValue)
+      (out : Bool) → NotesDeed was now which answer bits set_was set → answer ≡ answer_of o →
       active_by false (done_in_order was.known.list) ≡ out →
       active_by false (done_in_order now.known.list) ≡ is_out_after out which o
-  notes_active which o answer set_was set out (at_port here node version done sets waits) met active =
+  notes_active which o answer bits set_was set out (at_port here node version done sets waits) met active =
       ap (λ l. active_by false l) done
-      ∙ ap (λ a. active_by false (done_in_order was.known.list ++ done_if which a)) met
-      ∙ active_if (done_in_order was.known.list) which o ∙ ap (λ b. is_out_after b which o) active
-  notes_active which o answer set_was set out (elsewhere away same kept) met active =
+      ∙ ap (λ a. active_by false (done_in_order was.known.list ++ done_if which a bits)) met
+      ∙ active_if (done_in_order was.known.list) which o bits ∙ ap (λ b. is_out_after b which o) active
+  notes_active which o answer bits set_was set out (elsewhere away same kept) met active =
       ap (λ d. active_by false (done_in_order d.known.list)) same ∙ active ∙ sym (stays_out out which o away)
 
-  pub notes_set : (which : Step) (answer : Option StepAnswer) (set_was set : SettingsValue) →
-      NotesDeed was now which answer set_was set → (answer ≡ None → set ≡ set_was) →
+  pub notes_set : (which : Step) (answer : Option StepAnswer) (bits : ℕ) (set_was set : SettingsValue) →
+      NotesDeed was now which answer bits set_was set → (answer ≡ None → set ≡ set_was) →
       set_after was.version was.known.list ≡ set_was → set_after now.version now.known.list ≡ set
-  notes_set which None set_was set (at_port here node version done sets waits) unmet was_set =
+  notes_set which None bits set_was set (at_port here node version done sets waits) unmet was_set =
       ap (λ d. set_after d.version d.known.list) (waits refl) ∙ was_set ∙ sym (unmet refl)
-  notes_set which (Some s) set_was set (at_port here node version done sets waits) unmet was_set = sets s refl
-  notes_set which answer set_was set (elsewhere away same kept) unmet was_set =
+  notes_set which (Some s) bits set_was set (at_port here node version done sets waits) unmet was_set = sets s refl
+  notes_set which answer bits set_was set (elsewhere away same kept) unmet was_set =
       ap (λ d. set_after d.version d.known.list) same ∙ was_set ∙ sym kept
 
 -- what is set by another name

@@ -24,8 +24,8 @@ use Rattle.sja_threads.proofs.Driver.Settings.{IsDoneFrom}
 abbrev IsPlain : Step → Type 0
 IsPlain s =
     ((p : Registers) (active : Bool) → deed_steps true p active s ≡ s ∷ [])
-    × ((p : Registers) (seen : BufferView) (kept : KeptBytes) (deeds : List Deed) (answer : StepAnswer) →
-    map (λ (d : Deed). d.answer) deeds ≡ answer ∷ [] → Answers true p seen kept 0 s deeds answer)
+    × ((p : Registers) (seen : BufferView) (kept : KeptBytes) (bits : ℕ) (deeds : List Deed) (answer : StepAnswer) →
+    map (λ (d : Deed). d.answer) deeds ≡ answer ∷ [] → Answers true p seen kept bits s deeds answer)
     × ((kept : KeptBytes) (given answer : StepAnswer) → IsTold true kept s given answer → answer ≡ given)
     × ((p : Registers) (kept : KeptBytes) → kept_written p kept s ≡ kept)
 
@@ -39,18 +39,18 @@ kind_of : (s : Step) → Kind s
 kind_of (Read address) = is_read address
 kind_of (Write address value) = is_write address value
 kind_of (At least) = is_wait least
-kind_of Start = is_plain Start (λ p a. refl, λ p n k d x is. is, λ k g a is. is, λ p k. refl)
-kind_of Stop = is_plain Stop (λ p a. refl, λ p n k d x is. is, λ k g a is. is, λ p k. refl)
-kind_of Window = is_plain Window (λ p a. refl, λ p n k d x is. is, λ k g a is. is, λ p k. refl)
-kind_of Release = is_plain Release (λ p a. refl, λ p n k d x is. is, λ k g a is. is, λ p k. refl)
-kind_of (Load m) = is_plain (Load m) (λ p a. refl, λ p n k d x is. is, λ k g a is. is, λ p k. refl)
-kind_of (Command value) = is_plain (Command value) (λ p a. refl, λ p n k d x is. is, λ k g a is. is, λ p k. refl)
-kind_of (Await count) = is_plain (Await count) (λ p a. refl, λ p n k d x is. is, λ k g a is. is, λ p k. refl)
-kind_of Sent = is_plain Sent (λ p a. refl, λ p n k d x is. is, λ k g a is. is, λ p k. refl)
-kind_of Interrupt = is_plain Interrupt (λ p a. refl, λ p n k d x is. is, λ k g a is. is, λ p k. refl)
+kind_of Start = is_plain Start (λ p a. refl, λ p n k b d x is. is, λ k g a is. is, λ p k. refl)
+kind_of Stop = is_plain Stop (λ p a. refl, λ p n k b d x is. is, λ k g a is. is, λ p k. refl)
+kind_of Window = is_plain Window (λ p a. refl, λ p n k b d x is. is, λ k g a is. is, λ p k. refl)
+kind_of Release = is_plain Release (λ p a. refl, λ p n k b d x is. is, λ k g a is. is, λ p k. refl)
+kind_of (Load m) = is_plain (Load m) (λ p a. refl, λ p n k b d x is. is, λ k g a is. is, λ p k. refl)
+kind_of (Command value) = is_plain (Command value) (λ p a. refl, λ p n k b d x is. is, λ k g a is. is, λ p k. refl)
+kind_of (Await count) = is_plain (Await count) (λ p a. refl, λ p n k b d x is. is, λ k g a is. is, λ p k. refl)
+kind_of Sent = is_plain Sent (λ p a. refl, λ p n k b d x is. is, λ k g a is. is, λ p k. refl)
+kind_of Interrupt = is_plain Interrupt (λ p a. refl, λ p n k b d x is. is, λ k g a is. is, λ p k. refl)
 
 module _ (version : ℕ) (set : SettingsValue) (active : Bool) (was kept moved : KeptBytes) (d : Deed)
-    (told : StepAnswer) (from : IsDoneFrom set active d) (p : Registers) (has : HasSettings p set)
+    (told : StepAnswer) (bits : ℕ) (from : IsDoneFrom set active d) (p : Registers) (has : HasSettings p set)
     (now : moved ≡ moved_by_answer kept d.answer) where
   abbrev seen : BufferView
   seen = seen_of from.done.off from.done.window
@@ -58,19 +58,17 @@ module _ (version : ℕ) (set : SettingsValue) (active : Bool) (was kept moved :
   -- at the registers at which the deed was done, or at those of the write's kept byte
   abbrev IsAt : Registers → Step → Bool → Type 0
   IsAt at s bytes =
-      (d.step ∷ [] ≡ deed_steps bytes at active s) × Answers bytes at seen was 0 s (d ∷ []) told
+      (d.step ∷ [] ≡ deed_steps bytes at active s) × Answers bytes at seen was bits s (d ∷ []) told
       × (moved ≡ moved_by_answer (kept_written at was s) d.answer)
 
   accessed : (at : Registers) (s : Step) → HasSettings at set → IsAt at s (by_bytes version) →
       ((address : ℕ) → s ≡ Read address → Tells (Read address) active at seen d.answer) →
-      IsAccessAt version set active was (record { step = s; answer = told; bits = 0; deeds = d ∷ [] }) moved
+      IsAccessAt version set active was (record { step = s; answer = told; bits = bits; deeds = d ∷ [] }) moved
   accessed at s has is read = record {
     at = at;
     seen = seen;
-    run = 0;
     has = has;
     is = record { steps = is.0; answer = is.1; left = is.2 };
-    bits = refl;
     read = λ address x step deeds.
         subst (λ (a : StepAnswer). Tells (Read address) active at seen a) (first_is d x deeds) (read address step);
   }
@@ -85,7 +83,7 @@ module _ (version : ℕ) (set : SettingsValue) (active : Bool) (was kept moved :
 
   by_kind : (s : Step) → Kind s → (bytes : Bool) → bytes ≡ by_bytes version → d.step ≡ s → HasOneDeed bytes s →
       IsTold bytes kept s d.answer told → kept ≡ kept_written p was s →
-      IsAccessAt version set active was (record { step = s; answer = told; bits = 0; deeds = d ∷ [] }) moved
+      IsAccessAt version set active was (record { step = s; answer = told; bits = bits; deeds = d ∷ [] }) moved
   by_kind _ (is_read address) true bytes step one is written =
       accessed from.at (Read address) from.has
       (subst (λ (b : Bool). IsAt from.at (Read address) b) bytes (
@@ -121,7 +119,7 @@ module _ (version : ℕ) (set : SettingsValue) (active : Bool) (was kept moved :
       accessed from.at s from.has
       (subst (λ (b : Bool). IsAt from.at s b) bytes (
         ap (λ (x : Step). x ∷ []) step ∙ sym (plain.0 from.at active),
-        plain.1 from.at seen was (d ∷ []) told
+        plain.1 from.at seen was bits (d ∷ []) told
             (ap (λ (a : StepAnswer). a ∷ []) (sym (plain.2 kept d.answer told is))),
         now ∙ ap (λ (k : KeptBytes). moved_by_answer k d.answer)
             (written ∙ plain.3 p was ∙ sym (plain.3 from.at was)),
@@ -138,5 +136,5 @@ module _ (version : ℕ) (set : SettingsValue) (active : Bool) (was kept moved :
   -- by its one deed a step is what it is
   pub access_at : (s : Step) (bytes : Bool) → bytes ≡ by_bytes version → d.step ≡ s → HasOneDeed bytes s →
       IsTold bytes kept s d.answer told → kept ≡ kept_written p was s →
-      IsAccessAt version set active was (record { step = s; answer = told; bits = 0; deeds = d ∷ [] }) moved
+      IsAccessAt version set active was (record { step = s; answer = told; bits = bits; deeds = d ∷ [] }) moved
   access_at s = by_kind s (kind_of s)

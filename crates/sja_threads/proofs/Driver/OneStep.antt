@@ -1,6 +1,6 @@
 -- One step of a driver's script: it is done, or a gate breaks it off.
 use Rattle.std.proofs.Common.{◌≡◌, ◌+◌, ◌++◌, ℕ, Bool, true, false, Option, Some, None, List, [], ◌∷◌}
-use Rattle.std.proofs.Common.{length, map, refl, sym, ap, ◌∙◌, subst, arith, append-nil}
+use Rattle.std.proofs.Common.{inl, length, map, refl, sym, ap, ◌∙◌, subst, arith, append-nil}
 use Rattle.std.specs.Vec.{vec_capacity}
 use Rattle.sja_link.specs.declared.driver_end.DriverEnd.{Ghosts as Ends}
 use Rattle.sja_regs.specs.declared.registers.Registers.{Registers}
@@ -69,11 +69,11 @@ module _ {N E : Type 0} {o : Orders N} (e : Ends E) (was mid : DriverThread N E 
   abbrev now : DriverThread N E o
   now = record mid { driver = d }
 
-  -- the step is entered as done
+  -- the step is entered as done, after as many bits as it found
   abbrev pub Entered : KeptBytes → StepAnswer → Type 0
   Entered kept answer =
       (d ≡ record mid.driver { kept = kept; log = record (log_of mid.driver) { done = (log_of d).done } })
-      × (done_in (log_of d) ≡ done_in (log_of mid.driver) ++ record { answer = answer; bits = 0 } ∷ [])
+      × (done_in (log_of d) ≡ done_in (log_of mid.driver) ++ record { answer = answer; bits = mid.found } ∷ [])
       × (done_room (log_of d) ≡ done_room (log_of mid.driver))
 
   -- ---- a step that is one deed
@@ -85,24 +85,26 @@ module _ {N E : Type 0} {o : Orders N} (e : Ends E) (was mid : DriverThread N E 
       moved ≡ moved_by_answer kept answer → IsTold was.bytes kept s answer told → DoesStep e was now s
   unfolding does_entered
   step_done s given answer told kept moved some q entered may one written by is = record {
-    access = record { step = s; answer = told; bits = 0; deeds = q.deeds };
+    access = record { step = s; answer = told; bits = mid.found; deeds = q.deeds };
     step_is = refl;
-    does = does_entered e was mid d moved q.deeds q.does entered.0;
+    does = does_entered e was mid d mid.found moved q.deeds q.does entered.0;
     few = let most = one_at_most this.deed.step in let one = ap (λ (l : List Deed). room_taken l) this.are in
         omega (arith, most, one);
+    counts = (q.counts.are, inl q.counts.found);
+    found = refl;
     is = λ before w.
         let from = done_from before was.set this.deed mid.set
         (subst (λ (l : List Deed). LeadOn before was.set l mid.set) this.are (q.does.leads before w)) in
         subst (λ (l : List Deed). IsAccessAt was.set.version was.set (is_active before) (kept_of was.driver)
-        (record { step = s; answer = told; bits = 0; deeds = l }) (kept_of d)) (sym this.are)
+        (record { step = s; answer = told; bits = mid.found; deeds = l }) (kept_of d)) (sym this.are)
         (subst (λ (k : KeptBytes). IsAccessAt was.set.version was.set (is_active before) (kept_of was.driver)
-        (record { step = s; answer = told; bits = 0; deeds = this.deed ∷ [] }) k)
+        (record { step = s; answer = told; bits = mid.found; deeds = this.deed ∷ [] }) k)
         (sym (ap (λ (x : LoggedDriver). kept_of x) entered.0))
-        (access_at was.set.version was.set (is_active before) (kept_of was.driver) kept moved this.deed told from
-        written.0 written.1 (by ∙ ap (λ (a : StepAnswer). moved_by_answer kept a) (sym this.answered)) s was.bytes
+        (access_at was.set.version was.set (is_active before) (kept_of was.driver) kept moved this.deed told mid.found
+        from written.0 written.1 (by ∙ ap (λ (a : StepAnswer). moved_by_answer kept a) (sym this.answered)) s was.bytes
         may.may.bytes this.step one
         (subst (λ (a : StepAnswer). IsTold was.bytes kept s a told) (sym this.answered) is) written.2));
-    done = entered.1 ∙ ap (λ v. v.items ++ record { answer = told; bits = 0 } ∷ []) q.none.done;
+    done = entered.1 ∙ ap (λ v. v.items ++ record { answer = told; bits = mid.found } ∷ []) q.none.done;
     room = entered.2 ∙ ap (λ v. vec_capacity v) q.none.done;
   }
     where
@@ -116,30 +118,30 @@ module _ {N E : Type 0} {o : Orders N} (e : Ends E) (was mid : DriverThread N E 
       Entered moved DoneAnswer → by_bytes was.set.version ≡ true → DoesStep e was now (Write address value)
   unfolding does_entered
   write_done address value steps m kept moved all_met b q entered bytes = record {
-    access = record { step = Write address value; answer = DoneAnswer; bits = 0; deeds = q.deeds };
+    access = record { step = Write address value; answer = DoneAnswer; bits = mid.found; deeds = q.deeds };
     step_is = refl;
-    does = does_entered e was mid d moved q.deeds q.does entered.0;
+    does = does_entered e was mid d mid.found moved q.deeds q.does entered.0;
     few = let few = parts_taken e was mid (steps_in steps) m kept moved q in
         let one = one_together (steps_in steps) (begun_last was address value (steps_in steps) kept b) in
         omega (arith, few, one);
+    counts = (q.counts.are, inl q.counts.found);
+    found = refl;
     is = λ before w. record {
       at = b.at;
       seen = nothing_seen;
-      run = 0;
       has = b.has;
       is = record {
         steps = subst (λ (k : Bool). map (λ (x : Deed). x.step) q.deeds
             ≡ deed_steps k b.at (is_active before) (Write address value)) (sym bytes)
             (whole ∙ ap (λ (k : Bool). write_steps b.at k address value) (sym w.out));
-        answer = subst (λ (k : Bool). Answers k b.at nothing_seen (kept_of was.driver) 0 (Write address value) q.deeds
-            DoneAnswer) (sym bytes) refl;
+        answer = subst (λ (k : Bool). Answers k b.at nothing_seen (kept_of was.driver) mid.found (Write address value)
+            q.deeds DoneAnswer) (sym bytes) refl;
         left = ap (λ (x : LoggedDriver). kept_of x) entered.0 ∙ q.moved
             ∙ ap (λ (k : KeptBytes). kept_by k q.deeds) b.left;
       };
-      bits = refl;
       read = λ other x same deeds. absurd (let two : Write address value ≡ Read other = same in cc);
     };
-    done = entered.1 ∙ ap (λ v. v.items ++ record { answer = DoneAnswer; bits = 0 } ∷ []) q.none.done;
+    done = entered.1 ∙ ap (λ v. v.items ++ record { answer = DoneAnswer; bits = mid.found } ∷ []) q.none.done;
     room = entered.2 ∙ ap (λ v. vec_capacity v) q.none.done;
   }
     where
@@ -157,6 +159,7 @@ module _ {N E : Type 0} {o : Orders N} (e : Ends E) (was : DriverThread N E o) (
   broken_before r s = record {
     deeds = [];
     does = does_none e r was;
+    counts = tt;
     none = record { done = refl; kept = refl };
     lawful = may.may.lawful;
     broken = λ left. not_begun;
@@ -169,6 +172,7 @@ module _ {N E : Type 0} {o : Orders N} (e : Ends E) (was : DriverThread N E o) (
       let are : q.deeds ≡ [] = subst (λ (g : Option StepAnswer). IsDeedIf s g q.deeds) none q.are in record {
         deeds = q.deeds;
         does = q.does;
+        counts = q.counts.are;
         none = q.none;
         lawful = (q.does.able 0 (may_less e was (room_taken q.deeds + 0) 1
             (let none : room_taken q.deeds ≡ 0 = ap (λ (l : List Deed). room_taken l) are in omega (arith, none))
@@ -185,6 +189,7 @@ module _ {N E : Type 0} {o : Orders N} (e : Ends E) (was : DriverThread N E o) (
   write_broken last address value steps m kept kept_now unmet b q bytes = record {
     deeds = q.deeds;
     does = q.does;
+    counts = q.counts.are;
     none = q.none;
     lawful = (parts_able e was last (steps_in steps) m kept kept_now q 0 1
         (let one = one_together (steps_in steps) (begun_last was address value (steps_in steps) kept b) in

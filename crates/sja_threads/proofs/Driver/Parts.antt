@@ -15,6 +15,7 @@ use Rattle.sja_driver.specs.WriteLists.{listed}
 use Rattle.sja_threads.specs.declared.order.Order.{Ghosts as Orders}
 use Rattle.sja_threads.specs.declared.driver_thread.DriverThread.{DriverThread}
 use Rattle.sja_threads.specs.Inside.Steps.{MayWork, DoesDeed, DoesParts, IsDeedIf, room_of, room_taken}
+use Rattle.sja_threads.proofs.Driver.Counts.{counts_more, counts_none}
 use Rattle.sja_threads.proofs.Driver.Steps.{may_less, does_none, does_more}
 
 -- ---- what is kept
@@ -47,6 +48,7 @@ module _ {N E : Type 0} {o : Orders N} (e : Ends E) where
     left = [];
     whole = refl;
     does = does_none e r t;
+    counts = counts_none t;
     none = record { done = refl; kept = refl };
     moved = refl;
     ends = λ all_met. refl;
@@ -66,6 +68,7 @@ module _ {N E : Type 0} {o : Orders N} (e : Ends E) where
         whole = ap (λ (x : Option Step). listed x) is ∙ sym are.0
             ∙ sym (append-nil (map (λ (x : Deed). x.step) d.deeds));
         does = d.does;
+        counts = d.counts;
         none = d.none;
         moved = moved ∙ sym (kept_one kept d.deeds answer are.1);
         ends = λ all_met. refl;
@@ -83,6 +86,7 @@ module _ {N E : Type 0} {o : Orders N} (e : Ends E) where
         whole = ap (λ (x : Option Step). listed x) is
             ∙ ap (λ (l : List Deed). map (λ (x : Deed). x.step) l ++ s ∷ []) (sym are);
         does = d.does;
+        counts = d.counts;
         none = d.none;
         moved = ap (λ (l : List Deed). kept_by kept l) (sym are);
         ends = λ all_met. absurd (let two : false ≡ true = all_met in cc);
@@ -100,6 +104,7 @@ module _ {N E : Type 0} {o : Orders N} (e : Ends E) where
     whole = ap (λ (l : List Step). l ++ ys) p.whole
         ∙ append_assoc (map (λ (x : Deed). x.step) p.deeds) p.left ys;
     does = p.does;
+    counts = p.counts;
     none = p.none;
     moved = p.moved;
     ends = λ all_met. absurd (let two : false ≡ true = all_met in cc);
@@ -118,6 +123,7 @@ module _ {N E : Type 0} {o : Orders N} (e : Ends E) where
         ∙ sym (append_assoc (map step_of p.deeds) (map step_of q.deeds) q.left)
         ∙ ap (λ (l : List Step). l ++ q.left) (sym (map-append step_of p.deeds q.deeds));
     does = does_more e trans a b c p.deeds q.deeds p.does q.does;
+    counts = counts_more a b c p.deeds q.deeds p.counts q.counts;
     none = record { done = q.none.done ∙ p.none.done; kept = q.none.kept ∙ p.none.kept };
     moved = q.moved ∙ ap (λ (k : KeptBytes). kept_by k q.deeds) p.moved ∙ sym (kept_more kept p.deeds q.deeds);
     ends = q.ends;

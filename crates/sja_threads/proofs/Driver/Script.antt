@@ -46,10 +46,10 @@ pub begins : {N E : Type 0} {o : Orders N} (link : E → LinkId) (t : DriverThre
     t.bytes ≡ by_bytes t.set.version → t.done.known.list ≡ [] →
     t.set ≡ settings_in (regs_at_power_on t.done.version) → node_of t.driver ≡ node → log_of t.driver ≡ log →
     kept_of t.driver ≡ at_power_on → is_out (driver_of t.driver) ≡ false → IsLawful t.driver →
-    ((version : ℕ) → Traces version (driver_of t.driver) (log_of t.driver) []) → IsEmpty log →
+    ((version : ℕ) → Traces version (driver_of t.driver) (log_of t.driver) []) → t.found ≡ 0 → IsEmpty log →
     HasRoom steps log → steps ≤ done_room log → 64 ≤ length t.links.items →
     NumberedFrom link t.links.items 0 node → MayBegin link t steps
-begins link t node steps log bytes unseen first own logs kept reset lawful none empty deeds room enough ids = record {
+begins link t node steps log bytes unseen first own logs kept reset lawful none new empty deeds room long ids = record {
   may = record {
     may = record {
       bytes = bytes;
@@ -57,7 +57,7 @@ begins link t node steps log bytes unseen first own logs kept reset lawful none 
       active = ap (λ l. active_by false (done_in_order l)) unseen ∙ sym reset;
       lawful = lawful;
       room = subst (λ (l : WorkLog). HasRoom steps l) (sym logs) deeds;
-      enough = enough;
+      enough = long;
       ids = subst (λ (n : ℕ). NumberedFrom link t.links.items 0 n) (sym own) ids;
     };
     room = subst (λ (l : WorkLog). length (done_in l) + steps ≤ done_room l) (sym logs)
@@ -67,6 +67,7 @@ begins link t node steps log bytes unseen first own logs kept reset lawful none 
   empty = subst (λ (l : WorkLog). IsEmpty l) (sym logs) empty;
   kept = kept;
   none = unseen;
+  found = new;
   traces = none;
 }
 
@@ -108,13 +109,15 @@ module _ {N E : Type 0} {o : Orders N} (e : Ends E) where
       (first : DriverThread N E o)
       (begun : (version : ℕ) → Traces version (driver_of first.driver) (log_of first.driver) [])
     where
-      pub done_none : kept_of first.driver ≡ at_power_on → IsEmpty (log_of first.driver) → HasDone e first first []
+      pub done_none : kept_of first.driver ≡ at_power_on → first.found ≡ 0 → IsEmpty (log_of first.driver) →
+          HasDone e first first []
       unfolding does_none
-      done_none kept empty = record {
+      done_none kept fresh empty = record {
         accesses = [];
         does = does_none e r first;
-        leads = subst (λ (k : KeptBytes). LeadToAccesses first.set.version first.set [] first.set k) (sym kept)
-            no_access_done;
+        leads = subst (λ (k : KeptBytes). LeadToAccesses first.set.version first.set [] first.set k first.found)
+            (sym kept) (subst (λ (n : ℕ). LeadToAccesses first.set.version first.set [] first.set at_power_on n)
+            (sym fresh) no_access_done);
         steps_are = refl;
         done_are = sym empty.done;
       }
@@ -135,10 +138,12 @@ module _ {N E : Type 0} {o : Orders N} (e : Ends E) where
           accesses = p.accesses ++ d.access ∷ [];
           does = subst (λ (l : List Deed). Does e first now l) (sym (deeds_push p.accesses d.access))
               (does_more e trans first was now (deeds_in p.accesses) d.access.deeds p.does d.does);
-          leads = access_done p.accesses d.access was.set now.set (kept_of was.driver) (kept_of now.driver) p.leads
-              (d.does.leads (deeds_in p.accesses) own_traces)
+          leads = subst (λ (n : ℕ). LeadToAccesses first.set.version first.set (p.accesses ++ d.access ∷ []) now.set
+              (kept_of now.driver) n) (sym d.found)
+              (access_done p.accesses d.access was.set now.set (kept_of was.driver) (kept_of now.driver) was.found
+              p.leads (d.does.leads (deeds_in p.accesses) own_traces)
               (subst (λ (v : ℕ). IsAccessAt v was.set (is_active (deeds_in p.accesses)) (kept_of was.driver) d.access
-              (kept_of now.driver)) p.does.version (d.is (deeds_in p.accesses) own_traces));
+              (kept_of now.driver)) p.does.version (d.is (deeds_in p.accesses) own_traces)) d.counts);
           steps_are = map-append (λ (x : Access). x.step) p.accesses (d.access ∷ [])
               ∙ ap (λ (l : List Step). l ++ d.access.step ∷ []) p.steps_are
               ∙ ap (λ (x : Step). steps ++ x ∷ []) d.step_is;
@@ -167,7 +172,9 @@ module _ {N E : Type 0} {o : Orders N} (e : Ends E) where
               first = front;
               last = was.set;
               kept = kept_of was.driver;
+              found = was.found;
               leads = p.leads;
+              counted = b.counts;
               broken =
                   subst (λ (l : List Step). IsBrokenOff first.set.version was.set (is_active (deeds_in p.accesses)) l
                   b.deeds)
@@ -196,7 +203,9 @@ module _ {N E : Type 0} {o : Orders N} (e : Ends E) where
               first = front;
               last = was.set;
               kept = kept_of was.driver;
+              found = was.found;
               leads = p.leads;
+              counted = tt;
               broken = not_begun;
             };
             done = p.done_are;

@@ -1,5 +1,5 @@
 -- What a driver in a thread of its own has set, through a try of a step.
-use Rattle.std.proofs.Common.{◌≡◌, ◌++◌, Bool, true, List, [], ◌∷◌, length, refl, sym, ap, ◌∙◌, subst}
+use Rattle.std.proofs.Common.{◌≡◌, ◌++◌, ℕ, Bool, true, List, [], ◌∷◌, length, refl, sym, ap, ◌∙◌, subst}
 use Rattle.std.proofs.Common.{Some, None, arith, append-nil, append_assoc}
 use Rattle.std.proofs.lemmas.List.{length-append}
 use Rattle.can_frame.specs.declared.buffer_view.BufferView.{BufferView}
@@ -25,26 +25,14 @@ use Rattle.sja_threads.specs.Accessing.{LeadOn}
 use Rattle.sja_threads.specs.Setting.{LeadToSettings, IsDoneAt}
 use Rattle.sja_threads.specs.Setting.LeadToSettings.{step_done}
 use Rattle.sja_threads.specs.Accessing.LeadOn.{nothing_more, one_more}
+use Rattle.sja_threads.proofs.Twin.Led.{has_own}
 
 -- some registers with these settings, in reset mode just where they are
 abbrev pub registers_with : SettingsValue → Registers
 registers_with s = record (with_settings (at_power_on 1) s) { mode = s.mode }
 
 pub has_those : (s : SettingsValue) → HasSettings (registers_with s) s
-has_those s = record {
-  version = refl;
-  listen_only = refl;
-  self_test = refl;
-  filter_mode = refl;
-  reset = λ e. e;
-  enabled = refl;
-  ewlr = refl;
-  set_tec = refl;
-  set_rec = refl;
-  acr = refl;
-  amr = refl;
-  buffer = refl;
-}
+has_those s = has_own (registers_with s)
 
 seen_is : (now : AnyDriver) → seen_by now ≡ seen_of (off_of now) (held_of now)
 seen_is (InReset d) = refl
@@ -57,13 +45,14 @@ if_out (InActive d) P p out = p
 module _ {E : Type 0} (e : Ends E) (a b : E) (p q : Registers) (which : Step) (was now : AnyDriver)
     (set set_now : SettingsValue) (has : HasSettings p set) where
   -- what was set before a try leads to what is set after it, by the deed that it was
-  pub leads_try : (o : Tried) → ((answer : StepAnswer) → answer_of o ≡ Some answer → set_now ≡ settings_in q) →
+  pub leads_try : (o : Tried) (bits : ℕ) →
+      ((answer : StepAnswer) → answer_of o ≡ Some answer → set_now ≡ settings_in q) →
       (answer_of o ≡ None → set_now ≡ set) → Acts e.same e.stands e.dry e.full a b p q which was now o →
-      (before : List Deed) → is_active (before ++ []) ≡ is_out was → LeadOn before set (deeds_by p which o 0) set_now
-  leads_try Unmet met unmet acts before out =
+      (before : List Deed) → is_active (before ++ []) ≡ is_out was → LeadOn before set (deeds_by p which o bits) set_now
+  leads_try Unmet bits met unmet acts before out =
       subst (λ (s : SettingsValue). LeadOn before set [] s) (sym (unmet refl)) nothing_more
-  leads_try (Answered answer) met unmet acts before out =
-      subst (λ (s : SettingsValue). LeadOn before set (deeds_by p which (Answered answer) 0) s)
+  leads_try (Answered answer) bits met unmet acts before out =
+      subst (λ (s : SettingsValue). LeadOn before set (deeds_by p which (Answered answer) bits) s)
       (sym (met answer refl ∙ ap settings_in acts.port))
       (one_more [] _ set p nothing_more has (record {
         window = held_of now;
@@ -72,10 +61,9 @@ module _ {E : Type 0} (e : Ends E) (a b : E) (p q : Registers) (which : Step) (w
             (subst (λ (s : BufferView). Tells which (is_out was) p s answer) (seen_is now) acts.tells);
         sees = λ active. if_out was (Sees which (off_of now) (held_of now) answer) acts.sees (sym out ∙ active);
         gave = refl;
-        bits = refl;
       }))
-  leads_try (Released m) met unmet acts before out =
-      subst (λ (s : SettingsValue). LeadOn before set (deeds_by p which (Released m) 0) s)
+  leads_try (Released m) bits met unmet acts before out =
+      subst (λ (s : SettingsValue). LeadOn before set (deeds_by p which (Released m) bits) s)
       (sym (met (ReleasedAnswer (length m)) refl ∙ ap settings_in acts.port))
       (one_more [] _ set p nothing_more has (record {
         window = m ∷ held_of now;
@@ -85,10 +73,9 @@ module _ {E : Type 0} (e : Ends E) (a b : E) (p q : Registers) (which : Step) (w
         sees = λ active. if_out was (Sees which (off_of now) (m ∷ held_of now) (ReleasedAnswer (length m))) acts.sees
             (sym out ∙ active);
         gave = refl;
-        bits = refl;
       }))
-  leads_try (Ended ledger) met unmet acts before out =
-      subst (λ (s : SettingsValue). LeadOn before set (deeds_by p which (Ended ledger) 0) s)
+  leads_try (Ended ledger) bits met unmet acts before out =
+      subst (λ (s : SettingsValue). LeadOn before set (deeds_by p which (Ended ledger) bits) s)
       (sym (met DoneAnswer refl ∙ ap settings_in acts.port))
       (one_more [] _ set p nothing_more has (record {
         window = held_by ledger;
@@ -98,7 +85,6 @@ module _ {E : Type 0} (e : Ends E) (a b : E) (p q : Registers) (which : Step) (w
         sees = λ active. if_out was (Sees which (knows_bus_off ledger) (held_by ledger) DoneAnswer) acts.sees
             (sym out ∙ active);
         gave = refl;
-        bits = refl;
       }))
 
 -- where one deed leads on, it is done at registers that have what was set

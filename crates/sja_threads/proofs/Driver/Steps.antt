@@ -1,5 +1,5 @@
 -- Deeds of a driver in a thread of its own, one after the other.
-use Rattle.std.proofs.Common.{◌≡◌, ◌≤◌, ◌+◌, ◌++◌, ℕ, Option, Some, None, List, []}
+use Rattle.std.proofs.Common.{◌≡◌, ◌≤◌, ◌+◌, ◌++◌, ℕ, false, Option, Some, None, List, []}
 use Rattle.std.proofs.Common.{length, map, refl, sym, ap, ◌∙◌, subst, arith, append-nil, append_assoc}
 use Rattle.std.proofs.lemmas.List.{length-append, map-append}
 use Rattle.std.proofs.lemmas.Slice.Zip.{AllZip-long}
@@ -28,8 +28,9 @@ use Rattle.sja_driver.proofs.LogOfSteps.Logged.{room_less}
 use Rattle.sja_threads.specs.declared.order.Order.{Ghosts as Orders}
 use Rattle.sja_threads.specs.declared.driver_thread.DriverThread.{DriverThread}
 use Rattle.sja_threads.specs.Accessing.LeadOn.{nothing_more}
-use Rattle.sja_threads.specs.Inside.Steps.{MayWork, Does, DoesDeed, IsDeedIf, room_of, room_taken}
-use Rattle.sja_threads.specs.Ordering.{done_at_port, done_in_order}
+use Rattle.sja_threads.specs.Inside.Steps.{CountsOn, MayWork, Does, DoesDeed, IsDeedIf, room_of, room_taken}
+use Rattle.sja_threads.specs.Ordering.{done_at_port, done_in_order, is_at_port}
+use Rattle.sja_threads.proofs.Driver.Counts.{counts_more, counts_none, try_counted, try_found}
 use Rattle.sja_threads.proofs.Driver.Settings.{leads_try, lead_more}
 use Rattle.sja_threads.proofs.Driver.AtPort.{both_at_port, NotesDeed, notes_node, notes_at_port, notes_set}
 use Rattle.sja_threads.proofs.Driver.AtPort.{notes_active}
@@ -42,20 +43,21 @@ version_after p which (Released m) = version_step p which (ReleasedAnswer (lengt
 version_after p which (Ended ledger) = version_step p which DoneAnswer
 
 -- the deed that a try is: one of the step with its answer, if it is done
-deed_if : (p : Registers) (which : Step) (o : Tried) → IsDeedIf which (answer_of o) (deeds_by p which o 0)
-deed_if p which Unmet = refl
-deed_if p which (Answered answer) = (refl, refl)
-deed_if p which (Released m) = (refl, refl)
-deed_if p which (Ended ledger) = (refl, refl)
+deed_if : (p : Registers) (which : Step) (o : Tried) (bits : ℕ) →
+    IsDeedIf which (answer_of o) (deeds_by p which o bits)
+deed_if p which Unmet bits = refl
+deed_if p which (Answered answer) bits = (refl, refl)
+deed_if p which (Released m) bits = (refl, refl)
+deed_if p which (Ended ledger) bits = (refl, refl)
 
 -- no more messages are released than there is room taken
-few_released : (p : Registers) (which : Step) (o : Tried) (ended : ℕ) → IsOf which o →
-    length (releases_by ended o) ≤ room_taken (deeds_by p which o 0)
-few_released p which Unmet ended is = omega arith
-few_released p which (Answered answer) ended is = omega arith
-few_released p which (Released m) ended is =
+few_released : (p : Registers) (which : Step) (o : Tried) (bits ended : ℕ) → IsOf which o →
+    length (releases_by ended o) ≤ room_taken (deeds_by p which o bits)
+few_released p which Unmet bits ended is = omega arith
+few_released p which (Answered answer) bits ended is = omega arith
+few_released p which (Released m) bits ended is =
     let one : room_of which ≡ 1 = ap (λ (s : Step). room_of s) is in omega (arith, one)
-few_released p which (Ended ledger) ended is = omega arith
+few_released p which (Ended ledger) bits ended is = omega arith
 
 -- that of deeds, and then of more
 pub both_taken : (xs ys : List Deed) → room_taken (xs ++ ys) ≡ room_taken xs + room_taken ys
@@ -134,12 +136,12 @@ module _ {N E : Type 0} {o : Orders N} (e : Ends E) where
       later = subst (λ (n : ℕ). Goes e.stands n (driver_of b.driver) (driver_of c.driver) (log_of b.driver)
           (log_of c.driver) b.links.items c.links.items 0 ys) p.version q.goes
 
-  -- and then a step is entered as done
-  unfoldable pub does_entered : (a b : DriverThread N E o) (d : LoggedDriver) (kept : KeptBytes) (deeds : List Deed) →
-      Does e a b deeds →
+  -- and then a step is entered as done, after so many bits
+  unfoldable pub does_entered : (a b : DriverThread N E o) (d : LoggedDriver) (found : ℕ) (kept : KeptBytes)
+      (deeds : List Deed) → Does e a b deeds →
       d ≡ record b.driver { kept = kept; log = record (log_of b.driver) { done = (log_of d).done } } →
-      Does e a (record b { driver = d }) deeds
-  does_entered a b d kept deeds p is = rw is (record {
+      Does e a (record b { driver = d; found = found }) deeds
+  does_entered a b d found kept deeds p is = rw is (record {
     version = p.version;
     goes = record {
       traces = λ before w. let t = p.goes.traces before w in record {
@@ -175,6 +177,7 @@ module _ {N E : Type 0} {o : Orders N} (e : Ends E) where
     deeds = [];
     are = refl;
     does = does_none r t;
+    counts = counts_none t;
     none = record { done = refl; kept = refl };
   }
 
@@ -187,6 +190,8 @@ module _ {N E : Type 0} {o : Orders N} (e : Ends E) where
     are = q.are;
     does = subst (λ (l : List Deed). Does e a c (l ++ q.deeds)) p.are
         (does_more trans a b c p.deeds q.deeds p.does q.does);
+    counts = subst (λ (l : List Deed). CountsOn a c (l ++ q.deeds)) p.are
+        (counts_more a b c p.deeds q.deeds p.counts q.counts);
     none = record { done = q.none.done ∙ p.none.done; kept = q.none.kept ∙ p.none.kept };
   }
 
@@ -199,36 +204,42 @@ module _ {N E : Type 0} {o : Orders N} (e : Ends E) where
 
   -- a try of a deed, with its ends lent for it
   pub does_try : (a b : DriverThread N E o) (x y : List E) (p q : Registers) (which : Step) (answer : Option
-      StepAnswer) →
+      StepAnswer) (bits : ℕ) →
       x ≡ a.links.items → b.links.items ≡ y → 64 ≤ length a.links.items → b.bytes ≡ a.bytes → HasSettings p a.set →
       ((s : StepAnswer) → answer ≡ Some s → b.set ≡ settings_in q) → (answer ≡ None → b.set ≡ a.set) →
-      NotesDeed a.done b.done which answer a.set b.set →
+      (is_at_port which ≡ false → bits ≡ a.found) → ((s : StepAnswer) → answer ≡ Some s → b.found ≡ bits) →
+      (answer ≡ None → b.found ≡ a.found) → NotesDeed a.done b.done which answer bits a.set b.set →
       StaysLawful e.link e.same a.driver b.driver x y 0 answer →
       Steps e.same e.stands e.dry e.full a.driver b.driver x y 0 p q which answer → (o : Option StepAnswer) →
       answer ≡ o → DoesDeed e a b which o
-  does_try a b x y p q which answer these those enough bytes has met unmet notes stays_lent steps_lent told is =
+  does_try a b x y p q which answer bits these those enough bytes has met unmet away finds kept notes stay act told is =
       record {
-        deeds = deeds_by p which steps.tried 0;
-        are = subst (λ (o : Option StepAnswer). IsDeedIf which o (deeds_by p which steps.tried 0))
-            (sym (sym is ∙ steps.met)) (deed_if p which steps.tried);
+        deeds = deeds_by p which steps.tried bits;
+        are = subst (λ (o : Option StepAnswer). IsDeedIf which o (deeds_by p which steps.tried bits))
+            (sym (sym is ∙ steps.met)) (deed_if p which steps.tried bits);
+        counts = record {
+          are = try_counted p which a.found bits steps.tried away;
+          found = try_found p which a.found bits steps.tried b.found (λ s k. finds s (steps.met ∙ k))
+              (λ k. kept (steps.met ∙ k));
+        };
         does = record {
           version = version_is answer refl;
           goes = subst (λ (n : ℕ). Goes e.stands n (driver_of a.driver) (driver_of b.driver) (log_of a.driver)
-              (log_of b.driver) a.links.items b.links.items 0 (deeds_by p which steps.tried 0)) has.version
-              (steps.goes 0);
+              (log_of b.driver) a.links.items b.links.items 0 (deeds_by p which steps.tried bits)) has.version
+              (steps.goes bits);
           leads = λ before w.
-              leads_try e _ _ p q which (driver_of a.driver) (driver_of b.driver) a.set b.set has steps.tried
+              leads_try e _ _ p q which (driver_of a.driver) (driver_of b.driver) a.set b.set has steps.tried bits
               (λ s k. met s (steps.met ∙ k)) (λ k. unmet (steps.met ∙ k)) (steps.acts end end) before
               (ap is_active (append-nil before) ∙ w.out);
           sames = stays.same;
           node = stays.node;
-          same = notes_node a.done b.done which answer a.set b.set notes;
-          at_port = notes_at_port a.done b.done p which steps.tried answer a.set b.set notes steps.met;
+          same = notes_node a.done b.done which answer bits a.set b.set notes;
+          at_port = notes_at_port a.done b.done p which steps.tried answer bits a.set b.set notes steps.met;
           able = λ n may. record {
             bytes = bytes ∙ may.bytes ∙ ap (λ (v : ℕ). by_bytes v) (sym (version_is answer refl));
-            set = notes_set a.done b.done which answer a.set b.set notes unmet may.set;
-            active = notes_active a.done b.done which steps.tried answer a.set b.set (is_out (driver_of a.driver)) notes
-                steps.met
+            set = notes_set a.done b.done which answer bits a.set b.set notes unmet may.set;
+            active = notes_active a.done b.done which steps.tried answer bits a.set b.set (is_out (driver_of a.driver))
+                notes steps.met
                 may.active ∙ sym (steps.acts end end).out;
             lawful = stays.lawful;
             room = room n may.room;
@@ -245,7 +256,7 @@ module _ {N E : Type 0} {o : Orders N} (e : Ends E) where
       stays : StaysLawful e.link e.same a.driver b.driver a.links.items b.links.items 0 answer
       stays =
           subst (λ (l : List E). StaysLawful e.link e.same a.driver b.driver l b.links.items 0 answer) these
-          (subst (λ (l : List E). StaysLawful e.link e.same a.driver b.driver x l 0 answer) (sym those) stays_lent)
+          (subst (λ (l : List E). StaysLawful e.link e.same a.driver b.driver x l 0 answer) (sym those) stay)
 
       steps : Steps e.same e.stands e.dry e.full a.driver b.driver a.links.items b.links.items 0 p q which answer
       steps =
@@ -253,7 +264,7 @@ module _ {N E : Type 0} {o : Orders N} (e : Ends E) where
           (λ (l : List E). Steps e.same e.stands e.dry e.full a.driver b.driver l b.links.items 0 p q which answer)
           these
           (subst (λ (l : List E). Steps e.same e.stands e.dry e.full a.driver b.driver x l 0 p q which answer)
-          (sym those) steps_lent)
+          (sym those) act)
 
       -- no step changes the port's version
       port_is : q.version ≡ p.version
@@ -265,11 +276,11 @@ module _ {N E : Type 0} {o : Orders N} (e : Ends E) where
       version_is None e = ap (λ (s : SettingsValue). s.version) (unmet e)
 
       -- a release alone takes room
-      room : (n : ℕ) → HasRoom (room_taken (deeds_by p which steps.tried 0) + n) (log_of a.driver) →
+      room : (n : ℕ) → HasRoom (room_taken (deeds_by p which steps.tried bits) + n) (log_of a.driver) →
           HasRoom n (log_of b.driver)
       room n h =
           let releases = releases_by (ended_of a.driver) steps.tried in
-          let few = few_released p which steps.tried (ended_of a.driver) (steps.acts end end).kind in
+          let few = few_released p which steps.tried bits (ended_of a.driver) (steps.acts end end).kind in
           let long = ap length steps.releases ∙ length-append (releases_in (log_of a.driver)) releases in
           let fits = h.releases in let left = h.left in let stays = steps.release_room in let stay = steps.left_room in
           record { releases = omega (arith, few, long, fits, stays); left = omega (arith, left, stay) }

@@ -1,5 +1,5 @@
 -- What turns and deeds lead to at a port.
-use Rattle.std.proofs.Common.{◌≡◌, ◌++◌, ◌||◌, ℕ, Bool, true, false, Option, Some, None, List, [], ◌∷◌, length, refl}
+use Rattle.std.proofs.Common.{◌≡◌, ◌++◌, ◌||◌, ℕ, Bool, true, false, Some, None, List, [], ◌∷◌, length, refl}
 use Rattle.std.proofs.Common.{sym, ap, ◌∙◌, subst}
 use Rattle.std.proofs.lemmas.Bool.{or_right}
 use Rattle.can_frame.specs.declared.buffer_view.BufferView.{BufferView}
@@ -25,7 +25,7 @@ use Rattle.sja_threads.specs.declared.port_deed.PortDeed.{PortDeed}
 use Rattle.sja_threads.specs.declared.notice.Notice.{Notice}
 use Rattle.sja_threads.specs.declared.notice.Notice.TheVariants.{Turn, Ran, Spent}
 use Rattle.sja_threads.specs.Ordering.{LedBy, IsAnsweredAt, active_by, bits_told, bits_told_since, done_in_order}
-use Rattle.sja_threads.specs.Ordering.{abort_found, abort_told, ended_told_since, orders_of}
+use Rattle.sja_threads.specs.Ordering.{one_more, abort_found, abort_told, ended_told_since, orders_of}
 use Rattle.sja_threads.specs.Ordering.LedBy.{power_on, turn_told, bits_ran, spent, deed_done, ended}
 use Rattle.sja_threads.specs.Inside.Names.{IsNamed}
 use Rattle.sja_threads.specs.Inside.Ordered.{set_after}
@@ -40,7 +40,8 @@ set_push version [] d = refl
 set_push version (x ∷ []) d = refl
 set_push version (x ∷ y ∷ deeds) d = set_push version (y ∷ deeds) d
 
-has_own : (p : Registers) → HasSettings p (settings_in p)
+-- registers have what their driver has set there
+pub has_own : (p : Registers) → HasSettings p (settings_in p)
 has_own p = record {
   version = refl;
   listen_only = refl;
@@ -73,24 +74,10 @@ has_turn p t s h = record {
   buffer = h.buffer;
 }
 
-has_closed : (p : Registers) (s : SettingsValue) → HasSettings p s → HasSettings (record p { closed = true }) s
-has_closed p s h = record {
-  version = h.version;
-  listen_only = h.listen_only;
-  self_test = h.self_test;
-  filter_mode = h.filter_mode;
-  reset = h.reset;
-  enabled = h.enabled;
-  ewlr = h.ewlr;
-  set_tec = h.set_tec;
-  set_rec = h.set_rec;
-  acr = h.acr;
-  amr = h.amr;
-  buffer = h.buffer;
-}
-
-has_ended : (p : Registers) (s : SettingsValue) → HasSettings p s → HasSettings (record p { ended = true }) s
-has_ended p s h = record {
+-- so do its marks
+pub has_marks : (p : Registers) (is_closed is_over : Bool) (s : SettingsValue) → HasSettings p s →
+    HasSettings (record p { closed = is_closed; ended = is_over }) s
+has_marks p is_closed is_over s h = record {
   version = h.version;
   listen_only = h.listen_only;
   self_test = h.self_test;
@@ -116,9 +103,9 @@ has_set version _ _ _ (deed_done turns deeds p d l answered set ran) =
     subst (λ (s : SettingsValue). HasSettings (ported p d.step d.answer) s)
     (sym (set_push version deeds d ∙ set)) (has_own (ported p d.step d.answer))
 has_set version _ _ _ (spent turns deeds p l) =
-    has_closed p (set_after version deeds) (has_set version turns deeds p l)
+    has_marks p true p.ended (set_after version deeds) (has_set version turns deeds p l)
 has_set version _ _ _ (ended turns deeds p l) =
-    has_ended p (set_after version deeds) (has_set version turns deeds p l)
+    has_marks p p.closed true (set_after version deeds) (has_set version turns deeds p l)
 
 -- ---- what a call leads to
 
@@ -155,20 +142,20 @@ pub ran_push : (n bits : ℕ) (orders : Orders) (turns : List Notice) →
     bits_told_since n (turns ++ Ran bits orders ∷ []) ≡ bits
 ran_push n bits orders [] = refl
 ran_push n bits orders (Ran m e ∷ turns) = ran_push m bits orders turns
-ran_push n bits orders (Turn t ∷ turns) = ran_push n bits orders turns
+ran_push n bits orders (Turn t ∷ turns) = ran_push (one_more n) bits orders turns
 ran_push n bits orders (Spent ∷ turns) = ran_push n bits orders turns
 
 pub turn_push : (n : ℕ) (t : BusTurn) (turns : List Notice) →
-    bits_told_since n (turns ++ Turn t ∷ []) ≡ bits_told_since n turns
+    bits_told_since n (turns ++ Turn t ∷ []) ≡ one_more (bits_told_since n turns)
 turn_push n t [] = refl
 turn_push n t (Ran m e ∷ turns) = turn_push m t turns
-turn_push n t (Turn u ∷ turns) = turn_push n t turns
+turn_push n t (Turn u ∷ turns) = turn_push (one_more n) t turns
 turn_push n t (Spent ∷ turns) = turn_push n t turns
 
 pub spent_push : (n : ℕ) (turns : List Notice) → bits_told_since n (turns ++ Spent ∷ []) ≡ bits_told_since n turns
 spent_push n [] = refl
 spent_push n (Ran m e ∷ turns) = spent_push m turns
-spent_push n (Turn t ∷ turns) = spent_push n turns
+spent_push n (Turn t ∷ turns) = spent_push (one_more n) turns
 spent_push n (Spent ∷ turns) = spent_push n turns
 
 pub led_ended : (version : ℕ) (turns : List Notice) (deeds : List PortDeed) (p q : Registers) →

@@ -1,5 +1,5 @@
 -- The steps of a driver in its thread.
-use Rattle.std.specs.Prelude.{◌≡◌, ◌++◌, ◌≤◌, ◌⊎◌, ℕ, Bool, true, false, List, [], ◌∷◌, length, map}
+use Rattle.std.specs.Prelude.{◌≡◌, ◌++◌, ◌≤◌, ◌<◌, ◌⊎◌, ℕ, Bool, true, false, List, [], ◌∷◌, length, map}
 use Rattle.can_frame.specs.declared.buffer_view.BufferView.{BufferView}
 use Rattle.sja_link.specs.declared.driver_end.DriverEnd.{Ghosts as Ends}
 use Rattle.sja_regs.specs.declared.registers.Registers.{Registers}
@@ -23,6 +23,7 @@ use Rattle.sja_driver.specs.Reads.{raw_value}
 use Rattle.sja_driver.specs.Writes.{write_steps}
 use Rattle.sja_threads.specs.declared.order.Order.{Ghosts as Orders}
 use Rattle.sja_threads.specs.declared.driver_thread.DriverThread.{DriverThread}
+use Rattle.sja_threads.specs.Counting.{AreCounted, IsCounted}
 use Rattle.sja_threads.specs.Accessing.{IsAccessAt, LeadToAccesses, IsBrokenOff, Work, Follows, deeds_done}
 use Rattle.sja_threads.specs.Inside.Steps.{Does, EntersNone, room_taken}
 
@@ -34,9 +35,10 @@ HasOneDeed true (Write address value) = ⊥
 HasOneDeed true (At least) = ⊥
 HasOneDeed bytes other = Unit {0}
 
--- a wait until so many bits have run ends with this answer: it is done, or given up where there are bits to wait for
-abbrev pub EndsWait : ℕ → StepAnswer → Type 0
-EndsWait least answer = (answer ≡ DoneAnswer) ⊎ ((answer ≡ Refused Closed) × (1 ≤ least))
+-- a wait until so many bits have run ends with this answer after so many: it is done, or given up before
+abbrev pub EndsWait : ℕ → StepAnswer × ℕ → Type 0
+EndsWait least end =
+    ((end.0 ≡ DoneAnswer) × (least ≤ end.1)) ⊎ ((end.0 ≡ Refused Closed) × (end.1 < least))
 
 -- what a step answers whose deed answered this, of a driver that knows addresses and bytes alone or doesn't: then a
 -- read the value of the register that stands there, or of the kept one, or 0; any other step the same
@@ -63,6 +65,8 @@ pub record DoesStep {N E : Type 0} {o : Orders N} (e : Ends E) (was now : Driver
   pub step_is : access.step ≡ step
   pub does : Does e was now access.deeds
   pub few : room_taken access.deeds ≤ 1
+  pub counts : IsCounted was.found access
+  pub found : now.found ≡ access.bits
   pub is : (before : List Deed) → Traces was.set.version (driver_of was.driver) (log_of was.driver) before →
       IsAccessAt was.set.version was.set (is_active before) (kept_of was.driver) access (kept_of now.driver)
   pub done : done_in (log_of now.driver) ≡ done_in (log_of was.driver) ++ done_of access ∷ []
@@ -73,6 +77,7 @@ pub record BreaksOff {N E : Type 0} {o : Orders N} (e : Ends E) (was now : Drive
     Type 0 where
   pub deeds : List Deed
   pub does : Does e was now deeds
+  pub counts : AreCounted was.found deeds
   pub none : EntersNone was.driver now.driver
   pub lawful : IsLawful now.driver
   pub broken : (left : List Step) →
@@ -85,7 +90,7 @@ pub record HasDone {N E : Type 0} {o : Orders N} (e : Ends E) (first now : Drive
     Type 0 where
   pub accesses : List Access
   pub does : Does e first now (deeds_in accesses)
-  pub leads : LeadToAccesses first.set.version first.set accesses now.set (kept_of now.driver)
+  pub leads : LeadToAccesses first.set.version first.set accesses now.set (kept_of now.driver) now.found
   pub steps_are : map (λ (a : Access). a.step) accesses ≡ steps
   pub done_are : map done_of accesses ≡ done_in (log_of now.driver)
 

@@ -34,7 +34,7 @@ set_after version [] = settings_in (at_power_on version)
 set_after version (d ∷ []) = d.set
 set_after version (d ∷ next ∷ deeds) = set_after version (next ∷ deeds)
 
--- the deed of a step with this answer, if it is done
-abbrev pub done_if : Step → Option StepAnswer → List (Step × StepAnswer)
-done_if this None = []
-done_if this (Some answer) = (this, answer) ∷ []
+-- the deed of a step with this answer after so many bits, if it is done
+abbrev pub done_if : Step → Option StepAnswer → ℕ → List (Step × StepAnswer × ℕ)
+done_if this None bits = []
+done_if this (Some answer) bits = (this, answer, bits) ∷ []

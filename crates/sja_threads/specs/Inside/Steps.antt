@@ -19,6 +19,7 @@ use Rattle.sja_driver.specs.Kept.{at_power_on}
 use Rattle.sja_threads.specs.declared.order.Order.{Ghosts as Orders}
 use Rattle.sja_threads.specs.declared.driver_thread.DriverThread.{DriverThread}
 use Rattle.sja_threads.specs.Accessing.{LeadOn}
+use Rattle.sja_threads.specs.Counting.{AreCounted, found_after}
 use Rattle.sja_threads.specs.Ordering.{active_by, done_at_port, done_in_order}
 use Rattle.sja_threads.specs.Inside.Ordered.{set_after}
 
@@ -64,6 +65,7 @@ pub record MayBegin {N E : Type 0} {o : Orders N} (link : E → LinkId) (t : Dri
   pub reset : is_out (driver_of t.driver) ≡ false
   pub empty : IsEmpty (log_of t.driver)
   pub none : t.done.known.list ≡ []
+  pub found : t.found ≡ 0
   pub kept : kept_of t.driver ≡ at_power_on
   pub traces : (version : ℕ) → Traces version (driver_of t.driver) (log_of t.driver) []
 
@@ -85,6 +87,11 @@ pub record Does {N E : Type 0} {o : Orders N} (e : Ends E) (was now : DriverThre
   pub at_port : done_in_order now.done.known.list ≡ done_in_order was.done.known.list ++ done_at_port deeds
   pub able : (n : ℕ) → MayWork e.link was (room_taken deeds + n) → MayWork e.link now n
 
+-- they count bits on from what it had found run, and so many it has found then
+pub record CountsOn {N E : Type 0} {o : Orders N} (was now : DriverThread N E o) (deeds : List Deed) : Type 0 where
+  pub are : AreCounted was.found deeds
+  pub found : now.found ≡ found_after was.found deeds
+
 -- nothing more is entered as done, and what is kept stays
 pub record EntersNone (was now : LoggedDriver) : Type 0 where
   pub done : (log_of now).done ≡ (log_of was).done
@@ -102,6 +109,7 @@ pub record DoesDeed {N E : Type 0} {o : Orders N} (e : Ends E) (was now : Driver
   pub deeds : List Deed
   pub are : IsDeedIf step answer deeds
   pub does : Does e was now deeds
+  pub counts : CountsOn was now deeds
   pub none : EntersNone was.driver now.driver
 
 -- of deeds of these steps, which are some or all of one write, the first were done, all of them or not, and aren't
@@ -112,6 +120,7 @@ pub record DoesParts {N E : Type 0} {o : Orders N} (e : Ends E) (was now : Drive
   pub left : List Step
   pub whole : all ≡ map (λ (d : Deed). d.step) deeds ++ left
   pub does : Does e was now deeds
+  pub counts : CountsOn was now deeds
   pub none : EntersNone was.driver now.driver
   pub moved : kept_now ≡ kept_by kept deeds
   pub ends : done ≡ true → left ≡ []

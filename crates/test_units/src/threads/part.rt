@@ -20,6 +20,9 @@ pub enum Part {
     Shut,
     /// It tells the port of a bit in which the receive error counter comes to its limit, and takes the stop.
     Warn,
+    /// It takes a request, tells the port that five bits have run until an abort is found to stand, closes the port,
+    /// and takes the stop.
+    Abort,
 }
 
 impl Part {
@@ -51,6 +54,7 @@ impl Part {
                 Part::HandOver(message) => hand_over(rt, end, message),
                 Part::Shut => shut(rt, end, board),
                 Part::Warn => warn(rt, end, board),
+                Part::Abort => abort(rt, end, board),
             }
     }
 }
@@ -89,4 +93,25 @@ fn warn<R: Wait>(rt: &R, end: &mut RingBus, board: TurnBoard<Brand, R>) -> bool 
     let mut board = board;
     board.bus_turn(0, turn);
     matches!(taken(rt, end), Up::Stop)
+}
+
+/// Takes a request, finds that an abort stands, closes the port, and takes the stop that comes once the wait was given
+/// up.
+fn abort<R: Wait>(rt: &R, end: &mut RingBus, board: TurnBoard<Brand, R>) -> bool {
+    let mut board = board;
+    let sends = matches!(taken(rt, end), Up::Send(_));
+    find_abort(rt, &mut board);
+    sends && shut(rt, end, board)
+}
+
+/// Tells the port that five bits have run, until an abort is found to stand.
+fn find_abort<R: Wait>(rt: &R, board: &mut TurnBoard<Brand, R>) {
+    for _ in rt.forever() {
+        board.tell_bits(5);
+        if board.orders(0).abort {
+            return;
+        }
+        yield_now();
+    }
+    unreachable!()
 }

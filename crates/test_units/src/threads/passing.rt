@@ -40,15 +40,15 @@ fn both<R: Threads + Wait + Sync>(
     Ok((worked?, passed))
 }
 
-/// How many messages the driver released. It fails where the bus's part wasn't done, a step was answered otherwise, or
-/// the port isn't marked as ended.
-pub fn released<R: Threads + Wait + Sync>(
+/// What the driver hands back. It fails where the bus's part wasn't done, a step was answered otherwise, or the port
+/// isn't marked as ended.
+pub fn handed_back<R: Threads + Wait + Sync>(
     rt: &R,
     alloc: Global,
     steps: &[Step],
     part: Part,
     expected: &str,
-) -> Result<usize, Fail> {
+) -> Result<Handover<RingDriver>, Fail> {
     let (port, told, done) = one_port();
     let ports = [Mutex::new(port)];
     let (worked, passed) = both(rt, alloc, &ports, told, done, steps, part)?;
@@ -56,6 +56,18 @@ pub fn released<R: Threads + Wait + Sync>(
         return Err("another item came, or the driver hasn't ended")?;
     }
     answers(alloc, &worked, expected)?;
+    Ok(worked)
+}
+
+/// How many messages the driver released.
+pub fn released<R: Threads + Wait + Sync>(
+    rt: &R,
+    alloc: Global,
+    steps: &[Step],
+    part: Part,
+    expected: &str,
+) -> Result<usize, Fail> {
+    let worked = handed_back(rt, alloc, steps, part, expected)?;
     Ok(worked.driver.log().released().len())
 }
 

@@ -18,6 +18,7 @@ may_begin : (g : Over) (c : After-new-driver g) → MayBegin g.D.DriverEnd.link 
   bytes = c.by_bytes-bytes.result;
   driver = c.new-driver.result;
   set = c.at_power_on-set.result;
+  found = 0;
   links = c.args.links;
   done = c.args.done;
 }) (length c.args.steps.now)
@@ -25,8 +26,8 @@ may_begin g c =
     let first = c.new-driver.ensures in let r = c.requires in
     begins g.D.DriverEnd.link _ c.args.done.node (length c.args.steps.now) c.args.log
     (c.by_bytes-bytes.ensures ∙ ap (λ s. by_bytes s.version) (sym c.at_power_on-set.ensures)) r.none
-    c.at_power_on-set.ensures first.node first.log first.kept first.reset first.lawful first.traces r.empty r.room
-    r.steps r.enough r.ids
+    c.at_power_on-set.ensures first.node first.log first.kept first.reset first.lawful first.traces refl r.empty
+    r.room r.steps r.enough r.ids
 
 pub do_steps-requires : goal.do_steps-requires
 do_steps-requires g c = (c.type_bounds.send-G, may_begin g (goal.at.do_steps-requires g c).After-new-driver)

@@ -5,9 +5,9 @@ use Rattle.sja_threads.specs.Inside.Steps.{DoesDeed}
 use Rattle.sja_threads.proofs.Driver.OneStep.{broken_before, step_broken, step_done}
 use Rattle.sja_threads.proofs.driver_thread.DriverThread.do_one.Goals as goal
 
--- a step in a thread counts no bits
-no_bits : (P : ℕ → Type 0) (bits : ℕ) → P bits → bits ≡ 0 → P 0
-no_bits P bits so none = subst P none so
+-- a step counts the bits that were found
+at_count : (P : ℕ → Type 0) (bits found : ℕ) → P bits → bits ≡ found → P found
+at_count P bits found so same = subst P same so
 
 pub returns-then-not-lets_go-clause-quits : goal.returns-then-not-lets_go-clause-quits
 returns-then-not-lets_go-clause-quits g c = λ undone.
@@ -28,10 +28,9 @@ returns-clause-done g c = λ done.
     (subst (λ t. DoesDeed g.D.DriverEnd t c.do_deed.new.self c.args.step.now c.do_deed.result)
     c.kept_by_step-kept.ensures.same c.do_deed.ensures.done) (
       e.rest,
-      no_bits (λ n. done_in (log_of c.enter.new.self)
-          ≡ done_in (log_of c.do_deed.new.self.driver) ++ record { answer = c.told.result; bits = n } ∷ []) _ e.done
-          (omega arith),
+      at_count (λ n. done_in (log_of c.enter.new.self)
+          ≡ done_in (log_of c.do_deed.new.self.driver) ++ record { answer = c.told.result; bits = n } ∷ []) _
+          c.do_deed.new.self.found e.done (omega arith),
       e.room,
     )
-    c.requires.may c.requires.one c.kept_by_step-kept.ensures.kept c.answered.ensures
-    c.told.ensures
+    c.requires.may c.requires.one c.kept_by_step-kept.ensures.kept c.answered.ensures c.told.ensures

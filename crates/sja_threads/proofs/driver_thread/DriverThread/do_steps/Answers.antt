@@ -12,7 +12,7 @@ loop-k-init g c =
       able = step_less g.D.DriverEnd c.args.self.now (length c.args.steps.now - 0) (length c.args.steps.now)
           (omega arith) c.requires.may;
       done = done_none g.D.DriverEnd g.met.D.DriverEnd.same_trans g.met.D.DriverEnd.same_refl c.args.self.now
-          c.requires.traces c.requires.kept c.requires.empty;
+          c.requires.traces c.requires.kept c.requires.found c.requires.empty;
       asks = laws.first_step c.args.at.now.gate c.args.self.now.done.node;
     }
 

@@ -1,8 +1,7 @@
-use Rattle.std.proofs.Common.{◌≡◌, ◌++◌, ◌∷◌, [], ℕ, true, sym, ◌∙◌, subst, arith}
+use Rattle.std.proofs.Common.{◌≡◌, ℕ, true, sym, ◌∙◌, subst}
 use Rattle.std.specs.Prelude.{Option, IfSome}
 use Rattle.sja_driver.specs.Accesses.{by_bytes}
 use Rattle.sja_driver.specs.LoggedDrivers.{log_of}
-use Rattle.sja_driver.specs.Logs.{done_in}
 use Rattle.sja_driver.specs.declared.kept_bytes.KeptBytes.{KeptBytes}
 use Rattle.sja_script.specs.declared.step.Step.TheVariants.{At}
 use Rattle.sja_script.specs.declared.step_answer.StepAnswer.{StepAnswer}
@@ -10,10 +9,6 @@ use Rattle.sja_threads.specs.Inside.Accesses.{EndsWait}
 use Rattle.sja_threads.proofs.Driver.OneStep.{broken_before}
 use Rattle.sja_threads.proofs.Driver.Waits.{wait_done}
 use Rattle.sja_threads.proofs.driver_thread.DriverThread.do_wait.Goals as goal
-
--- a step in a thread counts no bits
-no_bits : (P : ℕ → Type 0) (bits : ℕ) → P bits → bits ≡ 0 → P 0
-no_bits P bits so none = subst P none so
 
 pub returns-in_default-clause-quits : goal.returns-in_default-clause-quits
 returns-in_default-clause-quits g c = λ undone.
@@ -24,13 +19,12 @@ returns-clause-done g c = λ done.
     let e = c.enter.ensures in
     let driver = c.args.self.now.driver in
     let bytes : by_bytes c.args.self.now.set.version ≡ true = sym c.requires.may.may.bytes ∙ c.requires.bytes in
-    wait_done g.D.DriverEnd c.args.self.now c.enter.new.self c.args.bits c.in-Some.answer
-    (subst (λ (r : Option StepAnswer). IfSome r (EndsWait c.args.bits)) c.in-Some.is c.wait_for.ensures.ends)
+    wait_done g.D.DriverEnd c.args.self.now c.enter.new.self c.in-Some.found c.args.bits c.in-Some.answer
+    (subst (λ (r : Option (StepAnswer × ℕ)). IfSome r (EndsWait c.args.bits)) c.in-Some.is c.wait_for.ensures.ends)
     g.met.D.DriverEnd.same_refl (
       subst (λ (k : KeptBytes). c.enter.new.self
           ≡ record driver { kept = k; log = record (log_of driver) { done = (log_of c.enter.new.self).done } })
           c.kept-kept.ensures e.rest,
-      no_bits (λ n. done_in (log_of c.enter.new.self)
-          ≡ done_in (log_of driver) ++ record { answer = c.in-Some.answer; bits = n } ∷ []) _ e.done (omega arith),
+      e.done,
       e.room,
     ) bytes

@@ -1,4 +1,4 @@
-use Rattle.std.proofs.Common.{◌≡◌, Some, None, refl, sym, ap, ◌∙◌, arith}
+use Rattle.std.proofs.Common.{◌≡◌, true, false, Some, None, refl, sym, ap, ◌∙◌, arith}
 use Rattle.std.proofs.lemmas.List.{with_items_is}
 use Rattle.sja_regs.specs.DriverSettings.{settings_in}
 use Rattle.sja_threads.proofs.Driver.AtPort.{has_as}
@@ -14,9 +14,11 @@ returns-in_default g c =
     let s = c.try_deed in
     let links = c.args.self.now.links in
     let those = with_items_is links s.new.links (omega (arith, s.auto.links, c.as_mut_slice.ensures.len)) in
-    does_try g.D.DriverEnd c.args.self.now _ c.as_mut_slice.result.now s.new.links _ _ c.args.deed.now s.result
+    does_try g.D.DriverEnd c.args.self.now _ c.as_mut_slice.result.now s.new.links _ _ c.args.deed.now s.result _
     c.as_mut_slice.ensures.value those c.requires.may.enough refl
     (has_as c.requires.may.set s.ensures.has)
+    (λ a e. absurd (let two : None ≡ Some a = sym c.in_default.is ∙ e in cc)) (λ e. refl)
+    (λ e. absurd (let two : true ≡ false = sym c.requires.at_port ∙ e in cc))
     (λ a e. absurd (let two : None ≡ Some a = sym c.in_default.is ∙ e in cc)) (λ e. refl)
     (at_port c.requires.at_port s.ensures.node.0 s.ensures.node.1 s.ensures.done
     (λ a e. absurd (let two : None ≡ Some a = sym c.in_default.is ∙ e in cc)) (λ e. c.in_default.ensures.waits))
@@ -27,11 +29,15 @@ returns g c =
     let s = c.try_deed in
     let links = c.args.self.now.links in
     let those = with_items_is links s.new.links (omega (arith, s.auto.links, c.as_mut_slice.ensures.len)) in
-    let left = c.settings-self.ensures ∙ ap (λ v. settings_in v.registers) c.deref-2.ensures in
-    does_try g.D.DriverEnd c.args.self.now _ c.as_mut_slice.result.now s.new.links _ _ c.args.deed.now s.result
+    let left = c.settings-self.ensures ∙ ap (λ v. settings_in v.registers) c.deref-3.ensures in
+    let bits = c.deref_mut.result.now.bits in
+    let noted = c.bits-found.ensures.bits ∙ ap (λ v. v.bits) (c.deref-2.ensures ∙ sym c.deref_mut.ensures.value) in
+    does_try g.D.DriverEnd c.args.self.now _ c.as_mut_slice.result.now s.new.links _ _ c.args.deed.now s.result bits
     c.as_mut_slice.ensures.value those c.requires.may.enough refl
     (has_as c.requires.may.set s.ensures.has)
     (λ a e. left) (λ e. absurd (let two : Some c.in-Some.answer ≡ None = sym c.in-Some.is ∙ e in cc))
+    (λ e. absurd (let two : true ≡ false = sym c.requires.at_port ∙ e in cc)) (λ a e. noted)
+    (λ e. absurd (let two : Some c.in-Some.answer ≡ None = sym c.in-Some.is ∙ e in cc))
     (at_port c.requires.at_port s.ensures.node.0 s.ensures.node.1 s.ensures.done
     (λ a e. c.in-Some.ensures.set ∙ sym left)
     (λ e. absurd (let two : Some c.in-Some.answer ≡ None = sym c.in-Some.is ∙ e in cc)))

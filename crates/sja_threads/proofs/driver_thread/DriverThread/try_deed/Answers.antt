@@ -16,8 +16,9 @@ returns-in-Window g c =
     with_items_is links s.new.links (omega (arith, s.auto.links, c.as_mut_slice.ensures.len)) in
     rw c.in-Window.is
     (does_try g.D.DriverEnd c.args.self.now _ c.as_mut_slice.result.now s.new.links p p Window s.result
-    c.as_mut_slice.ensures.value those c.requires.enough refl (has_those c.args.self.now.set) (λ a e. refl)
-    (λ e. refl) (elsewhere refl refl refl) s.ensures.stays (s.ensures.steps p) s.result refl)
+    c.args.self.now.found c.as_mut_slice.ensures.value those c.requires.enough refl
+    (has_those c.args.self.now.set) (λ a e. refl) (λ e. refl) (λ e. refl) (λ a e. refl) (λ e. refl)
+    (elsewhere refl refl refl) s.ensures.stays (s.ensures.steps p) s.result refl)
 
 pub returns-in-Release : goal.returns-in-Release
 returns-in-Release g c =
@@ -28,5 +29,6 @@ returns-in-Release g c =
     with_items_is links s.new.links (omega (arith, s.auto.links, c.as_mut_slice-in-Release.ensures.len)) in
     rw c.in-Release.is
     (does_try g.D.DriverEnd c.args.self.now _ c.as_mut_slice-in-Release.result.now s.new.links p p Release s.result
-    c.as_mut_slice-in-Release.ensures.value those c.requires.enough refl (has_those c.args.self.now.set) (λ a e. refl)
-    (λ e. refl) (elsewhere refl refl refl) s.ensures.stays (s.ensures.steps p) s.result refl)
+    c.args.self.now.found c.as_mut_slice-in-Release.ensures.value those c.requires.enough refl
+    (has_those c.args.self.now.set) (λ a e. refl) (λ e. refl) (λ e. refl) (λ a e. refl) (λ e. refl)
+    (elsewhere refl refl refl) s.ensures.stays (s.ensures.steps p) s.result refl)
