@@ -45,7 +45,7 @@ pub fn tellers_of(alloc: Global, nodes: &[NodeRun]) -> Result<Vec<Teller<'_>>, A
 {
     let mut tellers = Vec::new(alloc);
     for node in nodes {
-        tellers.push(Teller::of(&[], node))?;
+        tellers.push(Teller::of(false, &[], node))?;
     }
     Ok(tellers)
 }

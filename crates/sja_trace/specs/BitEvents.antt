@@ -94,5 +94,5 @@ bit_said bus h =
     ++ flag_said h ++ reception_said h ++ end_said h ++ suspension_said h ++ states_said h ++ counters_said h
 
 -- and before it what a start did
-abbrev pub all_said : Level → Counters → Happening → List (List ℕ)
-all_said bus left h = restart_said left h ++ bit_said bus h
+abbrev pub events_said : Level → Counters → Happening → List (List ℕ)
+events_said bus left h = restart_said left h ++ bit_said bus h

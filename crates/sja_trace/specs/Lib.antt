@@ -4,6 +4,7 @@ pub mod Places
 -- ---- the events of a bit
 pub mod Events
 pub mod BitEvents
+pub mod Causes
 -- ---- the bits of a node, one after another
 pub mod Telling
 -- ---- the text

@@ -15,7 +15,8 @@ use Rattle.sja_report.specs.Spacing.{all_spaced}
 use Rattle.sja_script.specs.declared.done.Done.{Done}
 use Rattle.sja_script.specs.declared.step.Step.{Step}
 use Rattle.sja_wire.specs.Wire.{wired}
-use Rattle.sja_trace.specs.BitEvents.{all_said, counters_after}
+use Rattle.sja_trace.specs.BitEvents.{counters_after}
+use Rattle.sja_trace.specs.Causes.{all_said}
 use Rattle.sja_trace.specs.Telling.{bit_before}
 
 -- ---- lines
@@ -72,16 +73,17 @@ steps_due late bit node number (s ∷ steps) (d ∷ done) =
 
 -- ---- a node in a bit
 
--- a node: its steps, what they came to, and what its bits brought
+-- a node: whether its plan is of version 3, its steps, what they came to, and what its bits brought
 pub record NodeStory : Type 0 where
+  pub raw : Bool
   pub steps : List Step
   pub done : List Done
   pub bits : List Happening
 
 -- what bit b brought, which the bits before it came to with these counters
-abbrev pub event_line : Level → ℕ → ℕ → Counters → Option Happening → List ℕ
-event_line bus b node left None = []
-event_line bus b node left (Some h) = bit_line b node (all_said bus left h)
+abbrev pub event_line : Bool → Level → ℕ → ℕ → Counters → Option Happening → List ℕ
+event_line raw bus b node left None = []
+event_line raw bus b node left (Some h) = bit_line b node (all_said raw bus left h)
 
 -- the counters as the bits before bit b left them
 abbrev pub counters_left : ℕ → List Happening → Counters
@@ -90,7 +92,8 @@ counters_left b bits = counters_after (bit_before b bits)
 -- the steps right before bit b, and then the bit
 abbrev pub node_lines : Level → ℕ → ℕ → NodeStory → List ℕ
 node_lines bus b node s =
-    steps_due false b node 1 s.steps s.done ++ event_line bus b node (counters_left b s.bits) (slice_get s.bits b)
+    steps_due false b node 1 s.steps s.done
+    ++ event_line s.raw bus b node (counters_left b s.bits) (slice_get s.bits b)
 
 -- ---- all nodes
 
@@ -121,7 +124,8 @@ stories_text bits stories = lines_to bits stories ++ numbered (late_steps bits) 
 -- ---- of a plan and a log
 
 -- the story of a node: its steps in the plan, what they came to, and the happenings of its journal
-pub record IsStory (steps : List Step) (n : NodeValue) (s : NodeStory) : Type 0 where
+pub record IsStory (raw : Bool) (steps : List Step) (n : NodeValue) (s : NodeStory) : Type 0 where
+  pub raw_is : s.raw ≡ raw
   pub steps_are : s.steps ≡ steps
   pub done_are : s.done ≡ n.done
   pub bits_are : Happened [] n.journal s.bits
@@ -132,7 +136,7 @@ AreStories k plan [] [] = Unit {0}
 AreStories k plan [] (s ∷ stories) = ⊥
 AreStories k plan (n ∷ nodes) [] = ⊥
 AreStories k plan (n ∷ nodes) (s ∷ stories) =
-    IsStory (steps_at plan k) n s × AreStories (k + 1) plan nodes stories
+    IsStory (plan.version == 3) (steps_at plan k) n s × AreStories (k + 1) plan nodes stories
 
 -- the text is the trace of the run of a plan: that of the stories of its nodes
 pub record IsTrace (plan : PlanValue) (log : RunValue) (text : List ℕ) : Type 0 where

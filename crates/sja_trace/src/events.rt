@@ -3,9 +3,11 @@
 ghost use Rattle.std.specs.Prelude.{◌≡◌, OnOk};
 ghost use Rattle.sja_trace.specs.Events.{abort_said, start_said, strike_said, acknowledgement_said, loss_said};
 ghost use Rattle.sja_trace.specs.Events.{fault_said, flag_said, reception_said, end_said};
-ghost use Rattle.sja_trace.specs.BitEvents.{suspension_said, bit_said, all_said};
+ghost use Rattle.sja_trace.specs.BitEvents.{suspension_said, bit_said, events_said};
+ghost use Rattle.sja_trace.specs.Causes.{all_said};
 ghost use Rattle.sja_trace.specs.Inside.Saying.{Tells};
 
+use super::causes::{put_bit_cause, put_start_cause};
 use super::counters::{put_counters, put_restart, put_states};
 use super::event_texts::{
     abort_name, put_end_text, put_fault_text, put_flag_text, put_loss_text, put_reception_text,
@@ -18,14 +20,31 @@ use can_node::Counters;
 use sja_replay::Happening;
 use std::alloc::AllocError;
 
-/// All events of a bit, in which the bus had this level, and before them what a start made of these counters.
+/// All events of a bit, in which the bus had this level, and before them what a start made of these counters; behind
+/// them, in version 3, why a counter changed.
 pub(crate) fn put_all(
+    remarks: &mut Remarks,
+    raw: bool,
+    bus: Level,
+    left: Counters,
+    bit: &Happening,
+) -> Result<(), AllocError>
+    ensures { OnOk result (Tells remarks.old remarks.new (all_said raw bus left bit.now)) }
+{
+    put_all_events(remarks, bus, left, bit)?;
+    put_start_cause(remarks, raw, left, bit)?;
+    put_bit_cause(remarks, raw, bit)?;
+    Ok(())
+}
+
+/// All events of a bit, and before them what a start made of these counters.
+fn put_all_events(
     remarks: &mut Remarks,
     bus: Level,
     left: Counters,
     bit: &Happening,
 ) -> Result<(), AllocError>
-    ensures { OnOk result (Tells remarks.old remarks.new (all_said bus left bit.now)) }
+    ensures { OnOk result (Tells remarks.old remarks.new (events_said bus left bit.now)) }
 {
     put_restart(remarks, left, bit)?;
     put_events(remarks, bus, bit)?;

@@ -1,7 +1,7 @@
 //! The bit at hand of a node, in short where it told nothing.
 
 ghost use Rattle.std.specs.Prelude.{◌≡◌, [], true};
-ghost use Rattle.sja_trace.specs.BitEvents.{all_said};
+ghost use Rattle.sja_trace.specs.Causes.{all_said};
 ghost use Rattle.sja_trace.specs.Inside.Hands.{counters_of, driven_of, view_of, happening_of};
 
 use super::counters::{counters_after, have_same};

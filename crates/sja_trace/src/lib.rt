@@ -20,6 +20,7 @@
 //! `specs/TraceText.antt` the text line by line.
 #![tactic(auto)]
 
+mod causes;
 mod counters;
 mod due;
 mod event_texts;

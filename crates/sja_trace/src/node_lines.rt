@@ -1,7 +1,7 @@
 //! The lines of a node in a bit.
 
 ghost use Rattle.std.specs.Prelude.{◌≡◌, ◌++◌, ℕ, true, [], decimal, string_bytes, OnOk};
-ghost use Rattle.sja_trace.specs.BitEvents.{all_said};
+ghost use Rattle.sja_trace.specs.Causes.{all_said};
 ghost use Rattle.sja_trace.specs.Telling.{at_hand};
 ghost use Rattle.sja_trace.specs.TraceText.{joined, bit_line};
 ghost use Rattle.sja_trace.specs.Inside.Hands.{hand_line, happening_of};
@@ -20,8 +20,10 @@ use sja_replay::{Happening, ShortBit};
 use std::alloc::{AllocError, Global};
 use std::fmt::Write;
 
-/// The same lines, where the steps and the bit are looked at first: of most bits nothing is told.
+/// The lines of the steps before this bit, in which the bus had this level, and then its own. The steps and the bit are
+/// looked at first: of most bits nothing is told.
 #[inline(always)]
+#[tactic(auto, using(sja_report::proofs::WrittenLines::Written::two_texts))]
 pub(crate) fn put_unless_plain(
     alloc: Global,
     text: &mut String,
@@ -37,7 +39,20 @@ pub(crate) fn put_unless_plain(
     if is_unsaid(teller, bus, bit) {
         return Ok(());
     }
-    put_node(alloc, text, remarks, node, teller, bus, bit)
+    teller.steps.put(alloc, text, node, bit)?;
+    let left = teller.counters;
+    put_hand_line(
+        text,
+        remarks,
+        node,
+        &teller.short,
+        teller.bits.bit(),
+        teller.steps.raw,
+        left,
+        bus,
+        bit,
+    )?;
+    Ok(())
 }
 
 /// Whether no step stands right before this bit, and nothing is said of the bit at hand, in which the bus had this
@@ -53,35 +68,6 @@ fn is_unsaid(teller: &Teller<'_>, bus: Level, bit: u32) -> bool
     }
 }
 
-/// The lines of the steps before this bit, in which the bus had this level, and then its own.
-#[tactic(auto, using(sja_report::proofs::WrittenLines::Written::two_texts))]
-pub(crate) fn put_node(
-    alloc: Global,
-    text: &mut String,
-    remarks: &mut Remarks,
-    node: usize,
-    teller: &Teller<'_>,
-    bus: Level,
-    bit: u32,
-) -> Result<(), OutOfMemory>
-    ensures text { OnOk result (string_bytes text.new ≡ string_bytes text.old
-        ++ told_lines bus bit node teller.now) }
-{
-    teller.steps.put(alloc, text, node, bit)?;
-    let left = teller.counters;
-    put_hand_line(
-        text,
-        remarks,
-        node,
-        &teller.short,
-        teller.bits.bit(),
-        left,
-        bus,
-        bit,
-    )?;
-    Ok(())
-}
-
 /// The line of a bit at hand, in short or else in full, if the node has the bit and it brought anything.
 #[tactic(auto, using(crate::proofs::SoFar::Lines::no_line))]
 fn put_hand_line(
@@ -90,18 +76,19 @@ fn put_hand_line(
     node: usize,
     short: &Option<ShortBit>,
     full: &Option<Happening>,
+    raw: bool,
     left: Counters,
     bus: Level,
     bit: u32,
 ) -> Result<(), AllocError>
     ensures { OnOk result (string_bytes text.new ≡ string_bytes text.old
-        ++ hand_line bus bit node left short.now full.now) }
+        ++ hand_line raw bus bit node left short.now full.now) }
 {
     if let Some(short) = short {
-        return put_short_line(text, remarks, node, short, left, bus, bit);
+        return put_short_line(text, remarks, node, short, raw, left, bus, bit);
     }
     match full {
-        Some(happening) => put_event_line(text, remarks, node, happening, left, bus, bit),
+        Some(happening) => put_event_line(text, remarks, node, happening, raw, left, bus, bit),
         None => Ok(()),
     }
 }
@@ -113,17 +100,27 @@ fn put_short_line(
     remarks: &mut Remarks,
     node: usize,
     short: &ShortBit,
+    raw: bool,
     left: Counters,
     bus: Level,
     bit: u32,
 ) -> Result<(), AllocError>
     ensures { OnOk result (string_bytes text.new ≡ string_bytes text.old
-        ++ bit_line bit node (all_said bus left (happening_of short.now))) }
+        ++ bit_line bit node (all_said raw bus left (happening_of short.now))) }
 {
     if is_plain(bus, left, short) {
         return Ok(());
     }
-    put_event_line(text, remarks, node, &happening_of(short), left, bus, bit)
+    put_event_line(
+        text,
+        remarks,
+        node,
+        &happening_of(short),
+        raw,
+        left,
+        bus,
+        bit,
+    )
 }
 
 /// The line of a bit, if anything is said of it.
@@ -132,14 +129,15 @@ fn put_event_line(
     remarks: &mut Remarks,
     node: usize,
     happening: &Happening,
+    raw: bool,
     left: Counters,
     bus: Level,
     bit: u32,
 ) -> Result<(), AllocError>
     ensures { OnOk result (string_bytes text.new ≡ string_bytes text.old
-        ++ bit_line bit node (all_said bus left happening.now)) }
+        ++ bit_line bit node (all_said raw bus left happening.now)) }
 {
-    tell(remarks, bus, left, happening)?;
+    tell(remarks, raw, bus, left, happening)?;
     put_line(text, remarks, node, bit)?;
     Ok(())
 }
@@ -147,15 +145,16 @@ fn put_event_line(
 /// The events of a bit, from the first one on.
 fn tell(
     remarks: &mut Remarks,
+    raw: bool,
     bus: Level,
     left: Counters,
     bit: &Happening,
 ) -> Result<(), AllocError>
-    ensures text { OnOk result (string_bytes remarks.new.text ≡ joined (all_said bus left bit.now)) }
-    ensures begun { OnOk result (remarks.new.begun ≡ is_any (all_said bus left bit.now)) }
+    ensures text { OnOk result (string_bytes remarks.new.text ≡ joined (all_said raw bus left bit.now)) }
+    ensures begun { OnOk result (remarks.new.begun ≡ is_any (all_said raw bus left bit.now)) }
 {
     remarks.clear();
-    put_all(remarks, bus, left, bit)?;
+    put_all(remarks, raw, bus, left, bit)?;
     Ok(())
 }
 

@@ -15,6 +15,8 @@ use std::alloc::Global;
 pub(crate) struct NodeSteps<'a> {
     pub(crate) steps: &'a [Step],
     pub(crate) done: &'a [Done],
+    /// Whether they are of a plan of version 3.
+    pub(crate) raw: bool,
     /// Whether no step that was done has fewer bits before it than one before it has.
     in_order: bool,
     /// The steps before the place have fewer bits before them than so many.
@@ -34,13 +36,15 @@ impl<'a> NodeSteps<'a> {
     ghost use Rattle.sja_trace.specs.Inside.Coming.{HasSameSteps};
 
     /// Before the first bit.
-    pub(crate) fn of(steps: &'a [Step], done: &'a [Done]) -> NodeSteps<'a>
+    pub(crate) fn of(raw: bool, steps: &'a [Step], done: &'a [Done]) -> NodeSteps<'a>
+        ensures raw { result.raw ≡ raw }
         ensures steps { result.steps.now ≡ steps.now }
         ensures done { result.done.now ≡ done.now }
     {
         NodeSteps {
             steps,
             done,
+            raw,
             in_order: is_in_order(done),
             past: 0,
             place: 0,

@@ -1,7 +1,7 @@
 //! Whether nothing is said of a bit in short.
 
-ghost use Rattle.std.specs.Prelude.{◌≡◌, ◌&&◌, not, true, []};
-ghost use Rattle.sja_trace.specs.BitEvents.{all_said};
+ghost use Rattle.std.specs.Prelude.{◌≡◌, ◌&&◌, not, Bool, true, []};
+ghost use Rattle.sja_trace.specs.Causes.{all_said};
 ghost use Rattle.sja_trace.specs.Events.{is_dominant, is_frame};
 ghost use Rattle.sja_trace.specs.Inside.Hands.{happening_of};
 
@@ -15,7 +15,7 @@ use sja_replay::ShortBit;
 /// a frame with the bit nor acknowledged one. Then nothing is said of the bit.
 #[tactic(auto, using(crate::proofs::BitSaid::Shorts::plain_none))]
 pub(crate) fn is_plain(bus: Level, left: Counters, bit: &ShortBit) -> bool
-    ensures { result ≡ true → all_said bus left (happening_of bit.now) ≡ [] }
+    ensures { result ≡ true → (raw : Bool) → all_said raw bus left (happening_of bit.now) ≡ [] }
 {
     if !is_same(bit.seen, bus) || !have_same(left, bit.counters) {
         return false;

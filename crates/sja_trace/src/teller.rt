@@ -31,13 +31,13 @@ impl<'a> Teller<'a> {
     ghost use Rattle.sja_trace.specs.Inside.Passing.{TellerPasses};
     ghost use Rattle.sja_trace.specs.Inside.Resting.{BeginsAlike, TellerRests, HasRested};
 
-    /// Before the first bit of a node whose driver has these steps.
-    pub fn of(steps: &'a [Step], node: &'a NodeRun) -> Teller<'a>
-        ensures { HasTold steps.now node.now 0 result
-            (record { steps = steps.now; done = node.now.done; bits = [] }) }
+    /// Before the first bit of a node whose driver has these steps, in a plan of version 3 or of another one.
+    pub fn of(raw: bool, steps: &'a [Step], node: &'a NodeRun) -> Teller<'a>
+        ensures { HasTold raw steps.now node.now 0 result
+            (record { raw = raw; steps = steps.now; done = node.now.done; bits = [] }) }
     {
         Teller {
-            steps: NodeSteps::of(steps, node.done()),
+            steps: NodeSteps::of(raw, steps, node.done()),
             counters: counters_after(&None),
             short: None,
             reads: false,

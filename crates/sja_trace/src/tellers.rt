@@ -30,8 +30,9 @@ pub(crate) fn tellers_of<'a>(
 {
     let mut tellers = Vec::new(alloc);
     let mut number = 0usize;
+    let raw = plan.version() == 3;
     for node in nodes {
-        let teller = Teller::of(steps_of(plan, number), node);
+        let teller = Teller::of(raw, steps_of(plan, number), node);
         tellers.push(teller)?;
         number += 1;
     }

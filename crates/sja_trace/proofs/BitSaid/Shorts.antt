@@ -23,7 +23,8 @@ use Rattle.sja_trace.specs.Events.{end_in, end_said}
 use Rattle.sja_trace.specs.Names.{flag_name, level_name}
 use Rattle.sja_trace.specs.Places.{phase_text, where_text, segment_text, owner_text}
 use Rattle.sja_trace.specs.BitEvents.{begins_suspension, suspension_said, confinement_said, states_said, have_same}
-use Rattle.sja_trace.specs.BitEvents.{counters_text, counters_said, restart_said, all_said, counters_after}
+use Rattle.sja_trace.specs.BitEvents.{counters_text, counters_said, restart_said, events_said, counters_after}
+use Rattle.sja_trace.specs.Causes.{start_cause, bit_cause, cause_text, all_said}
 use Rattle.sja_trace.specs.Inside.Hands.{view_of, happening_of, hand_line, IsHand, counters_of, driven_of}
 use Rattle.sja_trace.proofs.BitSaid.Sayings.{confinement_none}
 use Rattle.sja_trace.specs.TraceText.{driven_in, event_line, bit_line}
@@ -150,7 +151,7 @@ short_said bus left q =
     restart_said left (happening_of q) ++ (strike_said bus (happening_of q) ++ acknowledgement_said (happening_of q))
 
 all_is : (bus : Level) (left : Counters) (h : Happening) (q : ShortBit) → IsInShort h q →
-    all_said bus left h ≡ short_said bus left q
+    events_said bus left h ≡ short_said bus left q
 all_is bus left h q s =
     let told = s.told in
     let abort : abort_said h ≡ [] = ap (λ b. said_if b (abort_text (is_held h.before.held))) s.aborted in
@@ -171,10 +172,35 @@ all_is bus left h q s =
 own_short : (q : ShortBit) → IsNoStart q → IsInShort (happening_of q) q
 own_short q quiet = in_short q (happening_of q) None (not q.transmits) refl refl refl refl refl refl refl refl quiet
 
-pub all_same : (bus : Level) (left : Counters) (h : Happening) (q : ShortBit) → IsInShort h q →
-    all_said bus left (happening_of q) ≡ all_said bus left h
-all_same bus left h q s =
+events_same : (bus : Level) (left : Counters) (h : Happening) (q : ShortBit) → IsInShort h q →
+    events_said bus left (happening_of q) ≡ events_said bus left h
+events_same bus left h q s =
     all_is bus left (happening_of q) q (own_short q s.no_start) ∙ sym (all_is bus left h q s)
+
+-- ---- causes
+
+-- none where the counters stay
+no_cause : (raw : Bool) → (raw && not true) ≡ false
+no_cause true = refl
+no_cause false = refl
+
+cause_none : (raw : Bool) (h : Happening) (q : ShortBit) → IsInShort h q → bit_cause raw h ≡ []
+cause_none raw h q s =
+    ap (λ k. said_if (raw && not (have_same k h.after.counters)) (cause_text h)) (s.counters ∙ sym s.counters_stay)
+    ∙ ap (λ b. said_if (raw && not b) (cause_text h)) (same_counters h.after.counters)
+    ∙ ap (λ b. said_if b (cause_text h)) (no_cause raw)
+
+start_is : (raw : Bool) (left : Counters) (h : Happening) (q : ShortBit) → IsInShort h q →
+    start_cause raw left (happening_of q) ≡ start_cause raw left h
+start_is raw left h q s =
+    ap (λ (k : Counters). said_if (raw && not (have_same left k)) (codes "set by its start")) (sym s.counters)
+
+pub all_same : (raw : Bool) (bus : Level) (left : Counters) (h : Happening) (q : ShortBit) → IsInShort h q →
+    all_said raw bus left (happening_of q) ≡ all_said raw bus left h
+all_same raw bus left h q s =
+    let causes = ap₂ (λ x y. x ++ y) (start_is raw left h q s)
+    (cause_none raw (happening_of q) q (own_short q s.no_start) ∙ sym (cause_none raw h q s)) in
+    ap₂ (λ x y. x ++ y) (events_same bus left h q s) causes
 
 -- ---- a bit at hand
 
@@ -188,19 +214,25 @@ pub hand_driven : (short : Option ShortBit) (own o : Option Happening) → IsHan
 hand_driven None own o hand = ap driven_in (sym hand)
 hand_driven (Some q) own o hand = sym hand.short.driven ∙ ap driven_in (sym hand.is)
 
-pub hand_said : (bus : Level) (bit node : ℕ) (left : Counters) (short : Option ShortBit) (own o : Option Happening) →
-    IsHand short own o → hand_line bus bit node left short own ≡ event_line bus bit node left o
-hand_said bus bit node left None own o hand = ap (λ x. event_line bus bit node left x) (sym hand)
-hand_said bus bit node left (Some q) own o hand =
-    ap (bit_line bit node) (all_same bus left hand.happened q hand.short)
-    ∙ ap (λ x. event_line bus bit node left x) (sym hand.is)
+pub hand_said : (raw : Bool) (bus : Level) (bit node : ℕ) (left : Counters) (short : Option ShortBit)
+    (own o : Option Happening) → IsHand short own o →
+    hand_line raw bus bit node left short own ≡ event_line raw bus bit node left o
+hand_said raw bus bit node left None own o hand = ap (λ x. event_line raw bus bit node left x) (sym hand)
+hand_said raw bus bit node left (Some q) own o hand =
+    ap (bit_line bit node) (all_same raw bus left hand.happened q hand.short)
+    ∙ ap (λ x. event_line raw bus bit node left x) (sym hand.is)
 
 -- nothing is said where the node saw what the bus had, acknowledged nothing and has the counters that it had
-pub plain_none : (bus : Level) (left : Counters) (q : ShortBit) → are_same q.seen bus ≡ true →
+pub plain_none : (raw : Bool) (bus : Level) (left : Counters) (q : ShortBit) → are_same q.seen bus ≡ true →
     have_same left q.counters ≡ true → IsNoStart q →
-    (is_frame q.phase && not q.transmits && is_dominant q.driven) ≡ false → all_said bus left (happening_of q) ≡ []
-plain_none bus left q seen kept quiet silent =
+    (is_frame q.phase && not q.transmits && is_dominant q.driven) ≡ false → all_said raw bus left (happening_of q) ≡ []
+plain_none raw bus left q seen kept quiet silent =
+    let events : events_said bus left (happening_of q) ≡ [] =
     all_is bus left (happening_of q) q (own_short q quiet)
     ∙ none_both _ _ (ap (λ b. said_if (not b) (counters_text q.counters)) kept)
     (none_both _ _ (ap (λ b. said_if (not b) (strike_text (happening_of q))) seen)
-    (ap (λ b. said_if b (codes "acknowledges")) silent))
+    (ap (λ b. said_if b (codes "acknowledges")) silent)) in
+    let started : start_cause raw left (happening_of q) ≡ [] =
+    ap (λ b. said_if (raw && not b) (codes "set by its start")) kept
+    ∙ ap (λ b. said_if b (codes "set by its start")) (no_cause raw) in
+    none_both _ _ events (none_both _ _ started (cause_none raw (happening_of q) q (own_short q quiet)))

@@ -12,7 +12,7 @@ use Rattle.sja_script.specs.declared.done.Done.{Done}
 use Rattle.sja_script.specs.declared.step.Step.{Step}
 use Rattle.sja_trace.specs.TraceText.{joined, bit_line, step_line, is_due, line_where, steps_due}
 use Rattle.sja_trace.specs.declared.teller.Teller.{Teller}
-use Rattle.sja_trace.specs.BitEvents.{all_said}
+use Rattle.sja_trace.specs.Causes.{all_said}
 use Rattle.sja_trace.specs.Telling.{at_hand}
 use Rattle.sja_trace.specs.Inside.Hands.{hand_line, happening_of}
 use Rattle.sja_trace.specs.Inside.Passing.{told_lines}
@@ -71,15 +71,17 @@ no_words bit node es old none =
     sym (append-nil old) ∙ ap (λ x. old ++ bit_line bit node x) (sym none)
 
 -- none where there is no bit
-pub no_line : (bus : Level) (bit node : ℕ) (left : Counters) (short : Option ShortBit) (own : Option Happening)
-    (old : List ℕ) → short ≡ None → own ≡ None → old ≡ old ++ hand_line bus bit node left short own
-no_line bus bit node left short own old full none =
-    sym (append-nil old) ∙ ap₂ (λ s x. old ++ hand_line bus bit node left s x) (sym full) (sym none)
+pub no_line : (raw : Bool) (bus : Level) (bit node : ℕ) (left : Counters) (short : Option ShortBit)
+    (own : Option Happening) (old : List ℕ) → short ≡ None → own ≡ None →
+    old ≡ old ++ hand_line raw bus bit node left short own
+no_line raw bus bit node left short own old full none =
+    sym (append-nil old) ∙ ap₂ (λ s x. old ++ hand_line raw bus bit node left s x) (sym full) (sym none)
 
 -- none where a bit is at hand in short of which nothing is said, and no step stands right before it
 pub unsaid : (bus : Level) (bit : ℕ) (t : Teller) (q : ShortBit) → t.short ≡ Some q →
     ((node : ℕ) → steps_due false bit node 1 t.steps.steps.now t.steps.done.now ≡ []) →
-    all_said bus t.counters (happening_of q) ≡ [] → (node : ℕ) → told_lines bus bit node t ≡ []
+    ((raw : Bool) → all_said raw bus t.counters (happening_of q) ≡ []) → (node : ℕ) → told_lines bus bit node t ≡ []
 unsaid bus bit t q is quiet none node =
     ap₂ (λ x y. x ++ y) (quiet node)
-    (ap (λ s. hand_line bus bit node t.counters s (at_hand t.bits)) is ∙ ap (bit_line bit node) none)
+    (ap (λ s. hand_line t.steps.raw bus bit node t.counters s (at_hand t.bits)) is
+    ∙ ap (bit_line bit node) (none t.steps.raw))

@@ -24,10 +24,12 @@ same_line : (bits b : ℕ) (bus : Level) (k : ℕ) (old new : NodeStory) → b <
     node_lines bus b k new ≡ node_lines bus b k old
 same_line bits b bus k old new less same =
     let before = before_same b old.bits new.bits (λ i early. same.same i (omega (arith, less, early))) in
-    ap₂ (λ l d. steps_due false b k 1 l d ++ event_line bus b k (counters_left b new.bits) (slice_get new.bits b))
-    same.steps same.done
-    ∙ ap₂ (λ c o. steps_due false b k 1 old.steps old.done ++ event_line bus b k c o) (ap counters_after before)
+    ap₂ (λ l d. steps_due false b k 1 l d
+    ++ event_line new.raw bus b k (counters_left b new.bits) (slice_get new.bits b)) same.steps same.done
+    ∙ ap₂ (λ c o. steps_due false b k 1 old.steps old.done ++ event_line new.raw bus b k c o) (ap counters_after before)
     (same.same b less)
+    ∙ ap (λ r. steps_due false b k 1 old.steps old.done
+    ++ event_line r bus b k (counters_left b old.bits) (slice_get old.bits b)) same.raw
 
 same_lines : (bits b : ℕ) (bus : Level) (k : ℕ) (olds news : List NodeStory) → b < bits →
     EachRelated (IsSameTo bits) olds news → numbered (node_lines bus b) k news ≡ numbered (node_lines bus b) k olds
@@ -64,8 +66,12 @@ same_bits bits (suc b) olds news few same =
 shown_line : (bit : ℕ) (bus : Level) (k : ℕ) (t : Teller) (s : NodeStory) → IsShown bit t s →
     teller_lines bus bit k t ≡ node_lines bus bit k s
 shown_line bit bus k t s shown =
-    ap₂ (λ l d. steps_due false bit k 1 l d ++ event_line bus bit k t.counters (at_hand t.bits)) shown.steps shown.done
-    ∙ ap₂ (λ c o. steps_due false bit k 1 s.steps s.done ++ event_line bus bit k c o) shown.counters shown.brought
+    ap₂ (λ l d. steps_due false bit k 1 l d ++ event_line t.steps.raw bus bit k t.counters (at_hand t.bits)) shown.steps
+    shown.done
+    ∙ ap₂ (λ c o. steps_due false bit k 1 s.steps s.done ++ event_line t.steps.raw bus bit k c o) shown.counters
+    shown.brought
+    ∙ ap (λ r. steps_due false bit k 1 s.steps s.done
+    ++ event_line r bus bit k (counters_left bit s.bits) (slice_get s.bits bit)) shown.raw
 
 shown_lines : (bit : ℕ) (bus : Level) (k : ℕ) (ts : List Teller) (ss : List NodeStory) →
     EachRelated (IsShown bit) ts ss → numbered (teller_lines bus bit) k ts ≡ numbered (node_lines bus bit) k ss

@@ -90,6 +90,7 @@ module _ (before after : Shift) (bus : Level) (segment next : Segment) (bit : �
           same = record {
             steps = h.same.steps ∙ sym (ap (λ (s : NodeSteps). s.steps.now) b.steps);
             done = h.same.done ∙ sym (ap (λ (s : NodeSteps). s.done.now) b.steps);
+            raw = h.same.raw ∙ sym (ap (λ (s : NodeSteps). s.raw) b.steps);
           };
           counters = refl;
           bits = subst P (sym b.bits) (passed_on from on.bits (Some short) b.under (h.over ∙ b.under) here);
@@ -124,8 +125,9 @@ module _ (before after : Shift) (bus : Level) (segment next : Segment) (bit : �
         let kept : have_same (counters_of v.short (at_hand v.bits)) short.counters ≡ true =
         ap (λ (k : Counters). have_same k short.counters) (b.left ∙ b.alike) ∙ same_counters short.counters in
         ap₂ (λ x y. x ++ y) steps
-        (ap (bit_line bit node) (plain_none bus (counters_of v.short (at_hand v.bits)) short (one_level bus) kept
-        (λ idle. cc) refl))
+        (ap (bit_line bit node)
+        (plain_none n.steps.raw bus (counters_of v.short (at_hand v.bits)) short (one_level bus) kept (λ idle. cc)
+        refl))
 
     reader_heard : OneHeard v t n
     reader_heard = record {
@@ -228,6 +230,7 @@ module _ (reader : Shift) where
         same = record {
           steps = on.same.steps ∙ sym (ap (λ (x : NodeSteps). x.steps.now) b.steps);
           done = on.same.done ∙ sym (ap (λ (x : NodeSteps). x.done.now) b.steps);
+          raw = on.same.raw ∙ sym (ap (λ (x : NodeSteps). x.raw) b.steps);
         };
         counters = on.counters ∙ sym b.left;
         bits = subst Q (sym b.bits) on.bits;

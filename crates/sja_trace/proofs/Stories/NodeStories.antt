@@ -1,6 +1,6 @@
 -- The stories of nodes, one after another, and what their tellers have told of them.
 use Rattle.std.proofs.Common.{◌≡◌, ℕ, ◌+◌, ◌<◌, ◌≤◌, zero, suc, List, [], ◌∷◌, ◌++◌, length, take, get_or}
-use Rattle.std.proofs.Common.{refl, sym, ap, ◌∙◌, subst, arith}
+use Rattle.std.proofs.Common.{◌==◌, Bool, refl, sym, ap, ◌∙◌, subst, arith}
 use Rattle.std.specs.Prelude.{slice_index_or}
 use Rattle.std.proofs.lemmas.List.{length-take-le, take_more, take_all, get_or_past}
 use Rattle.lemmas.specs.Related.{EachRelated}
@@ -24,18 +24,19 @@ no_steps plan node h = sym (get_or_past plan.nodes node [] h)
 
 -- one node more
 one_told : (k : ℕ) (plan : PlanValue) (ns : List NodeValue) (ts : List Teller) (ss : List NodeStory) (n : NodeValue)
-    (t : Teller) (s : NodeStory) → HaveTold k plan 0 ns ts ss → HasTold (steps_at plan (k + length ns)) n 0 t s →
+    (t : Teller) (s : NodeStory) → HaveTold k plan 0 ns ts ss →
+    HasTold (plan.version == 3) (steps_at plan (k + length ns)) n 0 t s →
     HaveTold k plan 0 (ns ++ n ∷ []) (ts ++ t ∷ []) (ss ++ s ∷ [])
 one_told k plan [] [] [] n t s have has =
     let same : k + 0 ≡ k = omega arith in
-    let P : ℕ → Type 0 = λ m. HasTold (steps_at plan m) n 0 t s in (subst P same has, tt)
+    let P : ℕ → Type 0 = λ m. HasTold (plan.version == 3) (steps_at plan m) n 0 t s in (subst P same has, tt)
 one_told k plan [] [] (r ∷ ss) n t s have has = absurd have
 one_told k plan [] (u ∷ ts) ss n t s have has = absurd have
 one_told k plan (m ∷ ns) [] ss n t s have has = absurd have
 one_told k plan (m ∷ ns) (u ∷ ts) [] n t s have has = absurd have
 one_told k plan (m ∷ ns) (u ∷ ts) (r ∷ ss) n t s have has =
     let same : k + suc (length ns) ≡ (k + 1) + length ns = omega arith in
-    let P : ℕ → Type 0 = λ i. HasTold (steps_at plan i) n 0 t s in
+    let P : ℕ → Type 0 = λ i. HasTold (plan.version == 3) (steps_at plan i) n 0 t s in
     (have.0, one_told (k + 1) plan ns ts ss n t s have.1 (subst P same has))
 
 -- the nodes so far
@@ -50,13 +51,15 @@ begun_none plan nodes ts none =
     let P : List Teller → Type 0 = λ l. HaveBegun plan (take 0 nodes) l in
     subst P (sym none) (record { stories = []; have = tt })
 
-pub begun_more : (plan : PlanValue) (nodes : List NodeValue) (i number : ℕ) (n : NodeValue) (steps : List Step)
-    (ts all : List Teller) (t : Teller) (s : NodeStory) → i < length nodes → n ≡ get_or nodes i n → number ≡ i →
-    steps ≡ steps_at plan number → HaveBegun plan (take i nodes) ts → HasTold steps n 0 t s → all ≡ ts ++ t ∷ [] →
+pub begun_more : (plan : PlanValue) (nodes : List NodeValue) (i number : ℕ) (n : NodeValue) (raw : Bool)
+    (steps : List Step) (ts all : List Teller) (t : Teller) (s : NodeStory) → i < length nodes →
+    n ≡ get_or nodes i n → number ≡ i → raw ≡ (plan.version == 3) → steps ≡ steps_at plan number →
+    HaveBegun plan (take i nodes) ts → HasTold raw steps n 0 t s → all ≡ ts ++ t ∷ [] →
     HaveBegun plan (take (i + 1) nodes) all
-begun_more plan nodes i number n steps ts all t s less is same steps_are begun has pushed =
-    let P : List Step → Type 0 = λ l. HasTold l n 0 t s in
-    let Q : ℕ → Type 0 = λ k. HasTold (steps_at plan k) n 0 t s in
+begun_more plan nodes i number n raw steps ts all t s less is same raw_is steps_are begun has pushed =
+    let P : List Step → Type 0 = λ l. HasTold raw l n 0 t s in
+    let N : Bool → Type 0 = λ r. HasTold r (steps_at plan number) n 0 t s in
+    let Q : ℕ → Type 0 = λ k. HasTold (plan.version == 3) (steps_at plan k) n 0 t s in
     let taken = length-take-le i nodes (omega (arith, less)) in
     let count : number ≡ 0 + length (take i nodes) = omega (arith, same, taken) in
     let R : List NodeValue → Type 0 = λ l. HaveTold 0 plan 0 l (ts ++ t ∷ []) (begun.stories ++ s ∷ []) in
@@ -66,7 +69,8 @@ begun_more plan nodes i number n steps ts all t s less is same steps_are begun h
     subst S (sym pushed) (record {
       stories = begun.stories ++ s ∷ [];
       have = subst R (sym next)
-          (one_told 0 plan (take i nodes) ts begun.stories n t s begun.have (subst Q count (subst P steps_are has)));
+          (one_told 0 plan (take i nodes) ts begun.stories n t s begun.have
+          (subst Q count (subst N raw_is (subst P steps_are has))));
     })
 
 pub begun_all : (plan : PlanValue) (nodes : List NodeValue) (i : ℕ) (ts : List Teller) → length nodes ≤ i →
@@ -77,18 +81,20 @@ begun_all plan nodes i ts past begun =
 -- ---- a bit more
 
 -- of one node
-record OneMore (steps : List Step) (n : NodeValue) (bits : ℕ) (new : Teller) (s : NodeStory) : Type 0 where
+record OneMore (raw : Bool) (steps : List Step) (n : NodeValue) (bits : ℕ) (new : Teller) (s : NodeStory) : Type 0 where
   story : NodeStory
-  has : HasTold steps n (suc bits) new story
+  has : HasTold raw steps n (suc bits) new story
   shown : IsShown bits new story
   same : IsSameTo bits s story
 
 -- so much is told of it then
-pub has_more : (steps : List Step) (n : NodeValue) (bits : ℕ) (old new : Teller) (s : NodeStory)
-    (told : List Happening) → HasTold steps n bits old s → new.steps.steps.now ≡ steps → new.steps.done.now ≡ n.done →
-    HaveCome n.journal (suc bits) new.bits told →
-    HasTold steps n (suc bits) new (record { steps = s.steps; done = s.done; bits = told })
-has_more steps n bits old new s told h steps_are done_are come = record {
+pub has_more : (raw : Bool) (steps : List Step) (n : NodeValue) (bits : ℕ) (old new : Teller) (s : NodeStory)
+    (told : List Happening) → HasTold raw steps n bits old s → new.steps.raw ≡ raw → new.steps.steps.now ≡ steps →
+    new.steps.done.now ≡ n.done → HaveCome n.journal (suc bits) new.bits told →
+    HasTold raw steps n (suc bits) new (record { raw = s.raw; steps = s.steps; done = s.done; bits = told })
+has_more raw steps n bits old new s told h raw_is steps_are done_are come = record {
+  raw_is = raw_is;
+  story_raw = h.story_raw;
   steps_are = steps_are;
   done_are = done_are;
   story_steps = h.story_steps;
@@ -97,22 +103,24 @@ has_more steps n bits old new s told h steps_are done_are come = record {
   fresh = λ first. absurd (omega (arith, first));
 }
 
-one_more : (steps : List Step) (n : NodeValue) (bits : ℕ) (old new : Teller) (s : NodeStory) →
-    HasTold steps n bits old s → TellerGoesOn old new → OneMore steps n bits new s
-one_more steps n bits old new s h on =
+one_more : (raw : Bool) (steps : List Step) (n : NodeValue) (bits : ℕ) (old new : Teller) (s : NodeStory) →
+    HasTold raw steps n bits old s → TellerGoesOn old new → OneMore raw steps n bits new s
+one_more raw steps n bits old new s h on =
     let more = on.bits.tells n.journal bits s.bits h.come.0 in
     let own_steps = on.same.steps ∙ h.steps_are in
     let own_done = on.same.done ∙ h.done_are in
+    let own_raw = on.same.raw ∙ h.raw_is in
     record {
-      story = record { steps = s.steps; done = s.done; bits = more.told };
-      has = has_more steps n bits old new s more.told h own_steps own_done more.come;
+      story = record { raw = s.raw; steps = s.steps; done = s.done; bits = more.told };
+      has = has_more raw steps n bits old new s more.told h own_raw own_steps own_done more.come;
       shown = record {
         steps = own_steps ∙ sym h.story_steps;
         done = own_done ∙ sym h.story_done;
+        raw = own_raw ∙ sym h.story_raw;
         counters = on.counters ∙ ap counters_after (h.come.1 ∙ sym (before_same bits s.bits more.told more.same));
         brought = more.bit;
       };
-      same = record { steps = refl; done = refl; same = more.same };
+      same = record { steps = refl; done = refl; raw = refl; same = more.same };
     }
 
 -- of all nodes
@@ -134,7 +142,7 @@ all_more k plan bits (n ∷ nodes) [] news ss have on = absurd have
 all_more k plan bits (n ∷ nodes) (t ∷ olds) [] ss have on = absurd on
 all_more k plan bits (n ∷ nodes) (t ∷ olds) (u ∷ news) [] have on = absurd have
 all_more k plan bits (n ∷ nodes) (t ∷ olds) (u ∷ news) (s ∷ ss) have on =
-    let one = one_more (steps_at plan k) n bits t u s have.0 on.0 in
+    let one = one_more (plan.version == 3) (steps_at plan k) n bits t u s have.0 on.0 in
     let rest = all_more (k + 1) plan bits nodes olds news ss have.1 on.1 in
     record {
       stories = one.story ∷ rest.stories;
@@ -170,10 +178,18 @@ all_told k plan bits (n ∷ nodes) (t ∷ olds) (u ∷ news) (s ∷ ss) have on 
     let h = have.0 in
     let all = on.0.bits.tells n.journal bits s.bits h.come.0 in
     let rest = all_told (k + 1) plan bits nodes olds news ss have.1 on.1 in
-    let story : NodeStory = record { steps = s.steps; done = s.done; bits = all.told } in
+    let story : NodeStory = record { raw = s.raw; steps = s.steps; done = s.done; bits = all.told } in
     record {
       stories = story ∷ rest.stories;
-      are = (record { steps_are = h.story_steps; done_are = h.story_done; bits_are = all.are }, rest.are);
+      are = (
+        record {
+          raw_is = h.story_raw;
+          steps_are = h.story_steps;
+          done_are = h.story_done;
+          bits_are = all.are;
+        },
+        rest.are,
+      );
       late = (
         record {
           steps = on.0.same.steps ∙ h.steps_are ∙ sym h.story_steps;
@@ -181,7 +197,7 @@ all_told k plan bits (n ∷ nodes) (t ∷ olds) (u ∷ news) (s ∷ ss) have on 
         },
         rest.late,
       );
-      same = (record { steps = refl; done = refl; same = all.same }, rest.same);
+      same = (record { steps = refl; done = refl; raw = refl; same = all.same }, rest.same);
     }
 
 -- each one is underway

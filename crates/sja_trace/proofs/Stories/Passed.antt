@@ -1,6 +1,6 @@
 -- Tellers that go on past bits in short, and others in their place, that have each bit at hand in full.
 use Rattle.std.proofs.Common.{◌≡◌, ℕ, ◌+◌, suc, Bool, false, Option, None, List, [], ◌∷◌, ◌++◌}
-use Rattle.std.proofs.Common.{refl, sym, ap, ap₂, ◌∙◌, subst, arith}
+use Rattle.std.proofs.Common.{◌==◌, refl, sym, ap, ap₂, ◌∙◌, subst, arith}
 use Rattle.std.specs.Prelude.{slice_get}
 use Rattle.can_bits.specs.declared.level.Level.{Level}
 use Rattle.lemmas.specs.Related.{EachRelated}
@@ -41,6 +41,9 @@ comes_for t v journal bits told f come =
 steps_for : (t v : Teller) → IsFor t v → t.steps.steps.now ≡ v.steps.steps.now
 steps_for t v f = sym (ap (λ (x : NodeSteps). x.steps.now) f.steps)
 
+raw_for : (t v : Teller) → IsFor t v → t.steps.raw ≡ v.steps.raw
+raw_for t v f = sym (ap (λ (x : NodeSteps). x.raw) f.steps)
+
 done_for : (t v : Teller) → IsFor t v → t.steps.done.now ≡ v.steps.done.now
 done_for t v f = sym (ap (λ (x : NodeSteps). x.done.now) f.steps)
 
@@ -72,17 +75,17 @@ comes_first plan nodes ts text up =
 
 -- ---- a bit more
 
-record OnePassed (steps : List Step) (n : NodeValue) (bits : ℕ) (u : Teller) (s : NodeStory) : Type 0 where
+record OnePassed (raw : Bool) (steps : List Step) (n : NodeValue) (bits : ℕ) (u : Teller) (s : NodeStory) : Type 0 where
   teller : Teller
   story : NodeStory
-  has : HasTold steps n (suc bits) teller story
+  has : HasTold raw steps n (suc bits) teller story
   shown : IsShown bits teller story
   same : IsSameTo bits s story
   stands : IsFor u teller
 
-one_passed : (steps : List Step) (n : NodeValue) (bits : ℕ) (t v u : Teller) (s : NodeStory) →
-    HasTold steps n bits v s → IsFor t v → TellerPasses t u → OnePassed steps n bits u s
-one_passed steps n bits t v u s h f on =
+one_passed : (raw : Bool) (steps : List Step) (n : NodeValue) (bits : ℕ) (t v u : Teller) (s : NodeStory) →
+    HasTold raw steps n bits v s → IsFor t v → TellerPasses t u → OnePassed raw steps n bits u s
+one_passed raw steps n bits t v u s h f on =
     let more = on.bits n.journal bits s.bits (comes_for t v n.journal bits s.bits f h.come.0) in
     let brought : Option Happening = slice_get more.told bits in
     let w : Teller = record {
@@ -94,18 +97,20 @@ one_passed steps n bits t v u s h f on =
     } in
     let own_steps = on.same.steps ∙ steps_for t v f ∙ h.steps_are in
     let own_done = on.same.done ∙ done_for t v f ∙ h.done_are in
+    let own_raw = on.same.raw ∙ raw_for t v f ∙ h.raw_is in
     record {
       teller = w;
-      story = record { steps = s.steps; done = s.done; bits = more.told };
-      has = has_more steps n bits v w s more.told h own_steps own_done (more.come, refl);
+      story = record { raw = s.raw; steps = s.steps; done = s.done; bits = more.told };
+      has = has_more raw steps n bits v w s more.told h own_raw own_steps own_done (more.come, refl);
       shown = record {
         steps = own_steps ∙ sym h.story_steps;
         done = own_done ∙ sym h.story_done;
+        raw = own_raw ∙ sym h.story_raw;
         counters = on.counters ∙ hand_counters t.short (at_hand t.bits) (at_hand v.bits) f.hand
             ∙ ap counters_after (h.come.1 ∙ sym (before_same bits s.bits more.told more.same));
         brought = refl;
       };
-      same = record { steps = refl; done = refl; same = more.same };
+      same = record { steps = refl; done = refl; raw = refl; same = more.same };
       stands = record { steps = refl; counters = refl; over = refl; replay = refl; hand = more.hand };
     }
 
@@ -132,7 +137,7 @@ all_passed k plan bits (n ∷ nodes) ts (v ∷ vs) us [] have stand on = absurd 
 all_passed k plan bits (n ∷ nodes) [] (v ∷ vs) us (s ∷ ss) have stand on = absurd stand
 all_passed k plan bits (n ∷ nodes) (t ∷ ts) (v ∷ vs) [] (s ∷ ss) have stand on = absurd on
 all_passed k plan bits (n ∷ nodes) (t ∷ ts) (v ∷ vs) (u ∷ us) (s ∷ ss) have stand on =
-    let one = one_passed (steps_at plan k) n bits t v u s have.0 stand.0 on.0 in
+    let one = one_passed (plan.version == 3) (steps_at plan k) n bits t v u s have.0 stand.0 on.0 in
     let rest = all_passed (k + 1) plan bits nodes ts vs us ss have.1 stand.1 on.1 in
     record {
       whole = one.teller ∷ rest.whole;
@@ -149,8 +154,8 @@ stand_line : (bus : Level) (bit k : ℕ) (t v : Teller) → IsFor t v →
     told_lines bus bit k t ≡ teller_lines bus bit k v
 stand_line bus bit k t v f =
     ap₂ (λ l r. l ++ r) (ap₂ (λ l d. steps_due false bit k 1 l d) (steps_for t v f) (done_for t v f))
-    (hand_said bus bit k t.counters t.short (at_hand t.bits) (at_hand v.bits) f.hand
-    ∙ ap (λ c. event_line bus bit k c (at_hand v.bits)) (sym f.counters))
+    (hand_said t.steps.raw bus bit k t.counters t.short (at_hand t.bits) (at_hand v.bits) f.hand
+    ∙ ap₂ (λ r c. event_line r bus bit k c (at_hand v.bits)) (raw_for t v f) (sym f.counters))
 
 stand_lines : (bus : Level) (bit k : ℕ) (ts vs : List Teller) → EachRelated IsFor ts vs →
     numbered (told_lines bus bit) k ts ≡ numbered (teller_lines bus bit) k vs
@@ -215,7 +220,11 @@ comes_underway plan nodes bits ts text c =
 
 end_for : (t v n : Teller) → IsFor t v → TellerEnds t n → TellerEnds v n
 end_for t v n f on = record {
-  same = record { steps = on.same.steps ∙ steps_for t v f; done = on.same.done ∙ done_for t v f };
+  same = record {
+    steps = on.same.steps ∙ steps_for t v f;
+    done = on.same.done ∙ done_for t v f;
+    raw = on.same.raw ∙ raw_for t v f;
+  };
   bits = record {
     tells = λ journal bits told come. on.bits.tells journal bits told (comes_for t v journal bits told f come);
   };

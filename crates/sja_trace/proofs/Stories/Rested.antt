@@ -109,7 +109,7 @@ module _ (n : ℕ) (old new : Teller) (h : HasRested n old new) where
             subst (λ (r : Replay). PassesBit r (rested 1 old.bits.replay) before h.short) is
             (h.passes 0 before early (subst (λ (r : Replay). IsAt r before) (sym is) at))
     passes_one (suc i) early = record {
-      same = record { steps = refl; done = refl };
+      same = record { steps = refl; done = refl; raw = refl };
       counters = refl;
       bits = passed_on (after (suc i)).bits (after (suc (suc i))).bits (Some h.short) w.under w.under
           (λ before at. h.passes (suc i) before early at);
@@ -128,7 +128,7 @@ module _ (n : ℕ) (old new : Teller) (h : HasRested n old new) where
         ∙ never (is_frame q.phase) (not q.transmits) in
         ap₂ (λ a b. a ++ b) steps
         (ap (bit_line (bit + i) node)
-        (plain_none Recessive (after (suc i)).counters q seen (same_counters h.short.counters)
+        (plain_none new.steps.raw Recessive (after (suc i)).counters q seen (same_counters h.short.counters)
         (λ idle. (h.looks.driven_is, h.looks.seen_is)) silent))
 
 -- after all of them it is the other one

@@ -1,6 +1,6 @@
 -- The line of a bit with which a node stored a frame stands in the trace.
 use Rattle.std.proofs.Common.{◌≡◌, ◌<◌, ◌+◌, inl, inr, ℕ, zero, suc, false, Some, List, [], ◌∷◌, ◌++◌, length}
-use Rattle.std.proofs.Common.{refl, sym, ap, ◌∙◌, subst, arith, append_assoc, append-nil}
+use Rattle.std.proofs.Common.{Bool, refl, sym, ap, ◌∙◌, subst, arith, append_assoc, append-nil}
 use Rattle.std.specs.Prelude.{codes, slice_get}
 use Rattle.std.proofs.lemmas.Bool.{cases_eq}
 use Rattle.can_bits.specs.declared.level.Level.{Level}
@@ -11,7 +11,8 @@ use Rattle.sja_plan.specs.Plan.{PlanValue}
 use Rattle.sja_replay.specs.declared.fate.Fate.TheVariants.{Stored}
 use Rattle.sja_replay.specs.declared.happening.Happening.{Happening}
 use Rattle.sja_report.specs.ReportLines.{numbered}
-use Rattle.sja_trace.specs.BitEvents.{restart_said, all_said, suspension_said, states_said, counters_said}
+use Rattle.sja_trace.specs.BitEvents.{restart_said, events_said, suspension_said, states_said, counters_said}
+use Rattle.sja_trace.specs.Causes.{start_cause, bit_cause, all_said}
 use Rattle.sja_trace.specs.Events.{abort_said, start_said, strike_said, acknowledgement_said, loss_said}
 use Rattle.sja_trace.specs.Events.{fault_said, flag_said, reception_in, end_said}
 use Rattle.sja_trace.specs.TraceText.{behind, joined, told_line, bit_line, steps_due, event_line, node_lines, bus_in}
@@ -73,10 +74,10 @@ said_with a r e s t c x is =
     ∙ append_assoc a (x ∷ (e ++ s ++ t)) c
 
 -- what is said of a bit with which a frame was stored
-said_stored : (bus : Level) (left : Counters) (h : Happening) (f : FrameValue) → h.events.received ≡ Some f →
+event_stored : (bus : Level) (left : Counters) (h : Happening) (f : FrameValue) → h.events.received ≡ Some f →
     h.fate ≡ Some Stored →
-    (es : List (List ℕ)) × (more : List (List ℕ)) × (all_said bus left h ≡ es ++ stored_text f ∷ more)
-said_stored bus left h f received fate =
+    (es : List (List ℕ)) × (more : List (List ℕ)) × (events_said bus left h ≡ es ++ stored_text f ∷ more)
+event_stored bus left h f received fate =
     let started = restart_said left h in
     let front = abort_said h ++ start_said h ++ strike_said bus h ++ acknowledgement_said h ++ loss_said h
     ++ fault_said h ++ flag_said h in
@@ -90,6 +91,17 @@ said_stored bus left h f received fate =
           ∙ sym (append_assoc started front (stored_text f ∷ back)),
     )
 
+said_stored : (raw : Bool) (bus : Level) (left : Counters) (h : Happening) (f : FrameValue) →
+    h.events.received ≡ Some f → h.fate ≡ Some Stored →
+    (es : List (List ℕ)) × (more : List (List ℕ)) × (all_said raw bus left h ≡ es ++ stored_text f ∷ more)
+said_stored raw bus left h f received fate =
+    let said = event_stored bus left h f received fate in
+    let causes = start_cause raw left h ++ bit_cause raw h in (
+      said.0,
+      said.1 ++ causes,
+      ap (λ l. l ++ causes) said.2 ∙ append_assoc (said.0) (stored_text f ∷ said.1) causes,
+    )
+
 -- ---- among lines
 
 node_holds : (bus : Level) (bit node : ℕ) (s : NodeStory) (h : Happening) (f : FrameValue) →
@@ -97,15 +109,15 @@ node_holds : (bus : Level) (bit node : ℕ) (s : NodeStory) (h : Happening) (f :
     (told : List ℕ) × Holds told (stored_text f) × Holds (node_lines bus bit node s) (told_line bit node told)
 node_holds bus bit node s h f there received fate =
     let left = counters_left bit s.bits in
-    let said = said_stored bus left h f received fate in
+    let said = said_stored s.raw bus left h f received fate in
     let told = joined (said.0 ++ stored_text f ∷ said.1) in
     let steps = steps_due false bit node 1 s.steps s.done in
-    let is : event_line bus bit node left (slice_get s.bits bit) ≡ told_line bit node told =
-    ap (λ o. event_line bus bit node left o) there ∙ ap (λ es. bit_line bit node es) said.2
+    let is : event_line s.raw bus bit node left (slice_get s.bits bit) ≡ told_line bit node told =
+    ap (λ o. event_line s.raw bus bit node left o) there ∙ ap (λ es. bit_line bit node es) said.2
     ∙ line_is bit node said.0 said.1 (stored_text f) in (
       told,
       joined_holds said.0 said.1 (stored_text f),
-      holds_right steps (event_line bus bit node left (slice_get s.bits bit)) (told_line bit node told)
+      holds_right steps (event_line s.raw bus bit node left (slice_get s.bits bit)) (told_line bit node told)
           (subst (λ l. Holds l (told_line bit node told)) (sym is) (holds_self (told_line bit node told))),
     )
 

@@ -1,5 +1,5 @@
 -- A run that was told bit by bit: what each node's teller has come to.
-use Rattle.std.specs.Prelude.{◌≡◌, ◌+◌, ℕ, true, false, None, List, [], ◌∷◌, ◌++◌, map, slice_get}
+use Rattle.std.specs.Prelude.{◌≡◌, ◌==◌, ◌+◌, ℕ, Bool, true, false, None, List, [], ◌∷◌, ◌++◌, map, slice_get}
 use Rattle.can_bits.specs.declared.level.Level.{Level}
 use Rattle.sja_log.specs.Log.{NodeValue}
 use Rattle.sja_plan.specs.Plan.{PlanValue, steps_at}
@@ -18,6 +18,7 @@ use Rattle.sja_trace.specs.declared.teller.Teller.{Teller}
 pub record HasSameSteps (old new : NodeSteps) : Type 0 where
   pub steps : new.steps.now ≡ old.steps.now
   pub done : new.done.now ≡ old.done.now
+  pub raw : new.raw ≡ old.raw
 
 -- the teller went on past a bit, and what it had in short stays as it was; or to the end
 pub record TellerGoesOn (old new : Teller) : Type 0 where
@@ -39,7 +40,10 @@ AreUnderway (t ∷ tellers) = IsUnderway t.bits × AreUnderway tellers
 
 -- after so many bits the teller of a node has told this part of its story. Before the first one nothing is at hand in
 -- short
-pub record HasTold (steps : List Step) (n : NodeValue) (bits : ℕ) (t : Teller) (s : NodeStory) : Type 0 where
+pub record HasTold (raw : Bool) (steps : List Step) (n : NodeValue) (bits : ℕ) (t : Teller) (s : NodeStory) :
+    Type 0 where
+  pub raw_is : t.steps.raw ≡ raw
+  pub story_raw : s.raw ≡ raw
   pub steps_are : t.steps.steps.now ≡ steps
   pub done_are : t.steps.done.now ≡ n.done
   pub story_steps : s.steps ≡ steps
@@ -55,12 +59,13 @@ HaveTold k plan bits [] (t ∷ tellers) stories = ⊥
 HaveTold k plan bits (n ∷ nodes) [] stories = ⊥
 HaveTold k plan bits (n ∷ nodes) (t ∷ tellers) [] = ⊥
 HaveTold k plan bits (n ∷ nodes) (t ∷ tellers) (s ∷ stories) =
-    HasTold (steps_at plan k) n bits t s × HaveTold (k + 1) plan bits nodes tellers stories
+    HasTold (plan.version == 3) (steps_at plan k) n bits t s × HaveTold (k + 1) plan bits nodes tellers stories
 
 -- what the teller of a node has at hand is what this bit of the story brought, and it has the counters before the bit
 pub record IsShown (bit : ℕ) (t : Teller) (s : NodeStory) : Type 0 where
   pub steps : t.steps.steps.now ≡ s.steps
   pub done : t.steps.done.now ≡ s.done
+  pub raw : t.steps.raw ≡ s.raw
   pub counters : t.counters ≡ counters_left bit s.bits
   pub brought : at_hand t.bits ≡ slice_get s.bits bit
 
@@ -68,6 +73,7 @@ pub record IsShown (bit : ℕ) (t : Teller) (s : NodeStory) : Type 0 where
 pub record IsSameTo (bits : ℕ) (old new : NodeStory) : Type 0 where
   pub steps : new.steps ≡ old.steps
   pub done : new.done ≡ old.done
+  pub raw : new.raw ≡ old.raw
   pub same : HaveSame bits old.bits new.bits
 
 -- after so many bits the text is that of the stories so far
@@ -81,7 +87,8 @@ pub record IsUpTo (plan : PlanValue) (nodes : List NodeValue) (bits : ℕ) (tell
 
 abbrev pub teller_lines : Level → ℕ → ℕ → Teller → List ℕ
 teller_lines bus bit node t =
-    steps_due false bit node 1 t.steps.steps.now t.steps.done.now ++ event_line bus bit node t.counters (at_hand t.bits)
+    steps_due false bit node 1 t.steps.steps.now t.steps.done.now
+    ++ event_line t.steps.raw bus bit node t.counters (at_hand t.bits)
 
 abbrev pub driven_now : List Teller → List Level
 driven_now tellers = map (λ (t : Teller). driven_in (at_hand t.bits)) tellers

@@ -1,6 +1,6 @@
 -- The bit at hand of a node, in short where it told nothing. A bit in short leaves open which happening it was: each
 -- that it may have been has the same line.
-use Rattle.std.specs.Prelude.{◌≡◌, ℕ, suc, not, false, Option, Some, None, List, slice_get}
+use Rattle.std.specs.Prelude.{◌≡◌, ℕ, suc, not, Bool, false, Option, Some, None, List, slice_get}
 use Rattle.can_bits.specs.declared.level.Level.{Level}
 use Rattle.can_node.specs.declared.counters.Counters.{Counters}
 use Rattle.can_node.specs.Stands.{nothing}
@@ -49,9 +49,9 @@ happening_of q = record {
 }
 
 -- its line
-abbrev pub hand_line : Level → ℕ → ℕ → Counters → Option ShortBit → Option Happening → List ℕ
-hand_line bus bit node left None own = event_line bus bit node left own
-hand_line bus bit node left (Some q) own = event_line bus bit node left (Some (happening_of q))
+abbrev pub hand_line : Bool → Level → ℕ → ℕ → Counters → Option ShortBit → Option Happening → List ℕ
+hand_line raw bus bit node left None own = event_line raw bus bit node left own
+hand_line raw bus bit node left (Some q) own = event_line raw bus bit node left (Some (happening_of q))
 
 -- ---- which happening is at hand
 

@@ -39,7 +39,7 @@ pub record ComesTo (plan : PlanValue) (nodes : List NodeValue) (bits : ℕ) (tel
 abbrev pub told_lines : Level → ℕ → ℕ → Teller → List ℕ
 told_lines bus bit node t =
     steps_due false bit node 1 t.steps.steps.now t.steps.done.now
-    ++ hand_line bus bit node t.counters t.short (at_hand t.bits)
+    ++ hand_line t.steps.raw bus bit node t.counters t.short (at_hand t.bits)
 
 abbrev pub hands_driven : List Teller → List Level
 hands_driven tellers = map (λ (t : Teller). driven_of t.short (at_hand t.bits)) tellers

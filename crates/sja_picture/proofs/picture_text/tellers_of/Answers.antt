@@ -8,8 +8,8 @@ loop-node-init c = begun_none no_plan c.args.nodes.now c.new-tellers.result.item
 
 pub loop-node-preserved : goal.loop-node-preserved
 loop-node-preserved c =
-    begun_more no_plan c.args.nodes.now c.loop-node.node-index c.loop-node.node-index c.node-item.result _ _ _ _ _
-    c.loop-node-test.true c.node-item.is refl refl c.loop-node.invariant c.of.ensures c.in_ok-push.ensures.items
+    begun_more no_plan c.args.nodes.now c.loop-node.node-index c.loop-node.node-index c.node-item.result _ _ _ _ _ _
+    c.loop-node-test.true c.node-item.is refl refl refl c.loop-node.invariant c.of.ensures c.in_ok-push.ensures.items
 
 pub returns : goal.returns
 returns c =

@@ -12,7 +12,7 @@ loop-node-init c = record {
 pub loop-node-preserved : goal.loop-node-preserved
 loop-node-preserved c = record {
   begun = begun_more c.args.plan.now c.args.nodes.now c.loop-node.node-index c.loop-node.number c.node-item.result _ _ _
-      _ _ c.loop-node-test.true c.node-item.is c.loop-node.invariant.number c.steps_of.ensures
+      _ _ _ c.loop-node-test.true c.node-item.is c.loop-node.invariant.number (search rules) c.steps_of.ensures
       c.loop-node.invariant.begun c.of-teller.ensures c.in_ok-push.ensures.items;
   number = let n = c.loop-node.invariant.number in omega (arith, n);
 }
