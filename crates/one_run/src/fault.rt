@@ -2,7 +2,7 @@
 
 use can_frame::OutOfMemory;
 use sja_log::RunFault;
-use sja_plan::PlanFault;
+use sja_places::ReadFault;
 use std::io;
 use thiserror::Error;
 
@@ -12,9 +12,9 @@ pub enum Fault {
     /// Standard input can't be read.
     #[error("read fault: {0}")]
     Read(#[from] io::Error),
-    /// The input is no plan.
+    /// The input is no plan, or a strike by place has no bit.
     #[error("plan fault {0:?}: {0}")]
-    Plan(#[from] PlanFault),
+    Plan(#[from] ReadFault),
     /// The run has no log.
     #[error("run fault {0:?}: {0}")]
     Run(#[from] RunFault),

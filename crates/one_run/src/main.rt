@@ -6,7 +6,7 @@
 mod fault;
 
 use fault::Fault;
-use sja_plan::read_plan;
+use sja_places::plan_of;
 use sja_report::report;
 use sja_serial::run_serial;
 use std::alloc::Global;
@@ -28,7 +28,7 @@ fn main(rt: HostRuntime) -> ExitCode {
 fn reported<R: Read>(alloc: Global, input: &mut R) -> Result<String, Fault> {
     let mut bytes = Vec::new(alloc);
     input.read_to_end(&mut bytes)?;
-    let plan = read_plan(alloc, bytes.as_slice())?;
+    let plan = plan_of(alloc, bytes.as_slice())?;
     let log = run_serial(alloc, &plan)?;
     let text = report(alloc, &log)?;
     Ok(text)

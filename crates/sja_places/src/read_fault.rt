@@ -2,13 +2,16 @@
 
 use super::place_fault::PlaceFault;
 use sja_plan::PlanFault;
+use thiserror::Error;
 
 /// Why bytes are no plan whose strikes all have bits (this project's own rule).
-#[derive(Clone, Copy, Debug, PartialEq, Eq)]
+#[derive(Clone, Copy, Debug, PartialEq, Eq, Error)]
 pub enum ReadFault {
     /// The bytes are no plan.
+    #[error("{0}")]
     Plan(PlanFault),
     /// They are one, and a strike by place has no bit.
+    #[error("{0}")]
     Place(PlaceFault),
 }
 

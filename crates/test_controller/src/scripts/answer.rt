@@ -3,7 +3,7 @@
 use super::script::Query;
 use sja_driver::LoggedDriver;
 use std::alloc::{AllocError, Global};
-use test_words::{Bytes, AnswerText};
+use test_words::{AnswerText, Bytes};
 
 /// The answers of the steps that were done, each behind a blank, and what is asked. All are done after 7 bits.
 pub fn answers(alloc: Global, driver: &LoggedDriver, asked: Query) -> Result<String, AllocError> {

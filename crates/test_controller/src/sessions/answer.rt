@@ -1,8 +1,10 @@
 //! [`Answer`]: what a call of a session answers.
 
+use sja_plan::Place;
 use sja_script::StepAnswer;
 use sja_session::{
-    RestOutcome, SessionFault, SessionRoom, StepFault, StrikeFault, TurnsUsed, WatchOutcome,
+    PlaceOutcome, PlaceRefusal, RestOutcome, SessionFault, SessionRoom, StepFault, StrikeFault,
+    TurnsUsed, WatchOutcome,
 };
 use std::fmt;
 use test_words::AnswerText;
@@ -34,6 +36,10 @@ pub enum Answer {
     Rested(RestOutcome),
     /// Bits until a line rises.
     Watched(WatchOutcome),
+    /// Bits up to a place.
+    Reached(PlaceOutcome),
+    /// The place of a node.
+    At(Place),
     /// Room for steps and turns.
     Room(SessionRoom),
     /// There is no such session.
@@ -42,6 +48,8 @@ pub enum Answer {
     NoStep(StepFault),
     /// The bit isn't struck.
     NoStrike(StrikeFault),
+    /// No bit is run up to a place.
+    NoWay(PlaceRefusal),
     /// No bit is run.
     NoTurn(TurnsUsed),
     /// The row isn't written as rows are.
@@ -80,6 +88,8 @@ fn write_answer<W: fmt::Write>(f: &mut fmt::Formatter<W>, answer: &Answer) -> fm
         Answer::Rested(rested) => write_rested(f, *rested),
         Answer::Watched(watched) => write_watched(f, *watched),
         Answer::Rose(rose) => write_rose(f, *rose),
+        Answer::Reached(reached) => write_reached(f, *reached),
+        Answer::At(place) => fmt::Debug::fmt(place, f),
         Answer::Room(room) => write_room(f, *room),
         _ => write_number(f, answer),
     }
@@ -101,9 +111,16 @@ fn write_fault<W: fmt::Write>(f: &mut fmt::Formatter<W>, answer: &Answer) -> fmt
         Answer::NoSession(fault) => fmt::Debug::fmt(fault, f),
         Answer::NoStep(fault) => fmt::Debug::fmt(fault, f),
         Answer::NoStrike(fault) => fmt::Debug::fmt(fault, f),
+        Answer::NoWay(fault) => fmt::Debug::fmt(fault, f),
         Answer::NoTurn(fault) => fmt::Debug::fmt(fault, f),
         _ => Ok(()),
     }
+}
+
+/// Writes how many bits were run up to a place, and whether the node is there.
+fn write_reached<W: fmt::Write>(f: &mut fmt::Formatter<W>, reached: PlaceOutcome) -> fmt::Result {
+    fmt::Display::fmt(&reached.bits, f)?;
+    f.write_str(if reached.there { " there" } else { " away" })
 }
 
 /// Writes a byte.

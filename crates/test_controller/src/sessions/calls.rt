@@ -3,6 +3,7 @@
 use super::answer::Answer;
 use super::bench::say_asked;
 use super::many::many;
+use sja_plan::{Place, place_of_word, place_of_words};
 use sja_script::Step;
 use sja_session::{Session, StepOutcome};
 use std::alloc::{AllocError, Global};
@@ -21,7 +22,8 @@ pub fn node_of(word: &str) -> Option<u8> {
 /// What a call answers; none where it is none.
 ///
 /// `bits 7`, `rest`, `watch 400 0 1` with the nodes that are watched, `rises 400 1` the same with whose line rose
-/// alone, `now`, `room`, `irq 0`, `answer 0`, `strike 1 51`, `mask 1 IR 02` a read and of it these bits, a
+/// alone, `now`, `room`, `irq 0`, `answer 0`, `place 0`, `strike 1 51`, `to 200 1 data 2.3` at most so many bits up to
+/// that place of node 1, `mask 1 IR 02` a read and of it these bits, a
 /// step behind its node as `0 read SR`, and those of `many`.
 pub fn called(session: &mut Session, words: &[&str]) -> Option<Answer> {
     let [name, rest @ ..] = words else {
@@ -30,7 +32,8 @@ pub fn called(session: &mut Session, words: &[&str]) -> Option<Answer> {
     match *name {
         "reads" | "starts" | "strikes" => many(session, name, rest),
         "watch" | "rises" => watched(session, name, rest),
-        "irq" | "answer" => of_node(session, name, rest),
+        "irq" | "answer" | "place" => of_node(session, name, rest),
+        "to" => runs_to(session, rest),
         "strike" => struck(session, rest),
         _ if rest.is_empty() => of_session(session, name),
         "mask" => masked(session, rest),
@@ -63,6 +66,10 @@ fn of_node(session: &mut Session, name: &str, rest: &[&str]) -> Option<Answer> {
             Some(active) => Answer::Said(active),
             None => Answer::Nothing,
         }),
+        "place" => Some(match session.place(node) {
+            Some(place) => Answer::At(place),
+            None => Answer::Nothing,
+        }),
         _ => Some(match session.answer(node) {
             Some(answer) => Answer::Step(answer),
             None => Answer::Nothing,
@@ -79,6 +86,27 @@ fn runs(session: &mut Session, rest: &[&str]) -> Option<Answer> {
         Ok(bits) => Answer::Count(bits),
         Err(fault) => Answer::NoTurn(fault),
     })
+}
+
+/// Runs bits up to a place of a node.
+fn runs_to(session: &mut Session, rest: &[&str]) -> Option<Answer> {
+    let [limit, node, place @ ..] = rest else {
+        return None;
+    };
+    let reached = session.to_place(node_of(node)?, place_in(place)?, number(limit)?);
+    Some(match reached {
+        Ok(reached) => Answer::Reached(reached),
+        Err(fault) => Answer::NoWay(fault),
+    })
+}
+
+/// The place of these words.
+fn place_in(words: &[&str]) -> Option<Place> {
+    match words {
+        [name] => place_of_word(name),
+        [name, more] => place_of_words(name, more),
+        _ => None,
+    }
 }
 
 /// Runs bits until the line of one of these nodes rises.
