@@ -4,3 +4,4 @@ pub mod BytesRead
 pub mod FilesDone
 pub mod LinesCompared
 pub mod ShownNames
+pub mod Denied

@@ -3,3 +3,4 @@ pub mod Requests
 pub mod RefusedMemory
 pub mod Showing
 pub mod Talks
+pub mod Asked

@@ -12,7 +12,7 @@ use Rattle.sja_texts.specs.Filter.{IsFiltering, RefusesFilter}
 use Rattle.sja_texts.specs.Notation.{IsTranslation}
 use Rattle.sja_texts.specs.Given.{RefusesGiven}
 use Rattle.sja_texts.specs.Refusal.{refusal_line}
-use Rattle.sja_run.specs.Check.{HasHints, HasMistake, IsFine}
+use Rattle.sja_run.specs.Check.{HasHints, HasMistake, HasRawMistake, IsFine}
 use Rattle.sja_run.specs.Input.{ReadsFew, RefusesInput}
 use Rattle.sja_run.specs.PlanDocument.{IsInputSpelled, RefusesInputSpelled}
 use Rattle.sja_run.specs.Run.{IsOfPlan, RefusesBy, RefusesText}
@@ -146,9 +146,15 @@ IsRefused (expected threads plan report) before after r = (r ≡ refusal.OutOfMe
 IsRefused (files asked jobs names) before after r = (r ≡ refusal.OutOfMemory) × ReadsFew before after
 IsRefused live before after r = (r ≡ refusal.OutOfMemory) × ReadsFew before after
 
+-- the same, and what is told of the plan's mistake: `check` tells any, and each other request those of a document that
+-- says its version 3 before all other keys
+abbrev pub TellsMistake : Request → Option (List ℕ) → Option (List ℕ) → List ℕ → Type 0
+TellsMistake request before after text =
+    (IsCheck request × HasMistake before after text) ⊎ (AsksForRun request × HasRawMistake before after text)
+
 -- The request, the exit status, and what the input, the output and the error output held before and hold after.
--- Either the text is on the output and the status is 0; or the refusal's line, or what `check` says of a mistake, is on
--- the error output and the status is 1; or hints that are asked to be none are on the output, and the status is 1. The
+-- Either the text is on the output and the status is 0; or the refusal's line, or what is told of a mistake, is on the
+-- error output and the status is 1; or hints that are asked to be none are on the output, and the status is 1. The
 -- other writer keeps what it held.
 abbrev pub Shows :
     Request → Option ℕ → Option (List ℕ) → Option (List ℕ) → Option (List ℕ) → Option (List ℕ) → Option (List ℕ)
@@ -158,7 +164,7 @@ Shows request status in_old in_new out_old out_new err_old err_new =
     × Keeps err_old err_new)
     ⊎ ((r : CommandRefusal) × IsRefused request in_old in_new r × (status ≡ Some 1) × Keeps out_old out_new
     × Appends err_old err_new (refusal_line r))
-    ⊎ ((text : List ℕ) × IsCheck request × HasMistake in_old in_new text × (status ≡ Some 1) × Keeps out_old out_new
+    ⊎ ((text : List ℕ) × TellsMistake request in_old in_new text × (status ≡ Some 1) × Keeps out_old out_new
     × Appends err_old err_new text)
     ⊎ ((text : List ℕ) × (request ≡ check true) × HasHints in_old in_new text × (¬ IsFine true text)
     × (status ≡ Some 1) × Appends out_old out_new text × Keeps err_old err_new)

@@ -1,6 +1,7 @@
 -- What `check` says of the plan on the input, by what the input held before and holds after (this project's own rule).
 -- A fault of the plan is no reason to say nothing.
 use Rattle.std.specs.Prelude.{◌≡◌, ◌++◌, ℕ, Bool, true, false, List, [], Option}
+use Rattle.sja_plan.specs.Limits.{begins_raw}
 use Rattle.sja_plan.specs.Plan.{PlanValue}
 use Rattle.sja_plan.specs.PlacedPlans.{IsFirstPlacedFault}
 use Rattle.sja_places.specs.PlanRead.{IsRunPlan}
@@ -12,7 +13,7 @@ use Rattle.sja_texts.specs.Refusal.{refusal_line}
 use Rattle.sja_texts.specs.declared.command_refusal.CommandRefusal.{CommandRefusal}
 use Rattle.sja_texts.specs.declared.command_refusal.CommandRefusal.TheVariants as refusal
 use Rattle.sja_run.specs.Input.{IsRead}
-use Rattle.sja_run.specs.Run.{RefusesRunPlan}
+use Rattle.sja_run.specs.Run.{HasManyStrikes, MissesPlace, OfPlaced}
 
 -- these bytes are a plan, which has a run in one thread, and the text is a line for each hint
 abbrev pub IsHinted : List ℕ → List ℕ → Type 0
@@ -22,11 +23,11 @@ IsHinted bytes text =
 -- what is explained: the first fault of these bytes, which is no refused memory, or that a strike by place has no bit
 abbrev pub IsExplainable : List ℕ → CommandRefusal → Type 0
 IsExplainable bytes (refusal.Plan fault) = (¬ (fault ≡ Memory)) × IsFirstPlacedFault bytes fault
-IsExplainable bytes (refusal.Place number) = RefusesRunPlan bytes (refusal.Place number)
-IsExplainable bytes refusal.Strikes = RefusesRunPlan bytes refusal.Strikes
+IsExplainable bytes (refusal.Place number) = OfPlaced bytes (MissesPlace number)
+IsExplainable bytes refusal.Strikes = OfPlaced bytes HasManyStrikes
 IsExplainable bytes other = ⊥
 
--- the text is the line that `run` has for it, and then one line or two
+-- the text is the line that stands for it alone, and then one line or two
 abbrev pub IsExplained : List ℕ → List ℕ → Type 0
 IsExplained bytes text =
     (r : CommandRefusal) × (words : List ℕ) × IsExplainable bytes r × (text ≡ refusal_line r ++ words) × IsBrief words
@@ -43,3 +44,8 @@ HasHints before after text = (bytes : List ℕ) × IsRead before after bytes × 
 -- there is a mistake in them
 abbrev pub HasMistake : Option (List ℕ) → Option (List ℕ) → List ℕ → Type 0
 HasMistake before after text = (bytes : List ℕ) × IsRead before after bytes × IsExplained bytes text
+
+-- there is one, and they say version 3 before all other keys
+abbrev pub HasRawMistake : Option (List ℕ) → Option (List ℕ) → List ℕ → Type 0
+HasRawMistake before after text =
+    (bytes : List ℕ) × IsRead before after bytes × (begins_raw bytes ≡ true) × IsExplained bytes text

@@ -1,9 +1,11 @@
 -- What `run --expect` does over a plan and the report that is expected of it (this project's own rule).
-use Rattle.std.specs.Prelude.{◌≡◌, ◌⊎◌, ◌∷◌, ℕ, Bool, false, List, [], Option, Some, None}
+use Rattle.std.specs.Prelude.{◌≡◌, ◌⊎◌, ◌∷◌, ℕ, Bool, true, false, List, [], Option, Some, None}
 use Rattle.std.specs.Io.KnownBytes.{Appends}
+use Rattle.sja_plan.specs.Limits.{begins_raw}
 use Rattle.sja_plan.specs.Plan.{PlanValue}
 use Rattle.sja_places.specs.PlanRead.{IsRunPlan}
 use Rattle.sja_texts.specs.declared.command_refusal.CommandRefusal.TheVariants.{OutOfMemory}
+use Rattle.sja_run.specs.Check.{IsExplained}
 use Rattle.sja_run.specs.Difference.{IsCompared}
 use Rattle.sja_run.specs.Files.{IsReadAs, IsUnread, RefusesBytes, printed_of, refused_of, status_of}
 use Rattle.sja_run.specs.RunText.{IsTextOfRun}
@@ -18,11 +20,11 @@ HasReport threads bytes expected said =
     × IsCompared plan report expected said
 
 -- what comes of that plan: nothing is printed where its report is the expected one, else the first difference is told;
--- or there is no report
+-- or there is no report. A mistake of a document that says version 3 before all other keys is told as `check` does
 abbrev pub Meets : Bool → List ℕ → List ℕ → FileOutcome → Type 0
 Meets threads bytes expected (Printed text) = (text.items ≡ []) × HasReport threads bytes expected None
 Meets threads bytes expected (Told text) = HasReport threads bytes expected (Some text.items)
-Meets threads bytes expected (Mistaken text) = ⊥
+Meets threads bytes expected (Mistaken text) = (begins_raw bytes ≡ true) × IsExplained bytes text.items
 Meets threads bytes expected (Refused r) = RefusesBytes threads bytes r
 Meets threads bytes expected Unreadable = ⊥
 

@@ -4,6 +4,7 @@ use Rattle.std.specs.Prelude.{◌≡◌, ◌⊎◌, ◌++◌, ◌∷◌, ℕ, Bo
 use Rattle.std.specs.Prelude.{codes, length, nat_lt, if◌then◌else◌}
 use Rattle.std.specs.List.{list_all}
 use Rattle.std.specs.Io.KnownBytes.{Appends, Keeps}
+use Rattle.sja_plan.specs.Limits.{begins_raw}
 use Rattle.sja_plan.specs.Plan.{PlanValue}
 use Rattle.sja_places.specs.PlanRead.{IsRunPlan}
 use Rattle.sja_words.specs.declared.plan_question.PlanQuestion.{PlanQuestion}
@@ -88,7 +89,7 @@ IsCheck other = ⊥
 abbrev pub Answers : PlanQuestion → List ℕ → FileOutcome → Type 0
 Answers asked bytes (Printed text) = IsAnswer asked bytes text.items
 Answers asked bytes (Told text) = (asked ≡ question.Check true) × IsHinted bytes text.items × (¬ IsFine true text.items)
-Answers asked bytes (Mistaken text) = IsCheck asked × IsExplained bytes text.items
+Answers asked bytes (Mistaken text) = (IsCheck asked ⊎ (begins_raw bytes ≡ true)) × IsExplained bytes text.items
 Answers asked bytes (Refused r) = IsUnanswered asked bytes r
 Answers asked bytes Unreadable = ⊥
 

@@ -5,3 +5,4 @@ pub mod FileTexts
 pub mod Runs
 pub mod Answers
 pub mod Refusals
+pub mod Denials

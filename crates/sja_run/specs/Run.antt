@@ -1,6 +1,7 @@
 -- Why there is a text of the plan on the input, and why there is none, by what the input held before and holds after
 -- (this project's own rule).
-use Rattle.std.specs.Prelude.{◌⊎◌, ℕ, Bool, false, List, Option}
+use Rattle.std.specs.Prelude.{◌≡◌, ◌⊎◌, ℕ, Bool, false, List, Option}
+use Rattle.sja_plan.specs.Limits.{begins_raw}
 use Rattle.sja_plan.specs.Plan.{PlanValue}
 use Rattle.sja_plan.specs.PlacedPlans.{ArePlacedPlan, IsFirstPlacedFault}
 use Rattle.sja_plan.specs.declared.placed_strike.PlacedStrike.{PlacedStrike}
@@ -28,13 +29,18 @@ OfPlaced bytes Is = (p : PlanValue) × (placed : List PlacedStrike) × ArePlaced
 abbrev pub MissesPlace : ℕ → PlanValue → List PlacedStrike → Type 0
 MissesPlace number p placed = (frames : ℕ) × (last : Option ℕ) × HasNoPlace p placed number frames last
 
--- why there is no plan to run. Memory may be refused at any time. Else the bytes have this first fault, or they are a
--- plan, and its strikes by place have no bits
+-- the strikes by place are too many, or the plan has no room for one strike more
+abbrev pub HasManyStrikes : PlanValue → List PlacedStrike → Type 0
+HasManyStrikes p placed = AreMany p.bits placed ⊎ HasNoRoom p placed
+
+-- why there is no plan to run, where that is told in one line. Memory may be refused at any time. Else the bytes have
+-- this first fault, or they are a plan, and its strikes by place have no bits; and they don't say version 3 before all
+-- other keys
 abbrev pub RefusesRunPlan : List ℕ → CommandRefusal → Type 0
 RefusesRunPlan bytes refusal.OutOfMemory = Unit {0}
-RefusesRunPlan bytes (refusal.Plan fault) = IsFirstPlacedFault bytes fault
-RefusesRunPlan bytes (refusal.Place number) = OfPlaced bytes (MissesPlace number)
-RefusesRunPlan bytes refusal.Strikes = OfPlaced bytes (λ p placed. AreMany p.bits placed ⊎ HasNoRoom p placed)
+RefusesRunPlan bytes (refusal.Plan fault) = IsFirstPlacedFault bytes fault × (begins_raw bytes ≡ false)
+RefusesRunPlan bytes (refusal.Place number) = OfPlaced bytes (MissesPlace number) × (begins_raw bytes ≡ false)
+RefusesRunPlan bytes refusal.Strikes = OfPlaced bytes HasManyStrikes × (begins_raw bytes ≡ false)
 RefusesRunPlan bytes other = ⊥
 
 -- why there is no text of a run. Memory may be refused at any time, and a read may fail. Else the bytes that were read

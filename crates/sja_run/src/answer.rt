@@ -2,45 +2,47 @@
 
 ghost use Rattle.std.specs.Prelude.{◌≡◌, ◌⊎◌, IfOk, IfErr, false};
 ghost use Rattle.sja_words.specs.Requests.{request_of};
-ghost use Rattle.sja_run.specs.Answer.{AsksForRun, IsCheck, IsLeftOver, IsPrinted, IsRefused, request_for};
+ghost use Rattle.sja_run.specs.Answer.{AsksForRun, IsCheck, IsLeftOver, IsPrinted, request_for};
 ghost use Rattle.sja_run.specs.Inside.Answers.{AsksForText};
+ghost use Rattle.sja_run.specs.Inside.Denials.{IsDenied};
 
 use super::plan_document::spelled_input;
 use super::run_text::{RunText, picture_or_drawing};
 use super::serial_text::written;
 use super::struck_plan::struck;
 use super::sweeps::told_sweep;
-use sja_texts::{CommandRefusal, arbitrated, decoded, encoded, filtered, translated};
+use super::unanswered::Unanswered;
+use sja_texts::{arbitrated, decoded, encoded, filtered, translated};
 use sja_words::Task;
 use std::alloc::Global;
 use std::io::Read;
 
 /// The text that answers the task, which isn't left to another call and isn't `check`. Only for a text of a run, for
 /// `sweep` and for `plan` the input is read.
-#[tactic(auto, using(crate::proofs::Requested::Requests::once))]
+#[tactic(auto, using(crate::proofs::Denied::once))]
 pub(crate) fn printed<R: Read>(
     alloc: Global,
     task: Task<'_>,
     input: &mut R,
-) -> Result<Vec<u8>, CommandRefusal>
+) -> Result<Vec<u8>, Unanswered>
     requires alone { ¬ IsLeftOver (request_of task) }
     requires printed { ¬ IsCheck (request_of task) }
     ensures ok { IfOk result (λ text.
         IsPrinted (request_of task.entry) (R.remaining input.old) (R.remaining input.new) text.items) }
-    ensures err { IfErr result (IsRefused (request_of task.entry) (R.remaining input.old) (R.remaining input.new)) }
+    ensures err { IfErr result (IsDenied (request_of task.entry) (R.remaining input.old) (R.remaining input.new)) }
     ensures unread { AsksForRun (request_of task.entry) ⊎ (input.new ≡ input.old) }
 {
     match task {
-        Task::Encode(digits) => encoded(alloc, digits),
-        Task::Decode(digits) => decoded(alloc, digits),
+        Task::Encode(digits) => Ok(encoded(alloc, digits)?),
+        Task::Decode(digits) => Ok(decoded(alloc, digits)?),
         Task::Filter {
             single,
             acr,
             amr,
             message,
-        } => filtered(alloc, single, acr, amr, message),
-        Task::Arbitrate(messages) => arbitrated(alloc, messages.as_slice()),
-        Task::Message(text) => translated(alloc, text),
+        } => Ok(filtered(alloc, single, acr, amr, message)?),
+        Task::Arbitrate(messages) => Ok(arbitrated(alloc, messages.as_slice())?),
+        Task::Message(text) => Ok(translated(alloc, text)?),
         Task::Sweep(words) => told_sweep(alloc, words, input),
         Task::StruckPlan { node, bit } => struck(alloc, node, bit, input),
         Task::Plan => spelled_input(alloc, input),

@@ -3,6 +3,7 @@
 ghost use Rattle.std.specs.Prelude.{◌≡◌, ◌⊎◌, IfOk, IfErr, false, option_map, true};
 ghost use Rattle.sja_run.specs.Expected.{HasReport, IsMet, ShowsExpected};
 ghost use Rattle.sja_run.specs.Files.{RefusesBytes};
+ghost use Rattle.sja_run.specs.Inside.Denials.{DeniesOf};
 ghost use Rattle.sja_run.specs.Inside.FileReads.{IsMetBy};
 
 use super::difference::difference;
@@ -15,6 +16,7 @@ use super::run_plan::plan_in;
 use super::run_text::RunText;
 use super::source_fault::SourceFault;
 use super::sources::Sources;
+use super::unanswered::Unanswered;
 use sja_texts::CommandRefusal;
 use sja_words::ExpectedWords;
 use std::alloc::Global;
@@ -87,24 +89,25 @@ fn met_by<T: Threads + Wait + Sync>(
         Ok(bytes) => match compared(rt, alloc, threads, report, bytes.as_slice()) {
             Ok(Some(said)) => FileOutcome::Told(said),
             Ok(None) => FileOutcome::Printed(Vec::new(alloc)),
-            Err(refusal) => FileOutcome::Refused(refusal),
+            Err(Unanswered::Refused(refusal)) => FileOutcome::Refused(refusal),
+            Err(Unanswered::Mistaken(text)) => FileOutcome::Mistaken(text),
         },
         Err(outcome) => outcome,
     }
 }
 
 /// What is said of the report of a run of the plan that these bytes are; nothing where it is the one that is known.
-#[tactic(auto, using(crate::proofs::PlanAnswers::PlanRuns::of_bytes))]
+#[tactic(auto, using(crate::proofs::Denied::of_bytes))]
 fn compared<T: Threads + Wait + Sync>(
     rt: &T,
     alloc: Global,
     threads: bool,
     report: &[u8],
     bytes: &[u8],
-) -> Result<Option<Vec<u8>>, CommandRefusal>
+) -> Result<Option<Vec<u8>>, Unanswered>
     ensures ok { IfOk result (λ said.
         HasReport threads bytes.now report.now (option_map (λ text. text.items) said)) }
-    ensures err { IfErr result (RefusesBytes threads bytes.now) }
+    ensures err { IfErr result (DeniesOf (RefusesBytes threads bytes.now) bytes.now) }
 {
     let plan = plan_in(alloc, bytes)?;
     let text = written_by(rt, alloc, threads, RunText::Report, &plan)?;

@@ -5,6 +5,7 @@ ghost use Rattle.sja_words.specs.declared.plan_question.PlanQuestion.TheVariants
 ghost use Rattle.sja_run.specs.Check.{IsHinted};
 ghost use Rattle.sja_run.specs.Files.{Answers, IsAnswer, IsCheck, IsTextIn, IsUnanswered, RefusesBytes};
 ghost use Rattle.std.specs.List.{AllZip};
+ghost use Rattle.sja_run.specs.Inside.Denials.{DeniesOf};
 ghost use Rattle.sja_run.specs.Inside.FileReads.{ComeOf, ComesOf, Settles};
 ghost use Rattle.sja_run.specs.Inside.Runs.{IsPlain, RefusesRunOf};
 ghost use Rattle.sja_run.specs.RunText.{IsTextOfRun};
@@ -19,6 +20,7 @@ use super::serial_text::written_of;
 use super::struck_plan::struck_in;
 use super::sweeps::swept_in;
 use super::thread_text::written_threads_of;
+use super::unanswered::Unanswered;
 use sja_plan::Plan;
 use sja_texts::CommandRefusal;
 use sja_words::PlanQuestion;
@@ -113,13 +115,14 @@ fn answer_of<T: Threads + Wait + Sync>(
 }
 
 /// What is printed or refused of a plan, as what comes of it.
-fn outcome_in(question: PlanQuestion, printed: Result<Vec<u8>, CommandRefusal>) -> FileOutcome
+fn outcome_in(question: PlanQuestion, printed: Result<Vec<u8>, Unanswered>) -> FileOutcome
     ensures { (bytes : List ℕ) → IfOk printed (λ text. IsAnswer question bytes text.items)
-        → IfErr printed (IsUnanswered question bytes) → Answers question bytes result }
+        → IfErr printed (DeniesOf (IsUnanswered question bytes) bytes) → Answers question bytes result }
 {
     match printed {
         Ok(text) => FileOutcome::Printed(text),
-        Err(refusal) => FileOutcome::Refused(refusal),
+        Err(Unanswered::Refused(refusal)) => FileOutcome::Refused(refusal),
+        Err(Unanswered::Mistaken(text)) => FileOutcome::Mistaken(text),
     }
 }
 
@@ -129,10 +132,10 @@ fn printed_of<T: Threads + Wait + Sync>(
     alloc: Global,
     question: PlanQuestion,
     bytes: &[u8],
-) -> Result<Vec<u8>, CommandRefusal>
+) -> Result<Vec<u8>, Unanswered>
     requires { ¬ IsCheck question }
     ensures ok { IfOk result (λ text. IsAnswer question bytes.now text.items) }
-    ensures err { IfErr result (IsUnanswered question bytes.now) }
+    ensures err { IfErr result (DeniesOf (IsUnanswered question bytes.now) bytes.now) }
 {
     match question {
         PlanQuestion::Report { threads } => written_in(rt, alloc, threads, RunText::Report, bytes),
@@ -173,17 +176,17 @@ fn hints_outcome(strict: bool, text: Vec<u8>) -> FileOutcome
 
 /// This text of a run of the plan that these bytes are, which is no drawing: with each driver in a thread of its own,
 /// or with all in one.
-#[tactic(auto, using(crate::proofs::PlanAnswers::PlanRuns::of_bytes))]
+#[tactic(auto, using(crate::proofs::Denied::of_bytes))]
 fn written_in<T: Threads + Wait + Sync>(
     rt: &T,
     alloc: Global,
     threads: bool,
     what: RunText,
     bytes: &[u8],
-) -> Result<Vec<u8>, CommandRefusal>
+) -> Result<Vec<u8>, Unanswered>
     requires { IsPlain what }
     ensures ok { IfOk result (λ text. IsTextIn threads what bytes.now text.items) }
-    ensures err { IfErr result (RefusesBytes threads bytes.now) }
+    ensures err { IfErr result (DeniesOf (RefusesBytes threads bytes.now) bytes.now) }
 {
     let plan = plan_in(alloc, bytes)?;
     let text = written_by(rt, alloc, threads, what, &plan)?;

@@ -4,9 +4,11 @@ ghost use Rattle.std.specs.Prelude.{◌≡◌, ◌<◌, ◌≤◌, ◌+◌, ℕ,
 ghost use Rattle.std.specs.Io.KnownBytes.{Consumes, IsAtEnd};
 ghost use Rattle.sja_run.specs.Input.{most_read, RefusesInput};
 ghost use Rattle.sja_run.specs.Run.{RefusesRun};
+ghost use Rattle.sja_run.specs.Inside.Denials.{Denies};
 ghost use Rattle.sja_run.specs.Inside.Runs.{HoldsPlan};
 
 use super::run_plan::plan_in;
+use super::unanswered::Unanswered;
 use sja_plan::{MOST_BYTES, MOST_RAW_BYTES, Plan, most_bytes};
 use sja_texts::CommandRefusal;
 use std::alloc::Global;
@@ -21,10 +23,10 @@ const ROOM: usize = 1_024;
 /// The plan that the bytes of the input are.
 ///
 /// Errors: those of [`read_input`] and of [`plan_in`].
-#[tactic(auto, using(crate::proofs::BytesRead::FewBytes::of_input))]
-pub(crate) fn plan_of_input<R: Read>(alloc: Global, input: &mut R) -> Result<Plan, CommandRefusal>
+#[tactic(auto, using(crate::proofs::Denied::of_input))]
+pub(crate) fn plan_of_input<R: Read>(alloc: Global, input: &mut R) -> Result<Plan, Unanswered>
     ensures ok { IfOk result (HoldsPlan (R.remaining input.old) (R.remaining input.new)) }
-    ensures err { IfErr result (RefusesRun (R.remaining input.old) (R.remaining input.new)) }
+    ensures err { IfErr result (Denies RefusesRun (R.remaining input.old) (R.remaining input.new)) }
 {
     let bytes = read_input(alloc, input)?;
     let plan = plan_in(alloc, bytes.as_slice())?;

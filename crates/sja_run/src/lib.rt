@@ -27,6 +27,7 @@ mod files;
 mod further_task;
 mod input;
 mod live;
+mod mistaken;
 mod names;
 mod output;
 mod plan_check;
@@ -44,6 +45,7 @@ mod sweeps;
 mod thread_task;
 mod thread_text;
 mod tries;
+mod unanswered;
 mod unplaced;
 
 pub use file_outcome::FileOutcome;

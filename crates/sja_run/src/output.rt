@@ -5,8 +5,10 @@ ghost use Rattle.std.specs.Io.KnownBytes.{Appends};
 ghost use Rattle.sja_texts.specs.Refusal.{refusal_line};
 ghost use Rattle.sja_run.specs.Files.{name_line, unreadable_line};
 ghost use Rattle.sja_run.specs.Names.{shown_name};
+ghost use Rattle.sja_run.specs.Inside.Denials.{told_of};
 
 use super::names::{byte_at, is_plain, shown_byte};
+use super::unanswered::Unanswered;
 use sja_texts::CommandRefusal;
 use std::io::Write;
 
@@ -54,6 +56,22 @@ impl<W: Write> Output<W> {
             self.failed = writeln!(self.writer, "sja: {refusal}").is_err();
         }
         1
+    }
+
+    /// Writes why what was asked has no answer, and gives its exit status.
+    pub(crate) fn deny(&mut self, why: &Unanswered) -> u8
+        ensures status { result ≡ 1 }
+        ensures written { self.new.failed ≡ false → (self.old.failed ≡ false)
+            × Appends (W.contents self.old.writer) (W.contents self.new.writer) (told_of why.now) }
+        ensures stopped { self.old.failed ≡ true → self.new ≡ self.old }
+    {
+        match why {
+            Unanswered::Refused(refusal) => self.refuse(*refusal),
+            Unanswered::Mistaken(text) => {
+                self.put(text.as_slice());
+                1
+            }
+        }
     }
 
     /// Writes the parser's own text for words that it turned away, and gives the exit status: 2, or 1 where a write

@@ -4,10 +4,12 @@ ghost use Rattle.std.specs.Prelude.{IfOk, IfErr, string_bytes};
 ghost use Rattle.sja_plan_text.specs.HasTexts.{HasTexts};
 ghost use Rattle.sja_plan_text.specs.Written.{IsPlanText};
 ghost use Rattle.sja_run.specs.PlanDocument.{IsSpelling, IsInputSpelled, RefusesSpelling, RefusesInputSpelled};
+ghost use Rattle.sja_run.specs.Inside.Denials.{Denies, DeniesOf};
 ghost use Rattle.sja_run.specs.Inside.Refusals.{RefusesDocument};
 
 use super::input::read_input;
 use super::run_plan::plan_in;
+use super::unanswered::Unanswered;
 use sja_places::a_run_plan_has_texts;
 use sja_plan::{Plan, PlanFault};
 use sja_plan_text::{PlanTextFault, plan_text};
@@ -19,13 +21,10 @@ use std::io::Read;
 ///
 /// Errors: those of [`read_input`], and of [`spelled`].
 #[tactic(auto, using(crate::proofs::PlanAnswers::PlanRefusals::no_input))]
-pub(crate) fn spelled_input<R: Read>(
-    alloc: Global,
-    input: &mut R,
-) -> Result<Vec<u8>, CommandRefusal>
+pub(crate) fn spelled_input<R: Read>(alloc: Global, input: &mut R) -> Result<Vec<u8>, Unanswered>
     ensures ok { IfOk result (λ text.
         IsInputSpelled (R.remaining input.old) (R.remaining input.new) text.items) }
-    ensures err { IfErr result (RefusesInputSpelled (R.remaining input.old) (R.remaining input.new)) }
+    ensures err { IfErr result (Denies RefusesInputSpelled (R.remaining input.old) (R.remaining input.new)) }
 {
     let bytes = read_input(alloc, input)?;
     spelled(alloc, bytes.as_slice())
@@ -35,10 +34,10 @@ pub(crate) fn spelled_input<R: Read>(
 ///
 /// Errors: those of [`plan_in`], and [`CommandRefusal::Plan`] with [`PlanFault::TooLong`] where the document would be
 /// longer than one may be.
-#[tactic(auto, using(crate::proofs::PlanAnswers::PlanRefusals::spelling))]
-pub(crate) fn spelled(alloc: Global, bytes: &[u8]) -> Result<Vec<u8>, CommandRefusal>
+#[tactic(auto, using(crate::proofs::Denied::spelling))]
+pub(crate) fn spelled(alloc: Global, bytes: &[u8]) -> Result<Vec<u8>, Unanswered>
     ensures ok { IfOk result (λ text. IsSpelling bytes.now text.items) }
-    ensures err { IfErr result (RefusesSpelling bytes.now) }
+    ensures err { IfErr result (DeniesOf (RefusesSpelling bytes.now) bytes.now) }
 {
     let plan = plan_in(alloc, bytes)?;
     a_run_plan_has_texts();

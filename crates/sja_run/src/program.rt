@@ -1,15 +1,13 @@
 //! [`sja`]: the whole program over words, a reader and two writers.
 
-ghost use Rattle.std.specs.Prelude.{◌≡◌, ◌⊎◌, ℕ, Bool, List, IfOk, IfErr, Some, false, true, map};
-ghost use Rattle.sja_words.specs.Requests.{Request, expected, files, live};
+ghost use Rattle.std.specs.Prelude.{◌≡◌, ◌⊎◌, IfOk, IfErr, Some, false, true, map};
+ghost use Rattle.sja_words.specs.Requests.{Request};
 ghost use Rattle.sja_words.specs.Words.{ParsesAs};
-ghost use Rattle.sja_words.specs.declared.plan_question.PlanQuestion.{PlanQuestion};
-ghost use Rattle.sja_run.specs.Answer.{AsksForOne, AsksForRun, IsPrinted, IsRefused, IsTurnedAway, Shows, request_left};
+ghost use Rattle.sja_run.specs.Answer.{AsksForOne, AsksForRun, IsPrinted, IsTurnedAway, Shows, request_left};
 ghost use Rattle.sja_run.specs.Inside.Answers.{IsOneWhereFailed};
-ghost use Rattle.sja_run.specs.Expected.{ShowsExpected};
-ghost use Rattle.sja_run.specs.Files.{ShowsFiles};
+ghost use Rattle.sja_run.specs.Asked.{ShowsAsked};
+ghost use Rattle.sja_run.specs.Inside.Denials.{IsDenied};
 ghost use Rattle.sja_run.specs.Input.{ReadsFew};
-ghost use Rattle.sja_run.specs.Live.{ShowsTalk};
 
 use super::expected::reply_expected;
 use super::files::reply_files;
@@ -21,7 +19,7 @@ use super::sources::Sources;
 use super::sweeps::told_sweep_jobs;
 use super::thread_task::ThreadTask;
 use super::thread_text::written_threads;
-use sja_texts::CommandRefusal;
+use super::unanswered::Unanswered;
 use std::alloc::Global;
 use std::convert::AsStr;
 use std::io::{Read, Write};
@@ -50,23 +48,9 @@ pub fn sja<T: Threads + Wait + Sync, F: Sources, S: AsStr, R: Read, O: Write, E:
     out: &mut Output<O>,
     err: &mut Output<E>,
 ) -> u8
-    ensures answered { (r : Request) → ParsesAs (map S.text words.now) r → AsksForOne r → out.new.failed ≡ false
-        → err.new.failed ≡ false → Shows r (Some result) (R.remaining input.old) (R.remaining input.new)
-        (O.contents out.old.writer) (O.contents out.new.writer)
-        (E.contents err.old.writer) (E.contents err.new.writer) }
-    ensures of_files { (asked : PlanQuestion) (jobs : ℕ) (names : List (List ℕ))
-        → ParsesAs (map S.text words.now) (files asked jobs names) → out.new.failed ≡ false → err.new.failed ≡ false
-        → ShowsFiles (F.holds sources.now) asked names result (R.remaining input.old) (R.remaining input.new)
-        (O.contents out.old.writer) (O.contents out.new.writer)
-        (E.contents err.old.writer) (E.contents err.new.writer) }
-    ensures expects { (threads : Bool) (plan report : List ℕ)
-        → ParsesAs (map S.text words.now) (expected threads plan report) → out.new.failed ≡ false
-        → err.new.failed ≡ false → ShowsExpected (F.holds sources.now) threads plan report result
+    ensures answered { (r : Request) → ParsesAs (map S.text words.now) r → out.new.failed ≡ false
+        → err.new.failed ≡ false → ShowsAsked (F.holds sources.now) r result
         (R.remaining input.old) (R.remaining input.new) (O.contents out.old.writer) (O.contents out.new.writer)
-        (E.contents err.old.writer) (E.contents err.new.writer) }
-    ensures talks { ParsesAs (map S.text words.now) live → out.new.failed ≡ false → err.new.failed ≡ false
-        → ShowsTalk result (R.remaining input.old) (R.remaining input.new)
-        (O.contents out.old.writer) (O.contents out.new.writer)
         (E.contents err.old.writer) (E.contents err.new.writer) }
     ensures unparsed { ((r : Request) → ¬ ParsesAs (map S.text words.now) r) → out.new.failed ≡ false
         → err.new.failed ≡ false → IsTurnedAway (Some result) (E.contents err.old.writer) (E.contents err.new.writer) }
@@ -93,7 +77,7 @@ pub fn sja<T: Threads + Wait + Sync, F: Sources, S: AsStr, R: Read, O: Write, E:
 }
 
 /// Does what is left to threads, and gives the exit status.
-#[tactic(auto, using(crate::proofs::Requested::Showing::shows))]
+#[tactic(auto, using(crate::proofs::Denied::shows))]
 fn reply_threads<T: Threads + Wait + Sync, R: Read, O: Write, E: Write>(
     rt: &T,
     alloc: Global,
@@ -112,7 +96,7 @@ fn reply_threads<T: Threads + Wait + Sync, R: Read, O: Write, E: Write>(
 {
     match printed_threads(rt, alloc, threaded, input) {
         Ok(text) => out.print(text.as_slice()),
-        Err(refusal) => err.refuse(refusal),
+        Err(why) => err.deny(&why),
     }
 }
 
@@ -122,11 +106,11 @@ fn printed_threads<T: Threads + Wait + Sync, R: Read>(
     alloc: Global,
     threaded: ThreadTask,
     input: &mut R,
-) -> Result<Vec<u8>, CommandRefusal>
+) -> Result<Vec<u8>, Unanswered>
     ensures ok { IfOk result (λ text.
         IsPrinted (request_left threaded) (R.remaining input.old) (R.remaining input.new) text.items) }
     ensures err { IfErr result
-        (IsRefused (request_left threaded) (R.remaining input.old) (R.remaining input.new)) }
+        (IsDenied (request_left threaded) (R.remaining input.old) (R.remaining input.new)) }
 {
     match threaded {
         ThreadTask::Text(what) => written_threads(rt, alloc, what, input),

@@ -104,7 +104,7 @@ fn left_of<'a>(task: Task<'a>) -> Result<FurtherTask<'a>, Task<'a>>
 }
 
 /// Does the task, which isn't left to another call, and gives the exit status.
-#[tactic(auto, using(crate::proofs::Requested::Showing::shows))]
+#[tactic(auto, using(crate::proofs::Denied::shows))]
 fn reply<R: Read, O: Write, E: Write>(
     alloc: Global,
     task: Task<'_>,
@@ -127,7 +127,7 @@ fn reply<R: Read, O: Write, E: Write>(
     }
     match printed(alloc, task, input) {
         Ok(text) => out.print(text.as_slice()),
-        Err(refusal) => err.refuse(refusal),
+        Err(why) => err.deny(&why),
     }
 }
 

@@ -1,12 +1,14 @@
 //! What is written of a run in one thread.
 
 ghost use Rattle.std.specs.Prelude.{IfOk, IfErr, false};
+ghost use Rattle.sja_run.specs.Inside.Denials.{Denies};
 ghost use Rattle.sja_run.specs.Inside.Runs.{RefusesRunOf};
 ghost use Rattle.sja_run.specs.Run.{IsOfPlan, RefusesText};
 ghost use Rattle.sja_run.specs.RunText.{IsTextOfRun};
 
 use super::input::plan_of_input;
 use super::run_text::{RunText, text_of};
+use super::unanswered::Unanswered;
 use sja_plan::Plan;
 use sja_serial::run_serial;
 use sja_texts::CommandRefusal;
@@ -14,15 +16,15 @@ use std::alloc::Global;
 use std::io::Read;
 
 /// This text of a run in one thread of the plan that the bytes of the input are.
-#[tactic(auto, using(crate::proofs::BytesRead::FewBytes::no_run))]
+#[tactic(auto, using(crate::proofs::Denied::no_run))]
 pub(crate) fn written<R: Read>(
     alloc: Global,
     what: RunText,
     input: &mut R,
-) -> Result<Vec<u8>, CommandRefusal>
+) -> Result<Vec<u8>, Unanswered>
     ensures ok { IfOk result (λ text.
         IsOfPlan (IsTextOfRun false what) (R.remaining input.old) (R.remaining input.new) text.items) }
-    ensures err { IfErr result (RefusesText false what (R.remaining input.old) (R.remaining input.new)) }
+    ensures err { IfErr result (Denies (RefusesText false what) (R.remaining input.old) (R.remaining input.new)) }
 {
     let plan = plan_of_input(alloc, input)?;
     let text = written_of(alloc, what, &plan)?;

@@ -6,10 +6,12 @@ ghost use Rattle.sja_plan_text.specs.Written.{IsPlanText};
 ghost use Rattle.sja_run.specs.Files.{IsTextFor, RefusesTextFor};
 ghost use Rattle.sja_run.specs.Run.{IsOfPlan};
 ghost use Rattle.sja_run.specs.Sweep.{IsStruck, RefusesOfPlan, RefusesStruck};
+ghost use Rattle.sja_run.specs.Inside.Denials.{Denies, DeniesOf};
 ghost use Rattle.sja_run.specs.Inside.Refusals.{IsLong, RefusesPlan};
 
 use super::input::plan_of_input;
 use super::run_plan::plan_in;
+use super::unanswered::Unanswered;
 use sja_places::a_run_plan_has_texts;
 use sja_plan::{GREATEST_NUMBER, Plan, PlanFault};
 use sja_plan_text::{PlanTextFault, plan_text};
@@ -18,17 +20,17 @@ use std::alloc::Global;
 use std::io::Read;
 
 /// The plan that the bytes of the input are, with a strike more of this node in this bit, as a document.
-#[tactic(auto, using(crate::proofs::PlanAnswers::PlanRefusals::refusals))]
+#[tactic(auto, using(crate::proofs::Denied::refusals))]
 pub(crate) fn struck<R: Read>(
     alloc: Global,
     node: u32,
     bit: u32,
     input: &mut R,
-) -> Result<Vec<u8>, CommandRefusal>
+) -> Result<Vec<u8>, Unanswered>
     ensures ok { IfOk result (λ text.
         IsOfPlan (IsStruck node bit) (R.remaining input.old) (R.remaining input.new) text.items) }
     ensures err { IfErr result
-        (RefusesOfPlan (RefusesStruck node bit) (R.remaining input.old) (R.remaining input.new)) }
+        (Denies (RefusesOfPlan (RefusesStruck node bit)) (R.remaining input.old) (R.remaining input.new)) }
 {
     let plan = plan_of_input(alloc, input)?;
     a_run_plan_has_texts();
@@ -37,15 +39,15 @@ pub(crate) fn struck<R: Read>(
 }
 
 /// The same of the plan that these bytes are.
-#[tactic(auto, using(crate::proofs::PlanAnswers::PlanRefusals::of_text))]
+#[tactic(auto, using(crate::proofs::Denied::of_text))]
 pub(crate) fn struck_in(
     alloc: Global,
     node: u32,
     bit: u32,
     bytes: &[u8],
-) -> Result<Vec<u8>, CommandRefusal>
+) -> Result<Vec<u8>, Unanswered>
     ensures ok { IfOk result (λ text. IsTextFor (IsStruck node bit) bytes.now text.items) }
-    ensures err { IfErr result (RefusesTextFor (RefusesStruck node bit) bytes.now) }
+    ensures err { IfErr result (DeniesOf (RefusesTextFor (RefusesStruck node bit) bytes.now) bytes.now) }
 {
     let plan = plan_in(alloc, bytes)?;
     a_run_plan_has_texts();

@@ -3,14 +3,15 @@
 ghost use Rattle.std.specs.Prelude.{◌≡◌, IfOk, IfErr, string_bytes, if◌then◌else◌};
 ghost use Rattle.sja_plan.specs.Plan.{PlanValue};
 ghost use Rattle.sja_sweep.specs.Sweeps.{IsSweep, IsSweepFault};
-ghost use Rattle.sja_words.specs.Requests.{sweep};
 ghost use Rattle.sja_run.specs.Files.{IsTextFor, RefusesTextFor};
-ghost use Rattle.sja_run.specs.Inside.Answers.{IsAnswer};
-ghost use Rattle.sja_run.specs.Sweep.{IsSwept, RefusesSwept, sweeping_of};
+ghost use Rattle.sja_run.specs.Inside.Denials.{Denies, DeniesOf};
+ghost use Rattle.sja_run.specs.Run.{IsOfPlan};
+ghost use Rattle.sja_run.specs.Sweep.{IsSwept, RefusesOfPlan, RefusesSwept, sweeping_of};
 ghost use Rattle.sja_run.specs.Inside.Refusals.{RefusesPlan};
 
 use super::input::plan_of_input;
 use super::run_plan::plan_in;
+use super::unanswered::Unanswered;
 use sja_sweep::{Kinds, SweepFault, SweepTexts, Sweeping, sweep, sweep_jobs};
 use sja_texts::{CommandRefusal, SweepRefusal};
 use sja_words::SweepWords;
@@ -19,13 +20,16 @@ use std::io::Read;
 use std::thread::Threads;
 
 /// The lines of the sweep of the plan that the bytes of the input are, or its rows; in one thread.
-#[tactic(auto, using(crate::proofs::PlanAnswers::PlanRefusals::refusals))]
+#[tactic(auto, using(crate::proofs::Denied::refusals))]
 pub(crate) fn told_sweep<R: Read>(
     alloc: Global,
     words: SweepWords,
     input: &mut R,
-) -> Result<Vec<u8>, CommandRefusal>
-    ensures { IsAnswer (sweep words) (R.remaining input.old) (R.remaining input.new) result }
+) -> Result<Vec<u8>, Unanswered>
+    ensures ok { IfOk result (λ text.
+        IsOfPlan (IsSwept words) (R.remaining input.old) (R.remaining input.new) text.items) }
+    ensures err { IfErr result
+        (Denies (RefusesOfPlan (RefusesSwept words)) (R.remaining input.old) (R.remaining input.new)) }
 {
     let plan = plan_of_input(alloc, input)?;
     let text = told(words, sweep(alloc, &plan, &sweeping_of(words)))?;
@@ -33,14 +37,17 @@ pub(crate) fn told_sweep<R: Read>(
 }
 
 /// The same in as many threads as the words say.
-#[tactic(auto, using(crate::proofs::PlanAnswers::PlanRefusals::refusals))]
+#[tactic(auto, using(crate::proofs::Denied::refusals))]
 pub(crate) fn told_sweep_jobs<T: Threads + Sync, R: Read>(
     rt: &T,
     alloc: Global,
     words: SweepWords,
     input: &mut R,
-) -> Result<Vec<u8>, CommandRefusal>
-    ensures { IsAnswer (sweep words) (R.remaining input.old) (R.remaining input.new) result }
+) -> Result<Vec<u8>, Unanswered>
+    ensures ok { IfOk result (λ text.
+        IsOfPlan (IsSwept words) (R.remaining input.old) (R.remaining input.new) text.items) }
+    ensures err { IfErr result
+        (Denies (RefusesOfPlan (RefusesSwept words)) (R.remaining input.old) (R.remaining input.new)) }
 {
     let jobs = words.jobs as usize;
     let plan = plan_of_input(alloc, input)?;
@@ -50,15 +57,15 @@ pub(crate) fn told_sweep_jobs<T: Threads + Sync, R: Read>(
 }
 
 /// The same of the plan that these bytes are.
-#[tactic(auto, using(crate::proofs::PlanAnswers::PlanRefusals::of_text))]
+#[tactic(auto, using(crate::proofs::Denied::of_text))]
 pub(crate) fn swept_in<T: Threads + Sync>(
     rt: &T,
     alloc: Global,
     words: SweepWords,
     bytes: &[u8],
-) -> Result<Vec<u8>, CommandRefusal>
+) -> Result<Vec<u8>, Unanswered>
     ensures ok { IfOk result (λ text. IsTextFor (IsSwept words) bytes.now text.items) }
-    ensures err { IfErr result (RefusesTextFor (RefusesSwept words) bytes.now) }
+    ensures err { IfErr result (DeniesOf (RefusesTextFor (RefusesSwept words) bytes.now) bytes.now) }
 {
     let jobs = words.jobs as usize;
     let plan = plan_in(alloc, bytes)?;

@@ -1,6 +1,7 @@
 //! What is written of a run in threads.
 
 ghost use Rattle.std.specs.Prelude.{◌≡◌, IfOk, IfErr, true, vec_len};
+ghost use Rattle.sja_run.specs.Inside.Denials.{Denies};
 ghost use Rattle.sja_run.specs.Inside.Runs.{RefusesRunOf};
 ghost use Rattle.sja_run.specs.Run.{IsOfPlan, RefusesText};
 ghost use Rattle.sja_run.specs.RunText.{IsTextOfRun};
@@ -8,6 +9,7 @@ ghost use Rattle.sja_run.specs.RunText.{IsTextOfRun};
 use super::input::plan_of_input;
 use super::run_text::{RunText, text_of};
 use super::tries::Tries;
+use super::unanswered::Unanswered;
 use sja_plan::Plan;
 use sja_texts::CommandRefusal;
 use sja_threads::run_threads;
@@ -17,16 +19,16 @@ use std::sync::Wait;
 use std::thread::Threads;
 
 /// This text of a run of the plan that the bytes of the input are, with each driver in a thread of its own.
-#[tactic(auto, using(crate::proofs::BytesRead::FewBytes::no_threads))]
+#[tactic(auto, using(crate::proofs::Denied::no_threads))]
 pub(crate) fn written_threads<T: Threads + Wait + Sync, R: Read>(
     rt: &T,
     alloc: Global,
     what: RunText,
     input: &mut R,
-) -> Result<Vec<u8>, CommandRefusal>
+) -> Result<Vec<u8>, Unanswered>
     ensures ok { IfOk result (λ text.
         IsOfPlan (IsTextOfRun true what) (R.remaining input.old) (R.remaining input.new) text.items) }
-    ensures err { IfErr result (RefusesText true what (R.remaining input.old) (R.remaining input.new)) }
+    ensures err { IfErr result (Denies (RefusesText true what) (R.remaining input.old) (R.remaining input.new)) }
 {
     let plan = plan_of_input(alloc, input)?;
     let text = written_threads_of(rt, alloc, what, &plan)?;

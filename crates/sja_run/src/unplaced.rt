@@ -12,7 +12,7 @@ use sja_places::PlaceFault;
 use sja_texts::CommandRefusal;
 use std::alloc::Global;
 
-/// The line that `run` has where a strike by place has no bit, and then what explains it.
+/// The line that stands for a strike by place that has no bit, and then what explains it.
 ///
 /// Error: [`OutOfMemory`] where memory was refused.
 #[tactic(auto, using(crate::proofs::PlanAnswers::Places::places))]

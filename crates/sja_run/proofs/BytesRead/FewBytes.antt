@@ -27,7 +27,6 @@ use Rattle.sja_texts.specs.declared.sweep_refusal.SweepRefusal.{SweepRefusal}
 use Rattle.sja_run.proofs.BytesRead.MostRead.{most_grows}
 use Rattle.sja_run.proofs.PlanAnswers.PlanRefusals.{few_of_plan}
 use Rattle.sja_run.proofs.Requested.Requests.{asks_left}
-use Rattle.sja_run.proofs.PlanAnswers.PlanRuns.{document_refused, run_refused, threads_refused}
 
 -- nothing was read
 pub unread : (input : Option (List ℕ)) → ReadsFew input input
@@ -112,9 +111,6 @@ refused_input before after refusal.NotALine h = absurd h
 refused_input before after (refusal.Layout fault) h = absurd h
 refused_input before after (refusal.Line fault) h = absurd h
 refused_input before after (refusal.Notation fault) h = absurd h
-
--- for whoever passes a refusal on of what the input is
-pub ruleset of_input = (refused_input, document_refused)
 
 -- what is refused before any run is refused of each
 pub refused_threads : (what : RunText) (before after : Option (List ℕ)) (r : CommandRefusal) →
@@ -265,11 +261,6 @@ pub few_left_printed : (left : ThreadTask) (before after : Option (List ℕ)) (t
 few_left_printed left before after text printed =
     few_printed (request_left left) before after text (inl (asks_left left)) printed
 
-pub few_left_refused : (left : ThreadTask) (before after : Option (List ℕ)) (why : CommandRefusal) →
-    IsRefused (request_left left) before after why → ReadsFew before after
-few_left_refused left before after why refused =
-    few_turned_down (request_left left) before after why (inl (asks_left left)) refused
-
 -- words that ask about no plan leave the input as it is
 pub only_runs_read : (words : List (List ℕ)) (r : Request) (Same : Type 0) → ParsesAs words r → AsksForRun r ⊎ Same →
     ((q : Request) → ParsesAs words q → ¬ AsksForRun q) → Same
@@ -278,8 +269,3 @@ only_runs_read words r Same parses (inr same) none = same
 
 -- what was checked, or why there was nothing to check
 pub ruleset few = (few_checked, few_unchecked)
-
--- why there is no text of a run in one thread, and in threads
-pub ruleset no_run = (refused_once, run_refused)
-
-pub ruleset no_threads = (refused_threads, threads_refused)

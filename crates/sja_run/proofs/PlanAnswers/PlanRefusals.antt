@@ -89,9 +89,6 @@ no_text May bytes (refusal.Notation fault) h = absurd h
 no_text May bytes (refusal.Sweep why) h = absurd h
 no_text May bytes (refusal.Drawing levels) h = absurd h
 
--- for whoever passes a refusal on of what bytes are
-pub ruleset of_text = (text_refused, no_text)
-
 -- whatever of both it is, few bytes were read
 pub few_of_plan : (May : PlanValue → SweepRefusal → Type 0) (before after : Option (List ℕ)) (r : CommandRefusal) →
     (RefusesRun before after r → ReadsFew before after) → RefusesOfPlan May before after r → ReadsFew before after
@@ -193,13 +190,7 @@ no_spelling bytes (refusal.Notation fault) h = absurd h
 no_spelling bytes (refusal.Sweep why) h = absurd h
 no_spelling bytes (refusal.Drawing levels) h = absurd h
 
--- both
-pub ruleset spelling = (unspelled, no_spelling)
-
 -- nor is there one where there are no bytes
 pub no_input : (before after : Option (List ℕ)) (r : CommandRefusal) → RefusesInput before after r →
     RefusesInputSpelled before after r
 no_input before after r h = inl h
-
--- why there is no text of a plan, whether it is struck or not
-pub ruleset refusals = (of_plan_refused, plan_refused)

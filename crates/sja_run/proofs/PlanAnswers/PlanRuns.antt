@@ -79,9 +79,6 @@ document_refused before after bytes (refusal.Notation fault) read h = absurd h
 document_refused before after bytes (refusal.Sweep why) read h = absurd h
 document_refused before after bytes (refusal.Drawing levels) read h = absurd h
 
--- for whoever passes a refusal on of what bytes are
-pub ruleset of_bytes = (bytes_refused, document_bytes)
-
 -- of the plan on the input
 refused_by : (threads : Bool) (what : RunText) (before after : Option (List ℕ)) (plan : PlanValue)
     (r : CommandRefusal) → HoldsPlan before after plan → RefusesRunOf threads what plan r →

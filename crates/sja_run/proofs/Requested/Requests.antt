@@ -159,6 +159,3 @@ pub shows_from : (r q : Request) (status : Option ℕ) (a b c x y z i o e : Opti
     x ≡ a → y ≡ b → z ≡ c → Shows q status x i y o z e → Shows r status a i b o c e
 shows_from r q status a b c x y z i o e asks same_in same_out same_err shows =
     rw (asks, sym same_in, sym same_out, sym same_err) shows
-
--- what is printed of a request, or why it is refused
-pub ruleset once = (once_printed, once_refused)

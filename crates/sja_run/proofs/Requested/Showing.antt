@@ -30,6 +30,3 @@ shows_hints strict before after out_old out_new err status text has (inl fine) w
     inl (text, (has, fine.1), ap Some fine.0, written, Keeps-refl err)
 shows_hints strict before after out_old out_new err status text has (inr told) written =
     inr (inr (inr (text, ap check told.1, has, told.2, ap Some told.0, written, Keeps-refl err)))
-
--- what is printed or refused
-pub ruleset shows = (shows_printed, shows_refused)

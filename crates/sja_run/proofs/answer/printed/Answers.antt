@@ -1,15 +1,12 @@
-use Rattle.std.proofs.Common.{◌≡◌, false}
-use Rattle.std.proofs.lemmas.Result.{IfOk-weaker}
-use Rattle.sja_words.specs.Requests.{request_of}
+use Rattle.std.proofs.Common.{◌≡◌, false, inl}
+use Rattle.std.proofs.lemmas.Result.{IfOk-weaker, IfErr-weaker}
+use Rattle.sja_words.specs.Requests.{request_of, sweep, struck_plan, spelled_plan}
 use Rattle.sja_run.specs.Answer.{request_for}
+use Rattle.sja_run.specs.PlanDocument.{RefusesInputSpelled}
+use Rattle.sja_run.specs.Sweep.{RefusesOfPlan, RefusesStruck, RefusesSwept}
+use Rattle.sja_run.proofs.Denied.{asked_denied}
 use Rattle.sja_run.proofs.Requested.Requests.{once_printed}
 use Rattle.sja_run.proofs.answer.printed.Goals as goal
-
-pub returns-in-Filter-clause-ok : goal.returns-in-Filter-clause-ok
-returns-in-Filter-clause-ok g c = rw c.in-Filter.is c.filtered.ensures.ok
-
-pub returns-in-Filter-clause-err : goal.returns-in-Filter-clause-err
-returns-in-Filter-clause-err g c = rw c.in-Filter.is c.filtered.ensures.err
 
 -- the text of a run
 pub returns-in_default-clause-ok : goal.returns-in_default-clause-ok
@@ -19,16 +16,30 @@ returns-in_default-clause-ok g c =
     IfOk-weaker c.written.result _ _ (λ text has. once_printed _ c.text_asked.result _ _ _ asks has)
     c.written.ensures.ok
 
--- what asks about no plan
-pub returns-in-Encode-clause-ok : goal.returns-in-Encode-clause-ok
-returns-in-Encode-clause-ok g c = rw c.in-Encode.is c.encoded.ensures.ok
-
-pub returns-in-Encode-clause-err : goal.returns-in-Encode-clause-err
-returns-in-Encode-clause-err g c = rw c.in-Encode.is c.encoded.ensures.err
-
 -- a sweep
 pub returns-in-Sweep-clause-ok : goal.returns-in-Sweep-clause-ok
-returns-in-Sweep-clause-ok g c = rw c.in-Sweep.is c.told_sweep.ensures.0
+returns-in-Sweep-clause-ok g c = rw c.in-Sweep.is c.told_sweep.ensures.ok
 
 pub returns-in-Sweep-clause-err : goal.returns-in-Sweep-clause-err
-returns-in-Sweep-clause-err g c = rw c.in-Sweep.is c.told_sweep.ensures.1
+returns-in-Sweep-clause-err g c =
+    let w = c.in-Sweep.words in
+    rw c.in-Sweep.is (IfErr-weaker c.told_sweep.result _ _
+    (λ why has. asked_denied (sweep w) (RefusesOfPlan (RefusesSwept w)) _ _ why tt (λ r is. is) has)
+    c.told_sweep.ensures.err)
+
+-- a plan with a strike more
+pub returns-in-StruckPlan-clause-err : goal.returns-in-StruckPlan-clause-err
+returns-in-StruckPlan-clause-err g c =
+    let node = c.in-StruckPlan.node in
+    let bit = c.in-StruckPlan.bit in
+    rw c.in-StruckPlan.is (IfErr-weaker c.struck.result _ _
+    (λ why has.
+    asked_denied (struck_plan node bit) (RefusesOfPlan (RefusesStruck node bit)) _ _ why tt (λ r is. is) has)
+    c.struck.ensures.err)
+
+-- a plan as it is written
+pub returns-in-Plan-clause-err : goal.returns-in-Plan-clause-err
+returns-in-Plan-clause-err g c =
+    rw c.in-Plan.is (IfErr-weaker c.spelled_input.result _ _
+    (λ why has. asked_denied spelled_plan RefusesInputSpelled _ _ why tt (λ r is. is) has)
+    c.spelled_input.ensures.err)

@@ -1,7 +1,9 @@
-use Rattle.std.proofs.Common.{subst, inr}
+use Rattle.std.proofs.Common.{subst}
 use Rattle.std.specs.Prelude.{IfOk, IfErr}
 use Rattle.std.proofs.lemmas.Result.{IfOk-weaker, IfErr-weaker}
 use Rattle.sja_run.specs.PlanDocument.{IsSpelling, RefusesSpelling}
+use Rattle.sja_run.specs.Inside.Denials.{DeniesOf}
+use Rattle.sja_run.proofs.Denied.{input_unspelled}
 use Rattle.sja_run.proofs.plan_document.spelled_input.Goals as goal
 
 -- the text is that of the plan that was read
@@ -18,5 +20,7 @@ pub returns-clause-err : goal.returns-clause-err
 returns-clause-err g c =
     let bytes = c.in_ok-bytes.bytes.items in
     let read = c.in_ok-bytes.ensures in
-    let said = subst (λ b. IfErr c.spelled.result (RefusesSpelling b)) c.as_slice.ensures.value c.spelled.ensures.err in
-    IfErr-weaker c.spelled.result _ _ (λ why is. inr (bytes, (read.taken, read.bound, read.whole), is)) said
+    let said = subst (λ b. IfErr c.spelled.result (DeniesOf (RefusesSpelling b) b)) c.as_slice.ensures.value
+    c.spelled.ensures.err in
+    IfErr-weaker c.spelled.result _ _
+    (λ why is. input_unspelled _ _ bytes why (read.taken, read.bound, read.whole) is) said

@@ -1,5 +1,8 @@
 use Rattle.std.proofs.lemmas.Result.{IfOk-weaker, IfErr-weaker}
-use Rattle.sja_run.proofs.Requested.Requests.{left_printed, left_refused}
+use Rattle.sja_words.specs.Requests.{sweep}
+use Rattle.sja_run.specs.Sweep.{RefusesOfPlan, RefusesSwept}
+use Rattle.sja_run.proofs.Denied.{asked_denied, left_denied}
+use Rattle.sja_run.proofs.Requested.Requests.{left_printed}
 use Rattle.sja_run.proofs.program.printed_threads.Goals as goal
 
 -- the text of a run
@@ -10,12 +13,16 @@ returns-in-Text-clause-ok g c =
 
 pub returns-in-Text-clause-err : goal.returns-in-Text-clause-err
 returns-in-Text-clause-err g c =
-    rw c.in-Text.is (IfErr-weaker c.written_threads.result _ _ (λ why has. left_refused c.in-Text.what _ _ why has)
+    rw c.in-Text.is (IfErr-weaker c.written_threads.result _ _ (λ why has. left_denied c.in-Text.what _ _ why has)
     c.written_threads.ensures.err)
 
 -- a sweep
 pub returns-in-Sweep-clause-ok : goal.returns-in-Sweep-clause-ok
-returns-in-Sweep-clause-ok g c = rw c.in-Sweep.is c.told_sweep_jobs.ensures.0
+returns-in-Sweep-clause-ok g c = rw c.in-Sweep.is c.told_sweep_jobs.ensures.ok
 
 pub returns-in-Sweep-clause-err : goal.returns-in-Sweep-clause-err
-returns-in-Sweep-clause-err g c = rw c.in-Sweep.is c.told_sweep_jobs.ensures.1
+returns-in-Sweep-clause-err g c =
+    let w = c.in-Sweep.words in
+    rw c.in-Sweep.is (IfErr-weaker c.told_sweep_jobs.result _ _
+    (λ why has. asked_denied (sweep w) (RefusesOfPlan (RefusesSwept w)) _ _ why tt (λ r is. is) has)
+    c.told_sweep_jobs.ensures.err)

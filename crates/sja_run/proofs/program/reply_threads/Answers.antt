@@ -1,4 +1,5 @@
-use Rattle.sja_run.proofs.BytesRead.FewBytes.{few_left_printed, few_left_refused}
+use Rattle.sja_run.proofs.BytesRead.FewBytes.{few_left_printed}
+use Rattle.sja_run.proofs.Denied.{few_left_denied}
 use Rattle.sja_run.proofs.program.reply_threads.Goals as goal
 
 -- its text was printed
@@ -7,4 +8,4 @@ returns-in-Ok-clause-few g c = few_left_printed c.args.threaded _ _ _ c.in-Ok.en
 
 -- or it was refused
 pub returns-in-Err-clause-few : goal.returns-in-Err-clause-few
-returns-in-Err-clause-few g c = few_left_refused c.args.threaded _ _ _ c.in-Err.ensures.err
+returns-in-Err-clause-few g c = few_left_denied c.args.threaded _ _ _ c.in-Err.ensures.err

@@ -1,63 +1,54 @@
-use Rattle.std.proofs.Common.{◌≡◌, ap, map, subst, sym, inl, inr}
+use Rattle.std.proofs.Common.{◌≡◌, ap, map, refl, subst, sym, inl, inr}
 use Rattle.std.specs.Io.KnownBytes.{Keeps}
 use Rattle.std.proofs.KnownBytes.{Keeps-refl}
-use Rattle.sja_words.specs.Requests.{expected, files, live}
-use Rattle.sja_run.specs.Answer.{AsksForOne, request_left}
+use Rattle.sja_words.specs.Requests.{Request, expected, files, live}
+use Rattle.sja_words.specs.Words.{ParsesAs}
+use Rattle.sja_run.specs.Answer.{request_left}
 use Rattle.sja_run.proofs.FilesDone.FileSteps.{files_from, files_unread}
 use Rattle.sja_run.proofs.FilesDone.ReportsMet.{met_unread, shows_met}
+use Rattle.sja_run.proofs.Requested.Asked.{one_asked, shows_asked}
 use Rattle.sja_run.proofs.Requested.Requests.{asks_left, asks_one, is_left_over, left_shows, one_left, shows_from}
 use Rattle.sja_run.proofs.Requested.Talks.{left_talks, talks_from}
 use Rattle.sja_run.proofs.program.sja.Goals as goal
 
--- what is left over isn't answered to be left only where memory was refused
+-- of what is done elsewhere nothing is done but where memory was refused
 pub returns-in-Ok-clause-answered : goal.returns-in-Ok-clause-answered
-returns-in-Ok-clause-answered g c = λ r parses plain wrote told.
+returns-in-Ok-clause-answered g c = λ r parses wrote told.
     let serial = c.in-Ok.ensures in
-    elim (is_left_over r) [
+    let holds = g.F.Sources.holds c.args.sources.now in
+    let Q : Request → Type 0 = λ q. ParsesAs (map g.S.AsStr.text c.args.words.now) q in
+    shows_asked holds c.in-Ok.status _ _ _ _ _ _ r
+    (λ plain. elim (is_left_over r) [
       | inl asks ↦ let left = serial.threads r parses asks in
           let keeps = subst (λ o. Keeps (g.O.Write.contents c.args.out.now.writer) (g.O.Write.contents o.writer))
           (sym left.2) (Keeps-refl _) in
           left_shows r c.in-Ok.status _ _ _ _ _ _ _ left.0 serial.few keeps told
       | inr other ↦ serial.answered r parses other wrote told
-    ]
-
-pub returns-in-Ok-clause-talks : goal.returns-in-Ok-clause-talks
-returns-in-Ok-clause-talks g c = λ parses wrote told.
-    let left = c.in-Ok.ensures.threads live parses tt in
+    ])
+    (λ asked jobs names is. (let left = serial.threads (files asked jobs names) (subst Q is parses) tt in
+    let keeps = subst (λ o. Keeps (g.O.Write.contents c.args.out.now.writer) (g.O.Write.contents o.writer))
+    (sym left.2) (Keeps-refl _) in
+    files_unread holds asked names c.in-Ok.status _ _ _ _ _ _ _ left.0 (ap (λ i. g.R.Read.remaining i) left.1) keeps
+    told))
+    (λ threads plan report is. (let left = serial.threads (expected threads plan report) (subst Q is parses) tt in
+    let keeps = subst (λ o. Keeps (g.O.Write.contents c.args.out.now.writer) (g.O.Write.contents o.writer))
+    (sym left.2) (Keeps-refl _) in
+    met_unread holds threads plan report c.in-Ok.status _ _ _ _ _ _ _ left.0 (ap (λ i. g.R.Read.remaining i) left.1)
+    keeps told))
+    (λ is. (let left = serial.threads live (subst Q is parses) tt in
     left_talks c.in-Ok.status _ _ _ _ _ _ _ left.0 (ap (λ i. g.R.Read.remaining i) left.1)
-    (ap (λ o. g.O.Write.contents o.writer) left.2) told
-
--- and so it is of plans in files
-pub returns-in-Ok-clause-of_files : goal.returns-in-Ok-clause-of_files
-returns-in-Ok-clause-of_files g c = λ asked jobs names parses wrote told.
-    let left = c.in-Ok.ensures.threads (files asked jobs names) parses tt in
-    let keeps = subst (λ o. Keeps (g.O.Write.contents c.args.out.now.writer) (g.O.Write.contents o.writer))
-    (sym left.2) (Keeps-refl _) in
-    files_unread (g.F.Sources.holds c.args.sources.now) asked names c.in-Ok.status _ _ _ _ _ _ _ left.0
-    (ap (λ i. g.R.Read.remaining i) left.1) keeps told
-
--- and of a report that is expected
-pub returns-in-Ok-clause-expects : goal.returns-in-Ok-clause-expects
-returns-in-Ok-clause-expects g c = λ threads plan report parses wrote told.
-    let left = c.in-Ok.ensures.threads (expected threads plan report) parses tt in
-    let keeps = subst (λ o. Keeps (g.O.Write.contents c.args.out.now.writer) (g.O.Write.contents o.writer))
-    (sym left.2) (Keeps-refl _) in
-    met_unread (g.F.Sources.holds c.args.sources.now) threads plan report c.in-Ok.status _ _ _ _ _ _ _ left.0
-    (ap (λ i. g.R.Read.remaining i) left.1) keeps told
+    (ap (λ o. g.O.Write.contents o.writer) left.2) told))
 
 -- a talk is left to this call where the words ask for one, and nothing was read or written for it
 pub returns-in-Err-Talk-clause-answered : goal.returns-in-Err-Talk-clause-answered
-returns-in-Err-Talk-clause-answered g c = λ r parses plain wrote told.
+returns-in-Err-Talk-clause-answered g c = λ r parses wrote told.
     let left = rw c.in-Err-Talk.field-0-is at c.in-Err-Talk.ensures.left in
-    absurd (subst AsksForOne (asks_one _ r live parses left.0) plain)
-
-pub returns-in-Err-Talk-clause-talks : goal.returns-in-Err-Talk-clause-talks
-returns-in-Err-Talk-clause-talks g c = λ parses wrote told.
-    let threads = c.in-Err-Talk.ensures.threads live parses tt in
-    let left = c.in-Err-Talk.ensures.left in
-    talks_from _ _ _ _ _ _ _ _ _ _ (ap (λ i. g.R.Read.remaining i) threads.1)
+    let threads = c.in-Err-Talk.ensures.threads live left.0 tt in
+    let same : r ≡ live = asks_one _ r live parses left.0 in
+    rw same
+    (talks_from _ _ _ _ _ _ _ _ _ _ (ap (λ i. g.R.Read.remaining i) threads.1)
     (ap (λ o. g.O.Write.contents o.writer) threads.2) (ap (λ e. g.E.Write.contents e.writer) left.2)
-    (c.reply_live.ensures.answered wrote told)
+    (c.reply_live.ensures.answered wrote told))
 
 pub returns-in-Err-Talk-clause-unparsed : goal.returns-in-Err-Talk-clause-unparsed
 returns-in-Err-Talk-clause-unparsed g c = λ none _ _.
@@ -81,20 +72,16 @@ returns-in-Err-Talk-clause-few g c = λ none.
 
 -- what is left to threads is what the words ask for, and nothing was read or written for it
 pub returns-in-Err-Threads-clause-answered : goal.returns-in-Err-Threads-clause-answered
-returns-in-Err-Threads-clause-answered g c = λ r parses plain wrote told.
+returns-in-Err-Threads-clause-answered g c = λ r parses wrote told.
     let left = rw c.in-Err-Threads.field-0-is at c.in-Err-Threads.ensures.left in
     let asked = request_left c.in-Err-Threads.threaded in
     let threads = c.in-Err-Threads.ensures.threads asked left.0 left.1 in
-    shows_from r asked _ _ _ _ _ _ _ _ _ _ (asks_one _ r asked parses left.0)
-    (ap (λ i. g.R.Read.remaining i) threads.1) (ap (λ o. g.O.Write.contents o.writer) threads.2)
-    (ap (λ e. g.E.Write.contents e.writer) left.2) (c.reply_threads.ensures.answered wrote told)
-
--- which isn't a talk
-pub returns-in-Err-Threads-clause-talks : goal.returns-in-Err-Threads-clause-talks
-returns-in-Err-Threads-clause-talks g c = λ parses wrote told.
-    let left = rw c.in-Err-Threads.field-0-is at c.in-Err-Threads.ensures.left in
-    let asked = request_left c.in-Err-Threads.threaded in
-    absurd (subst AsksForOne (asks_one _ asked live left.0 parses) (one_left c.in-Err-Threads.threaded))
+    let same : r ≡ asked = asks_one _ r asked parses left.0 in
+    rw same
+    (one_asked (g.F.Sources.holds c.args.sources.now) _ _ _ _ _ _ _ asked (one_left c.in-Err-Threads.threaded)
+    (shows_from asked asked _ _ _ _ _ _ _ _ _ _ refl (ap (λ i. g.R.Read.remaining i) threads.1)
+    (ap (λ o. g.O.Write.contents o.writer) threads.2) (ap (λ e. g.E.Write.contents e.writer) left.2)
+    (c.reply_threads.ensures.answered wrote told)))
 
 -- words of which something is left parse
 pub returns-in-Err-Threads-clause-unparsed : goal.returns-in-Err-Threads-clause-unparsed
@@ -111,22 +98,16 @@ returns-in-Err-Threads-clause-unread g c = λ none.
 -- ---- plans in files are left to this call where the words ask for them
 
 pub returns-in-Err-Files-clause-answered : goal.returns-in-Err-Files-clause-answered
-returns-in-Err-Files-clause-answered g c = λ r parses one wrote told.
-    let left = rw c.in-Err-Files.field-0-is at c.in-Err-Files.ensures.left in
-    absurd (subst AsksForOne (asks_one _ r _ parses left.0) one)
-
-pub returns-in-Err-Files-clause-of_files : goal.returns-in-Err-Files-clause-of_files
-returns-in-Err-Files-clause-of_files g c = λ asked jobs names parses wrote told.
+returns-in-Err-Files-clause-answered g c = λ r parses wrote told.
     let left = rw c.in-Err-Files.field-0-is at c.in-Err-Files.ensures.left in
     let w = c.in-Err-Files.files in
-    let given = map (λ name. name.now) w.names.items in
-    let threads = c.in-Err-Files.ensures.threads (files w.question w.jobs given) left.0 tt in
-    let same : files asked jobs names ≡ files w.question w.jobs given = asks_one _ _ _ parses left.0 in
-    let same_asked : asked ≡ w.question = cc (same) in
-    let same_names : names ≡ given = cc (same) in
-    files_from (g.F.Sources.holds c.args.sources.now) asked w.question names given _ _ _ _ _ _ _ _ _ _ same_asked
-    same_names (ap (λ i. g.R.Read.remaining i) threads.1) (ap (λ o. g.O.Write.contents o.writer) threads.2)
-    (ap (λ e. g.E.Write.contents e.writer) left.2) (c.reply_files.ensures.answered wrote told)
+    let asked = files w.question w.jobs (map (λ name. name.now) w.names.items) in
+    let threads = c.in-Err-Files.ensures.threads asked left.0 tt in
+    let same : r ≡ asked = asks_one _ r asked parses left.0 in
+    rw same
+    (files_from (g.F.Sources.holds c.args.sources.now) w.question w.question _ _ _ _ _ _ _ _ _ _ _ _ refl refl
+    (ap (λ i. g.R.Read.remaining i) threads.1) (ap (λ o. g.O.Write.contents o.writer) threads.2)
+    (ap (λ e. g.E.Write.contents e.writer) left.2) (c.reply_files.ensures.answered wrote told))
 
 pub returns-in-Err-Files-clause-unparsed : goal.returns-in-Err-Files-clause-unparsed
 returns-in-Err-Files-clause-unparsed g c = λ none _ _.
@@ -151,24 +132,17 @@ returns-in-Err-Files-clause-few g c = λ one.
 -- ---- a report that is expected is left to this call where the words ask for it
 
 pub returns-in-Err-Expected-clause-answered : goal.returns-in-Err-Expected-clause-answered
-returns-in-Err-Expected-clause-answered g c = λ r parses one wrote told.
-    let left = rw c.in-Err-Expected.field-0-is at c.in-Err-Expected.ensures.left in
-    absurd (subst AsksForOne (asks_one _ r _ parses left.0) one)
-
-pub returns-in-Err-Expected-clause-expects : goal.returns-in-Err-Expected-clause-expects
-returns-in-Err-Expected-clause-expects g c = λ threads plan report parses wrote told.
+returns-in-Err-Expected-clause-answered g c = λ r parses wrote told.
     let left = rw c.in-Err-Expected.field-0-is at c.in-Err-Expected.ensures.left in
     let w = c.in-Err-Expected.words in
     let asked = expected w.threads w.plan.now w.report.now in
     let kept = c.in-Err-Expected.ensures.threads asked left.0 tt in
-    let same : expected threads plan report ≡ asked = asks_one _ _ _ parses left.0 in
-    let same_threads : threads ≡ w.threads = cc (same) in
-    let same_plan : plan ≡ w.plan.now = cc (same) in
-    let same_report : report ≡ w.report.now = cc (same) in
-    shows_met (g.F.Sources.holds c.args.sources.now) threads w.threads plan w.plan.now report w.report.now
-    _ _ _ _ _ _ _ _ _ _ same_threads same_plan same_report (ap (λ i. g.R.Read.remaining i) kept.1)
+    let same : r ≡ asked = asks_one _ r asked parses left.0 in
+    rw same
+    (shows_met (g.F.Sources.holds c.args.sources.now) w.threads w.threads w.plan.now w.plan.now w.report.now
+    w.report.now _ _ _ _ _ _ _ _ _ _ refl refl refl (ap (λ i. g.R.Read.remaining i) kept.1)
     (ap (λ o. g.O.Write.contents o.writer) kept.2) (ap (λ e. g.E.Write.contents e.writer) left.2)
-    (c.reply_expected.ensures.answered wrote told)
+    (c.reply_expected.ensures.answered wrote told))
 
 pub returns-in-Err-Expected-clause-unparsed : goal.returns-in-Err-Expected-clause-unparsed
 returns-in-Err-Expected-clause-unparsed g c = λ none _ _.

@@ -23,4 +23,4 @@ returns-in-Ok-Mistake-clause-answered g c = λ wrote told.
     let written = subst (λ bytes. Appends (g.E.Write.contents c.args.err.now.writer)
     (g.E.Write.contents c.put.new.self.writer) bytes) c.as_slice.ensures.value
     (c.put.ensures.written told).1 in
-    inr (inr (inl (text, tt, mistake, refl, Keeps-refl _, written)))
+    inr (inr (inl (text, inl (tt, mistake), refl, Keeps-refl _, written)))
