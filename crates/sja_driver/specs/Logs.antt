@@ -1,8 +1,8 @@
 -- What a driver's log says (this project's own rule).
 use Rattle.std.specs.Prelude.{◌≡◌, ◌==◌, ◌+◌, ◌≤◌, ◌++◌, ℕ, if◌then◌else◌, List, [], ◌∷◌, length, map}
-use Rattle.std.specs.Vec.{vec_capacity}
 use Rattle.sja_link.specs.declared.driver_ledger.DriverLedger.{DriverLedger}
 use Rattle.sja_link.specs.DriverLedgers.{held_by}
+use Rattle.sja_link.specs.Recents.{KeepsAll}
 use Rattle.lemmas.specs.Gathering.{gathered}
 use Rattle.sja_regs.specs.declared.registers.Registers.{Registers}
 use Rattle.sja_script.specs.declared.done.Done.{Done}
@@ -28,21 +28,33 @@ releases_in l = l.released.items
 abbrev pub left_in : WorkLog → List DriverLedger
 left_in l = l.left.items
 
--- how many of each it has room for
+-- how many of each it was made for
 abbrev pub done_room : WorkLog → ℕ
-done_room l = vec_capacity l.done
+done_room l = l.done.room
 
 abbrev pub release_room : WorkLog → ℕ
-release_room l = vec_capacity l.released
+release_room l = l.released.room
 
 abbrev pub left_room : WorkLog → ℕ
-left_room l = vec_capacity l.left
+left_room l = l.left.room
 
 -- nothing was done
 pub record IsEmpty (l : WorkLog) : Type 0 where
   pub done : done_in l ≡ []
   pub releases : releases_in l ≡ []
   pub left : left_in l ≡ []
+
+-- it was made for so many steps done, for what so many deeds come to, and for all activations of a node
+pub record IsMadeFor (steps deeds : ℕ) (l : WorkLog) : Type 0 where
+  pub done : done_room l ≡ steps
+  pub releases : release_room l ≡ deeds
+  pub left : left_room l ≡ 64
+
+-- it is made for no more of each than lists that forget none, so all that it says can be read
+pub record KeepsLog (l : WorkLog) : Type 0 where
+  pub done : KeepsAll (done_room l)
+  pub releases : KeepsAll (release_room l)
+  pub left : KeepsAll (left_room l)
 
 -- there is room for what so many deeds more come to
 pub record HasRoom (steps : ℕ) (l : WorkLog) : Type 0 where

@@ -74,7 +74,7 @@ impl LoggedDriver {
     }
 
     /// Enters a step that is done: its answer, after how many bits, and what is kept after it.
-    pub fn enter(&mut self, answer: StepAnswer, bits: u32, kept: KeptBytes)
+    pub fn enter(&mut self, answer: StepAnswer, bits: u64, kept: KeptBytes)
         requires { length (done_in (log_of self.old)) < done_room (log_of self.old) }
         ensures done { done_in (log_of self.new)
             ≡ done_in (log_of self.old) ++ record { answer = answer; bits = bits } ∷ [] }

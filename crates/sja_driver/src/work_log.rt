@@ -1,8 +1,9 @@
 //! The log of a driver that follows a script.
 
-ghost use Rattle.std.specs.Prelude.{◌≡◌, ◌+◌, ◌<◌, ◌≤◌, ◌++◌, [], ◌∷◌, length, IfOk};
-ghost use Rattle.sja_driver.specs.Logs.{done_in, releases_in, left_in, done_room};
-ghost use Rattle.sja_driver.specs.Logs.{IsEmpty, HasRoom};
+ghost use Rattle.std.specs.Prelude.{◌≡◌, ◌+◌, ◌<◌, ◌≤◌, ◌++◌, [], ◌∷◌, length, None, IfSome, IfOk};
+ghost use Rattle.sja_link.specs.Recents.{KeepsAll, IsLast};
+ghost use Rattle.sja_driver.specs.Logs.{done_in, releases_in, left_in, done_room, release_room, left_room};
+ghost use Rattle.sja_driver.specs.Logs.{IsEmpty, IsMadeFor, HasRoom};
 ghost use Rattle.sja_driver.specs.Inside.Entering.{Enters};
 ghost use Rattle.sja_driver.specs.Tries.{ended_by};
 ghost use Rattle.sja_driver.specs.Inside.Attempts.{tried_of, stopped_by};
@@ -10,33 +11,34 @@ ghost use Rattle.sja_driver.specs.Inside.Attempts.{tried_of, stopped_by};
 use super::attempt::Attempt;
 use super::release::Release;
 use can_frame::OutOfMemory;
-use sja_link::{DriverLedger, LINKS_PER_NODE};
+use sja_link::{DriverLedger, LINKS_PER_NODE, Recent};
 use sja_script::{Done, StepAnswer};
 use std::alloc::Global;
 
 /// What a driver did: its steps done, the messages that it released, and the ledger of each activation that ended
 /// (this project's own rule).
 ///
-/// All its room is made beforehand, so no step takes memory.
+/// All its room is made beforehand, so no step takes memory. Where that is for more than [`KEPT`](sja_link::KEPT) of a
+/// kind, it keeps the latest ones. Contracts see them all.
 #[derive(Debug, Drop)]
 pub struct WorkLog {
-    pub(crate) done: Vec<Done>,
-    pub(crate) released: Vec<Release>,
-    pub(crate) left: Vec<DriverLedger>,
+    pub(crate) done: Recent<Done>,
+    pub(crate) released: Recent<Release>,
+    pub(crate) left: Recent<DriverLedger>,
 }
 
 impl WorkLog {
     /// An empty log with room for so many steps, and for what so many deeds come to.
     ///
     /// Error: [`OutOfMemory`] where memory was refused.
-    pub fn new(alloc: Global, steps: u32, deeds: u32) -> Result<WorkLog, OutOfMemory>
+    pub fn new(alloc: Global, steps: u64, deeds: u64) -> Result<WorkLog, OutOfMemory>
         ensures empty { IfOk result IsEmpty }
+        ensures made { IfOk result (IsMadeFor steps deeds) }
         ensures room { IfOk result (HasRoom deeds) }
-        ensures steps { IfOk result (λ l. steps ≤ done_room l) }
     {
-        let done = Vec::with_capacity(alloc, steps as usize)?;
-        let released = Vec::with_capacity(alloc, deeds as usize)?;
-        let left = Vec::with_capacity(alloc, LINKS_PER_NODE)?;
+        let done = Recent::new(alloc, steps as usize)?;
+        let released = Recent::new(alloc, deeds as usize)?;
+        let left = Recent::new(alloc, LINKS_PER_NODE)?;
         Ok(WorkLog {
             done,
             released,
@@ -46,13 +48,30 @@ impl WorkLog {
 
     /// The steps that were done, in order.
     pub fn done(&self) -> &[Done]
+        requires kept { KeepsAll (done_room self.now) }
         ensures { result.now ≡ done_in self.now }
     {
         self.done.as_slice()
     }
 
+    /// How many steps were done.
+    pub fn done_count(&self) -> usize
+        ensures { result ≡ length (done_in self.now) }
+    {
+        self.done.len()
+    }
+
+    /// The step that was done last, if any was.
+    pub fn last_done(&self) -> Option<&Done>
+        ensures none { result ≡ None → done_in self.now ≡ [] }
+        ensures last { IfSome result (λ x. IsLast (done_in self.now) x.now) }
+    {
+        self.done.last()
+    }
+
     /// The messages that were released, in order.
     pub fn released(&self) -> &[Release]
+        requires kept { KeepsAll (release_room self.now) }
         ensures { result.now ≡ releases_in self.now }
     {
         self.released.as_slice()
@@ -60,6 +79,7 @@ impl WorkLog {
 
     /// The ledger of each activation that ended, in order: what it held then is unread.
     pub fn left(&self) -> &[DriverLedger]
+        requires kept { KeepsAll (left_room self.now) }
         ensures { result.now ≡ left_in self.now }
     {
         self.left.as_slice()
@@ -77,7 +97,7 @@ impl WorkLog {
             Attempt::Released(message) => {
                 let bytes = message.len() as u8;
                 let activation = self.left.len() as u8 + 1;
-                self.released.push_reserved(Release {
+                self.released.push(Release {
                     activation,
                     message,
                 });
@@ -97,7 +117,7 @@ impl WorkLog {
     {
         match stopped {
             Ok(ledger) => {
-                self.left.push_reserved(ledger);
+                self.left.push(ledger);
                 Some(StepAnswer::Done)
             }
             Err(attempt) => self.enter(attempt),
@@ -105,12 +125,12 @@ impl WorkLog {
     }
 
     /// Enters a step that is done, with its answer, after so many bits.
-    pub(crate) fn push(&mut self, answer: StepAnswer, bits: u32)
+    pub(crate) fn push(&mut self, answer: StepAnswer, bits: u64)
         requires { length (done_in self.old) < done_room self.old }
         ensures entered { done_in self.new ≡ done_in self.old ++ record { answer = answer; bits = bits } ∷ [] }
         ensures room { done_room self.new ≡ done_room self.old }
         ensures rest { self.new ≡ record self.old { done = self.new.done } }
     {
-        self.done.push_reserved(Done { answer, bits });
+        self.done.push(Done { answer, bits });
     }
 }

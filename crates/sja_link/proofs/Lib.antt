@@ -2,3 +2,5 @@ pub mod JournalEntries
 pub mod Ledger
 pub mod WorldSteps
 pub mod Growing
+pub mod RecentLists
+pub mod Walks

@@ -15,6 +15,7 @@ pub mod DriverLedgers
 pub mod Looking
 pub mod Showing
 pub mod Between
+pub mod Recents
 pub mod Written
 pub mod RestBits
 pub mod World

@@ -23,15 +23,19 @@ impl<'a> Model for BetweenBits<'a> {
 }
 
 impl<'a> BetweenBits<'a> {
-    ghost use Rattle.std.specs.Prelude.{◌≡◌};
+    ghost use Rattle.std.specs.Prelude.{◌≡◌, ◌<◌, ◌^◌, length};
     ghost use Rattle.sja_link.specs.Between.{between_bits};
 
     /// The entries of a journal that are no bits.
     pub(crate) fn of(journal: &'a Journal) -> BetweenBits<'a>
-        ensures { result ≡ between_bits journal.now.entries }
+        ensures value { result ≡ between_bits journal.now.entries }
+        ensures few { length result < 2 ^ 64 }
     {
+        let recorder = &journal.recorder;
+        // How many they are is a `usize`.
+        let _others = recorder.others.len();
         BetweenBits {
-            others: journal.others.as_slice(),
+            others: recorder.others.as_slice(),
         }
     }
 }

@@ -36,9 +36,10 @@ impl<'a> Entries<'a> {
     pub(crate) fn of(journal: &'a Journal) -> Entries<'a>
         ensures { result ≡ journal.now.entries }
     {
+        let recorder = &journal.recorder;
         Entries {
-            codes: journal.codes.as_slice(),
-            others: journal.others.as_slice(),
+            codes: recorder.codes.as_slice(),
+            others: recorder.others.as_slice(),
         }
     }
 

@@ -6,11 +6,13 @@
 //! [`BusLedger`] decides which message is stored and which is overrun, by the bytes that are free. At the driver's end
 //! the [`DriverLedger`] shows the messages and releases them. The [`Journal`] of a node has all that happened, and what
 //! it means is said of it alone: the part of each activation, the record of the node, the free bytes and the verdicts.
+//! A [`Recorder`] writes it, into lists that may forget their oldest items ([`Recent`]) while contracts go on to see
+//! them all.
 //! The [`World`] of one link has the events that may happen on it. [`LINKS_PER_NODE`], [`ITEMS_DOWN`], [`ITEMS_UP`] and
 //! [`RECEIVE_FIFO`] are the sizes of all that, [`most_activations`] is how many of a node's links a version uses, and
 //! [`first_link`] is where a node's links begin among those of all.
 //!
-//! `DequeLink::new`, `Journal::new` and `World::step` alone take memory.
+//! `DequeLink::new`, `Recorder::new`, `Recent::new` and `World::step` alone take memory.
 #![tactic(auto)]
 
 mod bad_credit;
@@ -27,11 +29,15 @@ mod driver_ledger;
 mod entries;
 mod entry;
 mod event;
+mod forgotten;
 mod full;
 mod journal;
 mod laws;
 mod link_id;
 mod lost_window;
+mod recent;
+mod recent_bits;
+mod recorder;
 mod release_fault;
 mod rest_bits;
 mod sizes;
@@ -58,6 +64,8 @@ pub use laws::{
 };
 pub use link_id::LinkId;
 pub use lost_window::LostWindow;
+pub use recent::{KEPT, Recent};
+pub use recorder::Recorder;
 pub use release_fault::ReleaseFault;
 pub use sizes::{ITEMS_DOWN, ITEMS_UP, LINKS_PER_NODE, RECEIVE_FIFO, first_link, most_activations};
 pub use up::Up;

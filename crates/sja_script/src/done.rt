@@ -8,5 +8,5 @@ pub struct Done {
     /// What it answered.
     pub answer: StepAnswer,
     /// How many bits the bus had run before it; 0 where that isn't counted.
-    pub bits: u32,
+    pub bits: u64,
 }

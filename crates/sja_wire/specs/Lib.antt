@@ -8,3 +8,4 @@ pub mod Lawful
 pub mod Buses
 pub mod OutOfRoom
 pub mod Reasons
+pub mod Keeping

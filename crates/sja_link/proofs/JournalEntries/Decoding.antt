@@ -1,5 +1,5 @@
 -- The entries of codes, one code more.
-use Rattle.std.proofs.Common.{◌≡◌, ℕ, ◌<◌, ◌≤◌, List, [], ◌∷◌, ◌++◌, length, refl, ap, ◌∙◌, arith}
+use Rattle.std.proofs.Common.{◌≡◌, List, [], ◌∷◌, ◌++◌, length, refl, ap, ◌∙◌, arith}
 use Rattle.std.proofs.lemmas.List.{length-append}
 use Rattle.can_bits.specs.declared.level.Level.TheVariants.{Dominant, Recessive}
 use Rattle.lemmas.specs.Gathering.{total}
@@ -67,14 +67,6 @@ whole_other codes others e h own = record {
       omega (arith, m, n, t);
   none = others_push others e h.none own;
 }
-
--- ---- room
-
--- where an entry more has room, so has its code
-pub codes_fit : (codes : List Code) (others : List Entry) → AreWhole codes others → (room : ℕ) →
-    length (decoded codes others) < room → (len cap : ℕ) → room ≤ cap → len ≡ length codes → len < cap
-codes_fit codes others h room less len cap fits is =
-    let n = decoded_length codes others h in omega (arith, n, is, less, fits)
 
 -- ---- those that are no bits
 

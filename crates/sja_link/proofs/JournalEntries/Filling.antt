@@ -1,5 +1,5 @@
 -- Recessive bits after the entries of a journal, many at once.
-use Rattle.std.proofs.Common.{◌≡◌, ◌≤◌, ◌+◌, ◌-◌, ℕ, zero, suc, List, [], ◌∷◌, ◌++◌, length, take, replicate, refl, ap}
+use Rattle.std.proofs.Common.{◌≡◌, ◌+◌, ◌-◌, ℕ, zero, suc, List, [], ◌∷◌, ◌++◌, length, take, replicate, refl, ap}
 use Rattle.std.proofs.Common.{◌∙◌, append-nil, arith, Bool, true}
 use Rattle.std.specs.Prelude.{if◌then◌else◌}
 use Rattle.std.proofs.lemmas.List.{take_all}
@@ -11,7 +11,7 @@ use Rattle.sja_link.specs.declared.entry.Entry.TheVariants.{Bit}
 use Rattle.sja_link.specs.declared.code.Code.{Code}
 use Rattle.sja_link.specs.declared.code.Code.TheVariants.{RecessiveAsDriven}
 use Rattle.sja_link.specs.Inside.Codes.{decoded, has_other, AreWhole}
-use Rattle.sja_link.proofs.JournalEntries.Decoding.{decoded_both, decoded_length}
+use Rattle.sja_link.proofs.JournalEntries.Decoding.{decoded_both}
 
 -- a list that was filled up to so many elements more
 pub filled_up : {A : Type 0} (x : A) (xs now : List A) (done : Bool) (len was n : ℕ) → done ≡ true → len ≡ was →
@@ -22,13 +22,6 @@ filled_up x xs now done len was n all same is items =
     (rw all at items)
     ∙ ap (λ l. l ++ replicate (len + n - was) x) (take_all (len + n) xs (omega (arith, same, is)))
     ∙ ap (λ k. xs ++ replicate k x) count
-
--- so many entries that are free have room
-pub rest_fits : (codes : List Code) (others : List Entry) → AreWhole codes others → (room count len was cap : ℕ) →
-    count ≤ room - length (decoded codes others) → len ≡ was → was ≡ length codes → was ≤ cap → room ≤ cap →
-    len + count ≤ cap
-rest_fits codes others h room count len was cap free same is within fits =
-    let n = decoded_length codes others h in omega (arith, free, same, is, within, fits, n)
 
 -- ---- codes of bits, after the others
 

@@ -1,16 +1,15 @@
-use Rattle.std.proofs.Common.{◌≤◌, ◌<◌, List, [], ◌∷◌, ◌++◌, length, sym, ap, subst, arith}
-use Rattle.std.proofs.lemmas.Bool.{leb-true, leb-false}
+use Rattle.std.proofs.Common.{◌≤◌, ◌<◌, [], ◌∷◌, ◌++◌, length, sym, ap, subst, arith}
 use Rattle.sja_link.specs.declared.entry.Entry.{Entry}
 use Rattle.sja_link.specs.Between.{between_bits}
 use Rattle.sja_link.specs.Written.{Written, Fits}
 use Rattle.sja_link.proofs.JournalEntries.Decoding.{between_decoded}
 use Rattle.sja_link.proofs.JournalEntries.Rooms.{fits_bit, fits_more, full_of_others, is_other}
-use Rattle.sja_link.proofs.journal.Journal.is_full_for.Goals as goal
+use Rattle.sja_link.proofs.recorder.Recorder.is_full_for.Goals as goal
 
 pub returns-in-Bit-clause-room : goal.returns-in-Bit-clause-room
 returns-in-Bit-clause-room c = λ t.
     let f = c.self.inside in let own = ap length (between_decoded f.codes.items f.others.items c.self.invariant.0) in
-    let most = c.self.invariant.3 in let now = c.args.self.now in
+    let most = c.self.invariant.1 in let now = c.args.self.now in
     let V : Written → Type 0 = λ w. length (between_bits w.entries) ≤ w.room.others in
     let few : V now = subst V c.self.view_is (omega (arith, own, most)) in
     let P : Entry → Type 0 = λ e. Fits now.room (now.entries ++ e ∷ []) in
@@ -20,16 +19,16 @@ returns-in-Bit-clause-room c = λ t.
 pub returns-else-is_full : goal.returns-else-is_full
 returns-else-is_full c =
     let f = c.self.inside in let own = ap length (between_decoded f.codes.items f.others.items c.self.invariant.0) in
-    let len = c.len.ensures in let ok = f.others.ok.0 in let now = c.args.self.now in
+    let now = c.args.self.now in
     let V : Written → Type 0 = λ w. w.room.others ≤ length (between_bits w.entries) in
     let W : Written → Type 0 = λ w. length (between_bits w.entries) < w.room.others in
     record {
       full = λ t.
-          let used = leb-true _ _ t in
+          let used = c.is_full-else-is_full.ensures.full t in
           full_of_others now.room now.entries c.args.entry.now (is_other c.args.entry.now c.in_default.not-Bit)
-          (subst V c.self.view_is (omega (arith, own, len, ok, used)));
+          (subst V c.self.view_is (omega (arith, own, used)));
       room = λ t.
-          let free = leb-false _ _ t in
-          fits_more now.room now.entries c.args.entry.now (subst W c.self.view_is (omega (arith, own, len, ok, free)))
+          let free = c.is_full-else-is_full.ensures.free t in
+          fits_more now.room now.entries c.args.entry.now (subst W c.self.view_is (omega (arith, own, free)))
           (c.is_full-in_default.ensures.room c.if-is_full.false);
     }

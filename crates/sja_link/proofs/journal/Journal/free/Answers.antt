@@ -1,9 +1,0 @@
-use Rattle.std.proofs.Common.{arith}
-use Rattle.sja_link.proofs.JournalEntries.Decoding.{decoded_length}
-use Rattle.sja_link.proofs.journal.Journal.free.Goals as goal
-
-pub returns : goal.returns
-returns c = rw (← c.self.view_is) (
-    let n = decoded_length _ _ c.self.invariant.0 in
-    let is = c.len.ensures in let less = c.saturating_sub.ensures in
-    omega (arith, n, is, less))

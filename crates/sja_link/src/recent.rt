@@ -1,0 +1,203 @@
+//! [`Recent`]: a list of which the oldest items may be forgotten.
+
+ghost use Rattle.std.specs.Prelude.{◌≡◌, ◌<◌, ◌≤◌, ◌-◌, [], ◌∷◌, ◌++◌, length, replicate, true, false, None};
+ghost use Rattle.std.specs.Prelude.{IfOk, IfSome};
+ghost use Rattle.sja_link.specs.Recents.{KeepsAll, IsLast};
+
+use super::forgotten::Forgotten;
+use can_frame::OutOfMemory;
+use std::alloc::Global;
+use std::fmt::{self, Debug, Formatter};
+use std::marker::Model;
+
+/// A list that is made for at most so many items forgets none (this project's own rule).
+pub const KEPT: usize = 4_194_304;
+
+/// How many items are kept at once by a list that is made for more (this project's own rule).
+const WINDOW: usize = 4_096;
+
+/// A list that grows, of which the oldest items may be forgotten (this project's own rule).
+///
+/// Made for at most [`KEPT`] items, it keeps them all. Made for more, it has a memory for some thousand, and where that
+/// is full it forgets what lies there. Contracts see all its items, those forgotten too, and how many it was made for.
+#[derive(Drop)]
+pub struct Recent<T> {
+    room: usize,
+    pub(crate) items: Vec<T>,
+    /// How many items are kept at once.
+    pub(crate) window: usize,
+    /// How many it was made for, less those that were forgotten.
+    end: usize,
+    forgotten: Forgotten<T>,
+}
+
+impl<T> Model for Recent<T> {
+    ghost use Rattle.std.specs.Prelude.{◌++◌, length, vec_capacity};
+    ghost use Rattle.sja_link.specs.Recents.{Recents, recents_code};
+
+    ghost Value = { Recents T };
+
+    ghost coded = { recents_code T.code };
+
+    ghost use Rattle.sja_link.specs.Inside.Recents.{AreRecent};
+
+    ghost view = { λ l. record { items = l.forgotten.items ++ l.items.items; room = l.room } };
+
+    ghost invariant = { λ l. AreRecent (length l.items.items) (length l.forgotten.items) l.window
+        (vec_capacity l.items) l.end l.room };
+}
+
+impl<T> Recent<T> {
+    /// An empty list for so many items. No other call takes memory.
+    ///
+    /// Error: [`OutOfMemory`] where memory was refused.
+    pub fn new(alloc: Global, room: usize) -> Result<Recent<T>, OutOfMemory>
+        ensures empty { IfOk result (λ l. l.items ≡ []) }
+        ensures whole { IfOk result (λ l. l.room ≡ room) }
+    {
+        let window = if room <= KEPT { room } else { WINDOW };
+        let items = Vec::with_capacity(alloc, window)?;
+        Ok(Recent {
+            room,
+            items,
+            window,
+            end: room,
+            forgotten: Forgotten::new(),
+        })
+    }
+
+    /// How many items it has, those forgotten too.
+    pub fn len(&self) -> usize
+        ensures { result ≡ length self.now.items }
+    {
+        self.room - self.free()
+    }
+
+    /// For how many more it was made.
+    pub fn free(&self) -> usize
+        ensures { result ≡ self.now.room - length self.now.items }
+    {
+        self.end - self.items.len()
+    }
+
+    /// Whether it has all the items that it was made for.
+    #[inline(always)]
+    pub fn is_full(&self) -> bool
+        ensures full { result ≡ true → self.now.room ≤ length self.now.items }
+        ensures free { result ≡ false → length self.now.items < self.now.room }
+    {
+        // A list that is open isn't full: the same comparison as that of the next push.
+        !self.is_open() && self.items.len() >= self.end
+    }
+
+    /// Whether an item more forgets none.
+    #[inline(always)]
+    pub fn is_open(&self) -> bool
+        ensures { result ≡ true → length self.now.items < self.now.room }
+    {
+        self.items.len() < self.window
+    }
+
+    /// The last item, if it has any.
+    pub fn last(&self) -> Option<&T>
+        ensures none { result ≡ None → self.now.items ≡ [] }
+        ensures last { IfSome result (λ x. IsLast self.now.items x.now) }
+    {
+        self.items.as_slice().last()
+    }
+
+    /// All its items, oldest first, of a list that forgets none.
+    pub fn as_slice(&self) -> &[T]
+        requires kept { KeepsAll self.now.room }
+        ensures { result.now ≡ self.now.items }
+    {
+        self.items.as_slice()
+    }
+}
+
+impl<T: Drop> Recent<T> {
+    /// Adds an item, where it isn't full.
+    #[inline(always)]
+    pub fn push(&mut self, item: T)
+        requires free { length self.old.items < self.old.room }
+        ensures items { self.new.items ≡ self.old.items ++ item ∷ [] }
+        ensures room { self.new.room ≡ self.old.room }
+    {
+        if self.items.len() < self.window {
+            self.items.push_reserved(item);
+            return;
+        }
+        self.push_anew(item);
+    }
+
+    /// The same, where those that are kept are forgotten first.
+    #[inline(never)]
+    fn push_anew(&mut self, item: T)
+        requires free { length self.old.items < self.old.room }
+        requires forgets { KeepsAll self.old.room → ⊥ }
+        ensures items { self.new.items ≡ self.old.items ++ item ∷ [] }
+        ensures room { self.new.room ≡ self.old.room }
+    {
+        self.end -= self.items.len();
+        self.window = self.window.min(self.end);
+        self.forgotten.take(&mut self.items);
+        self.items.push_reserved(item);
+    }
+}
+
+impl<T: Copy> Recent<T> {
+    /// Adds so many copies of an item, where as many are free.
+    pub fn push_copies(&mut self, count: usize, item: T)
+        requires free { count ≤ self.old.room - length self.old.items }
+        ensures items { self.new.items ≡ self.old.items ++ replicate count item }
+        ensures room { self.new.room ≡ self.old.room }
+    {
+        let used = self.items.len();
+        if count > self.window - used {
+            self.push_many(count, item);
+            return;
+        }
+        // The memory is reserved.
+        let _ = self.items.resize(used + count, item);
+    }
+
+    /// The same, where the memory may come to its end among them.
+    #[inline(never)]
+    fn push_many(&mut self, count: usize, item: T)
+        requires free { count ≤ self.old.room - length self.old.items }
+        ensures items { self.new.items ≡ self.old.items ++ replicate count item }
+        ensures room { self.new.room ≡ self.old.room }
+    {
+        let mut left = count;
+        while left > 0 {
+            left -= self.push_some(left, item);
+        }
+    }
+
+    /// Adds at least one copy of an item and at most so many, and says how many: as many as forget nothing, or one.
+    fn push_some(&mut self, most: usize, item: T) -> usize
+        requires some { 0 < most }
+        requires free { most ≤ self.old.room - length self.old.items }
+        ensures some { 0 < result }
+        ensures most { result ≤ most }
+        ensures items { self.new.items ≡ self.old.items ++ replicate result item }
+        ensures room { self.new.room ≡ self.old.room }
+    {
+        let used = self.items.len();
+        if used >= self.window {
+            self.push(item);
+            return 1;
+        }
+        let count = most.min(self.window - used);
+        // The memory is reserved.
+        let _ = self.items.resize(used + count, item);
+        count
+    }
+}
+
+impl<T: Debug> Debug for Recent<T> {
+    /// Writes the items that are kept.
+    fn fmt<W: fmt::Write>(&self, f: &mut Formatter<W>) -> fmt::Result {
+        Debug::fmt(&self.items, f)
+    }
+}
