@@ -9,4 +9,3 @@ pub mod Fewer
 pub mod LedRows
 pub mod LedSeats
 pub mod StrayRows
-pub mod Unstruck

@@ -3,3 +3,4 @@ pub mod Lawfuls
 pub mod Marking
 pub mod Logs
 pub mod Striking
+pub mod Broken

@@ -15,5 +15,6 @@ pub mod Ending
 pub mod Idling
 pub mod AtOnce
 pub mod RunningOn
+pub mod Longest
 pub mod Together
 pub mod SerialBoards

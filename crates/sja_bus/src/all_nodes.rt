@@ -40,7 +40,7 @@ pub(crate) fn gather_all<E: BusEnd>(seats: &mut [Seat], links: &mut [E]) -> Resu
     ensures items { OnOk result (EachSeat SeatTakes seats.old seats.new) }
     ensures untold { OnOk result (EachSeat SeatUntold seats.old seats.new) }
     ensures dry { OnOk result (AllRead E.dry seats.new links.new) }
-    ensures rooms { OnOk result ((n : ℕ → Room) → HaveRoom n seats.old → HaveRoom n seats.new) }
+    ensures rooms { (n : ℕ → Room) → HaveRoom n seats.old → HaveRoom n seats.new }
     ensures refused { IfErr result (λ f. SeatRefuses E.stands seats.old seats.new links.old links.new f) }
 {
     for k in 0..seats.len() {
@@ -66,7 +66,7 @@ pub(crate) fn bit_of_all<E: BusEnd, B: Board>(
     ensures bit { OnOk result (IsRowBit (B.orders_are board.old)
         (B.told board.old board.new) (B.kept board.old board.new) struck seats.old seats.new) }
     ensures takes { OnOk result (RowTakesAll E.BusEnd seats.old seats.new links.old) }
-    ensures rooms { OnOk result ((n : ℕ → Room) → HaveRoom n seats.old → HaveRoom n seats.new) }
+    ensures rooms { (n : ℕ → Room) → HaveRoom n seats.old → HaveRoom n seats.new }
     ensures facts { OnOk result ((k : ℕ) → k < length seats.old → B.facts board.new k) }
     ensures stops { IfErr result (λ f. (SeatRefuses E.stands seats.old seats.new links.old links.new f
         ⊎ SeatFull E.stands (B.orders_are board.old) seats.old seats.new links.old links.new f)
@@ -97,7 +97,7 @@ fn open_all<E: BusEnd, B: Board>(
     ensures opens { OnOk result (EachSeat (SeatOpens (B.orders_are board.now)) seats.old seats.new) }
     ensures untold { OnOk result (EachSeat SeatOpensUntold seats.old seats.new) }
     ensures dry { OnOk result (AllRead E.dry seats.new links.new) }
-    ensures rooms { OnOk result ((n : ℕ → Room) → HaveRoom n seats.old → HaveRoom n seats.new) }
+    ensures rooms { (n : ℕ → Room) → HaveRoom n seats.old → HaveRoom n seats.new }
     ensures facts { OnOk result ((k : ℕ) → k < length seats.old → B.facts board.now k) }
     ensures stops { IfErr result (λ f. SeatRefuses E.stands seats.old seats.new links.old links.new f
         ⊎ SeatFull E.stands (B.orders_are board.now) seats.old seats.new links.old links.new f) }
@@ -123,6 +123,7 @@ fn sample_from<E: BusEnd, B: Board>(
 ) -> Result<bool, BusFault>
     requires seated { AreSeated E.link seats.old links.old (B.ports board.old) }
     ensures sames { EachRelated E.same links.old links.new }
+    ensures rooms { (n : ℕ → Room) → HaveRoom n seats.old → HaveRoom n seats.new }
     ensures board { KeepsOthers B.ports B.kept (length seats.old) board.old board.new }
     ensures told { IfOk result (λ told. told ≡ true → AreToldFrom first seats.old →
         SomeTold (B.told board.old board.new) seats.new) }
@@ -158,6 +159,7 @@ fn tell_from<E: BusEnd, B: Board>(
     requires few { first < length seats.old }
     requires told { AreToldFrom first seats.old }
     ensures sames { EachRelated E.same links.old links.new }
+    ensures rooms { (n : ℕ → Room) → HaveRoom n seats.old → HaveRoom n seats.new }
     ensures board { KeepsOthers B.ports B.kept (length seats.old) board.old board.new }
     ensures told { IfOk result (λ told. told ≡ true → SomeTold (B.told board.old board.new) seats.new) }
     ensures idle { IfOk result (λ told. told ≡ false → (board.new ≡ board.old)
@@ -195,7 +197,7 @@ pub(crate) fn sample_all<E: BusEnd, B: Board>(
     ensures board { KeepsOthers B.ports B.kept (length seats.old) board.old board.new }
     ensures turns { OnOk result (EachSeat
         (SeatTurns (B.told board.old board.new) (B.kept board.old board.new) struck level) seats.old seats.new) }
-    ensures rooms { OnOk result ((n : ℕ → Room) → HaveRoom n seats.old → HaveRoom n seats.new) }
+    ensures rooms { (n : ℕ → Room) → HaveRoom n seats.old → HaveRoom n seats.new }
     ensures level { IfOk result (λ end. end.level ≡ wired (driven_by seats.new)) }
     ensures untold { IfOk result (λ end. end.told ≡ false → TellsNone seats.old seats.new board.old board.new) }
     ensures told { IfOk result (λ end. end.told ≡ true → SomeTold (B.told board.old board.new) seats.new) }

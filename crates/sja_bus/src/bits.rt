@@ -3,15 +3,13 @@
 ghost use Rattle.std.specs.Prelude.{◌≡◌, ◌+◌, ◌<◌, ◌≤◌, ℕ, true, length, slice_index_or, IfOk};
 ghost use Rattle.std.specs.Prelude.{◌⊎◌, false, IfErr, MatchResult};
 ghost use Rattle.can_node.specs.Stands.{ShowsRest};
-ghost use Rattle.lemmas.specs.Related.{EachRelated};
 ghost use Rattle.sja_bus.specs.declared.seat.Seat.{Seat as Seated};
-ghost use Rattle.sja_bus.specs.Inside.StrikesByBit.{IsAmong};
-ghost use Rattle.sja_bus.specs.Boards.{KeepsOthers};
 ghost use Rattle.sja_bus.specs.Inside.Refusing.{AreFree};
 ghost use Rattle.sja_wire.specs.Wire.{wired};
 ghost use Rattle.sja_bus.specs.Inside.Rows.{AreReady, AreSeated, IsBus, driven_by};
-ghost use Rattle.sja_bus.specs.Inside.RunningOn.{MayRunOn, RowsEnd, RowsRun, RowsStop};
-ghost use Rattle.sja_bus.specs.Inside.RunningOn.{AllAtRest, SomeAborts, SomeFull, SomeStruck, SomeUntold};
+ghost use Rattle.sja_bus.specs.Inside.RunningOn.{MayRunOn, RowsStop};
+ghost use Rattle.sja_bus.specs.Inside.Longest.{KeepsRows, RunsLongest};
+ghost use Rattle.sja_bus.specs.Inside.RunningOn.{AllAtRest, SomeAborts, SomeFull, SomeUntold};
 
 use super::all_nodes::sample_all;
 use super::board::Board;
@@ -97,7 +95,7 @@ impl Bus {
         if let Some(fault) = self.fault {
             return Err(fault);
         }
-        Ok(count.min(self.left))
+        Ok(fewer(count, self.left))
     }
 
     /// Further bits, at most so many: as far as no strike falls and no abort stands at any port, with `to_rest` as long
@@ -154,29 +152,27 @@ pub(crate) fn untaken_bits<E: BusEnd, B: Board>(
     seats: &mut [Seat],
     links: &mut [E],
     board: &mut B,
-    struck: &StruckBits,
-    from: u32,
+    struck: &mut StruckBits,
+    from: u64,
     most: u32,
     to_rest: bool,
 ) -> Result<u32, BrokenBit>
     requires seated { AreSeated E.link seats.old links.old (B.ports board.old) }
     requires may { MayRunOn B.Board board.old seats.old }
-    requires bus { IsBus struck.now.script from seats.old }
-    requires within { (from + most ≤ struck.now.written) × (from + most ≤ 2000000) }
-    ensures sames { EachRelated E.same links.old links.new }
-    ensures others { KeepsOthers B.ports B.kept (length seats.old) board.old board.new }
+    requires bus { IsBus struck.old.script from seats.old }
+    requires within { from + most ≤ struck.old.bits }
+    ensures same { struck.new ≡ struck.old }
+    ensures keeps { KeepsRows E.BusEnd B.Board seats.old seats.new links.old links.new board.old board.new }
     ensures most { MatchResult result (λ n. n ≤ most) (λ f. f.after < most) }
-    ensures free { IfOk result (λ n. AreFree n seats.old) }
-    ensures ends { IfOk result (λ n. RowsEnd (B.told board.old board.new) to_rest struck.now.script from most
-        seats.old seats.new n) }
-    ensures runs { IfOk result (λ n. RowsRun E.BusEnd B.Board to_rest struck.now.script from most
+    ensures runs { IfOk result (λ n. RunsLongest E.BusEnd B.Board to_rest struck.old.script from most
         seats.old seats.new links.old links.new board.old board.new n) }
-    ensures breaks { IfErr result (λ f. RowsStop E.BusEnd B.Board to_rest struck.now.script from most
+    ensures breaks { IfErr result (λ f. RowsStop E.BusEnd B.Board to_rest struck.old.script from most
         seats.old seats.new links.old links.new board.old board.new f) }
 {
-    let (marks, mut level) = (struck.part(from, room_of(seats, most)), level_of(seats));
-    let mut run = 0;
-    while run < marks.len() as u32 && goes_on(seats, marks[run as usize], to_rest) {
+    let fit = room_of(seats, most);
+    let calm = struck.quiet_for(from, fit);
+    let (mut run, mut level) = (0, level_of(seats));
+    while run < calm && goes_on(seats, to_rest) {
         let end = match sample_all(seats, links, level, StruckNodes::none(), board) {
             Ok(end) => end,
             Err(fault) => return Err(BrokenBit { after: run, fault }),
@@ -185,28 +181,21 @@ pub(crate) fn untaken_bits<E: BusEnd, B: Board>(
         if end.told {
             return Ok(run);
         }
-        let together = run_together(seats, &marks[run as usize..], run, to_rest);
+        let together = run_together(seats, calm - run, run, to_rest);
         run += together;
         level = level_after(seats, together, end.level);
     }
     Ok(run)
 }
 
-/// Whether these are no nodes, and some node works, where that is asked for.
+/// Whether some node works, where that is asked for.
 #[inline(always)]
-fn goes_on(seats: &[Seat], struck: StruckNodes, to_rest: bool) -> bool
-    ensures none { result ≡ true → (node : ℕ) → IsAmong node struck → ⊥ }
+fn goes_on(seats: &[Seat], to_rest: bool) -> bool
     ensures works { result ≡ true → to_rest ≡ true → (k : ℕ) × (k < length seats.now)
         × ((s : Seated) → ShowsRest (slice_index_or seats.now k s).node false) }
-    ensures no { result ≡ false → SomeStruck struck ⊎ ((to_rest ≡ true) × AllAtRest seats.now) }
+    ensures no { result ≡ false → (to_rest ≡ true) × AllAtRest seats.now }
 {
-    if !struck.is_empty() {
-        return false;
-    }
-    if to_rest {
-        return !are_at_rest(seats);
-    }
-    true
+    if to_rest { !are_at_rest(seats) } else { true }
 }
 
 /// The level that all drive next: this one, where no bit more was run together.
@@ -216,6 +205,15 @@ fn level_after(seats: &[Seat], together: u32, level: Level) -> Level
     ensures { result ≡ wired (driven_by seats.now) }
 {
     if together > 0 { level_of(seats) } else { level }
+}
+
+/// As many of these as are left.
+pub(crate) fn fewer(count: u32, left: u64) -> u32
+    ensures count { result ≤ count }
+    ensures left { result ≤ left }
+    ensures whole { (result ≡ count) ⊎ (result ≡ left) }
+{
+    u64::from(count).min(left) as u32
 }
 
 /// For how many bits that are entered alone each journal has room, at most so many.

@@ -19,14 +19,15 @@ use std::marker::Model;
 ///
 /// Contracts see it as its script, for how many steps of each driver it has room, the bits that were run and those that
 /// are left, the fault that it answers always, the journals of its nodes, and of which node something is untold to its
-/// port. All its room is reserved when it is made: no bit takes memory, and a strike more alone does.
+/// port. All its memory is taken when it is made: no bit takes any, and a strike more alone does. So in a bus for very
+/// many bits the journals forget their oldest entries.
 #[derive(Debug, Drop)]
 pub struct Bus {
     pub(crate) struck: StruckBits,
     /// For how many steps of each node's driver its journal has room.
-    steps: Vec<u32>,
-    pub(crate) run: u32,
-    pub(crate) left: u32,
+    steps: Vec<u64>,
+    pub(crate) run: u64,
+    pub(crate) left: u64,
     pub(crate) fault: Option<BusFault>,
     pub(crate) seats: Vec<Seat>,
     logs: Vec<NodeLog>,
@@ -57,7 +58,8 @@ impl Model for Bus {
 }
 
 impl Bus {
-    ghost use Rattle.std.specs.Prelude.{◌≡◌, ◌+◌, ◌*◌, ◌<◌, ◌≤◌, ◌⊎◌, ◌≢◌, ℕ, None, Some, Err};
+    ghost use Rattle.std.specs.Prelude.{◌≡◌, ◌+◌, ◌*◌, ◌^◌, ◌<◌, ◌≤◌, ◌⊎◌, ◌≢◌, ℕ, None, Some, Err};
+    ghost use Rattle.std.specs.List.{All};
     ghost use Rattle.std.specs.Prelude.{true, false, length, map, slice_index_or, OnOk, IfOk, IfErr};
     ghost use Rattle.sja_wire.specs.declared.bus_fault.BusFault.{BusFault as Fault};
     ghost use Rattle.sja_wire.specs.declared.bus_fault.BusFault.TheVariants.{BitsSpent};
@@ -69,21 +71,23 @@ impl Bus {
     ghost use Rattle.sja_wire.specs.Buses.{EachJournal, KeepsAll, AllDry};
     ghost use Rattle.sja_wire.specs.Buses.{new_bus, EachUntold, IsStill};
     ghost use Rattle.sja_wire.specs.Reasons.{IsTakenAndRefused, StopsBit};
+    ghost use Rattle.sja_wire.specs.Keeping.{KeepsRecord};
     ghost use Rattle.sja_bus.specs.TakingAll.{TakesAll};
     ghost use Rattle.sja_bus.specs.Moment.{moment, Keeps, OneBit};
 
-    /// A bus for a run of so many bits, 1 to 2,000,000. It has as many nodes, 1 to 8, as numbers of steps are given:
-    /// the journal of each has room for what its driver gives in so many steps. All its room is reserved here.
+    /// A bus for a run of so many bits, 1 to 2^62. It has as many nodes, 1 to 8, as numbers of steps are given: the
+    /// journal of each has room for what its driver gives in so many steps, each at most 2^58. Memory is taken here.
     ///
     /// Error: [`OutOfMemory`] where memory was refused.
     pub fn new(
         alloc: Global,
-        bits: u32,
-        steps: Vec<u32>,
+        bits: u64,
+        steps: Vec<u64>,
         script: FaultScript,
     ) -> Result<Bus, OutOfMemory>
         requires nodes { (1 ≤ length steps.items) × (length steps.items ≤ 8) }
-        requires bits { (1 ≤ bits) × (bits ≤ 2000000) }
+        requires bits { (1 ≤ bits) × (bits ≤ 2 ^ 62) }
+        requires steps { All (λ n. n ≤ 2 ^ 58) steps.items }
         ensures { IfOk result (λ b. b ≡ new_bus script bits (length steps.items) steps.items) }
     {
         let count = steps.len();
@@ -205,7 +209,7 @@ impl Bus {
 
     /// How many bits were run. What holds of every bus without a fault is said beside it: by every cut of each node's
     /// record the verdicts are right, and what each node saw in each bit is what the wire had.
-    pub fn bits_run(&self) -> u32
+    pub fn bits_run(&self) -> u64
         ensures value { result ≡ self.now.run }
         ensures lawful { self.now.fault ≡ None → IsBusRun self.now.script self.now.run self.now.journals }
     {
@@ -213,16 +217,17 @@ impl Bus {
     }
 
     /// How many bits are left.
-    pub fn bits_left(&self) -> u32
+    pub fn bits_left(&self) -> u64
         ensures { result ≡ self.now.left }
     {
         self.left
     }
 
-    /// What is left of the nodes, in order: each journal, and the error counters at its end. By every cut of a
-    /// journal's record, and there is one alone, the verdicts and the counters are right; what each node saw in each
-    /// bit is what the wire had.
+    /// What is left of the nodes of a bus that keeps its record, in order: each journal, and the error counters at its
+    /// end. By every cut of a journal's record, and there is one alone, the verdicts and the counters are right; what
+    /// each node saw in each bit is what the wire had.
     pub fn finish(self) -> Vec<NodeLog>
+        requires kept { KeepsRecord (self.run + self.left) self.steps (length self.journals) }
         ensures journals { map (λ g. g.journal.entries) result.items ≡ self.journals }
         ensures lawful { self.fault ≡ None →
             IsBusRun self.script self.run (map (λ g. g.journal.entries) result.items) }

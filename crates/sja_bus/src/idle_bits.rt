@@ -4,9 +4,11 @@ ghost use Rattle.std.specs.Prelude.{◌≡◌, ◌<◌, ℕ, true, false, length
 ghost use Rattle.can_node.specs.Stands.{ShowsRest};
 ghost use Rattle.sja_bus.specs.declared.seat.Seat.{Seat as Seated};
 ghost use Rattle.sja_bus.specs.Inside.Idling.{AreResting, IsOneAwake, all_after, IsFullBy};
-ghost use Rattle.sja_bus.specs.Inside.Refusing.{AreFree};
+ghost use Rattle.sja_bus.specs.Inside.Refusing.{AreFree, HaveRoom};
+ghost use Rattle.sja_link.specs.Written.{Room};
 ghost use Rattle.sja_bus.specs.Inside.Rows.{AreReady};
 
+use super::bits::fewer;
 use super::board::Board;
 use super::bus::Bus;
 use super::port_news::PortNews;
@@ -89,14 +91,15 @@ impl Bus {
             IsOutOfEntries (self.old.run + self.old.left) self.old.steps self.old.left self.old.journals
             self.new.journals f) }
     {
-        let bits = self.struck.quiet_for(self.run, count.min(self.left));
+        let most = fewer(count, self.left);
+        let bits = self.struck.quiet_for(self.run, most);
         if bits == 0 || !are_resting(self.seats.as_slice()) {
             return Ok(0);
         }
         match all_enter_idle_bits(self.seats.as_mut_slice(), bits) {
             Ok(()) => {
-                self.run += bits;
-                self.left -= bits;
+                self.run += bits as u64;
+                self.left -= bits as u64;
                 Ok(bits)
             }
             Err(fault) => {
@@ -140,6 +143,7 @@ pub(crate) fn are_at_rest(seats: &[Seat]) -> bool
 /// So many recessive bits of all nodes, which are at rest.
 fn all_enter_idle_bits(seats: &mut [Seat], count: u32) -> Result<(), BusFault>
     requires ready { AreReady seats.old }
+    ensures rooms { (n : ℕ → Room) → HaveRoom n seats.old → HaveRoom n seats.new }
     ensures rested { OnOk result (seats.new ≡ all_after count seats.old) }
     ensures full { IfErr result (λ f. IsFullBy count seats.old seats.new f) }
 {
@@ -187,6 +191,7 @@ impl Seat {
 
     /// So many recessive bits of a node at rest: they change nothing but the journal.
     fn enter_idle_bits(&mut self, count: u32) -> Result<(), BusFault>
+        ensures room { self.new.journal.room ≡ self.old.journal.room }
         ensures rested { OnOk result (self.new ≡ after_bits count self.old) }
         ensures full { IfErr result (λ f. IsFullAfter count self.old self.new f) }
     {

@@ -81,7 +81,7 @@ impl Seat {
         ensures free { result ≡ true → length self.now.journal.entries < self.now.journal.room.all }
     {
         if let PortNews::Nothing = self.untold {
-            self.journal.free() > 0
+            self.journal.is_open()
         } else {
             false
         }

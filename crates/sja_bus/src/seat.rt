@@ -7,7 +7,7 @@ use super::port_news::PortNews;
 use can_bits::Level;
 use can_frame::OutOfMemory;
 use can_node::Node;
-use sja_link::{BusLedger, Entry, Journal, LinkId};
+use sja_link::{BusLedger, Entry, LinkId, Recorder};
 use sja_wire::BusFault;
 use std::alloc::Global;
 
@@ -19,7 +19,7 @@ pub(crate) struct Seat {
     pub(crate) drives: Level,
     /// The bytes that are free in the activation that is read.
     pub(crate) ledger: BusLedger,
-    pub(crate) journal: Journal,
+    pub(crate) journal: Recorder,
     /// How many activations have ended.
     pub(crate) ended: u8,
     pub(crate) activity: Activity,
@@ -29,7 +29,7 @@ pub(crate) struct Seat {
 
 impl Seat {
     ghost use Rattle.std.specs.Prelude.{◌≡◌, ◌<◌, [], ◌∷◌, ◌++◌, OnOk, IfErr, length, ◌≢◌, ◌+◌, true, false};
-    ghost use Rattle.std.specs.Prelude.{IfOk};
+    ghost use Rattle.std.specs.Prelude.{IfOk, ◌^◌, ◌≤◌};
     ghost use Rattle.sja_link.specs.Written.{Fits, room_in};
     ghost use Rattle.sja_link.specs.BusLedgers.{link_of, free_in};
     ghost use Rattle.sja_link.specs.declared.entry.Entry.TheVariants.{Bit as BitEntry};
@@ -42,14 +42,15 @@ impl Seat {
     /// many steps.
     ///
     /// Error: [`OutOfMemory`] where memory was refused.
-    pub(crate) fn new(alloc: Global, number: u8, bits: u32, steps: u32) -> Result<Seat, OutOfMemory>
+    pub(crate) fn new(alloc: Global, number: u8, bits: u64, steps: u64) -> Result<Seat, OutOfMemory>
+        requires few { (bits ≤ 2 ^ 62) × (steps ≤ 2 ^ 58) }
         ensures ready { IfOk result (λ s. IsReady s) }
         ensures own { IfOk result (λ s. (link_of s.ledger).node ≡ number) }
         ensures empty { IfOk result (λ s. s.journal.entries ≡ []) }
         ensures room { IfOk result (λ s. s.journal.room ≡ room_in bits steps) }
         ensures untold { IfOk result (λ s. s.untold ≡ Nothing) }
     {
-        let journal = Journal::new(alloc, bits, steps)?;
+        let journal = Recorder::new(alloc, bits, steps)?;
         let node = Node::new();
         let drives = node.drive();
         let ledger = BusLedger::new(LinkId {

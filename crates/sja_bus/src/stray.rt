@@ -10,8 +10,7 @@ ghost use Rattle.sja_bus.specs.Inside.Together.{AreQuietRows, MayRunTogether, Re
 ghost use Rattle.sja_bus.specs.Inside.Together.{SeatGoesBeside};
 
 use super::seat::Seat;
-use super::struck_nodes::StruckNodes;
-use super::together::{MOST, unstruck};
+use super::together::{MOST, at_once};
 use can_bits::{Level, Shift};
 
 /// Runs bits of all nodes in which nothing happens, where one sends the stuffed part of a frame, another one receives
@@ -19,7 +18,7 @@ use can_bits::{Level, Shift};
 #[inline(never)]
 pub(crate) fn run_beside(
     seats: &mut [Seat],
-    struck: &[StruckNodes],
+    calm: u32,
     lead: usize,
     stray: usize,
     to_rest: bool,
@@ -28,12 +27,12 @@ pub(crate) fn run_beside(
     requires other { stray ≢ lead }
     requires reads { (s : Seated) → HasReadAs (slice_index_or seats.old stray s).node
         (reader_of (slice_index_or seats.old stray s).node) }
-    requires may { MayRunTogether (length struck.now) seats.old }
-    ensures { RunsTogether to_rest struck.now seats.old result seats.new }
+    requires may { MayRunTogether calm seats.old }
+    ensures { RunsTogether to_rest calm seats.old result seats.new }
 {
     let rest = rest_goes(seats, lead, stray);
     let mut levels = [Level::Recessive; MOST];
-    let most = unstruck(struck).min(usize::from(rest));
+    let most = at_once(calm, rest);
     run_strayed(seats, lead, stray, &mut levels[..most]) as u32
 }
 

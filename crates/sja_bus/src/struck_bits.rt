@@ -1,50 +1,53 @@
 //! Whom a script strikes in each bit of a run.
 
-ghost use Rattle.std.specs.Prelude.{◌+◌, ◌*◌, ◌<◌, ◌↔◌, ℕ, []};
-ghost use Rattle.sja_script.specs.Striking.{Hits};
-ghost use Rattle.sja_bus.specs.Inside.StrikesByBit.{IsMarked, AreStruck};
+ghost use Rattle.std.specs.Prelude.{◌≡◌, ◌≤◌, []};
+ghost use Rattle.sja_bus.specs.Inside.StrikesByBit.{IsTableOf};
 
+use super::bits::fewer;
+use super::coming::{next_strike, struck_by};
 use super::struck_nodes::StruckNodes;
+use super::struck_table::StruckTable;
 use can_frame::OutOfMemory;
-use sja_script::{FaultScript, MOST_NODES, Strike};
+use sja_script::{FaultScript, Strike};
 use std::alloc::Global;
 use std::marker::Model;
 
-/// Of each bit of a run the nodes that its script strikes, one byte a bit, so that no bit of the bus goes over all
-/// strikes. While nobody is struck the bytes of later bits aren't written yet, for which there is room.
+/// How many bits a run has at most whose strikes are written down bit by bit.
+const MOST_WRITTEN: u64 = 4_194_304;
+
+/// Of each bit of a run the nodes that its script strikes: written down bit by bit, so that no bit of the bus goes over
+/// all strikes, or in a run of more bits than memory is for by its strikes alone.
 ///
-/// Contracts see it as the script, with the strikes that came later at its end, the number of bits, and of how many
-/// the bytes are written.
+/// Contracts see it as the script, with the strikes that came later at its end, and the number of bits.
 #[derive(Debug, Drop)]
 pub(crate) struct StruckBits {
     script: FaultScript,
     /// The strikes that came later, one by one.
     later: Vec<Strike>,
-    most: u32,
-    bits: Vec<StruckNodes>,
+    most: u64,
+    /// Of all bits, or of none where they are too many.
+    table: StruckTable,
+    /// From this bit up to `calm_to`, that one left out, nobody is struck, and in `calm_to` somebody is, or it is the
+    /// end of the run. Nothing is known where it is greater.
+    calm_from: u64,
+    calm_to: u64,
 }
 
 impl Model for StruckBits {
-    ghost use Rattle.std.specs.Prelude.{◌≡◌, ◌++◌, length, vec_capacity};
-    ghost use Rattle.sja_bus.specs.Inside.StrikesByBit.{Scripted, AreStruck, IsWritten};
+    ghost use Rattle.std.specs.Prelude.{◌++◌};
+    ghost use Rattle.sja_bus.specs.Inside.StrikesByBit.{Scripted, IsHeld};
 
     ghost Value = { Scripted };
 
-    ghost view = { λ s. record {
-      script = s.script ++ s.later.items;
-      bits = s.most;
-      written = length s.bits.items;
-    } };
+    ghost view = { λ s. record { script = s.script ++ s.later.items; bits = s.most } };
 
-    ghost invariant = { λ s. AreStruck (s.script ++ s.later.items) s.bits.items
-        × IsWritten (s.script ++ s.later.items) s.most (length s.bits.items) (vec_capacity s.bits) };
+    ghost invariant = { λ s. IsHeld (s.script ++ s.later.items) s.most s.table s.calm_from s.calm_to };
 }
 
 impl StruckBits {
-    ghost use Rattle.std.specs.Prelude.{◌≡◌, ◌+◌, ◌<◌, ◌≤◌, ◌⊎◌, ◌↔◌, ◌++◌, ℕ, [], ◌∷◌, length};
-    ghost use Rattle.std.specs.Prelude.{IfOk, OnOk, OnErr};
+    ghost use Rattle.std.specs.Prelude.{◌≡◌, ◌+◌, ◌<◌, ◌≤◌, ◌⊎◌, ◌↔◌, ◌++◌, ℕ, [], ◌∷◌, IfOk, OnOk, OnErr};
     ghost use Rattle.sja_script.specs.Striking.{Strikes};
-    ghost use Rattle.sja_bus.specs.Inside.StrikesByBit.{IsAmong, AreStruckFrom};
+    ghost use Rattle.sja_bus.specs.Inside.StrikesByBit.{IsAmong, IsUnstruck, IsStruckOrEnd};
 
     /// Whom this script strikes in each of so many bits.
     ///
@@ -52,24 +55,20 @@ impl StruckBits {
     pub(crate) fn new(
         alloc: Global,
         script: FaultScript,
-        bits: u32,
+        bits: u64,
     ) -> Result<StruckBits, OutOfMemory>
-        ensures { IfOk result (λ s. s ≡ record { script = script; bits = bits; written = s.written }) }
+        ensures { IfOk result (λ s. s ≡ record { script = script; bits = bits }) }
     {
-        let mut struck = Vec::with_capacity(alloc, bits as usize)?;
-        let written = if script.as_slice().is_empty() {
-            0
-        } else {
-            bits
-        };
-        // The room is reserved, so that no memory is asked for.
-        let _ = struck.resize(written as usize, StruckNodes::none());
-        mark_all(struck.as_mut_slice(), script.as_slice());
+        let written = if bits <= MOST_WRITTEN { bits } else { 0 };
+        let mut table = StruckTable::new(alloc, written as usize)?;
+        strike_all(&mut table, script.as_slice());
         Ok(StruckBits {
             script,
             later: Vec::new(alloc),
             most: bits,
-            bits: struck,
+            table,
+            calm_from: 1,
+            calm_to: 0,
         })
     }
 
@@ -77,116 +76,90 @@ impl StruckBits {
     ///
     /// Error: [`OutOfMemory`] where memory was refused; nothing changed.
     pub(crate) fn strike(&mut self, strike: Strike) -> Result<(), OutOfMemory>
-        ensures struck { OnOk result (self.new
-            ≡ record self.old { script = self.old.script ++ strike ∷ []; written = self.new.written }) }
+        ensures struck { OnOk result (self.new ≡ record self.old { script = self.old.script ++ strike ∷ [] }) }
         ensures kept { OnErr result (self.new ≡ self.old) }
     {
         self.later.push(strike)?;
-        // The room is reserved, so that no memory is asked for.
-        let _ = self.bits.resize(self.most as usize, StruckNodes::none());
-        mark(self.bits.as_mut_slice(), &strike);
+        self.table.strike(&strike);
+        if u64::from(strike.bit) <= self.calm_to {
+            self.calm_from = 1;
+            self.calm_to = 0;
+        }
         Ok(())
     }
 
     /// The nodes that are struck in this bit.
     #[inline(always)]
-    pub(crate) fn at(&self, bit: u32) -> StruckNodes
+    pub(crate) fn at(&self, bit: u64) -> StruckNodes
         requires { bit < self.now.bits }
         ensures { (node : ℕ) → node < 8 → IsAmong node result ↔ Strikes self.now.script bit node }
     {
-        if (bit as usize) < self.bits.len() {
-            return self.bits[bit as usize];
+        if self.most <= MOST_WRITTEN {
+            return self.table.at(bit as usize);
         }
-        StruckNodes::none()
-    }
-
-    /// Writes the bytes of so many of the first bits, at least.
-    pub(crate) fn write(&mut self, count: u32)
-        requires { count ≤ self.old.bits }
-        ensures written { count ≤ self.new.written }
-        ensures kept { self.new ≡ record self.old { written = self.new.written } }
-    {
-        if self.bits.len() < count as usize {
-            // The room is reserved, so that no memory is asked for.
-            let _ = self.bits.resize(count as usize, StruckNodes::none());
+        if bit >= self.calm_from && bit < self.calm_to {
+            return StruckNodes::none();
         }
-    }
-
-    /// The nodes that are struck in each of so many bits whose bytes are written, from this one on.
-    #[inline(always)]
-    pub(crate) fn part(&self, from: u32, most: u32) -> &[StruckNodes]
-        requires { from + most ≤ self.now.written }
-        ensures count { length result.now ≡ most }
-        ensures struck { AreStruckFrom self.now.script from result.now }
-    {
-        let first = from as usize;
-        &self.bits[first..first + most as usize]
+        let mut nodes = StruckNodes::none();
+        struck_by(self.script.as_slice(), bit, &mut nodes);
+        struck_by(self.later.as_slice(), bit, &mut nodes);
+        nodes
     }
 
     /// How many bits, from this one on and at most `most`, strike no node.
-    pub(crate) fn quiet_for(&self, from: u32, most: u32) -> u32
-        requires { from ≤ self.now.bits }
+    pub(crate) fn quiet_for(&mut self, from: u64, most: u32) -> u32
+        requires { from + most ≤ self.old.bits }
+        ensures same { self.new ≡ self.old }
         ensures most { result ≤ most }
-        ensures within { from + result ≤ self.now.bits }
-        ensures quiet { (bit node : ℕ) → from ≤ bit → bit < from + result → node < 8 →
-            Strikes self.now.script bit node → ⊥ }
-        ensures longest { (result ≡ most) ⊎ (from + result ≡ self.now.bits)
-            ⊎ ((node : ℕ) × (node < 8) × Strikes self.now.script (from + result) node) }
+        ensures quiet { IsUnstruck self.old.script from (from + result) }
+        ensures longest { (result ≡ most)
+            ⊎ ((node : ℕ) × (node < 8) × Strikes self.old.script (from + result) node) }
     {
-        let left = self.most - from;
-        let end = from + left.min(most);
-        let written = self.bits.len() as u32;
-        if written < self.most {
-            return end - from;
+        let next = self.next_from(from);
+        fewer(most, next - from)
+    }
+
+    /// The first bit from this one on in which a node is struck, or the end of the run. It is kept for the next call.
+    fn next_from(&mut self, from: u64) -> u64
+        requires { from ≤ self.old.bits }
+        ensures same { self.new ≡ self.old }
+        ensures on { from ≤ result }
+        ensures within { result ≤ self.old.bits }
+        ensures quiet { IsUnstruck self.old.script from result }
+        ensures stop { IsStruckOrEnd self.old result }
+    {
+        if from >= self.calm_from && from <= self.calm_to {
+            return self.calm_to;
         }
-        for bit in from..end {
-            if !self.bits[bit as usize].is_empty() {
-                return bit - from;
-            }
+        let next = self.next_struck(from);
+        self.calm_from = from;
+        self.calm_to = next;
+        next
+    }
+
+    /// The same, looked for.
+    fn next_struck(&self, from: u64) -> u64
+        requires { from ≤ self.now.bits }
+        ensures on { from ≤ result }
+        ensures within { result ≤ self.now.bits }
+        ensures quiet { IsUnstruck self.now.script from result }
+        ensures stop { IsStruckOrEnd self.now result }
+    {
+        if self.most <= MOST_WRITTEN {
+            return self.table.next_struck(from as usize) as u64;
         }
-        end - from
+        let first = next_strike(self.script.as_slice(), from, self.most);
+        next_strike(self.later.as_slice(), from, first)
     }
 }
 
 /// Marks in each bit the nodes that these strikes hit.
-fn mark_all(bits: &mut [StruckNodes], script: &[Strike])
-    requires { AreStruck [] bits.old }
-    ensures { AreStruck script.now bits.new }
+fn strike_all(table: &mut StruckTable, script: &[Strike])
+    requires { IsTableOf [] table.old }
+    ensures struck { IsTableOf script.now table.new }
+    ensures bits { table.new.bits ≡ table.old.bits }
 {
     for strike in script {
-        mark(bits, strike);
+        table.strike(strike);
     }
-}
-
-/// Marks the bits that one strike hits.
-fn mark(bits: &mut [StruckNodes], strike: &Strike)
-    ensures { IsMarked strike.now bits.old bits.new }
-{
-    if strike.node >= MOST_NODES {
-        return;
-    }
-    let node = strike.node as usize;
-    let first = strike.bit as usize;
-    let every = strike.every as usize;
-    for time in 0..times_within(strike, bits.len()) {
-        bits[first + time * every].add(node);
-    }
-}
-
-/// So many of the times of a strike, from the first on, hit all of the first bits that it hits.
-fn times_within(strike: &Strike, bits: usize) -> usize
-    ensures within { (time : ℕ) → time < result → strike.now.bit + time * strike.now.every < bits }
-    ensures all { (bit node : ℕ) → bit < bits →
-        Hits strike.now bit node ↔ Hits (record strike.now { times = result }) bit node }
-{
-    let first = strike.bit as usize;
-    let every = strike.every as usize;
-    let times = strike.times as usize;
-    if first >= bits || times == 0 {
-        return 0;
-    }
-    if every == 0 {
-        return 1;
-    }
-    times.min((bits - first - 1) / every + 1)
 }

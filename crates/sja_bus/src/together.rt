@@ -4,7 +4,6 @@
 ghost use Rattle.std.specs.Prelude.{◌≡◌, ◌≢◌, ◌*◌, ◌<◌, ◌≤◌, Bool, true, length, slice_index_or, IfSome, IfOk};
 ghost use Rattle.std.specs.Prelude.{IfErr};
 ghost use Rattle.sja_bus.specs.declared.seat.Seat.{Seat as Seated};
-ghost use Rattle.sja_bus.specs.Inside.StrikesByBit.{AreUnstruck};
 ghost use Rattle.sja_bus.specs.Inside.Refusing.{AreFree};
 ghost use Rattle.sja_bus.specs.Inside.Rows.{EachSeat};
 ghost use Rattle.sja_bus.specs.Inside.Together.{AreQuietRows, IsLed, MayRunTogether, OthersGo, RunsTogether};
@@ -13,7 +12,6 @@ ghost use Rattle.sja_bus.specs.Inside.Together.{SeatGoesOn};
 use super::idle_bits::{all_rest, are_at_rest};
 use super::seat::Seat;
 use super::stray::run_beside;
-use super::struck_nodes::StruckNodes;
 use can_bits::{Level, Shift};
 
 /// How many bits are run together at most: more than the stuffed part of a frame has.
@@ -23,21 +21,16 @@ pub(crate) const MOST: usize = 160;
 /// many. To look at each bit would cost more, where a node has lost the frame that the others are in.
 const EACH: u32 = 4;
 
-/// Runs bits of all nodes in which nothing happens, as long as no node is struck: where one node sends the stuffed part
-/// of a frame and all others go on with it, or every node is at rest and it isn't asked that some node works. `run`
-/// bits were run before these. Answers how many.
+/// Runs bits of all nodes in which nothing happens, at most so many, in which no node is struck: where one node sends
+/// the stuffed part of a frame and all others go on with it, or every node is at rest and it isn't asked that some node
+/// works. `run` bits were run before these. Answers how many.
 #[inline(always)]
-pub(crate) fn run_together(
-    seats: &mut [Seat],
-    struck: &[StruckNodes],
-    run: u32,
-    to_rest: bool,
-) -> u32
-    requires { MayRunTogether (length struck.now) seats.old }
-    ensures { RunsTogether to_rest struck.now seats.old result seats.new }
+pub(crate) fn run_together(seats: &mut [Seat], calm: u32, run: u32, to_rest: bool) -> u32
+    requires { MayRunTogether calm seats.old }
+    ensures { RunsTogether to_rest calm seats.old result seats.new }
 {
     if run % EACH == 1 {
-        run_at_once(seats, struck, to_rest)
+        run_at_once(seats, calm, to_rest)
     } else {
         0
     }
@@ -45,27 +38,27 @@ pub(crate) fn run_together(
 
 /// The same at whatever bit.
 #[inline(never)]
-fn run_at_once(seats: &mut [Seat], struck: &[StruckNodes], to_rest: bool) -> u32
-    requires { MayRunTogether (length struck.now) seats.old }
-    ensures { RunsTogether to_rest struck.now seats.old result seats.new }
+fn run_at_once(seats: &mut [Seat], calm: u32, to_rest: bool) -> u32
+    requires { MayRunTogether calm seats.old }
+    ensures { RunsTogether to_rest calm seats.old result seats.new }
 {
     match sender(seats) {
-        Some(lead) => run_sent(seats, struck, lead, to_rest),
-        None => run_idle(seats, struck, to_rest),
+        Some(lead) => run_sent(seats, calm, lead, to_rest),
+        None => run_idle(seats, calm, to_rest),
     }
 }
 
 /// The same, where this node sends.
 #[inline(always)]
-fn run_sent(seats: &mut [Seat], struck: &[StruckNodes], lead: usize, to_rest: bool) -> u32
+fn run_sent(seats: &mut [Seat], calm: u32, lead: usize, to_rest: bool) -> u32
     requires few { lead < length seats.old }
-    requires may { MayRunTogether (length struck.now) seats.old }
-    ensures { RunsTogether to_rest struck.now seats.old result seats.new }
+    requires may { MayRunTogether calm seats.old }
+    ensures { RunsTogether to_rest calm seats.old result seats.new }
 {
     match others_go(seats, lead) {
         Ok(most) => {
             let mut levels = [Level::Recessive; MOST];
-            let most = unstruck(struck).min(usize::from(most));
+            let most = at_once(calm, most);
             run_led(seats, lead, &mut levels[..most]) as u32
         }
         Err(stray) => {
@@ -73,16 +66,15 @@ fn run_sent(seats: &mut [Seat], struck: &[StruckNodes], lead: usize, to_rest: bo
             if !seats[stray].node.has_read_as(&reader) {
                 return 0;
             }
-            run_beside(seats, struck, lead, stray, to_rest)
+            run_beside(seats, calm, lead, stray, to_rest)
         }
     }
 }
 
-/// Runs bits of all nodes as long as none is struck, where each is at rest and it isn't asked that some node works.
-/// Answers how many.
-fn run_idle(seats: &mut [Seat], struck: &[StruckNodes], to_rest: bool) -> u32
-    requires { MayRunTogether (length struck.now) seats.old }
-    ensures { RunsTogether to_rest struck.now seats.old result seats.new }
+/// Runs so many bits of all nodes, where each is at rest and it isn't asked that some node works. Answers how many.
+fn run_idle(seats: &mut [Seat], calm: u32, to_rest: bool) -> u32
+    requires { MayRunTogether calm seats.old }
+    ensures { RunsTogether to_rest calm seats.old result seats.new }
 {
     if to_rest {
         return 0;
@@ -90,40 +82,18 @@ fn run_idle(seats: &mut [Seat], struck: &[StruckNodes], to_rest: bool) -> u32
     if !are_at_rest(seats) {
         return 0;
     }
-    let count = unstruck(struck) as u32;
-    all_rest(seats, count);
-    count
+    all_rest(seats, calm);
+    calm
 }
 
-/// In how many of these bits, from the first one on and at most [`MOST`], no node is struck.
-pub(crate) fn unstruck(struck: &[StruckNodes]) -> usize
-    ensures most { result ≤ 160 }
-    ensures few { result ≤ length struck.now }
-    ensures none { AreUnstruck result struck.now }
-{
-    let most = struck.len().min(MOST);
-    if are_unstruck(&struck[..most]) {
-        return most;
-    }
-    for k in 0..most {
-        if !struck[k].is_empty() {
-            return k;
-        }
-    }
-    most
-}
-
-/// Whether no node is struck in any of these bits. It looks at all of them in each case, so that many are looked at in
-/// one instruction.
+/// So many of the bits that strike nobody, and at most [`MOST`].
 #[inline(always)]
-fn are_unstruck(struck: &[StruckNodes]) -> bool
-    ensures { result ≡ true → AreUnstruck (length struck.now) struck.now }
+pub(crate) fn at_once(calm: u32, most: u8) -> usize
+    ensures room { result ≤ 160 }
+    ensures calm { result ≤ calm }
+    ensures most { result ≤ most }
 {
-    let mut none = true;
-    for k in 0..struck.len() {
-        none = none & struck[k].is_empty();
-    }
-    none
+    (calm as usize).min(usize::from(most)).min(MOST)
 }
 
 /// A node that sends a frame.

@@ -92,17 +92,16 @@ impl Bus {
         if !may_run_untaken(self.seats.as_slice(), board) {
             return Ok(0);
         }
-        self.struck.write(self.run + most);
-        let seats = self.seats.as_mut_slice();
-        match untaken_bits(seats, links, board, &self.struck, self.run, most, to_rest) {
+        let (seats, struck) = (self.seats.as_mut_slice(), &mut self.struck);
+        match untaken_bits(seats, links, board, struck, self.run, most, to_rest) {
             Ok(bits) => {
-                self.run += bits;
-                self.left -= bits;
+                self.run += bits as u64;
+                self.left -= bits as u64;
                 Ok(bits)
             }
             Err(broken) => {
-                self.run += broken.after;
-                self.left -= broken.after;
+                self.run += broken.after as u64;
+                self.left -= broken.after as u64;
                 self.fault = Some(broken.fault);
                 Err(broken.fault)
             }

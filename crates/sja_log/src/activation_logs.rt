@@ -3,8 +3,8 @@
 ghost use Rattle.std.specs.Prelude.{◌≡◌, ◌+◌, ◌<◌, ◌≤◌, ◌++◌, length, IfOk};
 ghost use Rattle.sja_link.specs.Lists.{messages};
 ghost use Rattle.sja_driver.specs.AnyDrivers.{opened_of};
-ghost use Rattle.sja_driver.specs.LoggedDrivers.{driver_of, ended_of, IsLawful};
-ghost use Rattle.sja_driver.specs.Logs.{released_of};
+ghost use Rattle.sja_driver.specs.LoggedDrivers.{driver_of, log_of, ended_of, IsLawful};
+ghost use Rattle.sja_driver.specs.Logs.{KeepsLog, released_of};
 ghost use Rattle.sja_log.specs.Finishing.{held_after, activation_after, AreActivations};
 
 use super::activation_log::ActivationLog;
@@ -24,6 +24,7 @@ pub(crate) fn activation_logs(
     base: usize,
 ) -> Result<Vec<ActivationLog>, OutOfMemory>
     requires lawful { IsLawful driver.now }
+    requires kept { KeepsLog (log_of driver.now) }
     requires lists { base + 64 ≤ length lists.now }
     ensures { IfOk result (λ logs.
         AreActivations driver.now lists.now base (opened_of (driver_of driver.now)) logs.items) }
@@ -48,6 +49,7 @@ fn activation_log(
 ) -> Result<ActivationLog, OutOfMemory>
     requires ended { ended ≤ ended_of driver.now }
     requires few { ended < 64 }
+    requires kept { KeepsLog (log_of driver.now) }
     ensures { IfOk result (λ log. log ≡ activation_after driver.now left_down.now ended) }
 {
     let released = released_in(alloc, driver.log().released(), ended + 1)?;
@@ -99,7 +101,8 @@ fn unread_on(
 
 /// The messages that a driver holds, or held at the end, in the activation after so many.
 fn held_in(driver: &LoggedDriver, ended: usize) -> &[Message]
-    requires { ended ≤ ended_of driver.now }
+    requires ended { ended ≤ ended_of driver.now }
+    requires kept { KeepsLog (log_of driver.now) }
     ensures { result.now ≡ held_after driver.now ended }
 {
     let left = driver.log().left();

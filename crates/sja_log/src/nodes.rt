@@ -2,7 +2,8 @@
 
 ghost use Rattle.std.specs.Prelude.{◌≡◌, ◌+◌, ◌*◌, ◌<◌, ◌≤◌, ℕ, length, IfOk, slice_index_or, vec_len};
 ghost use Rattle.sja_driver.specs.declared.logged_driver.LoggedDriver.{LoggedDriver as Logged};
-ghost use Rattle.sja_driver.specs.LoggedDrivers.{IsLawful};
+ghost use Rattle.sja_driver.specs.LoggedDrivers.{log_of, IsLawful};
+ghost use Rattle.sja_driver.specs.Logs.{KeepsLog};
 ghost use Rattle.sja_log.specs.Finishing.{IsNodeEnd, AreNodeEnds};
 
 use super::activation_logs::activation_logs;
@@ -16,7 +17,8 @@ use sja_wire::NodeLog;
 use std::alloc::Global;
 
 /// What became of each node, by what the bus left of it, its driver, and what lay downward on its links at the end of
-/// the run, of all that was put there: 64 links a node, by node and activation (this project's own rule).
+/// the run, of all that was put there: 64 links a node, by node and activation (this project's own rule). No log of a
+/// driver has forgotten anything.
 ///
 /// Error: [`OutOfMemory`] where memory was refused.
 pub fn node_runs(
@@ -28,6 +30,7 @@ pub fn node_runs(
     requires drivers { length drivers.now ≡ vec_len logs }
     requires lists { length lists.now ≡ 64 * vec_len logs }
     requires lawful { (k : ℕ) (d : Logged) → k < length drivers.now → IsLawful (slice_index_or drivers.now k d) }
+    requires kept { (k : ℕ) (d : Logged) → k < length drivers.now → KeepsLog (log_of (slice_index_or drivers.now k d)) }
     ensures { IfOk result (λ runs. AreNodeEnds logs.items drivers.now lists.now (length drivers.now) runs.items) }
 {
     let mut runs = Vec::with_capacity(alloc, drivers.len())?;
@@ -51,6 +54,7 @@ fn node_run(
     base: usize,
 ) -> Result<NodeRun, OutOfMemory>
     requires lawful { IsLawful driver.now }
+    requires kept { KeepsLog (log_of driver.now) }
     requires lists { base + 64 ≤ length lists.now }
     ensures { IfOk result (IsNodeEnd log driver.now lists.now base) }
 {

@@ -7,6 +7,8 @@ pub mod AfterRound
 pub mod AfterIrq
 pub mod Coming
 pub mod NextTurn
+pub mod Kept
+pub mod AccountsNow
 pub mod Ended
 pub mod Whole
 pub mod Struck

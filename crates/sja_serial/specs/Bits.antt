@@ -1,5 +1,5 @@
 -- What bits do to a run in one thread (this project's own rule).
-use Rattle.std.specs.Prelude.{◌≡◌, ◌+◌, ◌<◌, ℕ, suc, true, false, Bool, List, slice_index_or}
+use Rattle.std.specs.Prelude.{◌≡◌, ◌+◌, ◌<◌, ◌≤◌, ◌⊎◌, ℕ, suc, true, false, Bool, List, slice_index_or}
 use Rattle.sja_link.specs.Records.{record_of}
 use Rattle.sja_link.specs.BitEntries.{HasOneBit}
 use Rattle.sja_bus.specs.Resting.{RestsAs}
@@ -50,9 +50,11 @@ pub record TakesBusTurn (setup : Setup) (deeds : List (List Deed)) (was now : Se
   pub whole : all ≡ true → run ≡ count
   pub spent : all ≡ false → (run < count) × (now.bits ≡ setup.bits)
 
--- `rest` runs bits until every node is at rest, or until the bits are spent while some node isn't
-pub record TakesRest (setup : Setup) (deeds : List (List Deed)) (was now : SerialValue) (rests : Bool) : Type 0 where
+-- `rest` runs bits until every node is at rest, or until so many were run or the bits are spent while some node isn't
+pub record TakesRest (setup : Setup) (deeds : List (List Deed)) (was now : SerialValue) (most : ℕ) (rests : Bool) :
+    Type 0 where
   pub run : ℕ
+  pub few : run ≤ most
   pub bits : TakesBits setup deeds (SomeWorks setup) was run now
   pub whole : rests ≡ true → AllRestIn setup now
-  pub spent : rests ≡ false → SomeWorks setup now × (now.bits ≡ setup.bits)
+  pub spent : rests ≡ false → SomeWorks setup now × ((run ≡ most) ⊎ (now.bits ≡ setup.bits))

@@ -6,7 +6,9 @@ pub mod Serial
 pub mod Stepping
 pub mod Striking
 pub mod Placing
+pub mod Accounts
 -- ---- its end
 pub mod Ending
+pub mod Keeping
 -- ---- definitions of private contracts alone
 pub mod Inside

@@ -1,5 +1,5 @@
 -- A run in one thread, between two steps (this project's own rule).
-use Rattle.std.specs.Prelude.{◌≡◌, ◌+◌, ◌*◌, ◌/◌, ◌<◌, ◌≤◌, ℕ, false, None, List, if◌then◌else◌, length, map}
+use Rattle.std.specs.Prelude.{◌≡◌, ◌+◌, ◌*◌, ◌/◌, ◌^◌, ◌<◌, ◌≤◌, ℕ, false, None, List, if◌then◌else◌, length, map}
 use Rattle.std.specs.Prelude.{slice_index_or}
 use Rattle.sja_link.specs.declared.entry.Entry.{Entry}
 use Rattle.sja_link.specs.Deques.{Deques}
@@ -42,9 +42,9 @@ setup_with version bits strikes steps = record {
   steps = map (most_deeds version) steps;
 }
 
--- what a run may be made for
+-- what a run may be made for: bits and steps that can be counted, and far more than any run comes to
 pub record IsSetup (setup : Setup) : Type 0 where
-  pub bits : (1 ≤ setup.bits) × (setup.bits ≤ 2000000)
+  pub bits : (1 ≤ setup.bits) × (setup.bits ≤ 2 ^ 62)
   pub few : (1 ≤ setup.nodes) × (setup.nodes ≤ 8)
   pub nodes : length setup.steps ≡ setup.nodes
 
@@ -94,12 +94,12 @@ pub record StandsAt (setup : Setup) (r : SerialValue) (deeds : List (List Deed))
       ShowsRecord (journal_at r.bus.journals node) (slice_index_or r.ports node p)
 
 -- of a node: the steps of its driver that its log has as done are these, from power-on they have led to the bytes that
--- are kept for it and to the registers of its port, and there is room for so many
+-- are kept for it and to the registers of its port, and its log was made for so many
 pub record IsAccessed (version size : ℕ) (j : List Entry) (accesses : List Access) (driver : LoggedDriver)
     (port : Registers) : Type 0 where
   pub led : AccessesLeadTo version j accesses (kept_of driver) port
   pub done : map done_of accesses ≡ done_in (log_of driver)
-  pub room : size ≤ done_room (log_of driver)
+  pub room : done_room (log_of driver) ≡ size
 
 -- the deeds that these steps were, of each node
 abbrev pub all_deeds : List (List Access) → List (List Deed)

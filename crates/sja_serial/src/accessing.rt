@@ -116,7 +116,7 @@ impl SerialRun {
     {
         // Asked for what holds of every bus.
         let _ = self.bits_left();
-        if self.bits < bits {
+        if self.bits < (bits as u64) {
             return false;
         }
         let kept = self.kept_by_step(node, &Step::At(bits));

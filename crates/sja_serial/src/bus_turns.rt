@@ -1,5 +1,7 @@
 //! The turns of the bus: so many bits, or bits until every controller is at rest.
 
+ghost use Rattle.std.specs.Prelude.{◌≡◌, min};
+
 use super::serial_run::SerialRun;
 
 impl SerialRun {
@@ -29,17 +31,16 @@ impl SerialRun {
         true
     }
 
-    /// `rest`: bits until every controller is at rest: in reset, or idle with no request. It says whether they came to
-    /// rest before the bits were spent.
-    pub fn rest_turn(&mut self) -> bool
+    /// `rest`: bits until every controller is at rest: in reset, or idle with no request; at most so many, and as many
+    /// as are left. It says whether they came to rest.
+    pub fn rest_turn(&mut self, most: u32) -> bool
         ghost setup: { Setup }
         requires run { IsRunOf setup self.old }
         ensures turn { (deeds : List (List Deed)) → StandsAt setup self.old deeds →
-            TakesRest setup deeds self.old self.new result }
+            TakesRest setup deeds self.old self.new most result }
         ensures stays { IsRunOf setup self.new }
     {
-        let left = self.bits_left();
-        self.run_busy_bits(left);
+        self.run_busy_bits(most);
         self.bus.at_rest()
     }
 
@@ -53,13 +54,13 @@ impl SerialRun {
             TakesBits setup deeds (SomeWorks setup) self.old result self.new }
         ensures whole { (result ≡ count) ⊎ (setup.bits ≤ self.new.bits) ⊎ AllRestIn setup self.new }
     {
-        let most = count.min(self.bits_left());
+        let most = at_most(count, self.bits_left());
         match self
             .bus
             .bits(self.links.as_mut_slice(), &mut self.board, most, true)
         {
             Ok(many) => {
-                self.bits += many;
+                self.bits += many as u64;
                 many
             }
             Err(_) => unreachable!(),
@@ -101,7 +102,7 @@ impl SerialRun {
             .quiet_bits(self.links.as_mut_slice(), &self.board, count)
         {
             Ok(bits) => {
-                self.bits += bits;
+                self.bits += bits as u64;
                 bits
             }
             Err(_) => unreachable!(),
@@ -125,7 +126,7 @@ impl SerialRun {
     }
 
     /// How many bits are left. What holds of every bus is said beside it: by that nothing stops a bit.
-    pub fn bits_left(&self) -> u32
+    pub fn bits_left(&self) -> u64
         ghost setup: { Setup }
         requires { IsRunOf setup self.now }
         ensures left { self.now.bits + result ≡ setup.bits }
@@ -135,5 +136,16 @@ impl SerialRun {
             unreachable!()
         }
         self.bus.bits_left()
+    }
+}
+
+/// So many, or as many as are left.
+pub(crate) fn at_most(count: u32, left: u64) -> u32
+    ensures { result ≡ min count left }
+{
+    if left < (count as u64) {
+        left as u32
+    } else {
+        count
     }
 }

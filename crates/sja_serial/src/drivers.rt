@@ -13,8 +13,8 @@ pub(crate) const FIRST_BY_BYTES: u8 = 3;
 
 /// How many deeds the steps of each driver may be, in this version.
 ///
-/// Error: [`OutOfMemory`] where memory was refused, or where those of one driver are more than 32 bits count.
-pub(crate) fn deeds_for(alloc: Global, version: u8, steps: &[u32]) -> Result<Vec<u32>, OutOfMemory>
+/// Error: [`OutOfMemory`] where memory was refused, or where those of one driver are more than 64 bits count.
+pub(crate) fn deeds_for(alloc: Global, version: u8, steps: &[u64]) -> Result<Vec<u64>, OutOfMemory>
     ensures { IfOk result (λ deeds. deeds.items ≡ map (most_deeds version) steps.now) }
 {
     let mut deeds = Vec::with_capacity(alloc, steps.len())?;
@@ -33,8 +33,8 @@ pub(crate) fn deeds_for(alloc: Global, version: u8, steps: &[u32]) -> Result<Vec
 /// Error: [`OutOfMemory`] where memory was refused.
 pub(crate) fn new_drivers(
     alloc: Global,
-    steps: &[u32],
-    deeds: &[u32],
+    steps: &[u64],
+    deeds: &[u64],
 ) -> Result<Vec<LoggedDriver>, OutOfMemory>
     requires few { length steps.now ≤ 8 }
     requires many { length deeds.now ≡ length steps.now }

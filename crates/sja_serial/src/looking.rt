@@ -9,7 +9,7 @@ impl SerialRun {
     ghost use Rattle.std.specs.Prelude.{◌≡◌, ◌<◌, length, slice_index_or};
 
     /// How many bits were run.
-    pub fn bits(&self) -> u32
+    pub fn bits(&self) -> u64
         ensures { result ≡ self.now.bits }
     {
         self.bits
@@ -41,6 +41,7 @@ impl SerialRun {
     ghost use Rattle.sja_regs.specs.declared.registers.Registers.{Registers};
     ghost use Rattle.sja_regs.specs.InterruptLine.{is_line_active};
     ghost use Rattle.sja_driver.specs.Accesses.{Access};
+    ghost use Rattle.sja_serial.specs.Accounts.{AreAccountsNow};
     ghost use Rattle.sja_serial.specs.Serial.{Setup, StandsAt, StandsBy, IsRunOf};
     ghost use Rattle.sja_wire.specs.Wire.{journal_at};
 
@@ -51,6 +52,18 @@ impl SerialRun {
         ensures { result ≡ setup.version }
     {
         self.board.ports[0].version()
+    }
+
+    /// The headline of each activation that a driver has begun holds at this moment: what it released, followed by what
+    /// lies unread, is what its controller validly received and its filter passed, less what was marked overrun. It
+    /// does nothing: a caller who needs that calls it for its contract.
+    #[inline(always)]
+    pub fn accounts(&self)
+        ghost setup: { Setup }
+        requires { IsRunOf setup self.now }
+        ensures { AreAccountsNow self.now }
+    {
+        let _ = self.bus.bits_run();
     }
 
     /// Whether the interrupt line of a node, counted from 0, is active: some bit of IR is 1, as a read of it would

@@ -19,7 +19,7 @@ pub(crate) fn take_steps(run: &mut SerialRun, plan: &Plan, node: u8, count: u32)
     let place = usize::from(node);
     let steps = plan.steps(place);
     for _ in 0..count {
-        let next = run.driver(place).log().done().len();
+        let next = run.driver(place).log().done_count();
         if next >= steps.len() {
             return;
         }
@@ -49,10 +49,10 @@ pub(crate) fn go_turn(run: &mut SerialRun, plan: &Plan) -> bool
     ensures { (accesses : List (List Access)) → StandsIn plan.now run.old accesses →
         TakesGo plan.now accesses run.old run.new result }
 {
-    for _ in run.bits()..plan.bits() + 1 {
+    for _ in run.bits()..plan.bits() as u64 + 1 {
         take_round(run, plan);
         if none_is_left(run, plan) {
-            return run.rest_turn();
+            return run.rest_turn(plan.bits());
         }
         if !run.bus_turn(1) {
             return false;
@@ -82,7 +82,7 @@ fn none_is_left(run: &SerialRun, plan: &Plan) -> bool
         SomeIsLeft plan.now accesses }
 {
     for node in 0..plan.nodes() {
-        if run.driver(node).log().done().len() < plan.steps(node).len() {
+        if run.driver(node).log().done_count() < plan.steps(node).len() {
             return false;
         }
     }

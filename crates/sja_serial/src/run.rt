@@ -33,6 +33,7 @@ pub fn run_serial(alloc: Global, plan: &Plan) -> Result<RunLog, RunFault>
     ensures headline { IfOk result (λ log. AreAccounts log) }
     ensures memory { IfErr result (λ f. f ≡ Memory) }
 {
+    plan.limits();
     let mut run = new_run(alloc, plan)?;
     let end = take_turns(&mut run, plan);
     Ok(run.finish(alloc, end)?)
@@ -49,7 +50,7 @@ fn new_run(alloc: Global, plan: &Plan) -> Result<SerialRun, OutOfMemory>
     plan.limits();
     let script = script_of(alloc, plan)?;
     let steps = plan.step_counts(alloc)?;
-    SerialRun::new(alloc, plan.version(), plan.bits(), steps, script)
+    SerialRun::new(alloc, plan.version(), plan.bits() as u64, steps, script)
 }
 
 /// Takes the turns of a plan, one after the other, and says why the run ends: all are done, or the bits were spent.
@@ -84,7 +85,7 @@ fn take_one(run: &mut SerialRun, plan: &Plan, turn: &Turn) -> bool
             true
         }
         Turn::Bus(count) => run.bus_turn(count),
-        Turn::Rest => run.rest_turn(),
+        Turn::Rest => run.rest_turn(plan.bits()),
         Turn::Irq(node, count) => run.irq_turn(node, count),
         Turn::Go => go_turn(run, plan),
     }

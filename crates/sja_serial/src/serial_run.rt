@@ -20,7 +20,7 @@ pub struct SerialRun {
     pub(crate) board: SerialBoard,
     pub(crate) links: Vec<DequeLink>,
     pub(crate) drivers: Vec<LoggedDriver>,
-    pub(crate) bits: u32,
+    pub(crate) bits: u64,
 }
 
 impl Model for SerialRun {
@@ -38,26 +38,27 @@ impl Model for SerialRun {
 }
 
 impl SerialRun {
-    ghost use Rattle.std.specs.Prelude.{◌≡◌, ◌≤◌, [], length, map, replicate, IfOk};
+    ghost use Rattle.std.specs.Prelude.{◌≡◌, ◌≤◌, ◌^◌, [], All, length, map, replicate, IfOk};
     ghost use Rattle.sja_wire.specs.Buses.{new_bus};
     ghost use Rattle.sja_driver.specs.Accesses.{most_deeds};
     ghost use Rattle.sja_serial.specs.Serial.{StandsBy, setup_with};
 
-    /// A run to which nothing happened, by the rules of this version of the model, for so many bits, 1 to 2,000,000,
-    /// with these strikes: of as many nodes, 1 to 8, as numbers of steps are given, with room for so many steps of the
-    /// driver of each. All its room is made here.
+    /// A run to which nothing happened, by the rules of this version of the model, for so many bits, 1 to 2^62, with
+    /// these strikes: of as many nodes, 1 to 8, as numbers of steps are given, each at most 2^56, with room for so many
+    /// steps of the driver of each. All its room is made here. A run that is made for more than its lists keep
+    /// ([`KEPT`](sja_link::KEPT)) forgets what is oldest, and takes no memory for it.
     ///
-    /// Error: [`OutOfMemory`] where memory was refused, or where in version 3 the deeds that so many steps may be are
-    /// more than 32 bits count.
+    /// Error: [`OutOfMemory`] where memory was refused.
     pub fn new(
         alloc: Global,
         version: u8,
-        bits: u32,
-        steps: Vec<u32>,
+        bits: u64,
+        steps: Vec<u64>,
         script: FaultScript,
     ) -> Result<SerialRun, OutOfMemory>
         requires nodes { (1 ≤ length steps.items) × (length steps.items ≤ 8) }
-        requires bits { (1 ≤ bits) × (bits ≤ 2000000) }
+        requires bits { (1 ≤ bits) × (bits ≤ 2 ^ 62) }
+        requires steps { All (λ s. s ≤ 2 ^ 56) steps.items }
         ensures stands { IfOk result (λ r. StandsBy (setup_with version bits script steps.items) r
             (replicate (length steps.items) [])) }
         ensures bus { IfOk result (λ r. r.bus ≡ new_bus script bits (length steps.items)

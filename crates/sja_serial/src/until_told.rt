@@ -1,5 +1,6 @@
 //! Bits of the bus up to the first in which a port is told its turn.
 
+use super::bus_turns::at_most;
 use super::serial_run::SerialRun;
 
 impl SerialRun {
@@ -30,7 +31,7 @@ impl SerialRun {
         ensures longest { result ≢ 0 → EndsUntilTold count self.old result self.new }
         ensures stays { IsRunOf setup self.new }
     {
-        let most = count.min(self.bits_left());
+        let most = at_most(count, self.bits_left());
         if most == 0 {
             return 0;
         }
@@ -82,7 +83,7 @@ impl SerialRun {
             .bits_until_told(self.links.as_mut_slice(), &mut self.board, count, false)
         {
             Ok(bits) => {
-                self.bits += bits;
+                self.bits += bits as u64;
                 bits
             }
             Err(_) => unreachable!(),

@@ -14,6 +14,7 @@ use Rattle.sja_bus.specs.Inside.StrikesByBit.{IsAmong}
 use Rattle.sja_wire.specs.Wire.{wired}
 use Rattle.sja_wire.specs.Opens.{Opens}
 use Rattle.sja_bus.specs.Inside.Rows.{AreReady, EachSeat, SeatTurns, IsBus, driven_by}
+use Rattle.sja_bus.specs.Boards.{KeepsOthers}
 use Rattle.sja_bus.specs.Inside.RunningOn.{NoneAborts}
 use Rattle.sja_bus.specs.Inside.Whole.{IsRowBit}
 use Rattle.sja_bus.proofs.Resting.AtRest.{untold_none}
@@ -76,14 +77,6 @@ none_still orders_are nodes first board seats count same orders =
     let Q : ℕ → Type 0 = λ n. NoneAborts (orders_are first) n in
     subst P (sym same) (subst Q (sym count) orders)
 
--- none of those struck is any, and the script strikes none
-pub none_at : (script : List Strike) (n : ℕ) (none here : StruckNodes) → ((node : ℕ) → IsAmong node none → ⊥) →
-    ((node : ℕ) → IsAmong node here → ⊥) →
-    ((node : ℕ) → node < 8 → IsAmong node here ↔ Strikes script n node) → (node : ℕ) → node < 8 →
-    IsAmong node none ↔ Strikes script n node
-none_at script n none here is_none is_here at node few =
-    (λ hit. absurd (is_none node hit), λ strikes. absurd (is_here node ((at node few).1 strikes)))
-
 -- a bit in which nothing was taken, and the bus after it
 pub record Passes {B : Type 0} (orders_are : B → ℕ → Orders → Type 0) (was_told : ℕ → BusTurn → Type 0)
     (was_kept : ℕ → Type 0) (script : List Strike) (n : ℕ) (struck : StruckNodes) (board : B)
@@ -94,18 +87,18 @@ pub record Passes {B : Type 0} (orders_are : B → ℕ → Orders → Type 0) (w
   pub bus : (next : ℕ) → next ≡ n + 1 → IsBus script next after
 
 pub passes : {B : Type 0} (orders_are : B → ℕ → Orders → Type 0) (was_told : ℕ → BusTurn → Type 0)
-    (was_kept : ℕ → Type 0) (script : List Strike) (n nodes : ℕ) (none here : StruckNodes) (level : Level)
+    (was_kept : ℕ → Type 0) (script : List Strike) (n nodes : ℕ) (none : StruckNodes) (level : Level)
     (first board : B) (seats after : List Seat) →
     nodes ≤ 8 → length seats ≡ nodes → length after ≡ length seats → board ≡ first →
     NoneAborts (orders_are first) nodes → ((node : ℕ) → IsAmong node none → ⊥) →
-    ((node : ℕ) → IsAmong node here → ⊥) →
-    ((node : ℕ) → node < 8 → IsAmong node here ↔ Strikes script n node) → level ≡ wired (driven_by seats) →
+    ((node : ℕ) → node < 8 → Strikes script n node → ⊥) → level ≡ wired (driven_by seats) →
     EachSeat (SeatTurns was_told was_kept none level) seats after → AreReady after → IsBus script n seats →
     Passes orders_are was_told was_kept script n none board seats after
-passes orders_are was_told was_kept script n nodes none here level first board seats after most count len same orders
-    is_none is_here struck is turns ready bus =
+passes orders_are was_told was_kept script n nodes none level first board seats after most count len same orders
+    is_none unstruck is turns ready bus =
     let few : length seats ≤ 8 = omega (arith, most, count) in
-    let at = none_at script n none here is_none is_here struck in
+    let at : (node : ℕ) → node < 8 → IsAmong node none ↔ Strikes script n node =
+    λ node low. (λ hit. absurd (is_none node hit), λ strikes. absurd (unstruck node low strikes)) in
     let row = row_on (orders_are board) was_told was_kept none level seats after
     (none_still orders_are nodes first board seats count same orders) is turns in record {
       few = few;
@@ -113,3 +106,16 @@ passes orders_are was_told was_kept script n nodes none here level first board s
       row = row;
       bus = bus_row (orders_are board) was_told was_kept script n none seats after len few at row ready bus;
     }
+
+-- the ports that are of no node, after a bit before which the ports were as they had been at first
+pub others_now : {B : Type 0} (ports : B → ℕ) (kept : B → B → ℕ → Type 0) (first board now : B) (n nodes : ℕ) →
+    board ≡ first → nodes ≡ n → KeepsOthers ports kept nodes board now → KeepsOthers ports kept n first now
+others_now ports kept first board now n nodes same count keeps =
+    let P : _ → Type 0 = λ b. KeepsOthers ports kept n b now in
+    let Q : ℕ → Type 0 = λ m. KeepsOthers ports kept m board now in subst P same (subst Q count keeps)
+
+-- and where they are so still
+pub others_still : {B : Type 0} (ports : B → ℕ) (kept : B → B → ℕ → Type 0) → ((x : B) (m : ℕ) → kept x x m) →
+    (first board : B) (n : ℕ) → board ≡ first → KeepsOthers ports kept n first board
+others_still ports kept kept_refl first board n same =
+    let P : _ → Type 0 = λ b. KeepsOthers ports kept n b board in subst P same (refl, λ m far. kept_refl board m)

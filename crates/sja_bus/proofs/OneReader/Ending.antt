@@ -13,21 +13,20 @@ use Rattle.sja_script.specs.Striking.{Strikes}
 use Rattle.sja_link.specs.BitEntries.{judged_as, off_as}
 use Rattle.sja_bus.specs.declared.seat.Seat.{Seat}
 use Rattle.sja_bus.specs.declared.struck_nodes.StruckNodes.{StruckNodes}
-use Rattle.sja_bus.specs.Inside.StrikesByBit.{IsAmong}
-use Rattle.sja_bus.specs.Inside.Refusing.{HaveRoom}
+use Rattle.sja_bus.specs.Inside.Refusing.{AreFree, HaveRoom}
 use Rattle.sja_bus.specs.Inside.Rows.{EachSeat, SeatTurns, seen_by}
-use Rattle.sja_bus.specs.Inside.RunningOn.{AllAtRest, RowsEnd, RowsRunNone, SomeFull, SomeStruck}
+use Rattle.sja_bus.specs.Inside.RunningOn.{RowsEnd, RowsRunNone, SomeFull}
 use Rattle.sja_bus.specs.Inside.Together.{AreQuietRows}
 use Rattle.sja_bus.proofs.OneReader.QuietRows.{rooms_after}
 
 -- ---- one journal has no room for more than so many entries, and then for fewer
 
 -- at first
-pub full_first : (most fit room : ℕ) (seats : List Seat) → fit ≡ room → (room ≡ most) ⊎ SomeFull room seats →
+pub full_first : (most fit : ℕ) (seats : List Seat) → (fit ≡ most) ⊎ SomeFull fit seats →
     (most ≡ fit) ⊎ SomeFull (fit - 0) seats
-full_first most fit room seats is (inl all) = inl (omega (arith, all, is))
-full_first most fit room seats is (inr full) =
-    let same : room ≡ fit - 0 = omega (arith, is) in
+full_first most fit seats (inl all) = inl (omega (arith, all))
+full_first most fit seats (inr full) =
+    let same : fit ≡ fit - 0 = omega arith in
     let P : ℕ → Type 0 = λ n. SomeFull n seats in inr (subst P same full)
 
 -- after one bit of each, whatever happened in it
@@ -78,23 +77,18 @@ full_on struck level to_rest seats one n after most fit run count turns rooms ro
 
 -- ---- why no more are run
 
--- as many were run as find room
-pub ends_full : (to_rest : Bool) (script : List Strike) (from most fit run : ℕ) (seats : List Seat) →
-    (most ≡ fit) ⊎ SomeFull (fit - run) seats → run ≡ fit →
+-- as many were run as find room and strike nobody
+pub ends_full : (to_rest : Bool) (script : List Strike) (from most fit calm run : ℕ) (seats : List Seat) →
+    (most ≡ fit) ⊎ SomeFull (fit - run) seats →
+    (calm ≡ fit) ⊎ ((node : ℕ) × (node < 8) × Strikes script (from + calm) node) → run ≡ calm →
     RowsRunNone to_rest script (from + run) (most - run) seats
-ends_full to_rest script from most fit run seats (inl all) past = inl (omega (arith, all, past))
-ends_full to_rest script from most fit run seats (inr full) past =
-    let none : fit - run ≡ 0 = omega (arith, past) in
+ends_full to_rest script from most fit calm run seats used (inr (node, low, hit)) past =
+    let at : from + calm ≡ from + run = omega (arith, past) in
+    let P : ℕ → Type 0 = λ n. Strikes script n node in inr (inr (inl (node, low, subst P at hit)))
+ends_full to_rest script from most fit calm run seats (inl all) (inl fits) past = inl (omega (arith, all, fits, past))
+ends_full to_rest script from most fit calm run seats (inr full) (inl fits) past =
+    let none : fit - run ≡ 0 = omega (arith, fits, past) in
     let P : ℕ → Type 0 = λ n. SomeFull n seats in inr (inl (subst P none full))
-
--- a node is struck in the next one, or all are at rest
-pub ends_held : (to_rest : Bool) (script : List Strike) (from most run : ℕ) (seats : List Seat) (struck : StruckNodes) →
-    ((node : ℕ) → node < 8 → IsAmong node struck → Strikes script (from + run) node) →
-    SomeStruck struck ⊎ ((to_rest ≡ true) × AllAtRest seats) →
-    RowsRunNone to_rest script (from + run) (most - run) seats
-ends_held to_rest script from most run seats struck strikes (inl hit) =
-    inr (inr (inl (hit.0, hit.1, strikes hit.0 hit.1 hit.2)))
-ends_held to_rest script from most run seats struck strikes (inr all) = inr (inr (inr all))
 
 -- none was run so far
 none_first : (to_rest : Bool) (script : List Strike) (from most run : ℕ) (seats first : List Seat) → run ≡ 0 →
@@ -109,10 +103,11 @@ none_first to_rest script from most run seats first none same why =
 
 -- so after as many as were run, of which no port was told
 pub ends_untold : {was_told : ℕ → BusTurn → Type 0} (to_rest : Bool) (script : List Strike) (from most run : ℕ)
-    (first seats : List Seat) → (run ≡ 0 → seats ≡ first) →
+    (first seats : List Seat) → AreFree run first → (run ≡ 0 → seats ≡ first) →
     RowsRunNone to_rest script (from + run) (most - run) seats →
     RowsEnd was_told to_rest script from most first seats run
-ends_untold to_rest script from most run first seats same why = record {
+ends_untold to_rest script from most run first seats free same why = record {
+  free = free;
   none = λ none. none_first to_rest script from most run seats first none (same none) why;
   why = inl why;
 }

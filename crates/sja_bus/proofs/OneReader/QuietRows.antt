@@ -1,10 +1,10 @@
 -- Bits of all nodes in which nothing happens, one after the other.
 use Rattle.std.proofs.Common.{◌≡◌, ℕ, suc, ◌+◌, ◌-◌, ◌*◌, ◌<◌, ◌≤◌, Bool, List, [], ◌∷◌}
-use Rattle.std.proofs.Common.{drop, length, take, refl, sym, ap, ◌∙◌, subst, arith, cond}
-use Rattle.std.specs.Prelude.{slice_index_or, ◌↔◌}
+use Rattle.std.proofs.Common.{length, refl, sym, ap, ◌∙◌, subst, arith, cond}
+use Rattle.std.specs.Prelude.{slice_index_or}
 use Rattle.std.specs.Int.{bit_at}
 use Rattle.std.proofs.lemmas.Bool.{ne_eqb}
-use Rattle.std.proofs.lemmas.List.{get_or-drop, length-append, length-drop, length-take-le, take_all}
+use Rattle.std.proofs.lemmas.List.{length-append}
 use Rattle.can_bits.specs.declared.level.Level.{Level}
 use Rattle.can_bits.specs.Digits.{opposite}
 use Rattle.sja_link.specs.Written.{Room}
@@ -18,14 +18,14 @@ use Rattle.sja_regs.specs.declared.bus_turn.BusTurn.{BusTurn}
 use Rattle.sja_wire.specs.Wire.{wired}
 use Rattle.sja_bus.specs.declared.board.Board.{Ghosts as Ports}
 use Rattle.sja_bus.specs.declared.seat.Seat.{Seat}
-use Rattle.sja_bus.specs.Inside.StrikesByBit.{IsAmong}
+use Rattle.sja_bus.specs.Inside.StrikesByBit.{nobody}
 use Rattle.sja_bus.specs.Several.{AreBits}
 use Rattle.sja_bus.specs.Inside.Refusing.{AreFree, HaveRoom}
 use Rattle.sja_bus.specs.Inside.Rows.{AreReady, AreTold, EachSeat, GoesAll, IsBus, SeatTurns, driven_by}
 use Rattle.sja_bus.specs.Inside.Rows.{SeatHasBits, seen_by}
 use Rattle.sja_bus.specs.UntilTold.{WorksUntold}
 use Rattle.sja_bus.specs.Inside.RunningOn.{AnyBit, NoneAborts, moment_of}
-use Rattle.sja_bus.specs.Inside.Together.{AreQuietRows, IsQuietRow}
+use Rattle.sja_bus.specs.Inside.Together.{AreQuietRows, IsQuietRow, RunsTogether}
 use Rattle.sja_bus.specs.Inside.Turning.{IsQuietBit}
 use Rattle.sja_bus.specs.Inside.Together.AreQuietRows.{no_row, one_more}
 use Rattle.sja_bus.proofs.AllNodes.RunningOn.{passes}
@@ -33,7 +33,7 @@ use Rattle.sja_bus.proofs.AllNodes.BitAfterBit.{bits_on}
 use Rattle.sja_bus.proofs.AllNodes.UntilTold.{row_bits, works_untold}
 use Rattle.sja_bus.proofs.AtPorts.TurnsTold.{quiet_turns}
 use Rattle.sja_link.proofs.Growing.Moving.{goes_quiet}
-use Rattle.sja_bus.proofs.Resting.WholeStretches.{nobody, not_among}
+use Rattle.sja_bus.proofs.Resting.WholeStretches.{not_among}
 use Rattle.lemmas.proofs.Related.{each_refl}
 
 -- ---- what stays, and what each bit takes
@@ -88,18 +88,8 @@ pub none_run : (to_rest : Bool) (seats after : List Seat) (n : ℕ) → AreQuiet
 none_run to_rest seats _ _ no_row none = refl
 none_run to_rest seats _ _ (one_more mid after n rows row) none = absurd (omega (arith, none))
 
--- ---- the marks of the bits from one on
-
-pub part_left : {A : Type 0} (xs : List A) (k : ℕ) → k ≤ length xs →
-    length (take (length xs - k) (drop k xs)) ≡ length xs - k
-part_left xs k few = let rest = length-drop k xs in
-    length-take-le (length xs - k) (drop k xs) (omega (arith, rest))
-
-pub part_at : {A : Type 0} (xs : List A) (k i : ℕ) (d : A) → k + i < length xs →
-    slice_index_or (take (length xs - k) (drop k xs)) i d ≡ slice_index_or xs (k + i) d
-part_at xs k i d few =
-    let rest = length-drop k xs in
-    ap (λ l. slice_index_or l i d) (take_all (length xs - k) (drop k xs) (omega (arith, rest))) ∙ get_or-drop k xs i d
+pub runs_none : (to_rest : Bool) (most : ℕ) (seats : List Seat) → RunsTogether to_rest most seats 0 seats
+runs_none to_rest most seats = record { few = omega arith; rows = no_row }
 
 -- ---- one of them
 
@@ -159,11 +149,8 @@ module _ {E B : Type 0} (e : Ends E) (b : Ports B) (same_refl : (x : E) → e.sa
   row_on run seats after early unstruck row far =
       let told = b.told board board in let kept = b.kept board board in let count = far.count in
       let turns = row_turns told kept (λ m. kept_refl board m) to_rest seats after far.bus.ready row in
-      let at : (node : ℕ) → node < 8 → IsAmong node nobody ↔ Strikes script (from + run) node =
-      λ node low. (λ hit. absurd (not_among node hit), λ strikes. absurd (unstruck node low strikes)) in
-      let pass = passes b.orders_are told kept script (from + run) (length begun) nobody nobody
-      (wired (driven_by seats)) first
-      board seats after few count row.count still asked not_among not_among at refl turns row.ready far.bus in
+      let pass = passes b.orders_are told kept script (from + run) (length begun) nobody (wired (driven_by seats)) first
+      board seats after few count row.count still asked not_among unstruck refl turns row.ready far.bus in
       let next = pass.bus (from + (run + 1)) (omega arith) in record {
         count = row.count ∙ count;
         bus = next;

@@ -18,7 +18,7 @@ use Rattle.sja_script.specs.Striking.{Strikes}
 use Rattle.sja_bus.specs.declared.struck_nodes.StruckNodes.{StruckNodes}
 use Rattle.sja_bus.specs.declared.port_news.PortNews.TheVariants.{Nothing, Dropped}
 use Rattle.sja_bus.specs.declared.seat.Seat.{Seat}
-use Rattle.sja_bus.specs.Inside.StrikesByBit.{IsAmong}
+use Rattle.sja_bus.specs.Inside.StrikesByBit.{IsAmong, nobody}
 use Rattle.sja_wire.specs.Wire.{wired, IsWired}
 use Rattle.sja_wire.specs.Lawful.{IsBusRun}
 use Rattle.sja_wire.specs.Reasons.{room_for}
@@ -38,9 +38,6 @@ use Rattle.sja_bus.proofs.AllNodes.Journals.{is_bit, wired_row}
 use Rattle.sja_bus.proofs.Resting.AtRest.{ready_after, turns_after, opens_after, untold_none}
 use Rattle.sja_bus.proofs.Resting.Stretches.{after_count, after_at, after_nothing, after_journals, after_untold}
 use Rattle.sja_bus.proofs.Resting.Stretches.{after_wired}
-
-abbrev pub nobody : StruckNodes
-nobody = record { mask = 0 }
 
 pub not_among : (node : ℕ) → IsAmong node nobody → ⊥
 not_among node hit = let z = bit_at-zero node in omega (arith, z, hit)
@@ -168,24 +165,25 @@ module _ (orders_are : ℕ → Orders → Type 0) (was_told : ℕ → BusTurn �
 
 -- ---- why they aren't more
 
+-- as many were run as were asked for or strike no node; by the script as it is now, before the bit that is next now
+pub struck_by : (was script : List Strike) (at run quiet n most : ℕ) → script ≡ was → at ≡ run → quiet ≡ n →
+    (quiet ≡ most) ⊎ ((node : ℕ) × (node < 8) × Strikes was at node) →
+    (n ≡ most) ⊎ ((node : ℕ) × (node < 8) × Strikes script run node)
+struck_by was script at run quiet n most same here is (inl all) = inl (sym is ∙ all)
+struck_by was script at run quiet n most same here is (inr (node, low, hit)) =
+    inr (
+      node,
+      low,
+      subst (λ (l : List Strike). Strikes l run node) (sym same)
+          (subst (λ (r : ℕ). Strikes was r node) here hit),
+    )
+
 -- as many as strike no node, of those that were asked for and are left
-pub ends_quiet : (count n most bits : ℕ) (was now : BusValue) → now.script ≡ was.script → now.run ≡ was.run + n →
-    now.left + n ≡ was.left →
-    was.run + was.left ≡ bits → most ≡ min count was.left →
-    (n ≡ most) ⊎ (was.run + n ≡ bits) ⊎ ((node : ℕ) × (node < 8) × Strikes was.script (was.run + n) node) →
-    EndsStretch count n now
-ends_quiet count n most bits was now script run left whole least longest = elim longest [
-  | inl all ↦ elim (cases_eq n count) [
-    | inl same ↦ asked_for same
-    | inr other ↦ spent (omega (arith, all, least, left, other))
-  ]
-  | inr more ↦ elim more [
-    | inl end ↦ spent (omega (arith, end, whole, left))
-    | inr hit ↦ struck hit.0 hit.1
-        (subst (λ (l : List Strike). Strikes l now.run hit.0) (sym script)
-        (subst (λ (r : ℕ). Strikes was.script r hit.0) (sym run) hit.2))
-  ]
-]
+pub ends_quiet : (count n most left : ℕ) (now : BusValue) → now.left + n ≡ left → (most ≡ count) ⊎ (most ≡ left) →
+    (n ≡ most) ⊎ ((node : ℕ) × (node < 8) × Strikes now.script now.run node) → EndsStretch count n now
+ends_quiet count n most left now all (inl least) (inl is) = asked_for (is ∙ least)
+ends_quiet count n most left now all (inr least) (inl is) = spent (omega (arith, all, least, is))
+ends_quiet count n most left now all which (inr (node, low, hit)) = struck node low hit
 
 -- ---- no entry was free
 

@@ -2,6 +2,7 @@
 use Rattle.std.proofs.Common.{◌≡◌, ℕ, zero, suc, ◌+◌, ◌<◌, false, List, [], ◌∷◌, ◌++◌, length, map, refl, sym, ap, ◌∙◌}
 use Rattle.std.proofs.Common.{subst, append_assoc, append-nil, arith, inl, inr}
 use Rattle.std.specs.Prelude.{slice_index_or, replicate}
+use Rattle.std.specs.List.{All}
 use Rattle.std.proofs.lemmas.Bool.{cases_eq}
 use Rattle.std.proofs.lemmas.List.{get_or_append_left, get_or_push}
 use Rattle.sja_link.specs.declared.entry.Entry.{Entry}
@@ -127,3 +128,9 @@ logs_counters (s ∷ seats) (g ∷ logs) h follows zero d few =
     subst P (sym (ap (λ j. j.entries) h.0.journal)) (h.0.counters (follows 0 s (omega arith)))
 logs_counters (s ∷ seats) (g ∷ logs) h follows (suc node) d few =
     logs_counters seats logs h.1 (λ k x near. follows (suc k) x (omega (arith, near))) node d (omega (arith, few))
+
+-- what holds of each of a list holds of its first one and of each of the rest
+pub all_of_rest : (P : Seat → Type 0) (s : Seat) (rest all : List Seat) → all ≡ s ∷ rest → All P all → P s × All P rest
+all_of_rest P s rest all is h =
+    let here = subst (λ (l : List Seat). All P l) is h in
+    (here 0 s (omega arith), λ k d few. here (suc k) d (omega (arith, few)))

@@ -1,17 +1,22 @@
 -- The nodes that are struck in each bit, marked strike by strike and time by time.
-use Rattle.std.proofs.Common.{◌≡◌, ◌⊎◌, ◌↔◌, ◌+◌, ◌*◌, ◌<◌, ◌≤◌, ℕ, List, [], ◌∷◌, ◌++◌, length, replicate, take, drop}
-use Rattle.std.proofs.Common.{inl, inr, sym, ap, ◌∙◌, subst, arith}
+use Rattle.std.proofs.Common.{◌≡◌, ◌⊎◌, ◌↔◌, ◌+◌, ◌-◌, ◌*◌, ◌<◌, ◌≤◌, ℕ, List, [], ◌∷◌, ◌++◌, length, take, drop}
+use Rattle.std.proofs.Common.{inl, inr, refl, sym, ap, ◌∙◌, subst, arith, add-one}
+use Rattle.std.proofs.Math.Seq.{take-suc}
 use Rattle.std.specs.Prelude.{slice_index_or, slice_set}
 use Rattle.std.specs.List.{Contains}
 use Rattle.std.proofs.lemmas.Bool.{cases_eq, cases_lt}
-use Rattle.std.proofs.lemmas.List.{get_or_default, get_or-set_other, get_or-take, get_or-drop, length-replicate}
-use Rattle.std.proofs.lemmas.List.{length-take-le, length-drop, get_or-replicate}
+use Rattle.std.proofs.lemmas.List.{get_or_default, get_or-set_other, get_or-take, get_or-drop, get_or_past}
+use Rattle.std.proofs.lemmas.List.{length-take-le, length-drop}
 use Rattle.std.proofs.lemmas.Grind.{get_or-set_at}
 use Rattle.std.proofs.lemmas.List.Elements.{at_from_Contains, Contains-push, Contains-push_cases, Contains-append_left}
+use Rattle.std.proofs.lemmas.List.Elements.{Contains-append_cases, Contains-append_right}
 use Rattle.sja_script.specs.declared.strike.Strike.{Strike}
 use Rattle.sja_script.specs.Striking.{Hits, Strikes}
 use Rattle.sja_bus.specs.declared.struck_nodes.StruckNodes.{StruckNodes}
-use Rattle.sja_bus.specs.Inside.StrikesByBit.{IsAmong, IsMarked, AreStruck, AreStruckFrom}
+use Rattle.sja_bus.specs.Inside.StrikesByBit.{IsAmong, IsMarked, IsMarkedWith, IsTableOf, IsUnhit}
+use Rattle.sja_bus.specs.Inside.StrikesByBit.{IsHeld, IsUnstruck, Table, nobody}
+use Rattle.sja_bus.proofs.Resting.WholeStretches.{not_among}
+use Rattle.lemmas.proofs.Numbers.{earlier_or_last}
 
 -- ---- the times of one strike
 
@@ -124,76 +129,187 @@ none_there : (s : Strike) → Contains {X = Strike} [] s → ⊥
 none_there s h = let few : (at_from_Contains {X = Strike} [] s h).0 < 0 =
     (at_from_Contains {X = Strike} [] s h).1 in omega arith
 
--- where nobody is marked nobody is struck by a script of no strike
-pub struck_none : (nodes : StruckNodes) (bits : ℕ) → ((node : ℕ) → IsAmong node nodes → ⊥) →
-    AreStruck [] (replicate bits nodes)
-struck_none nodes bits none bit node d few below =
-    let within : bit < bits = simp length-replicate at few in
-    let A : StruckNodes → Type 0 = λ x. IsAmong node x in (
-      λ h. absurd (none node (subst A (get_or-replicate bits bit nodes d within) h)),
-      λ h. absurd (none_there h.strike h.in_script),
+-- a script of no strike strikes nobody
+pub table_of_none : (bits : ℕ) → IsTableOf [] (record { bits = bits; nodes = [] })
+table_of_none bits bit node few below = (
+  λ h. absurd (not_among node (subst (λ x. IsAmong node x) (get_or_past [] bit nobody (omega arith)) h)),
+  λ h. absurd (none_there h.strike h.in_script),
+)
+
+-- one strike more
+pub struck_push : (script : List Strike) (s : Strike) (bit node : ℕ) →
+    Strikes (script ++ s ∷ []) bit node ↔ (Strikes script bit node ⊎ Hits s bit node)
+struck_push script s bit node = (
+  λ h. elim (Contains-push_cases script s h.strike h.in_script) [
+    | inl before ↦ inl (record { strike = h.strike; in_script = before; hits = h.hits })
+    | inr last ↦ inr (let P : Strike → Type 0 = λ x. Hits x bit node in subst P (sym last) h.hits)
+  ],
+  λ h. elim h [
+    | inl by ↦ record {
+      strike = by.strike;
+      in_script = Contains-append_left script (s ∷ []) by.strike by.in_script;
+      hits = by.hits;
+    }
+    | inr hits ↦ record { strike = s; in_script = Contains-push script s; hits = hits }
+  ],
+)
+
+-- the strikes of two lists
+pub struck_both : (a b : List Strike) (bit node : ℕ) →
+    Strikes (a ++ b) bit node ↔ (Strikes a bit node ⊎ Strikes b bit node)
+struck_both a b bit node = (
+  λ h. elim (Contains-append_cases a b h.strike h.in_script) [
+    | inl first ↦ inl (record { strike = h.strike; in_script = first; hits = h.hits })
+    | inr then ↦ inr (record { strike = h.strike; in_script = then; hits = h.hits })
+  ],
+  λ h. elim h [
+    | inl by ↦ record {
+      strike = by.strike;
+      in_script = Contains-append_left a b by.strike by.in_script;
+      hits = by.hits;
+    }
+    | inr by ↦ record {
+      strike = by.strike;
+      in_script = Contains-append_right a b by.strike by.in_script;
+      hits = by.hits;
+    }
+  ],
+)
+
+pub table_of_more : (script : List Strike) (s : Strike) (old new : Table) → IsTableOf script old →
+    IsMarkedWith s old new → IsTableOf (script ++ s ∷ []) new
+table_of_more script s old new was marked bit node few below =
+    let count = marked.bits in let within : bit < old.bits = omega (arith, few, count) in
+    let at = marked.nodes bit node within below in let is = was bit node within below in
+    let push = struck_push script s bit node in (
+      λ h. push.1 (elim (at.0 h) [ inl before ↦ inl (is.0 before) | inr hits ↦ inr hits ]),
+      λ h. at.1 (elim (push.0 h) [ inl before ↦ inl (is.1 before) | inr hits ↦ inr hits ]),
     )
 
--- bits more in which nobody is struck
-pub struck_on : (script : List Strike) (was now : List StruckNodes) (nodes : StruckNodes) (len n bits : ℕ) →
-    len ≡ length was → ((node : ℕ) → IsAmong node nodes → ⊥) → AreStruck script was →
-    (length was < bits → (bit node : ℕ) → Strikes script bit node → ⊥) → length now ≡ n → n ≤ bits →
-    ((k : ℕ) (d : StruckNodes) → k < n → k < len → slice_index_or now k d ≡ slice_index_or was k d) →
-    ((k : ℕ) (d : StruckNodes) → len ≤ k → k < n → slice_index_or now k d ≡ nodes) → AreStruck script now
-struck_on script was now nodes len n bits same none struck nobody count most first then bit node d few below =
-    let A : StruckNodes → Type 0 = λ x. IsAmong node x in
-    elim (cases_lt bit len) [
-      | inl low ↦
-          let e = first bit d (omega (arith, few, count)) low in
-          let is = struck bit node d (omega (arith, low, same)) below in
-          (λ h. is.0 (subst A e h), λ s. subst A (sym e) (is.1 s))
-      | inr high ↦ (
-        λ h. absurd (none node (subst A (then bit d high (omega (arith, few, count))) h)),
-        λ s. absurd (nobody (omega (arith, high, same, few, count, most)) bit node s),
+-- a strike is marked in a table, behind whose first bits nobody was struck
+pub marked_with : (s : Strike) (most len : ℕ) (was mid now : List StruckNodes) (nodes : StruckNodes) →
+    len ≡ length was → length mid ≡ most → ((node : ℕ) → IsAmong node nodes → ⊥) →
+    ((k : ℕ) (d : StruckNodes) → k < most → k < len → slice_index_or mid k d ≡ slice_index_or was k d) →
+    ((k : ℕ) (d : StruckNodes) → len ≤ k → k < most → slice_index_or mid k d ≡ nodes) → IsMarked s mid now →
+    IsMarkedWith s (record { bits = most; nodes = was }) (record { bits = most; nodes = now })
+marked_with s most len was mid now nodes same long none first then marked = record {
+  bits = refl;
+  nodes = λ bit node few below.
+      let is = marked bit node nobody (omega (arith, few, long)) below in
+      let A : StruckNodes → Type 0 = λ x. IsAmong node x in
+      elim (cases_lt bit len) [
+        | inl early ↦ let e = first bit nobody few early in (
+          λ h. elim (is.0 h) [ inl m ↦ inl (subst A e m) | inr hit ↦ inr hit ],
+          λ h. is.1 (elim h [ inl m ↦ inl (subst A (sym e) m) | inr hit ↦ inr hit ]),
+        )
+        | inr late ↦
+            let e = then bit nobody late few in
+            let out = get_or_past was bit nobody (omega (arith, late, same)) in (
+              λ h. elim (is.0 h) [ inl m ↦ absurd (none node (subst A e m)) | inr hit ↦ inr hit ],
+              λ h. is.1 (elim h [ inl m ↦ absurd (not_among node (subst A out m)) | inr hit ↦ inr hit ]),
+            )
+      ];
+}
+
+-- ---- bits in which nobody is struck
+
+pub calm_more : (struck : List StruckNodes) (k : ℕ) (e : StruckNodes) → k < length struck →
+    ((node : ℕ) → IsAmong node (slice_index_or struck k e) → ⊥) →
+    ((bit node : ℕ) (d : StruckNodes) → bit < k → IsAmong node (slice_index_or struck bit d) → ⊥) →
+    (bit node : ℕ) (d : StruckNodes) → bit < k + 1 → IsAmong node (slice_index_or struck bit d) → ⊥
+calm_more struck k e few none before bit node d near = elim (earlier_or_last bit k near) [
+  | inl earlier ↦ before bit node d earlier
+  | inr now ↦
+      let P : StruckNodes → Type 0 = λ x. IsAmong node x → ⊥ in
+      let Q : ℕ → Type 0 = λ n. IsAmong node (slice_index_or struck n d) → ⊥ in
+      subst Q (sym now) (subst P (get_or_default struck k e d few) (none node))
+]
+
+-- up to one, and then in a part from it on
+pub calm_part : (struck : List StruckNodes) (from at part : ℕ) → at ≤ part → part ≤ length struck →
+    ((bit node : ℕ) (d : StruckNodes) → from ≤ bit → bit < at → IsAmong node (slice_index_or struck bit d) → ⊥) →
+    ((bit node : ℕ) (d : StruckNodes) → bit < length (take (part - at) (drop at struck)) →
+    IsAmong node (slice_index_or (take (part - at) (drop at struck)) bit d) → ⊥) →
+    (bit node : ℕ) (d : StruckNodes) → from ≤ bit → bit < part → IsAmong node (slice_index_or struck bit d) → ⊥
+calm_part struck from at part low high before more bit node d late early hit = elim (cases_lt bit at) [
+  | inl first ↦ before bit node d late first hit
+  | inr then ↦
+      let rest = length-drop at struck in
+      let long = length-take-le (part - at) (drop at struck) (omega (arith, low, high, rest)) in
+      let near : bit - at < part - at = omega (arith, then, early) in
+      let is : slice_index_or (take (part - at) (drop at struck)) (bit - at) d
+      ≡ slice_index_or struck (at + (bit - at)) d =
+      get_or-take (part - at) (drop at struck) (bit - at) d near ∙ get_or-drop at struck (bit - at) d in
+      let here : at + (bit - at) ≡ bit = omega (arith, then) in
+      let P : StruckNodes → Type 0 = λ x. IsAmong node x in
+      let Q : ℕ → Type 0 = λ n. IsAmong node (slice_index_or struck n d) in
+      more (bit - at) node d (omega (arith, near, long)) (subst P (sym is) (subst Q (sym here) hit))
+]
+
+-- ---- strikes of a list, one after the other
+
+-- those so far, and the next one
+pub struck_next : (script : List Strike) (k : ℕ) (s : Strike) (bit node : ℕ) → k < length script →
+    s ≡ slice_index_or script k s →
+    Strikes (take (k + 1) script) bit node ↔ (Strikes (take k script) bit node ⊎ Hits s bit node)
+struck_next script k s bit node few is =
+    let next : take (k + 1) script ≡ take k script ++ s ∷ [] =
+    rw add-one (take-suc script k s few) ∙ ap (λ x. take k script ++ x ∷ []) (sym is) in
+    let P : List Strike → Type 0 = λ l. Strikes l bit node ↔ (Strikes (take k script) bit node ⊎ Hits s bit node) in
+    subst P (sym next) (struck_push (take k script) s bit node)
+
+-- the next bit that one of them hits
+pub sooner_next : (script : List Strike) (k : ℕ) (s : Strike) (from next now end : ℕ) → k < length script →
+    s ≡ slice_index_or script k s → now ≤ next → IsUnstruck (take k script) from next →
+    (next ≡ end) ⊎ ((node : ℕ) × (node < 8) × Strikes (take k script) next node) → IsUnhit s from now →
+    (now ≡ next) ⊎ ((s.node < 8) × Hits s now s.node) →
+    IsUnstruck (take (k + 1) script) from now
+    × ((now ≡ end) ⊎ ((node : ℕ) × (node < 8) × Strikes (take (k + 1) script) now node))
+sooner_next script k s from next now end few is on before stop unhit which = (
+  λ bit node low high below h. elim ((struck_next script k s bit node few is).0 h) [
+    | inl first ↦ before bit node low (omega (arith, high, on)) below first
+    | inr hits ↦ unhit bit node low high below hits
+  ],
+  elim which [
+    | inr hit ↦ inr (s.node, hit.0, (struck_next script k s now s.node few is).1 (inr hit.1))
+    | inl same ↦ elim stop [
+      | inl all ↦ inl (same ∙ all)
+      | inr (node, low, h) ↦ inr (
+        node,
+        low,
+        (struck_next script k s now node few is).1
+            (inl (let P : ℕ → Type 0 = λ n. Strikes (take k script) n node in subst P (sym same) h)),
       )
     ]
+  ],
+)
 
-pub struck_more : (script : List Strike) (s : Strike) (old new : List StruckNodes) → length new ≡ length old →
-    AreStruck script old → IsMarked s old new → AreStruck (script ++ s ∷ []) new
-struck_more script s old new long was marked bit node d few below =
-    let within : bit < length old = omega arith in (
-      λ h. elim ((marked bit node d within below).0 h) [
-        | inl before ↦ let by = (was bit node d within below).0 before in
-            record {
-              strike = by.strike;
-              in_script = Contains-append_left script (s ∷ []) by.strike
-                  by.in_script;
-              hits = by.hits;
-            }
-        | inr hits ↦ record { strike = s; in_script = Contains-push script s; hits = hits }
-      ],
-      λ h. (marked bit node d within below).1 (elim (Contains-push_cases script s h.strike h.in_script) [
-        | inl before ↦ inl ((was bit node d within below).1
-            (record { strike = h.strike; in_script = before; hits = h.hits }))
-        | inr last ↦ inr (let P : Strike → Type 0 = λ x. Hits x bit node in subst P (sym last) h.hits)
-      ]),
-    )
+-- ---- how it is held whom a script strikes, after one strike more
 
--- ---- what is read of it
+-- where the next bit that is struck isn't known any more
+pub held_anew : (script : List Strike) (bits : ℕ) (old new : Table) (from to : ℕ) (s : Strike) →
+    IsHeld script bits old from to → IsMarkedWith s old new → IsHeld (script ++ s ∷ []) bits new 1 0
+held_anew script bits old new from to s was marked = record {
+  table_is = table_of_more script s old new was.table_is marked;
+  few = λ few. marked.bits ∙ was.few few;
+  within = omega arith;
+  calm = λ bit node low high. absurd (omega (arith, high));
+  stop = λ no. absurd (omega (arith, no));
+}
 
--- where nobody is marked nobody is struck
-pub quiet_in : (script : List Strike) (bits : List StruckNodes) (from end : ℕ) → AreStruck script bits →
-    end ≤ length bits →
-    ((bit node : ℕ) (d : StruckNodes) → from ≤ bit → bit < end → IsAmong node (slice_index_or bits bit d) → ⊥) →
-    (bit node : ℕ) → from ≤ bit → bit < end → node < 8 → Strikes script bit node → ⊥
-quiet_in script bits from end struck long none bit node low high below hit =
-    let d : StruckNodes = record { mask = 0 } in
-    none bit node d low high ((struck bit node d (omega arith) below).1 hit)
-
--- in some of these bits, from one on
-pub struck_from : (script : List Strike) (bits : List StruckNodes) (from most : ℕ) → AreStruck script bits →
-    from + most ≤ length bits → AreStruckFrom script from (take most (drop from bits))
-struck_from script bits from most struck within run node d few below =
-    let behind = length-drop from bits in
-    let long = length-take-le most (drop from bits) (omega (arith, within, behind)) in
-    let early : run < most = omega (arith, few, long) in
-    let at : slice_index_or (take most (drop from bits)) run d ≡ slice_index_or bits (from + run) d =
-    get_or-take most (drop from bits) run d early ∙ get_or-drop from bits run d in
-    let is = struck (from + run) node d (omega (arith, early, within)) below in
-    let A : StruckNodes → Type 0 = λ x. IsAmong node x in
-    (λ h. is.0 (subst A at h), λ h. subst A (sym at) (is.1 h))
+-- where the strike comes after it
+pub held_more : (script : List Strike) (bits : ℕ) (old new : Table) (from to : ℕ) (s : Strike) → to < s.bit →
+    IsHeld script bits old from to → IsMarkedWith s old new → IsHeld (script ++ s ∷ []) bits new from to
+held_more script bits old new from to s after was marked = record {
+  table_is = table_of_more script s old new was.table_is marked;
+  few = λ few. marked.bits ∙ was.few few;
+  within = was.within;
+  calm = λ bit node low high below h. elim ((struck_push script s bit node).0 h) [
+    | inl before ↦ was.calm bit node low high below before
+    | inr hits ↦ let now = hits.now in absurd (omega (arith, now, high, after))
+  ];
+  stop = λ known. elim (was.stop known) [
+    | inl end ↦ inl end
+    | inr (node, low, h) ↦ inr (node, low, (struck_push script s to node).1 (inl h))
+  ];
+}

@@ -55,7 +55,7 @@ bus_before script s run seats later was = record {
 -- the bus is whole, whether the strike was taken or not
 pub whole_after : {A X : Type 0} (struck now : Scripted) (steps : List ℕ) (run left : ℕ) (fault : Option BusFault)
     (seats : List Seat) (room : ℕ) (s : Strike) (r : Result A X) → run ≤ s.bit →
-    OnOk r (now ≡ record struck { script = struck.script ++ s ∷ []; written = now.written }) → OnErr r (now ≡ struck) →
+    OnOk r (now ≡ record struck { script = struck.script ++ s ∷ [] }) → OnErr r (now ≡ struck) →
     IsWhole struck steps run left fault seats room → IsWhole now steps run left fault seats room
 whole_after struck now steps run left fault seats room s (Ok done) later is kept was =
     let W : Scripted → Type 0 = λ x. IsWhole x steps run left fault seats room in

@@ -14,7 +14,6 @@ use Rattle.sja_link.specs.Written.{Room}
 use Rattle.sja_wire.specs.declared.bus_fault.BusFault.{BusFault}
 use Rattle.sja_bus.specs.declared.seat.Seat.{Seat}
 use Rattle.sja_bus.specs.declared.struck_nodes.StruckNodes.{StruckNodes}
-use Rattle.sja_bus.specs.Inside.StrikesByBit.{IsAmong}
 use Rattle.sja_wire.specs.Buses.{BusValue}
 use Rattle.sja_link.specs.Links.{Numbered}
 use Rattle.sja_wire.specs.Reasons.{room_for}
@@ -83,10 +82,6 @@ pub record MayRunOn {B : Type 0} (b : Ports B) (board : B) (seats : List Seat) :
   pub told : AreTold seats
   pub facts : (k : ℕ) → k < length seats → b.facts board k
 
--- one of these nodes is one of eight
-abbrev pub SomeStruck : StruckNodes → Type 0
-SomeStruck struck = (node : ℕ) × (node < 8) × IsAmong node struck
-
 -- what a contract sees of a bus with these seats and without a fault
 abbrev pub bus_of : List Strike → List ℕ → ℕ → ℕ → List Seat → BusValue
 bus_of script steps run left seats =
@@ -109,6 +104,20 @@ moment_of script steps run left seats links board =
 abbrev pub AnyBit : {E B : Type 0} → Ends E → Ports B → ℕ → Moment E B → Moment E B → Type 0
 AnyBit e b n = OneBit e b
 
+-- why none of so many bits is run from this one on: none was asked for; or a journal is full; or the script strikes one
+-- of eight nodes in this bit; or each node is at rest, and it was asked that some work
+abbrev pub RowsRunNone : Bool → List Strike → ℕ → ℕ → List Seat → Type 0
+RowsRunNone to_rest script from most seats = (most ≡ 0) ⊎ SomeFull 0 seats
+    ⊎ ((node : ℕ) × (node < 8) × Strikes script from node) ⊎ ((to_rest ≡ true) × AllAtRest seats)
+
+-- each journal had room for n of so many, and why no more were run: what stands against the next one, or a port was
+-- told in the last one; and where none was run, what stood against the first
+pub record RowsEnd (was_told : ℕ → BusTurn → Type 0) (to_rest : Bool) (script : List Strike) (from most : ℕ)
+    (was now : List Seat) (n : ℕ) : Type 0 where
+  pub free : AreFree n was
+  pub none : n ≡ 0 → RowsRunNone to_rest script from most was
+  pub why : RowsRunNone to_rest script (from + n) (most - n) now ⊎ SomeTold was_told now
+
 -- so many of these bits, whatever the room for steps is and however many are left that are enough, and the bus after
 -- them: each journal has the room that it had, and in none of the bits the script strikes one of eight nodes
 pub record RowsRun {E B : Type 0} (e : Ends E) (b : Ports B) (to_rest : Bool) (script : List Strike) (from most : ℕ)
@@ -120,19 +129,6 @@ pub record RowsRun {E B : Type 0} (e : Ends E) (b : Ports B) (to_rest : Bool) (s
       AreBits (AnyBit e b) (WorksUntold to_rest (moment_of script steps from left was links board))
       (moment_of script steps from left was links board) n
       (moment_of script steps (from + n) (left - n) now after told)
-
--- why none of so many bits is run from this one on: none was asked for; or a journal is full; or the script strikes one
--- of eight nodes in this bit; or each node is at rest, and it was asked that some work
-abbrev pub RowsRunNone : Bool → List Strike → ℕ → ℕ → List Seat → Type 0
-RowsRunNone to_rest script from most seats = (most ≡ 0) ⊎ SomeFull 0 seats
-    ⊎ ((node : ℕ) × (node < 8) × Strikes script from node) ⊎ ((to_rest ≡ true) × AllAtRest seats)
-
--- why no more than n of so many were run: what stands against the next one, or a port was told in the last one; and
--- where none was run, what stood against the first
-pub record RowsEnd (was_told : ℕ → BusTurn → Type 0) (to_rest : Bool) (script : List Strike) (from most : ℕ)
-    (was now : List Seat) (n : ℕ) : Type 0 where
-  pub none : n ≡ 0 → RowsRunNone to_rest script from most was
-  pub why : RowsRunNone to_rest script (from + n) (most - n) now ⊎ SomeTold was_told now
 
 -- fewer than so many, and then one that broke off: so for every bus that counts just the bits before it
 abbrev pub RowsStop : {E B : Type 0} → Ends E → Ports B → Bool → List Strike → ℕ → ℕ → List Seat → List Seat → List E →

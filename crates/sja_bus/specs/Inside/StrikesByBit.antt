@@ -14,28 +14,61 @@ abbrev pub IsMarked : Strike → List StruckNodes → List StruckNodes → Type 
 IsMarked strike old new = (bit node : ℕ) (d : StruckNodes) → bit < length old → node < 8 →
     IsAmong node (slice_index_or new bit d) ↔ (IsAmong node (slice_index_or old bit d) ⊎ Hits strike bit node)
 
--- in each of these bits the nodes are those that the script strikes
-abbrev pub AreStruck : List Strike → List StruckNodes → Type 0
-AreStruck script bits = (bit node : ℕ) (d : StruckNodes) → bit < length bits → node < 8 →
-    IsAmong node (slice_index_or bits bit d) ↔ Strikes script bit node
+-- nobody
+abbrev pub nobody : StruckNodes
+nobody = record { mask = 0 }
 
--- the same, where the first of these bits is this one
-abbrev pub AreStruckFrom : List Strike → ℕ → List StruckNodes → Type 0
-AreStruckFrom script from bits = (run node : ℕ) (d : StruckNodes) → run < length bits → node < 8 →
-    IsAmong node (slice_index_or bits run d) ↔ Strikes script (from + run) node
+-- of so many bits the nodes that are struck: those of the first ones, and nobody in the bits behind them
+pub record Table : Type 0 where
+  pub bits : ℕ
+  pub nodes : List StruckNodes
 
--- in the first so many of these bits no node is among them
-abbrev pub AreUnstruck : ℕ → List StruckNodes → Type 0
-AreUnstruck n bits = (i node : ℕ) (d : StruckNodes) → i < n → IsAmong node (slice_index_or bits i d) → ⊥
+-- the node is struck in this bit
+abbrev pub IsAmongAt : Table → ℕ → ℕ → Type 0
+IsAmongAt table bit node = IsAmong node (slice_index_or table.nodes bit nobody)
 
--- a script, of how many bits it is known whom it strikes, and of how many of the first ones that is written down
+-- after one strike more
+pub record IsMarkedWith (strike : Strike) (old new : Table) : Type 0 where
+  pub bits : new.bits ≡ old.bits
+  pub nodes : (bit node : ℕ) → bit < old.bits → node < 8 →
+      IsAmongAt new bit node ↔ (IsAmongAt old bit node ⊎ Hits strike bit node)
+
+-- in each bit the nodes are those that the script strikes
+abbrev pub IsTableOf : List Strike → Table → Type 0
+IsTableOf script table =
+    (bit node : ℕ) → bit < table.bits → node < 8 → IsAmongAt table bit node ↔ Strikes script bit node
+
+-- nobody is struck in the bits from one up to another one, that one left out
+abbrev pub IsCalm : ℕ → ℕ → Table → Type 0
+IsCalm from to table =
+    (bit node : ℕ) → from ≤ bit → bit < to → bit < table.bits → node < 8 → IsAmongAt table bit node → ⊥
+
+-- one of eight nodes is struck in this bit
+abbrev pub IsStruckAt : Table → ℕ → Type 0
+IsStruckAt table bit = (node : ℕ) × (node < 8) × IsAmongAt table bit node
+
+-- a script, and the number of bits of the run
 pub record Scripted : Type 0 where
   pub script : List Strike
   pub bits : ℕ
-  pub written : ℕ
 
--- of so many of the bits it is written down, for all of which there is room: of all, unless nobody is struck
-pub record IsWritten (script : List Strike) (bits written room : ℕ) : Type 0 where
-  pub most : written ≤ bits
-  pub fits : bits ≤ room
-  pub none : written < bits → (bit node : ℕ) → Strikes script bit node → ⊥
+-- one strike hits none of eight nodes in the bits from one up to another one, that one left out
+abbrev pub IsUnhit : Strike → ℕ → ℕ → Type 0
+IsUnhit strike from to = (bit node : ℕ) → from ≤ bit → bit < to → node < 8 → Hits strike bit node → ⊥
+
+-- in none of these bits the script strikes one of eight nodes
+abbrev pub IsUnstruck : List Strike → ℕ → ℕ → Type 0
+IsUnstruck script from to = (bit node : ℕ) → from ≤ bit → bit < to → node < 8 → Strikes script bit node → ⊥
+
+-- the script strikes one of eight nodes in this bit, or it is the end of the run
+abbrev pub IsStruckOrEnd : Scripted → ℕ → Type 0
+IsStruckOrEnd s bit = (bit ≡ s.bits) ⊎ ((node : ℕ) × (node < 8) × Strikes s.script bit node)
+
+-- how it is held whom a script strikes in so many bits: a table, of all bits where they are few; and from one bit up to
+-- another one that the script strikes nobody, and that it does then
+pub record IsHeld (script : List Strike) (bits : ℕ) (table : Table) (calm_from calm_to : ℕ) : Type 0 where
+  pub table_is : IsTableOf script table
+  pub few : bits ≤ 4194304 → table.bits ≡ bits
+  pub within : calm_to ≤ bits
+  pub calm : IsUnstruck script calm_from calm_to
+  pub stop : calm_from ≤ calm_to → IsStruckOrEnd (record { script = script; bits = bits }) calm_to

@@ -12,8 +12,6 @@ use Rattle.sja_link.specs.declared.entry.Entry.{Entry}
 use Rattle.sja_link.specs.declared.entry.Entry.TheVariants.{Bit}
 use Rattle.sja_wire.specs.Wire.{wired}
 use Rattle.sja_bus.specs.declared.seat.Seat.{Seat}
-use Rattle.sja_bus.specs.declared.struck_nodes.StruckNodes.{StruckNodes}
-use Rattle.sja_bus.specs.Inside.StrikesByBit.{AreUnstruck}
 use Rattle.sja_bus.specs.Inside.Refusing.{AreFree}
 use Rattle.sja_bus.specs.Inside.Rows.{AreReady, AreTold, EachSeat, driven_by}
 use Rattle.sja_bus.specs.Inside.Turning.{IsQuietBit}
@@ -43,11 +41,9 @@ pub record MayRunTogether (n : ℕ) (seats : List Seat) : Type 0 where
   pub told : AreTold seats
   pub free : AreFree n seats
 
--- the first so many of these bits were run together: in none of them a node is struck, and nothing happens in them
-pub record RunsTogether (to_rest : Bool) (struck : List StruckNodes) (seats : List Seat) (n : ℕ) (after : List Seat) :
-    Type 0 where
-  pub few : n ≤ length struck
-  pub none : AreUnstruck n struck
+-- so many bits of at most so many were run together: nothing happens in them
+pub record RunsTogether (to_rest : Bool) (most : ℕ) (seats : List Seat) (n : ℕ) (after : List Seat) : Type 0 where
+  pub few : n ≤ most
   pub rows : AreQuietRows to_rest seats n after
 
 -- ---- one sends, the others go on with it

@@ -1,5 +1,5 @@
 -- How a bus keeps its nodes.
-use Rattle.std.specs.Prelude.{◌≡◌, ◌+◌, ◌≤◌, ℕ, Option, None, List, length}
+use Rattle.std.specs.Prelude.{◌≡◌, ◌+◌, ◌^◌, ◌≤◌, ℕ, Option, None, List, length}
 use Rattle.can_bits.specs.declared.level.Level.{Level}
 use Rattle.sja_regs.specs.declared.orders.Orders.{Orders}
 use Rattle.sja_regs.specs.declared.bus_turn.BusTurn.{BusTurn}
@@ -12,16 +12,16 @@ use Rattle.sja_wire.specs.Reasons.{room_for}
 use Rattle.sja_bus.specs.Inside.Refusing.{HaveRoom}
 use Rattle.sja_bus.specs.Inside.Rows.{IsBus, EachSeat, SeatOpens, driven_by, SeatOpensUntold, SeatTurns}
 
--- one to eight nodes, as many bits as it is known whom the script strikes, and while there is no fault a bus, with room
--- for all its bits and for so many steps of each driver
+-- one to eight nodes with room for all bits and for so many steps of each driver, as many bits as it is known whom the
+-- script strikes, and while there is no fault a bus
 pub record IsWhole (struck : Scripted) (steps : List ℕ) (run left : ℕ) (fault : Option BusFault) (seats : List Seat)
     (room : ℕ) : Type 0 where
   pub few : length seats ≤ 8
   pub bits : run + left ≡ struck.bits
-  pub most : struck.bits ≤ 2000000
+  pub most : struck.bits ≤ 2 ^ 62
   pub bus : fault ≡ None → IsBus struck.script run seats
   pub logs : length seats ≤ room
-  pub rooms : fault ≡ None → HaveRoom (room_for struck.bits steps) seats
+  pub rooms : HaveRoom (room_for struck.bits steps) seats
 
 -- one bit of all seats: what was taken and aborted, and then each had its bit at the level that all drove, and its port
 -- was told or passed over

@@ -15,7 +15,6 @@ use Rattle.sja_log.specs.Registering.LeadTo.{power_on}
 use Rattle.sja_log.specs.Inside.NewDrivers.{IsNewDriver, AreNew}
 use Rattle.sja_log.specs.Nodes.{IsNode}
 use Rattle.sja_driver.proofs.Step.NothingDone.{nothing_known, nothing_told}
-use Rattle.sja_driver.proofs.LogOfSteps.Logged.{room_less}
 use Rattle.can_node.proofs.Requests.Cuts.{none_held_first}
 
 -- one driver more
@@ -45,8 +44,12 @@ new_node version node steps size x links base new fresh = record {
     lawful = new.lawful;
     traces = new.traces version;
     within = omega arith;
-    room =
-        λ k l. room_less k size (log_of x) (omega (arith, l)) new.room;
+    room = λ k l.
+        let none = ap (λ l. length l) new.empty.releases in let all = new.made_for.releases in
+        let left = new.made_for.left in
+        record { releases = omega (arith, none, all, l); left = omega (arith, left) };
+    made_for = new.made_for.releases;
+    activations = new.made_for.left;
   };
   linked = record {
     holds = record {

@@ -20,7 +20,7 @@ use Rattle.sja_driver.specs.Carried.{ported}
 use Rattle.sja_driver.specs.Deeds.{Deed, opens_by, opened_by, is_active, given_in, deeds_of, FitsState}
 use Rattle.sja_driver.specs.Holding.{HoldsBy, place_after}
 use Rattle.sja_driver.specs.LoggedDrivers.{node_of, driver_of, log_of, ended_of, IsLawful, Steps}
-use Rattle.sja_driver.specs.Logs.{HasRoom, Traces, deeds_by}
+use Rattle.sja_driver.specs.Logs.{HasRoom, Traces, deeds_by, release_room, left_room}
 use Rattle.sja_driver.specs.Tries.{Tried, answer_of}
 use Rattle.sja_driver.specs.Tries.Tried.{Unmet, Answered, Released, Ended}
 use Rattle.sja_log.specs.Registering.{IsPortDeed, seen_now}
@@ -84,7 +84,9 @@ module _ {version : ℕ} {size : ℕ} {j k : List Entry} {deeds : List Deed} {wa
 
   module _ (trace : Traces version (driver_of now) (log_of now) deeds)
       (holds : HoldsBy Lies deeds (driver_of now) (log_of now) j given base)
-      (room : (m : ℕ) → HasRoom m (log_of was) → HasRoom m (log_of now)) (port : q ≡ p) where
+      (room : (m : ℕ) → HasRoom m (log_of was) → HasRoom m (log_of now))
+      (releases : release_room (log_of now) ≡ release_room (log_of was))
+      (left : left_room (log_of now) ≡ left_room (log_of was)) (port : q ≡ p) where
     pub same_journal : k ≡ j
     same_journal =
         items_are holds t [] 0 (omega arith) (λ e. absurd (e refl))
@@ -106,6 +108,8 @@ module _ {version : ℕ} {size : ℕ} {j k : List Entry} {deeds : List Deed} {wa
           traces = trace;
           within = h.traced.within;
           room = λ m l. room m (h.traced.room m l);
+          made_for = releases ∙ h.traced.made_for;
+          activations = left ∙ h.traced.activations;
         }) (subst (λ (l : List Entry). IsLinked l deeds now after base) same_journal linked)))
 
   module _ {one : Step} (lawful : IsLawfulJournal j) where
@@ -148,6 +152,8 @@ module _ {version : ℕ} {size : ℕ} {j k : List Entry} {deeds : List Deed} {wa
               traces = y.trace;
               within = omega (arith, left, long);
               room = λ m l. room m (h.traced.room (m + 1) (omega (arith, l, long)));
+              made_for = st.release_room ∙ h.traced.made_for;
+              activations = st.left_room ∙ h.traced.activations;
             };
             linked = linked_after now y.holds t.kept (λ a. given_taken (deeds ++ d ∷ []) k a (in_time.when a)) level;
             ported = ported_after version j k deeds d p q e next h.ported h.linked.level level y.kind buffer;
@@ -192,7 +198,7 @@ module _ {version : ℕ} {size : ℕ} {j k : List Entry} {deeds : List Deed} {wa
           waits = waits j deeds (log_of was) links base (node_of was) no_link lawful
               (λ a. given_taken deeds j a (h.in_time.when a)) p one (driver_of was) (driver_of now) acts.out h.asked
               h.traced.traces h.traced.lawful h.linked.holds h.linked.taken acts.waits;
-          journal = same_journal trace holds room acts.port;
+          journal = same_journal trace holds room st.release_room st.left_room acts.port;
           port = acts.port;
-          node = idle trace holds room acts.port;
+          node = idle trace holds room st.release_room st.left_room acts.port;
         }

@@ -1,24 +1,23 @@
 -- The drivers of a run before its first turn (this project's own rule).
-use Rattle.std.specs.Prelude.{◌≡◌, ◌<◌, ◌≤◌, ℕ, false, List, [], slice_index_or}
+use Rattle.std.specs.Prelude.{◌≡◌, ◌<◌, ℕ, false, List, [], slice_index_or}
 use Rattle.sja_driver.specs.declared.logged_driver.LoggedDriver.{LoggedDriver}
 use Rattle.sja_driver.specs.AnyDrivers.{is_out}
 use Rattle.sja_driver.specs.Kept.{at_power_on}
 use Rattle.sja_driver.specs.LoggedDrivers.{node_of, driver_of, log_of, kept_of, IsLawful}
-use Rattle.sja_driver.specs.Logs.{IsEmpty, HasRoom, Traces, done_room}
+use Rattle.sja_driver.specs.Logs.{IsEmpty, IsMadeFor, Traces}
 
--- the driver of this node, in reset, that did nothing and has room for so many steps, and for what so many deeds come
+-- the driver of this node, in reset, that did nothing and was made for so many steps, and for what so many deeds come
 -- to
 pub record IsNewDriver (node many deeds : ℕ) (d : LoggedDriver) : Type 0 where
   pub own : node_of d ≡ node
   pub empty : IsEmpty (log_of d)
-  pub steps : many ≤ done_room (log_of d)
-  pub room : HasRoom deeds (log_of d)
+  pub made_for : IsMadeFor many deeds (log_of d)
   pub kept : kept_of d ≡ at_power_on
   pub reset : is_out (driver_of d) ≡ false
   pub lawful : IsLawful d
   pub traces : (version : ℕ) → Traces version (driver_of d) (log_of d) []
 
--- the first so many of them, by node, each with room for the steps and for the deeds of its node
+-- the first so many of them, by node, each made for the steps and for the deeds of its node
 abbrev pub AreNew : List ℕ → List ℕ → ℕ → List LoggedDriver → Type 0
 AreNew steps deeds count drivers =
     (node : ℕ) (d : LoggedDriver) → node < count →

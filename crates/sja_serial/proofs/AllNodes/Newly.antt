@@ -119,6 +119,6 @@ stands_by_new setup steps bus drivers ports links may sizes many bus_is driver_c
             led = subst (λ (k : KeptBytes). AccessesLeadTo version [] [] k (at_power_on version))
                 (sym new.kept) power_on;
             done = sym new.empty.done;
-            room = new.steps;
+            room = new.made_for.done;
           });
     }

@@ -4,14 +4,15 @@ use Rattle.std.proofs.Common.{refl, inl}
 use Rattle.std.proofs.Common.{sym, ap, ◌∙◌, subst, append-nil, append_assoc, arith}
 use Rattle.std.specs.Prelude.{◌/◌, Option, Some, None, slice_index_or}
 use Rattle.std.proofs.lemmas.List.{length-append, length-map, map-append}
-use Rattle.std.specs.Vec.{vec_capacity}
 use Rattle.can_frame.specs.declared.buffer_view.BufferView.{BufferView}
 use Rattle.sja_link.specs.declared.entry.Entry.{Entry}
 use Rattle.sja_link.specs.Places.{place_of}
+use Rattle.sja_link.specs.Recents.{Recents}
 use Rattle.sja_link.proofs.JournalEntries.Entering.{bits_counted}
 use Rattle.sja_wire.specs.Lawful.{IsBusRun}
 use Rattle.sja_wire.specs.Wire.{journal_at}
 use Rattle.sja_regs.specs.declared.registers.Registers.{Registers}
+use Rattle.sja_script.specs.declared.done.Done.{Done}
 use Rattle.sja_script.specs.declared.step.Step.{Step}
 use Rattle.sja_script.specs.declared.step.Step.TheVariants.{Start, Stop, Window, Release, Read, Write, Load, Command}
 use Rattle.sja_script.specs.declared.step.Step.TheVariants.{Await, Sent, Interrupt, At}
@@ -220,8 +221,7 @@ waits_by {setup} {was} {now} {accesses} {node} h n = record {
           led = subst (λ (k : KeptBytes). AccessesLeadTo setup.version (journal_at was.bus.journals m)
               (accesses_at accesses m) k (slice_index_or was.ports m p)) (sym (n.kept m d less)) w.led;
           done = w.done ∙ ap (λ v. v.items) (sym (n.logs m d less));
-          room = subst (λ (k : ℕ). most_steps setup.version (slice_index_or setup.steps m 0) ≤ k)
-              (ap vec_capacity (sym (n.logs m d less))) w.room;
+          room = ap (λ (v : Recents Done). v.room) (n.logs m d less) ∙ w.room;
         });
   };
   nothing = n;
@@ -279,7 +279,7 @@ module _ {setup : Setup} {was : SerialValue} {accesses : List (List Access)} {no
       < done_room (log_of (slice_index_or now.drivers node d))
   log_left now logs d =
       let left = room.left d in let has = (h.nodes node d (at_power_on 1) room.there).room in
-      subst (λ v. length v.items < vec_capacity v) (sym (logs d)) (omega (arith, left, has))
+      subst (λ (v : Recents Done). length v.items < v.room) (sym (logs d)) (omega (arith, left, has))
 
 -- a step that is prompt waits for nothing
 pub never_waits : (p : Registers) (j : List Entry) (deeds : List Deed) (s : Step) → IsPrompt s →

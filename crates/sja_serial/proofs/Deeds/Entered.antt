@@ -10,6 +10,7 @@ use Rattle.std.specs.Prelude.{slice_index_or, slice_set}
 use Rattle.sja_link.specs.declared.entry.Entry.{Entry}
 use Rattle.sja_link.specs.Deques.{Deques}
 use Rattle.sja_link.specs.Places.{place_of}
+use Rattle.sja_link.specs.Recents.{Recents}
 use Rattle.sja_wire.specs.Wire.{journal_at}
 use Rattle.sja_regs.specs.declared.registers.Registers.{Registers}
 use Rattle.sja_script.specs.declared.step_answer.StepAnswer.{StepAnswer}
@@ -22,7 +23,7 @@ use Rattle.sja_driver.specs.LoggedDrivers.{kept_of, log_of, node_of}
 use Rattle.sja_driver.specs.Logs.{done_in, done_room}
 use Rattle.sja_log.specs.Nodes.{IsNode}
 use Rattle.sja_link.specs.BitEntries.{HasMore}
-use Rattle.std.specs.Vec.{vec_capacity}
+use Rattle.sja_script.specs.declared.done.Done.{Done}
 use Rattle.sja_script.specs.declared.step.Step.{Step}
 use Rattle.sja_log.specs.Registering.{AccessesLeadTo, LeadOn, seen_now}
 use Rattle.sja_log.specs.Registering.AccessesLeadTo.{access}
@@ -55,6 +56,8 @@ node_entered was log kept h = record {
     };
     within = h.traced.within;
     room = λ k few. let room = h.traced.room k few in record { releases = room.releases; left = room.left };
+    made_for = h.traced.made_for;
+    activations = h.traced.activations;
   };
   linked = record { holds = h.linked.holds; taken = h.linked.taken; level = h.linked.level };
   ported = h.ported;
@@ -206,8 +209,8 @@ module _ {setup : Setup} {was mid now : SerialValue} {accesses : List (List Acce
               (slice_index_or now.ports node p) w.led (bits ∙ sym place) (is d p) (on_now p));
           done = map-append done_of (accesses_at accesses node) (a ∷ []) ∙ ap (λ l. l ++ done_of a ∷ []) w.done
               ∙ sym done;
-          room = subst (λ (n : ℕ). most_steps setup.version (slice_index_or setup.steps node 0) ≤ n)
-              (sym (ap (λ (x : LoggedDriver). done_room (log_of x)) (here d) ∙ e.room d ∙ ap vec_capacity logs)) w.room;
+          room = ap (λ (x : LoggedDriver). done_room (log_of x)) (here d) ∙ e.room d
+              ∙ ap (λ (v : Recents Done). v.room) logs ∙ w.room;
         }
       where
         bits_mid : mid.bits ≡ a.bits
@@ -232,8 +235,7 @@ module _ {setup : Setup} {was mid now : SerialValue} {accesses : List (List Acce
         record {
           led = rw (journal, port, kept_same) w.led;
           done = w.done ∙ ap (λ v. v.items) (sym logs);
-          room = subst (λ (n : ℕ). most_steps setup.version (slice_index_or setup.steps m 0) ≤ n)
-              (ap vec_capacity (sym logs)) w.room;
+          room = ap (λ (v : Recents Done). v.room) logs ∙ w.room;
         }
 
     pub step_done : {one : Step} → a.step ≡ one → Is → DoesStep setup was now node one accesses

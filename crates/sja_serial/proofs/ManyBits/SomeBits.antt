@@ -135,22 +135,23 @@ pub not_both : (setup : Setup) (n : SerialValue) → AllRestIn setup n → SomeW
 not_both setup n rest busy =
     let r = rest busy.0 busy.1 in let is = r.is in let no = busy.2.every r.found r.cut in cc (is, no)
 
--- it ran until all rest, or the bits were spent
+-- it ran until all rest, or so many bits were run, or they were spent
 pub rest_so : (setup : Setup) (deeds : List (List Deed)) (r n : SerialValue) (run most : ℕ) (rests : Bool) →
-    StandsAt setup r deeds → TakesBits setup deeds (SomeWorks setup) r run n → r.bits + most ≡ setup.bits →
+    StandsAt setup r deeds → TakesBits setup deeds (SomeWorks setup) r run n → run ≤ most →
     (run ≡ most) ⊎ (setup.bits ≤ n.bits) ⊎ AllRestIn setup n → (rests ≡ true → AllRestIn setup n) →
-    (rests ≡ false → SomeWorks setup n) → TakesRest setup deeds r n rests
-rest_so setup deeds r n run most rests h t is whole all busy =
+    (rests ≡ false → SomeWorks setup n) → TakesRest setup deeds r n most rests
+rest_so setup deeds r n run most rests h t few whole all busy =
     let s = some_first setup deeds (SomeWorks setup) r n run h t in
-    let w = bits_within setup n deeds s.stands in let k = s.many in record {
+    let w = bits_within setup n deeds s.stands in record {
       run = run;
+      few = few;
       bits = t;
       whole = all;
       spent = λ no. (
         busy no,
         elim whole [
-          | inl asked ↦ omega (arith, asked, is, k)
-          | inr (inl spent) ↦ omega (arith, spent, w)
+          | inl asked ↦ inl asked
+          | inr (inl spent) ↦ inr (omega (arith, spent, w))
           | inr (inr rest) ↦ absurd (not_both setup n rest (busy no))
         ],
       );

@@ -20,7 +20,8 @@ use Rattle.sja_driver.specs.AnyDrivers.{held_of, is_out, off_of, seen_by, IsDriv
 use Rattle.sja_driver.specs.Deeds.{Deed, deeds_at, is_active}
 use Rattle.sja_driver.specs.Holding.{HoldsBy, place_after}
 use Rattle.sja_driver.specs.LoggedDrivers.{node_of, driver_of, log_of, ended_of, StaysLawful}
-use Rattle.sja_driver.specs.Logs.{Traces}
+use Rattle.sja_driver.specs.declared.work_log.WorkLog.{WorkLog}
+use Rattle.sja_driver.specs.Logs.{Traces, release_room, left_room}
 use Rattle.sja_driver.specs.Observing.{Looked, Observes}
 use Rattle.sja_log.specs.Registering.{seen_now}
 use Rattle.sja_log.proofs.Account.Seeing.{seen_shown}
@@ -71,6 +72,8 @@ module _ {setup : Setup} {bus : BusValue} {drivers : List LoggedDriver} {ports :
         traces = traces p;
         within = n.traced.within;
         room = λ k l. stays.waits refl k (n.traced.room k l);
+        made_for = ap (λ (l : WorkLog). release_room l) observed.log ∙ n.traced.made_for;
+        activations = ap (λ (l : WorkLog). left_room l) observed.log ∙ n.traced.activations;
       })
       (linked_after now (holds p) (λ acc x. x) (λ a. given_taken ds j a (n.in_time.when a)) n.linked.level)
 

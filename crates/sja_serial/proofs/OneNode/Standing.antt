@@ -145,8 +145,8 @@ module _ {setup : Setup} {r : SerialValue} {deeds : List (List Deed)} {node : 鈩
   other_node m d x differ less =
       let w = h.nodes m d x less in let v = slice_index_or r.drivers m d in
       let holds = each_other (位 a. apart m node a (ended_of was) differ) w.linked.holds t.stays.others in (
-        same_journal v w w.traced.lawful (gathers m less) w.traced.traces holds (位 k e. e) refl,
-        idle v w w.traced.lawful (gathers m less) w.traced.traces holds (位 k e. e) refl,
+        same_journal v w w.traced.lawful (gathers m less) w.traced.traces holds (位 k e. e) refl refl refl,
+        idle v w w.traced.lawful (gathers m less) w.traced.traces holds (位 k e. e) refl refl refl,
       )
 
   -- the run stands at the deeds that are had more

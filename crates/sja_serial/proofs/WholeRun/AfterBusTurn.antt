@@ -107,7 +107,7 @@ module _ (plan : PlanValue) (accesses : List (List Access)) (journals : List (Li
     pub rest_whole : (was now : SerialValue) (turns : List Turn) (q : Progress) (end : End) →
         StandsAt (setup_of plan) was (all_deeds accesses) →
         ArePresent (setup_of plan) was → GoesOn (setup_of plan) now accesses journals all →
-        TakesRest (setup_of plan) (all_deeds accesses) was now true →
+        TakesRest (setup_of plan) (all_deeds accesses) was now plan.bits true →
         RunsTo (acts_of plan journals all) (progress now accesses) turns q end →
         RunsTo (acts_of plan journals all) (progress was accesses) (Rest ∷ turns) q end
     rest_whole was now turns q end h present go t follows =
@@ -127,15 +127,16 @@ module _ (plan : PlanValue) (accesses : List (List Access)) (journals : List (Li
     pub rest_short : (was now : SerialValue) (turns : List Turn) → StandsAt (setup_of plan) was (all_deeds accesses) →
         ArePresent (setup_of plan) was →
         GoesOn (setup_of plan) now accesses journals all →
-        TakesRest (setup_of plan) (all_deeds accesses) was now false →
+        TakesRest (setup_of plan) (all_deeds accesses) was now plan.bits false →
         RunsTo (acts_of plan journals all) (progress was accesses) (Rest ∷ turns) (progress now accesses) BitsSpent
     rest_short was now turns h present go t =
         let e = bits_run (setup_of plan) (all_deeds accesses) _ was now t.run t.bits in
         let stands = stands_bits (setup_of plan) (all_deeds accesses) _ was now t.run t.bits h in
         let there = present_bits (setup_of plan) (all_deeds accesses) _ was now t.run t.bits present in
-        let s = t.spent refl in let last = s.1 in
+        let few = bits_within (setup_of plan) now (all_deeds accesses) stands in let s = t.spent refl in
+        let last : now.bits ≡ plan.bits = elim s.1 [ inl all ↦ omega (arith, all, e, few) | inr is ↦ is ] in
         subst (λ (q : Progress). RunsTo (acts_of plan journals all) (progress was accesses) (Rest ∷ turns) q BitsSpent)
-        (spent_at was now s.1)
+        (spent_at was now last)
         (rest_spent (progress was accesses) turns (λ bits from to still. elim (cases_lt (bits - was.bits) t.run) [
           | inl few ↦
               let same : bits ≡ was.bits + (bits - was.bits) = omega (arith, from) in

@@ -165,7 +165,7 @@ module _ {plan : PlanValue} {turns head : List Turn} {was : SerialValue} (now : 
   }
 
   pub come_rest : (c : HasCome plan turns (Rest ∷ head) was) →
-      TakesRest (setup_of plan) (all_deeds c.accesses) was now true → HasCome plan turns head now
+      TakesRest (setup_of plan) (all_deeds c.accesses) was now plan.bits true → HasCome plan turns head now
   come_rest c t = record {
     accesses = c.accesses;
     by = stands_by_bits (setup_of plan) c.accesses _ was now t.run t.bits c.by;
@@ -177,7 +177,7 @@ module _ {plan : PlanValue} {turns head : List Turn} {was : SerialValue} (now : 
   }
 
   pub end_rest : (later : List Turn) (c : HasCome plan turns (Rest ∷ head) was) →
-      TakesRest (setup_of plan) (all_deeds c.accesses) was now false →
+      TakesRest (setup_of plan) (all_deeds c.accesses) was now plan.bits false →
       turns ++ later ≡ plan.turns → TakesTurns plan now BitsSpent
   end_rest later c t whole = let go = go_self plan now c.accesses in record {
     accesses = c.accesses;
@@ -296,7 +296,7 @@ module _ {plan : PlanValue} {turns : List Turn} {was : SerialValue} (now : Seria
   come_one (Bus count) whole c names is taken = come_bus now count c
       (subst (λ (b : Bool). TakesBusTurn (setup_of plan) (all_deeds c.accesses) was now count b) is taken)
   come_one Rest whole c names is taken = come_rest now c
-      (subst (λ (b : Bool). TakesRest (setup_of plan) (all_deeds c.accesses) was now b) is taken)
+      (subst (λ (b : Bool). TakesRest (setup_of plan) (all_deeds c.accesses) was now plan.bits b) is taken)
   come_one (Node k count) whole c names is taken = come_node now k count c names taken.0
   come_one (All k) whole c names is taken = come_all now k c names taken.0
   come_one (Irq k most) whole c names is taken = come_irq now k most c names
@@ -310,7 +310,7 @@ module _ {plan : PlanValue} {turns : List Turn} {was : SerialValue} (now : Seria
   end_one (Bus count) whole later c names is taken e = end_bus now count later c
       (subst (λ (b : Bool). TakesBusTurn (setup_of plan) (all_deeds c.accesses) was now count b) is taken) e
   end_one Rest whole later c names is taken e = end_rest now later c
-      (subst (λ (b : Bool). TakesRest (setup_of plan) (all_deeds c.accesses) was now b) is taken) e
+      (subst (λ (b : Bool). TakesRest (setup_of plan) (all_deeds c.accesses) was now plan.bits b) is taken) e
   end_one (Node k count) whole later c names is taken e = let no : true ≡ false = sym taken.1 ∙ is in absurd cc
   end_one (All k) whole later c names is taken e = let no : true ≡ false = sym taken.1 ∙ is in absurd cc
   end_one (Irq k most) whole later c names is taken e = end_irq now k most later c names

@@ -1,9 +1,8 @@
 -- The log of a run in one thread, by what its bus leaves and what drivers and links hold at the end.
-use Rattle.std.proofs.Common.{◌≡◌, ℕ, zero, suc, ◌+◌, ◌*◌, ◌<◌, List, [], ◌∷◌, ◌++◌, length, map, refl, sym, ap}
+use Rattle.std.proofs.Common.{◌≡◌, ℕ, zero, suc, ◌+◌, ◌*◌, ◌<◌, List, [], ◌∷◌, length, map, refl, sym, ap}
 use Rattle.std.proofs.Common.{◌∙◌, subst, arith}
 use Rattle.std.specs.Prelude.{slice_index_or}
 use Rattle.sja_link.specs.declared.entry.Entry.{Entry}
-use Rattle.sja_link.specs.Accounts.{Account}
 use Rattle.sja_link.specs.declared.down.Down.{Down}
 use Rattle.sja_link.specs.Deques.{Deques}
 use Rattle.sja_wire.specs.declared.node_log.NodeLog.{NodeLog}
@@ -13,9 +12,8 @@ use Rattle.sja_plan.specs.Plan.{PlanValue, steps_at}
 use Rattle.sja_regs.specs.declared.registers.Registers.{Registers}
 use Rattle.sja_regs.specs.Registers.{at_power_on}
 use Rattle.sja_driver.specs.declared.logged_driver.LoggedDriver.{LoggedDriver}
-use Rattle.sja_driver.specs.Deeds.{Deed, given_in, deeds_of, deeds_at}
-use Rattle.sja_driver.specs.LoggedDrivers.{log_of, kept_of}
-use Rattle.sja_driver.specs.Logs.{releases_in, released_of}
+use Rattle.sja_driver.specs.Deeds.{Deed, deeds_at}
+use Rattle.sja_driver.specs.LoggedDrivers.{kept_of}
 use Rattle.sja_log.specs.declared.end.End.{End}
 use Rattle.sja_driver.specs.InTime.{IsInTime}
 use Rattle.sja_log.specs.Registering.{AccessesLeadTo}
@@ -23,18 +21,18 @@ use Rattle.sja_log.specs.Log.{NodeValue, RunValue}
 use Rattle.sja_log.specs.Runs.{IsTrace, AreFirst as AreFirstSteps}
 use Rattle.sja_log.specs.Settling.{IsSettled, AreSettled}
 use Rattle.sja_driver.proofs.Trace.Stepping.{given_taken}
-use Rattle.sja_log.proofs.Trace.Windows.{settled_kept}
 use Rattle.sja_log.proofs.OneNode.Gathered.{no_link}
 use Rattle.sja_log.specs.Nodes.{IsNode}
 use Rattle.sja_serial.specs.Serial.{Setup, SerialValue, StandsAt, StandsBy, IsAccessed, all_deeds, most_steps}
 use Rattle.sja_serial.proofs.Deeds.Parts.{all_at}
 use Rattle.sja_driver.specs.declared.kept_bytes.KeptBytes.{KeptBytes}
 use Rattle.sja_driver.specs.Accesses.{Access, accesses_at, deeds_in}
-use Rattle.sja_log.specs.Finishing.{held_after, activation_after, IsNodeEnd, AreNodeEnds}
+use Rattle.sja_log.specs.Finishing.{activation_after, IsNodeEnd, AreNodeEnds}
 use Rattle.sja_log.specs.Inside.LeftDown.{all_down}
 use Rattle.sja_serial.specs.Ending.{IsLogOf, MayBeOf}
 use Rattle.sja_log.proofs.NodeLog.NodeEnds.{AreEnds, trace_of, settled_of, nodes_count, some_driver, node_end}
 use Rattle.sja_log.proofs.NodeLog.NodeEnds.{journal_is, journals_in_log, run_of_ends}
+use Rattle.sja_serial.proofs.WholeRun.AccountsNow.{settled_now}
 
 -- what lies downward on one of these links
 down_at : (links : List Deques) (k : ℕ) (d : Deques) →
@@ -56,16 +54,9 @@ module _ (version size : ℕ) (j : List Entry) (deeds : List Deed) (driver : Log
   settled_at : AreSettled node
   settled_at =
       settled_of j deeds driver (all_down links) base log node end same h.traced.lawful (λ a few.
-      let link = slice_index_or links (base + a) no_link in
-      let holds = h.linked.holds in
-      let accounts : ℕ → Account = λ b. record { got = holds.got b; given = given_in (deeds_of deeds (suc b)) } in
-      let one : suc a ≡ a + 1 = omega arith in
-      let told = holds.told a few
-      ∙ ap (λ n. released_of (releases_in (log_of driver)) n ++ held_after driver a) one in
       subst (λ (l : List Down). IsSettled j (a + 1) (activation_after driver l a))
       (sym (down_at links (base + a) no_link))
-      (settled_kept j links base accounts no_link holds.kept a (released_of (releases_in (log_of driver)) (a + 1))
-      (held_after driver a) few (h.linked.taken a no_link few) told))
+      (settled_now version size j deeds driver port links base h a no_link few))
 
 -- ---- all nodes
 

@@ -43,7 +43,7 @@ SomeIsLeft plan accesses =
 pub data TakesGo (plan : PlanValue) : List (List Access) → SerialValue → SerialValue → Bool → Type 0 where
   over : (accesses after : List (List Access)) (was mid now : SerialValue) (all : Bool) →
       TakesAll plan 0 accesses was after mid → NoneIsLeft plan after →
-      TakesRest (setup_of plan) (all_deeds after) mid now all → TakesGo plan accesses was now all
+      TakesRest (setup_of plan) (all_deeds after) mid now plan.bits all → TakesGo plan accesses was now all
   spent : (accesses after : List (List Access)) (was mid now : SerialValue) →
       TakesAll plan 0 accesses was after mid → SomeIsLeft plan after →
       TakesBusTurn (setup_of plan) (all_deeds after) mid now 1 false → TakesGo plan accesses was now false

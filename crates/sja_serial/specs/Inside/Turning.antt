@@ -17,6 +17,6 @@ TakesOne plan accesses was now (All node) whole =
     TakesTurn plan was now node (past_all plan node) accesses × (whole ≡ true)
 TakesOne plan accesses was now (Bus count) whole =
     TakesBusTurn (setup_of plan) (all_deeds accesses) was now count whole
-TakesOne plan accesses was now Rest whole = TakesRest (setup_of plan) (all_deeds accesses) was now whole
+TakesOne plan accesses was now Rest whole = TakesRest (setup_of plan) (all_deeds accesses) was now plan.bits whole
 TakesOne plan accesses was now (Irq node count) whole = TakesIrq (setup_of plan) accesses node count was now whole
 TakesOne plan accesses was now Go whole = TakesGo plan accesses was now whole

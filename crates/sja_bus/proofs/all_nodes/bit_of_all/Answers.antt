@@ -58,13 +58,13 @@ returns-clause-bit g c =
     }
 
 pub returns-clause-rooms : goal.returns-clause-rooms
-returns-clause-rooms g c = λ n h.
-    let E = g.E.BusEnd in let B = g.B.Board in let seats = c.open_all.new.seats in
-    let row = underway_none E.same E.stands g.met.E.BusEnd.same_refl B.ports B.told B.kept g.met.B.Board.kept_refl
-    c.args.struck c.level_of-level.result seats c.open_all.new.links c.args.board.now
-    c.in_ok-open_all.ensures.ready in
-    let did = c.in_ok-sample_from.ensures.row seats c.open_all.new.links c.args.board.now row in
-    did.2.rooms n (c.in_ok-open_all.ensures.rooms n h)
+returns-clause-rooms g c = λ n h. c.sample_from.ensures.rooms n (c.open_all.ensures.rooms n h)
+
+pub returns-in_err-sample_from-clause-rooms : goal.returns-in_err-sample_from-clause-rooms
+returns-in_err-sample_from-clause-rooms g c = λ n h. c.sample_from.ensures.rooms n (c.open_all.ensures.rooms n h)
+
+pub returns-in_err-open_all-clause-rooms : goal.returns-in_err-open_all-clause-rooms
+returns-in_err-open_all-clause-rooms g c = c.open_all.ensures.rooms
 
 pub returns-clause-ready : goal.returns-clause-ready
 returns-clause-ready g c =

@@ -9,7 +9,7 @@ use Rattle.lemmas.proofs.Related.{each_trans}
 use Rattle.lemmas.proofs.Results.{err_is}
 use Rattle.sja_bus.proofs.AllNodes.Many.{done_all}
 use Rattle.sja_bus.proofs.AllNodes.Rows.{has_links, taken_none, taken_one}
-use Rattle.sja_bus.proofs.ItemsTaken.Refusing.{refuses_seat}
+use Rattle.sja_bus.proofs.ItemsTaken.Refusing.{refuses_seat, rooms_one}
 use Rattle.sja_bus.proofs.all_nodes.gather_all.Goals as goal
 
 pub loop-k-init : goal.loop-k-init
@@ -71,3 +71,9 @@ returns-clause-rooms g c = c.loop-k.invariant.rooms
 pub returns-clause-untold : goal.returns-clause-untold
 returns-clause-untold g c = done_all SeatUntold c.loop-k.k c.args.seats.now c.loop-k.seats (search rules)
     c.loop-k.invariant.untold
+
+pub returns-in_err-gather-clause-rooms : goal.returns-in_err-gather-clause-rooms
+returns-in_err-gather-clause-rooms g c = λ n h.
+    let here : c.loop-k.k < length c.loop-k.seats = search rules in
+    rooms_one n c.loop-k.seats c.loop-k.k c.index-seats-k.result c.gather.new.self here c.gather.ensures.stays.room
+    (c.loop-k.invariant.rooms n h)

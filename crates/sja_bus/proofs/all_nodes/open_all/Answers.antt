@@ -9,7 +9,7 @@ use Rattle.sja_bus.specs.Inside.Rows.{SeatOpens, SeatOpensUntold}
 use Rattle.sja_bus.specs.Inside.Refusing.{SeatRefuses, SeatFull}
 use Rattle.sja_bus.proofs.AllNodes.Many.{done_all}
 use Rattle.sja_bus.proofs.AllNodes.Rows.{has_links, taken_none, taken_one}
-use Rattle.sja_bus.proofs.ItemsTaken.Refusing.{refuses_seat}
+use Rattle.sja_bus.proofs.ItemsTaken.Refusing.{refuses_seat, rooms_one}
 use Rattle.sja_bus.proofs.ItemsTaken.BreakingSeats.{full_seat}
 use Rattle.lemmas.proofs.Results.{err_is}
 use Rattle.lemmas.proofs.Numbers.{earlier_or_last}
@@ -97,3 +97,9 @@ pub returns-clause-facts : goal.returns-clause-facts
 returns-clause-facts g c = λ k few.
     let all : length c.args.seats.now ≤ c.loop-k.k = search rules in
     c.loop-k.invariant.facts k (omega (arith, few, all))
+
+pub returns-in_err-open_bit-clause-rooms : goal.returns-in_err-open_bit-clause-rooms
+returns-in_err-open_bit-clause-rooms g c = λ n h.
+    let here : c.loop-k.k < length c.loop-k.seats = search rules in
+    rooms_one n c.loop-k.seats c.loop-k.k c.index-seats-k.result c.open_bit.new.self here c.open_bit.ensures.stays.room
+    (c.loop-k.invariant.taken.rooms n h)

@@ -236,3 +236,8 @@ returns-in_err-told-clause-broken g c =
     let P : _ → Type 0 = λ x. SeatBreaks E.stands E.full c.args.seats.now c.tell_from.new.seats c.args.links.now x in
     err_is P c.from_residual.result f is (c.in_err-told.ensures.broken c.args.seats.now
     c.args.links.now c.args.board.now row)
+
+pub returns-in_err-told-clause-rooms : goal.returns-in_err-told-clause-rooms
+returns-in_err-told-clause-rooms g c = λ n h.
+    let row = row_so_far g (goal.at.returns-in_err-told-clause-rooms g c).After-sample_quietly (search rules) in
+    c.tell_from.ensures.rooms n (row.rooms n h)

@@ -17,12 +17,14 @@ use Rattle.sja_bus.proofs.AllNodes.Many.{ready_one}
 use Rattle.sja_bus.proofs.AllNodes.Rows.{has_links}
 use Rattle.sja_bus.proofs.AllNodes.Running.{seen_is}
 use Rattle.sja_bus.proofs.AllNodes.Underway.{underway_one}
+use Rattle.sja_bus.proofs.ItemsTaken.Refusing.{rooms_one}
 use Rattle.sja_bus.proofs.all_nodes.sample_from.Goals as goal
 
 pub loop-k-init : goal.loop-k-init
 loop-k-init g c = record {
   ready = c.requires.seated.ready;
   sames = each_refl g.E.BusEnd.same g.met.E.BusEnd.same_refl c.args.links.now;
+  rooms = λ n h. h;
   ports = refl;
   others = λ m far. g.met.B.Board.kept_refl c.args.board.now m;
   before = λ m low. (g.met.B.Board.kept_refl c.args.board.now m, λ s. refl);
@@ -60,6 +62,7 @@ loop-k-preserved g c =
           (record { ready = had.ready; own = keeps.stays.node ∙ n });
       sames = each_trans E.same g.met.E.BusEnd.same_trans c.args.links.now c.loop-k.links c.sample.new.links
           c.loop-k.invariant.sames keeps.stays.sames;
+      rooms = λ n h. rooms_one n c.loop-k.seats k c.index-seats-k.result new here keeps.stays.room (inv.rooms n h);
       ports = keeps.ports ∙ c.loop-k.invariant.ports;
       others = λ m l. met.kept_trans a b z m (c.loop-k.invariant.others m l)
           (keeps.others m (λ e. omega (arith, e, n, l, was)));
@@ -139,3 +142,12 @@ returns-in_err-one-clause-broken g c =
     breaks_seat E.same E.stands E.full (SeatTurns (D.told start c.loop-k.board) (D.kept start c.loop-k.board)
     c.args.struck c.args.level) before c.loop-k.seats given c.loop-k.links k s new f (omega (arith, near, count))
     i.count i.ready i.goes i.done broken)
+
+pub returns-clause-rooms : goal.returns-clause-rooms
+returns-clause-rooms g c = c.loop-k.invariant.rooms
+
+pub returns-in_err-one-clause-rooms : goal.returns-in_err-one-clause-rooms
+returns-in_err-one-clause-rooms g c = λ n h.
+    let here : c.loop-k.k < length c.loop-k.seats = search rules in
+    rooms_one n c.loop-k.seats c.loop-k.k c.index-seats-k.result c.sample.new.self here
+    c.sample.ensures.keeps.stays.room (c.loop-k.invariant.rooms n h)

@@ -2,6 +2,8 @@ use Rattle.std.proofs.Common.{◌≡◌, ℕ, ◌<◌, ◌≤◌, true, false, L
 use Rattle.std.specs.Prelude.{slice_index_or}
 use Rattle.lemmas.specs.Related.{EachRelated}
 use Rattle.sja_bus.specs.declared.seat.Seat.{Seat}
+use Rattle.sja_link.specs.Written.{Room}
+use Rattle.sja_bus.specs.Inside.Refusing.{HaveRoom}
 use Rattle.sja_bus.specs.Inside.Rows.{AreReady}
 use Rattle.sja_bus.specs.Inside.RunningOn.{AreToldFrom}
 use Rattle.sja_bus.proofs.AllNodes.Telling.{AreIdleBelow, IsToldBelow}
@@ -13,6 +15,7 @@ abbrev pub invariant-loop-k : goal.invariant-loop-k
 invariant-loop-k g l = record {
   ready : AreReady l.seats;
   sames : EachRelated g.E.BusEnd.same l.initial.links l.links;
+  rooms : (n : ℕ → Room) → HaveRoom n l.initial.seats → HaveRoom n l.seats;
   ports : g.B.Board.ports l.board ≡ g.B.Board.ports l.initial.board;
   others : (m : ℕ) → length l.initial.seats ≤ m → g.B.Board.kept l.initial.board l.board m;
   before : (m : ℕ) → m < l.first → g.B.Board.kept l.initial.board l.board m

@@ -18,6 +18,7 @@ use Rattle.sja_bus.proofs.AllNodes.Rows.{seated_on}
 use Rattle.sja_bus.proofs.AllNodes.Running.{seen_is}
 use Rattle.sja_bus.proofs.AllNodes.Underway.{underway_one}
 use Rattle.sja_bus.proofs.AllNodes.Telling.{idle_on}
+use Rattle.sja_bus.proofs.ItemsTaken.Refusing.{rooms_one}
 use Rattle.sja_bus.proofs.all_nodes.tell_from.Goals.{In_ok-one, In_ok-others}
 use Rattle.sja_bus.proofs.all_nodes.tell_from.Goals as goal
 
@@ -193,3 +194,19 @@ returns-in_err-one-clause-broken g c =
     breaks_seat E.same E.stands E.full (SeatTurns (D.told start c.args.board.now) (D.kept start c.args.board.now)
     c.args.struck c.args.level) before seats given c.args.links.now k s new f (omega (arith, near, count))
     u.count u.ready u.goes u.done broken)
+
+-- each journal has the room that it had
+pub returns-clause-rooms : goal.returns-clause-rooms
+returns-clause-rooms g c = λ n h.
+    c.sample_from.ensures.rooms n (rooms_one n c.args.seats.now c.args.first c.index-seats-first.result
+    c.sample_and_tell.new.self c.requires.few c.sample_and_tell.ensures.keeps.stays.room h)
+
+pub returns-in_err-others-clause-rooms : goal.returns-in_err-others-clause-rooms
+returns-in_err-others-clause-rooms g c = λ n h.
+    c.sample_from.ensures.rooms n (rooms_one n c.args.seats.now c.args.first c.index-seats-first.result
+    c.sample_and_tell.new.self c.requires.few c.sample_and_tell.ensures.keeps.stays.room h)
+
+pub returns-in_err-one-clause-rooms : goal.returns-in_err-one-clause-rooms
+returns-in_err-one-clause-rooms g c = λ n h.
+    rooms_one n c.args.seats.now c.args.first c.index-seats-first.result c.sample_and_tell.new.self c.requires.few
+    c.sample_and_tell.ensures.keeps.stays.room h

@@ -1,6 +1,6 @@
-use Rattle.std.proofs.Common.{◌≡◌, ℕ, ◌+◌, ◌-◌, ◌<◌, false, true, List, length, rules, arith, refl, sym, ap, ◌∙◌}
+use Rattle.std.proofs.Common.{◌≡◌, ℕ, ◌+◌, ◌-◌, ◌<◌, ◌≤◌, false, true, List, length, rules, arith, refl, sym, ap, ◌∙◌}
 use Rattle.std.proofs.Common.{subst, inr}
-use Rattle.std.specs.Prelude.{slice_index_or}
+use Rattle.sja_script.specs.Striking.{Strikes}
 use Rattle.lemmas.proofs.Related.{each_refl, each_trans}
 use Rattle.sja_wire.specs.Wire.{wired}
 use Rattle.sja_wire.specs.Reasons.{room_for}
@@ -11,15 +11,14 @@ use Rattle.sja_bus.specs.Inside.Rows.{AreTold, IsBus, driven_by}
 use Rattle.sja_bus.specs.UntilTold.{WorksUntold}
 use Rattle.sja_bus.specs.Inside.RunningOn.{moment_of, AnyBit, RowsRun, SomeTold}
 use Rattle.sja_bus.proofs.AllNodes.Rows.{seated_on}
-use Rattle.sja_bus.proofs.AllNodes.RunningOn.{passes, none_still}
+use Rattle.sja_bus.proofs.AllNodes.RunningOn.{passes, none_still, others_now, others_still}
 use Rattle.sja_bus.proofs.AllNodes.BitAfterBit.{facts_of_bit, none_yet, bits_on, stops_on}
 use Rattle.sja_bus.proofs.AllNodes.UntilTold.{seats_then, works_untold}
-use Rattle.sja_bus.proofs.OneReader.Ending.{ends_full, ends_held, ends_untold, full_first, full_on}
-use Rattle.sja_bus.proofs.OneReader.QuietRows.{free_after, have_room_after, none_run, part_left}
+use Rattle.sja_bus.proofs.OneReader.Ending.{ends_full, ends_untold, full_first, full_on}
+use Rattle.sja_bus.proofs.OneReader.QuietRows.{free_after, have_room_after, none_run}
 use Rattle.sja_bus.proofs.OneReader.QuietRows.{rooms_after, rows_on, told_after}
-use Rattle.sja_bus.proofs.OneReader.Unstruck.{unstruck_behind}
 use Rattle.sja_bus.proofs.Resting.Unstruck.{none_more, none_now}
-use Rattle.sja_bus.proofs.bits.untaken_bits.Goals.{In-Ok}
+use Rattle.sja_bus.proofs.bits.untaken_bits.Goals.{After-quiet_for-calm, In-Ok}
 use Rattle.sja_bus.proofs.bits.untaken_bits.Goals as goal
 
 -- what holds of the port of each node held before that bit, and does after it
@@ -43,19 +42,18 @@ runs_more g c =
     let was = c.loop-run.seats in let now = c.sample_all.new.seats in
     let a = c.loop-run.board in let z = c.sample_all.new.board in
     let goes : c.goes_on.result ≡ true = search rules in
-    let within : run < length c.part-marks.result.now = search rules in
-    let count = c.part-marks.ensures.count in let all = c.room_of.ensures.most in
+    let within : run < c.quiet_for-calm.result = search rules in
+    let count = c.quiet_for-calm.ensures.most in let all = c.room_of-fit.ensures.most in
     let early : run < c.args.most = omega (arith, within, count, all) in
+    let calm : (node : ℕ) → node < 8 → Strikes script (from + run) node → ⊥ =
+    λ node. c.quiet_for-calm.ensures.quiet (from + run) node (omega arith) (omega (arith, within)) in
     let pass = passes B.orders_are (B.told a z) (B.kept a z) script (from + run) (length c.args.seats.now) c.none.result
-    (slice_index_or c.part-marks.result.now run _) c.loop-run.level c.args.board.now a was now c.requires.seated.few
-    c.loop-run.auto.seats c.sample_all.auto.seats inv.board c.requires.may.orders c.none.ensures
-    (c.goes_on.ensures.none goes) (λ node few. c.part-marks.ensures.struck run node _ within few) inv.level did.turns
-    did.ready inv.bus in
+    c.loop-run.level c.args.board.now a was now c.requires.seated.few c.loop-run.auto.seats c.sample_all.auto.seats
+    inv.board c.requires.may.orders c.none.ensures calm inv.level did.turns did.ready inv.bus in
     let next = pass.bus (from + (run + 1)) (omega arith) in record {
       bus = next;
-      rooms = λ n h. did.rooms n (inv.rooms n h);
-      unstruck = none_more script from run 1 inv.unstruck (none_now script from run (λ node few strikes.
-          c.goes_on.ensures.none goes node ((c.part-marks.ensures.struck run node _ within few).1 strikes)));
+      rooms = λ n h. c.sample_all.ensures.rooms n (inv.rooms n h);
+      unstruck = none_more script from run 1 inv.unstruck (none_now script from run calm);
       bits = λ steps left enough.
           let begun = moment_of script steps from left c.args.seats.now c.args.links.now c.args.board.now in
           bits_on E B (WorksUntold c.args.to_rest begun) begun script steps from run c.args.most left c.none.result was
@@ -80,10 +78,9 @@ loop-run-init g c =
       rooms = λ n h. h;
       fresh = λ zero. refl;
       unstruck = λ i node low few strikes. absurd (omega (arith, low));
-      free = λ k s here. let room = c.room_of.ensures.free k s here in let count = c.part-marks.ensures.count in
-          omega (arith, room, count);
-      used = full_first c.args.most (length c.part-marks.result.now) c.room_of.result c.args.seats.now
-          c.part-marks.ensures.count c.room_of.ensures.least;
+      free = λ k s here. let room = c.room_of-fit.ensures.free k s here in let few = c.quiet_for-calm.ensures.most in
+          omega (arith, room, few);
+      used = full_first c.args.most c.room_of-fit.result c.args.seats.now c.room_of-fit.ensures.least;
       more = λ k s here. none;
       bits = λ steps left enough. none_yet (AnyBit E B) (WorksUntold c.args.to_rest
           (moment_of script steps c.args.from left c.args.seats.now c.args.links.now c.args.board.now)) script steps
@@ -98,22 +95,45 @@ sample_all-requires g c =
           inv.sames (ap ports inv.board) inv.bus.ready c.requires.seated;
       told = inv.told;
       free = λ k s here.
-          let run : c.loop-run.run < length c.part-marks.result.now = search rules in let room = inv.free k s here in
+          let run : c.loop-run.run < c.quiet_for-calm.result = search rules in let room = inv.free k s here in
           omega (arith, run, room);
     }
 
-pub returns-then-end-clause-sames : goal.returns-then-end-clause-sames
-returns-then-end-clause-sames g c =
-    each_trans g.E.BusEnd.same g.met.E.BusEnd.same_trans c.args.links.now c.loop-run.links c.sample_all.new.links
-    c.loop-run.invariant.sames c.sample_all.ensures.sames
+pub returns-then-end-clause-keeps : goal.returns-then-end-clause-keeps
+returns-then-end-clause-keeps g c = record {
+  sames = each_trans g.E.BusEnd.same g.met.E.BusEnd.same_trans c.args.links.now c.loop-run.links
+      c.sample_all.new.links c.loop-run.invariant.sames c.sample_all.ensures.sames;
+  others = others_now g.B.Board.ports g.B.Board.kept c.args.board.now c.loop-run.board c.sample_all.new.board
+      (length c.args.seats.now) (length c.loop-run.seats) c.loop-run.invariant.board c.loop-run.auto.seats
+      c.sample_all.ensures.board;
+  rooms = λ n h. c.sample_all.ensures.rooms n (c.loop-run.invariant.rooms n h);
+}
 
-pub returns-in-Err-clause-sames : goal.returns-in-Err-clause-sames
-returns-in-Err-clause-sames g c =
-    each_trans g.E.BusEnd.same g.met.E.BusEnd.same_trans c.args.links.now c.loop-run.links c.sample_all.new.links
-    c.loop-run.invariant.sames c.sample_all.ensures.sames
+pub returns-in-Err-clause-keeps : goal.returns-in-Err-clause-keeps
+returns-in-Err-clause-keeps g c = record {
+  sames = each_trans g.E.BusEnd.same g.met.E.BusEnd.same_trans c.args.links.now c.loop-run.links
+      c.sample_all.new.links c.loop-run.invariant.sames c.sample_all.ensures.sames;
+  others = others_now g.B.Board.ports g.B.Board.kept c.args.board.now c.loop-run.board c.sample_all.new.board
+      (length c.args.seats.now) (length c.loop-run.seats) c.loop-run.invariant.board c.loop-run.auto.seats
+      c.sample_all.ensures.board;
+  rooms = λ n h. c.sample_all.ensures.rooms n (c.loop-run.invariant.rooms n h);
+}
 
-pub returns-then-end-clause-runs : goal.returns-then-end-clause-runs
-returns-then-end-clause-runs g c = runs_more g (goal.at.returns-then-end-clause-runs g c).In-Ok
+pub returns-after-loop-run-clause-keeps : goal.returns-after-loop-run-clause-keeps
+returns-after-loop-run-clause-keeps g c = record {
+  sames = c.loop-run.invariant.sames;
+  others = others_still g.B.Board.ports g.B.Board.kept g.met.B.Board.kept_refl c.args.board.now c.loop-run.board
+      (length c.args.seats.now) c.loop-run.invariant.board;
+  rooms = c.loop-run.invariant.rooms;
+}
+
+pub returns-else-goes_on-clause-keeps : goal.returns-else-goes_on-clause-keeps
+returns-else-goes_on-clause-keeps g c = record {
+  sames = c.loop-run.invariant.sames;
+  others = others_still g.B.Board.ports g.B.Board.kept g.met.B.Board.kept_refl c.args.board.now c.loop-run.board
+      (length c.args.seats.now) c.loop-run.invariant.board;
+  rooms = c.loop-run.invariant.rooms;
+}
 
 -- what is asked of a run of bits holds after the bit before it
 told_now : (g : _) (c : In-Ok g) → AreTold c.sample_all.new.seats
@@ -121,22 +141,17 @@ told_now g c = λ k s few. (c.in-Ok.ensures.turns k s (let count = c.sample_all.
     omega (arith, few, count))).told
 
 free_now : (g : _) (c : In-Ok g) → c.in-Ok.end.told ≡ false →
-    AreFree (length c.part-marks.result.now - (c.loop-run.run + 1)) c.sample_all.new.seats
+    AreFree (c.quiet_for-calm.result - (c.loop-run.run + 1)) c.sample_all.new.seats
 free_now g c untold =
-    let within : c.loop-run.run < length c.part-marks.result.now = search rules in
-    (c.in-Ok.ensures.untold untold).free (length c.part-marks.result.now - (c.loop-run.run + 1))
+    let within : c.loop-run.run < c.quiet_for-calm.result = search rules in
+    (c.in-Ok.ensures.untold untold).free (c.quiet_for-calm.result - (c.loop-run.run + 1))
     (λ k s here. let room = c.loop-run.invariant.free k s here in omega (arith, within, room))
 
 pub run_together-together-requires : goal.run_together-together-requires
 run_together-together-requires g c =
     let at = (goal.at.run_together-together-requires g c).In-Ok in
     let untold : c.in-Ok.end.told ≡ false = c.if-end.false in
-    let within : c.loop-run.run < length c.part-marks.result.now = search rules in
-    let left = part_left c.part-marks.result.now (c.loop-run.run + 1) (omega (arith, within)) in record {
-      ready = c.in-Ok.ensures.ready;
-      told = told_now g at;
-      free = λ k s here. let room = free_now g at untold k s here in omega (arith, room, left);
-    }
+    record { ready = c.in-Ok.ensures.ready; told = told_now g at; free = free_now g at untold }
 
 pub level_after-level-requires : goal.level_after-level-requires
 level_after-level-requires g c = λ zero.
@@ -149,39 +164,39 @@ loop-run-preserved g c =
     let at = (goal.at.loop-run-preserved g c).In-Ok in
     let E = g.E.BusEnd in let B = g.B.Board in let inv = c.loop-run.invariant in
     let script = c.args.struck.now.script in let from = c.args.from in let run = c.loop-run.run in
-    let marks = c.part-marks.result.now in let more = runs_more g at in
-    let within : run < length marks = search rules in
+    let calm = c.quiet_for-calm.result in let fit = c.room_of-fit.result in let more = runs_more g at in
+    let within : run < calm = search rules in
     let untold : c.in-Ok.end.told ≡ false = c.if-end.false in
     let one = c.sample_all.new.seats in let now = c.run_together-together.new.seats in
     let n = c.run_together-together.result in let rows = c.run_together-together.ensures.rows in
     let stay = rooms_after c.args.to_rest one n now rows in
-    let left = part_left marks (run + 1) (omega (arith, within)) in
     let few = c.run_together-together.ensures.few in
-    let count = c.part-marks.ensures.count in let all = c.room_of.ensures.most in
+    let count = c.quiet_for-calm.ensures.most in let all = c.room_of-fit.ensures.most in
     let same = c.loop-run.auto.seats in let size = c.sample_all.auto.seats in
     let none_told = c.in-Ok.ensures.untold untold in let still = none_told.still ∙ inv.board in
-    let unstruck = unstruck_behind script from marks (run + 1) n (omega (arith, within)) few
-    c.part-marks.ensures.struck c.run_together-together.ensures.none in
+    let unstruck : (i node : ℕ) → i < n → node < 8 → Strikes script (from + (run + 1 + i)) node → ⊥ =
+    λ i node low. c.quiet_for-calm.ensures.quiet (from + (run + 1 + i)) node (omega arith)
+    (omega (arith, within, low, few)) in
     let begun = seats_then c.args.seats.now c.loop-run.seats one same inv.more none_told.bits in
     let far = rows_on E B g.met.E.BusEnd.same_refl g.met.B.Board.kept_refl c.args.to_rest script from c.args.most
     c.args.seats.now c.args.links.now c.args.board.now c.requires.seated.few
     c.sample_all.new.links c.sample_all.new.board still c.requires.may.orders
     (λ k low. facts g at k (omega (arith, low, same))) (run + 1) one n now
-    (omega (arith, within, few, left, count, all)) unstruck rows
+    (omega (arith, within, few, count, all)) unstruck rows
     (record { count = omega (arith, same, size); bus = more.bus; more = begun; bits = more.bits }) in
-    let rest : length marks - (run + 1) - n ≡ length marks - (run + 1 + n) = omega arith in
+    let rest : calm - (run + 1) - n ≡ calm - (run + 1 + n) = omega arith in
     let F : ℕ → Type 0 = λ m. AreFree m now in record {
       level = c.level_after-level.ensures;
       board = still;
-      within = omega (arith, within, few, left);
+      within = omega (arith, within, few);
       bus = far.bus;
       told = told_after c.args.to_rest one n now rows (told_now g at);
       sames = each_trans E.same g.met.E.BusEnd.same_trans c.args.links.now c.loop-run.links c.sample_all.new.links
           inv.sames c.sample_all.ensures.sames;
-      rooms = λ r h. have_room_after one now n stay r (c.in-Ok.ensures.rooms r (inv.rooms r h));
-      free = subst F rest (free_after one now n (length marks - (run + 1)) stay (free_now g at untold));
-      used = full_on c.none.result c.loop-run.level c.args.to_rest c.loop-run.seats one n now c.args.most
-          (length marks) run size c.in-Ok.ensures.turns c.in-Ok.ensures.rooms rows inv.used;
+      rooms = λ r h. have_room_after one now n stay r (c.sample_all.ensures.rooms r (inv.rooms r h));
+      free = subst F rest (free_after one now n (calm - (run + 1)) stay (free_now g at untold));
+      used = full_on c.none.result c.loop-run.level c.args.to_rest c.loop-run.seats one n now c.args.most fit run size
+          c.in-Ok.ensures.turns c.sample_all.ensures.rooms rows inv.used;
       fresh = λ zero. absurd (omega (arith, zero));
       unstruck = none_more script from (run + 1) n more.unstruck unstruck;
       more = far.more;
@@ -194,8 +209,8 @@ returns-in-Err-clause-breaks g c = λ steps left later enough rooms journals run
     let script = c.args.struck.now.script in let from = c.args.from in let run = c.loop-run.run in
     let was = c.loop-run.seats in let now = c.sample_all.new.seats in
     let a = c.loop-run.board in
-    let within : run < length c.part-marks.result.now = search rules in
-    let count = c.part-marks.ensures.count in let all = c.room_of.ensures.most in
+    let within : run < c.quiet_for-calm.result = search rules in
+    let count = c.quiet_for-calm.ensures.most in let all = c.room_of-fit.ensures.most in
     let early : run < c.args.most = omega (arith, within, count, all) in
     let goes : c.goes_on.result ≡ true = search rules in
     let none = none_still B.orders_are (length c.args.seats.now) c.args.board.now a was c.loop-run.auto.seats inv.board
@@ -215,46 +230,45 @@ returns-in-Err-clause-breaks g c = λ steps left later enough rooms journals run
       left_so_far = left_is;
     }
 
--- ---- the room for them
-
-pub returns-after-loop-run-clause-free : goal.returns-after-loop-run-clause-free
-returns-after-loop-run-clause-free g c = λ k s here.
-    let room = c.room_of.ensures.free k s here in let count = c.part-marks.ensures.count in
-    let within = c.loop-run.invariant.within in omega (arith, room, count, within)
-
-pub returns-else-goes_on-clause-free : goal.returns-else-goes_on-clause-free
-returns-else-goes_on-clause-free g c = λ k s here.
-    let room = c.room_of.ensures.free k s here in let count = c.part-marks.ensures.count in
-    let within = c.loop-run.invariant.within in omega (arith, room, count, within)
-
-pub returns-then-end-clause-free : goal.returns-then-end-clause-free
-returns-then-end-clause-free g c = λ k s here.
-    let room = c.room_of.ensures.free k s here in let count = c.part-marks.ensures.count in
-    let within : c.loop-run.run < length c.part-marks.result.now = search rules in omega (arith, room, count, within)
-
 -- ---- why they ended
 
-pub returns-after-loop-run-clause-ends : goal.returns-after-loop-run-clause-ends
-returns-after-loop-run-clause-ends g c =
-    let past = c.loop-run-test.false in let within = c.loop-run.invariant.within in
-    let script = c.args.struck.now.script in let seats = c.loop-run.seats in
-    ends_untold c.args.to_rest script c.args.from c.args.most c.loop-run.run c.args.seats.now seats
-    c.loop-run.invariant.fresh
-    (ends_full c.args.to_rest script c.args.from c.args.most (length c.part-marks.result.now) c.loop-run.run seats
-    c.loop-run.invariant.used (omega (arith, past, within)))
+-- there was room for so many
+free_for : (g : _) (c : After-quiet_for-calm g) (run : ℕ) → run ≤ c.quiet_for-calm.result → AreFree run c.args.seats.now
+free_for g c run few k s here =
+    let room = c.room_of-fit.ensures.free k s here in let most = c.quiet_for-calm.ensures.most in
+    omega (arith, room, most, few)
 
-pub returns-else-goes_on-clause-ends : goal.returns-else-goes_on-clause-ends
-returns-else-goes_on-clause-ends g c =
-    let script = c.args.struck.now.script in let seats = c.loop-run.seats in
-    ends_untold c.args.to_rest script c.args.from c.args.most c.loop-run.run c.args.seats.now seats
-    c.loop-run.invariant.fresh
-    (ends_held c.args.to_rest script c.args.from c.args.most c.loop-run.run seats _
-    (λ node few. (c.part-marks.ensures.struck c.loop-run.run node _ c.loop-run-test.true few).0)
-    (c.goes_on.ensures.no c.if-goes_on.false))
+pub returns-after-loop-run-clause-runs : goal.returns-after-loop-run-clause-runs
+returns-after-loop-run-clause-runs g c =
+    let at = (goal.at.returns-after-loop-run-clause-runs g c).After-quiet_for-calm in let inv = c.loop-run.invariant in
+    let past = c.loop-run-test.false in let within = inv.within in
+    let script = c.args.struck.now.script in let seats = c.loop-run.seats in record {
+      runs = record { bus = inv.bus; rooms = inv.rooms; unstruck = inv.unstruck; bits = inv.bits };
+      ends = ends_untold c.args.to_rest script c.args.from c.args.most c.loop-run.run c.args.seats.now seats
+          (free_for g at c.loop-run.run within) inv.fresh
+          (ends_full c.args.to_rest script c.args.from c.args.most c.room_of-fit.result c.quiet_for-calm.result
+          c.loop-run.run seats inv.used c.quiet_for-calm.ensures.longest (omega (arith, past, within)));
+    }
 
-pub returns-then-end-clause-ends : goal.returns-then-end-clause-ends
-returns-then-end-clause-ends g c =
-    let P : _ → Type 0 = λ b. SomeTold (g.B.Board.told b c.sample_all.new.board) c.sample_all.new.seats in record {
-      none = λ zero. absurd (omega (arith, zero));
-      why = inr (subst P c.loop-run.invariant.board (c.in-Ok.ensures.told c.if-end.true));
+pub returns-else-goes_on-clause-runs : goal.returns-else-goes_on-clause-runs
+returns-else-goes_on-clause-runs g c =
+    let at = (goal.at.returns-else-goes_on-clause-runs g c).After-quiet_for-calm in let inv = c.loop-run.invariant in
+    let script = c.args.struck.now.script in let seats = c.loop-run.seats in record {
+      runs = record { bus = inv.bus; rooms = inv.rooms; unstruck = inv.unstruck; bits = inv.bits };
+      ends = ends_untold c.args.to_rest script c.args.from c.args.most c.loop-run.run c.args.seats.now seats
+          (free_for g at c.loop-run.run inv.within) inv.fresh
+          (inr (inr (inr (c.goes_on.ensures.no c.if-goes_on.false))));
+    }
+
+pub returns-then-end-clause-runs : goal.returns-then-end-clause-runs
+returns-then-end-clause-runs g c =
+    let at = goal.at.returns-then-end-clause-runs g c in
+    let P : _ → Type 0 = λ b. SomeTold (g.B.Board.told b c.sample_all.new.board) c.sample_all.new.seats in
+    let within : c.loop-run.run < c.quiet_for-calm.result = search rules in record {
+      runs = runs_more g at.In-Ok;
+      ends = record {
+        free = free_for g at.After-quiet_for-calm (c.loop-run.run + 1) (omega (arith, within));
+        none = λ zero. absurd (omega (arith, zero));
+        why = inr (subst P c.loop-run.invariant.board (c.in-Ok.ensures.told c.if-end.true));
+      };
     }

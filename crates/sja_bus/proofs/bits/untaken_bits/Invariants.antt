@@ -16,22 +16,22 @@ abbrev pub invariant-loop-run : goal.invariant-loop-run
 invariant-loop-run g l = record {
   level : l.level ≡ wired (driven_by l.seats);
   board : l.board ≡ l.initial.board;
-  within : l.run ≤ length l.marks;
-  bus : IsBus l.struck.script (l.from + l.run) l.seats;
+  within : l.run ≤ l.calm;
+  bus : IsBus l.fn.struck.script (l.from + l.run) l.seats;
   told : AreTold l.seats;
   sames : EachRelated g.E.BusEnd.same l.initial.links l.links;
   rooms : (n : ℕ → Room) → HaveRoom n l.initial.seats → HaveRoom n l.seats;
   fresh : l.run ≡ 0 → l.seats ≡ l.initial.seats;
-  unstruck : (i node : ℕ) → i < l.run → node < 8 → Strikes l.struck.script (l.from + i) node → ⊥;
-  free : AreFree (length l.marks - l.run) l.seats;
-  used : (l.most ≡ length l.marks) ⊎ SomeFull (length l.marks - l.run) l.seats;
+  unstruck : (i node : ℕ) → i < l.run → node < 8 → Strikes l.fn.struck.script (l.from + i) node → ⊥;
+  free : AreFree (l.calm - l.run) l.seats;
+  used : (l.most ≡ l.fit) ⊎ SomeFull (l.fit - l.run) l.seats;
   more : EachSeat SeatHasBits l.initial.seats l.seats;
   bits : (steps : List ℕ) (left : ℕ) → l.most ≤ left →
       AreBits (AnyBit g.E.BusEnd g.B.Board) (WorksUntold l.to_rest
-      (moment_of l.struck.script steps l.from left l.initial.seats l.initial.links l.initial.board))
-      (moment_of l.struck.script steps l.from left l.initial.seats l.initial.links l.initial.board) l.run
-      (moment_of l.struck.script steps (l.from + l.run) (left - l.run) l.seats l.links l.board);
+      (moment_of l.fn.struck.script steps l.from left l.initial.seats l.initial.links l.initial.board))
+      (moment_of l.fn.struck.script steps l.from left l.initial.seats l.initial.links l.initial.board) l.run
+      (moment_of l.fn.struck.script steps (l.from + l.run) (left - l.run) l.seats l.links l.board);
 }
 
 abbrev pub decreases-loop-run : goal.decreases-loop-run
-decreases-loop-run g l = length l.marks - l.run
+decreases-loop-run g l = l.calm - l.run

@@ -1,7 +1,8 @@
 use Rattle.std.proofs.Common.{◌≡◌, ◌<◌, length, rules}
 use Rattle.std.specs.Prelude.{Err, slice_set}
 use Rattle.sja_bus.specs.Inside.Idling.{after_bits, IsFullBy}
-use Rattle.sja_bus.proofs.AllNodes.Many.{done_all}
+use Rattle.sja_bus.proofs.AllNodes.Many.{done_all, done_one}
+use Rattle.sja_bus.proofs.ItemsTaken.Refusing.{rooms_one}
 use Rattle.sja_bus.proofs.Resting.Stretches.{all_after_by}
 use Rattle.sja_bus.proofs.Resting.WholeStretches.{full_by}
 use Rattle.lemmas.proofs.Results.{err_is}
@@ -23,3 +24,23 @@ returns-in_err-enter_idle_bits-clause-full c =
     err_is P c.from_residual.result f is
     (full_by n k before c.loop-k.seats c.index-seats-k.result c.enter_idle_bits.new.self f few c.loop-k.auto.seats
     c.requires.ready c.loop-k.invariant.done c.in_err-enter_idle_bits.ensures.full)
+
+pub loop-k-preserved : goal.loop-k-preserved
+loop-k-preserved c =
+    let k = c.loop-k.k in let s = c.index-seats-k.result in let new = c.enter_idle_bits.new.self in
+    let here : k < length c.loop-k.seats = search rules in
+    let was : k < length c.args.seats.now = search rules in record {
+      rooms = λ n h. rooms_one n c.loop-k.seats k s new here c.enter_idle_bits.ensures.room
+          (c.loop-k.invariant.rooms n h);
+      done = done_one (λ m old now. now ≡ after_bits c.args.count old) k c.args.seats.now c.loop-k.seats s new was
+          c.loop-k.auto.seats c.in_ok-enter_idle_bits.ensures.rested c.loop-k.invariant.done;
+    }
+
+pub returns-in_err-enter_idle_bits-clause-rooms : goal.returns-in_err-enter_idle_bits-clause-rooms
+returns-in_err-enter_idle_bits-clause-rooms c = λ n h.
+    let here : c.loop-k.k < length c.loop-k.seats = search rules in
+    rooms_one n c.loop-k.seats c.loop-k.k c.index-seats-k.result c.enter_idle_bits.new.self here
+    c.enter_idle_bits.ensures.room (c.loop-k.invariant.rooms n h)
+
+pub returns-clause-rooms : goal.returns-clause-rooms
+returns-clause-rooms c = c.loop-k.invariant.rooms

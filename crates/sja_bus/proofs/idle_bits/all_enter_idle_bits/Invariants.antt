@@ -1,4 +1,6 @@
-use Rattle.std.proofs.Common.{◌≡◌}
+use Rattle.std.proofs.Common.{◌≡◌, ℕ}
+use Rattle.sja_link.specs.Written.{Room}
+use Rattle.sja_bus.specs.Inside.Refusing.{HaveRoom}
 use Rattle.sja_bus.specs.Inside.Idling.{after_bits}
 use Rattle.sja_bus.specs.Inside.Rows.{Done}
 use Rattle.sja_bus.proofs.idle_bits.all_enter_idle_bits.Given as goal
@@ -6,5 +8,6 @@ use Rattle.sja_bus.proofs.idle_bits.all_enter_idle_bits.Given as goal
 -- of each so far the bits passed
 abbrev pub invariant-loop-k : goal.invariant-loop-k
 invariant-loop-k l = record {
+  rooms : (n : ℕ → Room) → HaveRoom n l.initial.seats → HaveRoom n l.seats;
   done : Done (λ m old new. new ≡ after_bits l.count old) l.k l.initial.seats l.seats;
 }

@@ -3,31 +3,30 @@ use Rattle.sja_bus.specs.declared.seat.Seat.{Seat}
 use Rattle.sja_bus.specs.Inside.Idling.{all_after}
 use Rattle.sja_bus.specs.Inside.Together.{AreQuietRows}
 use Rattle.sja_bus.proofs.OneReader.IdleRows.{idle_rows, resting_all}
-use Rattle.sja_bus.proofs.OneReader.Unstruck.{runs_none}
+use Rattle.sja_bus.proofs.OneReader.QuietRows.{runs_none}
 use Rattle.sja_bus.proofs.together.run_idle.Goals as goal
 
 pub returns-then-to_rest : goal.returns-then-to_rest
-returns-then-to_rest c = runs_none c.args.to_rest c.args.struck.now c.args.seats.now
+returns-then-to_rest c = runs_none c.args.to_rest c.args.calm c.args.seats.now
 
 pub returns-then-not-are_at_rest : goal.returns-then-not-are_at_rest
-returns-then-not-are_at_rest c = runs_none c.args.to_rest c.args.struck.now c.args.seats.now
+returns-then-not-are_at_rest c = runs_none c.args.to_rest c.args.calm c.args.seats.now
 
 pub all_rest-requires : goal.all_rest-requires
 all_rest-requires c = record {
   free = λ k s few.
-      let room = c.requires.free k s few in let less = c.unstruck-count.ensures.few in omega (arith, room, less);
+      c.requires.free k s few;
 }
 
 pub returns : goal.returns
 returns c =
-    let seats = c.args.seats.now in let n = c.unstruck-count.result in
+    let seats = c.args.seats.now in let n = c.args.calm in
     let is : c.are_at_rest.result ≡ true = search rules in
     let any : c.args.to_rest ≡ false = search rules in
     let P : List Seat → Type 0 = λ l. AreQuietRows c.args.to_rest seats n l in
     let Q : Bool → Type 0 = λ b. AreQuietRows b seats n (all_after n seats) in
     record {
-      few = c.unstruck-count.ensures.few;
-      none = c.unstruck-count.ensures.none;
+      few = omega arith;
       rows = subst P (sym c.all_rest.ensures) (subst Q (sym any) (idle_rows seats c.requires.ready
           (resting_all seats c.requires.ready c.requires.told (c.are_at_rest.ensures.rest is)) n));
     }

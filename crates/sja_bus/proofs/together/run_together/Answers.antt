@@ -1,5 +1,5 @@
-use Rattle.sja_bus.proofs.OneReader.Unstruck.{runs_none}
+use Rattle.sja_bus.proofs.OneReader.QuietRows.{runs_none}
 use Rattle.sja_bus.proofs.together.run_together.Goals as goal
 
 pub returns-else-run-eq1 : goal.returns-else-run-eq1
-returns-else-run-eq1 c = runs_none c.args.to_rest c.args.struck.now c.args.seats.now
+returns-else-run-eq1 c = runs_none c.args.to_rest c.args.calm c.args.seats.now

@@ -2,7 +2,7 @@ use Rattle.std.proofs.Common.{rules, ◌≡◌, ◌≤◌, ℕ, List, ◌+◌, s
 use Rattle.std.specs.Prelude.{slice_index_or}
 use Rattle.sja_driver.specs.declared.logged_driver.LoggedDriver.{LoggedDriver}
 use Rattle.sja_driver.specs.declared.work_log.WorkLog.{WorkLog}
-use Rattle.sja_driver.specs.Logs.{IsEmpty, HasRoom, done_room}
+use Rattle.sja_driver.specs.Logs.{IsEmpty, IsMadeFor}
 use Rattle.sja_log.specs.Inside.NewDrivers.{IsNewDriver, AreNew}
 use Rattle.sja_log.proofs.OneNode.Newly.{new_push}
 use Rattle.sja_serial.proofs.drivers.new_drivers.Goals as goal
@@ -15,13 +15,11 @@ loop-node-preserved c =
     let own : c.new-in-loop-node.result.node ≡ node = c.new-in-loop-node.ensures.node in
     let steps : ℕ = slice_index_or c.args.steps.now node 0 in
     let size : ℕ = slice_index_or c.args.deeds.now node 0 in
-    let room : HasRoom size c.in_ok-log.log = search rules in
-    let has : steps ≤ done_room c.in_ok-log.log = search rules in
     let is : IsNewDriver node steps size x = record {
       own = own;
       empty = subst (λ (l : WorkLog). IsEmpty l) (sym c.new-in-loop-node.ensures.log) c.in_ok-log.ensures.empty;
-      room = subst (λ (l : WorkLog). HasRoom size l) (sym c.new-in-loop-node.ensures.log) room;
-      steps = subst (λ (l : WorkLog). steps ≤ done_room l) (sym c.new-in-loop-node.ensures.log) has;
+      made_for = subst (λ (l : WorkLog). IsMadeFor steps size l) (sym c.new-in-loop-node.ensures.log)
+          c.in_ok-log.ensures.made;
       kept = c.new-in-loop-node.ensures.kept;
       reset = c.new-in-loop-node.ensures.reset;
       lawful = c.new-in-loop-node.ensures.lawful;

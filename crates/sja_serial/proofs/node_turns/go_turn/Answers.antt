@@ -1,4 +1,4 @@
-use Rattle.std.proofs.Common.{rules, ◌≡◌, true, false, Bool, subst, arith}
+use Rattle.std.proofs.Common.{rules, ◌≡◌, ℕ, true, false, Bool, subst, arith}
 use Rattle.sja_serial.specs.Bits.{TakesBusTurn, TakesRest}
 use Rattle.sja_serial.specs.Ending.{setup_of}
 use Rattle.sja_serial.specs.Inside.Rounds.TakesGo.{over, spent, one_bit}
@@ -24,8 +24,11 @@ returns-then-none_is_left c = λ accesses h.
     let mid = c.take_round.new.run in let now = c.rest_turn.new.self in let deeds = all_deeds r.0 in
     m.2 now c.rest_turn.result (over m.0 r.0 c.loop.run mid now c.rest_turn.result r.1
     (c.none_is_left.ensures.none c.if-none_is_left.true r.0 r.2)
-    (from_own (λ (s : Setup). TakesRest s deeds mid now c.rest_turn.result) r.2.by.stands
-    (c.rest_turn.ensures.turn deeds (at_own r.2.by.stands))))
+    (subst (λ (n : ℕ). TakesRest (setup_of c.args.plan.now) deeds mid now n c.rest_turn.result)
+    c.bits-then-none_is_left.ensures.value
+    (from_own (λ (s : Setup). TakesRest s deeds mid now c.bits-then-none_is_left.result c.rest_turn.result)
+    r.2.by.stands
+    (c.rest_turn.ensures.turn deeds (at_own r.2.by.stands)))))
 
 pub returns-then-not-bus_turn : goal.returns-then-not-bus_turn
 returns-then-not-bus_turn c = λ accesses h.
@@ -70,5 +73,5 @@ pub unreachable-requires : goal.unreachable-requires
 unreachable-requires c =
     let h = c.requires.run in let m = c.loop.invariant.goes h.0 h.1 in
     let within = bits_within (setup_of c.args.plan.now) c.loop.run (all_deeds m.0) m.1.by.stands in
-    let counted = c.loop.invariant.bits in let past = c.loop-test.false in let all = c.bits-end.ensures.value in
+    let counted = c.loop.invariant.bits in let past = c.loop-test.false in let all = c.bits.ensures.value in
     omega (arith, within, counted, past, all)

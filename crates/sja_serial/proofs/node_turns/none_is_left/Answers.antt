@@ -10,27 +10,27 @@ use Rattle.sja_regs.specs.Registers.{at_power_on}
 use Rattle.sja_serial.specs.Ending.{setup_of}
 use Rattle.sja_serial.specs.Inside.Going.{StandsIn}
 use Rattle.sja_serial.proofs.AllNodes.Several.{done_count}
-use Rattle.sja_serial.proofs.node_turns.none_is_left.Goals.{After-done}
+use Rattle.sja_serial.proofs.node_turns.none_is_left.Goals.{After-done_count}
 use Rattle.sja_serial.proofs.node_turns.none_is_left.Goals as goal
 
 -- a node that is there
-there : (c : After-done) → c.loop-node.node < length c.args.plan.now.nodes
+there : (c : After-done_count) → c.loop-node.node < length c.args.plan.now.nodes
 there c = search rules
 
 -- how many steps its driver has done
-many_done : (c : After-done) (accesses : List (List Access)) → StandsIn c.args.plan.now c.args.run.now accesses →
-    length c.done.result.now ≡ length (accesses_at accesses c.loop-node.node)
+many_done : (c : After-done_count) (accesses : List (List Access)) → StandsIn c.args.plan.now c.args.run.now accesses →
+    c.done_count.result ≡ length (accesses_at accesses c.loop-node.node)
 many_done c accesses h =
-    ap (λ l. length l) (c.done.ensures ∙ ap done_in c.log.ensures
+    c.done_count.ensures ∙ ap (λ l. length l) (ap done_in c.log.ensures
     ∙ ap (λ (d : LoggedDriver). done_in (log_of d)) c.driver.ensures)
     ∙ done_count (setup_of c.args.plan.now) c.args.run.now accesses c.loop-node.node c.driver.result.now
     (at_power_on 1) h.by (there c)
 
 pub loop-node-preserved : goal.loop-node-preserved
 loop-node-preserved c = λ accesses h k less.
-    let at = (goal.at.loop-node-preserved c).After-done in
+    let at = (goal.at.loop-node-preserved c).After-done_count in
     let all = ap (λ l. length l) c.steps.ensures.value in let done = many_done at accesses h in
-    let few = c.if-done-steps.false in
+    let few = c.if-done_count-steps.false in
     elim (cases_lt k c.loop-node.node) [
       | inl before ↦ c.loop-node.invariant accesses h k before
       | inr here ↦
@@ -39,9 +39,9 @@ loop-node-preserved c = λ accesses h k less.
           (omega (arith, all, done, few))
     ]
 
-pub returns-then-done-steps-clause-some : goal.returns-then-done-steps-clause-some
-returns-then-done-steps-clause-some c = λ is accesses h.
-    let at = (goal.at.returns-then-done-steps-clause-some c).After-done in
+pub returns-then-done_count-steps-clause-some : goal.returns-then-done_count-steps-clause-some
+returns-then-done_count-steps-clause-some c = λ is accesses h.
+    let at = (goal.at.returns-then-done_count-steps-clause-some c).After-done_count in
     let all = ap (λ l. length l) c.steps.ensures.value in let done = many_done at accesses h in
-    let less = c.if-done-steps.true in
+    let less = c.if-done_count-steps.true in
     (c.loop-node.node, there at, omega (arith, all, done, less))

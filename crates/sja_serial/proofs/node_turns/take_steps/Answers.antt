@@ -18,7 +18,7 @@ use Rattle.sja_serial.proofs.AllNodes.Several.{by_own, from_own, done_count, man
 use Rattle.sja_serial.proofs.Deeds.Parts.{all_at}
 use Rattle.sja_serial.proofs.WholeRun.Steps.{SoFar, so_far_none, so_far_one, turn_over}
 use Rattle.sja_serial.proofs.WholeRun.Steps.{turn_waits, first_then, room_left}
-use Rattle.sja_serial.proofs.node_turns.take_steps.Goals.{After-done-next}
+use Rattle.sja_serial.proofs.node_turns.take_steps.Goals.{After-done_count-next}
 use Rattle.sja_serial.proofs.node_turns.take_steps.Goals as goal
 
 pub loop-init : goal.loop-init
@@ -26,10 +26,10 @@ loop-init c = λ accesses h. so_far_none c.args.plan.now c.args.run.now c.args.n
 
 -- ---- the next step of the node
 
-place_is : (c : After-done-next) → c.from-place.result ≡ c.args.node
+place_is : (c : After-done_count-next) → c.from-place.result ≡ c.args.node
 place_is c = search rules
 
-module _ (c : After-done-next) {accesses : List (List Access)}
+module _ (c : After-done_count-next) {accesses : List (List Access)}
     (s : SoFar c.args.plan.now c.args.run.now c.loop.run c.args.node accesses c.loop.counter) where
   abbrev mid : List (List Access)
   mid = with_accesses accesses c.args.node s.more
@@ -37,9 +37,9 @@ module _ (c : After-done-next) {accesses : List (List Access)}
   by : StandsBy (setup_of c.args.plan.now) c.loop.run mid
   by = s.stands.by
 
-  many_done : length c.done-next.result.now ≡ length (accesses_at mid c.args.node)
+  many_done : c.done_count-next.result ≡ length (accesses_at mid c.args.node)
   many_done =
-      ap (λ l. length l) (c.done-next.ensures ∙ ap done_in c.log.ensures
+      c.done_count-next.ensures ∙ ap (λ l. length l) (ap done_in c.log.ensures
       ∙ ap (λ (d : LoggedDriver). done_in (log_of d)) (c.driver.ensures
       ∙ ap (λ k. slice_index_or c.loop.run.drivers k c.driver.result.now) (place_is c)))
       ∙ done_count (setup_of c.args.plan.now) c.loop.run mid c.args.node c.driver.result.now (at_power_on 1) by
@@ -55,18 +55,18 @@ module _ (c : After-done-next) {accesses : List (List Access)}
       omega (arith, n, less, same)
 
   -- one is left
-  module _ (less : length c.done-next.result.now < length c.steps-steps.result.now) where
+  module _ (less : c.done_count-next.result < length c.steps-steps.result.now) where
     left : length (accesses_at mid c.args.node) < length (steps_at c.args.plan.now c.args.node)
     left = let done = many_done in let all = ap (λ l. length l) all_steps in omega (arith, less, done, all)
 
     -- this one
-    next_is : (step : Step) → step ≡ slice_index_or c.steps-steps.result.now (length c.done-next.result.now) step →
+    next_is : (step : Step) → step ≡ slice_index_or c.steps-steps.result.now (c.done_count-next.result) step →
         step ≡ slice_index_or (steps_at c.args.plan.now c.args.node) (length (accesses_at mid c.args.node)) step
     next_is step is = is ∙ (λ i. slice_index_or (all_steps i) (many_done i) step)
 
     -- whatever else were asked for in its place
     is_next : (step other : Step) →
-        step ≡ slice_index_or c.steps-steps.result.now (length c.done-next.result.now) step →
+        step ≡ slice_index_or c.steps-steps.result.now (c.done_count-next.result) step →
         step ≡ slice_index_or (steps_at c.args.plan.now c.args.node) (length (accesses_at mid c.args.node)) other
     is_next step other is =
         next_is step is
@@ -74,7 +74,7 @@ module _ (c : After-done-next) {accesses : List (List Access)}
 
 pub step-requires : goal.step-requires
 step-requires c =
-    let at = (goal.at.step-requires c).After-done-next in
+    let at = (goal.at.step-requires c).After-done_count-next in
     let h = c.requires.run in let s = c.loop.invariant h.0 h.1 in let mine = by at s in
     let few = left at s c.if-next-steps.false in
     let near = c.requires.node in
@@ -92,7 +92,7 @@ step-requires c =
 
 pub returns-then-next-steps : goal.returns-then-next-steps
 returns-then-next-steps c = λ accesses h.
-    let at = (goal.at.returns-then-next-steps c).After-done-next in let s = c.loop.invariant accesses h in
+    let at = (goal.at.returns-then-next-steps c).After-done_count-next in let s = c.loop.invariant accesses h in
     let done = many_done at s in let all = ap (λ l. length l) (all_steps at s) in let none = c.if-next-steps.true in
     let more = c.loop-test.true in
     turn_over c.args.plan.now c.args.run.now c.loop.run c.args.node accesses (inside at s) s c.args.count
@@ -101,7 +101,7 @@ returns-then-next-steps c = λ accesses h.
 
 pub returns-then-not-step : goal.returns-then-not-step
 returns-then-not-step c = λ accesses h.
-    let at = (goal.at.returns-then-not-step c).After-done-next in let s = c.loop.invariant accesses h in
+    let at = (goal.at.returns-then-not-step c).After-done_count-next in let s = c.loop.invariant accesses h in
     let more = c.loop-test.true in let no : c.step.result ≡ false = search rules in
     let one = c.index-steps-next.result in let node = c.args.node in
     let w = from_own (λ (x : Setup). WaitsFor x c.loop.run c.step.new.self node one (mid at s)) (by at s).stands
@@ -117,7 +117,7 @@ returns-then-not-step c = λ accesses h.
 
 pub loop-preserved : goal.loop-preserved
 loop-preserved c = λ accesses h.
-    let at = (goal.at.loop-preserved c).After-done-next in let s = c.loop.invariant accesses h in
+    let at = (goal.at.loop-preserved c).After-done_count-next in let s = c.loop.invariant accesses h in
     let yes : c.step.result ≡ true = search rules in let one = c.index-steps-next.result in
     let d = from_own (λ (x : Setup). DoesStep x c.loop.run c.step.new.self c.args.node one (mid at s)) (by at s).stands
     (c.step.ensures.done yes (mid at s) (by_own (by at s))) in

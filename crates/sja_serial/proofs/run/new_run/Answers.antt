@@ -1,4 +1,4 @@
-use Rattle.std.proofs.Common.{◌≡◌, ◌∙◌, ℕ, List, [], length}
+use Rattle.std.proofs.Common.{◌≡◌, ◌≤◌, ◌^◌, ◌∙◌, ℕ, List, All, [], length}
 use Rattle.std.proofs.Common.{map, replicate}
 use Rattle.std.proofs.Common.{take, refl, ap, sym, subst, arith}
 use Rattle.std.proofs.lemmas.List.{length-map, get_or-replicate}
@@ -10,6 +10,7 @@ use Rattle.sja_script.specs.declared.step.Step.{Step}
 use Rattle.sja_serial.specs.Ending.{AreFirst, setup_of}
 use Rattle.sja_serial.specs.Serial.{Setup, StandsBy, setup_with}
 use Rattle.sja_wire.specs.Buses.{new_bus}
+use Rattle.sja_serial.proofs.WholeRun.Kept.{counts_few}
 use Rattle.sja_serial.proofs.run.new_run.Goals.{After-bits}
 use Rattle.sja_serial.proofs.run.new_run.Goals as goal
 
@@ -38,6 +39,11 @@ pub new-requires-clause-bits : goal.new-requires-clause-bits
 new-requires-clause-bits c =
     let b = c.bits.ensures.value in let l = c.limits.ensures.bits in let least = l.0 in let most = l.1 in
     let all = bits_most c.args.plan.now.version in (omega (arith, b, least), omega (arith, b, most, all))
+
+pub new-requires-clause-steps : goal.new-requires-clause-steps
+new-requires-clause-steps c =
+    subst (λ (l : List ℕ). All (λ (n : ℕ). n ≤ 2 ^ 56) l) (sym c.in_ok-steps.ensures.value)
+    (counts_few c.args.plan.now c.limits.ensures)
 
 -- of the script and the numbers of steps that it was made with
 made_of : (c : After-bits) → setup_with c.version.result c.bits.result c.in_ok-script.script c.in_ok-steps.steps.items

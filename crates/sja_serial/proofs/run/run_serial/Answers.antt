@@ -1,14 +1,20 @@
 use Rattle.sja_log.specs.Runs.{IsSerialRun}
 use Rattle.std.proofs.Common.{refl, subst}
 use Rattle.sja_serial.specs.Ending.{MayBeOf, setup_of}
+use Rattle.sja_serial.specs.Keeping.{IsKept}
 use Rattle.sja_serial.specs.Serial.{Setup}
+use Rattle.sja_serial.proofs.WholeRun.Kept.{plan_kept}
 use Rattle.sja_serial.proofs.AllNodes.Several.{by_own, many_steps, setup_is}
 use Rattle.sja_serial.proofs.WholeRun.Whole.{serial_of}
 use Rattle.sja_serial.proofs.run.run_serial.Goals.{In_ok-finish}
 use Rattle.sja_serial.proofs.run.run_serial.Goals as goal
 
 pub finish-requires : goal.finish-requires
-finish-requires c = let t = c.take_turns-end.ensures in (t.accesses, by_own t.stands.by)
+finish-requires c =
+    let t = c.take_turns-end.ensures in (
+      (t.accesses, by_own t.stands.by),
+      subst (λ (s : Setup). IsKept s) (setup_is t.stands.by.stands) (plan_kept c.args.plan.now c.limits.ensures),
+    )
 
 is_run : (c : In_ok-finish) → IsSerialRun c.args.plan.now c.in_ok-finish.field-0
 is_run c =

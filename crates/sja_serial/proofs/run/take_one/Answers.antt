@@ -1,8 +1,9 @@
-use Rattle.std.proofs.Common.{rules, true, refl, length, sym, subst}
+use Rattle.std.proofs.Common.{rules, ℕ, true, refl, length, sym, subst}
 use Rattle.sja_plan.specs.Plan.{NamesNode}
 use Rattle.sja_plan.specs.declared.turn.Turn.{Turn}
 use Rattle.sja_serial.specs.Bits.{TakesBusTurn, TakesRest}
 use Rattle.sja_serial.specs.Inside.Rounds.{TakesIrq}
+use Rattle.sja_serial.specs.Ending.{setup_of}
 use Rattle.sja_serial.specs.Inside.Turning.{TakesOne}
 use Rattle.sja_serial.specs.Serial.{Setup, all_deeds}
 use Rattle.sja_serial.proofs.AllNodes.Several.{at_own, by_own, from_own}
@@ -37,8 +38,10 @@ returns-in-Rest c = λ accesses h.
     let deeds = all_deeds accesses in
     let now = c.rest_turn.new.self in
     subst (λ (t : Turn). TakesOne c.args.plan.now accesses c.args.run.now now t c.rest_turn.result) (sym c.in-Rest.is)
-    (from_own (λ (s : Setup). TakesRest s deeds c.args.run.now now c.rest_turn.result) h.by.stands
-    (c.rest_turn.ensures.turn deeds (at_own h.by.stands)))
+    (subst (λ (n : ℕ). TakesRest (setup_of c.args.plan.now) deeds c.args.run.now now n c.rest_turn.result)
+    c.bits.ensures.value
+    (from_own (λ (s : Setup). TakesRest s deeds c.args.run.now now c.bits.result c.rest_turn.result) h.by.stands
+    (c.rest_turn.ensures.turn deeds (at_own h.by.stands))))
 
 pub irq_turn-requires : goal.irq_turn-requires
 irq_turn-requires c =

@@ -18,6 +18,7 @@ use Rattle.sja_bus.proofs.Links.WrittenBack.{are_back, keeps_back, keeps_still}
 use Rattle.sja_bus.proofs.ItemsTaken.TakenBefore.{takes_back}
 use Rattle.sja_bus.proofs.ItemsTaken.BreakingSeats.{stops_bit}
 use Rattle.lemmas.proofs.Results.{err_is}
+use Rattle.sja_bus.proofs.WholeBus.Broken.{whole_broken}
 use Rattle.sja_bus.proofs.bus.Bus.bit.Goals.{After-bit_of_all, In-Ok}
 use Rattle.sja_bus.proofs.bus.Bus.bit.Goals as goal
 
@@ -98,8 +99,8 @@ whole g c len =
             b.seats.items c.bit_of_all.new.seats len few c.at-struck.ensures (row g c) (inv.bus f).wired;
       };
       logs = omega (arith, len, logs);
-      rooms = λ f. subst H c.as_mut_slice.ensures.value c.in-Ok.ensures.rooms (room_for b.struck.bits b.steps.items)
-          (inv.rooms f);
+      rooms = subst H c.as_mut_slice.ensures.value c.bit_of_all.ensures.rooms (room_for b.struck.bits b.steps.items)
+          inv.rooms;
     }
 
 pub invariant_of-self : goal.invariant_of-self
@@ -108,6 +109,19 @@ invariant_of-self g c =
     let P : List Seat → Type 0 = λ xs. IsWhole b.struck b.steps.items (b.run + 1) (b.left - 1) b.fault xs
     (vec_capacity b.logs) in (
       subst P (sym (written g at.After-bit_of_all)) (whole g at.In-Ok (same_count g at.After-bit_of_all)),
+      c.self.invariant.1,
+    )
+
+pub invariant_of-self-in-Err : goal.invariant_of-self-in-Err
+invariant_of-self-in-Err g c =
+    let at = (goal.at.invariant_of-self-in-Err g c).After-bit_of_all in let b = c.self.inside in
+    let now = c.bit_of_all.new.seats in
+    let H : List Seat → Type 0 = λ l. (n : ℕ → Room) → HaveRoom n l → HaveRoom n now in
+    let P : List Seat → Type 0 = λ xs. IsWhole b.struck b.steps.items b.run b.left (Some c.in-Err.fault) xs
+    (vec_capacity b.logs) in (
+      subst P (sym (written g at)) (whole_broken b.struck b.steps.items b.run b.left b.run b.left b.fault
+          c.in-Err.fault b.seats.items now (vec_capacity b.logs) (same_count g at) refl
+          (subst H c.as_mut_slice.ensures.value c.bit_of_all.ensures.rooms) c.self.invariant.0),
       c.self.invariant.1,
     )
 
@@ -174,7 +188,7 @@ returns-in-Err-clause-reason g c = λ none.
     let before = c.args.links.now in let after = c.bit_of_all.new.links in
     let at = (goal.at.returns-in-Err-clause-reason g c).After-bit_of_all in let len = same_count g at in
     let right : b.fault ≡ None = ap (λ (w : BusValue). w.fault) c.self.view_is ∙ none in
-    let rooms = inv.rooms right in
+    let rooms = inv.rooms in
     let old = c.args.self.now in
     let new : List Seat → BusValue = λ xs. record {
       script = b.struck.script;

@@ -1,4 +1,5 @@
-use Rattle.std.proofs.Common.{◌≡◌, List, ◌++◌, length, take, drop, sym, ap, ◌∙◌, subst, arith, ◌+◌, ℕ, None}
+use Rattle.std.proofs.Common.{◌≡◌, List, ◌++◌, length, take, drop, refl, sym, ap, ◌∙◌, subst, arith, ◌+◌, ℕ, None}
+use Rattle.std.proofs.Common.{Some}
 use Rattle.std.proofs.lemmas.Grind.{common_steps}
 use Rattle.std.specs.Prelude.{vec_capacity}
 use Rattle.lemmas.proofs.Related.{each_refl}
@@ -15,6 +16,7 @@ use Rattle.sja_bus.proofs.AllNodes.Running.{wired_taken, bus_run}
 use Rattle.sja_bus.proofs.AllNodes.Journals.{all_items, all_dry, all_untold, calm_taken}
 use Rattle.sja_bus.proofs.ItemsTaken.Refusing.{not_taken}
 use Rattle.sja_bus.proofs.Links.WrittenBack.{keeps_back}
+use Rattle.sja_bus.proofs.WholeBus.Broken.{whole_broken}
 use Rattle.sja_bus.proofs.bus.Bus.gather.Goals as goal
 
 pub returns-in-Some-clause-lawful : goal.returns-in-Some-clause-lawful
@@ -61,10 +63,24 @@ invariant_of-self g c =
         wired = wired_taken b.struck.script b.run was now len takes (inv.bus f).wired;
       };
       logs = omega (arith, len, logs);
-      rooms = λ f. subst H v c.in-Ok.ensures.rooms (room_for b.struck.bits b.steps.items) (inv.rooms f);
+      rooms = subst H v c.gather_all.ensures.rooms (room_for b.struck.bits b.steps.items) inv.rooms;
     } in
     let P : List Seat → Type 0 = λ xs. IsWhole b.struck b.steps.items b.run b.left b.fault xs (vec_capacity b.logs) in
     (subst P (sym e) l, c.self.invariant.1)
+
+pub invariant_of-self-in-Err : goal.invariant_of-self-in-Err
+invariant_of-self-in-Err g c =
+    let b = c.self.inside in let now = c.gather_all.new.seats in let was = b.seats.items in
+    let v : c.as_mut_slice.result.now ≡ was = c.as_mut_slice.ensures.value in
+    let len : length now ≡ length was = c.gather_all.auto.seats ∙ ap (λ (l : List Seat). length l) v in
+    let e : take b.seats.len (now ++ drop (length now) was) ≡ now = grind (arith, common_steps) in
+    let H : List Seat → Type 0 = λ l. (n : ℕ → Room) → HaveRoom n l → HaveRoom n now in
+    let P : List Seat → Type 0 = λ xs. IsWhole b.struck b.steps.items b.run b.left (Some c.in-Err.fault) xs
+    (vec_capacity b.logs) in (
+      subst P (sym e) (whole_broken b.struck b.steps.items b.run b.left b.run b.left b.fault c.in-Err.fault was now
+          (vec_capacity b.logs) len refl (subst H v c.gather_all.ensures.rooms) c.self.invariant.0),
+      c.self.invariant.1,
+    )
 
 pub returns-in-Ok-clause-kept : goal.returns-in-Ok-clause-kept
 returns-in-Ok-clause-kept g c =
@@ -110,7 +126,7 @@ returns-in-Err-clause-reason g c = λ none.
     let N : ℕ → Type 0 = λ n. IsTakenAndRefused E.stands n b.steps.items (journals_of was) (journals_of now) before
     after f in
     let reason = subst N (sym inv.bits) (not_taken E.stands b.struck.bits b.steps.items was now before after f len
-    (inv.rooms right)
+    inv.rooms
     (subst S v c.in-Err.ensures.refused)) in
     let P : BusValue → Type 0 = λ w. IsTakenAndRefused E.stands (w.run + w.left) w.steps w.journals
     (journals_of now) before after f in

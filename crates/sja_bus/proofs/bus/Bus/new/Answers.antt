@@ -53,7 +53,7 @@ invariant_of-result c =
         most = most;
         bus = λ f. new_bus c.args.script seats new;
         logs = omega (arith, n, room);
-        rooms = λ f. c.loop-node.invariant.rooms;
+        rooms = c.loop-node.invariant.rooms;
       }),
       (search rules),
     )

@@ -1,11 +1,13 @@
 use Rattle.std.proofs.Common.{◌≡◌, ◌≢◌, ◌+◌, ◌-◌, ◌<◌, ◌≤◌, true, false, replicate, None, List, ◌++◌, length, take}
-use Rattle.std.proofs.Common.{drop, sym, ap, ◌∙◌, subst, arith, rules, refl, ℕ}
+use Rattle.std.proofs.Common.{drop, sym, ap, ◌∙◌, subst, arith, rules, refl, ℕ, Some}
 use Rattle.std.proofs.lemmas.Grind.{common_steps}
 use Rattle.std.specs.Prelude.{◌⊎◌, vec_capacity}
 use Rattle.sja_regs.specs.declared.orders.Orders.{Orders}
 use Rattle.sja_bus.specs.declared.seat.Seat.{Seat}
+use Rattle.sja_link.specs.Written.{Room}
 use Rattle.sja_wire.specs.Buses.{BusValue}
-use Rattle.sja_script.specs.Striking.{Strikes}
+use Rattle.sja_script.specs.declared.strike.Strike.{Strike}
+use Rattle.sja_bus.specs.Inside.StrikesByBit.{Scripted}
 use Rattle.sja_bus.specs.Stretches.{IsStretch, EndsStretch, IsOutOfEntries}
 use Rattle.sja_bus.specs.Inside.Rows.{journals_of, untold_of, IsBus}
 use Rattle.sja_bus.specs.Inside.Whole.{IsWhole}
@@ -18,8 +20,10 @@ use Rattle.sja_bus.proofs.AllNodes.RanOn.{bus_with}
 use Rattle.sja_bus.proofs.AllNodes.Running.{count_is}
 use Rattle.sja_bus.proofs.Resting.Rests.{ends_awake}
 use Rattle.sja_bus.proofs.Resting.Stretches.{after_untold, room_after}
-use Rattle.sja_bus.proofs.Resting.WholeStretches.{bus_after, stretch_after, ends_quiet, out_of_entries}
-use Rattle.sja_bus.proofs.bus.Bus.run_idle_bits.Goals.{After-all_enter_idle_bits, In-Ok}
+use Rattle.sja_bus.proofs.Resting.WholeStretches.{bus_after, stretch_after, ends_quiet}
+use Rattle.sja_bus.proofs.Resting.WholeStretches.{out_of_entries, struck_by}
+use Rattle.sja_bus.proofs.WholeBus.Broken.{whole_broken}
+use Rattle.sja_bus.proofs.bus.Bus.run_idle_bits.Goals.{After-all_enter_idle_bits, After-quiet_for-bits, In-Ok}
 use Rattle.sja_bus.proofs.bus.Bus.run_idle_bits.Goals.{then-bits-eq0-via-then-bits-eq0}
 use Rattle.sja_bus.proofs.bus.Bus.run_idle_bits.Goals.{then-bits-eq0-via-else-bits-eq0+then-not-are_resting}
 use Rattle.sja_bus.proofs.bus.Bus.run_idle_bits.Goals as goal
@@ -61,20 +65,28 @@ grown g c =
     let A : List Seat → Type 0 = λ l. c.all_enter_idle_bits.new.seats ≡ all_after c.quiet_for-bits.result l in
     subst A c.as_mut_slice.ensures.value c.in-Ok.ensures.rested
 
+-- where none was run
 pub invariant_of-self : goal.invariant_of-self
 invariant_of-self g c =
-    let at = (goal.at.invariant_of-self g c).After-all_enter_idle_bits in
+    let b = c.self.inside in
+    let S : Scripted → Type 0 = λ s. IsWhole s b.steps.items b.run b.left b.fault b.seats.items (vec_capacity b.logs) in
+    (subst S (sym c.quiet_for-bits.ensures.same) c.self.invariant.0, c.self.invariant.1)
+
+pub invariant_of-self-in-Ok : goal.invariant_of-self-in-Ok
+invariant_of-self-in-Ok g c =
+    let at = (goal.at.invariant_of-self-in-Ok g c).After-all_enter_idle_bits in
     let b = c.self.inside in let n = c.quiet_for-bits.result in let inv = c.self.invariant.0 in
     let now = c.all_enter_idle_bits.new.seats in let was = b.seats.items in let board = c.args.board.now in
     let len = same_count g at in
-    let is = grown g (goal.at.invariant_of-self g c).In-Ok in
+    let is = grown g (goal.at.invariant_of-self-in-Ok g c).In-Ok in
     let I : List Seat → Type 0 = λ l. IsBus b.struck.script (b.run + n) l in
     let H : List Seat → Type 0 = λ l. HaveRoom (room_for b.struck.bits b.steps.items) l in
     let few = inv.few in let logs = inv.logs in let bits = inv.bits in
-    let within = c.quiet_for-bits.ensures.within in
+    let most = c.quiet_for-bits.ensures.most in
+    let left = c.fewer-most.ensures.left in
     let l : IsWhole b.struck b.steps.items (b.run + n) (b.left - n) b.fault now (vec_capacity b.logs) = record {
       few = omega (arith, len, few);
-      bits = omega (arith, bits, within);
+      bits = omega (arith, bits, most, left);
       most = inv.most;
       bus = λ f. subst I (sym is)
           (bus_after (g.B.Board.orders_are board) (g.B.Board.told board board) (g.B.Board.kept board board)
@@ -82,11 +94,18 @@ invariant_of-self g c =
           b.struck.script b.run n few
           c.quiet_for-bits.ensures.quiet (inv.bus f));
       logs = omega (arith, len, logs);
-      rooms = λ f. subst H (sym is) (room_after n (room_for b.struck.bits b.steps.items) was (inv.rooms f));
+      rooms = subst H (sym is) (room_after n (room_for b.struck.bits b.steps.items) was inv.rooms);
     } in
-    let P : List Seat → Type 0 = λ xs. IsWhole b.struck b.steps.items (b.run + n) (b.left - n) b.fault xs (vec_capacity
-    b.logs) in
-    (subst P (sym (are_back g at)) l, c.self.invariant.1)
+    let P : List Seat → Type 0 = λ xs. IsWhole c.quiet_for-bits.new.self b.steps.items (b.run + n) (b.left - n) b.fault
+    xs (vec_capacity b.logs) in
+    let S : Scripted → Type 0 = λ s. IsWhole s b.steps.items (b.run + n) (b.left - n) b.fault now
+    (vec_capacity b.logs) in
+    (subst P (sym (are_back g at)) (subst S (sym c.quiet_for-bits.ensures.same) l), c.self.invariant.1)
+
+pub quiet_for-bits-requires : goal.quiet_for-bits-requires
+quiet_for-bits-requires g c =
+    let inv = c.self.invariant.0 in let bits = inv.bits in let left = c.fewer-most.ensures.left in
+    omega (arith, bits, left)
 
 pub returns-in-Ok-clause-runs : goal.returns-in-Ok-clause-runs
 returns-in-Ok-clause-runs g c =
@@ -97,7 +116,8 @@ returns-in-Ok-clause-runs g c =
     let kept = g.B.Board.kept board board in
     let is = grown g here.In-Ok in let rest = rested g at in
     let some : n ≢ 0 = search rules in
-    let quiet = c.quiet_for-bits.ensures.most in let min = c.min.ensures in
+    let quiet = c.quiet_for-bits.ensures.most in let few = c.fewer-most.ensures.count in
+    let left = c.fewer-most.ensures.left in let script = c.quiet_for-bits.new.self.script in
     let h = stretch_after orders told kept (λ node. g.met.B.Board.kept_refl board node) was
     (inv.bus (is_right g at)).ready rest (asked g at) b.struck.script b.run n inv.few c.quiet_for-bits.ensures.quiet
     (inv.bus (is_right g at)) in
@@ -105,10 +125,12 @@ returns-in-Ok-clause-runs g c =
     IsStretch orders told kept b.struck.script b.run n (untold_of was) (journals_of was) (journals_of l) in
     let none : untold_of was ≡ replicate (length was) false =
     none_untold was (λ k s few. (rest k s few).none) in
-    let V : ℕ → ℕ → List Seat → BusValue = λ run left l. bus_with b.struck.script b.steps.items run left b.fault l in
-    let r : RunsAtOnce g.B.Board board c.args.count (V b.run b.left was) (V (b.run + n) (b.left - n) now) n = record {
-      most = omega (arith, quiet, min);
-      bits = (refl, omega (arith, quiet, min));
+    let V : List Strike → ℕ → ℕ → List Seat → BusValue = λ s run left l.
+    bus_with s b.steps.items run left b.fault l in
+    let r : RunsAtOnce g.B.Board board c.args.count (V b.struck.script b.run b.left was)
+    (V script (b.run + n) (b.left - n) now) n = record {
+      most = omega (arith, quiet, few);
+      bits = (refl, omega (arith, quiet, left));
       steps = refl;
       none = λ zero. absurd (some zero);
       stretch = λ ne. subst N (sym is) h;
@@ -117,38 +139,92 @@ returns-in-Ok-clause-runs g c =
       right = is_right g at;
     } in
     let P : BusValue → Type 0 = λ x.
-    RunsAtOnce g.B.Board board c.args.count x (V (b.run + n) (b.left - n) now) n in
+    RunsAtOnce g.B.Board board c.args.count x (V script (b.run + n) (b.left - n) now) n in
     let Q : List Seat → Type 0 = λ l.
-    RunsAtOnce g.B.Board board c.args.count c.args.self.now (V (b.run + n) (b.left - n) l) n in
+    RunsAtOnce g.B.Board board c.args.count c.args.self.now (V script (b.run + n) (b.left - n) l) n in
     subst Q (sym (are_back g at)) (subst P c.self.view_is r)
+
+pub invariant_of-self-in-Err : goal.invariant_of-self-in-Err
+invariant_of-self-in-Err g c =
+    let at = (goal.at.invariant_of-self-in-Err g c).After-all_enter_idle_bits in let b = c.self.inside in
+    let now = c.all_enter_idle_bits.new.seats in
+    let H : List Seat → Type 0 = λ l. (n : ℕ → Room) → HaveRoom n l → HaveRoom n now in
+    let P : List Seat → Type 0 = λ xs. IsWhole c.quiet_for-bits.new.self b.steps.items b.run b.left
+    (Some c.in-Err.fault) xs (vec_capacity b.logs) in
+    let S : Scripted → Type 0 = λ s. IsWhole s b.steps.items b.run b.left (Some c.in-Err.fault) now
+    (vec_capacity b.logs) in (
+      subst P (sym (are_back g at)) (subst S (sym c.quiet_for-bits.ensures.same) (whole_broken b.struck b.steps.items
+          b.run b.left b.run b.left b.fault c.in-Err.fault b.seats.items now (vec_capacity b.logs) (same_count g at)
+          refl (subst H c.as_mut_slice.ensures.value c.all_enter_idle_bits.ensures.rooms) c.self.invariant.0)),
+      c.self.invariant.1,
+    )
+
+-- the script is as it was
+script_is : (g : _) (c : After-quiet_for-bits g) → c.quiet_for-bits.new.self.script ≡ c.self.inside.struck.script
+script_is g c = ap (λ (s : Scripted). s.script) c.quiet_for-bits.ensures.same
+
+pub returns-in-Ok-clause-script : goal.returns-in-Ok-clause-script
+returns-in-Ok-clause-script g c =
+    script_is g (goal.at.returns-in-Ok-clause-script g c).After-quiet_for-bits
+    ∙ ap (λ (w : BusValue). w.script) c.self.view_is
+
+pub returns-in-Err-clause-script : goal.returns-in-Err-clause-script
+returns-in-Err-clause-script g c =
+    script_is g (goal.at.returns-in-Err-clause-script g c).After-quiet_for-bits
+    ∙ ap (λ (w : BusValue). w.script) c.self.view_is
+
+pub returns-then-bits-eq0-clause-script : goal.returns-then-bits-eq0-clause-script
+returns-then-bits-eq0-clause-script g c =
+    script_is g (goal.at.returns-then-bits-eq0-clause-script g c).After-quiet_for-bits
+    ∙ ap (λ (w : BusValue). w.script) c.self.view_is
+
+-- where none was run the bus is as it was
+pub returns-then-bits-eq0-clause-runs : goal.returns-then-bits-eq0-clause-runs
+returns-then-bits-eq0-clause-runs g c =
+    let b = c.self.inside in
+    let same = ap (λ (l : List Strike). bus_with l b.steps.items b.run b.left b.fault b.seats.items)
+    (script_is g (goal.at.returns-then-bits-eq0-clause-runs g c).After-quiet_for-bits) ∙ c.self.view_is in
+    let R : BusValue → Type 0 = λ w. RunsAtOnce g.B.Board c.args.board.now c.args.count c.args.self.now w 0 in
+    subst R (sym same) (record {
+      most = omega arith;
+      bits = (omega arith, omega arith);
+      steps = refl;
+      none = λ zero. refl;
+      stretch = λ some. absurd (some refl);
+      told = λ some. absurd (some refl);
+      right = c.requires.right;
+    })
 
 pub returns-then-bits-eq0-clause-longest : goal.returns-then-bits-eq0-clause-longest
 returns-then-bits-eq0-clause-longest g c =
     let b = c.self.inside in let inv = c.self.invariant.0 in let count = c.args.count in let was = b.seats.items in
     let right : b.fault ≡ None = ap (λ (w : BusValue). w.fault) c.self.view_is ∙ c.requires.right in
-    let v : BusValue = bus_with b.struck.script b.steps.items b.run b.left b.fault was in
-    let h : EndsStretch count 0 v = elim c.then-bits-eq0.branch [
+    let script = c.quiet_for-bits.new.self.script in
+    let same = script_is g (goal.at.returns-then-bits-eq0-clause-longest g c).After-quiet_for-bits in
+    let v : BusValue = bus_with script b.steps.items b.run b.left b.fault was in
+    elim c.then-bits-eq0.branch [
       | then-bits-eq0-via-then-bits-eq0 w ↦
           let zero : c.quiet_for-bits.result ≡ 0 = search rules in
-          let L : ℕ → Type 0 = λ n. (n ≡ c.min.result) ⊎ (b.run + n ≡ b.struck.bits)
-          ⊎ ((node : ℕ) × (node < 8) × Strikes b.struck.script (b.run + n) node) in
-          let none : b.run ≡ b.run + 0 = omega arith in let all : b.left + 0 ≡ b.left = omega arith in
-          ends_quiet count 0 c.min.result b.struck.bits v v refl none all inv.bits c.min.ensures
-          (subst L zero c.quiet_for-bits.ensures.longest)
+          let none : b.run + c.quiet_for-bits.result ≡ b.run = omega (arith, zero) in
+          ends_quiet count 0 c.fewer-most.result b.left v (omega arith) c.fewer-most.ensures.whole
+          (struck_by b.struck.script script (b.run + c.quiet_for-bits.result) b.run c.quiet_for-bits.result 0
+          c.fewer-most.result same none zero c.quiet_for-bits.ensures.longest)
       | then-bits-eq0-via-else-bits-eq0+then-not-are_resting w ↦
           let no : w.are_resting.result ≡ false = search rules in
           ends_awake count 0 v was refl refl (inv.bus right).ready
           (subst (λ (l : List Seat). IsOneAwake l) w.as_slice.ensures.value (w.are_resting.ensures.no no))
-    ] in
-    subst (λ (x : BusValue). EndsStretch count 0 x) c.self.view_is h
+    ]
 
 pub returns-in-Ok-clause-longest : goal.returns-in-Ok-clause-longest
 returns-in-Ok-clause-longest g c =
-    let b = c.self.inside in let n = c.quiet_for-bits.result in let was = b.seats.items in
-    let quiet = c.quiet_for-bits.ensures.most in let min = c.min.ensures in
-    let v : ℕ → ℕ → List Seat → BusValue = λ run left l. bus_with b.struck.script b.steps.items run left b.fault l in
-    ends_quiet c.args.count n c.min.result b.struck.bits (v b.run b.left was) (v (b.run + n) (b.left - n) _) refl refl
-    (omega (arith, quiet, min)) c.self.invariant.0.bits min c.quiet_for-bits.ensures.longest
+    let b = c.self.inside in let n = c.quiet_for-bits.result in
+    let script = c.quiet_for-bits.new.self.script in
+    let same = script_is g (goal.at.returns-in-Ok-clause-longest g c).After-quiet_for-bits in
+    let most = c.quiet_for-bits.ensures.most in let left = c.fewer-most.ensures.left in
+    ends_quiet c.args.count n c.fewer-most.result b.left
+    (bus_with script b.steps.items (b.run + n) (b.left - n) b.fault _) (omega (arith, most, left))
+    c.fewer-most.ensures.whole (struck_by b.struck.script script (b.run + n) (b.run + n) n n c.fewer-most.result
+    same refl refl c.quiet_for-bits.ensures.longest)
 
 pub returns-in-Err-clause-reason : goal.returns-in-Err-clause-reason
 returns-in-Err-clause-reason g c =
@@ -157,10 +233,10 @@ returns-in-Err-clause-reason g c =
     let n = c.quiet_for-bits.result in let now = c.all_enter_idle_bits.new.seats in let was = b.seats.items in
     let F : List Seat → Type 0 = λ l. IsFullBy n l now f in
     let full : IsFullBy n was now f = subst F c.as_mut_slice.ensures.value c.in-Err.ensures.full in
-    let left : n ≤ b.left = let m = c.quiet_for-bits.ensures.most in let l = c.min.ensures in omega (arith, m, l) in
+    let m = c.quiet_for-bits.ensures.most in let l = c.fewer-most.ensures.left in
+    let left : n ≤ b.left = omega (arith, m, l) in
     let H : ℕ → Type 0 = λ m. HaveRoom (room_for m b.steps.items) was in
-    let rooms : HaveRoom (room_for (b.run + b.left) b.steps.items) was = subst H (sym inv.bits) (inv.rooms (is_right g
-    at)) in
+    let rooms : HaveRoom (room_for (b.run + b.left) b.steps.items) was = subst H (sym inv.bits) inv.rooms in
     let P : BusValue → Type 0 = λ x. IsOutOfEntries (x.run + x.left) x.steps x.left x.journals (journals_of now) f in
     let old = c.args.self.now in
     let Q : List Seat → Type 0 = λ l. IsOutOfEntries (old.run + old.left) old.steps old.left old.journals (journals_of

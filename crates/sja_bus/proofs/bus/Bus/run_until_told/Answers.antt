@@ -1,5 +1,5 @@
 use Rattle.std.proofs.Common.{◌≡◌, ◌+◌, ◌-◌, ◌≤◌, ℕ, true, List, ◌++◌, length, take, drop, refl, sym, ap, ◌∙◌, subst}
-use Rattle.std.proofs.Common.{arith, rules}
+use Rattle.std.proofs.Common.{arith, rules, Some}
 use Rattle.std.proofs.lemmas.Grind.{common_steps}
 use Rattle.std.specs.Prelude.{◌⊎◌, None, Result, Ok, Err, vec_capacity}
 use Rattle.sja_link.specs.Written.{Room}
@@ -14,12 +14,14 @@ use Rattle.sja_wire.specs.Reasons.{room_for}
 use Rattle.sja_bus.specs.Inside.Refusing.{AreFree, HaveRoom}
 use Rattle.sja_bus.specs.Inside.Rows.{AreSeated, journals_of}
 use Rattle.sja_bus.specs.UntilTold.{EndsUntilTold, HasFree, IsCalm, RunsNone, WorksUntold}
-use Rattle.sja_bus.specs.Inside.RunningOn.{bus_of, AnyBit, MayRunOn, RowsRunNone, SomeAborts, SomeUntold}
+use Rattle.sja_bus.specs.Inside.RunningOn.{bus_of, AnyBit, MayRunOn, RowsRunNone, SomeAborts, SomeTold}
+use Rattle.sja_bus.specs.Inside.RunningOn.{SomeUntold}
 use Rattle.sja_bus.specs.Inside.Whole.{IsWhole}
-use Rattle.sja_bus.proofs.AllNodes.RanOn.{bus_is, ran, stopped}
+use Rattle.sja_bus.proofs.AllNodes.RanOn.{bus_is, bus_with, ran, stopped}
 use Rattle.sja_bus.proofs.AllNodes.Running.{count_is}
 use Rattle.sja_bus.proofs.AllNodes.SoFar.{none_yet}
 use Rattle.sja_bus.proofs.AllNodes.UntilTold.{calm_bus, ended, free_bus, held_by_port, held_by_rows}
+use Rattle.sja_bus.proofs.WholeBus.Broken.{whole_broken}
 use Rattle.sja_bus.proofs.bus.Bus.run_until_told.Goals.{After-untaken_bits}
 use Rattle.sja_bus.proofs.bus.Bus.run_until_told.Goals as goal
 
@@ -40,21 +42,16 @@ are_back g c = let len = same_count g c in grind (arith, common_steps)
 enough_left : (g : _) (c : After-untaken_bits g) → c.args.most ≤ c.self.inside.left
 enough_left g c = let left = ap (λ w. w.left) c.self.view_is in let most = c.requires.most in omega (arith, left, most)
 
--- it is written down of more bits whom the script strikes, which is as it was
-script_is : (g : _) (c : After-untaken_bits g) → c.write.new.self.script ≡ c.self.inside.struck.script
-script_is g c = ap (λ (s : Scripted). s.script) c.write.ensures.kept
-
-bits_are : (g : _) (c : After-untaken_bits g) → c.write.new.self.bits ≡ c.self.inside.struck.bits
-bits_are g c = ap (λ (s : Scripted). s.bits) c.write.ensures.kept
+-- the script is as it was
+script_is : (g : _) (c : After-untaken_bits g) → c.untaken_bits.new.struck.script ≡ c.self.inside.struck.script
+script_is g c = ap (λ (s : Scripted). s.script) c.untaken_bits.ensures.same
 
 -- the bus before, by the seats that run on
 begins : (g : _) (c : After-untaken_bits g) → let b = c.self.inside in
-    bus_of c.write.new.self.script b.steps.items b.run b.left c.as_mut_slice-seats.result.now ≡ c.args.self.now
+    bus_of b.struck.script b.steps.items b.run b.left c.as_mut_slice-seats.result.now ≡ c.args.self.now
 begins g c = let b = c.self.inside in
-    subst (λ (l : List Strike). bus_of l b.steps.items b.run b.left c.as_mut_slice-seats.result.now ≡ c.args.self.now)
-    (sym (script_is g c))
-    (bus_is b.struck.script b.steps.items b.run b.left b.fault b.seats.items c.as_mut_slice-seats.result.now
-    c.args.self.now c.as_mut_slice-seats.ensures.value (right g c) c.self.view_is)
+    bus_is b.struck.script b.steps.items b.run b.left b.fault b.seats.items c.as_mut_slice-seats.result.now
+    c.args.self.now c.as_mut_slice-seats.ensures.value (right g c) c.self.view_is
 
 pub returns-then-not-may_run_untaken-clause-runs : goal.returns-then-not-may_run_untaken-clause-runs
 returns-then-not-may_run_untaken-clause-runs g c =
@@ -79,10 +76,8 @@ returns-in-Ok-clause-none g c = λ zero.
     let Q : List Seat → Type 0 = RowsRunNone c.args.to_rest b.struck.script b.run c.args.most in
     subst (RunsNone asked c.args.to_rest c.args.most) c.self.view_is
     (held_by_rows c.args.to_rest c.args.most b.struck.script b.steps.items b.run b.left b.fault b.seats.items asked
-    (whole.bus (right g at)).ready (subst N (sym whole.bits) (whole.rooms (right g at)))
-    (subst Q c.as_mut_slice-seats.ensures.value
-    (subst (λ (l : List Strike). RowsRunNone c.args.to_rest l b.run c.args.most c.as_mut_slice-seats.result.now)
-    (script_is g at) (c.in-Ok.ensures.ends.none none))))
+    (whole.bus (right g at)).ready (subst N (sym whole.bits) whole.rooms)
+    (subst Q c.as_mut_slice-seats.ensures.value (c.in-Ok.ensures.runs.ends.none none)))
   where
     count_in : Result ℕ BusFault → ℕ
     count_in (Ok n) = n
@@ -112,8 +107,8 @@ returns-in-Ok-clause-free g c = λ some.
     let F : List Seat → Type 0 = λ l. AreFree n l in
     subst (HasFree n) c.self.view_is
     (free_bus c.args.to_rest c.args.most b.struck.script b.steps.items b.run b.left b.fault b.seats.items n some
-    (subst F c.as_mut_slice-seats.ensures.value c.in-Ok.ensures.free)
-    (subst N (sym whole.bits) (whole.rooms (right g at))))
+    (subst F c.as_mut_slice-seats.ensures.value c.in-Ok.ensures.runs.ends.free)
+    (subst N (sym whole.bits) whole.rooms))
 
 pub returns-then-not-may_run_untaken-clause-longest : goal.returns-then-not-may_run_untaken-clause-longest
 returns-then-not-may_run_untaken-clause-longest g c = λ some. absurd (some refl)
@@ -123,19 +118,22 @@ returns-in-Ok-clause-longest g c = λ some.
     let at = (goal.at.returns-in-Ok-clause-longest g c).After-untaken_bits in
     let b = c.self.inside in let n = c.in-Ok.bits in let now = c.untaken_bits.new.seats in
     let whole = c.self.invariant.0 in let bits = whole.bits in let enough = enough_left g at in
-    let most = c.in-Ok.ensures.most in let runs = c.in-Ok.ensures.runs in
+    let most = c.in-Ok.ensures.most in let runs = c.in-Ok.ensures.runs.runs in
     let was = moment c.args.self.now c.args.links.now c.args.board.now in
     let all : b.struck.bits ≡ (b.run + n) + (b.left - n) = omega (arith, bits, most, enough) in
     let H : List Seat → Type 0 = λ l. (m : ℕ → Room) → HaveRoom m l → HaveRoom m now in
     let N : ℕ → Type 0 = λ m. HaveRoom (room_for m b.steps.items) now in
     let P : BusValue → Type 0 = λ w. EndsUntilTold g.B.Board c.args.to_rest c.args.most was n
     (moment w c.untaken_bits.new.links c.untaken_bits.new.board) in
-    subst P (bus_is c.write.new.self.script b.steps.items (b.run + n) (b.left - n) b.fault _ now _
-    (sym (are_back g at)) (right g at) refl)
-    (ended g.B.Board c.args.to_rest c.args.most n c.write.new.self.script b.steps.items (b.run + n) (b.left - n) now was
+    let script = c.untaken_bits.new.struck.script in
+    let R : List Strike → Type 0 = λ l. RowsRunNone c.args.to_rest l (b.run + n) (c.args.most - n) now
+    ⊎ SomeTold (g.B.Board.told c.args.board.now c.untaken_bits.new.board) now in
+    subst P (bus_is script b.steps.items (b.run + n) (b.left - n) b.fault _ now _ (sym (are_back g at)) (right g at)
+    refl)
+    (ended g.B.Board c.args.to_rest c.args.most n script b.steps.items (b.run + n) (b.left - n) now was
     c.untaken_bits.new.links c.untaken_bits.new.board most runs.bus.ready
     (subst N all (subst H c.as_mut_slice-seats.ensures.value runs.rooms (room_for b.struck.bits b.steps.items)
-    (whole.rooms (right g at)))) c.in-Ok.ensures.ends.why)
+    whole.rooms)) (subst R (sym (script_is g at)) c.in-Ok.ensures.runs.ends.why))
 
 pub untaken_bits-requires-clause-seated : goal.untaken_bits-requires-clause-seated
 untaken_bits-requires-clause-seated g c =
@@ -164,19 +162,36 @@ invariant_of-self g c =
     let whole = c.self.invariant.0 in let few = whole.few in let logs = whole.logs in let bits = whole.bits in
     let len = same_count g at in let enough = enough_left g at in let most = c.in-Ok.ensures.most in
     let H : List Seat → Type 0 = λ l. (m : ℕ → Room) → HaveRoom m l → HaveRoom m now in
-    let same = bits_are g at in let all = whole.most in
-    let R : ℕ → Type 0 = λ m. HaveRoom (room_for m b.steps.items) now in
-    let P : List Seat → Type 0 = λ l. IsWhole c.write.new.self b.steps.items (b.run + n) (b.left - n) b.fault l
+    let P : List Seat → Type 0 = λ l. IsWhole c.untaken_bits.new.struck b.steps.items (b.run + n) (b.left - n) b.fault l
+    (vec_capacity b.logs) in
+    let S : Scripted → Type 0 = λ s. IsWhole s b.steps.items (b.run + n) (b.left - n) b.fault now
     (vec_capacity b.logs) in (
-      subst P (sym (are_back g at)) (record {
+      subst P (sym (are_back g at)) (subst S (sym c.untaken_bits.ensures.same) (record {
         few = omega (arith, len, few);
-        bits = omega (arith, bits, most, enough, same);
-        most = omega (arith, all, same);
-        bus = λ right. c.in-Ok.ensures.runs.bus;
+        bits = omega (arith, bits, most, enough);
+        most = whole.most;
+        bus = λ right. c.in-Ok.ensures.runs.runs.bus;
         logs = omega (arith, len, logs);
-        rooms = λ right. subst R (sym same) (subst H c.as_mut_slice-seats.ensures.value c.in-Ok.ensures.runs.rooms
-            (room_for b.struck.bits b.steps.items) (whole.rooms right));
-      }),
+        rooms = subst H c.as_mut_slice-seats.ensures.value c.untaken_bits.ensures.keeps.rooms
+            (room_for b.struck.bits b.steps.items) whole.rooms;
+      })),
+      c.self.invariant.1,
+    )
+
+pub invariant_of-self-in-Err : goal.invariant_of-self-in-Err
+invariant_of-self-in-Err g c =
+    let at = (goal.at.invariant_of-self-in-Err g c).After-untaken_bits in
+    let b = c.self.inside in let n = c.in-Err.broken.after in let now = c.untaken_bits.new.seats in
+    let f = c.in-Err.broken.fault in let enough = enough_left g at in let most = c.in-Err.ensures.most in
+    let H : List Seat → Type 0 = λ l. (m : ℕ → Room) → HaveRoom m l → HaveRoom m now in
+    let P : List Seat → Type 0 = λ l. IsWhole c.untaken_bits.new.struck b.steps.items (b.run + n) (b.left - n) (Some f)
+    l (vec_capacity b.logs) in
+    let S : Scripted → Type 0 = λ s. IsWhole s b.steps.items (b.run + n) (b.left - n) (Some f) now
+    (vec_capacity b.logs) in (
+      subst P (sym (are_back g at)) (subst S (sym c.untaken_bits.ensures.same) (whole_broken b.struck b.steps.items
+          b.run b.left (b.run + n) (b.left - n) b.fault f b.seats.items now (vec_capacity b.logs) (same_count g at)
+          (omega (arith, most, enough)) (subst H c.as_mut_slice-seats.ensures.value c.untaken_bits.ensures.keeps.rooms)
+          c.self.invariant.0)),
       c.self.invariant.1,
     )
 
@@ -184,20 +199,22 @@ pub returns-in-Ok-clause-runs : goal.returns-in-Ok-clause-runs
 returns-in-Ok-clause-runs g c =
     let at = (goal.at.returns-in-Ok-clause-runs g c).After-untaken_bits in
     let E = g.E.BusEnd in let B = g.B.Board in let b = c.self.inside in let n = c.in-Ok.bits in
-    ran E B c.args.to_rest c.write.new.self.script b.steps.items b.run b.left c.as_mut_slice-seats.result.now
+    let now = c.untaken_bits.new.seats in
+    let N : List Strike → Type 0 = λ l. bus_of l b.steps.items (b.run + n) (b.left - n) now
+    ≡ bus_with c.untaken_bits.new.struck.script b.steps.items (b.run + n) (b.left - n) b.fault
+    (take b.seats.len (now ++ drop (length now) b.seats.items)) in
+    ran E B c.args.to_rest b.struck.script b.steps.items b.run b.left c.as_mut_slice-seats.result.now
     c.untaken_bits.new.seats c.args.links.now c.untaken_bits.new.links c.args.board.now c.untaken_bits.new.board
-    c.args.most c.untaken_bits.auto.seats c.untaken_bits.ensures.sames c.untaken_bits.ensures.others c.args.self.now
+    c.args.most c.untaken_bits.auto.seats c.untaken_bits.ensures.keeps.sames c.untaken_bits.ensures.keeps.others
+    c.args.self.now
     (begins g at) n _ c.in-Ok.ensures.most (enough_left g at)
-    (bus_is c.write.new.self.script b.steps.items (b.run + n) (b.left - n) b.fault _ c.untaken_bits.new.seats _
-    (sym (are_back g at)) (right g at) refl) c.in-Ok.ensures.runs
+    (subst N (script_is g at) (bus_is c.untaken_bits.new.struck.script b.steps.items (b.run + n) (b.left - n) b.fault _
+    now _ (sym (are_back g at)) (right g at) refl)) c.in-Ok.ensures.runs.runs
 
 pub returns-in-Ok-clause-unstruck : goal.returns-in-Ok-clause-unstruck
 returns-in-Ok-clause-unstruck g c = λ i node low few strikes.
-    let at = (goal.at.returns-in-Ok-clause-unstruck g c).After-untaken_bits in
     let P : BusValue → Type 0 = λ w. Strikes w.script (w.run + i) node in
-    let S : List Strike → Type 0 = λ l. Strikes l (c.self.inside.run + i) node in
-    c.in-Ok.ensures.runs.unstruck i node low few
-    (subst S (sym (script_is g at)) (subst P (sym c.self.view_is) strikes))
+    c.in-Ok.ensures.runs.runs.unstruck i node low few (subst P (sym c.self.view_is) strikes)
 
 pub returns-in-Err-clause-stops : goal.returns-in-Err-clause-stops
 returns-in-Err-clause-stops g c =
@@ -206,9 +223,9 @@ returns-in-Err-clause-stops g c =
     let seats = c.as_mut_slice-seats.result.now in
     let N : ℕ → Type 0 = λ m. HaveRoom (room_for m b.steps.items) b.seats.items in
     let R : List Seat → Type 0 = λ l. HaveRoom (room_for (b.run + b.left) b.steps.items) l in
-    stopped E B c.args.to_rest c.write.new.self.script b.steps.items b.run b.left seats c.untaken_bits.new.seats
+    stopped E B c.args.to_rest b.struck.script b.steps.items b.run b.left seats c.untaken_bits.new.seats
     c.args.links.now c.untaken_bits.new.links c.args.board.now c.untaken_bits.new.board c.args.most
-    c.untaken_bits.auto.seats c.untaken_bits.ensures.sames c.untaken_bits.ensures.others c.args.self.now (begins g at)
-    c.in-Err.broken _ (enough_left g at)
-    (subst R (sym c.as_mut_slice-seats.ensures.value) (subst N (sym whole.bits) (whole.rooms (right g at))))
-    refl refl refl refl refl (ap (λ (l : List Seat). journals_of l) (are_back g at)) c.in-Err.ensures.breaks
+    c.untaken_bits.auto.seats c.untaken_bits.ensures.keeps.sames c.untaken_bits.ensures.keeps.others c.args.self.now
+    (begins g at) c.in-Err.broken _ (enough_left g at)
+    (subst R (sym c.as_mut_slice-seats.ensures.value) (subst N (sym whole.bits) whole.rooms))
+    (script_is g at) refl refl refl refl (ap (λ (l : List Seat). journals_of l) (are_back g at)) c.in-Err.ensures.breaks

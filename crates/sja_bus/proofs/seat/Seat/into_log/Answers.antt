@@ -6,7 +6,7 @@ use Rattle.sja_bus.proofs.seat.Seat.into_log.Goals as goal
 
 pub returns : goal.returns
 returns c = record {
-  journal = refl;
+  journal = c.into_journal.ensures;
   counters = λ h.
       let j = c.args.self.journal.entries in
       let k = c.counters-counters.result in

@@ -9,11 +9,11 @@ pub returns-then-most-eq0-clause-bits : goal.returns-then-most-eq0-clause-bits
 returns-then-most-eq0-clause-bits g c = λ deeds h. no_bit c.args.self.now
 
 pub returns-clause-longest : goal.returns-clause-longest
-returns-clause-longest g c = λ some. let left = c.bits_left.ensures.left in let most = c.min-most.ensures in
-    let which : (c.min-most.result ≡ c.args.count) ⊎ (c.args.self.now.bits + c.min-most.result ≡ g.setup.bits) =
+returns-clause-longest g c = λ some. let left = c.bits_left.ensures.left in let most = c.at_most-most.ensures in
+    let which : (c.at_most-most.result ≡ c.args.count) ⊎ (c.args.self.now.bits + c.at_most-most.result ≡ g.setup.bits) =
     elim (cases_lt c.args.count c.bits_left.result) [
       | inl fewer ↦ inl (omega (arith, most, fewer))
       | inr enough ↦ inr (omega (arith, most, enough, left))
     ] in
-    ended_of c.requires c.min-most.result c.args.count which c.run_some_bits.ensures.bits
+    ended_of c.requires c.at_most-most.result c.args.count which c.run_some_bits.ensures.bits
     c.run_some_bits.ensures.longest

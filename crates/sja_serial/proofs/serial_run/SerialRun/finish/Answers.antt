@@ -4,7 +4,8 @@ use Rattle.sja_link.specs.declared.down.Down.{Down}
 use Rattle.sja_regs.specs.Registers.{at_power_on}
 use Rattle.sja_driver.specs.declared.logged_driver.LoggedDriver.{LoggedDriver}
 use Rattle.sja_driver.specs.Accesses.{Access}
-use Rattle.sja_driver.specs.LoggedDrivers.{IsLawful}
+use Rattle.sja_driver.specs.LoggedDrivers.{log_of, IsLawful}
+use Rattle.sja_driver.specs.Logs.{KeepsLog}
 use Rattle.sja_plan.specs.Plan.{PlanValue}
 use Rattle.sja_log.specs.Log.{NodeValue, RunValue}
 use Rattle.sja_log.specs.Finishing.{AreNodeEnds}
@@ -13,19 +14,48 @@ use Rattle.sja_serial.specs.Ending.{IsLogOf, MayBeOf}
 use Rattle.sja_serial.specs.Serial.{SerialValue, StandsAt, StandsBy, all_deeds}
 use Rattle.sja_serial.specs.Inside.Going.{run_now}
 use Rattle.sja_serial.proofs.WholeRun.Ended.{log_of_run}
+use Rattle.sja_serial.proofs.WholeRun.Kept.{keeps_logs, keeps_record}
 use Rattle.sja_serial.proofs.serial_run.SerialRun.finish.Goals as goal
 
 pub node_runs-requires-clause-lawful : goal.node_runs-requires-clause-lawful
 node_runs-requires-clause-lawful g c =
     let b = c.self.inside in
     let now = run_now b.bus b.drivers.items b.board.ports.items b.links.items b.bits in
-    let deeds = all_deeds c.requires.0 in
+    let deeds = all_deeds c.requires.0.0 in
     let stood : StandsAt g.setup now deeds = subst (λ (x : SerialValue). StandsAt g.setup x deeds)
-    (sym c.self.view_is) c.requires.1.stands in
+    (sym c.self.view_is) c.requires.0.1.stands in
     let P : List LoggedDriver → Type 0 = λ l. (k : ℕ) (d : LoggedDriver) → k < length l → IsLawful
     (slice_index_or l k d) in
     subst P (sym c.as_slice.ensures.value) (λ k d less. (stood.nodes k d (at_power_on 1)
     (let e = stood.count.drivers in omega (arith, e, less))).traced.lawful)
+
+pub node_runs-requires-clause-kept : goal.node_runs-requires-clause-kept
+node_runs-requires-clause-kept g c =
+    let b = c.self.inside in
+    let now = run_now b.bus b.drivers.items b.board.ports.items b.links.items b.bits in
+    let stood : StandsBy g.setup now c.requires.0.0 = subst (λ (x : SerialValue). StandsBy g.setup x c.requires.0.0)
+    (sym c.self.view_is) c.requires.0.1 in
+    let P : List LoggedDriver → Type 0 = λ l. (k : ℕ) (d : LoggedDriver) → k < length l → KeepsLog
+    (log_of (slice_index_or l k d)) in
+    subst P (sym c.as_slice.ensures.value) (keeps_logs g.setup now c.requires.0.0 stood c.requires.1)
+
+pub finish-logs-requires : goal.finish-logs-requires
+finish-logs-requires g c =
+    let b = c.self.inside in
+    let now = run_now b.bus b.drivers.items b.board.ports.items b.links.items b.bits in
+    let deeds = all_deeds c.requires.0.0 in
+    let stood : StandsAt g.setup now deeds = subst (λ (x : SerialValue). StandsAt g.setup x deeds)
+    (sym c.self.view_is) c.requires.0.1.stands in
+    record { kept = keeps_record g.setup now deeds stood c.requires.1 }
+
+pub overflow_cast-run : goal.overflow_cast-run
+overflow_cast-run g c =
+    let b = c.self.inside in
+    let now = run_now b.bus b.drivers.items b.board.ports.items b.links.items b.bits in
+    let deeds = all_deeds c.requires.0.0 in
+    let stood : StandsAt g.setup now deeds = subst (λ (x : SerialValue). StandsAt g.setup x deeds)
+    (sym c.self.view_is) c.requires.0.1.stands in
+    let few = c.requires.1.bits in let all = stood.all_bits in let own = stood.bits in omega (arith, few, all, own)
 
 pub returns : goal.returns
 returns g c =

@@ -1,8 +1,9 @@
 use Rattle.std.proofs.Common.{rules, ◌≡◌, ◌*◌, ◌<◌, ◌≤◌, ℕ, List, length, sym, ap, ◌∙◌, subst, arith}
 use Rattle.std.specs.Prelude.{None, slice_index_or, slice_set}
-use Rattle.std.specs.Vec.{vec_capacity, with_items}
+use Rattle.std.specs.Vec.{with_items}
 use Rattle.sja_link.specs.declared.entry.Entry.{Entry}
 use Rattle.sja_regs.specs.declared.registers.Registers.{Registers}
+use Rattle.sja_script.specs.declared.done.Done.{Done}
 use Rattle.sja_driver.specs.declared.kept_bytes.KeptBytes.{KeptBytes}
 use Rattle.sja_driver.specs.declared.logged_driver.LoggedDriver.{LoggedDriver}
 use Rattle.sja_driver.specs.Accesses.{Access}
@@ -11,6 +12,7 @@ use Rattle.sja_driver.specs.Deeds.{Deed, deeds_at, is_active}
 use Rattle.sja_driver.specs.LoggedDrivers.{StaysLawful, kept_of, log_of}
 use Rattle.sja_driver.specs.Observing.{Looked}
 use Rattle.sja_link.specs.Deques.{Deques, Lies}
+use Rattle.sja_link.specs.Recents.{Recents}
 use Rattle.sja_log.specs.Registering.{AccessesLeadTo, seen_now}
 use Rattle.sja_wire.specs.Wire.{journal_at}
 use Rattle.sja_regs.specs.InterruptLine.{is_line_active}
@@ -57,7 +59,7 @@ accessed_as : {version room : ℕ} {j : List Entry} {accesses : List Access} {p 
 accessed_as {version} {room} {j} {accesses} {p} was now done kept h = record {
   led = subst (λ (k : KeptBytes). AccessesLeadTo version j accesses k p) (sym kept) h.led;
   done = h.done ∙ ap (λ v. v.items) (sym done);
-  room = subst (λ (n : ℕ). room ≤ n) (ap vec_capacity (sym done)) h.room;
+  room = ap (λ (v : Recents Done). v.room) done ∙ h.room;
 }
 
 -- it stands at the same deeds

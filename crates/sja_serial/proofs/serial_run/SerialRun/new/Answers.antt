@@ -1,4 +1,4 @@
-use Rattle.std.proofs.Common.{rules, ◌≡◌, ℕ, List, length, map, replicate, refl, ap, ◌∙◌, subst}
+use Rattle.std.proofs.Common.{rules, ◌≡◌, ◌≤◌, ◌^◌, ℕ, List, All, length, map, replicate, refl, sym, ap, ◌∙◌, subst}
 use Rattle.std.proofs.lemmas.List.{length-map}
 use Rattle.sja_link.specs.NewLinks.{AreNewLinks}
 use Rattle.sja_regs.specs.Registers.{at_power_on}
@@ -7,7 +7,16 @@ use Rattle.sja_wire.specs.Buses.{new_bus}
 use Rattle.sja_driver.specs.Accesses.{most_deeds}
 use Rattle.sja_serial.specs.Serial.{setup_with}
 use Rattle.sja_serial.proofs.AllNodes.Newly.{stands_by_new}
+use Rattle.sja_serial.proofs.WholeRun.Kept.{deeds_counted}
 use Rattle.sja_serial.proofs.serial_run.SerialRun.new.Goals as goal
+
+pub new-requires-2-clause-steps : goal.new-requires-2-clause-steps
+new-requires-2-clause-steps c =
+    let version = c.args.version in let asked = c.args.steps.items in
+    let deeds : c.in_ok-deeds.deeds.items ≡ map (most_deeds version) asked =
+    c.in_ok-deeds.ensures ∙ ap (map (most_deeds version)) c.as_slice.ensures.value in
+    subst (λ (l : List ℕ). All (λ (n : ℕ). n ≤ 2 ^ 58) l) (sym deeds)
+    (deeds_counted version asked c.requires.steps)
 
 pub returns-clause-stands : goal.returns-clause-stands
 returns-clause-stands c = let steps = c.as_slice.ensures.value in

@@ -13,8 +13,8 @@ returns-clause-turn g c = λ deeds h.
     let now = run_now b.bus b.drivers.items b.board.ports.items b.links.items b.bits in
     let s : StandsAt setup now deeds = subst (λ (x : SerialValue). StandsAt setup x deeds) (sym c.self.view_is)
     (stands_bits setup deeds (SomeWorks setup) c.args.self.now n c.run_busy_bits.result t h) in
-    rest_so setup deeds c.args.self.now n c.run_busy_bits.result c.bits_left-left.result c.at_rest.result h t
-    c.bits_left-left.ensures.left c.run_busy_bits.ensures.whole
+    rest_so setup deeds c.args.self.now n c.run_busy_bits.result c.args.most c.at_rest.result h t
+    c.run_busy_bits.ensures.most c.run_busy_bits.ensures.whole
     (λ yes. subst (λ (x : SerialValue). AllRestIn setup x) c.self.view_is
     (all_rest setup now deeds s (c.at_rest.ensures.rest s.right yes)))
     (λ no. subst (λ (x : SerialValue). SomeWorks setup x) c.self.view_is

@@ -1,7 +1,4 @@
 use Rattle.sja_serial.proofs.serial_run.SerialRun.rest_turn.Given as goal
 
-abbrev pub ghost-bits_left : goal.ghost-bits_left
-ghost-bits_left g a = g.setup
-
 abbrev pub ghost-run_busy_bits : goal.ghost-run_busy_bits
 ghost-run_busy_bits g a = g.setup

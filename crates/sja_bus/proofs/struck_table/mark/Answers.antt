@@ -1,7 +1,7 @@
 use Rattle.std.proofs.Common.{◌≡◌, ◌+◌, ◌*◌, ◌<◌, ℕ, length, rules, arith, refl, subst}
 use Rattle.sja_bus.specs.Inside.StrikesByBit.{IsMarked}
 use Rattle.sja_bus.proofs.WholeBus.Marking.{front, marked_more, marked_all}
-use Rattle.sja_bus.proofs.struck_bits.mark.Goals as goal
+use Rattle.sja_bus.proofs.struck_table.mark.Goals as goal
 
 pub loop-time-preserved : goal.loop-time-preserved
 loop-time-preserved c =

@@ -1,0 +1,87 @@
+//! Whom the strikes of a list hit in a bit, and when the next of them comes.
+
+ghost use Rattle.std.specs.Prelude.{◌≡◌, ◌+◌, ◌^◌, ◌<◌, ◌≤◌, ◌⊎◌, ◌↔◌, ℕ, IsTrue, IfSome, IfNone};
+ghost use Rattle.sja_script.specs.Striking.{Hits, IsRepeated, Strikes};
+ghost use Rattle.sja_bus.specs.Inside.StrikesByBit.{IsAmong, IsUnhit, IsUnstruck};
+
+use super::struck_nodes::StruckNodes;
+use sja_script::{MOST_NODES, Strike};
+
+/// The nodes that some of these strikes hit in this bit are struck too.
+pub(crate) fn struck_by(strikes: &[Strike], bit: u64, nodes: &mut StruckNodes)
+    ensures { (node : ℕ) → node < 8 →
+        IsAmong node nodes.new ↔ (IsAmong node nodes.old ⊎ Strikes strikes.now bit node) }
+{
+    for strike in strikes {
+        strike_in(strike, bit, nodes);
+    }
+}
+
+/// The node that the strike hits in this bit, if any, is struck too.
+fn strike_in(strike: &Strike, bit: u64, nodes: &mut StruckNodes)
+    ensures { (node : ℕ) → node < 8 →
+        IsAmong node nodes.new ↔ (IsAmong node nodes.old ⊎ Hits strike.now bit node) }
+{
+    if strike.node >= MOST_NODES {
+        return;
+    }
+    if let Some(next) = next_time(strike, bit) {
+        if next == bit {
+            nodes.add(usize::from(strike.node));
+        }
+    }
+}
+
+/// The first bit from this one on that one of these strikes hits, or `end`, where that is earlier.
+pub(crate) fn next_strike(strikes: &[Strike], from: u64, end: u64) -> u64
+    requires { from ≤ end }
+    ensures on { from ≤ result }
+    ensures within { result ≤ end }
+    ensures quiet { IsUnstruck strikes.now from result }
+    ensures stop { (result ≡ end) ⊎ ((node : ℕ) × (node < 8) × Strikes strikes.now result node) }
+{
+    let mut next = end;
+    for strike in strikes {
+        next = sooner(strike, from, next);
+    }
+    next
+}
+
+/// The first bit from this one on in which the strike hits one of eight nodes, or `end`, where that is earlier.
+fn sooner(strike: &Strike, from: u64, end: u64) -> u64
+    requires { from ≤ end }
+    ensures on { from ≤ result }
+    ensures within { result ≤ end }
+    ensures quiet { IsUnhit strike.now from result }
+    ensures stop { (result ≡ end) ⊎ ((strike.now.node < 8) × Hits strike.now result strike.now.node) }
+{
+    if strike.node >= MOST_NODES {
+        return end;
+    }
+    match next_time(strike, from) {
+        Some(bit) => bit.min(end),
+        None => end,
+    }
+}
+
+/// The first bit from this one on that the strike hits.
+fn next_time(strike: &Strike, from: u64) -> Option<u64>
+    ensures some { IfSome result (λ bit. (from ≤ bit) × Hits strike.now bit strike.now.node
+        × IsUnhit strike.now from bit) }
+    ensures none { IfNone result ((bit node : ℕ) → from ≤ bit → Hits strike.now bit node → ⊥) }
+{
+    let first = u64::from(strike.bit);
+    if from <= first {
+        return if strike.times > 0 { Some(first) } else { None };
+    }
+    let every = u64::from(strike.every);
+    if every == 0 {
+        return None;
+    }
+    let passed = (from - first - 1) / every + 1;
+    if passed < u64::from(strike.times) {
+        Some(first + passed * every)
+    } else {
+        None
+    }
+}

@@ -1,0 +1,85 @@
+-- The run of a plan keeps all that happens in it.
+use Rattle.std.proofs.Common.{◌≡◌, ◌≤◌, ◌+◌, ◌*◌, ℕ, Bool, true, false, List, length, map, ap, ◌∙◌, arith}
+use Rattle.std.specs.Prelude.{◌/◌, ◌<◌, ◌^◌, [], All, if◌then◌else◌, slice_index_or}
+use Rattle.std.proofs.lemmas.List.{get_or-map, get_or_default, length-map}
+use Rattle.sja_regs.specs.Registers.{at_power_on}
+use Rattle.sja_driver.specs.declared.logged_driver.LoggedDriver.{LoggedDriver}
+use Rattle.sja_driver.specs.Accesses.{Access, by_bytes, most_deeds}
+use Rattle.sja_driver.specs.LoggedDrivers.{log_of}
+use Rattle.sja_driver.specs.Logs.{KeepsLog}
+use Rattle.sja_plan.specs.Plan.{PlanValue, IsInLimits, step_counts}
+use Rattle.sja_plan.proofs.PlanLimits.ByVersion.{bits_most, steps_most}
+use Rattle.sja_script.specs.declared.step.Step.{Step}
+use Rattle.sja_serial.specs.Ending.{setup_of}
+use Rattle.sja_driver.specs.Deeds.{Deed}
+use Rattle.sja_serial.specs.Keeping.{IsKept}
+use Rattle.sja_serial.specs.Serial.{Setup, SerialValue, StandsAt, StandsBy, most_steps}
+use Rattle.sja_wire.specs.Keeping.{KeepsRecord}
+
+-- so many steps are three times as many deeds at most
+pub few_deeds : (version steps most : ℕ) → steps ≤ most → most_deeds version steps ≤ 3 * most
+few_deeds version steps most few = by (by_bytes version)
+  where
+    by : (b : Bool) → (if b then 3 * steps else steps) ≤ 3 * most
+    by true = omega (arith, few)
+    by false = omega (arith, few)
+
+-- so many steps are as many deeds as a bus can be made for
+pub deeds_counted : (version : ℕ) (steps : List ℕ) → All (λ (n : ℕ). n ≤ 2 ^ 56) steps →
+    All (λ (n : ℕ). n ≤ 2 ^ 58) (map (most_deeds version) steps)
+deeds_counted version steps few k d less =
+    let many = length-map steps (most_deeds version) in let there : k < length steps = omega (arith, many, less) in
+    let is = get_or-map (most_deeds version) steps k 0 d there in
+    let own = few_deeds version (slice_index_or steps k 0) (2 ^ 56) (few k 0 there) in omega (arith, is, own)
+
+-- and a plan has no more
+pub counts_few : (plan : PlanValue) → IsInLimits plan → All (λ (n : ℕ). n ≤ 2 ^ 56) (step_counts plan)
+counts_few plan limits k d less =
+    let none : List Step = [] in let many = length-map plan.nodes (λ (l : List Step). length l) in
+    let there : k < length plan.nodes = omega (arith, many, less) in
+    let is = get_or-map (λ (l : List Step). length l) plan.nodes k none d there in
+    let few = limits.steps k none there in let all = steps_most plan.version in omega (arith, is, few, all)
+
+pub plan_kept : (plan : PlanValue) → IsInLimits plan → IsKept (setup_of plan)
+plan_kept plan limits = record {
+  bits = let few = limits.bits.1 in let most = bits_most plan.version in omega (arith, few, most);
+  steps = λ node less.
+      let none : List Step = [] in
+      let counts = length-map plan.nodes (λ (l : List Step). length l) in
+      let is = get_or-map (most_deeds plan.version) (step_counts plan) node 0 0 (omega (arith, less, counts)) in
+      let own = get_or-map (λ (l : List Step). length l) plan.nodes node none 0 less in
+      let few = limits.steps node none less in let all = steps_most plan.version in
+      let deeds = few_deeds plan.version (slice_index_or (step_counts plan) node 0) 65535 (omega (arith, own, few, all))
+      in omega (arith, is, deeds);
+}
+
+-- so its bus keeps its record
+pub keeps_record : (setup : Setup) (r : SerialValue) (deeds : List (List Deed)) → StandsAt setup r deeds →
+    IsKept setup → KeepsRecord (r.bus.run + r.bus.left) r.bus.steps (length r.bus.journals)
+keeps_record setup r deeds h kept node less =
+    let bits = h.all_bits in let steps = ap (λ (l : List ℕ). slice_index_or l node 0) h.steps in
+    let count = h.count.journals in let own = kept.steps node (omega (arith, less, count)) in let few = kept.bits in
+    omega (arith, bits, steps, own, few)
+
+-- and so does the log of each of its drivers
+few_steps : (version deeds : ℕ) → most_steps version deeds ≤ deeds
+few_steps version deeds = by (by_bytes version)
+  where
+    by : (b : Bool) → (if b then deeds / 3 else deeds) ≤ deeds
+    by true = omega arith
+    by false = omega arith
+
+pub keeps_logs : (setup : Setup) (r : SerialValue) (accesses : List (List Access)) → StandsBy setup r accesses →
+    IsKept setup → (k : ℕ) (d : LoggedDriver) → k < length r.drivers →
+    KeepsLog (log_of (slice_index_or r.drivers k d))
+keeps_logs setup r accesses h kept k d less =
+    let count = h.stands.count.drivers in let there : k < setup.nodes = omega (arith, count, less) in
+    let node = (h.stands.nodes k d (at_power_on 1) there).traced in
+    let made = (h.nodes k d (at_power_on 1) there).room in
+    let own = kept.steps k there in let few = few_steps setup.version (slice_index_or setup.steps k 0) in
+    let deeds = node.made_for in let activations = node.activations in
+    record {
+      done = omega (arith, made, few, own);
+      releases = omega (arith, deeds, own);
+      left = omega (arith, activations);
+    }
