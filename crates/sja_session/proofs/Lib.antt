@@ -3,4 +3,5 @@ pub mod StepsDone
 pub mod BitsDone
 pub mod WatchedBits
 pub mod InterruptLines
+pub mod StruckOnce
 pub mod Lifetime

@@ -1,3 +1,4 @@
 -- A session that begins, and one that ends.
 pub mod Blank
+pub mod GoingBy
 pub mod Finished

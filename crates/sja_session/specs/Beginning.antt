@@ -1,5 +1,5 @@
 -- How a session begins (this project's own rule).
-use Rattle.std.specs.Prelude.{◌≤◌, ◌<◌, ◌⊎◌, ℕ}
+use Rattle.std.specs.Prelude.{◌≤◌, ◌<◌, ◌⊎◌, ◌^◌, ℕ}
 use Rattle.sja_plan.specs.Limits.{most_bits, most_steps, most_turns}
 use Rattle.sja_session.specs.declared.session_fault.SessionFault.{SessionFault}
 use Rattle.sja_session.specs.declared.session_fault.SessionFault.TheVariants.{Version, Bits, NodeCount, Memory}
@@ -9,6 +9,14 @@ use Rattle.sja_session.specs.declared.session_room.SessionRoom.{SessionRoom}
 -- room for as much as a plan of this version has at most
 abbrev pub most_room : ℕ → SessionRoom
 most_room version = record { steps = most_steps version; turns = most_turns version }
+
+-- without an end a session is made for so many bits, and for so many steps of each node: more than can be run. It has
+-- no room for turns
+abbrev pub endless_bits : ℕ
+endless_bits = 2 ^ 62
+
+abbrev pub endless_room : SessionRoom
+endless_room = record { steps = 2 ^ 56; turns = 0 }
 
 -- these are within the limits of a session, which are those of a plan of its version
 abbrev pub IsVersion : ℕ → Type 0
@@ -50,3 +58,12 @@ LacksRoom version room Memory = IsRoom version room
 LacksRoom version room Version = ⊥
 LacksRoom version room Bits = ⊥
 LacksRoom version room NodeCount = ⊥
+
+-- why there is no session without an end: so many nodes aren't within the limits, or memory was refused
+abbrev pub IsEndlessFault : ℕ → SessionFault → Type 0
+IsEndlessFault nodes NodeCount = IsOutside 8 nodes
+IsEndlessFault nodes Memory = IsNodeCount nodes
+IsEndlessFault nodes Version = ⊥
+IsEndlessFault nodes Bits = ⊥
+IsEndlessFault nodes StepRoom = ⊥
+IsEndlessFault nodes TurnRoom = ⊥

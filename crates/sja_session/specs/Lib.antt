@@ -5,6 +5,7 @@ pub mod Writing
 pub mod Sessions
 -- ---- what its calls do
 pub mod Beginning
+pub mod Ending
 pub mod Answering
 pub mod Stepping
 pub mod Running

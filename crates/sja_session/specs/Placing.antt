@@ -7,7 +7,7 @@ use Rattle.sja_serial.specs.Serial.{all_deeds}
 use Rattle.sja_session.specs.declared.place_refusal.PlaceRefusal.{PlaceRefusal}
 use Rattle.sja_session.specs.declared.place_refusal.PlaceRefusal.TheVariants.{NoNode, TurnsUsed}
 use Rattle.sja_session.specs.Running.{MayRun, LacksBusTurn}
-use Rattle.sja_session.specs.Sessions.{SessionValue, IsAt, setup_by, written}
+use Rattle.sja_session.specs.Sessions.{SessionValue, HasEnd, IsAt, setup_by, written}
 use Rattle.sja_session.specs.Writing.{with_bits_run}
 
 -- the node is there, and so many bits may be run
@@ -26,4 +26,5 @@ pub record RunsTo (was now : SessionValue) (node : ℕ) (place : Place) (limit r
   pub takes : TakesTo (setup_by was) (all_deeds accesses) node place limit run there was.run now.run
   pub at : IsAt now accesses
   pub room : now.room ≡ was.room
-  pub wrote : written now ≡ with_bits_run (written was) run
+  pub wrote : HasEnd was → written now ≡ with_bits_run (written was) run
+  pub plan : now.plan ≡ was.plan

@@ -4,7 +4,7 @@ use Rattle.sja_plan.specs.declared.turn.Turn.TheVariants.{Bus}
 use Rattle.sja_driver.specs.Accesses.{Access}
 use Rattle.sja_serial.specs.Bits.{TakesBits}
 use Rattle.sja_serial.specs.Serial.{all_deeds}
-use Rattle.sja_session.specs.Sessions.{SessionValue, IsAt, setup_by, written}
+use Rattle.sja_session.specs.Sessions.{SessionValue, HasEnd, IsAt, setup_by, written}
 use Rattle.sja_session.specs.Stepping.{HasTurn, LacksTurn}
 use Rattle.sja_session.specs.Writing.{with_bits_run}
 
@@ -37,4 +37,5 @@ pub record RunsBits (was now : SessionValue) (count run : ℕ) (accesses : List 
   pub whole : (run ≡ count) ⊎ (now.run.bits ≡ was.plan.bits)
   pub at : IsAt now accesses
   pub room : now.room ≡ was.room
-  pub wrote : written now ≡ with_bits_run (written was) run
+  pub wrote : HasEnd was → written now ≡ with_bits_run (written was) run
+  pub plan : now.plan ≡ was.plan

@@ -1,12 +1,13 @@
 -- A session: a run in one thread that its holder drives (this project's own rule).
-use Rattle.std.specs.Prelude.{◌≡◌, ◌+◌, ◌<◌, ◌≤◌, ℕ, List, [], ◌∷◌, length, map, replicate, reverse}
-use Rattle.std.specs.Prelude.{slice_index_or}
+use Rattle.std.specs.Prelude.{◌≡◌, ◌+◌, ◌<◌, ◌≤◌, ◌++◌, ℕ, List, [], ◌∷◌, length, map, replicate, reverse}
+use Rattle.std.specs.Prelude.{◌^◌, slice_index_or}
 use Rattle.sja_plan.specs.declared.turn.Turn.{Turn}
 use Rattle.sja_plan.specs.declared.turn.Turn.TheVariants.{Bus, Node}
 use Rattle.sja_plan.specs.Growing.{plan_of}
-use Rattle.sja_plan.specs.Limits.{most_steps, most_turns}
+use Rattle.sja_plan.specs.Limits.{most_bits, most_steps, most_turns}
 use Rattle.sja_plan.specs.Plan.{PlanValue, NamesNode}
 use Rattle.sja_script.specs.declared.step.Step.{Step}
+use Rattle.sja_script.specs.declared.strike.Strike.{Strike}
 use Rattle.sja_driver.specs.Accesses.{Access, accesses_at, most_deeds}
 use Rattle.sja_log.specs.Turns.{Progress, with_bits, with_steps, steps_done}
 use Rattle.sja_serial.specs.Ending.{progress}
@@ -26,6 +27,18 @@ pub record SessionValue : Type 0 where
 abbrev pub session_of : SessionRoom → SerialValue → PlanValue → List (List Step) → List Turn → SessionValue
 session_of room run plan steps turns =
     record { run = run; plan = plan; steps = steps; room = room; turns = turns }
+
+-- a plan of so many bits, and with these strikes after its own
+abbrev pub plan_with : PlanValue → ℕ → List Strike → PlanValue
+plan_with p bits struck = record p { bits = bits; strikes = p.strikes ++ struck }
+
+-- a session with an end has no more bits than a plan of its version may have: it writes a plan, of which each turn is
+-- a turn. One without an end has more, and takes no turns down
+abbrev pub HasEnd : SessionValue → Type 0
+HasEnd s = s.plan.bits ≤ most_bits s.plan.version
+
+abbrev pub IsEndless : SessionValue → Type 0
+IsEndless s = most_bits s.plan.version < s.plan.bits
 
 -- the plan that the session wrote: the steps that were done, and the turns that were taken
 abbrev pub written : SessionValue → PlanValue
@@ -65,28 +78,30 @@ pub data Took (accesses : List (List Access)) (first : Progress) : List Turn →
 abbrev pub start_of : ℕ → Progress
 start_of nodes = record { bits = 0; done = replicate nodes 0 }
 
--- the session stands where its drivers did these steps: its run does, they were written, and its turns led there
+-- the session stands where its drivers did these steps: its run does, they were written, and where it has an end its
+-- turns led there
 pub record IsAt (s : SessionValue) (accesses : List (List Access)) : Type 0 where
   pub stands : StandsBy (setup_by s) s.run accesses
   pub steps : steps_in accesses ≡ s.steps
   pub count : length s.steps ≡ length s.plan.nodes
-  pub took : Took accesses (start_of (length s.plan.nodes)) (reverse s.turns) (progress s.run accesses)
+  pub took : HasEnd s → Took accesses (start_of (length s.plan.nodes)) (reverse s.turns) (progress s.run accesses)
 
 -- each of these turns is of a node that is there
 abbrev pub AreNamed : ℕ → List Turn → Type 0
 AreNamed nodes [] = Unit {0}
 AreNamed nodes (t ∷ turns) = NamesNode nodes t × AreNamed nodes turns
 
--- what holds of every session: it stands at some steps, no more of each node than there is room for; its steps and
--- turns are within the limits of a plan of its version, and there is room for one turn more, each of a node that is
--- there
+-- what holds of every session: it stands at some steps, no more of each node than there is room for; each turn is of a
+-- node that is there. Where it has an end its steps and turns are within the limits of a plan of its version, and there
+-- is room for one turn more; else its room is one that can be counted
 pub record IsSession (s : SessionValue) (sizes : List ℕ) (capacity : ℕ) : Type 0 where
   pub accesses : List (List Access)
   pub at : IsAt s accesses
-  pub places : (node : ℕ) → node < length s.plan.nodes → s.room.steps ≤ slice_index_or sizes node 0
+  pub places : (node : ℕ) → node < length s.plan.nodes → slice_index_or sizes node 0 ≡ s.room.steps
   pub done : (node : ℕ) → node < length s.plan.nodes → length (slice_index_or s.steps node []) ≤ s.room.steps
-  pub steps : s.room.steps ≤ most_steps s.plan.version
-  pub most : s.room.turns ≤ most_turns s.plan.version
+  pub counted : s.room.steps ≤ 2 ^ 56
+  pub steps : HasEnd s → s.room.steps ≤ most_steps s.plan.version
+  pub most : HasEnd s → s.room.turns ≤ most_turns s.plan.version
   pub room : s.room.turns + 1 ≤ capacity
   pub few : length s.turns ≤ s.room.turns
   pub names : AreNamed (length s.plan.nodes) (reverse s.turns)

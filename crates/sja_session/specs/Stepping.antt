@@ -17,19 +17,19 @@ use Rattle.sja_log.specs.Waiting.{HasToWait}
 use Rattle.sja_serial.specs.Stepping.{with_accesses}
 use Rattle.sja_session.specs.declared.step_fault.StepFault.{StepFault}
 use Rattle.sja_session.specs.declared.step_fault.StepFault.TheVariants.{NoNode, StepsUsed, TurnsUsed}
-use Rattle.sja_session.specs.Sessions.{SessionValue, IsAt, written}
+use Rattle.sja_session.specs.Sessions.{SessionValue, HasEnd, IsAt, IsEndless, written}
 use Rattle.sja_session.specs.Turning.{goes_on_latest}
 use Rattle.sja_session.specs.Writing.{with_step_done}
 
 -- ---- whether it may be tried
 
--- a turn is left, or this one goes on with the last one
+-- a turn is left, or this one goes on with the last one; without an end none is needed
 abbrev pub HasTurn : SessionValue → Turn → Type 0
-HasTurn s t = (length s.turns < s.room.turns) ⊎ (goes_on_latest (reverse s.turns) t ≡ true)
+HasTurn s t = IsEndless s ⊎ (length s.turns < s.room.turns) ⊎ (goes_on_latest (reverse s.turns) t ≡ true)
 
--- else: no turn is left for it
+-- else: it has an end, and no turn is left for it
 abbrev pub LacksTurn : SessionValue → Turn → Type 0
-LacksTurn s t = (s.room.turns ≤ length s.turns) × (goes_on_latest (reverse s.turns) t ≡ false)
+LacksTurn s t = HasEnd s × (s.room.turns ≤ length s.turns) × (goes_on_latest (reverse s.turns) t ≡ false)
 
 -- how many steps of a node are done
 abbrev pub steps_done_of : SessionValue → ℕ → ℕ
@@ -73,7 +73,8 @@ pub record DoesStep (was now : SessionValue) (node : ℕ) (step : Step) (answer 
   pub at : IsAt now (with_accesses accesses node (access ∷ []))
   pub bits : now.run.bits ≡ was.run.bits
   pub room : now.room ≡ was.room
-  pub wrote : written now ≡ with_step_done (written was) node step
+  pub wrote : HasEnd was → written now ≡ with_step_done (written was) node step
+  pub plan : now.plan ≡ was.plan
 
 -- the step has to wait, and nothing happened that the bus, a port or the plan shows: no step was done, no bit was run,
 -- no port, no journal and no kept byte changed, and the plan is the same. The driver may have taken in what its link
@@ -90,3 +91,4 @@ pub record Waits (was now : SessionValue) (node : ℕ) (step : Step) (accesses :
       kept_of (slice_index_or now.run.drivers m d) ≡ kept_of (slice_index_or was.run.drivers m d)
   pub room : now.room ≡ was.room
   pub wrote : written now ≡ written was
+  pub plan : now.plan ≡ was.plan

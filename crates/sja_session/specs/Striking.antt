@@ -7,17 +7,17 @@ use Rattle.sja_driver.specs.Accesses.{Access}
 use Rattle.sja_serial.specs.Striking.{struck_run}
 use Rattle.sja_session.specs.declared.strike_fault.StrikeFault.{StrikeFault}
 use Rattle.sja_session.specs.declared.strike_fault.StrikeFault.TheVariants.{NoNode, NoBit, Past, StrikesUsed, Memory}
-use Rattle.sja_session.specs.Sessions.{SessionValue, IsAt, written}
+use Rattle.sja_session.specs.Sessions.{SessionValue, HasEnd, IsAt, written}
 
 -- ---- whether it may be taken
 
--- the node is there, the bit is one of the session's and hasn't run, and the strikes so far strike fewer bits than
--- they may in its version, each counted as often as it is struck
+-- the node is there, the bit is one of the session's and hasn't run, and where it has an end the strikes so far strike
+-- fewer bits than they may in its version, each counted as often as it is struck
 pub record MayStrike (s : SessionValue) (node bit : ℕ) : Type 0 where
   pub there : node < length s.plan.nodes
   pub within : bit < s.plan.bits
   pub ahead : s.run.bits ≤ bit
-  pub left : times_in s.plan.strikes < most_strikes s.plan.version
+  pub left : HasEnd s → times_in s.plan.strikes < most_strikes s.plan.version
 
 -- why it is not taken: the first of the four that doesn't hold, or else that memory was refused
 abbrev pub IsStrikeFault : SessionValue → ℕ → ℕ → StrikeFault → Type 0
@@ -26,7 +26,7 @@ IsStrikeFault s node bit NoBit = (node < length s.plan.nodes) × (s.plan.bits �
 IsStrikeFault s node bit Past = (node < length s.plan.nodes) × (bit < s.plan.bits) × (bit < s.run.bits)
 IsStrikeFault s node bit StrikesUsed =
     (node < length s.plan.nodes) × (bit < s.plan.bits) × (s.run.bits ≤ bit)
-    × (most_strikes s.plan.version ≤ times_in s.plan.strikes)
+    × HasEnd s × (most_strikes s.plan.version ≤ times_in s.plan.strikes)
 IsStrikeFault s node bit Memory = MayStrike s node bit
 
 -- ---- what comes of it

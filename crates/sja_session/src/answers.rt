@@ -38,7 +38,7 @@ pub(crate) fn last_answer(run: &SerialRun, node: usize) -> Option<StepAnswer>
     ensures { (d : LoggedDriver) →
         result ≡ last_of (λ (x : Done). x.answer) (done_in (log_of (slice_index_or run.now.drivers node d))) }
 {
-    match run.driver(node).log().done().last() {
+    match run.driver(node).log().last_done() {
         Some(last) => Some(last.answer.copy()),
         None => None,
     }

@@ -34,10 +34,10 @@ pub(crate) fn check(
     if nodes < 1 || nodes > MOST_NODES {
         return Err(SessionFault::NodeCount);
     }
-    if room.steps as usize > most_steps(version) {
+    if room.steps > most_steps(version) as u64 {
         return Err(SessionFault::StepRoom);
     }
-    if room.turns as usize > most_turns(version) {
+    if room.turns > most_turns(version) as u64 {
         return Err(SessionFault::TurnRoom);
     }
     Ok(())
@@ -50,10 +50,10 @@ pub(crate) fn check_room(version: u8, room: SessionRoom) -> Result<(), SessionFa
     ensures ok { OnOk result (IsRoom version room) }
     ensures err { IfErr result (LacksRoom version room) }
 {
-    if room.steps as usize > most_steps(version) {
+    if room.steps > most_steps(version) as u64 {
         return Err(SessionFault::StepRoom);
     }
-    if room.turns as usize > most_turns(version) {
+    if room.turns > most_turns(version) as u64 {
         return Err(SessionFault::TurnRoom);
     }
     Ok(())

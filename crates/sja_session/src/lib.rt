@@ -7,20 +7,23 @@
 //! [`Session::place`] tells where a node is. [`Session::answer`] is the last answer of a node, [`Session::now`] says
 //! how many bits were run. What was done is written down: [`Session::plan`] is the plan so far, and
 //! [`Session::finish`] gives that plan with the log of the session, which is the log of a run in one thread of just
-//! that plan, with all that is promised of it.
-//! `docs/use/LIBRARY.md` shows a first program.
+//! that plan, with all that is promised of it. [`Session::endless`] is a session without an end, whose memory stays: it
+//! forgets what is oldest, and has neither plan nor log. [`Session::accounts`] says what holds of the messages of every
+//! session at every moment. `docs/use/LIBRARY.md` shows a first program.
 //!
 //! A call that can't be done is refused with its reason ([`SessionFault`], [`StepFault`], [`StrikeFault`],
-//! [`TurnsUsed`]), and changes nothing. All memory that steps and bits need is reserved by [`Session::new`] and
-//! [`Session::with_room`]; beside these `strike`, `plan` and `finish` alone take memory.
+//! [`TurnsUsed`]), and changes nothing. All memory that steps and bits need is reserved by [`Session::new`],
+//! [`Session::with_room`] and [`Session::endless`]; beside these `strike`, `plan` and `finish` alone take memory.
 #![tactic(auto)]
 
+mod accounts;
 mod answers;
 mod beginning;
 mod by_address;
 mod finish;
 mod interrupt_line;
 mod lists;
+mod no_plan;
 mod place_outcome;
 mod place_refusal;
 mod placing;
@@ -43,10 +46,10 @@ mod watch_outcome;
 mod watching;
 
 pub use beginning::LAST_VERSION;
-pub use lists::push_step;
+pub use no_plan::NoPlan;
 pub use place_outcome::PlaceOutcome;
 pub use place_refusal::PlaceRefusal;
-pub use plan_so_far::{copied_steps, copied_strikes, copied_turns};
+pub use plan_so_far::{copied_strikes, copied_turns};
 pub use rest_outcome::RestOutcome;
 pub use session::Session;
 pub use session_fault::SessionFault;

@@ -1,39 +1,40 @@
 //! Lists with room, one for each node.
 
-ghost use Rattle.std.specs.Prelude.{◌≡◌, ◌≤◌, ◌<◌, [], All, length, map, replicate, slice_index_or, vec_capacity, IfOk};
+ghost use Rattle.std.specs.Prelude.{◌≡◌, ◌<◌, [], length, map, replicate, slice_index_or, IfOk};
 ghost use Rattle.sja_session.specs.Writing.{with_more};
 
+use can_frame::OutOfMemory;
+use sja_link::Recent;
 use sja_script::Step;
-use std::alloc::{AllocError, Global};
+use std::alloc::Global;
 
 /// Of so many nodes, each an empty list with room for so many.
 ///
-/// Error: `AllocError` where memory was refused.
+/// Error: [`OutOfMemory`] where memory was refused.
 pub(crate) fn empty_lists(
     alloc: Global,
     nodes: usize,
-    room: u32,
-) -> Result<Vec<Vec<Step>>, AllocError>
+    room: u64,
+) -> Result<Vec<Recent<Step>>, OutOfMemory>
     ensures lists { IfOk result (λ lists. map (λ list. list.items) lists.items ≡ replicate nodes []) }
-    ensures room { IfOk result (λ lists. All (λ list. room ≤ vec_capacity list) lists.items) }
+    ensures room { IfOk result (λ lists. map (λ list. list.room) lists.items ≡ replicate nodes room) }
 {
     let mut lists = Vec::with_capacity(alloc, nodes)?;
     for _ in 0..nodes {
-        lists.push_reserved(Vec::with_capacity(alloc, room as usize)?);
+        lists.push_reserved(Recent::new(alloc, room as usize)?);
     }
     Ok(lists)
 }
 
 /// One step more in the list of a node, for which there is room.
 #[inline(always)]
-pub fn push_step(lists: &mut Vec<Vec<Step>>, node: usize, step: Step)
+pub(crate) fn push_step(lists: &mut Vec<Recent<Step>>, node: usize, step: Step)
     requires there { node < length lists.old.items }
     requires room { length (slice_index_or (map (λ steps. steps.items) lists.old.items) node [])
-        < slice_index_or (map (λ steps. vec_capacity steps) lists.old.items) node 0 }
+        < slice_index_or (map (λ steps. steps.room) lists.old.items) node 0 }
     ensures lists { map (λ steps. steps.items) lists.new.items
         ≡ with_more (map (λ steps. steps.items) lists.old.items) node step }
-    ensures room { map (λ steps. vec_capacity steps) lists.new.items
-        ≡ map (λ steps. vec_capacity steps) lists.old.items }
+    ensures room { map (λ steps. steps.room) lists.new.items ≡ map (λ steps. steps.room) lists.old.items }
 {
-    lists[node].push_reserved(step);
+    lists[node].push(step);
 }

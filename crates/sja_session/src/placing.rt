@@ -3,7 +3,7 @@
 use super::place_outcome::PlaceOutcome;
 use super::place_refusal::PlaceRefusal;
 use super::session::Session;
-use super::turns::push_bits;
+use super::turns::note_bits;
 use sja_plan::Place;
 
 impl Session {
@@ -28,7 +28,7 @@ impl Session {
     }
 
     /// Runs bits up to the one before which the next bit of a node, counted from 0, is at this place, so many at most,
-    /// and as many as the plan has left; none where it is there already. A strike of the node in the next bit strikes
+    /// and as many as are left; none where it is there already. A strike of the node in the next bit strikes
     /// it there then. It says how many were run, and whether the node came there.
     ///
     /// Errors, the first that holds, and nothing changed: [`PlaceRefusal::NoNode`] where there is no such node;
@@ -51,8 +51,9 @@ impl Session {
         if self.lacks_bus_turn(limit) {
             return Err(PlaceRefusal::TurnsUsed);
         }
+        let noted = !self.is_endless();
         let (bits, there) = self.run.place_turn(node, place, limit);
-        push_bits(&mut self.turns, bits);
+        note_bits(&mut self.turns, noted, bits);
         Ok(PlaceOutcome { bits, there })
     }
 }

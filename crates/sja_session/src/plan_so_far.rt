@@ -1,23 +1,32 @@
 //! The plan that a session wrote, as far as it has come.
 
-ghost use Rattle.std.specs.Prelude.{◌≡◌, map, IfOk};
+ghost use Rattle.std.specs.Prelude.{◌≡◌, All, map, IfOk};
+ghost use Rattle.sja_link.specs.Recents.{KeepsAll};
 
+use super::no_plan::NoPlan;
 use super::session::Session;
 use can_frame::OutOfMemory;
+use sja_link::Recent;
 use sja_plan::{Plan, Turn};
 use sja_script::{Step, Strike};
 use std::alloc::Global;
 
 impl Session {
-    ghost use Rattle.std.specs.Prelude.{◌≡◌, IfOk};
-    ghost use Rattle.sja_session.specs.Sessions.{written};
+    ghost use Rattle.std.specs.Prelude.{◌≡◌, IfOk, IfErr, OnOk};
+    ghost use Rattle.sja_session.specs.Ending.{IsNoPlan};
+    ghost use Rattle.sja_session.specs.Sessions.{HasEnd, written};
 
     /// The plan so far: the steps that were done, the turns that were taken, and the strikes.
     ///
-    /// Error: [`OutOfMemory`] where memory was refused.
-    pub fn plan(&self, alloc: Global) -> Result<Plan, OutOfMemory>
-        ensures { IfOk result (λ p. p ≡ written self.now) }
+    /// Errors: [`NoPlan::Endless`] where the session is without an end; [`NoPlan::Memory`] where memory was refused.
+    pub fn plan(&self, alloc: Global) -> Result<Plan, NoPlan>
+        ensures plan { IfOk result (λ p. p ≡ written self.now) }
+        ensures end { OnOk result (HasEnd self.now) }
+        ensures err { IfErr result (IsNoPlan self.now) }
     {
+        if self.is_endless() {
+            return Err(NoPlan::Endless);
+        }
         self.plan.limits();
         let nodes = copied_steps(alloc, self.steps.as_slice())?;
         let turns = copied_turns(alloc, self.turns.as_slice())?;
@@ -30,7 +39,8 @@ impl Session {
 /// The same steps of each node.
 ///
 /// Error: [`OutOfMemory`] where memory was refused.
-pub fn copied_steps(alloc: Global, nodes: &[Vec<Step>]) -> Result<Vec<Vec<Step>>, OutOfMemory>
+fn copied_steps(alloc: Global, nodes: &[Recent<Step>]) -> Result<Vec<Vec<Step>>, OutOfMemory>
+    requires { All (λ steps. KeepsAll steps.room) nodes.now }
     ensures { IfOk result (λ copy. map (λ steps. steps.items) copy.items
         ≡ map (λ steps. steps.items) nodes.now) }
 {

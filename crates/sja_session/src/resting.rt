@@ -2,8 +2,9 @@
 
 use super::rest_outcome::RestOutcome;
 use super::session::Session;
-use super::turns::push_bits;
+use super::turns::note_bits;
 use super::turns_used::TurnsUsed;
+use sja_plan::MOST_RAW_BITS;
 
 impl Session {
     ghost use Rattle.std.specs.Prelude.{◌≡◌, List, IfOk, OnOk, OnErr};
@@ -12,8 +13,9 @@ impl Session {
     ghost use Rattle.sja_session.specs.Running.{MayRun, LacksBusTurn};
     ghost use Rattle.sja_session.specs.Sessions.{IsAt};
 
-    /// Runs bits until every controller is at rest: in reset, or idle with no request. Or as many as the plan has left.
-    /// It says how many, and whether they came to rest. The plan has them as a turn of so many bits.
+    /// Runs bits until every controller is at rest: in reset, or idle with no request. Or as many as are left, of which
+    /// a session without an end runs 2,000,000 at most. It says how many, and whether they came to rest. The plan has
+    /// them as a turn of so many bits.
     ///
     /// Error: [`TurnsUsed`] where as many turns were taken as there is room for, the last one isn't of the bus, and a
     /// bit is left. Nothing changed.
@@ -27,10 +29,10 @@ impl Session {
         if self.lacks_bus_turn(1) {
             return Err(TurnsUsed);
         }
-        let before = self.run.bits();
-        let at_rest = self.run.rest_turn();
-        let bits = self.run.bits() - before;
-        push_bits(&mut self.turns, bits);
+        let (before, noted) = (self.run.bits(), !self.is_endless());
+        let at_rest = self.run.rest_turn(MOST_RAW_BITS);
+        let bits = (self.run.bits() - before) as u32;
+        note_bits(&mut self.turns, noted, bits);
         Ok(RestOutcome { bits, at_rest })
     }
 }

@@ -1,7 +1,7 @@
 //! The bits of a session.
 
 use super::session::Session;
-use super::turns::push_bits;
+use super::turns::note_bits;
 use super::turns_used::TurnsUsed;
 use sja_plan::Turn;
 
@@ -11,7 +11,7 @@ impl Session {
     ghost use Rattle.sja_session.specs.Running.{RunsBits, MayRun, LacksBusTurn};
     ghost use Rattle.sja_session.specs.Sessions.{IsAt};
 
-    /// Runs so many bits, or as many as the plan has left, and says how many were run.
+    /// Runs so many bits, or as many as are left, and says how many were run.
     ///
     /// Error: [`TurnsUsed`] where as many turns were taken as there is room for, the last one isn't of the bus, and a
     /// bit is to be run: some are asked for, and some are left. Nothing changed.
@@ -25,10 +25,10 @@ impl Session {
         if self.lacks_bus_turn(count) {
             return Err(TurnsUsed);
         }
-        let before = self.run.bits();
+        let (before, noted) = (self.run.bits(), !self.is_endless());
         self.run.bus_turn(count);
-        let run = self.run.bits() - before;
-        push_bits(&mut self.turns, run);
+        let run = (self.run.bits() - before) as u32;
+        note_bits(&mut self.turns, noted, run);
         Ok(run)
     }
 }
@@ -42,7 +42,7 @@ impl Session {
         ensures yes { result ≡ true → LacksBusTurn self.now count }
         ensures no { result ≡ false → MayRun self.now count }
     {
-        let due = count >= 1 && self.run.bits() < self.plan.bits();
+        let due = count >= 1 && self.run.bits() < self.bits;
         due && !self.has_turn(Turn::Bus(count))
     }
 }

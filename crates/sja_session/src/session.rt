@@ -1,55 +1,73 @@
 //! [`Session`]: a run in one thread, driven call by call.
 
+ghost use Rattle.std.specs.Prelude.{◌≡◌};
+ghost use Rattle.sja_session.specs.Inside.Written.{beside_for};
+
 use super::beginning::check;
 use super::lists::empty_lists;
 use super::plan_so_far::copied_strikes;
 use super::session_fault::SessionFault;
 use super::session_room::SessionRoom;
 use can_frame::OutOfMemory;
-use sja_plan::{Plan, Turn};
-use sja_script::{FaultScript, Step, Strike};
+use sja_link::Recent;
+use sja_plan::{Plan, RAW_VERSION, Turn, most_bits};
+use sja_script::{FaultScript, MOST_NODES, Step, Strike};
 use sja_serial::SerialRun;
 use std::alloc::Global;
 use std::marker::Model;
+
+/// How many bits a session without an end is made for: at 1 Mbit/s they take 146,000 years.
+const ENDLESS_BITS: u64 = 1 << 62;
 
 /// A run in one thread that its holder drives (this project's own rule).
 ///
 /// Contracts see it as its run, the plan that it goes by, without steps and turns, the steps of each node that were
 /// done, for how many of them and how many turns there is room, and the turns that were taken; and say at which steps
 /// of the drivers it stands. By its invariant it always stands at some, so no call asks anything of its caller.
+///
+/// A session without an end ([`endless`](Session::endless)) goes by a plan of more bits than can be run. It forgets
+/// what is oldest, so that its memory stays, and has neither plan nor log.
 #[derive(Drop)]
 pub struct Session {
     pub(crate) run: SerialRun,
+    /// Version, nodes, and where it has an end bits and strikes.
     pub(crate) plan: Plan,
-    pub(crate) steps: Vec<Vec<Step>>,
+    pub(crate) bits: u64,
+    /// The strikes of a session without an end.
+    pub(crate) struck: Recent<Strike>,
+    pub(crate) steps: Vec<Recent<Step>>,
     pub(crate) room: SessionRoom,
     pub(crate) turns: Vec<Turn>,
 }
 
 impl Model for Session {
     ghost use Rattle.std.specs.Prelude.{map, vec_capacity};
-    ghost use Rattle.sja_session.specs.Sessions.{SessionValue, IsSession, session_of};
+    ghost use Rattle.sja_session.specs.Sessions.{SessionValue, IsSession, plan_with, session_of};
+    ghost use Rattle.sja_session.specs.Inside.Written.{GoesBy};
 
     ghost Value = { SessionValue };
 
-    ghost view = { λ s. session_of s.room s.run s.plan (map (λ steps. steps.items) s.steps.items) s.turns.items };
+    ghost view = { λ s. session_of s.room s.run (plan_with s.plan s.bits s.struck.items)
+        (map (λ steps. steps.items) s.steps.items) s.turns.items };
 
-    ghost invariant = { λ s. IsSession
-        (session_of s.room s.run s.plan (map (λ steps. steps.items) s.steps.items) s.turns.items)
-        (map (λ steps. vec_capacity steps) s.steps.items) (vec_capacity s.turns) };
+    ghost invariant = { λ s. IsSession (session_of s.room s.run (plan_with s.plan s.bits s.struck.items)
+        (map (λ steps. steps.items) s.steps.items) s.turns.items) (map (λ steps. steps.room) s.steps.items)
+        (vec_capacity s.turns)
+        × GoesBy s.plan s.bits s.struck };
 }
 
 impl Session {
-    ghost use Rattle.std.specs.Prelude.{◌≡◌, ◌<◌, ◌≤◌, [], replicate, IfOk, IfErr, OnOk, length};
+    ghost use Rattle.std.specs.Prelude.{◌≡◌, ◌<◌, ◌≤◌, [], replicate, true, false, IfOk, IfErr, OnOk, length};
     ghost use Rattle.sja_wire.specs.Buses.{new_bus};
     ghost use Rattle.sja_driver.specs.Accesses.{most_deeds};
     ghost use Rattle.sja_plan.specs.Growing.{plan_of};
     ghost use Rattle.sja_plan.specs.Limits.{most_steps};
     ghost use Rattle.sja_plan.specs.Plan.{IsInLimits};
-    ghost use Rattle.sja_session.specs.Beginning.{MayBegin, IsRoom, IsSessionFault, most_room};
-    ghost use Rattle.sja_session.specs.Sessions.{IsAt, written};
+    ghost use Rattle.sja_session.specs.Beginning.{MayBegin, IsEndlessFault, IsNodeCount, IsRoom, IsSessionFault};
+    ghost use Rattle.sja_session.specs.Beginning.{endless_bits, endless_room, most_room};
+    ghost use Rattle.sja_session.specs.Sessions.{HasEnd, IsAt, IsEndless, written};
     ghost use Rattle.sja_session.specs.Stepping.{steps_done_of};
-    ghost use Rattle.sja_session.specs.Inside.Written.{IsBare};
+    ghost use Rattle.sja_session.specs.Inside.Written.{IsBare, MayGoBy};
 
     /// A session to which nothing happened, as [`with_room`](Session::with_room) makes it, with room for as much as a
     /// plan of this version has at most: 1,000 steps of each node and 10,000 turns, or 65,535 steps and 200,000 turns
@@ -93,31 +111,62 @@ impl Session {
     {
         check(version, bits, nodes, room)?;
         let plan = Plan::blank(alloc, version, bits, nodes, 0)?;
-        Ok(Session::over(alloc, plan, room)?)
+        Ok(Session::over(alloc, plan, bits as u64, room)?)
     }
 
-    /// A session that goes by this plan, to which nothing happened.
+    /// A session without an end, of version 3, to which nothing happened: so many nodes, 1 to 8. Its memory is reserved
+    /// here and stays: it forgets what is oldest. Each call is as in a session with an end, but that there are more
+    /// bits and steps than can be run, that it takes any number of strikes and turns, and that it has neither plan nor
+    /// log.
+    ///
+    /// Errors, the first that holds: [`SessionFault::NodeCount`] where these aren't within the limits;
+    /// [`SessionFault::Memory`] where memory was refused.
+    pub fn endless(alloc: Global, nodes: u8) -> Result<Session, SessionFault>
+        ensures at { IfOk result (λ s. IsAt s (replicate nodes [])) }
+        ensures bus { IfOk result (λ s. s.run.bus
+            ≡ new_bus [] endless_bits nodes (replicate nodes (most_deeds 3 endless_room.steps))) }
+        ensures plan { IfOk result (λ s. written s ≡ plan_of 3 endless_bits (replicate nodes []) [] []) }
+        ensures room { IfOk result (λ s. s.room ≡ endless_room) }
+        ensures limits { OnOk result (IsNodeCount nodes) }
+        ensures err { IfErr result (IsEndlessFault nodes) }
+    {
+        if nodes < 1 || nodes > MOST_NODES {
+            return Err(SessionFault::NodeCount);
+        }
+        let plan = Plan::blank(alloc, RAW_VERSION, 1, nodes, 0)?;
+        Ok(Session::over(alloc, plan, ENDLESS_BITS, SessionRoom::endless())?)
+    }
+
+    /// A session that goes by this plan, for so many bits, to which nothing happened.
     ///
     /// Error: [`OutOfMemory`] where memory was refused.
-    pub(crate) fn over(alloc: Global, plan: Plan, room: SessionRoom) -> Result<Session, OutOfMemory>
+    pub(crate) fn over(
+        alloc: Global,
+        plan: Plan,
+        bits: u64,
+        room: SessionRoom,
+    ) -> Result<Session, OutOfMemory>
         requires bare { IsBare plan }
-        requires room { IsRoom plan.version room }
+        requires may { MayGoBy plan bits room }
         ensures at { IfOk result (λ s. IsAt s (replicate (length plan.nodes) [])) }
-        ensures bus { IfOk result (λ s. s.run.bus ≡ new_bus plan.strikes plan.bits (length plan.nodes)
+        ensures bus { IfOk result (λ s. s.run.bus ≡ new_bus plan.strikes bits (length plan.nodes)
             (replicate (length plan.nodes) (most_deeds plan.version room.steps))) }
-        ensures plan { IfOk result (λ s. written s ≡ plan) }
+        ensures plan { IfOk result (λ s. written s ≡ record plan { bits = bits }) }
         ensures room { IfOk result (λ s. s.room ≡ room) }
     {
         plan.limits();
         let nodes = plan.nodes();
         let script = FaultScript::of(copied_strikes(alloc, plan.strikes())?);
         let rooms = Vec::from_elem(alloc, room.steps, nodes)?;
-        let run = SerialRun::new(alloc, plan.version(), plan.bits(), rooms, script)?;
+        let run = SerialRun::new(alloc, plan.version(), bits, rooms, script)?;
         let steps = empty_lists(alloc, nodes, room.steps)?;
         let turns = Vec::with_capacity(alloc, room.turns as usize + 1)?;
+        let struck = Recent::new(alloc, strikes_for(&plan, bits))?;
         Ok(Session {
             run,
             plan,
+            bits,
+            struck,
             steps,
             room,
             turns,
@@ -125,7 +174,7 @@ impl Session {
     }
 
     /// How many bits were run.
-    pub fn now(&self) -> u32
+    pub fn now(&self) -> u64
         ensures { result ≡ self.now.run.bits }
     {
         self.run.bits()
@@ -153,26 +202,20 @@ impl Session {
         self.plan.nodes()
     }
 
-    /// How many bits the session has.
-    pub fn most_bits(&self) -> u32
+    /// How many bits the session has: 2^62 without an end.
+    pub fn most_bits(&self) -> u64
         ensures { result ≡ self.now.plan.bits }
     {
-        self.plan.bits()
+        self.bits
     }
 
-    /// The strikes of its bits.
-    pub fn strikes(&self) -> &[Strike]
-        ensures { result.now ≡ self.now.plan.strikes }
+    /// Whether it is without an end.
+    #[inline(always)]
+    pub fn is_endless(&self) -> bool
+        ensures yes { result ≡ true → IsEndless self.now }
+        ensures no { result ≡ false → HasEnd self.now }
     {
-        self.plan.strikes()
-    }
-
-    /// Its bits, nodes and strikes are within the limits of a plan. It does nothing: a caller who needs a limit calls
-    /// it for its contract.
-    pub fn limits(&self)
-        ensures { IsInLimits self.now.plan }
-    {
-        self.plan.limits();
+        self.bits > u64::from(most_bits(self.plan.version()))
     }
 
     /// How many steps of a node are done.
@@ -181,5 +224,16 @@ impl Session {
         ensures { result ≡ steps_done_of self.now node }
     {
         self.steps[node].len()
+    }
+}
+
+/// For how many strikes a session has room that its plan doesn't hold: none where it goes by this plan's bits.
+fn strikes_for(plan: &Plan, bits: u64) -> usize
+    ensures { result ≡ beside_for plan.now bits }
+{
+    if bits > (plan.bits() as u64) {
+        1 << 56
+    } else {
+        0
     }
 }

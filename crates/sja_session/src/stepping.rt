@@ -5,7 +5,7 @@ use super::lists::push_step;
 use super::session::Session;
 use super::step_fault::StepFault;
 use super::step_outcome::StepOutcome;
-use super::turns::{goes_on_last, push_turn};
+use super::turns::{goes_on_last, note};
 use sja_plan::Turn;
 use sja_script::Step;
 
@@ -34,12 +34,12 @@ impl Session {
         ensures kept { OnErr result (self.new ≡ self.old) }
     {
         self.may_step(node)?;
-        let place = usize::from(node);
+        let (place, noted) = (usize::from(node), !self.is_endless());
         if !self.run.step(node, &step) {
             return Ok(StepOutcome::Waits);
         }
         push_step(&mut self.steps, place, step);
-        push_turn(&mut self.turns, Turn::Node(node, 1));
+        note(&mut self.turns, noted, Turn::Node(node, 1));
         match last_answer(&self.run, place) {
             Some(answer) => Ok(StepOutcome::Answer(answer)),
             None => unreachable!(),
@@ -58,7 +58,7 @@ impl Session {
         if place >= self.plan.nodes() {
             return Err(StepFault::NoNode);
         }
-        if self.done(place) >= self.room.steps as usize {
+        if (self.done(place) as u64) >= self.room.steps {
             return Err(StepFault::StepsUsed);
         }
         if !self.has_turn(Turn::Node(node, 1)) {
@@ -72,12 +72,14 @@ impl Session {
     ghost use Rattle.std.specs.Prelude.{◌≡◌, true, false};
     ghost use Rattle.sja_session.specs.Stepping.{HasTurn, LacksTurn};
 
-    /// Whether a turn is left for this one, or it goes on with the last one.
+    /// Whether a turn is left for this one, or it goes on with the last one, or none is needed.
     #[inline(always)]
     pub(crate) fn has_turn(&self, turn: Turn) -> bool
         ensures yes { result ≡ true → HasTurn self.now turn }
         ensures no { result ≡ false → LacksTurn self.now turn }
     {
-        self.turns.len() < self.room.turns as usize || goes_on_last(self.turns.as_slice(), turn)
+        self.is_endless()
+            || (self.turns.len() as u64) < self.room.turns
+            || goes_on_last(self.turns.as_slice(), turn)
     }
 }

@@ -11,7 +11,8 @@ use sja_script::Strike;
 impl Session {
     ghost use Rattle.std.specs.Prelude.{◌≡◌, ◌<◌, ◌≤◌, List, length, IfErr, OnOk, OnErr};
     ghost use Rattle.sja_driver.specs.Accesses.{Access};
-    ghost use Rattle.sja_session.specs.Sessions.{IsAt};
+    ghost use Rattle.sja_session.specs.Sessions.{IsAt, IsEndless};
+    ghost use Rattle.sja_session.specs.declared.strike_fault.StrikeFault.TheVariants.{Memory};
     ghost use Rattle.sja_session.specs.Striking.{MayStrike, IsStrikeFault, IsStruck};
 
     /// Has a node, counted from 0, see the other level in a bit that hasn't run, counted from 0, and writes that down
@@ -20,8 +21,8 @@ impl Session {
     ///
     /// Errors, the first that holds, and nothing changed: [`StrikeFault::NoNode`] where there is no such node;
     /// [`StrikeFault::NoBit`] where the session's bits end before this one; [`StrikeFault::Past`] where it has run;
-    /// [`StrikeFault::StrikesUsed`] where the strikes so far strike as many bits as those of a plan of its version may;
-    /// [`StrikeFault::Memory`] where memory was refused.
+    /// [`StrikeFault::StrikesUsed`] where it has an end and the strikes so far strike as many bits as those of a plan
+    /// of its version may; [`StrikeFault::Memory`] where memory was refused.
     pub fn strike(&mut self, node: u8, bit: u32) -> Result<(), StrikeFault>
         ensures struck { OnOk result ((accesses : List (List Access)) → IsAt self.old accesses →
             IsStruck self.old self.new node bit accesses) }
@@ -30,6 +31,9 @@ impl Session {
         ensures kept { OnErr result (self.new ≡ self.old) }
     {
         self.check_bit(node, bit)?;
+        if self.is_endless() {
+            return self.strike_endless(node, bit);
+        }
         match self.plan.strike(node, bit) {
             Ok(()) => {}
             Err(PlanFault::StrikeCount) => return Err(StrikeFault::StrikesUsed),
@@ -44,6 +48,25 @@ impl Session {
         }
     }
 
+    /// The same without an end.
+    fn strike_endless(&mut self, node: u8, bit: u32) -> Result<(), StrikeFault>
+        requires endless { IsEndless self.old }
+        requires ahead { self.old.run.bits ≤ bit }
+        ensures struck { OnOk result ((accesses : List (List Access)) → IsAt self.old accesses →
+            IsStruck self.old self.new node bit accesses) }
+        ensures err { IfErr result (λ fault. fault ≡ Memory) }
+        ensures kept { OnErr result (self.new ≡ self.old) }
+    {
+        self.plan.limits();
+        if self.struck.is_full() {
+            return Err(StrikeFault::Memory);
+        }
+        let strike = one_strike(node, bit);
+        self.run.strike(strike)?;
+        self.struck.push(strike);
+        Ok(())
+    }
+
     /// Whether the node is there, and the bit is one of the session's that hasn't run.
     ///
     /// Errors: as [`strike`](Session::strike) tells them, the first three.
@@ -55,10 +78,10 @@ impl Session {
         if usize::from(node) >= self.plan.nodes() {
             return Err(StrikeFault::NoNode);
         }
-        if bit >= self.plan.bits() {
+        if (bit as u64) >= self.bits {
             return Err(StrikeFault::NoBit);
         }
-        if bit < self.run.bits() {
+        if (bit as u64) < self.run.bits() {
             return Err(StrikeFault::Past);
         }
         Ok(())

@@ -1,6 +1,6 @@
 //! The turns that a session takes, as its plan has them.
 
-ghost use Rattle.std.specs.Prelude.{◌≡◌, ◌+◌, ◌<◌, ◌^◌, reverse, vec_len, vec_capacity};
+ghost use Rattle.std.specs.Prelude.{◌≡◌, ◌+◌, ◌<◌, ◌^◌, true, false, reverse, vec_len, vec_capacity};
 ghost use Rattle.sja_plan.specs.declared.turn.Turn.TheVariants.{Bus};
 ghost use Rattle.sja_session.specs.Turning.{goes_on, enlarged, size_of, with_turn, goes_on_latest, FitsLast};
 ghost use Rattle.sja_session.specs.Inside.Written.{with_bits};
@@ -30,15 +30,31 @@ pub fn push_turn(turns: &mut Vec<Turn>, turn: Turn)
     }
 }
 
-/// Takes so many bits that were run as a turn of the bus more; where none were, no turn is taken.
-pub(crate) fn push_bits(turns: &mut Vec<Turn>, bits: u32)
-    requires room { vec_len turns.old < vec_capacity turns.old }
-    requires fits { FitsLast turns.old.items (Bus bits) }
-    ensures turns { turns.new.items ≡ with_bits turns.old.items bits }
+/// Takes one turn more, where turns are taken down.
+#[inline(always)]
+pub(crate) fn note(turns: &mut Vec<Turn>, noted: bool, turn: Turn)
+    requires room { noted ≡ true → vec_len turns.old < vec_capacity turns.old }
+    requires fits { noted ≡ true → FitsLast turns.old.items turn }
+    ensures turns { noted ≡ true → turns.new.items ≡ with_turn turns.old.items turn }
+    ensures none { noted ≡ false → turns.new.items ≡ turns.old.items }
+    ensures capacity { vec_capacity turns.new ≡ vec_capacity turns.old }
+{
+    if noted {
+        push_turn(turns, turn);
+    }
+}
+
+/// Takes so many bits that were run as a turn of the bus more, where turns are taken down; where none were run, no turn
+/// is taken.
+pub(crate) fn note_bits(turns: &mut Vec<Turn>, noted: bool, bits: u32)
+    requires room { noted ≡ true → vec_len turns.old < vec_capacity turns.old }
+    requires fits { noted ≡ true → FitsLast turns.old.items (Bus bits) }
+    ensures turns { noted ≡ true → turns.new.items ≡ with_bits turns.old.items bits }
+    ensures none { noted ≡ false → turns.new.items ≡ turns.old.items }
     ensures capacity { vec_capacity turns.new ≡ vec_capacity turns.old }
 {
     if bits > 0 {
-        push_turn(turns, Turn::Bus(bits));
+        note(turns, noted, Turn::Bus(bits));
     }
 }
 

@@ -4,7 +4,7 @@ ghost use Rattle.std.specs.Prelude.{◌≡◌, ◌<◌, ℕ, true, false, IfSome
 ghost use Rattle.sja_session.specs.Inside.Risen.{risen};
 
 use super::session::Session;
-use super::turns::push_turn;
+use super::turns::note;
 use super::turns_used::TurnsUsed;
 use super::watch_outcome::WatchOutcome;
 use sja_plan::Turn;
@@ -18,7 +18,7 @@ impl Session {
     ghost use Rattle.sja_session.specs.Watching.{Watches};
     ghost use Rattle.sja_session.specs.Inside.UntilTold.{RunsUntilTold};
 
-    /// Runs so many bits, or as many as the plan has left, or up to the first bit in which the interrupt line of a
+    /// Runs so many bits, or as many as are left, or up to the first bit in which the interrupt line of a
     /// watched node rises: it wasn't active before the bit, and is after it. A place of `watched` is a node, counted
     /// from 0. It says how many were run, and whose line rose.
     ///
@@ -36,7 +36,7 @@ impl Session {
         self.plan.limits();
         let mut before = self.looks(&watched);
         let mut bits = 0;
-        while bits < count && self.run.bits() < self.plan.bits() {
+        while bits < count && self.run.bits() < self.bits {
             bits += self.run_until_told(count - bits);
             let now = self.looks(&watched);
             if let Some(node) = first_risen(&watched, &before, &now) {
@@ -61,8 +61,9 @@ impl Session {
             RunsUntilTold self.old self.new result accesses }
         ensures may { MayRun self.new 1 }
     {
+        let noted = !self.is_endless();
         let run = self.run.bits_until_told(count);
-        push_turn(&mut self.turns, Turn::Bus(run));
+        note(&mut self.turns, noted, Turn::Bus(run));
         run
     }
 

@@ -1,10 +1,13 @@
 -- A session after bits in which no step was done, and what holds of every session.
-use Rattle.std.proofs.Common.{◌≡◌, ℕ, zero, suc, ◌+◌, ◌-◌, ◌<◌, ◌≤◌, List, length, sym, ap, ◌∙◌, subst, arith}
-use Rattle.std.proofs.Common.{refl, inl, inr}
-use Rattle.std.specs.Prelude.{reverse}
+use Rattle.std.proofs.Common.{◌≡◌, ℕ, zero, suc, ◌+◌, ◌-◌, ◌<◌, ◌≤◌, List, length, true, sym, ap, ◌∙◌, subst}
+use Rattle.std.proofs.Common.{arith, refl, inl, inr}
+use Rattle.std.specs.Prelude.{◌⊎◌, reverse}
+use Rattle.std.proofs.lemmas.Bool.{cases_lt}
 use Rattle.sja_plan.specs.declared.turn.Turn.{Turn}
 use Rattle.sja_plan.specs.declared.turn.Turn.TheVariants.{Bus}
+use Rattle.sja_plan.specs.Limits.{most_bits}
 use Rattle.sja_plan.specs.Plan.{PlanValue}
+use Rattle.sja_plan.proofs.PlanLimits.ByVersion.{bits_most}
 use Rattle.sja_script.specs.declared.step.Step.{Step}
 use Rattle.sja_script.specs.declared.strike.Strike.{Strike}
 use Rattle.sja_driver.specs.Accesses.{Access}
@@ -14,9 +17,8 @@ use Rattle.sja_serial.specs.Serial.{Setup, SerialValue, StandsBy, all_deeds}
 use Rattle.sja_serial.proofs.WholeRun.GoingOn.{bits_run, stands_by_bits}
 use Rattle.sja_session.specs.declared.session_room.SessionRoom.{SessionRoom}
 use Rattle.sja_session.specs.Running.{MayRun}
-use Rattle.sja_session.specs.Sessions.{SessionValue, session_of, setup_by, start_of, IsAt, IsSession, written}
-use Rattle.sja_session.specs.Stepping.{HasTurn}
-use Rattle.sja_session.specs.Turning.{FitsLast, with_turn}
+use Rattle.sja_session.specs.Sessions.{SessionValue, session_of, setup_by, start_of, IsAt, IsSession, Took, written}
+use Rattle.sja_session.specs.Turning.{FitsLast, goes_on_latest, with_turn}
 use Rattle.sja_session.specs.Inside.Written.{with_bits}
 use Rattle.sja_session.specs.Writing.{with_bits_run}
 use Rattle.sja_session.proofs.WrittenPlan.Taken.{took_bits, took_same}
@@ -40,7 +42,7 @@ module _ {room : SessionRoom} {plan : PlanValue} {was now : SerialValue} {steps 
   pub many : now.bits ≡ was.bits + run
   many = let b = bits_run setup (all_deeds accesses) Before was now n t in let e = run_is in omega (arith, b, e)
 
-  stands_now : StandsBy setup now accesses
+  pub stands_now : StandsBy setup now accesses
   stands_now = stands_by_bits setup accesses Before was now run bits_now h.stands
 
   at_some : IsAt (session_of room now plan steps (with_turn turns (Bus run))) accesses
@@ -48,9 +50,9 @@ module _ {room : SessionRoom} {plan : PlanValue} {was now : SerialValue} {steps 
     stands = stands_now;
     steps = h.steps;
     count = h.count;
-    took = took_turn accesses (start_of (length plan.nodes)) (Bus run) turns (progress now accesses)
+    took = λ end. took_turn accesses (start_of (length plan.nodes)) (Bus run) turns (progress now accesses)
         (λ k m e. absurd cc)
-        (took_bits accesses (start_of (length plan.nodes)) (reverse turns) was now run many h.took);
+        (took_bits accesses (start_of (length plan.nodes)) (reverse turns) was now run many (h.took end));
   }
 
   at_none : run ≡ 0 → IsAt (session_of room now plan steps turns) accesses
@@ -58,8 +60,18 @@ module _ {room : SessionRoom} {plan : PlanValue} {was now : SerialValue} {steps 
     stands = stands_now;
     steps = h.steps;
     count = h.count;
-    took = let m = many in took_same accesses (start_of (length plan.nodes)) (reverse turns) was now
-        (omega (arith, m, none)) h.took;
+    took = λ end. let m = many in took_same accesses (start_of (length plan.nodes)) (reverse turns) was now
+        (omega (arith, m, none)) (h.took end);
+  }
+
+  -- without an end whatever turns it has
+  pub at_endless : most_bits plan.version < plan.bits → (items : List Turn) →
+      IsAt (session_of room now plan steps items) accesses
+  at_endless endless items = record {
+    stands = stands_now;
+    steps = h.steps;
+    count = h.count;
+    took = λ end. absurd (omega (arith, end, endless));
   }
 
   -- with a turn of so many bits more, where there are some
@@ -73,6 +85,21 @@ module _ {room : SessionRoom} {plan : PlanValue} {was now : SerialValue} {steps 
   wrote_now zero = refl
   wrote_now (suc m) = refl
 
+  -- with the turns that were taken down, if it has an end
+  module _ (items : List Turn) (noted : plan.bits ≤ most_bits plan.version → items ≡ with_bits turns run) where
+    pub at_items : IsAt (session_of room now plan steps items) accesses
+    at_items = record {
+      stands = stands_now;
+      steps = h.steps;
+      count = h.count;
+      took = λ end. subst (λ (l : List Turn). Took accesses (start_of (length plan.nodes)) (reverse l)
+          (progress now accesses)) (sym (noted end)) ((at_now run refl).took end);
+    }
+
+    pub wrote_items : plan.bits ≤ most_bits plan.version → written (session_of room now plan steps items)
+        ≡ with_bits_run (written (session_of room was plan steps turns)) run
+    wrote_items end = ap (λ (l : List Turn). written (session_of room now plan steps l)) (noted end) ∙ wrote_now run
+
 -- ---- what holds of every session
 
 -- it holds of one whose run, and whose strikes, are others, and which stands at the same accesses
@@ -85,6 +112,7 @@ session_at run strikes inv at = record {
   at = at;
   places = inv.places;
   done = inv.done;
+  counted = inv.counted;
   steps = inv.steps;
   most = inv.most;
   room = inv.room;
@@ -104,34 +132,37 @@ module _ {room : SessionRoom} {plan : PlanValue} {was now : SerialValue} {steps 
       let b = bits_few (session_of room now plan steps (with_turn turns (Bus run))) inv.accesses (at_some inv.at t is)
       in omega (arith, m, b)
 
-  -- so the last turn holds them
-  pub turn_fits : FitsLast turns (Bus run)
-  turn_fits =
-      let few = last_few (session_of room was plan steps turns) inv.accesses inv.at inv.done inv.steps in
-      let b = bits_within in let limit = inv.at.stands.stands.may.bits.1 in omega (arith, few, b, limit)
+  -- so the last turn holds them, where it has an end
+  pub turn_fits : plan.bits ≤ most_bits plan.version → FitsLast turns (Bus run)
+  turn_fits end =
+      let few = last_few (session_of room was plan steps turns) inv.accesses inv.at inv.done end (inv.steps end) in
+      let b = bits_within in let limit = bits_most plan.version in omega (arith, few, b, limit, end)
 
   -- where some were run they were due, and so a turn is left for them
-  turn_left : (count : ℕ) → MayRun (session_of room was plan steps turns) count → 1 ≤ count → 0 < run →
-      HasTurn (session_of room was plan steps turns) (Bus run)
-  turn_left count (inl (inl none)) asked some = absurd (omega (arith, none, asked))
-  turn_left count (inl (inr over)) asked some = let b = bits_within in absurd (omega (arith, over, some, b))
-  turn_left count (inr (inl less)) asked some = inl less
-  turn_left count (inr (inr on)) asked some = inr (bits_go_on (reverse turns) run count ∙ on)
+  turn_left : plan.bits ≤ most_bits plan.version → (count : ℕ) → MayRun (session_of room was plan steps turns) count →
+      1 ≤ count → 0 < run → (length turns < room.turns) ⊎ (goes_on_latest (reverse turns) (Bus run) ≡ true)
+  turn_left end count (inl (inl none)) asked some = absurd (omega (arith, none, asked))
+  turn_left end count (inl (inr over)) asked some = let b = bits_within in absurd (omega (arith, over, some, b))
+  turn_left end count (inr (inl endless)) asked some = absurd (omega (arith, end, endless))
+  turn_left end count (inr (inr (inl less))) asked some = inl less
+  turn_left end count (inr (inr (inr on))) asked some = inr (bits_go_on (reverse turns) run count ∙ on)
 
   -- it holds with a turn of them
-  pub session_some : {items : List Turn} {places count : ℕ} → items ≡ with_turn turns (Bus run) →
+  with_some : {items : List Turn} {places count : ℕ} → plan.bits ≤ most_bits plan.version →
+      items ≡ with_turn turns (Bus run) →
       places ≡ capacity → MayRun (session_of room was plan steps turns) count → 1 ≤ count → 0 < run →
       IsSession (session_of room now plan steps items) sizes places
-  session_some {places} {count} e same may asked some =
+  with_some {places} {count} end e same may asked some =
       subst (λ (l : List Turn). IsSession (session_of room now plan steps l) sizes places) (sym e) (record {
         accesses = inv.accesses;
         at = at_some inv.at t is;
         places = inv.places;
         done = inv.done;
+        counted = inv.counted;
         steps = inv.steps;
         most = inv.most;
         room = let r = inv.room in omega (arith, r, same);
-        few = few_turns room.turns (Bus run) turns (turn_left count may asked some) inv.few;
+        few = few_turns room.turns (Bus run) turns (turn_left end count may asked some) inv.few;
         names = named_turns (length plan.nodes) (Bus run) turns tt inv.names;
       })
 
@@ -139,18 +170,29 @@ module _ {room : SessionRoom} {plan : PlanValue} {was now : SerialValue} {steps 
   session_none : run ≡ 0 → IsSession (session_of room now plan steps turns) sizes capacity
   session_none none = session_at now plan.strikes inv (at_none inv.at t is none)
 
-  -- in either case
-  pub session_now : {items : List Turn} {places count : ℕ} → items ≡ with_bits turns run → places ≡ capacity →
+  -- without an end it holds with the turns as they were
+  session_endless : most_bits plan.version < plan.bits → IsSession (session_of room now plan steps turns) sizes capacity
+  session_endless endless = session_at now plan.strikes inv (at_endless inv.at t is endless turns)
+
+  -- in each case
+  pub session_now : {items : List Turn} {places count : ℕ} → (plan.bits ≤ most_bits plan.version → items ≡ with_bits
+      turns run) → (most_bits plan.version < plan.bits → items ≡ turns) → places ≡ capacity →
       MayRun (session_of room was plan steps turns) count → (0 < run → 1 ≤ count) →
       IsSession (session_of room now plan steps items) sizes places
-  session_now {items} {places} {count} e same may asked = by_run run refl
+  session_now {items} {places} {count} noted stay same may asked = elim (cases_lt (most_bits plan.version) plan.bits) [
+    | inl endless ↦ moved (stay endless) (session_endless endless)
+    | inr end ↦ by_run end (noted end) run refl
+  ]
     where
-      by_run : (m : ℕ) → run ≡ m → IsSession (session_of room now plan steps items) sizes places
-      by_run zero none =
-          subst (λ (n : ℕ). IsSession (session_of room now plan steps items) sizes n) (sym same)
-          (subst (λ (l : List Turn). IsSession (session_of room now plan steps l) sizes capacity)
-          (sym (e ∙ ap (λ (n : ℕ). with_bits turns n) none)) (session_none none))
-      by_run (suc m) full =
+      moved : items ≡ turns → IsSession (session_of room now plan steps turns) sizes capacity →
+          IsSession (session_of room now plan steps items) sizes places
+      moved e h = subst (λ (n : ℕ). IsSession (session_of room now plan steps items) sizes n) (sym same)
+          (subst (λ (l : List Turn). IsSession (session_of room now plan steps l) sizes capacity) (sym e) h)
+
+      by_run : plan.bits ≤ most_bits plan.version → items ≡ with_bits turns run → (m : ℕ) → run ≡ m →
+          IsSession (session_of room now plan steps items) sizes places
+      by_run end e zero none = moved (e ∙ ap (λ (n : ℕ). with_bits turns n) none) (session_none none)
+      by_run end e (suc m) full =
           let some : 0 < run = omega (arith, full) in
-          session_some (e ∙ ap (λ (n : ℕ). with_bits turns n) full
+          with_some end (e ∙ ap (λ (n : ℕ). with_bits turns n) full
           ∙ ap (λ (n : ℕ). with_turn turns (Bus n)) (sym full)) same may (asked some) some

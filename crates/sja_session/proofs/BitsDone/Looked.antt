@@ -30,9 +30,9 @@ module _ {room : SessionRoom} (plan : PlanValue) (was now : SerialValue) (steps 
     stands = stands accesses h.stands;
     steps = h.steps;
     count = h.count;
-    took = subst (λ (n : ℕ). Took accesses (start_of (length plan.nodes)) (reverse turns)
+    took = λ end. subst (λ (n : ℕ). Took accesses (start_of (length plan.nodes)) (reverse turns)
         (let p : Progress = record { bits = n; done = map (λ (l : List Access). length l) accesses } in p)) (sym bits)
-        h.took;
+        (h.took end);
   }
 
   pub looks : (node : ℕ) (line : Bool) (accesses : List (List Access)) →

@@ -1,7 +1,8 @@
 -- Bits of a session up to a place.
-use Rattle.std.proofs.Common.{◌≡◌, ℕ, ◌-◌, Bool, List, refl, arith}
+use Rattle.std.proofs.Common.{◌≡◌, ℕ, ◌-◌, ◌≤◌, Bool, List, refl, arith}
 use Rattle.sja_plan.specs.declared.place.Place.{Place}
 use Rattle.sja_plan.specs.declared.turn.Turn.{Turn}
+use Rattle.sja_plan.specs.Limits.{most_bits}
 use Rattle.sja_plan.specs.Plan.{PlanValue}
 use Rattle.sja_script.specs.declared.step.Step.{Step}
 use Rattle.sja_driver.specs.Accesses.{Access}
@@ -26,11 +27,13 @@ module _ {room : SessionRoom} {plan : PlanValue} {was now : SerialValue} {steps 
       was now run t.bits in
       omega (arith, b)
 
-  pub came_to : RunsTo (session_of room was plan steps turns) (session_of room now plan steps (with_bits turns run))
-      node place limit run there accesses
-  came_to = record {
+  pub came_to : (items : List Turn) → (plan.bits ≤ most_bits plan.version → items ≡ with_bits turns run) →
+      RunsTo (session_of room was plan steps turns) (session_of room now plan steps items) node place limit run there
+      accesses
+  came_to items noted = record {
     takes = t;
-    at = after.at_now h t.bits many_run run refl;
+    at = after.at_items h t.bits many_run items noted;
     room = refl;
-    wrote = after.wrote_now h t.bits many_run run;
+    wrote = after.wrote_items h t.bits many_run items noted;
+    plan = refl;
   }

@@ -1,8 +1,9 @@
 -- A session that begins: nothing happened.
 use Rattle.std.proofs.Common.{◌≡◌, ◌+◌, ◌<◌, ◌≤◌, ℕ, zero, suc, List, [], ◌∷◌, length, map, replicate, refl, sym, ap}
 use Rattle.std.proofs.Common.{◌∙◌, subst, arith}
-use Rattle.std.specs.Prelude.{reverse, slice_index_or}
+use Rattle.std.specs.Prelude.{◌^◌, reverse, slice_index_or}
 use Rattle.std.proofs.lemmas.List.{length-replicate}
+use Rattle.sja_plan.specs.Limits.{most_bits}
 use Rattle.sja_plan.specs.declared.turn.Turn.{Turn}
 use Rattle.sja_plan.specs.Plan.{PlanValue}
 use Rattle.sja_script.specs.declared.step.Step.{Step}
@@ -79,7 +80,7 @@ module _ (room : SessionRoom) {plan : PlanValue} {run : SerialValue} {steps : Li
           (sym wrote_first) stands;
       steps = no_steps (length plan.nodes) ∙ sym none;
       count = count_first;
-      took = subst (λ (l : List Turn). Took (replicate (length plan.nodes) []) (start_of (length plan.nodes))
+      took = λ end. subst (λ (l : List Turn). Took (replicate (length plan.nodes) []) (start_of (length plan.nodes))
           (reverse l)
           (progress run (replicate (length plan.nodes) []))) (sym idle)
           (took_none (length plan.nodes) run (stands.stands.bits ∙ ap (λ (b : BusValue). b.run) bus));
@@ -97,16 +98,18 @@ module _ (room : SessionRoom) {plan : PlanValue} {run : SerialValue} {steps : Li
         let n = none_done (length plan.nodes) node in omega (arith, e, n)
 
     -- what holds of every session holds of it
-    pub session_first : (sizes : List ℕ) (capacity : ℕ) → IsRoom plan.version room →
-        ((node : ℕ) → node < length plan.nodes → room.steps ≤ slice_index_or sizes node 0) →
+    pub session_first : (sizes : List ℕ) (capacity : ℕ) → room.steps ≤ 2 ^ 56 →
+        (plan.bits ≤ most_bits plan.version → IsRoom plan.version room) →
+        ((node : ℕ) → node < length plan.nodes → slice_index_or sizes node 0 ≡ room.steps) →
         room.turns + 1 ≤ capacity → IsSession (session_of room run plan steps turns) sizes capacity
-    session_first sizes capacity fits places big = record {
+    session_first sizes capacity counted fits places big = record {
       accesses = replicate (length plan.nodes) [];
       at = at_first;
       places = places;
       done = λ node less. no_more_than none node;
-      steps = fits.0;
-      most = fits.1;
+      counted = counted;
+      steps = λ end. (fits end).0;
+      most = λ end. (fits end).1;
       room = big;
       few = let n : length turns ≡ 0 = ap (λ l. length l) idle in omega (arith, n);
       names = subst (λ (l : List Turn). AreNamed (length plan.nodes) (reverse l)) (sym idle) tt;

@@ -2,17 +2,20 @@
 use Rattle.std.proofs.Common.{◌≡◌, ℕ, List, [], length, map, take, refl, sym, ap, ◌∙◌, subst}
 use Rattle.std.proofs.Common.{arith}
 use Rattle.std.specs.Prelude.{slice_index_or}
-use Rattle.std.proofs.lemmas.List.{length-map, get_or-map}
+use Rattle.std.proofs.lemmas.List.{length-map, get_or-map, get_or-replicate}
 use Rattle.std.proofs.Math.Seq.{take-length}
-use Rattle.sja_driver.specs.Accesses.{Access, accesses_at}
+use Rattle.sja_driver.specs.Accesses.{Access, accesses_at, most_deeds}
 use Rattle.sja_log.specs.declared.end.End.TheVariants.{Turns as TurnsDone}
 use Rattle.sja_log.specs.Turns.{RunsTo}
 use Rattle.sja_plan.specs.Plan.{steps_at}
+use Rattle.sja_plan.proofs.PlanLimits.ByVersion.{bits_most, steps_most}
 use Rattle.sja_script.specs.declared.step.Step.{Step}
 use Rattle.sja_serial.specs.Ending.{AreFirst, MayBeOf, progress}
+use Rattle.sja_serial.specs.Keeping.{IsKept}
 use Rattle.sja_serial.proofs.AllNodes.Several.{many_steps}
 use Rattle.sja_serial.proofs.WholeRun.GoingOn.{acts_of}
-use Rattle.sja_session.specs.Sessions.{SessionValue, IsAt, setup_by, start_of, written}
+use Rattle.sja_serial.proofs.WholeRun.Kept.{few_deeds}
+use Rattle.sja_session.specs.Sessions.{SessionValue, HasEnd, IsAt, IsSession, setup_by, start_of, written}
 use Rattle.sja_session.proofs.WrittenPlan.Taken.{runs_all}
 
 -- the steps that were written are all that were done
@@ -38,13 +41,24 @@ may_be_written s accesses h = record {
       h;
 }
 
+-- where it has an end its run keeps all that happens in it
+pub kept_by : (s : SessionValue) (sizes : List ℕ) (capacity : ℕ) → IsSession s sizes capacity → HasEnd s →
+    IsKept (setup_by s)
+kept_by s sizes capacity inv end = record {
+  bits = let most = bits_most s.plan.version in omega (arith, end, most);
+  steps = λ node less.
+      let is = get_or-replicate (length s.steps) node (most_deeds s.plan.version s.room.steps) 0 less in
+      let few = inv.steps end in let all = steps_most s.plan.version in
+      let deeds = few_deeds s.plan.version s.room.steps 65535 (omega (arith, few, all)) in omega (arith, is, deeds);
+}
+
 -- the turns of the plan that was written lead from the first point of the run to this one
-pub turns_lead : (s : SessionValue) (accesses : List (List Access)) → IsAt s accesses →
+pub turns_lead : (s : SessionValue) (accesses : List (List Access)) → IsAt s accesses → HasEnd s →
     RunsTo (acts_of (written s) s.run.bus.journals accesses) (start_of (length s.steps)) s.turns
     (progress s.run accesses)
     TurnsDone
-turns_lead s accesses h =
+turns_lead s accesses h end =
     subst (λ (n : ℕ). RunsTo (acts_of (written s) s.run.bus.journals accesses) (start_of n) s.turns
     (progress s.run accesses) TurnsDone) (sym h.count)
     (runs_all (written s) s.run.bus.journals accesses (start_of (length s.plan.nodes)) s.turns (progress s.run accesses)
-    h.took (let b = h.stands.stands.bits in let a = h.stands.stands.all_bits in omega (arith, a, b)))
+    (h.took end) (let b = h.stands.stands.bits in let a = h.stands.stands.all_bits in omega (arith, a, b)))

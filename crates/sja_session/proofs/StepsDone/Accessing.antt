@@ -3,7 +3,8 @@ use Rattle.std.proofs.Common.{◌≡◌, ℕ, ◌+◌, ◌<◌, Bool, true, fals
 use Rattle.std.proofs.Common.{subst, arith, inl, inr}
 use Rattle.std.specs.Prelude.{if◌then◌else◌, reverse}
 use Rattle.std.proofs.lemmas.List.{length-append, length-set, get_or-set_same}
-use Rattle.std.proofs.lemmas.Bool.{eq-eqb}
+use Rattle.std.proofs.lemmas.Bool.{cases_lt, eq-eqb}
+use Rattle.sja_plan.specs.Limits.{most_bits}
 use Rattle.sja_plan.specs.declared.turn.Turn.{Turn}
 use Rattle.sja_plan.specs.declared.turn.Turn.TheVariants.{Bus, Rest, Node, All as AllSteps, Irq, Go}
 use Rattle.sja_plan.specs.Plan.{PlanValue}
@@ -50,11 +51,17 @@ module _ {was now : SessionValue} {node : ℕ} {step : Step} {answer : StepAnswe
     after = with_accesses accesses node (does.access ∷ [])
 
     turn_goes_on : HasTurn now (Node node 1)
-    turn_goes_on =
-        let turns : now.turns ≡ with_turn was.turns (Node node 1) = ap (λ (p : PlanValue). p.turns) does.wrote in
-        inr (ap (λ l. goes_on_latest (reverse l) (Node node 1)) turns
-        ∙ ap (λ l. goes_on_latest l (Node node 1)) (latest_of was.turns (Node node 1))
-        ∙ on_itself (reverse was.turns) node 1)
+    turn_goes_on = elim (cases_lt (most_bits was.plan.version) was.plan.bits) [
+      | inl endless ↦
+          let v = ap (λ (p : PlanValue). most_bits p.version) does.plan in
+          let b = ap (λ (p : PlanValue). p.bits) does.plan in inl (omega (arith, endless, v, b))
+      | inr end ↦
+          let turns : now.turns ≡ with_turn was.turns (Node node 1) =
+          ap (λ (p : PlanValue). p.turns) (does.wrote end) in
+          inr (inr (ap (λ l. goes_on_latest (reverse l) (Node node 1)) turns
+          ∙ ap (λ l. goes_on_latest l (Node node 1)) (latest_of was.turns (Node node 1))
+          ∙ on_itself (reverse was.turns) node 1))
+    ]
 
     nodes_are : length now.plan.nodes ≡ length was.plan.nodes
     nodes_are = sym does.at.count ∙ sym (many_steps does.at.stands)

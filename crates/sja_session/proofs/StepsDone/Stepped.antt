@@ -1,9 +1,10 @@
 -- A step of a session.
-use Rattle.std.proofs.Common.{◌≡◌, ℕ, ◌<◌, List, [], ◌∷◌, ◌++◌, length, map, replicate, refl, sym, ap, ◌∙◌, subst}
+use Rattle.std.proofs.Common.{◌≡◌, ℕ, ◌<◌, ◌≤◌, List, [], ◌∷◌, ◌++◌, length, map, replicate, refl, sym, ap, ◌∙◌, subst}
 use Rattle.std.proofs.Common.{arith}
 use Rattle.std.specs.Prelude.{Some, reverse, slice_index_or}
 use Rattle.std.proofs.lemmas.List.{length-map, length-set, get_or-replicate, get_or-set_same}
 use Rattle.sja_wire.specs.Wire.{journal_at}
+use Rattle.sja_plan.specs.Limits.{most_bits}
 use Rattle.sja_plan.specs.declared.turn.Turn.{Turn}
 use Rattle.sja_plan.specs.declared.turn.Turn.TheVariants.{Node}
 use Rattle.sja_plan.specs.Plan.{PlanValue}
@@ -95,8 +96,9 @@ module _ {room : SessionRoom} (plan : PlanValue) (was now : SerialValue) (steps 
     abbrev pub more : List (List Step)
     more = with_more steps node one
 
-    took_it : Took after (start_of (length plan.nodes)) (reverse (with_turn turns (Node node 1))) (progress now after)
-    took_it =
+    took_it : plan.bits ≤ most_bits plan.version →
+        Took after (start_of (length plan.nodes)) (reverse (with_turn turns (Node node 1))) (progress now after)
+    took_it end =
         let m = length-map after (λ (l : List Access). length l) in
         let n = length-set accesses node (accesses_at accesses node ++ a ∷ []) in
         let i = inside in
@@ -105,14 +107,15 @@ module _ {room : SessionRoom} (plan : PlanValue) (was now : SerialValue) (steps 
         (omega (arith, m, n, i)) in
         took_turn after (start_of (length plan.nodes)) (Node node 1) turns (progress now after) own
         (took_step accesses (start_of (length plan.nodes)) (reverse turns) was now node a inside t.bits_are t.bits
-        h.took)
+        (h.took end))
       where
         of_node : (k x : ℕ) → Node node 1 ≡ Node k x → node ≡ k
         of_node k x e = cc
 
     -- as many nodes have steps
-    setup_same : setup_for (written (session_of room now plan more (with_turn turns (Node node 1)))) room.steps ≡ setup
-    setup_same = let n = more_long steps node one in λ i. let s : Setup = record {
+    setup_same : (items : List Turn) →
+        setup_for (written (session_of room now plan more items)) room.steps ≡ setup
+    setup_same items = let n = more_long steps node one in λ i. let s : Setup = record {
       version = plan.version;
       bits = plan.bits;
       strikes = plan.strikes;
@@ -120,17 +123,23 @@ module _ {room : SessionRoom} (plan : PlanValue) (was now : SerialValue) (steps 
       steps = replicate (n i) (most_deeds plan.version room.steps);
     } in s
 
-    pub at_it : IsAt (session_of room now plan more (with_turn turns (Node node 1))) after
-    at_it = record {
-      stands = subst (λ (s : Setup). StandsBy s now after) (sym setup_same) t.stands;
+    -- with the turns that were taken down, if it has an end
+    pub at_it : (items : List Turn) →
+        (plan.bits ≤ most_bits plan.version → items ≡ with_turn turns (Node node 1)) →
+        IsAt (session_of room now plan more items) after
+    at_it items noted = record {
+      stands = subst (λ (s : Setup). StandsBy s now after) (sym (setup_same items)) t.stands;
       steps = steps_more accesses node a inside ∙ (λ i. with_more (h.steps i) node (t.step_is i));
       count = more_long steps node one ∙ h.count;
-      took = took_it;
+      took = λ end. subst (λ (l : List Turn). Took after (start_of (length plan.nodes)) (reverse l)
+          (progress now after))
+          (sym (noted end)) (took_it end);
     }
 
-    pub does_step : (answer : StepAnswer) → a.answer ≡ answer → DoesStep (session_of room was plan steps turns)
-        (session_of room now plan more (with_turn turns (Node node 1))) node one answer accesses
-    does_step answer same = record {
+    pub does_step : (answer : StepAnswer) → a.answer ≡ answer → (items : List Turn) →
+        (plan.bits ≤ most_bits plan.version → items ≡ with_turn turns (Node node 1)) →
+        DoesStep (session_of room was plan steps turns) (session_of room now plan more items) node one answer accesses
+    does_step answer same items noted = record {
       access = a;
       is = t.step_is;
       answered = same;
@@ -139,10 +148,11 @@ module _ {room : SessionRoom} (plan : PlanValue) (was now : SerialValue) (steps 
       on = t.on;
       others = λ m less differ. t.others m (let n = h.count in omega (arith, n, less)) differ;
       ports = t.ports;
-      at = at_it;
+      at = at_it items noted;
       bits = t.bits;
       room = refl;
-      wrote = refl;
+      wrote = λ end. ap (λ (l : List Turn). written (session_of room now plan more l)) (noted end);
+      plan = refl;
     }
 
   -- ---- the step has to wait
@@ -153,7 +163,8 @@ module _ {room : SessionRoom} (plan : PlanValue) (was now : SerialValue) (steps 
       stands = t.stands;
       steps = h.steps;
       count = h.count;
-      took = took_same accesses (start_of (length plan.nodes)) (reverse turns) was now t.nothing.does.bits h.took;
+      took = λ end. took_same accesses (start_of (length plan.nodes)) (reverse turns) was now t.nothing.does.bits
+          (h.took end);
     }
 
     why_it : HasToWait (slice_index_or was.ports node (at_power_on 1)) (journal_at was.bus.journals node)
@@ -179,4 +190,5 @@ module _ {room : SessionRoom} (plan : PlanValue) (was now : SerialValue) (steps 
       kept = λ m d less. t.nothing.kept m d (let n = h.count in omega (arith, n, less));
       room = refl;
       wrote = refl;
+      plan = refl;
     }

@@ -3,6 +3,7 @@ use Rattle.std.proofs.Common.{◌≡◌, ℕ, ◌+◌, ◌<◌, ◌≤◌, Bool,
 use Rattle.std.proofs.Common.{arith, inl, inr}
 use Rattle.std.specs.Prelude.{Option, Some, None, ◌⊎◌, ◌&&◌, not, reverse, slice_index_or}
 use Rattle.sja_wire.specs.Wire.{journal_at}
+use Rattle.sja_plan.specs.Limits.{most_bits}
 use Rattle.sja_plan.specs.declared.turn.Turn.TheVariants.{Bus}
 use Rattle.sja_plan.specs.Plan.{PlanValue}
 use Rattle.sja_regs.specs.InterruptLine.{is_line_active}
@@ -61,10 +62,16 @@ may_still {was} {now} {accesses} s (inl (inl few)) = inl (inl few)
 may_still {was} {now} {accesses} s (inl (inr over)) =
     let p = ap (λ (p : PlanValue). p.bits) s.wrote in let b = s.bits in inl (inr (omega (arith, over, p, b)))
 may_still {was} {now} {accesses} s (inr has) =
-    inr (subst (λ (r : SessionRoom). (length now.turns < r.turns) ⊎ (goes_on_latest (reverse now.turns) (Bus 1) ≡ true))
-    (sym s.room)
-    (subst (λ l. (length l < was.room.turns) ⊎ (goes_on_latest (reverse l) (Bus 1) ≡ true))
-    (sym (ap (λ (p : PlanValue). p.turns) s.wrote)) has))
+    inr (elim has [
+      | inl endless ↦
+          let p = ap (λ (p : PlanValue). p.bits) s.wrote in
+          let v = ap (λ (p : PlanValue). most_bits p.version) s.wrote in inl (omega (arith, endless, p, v))
+      | inr left ↦ inr
+          (subst (λ (r : SessionRoom). (length now.turns < r.turns)
+          ⊎ (goes_on_latest (reverse now.turns) (Bus 1) ≡ true)) (sym s.room)
+          (subst (λ l. (length l < was.room.turns) ⊎ (goes_on_latest (reverse l) (Bus 1) ≡ true))
+          (sym (ap (λ (p : PlanValue). p.turns) s.wrote)) left))
+    ])
 
 -- ---- bits
 
@@ -92,7 +99,7 @@ pub quiet_bits : {watched : List Bool} {nodes : ℕ} {accesses : List (List Acce
     NoneRose watched nodes accesses was now n → now.plan.bits ≡ was.plan.bits
 quiet_bits (none s) = ap (λ (p : PlanValue). p.bits) s.wrote
 quiet_bits (bit q r f s) =
-    ap (λ (p : PlanValue). p.bits) s.wrote ∙ ap (λ (p : PlanValue). p.bits) r.wrote ∙ quiet_bits q
+    ap (λ (p : PlanValue). p.bits) s.wrote ∙ ap (λ (p : PlanValue). p.bits) r.plan ∙ quiet_bits q
 
 -- bits in which no line rose, and a look
 rose_then : {watched : List Bool} {nodes : ℕ} {accesses : List (List Access)} {a b c : SessionValue} {n : ℕ} →
@@ -118,8 +125,9 @@ nodes_same h g = sym g.count ∙ sym (many_steps g.stands) ∙ many_steps h.stan
 pub may_one : (s : SessionValue) (count : ℕ) → 1 ≤ count → MayRun s count → MayRun s 1
 may_one s count some (inl (inl few)) = absurd (omega (arith, some, few))
 may_one s count some (inl (inr over)) = inl (inr over)
-may_one s count some (inr (inl less)) = inr (inl less)
-may_one s count some (inr (inr on)) = inr (inr (bits_go_on (reverse s.turns) 1 count ∙ on))
+may_one s count some (inr (inl endless)) = inr (inl endless)
+may_one s count some (inr (inr (inl less))) = inr (inr (inl less))
+may_one s count some (inr (inr (inr on))) = inr (inr (inr (bits_go_on (reverse s.turns) 1 count ∙ on)))
 
 -- what has risen was told
 pub risen_now : (watched before now : List Bool) (k : ℕ) → risen watched before now k ≡ true →

@@ -1,7 +1,7 @@
 -- Bits in which no port of a session is told anything: none of them changes a line.
 use Rattle.std.proofs.Common.{◌≡◌, ℕ, zero, suc, ◌+◌, ◌<◌, ◌≤◌, Bool, true, false, List, [], ◌∷◌, ◌++◌, length, drop}
 use Rattle.std.proofs.Common.{refl, sym, ap, ◌∙◌, subst, append-nil, arith, inl, inr}
-use Rattle.std.specs.Prelude.{◌&&◌, slice_index_or}
+use Rattle.std.specs.Prelude.{◌&&◌, reverse, slice_index_or}
 use Rattle.std.proofs.lemmas.Bool.{cases_eq}
 use Rattle.lemmas.proofs.Gathered.{gathered_push}
 use Rattle.can_bits.specs.declared.level.Level.{Level}
@@ -16,6 +16,7 @@ use Rattle.sja_link.specs.Showing.{seen_of}
 use Rattle.sja_link.proofs.JournalEntries.Entering.{part_here, part_else}
 use Rattle.sja_bus.specs.UntilTold.{HasBitsMore}
 use Rattle.sja_bus.specs.UntilTold.HasBitsMore.{none as no_more, one_more as one_bit_more}
+use Rattle.sja_plan.specs.Limits.{most_bits}
 use Rattle.sja_plan.specs.declared.turn.Turn.{Turn}
 use Rattle.sja_plan.specs.declared.turn.Turn.TheVariants.{Bus}
 use Rattle.sja_plan.specs.Plan.{PlanValue}
@@ -35,7 +36,8 @@ use Rattle.sja_session.specs.declared.session_room.SessionRoom.{SessionRoom}
 use Rattle.sja_session.specs.Inside.UntilTold.{RunsUntilTold}
 use Rattle.sja_session.specs.Lines.{line_at}
 use Rattle.sja_session.specs.Running.{RunsBits}
-use Rattle.sja_session.specs.Sessions.{SessionValue, session_of, setup_by, IsAt}
+use Rattle.sja_serial.specs.Ending.{progress}
+use Rattle.sja_session.specs.Sessions.{SessionValue, session_of, setup_by, start_of, IsAt, Took, written}
 use Rattle.sja_session.specs.Turning.{with_turn}
 use Rattle.sja_session.specs.Inside.Written.{with_bits}
 use Rattle.sja_session.specs.Watching.{NoneRose, rise}
@@ -110,7 +112,28 @@ module _ (room : SessionRoom) (plan : PlanValue) (steps : List (List Step)) (tur
       } in
       subst (λ (l : List Turn). RunsBits (after room plan steps turns m mid) (session_of room now plan steps l) 1 1
       accesses)
-      (turn_more turns m) (runs at turn (omega (arith, e)))
+      (turn_more turns m) (runs at turn (omega (arith, e)) (with_turn (with_bits turns m) (Bus 1)) (λ end. refl))
+
+  -- the same with other turns, if it has no end
+  taken_down : (m n : ℕ) {count : ℕ} {mid now : SerialValue} → RunsBits (after room plan steps turns m mid)
+      (after room plan steps turns n now) count 1 accesses → (items : List Turn) →
+      (plan.bits ≤ most_bits plan.version → items ≡ with_bits turns n) →
+      RunsBits (after room plan steps turns m mid) (session_of room now plan steps items) count 1 accesses
+  taken_down m n {now = now} r items noted = record {
+    bits = r.bits;
+    most = r.most;
+    whole = r.whole;
+    at = record {
+      stands = r.at.stands;
+      steps = r.at.steps;
+      count = r.at.count;
+      took = λ end. subst (λ (l : List Turn). Took accesses (start_of (length plan.nodes)) (reverse l)
+          (progress now accesses)) (sym (noted end)) (r.at.took end);
+    };
+    room = refl;
+    wrote = λ end. ap (λ (l : List Turn). written (session_of room now plan steps l)) (noted end) ∙ r.wrote end;
+    plan = refl;
+  }
 
   module _ (first : SerialValue) (many : length first.bus.journals ≡ length plan.nodes) where
     -- since then no port was told anything: each line is as it was
@@ -144,11 +167,10 @@ module _ (room : SessionRoom) (plan : PlanValue) (steps : List (List Step)) (tur
   -- up to the first of which a port is told
   pub until_told : (was now : SerialValue) (n : ℕ) → IsAt (session_of room was plan steps turns) accesses →
       TakesBits (setup_by (session_of room was plan steps turns)) (all_deeds accesses) (NoneTold was) was n now →
-      1 ≤ n →
-      RunsUntilTold (session_of room was plan steps turns) (session_of room now plan steps (with_turn turns (Bus n)))
-      n accesses
-  until_told was _ _ h (no_bit _) some = absurd (omega (arith, some))
-  until_told was now _ h (one_more _ mid _ m bits told takes) some =
+      1 ≤ n → (items : List Turn) → (plan.bits ≤ most_bits plan.version → items ≡ with_turn turns (Bus n)) →
+      RunsUntilTold (session_of room was plan steps turns) (session_of room now plan steps items) n accesses
+  until_told was _ _ h (no_bit _) some items noted = absurd (omega (arith, some))
+  until_told was now _ h (one_more _ mid _ m bits told takes) some items noted =
       let many = h.stands.stands.count.journals ∙ h.count in
       let rose = λ (watched : List Bool). none_rose_in was many watched was mid m h bits told in record {
         before = after room plan steps turns m mid;
@@ -156,5 +178,5 @@ module _ (room : SessionRoom) (plan : PlanValue) (steps : List (List Step)) (tur
         many = omega arith;
         quiet = rose;
         same = as_first was many m mid told;
-        bit = one_bit m mid now (quiet_at (rose [])) takes;
+        bit = taken_down m (suc m) (one_bit m mid now (quiet_at (rose [])) takes) items noted;
       }

@@ -1,17 +1,21 @@
 -- A list of lists, and one with one more element.
-use Rattle.std.proofs.Common.{◌≡◌, ◌≢◌, ℕ, zero, suc, ◌<◌, List, [], ◌∷◌, ◌++◌, Vec, Global, length, map, refl, sym, ap}
+use Rattle.std.proofs.Common.{◌≡◌, ◌≢◌, ℕ, zero, suc, ◌<◌, List, [], ◌∷◌, ◌++◌, length, map, refl, sym, ap}
 use Rattle.std.proofs.Common.{◌∙◌, arith}
 use Rattle.std.proofs.lemmas.List.{length-map, length-set, get_or-set_same, get_or-set_other, map-append}
 use Rattle.std.specs.Prelude.{slice_index_or, slice_set}
+use Rattle.sja_link.specs.Recents.{Recents}
 use Rattle.sja_driver.specs.Accesses.{Access, accesses_at}
 use Rattle.sja_script.specs.declared.step.Step.{Step}
 use Rattle.sja_serial.specs.Stepping.{with_accesses}
 use Rattle.sja_session.specs.Sessions.{steps_in}
 use Rattle.sja_session.specs.Writing.{with_more}
 
--- what is in lists with room
-abbrev pub listed : {A : Type 0} → List (Vec A Global) → List (List A)
-listed {A} lists = map (λ (list : Vec A Global). list.items) lists
+-- what is in lists that may forget, and for how much they were made
+abbrev pub listed : {A : Type 0} → List (Recents A) → List (List A)
+listed {A} lists = map (λ (list : Recents A). list.items) lists
+
+abbrev pub rooms_of : {A : Type 0} → List (Recents A) → List ℕ
+rooms_of {A} lists = map (λ (list : Recents A). list.room) lists
 
 pub more_set : {A B : Type 0} (f : A → List B) (xs : List A) (node : ℕ) (old new : A) (b : B) →
     old ≡ slice_index_or xs node old → node < length xs → f new ≡ f old ++ b ∷ [] →

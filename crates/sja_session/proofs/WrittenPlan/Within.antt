@@ -2,11 +2,11 @@
 use Rattle.std.proofs.Common.{ℕ, zero, suc, ◌<◌, ◌≤◌, List, [], ◌∷◌, length, arith}
 use Rattle.std.specs.Prelude.{reverse}
 use Rattle.sja_plan.specs.Limits.{most_steps}
-use Rattle.sja_plan.proofs.PlanLimits.ByVersion.{steps_most}
+use Rattle.sja_plan.proofs.PlanLimits.ByVersion.{bits_most, steps_most}
 use Rattle.sja_driver.specs.Accesses.{Access, accesses_at}
 use Rattle.sja_serial.specs.Ending.{progress}
 use Rattle.sja_serial.proofs.AllNodes.Several.{many_steps}
-use Rattle.sja_session.specs.Sessions.{SessionValue, IsAt, start_of}
+use Rattle.sja_session.specs.Sessions.{SessionValue, HasEnd, IsAt, start_of}
 use Rattle.sja_session.specs.Stepping.{steps_done_of}
 use Rattle.sja_session.specs.Turning.{latest_size}
 use Rattle.sja_session.proofs.WrittenPlan.OneMore.{steps_many}
@@ -26,7 +26,7 @@ module _ (s : SessionValue) (accesses : List (List Access)) (h : IsAt s accesses
   bits_few = let a = h.stands.stands.all_bits in let b = h.stands.stands.bits in omega (arith, a, b)
 
   module _ (done : (k : ℕ) → k < length s.plan.nodes → steps_done_of s k ≤ s.room.steps)
-      (steps : s.room.steps ≤ most_steps s.plan.version) where
+      (end : HasEnd s) (steps : s.room.steps ≤ most_steps s.plan.version) where
     steps_few : (k : ℕ) → length (accesses_at accesses k) ≤ 65535
     steps_few = few_steps accesses 65535 (λ k less.
         let c = many_steps h.stands in let n = h.count in let w = done k (omega (arith, less, c, n)) in
@@ -36,5 +36,5 @@ module _ (s : SessionValue) (accesses : List (List Access)) (h : IsAt s accesses
     -- so the last turn isn't large
     pub last_few : latest_size (reverse s.turns) ≤ 2000000
     last_few = latest_few accesses (start_of (length s.plan.nodes)) (reverse s.turns) (progress s.run accesses) 2000000
-        (let b = bits_few in let few = h.stands.stands.may.bits.1 in omega (arith, b, few))
-        (λ k. let n = steps_few k in omega (arith, n)) h.took
+        (let b = bits_few in let all = bits_most s.plan.version in omega (arith, b, end, all))
+        (λ k. let n = steps_few k in omega (arith, n)) (h.took end)

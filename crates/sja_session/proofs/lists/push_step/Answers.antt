@@ -1,12 +1,12 @@
-use Rattle.std.proofs.Common.{Vec, Global, vec_capacity}
+use Rattle.sja_link.specs.Recents.{Recents}
 use Rattle.sja_script.specs.declared.step.Step.{Step}
 use Rattle.sja_session.proofs.WrittenPlan.OneMore.{more_set, same_set}
 use Rattle.sja_session.proofs.lists.push_step.Goals as goal
 
 pub returns-clause-lists : goal.returns-clause-lists
-returns-clause-lists c = more_set (λ (steps : Vec Step Global). steps.items) _ c.args.node c.index_mut.result.now _
-    c.args.step c.index_mut.ensures.value c.requires.there c.push_reserved.ensures.items
+returns-clause-lists c = more_set (λ (steps : Recents Step). steps.items) _ c.args.node c.index_mut.result.now _
+    c.args.step c.index_mut.ensures.value c.requires.there c.push.ensures.items
 
 pub returns-clause-room : goal.returns-clause-room
-returns-clause-room c = same_set (λ (steps : Vec Step Global). vec_capacity steps) _ c.args.node
-    c.index_mut.result.now _ c.index_mut.ensures.value c.requires.there c.push_reserved.ensures.capacity
+returns-clause-room c = same_set (λ (steps : Recents Step). steps.room) _ c.args.node
+    c.index_mut.result.now _ c.index_mut.ensures.value c.requires.there c.push.ensures.room

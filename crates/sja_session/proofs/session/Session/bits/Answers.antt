@@ -1,22 +1,37 @@
-use Rattle.std.proofs.Common.{rules, ◌≡◌, ℕ, ◌-◌, List, sym, subst, arith}
-use Rattle.sja_plan.specs.declared.turn.Turn.{Turn}
+use Rattle.std.proofs.Common.{rules, ◌≡◌, ℕ, ◌-◌, true, false, List, sym, subst, arith}
+use Rattle.std.specs.Prelude.{not}
 use Rattle.sja_driver.specs.Accesses.{Access}
 use Rattle.sja_serial.specs.Bits.{TakesBusTurn}
 use Rattle.sja_serial.specs.Serial.{Setup, all_deeds, setup_in}
 use Rattle.sja_serial.proofs.AllNodes.Several.{at_own, from_own}
 use Rattle.sja_serial.proofs.WholeRun.GoingOn.{bits_run}
 use Rattle.sja_session.specs.Running.{RunsBits, MayRun}
-use Rattle.sja_session.specs.Sessions.{SessionValue, session_of, setup_by, IsAt}
+use Rattle.sja_session.specs.Sessions.{SessionValue, HasEnd, IsAt, IsEndless, session_of, setup_by, plan_with}
 use Rattle.sja_session.proofs.BitsDone.AfterBits.{turn_fits, session_now}
-use Rattle.sja_session.proofs.BitsDone.BitsRun.{runs}
+use Rattle.sja_session.proofs.BitsDone.BitsRun.{runs, turn_most}
+use Rattle.sja_session.proofs.WrittenPlan.Noting.{end_of, noted_of, not_noted_of}
 use Rattle.sja_session.proofs.WrittenPlan.OneMore.{listed}
 use Rattle.sja_session.proofs.session.Session.bits.Goals.{After-bits}
 use Rattle.sja_session.proofs.session.Session.bits.Goals as goal
 
 -- the session as it was, and how many bits were run
 abbrev was : After-bits → SessionValue
-was c = session_of c.self.inside.room c.self.inside.run c.self.inside.plan (listed c.self.inside.steps.items)
+was c = session_of c.self.inside.room c.self.inside.run
+    (plan_with c.self.inside.plan c.self.inside.bits c.self.inside.struck.items) (listed c.self.inside.steps.items)
     c.self.inside.turns.items
+
+-- turns are taken down where it has an end
+noted : (c : After-bits) → HasEnd (was c) → not c.is_endless.result ≡ true
+noted c = noted_of c.is_endless.result (was c) c.args.self.now c.self.view_is c.is_endless.ensures.yes
+    c.is_endless.ensures.no
+
+with_end : (c : After-bits) → not c.is_endless.result ≡ true → HasEnd (was c)
+with_end c = end_of c.is_endless.result (was c) c.args.self.now c.self.view_is c.is_endless.ensures.yes
+    c.is_endless.ensures.no
+
+not_noted : (c : After-bits) → IsEndless (was c) → not c.is_endless.result ≡ false
+not_noted c = not_noted_of c.is_endless.result (was c) c.args.self.now c.self.view_is c.is_endless.ensures.yes
+    c.is_endless.ensures.no
 
 abbrev run : After-bits → ℕ
 run c = c.bits.result - c.bits-before.result
@@ -39,36 +54,51 @@ may c = subst (λ (s : SessionValue). MayRun s c.args.count) (sym c.self.view_is
 
 pub overflow_sub-run : goal.overflow_sub-run
 overflow_sub-run c =
-    let inv = c.self.invariant in let t = c.bus_turn.ensures.turn (all_deeds inv.accesses)
+    let inv = c.self.invariant.0 in let t = c.bus_turn.ensures.turn (all_deeds inv.accesses)
     (at_own inv.at.stands.stands) in
     let b = bits_run (setup_in c.self.inside.run) (all_deeds inv.accesses) _ c.self.inside.run c.bus_turn.new.self
     t.run t.bits in
     let x = c.bits-before.ensures in let y = c.bits.ensures in omega (arith, b, x, y)
 
-pub bus_turn-requires : goal.bus_turn-requires
-bus_turn-requires c = let inv = c.self.invariant in (all_deeds inv.accesses, at_own inv.at.stands.stands)
+pub overflow_cast-run : goal.overflow_cast-run
+overflow_cast-run c =
+    let inv = c.self.invariant.0 in let t = c.bus_turn.ensures.turn (all_deeds inv.accesses)
+    (at_own inv.at.stands.stands) in
+    let b = bits_run (setup_in c.self.inside.run) (all_deeds inv.accesses) _ c.self.inside.run c.bus_turn.new.self
+    t.run t.bits in
+    let x = c.bits-before.ensures in let y = c.bits.ensures in let m = turn_most t in let f = c.ranges.count.fits in
+    omega (arith, b, x, y, m, f)
 
-pub push_bits-requires-clause-fits : goal.push_bits-requires-clause-fits
-push_bits-requires-clause-fits c =
-    let at = (goal.at.push_bits-requires-clause-fits c).After-bits in
-    turn_fits c.self.invariant (ran at _ c.self.invariant.at).bits (run_is at)
+pub bus_turn-requires : goal.bus_turn-requires
+bus_turn-requires c = let inv = c.self.invariant.0 in (all_deeds inv.accesses, at_own inv.at.stands.stands)
+
+pub note_bits-requires-clause-room : goal.note_bits-requires-clause-room
+note_bits-requires-clause-room c = λ is. let inv = c.self.invariant.0 in let few = inv.few in let room = inv.room in
+    omega (arith, few, room)
+
+pub note_bits-requires-clause-fits : goal.note_bits-requires-clause-fits
+note_bits-requires-clause-fits c = λ is.
+    let at = (goal.at.note_bits-requires-clause-fits c).After-bits in
+    turn_fits c.self.invariant.0 (ran at _ c.self.invariant.0.at).bits (run_is at) (with_end at is)
 
 -- where some were run some were asked for
 pub invariant_of-self : goal.invariant_of-self
 invariant_of-self c =
-    let at = (goal.at.invariant_of-self c).After-bits in let inv = c.self.invariant in
-    let push = c.push_bits.ensures in
-    let most = (runs inv.at (ran at _ inv.at) (run_is at)).most in
-    session_now inv (ran at _ inv.at).bits (run_is at) push.turns push.capacity (may at)
-    (λ some. omega (arith, some, most))
+    let at = (goal.at.invariant_of-self c).After-bits in let inv = c.self.invariant.0 in
+    let note = c.note_bits.ensures in
+    let most = (runs inv.at (ran at _ inv.at) (run_is at) c.note_bits.new.turns.items
+    (λ end. note.turns (noted at end))).most in (
+      session_now inv (ran at _ inv.at).bits (run_is at) (λ end. note.turns (noted at end))
+          (λ endless. note.none (not_noted at endless)) note.capacity (may at) (λ some. omega (arith, some, most)),
+      c.self.invariant.1,
+    )
 
 pub returns-clause-bits : goal.returns-clause-bits
 returns-clause-bits c = λ accesses h.
-    let at = (goal.at.returns-clause-bits c).After-bits in
+    let at = (goal.at.returns-clause-bits c).After-bits in let note = c.note_bits.ensures in
     let own = subst (λ (s : SessionValue). IsAt s accesses) (sym c.self.view_is) h in
-    let then = λ (l : List Turn). session_of c.self.inside.room c.bus_turn.new.self c.self.inside.plan
-    (listed c.self.inside.steps.items) l in
-    subst (λ (s : SessionValue). RunsBits s (then c.push_bits.new.turns.items) c.args.count (run at) accesses)
-    c.self.view_is
-    (subst (λ (l : List Turn). RunsBits (was at) (then l) c.args.count (run at) accesses)
-    (sym c.push_bits.ensures.turns) (runs own (ran at accesses own) (run_is at)))
+    let then = session_of c.self.inside.room c.bus_turn.new.self
+    (plan_with c.self.inside.plan c.self.inside.bits c.self.inside.struck.items)
+    (listed c.self.inside.steps.items) c.note_bits.new.turns.items in
+    subst (λ (s : SessionValue). RunsBits s then c.args.count (run at) accesses) c.self.view_is
+    (runs own (ran at accesses own) (run_is at) c.note_bits.new.turns.items (λ end. note.turns (noted at end)))

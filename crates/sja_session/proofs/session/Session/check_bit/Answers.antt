@@ -7,6 +7,6 @@ pub returns-clause-ahead : goal.returns-clause-ahead
 returns-clause-ahead c =
     let all = ap (λ (s : SessionValue). s.plan.bits) c.self.view_is in
     let ran = ap (λ (s : SessionValue). s.run.bits) c.self.view_is in
-    let few = c.if-bit-bits.false in let most = c.bits.ensures.value in
-    let past = c.if-bit-bits-2.false in let now = c.bits-2.ensures in
-    (omega (arith, few, most, all), omega (arith, past, now, ran))
+    let few = c.if-bit-self.false in
+    let past = c.if-bit-bits.false in let now = c.bits.ensures in
+    (omega (arith, few, all), omega (arith, past, now, ran))

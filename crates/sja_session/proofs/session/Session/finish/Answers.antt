@@ -4,23 +4,34 @@ use Rattle.sja_log.specs.Runs.{IsSerialRun}
 use Rattle.sja_plan.specs.Plan.{PlanValue}
 use Rattle.sja_log.specs.declared.end.End.TheVariants.{Turns as TurnsDone}
 use Rattle.sja_serial.specs.Ending.{IsLogOf, MayBeOf}
+use Rattle.sja_serial.specs.Keeping.{IsKept}
 use Rattle.sja_serial.specs.Serial.{Setup}
 use Rattle.sja_serial.proofs.AllNodes.Several.{by_own, many_steps, setup_is}
 use Rattle.sja_serial.proofs.WholeRun.Whole.{serial_of}
-use Rattle.sja_session.specs.Sessions.{SessionValue, session_of, IsAt, written}
-use Rattle.sja_session.proofs.Lifetime.Finished.{may_be_written, turns_lead}
+use Rattle.sja_session.specs.Sessions.{SessionValue, HasEnd, IsAt, written, plan_with, session_of}
+use Rattle.sja_session.proofs.Lifetime.Finished.{kept_by, may_be_written, turns_lead}
 use Rattle.sja_session.proofs.WrittenPlan.OneMore.{listed}
 use Rattle.sja_session.proofs.session.Session.finish.Goals.{In_ok-log}
 use Rattle.sja_session.proofs.session.Session.finish.Goals as goal
 
 pub finish-requires : goal.finish-requires
-finish-requires c = let inv = c.self.invariant in (inv.accesses, by_own inv.at.stands)
+finish-requires c =
+    let inv = c.self.invariant.0 in
+    let end = subst (λ (x : SessionValue). HasEnd x) (sym c.self.view_is) c.in_ok-plan.ensures.end in (
+      (inv.accesses, by_own inv.at.stands),
+      subst (λ (s : Setup). IsKept s) (setup_is inv.at.stands.stands) (kept_by _ _ _ inv end),
+    )
 
 -- ---- the session as it was
 
 abbrev was : In_ok-log → SessionValue
-was c = session_of c.self.inside.room c.self.inside.run c.self.inside.plan (listed c.self.inside.steps.items)
+was c = session_of c.self.inside.room c.self.inside.run
+    (plan_with c.self.inside.plan c.self.inside.bits c.self.inside.struck.items) (listed c.self.inside.steps.items)
     c.self.inside.turns.items
+
+-- it has an end, since it has a plan
+with_end : (c : In_ok-log) → HasEnd (was c)
+with_end c = subst (λ (x : SessionValue). HasEnd x) (sym c.self.view_is) c.in_ok-plan.ensures.end
 
 log_is : (c : In_ok-log) (accesses : List (List Access)) → IsAt (was c) accesses →
     IsLogOf (written (was c)) c.self.inside.run accesses TurnsDone c.in_ok-log.log
@@ -29,7 +40,7 @@ log_is c accesses h = c.in_ok-log.ensures.log (written (was c)) accesses (by_own
     (was c) accesses h))
 
 plan_is : (c : In_ok-log) → c.in_ok-plan.plan ≡ written (was c)
-plan_is c = c.in_ok-plan.ensures ∙ ap written (sym c.self.view_is)
+plan_is c = c.in_ok-plan.ensures.plan ∙ ap written (sym c.self.view_is)
 
 pub returns-clause-own : goal.returns-clause-own
 returns-clause-own c = λ accesses h.
@@ -41,13 +52,13 @@ returns-clause-own c = λ accesses h.
 
 pub returns-clause-headline : goal.returns-clause-headline
 returns-clause-headline c = λ k d less.
-    let at = (goal.at.returns-clause-headline c).In_ok-log in let inv = c.self.invariant in
+    let at = (goal.at.returns-clause-headline c).In_ok-log in let inv = c.self.invariant.0 in
     ((log_is at inv.accesses inv.at).run.nodes k d less).account
 
 pub returns-clause-run : goal.returns-clause-run
 returns-clause-run c =
-    let at = (goal.at.returns-clause-run c).In_ok-log in let inv = c.self.invariant in
+    let at = (goal.at.returns-clause-run c).In_ok-log in let inv = c.self.invariant.0 in
     let s = was at in
     subst (λ (p : PlanValue). IsSerialRun p c.in_ok-log.log) (sym (plan_is at))
     (serial_of (written s) s.run inv.accesses TurnsDone c.in_ok-log.log (many_steps inv.at.stands)
-    (log_is at inv.accesses inv.at) (turns_lead s inv.accesses inv.at))
+    (log_is at inv.accesses inv.at) (turns_lead s inv.accesses inv.at (with_end at)))

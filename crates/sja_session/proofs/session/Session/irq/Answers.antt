@@ -2,7 +2,7 @@ use Rattle.std.proofs.Common.{ℕ, List, length, ap, sym, subst, arith}
 use Rattle.sja_serial.specs.Serial.{Setup, StandsBy, all_deeds}
 use Rattle.sja_serial.proofs.AllNodes.Several.{at_own, by_own, from_own}
 use Rattle.sja_session.specs.Lines.{Looks}
-use Rattle.sja_session.specs.Sessions.{SessionValue, session_of, IsAt}
+use Rattle.sja_session.specs.Sessions.{SessionValue, session_of, IsAt, plan_with}
 use Rattle.sja_session.proofs.BitsDone.Looked.{looks, still_at}
 use Rattle.sja_session.proofs.BitsDone.AfterBits.{session_at}
 use Rattle.sja_session.proofs.WrittenPlan.OneMore.{listed}
@@ -10,7 +10,7 @@ use Rattle.sja_session.proofs.session.Session.irq.Goals as goal
 
 pub irq-requires : goal.irq-requires
 irq-requires c =
-    let inv = c.self.invariant in let near = c.if-from-nodes.false in let n = c.nodes.ensures.value in
+    let inv = c.self.invariant.0 in let near = c.if-from-nodes.false in let n = c.nodes.ensures.value in
     let many = inv.at.stands.stands.count.drivers in let count = inv.at.count in
     let all = inv.at.stands.stands.may.nodes in let steps = ap (λ (l : List ℕ). length l) inv.at.stands.stands.steps in
     ((all_deeds inv.accesses, at_own inv.at.stands.stands), omega (arith, near, n, count, all, steps))
@@ -20,9 +20,11 @@ pub returns-clause-line : goal.returns-clause-line
 returns-clause-line c = λ accesses h.
     let b = c.self.inside in
     let own = subst (λ (s : SessionValue). IsAt s accesses) (sym c.self.view_is) h in
-    subst (λ (s : SessionValue). Looks s (session_of b.room c.irq.new.self b.plan (listed b.steps.items) b.turns.items)
+    subst (λ (s : SessionValue). Looks s (session_of b.room c.irq.new.self (plan_with b.plan b.bits b.struck.items)
+    (listed b.steps.items) b.turns.items)
     c.args.node c.irq.result accesses) c.self.view_is
-    (looks b.plan b.run c.irq.new.self (listed b.steps.items) b.turns.items c.irq.ensures.bits
+    (looks (plan_with b.plan b.bits b.struck.items) b.run c.irq.new.self (listed b.steps.items) b.turns.items
+    c.irq.ensures.bits
     (λ l stands. from_own (λ (x : Setup). StandsBy x c.irq.new.self l) stands.stands
     (c.irq.ensures.by l (by_own stands))) c.args.node c.irq.result
     accesses own c.irq.ensures.bus c.irq.ensures.ports (λ m d less. c.irq.ensures.kept m d
@@ -31,8 +33,11 @@ returns-clause-line c = λ accesses h.
 
 pub invariant_of-self : goal.invariant_of-self
 invariant_of-self c =
-    let b = c.self.inside in let inv = c.self.invariant in
-    session_at c.irq.new.self b.plan.strikes inv
-    (still_at b.plan b.run c.irq.new.self (listed b.steps.items) b.turns.items c.irq.ensures.bits
-    (λ l stands. from_own (λ (x : Setup). StandsBy x c.irq.new.self l) stands.stands
-    (c.irq.ensures.by l (by_own stands))) inv.accesses inv.at)
+    let b = c.self.inside in let inv = c.self.invariant.0 in (
+      session_at c.irq.new.self (plan_with b.plan b.bits b.struck.items).strikes inv
+          (still_at (plan_with b.plan b.bits b.struck.items) b.run c.irq.new.self (listed b.steps.items) b.turns.items
+          c.irq.ensures.bits
+          (λ l stands. from_own (λ (x : Setup). StandsBy x c.irq.new.self l) stands.stands
+          (c.irq.ensures.by l (by_own stands))) inv.accesses inv.at),
+      c.self.invariant.1,
+    )

@@ -1,77 +1,89 @@
-use Rattle.std.proofs.Common.{rules, ◌≡◌, ◌<◌, ℕ, List, Vec, Global, length, map, replicate}
-use Rattle.std.proofs.Common.{vec_capacity, sym, ap}
-use Rattle.std.proofs.Common.{◌∙◌, arith}
-use Rattle.std.specs.Prelude.{[]}
-use Rattle.std.proofs.lemmas.List.{length-map, length-replicate, get_or-map}
-use Rattle.lemmas.proofs.Lists.{some_of}
-use Rattle.sja_plan.proofs.PlanLimits.ByVersion.{bits_most}
-use Rattle.sja_script.specs.declared.step.Step.{Step}
+use Rattle.std.proofs.Common.{rules, ◌≡◌, ◌≤◌, ℕ, List, ◌++◌, length, replicate, append-nil, refl, sym, ap, ◌∙◌}
+use Rattle.std.proofs.Common.{subst, All, arith}
+use Rattle.std.specs.Prelude.{◌^◌, [], slice_index_or}
+use Rattle.std.proofs.lemmas.List.{length-replicate, get_or-replicate}
+use Rattle.sja_plan.specs.Plan.{PlanValue}
+use Rattle.sja_script.specs.declared.strike.Strike.{Strike}
+use Rattle.sja_session.specs.Sessions.{plan_with}
 use Rattle.sja_session.proofs.Lifetime.Blank.{session_first, at_first, wrote_first, stands_made, bus_made}
-use Rattle.sja_session.proofs.session.Session.over.Goals.{After-bits}
+use Rattle.sja_session.proofs.Lifetime.GoingBy.{bare_with, few_each, goes_first, one_bit}
+use Rattle.sja_session.proofs.WrittenPlan.OneMore.{listed, rooms_of}
+use Rattle.sja_session.proofs.session.Session.over.Goals.{In_ok-struck}
 use Rattle.sja_session.proofs.session.Session.over.Goals as goal
 
+-- the plan as the session goes by it
+abbrev gone : In_ok-struck → PlanValue
+gone c = plan_with c.args.plan c.args.bits c.in_ok-struck.struck.items
+
 -- the script, and how many steps there is room for
-script_is : (c : After-bits) → c.of-script.result ≡ c.args.plan.strikes
+script_is : (c : In_ok-struck) → c.of-script.result ≡ c.args.plan.strikes
 script_is c = c.of-script.ensures ∙ c.in_ok-copied_strikes.ensures ∙ c.strikes.ensures.value
 
-sizes_are : (c : After-bits) → c.in_ok-rooms.rooms.items ≡ replicate (length c.args.plan.nodes) c.args.room.steps
+script_with : (c : In_ok-struck) → c.of-script.result ≡ (gone c).strikes
+script_with c = script_is c ∙ sym (append-nil c.args.plan.strikes)
+    ∙ ap (λ (l : List Strike). c.args.plan.strikes ++ l) (sym c.in_ok-struck.ensures.empty)
+
+sizes_are : (c : In_ok-struck) → c.in_ok-rooms.rooms.items ≡ replicate (length c.args.plan.nodes) c.args.room.steps
 sizes_are c = search rules
+
+lists_are : (c : In_ok-struck) → listed c.in_ok-steps.steps.items ≡ replicate (length c.args.plan.nodes) []
+lists_are c = c.in_ok-steps.ensures.lists ∙ ap (λ (n : ℕ). replicate n []) c.nodes-nodes.ensures.value
 
 pub new-requires : goal.new-requires
 new-requires c =
-    let at = (goal.at.new-requires c).After-bits in
-    let n = ap (λ (l : List ℕ). length l) (sizes_are at) ∙ length-replicate (length c.args.plan.nodes)
-    c.args.room.steps in
+    let sizes : c.in_ok-rooms.rooms.items ≡ replicate (length c.args.plan.nodes) c.args.room.steps = search rules in
+    let n = ap (λ (l : List ℕ). length l) sizes ∙ length-replicate (length c.args.plan.nodes) c.args.room.steps in
     let few = c.limits.ensures.nodes in let least = few.0 in let most = few.1 in
-    let some = c.limits.ensures.bits in let one = some.0 in let all = some.1 in let b = c.bits.ensures.value in
-    let limit = bits_most c.args.plan.version in record {
+    let may = c.requires.may in record {
       nodes = (omega (arith, n, least), omega (arith, n, most));
-      bits = (omega (arith, b, one), omega (arith, b, all, limit));
+      bits = (one_bit c.args.plan c.args.bits c.args.room may c.limits.ensures.bits.0, may.few);
+      steps = subst (λ (l : List ℕ). All (λ (s : ℕ). s ≤ 2 ^ 56) l) (sym sizes)
+          (few_each (length c.args.plan.nodes) c.args.room.steps may.counted);
     }
 
 pub invariant_of-result : goal.invariant_of-result
 invariant_of-result c =
-    let at = (goal.at.invariant_of-result c).After-bits in let big = c.in_ok-turns.ensures.exact in
-    let lists = c.in_ok-steps.ensures.lists ∙ ap (λ (n : ℕ). replicate n []) c.nodes-nodes.ensures.value in
-    let many = sym (length-map c.in_ok-steps.steps.items (λ (x : Vec Step Global). x.items))
-    ∙ ap (λ (l : List (List Step)). length l) lists ∙ length-replicate (length c.args.plan.nodes) [] in
-    session_first c.args.room c.requires.bare lists c.in_ok-turns.ensures.items
-    (stands_made c.args.room c.args.plan c.version.ensures.value c.bits.ensures.value (script_is at) (sizes_are at)
-    c.in_ok-run.ensures.stands)
-    (bus_made c.args.room c.args.plan c.version.ensures.value c.bits.ensures.value (script_is at) (sizes_are at)
-    c.in_ok-run.run'
-    c.in_ok-run.ensures.bus)
-    (map (λ (x : Vec Step Global). vec_capacity x) c.in_ok-steps.steps.items) _ c.requires.room (λ node less.
-    let there : node < length c.in_ok-steps.steps.items = omega (arith, less, many) in
-    let some = some_of c.in_ok-steps.steps.items node there in
-    let is = get_or-map (λ (x : Vec Step Global). vec_capacity x) c.in_ok-steps.steps.items node some 0 there in
-    let enough = c.in_ok-steps.ensures.room node some there in omega (arith, is, enough)) (omega (arith, big))
+    let at = (goal.at.invariant_of-result c).In_ok-struck in let big = c.in_ok-turns.ensures.exact in
+    let plan = c.args.plan in let may = c.requires.may in (
+      session_first c.args.room (bare_with plan c.args.bits c.in_ok-struck.struck.items c.requires.bare) (lists_are at)
+          c.in_ok-turns.ensures.items
+          (stands_made c.args.room (gone at) c.version.ensures.value refl (script_with at) (sizes_are at)
+          c.in_ok-run.ensures.stands)
+          (bus_made c.args.room (gone at) c.version.ensures.value refl (script_with at) (sizes_are at)
+          c.in_ok-run.run' c.in_ok-run.ensures.bus)
+          (rooms_of c.in_ok-steps.steps.items) _ may.counted may.limits
+          (λ node less. ap (λ (l : List ℕ). slice_index_or l node 0) c.in_ok-steps.ensures.room
+          ∙ ap (λ (n : ℕ). slice_index_or (replicate n c.args.room.steps) node 0) c.nodes-nodes.ensures.value
+          ∙ get_or-replicate (length plan.nodes) node c.args.room.steps 0 less) (omega (arith, big)),
+      goes_first plan c.args.bits c.args.room c.in_ok-struck.struck may c.limits.ensures.bits.1
+          c.in_ok-struck.ensures.empty (c.in_ok-struck.ensures.whole ∙ c.strikes_for.ensures),
+    )
 
 pub returns-clause-at : goal.returns-clause-at
 returns-clause-at c =
-    let at = (goal.at.returns-clause-at c).After-bits in
-    at_first c.args.room c.requires.bare (c.in_ok-steps.ensures.lists
-    ∙ ap (λ (n : ℕ). replicate n []) c.nodes-nodes.ensures.value) c.in_ok-turns.ensures.items
-    (stands_made c.args.room c.args.plan c.version.ensures.value c.bits.ensures.value (script_is at) (sizes_are at)
+    let at = (goal.at.returns-clause-at c).In_ok-struck in
+    at_first c.args.room (bare_with c.args.plan c.args.bits c.in_ok-struck.struck.items c.requires.bare) (lists_are at)
+    c.in_ok-turns.ensures.items
+    (stands_made c.args.room (gone at) c.version.ensures.value refl (script_with at) (sizes_are at)
     c.in_ok-run.ensures.stands)
-    (bus_made c.args.room c.args.plan c.version.ensures.value c.bits.ensures.value (script_is at) (sizes_are at)
-    c.in_ok-run.run'
-    c.in_ok-run.ensures.bus)
+    (bus_made c.args.room (gone at) c.version.ensures.value refl (script_with at) (sizes_are at)
+    c.in_ok-run.run' c.in_ok-run.ensures.bus)
 
 pub returns-clause-bus : goal.returns-clause-bus
 returns-clause-bus c =
-    let at = (goal.at.returns-clause-bus c).After-bits in
-    bus_made c.args.room c.args.plan c.version.ensures.value c.bits.ensures.value (script_is at) (sizes_are at)
-    c.in_ok-run.run'
-    c.in_ok-run.ensures.bus
+    let at = (goal.at.returns-clause-bus c).In_ok-struck in
+    bus_made c.args.room (record c.args.plan { bits = c.args.bits }) c.version.ensures.value refl (script_is at)
+    (sizes_are at) c.in_ok-run.run' c.in_ok-run.ensures.bus
 
 pub returns-clause-plan : goal.returns-clause-plan
 returns-clause-plan c =
-    let at = (goal.at.returns-clause-plan c).After-bits in
-    wrote_first c.args.room c.requires.bare (c.in_ok-steps.ensures.lists
-    ∙ ap (λ (n : ℕ). replicate n []) c.nodes-nodes.ensures.value) c.in_ok-turns.ensures.items
-    (stands_made c.args.room c.args.plan c.version.ensures.value c.bits.ensures.value (script_is at) (sizes_are at)
+    let at = (goal.at.returns-clause-plan c).In_ok-struck in
+    wrote_first c.args.room (bare_with c.args.plan c.args.bits c.in_ok-struck.struck.items c.requires.bare)
+    (lists_are at) c.in_ok-turns.ensures.items
+    (stands_made c.args.room (gone at) c.version.ensures.value refl (script_with at) (sizes_are at)
     c.in_ok-run.ensures.stands)
-    (bus_made c.args.room c.args.plan c.version.ensures.value c.bits.ensures.value (script_is at) (sizes_are at)
-    c.in_ok-run.run'
-    c.in_ok-run.ensures.bus)
+    (bus_made c.args.room (gone at) c.version.ensures.value refl (script_with at) (sizes_are at)
+    c.in_ok-run.run' c.in_ok-run.ensures.bus)
+    ∙ ap (λ (l : List Strike). let p : PlanValue = record c.args.plan { bits = c.args.bits; strikes = l } in p)
+    (ap (λ (l : List Strike). c.args.plan.strikes ++ l) c.in_ok-struck.ensures.empty
+    ∙ append-nil c.args.plan.strikes)

@@ -1,7 +1,8 @@
-use Rattle.std.proofs.Common.{rules, ◌≡◌, ◌<◌, ◌+◌, ℕ, true, false, List, Vec, Global, length, map, vec_capacity, sym}
+use Rattle.std.proofs.Common.{rules, ◌≡◌, ◌<◌, ◌+◌, ℕ, true, false, List, length, vec_capacity, sym}
 use Rattle.std.proofs.Common.{ap, ◌∙◌, subst, arith}
-use Rattle.std.specs.Prelude.{Option, Some, [], Result, Ok, Err, slice_index_or, unwrap_or}
+use Rattle.std.specs.Prelude.{Option, Some, [], Result, Ok, Err, not, slice_index_or, unwrap_or}
 use Rattle.std.proofs.lemmas.List.{length-map}
+use Rattle.sja_link.specs.Recents.{Recents}
 use Rattle.sja_plan.specs.declared.turn.Turn.{Turn}
 use Rattle.sja_plan.specs.declared.turn.Turn.TheVariants.{Node}
 use Rattle.sja_script.specs.declared.done.Done.{Done as StepDone}
@@ -19,13 +20,15 @@ use Rattle.sja_session.specs.declared.step_outcome.StepOutcome.{StepOutcome}
 use Rattle.sja_session.specs.declared.step_outcome.StepOutcome.TheVariants.{Answer, Waits as HasToWait}
 use Rattle.sja_session.specs.declared.step_fault.StepFault.{StepFault}
 use Rattle.sja_session.specs.Answering.{last_of}
-use Rattle.sja_session.specs.Sessions.{SessionValue, session_of, setup_by, IsAt, IsSession}
+use Rattle.sja_session.specs.Sessions.{SessionValue, HasEnd, IsAt, IsEndless, IsSession}
+use Rattle.sja_session.specs.Sessions.{session_of, setup_by, plan_with}
 use Rattle.sja_session.specs.Stepping.{MayStep, DoesStep, Waits}
 use Rattle.sja_session.specs.Turning.{with_turn}
 use Rattle.sja_session.specs.Writing.{with_more}
 use Rattle.sja_session.proofs.StepsDone.Stepped.{answer_is, does_step, room_left, waits_step}
 use Rattle.sja_session.proofs.StepsDone.StepAnswered.{after_done, after_waiting}
-use Rattle.sja_session.proofs.WrittenPlan.OneMore.{listed}
+use Rattle.sja_session.proofs.WrittenPlan.Noting.{end_of, noted_of, not_noted_of}
+use Rattle.sja_session.proofs.WrittenPlan.OneMore.{listed, rooms_of}
 use Rattle.sja_session.proofs.WrittenPlan.Within.{last_few}
 use Rattle.sja_session.proofs.session.Session.step.Goals.{After-step}
 use Rattle.sja_session.proofs.session.Session.step.Goals as goal
@@ -54,8 +57,22 @@ turn_of was now n node taken own = taken ∙ ap (λ k. with_turn was (Node k 1))
 -- ---- the session as it was, and the try
 
 abbrev was : After-step → SessionValue
-was c = session_of c.self.inside.room c.self.inside.run c.self.inside.plan (listed c.self.inside.steps.items)
+was c = session_of c.self.inside.room c.self.inside.run
+    (plan_with c.self.inside.plan c.self.inside.bits c.self.inside.struck.items) (listed c.self.inside.steps.items)
     c.self.inside.turns.items
+
+-- turns are taken down where it has an end
+noted : (c : After-step) → HasEnd (was c) → not c.is_endless.result ≡ true
+noted c = noted_of c.is_endless.result (was c) c.args.self.now c.self.view_is c.is_endless.ensures.yes
+    c.is_endless.ensures.no
+
+with_end : (c : After-step) → not c.is_endless.result ≡ true → HasEnd (was c)
+with_end c = end_of c.is_endless.result (was c) c.args.self.now c.self.view_is c.is_endless.ensures.yes
+    c.is_endless.ensures.no
+
+not_noted : (c : After-step) → IsEndless (was c) → not c.is_endless.result ≡ false
+not_noted c = not_noted_of c.is_endless.result (was c) c.args.self.now c.self.view_is c.is_endless.ensures.yes
+    c.is_endless.ensures.no
 
 may : (c : After-step) → MayStep (was c) c.args.node
 may c = subst (λ (s : SessionValue). MayStep s c.args.node) (sym c.self.view_is) c.in_ok-may_step.ensures.ok
@@ -75,27 +92,33 @@ waited c accesses h is_left =
 
 pub step-requires : goal.step-requires
 step-requires c =
-    let b = c.self.inside in let inv = c.self.invariant in
+    let b = c.self.inside in let inv = c.self.invariant.0 in
     let may = subst (λ (s : SessionValue). MayStep s c.args.node) (sym c.self.view_is) c.in_ok-may_step.ensures.ok in (
       (inv.accesses, by_own inv.at.stands),
       subst (λ (x : Setup). HasRoomLeft x b.run c.args.node) (setup_is inv.at.stands.stands)
-          (room_left b.plan b.run (listed b.steps.items) b.turns.items inv.accesses c.args.node inv.at may),
+          (room_left (plan_with b.plan b.bits b.struck.items) b.run (listed b.steps.items) b.turns.items inv.accesses
+          c.args.node inv.at may),
     )
 
 pub invariant_of-self : goal.invariant_of-self
 invariant_of-self c =
-    let at = (goal.at.invariant_of-self c).After-step in let inv = c.self.invariant in
-    after_waiting c.self.inside.plan c.self.inside.run c.step.new.self (listed c.self.inside.steps.items)
-    c.self.inside.turns.items c.args.node c.args.step _ (vec_capacity c.self.inside.turns) inv (may at)
-    (waited at inv.accesses inv.at (search rules))
+    let at = (goal.at.invariant_of-self c).After-step in let inv = c.self.invariant.0 in (
+      after_waiting (plan_with c.self.inside.plan c.self.inside.bits c.self.inside.struck.items) c.self.inside.run
+          c.step.new.self (listed c.self.inside.steps.items)
+          c.self.inside.turns.items c.args.node c.args.step _ (vec_capacity c.self.inside.turns) inv (may at)
+          (waited at inv.accesses inv.at (search rules)),
+      c.self.invariant.1,
+    )
 
 pub returns-then-not-step-clause-waits : goal.returns-then-not-step-clause-waits
 returns-then-not-step-clause-waits c = λ e accesses h.
     let at = (goal.at.returns-then-not-step-clause-waits c).After-step in let b = c.self.inside in
     let own = subst (λ (s : SessionValue). IsAt s accesses) (sym c.self.view_is) h in
-    subst (λ (s : SessionValue). Waits s (session_of b.room c.step.new.self b.plan (listed b.steps.items)
+    subst (λ (s : SessionValue). Waits s (session_of b.room c.step.new.self (plan_with b.plan b.bits b.struck.items)
+    (listed b.steps.items)
     b.turns.items) c.args.node c.args.step accesses) c.self.view_is
-    (waits_step b.plan b.run c.step.new.self (listed b.steps.items) b.turns.items accesses c.args.node c.args.step
+    (waits_step (plan_with b.plan b.bits b.struck.items) b.run c.step.new.self (listed b.steps.items) b.turns.items
+    accesses c.args.node c.args.step
     (may at).there own (waited at accesses own (search rules)))
 
 -- a step that has to wait has no answer
@@ -110,27 +133,32 @@ place_is c = search rules
 pub push_step-requires-clause-there : goal.push_step-requires-clause-there
 push_step-requires-clause-there c =
     let at = (goal.at.push_step-requires-clause-there c).After-step in
-    let there = (may at).there in let n = c.self.invariant.at.count in let e = place_is at in
-    let many = length-map c.self.inside.steps.items (λ (x : Vec Step Global). x.items) in
+    let there = (may at).there in let n = c.self.invariant.0.at.count in let e = place_is at in
+    let many = length-map c.self.inside.steps.items (λ (x : Recents Step). x.items) in
     omega (arith, there, n, e, many)
 
 pub push_step-requires-clause-room : goal.push_step-requires-clause-room
 push_step-requires-clause-room c =
     let at = (goal.at.push_step-requires-clause-room c).After-step in
     let there = (may at).there in let left = (may at).left in
-    let places = c.self.invariant.places c.args.node there in
+    let places = c.self.invariant.0.places c.args.node there in
     subst (λ k. length (slice_index_or (listed c.self.inside.steps.items) k [])
-    < slice_index_or (map (λ (x : Vec Step Global). vec_capacity x) c.self.inside.steps.items) k 0)
+    < slice_index_or (rooms_of c.self.inside.steps.items) k 0)
     (sym (place_is at)) (omega (arith, left, places))
 
-pub push_turn-requires-clause-fits : goal.push_turn-requires-clause-fits
-push_turn-requires-clause-fits c =
-    let at = (goal.at.push_turn-requires-clause-fits c).After-step in let inv = c.self.invariant in
-    let few = last_few (was at) inv.accesses inv.at inv.done inv.steps in omega (arith, few)
+pub note-requires-clause-room : goal.note-requires-clause-room
+note-requires-clause-room c = λ is. let inv = c.self.invariant.0 in let few = inv.few in let room = inv.room in
+    omega (arith, few, room)
+
+pub note-requires-clause-fits : goal.note-requires-clause-fits
+note-requires-clause-fits c = λ is.
+    let at = (goal.at.note-requires-clause-fits c).After-step in let inv = c.self.invariant.0 in
+    let end = with_end at is in
+    let few = last_few (was at) inv.accesses inv.at inv.done end (inv.steps end) in omega (arith, few)
 
 pub last_answer-requires : goal.last_answer-requires
 last_answer-requires c =
-    let at = (goal.at.last_answer-requires c).After-step in let inv = c.self.invariant in
+    let at = (goal.at.last_answer-requires c).After-step in let inv = c.self.invariant.0 in
     let t = did at inv.accesses inv.at (search rules) in
     let d = t.stands.stands.count.drivers in let n = inv.at.count in let m = (may at).there in let e = place_is at in
     omega (arith, d, n, m, e)
@@ -144,12 +172,13 @@ answer_of : (c : After-step) (accesses : List (List Access)) (h : IsAt (was c) a
 answer_of c accesses h is_done x =
     ap (λ k. last_of (λ (y : StepDone). y.answer) (done_in (log_of (slice_index_or c.step.new.self.drivers k x))))
     (place_is c)
-    ∙ answer_is c.self.inside.plan c.self.inside.run c.step.new.self (listed c.self.inside.steps.items)
+    ∙ answer_is (plan_with c.self.inside.plan c.self.inside.bits c.self.inside.struck.items) c.self.inside.run
+    c.step.new.self (listed c.self.inside.steps.items)
     c.self.inside.turns.items accesses c.args.node c.args.step (may c).there h (did c accesses h is_done) x
 
 pub unreachable-requires : goal.unreachable-requires
 unreachable-requires c =
-    let at = (goal.at.unreachable-requires c).After-step in let inv = c.self.invariant in
+    let at = (goal.at.unreachable-requires c).After-step in let inv = c.self.invariant.0 in
     let k = inv.at.stands.stands.count.drivers in let n = inv.at.count in let m = (may at).there in
     let x = first_driver c.self.inside.run.drivers (omega (arith, k, n, m)) in
     let some = answer_of at inv.accesses inv.at (search rules) x in
@@ -157,25 +186,27 @@ unreachable-requires c =
 
 pub invariant_of-self-2 : goal.invariant_of-self-2
 invariant_of-self-2 c =
-    let at = (goal.at.invariant_of-self-2 c).After-step in let inv = c.self.invariant in let b = c.self.inside in
+    let at = (goal.at.invariant_of-self-2 c).After-step in let inv = c.self.invariant.0 in let b = c.self.inside in
     let t = did at inv.accesses inv.at (search rules) in
     let wrote : listed c.push_step.new.lists.items ≡ with_more (listed b.steps.items) c.args.node c.args.step =
-    c.push_step.ensures.lists ∙ ap (λ k. with_more (listed b.steps.items) k c.args.step) (place_is at) in
-    let took = turn_of b.turns.items _ _ c.args.node c.push_turn.ensures.turns (omega arith) in
-    subst (λ (k : ℕ). IsSession (session_of b.room c.step.new.self b.plan (listed c.push_step.new.lists.items)
-    c.push_turn.new.turns.items) (map (λ (x : Vec Step Global). vec_capacity x) c.push_step.new.lists.items) k)
-    (sym c.push_turn.ensures.capacity)
-    (subst (λ (sizes : List ℕ). IsSession (session_of b.room c.step.new.self b.plan
-    (listed c.push_step.new.lists.items) c.push_turn.new.turns.items) sizes (vec_capacity b.turns))
-    (sym c.push_step.ensures.room)
-    (subst (λ (l : List (List Step)). IsSession (session_of b.room c.step.new.self b.plan l
-    c.push_turn.new.turns.items) (map (λ (x : Vec Step Global). vec_capacity x) b.steps.items) (vec_capacity b.turns))
-    (sym wrote)
-    (subst (λ (l : List Turn). IsSession (session_of b.room c.step.new.self b.plan
-    (with_more (listed b.steps.items) c.args.node c.args.step) l)
-    (map (λ (x : Vec Step Global). vec_capacity x) b.steps.items) (vec_capacity b.turns)) (sym took)
-    (after_done b.plan b.run c.step.new.self (listed b.steps.items) b.turns.items c.args.node c.args.step _
-    (vec_capacity b.turns) inv (may at) t))))
+    c.push_step.ensures.lists ∙ ap (λ k. with_more (listed b.steps.items) k c.args.step) (place_is at) in (
+      subst (λ (k : ℕ). IsSession (session_of b.room c.step.new.self (plan_with b.plan b.bits b.struck.items)
+          (listed c.push_step.new.lists.items)
+          c.note.new.turns.items) (rooms_of c.push_step.new.lists.items) k) (sym c.note.ensures.capacity)
+          (subst (λ (sizes : List ℕ). IsSession (session_of b.room c.step.new.self
+          (plan_with b.plan b.bits b.struck.items)
+          (listed c.push_step.new.lists.items) c.note.new.turns.items) sizes (vec_capacity b.turns))
+          (sym c.push_step.ensures.room)
+          (subst (λ (l : List (List Step)). IsSession (session_of b.room c.step.new.self
+          (plan_with b.plan b.bits b.struck.items) l
+          c.note.new.turns.items) (rooms_of b.steps.items) (vec_capacity b.turns)) (sym wrote)
+          (after_done (plan_with b.plan b.bits b.struck.items) b.run c.step.new.self (listed b.steps.items)
+          b.turns.items c.args.node c.args.step _
+          (vec_capacity b.turns) inv (may at) t c.note.new.turns.items
+          (λ end. turn_of b.turns.items _ _ c.args.node (c.note.ensures.turns (noted at end)) (omega arith))
+          (λ endless. c.note.ensures.none (not_noted at endless))))),
+      c.self.invariant.1,
+    )
 
 pub returns-clause-done : goal.returns-clause-done
 returns-clause-done c = λ answer e accesses h.
@@ -190,13 +221,13 @@ returns-clause-done c = λ answer e accesses h.
     ∙ ap (λ (r : Result StepOutcome StepFault). answer_in r answer) e in
     let wrote : listed c.push_step.new.lists.items ≡ with_more (listed b.steps.items) c.args.node c.args.step =
     c.push_step.ensures.lists ∙ ap (λ k. with_more (listed b.steps.items) k c.args.step) (place_is at) in
-    let took = turn_of b.turns.items _ _ c.args.node c.push_turn.ensures.turns (omega arith) in
-    subst (λ (s : SessionValue). DoesStep s (session_of b.room c.step.new.self b.plan
-    (listed c.push_step.new.lists.items) c.push_turn.new.turns.items) c.args.node c.args.step answer accesses)
+    subst (λ (s : SessionValue). DoesStep s (session_of b.room c.step.new.self (plan_with b.plan b.bits b.struck.items)
+    (listed c.push_step.new.lists.items) c.note.new.turns.items) c.args.node c.args.step answer accesses)
     c.self.view_is
-    (subst (λ (l : List (List Step)). DoesStep (was at) (session_of b.room c.step.new.self b.plan l
-    c.push_turn.new.turns.items) c.args.node c.args.step answer accesses) (sym wrote)
-    (subst (λ (l : List Turn). DoesStep (was at) (session_of b.room c.step.new.self b.plan
-    (with_more (listed b.steps.items) c.args.node c.args.step) l) c.args.node c.args.step answer accesses) (sym took)
-    (does_step b.plan b.run c.step.new.self (listed b.steps.items) b.turns.items accesses c.args.node c.args.step
-    (may at).there own t answer same)))
+    (subst (λ (l : List (List Step)). DoesStep (was at) (session_of b.room c.step.new.self
+    (plan_with b.plan b.bits b.struck.items) l
+    c.note.new.turns.items) c.args.node c.args.step answer accesses) (sym wrote)
+    (does_step (plan_with b.plan b.bits b.struck.items) b.run c.step.new.self (listed b.steps.items) b.turns.items
+    accesses c.args.node c.args.step
+    (may at).there own t answer same c.note.new.turns.items
+    (λ end. turn_of b.turns.items _ _ c.args.node (c.note.ensures.turns (noted at end)) (omega arith))))

@@ -1,22 +1,38 @@
-use Rattle.std.proofs.Common.{rules, ◌≡◌, ℕ, List, length, sym, ap, subst, arith}
-use Rattle.sja_plan.specs.declared.turn.Turn.{Turn}
+use Rattle.std.proofs.Common.{rules, ◌≡◌, ℕ, true, false, List, length, sym, ap, subst, arith}
+use Rattle.std.specs.Prelude.{not}
 use Rattle.sja_driver.specs.Accesses.{Access}
 use Rattle.sja_serial.specs.Placing.{TakesTo}
 use Rattle.sja_serial.specs.Serial.{Setup, all_deeds}
 use Rattle.sja_serial.proofs.AllNodes.Several.{at_own, from_own}
 use Rattle.sja_session.specs.Placing.{RunsTo}
 use Rattle.sja_session.specs.Running.{MayRun}
-use Rattle.sja_session.specs.Sessions.{SessionValue, session_of, setup_by, IsAt}
+use Rattle.sja_session.specs.Sessions.{SessionValue, HasEnd, IsAt, IsEndless, session_of, setup_by, plan_with}
 use Rattle.sja_session.proofs.BitsDone.AfterBits.{turn_fits, session_now}
 use Rattle.sja_session.proofs.BitsDone.PlaceRun.{many_run, came_to}
+use Rattle.sja_session.proofs.WrittenPlan.Noting.{end_of, noted_of, not_noted_of}
 use Rattle.sja_session.proofs.WrittenPlan.OneMore.{listed}
 use Rattle.sja_session.proofs.session.Session.to_place.Goals.{After-place_turn-bits}
 use Rattle.sja_session.proofs.session.Session.to_place.Goals as goal
 
 -- the session as it was
 abbrev was : After-place_turn-bits → SessionValue
-was c = session_of c.self.inside.room c.self.inside.run c.self.inside.plan (listed c.self.inside.steps.items)
+was c = session_of c.self.inside.room c.self.inside.run
+    (plan_with c.self.inside.plan c.self.inside.bits c.self.inside.struck.items) (listed c.self.inside.steps.items)
     c.self.inside.turns.items
+
+-- turns are taken down where it has an end
+noted : (c : After-place_turn-bits) → HasEnd (was c) → not c.is_endless-noted.result ≡ true
+noted c = noted_of c.is_endless-noted.result (was c) c.args.self.now c.self.view_is c.is_endless-noted.ensures.yes
+    c.is_endless-noted.ensures.no
+
+with_end : (c : After-place_turn-bits) → not c.is_endless-noted.result ≡ true → HasEnd (was c)
+with_end c = end_of c.is_endless-noted.result (was c) c.args.self.now c.self.view_is c.is_endless-noted.ensures.yes
+    c.is_endless-noted.ensures.no
+
+not_noted : (c : After-place_turn-bits) → IsEndless (was c) → not c.is_endless-noted.result ≡ false
+not_noted c = not_noted_of c.is_endless-noted.result (was c) c.args.self.now c.self.view_is
+    c.is_endless-noted.ensures.yes
+    c.is_endless-noted.ensures.no
 
 -- the bits were run from the accesses at which it stood
 takes : (c : After-place_turn-bits) (accesses : List (List Access)) → IsAt (was c) accesses →
@@ -33,32 +49,38 @@ may c = subst (λ (s : SessionValue). MayRun s c.args.limit) (sym c.self.view_is
 
 pub place_turn-bits-requires : goal.place_turn-bits-requires
 place_turn-bits-requires c =
-    let inv = c.self.invariant in let near = c.if-from-nodes.false in let n = c.nodes.ensures.value in
+    let inv = c.self.invariant.0 in let near = c.if-from-nodes.false in let n = c.nodes.ensures.value in
     let count = inv.at.count in
     let all = inv.at.stands.stands.may.nodes in let steps = ap (λ (l : List ℕ). length l) inv.at.stands.stands.steps in
     ((all_deeds inv.accesses, at_own inv.at.stands.stands), omega (arith, near, n, count, all, steps))
 
-pub push_bits-requires-clause-fits : goal.push_bits-requires-clause-fits
-push_bits-requires-clause-fits c =
-    let at = (goal.at.push_bits-requires-clause-fits c).After-place_turn-bits in let inv = c.self.invariant in
-    let t = takes at inv.accesses inv.at in turn_fits inv t.bits (many_run inv.at t)
+pub note_bits-requires-clause-room : goal.note_bits-requires-clause-room
+note_bits-requires-clause-room c = λ is. let inv = c.self.invariant.0 in let few = inv.few in let room = inv.room in
+    omega (arith, few, room)
+
+pub note_bits-requires-clause-fits : goal.note_bits-requires-clause-fits
+note_bits-requires-clause-fits c = λ is.
+    let at = (goal.at.note_bits-requires-clause-fits c).After-place_turn-bits in let inv = c.self.invariant.0 in
+    let t = takes at inv.accesses inv.at in turn_fits inv t.bits (many_run inv.at t) (with_end at is)
 
 pub invariant_of-self : goal.invariant_of-self
 invariant_of-self c =
-    let at = (goal.at.invariant_of-self c).After-place_turn-bits in let push = c.push_bits.ensures in
-    let inv = c.self.invariant in let t = takes at inv.accesses inv.at in
-    session_now inv t.bits (many_run inv.at t) push.turns push.capacity (may at)
-    (λ some. let most = t.most in omega (arith, some, most))
+    let at = (goal.at.invariant_of-self c).After-place_turn-bits in let note = c.note_bits.ensures in
+    let inv = c.self.invariant.0 in let t = takes at inv.accesses inv.at in (
+      session_now inv t.bits (many_run inv.at t) (λ end. note.turns (noted at end))
+          (λ endless. note.none (not_noted at endless)) note.capacity (may at)
+          (λ some. let most = t.most in omega (arith, some, most)),
+      c.self.invariant.1,
+    )
 
 pub returns-clause-runs : goal.returns-clause-runs
 returns-clause-runs c = λ accesses h.
-    let at = (goal.at.returns-clause-runs c).After-place_turn-bits in
+    let at = (goal.at.returns-clause-runs c).After-place_turn-bits in let note = c.note_bits.ensures in
     let own = subst (λ (s : SessionValue). IsAt s accesses) (sym c.self.view_is) h in
-    let then = λ (l : List Turn). session_of c.self.inside.room c.place_turn-bits.new.self c.self.inside.plan
-    (listed c.self.inside.steps.items) l in
-    subst (λ (s : SessionValue). RunsTo s (then c.push_bits.new.turns.items) c.args.node c.args.place c.args.limit
-    (c.place_turn-bits.result.0) (c.place_turn-bits.result.1) accesses)
+    let then = session_of c.self.inside.room c.place_turn-bits.new.self
+    (plan_with c.self.inside.plan c.self.inside.bits c.self.inside.struck.items)
+    (listed c.self.inside.steps.items) c.note_bits.new.turns.items in
+    subst (λ (s : SessionValue). RunsTo s then c.args.node c.args.place c.args.limit (c.place_turn-bits.result.0)
+    (c.place_turn-bits.result.1) accesses)
     c.self.view_is
-    (subst (λ (l : List Turn). RunsTo (was at) (then l) c.args.node c.args.place c.args.limit
-    (c.place_turn-bits.result.0) (c.place_turn-bits.result.1) accesses)
-    (sym c.push_bits.ensures.turns) (came_to own (takes at accesses own)))
+    (came_to own (takes at accesses own) c.note_bits.new.turns.items (λ end. note.turns (noted at end)))

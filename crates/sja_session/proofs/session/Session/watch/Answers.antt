@@ -26,21 +26,21 @@ place_now watched before now k rose =
 
 pub loop-bits-init : goal.loop-bits-init
 loop-bits-init c =
-    let at = subst (λ (s : SessionValue). IsAt s c.self.invariant.accesses) c.self.view_is c.self.invariant.at in
+    let at = subst (λ (s : SessionValue). IsAt s c.self.invariant.0.accesses) c.self.view_is c.self.invariant.0.at in
     let may : MayRun c.args.self.now c.args.count = c.lacks_bus_turn.ensures.no (search rules) in record {
       ran = λ accesses h. no_bit (c.looks-before.ensures.still accesses h);
       told = λ accesses h k less few on. c.looks-before.ensures.lines accesses h k less few on
           ∙ sym (line_still (c.looks-before.ensures.still accesses h) k);
-      may = λ some. may_still (c.looks-before.ensures.still c.self.invariant.accesses at)
+      may = λ some. may_still (c.looks-before.ensures.still c.self.invariant.0.accesses at)
           (may_one c.args.self.now c.args.count some may);
       most = omega arith;
     }
 
-pub returns-else-bits-clause-watches : goal.returns-else-bits-clause-watches
-returns-else-bits-clause-watches c = λ accesses h.
+pub returns-else-bits-self-clause-watches : goal.returns-else-bits-self-clause-watches
+returns-else-bits-self-clause-watches c = λ accesses h.
     let inv = c.loop-bits.invariant in let q = inv.ran accesses h in let most = inv.most in
-    let over = c.if-bits.false in let x = c.bits.ensures in let y = c.bits-in-loop-bits.ensures.value in
-    let own : c.self-in-loop-bits.inside.plan.bits ≤ c.self-in-loop-bits.inside.run.bits = omega (arith, over, x, y) in
+    let over = c.if-bits-self.false in let x = c.bits.ensures in
+    let own : c.self-in-loop-bits.inside.bits ≤ c.self-in-loop-bits.inside.run.bits = omega (arith, over, x) in
     let spent = subst (λ (s : SessionValue). s.plan.bits ≤ s.run.bits) c.self-in-loop-bits.view_is own in
     let p = quiet_bits q in (q, most, inr (omega (arith, spent, p)))
 
@@ -65,7 +65,7 @@ loop-bits-preserved c =
     let inv = c.loop-bits.invariant in
     let most : length c.args.self.now.plan.nodes ≤ 8 =
     subst (λ (s : SessionValue). length s.plan.nodes ≤ 8) c.self.view_is c.limits.ensures.nodes.1 in
-    let at = subst (λ (s : SessionValue). IsAt s c.self.invariant.accesses) c.self.view_is c.self.invariant.at in
+    let at = subst (λ (s : SessionValue). IsAt s c.self.invariant.0.accesses) c.self.view_is c.self.invariant.0.at in
     let run = λ (accesses : List (List Access)) (h : IsAt c.args.self.now accesses).
     c.run_until_told-bits.ensures.ran accesses (quiet_at (inv.ran accesses h)) in
     let still = λ (accesses : List (List Access)) (h : IsAt c.args.self.now accesses).
@@ -77,6 +77,6 @@ loop-bits-preserved c =
           c.looks-now.ensures.lines accesses (run accesses h).bit.at k
           (let e = nodes_same h (run accesses h).bit.at in omega (arith, e, less)) eight on
           ∙ sym (line_still (still accesses h) k);
-      may = λ some. may_still (still c.self.invariant.accesses at) c.run_until_told-bits.ensures.may;
+      may = λ some. may_still (still c.self.invariant.0.accesses at) c.run_until_told-bits.ensures.may;
       most = let few = c.run_until_told-bits.ensures.most in let m = inv.most in omega (arith, few, m);
     }

@@ -87,8 +87,8 @@ first : (c : After-do_if) (accesses : List (List Access)) → IsAt (was c) acces
 first c accesses at = c.do_if.ensures accesses at
 
 -- it stands somewhere
-somewhere : (c : After-do_if) → IsAt (was c) c.self.invariant.accesses
-somewhere c = subst (λ (s : SessionValue). IsAt s c.self.invariant.accesses) c.self.view_is c.self.invariant.at
+somewhere : (c : After-do_if) → IsAt (was c) c.self.invariant.0.accesses
+somewhere c = subst (λ (s : SessionValue). IsAt s c.self.invariant.0.accesses) c.self.view_is c.self.invariant.0.at
 
 pub do_if-requires-2-clause-may : goal.do_if-requires-2-clause-may
 do_if-requires-2-clause-may c =
