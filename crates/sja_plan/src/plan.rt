@@ -101,14 +101,14 @@ impl Plan {
     /// How many steps the driver of each node has, in order.
     ///
     /// Error: [`OutOfMemory`] where memory was refused.
-    pub fn step_counts(&self, alloc: Global) -> Result<Vec<u32>, OutOfMemory>
+    pub fn step_counts(&self, alloc: Global) -> Result<Vec<u64>, OutOfMemory>
         ensures count { IfOk result (λ counts. length counts.items ≡ length self.now.nodes) }
         ensures value { IfOk result (λ counts. counts.items ≡ step_counts self.now) }
     {
         let nodes = self.nodes();
         let mut counts = Vec::with_capacity(alloc, nodes)?;
         for node in 0..nodes {
-            counts.push_reserved(self.steps(node).len() as u32);
+            counts.push_reserved(self.steps(node).len() as u64);
         }
         Ok(counts)
     }

@@ -1,3 +1,4 @@
 pub mod LinksMade
 pub mod Threads
 pub mod Begins
+pub mod FewDeeds

@@ -144,7 +144,9 @@ impl BusThread {
             AllEnded (length plan.now.nodes) (turns_in board.new.told.items)) }
         ensures fault { IfErr result (Stops plan.now self.old self.new) }
     {
-        board.tell_bits(self.bus.bits_run());
+        // Asked for what holds of every bus.
+        let _ = self.bus.bits_run();
+        board.tell_bits(self.run);
         let round = self.round_beside(plan, board, awaited)?;
         match round {
             Round::Spent => {
@@ -218,7 +220,9 @@ impl BusThread {
     {
         let awaited = last_awaited(plan);
         for _ in self.run..=plan.bits() {
-            board.tell_bits(self.bus.bits_run());
+            // Asked for what holds of every bus.
+            let _ = self.bus.bits_run();
+            board.tell_bits(self.run);
             self.gather()?;
             match self.bit_if_due(plan, board, awaited)? {
                 Round::Ran => {}
@@ -257,10 +261,10 @@ fn all_begun<N: Order, R: Wait>(plan: &Plan, bus: &Bus, board: &TurnBoard<N, R>)
 }
 
 /// Whether the driver of this script, which was found to wait for so many bits, waits for more than have run.
-fn waits_for_later(steps: &[Step], run: u32, awaited: u32) -> bool
+fn waits_for_later(steps: &[Step], run: u64, awaited: u32) -> bool
     ensures { result ≡ true → run < most_awaited steps.now }
 {
-    run < awaited && run < most_awaited(steps)
+    run < (awaited as u64) && run < (most_awaited(steps) as u64)
 }
 
 /// Whether a node has begun whose first start was taken or wasn't, and whose driver was found to have ended, and to

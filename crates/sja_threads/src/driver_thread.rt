@@ -6,7 +6,7 @@ ghost use Rattle.sja_regs.specs.DriverSettings.{settings_in};
 ghost use Rattle.sja_regs.specs.Registers.{at_power_on};
 ghost use Rattle.sja_driver.specs.Holding.{NumberedFrom};
 ghost use Rattle.sja_driver.specs.LoggedDrivers.{log_of};
-ghost use Rattle.sja_driver.specs.Logs.{HasRoom, IsEmpty, done_in, done_room};
+ghost use Rattle.sja_driver.specs.Logs.{HasRoom, IsEmpty, KeepsLog, done_in, done_room};
 ghost use Rattle.sja_threads.specs.Ordering.{is_at_port};
 ghost use Rattle.sja_threads.specs.Working.{HasWorked};
 ghost use Rattle.sja_threads.specs.Inside.Names.{IsNamed};
@@ -170,6 +170,7 @@ pub(crate) fn follow<N: Order, D: DriverEnd + Drop, G: Gate, R: Wait>(
     ensures worked { HasWorked D.stands (settings_in (at_power_on done.version)) done.node steps.now links.items
         result result.done.list }
     ensures named { IsNamed N.deeds done.node result.done.name }
+    ensures keeps { KeepsLog log → KeepsLog (log_of result.driver) }
     ensures done { G.QUITS ≡ false → length (done_in (log_of result.driver)) ≡ length steps.now }
 {
     let bytes = by_bytes(done.version);

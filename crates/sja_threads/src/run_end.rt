@@ -108,6 +108,7 @@ fn settled_log(
     ensures log { IfOk result (IsSettledLog bus.bus workeds.items end) }
     ensures fault { IfErr result (λ f. (f ≡ Memory) ⊎ (f ≡ Unsettled)) }
 {
+    plan.limits();
     let BusThread {
         bus,
         links,

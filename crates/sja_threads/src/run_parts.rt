@@ -47,10 +47,11 @@ impl<G: Gate> RunParts<G> {
         ensures listed { IfOk result (λ made.
             AreListed (length plan.now.nodes) made.0.starts.items made.1.items) }
     {
+        plan.limits();
         let nodes = plan.nodes();
         let script = script_of(alloc, plan)?;
         let steps = deeds_for(alloc, plan)?;
-        let bus = Bus::new(alloc, plan.bits(), steps, script)?;
+        let bus = Bus::new(alloc, plan.bits() as u64, steps, script)?;
         let mut links = Vec::new(alloc);
         let mut lists = Vec::new(alloc);
         let starts = starts_of(alloc, plan, gates, &mut links, &mut lists)?;
@@ -75,14 +76,14 @@ impl<G: Gate> RunParts<G> {
 /// How many deeds the driver of each node may do, in order.
 ///
 /// Error: [`OutOfMemory`] where memory was refused.
-fn deeds_for(alloc: Global, plan: &Plan) -> Result<Vec<u32>, OutOfMemory>
+fn deeds_for(alloc: Global, plan: &Plan) -> Result<Vec<u64>, OutOfMemory>
     ensures count { IfOk result (λ counts. length counts.items ≡ length plan.now.nodes) }
     ensures counts { IfOk result (λ counts. counts.items ≡ deed_counts plan.now) }
 {
     let nodes = plan.nodes();
     let mut counts = Vec::with_capacity(alloc, nodes)?;
     for node in 0..nodes {
-        let Some(many) = most_deeds(plan.version(), plan.steps(node).len() as u32) else {
+        let Some(many) = most_deeds(plan.version(), plan.steps(node).len() as u64) else {
             unreachable!()
         };
         counts.push_reserved(many);
@@ -112,10 +113,11 @@ fn starts_of<G: Gate>(
     ensures listed { IfOk result (λ starts.
         AreListed (length plan.now.nodes) starts.items lists.new.items) }
 {
+    plan.limits();
     let mut starts = Vec::with_capacity(alloc, plan.nodes())?;
     let mut node = 0u8;
     for gate in gates {
-        let steps = plan.steps(usize::from(node)).len() as u32;
+        let steps = plan.steps(usize::from(node)).len() as u64;
         let log = WorkLog::new(alloc, steps, steps)?;
         let links = links_of(alloc, node, buses)?;
         let (list, done) = PortLists::new(node);

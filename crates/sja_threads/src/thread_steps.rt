@@ -62,7 +62,7 @@ impl<N: Order, D: DriverEnd + Drop> DriverThread<N, D> {
         };
         let kept = self.driver.kept();
         self.found = found;
-        self.driver.enter(answer, found, kept);
+        self.driver.enter(answer, found as u64, kept);
         true
     }
 
@@ -87,7 +87,7 @@ impl<N: Order, D: DriverEnd + Drop> DriverThread<N, D> {
         let mut moved = kept;
         moved.answered(&answer);
         self.driver
-            .enter(told(bytes, &kept, step, answer), self.found, moved);
+            .enter(told(bytes, &kept, step, answer), self.found as u64, moved);
         true
     }
 
@@ -114,7 +114,7 @@ impl<N: Order, D: DriverEnd + Drop> DriverThread<N, D> {
         if !self.do_parts(at, &steps, number, &mut tries, &mut kept) {
             return false;
         }
-        self.driver.enter(StepAnswer::Done, self.found, kept);
+        self.driver.enter(StepAnswer::Done, self.found as u64, kept);
         true
     }
 

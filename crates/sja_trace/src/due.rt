@@ -13,13 +13,13 @@ impl Due {
     ghost use Rattle.sja_trace.specs.TraceText.{is_due};
 
     /// Whether a step with so many bits before it stands there.
-    pub(crate) fn has(self, before: u32) -> bool
+    pub(crate) fn has(self, before: u64) -> bool
         ensures { result ≡ is_due self.late self.bit before }
     {
         if self.late {
-            self.bit <= before
+            (self.bit as u64) <= before
         } else {
-            before == self.bit
+            before == (self.bit as u64)
         }
     }
 }

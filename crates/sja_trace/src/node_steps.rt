@@ -24,7 +24,7 @@ pub(crate) struct NodeSteps<'a> {
     /// The place up to which they were gone over.
     place: usize,
     /// The step at that place has so many bits before it, or more.
-    next: u32,
+    next: u64,
     ghost ascends: { AscendIf in_order done.now } by { AscendIf-prop in_order done.now },
     ghost are_past: { ArePast past place done.now } by { ArePast-prop past place done.now },
     ghost is_next: { IsNext next place done.now } by { IsNext-prop next place done.now },
@@ -58,7 +58,7 @@ impl<'a> NodeSteps<'a> {
     pub(crate) fn go_to(&mut self, bit: u32)
         ensures { HasSameSteps self.old self.new }
     {
-        if self.next < bit && self.past <= bit {
+        if self.next < (bit as u64) && self.past <= bit {
             let place = place_past(self.done, self.place, bit);
             self.place = place;
             self.next = bits_at(self.done, place);
@@ -79,7 +79,8 @@ impl<'a> NodeSteps<'a> {
         if place >= self.done.len() {
             return most;
         }
-        most.min(self.done[place].bits.saturating_sub(bit))
+        let least = self.done[place].bits.saturating_sub(bit as u64);
+        (most as u64).min(least) as u32
     }
 
     /// The lines of the steps right before this bit.
@@ -103,7 +104,7 @@ impl<'a> NodeSteps<'a> {
         let mut place = self.first_at(bit);
         while place < self.steps.len() && place < self.done.len() {
             let done = &self.done[place];
-            if self.in_order && bit < done.bits {
+            if self.in_order && (bit as u64) < done.bits {
                 return Ok(());
             }
             put_due(alloc, text, node, place + 1, &self.steps[place], done, due)?;
@@ -119,7 +120,7 @@ impl<'a> NodeSteps<'a> {
         if !self.in_order || bit < self.past {
             return false;
         }
-        bit < self.next
+        (bit as u64) < self.next
     }
 
     /// A place before which no step stands right before this bit.
@@ -135,7 +136,7 @@ impl<'a> NodeSteps<'a> {
 fn is_in_order(done: &[Done]) -> bool
     ensures { result ≡ true → Ascends 0 done.now }
 {
-    let mut least = 0u32;
+    let mut least = 0u64;
     for one in done {
         if one.bits < least {
             return false;
@@ -146,13 +147,13 @@ fn is_in_order(done: &[Done]) -> bool
 }
 
 /// So many bits stand before the step at this place, or more, if there is one.
-fn bits_at(done: &[Done], place: usize) -> u32
+fn bits_at(done: &[Done], place: usize) -> u64
     ensures { IsNext result place done.now }
 {
     if place < done.len() {
         done[place].bits
     } else {
-        u32::MAX
+        u64::MAX
     }
 }
 
@@ -161,7 +162,7 @@ fn place_past(done: &[Done], from: usize, bits: u32) -> usize
     ensures { ArePast bits from done.now → ArePast bits result done.now }
 {
     let mut place = from;
-    while place < done.len() && done[place].bits < bits {
+    while place < done.len() && done[place].bits < (bits as u64) {
         place += 1;
     }
     place

@@ -13,6 +13,7 @@ use Rattle.sja_log.specs.Registering.{seen_now}
 use Rattle.sja_serial.specs.Bits.{TakesBit, TakesBits}
 use Rattle.sja_serial.specs.Bits.TakesBits.{no_bit, one_more}
 use Rattle.sja_serial.specs.Serial.{Setup, SerialValue, all_deeds}
+use Rattle.sja_serial.proofs.AllNodes.Several.{setup_is}
 use Rattle.sja_session.specs.Lines.{IsStill, line_at}
 use Rattle.sja_session.specs.Running.{RunsBits}
 use Rattle.sja_session.specs.Sessions.{SessionValue, setup_by, setup_for}
@@ -50,8 +51,8 @@ module _ (accesses : List (List Access)) where
   one_bit : {s t a b : SessionValue} → AreOne s t → RunsBits s a 1 1 accesses → RunsBits t b 1 1 accesses → AreOne a b
   one_bit {s} {t} {a} {b} one h g =
       let too = subst (λ (x : Setup). TakesBit x (all_deeds accesses) t.run b.run) (sym one.setup) (taken g) in
-      let first : setup_by a ≡ setup_by s = λ i. setup_for (h.wrote i) (h.room i).steps in
-      let second : setup_by b ≡ setup_by t = λ i. setup_for (g.wrote i) (g.room i).steps in record {
+      let first : setup_by a ≡ setup_by s = setup_is h.at.stands.stands ∙ sym (setup_is (taken h).stands) in
+      let second : setup_by b ≡ setup_by t = setup_is g.at.stands.stands ∙ sym (setup_is (taken g).stands) in record {
         alike = alike_after one.alike (taken h) too;
         setup = first ∙ one.setup ∙ sym second;
       }

@@ -1,7 +1,6 @@
 -- One step of a driver's script: it is done, or a gate breaks it off.
 use Rattle.std.proofs.Common.{◌≡◌, ◌+◌, ◌++◌, ℕ, Bool, true, false, Option, Some, None, List, [], ◌∷◌}
 use Rattle.std.proofs.Common.{inl, length, map, refl, sym, ap, ◌∙◌, subst, arith, append-nil}
-use Rattle.std.specs.Vec.{vec_capacity}
 use Rattle.sja_link.specs.declared.driver_end.DriverEnd.{Ghosts as Ends}
 use Rattle.sja_regs.specs.declared.registers.Registers.{Registers}
 use Rattle.sja_regs.specs.DriverSettings.{HasSettings}
@@ -87,7 +86,7 @@ module _ {N E : Type 0} {o : Orders N} (e : Ends E) (was mid : DriverThread N E 
   step_done s given answer told kept moved some q entered may one written by is = record {
     access = record { step = s; answer = told; bits = mid.found; deeds = q.deeds };
     step_is = refl;
-    does = does_entered e was mid d mid.found moved q.deeds q.does entered.0;
+    does = does_entered e was mid d mid.found moved q.deeds q.does entered.0 entered.2;
     few = let most = one_at_most this.deed.step in let one = ap (λ (l : List Deed). room_taken l) this.are in
         omega (arith, most, one);
     counts = (q.counts.are, inl q.counts.found);
@@ -105,7 +104,7 @@ module _ {N E : Type 0} {o : Orders N} (e : Ends E) (was mid : DriverThread N E 
         may.may.bytes this.step one
         (subst (λ (a : StepAnswer). IsTold was.bytes kept s a told) (sym this.answered) is) written.2));
     done = entered.1 ∙ ap (λ v. v.items ++ record { answer = told; bits = mid.found } ∷ []) q.none.done;
-    room = entered.2 ∙ ap (λ v. vec_capacity v) q.none.done;
+    room = entered.2 ∙ ap (λ v. v.room) q.none.done;
   }
     where
       this : IsOneOf s answer q.deeds
@@ -120,7 +119,7 @@ module _ {N E : Type 0} {o : Orders N} (e : Ends E) (was mid : DriverThread N E 
   write_done address value steps m kept moved all_met b q entered bytes = record {
     access = record { step = Write address value; answer = DoneAnswer; bits = mid.found; deeds = q.deeds };
     step_is = refl;
-    does = does_entered e was mid d mid.found moved q.deeds q.does entered.0;
+    does = does_entered e was mid d mid.found moved q.deeds q.does entered.0 entered.2;
     few = let few = parts_taken e was mid (steps_in steps) m kept moved q in
         let one = one_together (steps_in steps) (begun_last was address value (steps_in steps) kept b) in
         omega (arith, few, one);
@@ -142,7 +141,7 @@ module _ {N E : Type 0} {o : Orders N} (e : Ends E) (was mid : DriverThread N E 
       read = λ other x same deeds. absurd (let two : Write address value ≡ Read other = same in cc);
     };
     done = entered.1 ∙ ap (λ v. v.items ++ record { answer = DoneAnswer; bits = mid.found } ∷ []) q.none.done;
-    room = entered.2 ∙ ap (λ v. vec_capacity v) q.none.done;
+    room = entered.2 ∙ ap (λ v. v.room) q.none.done;
   }
     where
       whole : map (λ (x : Deed). x.step) q.deeds ≡ write_steps b.at (is_out (driver_of was.driver)) address value

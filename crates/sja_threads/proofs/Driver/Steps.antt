@@ -18,7 +18,8 @@ use Rattle.sja_driver.specs.AnyDrivers.{is_out}
 use Rattle.sja_driver.specs.Deeds.{Deed, is_active}
 use Rattle.sja_driver.specs.Holding.{HoldsBy, Goes}
 use Rattle.sja_driver.specs.LoggedDrivers.{driver_of, log_of, ended_of, StaysLawful, Steps}
-use Rattle.sja_driver.specs.Logs.{HasRoom, Traces, deeds_by, releases_in, releases_by}
+use Rattle.sja_link.specs.Recents.{KeepsAll}
+use Rattle.sja_driver.specs.Logs.{HasRoom, KeepsLog, Traces, deeds_by, done_room, releases_in, releases_by}
 use Rattle.sja_driver.specs.Tries.{Tried, IsOf, answer_of, port_after}
 use Rattle.sja_driver.specs.Tries.Tried.{Unmet, Answered, Released, Ended}
 use Rattle.sja_driver.specs.declared.kept_bytes.KeptBytes.{KeptBytes}
@@ -97,6 +98,7 @@ module _ {N E : Type 0} {o : Orders N} (e : Ends E) where
     node = refl;
     same = refl;
     at_port = sym (append-nil (done_in_order t.done.known.list));
+    keeps = λ k. k;
     able = λ n m. may_less t n (0 + n) (omega arith) m;
   }
 
@@ -124,6 +126,7 @@ module _ {N E : Type 0} {o : Orders N} (e : Ends E) where
     at_port = q.at_port ∙ ap (λ l. l ++ done_at_port ys) p.at_port
         ∙ append_assoc (done_in_order a.done.known.list) (done_at_port xs) (done_at_port ys)
         ∙ ap (λ l. done_in_order a.done.known.list ++ l) (sym (both_at_port xs ys));
+    keeps = λ k. q.keeps (p.keeps k);
     able = λ n m.
         let count = both_taken xs ys in
         q.able n (p.able (room_taken ys + n)
@@ -140,8 +143,8 @@ module _ {N E : Type 0} {o : Orders N} (e : Ends E) where
   unfoldable pub does_entered : (a b : DriverThread N E o) (d : LoggedDriver) (found : ℕ) (kept : KeptBytes)
       (deeds : List Deed) → Does e a b deeds →
       d ≡ record b.driver { kept = kept; log = record (log_of b.driver) { done = (log_of d).done } } →
-      Does e a (record b { driver = d; found = found }) deeds
-  does_entered a b d found kept deeds p is = rw is (record {
+      done_room (log_of d) ≡ done_room (log_of b.driver) → Does e a (record b { driver = d; found = found }) deeds
+  does_entered a b d found kept deeds p is room = rw is (record {
     version = p.version;
     goes = record {
       traces = λ before w. let t = p.goes.traces before w in record {
@@ -157,6 +160,11 @@ module _ {N E : Type 0} {o : Orders N} (e : Ends E) where
     node = p.node;
     same = p.same;
     at_port = p.at_port;
+    keeps = λ k. let kept = p.keeps k in record {
+      done = subst (λ (n : ℕ). KeepsAll n) (sym room) kept.done;
+      releases = kept.releases;
+      left = kept.left;
+    };
     able = λ n m. let may = p.able n m in record {
       bytes = may.bytes;
       set = may.set;
@@ -235,6 +243,11 @@ module _ {N E : Type 0} {o : Orders N} (e : Ends E) where
           node = stays.node;
           same = notes_node a.done b.done which answer bits a.set b.set notes;
           at_port = notes_at_port a.done b.done p which steps.tried answer bits a.set b.set notes steps.met;
+          keeps = λ k. record {
+            done = subst (λ (n : ℕ). KeepsAll n) (sym (ap (λ l. l.room) stays.done)) k.done;
+            releases = subst (λ (n : ℕ). KeepsAll n) (sym steps.release_room) k.releases;
+            left = subst (λ (n : ℕ). KeepsAll n) (sym steps.left_room) k.left;
+          };
           able = λ n may. record {
             bytes = bytes ∙ may.bytes ∙ ap (λ (v : ℕ). by_bytes v) (sym (version_is answer refl));
             set = notes_set a.done b.done which answer bits a.set b.set notes unmet may.set;

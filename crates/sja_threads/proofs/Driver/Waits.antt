@@ -60,7 +60,7 @@ module _ {N E : Type 0} {o : Orders N} (e : Ends E) (was : DriverThread N E o) (
   wait_done least answer ends r entered bytes = record {
     access = record { step = At least; answer = answer; bits = found; deeds = [] };
     step_is = refl;
-    does = does_entered e was was d found (kept_of was.driver) [] (does_none e r was) entered.0;
+    does = does_entered e was was d found (kept_of was.driver) [] (does_none e r was) entered.0 entered.2;
     few = omega arith;
     counts = (tt, inr (least, refl, refl));
     found = refl;

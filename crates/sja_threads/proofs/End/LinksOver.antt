@@ -1,5 +1,6 @@
 -- All links of a run that is over, 64 of each node, and all its drivers.
-use Rattle.std.proofs.Common.{◌≡◌, ℕ, zero, suc, ◌+◌, ◌*◌, ◌<◌, List, length, refl, sym, subst, arith, inl, inr}
+use Rattle.std.proofs.Common.{◌≡◌, ℕ, zero, suc, ◌+◌, ◌*◌, ◌<◌, List, length, refl, sym, ap, subst, arith}
+use Rattle.std.proofs.Common.{inl, inr}
 use Rattle.std.specs.Prelude.{slice_index_or}
 use Rattle.std.proofs.lemmas.Bool.{cases_lt}
 use Rattle.std.proofs.lemmas.List.{get_or-map, length-map}
@@ -8,14 +9,18 @@ use Rattle.sja_rings.specs.declared.ring_bus.RingBus.{RingBus}
 use Rattle.sja_rings.specs.declared.ring_driver.RingDriver.{RingDriver}
 use Rattle.sja_rings.specs.Ends.{OneLink}
 use Rattle.sja_wire.specs.Buses.{BusValue}
-use Rattle.sja_plan.specs.Plan.{PlanValue}
+use Rattle.sja_wire.specs.Keeping.{KeepsRecord}
+use Rattle.sja_plan.specs.Plan.{PlanValue, IsInLimits}
+use Rattle.sja_plan.proofs.PlanLimits.ByVersion.{bits_most}
 use Rattle.sja_driver.specs.declared.logged_driver.LoggedDriver.{LoggedDriver}
 use Rattle.sja_driver.specs.Deeds.{Deed}
-use Rattle.sja_driver.specs.LoggedDrivers.{IsLawful}
+use Rattle.sja_driver.specs.LoggedDrivers.{IsLawful, log_of}
+use Rattle.sja_driver.specs.Logs.{KeepsLog}
 use Rattle.sja_threads.specs.declared.handover.Handover.{Handover}
 use Rattle.sja_threads.specs.Inside.Ended.{IsOver}
 use Rattle.sja_threads.specs.Inside.EndsJoined.{AreJoined}
 use Rattle.sja_threads.specs.Inside.Settling.{all_drivers, all_ends}
+use Rattle.sja_threads.proofs.Start.FewDeeds.{few_deeds}
 use Rattle.sja_threads.proofs.End.LeftOnLinks.{HaveEnough, enough_length, enough_at}
 
 -- a place of a list of links is that of one of the 64 of a node
@@ -77,6 +82,24 @@ module _ (plan : PlanValue) (bus : BusValue) (links : List RingBus) (workeds : L
     enough = λ node w few. (h.nodes node w few).enough;
     pairs = λ node a w b d few less. (h.nodes node w few).pairs a b d less;
   }
+
+  -- it is short enough for its record to be kept
+  pub record_kept : IsInLimits plan → KeepsRecord (bus.run + bus.left) bus.steps (length bus.journals)
+  record_kept limits node less =
+      let few : node < length plan.nodes = let count = h.journals_count in omega (arith, less, count) in
+      let steps = ap (λ (l : List ℕ). slice_index_or l node 0) h.steps in let deeds = few_deeds plan limits node few in
+      let bits = h.all_bits in let own = limits.bits.1 in let all = bits_most plan.version in
+      omega (arith, steps, deeds, bits, own, all)
+
+  pub all_keep : (k : ℕ) (d : LoggedDriver) → k < length (all_drivers workeds) →
+      KeepsLog (log_of (slice_index_or (all_drivers workeds) k d))
+  all_keep k d less =
+      let many = length-map workeds (λ (w : Handover RingDriver). w.driver) in
+      let there : k < length workeds = omega (arith, many, less) in
+      let c = h.workeds_count in let w = some_of workeds 0 (omega (arith, there)) in
+      subst (λ (x : LoggedDriver). KeepsLog (log_of x))
+      (sym (get_or-map (λ (x : Handover RingDriver). x.driver) workeds k w d there))
+      (h.nodes k w (omega (arith, c, there))).keeps
 
   pub all_lawful : (k : ℕ) (d : LoggedDriver) → k < length (all_drivers workeds) →
       IsLawful (slice_index_or (all_drivers workeds) k d)

@@ -20,6 +20,7 @@ use Rattle.sja_threads.specs.declared.bus_thread.BusThread.{BusThread}
 use Rattle.sja_threads.specs.declared.thread_start.ThreadStart.{ThreadStart}
 use Rattle.sja_threads.specs.declared.handover.Handover.{Handover}
 use Rattle.sja_threads.specs.Accessing.{Work, deeds_done, work_at}
+use Rattle.sja_threads.specs.Stopping.{deed_counts}
 use Rattle.sja_threads.specs.Working.{AreUntouched}
 use Rattle.sja_threads.specs.Inside.Ended.{IsOver, IsOverAt}
 use Rattle.sja_threads.specs.Inside.Making.{IsMade, AreMade}
@@ -117,6 +118,7 @@ module _ {G : Type 0} (quits : Bool) (plan : PlanValue) (starts : List (ThreadSt
   over_at on node s w deeds few m v is = record {
     own = v.worked.own ∙ m.own;
     lawful = v.worked.lawful;
+    keeps = v.keeps;
     leads = rw is v.worked.leads;
     traces = rw is v.worked.traces;
     drivers = rw is (v.worked.holds j untouched);
@@ -142,13 +144,14 @@ module _ {G : Type 0} (quits : Bool) (plan : PlanValue) (starts : List (ThreadSt
           (m.links.drivers_new a d less).lists
 
   -- all of them
-  pub is_over : GoesOn plan was now → EachRelated (Serves quits plan) starts ws →
+  pub is_over : GoesOn plan was now → was.bus.steps ≡ deed_counts plan → EachRelated (Serves quits plan) starts ws →
       (done : Done quits plan starts ws) →
       IsOver plan now.bus now.links.items ws (map (λ (w : Work). deeds_done w) done.works)
-  is_over on served done = record {
+  is_over on room served done = record {
     right = on.way.right;
     script = on.way.script;
     all_bits = on.way.all_bits;
+    steps = on.steps ∙ room;
     journals_count = on.way.journals;
     links_count = on.way.count;
     workeds_count = AllZip-long (Serves quits plan) starts ws served ∙ many;

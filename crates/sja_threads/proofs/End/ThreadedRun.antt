@@ -57,7 +57,7 @@ ending {G} quits plan starts was bus ws j there here many long made on room serv
           subst (λ (l : List (Handover RingDriver)). IsOver plan t.bus t.links.items l
           (map (λ (w : Work). deeds_done w) done.works)) (sym here)
           (is_over quits plan starts ws was t many long made
-          (on_twice plan was bus t on (subst (λ (b : BusThread). GoesOn plan b t) there more)) served done);
+          (on_twice plan was bus t on (subst (λ (b : BusThread). GoesOn plan b t) there more)) room served done);
       joined = λ links same.
           subst (λ (l : List (Handover RingDriver)). AreJoined (length plan.nodes) links l) (sym here)
           (ends_joined quits plan starts ws was many long made served done links

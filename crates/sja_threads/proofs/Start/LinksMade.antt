@@ -10,9 +10,11 @@ use Rattle.sja_rings.specs.declared.ring_driver.RingDriver.{RingDriver}
 use Rattle.sja_link.specs.declared.link_id.LinkId.{LinkId}
 use Rattle.sja_link.specs.Lists.{nothing_yet}
 use Rattle.sja_rings.specs.Ends.{BusLists, DriverLists, OneLink, link_of_bus}
-use Rattle.sja_plan.specs.Plan.{PlanValue, steps_at}
+use Rattle.sja_plan.specs.Plan.{PlanValue, IsInLimits, steps_at}
+use Rattle.sja_plan.proofs.PlanLimits.ByVersion.{steps_most}
 use Rattle.sja_script.specs.declared.step.Step.{Step}
-use Rattle.sja_driver.specs.Logs.{HasRoom, IsEmpty, done_room}
+use Rattle.sja_driver.specs.declared.work_log.WorkLog.{WorkLog}
+use Rattle.sja_driver.specs.Logs.{HasRoom, IsEmpty, IsMadeFor, KeepsLog, done_room}
 use Rattle.sja_threads.specs.declared.thread_start.ThreadStart.{ThreadStart}
 use Rattle.sja_threads.specs.declared.port_lists.PortLists.{PortLists}
 use Rattle.sja_threads.specs.Inside.Making.{IsNewBus, IsNewEnd, AreNewEnds, IsMade, AreMade, AreListed}
@@ -80,6 +82,7 @@ made_later plan node s buses after same m = record {
   empty = m.empty;
   room = m.room;
   steps = m.steps;
+  keeps = m.keeps;
   enough = m.enough;
   none = m.none;
   links = record {
@@ -139,17 +142,30 @@ pub new_driver : (node place : ℕ) (b : RingBus) (d : RingDriver) →
 new_driver node place b d link one lists =
     record { link = one.0 ∙ numbered node place (link_of_bus b) link; lists = lists }
 
+-- a log that was made for the steps of a driver of a plan keeps all
+pub short_log : (plan : PlanValue) (node : ℕ) (log : WorkLog) (steps : List Step) → IsInLimits plan →
+    node < length plan.nodes → steps ≡ steps_at plan node → IsMadeFor (length steps) (length steps) log → KeepsLog log
+short_log plan node log steps limits few are made =
+    let long = ap (λ (l : List Step). length l) are in let own = limits.steps node [] few in
+    let most = steps_most plan.version in let done = made.done in let releases = made.releases in
+    let left = made.left in record {
+      done = omega (arith, long, own, most, done);
+      releases = omega (arith, long, own, most, releases);
+      left = omega (arith, left);
+    }
+
 -- what the thread of a node begins with, as it was made
 pub made_of : {G : Type 0} (plan : PlanValue) (node base : ℕ) (s : ThreadStart G) (after : List RingBus)
     (steps : List Step) → s.node ≡ node → IsEmpty s.log → s.done.list ≡ [] → steps ≡ steps_at plan node →
-    HasRoom (length steps) s.log → length steps ≤ done_room s.log →
+    HasRoom (length steps) s.log → length steps ≤ done_room s.log → KeepsLog s.log →
     length s.links.items ≡ 64 → base ≡ 64 * node → AreNewEnds 64 node after s.links.items base → IsMade plan node s
     after
-made_of plan node base s after steps own empty none are room fits enough here links = record {
+made_of plan node base s after steps own empty none are room fits keeps enough here links = record {
   own = own;
   empty = empty;
   room = subst (λ (l : List Step). HasRoom (length l) s.log) are room;
   steps = subst (λ (l : List Step). length l ≤ done_room s.log) are fits;
+  keeps = keeps;
   enough = enough;
   none = none;
   links = subst (λ (n : ℕ). AreNewEnds 64 node after s.links.items n) here links;

@@ -15,7 +15,7 @@ use Rattle.sja_script.specs.declared.step.Step.{Step}
 use Rattle.sja_plan.specs.Plan.{PlanValue, steps_at}
 use Rattle.sja_driver.specs.Holding.{NumberedFrom}
 use Rattle.sja_driver.specs.LoggedDrivers.{log_of}
-use Rattle.sja_driver.specs.Logs.{HasRoom, done_in, done_room}
+use Rattle.sja_driver.specs.Logs.{HasRoom, KeepsLog, done_in, done_room}
 use Rattle.sja_threads.specs.declared.thread_start.ThreadStart.{ThreadStart}
 use Rattle.sja_threads.specs.declared.thread_promise.ThreadPromise.{ThreadPromise}
 use Rattle.sja_threads.specs.declared.handover.Handover.{Handover}
@@ -36,6 +36,7 @@ module _ {G : Type 0} (plan : PlanValue) where
     empty = m.empty;
     room = subst (λ (n : ℕ). HasRoom (length (steps_at plan n)) s.log) (sym m.own) m.room;
     steps = subst (λ (n : ℕ). length (steps_at plan n) ≤ done_room s.log) (sym m.own) m.steps;
+    keeps = m.keeps;
     enough = m.enough;
     none = m.none;
     ids = subst (λ (n : ℕ). NumberedFrom link_of_driver s.links.items 0 n) (sym m.own) numbered;
@@ -95,14 +96,16 @@ pub served_by : {G : Type 0} (plan : PlanValue) (s : ThreadStart G) (set : Setti
     (quits : Bool) (w : Handover RingDriver) → set ≡ settings_in (at_power_on plan.version) →
     steps ≡ steps_at plan s.node → EachRelated SameDriver s.links.items w.links.items →
     w.done.name ≡ s.done.name → HasWorked DriverLists set s.node steps s.links.items w w.done.list →
-    (quits ≡ false → length (done_in (log_of w.driver)) ≡ length steps) → Serves quits plan s w
-served_by plan s set steps quits w first are sames named worked all = record {
+    (quits ≡ false → length (done_in (log_of w.driver)) ≡ length steps) → KeepsLog (log_of w.driver) →
+    Serves quits plan s w
+served_by plan s set steps quits w first are sames named worked all keeps = record {
   sames = sames;
   worked =
       subst (λ (x : SettingsValue). HasWorked DriverLists x s.node (steps_at plan s.node) s.links.items w
       w.done.list) first
       (subst (λ (l : List Step). HasWorked DriverLists set s.node l s.links.items w w.done.list) are worked);
   named = named;
+  keeps = keeps;
   all = λ never. all never ∙ ap (λ (l : List Step). length l) are;
 }
 

@@ -13,12 +13,13 @@ use Rattle.sja_plan.specs.Plan.{PlanValue}
 use Rattle.sja_driver.specs.Deeds.{Deed, deeds_at}
 use Rattle.sja_driver.specs.Holding.{HoldsBy}
 use Rattle.sja_driver.specs.LoggedDrivers.{node_of, driver_of, log_of, IsLawful}
-use Rattle.sja_driver.specs.Logs.{Traces}
+use Rattle.sja_driver.specs.Logs.{KeepsLog, Traces}
 use Rattle.sja_wire.specs.Buses.{BusValue}
 use Rattle.sja_link.specs.Links.{Kept}
 use Rattle.sja_wire.specs.Wire.{journal_at}
 use Rattle.sja_threads.specs.declared.handover.Handover.{Handover}
 use Rattle.sja_threads.specs.Setting.{LeadToSettings}
+use Rattle.sja_threads.specs.Stopping.{deed_counts}
 
 -- of one node, when its driver and the bus have ended: what its driver had set first, its journal, what its driver
 -- handed back, and the bus's ends of its links, from this place on
@@ -27,6 +28,7 @@ pub record IsOverAt (set : SettingsValue) (node : ℕ) (j : List Entry) (deeds :
   -- its driver did these deeds
   pub own : node_of w.driver ≡ node
   pub lawful : IsLawful w.driver
+  pub keeps : KeepsLog (log_of w.driver)
   pub leads : (last : SettingsValue) × LeadToSettings set deeds last
   pub traces : Traces set.version (driver_of w.driver) (log_of w.driver) deeds
   -- the driver's ends stand beside the journal for these deeds, and the bus's for the parts of the journal, whatever
@@ -47,6 +49,7 @@ pub record IsOver (plan : PlanValue) (bus : BusValue) (links : List RingBus) (wo
   pub right : bus.fault ≡ None
   pub script : bus.script ≡ plan.strikes
   pub all_bits : bus.run + bus.left ≡ plan.bits
+  pub steps : bus.steps ≡ deed_counts plan
   pub journals_count : length bus.journals ≡ length plan.nodes
   pub links_count : length links ≡ 64 * length plan.nodes
   pub workeds_count : length workeds ≡ length plan.nodes

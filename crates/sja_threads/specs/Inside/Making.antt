@@ -6,7 +6,7 @@ use Rattle.sja_rings.specs.declared.ring_bus.RingBus.{RingBus}
 use Rattle.sja_rings.specs.declared.ring_driver.RingDriver.{RingDriver}
 use Rattle.sja_rings.specs.Ends.{BusLists, DriverLists, OneLink, link_of_bus, link_of_driver}
 use Rattle.sja_plan.specs.Plan.{PlanValue, steps_at}
-use Rattle.sja_driver.specs.Logs.{HasRoom, IsEmpty, done_room}
+use Rattle.sja_driver.specs.Logs.{HasRoom, IsEmpty, KeepsLog, done_room}
 use Rattle.sja_wire.specs.Buses.{new_bus}
 use Rattle.sja_threads.specs.declared.thread_start.ThreadStart.{ThreadStart}
 use Rattle.sja_threads.specs.declared.port_lists.PortLists.{PortLists}
@@ -36,6 +36,7 @@ pub record IsMade {G : Type 0} (plan : PlanValue) (node : ℕ) (s : ThreadStart 
   pub empty : IsEmpty s.log
   pub room : HasRoom (length (steps_at plan node)) s.log
   pub steps : length (steps_at plan node) ≤ done_room s.log
+  pub keeps : KeepsLog s.log
   pub enough : length s.links.items ≡ 64
   pub none : s.done.list ≡ []
   pub links : AreNewEnds 64 node buses s.links.items (64 * node)

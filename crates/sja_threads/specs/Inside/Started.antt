@@ -8,7 +8,7 @@ use Rattle.sja_regs.specs.Registers.{at_power_on}
 use Rattle.sja_plan.specs.Plan.{PlanValue, steps_at}
 use Rattle.sja_driver.specs.Holding.{NumberedFrom}
 use Rattle.sja_driver.specs.LoggedDrivers.{log_of}
-use Rattle.sja_driver.specs.Logs.{HasRoom, IsEmpty, done_in, done_room}
+use Rattle.sja_driver.specs.Logs.{HasRoom, IsEmpty, KeepsLog, done_in, done_room}
 use Rattle.sja_threads.specs.declared.thread_start.ThreadStart.{ThreadStart}
 use Rattle.sja_threads.specs.declared.handover.Handover.{Handover}
 use Rattle.sja_threads.specs.Working.{HasWorked}
@@ -20,6 +20,7 @@ pub record IsThreadStart {G : Type 0} (plan : PlanValue) (s : ThreadStart G) : T
   pub empty : IsEmpty s.log
   pub room : HasRoom (length (steps_at plan s.node)) s.log
   pub steps : length (steps_at plan s.node) ≤ done_room s.log
+  pub keeps : KeepsLog s.log
   pub enough : length s.links.items ≡ 64
   pub ids : NumberedFrom link_of_driver s.links.items 0 s.node
   pub none : s.done.list ≡ []
@@ -30,13 +31,14 @@ AreOrdered {G} order_version names version starts =
     All (λ (s : ThreadStart G). IsOrderOf order_version names version s.node s.done.name) starts
 
 -- what it hands back: the same ends and the same list of deeds, and a driver that followed its script with them, all of
--- it where no gate quits
+-- it where no gate quits, and whose log keeps all
 pub record HandsBack (quits : Bool) (plan : PlanValue) (node : ℕ) (links : List RingDriver) (name : ℕ)
     (w : Handover RingDriver) : Type 0 where
   pub sames : EachRelated SameDriver links w.links.items
   pub worked : HasWorked DriverLists (settings_in (at_power_on plan.version)) node (steps_at plan node) links w
       w.done.list
   pub named : w.done.name ≡ name
+  pub keeps : KeepsLog (log_of w.driver)
   pub all : quits ≡ false → length (done_in (log_of w.driver)) ≡ length (steps_at plan node)
 
 -- the same of what a thread began with

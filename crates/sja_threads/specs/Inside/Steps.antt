@@ -12,7 +12,7 @@ use Rattle.sja_driver.specs.AnyDrivers.{is_out}
 use Rattle.sja_driver.specs.Deeds.{Deed}
 use Rattle.sja_driver.specs.Holding.{Goes, NumberedFrom}
 use Rattle.sja_driver.specs.LoggedDrivers.{node_of, driver_of, log_of, kept_of, IsLawful}
-use Rattle.sja_driver.specs.Logs.{HasRoom, IsEmpty, Traces, done_in, done_room}
+use Rattle.sja_driver.specs.Logs.{HasRoom, IsEmpty, KeepsLog, Traces, done_in, done_room}
 use Rattle.sja_driver.specs.declared.kept_bytes.KeptBytes.{KeptBytes}
 use Rattle.sja_driver.specs.declared.logged_driver.LoggedDriver.{LoggedDriver}
 use Rattle.sja_driver.specs.Kept.{at_power_on}
@@ -72,8 +72,8 @@ pub record MayBegin {N E : Type 0} {o : Orders N} (link : E → LinkId) (t : Dri
 -- ---- deeds
 
 -- a driver did these deeds, each once and in this order: with them its log and its ends went on, for all deeds before
--- and for all journals, and so did what it has set, which is of the same version; its ends are the same ones, and it
--- has the room left that they didn't take
+-- and for all journals, and so did what it has set, which is of the same version; its ends are the same ones, its log
+-- keeps all if it did, and has the room left that they didn't take
 pub record Does {N E : Type 0} {o : Orders N} (e : Ends E) (was now : DriverThread N E o) (deeds : List Deed) :
     Type 0 where
   pub version : now.set.version ≡ was.set.version
@@ -85,6 +85,7 @@ pub record Does {N E : Type 0} {o : Orders N} (e : Ends E) (was now : DriverThre
   pub node : node_of now.driver ≡ node_of was.driver
   pub same : now.done.node ≡ was.done.node
   pub at_port : done_in_order now.done.known.list ≡ done_in_order was.done.known.list ++ done_at_port deeds
+  pub keeps : KeepsLog (log_of was.driver) → KeepsLog (log_of now.driver)
   pub able : (n : ℕ) → MayWork e.link was (room_taken deeds + n) → MayWork e.link now n
 
 -- they count bits on from what it had found run, and so many it has found then

@@ -14,7 +14,8 @@ loop-node-preserved c =
     let one = get_or_read c.args.nodes.now k c.index-nodes-node.result less c.index-nodes-node.is no_node in
     let other = get_or_read c.args.others.now k c.index-others-node.result there c.index-others-node.is no_node in
     let none : some_gets_more c.index-nodes-node.result.activations c.index-others-node.result.activations ≡ false =
-    cc in
+    ap₂ some_gets_more (sym c.activations.ensures) (sym c.activations-in-loop-node.ensures)
+    ∙ sym c.some_gets_more.ensures ∙ c.if-some_gets_more.false in
     any_more (λ i. some_gets_more (node_at c.args.nodes.now i).activations (node_at c.args.others.now i).activations)
     k (length c.args.nodes.now) _ c.loop-node-test.true
     (sym (ap₂ (λ (a b : NodeValue). some_gets_more a.activations b.activations) one other) ∙ none)

@@ -4,7 +4,7 @@ use Rattle.sja_regs.specs.Registers.{at_power_on}
 use Rattle.sja_driver.specs.Accesses.{by_bytes}
 use Rattle.lemmas.specs.Related.{EachRelated}
 use Rattle.sja_driver.specs.LoggedDrivers.{node_of, log_of}
-use Rattle.sja_driver.specs.Logs.{done_in}
+use Rattle.sja_driver.specs.Logs.{KeepsLog, done_in}
 use Rattle.sja_threads.specs.Working.{HasWorked}
 use Rattle.sja_threads.specs.Inside.Names.{IsNamed}
 use Rattle.sja_threads.specs.Inside.Steps.{MayBegin}
@@ -60,6 +60,11 @@ returns-clause-named g c =
     (sym c.hand_back.ensures)
     (subst (λ (n : ℕ). IsNamed g.N.Order.deeds n c.do_steps.new.self.done.known.name) c.do_steps.ensures.does.same
     c.do_steps.new.self.done.named)
+
+pub returns-clause-keeps : goal.returns-clause-keeps
+returns-clause-keeps g c = λ keeps.
+    subst (λ w. KeepsLog (log_of w.driver)) (sym c.hand_back.ensures)
+    (c.do_steps.ensures.does.keeps (subst (λ l. KeepsLog l) (sym c.new-driver.ensures.log) keeps))
 
 pub returns-clause-done : goal.returns-clause-done
 returns-clause-done g c = λ never.

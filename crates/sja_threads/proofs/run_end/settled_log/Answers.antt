@@ -5,11 +5,12 @@ use Rattle.sja_rings.specs.declared.ring_bus.RingBus.{RingBus}
 use Rattle.sja_rings.specs.declared.ring_driver.RingDriver.{RingDriver}
 use Rattle.sja_rings.specs.Ends.{OneLink}
 use Rattle.sja_driver.specs.declared.logged_driver.LoggedDriver.{LoggedDriver}
-use Rattle.sja_driver.specs.LoggedDrivers.{IsLawful}
+use Rattle.sja_driver.specs.LoggedDrivers.{IsLawful, log_of}
+use Rattle.sja_driver.specs.Logs.{KeepsLog}
 use Rattle.sja_log.specs.Finishing.{AreNodeEnds}
 use Rattle.sja_log.specs.Log.{NodeValue, RunValue}
 use Rattle.sja_threads.specs.Inside.Settling.{all_drivers, AreLeftOn}
-use Rattle.sja_threads.proofs.End.LinksOver.{ends_count, joined_over, one_link, all_lawful}
+use Rattle.sja_threads.proofs.End.LinksOver.{ends_count, joined_over, one_link, all_keep, all_lawful, record_kept}
 use Rattle.sja_threads.proofs.End.LogOver.{AreLogParts, run_over, log_over}
 use Rattle.sja_threads.proofs.run_end.settled_log.Goals.{After-of-2}
 use Rattle.sja_threads.proofs.run_end.settled_log.Goals as goal
@@ -39,6 +40,22 @@ node_runs-requires-clause-lawful c =
     subst P (sym (c.as_slice.ensures.value ∙ c.in_ok-drivers.ensures.drivers))
     (all_lawful c.args.plan.now c.args.bus.bus c.args.bus.links.items c.args.workeds.items
     o.0 o.1)
+
+pub node_runs-requires-clause-kept : goal.node_runs-requires-clause-kept
+node_runs-requires-clause-kept c =
+    let o = c.requires.over in
+    let P : List LoggedDriver → Type 0 = λ ds. (k : ℕ) (d : LoggedDriver) → k < length ds →
+    KeepsLog (log_of (slice_index_or ds k d)) in
+    subst P (sym (c.as_slice.ensures.value ∙ c.in_ok-drivers.ensures.drivers))
+    (all_keep c.args.plan.now c.args.bus.bus c.args.bus.links.items c.args.workeds.items o.0 o.1)
+
+pub finish-logs-requires : goal.finish-logs-requires
+finish-logs-requires c =
+    let o = c.requires.over in
+    record {
+      kept = record_kept c.args.plan.now c.args.bus.bus c.args.bus.links.items c.args.workeds.items o.0 o.1
+          c.limits.ensures;
+    }
 
 -- what the log is made of
 log_parts : (c : After-of-2) → c.args.bus.bus.fault ≡ None →

@@ -1,7 +1,7 @@
 use Rattle.std.proofs.Common.{rules, ◌+◌, ◌++◌, ◌∷◌, [], ℕ, refl, sym, ap, ◌∙◌, subst, arith}
 use Rattle.sja_plan.specs.Plan.{steps_at}
 use Rattle.sja_threads.specs.Inside.Making.{AreListed, AreMade}
-use Rattle.sja_threads.proofs.Start.LinksMade.{listed_push, made_of, made_push}
+use Rattle.sja_threads.proofs.Start.LinksMade.{listed_push, made_of, made_push, short_log}
 use Rattle.sja_threads.proofs.run_parts.starts_of.Goals as goal
 
 pub loop-gate-preserved : goal.loop-gate-preserved
@@ -12,6 +12,8 @@ loop-gate-preserved g c =
     let made = c.in_ok-links.ensures in
     let after = c.links_of.new.buses in
     let log = c.in_ok-log.ensures in
+    let steps = c.steps.ensures.value ∙ ap (λ (n : ℕ). steps_at plan n) c.from.ensures in
+    let few = c.loop-gate.invariant.all in let left = c.in-Some.ensures in
     record {
       all = search rules;
       count = search rules;
@@ -21,9 +23,9 @@ loop-gate-preserved g c =
           (made_push plan node c.loop-gate.starts.items c.loop-gate.buses.items after.items _ inv.count inv.links
           made.others inv.made
           (made_of plan node _ _ after.items _ refl log.empty c.new-list.ensures.none
-          (c.steps.ensures.value ∙ ap (λ (n : ℕ). steps_at plan n) c.from.ensures)
-          (let room = log.room.releases in record { releases = omega (arith, room); left = log.room.left })
-          (let room = log.steps in omega (arith, room)) made.enough inv.links made.pairs));
+          steps (let room = log.room.releases in record { releases = omega (arith, room); left = log.room.left })
+          (let room = log.made.done in omega (arith, room))
+          (short_log plan node _ _ c.limits.ensures (omega arith) steps log.made) made.enough inv.links made.pairs));
       many = search rules;
       listed =
           subst (λ l. AreListed (node + 1) c.push_reserved.new.self.items l) (sym c.in_ok-push.ensures.items)

@@ -22,4 +22,4 @@ returns g c =
     (same_name g.N.Order.deeds s.node w.done.name s.done.name
     (subst (λ (n : ℕ). IsNamed g.N.Order.deeds n w.done.name) d.node f.named) c.requires.order.1)
     (subst (λ (n : ℕ). HasWorked DriverLists (settings_in (at_power_on c.new-done.result.version)) n
-    c.steps-steps.result.now s.links.items w w.done.list) d.node f.worked) f.done
+    c.steps-steps.result.now s.links.items w w.done.list) d.node f.worked) f.done (f.keeps c.requires.start.keeps)

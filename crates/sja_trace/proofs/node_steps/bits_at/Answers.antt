@@ -11,4 +11,4 @@ returns-then-place-done c =
     (next_at c.args.place c.args.done.now c.index-done-place.result c.if-place-done.true c.index-done-place.is)
 
 pub returns-else-place-done : goal.returns-else-place-done
-returns-else-place-done c = next_none 4294967295 c.args.place c.args.done.now c.if-place-done.false
+returns-else-place-done c = next_none 18446744073709551615 c.args.place c.args.done.now c.if-place-done.false

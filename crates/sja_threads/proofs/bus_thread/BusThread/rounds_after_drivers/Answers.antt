@@ -59,9 +59,9 @@ told_on g c are =
     let long = length-map told (λ x. x.known.list) in
     c.in_ok-bit_if_due.ensures.told (c.in_ok-gather.ensures.told c.args.plan.now
     (turns_in c.tell_bits.new.self.told.items)
-    (told_ran c.args.plan.now c.bits_run.result c.loop.self.bus.journals (turns_in told)
+    (told_ran c.args.plan.now c.loop.self.run c.loop.self.bus.journals (turns_in told)
     (turns_in c.tell_bits.new.self.told.items)
-    (λ node few. laws.wired.count node few ∙ sym c.bits_run.ensures.value)
+    (λ node few. laws.wired.count node few ∙ w.run)
     (omega (arith, many, ports, first, long)) c.tell_bits.ensures.told (c.loop.invariant.told are)))
 
 -- each driver was found to have ended, and stays so
@@ -72,7 +72,7 @@ ended_there g c =
     let ports = c.loop.invariant.ports in
     let first = c.requires.ports in
     let long = length-map told (λ x. x.known.list) in
-    ended_more (length c.args.plan.now.nodes) c.bits_run.result (turns_in told)
+    ended_more (length c.args.plan.now.nodes) c.loop.self.run (turns_in told)
     (turns_in c.tell_bits.new.self.told.items)
     (omega (arith, ports, first, long)) c.tell_bits.ensures.told c.loop.invariant.ended
 

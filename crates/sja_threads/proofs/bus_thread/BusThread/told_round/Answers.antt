@@ -20,9 +20,9 @@ ran_first g c are =
     let many = w.journals in
     let ports = c.requires.ports in
     let long = length-map told (λ x. x.known.list) in
-    c.in_ok-round.ensures.told (told_ran c.args.plan.now c.bits_run.result c.args.self.now.bus.journals
+    c.in_ok-round.ensures.told (told_ran c.args.plan.now c.args.self.now.run c.args.self.now.bus.journals
     (turns_in told) (turns_in c.tell_bits.new.self.told.items)
-    (λ node few. laws.wired.count node few ∙ sym c.bits_run.ensures.value) (omega (arith, many, ports, long))
+    (λ node few. laws.wired.count node few ∙ w.run) (omega (arith, many, ports, long))
     c.tell_bits.ensures.told are)
 
 pub returns-in-Spent-clause-told : goal.returns-in-Spent-clause-told
