@@ -23,8 +23,8 @@ extern "C" {
 /* A session: its controllers, its bus, and what was done so far. */
 typedef struct sja sja;
 
-/* How a call went. A call that isn't done changes nothing, but that sja_report has ended the session all the same. Of
- * several reasons the first of these is told. */
+/* How a call went. A call that isn't done changes nothing, but that sja_report has ended a session with an end all the
+ * same. Of several reasons the first of these is told. */
 enum sja_status {
     SJA_DONE = 0,
     SJA_NO_HANDLE = 1,    /* the handle is null */
@@ -46,7 +46,8 @@ enum sja_status {
     SJA_NO_MEMORY = 17,   /* memory was refused; of sja_plan and sja_report also: no session stands at the handle */
     SJA_BROKEN = 18,      /* sja_pipe.c alone: the process of the session can't be started, or doesn't answer and
                            * didn't say by its status that memory was refused */
-    SJA_NO_PLACE = 19     /* the number is no place's; told before SJA_NO_NODE */
+    SJA_NO_PLACE = 19,    /* the number is no place's; told before SJA_NO_NODE */
+    SJA_ENDLESS = 20      /* the session is without an end: it has neither plan nor report, and goes on */
 };
 
 /* The places of a frame, and of the intermission after it, as the data sheet and the standard name them. Behind each
@@ -85,7 +86,8 @@ sja_answer sja_make(sja **session);
 
 /* Begins a session to which nothing happened at a handle, in place of what stands there: by a version of the rules, 1
  * to 3, of which 3 is the one for drivers of the real chip; of at most so many bits, 1 to 200,000, or to 2,000,000 in
- * version 3; with 1 to 8 nodes. Memory for all bits is reserved here. */
+ * version 3; with 1 to 8 nodes. Memory for all bits is reserved here. In version 3 with 0 bits it is a session without
+ * an end: it goes on as long as it is driven, in the memory that is reserved here, and forgets what is oldest. */
 sja_answer sja_begin(sja *session, uint32_t version, uint32_t bits, uint32_t nodes);
 
 /* Reads an address of a node, counted from 0: any of the 256. The value is the byte. No bit runs. */
@@ -109,18 +111,19 @@ sja_answer sja_irq(sja *session, uint32_t node);
  * each node, in one call. It clears nothing. */
 sja_answer sja_lines(sja *session);
 
-/* Has a node see the other level in a bit that hasn't run, counted from 0. */
+/* Has a node see the other level in a bit that hasn't run, counted from 0. In a session without an end too it is one of
+ * the first 2^32. */
 sja_answer sja_strike(sja *session, uint32_t node, uint32_t bit);
 
 /* The value is how many bits were run: the number of the next one. */
 sja_answer sja_now(sja *session);
 
-/* At which place of a frame the next bit of a node is, of one that it sends or receives. In the library alone. */
+/* At which place of a frame the next bit of a node is, of one that it sends or receives. */
 sja_answer sja_place(sja *session, uint32_t node);
 
 /* Runs bits up to the one before which the next bit of a node is at a place, at most so many, and as many as are left;
  * none where it is there already. The value is 1 where it is there then, else 0. sja_strike of the node at sja_now
- * strikes it there. In the library alone. */
+ * strikes it there. */
 sja_answer sja_to(sja *session, uint32_t node, uint32_t place, uint32_t limit);
 
 /* As sja_report, sja_plan and sja_run_plan below, but that neither a text nor a plan is null. */

@@ -48,7 +48,7 @@ struct sja {
     char held[BYTES];       /* what was read and isn't used yet */
     size_t first;
     size_t count;
-    uint32_t bits;
+    uint32_t bits;          /* none of a session without an end */
     uint32_t nodes;
     uint32_t lost;          /* what is answered where the process answers no more */
     int ended;
@@ -583,12 +583,93 @@ sja_answer sja_strike(sja *session, uint32_t node, uint32_t bit)
 
     if (status != SJA_DONE)
         return answer(status, 0);
-    if (bit >= session->bits)
+    if (bit >= (session->bits > 0 ? session->bits : GREATEST + 1))
         return answer(SJA_NO_BIT, 0);
     snprintf(said, sizeof said, "strike %u %u\n", (unsigned)node, (unsigned)bit);
     if (!ask(session, said, heard))
         return answer(session->lost, 0);
     return strcmp(heard, "ok") == 0 ? answer(SJA_DONE, 0) : refused(heard);
+}
+
+/* The places of a frame, in the order of enum sja_places, with the least and the greatest number of each. */
+static const struct { const char *name; unsigned least, most; } places[] = {
+    { "SOF", 0, 0 }, { "ID.%u", 0, 28 }, { "SRR", 0, 0 }, { "RTR", 0, 0 }, { "IDE", 0, 0 }, { "r1", 0, 0 },
+    { "r0", 0, 0 }, { "DLC.%u", 0, 3 }, { "data %u.%u", 10, 87 }, { "CRC.%u", 0, 14 }, { "CRC delimiter", 0, 0 },
+    { "ACK", 0, 0 }, { "ACK delimiter", 0, 0 }, { "EOF.%u", 1, 7 }, { "intermission.%u", 1, 3 }, { "stuff.%u", 1, 29 },
+};
+
+/* The name of the place with this number, in room for LINE bytes. False where there is none. */
+static int name_place(uint32_t number, char *name)
+{
+    unsigned kind = (unsigned)(number >> 8), own = (unsigned)(number & 255);
+
+    if (kind < 1 || kind > sizeof places / sizeof *places)
+        return 0;
+    kind--;
+    if (own < places[kind].least || own > places[kind].most)
+        return 0;
+    if (kind + 1 == SJA_DATA >> 8) {
+        if (own % 10 > 7)
+            return 0;
+        snprintf(name, LINE, places[kind].name, own / 10, own % 10);
+    } else {
+        snprintf(name, LINE, places[kind].name, own);
+    }
+    return 1;
+}
+
+/* The number of the place with this name. */
+static uint32_t number_place(const char *name)
+{
+    char other[LINE];
+
+    for (uint32_t number = SJA_SOF; number <= SJA_STUFF + 255; number++)
+        if (name_place(number, other) && strcmp(name, other) == 0)
+            return number;
+    return SJA_NOWHERE;
+}
+
+sja_answer sja_place(sja *session, uint32_t node)
+{
+    char said[LINE], heard[LINE];
+    uint32_t status = is_askable(session, node);
+
+    if (status != SJA_DONE)
+        return answer(status, 0);
+    snprintf(said, sizeof said, "place %u\n", (unsigned)node);
+    if (!ask(session, said, heard))
+        return answer(session->lost, 0);
+    if (strcmp(heard, "nothing") == 0)
+        return answer(SJA_DONE, SJA_NOWHERE);
+    return strncmp(heard, "place ", 6) == 0 ? answer(SJA_DONE, number_place(heard + 6)) : refused(heard);
+}
+
+sja_answer sja_to(sja *session, uint32_t node, uint32_t place, uint32_t limit)
+{
+    char name[LINE], said[LINE + LINE], heard[LINE];
+    uint32_t status = is_askable(session, 0);
+    uint64_t ran;
+
+    if (status != SJA_DONE)
+        return answer(status, 0);
+    if (!name_place(place, name))
+        return answer(SJA_NO_PLACE, 0);
+    if (node >= session->nodes)
+        return answer(SJA_NO_NODE, 0);
+    do {
+        uint32_t most = at_most(limit, GREATEST);
+
+        snprintf(said, sizeof said, "to %u %s %u\n", (unsigned)node, name, (unsigned)most);
+        if (!ask(session, said, heard))
+            return answer(session->lost, 0);
+        if (strncmp(heard, "ran ", 4) != 0)
+            return refused(heard);
+        if (strstr(heard, " spent") == NULL)
+            return answer(SJA_DONE, 1);
+        ran = strtoull(heard + 4, NULL, 10);
+        limit = ran < most ? 0 : limit - most;
+    } while (limit > 0);
+    return answer(SJA_DONE, 0);
 }
 
 sja_answer sja_now(sja *session)
@@ -659,6 +740,8 @@ sja_answer sja_put_report(sja *session, char *text, size_t size)
 {
     if (session == NULL)
         return answer(SJA_NO_HANDLE, 0);
+    if (!session->ended && session->bits == 0)
+        return answer(SJA_ENDLESS, 0);
     if (!session->ended)
         session->report_status = read_report(session);
     if (session->report_status != SJA_DONE)
@@ -670,6 +753,8 @@ sja_answer sja_put_plan(sja *session, char *text, size_t size)
 {
     if (session == NULL)
         return answer(SJA_NO_HANDLE, 0);
+    if (!session->ended && session->bits == 0)
+        return answer(SJA_ENDLESS, 0);
     if (!session->ended)
         session->plan_status = read_plan(session);
     if (session->plan_status != SJA_DONE)

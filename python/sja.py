@@ -21,7 +21,7 @@ import subprocess
 BESIDE = os.path.join(os.path.dirname(os.path.realpath(__file__)), "libsja.so")
 
 STATUSES = """DONE NO_HANDLE ENDED NO_VERSION NO_BITS NO_NODES NO_ADDRESS NO_BYTE NO_NODE NO_BIT PAST STEPS_USED
-TURNS_USED STRIKES_USED NO_PLAN NO_DOCUMENT NO_ROOM NO_MEMORY BROKEN NO_PLACE""".split()
+TURNS_USED STRIKES_USED NO_PLAN NO_DOCUMENT NO_ROOM NO_MEMORY BROKEN NO_PLACE ENDLESS""".split()
 
 LINES = {"no VERSION": "NO_VERSION", "no BITS": "NO_BITS", "no NODES": "NO_NODES", "no NODE": "NO_NODE",
          "no ADDRESS": "NO_ADDRESS", "no BYTE": "NO_BYTE", "no BIT": "PAST", "full STEPS": "STEPS_USED",
@@ -34,7 +34,8 @@ GREATEST = 2**32 - 1
 # The names of enum sja_places, in its order, as plans have them.
 NAMES = ["SOF", "ID", "SRR", "RTR", "IDE", "r1", "r0", "DLC", "data", "CRC", "CRC delimiter", "ACK", "ACK delimiter",
          "EOF", "intermission", "stuff"]
-NUMBERED = ("ID", "DLC", "CRC", "EOF", "intermission", "stuff")
+NUMBERED = {"ID": range(29), "DLC": range(4), "CRC": range(15), "EOF": range(1, 8), "intermission": range(1, 4),
+            "stuff": range(1, 30), "data": [10 * byte + bit for byte in range(1, 9) for bit in range(8)]}
 
 
 def _place_of(number):
@@ -48,13 +49,12 @@ def _place_of(number):
 
 
 PLACES = {_place_of((kind + 1) * 256 + own): (kind + 1) * 256 + own
-          for kind, name in enumerate(NAMES) for own in range(100 if name in NUMBERED or name == "data" else 1)}
+          for kind, name in enumerate(NAMES) for own in NUMBERED.get(name, [0])}
 
 
 class SjaError(Exception):
     """A call that isn't done. `status` is its name in enum sja_status, without SJA_; or NO_NUMBER, where `run` is given
-    a number that isn't one from 0 to 2^32-1, or NO_LIBRARY, where a call is of the library alone. NO_HANDLE says that
-    the session was closed."""
+    a number that isn't one from 0 to 2^32-1. NO_HANDLE says that the session was closed."""
 
     def __init__(self, status):
         super().__init__(status)
@@ -211,14 +211,22 @@ class _Process:
         return self._active()
 
     def _strike(self, node, bit):
-        self._judge((0 <= node < self.nodes, "NO_NODE"), (0 <= bit < self.bits, "NO_BIT"))
+        self._judge((0 <= node < self.nodes, "NO_NODE"), (0 <= bit < (self.bits or 10**7), "NO_BIT"))
         self._ask(f"strike {node} {bit}", "ok")
         return 0
 
-    def _place(self, *_):
-        raise SjaError("NO_LIBRARY")
+    def _place(self, node):
+        self._judge((0 <= node < self.nodes, "NO_NODE"))
+        return PLACES.get(self._ask(f"place {node}", "place", "nothing").removeprefix("place "), 0)
 
-    _to = _place
+    def _to(self, node, place, limit):
+        self._judge((place in PLACES.values(), "NO_PLACE"), (0 <= node < self.nodes, "NO_NODE"))
+        while True:
+            most = min(limit, 9999999)
+            words = self._ask(f"to {node} {_place_of(place)} {most}", "ran").split()
+            limit = limit - most if int(words[1]) == most else 0
+            if words[2:] != ["spent"] or not limit:
+                return int(words[2:] != ["spent"])
 
     def _now(self):
         self._judge()
@@ -245,6 +253,8 @@ class _Process:
         self.texts["report"] = ("DONE" if report else self._lost(), report)
 
     def text(self, name):
+        if not self.bits:
+            raise SjaError("ENDLESS")
         if not self.texts and name == "report":
             self._end()
         status, text = self.texts[name] if self.texts else self._plan_now()
@@ -295,7 +305,8 @@ def run_plan(plan):
 
 
 class Session:
-    """A bus of one to eight controllers. The calls are those of c/sja.h."""
+    """A bus of one to eight controllers. The calls are those of c/sja.h. In version 3 with 0 bits it goes on without an
+    end, and has neither plan nor report."""
 
     def __init__(self, version, bits, nodes):
         library = _library()
@@ -338,12 +349,12 @@ class Session:
         self._call("strike", node, bit)
 
     def place(self, node):
-        """At which place of a frame the next bit of a node is, as plans name it; None at none. The library alone."""
+        """At which place of a frame the next bit of a node is, as plans name it; None at none."""
         return _place_of(self._call("place", node))
 
     def to(self, node, place, limit):
         """Runs bits, up to the one before which the next bit of a node is at a place, at most so many. Whether it is
-        there then. The library alone."""
+        there then."""
         return bool(self._call("to", node, PLACES.get(place, 0), limit))
 
     def now(self):

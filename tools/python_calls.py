@@ -36,9 +36,9 @@ def openings():
     """Openings that are refused: each leaves no process behind."""
     for wanted, numbers in [
         ("NO_VERSION", (4, 10, 1)), ("NO_VERSION", (-1, 10, 1)), ("NO_VERSION", (PAST + 3, 10, 1)),
-        ("NO_BITS", (3, 0, 1)), ("NO_BITS", (3, -1, 1)), ("NO_BITS", (3, PAST + 10, 1)), ("NO_BITS", (2, 200001, 1)),
+        ("NO_BITS", (2, 0, 1)), ("NO_BITS", (3, -1, 1)), ("NO_BITS", (3, PAST + 10, 1)), ("NO_BITS", (2, 200001, 1)),
         ("NO_NODES", (3, 10, 0)), ("NO_NODES", (3, 10, 9)), ("NO_NODES", (3, 10, PAST + 1)), ("NO_NODES", (3, 10, -1)),
-        ("TypeError", (3, 10, 1.0)),
+        ("NO_VERSION", (4, 0, 1)), ("NO_NODES", (3, 0, 0)), ("NO_NODES", (3, 0, 9)), ("TypeError", (3, 10, 1.0)),
     ]:
         yield f"Session{numbers}", lambda numbers=numbers: Session(*numbers), wanted
         yield f"a process of Session{numbers}", has_process, False
@@ -81,20 +81,29 @@ def ended(bus, status):
 
 
 def places(bus):
-    """Places of a frame, as examples/own_case.toml has it. A process has none of these calls."""
+    """Places of a frame, as examples/own_case.toml has it."""
     for address, value in [(0, 0), (16, 2), (17, 0x24), (18, 0x60), (19, 0x11), (20, 0x22), (1, 1)]:
         bus.write(0, address, value)
     bus.write(1, 0, 0)
-    has_places = bus._session.__class__.__name__ == "_Library"
     for wanted, name, numbers in [
         (None, "place", (0,)), ("NO_NODE", "place", (2,)), ("NO_PLACE", "to", (0, "stuff.30", 9)),
         ("NO_PLACE", "to", (2, "nowhere", 9)), ("NO_NODE", "to", (2, "SOF", 9)), (True, "to", (1, "stuff.2", 200)),
         ("stuff.2", "place", (0,)), ("stuff.2", "place", (1,)), (True, "to", (1, "stuff.2", 0)),
         (True, "to", (0, "CRC delimiter", 12)), (False, "to", (0, "data 2.3", 9)), (72, "now", ()),
     ]:
-        wanted = wanted if has_places or name == "now" else "NO_LIBRARY"
-        wanted = 0 if name == "now" and not has_places else wanted
         yield f"{name}{numbers}", lambda name=name, numbers=numbers: getattr(bus, name)(*numbers), wanted
+
+
+def endless(bus):
+    """Calls of a session of one node without an end: no count of bits ends it, and it has neither plan nor report."""
+    for wanted, name, numbers in [
+        ("ENDLESS", "plan", ()), ("ENDLESS", "report", ()), (0, "now", ()), (None, "strike", (0, 2500000)),
+        (2000000, "run", (2000000,)), (2000000, "run", (2000000,)), (4000000, "now", ()),
+        ("PAST", "strike", (0, 3999999)),
+        (None, "write", (0, 4, 0x12)), (0x12, "read", (0, 4)), ("ENDLESS", "report", ()), ("ENDLESS", "plan", ()),
+        (7, "run", (7,)), (4000007, "now", ()), ("NO_NODE", "irq", (1,)),
+    ]:
+        yield f"{name}{numbers} without an end", lambda name=name, numbers=numbers: getattr(bus, name)(*numbers), wanted
 
 
 def rows():
@@ -103,6 +112,9 @@ def rows():
     framed = Session(3, 1000, 2)
     yield from places(framed)
     framed.close()
+    lasting = Session(3, 0, 1)
+    yield from endless(lasting)
+    lasting.close()
     bus = Session(3, 1000, 2)
     yield from calls(bus)
     plan = bus.plan()

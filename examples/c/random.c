@@ -234,12 +234,20 @@ static int is_over(struct driven *driven)
     return driven->left == 0 || (driven->ended && any() % 16 == 0);
 }
 
+/* Whether no call here may have this status: the process of sja_pipe.c is another file's, and no place is asked for. */
+static int is_untold(uint32_t status)
+{
+    return status == SJA_BROKEN || status == SJA_NO_PLACE || status > SJA_ENDLESS;
+}
+
 /* Prints how often each status was told. Whether all were that have to be. */
 static int told_all(const unsigned long *seen, unsigned long calls)
 {
     int all = 1;
 
-    for (uint32_t status = 0; status < SJA_BROKEN; status++) {
+    for (uint32_t status = 0; status <= SJA_ENDLESS; status++) {
+        if (is_untold(status))
+            continue;
         printf("status %2u: %lu\n", (unsigned)status, seen[status]);
         all = all && (seen[status] > 0 || status == SJA_NO_MEMORY);
     }
@@ -252,7 +260,7 @@ int main(int count, char **words)
 {
     unsigned long calls = count > 1 ? strtoul(words[1], NULL, 10) : 1000;
     const char *folder = count > 2 ? words[2] : NULL;
-    unsigned long seen[SJA_BROKEN + 1] = { 0 };
+    unsigned long seen[SJA_ENDLESS + 1] = { 0 };
     struct driven driven = { 0 };
 
     for (unsigned long i = 0; i < calls; i++) {
@@ -262,7 +270,7 @@ int main(int count, char **words)
             return 1;
         status = driven.session == NULL ? begin(&driven) : next_call(&driven);
         driven.left -= driven.left > 0;
-        if (status >= SJA_BROKEN) {
+        if (is_untold(status)) {
             fprintf(stderr, "call %lu: status %u\n", i, (unsigned)status);
             return 1;
         }

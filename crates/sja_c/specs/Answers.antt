@@ -5,7 +5,7 @@ use Rattle.sja_calls.specs.declared.call_fault.CallFault.{CallFault}
 use Rattle.sja_calls.specs.declared.call_fault.CallFault.TheVariants.{Ended, Version, Bits, Nodes, NoAddress, NoByte}
 use Rattle.sja_calls.specs.declared.call_fault.CallFault.TheVariants.{NoNode, NoBit, Past, StepsUsed, TurnsUsed}
 use Rattle.sja_calls.specs.declared.call_fault.CallFault.TheVariants.{StrikesUsed, NoPlan, NoDocument, NoRoom, Memory}
-use Rattle.sja_calls.specs.declared.call_fault.CallFault.TheVariants.{NoPlace}
+use Rattle.sja_calls.specs.declared.call_fault.CallFault.TheVariants.{NoPlace, Endless}
 
 abbrev pub answer : ℕ → ℕ → SjaAnswer
 answer status value = record { status = status; value = value }
@@ -34,6 +34,7 @@ refusal NoDocument = answer 15 0
 refusal (NoRoom size) = answer 16 size
 refusal Memory = answer 17 0
 refusal NoPlace = answer 19 0
+refusal Endless = answer 20 0
 
 -- a call was done, and gives this number; or it wasn't, for this reason
 abbrev pub Answers : (ℕ → Type 0) → (CallFault → Type 0) → SjaAnswer → Type 0

@@ -58,6 +58,7 @@ pub(crate) fn refused(fault: CallFault) -> SjaAnswer
         },
         CallFault::Memory => plain(17),
         CallFault::NoPlace => plain(19),
+        CallFault::Endless => plain(20),
     }
 }
 

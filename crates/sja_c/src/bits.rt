@@ -126,7 +126,7 @@ fn now_of(held: &mut HeldSession) -> SjaAnswer
     ensures { AnswersNow held.old held.new result }
 {
     match held.now() {
-        Ok(now) => done(u64::from(now)),
+        Ok(now) => done(now),
         Err(fault) => refused(fault),
     }
 }

@@ -1,7 +1,7 @@
 -- The texts that a program in C is given (this project's own rule).
 use Rattle.std.specs.Prelude.{◌≡◌, ◌≢◌, ◌⊎◌, ◌+◌, ◌<◌, ◌≤◌, ◌++◌, ℕ, List, ◌∷◌, length, drop}
 use Rattle.sja_calls.specs.declared.call_fault.CallFault.{CallFault}
-use Rattle.sja_calls.specs.declared.call_fault.CallFault.TheVariants.{NoPlan, NoDocument, NoRoom, Memory}
+use Rattle.sja_calls.specs.declared.call_fault.CallFault.TheVariants.{NoPlan, NoDocument, NoRoom, Endless, Memory}
 use Rattle.sja_calls.specs.declared.state.State.{State}
 use Rattle.sja_calls.specs.declared.state.State.TheVariants.{Going, Ended, Lost}
 use Rattle.sja_driver.specs.Accesses.{Access}
@@ -20,7 +20,7 @@ use Rattle.sja_plan_text.specs.HasTexts.{HasTexts}
 use Rattle.sja_plan_text.specs.Written.{IsPlanText, IsTooLong}
 use Rattle.sja_report.specs.ReportLines.{report_text}
 use Rattle.sja_serial.specs.Ending.{IsLogOf}
-use Rattle.sja_session.specs.Sessions.{SessionValue, IsAt, written}
+use Rattle.sja_session.specs.Sessions.{SessionValue, HasEnd, IsAt, IsEndless, written}
 
 -- ---- texts and rooms
 
@@ -42,11 +42,12 @@ pub record EndsAs (s : SessionValue) (plan : PlanValue) (log : RunValue) : Type 
   pub run : IsSerialRun plan log
   pub accounts : AreAccounts log
 
--- a session that went on has ended, or there was no memory for its log. One that has ended stays as it is
+-- a session that went on has ended, or there was no memory for its log; one without an end goes on as it was. One that
+-- has ended stays as it is
 abbrev pub EndsFrom : SessionValue → State → Type 0
-EndsFrom r (Going s) = ⊥
-EndsFrom r (Ended plan log) = EndsAs r plan log
-EndsFrom r Lost = Unit {0}
+EndsFrom r (Going s) = IsEndless r × (s ≡ r)
+EndsFrom r (Ended plan log) = HasEnd r × EndsAs r plan log
+EndsFrom r Lost = HasEnd r
 
 abbrev pub Ends : State → State → Type 0
 Ends (Going r) now = EndsFrom r now
@@ -68,7 +69,7 @@ IsNoReport log room Memory = Unit {0}
 IsNoReport log room fault = ⊥
 
 abbrev pub IsReportFault : State → List ℕ → CallFault → Type 0
-IsReportFault (Going r) room fault = ⊥
+IsReportFault (Going r) room fault = fault ≡ Endless
 IsReportFault (Ended plan log) room fault = IsNoReport log room fault
 IsReportFault Lost room fault = fault ≡ Memory
 
@@ -88,14 +89,15 @@ IsPlanFault plan room (NoRoom size) = (document : List ℕ) × IsPlanText plan d
 IsPlanFault plan room Memory = Unit {0}
 IsPlanFault plan room fault = ⊥
 
--- the plan of a session, which is lost where there was no memory for its log
+-- the plan of a session with an end, which is lost where there was no memory for its log
 abbrev pub PutsPlan : State → List ℕ → List ℕ → ℕ → Type 0
-PutsPlan (Going r) was now count = PutsPlanOf (written r) was now count
+PutsPlan (Going r) was now count = HasEnd r × PutsPlanOf (written r) was now count
 PutsPlan (Ended plan log) was now count = PutsPlanOf plan was now count
 PutsPlan Lost was now count = ⊥
 
 abbrev pub IsNoPlanText : State → List ℕ → CallFault → Type 0
-IsNoPlanText (Going r) room fault = IsPlanFault (written r) room fault
+IsNoPlanText (Going r) room fault =
+    (IsEndless r × (fault ≡ Endless)) ⊎ (HasEnd r × IsPlanFault (written r) room fault)
 IsNoPlanText (Ended plan log) room fault = IsPlanFault plan room fault
 IsNoPlanText Lost room fault = fault ≡ Memory
 

@@ -84,7 +84,7 @@ impl HeldSession {
     /// How many bits were run.
     ///
     /// Error: [`CallFault::Ended`].
-    pub fn now(&self) -> Result<u32, CallFault>
+    pub fn now(&self) -> Result<u64, CallFault>
         ensures now { IfOk result (IsNowOf self.now.state) }
         ensures err { IfErr result (IsRefusal self.now.state IsNowFault) }
     {

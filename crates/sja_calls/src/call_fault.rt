@@ -53,6 +53,9 @@ pub enum CallFault {
     /// The text needs more room: so many bytes, the NUL at its end with them.
     #[error("the text needs {0} bytes")]
     NoRoom(usize),
+    /// The session is without an end.
+    #[error("a session without an end has no plan and no report")]
+    Endless,
     /// Memory was refused.
     #[error("out of memory")]
     Memory,

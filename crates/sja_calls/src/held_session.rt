@@ -3,6 +3,7 @@
 use super::call_fault::CallFault;
 use super::numbers::byte_of;
 use super::state::State;
+use sja_plan::RAW_VERSION;
 use sja_session::{Session, SessionFault};
 use std::alloc::Global;
 
@@ -20,7 +21,7 @@ impl HeldSession {
     ghost use Rattle.sja_calls.specs.Beginnings.{IsNew, IsNoSession};
 
     /// A session to which nothing happened, with room for as many steps and turns as a plan of this version has at
-    /// most.
+    /// most; in version 3 with 0 bits one without an end.
     ///
     /// Errors, the first that holds: [`CallFault::Version`], [`CallFault::Bits`] and [`CallFault::Nodes`] where these
     /// aren't within the limits of a session; [`CallFault::Memory`] where memory was refused.
@@ -31,6 +32,9 @@ impl HeldSession {
         let Ok(version) = u8::try_from(version) else {
             return Err(CallFault::Version);
         };
+        if version == RAW_VERSION && bits == 0 {
+            return HeldSession::endless(alloc, nodes);
+        }
         match Session::new(alloc, version, bits, byte_of(nodes)) {
             Ok(session) => Ok(HeldSession {
                 alloc,
@@ -42,6 +46,25 @@ impl HeldSession {
             Err(SessionFault::StepRoom) => unreachable!(),
             Err(SessionFault::TurnRoom) => unreachable!(),
             Err(SessionFault::Memory) => Err(CallFault::Memory),
+        }
+    }
+
+    /// A session without an end to which nothing happened.
+    ///
+    /// Errors, the first that holds: [`CallFault::Nodes`] where these aren't within the limits; [`CallFault::Memory`]
+    /// where memory was refused.
+    fn endless(alloc: Global, nodes: u32) -> Result<HeldSession, CallFault>
+        ensures new { IfOk result (λ held. IsNew 3 0 nodes held.state) }
+        ensures err { IfErr result (IsNoSession 3 0 nodes) }
+    {
+        match Session::endless(alloc, byte_of(nodes)) {
+            Ok(session) => Ok(HeldSession {
+                alloc,
+                state: State::Going(session),
+            }),
+            Err(SessionFault::NodeCount) => Err(CallFault::Nodes),
+            Err(SessionFault::Memory) => Err(CallFault::Memory),
+            Err(_) => unreachable!(),
         }
     }
 }

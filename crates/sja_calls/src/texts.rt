@@ -12,6 +12,7 @@ use sja_log::RunLog;
 use sja_plan::Plan;
 use sja_plan_text::{PlanTextFault, has_texts, plan_text};
 use sja_report::report;
+use sja_session::NoPlan;
 use std::alloc::Global;
 use std::mem::replace;
 
@@ -21,8 +22,8 @@ impl HeldSession {
 
     /// Ends the session, and puts its report into a text, with a NUL at its end. It gives the length without it.
     ///
-    /// Errors: [`CallFault::NoRoom`], with the size that it needs; [`CallFault::Memory`]. Where the session was going
-    /// on it has ended then too; the text stays as it was.
+    /// Errors: [`CallFault::Endless`], and the session goes on; [`CallFault::NoRoom`], with the size that it needs;
+    /// [`CallFault::Memory`]. Where a session with an end was going on it has ended then too; the text stays as it was.
     pub fn report(&mut self, text: &mut [u8]) -> Result<usize, CallFault>
         ensures ends { Ends self.old.state self.new.state }
         ensures puts { IfOk result (PutsReport self.new.state text.old text.new) }
@@ -33,15 +34,16 @@ impl HeldSession {
         self.end(alloc);
         match &self.state {
             State::Ended(_, log) => put_report(alloc, log, text),
-            _ => Err(CallFault::Memory),
+            State::Going(_) => Err(CallFault::Endless),
+            State::Lost => Err(CallFault::Memory),
         }
     }
 
     /// Puts the plan that the session wrote so far into a text, as a document, with a NUL at its end. It gives the
     /// length without it.
     ///
-    /// Errors, and nothing changed: [`CallFault::NoDocument`] where no document says the plan, or it would be too long;
-    /// [`CallFault::NoRoom`], with the size that it needs; [`CallFault::Memory`].
+    /// Errors, and nothing changed: [`CallFault::Endless`]; [`CallFault::NoDocument`] where no document says the plan,
+    /// or it would be too long; [`CallFault::NoRoom`], with the size that it needs; [`CallFault::Memory`].
     pub fn plan(&self, text: &mut [u8]) -> Result<usize, CallFault>
         ensures puts { IfOk result (PutsPlan self.now.state text.old text.new) }
         ensures err { IfErr result (IsNoPlanText self.now.state text.old) }
@@ -50,17 +52,23 @@ impl HeldSession {
         match &self.state {
             State::Going(session) => match session.plan(self.alloc) {
                 Ok(plan) => put_plan(self.alloc, &plan, text),
-                Err(_) => Err(CallFault::Memory),
+                Err(NoPlan::Endless) => Err(CallFault::Endless),
+                Err(NoPlan::Memory) => Err(CallFault::Memory),
             },
             State::Ended(plan, _) => put_plan(self.alloc, plan, text),
             State::Lost => Err(CallFault::Memory),
         }
     }
 
-    /// Ends the session. Where memory is refused it is lost.
+    /// Ends the session, where it has an end. Where memory is refused it is lost.
     fn end(&mut self, alloc: Global)
         ensures ends { Ends self.old.state self.new.state }
     {
+        if let State::Going(session) = &self.state {
+            if session.is_endless() {
+                return;
+            }
+        }
         match replace(&mut self.state, State::Lost) {
             State::Going(session) => {
                 if let Ok((plan, log)) = session.finish(alloc) {

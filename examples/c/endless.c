@@ -1,0 +1,141 @@
+/* Two drivers on a bus that goes on until the program is told to stop, by SIGINT or SIGTERM: node 0 polls, node 1 is
+ * woken by its interrupt. By turns each sends the other a message that has its number. Now and then a bit of a frame is
+ * struck at its sender, so that it is sent again. Each message has to be received once, and in order. A line says from
+ * time to time how far the bus has come. Where a number stands behind the program's name it stops after so many bits.
+ * The status is 1 where a message was missed or came twice. */
+#include <inttypes.h>
+#include <signal.h>
+#include <stdio.h>
+#include <stdlib.h>
+
+#include "board.h"
+#include "expect.h"
+#include "interrupts.h"
+#include "polling.h"
+
+enum { VERSION = 3, WITHOUT_END = 0, ROUND = 300, ROUNDS = 10, LINE = 20000000 };
+
+/* One message of so many is struck, so many bits after it was asked for: in its data. */
+enum { STRUCK = 5000, IN_DATA = 50 };
+
+/* Both drivers let the identifiers through whose first bit is 0. */
+static const struct filter FILTER = { .code = 0x000, .mask = 0x3FF };
+
+static volatile sig_atomic_t told_to_stop;
+
+static void stop(int number)
+{
+    signal(number, stop);
+    told_to_stop = 1;
+}
+
+static uint64_t now(const struct board *board)
+{
+    return board_done("now", sja_now(board->session));
+}
+
+/* The message of this number. */
+static struct message numbered(uint64_t number)
+{
+    struct message message = { .id = (uint32_t)(number % 0x400), .length = 8 };
+
+    for (int i = 0; i < 8; i++)
+        message.data[i] = (uint8_t)(number >> 8 * i);
+    return message;
+}
+
+/* Strikes the frame that a node is about to send, where this message is one that is struck. Bits from 2^32 on aren't,
+ * and over a process those from 10,000,000 on. */
+static void strike(const struct board *board, uint64_t number)
+{
+    uint64_t bit = now(board) + IN_DATA;
+    sja_answer told;
+
+    if (number % STRUCK != 0 || bit > UINT32_MAX)
+        return;
+#ifdef TWICE
+    /* A planted mistake: in the last bit of EOF it has been received, and is sent again. */
+    board_done("to", sja_to(board->session, board->node, SJA_EOF + 7, ROUND));
+    bit = now(board);
+#endif
+    told = sja_strike(board->session, board->node, (uint32_t)bit);
+    if (told.status != SJA_NO_BIT)
+        board_done("strike", told);
+}
+
+/* The one that polls sends a message, and the other one receives it. */
+static void from_polling(struct polling *polling, struct interrupts *interrupts, uint64_t number)
+{
+    struct message message = numbered(number), received = { 0 };
+    enum outcome outcome = PENDING;
+
+    expect("the buffer of polling is free", (unsigned)polling_send(polling, &message, 0), 1);
+    strike(&polling->board, number);
+    for (int i = 0; i < ROUNDS && outcome == PENDING; i++) {
+        interrupts_run(interrupts, ROUND / 2);
+        outcome = polling_outcome(polling);
+    }
+    expect("outcome of polling", outcome, SENT);
+    expect("one for interrupts", (unsigned)interrupts_receive(interrupts, &received), 1);
+    expect("as it was sent", (unsigned)message_equals(&message, &received), 1);
+    expect("no other one for interrupts", (unsigned)interrupts_receive(interrupts, &received), 0);
+}
+
+/* The one that is woken sends a message, and the other one receives it. */
+static void from_interrupts(struct interrupts *interrupts, struct polling *polling, uint64_t number)
+{
+    struct message message = numbered(number), received = { 0 };
+
+    expect("the buffer of interrupts is free", (unsigned)interrupts_send(interrupts, &message, 0), 1);
+    strike(&interrupts->board, number);
+    for (int i = 0; i < ROUNDS && interrupts->outcome == PENDING; i++)
+        interrupts_run(interrupts, ROUND / 2);
+    expect("outcome of interrupts", interrupts->outcome, SENT);
+    expect("one for polling", (unsigned)polling_receive(polling, &received), 1);
+    expect("as it was sent", (unsigned)message_equals(&message, &received), 1);
+    expect("no other one for polling", (unsigned)polling_receive(polling, &received), 0);
+}
+
+static void tell(uint64_t bits, uint64_t messages)
+{
+    printf("%" PRIu64 " bits, %" PRIu64 " messages\n", bits, messages);
+    fflush(stdout);
+}
+
+/* Messages until the program is to stop, and how many they were. */
+static uint64_t exchange(struct polling *polling, struct interrupts *interrupts, uint64_t bits)
+{
+    uint64_t number = 0, line = 0;
+
+    while (!told_to_stop && differences == 0 && now(&polling->board) < bits) {
+        from_polling(polling, interrupts, number++);
+        from_interrupts(interrupts, polling, number++);
+        if (now(&polling->board) / LINE > line) {
+            line = now(&polling->board) / LINE;
+            tell(now(&polling->board), number);
+        }
+    }
+    return number;
+}
+
+int main(int count, char **words)
+{
+    uint64_t bits = count > 1 ? strtoull(words[1], NULL, 10) : UINT64_MAX, messages;
+    struct polling polling;
+    struct interrupts interrupts;
+    sja *session;
+
+    /* A process of the session's own ignores what stops this one. */
+    signal(SIGINT, SIG_IGN);
+    board_done("new", sja_new(VERSION, WITHOUT_END, 2, &session));
+    signal(SIGINT, stop);
+    signal(SIGTERM, stop);
+    if (!polling_open(&polling, session, 0, FILTER) || !interrupts_open(&interrupts, session, 1, FILTER))
+        return 1;
+    interrupts_run(&interrupts, 30);
+    messages = exchange(&polling, &interrupts, bits);
+    tell(now(&polling.board), messages);
+    printf("%u errors seen by node 1, %u differences\n", interrupts.errors, differences);
+    board_done("free", sja_free(session));
+    return differences == 0 ? 0 : 1;
+}

@@ -1,0 +1,79 @@
+"""Two nodes of a session without an end exchange messages until the program is told to stop (Ctrl-C). Each message has
+its number, and has to come once and in order. A line says now and then how far the bus has come. A number behind the
+program's name stops it after so many bits."""
+
+import signal
+import sys
+
+from sja import Session, SjaError
+
+MOD, CMR, SR, BUFFER, AMR = 0, 1, 2, 16, 20
+TR, RRB, RBS = 0x01, 0x04, 0x01
+LINE = 1000000
+
+stopped = []
+
+
+def opened(bus, node):
+    """Takes a controller onto the bus: every message passes."""
+    for mask in range(AMR, AMR + 4):
+        bus.write(node, mask, 0xFF)
+    bus.write(node, MOD, 0x00)
+
+
+def send(bus, node, number):
+    """Hands the message of this number over."""
+    for place, byte in enumerate([8, 0x10, 0x00, *number.to_bytes(8, "big")]):
+        bus.write(node, BUFFER + place, byte)
+    bus.write(node, CMR, TR)
+
+
+def received(bus, node):
+    """The numbers of all messages that a node has received. Each is released."""
+    numbers = []
+    while bus.read(node, SR) & RBS:
+        numbers.append(int.from_bytes((bus.read(node, BUFFER + 3 + place) for place in range(8)), "big"))
+        bus.write(node, CMR, RRB)
+    return numbers
+
+
+def strike(bus, node):
+    """Strikes the frame that a node is about to send. Bits from 2^32 on can't be struck, and over a process those from
+    10,000,000 on."""
+    bit = bus.now() + 50
+    try:
+        if bit < 2**32:
+            bus.strike(node, bit)
+    except SjaError as error:
+        if error.status != "NO_BIT":
+            raise
+
+
+def exchange(bus, last):
+    """Sends by turns, and strikes each hundredth message, so that it is sent again."""
+    number = line = 0
+    while not stopped and bus.now() < last:
+        send(bus, number % 2, number)
+        if number % 100 == 0:
+            strike(bus, number % 2)
+        bus.run(400)
+        if (came := received(bus, 1 - number % 2)) != [number]:
+            sys.exit(f"message {number} came as {came}")
+        number += 1
+        if bus.now() // LINE > line:
+            line = bus.now() // LINE
+            print(bus.now(), "bits,", number, "messages", flush=True)
+
+
+def stop(*_):
+    """Has the exchange end."""
+    stopped.append(True)
+
+
+signal.signal(signal.SIGINT, signal.SIG_IGN)  # a process of the session's own ignores what stops this one
+with Session(version=3, bits=0, nodes=2) as session:
+    signal.signal(signal.SIGINT, stop)
+    for each in range(2):
+        opened(session, each)
+    exchange(session, int(sys.argv[1]) if len(sys.argv) > 1 else float("inf"))
+    print("stopped at bit", session.now())
