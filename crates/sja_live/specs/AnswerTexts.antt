@@ -5,16 +5,18 @@ use Rattle.hex.specs.Hex.{encode_lower}
 use Rattle.sja_live.specs.declared.line_fault.LineFault.{LineFault}
 use Rattle.sja_live.specs.declared.line_fault.LineFault.TheVariants.{Text as NoText, Command, Node, Number}
 use Rattle.sja_live.specs.declared.line_fault.LineFault.TheVariants.{Address, Byte, Step as StepWord}
+use Rattle.sja_live.specs.declared.line_fault.LineFault.TheVariants.{Place as PlaceWord}
 use Rattle.sja_live.specs.declared.live_answer.LiveAnswer.{LiveAnswer}
 use Rattle.sja_live.specs.declared.live_answer.LiveAnswer.TheVariants.{Told, Waits, Ran, Rose, Spent, Lines, Bits}
-use Rattle.sja_live.specs.declared.live_answer.LiveAnswer.TheVariants.{Nothing}
-use Rattle.sja_live.specs.declared.live_answer.LiveAnswer.TheVariants.{PlanSoFar, Mistaken, NoBit, Full, Long}
+use Rattle.sja_live.specs.declared.live_answer.LiveAnswer.TheVariants.{At, Nothing}
+use Rattle.sja_live.specs.declared.live_answer.LiveAnswer.TheVariants.{PlanSoFar, NoPlan, Mistaken, NoBit, Full, Long}
 use Rattle.sja_live.specs.declared.opening_fault.OpeningFault.{OpeningFault}
 use Rattle.sja_live.specs.declared.opening_fault.OpeningFault.TheVariants.{Long as LongLine, Text as NoLineText}
 use Rattle.sja_live.specs.declared.opening_fault.OpeningFault.TheVariants.{Command as NoLive, Version, Bits as NoBits}
 use Rattle.sja_live.specs.declared.opening_fault.OpeningFault.TheVariants.{Nodes}
 use Rattle.sja_live.specs.declared.shortage.Shortage.{Shortage}
 use Rattle.sja_live.specs.declared.shortage.Shortage.TheVariants.{Steps, Turns, Strikes, Document}
+use Rattle.sja_live.specs.PlaceTexts.{place_text}
 use Rattle.sja_plan.specs.Words.{Text}
 use Rattle.sja_report.specs.ReportLines.{line_text}
 use Rattle.sja_report.specs.ReportWords.{byte_word}
@@ -40,6 +42,7 @@ fault_word Node = codes "NODE"
 fault_word StepWord = codes "STEP"
 fault_word Address = codes "ADDRESS"
 fault_word Byte = codes "BYTE"
+fault_word PlaceWord = codes "PLACE"
 fault_word Number = codes "NUMBER"
 
 -- what is used up
@@ -60,12 +63,18 @@ answer_text (Rose bits lines) =
 answer_text (Spent bits) = line_text (codes "ran" ∷ decimal bits ∷ codes "spent" ∷ [])
 answer_text (Lines lines) = line_text (codes "line" ∷ byte_word lines ∷ [])
 answer_text (Bits bits) = line_text (codes "bits" ∷ decimal bits ∷ [])
+answer_text (At place) = line_text (codes "place" ∷ place_text place ∷ [])
 answer_text Nothing = line_text (codes "nothing" ∷ [])
 answer_text (PlanSoFar document) = string_bytes document ++ codes ".\n"
+answer_text NoPlan = line_text (codes "no" ∷ codes "PLAN" ∷ [])
 answer_text (Mistaken fault) = line_text (codes "no" ∷ fault_word fault ∷ [])
 answer_text NoBit = line_text (codes "no" ∷ codes "BIT" ∷ [])
 answer_text (Full used) = line_text (codes "full" ∷ used_word used ∷ [])
 answer_text Long = line_text (codes "long" ∷ [])
+
+-- the line that says at the end that a session without an end has no report
+abbrev pub no_report_text : Text
+no_report_text = line_text (codes "no" ∷ codes "REPORT" ∷ [])
 
 -- the line that says that a session is open, and the one that says why none is
 abbrev pub opened_text : Text

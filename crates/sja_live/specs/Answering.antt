@@ -8,26 +8,33 @@ use Rattle.sja_live.specs.declared.line_fault.LineFault.TheVariants.{Node as Nod
 use Rattle.sja_live.specs.declared.live_answer.LiveAnswer.{LiveAnswer}
 use Rattle.sja_live.specs.declared.live_answer.LiveAnswer.TheVariants.{Told, Waits, Ran, Rose, Spent, Lines}
 use Rattle.sja_live.specs.declared.live_answer.LiveAnswer.TheVariants.{Bits as Run, Nothing, PlanSoFar, NoBit, Full}
-use Rattle.sja_live.specs.declared.live_answer.LiveAnswer.TheVariants.{Mistaken}
+use Rattle.sja_live.specs.declared.live_answer.LiveAnswer.TheVariants.{Bits as Run, Nothing, PlanSoFar, NoBit, Full}
+use Rattle.sja_live.specs.declared.live_answer.LiveAnswer.TheVariants.{NoPlan, Mistaken, At}
 use Rattle.sja_live.specs.declared.live_command.LiveCommand.{LiveCommand}
 use Rattle.sja_live.specs.declared.live_command.LiveCommand.TheVariants.{Step, Read, Write, Run as RunBits, Rest}
-use Rattle.sja_live.specs.declared.live_command.LiveCommand.TheVariants.{Line, Strike, Answer, Bits, Plan}
+use Rattle.sja_live.specs.declared.live_command.LiveCommand.TheVariants.{Line, Strike, Answer, Bits, Plan, To, PlaceOf}
 use Rattle.sja_live.specs.declared.shortage.Shortage.TheVariants.{Steps as StepsUsed, Turns as TurnsUsed}
 use Rattle.sja_live.specs.declared.shortage.Shortage.TheVariants.{Strikes as StrikesUsed, Document}
+use Rattle.sja_plan.specs.declared.place.Place.{Place}
 use Rattle.sja_plan_text.specs.Written.{IsPlanText, IsTooLong}
 use Rattle.sja_script.specs.declared.step.Step.{Step as StepOf}
 use Rattle.sja_script.specs.declared.step_answer.StepAnswer.{StepAnswer}
 use Rattle.sja_script.specs.declared.step_answer.StepAnswer.TheVariants.{Done, Value}
 use Rattle.sja_serial.specs.Stepping.{with_accesses}
+use Rattle.sja_serial.specs.Placing.{IsPlace}
 use Rattle.sja_session.specs.Answering.{last_answer}
 use Rattle.sja_session.specs.ByAddress.{Reads, Writes, MayWrite, IsWriteFault}
 use Rattle.sja_session.specs.Lines.{AreLines, IsStill}
+use Rattle.sja_session.specs.Placing.{RunsTo, MayRunTo, IsPlaceRefusal}
 use Rattle.sja_session.specs.Resting.{Rests}
 use Rattle.sja_session.specs.Running.{MayRun, LacksBusTurn}
-use Rattle.sja_session.specs.Sessions.{SessionValue, written}
+use Rattle.sja_session.specs.Sessions.{SessionValue, HasEnd, IsEndless, written}
 use Rattle.sja_session.specs.Stepping.{MayStep, IsStepFault, DoesStep, Waits as HasToWait}
 use Rattle.sja_session.specs.Striking.{MayStrike, IsStrikeFault, IsStruck}
 use Rattle.sja_session.specs.Watching.{Watches}
+use Rattle.sja_session.specs.declared.place_refusal.PlaceRefusal.{PlaceRefusal}
+use Rattle.sja_session.specs.declared.place_refusal.PlaceRefusal.TheVariants.{NoNode as NowhereTo}
+use Rattle.sja_session.specs.declared.place_refusal.PlaceRefusal.TheVariants.{TurnsUsed as NoTurnTo}
 use Rattle.sja_session.specs.declared.step_fault.StepFault.{StepFault}
 use Rattle.sja_session.specs.declared.step_fault.StepFault.TheVariants.{NoNode, StepsUsed as AllSteps}
 use Rattle.sja_session.specs.declared.step_fault.StepFault.TheVariants.{TurnsUsed as AllTurns}
@@ -35,6 +42,7 @@ use Rattle.sja_session.specs.declared.strike_fault.StrikeFault.{StrikeFault}
 use Rattle.sja_session.specs.declared.strike_fault.StrikeFault.TheVariants.{NoNode as NowhereStruck, Past}
 use Rattle.sja_session.specs.declared.strike_fault.StrikeFault.TheVariants.{NoBit as PastTheEnd, Memory}
 use Rattle.sja_session.specs.declared.strike_fault.StrikeFault.TheVariants.{StrikesUsed as AllStrikes}
+use Rattle.sja_wire.specs.Wire.{journal_at}
 
 -- every node is watched
 abbrev pub all_watched : List Bool
@@ -55,6 +63,11 @@ strike_refusal PastTheEnd = Some NoBit
 strike_refusal Past = Some NoBit
 strike_refusal AllStrikes = Some (Full StrikesUsed)
 strike_refusal Memory = None
+
+-- and bits up to a place that aren't run
+abbrev pub place_refusal : PlaceRefusal → LiveAnswer
+place_refusal NowhereTo = Mistaken NodeWord
+place_refusal NoTurnTo = Full TurnsUsed
 
 -- ---- commands
 
@@ -96,6 +109,22 @@ pub data Answers (was now : SessionValue) (accesses : List (List Access)) :
   restless : {run : ℕ} → MayRun was 1 → Rests was now run false accesses →
       Answers was now accesses Rest (Spent run) accesses
   no_rest : LacksBusTurn was 1 → now ≡ was → Answers was now accesses Rest (Full TurnsUsed) accesses
+  -- the node came to the place; or it didn't, in as many bits as were asked for or are left
+  came : {node limit run : ℕ} {place : Place} → MayRunTo was node limit →
+      RunsTo was now node place limit run true accesses →
+      Answers was now accesses (To node place limit) (Ran run) accesses
+  away : {node limit run : ℕ} {place : Place} → MayRunTo was node limit →
+      RunsTo was now node place limit run false accesses →
+      Answers was now accesses (To node place limit) (Spent run) accesses
+  no_way : {node limit : ℕ} {place : Place} (fault : PlaceRefusal) → IsPlaceRefusal was node limit fault → now ≡ was →
+      Answers was now accesses (To node place limit) (place_refusal fault) accesses
+  -- where a node is by the cut of its record, if it is there
+  at : {node : ℕ} {place : Place} →
+      (node < length was.plan.nodes → IsPlace (journal_at was.run.bus.journals node) (Some place)) → now ≡ was →
+      Answers was now accesses (PlaceOf node) (At place) accesses
+  nowhere : {node : ℕ} →
+      (node < length was.plan.nodes → IsPlace (journal_at was.run.bus.journals node) None) → now ≡ was →
+      Answers was now accesses (PlaceOf node) Nothing accesses
   line : {lines : ℕ} → IsStill was now accesses → AreLines was accesses lines →
       Answers was now accesses Line (Lines lines) accesses
   strike : {node bit : ℕ} → MayStrike was node bit → IsStruck was now node bit accesses →
@@ -108,7 +137,9 @@ pub data Answers (was now : SessionValue) (accesses : List (List Access)) :
   nothing : {node : ℕ} → last_answer (accesses_at accesses node) ≡ None → now ≡ was →
       Answers was now accesses (Answer node) Nothing accesses
   bits : now ≡ was → Answers was now accesses Bits (Run was.run.bits) accesses
-  -- the text of the plan so far, which is read as this plan; or it is too long
-  plan : {document : String Global} → IsPlanText (written was) (string_bytes document) → now ≡ was →
+  -- the text of the plan so far, which is read as this plan; or it is too long; without an end there is none
+  plan : {document : String Global} → HasEnd was → IsPlanText (written was) (string_bytes document) → now ≡ was →
       Answers was now accesses Plan (PlanSoFar document) accesses
-  no_plan : IsTooLong (written was) → now ≡ was → Answers was now accesses Plan (Full Document) accesses
+  no_plan : HasEnd was → IsTooLong (written was) → now ≡ was →
+      Answers was now accesses Plan (Full Document) accesses
+  no_end : IsEndless was → now ≡ was → Answers was now accesses Plan NoPlan accesses

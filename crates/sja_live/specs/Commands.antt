@@ -1,10 +1,12 @@
 -- What a line of `sja live` asks for (this project's own rule). Words stand with one space between two; numbers,
 -- addresses, values, messages and steps are spelled as in a plan of the session's version.
-use Rattle.std.specs.Prelude.{◌≡◌, ℕ, List, [], ◌∷◌, codes}
+use Rattle.std.specs.Prelude.{◌≡◌, ℕ, Option, Some, None, List, [], ◌∷◌, ◌++◌, codes}
 use Rattle.sja_live.specs.declared.live_command.LiveCommand.{LiveCommand}
 use Rattle.sja_live.specs.declared.live_command.LiveCommand.TheVariants.{Step, Read, Write, Run, Rest, Line, Strike}
-use Rattle.sja_live.specs.declared.live_command.LiveCommand.TheVariants.{Answer, Bits, Plan, End}
+use Rattle.sja_live.specs.declared.live_command.LiveCommand.TheVariants.{Answer, Bits, Plan, End, To, PlaceOf}
 use Rattle.sja_plan.specs.Accesses.{SpellsAddress, SpellsValue}
+use Rattle.sja_plan.specs.PlaceNames.{place_of_word, place_of_words}
+use Rattle.sja_plan.specs.declared.place.Place.{Place}
 use Rattle.sja_plan.specs.StepTexts.{AreStepWords}
 use Rattle.sja_plan.specs.Words.{Text, words, greatest, SpellsWithin, SpellsNode}
 
@@ -34,6 +36,21 @@ IsStrikeLine ws k b = ws ≡ codes "strike" ∷ k ∷ b ∷ []
 abbrev pub IsAnswerLine : List Text → Text → Type 0
 IsAnswerLine ws k = ws ≡ codes "answer" ∷ k ∷ []
 
+-- `place` and the node
+abbrev pub IsPlaceLine : List Text → Text → Type 0
+IsPlaceLine ws k = ws ≡ codes "place" ∷ k ∷ []
+
+-- the words of a place: one or two
+pub data ArePlaceWords : List Text → Option Place → Type 0 where
+  one : (p : Text) → ArePlaceWords (p ∷ []) (place_of_word p)
+  two : (p q : Text) → ArePlaceWords (p ∷ q ∷ []) (place_of_words p q)
+
+-- `to`, the node, the words of what may be a place, and how many bits at most
+pub record IsToLine (ws : List Text) (k : Text) (place : Option Place) (n : Text) : Type 0 where
+  pub names : List Text
+  pub are : ArePlaceWords names place
+  pub whole : ws ≡ codes "to" ∷ k ∷ (names ++ n ∷ [])
+
 -- ---- what a line asks for
 
 -- by this version of the rules, of a session of so many nodes, these words ask for this
@@ -51,6 +68,9 @@ AreCommandWords version nodes ws Line = ws ≡ codes "line" ∷ []
 AreCommandWords version nodes ws (Strike node bit) =
     (k b : Text) × IsStrikeLine ws k b × SpellsNode nodes k node × SpellsWithin 0 greatest b bit
 AreCommandWords version nodes ws (Answer node) = (k : Text) × IsAnswerLine ws k × SpellsNode nodes k node
+AreCommandWords version nodes ws (To node place limit) =
+    (k n : Text) × IsToLine ws k (Some place) n × SpellsNode nodes k node × SpellsWithin 0 greatest n limit
+AreCommandWords version nodes ws (PlaceOf node) = (k : Text) × IsPlaceLine ws k × SpellsNode nodes k node
 AreCommandWords version nodes ws Bits = ws ≡ codes "bits" ∷ []
 AreCommandWords version nodes ws Plan = ws ≡ codes "plan" ∷ []
 AreCommandWords version nodes ws End = ws ≡ codes "end" ∷ []

@@ -1,12 +1,15 @@
 -- The log of a session of `sja live` at its end (this project's own rule).
-use Rattle.std.specs.Prelude.{List}
+use Rattle.std.specs.Prelude.{◌≡◌, ◌⊎◌, List}
 use Rattle.sja_driver.specs.Accesses.{Access}
 use Rattle.sja_log.specs.Headline.{AreAccounts}
 use Rattle.sja_log.specs.Log.{RunValue}
 use Rattle.sja_log.specs.Runs.{IsSerialRun}
 use Rattle.sja_log.specs.declared.end.End.TheVariants.{Turns as TurnsDone}
 use Rattle.sja_serial.specs.Ending.{IsLogOf}
-use Rattle.sja_session.specs.Sessions.{SessionValue, written}
+use Rattle.sja_session.specs.Sessions.{SessionValue, HasEnd, IsEndless, written}
+use Rattle.sja_live.specs.AnswerTexts.{no_report_text}
+use Rattle.sja_plan.specs.Words.{Text}
+use Rattle.sja_report.specs.ReportLines.{report_text}
 
 -- the log has the session's own bits, journals and steps, and is that of a run in one thread of the plan that it wrote.
 -- Each driver's messages are accounted for in it
@@ -14,3 +17,9 @@ pub record IsLastLog (s : SessionValue) (accesses : List (List Access)) (log : R
   pub own : IsLogOf (written s) s.run accesses TurnsDone log
   pub run : IsSerialRun (written s) log
   pub accounts : AreAccounts log
+
+-- the text at the end is the report of such a log; without an end there is none, and that is said
+abbrev pub IsLastText : SessionValue → List (List Access) → Text → Type 0
+IsLastText s accesses text =
+    (HasEnd s × (log : RunValue) × IsLastLog s accesses log × (text ≡ report_text log))
+    ⊎ (IsEndless s × (text ≡ no_report_text))

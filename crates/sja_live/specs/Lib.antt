@@ -6,6 +6,7 @@ pub mod Lines
 pub mod Commands
 pub mod Mistakes
 pub mod Opening
+pub mod PlaceTexts
 pub mod AnswerTexts
 pub mod Answering
 -- ---- the whole

@@ -1,11 +1,13 @@
 -- Why a line of `sja live` asks for nothing (this project's own rule): the first mistake in it.
-use Rattle.std.specs.Prelude.{◌≡◌, ◌⊎◌, ℕ, List, [], ◌∷◌, codes}
+use Rattle.std.specs.Prelude.{◌≡◌, ◌⊎◌, ℕ, Option, Some, None, List, [], ◌∷◌, codes}
 use Rattle.sja_live.specs.Commands.{IsStepLine, IsReadLine, IsWriteLine, IsRunLine, IsStrikeLine, IsAnswerLine}
+use Rattle.sja_live.specs.Commands.{IsPlaceLine, IsToLine}
 use Rattle.sja_live.specs.declared.line_fault.LineFault.{LineFault}
 use Rattle.sja_live.specs.declared.line_fault.LineFault.TheVariants.{Text as NoText, Command, Node, Number}
-use Rattle.sja_live.specs.declared.line_fault.LineFault.TheVariants.{Address, Byte, Step}
+use Rattle.sja_live.specs.declared.line_fault.LineFault.TheVariants.{Address, Byte, Step, Place as PlaceWord}
 use Rattle.sja_plan.specs.Accesses.{SpellsAddress, SpellsValue}
 use Rattle.sja_plan.specs.StepTexts.{AreStepWords}
+use Rattle.sja_plan.specs.declared.place.Place.{Place}
 use Rattle.sja_plan.specs.Words.{Text, greatest, SpellsWithin, SpellsNode}
 use Rattle.sja_script.specs.declared.step.Step.{Step as StepOf}
 
@@ -16,6 +18,7 @@ abbrev pub NamesNode : List Text → Text → Type 0
 NamesNode ws k =
     ((rest : List Text) × IsStepLine ws k rest) ⊎ ((a : Text) × IsReadLine ws k a)
     ⊎ ((a v : Text) × IsWriteLine ws k a v) ⊎ ((b : Text) × IsStrikeLine ws k b) ⊎ IsAnswerLine ws k
+    ⊎ IsPlaceLine ws k ⊎ ((place : Option Place) × (n : Text) × IsToLine ws k place n)
 
 -- they are one word that stands alone
 abbrev pub StandsAlone : List Text → Type 0
@@ -66,6 +69,8 @@ AreMistaken version nodes ws Address =
 AreMistaken version nodes ws Byte =
     (k a v : Text) × (address : ℕ) × IsWriteLine ws k a v × IsSomeNode nodes k × SpellsAddress version a address
     × IsNoByte version address v
+AreMistaken version nodes ws PlaceWord = (k n : Text) × IsToLine ws k None n × IsSomeNode nodes k
 AreMistaken version nodes ws Number =
     ((n : Text) × IsRunLine ws n × IsNoNumber n)
     ⊎ ((k b : Text) × IsStrikeLine ws k b × IsSomeNode nodes k × IsNoNumber b)
+    ⊎ ((k n : Text) × (place : Place) × IsToLine ws k (Some place) n × IsSomeNode nodes k × IsNoNumber n)

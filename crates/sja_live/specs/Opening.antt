@@ -1,5 +1,6 @@
 -- The first line of `sja live`, which opens a session (this project's own rule): `live VERSION BITS NODES`.
 use Rattle.std.specs.Prelude.{◌≡◌, ◌<◌, ◌≤◌, ℕ, List, [], ◌∷◌, codes, length, IsUtf8}
+use Rattle.std.specs.Prelude.{nat_lt, if◌then◌else◌}
 use Rattle.sja_live.specs.Lines.{most_line, IsReadable}
 use Rattle.sja_live.specs.declared.opening.Opening.{Opening}
 use Rattle.sja_live.specs.declared.opening_fault.OpeningFault.{OpeningFault}
@@ -12,12 +13,16 @@ use Rattle.sja_plan.specs.Words.{Text, words, SpellsWithin}
 abbrev pub IsLiveLine : List Text → Text → Text → Text → Type 0
 IsLiveLine ws v b n = ws ≡ codes "live" ∷ v ∷ b ∷ n ∷ []
 
--- a word spells a version, a number of bits that this version has, and a number of nodes
+-- a word spells a version, a number of bits that this version has, where none ask for a session without an end, and a
+-- number of nodes
 abbrev pub SpellsVersion : Text → ℕ → Type 0
 SpellsVersion v version = SpellsWithin 1 3 v version
 
+abbrev pub least_bits : ℕ → ℕ
+least_bits version = if nat_lt version 3 then 1 else 0
+
 abbrev pub SpellsBits : ℕ → Text → ℕ → Type 0
-SpellsBits version b bits = SpellsWithin 1 (most_bits version) b bits
+SpellsBits version b bits = SpellsWithin (least_bits version) (most_bits version) b bits
 
 abbrev pub SpellsNodes : Text → ℕ → Type 0
 SpellsNodes n nodes = SpellsWithin 1 8 n nodes

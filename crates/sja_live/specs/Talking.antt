@@ -7,7 +7,7 @@ use Rattle.sja_live.specs.AnswerTexts.{answer_text, opened_text, opening_text}
 use Rattle.sja_live.specs.Answering.{Answers}
 use Rattle.sja_live.specs.Beginning.{IsNewOf}
 use Rattle.sja_live.specs.Commands.{AsksFor}
-use Rattle.sja_live.specs.Ending.{IsLastLog}
+use Rattle.sja_live.specs.Ending.{IsLastText}
 use Rattle.sja_live.specs.Lines.{most_line, first_line, behind_line, HasBegun, LeadsOn, IsReadable}
 use Rattle.sja_live.specs.Mistakes.{AreMistaken}
 use Rattle.sja_live.specs.Opening.{Opens, IsOpeningFault}
@@ -23,9 +23,7 @@ use Rattle.sja_live.specs.declared.talk_fault.TalkFault.{TalkFault}
 use Rattle.sja_live.specs.declared.talk_fault.TalkFault.TheVariants.{Memory, Read, Write}
 use Rattle.sja_live.specs.declared.talk_end.TalkEnd.{TalkEnd}
 use Rattle.sja_live.specs.declared.talk_end.TalkEnd.TheVariants.{Reported, Unopened}
-use Rattle.sja_log.specs.Log.{RunValue}
 use Rattle.sja_plan.specs.Words.{Text, words}
-use Rattle.sja_report.specs.ReportLines.{report_text}
 
 -- ---- one line
 
@@ -74,8 +72,8 @@ pub record HasTalked (input rest : Text) (last : SessionValue) (accesses : List 
   pub talks : Talks first (replicate opening.nodes []) lines last accesses text
   pub output_is : output ≡ opened_text ++ text
 
--- the talk is over: the next line ends it, or there is none; and the report of the session's log was written. Of the
--- input what stands behind that line is left
+-- the talk is over: the next line ends it, or there is none; and the report of the session's log was written, or that
+-- there is none. Of the input what stands behind that line is left
 pub record IsTalk (input output left : Text) : Type 0 where
   pub last : SessionValue
   pub accesses : List (List Access)
@@ -83,9 +81,9 @@ pub record IsTalk (input output left : Text) : Type 0 where
   pub said : Text
   pub talked : HasTalked input rest last accesses said
   pub over : (rest ≡ []) ⊎ (¬ (rest ≡ []) × EndsTalk last (first_line rest))
-  pub log : RunValue
-  pub is : IsLastLog last accesses log
-  pub told : output ≡ said ++ report_text log
+  pub text : Text
+  pub is : IsLastText last accesses text
+  pub told : output ≡ said ++ text
   pub behind : left ≡ behind_line rest
 
 -- there was no session: the first line opens none, which is without words where the input is empty, and that was said

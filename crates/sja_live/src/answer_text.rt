@@ -9,6 +9,7 @@ ghost use Rattle.sja_script.specs.Refusals.{refusal_name};
 
 use super::line_fault::LineFault;
 use super::live_answer::LiveAnswer;
+use super::place_text::put_place;
 use super::shortage::Shortage;
 use hex::encode;
 use sja_report::put_answer as put_spaced;
@@ -29,19 +30,21 @@ pub(crate) fn put_answer(
     match answer {
         LiveAnswer::Told(answer) => put_told(alloc, text, answer),
         LiveAnswer::Waits => text.push_str("wait\n"),
-        LiveAnswer::Ran(bits) => put_number(text, "ran ", *bits, "\n"),
+        LiveAnswer::Ran(bits) => put_number(text, "ran ", *bits as u64, "\n"),
         LiveAnswer::Rose(bits, lines) => {
-            put_number(text, "ran ", *bits, " line")?;
+            put_number(text, "ran ", *bits as u64, " line")?;
             put_byte(text, *lines)
         }
-        LiveAnswer::Spent(bits) => put_number(text, "ran ", *bits, " spent\n"),
+        LiveAnswer::Spent(bits) => put_number(text, "ran ", *bits as u64, " spent\n"),
         LiveAnswer::Lines(lines) => {
             text.push_str("line")?;
             put_byte(text, *lines)
         }
         LiveAnswer::Bits(bits) => put_number(text, "bits ", *bits, "\n"),
+        LiveAnswer::At(place) => put_place(text, *place),
         LiveAnswer::Nothing => text.push_str("nothing\n"),
         LiveAnswer::PlanSoFar(document) => put_two(text, document.as_str(), ".\n"),
+        LiveAnswer::NoPlan => text.push_str("no PLAN\n"),
         LiveAnswer::Mistaken(fault) => put_fault(text, *fault),
         LiveAnswer::NoBit => text.push_str("no BIT\n"),
         LiveAnswer::Full(used) => put_used(text, *used),
@@ -59,7 +62,7 @@ fn put_told(alloc: Global, text: &mut String, answer: &StepAnswer) -> Result<(),
         StepAnswer::Done => text.push_str("ok\n"),
         StepAnswer::NoMessage => text.push_str("none\n"),
         StepAnswer::Shown(message) => put_message(alloc, text, message.bytes()),
-        StepAnswer::Released(bytes) => put_number(text, "released ", u32::from(*bytes), "\n"),
+        StepAnswer::Released(bytes) => put_number(text, "released ", u64::from(*bytes), "\n"),
         StepAnswer::Value(value) => {
             text.push_str("value")?;
             put_byte(text, *value)
@@ -112,7 +115,7 @@ fn put_used(text: &mut String, used: Shortage) -> Result<(), AllocError>
 /// Writes a number, with what stands before it and behind it.
 ///
 /// Error: memory was refused.
-fn put_number(text: &mut String, before: &str, number: u32, behind: &str) -> Result<(), AllocError>
+fn put_number(text: &mut String, before: &str, number: u64, behind: &str) -> Result<(), AllocError>
     ensures { OnOk result (string_bytes text.new
         ≡ string_bytes text.old ++ (before.now ++ (decimal number ++ behind.now))) }
 {

@@ -10,12 +10,13 @@ use super::bit_answers::{ran, rested};
 use super::line_fault::LineFault;
 use super::live_answer::LiveAnswer;
 use super::live_command::LiveCommand;
+use super::place_answers::{came, place_told};
 use super::shortage::Shortage;
 use super::step_answers::{stepped, was_read, was_written};
 use can_frame::OutOfMemory;
 use sja_plan_text::{PlanTextFault, plan_text};
 use sja_script::StepAnswer;
-use sja_session::{Session, StrikeFault};
+use sja_session::{NoPlan, Session, StrikeFault};
 use std::alloc::Global;
 
 /// Does what a command asks for, which isn't the end, and gives its answer.
@@ -39,6 +40,8 @@ pub(crate) fn answered(
         }
         LiveCommand::Run(count) => Ok(ran(session, count)),
         LiveCommand::Rest => Ok(rested(session)),
+        LiveCommand::To(node, place, limit) => Ok(came(session, node, place, limit)),
+        LiveCommand::PlaceOf(node) => Ok(place_told(session, node)),
         LiveCommand::Line => Ok(looked(session)),
         LiveCommand::Strike(node, bit) => struck(session, node, bit),
         LiveCommand::Answer(node) => Ok(last_answer(session, node)),
@@ -104,14 +107,18 @@ fn last_answer(session: &Session, node: u8) -> LiveAnswer
     }
 }
 
-/// The plan so far.
+/// The plan so far, or that there is none.
 ///
 /// Error: [`OutOfMemory`] where memory was refused.
 fn plan_answer(alloc: Global, session: &Session) -> Result<LiveAnswer, OutOfMemory>
     requires { IsLive session.now }
     ensures { IfOk result (IsAnswered session.now session.now Plan) }
 {
-    let plan = session.plan(alloc)?;
+    let plan = match session.plan(alloc) {
+        Ok(plan) => plan,
+        Err(NoPlan::Endless) => return Ok(LiveAnswer::NoPlan),
+        Err(NoPlan::Memory) => return Err(OutOfMemory),
+    };
     plan.limits();
     match plan_text(alloc, &plan) {
         Ok(document) => Ok(LiveAnswer::PlanSoFar(document)),

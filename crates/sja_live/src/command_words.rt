@@ -7,6 +7,7 @@ ghost use Rattle.sja_live.specs.Inside.Reading.{IsCommandRefusal};
 use super::command_refusal::CommandRefusal;
 use super::line_fault::LineFault;
 use super::live_command::LiveCommand;
+use super::place_words::to_place_of;
 use sja_plan::{
     GREATEST_NUMBER, TextFault, address_of, node_within, number_within, step_of, value_of,
 };
@@ -27,6 +28,9 @@ pub(crate) fn command_of(
 {
     if words.len() >= 2 && words[0] == "step" {
         return step_of_node(alloc, version, nodes, words[1], &words[2..]);
+    }
+    if words.len() >= 2 && words[0] == "to" {
+        return to_place_of(nodes, words[1], &words[2..]);
     }
     match *words {
         [name] => of_one_word(name),
@@ -79,6 +83,7 @@ fn of_one_word(name: &str) -> Result<LiveCommand, CommandRefusal>
 fn of_two_words(nodes: usize, name: &str, word: &str) -> Result<LiveCommand, CommandRefusal>
     requires few { nodes ≤ 8 }
     requires other { name.now ≡ codes "step" → ⊥ }
+    requires no_way { name.now ≡ codes "to" → ⊥ }
     ensures ok { (version : ℕ) → IfOk result (λ c. AreCommandWords version nodes (name.now ∷ word.now ∷ []) c) }
     ensures err { (version : ℕ) → IfErr result (IsCommandRefusal version nodes (name.now ∷ word.now ∷ [])) }
 {
@@ -89,6 +94,10 @@ fn of_two_words(nodes: usize, name: &str, word: &str) -> Result<LiveCommand, Com
         },
         "answer" => match node_within(nodes, word) {
             Ok(node) => Ok(LiveCommand::Answer(node)),
+            Err(_) => Err(CommandRefusal::Mistaken(LineFault::Node)),
+        },
+        "place" => match node_within(nodes, word) {
+            Ok(node) => Ok(LiveCommand::PlaceOf(node)),
             Err(_) => Err(CommandRefusal::Mistaken(LineFault::Node)),
         },
         _ => Err(CommandRefusal::Mistaken(LineFault::Command)),
@@ -105,6 +114,7 @@ fn of_three_words(
 ) -> Result<LiveCommand, CommandRefusal>
     requires few { nodes ≤ 8 }
     requires other { name.now ≡ codes "step" → ⊥ }
+    requires no_way { name.now ≡ codes "to" → ⊥ }
     ensures ok { IfOk result (λ c. AreCommandWords version nodes (name.now ∷ node.now ∷ word.now ∷ []) c) }
     ensures err { IfErr result (IsCommandRefusal version nodes (name.now ∷ node.now ∷ word.now ∷ [])) }
 {
@@ -139,6 +149,7 @@ fn of_four_words(
 ) -> Result<LiveCommand, CommandRefusal>
     requires few { nodes ≤ 8 }
     requires other { name.now ≡ codes "step" → ⊥ }
+    requires no_way { name.now ≡ codes "to" → ⊥ }
     ensures ok { IfOk result (λ c.
         AreCommandWords version nodes (name.now ∷ node.now ∷ address.now ∷ value.now ∷ []) c) }
     ensures err { IfErr result (IsCommandRefusal version nodes (name.now ∷ node.now ∷ address.now ∷ value.now ∷ [])) }

@@ -18,6 +18,8 @@ pub enum LineFault {
     Address,
     /// A word isn't a value for that address, as they spell it.
     Byte,
+    /// The words behind the node are no place of a frame.
+    Place,
     /// A word isn't a number of one to seven digits.
     Number,
 }
@@ -36,6 +38,7 @@ impl fmt::Display for LineFault {
             LineFault::Step => "STEP",
             LineFault::Address => "ADDRESS",
             LineFault::Byte => "BYTE",
+            LineFault::Place => "PLACE",
             LineFault::Number => "NUMBER",
         })
     }

@@ -2,6 +2,7 @@
 
 use super::line_fault::LineFault;
 use super::shortage::Shortage;
+use sja_plan::Place;
 use sja_script::StepAnswer;
 
 /// What a line is answered (this project's own rule).
@@ -16,16 +17,20 @@ pub enum LiveAnswer {
     /// So many bits were run, and in the last of them an interrupt line rose. Behind it the lines that are active, bit
     /// K for node K: `ran N line LL`.
     Rose(u32, u8),
-    /// So many bits were run, fewer than were asked for, since no more are left: `ran N spent`.
+    /// So many bits were run, and what was waited for didn't come: `ran N spent`.
     Spent(u32),
     /// The interrupt lines that are active, bit K for node K: `line LL`.
     Lines(u8),
     /// So many bits were run so far: `bits N`.
-    Bits(u32),
-    /// No step of the node is done: `nothing`.
+    Bits(u64),
+    /// The node's next bit is at this place of a frame: `place PLACE`.
+    At(Place),
+    /// No step of the node is done, or it is at no place of a frame: `nothing`.
     Nothing,
     /// The plan so far, as a document.
     PlanSoFar(String),
+    /// The session is without an end, and has no plan: `no PLAN`.
+    NoPlan,
     /// The line asks for nothing: `no NODE` and its like.
     Mistaken(LineFault),
     /// The bit isn't one that is still to run: `no BIT`.

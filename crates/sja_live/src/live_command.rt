@@ -1,5 +1,6 @@
 //! What a line asks a session for.
 
+use sja_plan::Place;
 use sja_script::Step;
 
 /// What a line asks a session for (this project's own rule). Nodes and bits count from 0.
@@ -15,6 +16,10 @@ pub enum LiveCommand {
     Run(u32),
     /// Bits until every controller is at rest: `rest`.
     Rest,
+    /// Bits up to a place of a frame at a node, so many at most: `to K PLACE N`.
+    To(u8, Place, u32),
+    /// At which place of a frame a node is: `place K`.
+    PlaceOf(u8),
     /// Which interrupt lines are active: `line`.
     Line,
     /// A node sees the other level in a bit: `strike K B`.

@@ -5,7 +5,7 @@
 pub struct Opening {
     /// By which version of the rules the session goes: 1, 2 or 3.
     pub version: u8,
-    /// How many bits it has at most.
+    /// How many bits it has at most; in version 3 none for a session without an end.
     pub bits: u32,
     /// How many nodes it has.
     pub nodes: u8,

@@ -11,7 +11,8 @@ pub enum OpeningFault {
     Command,
     /// The version isn't 1, 2 or 3.
     Version,
-    /// The number of bits isn't one of this version: 1 to 200,000, or to 2,000,000 in version 3.
+    /// The number of bits isn't one of this version: 1 to 200,000, or 0 to 2,000,000 in
+    /// version 3.
     Bits,
     /// The number of nodes isn't one from 1 to 8.
     Nodes,

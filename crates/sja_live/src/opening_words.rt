@@ -1,9 +1,9 @@
 //! What the first line of a talk says.
 
-ghost use Rattle.std.specs.Prelude.{IfOk, IfErr};
+ghost use Rattle.std.specs.Prelude.{◌≡◌, IfOk, IfErr};
 ghost use Rattle.sja_live.specs.Inside.Reading.{IsOpeningRefusal};
 ghost use Rattle.sja_live.specs.Lines.{IsReadable};
-ghost use Rattle.sja_live.specs.Opening.{IsLiveLine, IsOpeningFault, Opens};
+ghost use Rattle.sja_live.specs.Opening.{IsLiveLine, IsOpeningFault, Opens, least_bits};
 ghost use Rattle.sja_plan.specs.Words.{Text, words};
 
 use super::opening::Opening;
@@ -47,7 +47,7 @@ fn opening_of(version: &str, bits: &str, nodes: &str) -> Result<Opening, Opening
         return Err(OpeningFault::Version);
     };
     let version = version as u8;
-    let Ok(bits) = number_within(bits, 1, most_bits(version)) else {
+    let Ok(bits) = number_within(bits, least_bits(version), most_bits(version)) else {
         return Err(OpeningFault::Bits);
     };
     let Ok(nodes) = number_within(nodes, 1, u32::from(MOST_NODES)) else {
@@ -59,4 +59,11 @@ fn opening_of(version: &str, bits: &str, nodes: &str) -> Result<Opening, Opening
         bits,
         nodes,
     })
+}
+
+/// The fewest bits that a session of a version is opened with.
+fn least_bits(version: u8) -> u32
+    ensures { result ≡ least_bits version }
+{
+    if version < RAW_VERSION { 1 } else { 0 }
 }

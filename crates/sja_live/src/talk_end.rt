@@ -3,7 +3,7 @@
 /// How a talk ended (this project's own rule).
 #[derive(Clone, Copy, Debug, PartialEq, Eq)]
 pub enum TalkEnd {
-    /// With the report of its session.
+    /// With the report of its session, or that a session without an end has none.
     Reported,
     /// With its first line, which opens no session.
     Unopened,

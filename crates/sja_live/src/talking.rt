@@ -4,6 +4,7 @@ ghost use Rattle.std.specs.Prelude.{◌≡◌, ◌≢◌, List, Option, IfOk, If
 ghost use Rattle.std.specs.Io.KnownBytes.{Appends};
 ghost use Rattle.sja_driver.specs.Accesses.{Access};
 ghost use Rattle.sja_live.specs.AnswerTexts.{answer_text, opening_text};
+ghost use Rattle.sja_live.specs.Beginning.{IsNewOf};
 ghost use Rattle.sja_live.specs.Inside.Standing.{IsLive, IsLiveAt};
 ghost use Rattle.sja_live.specs.Inside.Going.{AppendsReport, IsBegun, IsOver};
 ghost use Rattle.sja_live.specs.Talking.{IsTold, IsBrokenOff, Speaks};
@@ -14,11 +15,13 @@ ghost use Rattle.sja_plan.specs.Words.{Text};
 use super::answer_text::put_answer;
 use super::live_answer::LiveAnswer;
 use super::next_answer::{first_said, next_answer};
+use super::opening::Opening;
 use super::opening_fault::OpeningFault;
 use super::talk_end::TalkEnd;
 use super::talk_fault::TalkFault;
+use sja_plan::RAW_VERSION;
 use sja_report::report;
-use sja_session::Session;
+use sja_session::{NoPlan, Session, SessionFault};
 use std::alloc::Global;
 use std::io::{Read, Write};
 
@@ -47,11 +50,23 @@ pub fn talk<R: Read, W: Write>(
             return Ok(TalkEnd::Unopened);
         }
     };
-    let Ok(session) = Session::new(alloc, opening.version, opening.bits, opening.nodes) else {
+    let Ok(session) = new_session(alloc, opening) else {
         return Err(TalkFault::Memory);
     };
     talk_on(alloc, input, out, session)?;
     Ok(TalkEnd::Reported)
+}
+
+/// The session that the first line opens.
+///
+/// Errors: those of [`Session::new`] and [`Session::endless`].
+fn new_session(alloc: Global, opening: Opening) -> Result<Session, SessionFault>
+    ensures { IfOk result (λ session. IsNewOf session opening) }
+{
+    if opening.version == RAW_VERSION && opening.bits == 0 {
+        return Session::endless(alloc, opening.nodes);
+    }
+    Session::new(alloc, opening.version, opening.bits, opening.nodes)
 }
 
 /// Goes on with a talk whose first line opened this session, to its report.
@@ -127,16 +142,21 @@ fn put_line<W: Write>(alloc: Global, out: &mut W, answer: &LiveAnswer) -> Result
     put(out, text.as_str())
 }
 
-/// Ends a session, and writes its report.
+/// Ends a session, and writes its report, or that one without an end has none.
 fn put_report<W: Write>(alloc: Global, out: &mut W, session: Session) -> Result<(), TalkFault>
     ensures told { OnOk result ((accesses : List (List Access)) → IsLiveAt session accesses →
         AppendsReport (W.contents out.old) (W.contents out.new) session accesses) }
     ensures kept { IfErr result (λ f. f ≢ WriteFault → W.contents out.new ≡ W.contents out.old) }
     ensures memory { IfErr result (λ f. f ≢ WriteFault → f ≡ MemoryFault) }
 {
-    let (_plan, log) = session.finish(alloc)?;
-    let text = report(alloc, &log)?;
-    put(out, text.as_str())
+    match session.finish(alloc) {
+        Ok((_plan, log)) => {
+            let text = report(alloc, &log)?;
+            put(out, text.as_str())
+        }
+        Err(NoPlan::Endless) => put(out, "no REPORT\n"),
+        Err(NoPlan::Memory) => Err(TalkFault::Memory),
+    }
 }
 
 /// Writes a text and flushes it.

@@ -40,14 +40,14 @@ four_words (a ∷ b ∷ e ∷ []) d many few = absurd (omega (arith, many))
 four_words (a ∷ b ∷ e ∷ f ∷ []) d many few = refl
 four_words (a ∷ b ∷ e ∷ f ∷ g ∷ ws) d many few = absurd (omega (arith, few))
 
--- the name, the node and the words of the step
-pub step_words : (ws : List (Bor Text)) (d : Bor Text) → 2 ≤ length ws → text_at ws 0 d ≡ codes "step" →
-    texts ws ≡ codes "step" ∷ text_at ws 1 d ∷ texts (take (length ws - 2) (drop 2 ws))
-step_words [] d many name = absurd (omega (arith, many))
-step_words (a ∷ []) d many name = absurd (omega (arith, many))
-step_words (a ∷ b ∷ ws) d many name =
-    ap (λ (n : Text). n ∷ b.now ∷ texts ws) name
-    ∙ ap (λ (l : List (Bor Text)). codes "step" ∷ b.now ∷ texts l)
+-- a name, the node and the words behind it
+pub words_behind : (name : Text) (ws : List (Bor Text)) (d : Bor Text) → 2 ≤ length ws → text_at ws 0 d ≡ name →
+    texts ws ≡ name ∷ text_at ws 1 d ∷ texts (take (length ws - 2) (drop 2 ws))
+words_behind name [] d many is = absurd (omega (arith, many))
+words_behind name (a ∷ []) d many is = absurd (omega (arith, many))
+words_behind name (a ∷ b ∷ ws) d many is =
+    ap (λ (n : Text). n ∷ b.now ∷ texts ws) is
+    ∙ ap (λ (l : List (Bor Text)). name ∷ b.now ∷ texts l)
     (sym (take_all (length (a ∷ b ∷ ws) - 2) ws (omega arith)))
 
 -- the words of the line that opens a session

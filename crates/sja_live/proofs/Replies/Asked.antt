@@ -4,11 +4,11 @@ use Rattle.std.specs.Prelude.{Option, Some, None, ◌<◌, ◌≤◌, ◌⊎◌,
 use Rattle.std.specs.Global.{Global}
 use Rattle.sja_driver.specs.Accesses.{Access, accesses_at}
 use Rattle.sja_live.specs.Answering.{Answers, strike_refusal}
-use Rattle.sja_live.specs.Answering.Answers.{line, strike, no_strike, nothing, bits, plan, no_plan}
+use Rattle.sja_live.specs.Answering.Answers.{line, strike, no_strike, nothing, bits, plan, no_plan, no_end}
 use Rattle.sja_live.specs.Answering.Answers.{answer as an_answer}
 use Rattle.sja_live.specs.Inside.Standing.{IsAnswered, IsLive}
 use Rattle.sja_live.specs.declared.live_answer.LiveAnswer.TheVariants.{Told, Lines, Bits as Run, Nothing, PlanSoFar}
-use Rattle.sja_live.specs.declared.live_answer.LiveAnswer.TheVariants.{Full}
+use Rattle.sja_live.specs.declared.live_answer.LiveAnswer.TheVariants.{Full, NoPlan}
 use Rattle.sja_live.specs.declared.live_answer.LiveAnswer.{LiveAnswer}
 use Rattle.sja_live.specs.declared.live_command.LiveCommand.{LiveCommand}
 use Rattle.sja_live.specs.declared.live_command.LiveCommand.TheVariants.{Line, Strike, Answer, Bits, Plan}
@@ -24,8 +24,11 @@ use Rattle.sja_plan_text.specs.declared.plan_text_fault.PlanTextFault.TheVariant
 use Rattle.sja_script.specs.declared.step_answer.StepAnswer.{StepAnswer}
 use Rattle.sja_script.specs.declared.step_answer.StepAnswer.TheVariants.{Done}
 use Rattle.sja_session.specs.Answering.{last_answer}
+use Rattle.sja_session.specs.Ending.{IsNoPlan}
+use Rattle.sja_session.specs.declared.no_plan.NoPlan.{NoPlan as NoPlanFault}
+use Rattle.sja_session.specs.declared.no_plan.NoPlan.TheVariants.{Endless}
 use Rattle.sja_session.specs.Lines.{AreLines, IsStill}
-use Rattle.sja_session.specs.Sessions.{SessionValue, IsAt, written}
+use Rattle.sja_session.specs.Sessions.{SessionValue, HasEnd, IsAt, written}
 use Rattle.sja_session.specs.Striking.{MayStrike, IsStrikeFault, IsStruck}
 use Rattle.sja_session.specs.declared.strike_fault.StrikeFault.{StrikeFault}
 
@@ -50,13 +53,20 @@ live_after was now command told live answered = let a = answered live.0 live.1 i
 
 -- ---- strikes
 
+-- a strike leaves how many bits there are
+struck_end : (was now : SessionValue) (node place : ℕ) (accesses : List (List Access)) →
+    IsStruck was now node place accesses → HasEnd now → HasEnd was
+struck_end was now node place accesses s end = subst HasEnd s.is end
+
 pub told_strike : (was now : SessionValue) (node place : ℕ) → MayStrike was node place →
     ((accesses : List (List Access)) → IsAt was accesses → IsStruck was now node place accesses) → node < 256 →
     place ≤ greatest → IsAnswered was now (Strike node place) (Told Done)
 told_strike was now node place may h k b = λ accesses at. let s = h accesses at.at in (
   accesses,
   strike may s,
-  live_by s.at s.wrote (spelled_strike (written was) node place at.spelled (omega (arith, k)) b),
+  live_by s.at (λ end. s.wrote)
+      (λ end. spelled_strike (written was) node place (at.spelled (struck_end was now node place accesses s end))
+      (omega (arith, k)) b),
 )
 
 pub not_strike : (was now : SessionValue) (node place : ℕ) (fault : StrikeFault) (told : Option LiveAnswer)
@@ -84,12 +94,17 @@ pub spelled_plan : (was : SessionValue) (p : PlanValue) → p ≡ written was �
 spelled_plan was p is limits live =
     subst HasTexts (sym is) (has_texts was live.0 live.1 (subst IsInLimits is limits))
 
-pub told_plan : (was : SessionValue) (p : PlanValue) (document : String Global) → p ≡ written was →
+pub told_plan : (was : SessionValue) (p : PlanValue) (document : String Global) → HasEnd was → p ≡ written was →
     IsPlanText p (string_bytes document) → IsAnswered was was Plan (PlanSoFar document)
-told_plan was p document is text =
-    λ accesses at. (accesses, plan (subst (λ q. IsPlanText q (string_bytes document)) is text) refl, at)
+told_plan was p document end is text =
+    λ accesses at. (accesses, plan end (subst (λ q. IsPlanText q (string_bytes document)) is text) refl, at)
 
-pub not_plan : (was : SessionValue) (p : PlanValue) (e : PlanTextFault) → p ≡ written was →
+pub not_plan : (was : SessionValue) (p : PlanValue) (e : PlanTextFault) → HasEnd was → p ≡ written was →
     (e ≡ NoMemory) ⊎ ((e ≡ TooLong) × IsTooLong p) → e ≡ TooLong → IsAnswered was was Plan (Full Document)
-not_plan was p e is (inl other) long = absurd cc
-not_plan was p e is (inr both) long = λ accesses at. (accesses, no_plan (subst IsTooLong is both.1) refl, at)
+not_plan was p e end is (inl other) long = absurd cc
+not_plan was p e end is (inr both) long = λ accesses at. (accesses, no_plan end (subst IsTooLong is both.1) refl, at)
+
+pub told_no_end : (was : SessionValue) (fault : NoPlanFault) → IsNoPlan was fault → fault ≡ Endless →
+    IsAnswered was was Plan NoPlan
+told_no_end was fault endless is =
+    λ accesses at. (accesses, no_end (subst (λ f. IsNoPlan was f) is endless) refl, at)

@@ -11,7 +11,7 @@ use Rattle.sja_live.specs.declared.live_answer.LiveAnswer.TheVariants.{Told, Wai
 use Rattle.sja_live.specs.declared.live_answer.LiveAnswer.TheVariants.{Full}
 use Rattle.sja_live.specs.declared.live_command.LiveCommand.TheVariants.{Step, Read, Write, Run as RunBits, Rest}
 use Rattle.sja_live.specs.declared.shortage.Shortage.TheVariants.{Turns as TurnsUsed}
-use Rattle.sja_live.proofs.Spelling.Spelled.{live_by, spelled_bits, still_live, watched_live}
+use Rattle.sja_live.proofs.Spelling.Spelled.{had_end, live_by, spelled_bits, still_live, watched_live}
 use Rattle.sja_live.proofs.Spelling.SpelledSteps.{live_step, live_write}
 use Rattle.sja_plan_text.specs.HasTexts.{HasStepText}
 use Rattle.sja_script.specs.declared.step.Step.{Step as StepOf}
@@ -44,7 +44,8 @@ pub told_wait : (was now : SessionValue) (node : ℕ) (one : StepOf) → MayStep
     ((accesses : List (List Access)) → IsAt was accesses → Waits was now node one accesses) →
     IsAnswered was now (Step node one) WaitsAnswer
 told_wait was now node one may h = λ accesses at.
-    let w = h accesses at.at in (accesses, waits may w, live_by w.at w.wrote at.spelled)
+    let w = h accesses at.at in
+    (accesses, waits may w, live_by w.at (λ end. w.wrote) (λ end. at.spelled (had_end w.plan end)))
 
 pub not_step : (was now : SessionValue) (node : ℕ) (one : StepOf) (fault : StepFault) (answer : LiveAnswer) →
     IsStepFault was node fault → answer ≡ step_refusal fault → now ≡ was → IsAnswered was now (Step node one) answer
@@ -126,15 +127,23 @@ pub told_rest : (was now : SessionValue) (run : ℕ) → MayRun was 1 →
     ((accesses : List (List Access)) → IsAt was accesses → Rests was now run true accesses) →
     IsAnswered was now Rest (Ran run)
 told_rest was now run may rests = λ accesses at.
-    let r = rests accesses at.at in
-    (accesses, rested may r, live_by r.at r.wrote (spelled_bits (written was) run at.spelled))
+    let r = rests accesses at.at in (
+      accesses,
+      rested may r,
+      live_by r.at (λ end. r.wrote (had_end r.plan end))
+          (λ end. spelled_bits (written was) run (at.spelled (had_end r.plan end))),
+    )
 
 pub at_no_rest : (was now : SessionValue) (run : ℕ) → MayRun was 1 →
     ((accesses : List (List Access)) → IsAt was accesses → Rests was now run false accesses) →
     IsAnswered was now Rest (Spent run)
 at_no_rest was now run may rests = λ accesses at.
-    let r = rests accesses at.at in
-    (accesses, restless may r, live_by r.at r.wrote (spelled_bits (written was) run at.spelled))
+    let r = rests accesses at.at in (
+      accesses,
+      restless may r,
+      live_by r.at (λ end. r.wrote (had_end r.plan end))
+          (λ end. spelled_bits (written was) run (at.spelled (had_end r.plan end))),
+    )
 
 pub not_rest : (was now : SessionValue) → LacksBusTurn was 1 → now ≡ was → IsAnswered was now Rest (Full TurnsUsed)
 not_rest was now lacks e = λ accesses at. (accesses, no_rest lacks e, stays was now accesses e at)

@@ -5,7 +5,7 @@ use Rattle.sja_live.specs.Commands.{AreCommandWords}
 use Rattle.sja_live.specs.Inside.Standing.{IsWritable}
 use Rattle.sja_live.specs.declared.live_command.LiveCommand.{LiveCommand}
 use Rattle.sja_live.specs.declared.live_command.LiveCommand.TheVariants.{Step, Read, Write, Run, Rest, Line, Strike}
-use Rattle.sja_live.specs.declared.live_command.LiveCommand.TheVariants.{Answer, Bits, Plan, End}
+use Rattle.sja_live.specs.declared.live_command.LiveCommand.TheVariants.{Answer, Bits, Plan, End, To, PlaceOf}
 use Rattle.sja_plan.specs.StepTexts.{AreStepWords}
 use Rattle.sja_plan.proofs.OneReading.OneMessage.{is_message}
 use Rattle.sja_plan.specs.Words.{Text}
@@ -41,6 +41,8 @@ writable s version ws Rest v a other = tt
 writable s version ws Line v a other = tt
 writable s version ws (Strike node bit) v a other = a.4.2
 writable s version ws (Answer node) v a other = tt
+writable s version ws (To node place limit) v a other = tt
+writable s version ws (PlaceOf node) v a other = tt
 writable s version ws Bits v a other = tt
 writable s version ws Plan v a other = tt
 writable s version ws End v a other = absurd (other refl)

@@ -8,7 +8,7 @@ use Rattle.sja_live.specs.Answering.{all_watched}
 use Rattle.sja_live.specs.Inside.Standing.{HasBits, IsSpelled, IsLiveAt}
 use Rattle.sja_live.proofs.Spelling.TurnTexts.{all_reversed, turn_more, took_texts}
 use Rattle.sja_plan.proofs.PlanLimits.ByVersion.{bits_most, steps_most}
-use Rattle.sja_plan.specs.Limits.{most_steps}
+use Rattle.sja_plan.specs.Limits.{most_bits, most_steps}
 use Rattle.sja_plan.specs.Plan.{PlanValue, IsInLimits, NamesNode, steps_at}
 use Rattle.sja_plan.specs.Struck.{one_strike, struck_at}
 use Rattle.sja_plan.specs.Words.{greatest}
@@ -19,7 +19,7 @@ use Rattle.sja_session.proofs.WrittenPlan.OneMore.{steps_many}
 use Rattle.sja_session.proofs.WrittenPlan.Within.{bits_few}
 use Rattle.sja_session.specs.Lines.{IsStill}
 use Rattle.sja_session.specs.Running.{RunsBits}
-use Rattle.sja_session.specs.Sessions.{SessionValue, IsAt, written}
+use Rattle.sja_session.specs.Sessions.{SessionValue, HasEnd, IsAt, written}
 use Rattle.sja_session.specs.Watching.{NoneRose, Watches}
 use Rattle.sja_session.specs.Watching.NoneRose.{none, bit}
 use Rattle.sja_session.specs.Writing.{with_bits_run, with_step_done}
@@ -36,7 +36,7 @@ all_at P (l ∷ lists) empty all (suc k) = all_at P lists empty (All-tail P l li
 pub has_texts : (s : SessionValue) (accesses : List (List Access)) → IsLiveAt s accesses → IsInLimits (written s) →
     HasTexts (written s)
 has_texts s accesses h limits =
-    let most = most_steps s.plan.version in
+    let end : HasEnd s = limits.bits.1 in let spelled = h.spelled end in let most = most_steps s.plan.version in
     let each : (k : ℕ) → length (accesses_at accesses k) ≤ greatest = λ k.
     let few = all_at (λ (l : List Step). length l ≤ most) s.steps (omega arith) limits.steps k in
     let same = steps_many s.steps accesses k h.at.steps in let all = steps_most s.plan.version in
@@ -46,13 +46,13 @@ has_texts s accesses h limits =
     omega (arith, few, own, all)) in
     record {
       step_counts = limits.steps;
-      steps = h.spelled.steps;
+      steps = spelled.steps;
       turns = subst (All (HasTurnText s.plan.version)) (reverse-reverse s.turns)
           (all_reversed (HasTurnText s.plan.version) (reverse s.turns)
-          (took_texts s.plan.version (length s.steps) h.at.took bits each limits.nodes.1
-          (all_reversed HasBits s.turns h.spelled.turns)
+          (took_texts s.plan.version (length s.steps) (h.at.took end) bits each limits.nodes.1
+          (all_reversed HasBits s.turns spelled.turns)
           (all_reversed (NamesNode (length s.steps)) s.turns limits.turns)));
-      strikes = h.spelled.strikes;
+      strikes = spelled.strikes;
     }
 
 -- ---- what is written more
@@ -84,19 +84,24 @@ spelled_strike p node place h k b = record {
 
 -- ---- where a session stands then
 
-pub live_by : {now : SessionValue} {p : PlanValue} {after : List (List Access)} → IsAt now after → written now ≡ p →
-    IsSpelled p → IsLiveAt now after
-live_by at wrote h = record { at = at; spelled = subst IsSpelled (sym wrote) h }
+pub live_by : {now : SessionValue} {p : PlanValue} {after : List (List Access)} → IsAt now after →
+    (HasEnd now → written now ≡ p) → (HasEnd now → IsSpelled p) → IsLiveAt now after
+live_by at wrote h = record { at = at; spelled = λ end. subst IsSpelled (sym (wrote end)) (h end) }
+
+-- one that goes by the same plan had an end before
+pub had_end : {now was : PlanValue} → now ≡ was → now.bits ≤ most_bits now.version → was.bits ≤ most_bits was.version
+had_end same end = subst (λ (p : PlanValue). p.bits ≤ most_bits p.version) same end
 
 -- one that looked
 pub still_live : {was now : SessionValue} {accesses : List (List Access)} → IsLiveAt was accesses →
     IsStill was now accesses → IsLiveAt now accesses
-still_live h s = live_by s.at s.wrote h.spelled
+still_live h s = live_by s.at (λ end. s.wrote) (λ end. h.spelled (had_end s.wrote end))
 
 -- one that ran a bit, and one that ran bits in which no line rose
 bit_live : {before after now : SessionValue} {accesses : List (List Access)} → IsLiveAt before accesses →
     RunsBits before after 1 1 accesses → IsStill after now accesses → IsLiveAt now accesses
-bit_live {before} h r s = still_live (live_by r.at r.wrote (spelled_bits (written before) 1 h.spelled)) s
+bit_live {before} h r s = still_live (live_by r.at (λ end. r.wrote (had_end r.plan end))
+    (λ end. spelled_bits (written before) 1 (h.spelled (had_end r.plan end)))) s
 
 quiet_live : {watched : List Bool} {nodes : ℕ} {accesses : List (List Access)} {was now : SessionValue} {n : ℕ} →
     IsLiveAt was accesses → NoneRose watched nodes accesses was now n → IsLiveAt now accesses

@@ -5,7 +5,7 @@ use Rattle.std.proofs.lemmas.List.Elements.{All-head, All-tail}
 use Rattle.sja_driver.specs.Accesses.{Access, accesses_at, by_bytes, deeds_in}
 use Rattle.sja_driver.specs.Deeds.{is_active}
 use Rattle.sja_live.specs.Inside.Standing.{IsLiveAt}
-use Rattle.sja_live.proofs.Spelling.Spelled.{live_by, spelled_step}
+use Rattle.sja_live.proofs.Spelling.Spelled.{had_end, live_by, spelled_step}
 use Rattle.sja_live.proofs.Spelling.WriteTexts.{write_texts}
 use Rattle.sja_plan.specs.Plan.{PlanValue}
 use Rattle.sja_plan_text.specs.HasTexts.{HasStepText}
@@ -23,7 +23,8 @@ pub live_step : {was now : SessionValue} {node : ℕ} {step : Step} {answer : St
     (does : DoesStep was now node step answer accesses) →
     IsLiveAt now (with_accesses accesses node (does.access ∷ []))
 live_step {was} {now} {node} {step} h has does =
-    live_by does.at does.wrote (spelled_step (written was) node step h.spelled has)
+    live_by does.at (λ end. does.wrote (had_end does.plan end))
+    (λ end. spelled_step (written was) node step (h.spelled (had_end does.plan end)) has)
 
 live_steps : {node : ℕ} {was now : SessionValue} {accesses after : List (List Access)} {steps : List Step}
     {answers : List StepAnswer} → IsLiveAt was accesses → All (HasStepText was.plan.version) steps →
@@ -31,7 +32,7 @@ live_steps : {node : ℕ} {was now : SessionValue} {accesses after : List (List 
 live_steps h has none = h
 live_steps {node} {was} {now} {accesses} h has (more {mid = mid} {step = step} {steps = steps} does rest) =
     let has_text = HasStepText was.plan.version in
-    let version : was.plan.version ≡ mid.plan.version = sym (ap (λ (p : PlanValue). p.version) does.wrote) in
+    let version : was.plan.version ≡ mid.plan.version = sym (ap (λ (p : PlanValue). p.version) does.plan) in
     live_steps (live_step h (All-head has_text step steps has) does)
     (subst (λ (n : ℕ). All (HasStepText n) steps) version (All-tail has_text step steps has)) rest
 

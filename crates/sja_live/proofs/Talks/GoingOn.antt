@@ -19,7 +19,6 @@ use Rattle.sja_live.specs.declared.opening.Opening.{Opening}
 use Rattle.sja_live.specs.declared.opening_fault.OpeningFault.{OpeningFault}
 use Rattle.sja_live.specs.declared.talk_end.TalkEnd.TheVariants.{Reported, Unopened}
 use Rattle.sja_plan.specs.Words.{Text}
-use Rattle.sja_report.specs.ReportLines.{report_text}
 
 -- ---- one line more
 
@@ -127,9 +126,9 @@ talk_ends (Some input) (Some rest) (Some left) (Some old) (Some mid) new was now
         Speaks (Some input) (Some left) (Some old) new (IsTold Reported)
     by None said accesses h is over behind report = absurd report.2
     by (Some new) said accesses h is over behind report =
-        let log = report.0 in (
-          said ++ report_text log,
-          report.2 ∙ ap (λ l. l ++ report_text log) is ∙ append_assoc old said (report_text log),
+        let text = report.0 in (
+          said ++ text,
+          report.2 ∙ ap (λ l. l ++ text) is ∙ append_assoc old said text,
           record {
             last = was;
             accesses = accesses;
@@ -137,7 +136,7 @@ talk_ends (Some input) (Some rest) (Some left) (Some old) (Some mid) new was now
             said = said;
             talked = h;
             over = over;
-            log = log;
+            text = text;
             is = report.1;
             told = refl;
             behind = behind;

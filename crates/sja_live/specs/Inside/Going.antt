@@ -5,16 +5,14 @@ use Rattle.sja_driver.specs.Accesses.{Access}
 use Rattle.sja_session.specs.Sessions.{SessionValue}
 use Rattle.sja_live.specs.Beginning.{IsNewOf}
 use Rattle.sja_live.specs.Inside.Standing.{IsLiveAt}
-use Rattle.sja_live.specs.Ending.{IsLastLog}
+use Rattle.sja_live.specs.Ending.{IsLastText}
 use Rattle.sja_live.specs.Lines.{first_line, behind_line, IsReadable}
 use Rattle.sja_live.specs.Opening.{Opens, IsOpeningFault}
 use Rattle.sja_live.specs.Talking.{EndsTalk, HasTalked, Replies}
 use Rattle.sja_live.specs.declared.live_answer.LiveAnswer.{LiveAnswer}
 use Rattle.sja_live.specs.declared.opening.Opening.{Opening}
 use Rattle.sja_live.specs.declared.opening_fault.OpeningFault.{OpeningFault}
-use Rattle.sja_log.specs.Log.{RunValue}
 use Rattle.sja_plan.specs.Words.{Text}
-use Rattle.sja_report.specs.ReportLines.{report_text}
 
 -- ---- the first line
 
@@ -54,10 +52,10 @@ IsNextAnswer None left was now accesses next = Unit {0}
 
 -- ---- the end
 
--- the report of the session's log was written
+-- the report of the session's log was written, or that there is none
 abbrev pub AppendsReport : Option Text → Option Text → SessionValue → List (List Access) → Type 0
 AppendsReport old new session accesses =
-    (log : RunValue) × IsLastLog session accesses log × Appends old new (report_text log)
+    (text : Text) × IsLastText session accesses text × Appends old new text
 
 -- ---- on the way
 

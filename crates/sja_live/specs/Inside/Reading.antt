@@ -2,7 +2,7 @@
 use Rattle.std.specs.Prelude.{◌≡◌, ◌<◌, ◌≤◌, ◌++◌, ℕ, Option, Some, None, List, [], ◌∷◌, length, take}
 use Rattle.std.specs.Prelude.{string_bytes, IsUtf8}
 use Rattle.sja_live.specs.Lines.{most_line, first_line, behind_line, HasNoFeed, IsReadable}
-use Rattle.sja_live.specs.Mistakes.{AreMistaken}
+use Rattle.sja_live.specs.Mistakes.{AreMistaken, IsNoNode, IsNoNumber, IsSomeNode}
 use Rattle.sja_live.specs.Opening.{IsOpeningFault}
 use Rattle.sja_live.specs.Talking.{IsLeftUnanswered}
 use Rattle.sja_live.specs.declared.next_line.Line.{Line}
@@ -12,7 +12,12 @@ use Rattle.sja_live.specs.declared.command_refusal.CommandRefusal.{CommandRefusa
 use Rattle.sja_live.specs.declared.command_refusal.CommandRefusal.TheVariants.{Mistaken, Memory}
 use Rattle.sja_live.specs.declared.opening_refusal.OpeningRefusal.{OpeningRefusal}
 use Rattle.sja_live.specs.declared.opening_refusal.OpeningRefusal.TheVariants.{Fault, Memory as NoMemory}
-use Rattle.sja_plan.specs.Words.{Text}
+use Rattle.sja_live.specs.declared.line_fault.LineFault.{LineFault}
+use Rattle.sja_live.specs.declared.line_fault.LineFault.TheVariants.{Node, Number, Place as NoPlace}
+use Rattle.sja_live.specs.declared.live_command.LiveCommand.{LiveCommand}
+use Rattle.sja_live.specs.declared.live_command.LiveCommand.TheVariants.{To}
+use Rattle.sja_plan.specs.declared.place.Place.{Place}
+use Rattle.sja_plan.specs.Words.{Text, greatest, SpellsWithin, SpellsNode}
 
 -- ---- bytes
 
@@ -86,3 +91,20 @@ IsCommandRefusal version nodes ws Memory = Unit {0}
 abbrev pub IsOpeningRefusal : Text → OpeningRefusal → Type 0
 IsOpeningRefusal line (Fault fault) = IsOpeningFault line fault
 IsOpeningRefusal line NoMemory = Unit {0}
+
+-- a node's word, a place, if its words are one's, and a number's word say how far bits run; or this is the first of
+-- them that says nothing
+abbrev pub SaysWay : ℕ → Text → Option Place → Text → LiveCommand → Type 0
+SaysWay nodes k place n (To node p limit) =
+    (place ≡ Some p) × SpellsNode nodes k node × SpellsWithin 0 greatest n limit
+SaysWay nodes k place n other = ⊥
+
+abbrev pub IsWayFault : ℕ → Text → Option Place → Text → LineFault → Type 0
+IsWayFault nodes k place n Node = IsNoNode nodes k
+IsWayFault nodes k place n NoPlace = (place ≡ None) × IsSomeNode nodes k
+IsWayFault nodes k place n Number = (p : Place) × (place ≡ Some p) × IsSomeNode nodes k × IsNoNumber n
+IsWayFault nodes k place n other = ⊥
+
+abbrev pub IsWayRefusal : ℕ → Text → Option Place → Text → CommandRefusal → Type 0
+IsWayRefusal nodes k place n (Mistaken fault) = IsWayFault nodes k place n fault
+IsWayRefusal nodes k place n Memory = Unit {0}

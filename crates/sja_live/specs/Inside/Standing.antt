@@ -10,7 +10,7 @@ use Rattle.sja_plan.specs.Words.{greatest}
 use Rattle.sja_plan.specs.declared.turn.Turn.{Turn}
 use Rattle.sja_plan.specs.declared.turn.Turn.TheVariants.{Bus, Rest, Node, All as AllSteps, Irq, Go}
 use Rattle.sja_plan_text.specs.HasTexts.{HasStepText, HasStrikeText}
-use Rattle.sja_session.specs.Sessions.{SessionValue, IsAt, written}
+use Rattle.sja_session.specs.Sessions.{SessionValue, HasEnd, IsAt, written}
 
 -- a turn of the bus has a bit at least
 abbrev pub HasBits : Turn → Type 0
@@ -28,10 +28,10 @@ pub record IsSpelled (p : PlanValue) : Type 0 where
   pub turns : All HasBits p.turns
   pub strikes : All HasStrikeText p.strikes
 
--- a session stands where the drivers did these steps, and what it wrote has texts
+-- a session stands where the drivers did these steps, and where it has an end, what it wrote has texts
 pub record IsLiveAt (s : SessionValue) (accesses : List (List Access)) : Type 0 where
   pub at : IsAt s accesses
-  pub spelled : IsSpelled (written s)
+  pub spelled : HasEnd s → IsSpelled (written s)
 
 -- it does, wherever that is
 abbrev pub IsLive : SessionValue → Type 0

@@ -15,6 +15,12 @@ returns-in-Run-clause-answers c = rw c.in-Run.is c.ran.ensures
 pub returns-in-Rest-clause-answers : goal.returns-in-Rest-clause-answers
 returns-in-Rest-clause-answers c = rw c.in-Rest.is c.rested.ensures
 
+pub returns-in-To-clause-answers : goal.returns-in-To-clause-answers
+returns-in-To-clause-answers c = rw c.in-To.is c.came.ensures
+
+pub returns-in-PlaceOf-clause-answers : goal.returns-in-PlaceOf-clause-answers
+returns-in-PlaceOf-clause-answers c = rw c.in-PlaceOf.is c.place_told.ensures
+
 pub returns-in-Line-clause-answers : goal.returns-in-Line-clause-answers
 returns-in-Line-clause-answers c = rw c.in-Line.is c.looked.ensures
 

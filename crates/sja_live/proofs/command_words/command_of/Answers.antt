@@ -3,7 +3,7 @@ use Rattle.std.specs.Prelude.{IfOk, IfErr}
 use Rattle.sja_live.specs.Commands.{AreCommandWords}
 use Rattle.sja_live.specs.Inside.Reading.{IsCommandRefusal}
 use Rattle.sja_plan.specs.Words.{Text}
-use Rattle.sja_live.proofs.Lines.WordLists.{one_word, two_words, three_words, four_words, step_words, text_at}
+use Rattle.sja_live.proofs.Lines.WordLists.{one_word, two_words, three_words, four_words, text_at, words_behind}
 use Rattle.sja_live.proofs.command_words.command_of.Goals as goal
 
 -- no word
@@ -14,13 +14,27 @@ pub returns-then-eq-clause-ok : goal.returns-then-eq-clause-ok
 returns-then-eq-clause-ok c =
     let name : text_at c.args.words.now 0 none ≡ codes "step" = search rules in
     subst (λ (l : List Text). IfOk c.step_of_node.result (λ x. AreCommandWords c.args.version c.args.nodes l x))
-    (sym (step_words c.args.words.now none c.if-words-ge2.true name)) c.step_of_node.ensures.ok
+    (sym (words_behind (codes "step") c.args.words.now none c.if-words-ge2.true name)) c.step_of_node.ensures.ok
 
 pub returns-then-eq-clause-err : goal.returns-then-eq-clause-err
 returns-then-eq-clause-err c =
     let name : text_at c.args.words.now 0 none ≡ codes "step" = search rules in
     subst (λ (l : List Text). IfErr c.step_of_node.result (IsCommandRefusal c.args.version c.args.nodes l))
-    (sym (step_words c.args.words.now none c.if-words-ge2.true name)) c.step_of_node.ensures.err
+    (sym (words_behind (codes "step") c.args.words.now none c.if-words-ge2.true name)) c.step_of_node.ensures.err
+
+pub returns-then-eq-2-clause-ok : goal.returns-then-eq-2-clause-ok
+returns-then-eq-2-clause-ok c =
+    let name : text_at c.args.words.now 0 none ≡ codes "to" = search rules in
+    subst (λ (l : List Text). IfOk c.to_place_of.result (λ x. AreCommandWords c.args.version c.args.nodes l x))
+    (sym (words_behind (codes "to") c.args.words.now none c.if-words-ge2-2.true name))
+    (c.to_place_of.ensures.ok c.args.version)
+
+pub returns-then-eq-2-clause-err : goal.returns-then-eq-2-clause-err
+returns-then-eq-2-clause-err c =
+    let name : text_at c.args.words.now 0 none ≡ codes "to" = search rules in
+    subst (λ (l : List Text). IfErr c.to_place_of.result (IsCommandRefusal c.args.version c.args.nodes l))
+    (sym (words_behind (codes "to") c.args.words.now none c.if-words-ge2-2.true name))
+    (c.to_place_of.ensures.err c.args.version)
 
 pub returns-in-len1-clause-ok : goal.returns-in-len1-clause-ok
 returns-in-len1-clause-ok c =
