@@ -37,7 +37,8 @@ _sja_words() {
     '') echo "$commands -h --help -V --version" ;;
     encode | decode | arbitrate | message | plan | live) echo "-h --help" ;;
     run) echo "--threads --jobs --expect -h --help" ;;
-    wave | frames) echo "--threads --jobs -h --help" ;;
+    wave) echo "--threads --jobs -h --help" ;;
+    frames) echo "--bits --threads --jobs -h --help" ;;
     trace) echo "--threads -h --help" ;;
     check) echo "--jobs --strict -h --help" ;;
     picture) echo "--svg --threads --yes -h --help" ;;

@@ -1,5 +1,5 @@
 -- The words for the fields of a frame, and for its end (this project's own rule).
-use Rattle.std.specs.Prelude.{◌==◌, ℕ, Bool, if◌then◌else◌, List, [], ◌∷◌, ◌++◌, codes, decimal}
+use Rattle.std.specs.Prelude.{◌==◌, ◌&&◌, ◌+◌, ◌/◌, ℕ, Bool, if◌then◌else◌, List, [], ◌∷◌, ◌++◌, codes, decimal}
 use Rattle.std.specs.List.{filter}
 use Rattle.can_bits.specs.declared.segment.Segment.{Segment}
 use Rattle.can_node.specs.declared.cause.Cause.{Cause}
@@ -9,6 +9,7 @@ use Rattle.sja_trace.specs.Places.{place_name}
 use Rattle.sja_frames.specs.declared.ending.Ending.{Ending}
 use Rattle.sja_frames.specs.declared.ending.Ending.TheVariants.{Whole, Lost, Broken, CutOff}
 use Rattle.sja_frames.specs.declared.field.Field.{Field}
+use Rattle.sja_frames.specs.declared.field.Field.TheVariants.{Bytes}
 use Rattle.sja_frames.specs.declared.frame_bit.FrameBit.{FrameBit}
 use Rattle.sja_frames.specs.declared.last_bit.LastBit.{LastBit}
 use Rattle.sja_frames.specs.Fields.{fields, are_one}
@@ -48,8 +49,39 @@ field_text name (b ∷ bits) =
 abbrev pub field_among : Bool → List FrameBit → Field → List ℕ
 field_among ext bits field = field_text (field_name ext field) (filter (is_of field) bits)
 
-abbrev pub fields_text : Bool → List FrameBit → List ℕ
-fields_text ext bits = gathered (field_among ext bits) fields
+-- ---- the data field byte by byte
+
+-- how many data bits have come behind a bit, a stuff bit being none
+abbrev pub behind : ℕ → FrameBit → ℕ
+behind before b = if b.stuff then before else before + 1
+
+-- of bits of the data field, before which so many data bits have come, those of the byte of this number, counted from
+-- 0: before each of them as many have come as fill the bytes before it, and fewer than fill that byte too
+abbrev pub byte_bits : ℕ → ℕ → List FrameBit → List FrameBit
+byte_bits number before [] = []
+byte_bits number before (b ∷ bits) =
+    (if before / 8 == number then b ∷ [] else []) ++ byte_bits number (behind before b) bits
+
+-- the bytes of a frame, with their names in the list
+abbrev pub named_bytes : List (ℕ × List ℕ)
+named_bytes =
+    (0, codes "data 1") ∷ (1, codes "2") ∷ (2, codes "3") ∷ (3, codes "4") ∷ (4, codes "5") ∷ (5, codes "6")
+    ∷ (6, codes "7") ∷ (7, codes "8") ∷ []
+
+abbrev pub byte_among : List FrameBit → ℕ × List ℕ → List ℕ
+byte_among own byte = field_text (byte.1) (byte_bits (byte.0) 0 own)
+
+abbrev pub bytes_text : List FrameBit → List ℕ
+bytes_text own = gathered (byte_among own) named_bytes
+
+-- ---- all fields after SOF, the data field byte by byte where that is asked for
+
+abbrev pub field_or_bytes : Bool → Bool → List FrameBit → Field → List ℕ
+field_or_bytes each ext bits field =
+    if each && are_one field Bytes then bytes_text (filter (is_of field) bits) else field_among ext bits field
+
+abbrev pub fields_text : Bool → Bool → List FrameBit → List ℕ
+fields_text each ext bits = gathered (field_or_bytes each ext bits) fields
 
 -- ---- the end
 

@@ -3,10 +3,11 @@
 ghost use Rattle.std.specs.Prelude.{◌≡◌, ◌++◌, ◌∷◌, OnOk, IfOk, string_bytes};
 ghost use Rattle.std.specs.List.{filter};
 ghost use Rattle.lemmas.specs.Gathering.{gathered};
-ghost use Rattle.sja_frames.specs.FieldTexts.{is_of, is_stuff, field_text, field_among, fields_text, range_text};
+ghost use Rattle.sja_frames.specs.FieldTexts.{is_of, is_stuff, field_text, field_or_bytes, fields_text, range_text};
 ghost use Rattle.sja_frames.specs.FieldTexts.{last_number, stuff_text, numbers_behind, last_text, ending_text};
 ghost use Rattle.sja_frames.specs.FieldTexts.{loss_text, break_text, cut_text};
 
+use super::byte_texts::put_bytes;
 use super::ending::Ending;
 use super::field::{FIELDS, Field};
 use super::field_names::field_name;
@@ -18,53 +19,67 @@ use sja_trace::{cause_name, put_place, segment_name};
 use std::alloc::{AllocError, Global};
 use std::fmt::Write;
 
-/// All fields after SOF that have bits.
+/// All fields after SOF that have bits, the data field byte by byte where `how` says so first; then it says whether the
+/// frame is an extended one.
 pub(crate) fn put_fields(
     alloc: Global,
     text: &mut String,
-    ext: bool,
+    how: (bool, bool),
     bits: &[FrameBit],
 ) -> Result<(), AllocError>
-    ensures { OnOk result (string_bytes text.new ≡ string_bytes text.old ++ fields_text ext bits.now) }
+    ensures { OnOk result (string_bytes text.new ≡ string_bytes text.old ++ fields_text (how.0) (how.1) bits.now) }
 {
-    put_each(alloc, text, ext, bits, &FIELDS)
+    put_each(alloc, text, how, bits, &FIELDS)
 }
 
 /// Those of these fields that have bits.
 fn put_each(
     alloc: Global,
     text: &mut String,
-    ext: bool,
+    how: (bool, bool),
     bits: &[FrameBit],
     fields: &[Field],
 ) -> Result<(), AllocError>
     ensures { OnOk result (string_bytes text.new ≡ string_bytes text.old
-        ++ gathered (field_among ext bits.now) fields.now) }
+        ++ gathered (field_or_bytes (how.0) (how.1) bits.now) fields.now) }
 {
     for field in fields {
-        put_field(alloc, text, ext, bits, *field)?;
+        put_field(alloc, text, how, bits, *field)?;
     }
     Ok(())
 }
 
-/// A field, if it has bits.
+/// A field, or its bytes, if it has bits.
 fn put_field(
     alloc: Global,
     text: &mut String,
-    ext: bool,
+    how: (bool, bool),
     bits: &[FrameBit],
     field: Field,
 ) -> Result<(), AllocError>
-    ensures { OnOk result (string_bytes text.new ≡ string_bytes text.old ++ field_among ext bits.now field) }
+    ensures { OnOk result (string_bytes text.new ≡ string_bytes text.old
+        ++ field_or_bytes (how.0) (how.1) bits.now field) }
 {
+    let (each, ext) = how;
     let own = bits_of(alloc, bits, field)?;
-    let stuff = stuff_bits(alloc, own.as_slice())?;
-    put_range(
-        text,
-        field_name(ext, field),
-        own.as_slice(),
-        stuff.as_slice(),
-    )
+    if each && field.is(Field::Bytes) {
+        put_bytes(alloc, text, own.as_slice())
+    } else {
+        put_bits(alloc, text, field_name(ext, field), own.as_slice())
+    }
+}
+
+/// A field, or a part of one, that has this name and these bits; nothing where there are none.
+pub(crate) fn put_bits(
+    alloc: Global,
+    text: &mut String,
+    name: &str,
+    bits: &[FrameBit],
+) -> Result<(), AllocError>
+    ensures { OnOk result (string_bytes text.new ≡ string_bytes text.old ++ field_text name.now bits.now) }
+{
+    let stuff = stuff_bits(alloc, bits)?;
+    put_range(text, name, bits, stuff.as_slice())
 }
 
 /// The bits of a field.

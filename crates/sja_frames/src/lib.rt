@@ -10,6 +10,7 @@
 //! `specs/FramesText.antt` the text line by line.
 #![tactic(auto)]
 
+mod byte_texts;
 mod ending;
 mod field;
 mod field_names;

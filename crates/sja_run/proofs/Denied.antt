@@ -111,7 +111,7 @@ asks_for : (threads : Bool) (what : RunText) → AsksForRun (request_for threads
 asks_for threads Report = tt
 asks_for threads Wave = tt
 asks_for threads Trace = tt
-asks_for threads Frames = tt
+asks_for threads (Frames bits) = tt
 asks_for threads (Picture first last meant) = tt
 asks_for threads (Drawing first last meant) = tt
 asks_for threads (Candump errors) = tt

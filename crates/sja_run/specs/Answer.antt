@@ -31,7 +31,7 @@ abbrev pub AsksForRun : Request → Type 0
 AsksForRun (run threads) = Unit {0}
 AsksForRun (wave threads) = Unit {0}
 AsksForRun (trace threads) = Unit {0}
-AsksForRun (frames threads) = Unit {0}
+AsksForRun (frames bits threads) = Unit {0}
 AsksForRun (picture first last svg threads meant) = Unit {0}
 AsksForRun (candump errors threads) = Unit {0}
 AsksForRun (check strict) = Unit {0}
@@ -49,7 +49,7 @@ abbrev pub IsLeftOver : Request → Type 0
 IsLeftOver (run true) = Unit {0}
 IsLeftOver (wave true) = Unit {0}
 IsLeftOver (trace true) = Unit {0}
-IsLeftOver (frames true) = Unit {0}
+IsLeftOver (frames bits true) = Unit {0}
 IsLeftOver (picture first last svg true meant) = Unit {0}
 IsLeftOver (candump errors true) = Unit {0}
 IsLeftOver (sweep w) = 1 < w.jobs
@@ -75,7 +75,7 @@ abbrev pub request_for : Bool → RunText → Request
 request_for threads Report = run threads
 request_for threads Wave = wave threads
 request_for threads Trace = trace threads
-request_for threads Frames = frames threads
+request_for threads (Frames bits) = frames bits threads
 request_for threads (Picture first last meant) = picture first last false threads meant
 request_for threads (Drawing first last meant) = picture first last true threads meant
 request_for threads (Candump errors) = candump errors threads
@@ -112,7 +112,7 @@ IsPrinted (message given) before after text = IsTranslation given text
 IsPrinted (run threads) before after text = IsOfPlan (IsTextOfRun threads Report) before after text
 IsPrinted (wave threads) before after text = IsOfPlan (IsTextOfRun threads Wave) before after text
 IsPrinted (trace threads) before after text = IsOfPlan (IsTextOfRun threads Trace) before after text
-IsPrinted (frames threads) before after text = IsOfPlan (IsTextOfRun threads Frames) before after text
+IsPrinted (frames bits threads) before after text = IsOfPlan (IsTextOfRun threads (Frames bits)) before after text
 IsPrinted (picture first last svg threads meant) before after text =
     IsOfPlan (IsTextOfRun threads (picture_or_drawing svg first last meant)) before after text
 IsPrinted (candump errors threads) before after text = IsOfPlan (IsTextOfRun threads (Candump errors)) before after text
@@ -134,7 +134,7 @@ IsRefused (message given) before after r = RefusesGiven given r
 IsRefused (run threads) before after r = RefusesBy (MayFault threads) before after r
 IsRefused (wave threads) before after r = RefusesBy (MayFault threads) before after r
 IsRefused (trace threads) before after r = RefusesBy (MayFault threads) before after r
-IsRefused (frames threads) before after r = RefusesBy (MayFault threads) before after r
+IsRefused (frames bits threads) before after r = RefusesBy (MayFault threads) before after r
 IsRefused (picture first last svg threads meant) before after r =
     RefusesText threads (picture_or_drawing svg first last meant) before after r
 IsRefused (candump errors threads) before after r = RefusesBy (MayFault threads) before after r

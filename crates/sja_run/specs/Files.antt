@@ -40,7 +40,7 @@ abbrev pub IsAnswer : PlanQuestion → List ℕ → List ℕ → Type 0
 IsAnswer (question.Report threads) bytes text = IsTextIn threads Report bytes text
 IsAnswer (question.Wave threads) bytes text = IsTextIn threads Wave bytes text
 IsAnswer (question.Trace threads) bytes text = IsTextIn threads Trace bytes text
-IsAnswer (question.Frames threads) bytes text = IsTextIn threads Frames bytes text
+IsAnswer (question.Frames bits threads) bytes text = IsTextIn threads (Frames bits) bytes text
 IsAnswer (question.Candump errors threads) bytes text = IsTextIn threads (Candump errors) bytes text
 IsAnswer (question.Sweep w) bytes text = IsTextFor (IsSwept w) bytes text
 IsAnswer (question.StruckPlan node bit) bytes text = IsTextFor (IsStruck node bit) bytes text
@@ -73,7 +73,7 @@ abbrev pub IsUnanswered : PlanQuestion → List ℕ → CommandRefusal → Type 
 IsUnanswered (question.Report threads) bytes r = RefusesBytes threads bytes r
 IsUnanswered (question.Wave threads) bytes r = RefusesBytes threads bytes r
 IsUnanswered (question.Trace threads) bytes r = RefusesBytes threads bytes r
-IsUnanswered (question.Frames threads) bytes r = RefusesBytes threads bytes r
+IsUnanswered (question.Frames bits threads) bytes r = RefusesBytes threads bytes r
 IsUnanswered (question.Candump errors threads) bytes r = RefusesBytes threads bytes r
 IsUnanswered (question.Sweep w) bytes r = RefusesTextFor (RefusesSwept w) bytes r
 IsUnanswered (question.StruckPlan node bit) bytes r = RefusesTextFor (RefusesStruck node bit) bytes r

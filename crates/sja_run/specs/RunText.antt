@@ -40,7 +40,7 @@ abbrev pub IsTextOf : RunText → PlanValue → RunValue → List ℕ → Type 0
 IsTextOf Report plan log text = text ≡ report_text log
 IsTextOf Wave plan log text = IsWave log text
 IsTextOf Trace plan log text = IsTrace plan log text
-IsTextOf Frames plan log text = IsFrameList log text
+IsTextOf (Frames bits) plan log text = IsFrameList bits log text
 IsTextOf (Picture first last meant) plan log text = IsPicture log first last text
 IsTextOf (Drawing first last meant) plan log text = IsDrawing log first last text
 IsTextOf (Candump errors) plan log text = IsCandump log errors text

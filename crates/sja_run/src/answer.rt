@@ -60,7 +60,10 @@ fn text_asked(task: &Task<'_>) -> RunText
         Task::Run { threads: false } => RunText::Report,
         Task::Wave { threads: false } => RunText::Wave,
         Task::Trace { threads: false } => RunText::Trace,
-        Task::Frames { threads: false } => RunText::Frames,
+        Task::Frames {
+            bits,
+            threads: false,
+        } => RunText::Frames(*bits),
         Task::Picture {
             first,
             last,

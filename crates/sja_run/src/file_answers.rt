@@ -141,7 +141,9 @@ fn printed_of<T: Threads + Wait + Sync>(
         PlanQuestion::Report { threads } => written_in(rt, alloc, threads, RunText::Report, bytes),
         PlanQuestion::Wave { threads } => written_in(rt, alloc, threads, RunText::Wave, bytes),
         PlanQuestion::Trace { threads } => written_in(rt, alloc, threads, RunText::Trace, bytes),
-        PlanQuestion::Frames { threads } => written_in(rt, alloc, threads, RunText::Frames, bytes),
+        PlanQuestion::Frames { bits, threads } => {
+            written_in(rt, alloc, threads, RunText::Frames(bits), bytes)
+        }
         PlanQuestion::Candump { errors, threads } => {
             written_in(rt, alloc, threads, RunText::Candump(errors), bytes)
         }

@@ -31,8 +31,8 @@ pub enum RunText {
     Wave,
     /// What happened in it, event by event.
     Trace,
-    /// The bits of its frames.
-    Frames,
+    /// The bits of its frames; those of each byte of data where that is true.
+    Frames(bool),
     /// Its picture from a bit on, up to another one or to its last; whether a larger drawing would be meant.
     Picture(u32, Option<u32>, bool),
     /// The same bits as a drawing in SVG; with more levels than 150,000, one of each node in each bit, only where that
@@ -105,7 +105,7 @@ fn told(alloc: Global, what: RunText, plan: &Plan, log: &RunLog) -> Result<Strin
         RunText::Report => report(alloc, log),
         RunText::Wave => wave(alloc, log),
         RunText::Trace => trace(alloc, plan, log),
-        RunText::Frames => frames(alloc, log),
+        RunText::Frames(bits) => frames(alloc, log, bits),
         RunText::Picture(first, last, _) => picture(alloc, log, first, last),
         RunText::Drawing(first, last, _) => drawing(alloc, log, first, last),
         RunText::Candump(errors) => candump(alloc, log, errors),

@@ -79,9 +79,10 @@ fn left_of<'a>(task: Task<'a>) -> Result<FurtherTask<'a>, Task<'a>>
         Task::Run { threads: true } => Ok(FurtherTask::Threads(ThreadTask::Text(RunText::Report))),
         Task::Wave { threads: true } => Ok(FurtherTask::Threads(ThreadTask::Text(RunText::Wave))),
         Task::Trace { threads: true } => Ok(FurtherTask::Threads(ThreadTask::Text(RunText::Trace))),
-        Task::Frames { threads: true } => Ok(FurtherTask::Threads(ThreadTask::Text(
-            RunText::Frames,
-        ))),
+        Task::Frames {
+            bits,
+            threads: true,
+        } => Ok(FurtherTask::Threads(ThreadTask::Text(RunText::Frames(bits)))),
         Task::Picture {
             first,
             last,

@@ -121,6 +121,10 @@ check_app =
 unfoldable pub trace_app : App
 trace_app = and_rule (threads_app (codes "trace")) file_rule
 
+-- `frames FILE..`, with `--bits` or without
+unfoldable pub frames_app : App
+frames_app = and_rule (plans_app (codes "frames")) (flag_rule (codes "bits"))
+
 -- `plan FILE`
 unfoldable pub spelled_app : App
 spelled_app = and_rule (bare_app (codes "plan")) file_rule
@@ -204,7 +208,7 @@ plan_app =
 -- those and the commands over what happened in it: `trace` and `frames`
 unfoldable pub story_app : App
 story_app =
-    and_app (and_app plan_app trace_app) (plans_app (codes "frames"))
+    and_app (and_app plan_app trace_app) frames_app
 
 -- those and the commands that draw it and list what was received: `picture` and `candump`
 unfoldable pub view_app : App

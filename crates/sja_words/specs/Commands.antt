@@ -43,7 +43,6 @@ text_question name threads =
     if bytes_eq name (codes "run") then Some (question.Report threads)
     else if bytes_eq name (codes "wave") then Some (question.Wave threads)
     else if bytes_eq name (codes "trace") then Some (question.Trace threads)
-    else if bytes_eq name (codes "frames") then Some (question.Frames threads)
     else if bytes_eq name (codes "plan") then Some question.Plan
     else None
 
@@ -74,6 +73,8 @@ abbrev pub question_in : Text → List Row → Option PlanQuestion
 question_in name rows =
     if is_expected name rows then None
     else if bytes_eq name (codes "check") then Some (question.Check (flag_in (first_of (codes "strict") rows)))
+    else if bytes_eq name (codes "frames") then
+    Some (question.Frames (flag_in (first_of (codes "bits") rows)) (flag_in (first_of (codes "threads") rows)))
     else if bytes_eq name (codes "candump") then
     Some (question.Candump (flag_in (first_of (codes "errors") rows)) (flag_in (first_of (codes "threads") rows)))
     else if bytes_eq name (codes "sweep") then sweep_in rows

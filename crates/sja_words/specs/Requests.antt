@@ -18,7 +18,7 @@ pub data Request : Type 0 where
   run : Bool → Request
   wave : Bool → Request
   trace : Bool → Request
-  frames : Bool → Request
+  frames : Bool → Bool → Request
   picture : ℕ → Option ℕ → Bool → Bool → Bool → Request
   candump : Bool → Bool → Request
   check : Bool → Request
@@ -39,7 +39,7 @@ request_of (Message text) = message text.now
 request_of (Run threads) = run threads
 request_of (Wave threads) = wave threads
 request_of (Trace threads) = trace threads
-request_of (Frames threads) = frames threads
+request_of (Frames bits threads) = frames bits threads
 request_of (Picture first last svg threads meant) = picture first last svg threads meant
 request_of (Candump errors threads) = candump errors threads
 request_of (Check strict) = check strict
@@ -56,7 +56,7 @@ request_about (question.Report threads) = run threads
 request_about (question.Check strict) = check strict
 request_about (question.Wave threads) = wave threads
 request_about (question.Trace threads) = trace threads
-request_about (question.Frames threads) = frames threads
+request_about (question.Frames bits threads) = frames bits threads
 request_about (question.Candump errors threads) = candump errors threads
 request_about (question.Sweep w) = sweep w
 request_about (question.StruckPlan node bit) = struck_plan node bit

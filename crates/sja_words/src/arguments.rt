@@ -116,6 +116,13 @@ pub(crate) const SVG: ArgumentRow<'static> = ArgumentRow {
     help: "Print a drawing in SVG instead of characters",
 };
 
+/// `--bits`.
+pub(crate) const BITS: ArgumentRow<'static> = ArgumentRow {
+    name: "bits",
+    takes: Takes::Nothing,
+    help: "Print the bits of each byte of data",
+};
+
 /// `--errors`.
 pub(crate) const ERRORS: ArgumentRow<'static> = ArgumentRow {
     name: "errors",

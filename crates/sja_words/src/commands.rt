@@ -5,8 +5,8 @@ ghost use Rattle.sja_words.specs.CommandLine.{empty_app, sja_app};
 ghost use Rattle.sja_words.specs.Inside.Table.{with_apps};
 
 use super::arguments::{
-    ACR, AMR, CHANGED, DRAW, ERRORS, EXPECT, FILE, FILES, FILES_JOBS, FIRST, FROM, JOBS, LAST,
-    LINE, LOST, MESSAGE, MESSAGES, MODE, ONLY, PAIRS, ROWS, STRICT, STRIKE, STUCK, SVG, TEXT,
+    ACR, AMR, BITS, CHANGED, DRAW, ERRORS, EXPECT, FILE, FILES, FILES_JOBS, FIRST, FROM, JOBS,
+    LAST, LINE, LOST, MESSAGE, MESSAGES, MODE, ONLY, PAIRS, ROWS, STRICT, STRIKE, STUCK, SVG, TEXT,
     THREADS, TO, TWICE, YES,
 };
 use super::command_row::CommandRow;
@@ -71,7 +71,7 @@ const COMMANDS: &[CommandRow<'static>] = &[
     CommandRow {
         name: "frames",
         about: "Print the bits of each field of the frames in a run of the plan on standard input",
-        arguments: &[THREADS, FILES, FILES_JOBS],
+        arguments: &[THREADS, FILES, FILES_JOBS, BITS],
     },
     CommandRow {
         name: "picture",

@@ -47,6 +47,8 @@ const LIVE_SAID: &str = "Lines:
   run N                    N bits, or up to the first in which a line rises
   rest                     bits until all rest
   line                     which lines are active
+  to K PLACE N             bits until node K is at this place, at most N
+  place K                  where node K is
   strike K B               node K sees the other level in bit B
   answer K                 what node K's last step answered
   bits                     how many were run

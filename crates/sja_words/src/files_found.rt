@@ -65,7 +65,7 @@ fn task_about<'a>(question: PlanQuestion) -> Task<'a>
         PlanQuestion::Check { strict } => Task::Check { strict },
         PlanQuestion::Wave { threads } => Task::Wave { threads },
         PlanQuestion::Trace { threads } => Task::Trace { threads },
-        PlanQuestion::Frames { threads } => Task::Frames { threads },
+        PlanQuestion::Frames { bits, threads } => Task::Frames { bits, threads },
         PlanQuestion::Candump { errors, threads } => Task::Candump { errors, threads },
         PlanQuestion::Sweep(words) => Task::Sweep(words),
         PlanQuestion::StruckPlan { node, bit } => Task::StruckPlan { node, bit },

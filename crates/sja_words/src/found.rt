@@ -59,6 +59,10 @@ fn question_of<'a>(name: &str, arguments: &ArgMatches<'a>) -> Option<PlanQuestio
         "check" => Some(PlanQuestion::Check {
             strict: flag_at(arguments, "strict"),
         }),
+        "frames" => Some(PlanQuestion::Frames {
+            bits: flag_at(arguments, "bits"),
+            threads: flag_at(arguments, "threads"),
+        }),
         "candump" => Some(PlanQuestion::Candump {
             errors: flag_at(arguments, "errors"),
             threads: flag_at(arguments, "threads"),
@@ -83,7 +87,6 @@ fn text_question(name: &str, threads: bool) -> Option<PlanQuestion>
         "run" => Some(PlanQuestion::Report { threads }),
         "wave" => Some(PlanQuestion::Wave { threads }),
         "trace" => Some(PlanQuestion::Trace { threads }),
-        "frames" => Some(PlanQuestion::Frames { threads }),
         "plan" => Some(PlanQuestion::Plan),
         _ => None,
     }

@@ -104,14 +104,16 @@ pub fn trace_parses()
     ensures threads { (name : List ℕ) → ParsesAs (name ∷ codes "trace" ∷ codes "--threads" ∷ []) (trace true) }
 {}
 
-/// The program's name and `frames` ask for the bits of the frames in that plan's run, and with `--threads` for those of
-/// such a run; with names behind them of each plan in these files.
+/// The program's name and `frames` ask for the bits of the frames in that plan's run, with `--threads` for those of
+/// such a run, and with `--bits` byte by byte; with names behind them of each plan in these files.
 pub fn frames_parses()
     ensures jobs { (name : List ℕ) → ParsesAs
         (name ∷ codes "frames" ∷ codes "a" ∷ codes "b" ∷ codes "--jobs" ∷ codes "2" ∷ [])
-        (files (Frames false) 2 (codes "a" ∷ codes "b" ∷ [])) }
-    ensures one { (name : List ℕ) → ParsesAs (name ∷ codes "frames" ∷ []) (frames false) }
-    ensures threads { (name : List ℕ) → ParsesAs (name ∷ codes "frames" ∷ codes "--threads" ∷ []) (frames true) }
+        (files (Frames false false) 2 (codes "a" ∷ codes "b" ∷ [])) }
+    ensures one { (name : List ℕ) → ParsesAs (name ∷ codes "frames" ∷ []) (frames false false) }
+    ensures threads { (name : List ℕ) → ParsesAs (name ∷ codes "frames" ∷ codes "--threads" ∷ [])
+        (frames false true) }
+    ensures bits { (name : List ℕ) → ParsesAs (name ∷ codes "frames" ∷ codes "--bits" ∷ []) (frames true false) }
 {}
 
 /// The program's name and `picture` ask for the picture of that plan's run: of all its bits, where nothing follows, or

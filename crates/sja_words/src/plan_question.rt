@@ -27,6 +27,8 @@ pub enum PlanQuestion {
     },
     /// `frames`: the bits of each field of the frames in its run.
     Frames {
+        /// With `--bits`: those of each byte of data.
+        bits: bool,
         /// As for `run`.
         threads: bool,
     },

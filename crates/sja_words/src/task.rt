@@ -48,6 +48,8 @@ pub enum Task<'a> {
     },
     /// `frames`: the bits of each field of the frames in the run of the plan on the input.
     Frames {
+        /// With `--bits`: those of each byte of data.
+        bits: bool,
         /// As for `run`.
         threads: bool,
     },

@@ -205,8 +205,8 @@ few_printed (wave threads) before after text (inl asks) printed =
     few_of (IsTextOfRun threads Wave) before after text printed
 few_printed (trace threads) before after text (inl asks) printed =
     few_of (IsTextOfRun threads Trace) before after text printed
-few_printed (frames threads) before after text (inl asks) printed =
-    few_of (IsTextOfRun threads Frames) before after text printed
+few_printed (frames bits threads) before after text (inl asks) printed =
+    few_of (IsTextOfRun threads (Frames bits)) before after text printed
 few_printed (picture first last svg threads meant) before after text (inl asks) printed =
     few_of (IsTextOfRun threads (picture_or_drawing svg first last meant)) before after text printed
 few_printed (candump errors threads) before after text (inl asks) printed =
@@ -235,7 +235,7 @@ few_turned_down (wave threads) before after why (inl asks) refused =
     few_refused (MayFault threads) before after why refused
 few_turned_down (trace threads) before after why (inl asks) refused =
     few_refused (MayFault threads) before after why refused
-few_turned_down (frames threads) before after why (inl asks) refused =
+few_turned_down (frames bits threads) before after why (inl asks) refused =
     few_refused (MayFault threads) before after why refused
 few_turned_down (picture first last svg threads meant) before after why (inl asks) refused =
     few_untold threads (picture_or_drawing svg first last meant) before after why refused

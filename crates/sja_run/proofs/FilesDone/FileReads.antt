@@ -38,7 +38,7 @@ unanswered : (q : PlanQuestion) (bytes : List ℕ) → IsUnanswered q bytes OutO
 unanswered (Report threads) bytes = tt
 unanswered (Wave threads) bytes = tt
 unanswered (Trace threads) bytes = tt
-unanswered (Frames threads) bytes = tt
+unanswered (Frames bits threads) bytes = tt
 unanswered (Candump errors threads) bytes = tt
 unanswered (Sweep w) bytes = tt
 unanswered (StruckPlan node bit) bytes = tt

@@ -22,7 +22,7 @@ none_large : (what : RunText) (plan : PlanValue) (log : RunValue) (levels : ℕ)
 none_large Report plan log levels plain large = large
 none_large Wave plan log levels plain large = large
 none_large Trace plan log levels plain large = large
-none_large Frames plan log levels plain large = large
+none_large (Frames bits) plan log levels plain large = large
 none_large (Picture first last meant) plan log levels plain large = large
 none_large (Drawing first last meant) plan log levels plain large = absurd plain
 none_large (Candump errors) plan log levels plain large = large

@@ -27,7 +27,7 @@ module _ (Holds : List ℕ → Option (List ℕ) → Type 0) (status : ℕ)
   shows_asked (run threads) one of_files expects talks = one tt
   shows_asked (wave threads) one of_files expects talks = one tt
   shows_asked (trace threads) one of_files expects talks = one tt
-  shows_asked (frames threads) one of_files expects talks = one tt
+  shows_asked (frames bits threads) one of_files expects talks = one tt
   shows_asked (picture first last svg threads meant) one of_files expects talks = one tt
   shows_asked (candump errors threads) one of_files expects talks = one tt
   shows_asked (check strict) one of_files expects talks = one tt
@@ -50,7 +50,7 @@ module _ (Holds : List ℕ → Option (List ℕ) → Type 0) (status : ℕ)
   one_asked (run threads) plain shows = shows
   one_asked (wave threads) plain shows = shows
   one_asked (trace threads) plain shows = shows
-  one_asked (frames threads) plain shows = shows
+  one_asked (frames bits threads) plain shows = shows
   one_asked (picture first last svg threads meant) plain shows = shows
   one_asked (candump errors threads) plain shows = shows
   one_asked (check strict) plain shows = shows

@@ -38,8 +38,8 @@ is_left_over (wave true) = inl tt
 is_left_over (wave false) = inr (λ asks. asks)
 is_left_over (trace true) = inl tt
 is_left_over (trace false) = inr (λ asks. asks)
-is_left_over (frames true) = inl tt
-is_left_over (frames false) = inr (λ asks. asks)
+is_left_over (frames bits true) = inl tt
+is_left_over (frames bits false) = inr (λ asks. asks)
 is_left_over (picture first last svg true meant) = inl tt
 is_left_over (picture first last svg false meant) = inr (λ asks. asks)
 is_left_over (candump errors true) = inl tt
@@ -57,7 +57,7 @@ pub asks_left : (left : ThreadTask) → AsksForRun (request_left left)
 asks_left (Text Report) = tt
 asks_left (Text Wave) = tt
 asks_left (Text Trace) = tt
-asks_left (Text Frames) = tt
+asks_left (Text (Frames bits)) = tt
 asks_left (Text (Picture first last meant)) = tt
 asks_left (Text (Drawing first last meant)) = tt
 asks_left (Text (Candump errors)) = tt
@@ -75,7 +75,7 @@ pub one_left : (left : ThreadTask) → AsksForOne (request_left left)
 one_left (Text Report) = tt
 one_left (Text Wave) = tt
 one_left (Text Trace) = tt
-one_left (Text Frames) = tt
+one_left (Text (Frames bits)) = tt
 one_left (Text (Picture first last meant)) = tt
 one_left (Text (Drawing first last meant)) = tt
 one_left (Text (Candump errors)) = tt
@@ -87,7 +87,7 @@ pub left_printed : (what : RunText) (before after : Option (List ℕ)) (text : L
 left_printed Report before after text has = has
 left_printed Wave before after text has = has
 left_printed Trace before after text has = has
-left_printed Frames before after text has = has
+left_printed (Frames bits) before after text has = has
 left_printed (Picture first last meant) before after text has = has
 left_printed (Drawing first last meant) before after text has = has
 left_printed (Candump errors) before after text has = has
@@ -101,8 +101,8 @@ left_refused Wave before after why has =
     plain_refused true Wave before after why tt has
 left_refused Trace before after why has =
     plain_refused true Trace before after why tt has
-left_refused Frames before after why has =
-    plain_refused true Frames before after why tt has
+left_refused (Frames bits) before after why has =
+    plain_refused true (Frames bits) before after why tt has
 left_refused (Picture first last meant) before after why has = has
 left_refused (Drawing first last meant) before after why has = has
 left_refused (Candump errors) before after why has =
@@ -114,7 +114,7 @@ pub once_told : (what : RunText) (before after : Option (List ℕ)) (text : List
 once_told Report before after text has = has
 once_told Wave before after text has = has
 once_told Trace before after text has = has
-once_told Frames before after text has = has
+once_told (Frames bits) before after text has = has
 once_told (Picture first last meant) before after text has = has
 once_told (Drawing first last meant) before after text has = has
 once_told (Candump errors) before after text has = has
@@ -133,8 +133,8 @@ once_denied Wave before after why has =
     plain_refused false Wave before after why tt has
 once_denied Trace before after why has =
     plain_refused false Trace before after why tt has
-once_denied Frames before after why has =
-    plain_refused false Frames before after why tt has
+once_denied (Frames bits) before after why has =
+    plain_refused false (Frames bits) before after why tt has
 once_denied (Picture first last meant) before after why has = has
 once_denied (Drawing first last meant) before after why has = has
 once_denied (Candump errors) before after why has =

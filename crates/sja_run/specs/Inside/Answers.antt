@@ -14,7 +14,7 @@ abbrev pub AsksForText : Request → Type 0
 AsksForText (run threads) = Unit {0}
 AsksForText (wave threads) = Unit {0}
 AsksForText (trace threads) = Unit {0}
-AsksForText (frames threads) = Unit {0}
+AsksForText (frames bits threads) = Unit {0}
 AsksForText (picture first last svg threads meant) = Unit {0}
 AsksForText (candump errors threads) = Unit {0}
 AsksForText other = ⊥

@@ -29,7 +29,7 @@ wave_file name = record { taken = refl; asks = refl }
 -- `frames`, two names, and the number of threads
 pub frames_jobs : (name : List ℕ) →
     ParsesAs (name ∷ codes "frames" ∷ codes "a" ∷ codes "b" ∷ codes "--jobs" ∷ codes "2" ∷ [])
-    (files (Frames false) 2 (codes "a" ∷ codes "b" ∷ []))
+    (files (Frames false false) 2 (codes "a" ∷ codes "b" ∷ []))
 unfolding sja_on_literals asked faults
 frames_jobs name = record { taken = refl; asks = refl }
 

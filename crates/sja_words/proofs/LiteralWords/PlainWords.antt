@@ -110,14 +110,19 @@ unfolding sja_on_literals asked faults
 trace_in_threads name = record { taken = refl; asks = refl }
 
 -- `frames`
-pub frames_alone : (name : List ℕ) → ParsesAs (name ∷ codes "frames" ∷ []) (frames false)
+pub frames_alone : (name : List ℕ) → ParsesAs (name ∷ codes "frames" ∷ []) (frames false false)
 unfolding sja_on_literals asked faults
 frames_alone name = record { taken = refl; asks = refl }
 
 -- `frames --threads`
-pub frames_in_threads : (name : List ℕ) → ParsesAs (name ∷ codes "frames" ∷ codes "--threads" ∷ []) (frames true)
+pub frames_in_threads : (name : List ℕ) → ParsesAs (name ∷ codes "frames" ∷ codes "--threads" ∷ []) (frames false true)
 unfolding sja_on_literals asked faults
 frames_in_threads name = record { taken = refl; asks = refl }
+
+-- `frames --bits`
+pub frames_by_bits : (name : List ℕ) → ParsesAs (name ∷ codes "frames" ∷ codes "--bits" ∷ []) (frames true false)
+unfolding sja_on_literals asked faults
+frames_by_bits name = record { taken = refl; asks = refl }
 
 -- `check`
 pub check_alone : (name : List ℕ) → ParsesAs (name ∷ codes "check" ∷ []) (check false)

@@ -7,7 +7,7 @@ use Rattle.sja_frames.proofs.frame_list.text_of.Given as goal
 -- what was written, and the lines of the rest, are the whole
 abbrev pub invariant-loop-frame : goal.invariant-loop-frame
 invariant-loop-frame l = record {
-  text : string_bytes l.text ++ numbered line_text l.number (values_of (drop l.frame-index l.found))
-      ≡ numbered line_text 1 (values_of l.found);
+  text : string_bytes l.text ++ numbered (line_text l.each) l.number (values_of (drop l.frame-index l.found))
+      ≡ numbered (line_text l.each) 1 (values_of l.found);
   number : l.number ≡ l.frame-index + 1;
 }

@@ -1,5 +1,5 @@
 use Rattle.sja_words.proofs.LiteralWords.PlainFiles.{frames_jobs}
-use Rattle.sja_words.proofs.LiteralWords.PlainWords.{frames_alone, frames_in_threads}
+use Rattle.sja_words.proofs.LiteralWords.PlainWords.{frames_alone, frames_by_bits, frames_in_threads}
 use Rattle.sja_words.proofs.laws.frames_parses.Goals as goal
 
 pub returns-clause-one : goal.returns-clause-one
@@ -10,3 +10,6 @@ returns-clause-threads c = frames_in_threads
 
 pub returns-clause-jobs : goal.returns-clause-jobs
 returns-clause-jobs c = frames_jobs
+
+pub returns-clause-bits : goal.returns-clause-bits
+returns-clause-bits c = frames_by_bits
