@@ -105,6 +105,12 @@ def drawn(bits):
     return f'{VERSION_3}bits = {bits}\nturns = ["bus {bits}"]\n' + "[[node]]\nsteps = []\n" * 8
 
 
+def polled(count, behind):
+    """A plan of a node with so many steps, each with its comment, and with these lines behind it."""
+    steps = "".join(f'  "read SR", # poll {it}\n' for it in range(count))
+    return f"{VERSION_3}bits = 1\n[[node]]\nsteps = [\n{steps}{behind}"
+
+
 # a driver that waits for a message that never comes, beside one that only starts
 WAITING = f'{VERSION_3}bits = 500\n[[node]]\nsteps = ["start", "await 1"]\n[[node]]\nsteps = ["start"]\n'
 
@@ -134,6 +140,11 @@ EDGES = [
     Edge("15 MB of too many nodes", ["run"], lambda: headed("steps=[]"), 1, CROWDED, 5, 64),
     Edge("the same, explained", ["check"], lambda: headed("steps=[]"), 1, CROWDED + "line 19: the", 5, 64),
     Edge("15 MB of too many nodes in a list", ["run"], lambda: inline("{steps=[]},"), 1, CROWDED, 9, 110),
+    Edge("a wrong key behind 40,000 steps", ["run"], lambda: polled(40000, ']\n[[node]]\nstepz = ["start"]\n'), 1,
+         KEY + 'line 40007: node 1 has the key "stepz"', 1, 20),
+    Edge("a number behind 40,000 steps", ["check"], lambda: polled(40000, "  7\n]\n"), 1,
+         KEY + 'line 4: node 0: steps is a list of texts, and item 40001 of it is a whole number\n', 1, 20),
+    Edge("15 MB of texts and numbers", ["run"], lambda: listed('"a","a",1,', "turns"), 1, KEY, 4, 20),
     Edge("15 MB of keys with one part", ["run"], lambda: filled(lambda n: f"N{n}=1\n"), 1, UNKNOWN, 5, 20),
     Edge("15 MB of headers", ["run"], lambda: filled(lambda n: f"[N{n}]\n"), 1, UNKNOWN, 5, 20),
     Edge("160,000 refused steps", ["check"], lambda: refused(20000), 0, "line 4: node 0 is never started", 3, 64),

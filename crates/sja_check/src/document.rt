@@ -1,7 +1,7 @@
 //! [`Document`]: a plan's document as `toml` reads it, with its outline.
 
 use super::kind::Kind;
-use super::outline::{Front, Outline, Spot, Token};
+use super::outline::{Abridged, Front, Gap, Outline, Spot, Token};
 use super::page::{Page, Piece};
 use std::alloc::{AllocError, Global};
 use toml::{Value, table_from_str};
@@ -12,6 +12,8 @@ pub(crate) struct Document {
     /// The table of its keys; `false` where the bytes are no document.
     pub(crate) root: Value,
     outline: Outline,
+    /// Whether it is the front of a longer one, whose other keys may stand behind it.
+    pub(crate) is_front: bool,
 }
 
 impl Document {
@@ -19,12 +21,44 @@ impl Document {
     ///
     /// Error: memory was refused.
     pub(crate) fn read(alloc: Global, bytes: &[u8]) -> Result<Document, AllocError> {
+        Document::with_gaps(alloc, bytes, Vec::new(alloc))
+    }
+
+    /// A long document, abridged; where more than so many bytes are left, the front of these.
+    ///
+    /// Error: memory was refused.
+    pub(crate) fn of_long(
+        alloc: Global,
+        bytes: &[u8],
+        most: usize,
+    ) -> Result<Document, AllocError> {
+        let (kept, gaps) = Abridged::of(alloc, bytes, most)?.into_parts();
+        if kept.len() <= most {
+            return Document::with_gaps(alloc, &kept, gaps);
+        }
+        let (end, closing) = Front::of(&kept, most).end();
+        let mut front = Vec::new(alloc);
+        front.extend_from_slice(kept.get(..end).unwrap_or(&[]))?;
+        front.extend_from_slice(closing)?;
+        let mut document = Document::with_gaps(alloc, &front, gaps)?;
+        document.is_front = true;
+        Ok(document)
+    }
+
+    /// The document that these bytes are, of which so much was left out.
+    ///
+    /// Error: memory was refused.
+    fn with_gaps(alloc: Global, bytes: &[u8], gaps: Vec<Gap>) -> Result<Document, AllocError> {
         let root = root_of(alloc, bytes)?;
         let mut outline = Outline::new(alloc);
-        if matches!(root, Value::Table(_)) && outline.read(bytes).is_err() {
+        if matches!(root, Value::Table(_)) && outline.read(bytes, gaps).is_err() {
             return Err(AllocError);
         }
-        Ok(Document { root, outline })
+        Ok(Document {
+            root,
+            outline,
+            is_front: false,
+        })
     }
 
     /// A document of which this key alone is looked at.
@@ -34,22 +68,8 @@ impl Document {
         Ok(Document {
             root: Value::Boolean(false),
             outline: Outline::of_key(alloc, bytes, key)?,
+            is_front: false,
         })
-    }
-
-    /// The front of a long document, of at most so many bytes.
-    ///
-    /// Error: memory was refused.
-    pub(crate) fn of_front(
-        alloc: Global,
-        bytes: &[u8],
-        most: usize,
-    ) -> Result<Document, AllocError> {
-        let (end, closing) = Front::of(bytes, most).end();
-        let mut front = Vec::new(alloc);
-        front.extend_from_slice(bytes.get(..end).unwrap_or(&[]))?;
-        front.extend_from_slice(closing)?;
-        Document::read(alloc, &front)
     }
 
     /// Its first key as it is written, where it is none of a node.
@@ -65,6 +85,11 @@ impl Document {
     /// The line of this, as a piece of what is said.
     pub(crate) fn line(&self, spot: Spot) -> Piece<'static> {
         Piece::Line(self.outline.line_of(spot))
+    }
+
+    /// The number, in the document as it was written, of the text of this kind at this place, both counted from 0.
+    pub(crate) fn number_of(&self, kind: Kind, place: usize) -> usize {
+        place.saturating_add(self.outline.texts_left_out(kind, place))
     }
 
     /// The first key of the document that isn't among these, of those that are written as they are.

@@ -22,16 +22,12 @@ use bytes::{no_text, too_long};
 use can_frame::OutOfMemory;
 use general::general;
 use keys::of_keys;
-use long::{crowded, in_long};
+use long::in_long;
 use numbers::of_count;
-use sja_plan::PlanFault;
+use sja_plan::{MOST_BYTES, PlanFault};
 use std::alloc::Global;
 use toml::Value;
 use toml_fault::no_toml;
-
-/// The most bytes of a document whose tables are built to explain a wrong key, or too many nodes (this project's own
-/// rule). A longer one that its beginning doesn't explain has the words of the fault alone.
-const MOST_EXPLAINED: usize = 262_144;
 
 /// The words that explain this fault of these bytes: a line or two, each of at most 100 characters (this project's own
 /// rule). The first says where the mistake is and what is written there, the second mostly what would be right. Where
@@ -59,15 +55,11 @@ fn explain(page: &mut Page, bytes: &[u8], fault: PlanFault) -> bool {
         PlanFault::NotText => no_text(page, bytes),
         PlanFault::Toml => no_toml(page, bytes),
         PlanFault::Memory => false,
-        PlanFault::Key => in_long(page, bytes) || in_short(page, bytes, fault),
-        PlanFault::NodeCount => crowded(page, bytes) || in_short(page, bytes, fault),
+        PlanFault::Key | PlanFault::NodeCount if bytes.len() > MOST_BYTES => {
+            in_long(page, bytes, fault)
+        }
         _ => in_tables(page, bytes, fault),
     }
-}
-
-/// The same as [`in_tables`] of a document that isn't long.
-fn in_short(page: &mut Page, bytes: &[u8], fault: PlanFault) -> bool {
-    bytes.len() <= MOST_EXPLAINED && in_tables(page, bytes, fault)
 }
 
 /// Says what is wrong in the tables of a document, where it has this fault.
@@ -79,7 +71,7 @@ fn in_tables(page: &mut Page, bytes: &[u8], fault: PlanFault) -> bool {
 }
 
 /// Says what is wrong in a document, where it has this fault.
-fn in_document(page: &mut Page, document: &Document, fault: PlanFault) -> bool {
+pub(crate) fn in_document(page: &mut Page, document: &Document, fault: PlanFault) -> bool {
     let Value::Table(_) = document.root else {
         return false;
     };

@@ -41,7 +41,7 @@ pub(crate) fn swallowed_hints(
 
 /// Goes on past a step that was done, and gives what is said of it where it was swallowed.
 fn go_on(state: &mut DriverState<'_>, step: &Step, done: &Done) -> &'static str {
-    state.meet(done.bits);
+    state.meet(u32::try_from(done.bits).unwrap_or(u32::MAX));
     let is_refused = matches!(done.answer, StepAnswer::Refused(_));
     match step {
         Step::Write(0, value) => mode_write(state, *value),

@@ -41,11 +41,12 @@ pub(crate) fn of_keys<'a>(document: &'a Document) -> Wording<'a> {
     said
 }
 
-/// The same of a document of which this one is the front: nothing of a key that may stand behind it.
-pub(crate) fn of_front<'a>(document: &'a Document) -> Wording<'a> {
+/// The same of a document that may be the front of a longer one: nothing of a key that may stand behind it.
+pub(crate) fn of_long<'a>(document: &'a Document) -> Wording<'a> {
     let said = of_keys(document);
     match said.spot {
-        Spot::Key(key) if document.value(key).is_none() && !document.has_header() => {
+        Spot::Key(key)
+            if document.is_front && document.value(key).is_none() && !document.has_header() => {
             Wording::nothing()
         }
         _ => said,
@@ -80,7 +81,7 @@ fn of_strikes<'a>(document: &'a Document) -> Wording<'a> {
         return said;
     }
     let spot = Spot::Key("strikes");
-    let listed = of_list(Kind::Strike, value);
+    let listed = of_list(document, Kind::Strike, value);
     if !listed.is_nothing() {
         let right = "write strikes = [\"1 60\"], a text a strike, in quotes";
         let [wrong, _] = listed.told;
@@ -129,7 +130,7 @@ fn of_misplaced<'a>(document: &'a Document, key: &str) -> Wording<'a> {
 /// That the value of the key of these texts isn't a list of texts.
 fn of_texts<'a>(document: &'a Document, kind: Kind) -> Wording<'a> {
     match document.value(kind.key()) {
-        Some(value) => of_list(kind, value),
+        Some(value) => of_list(document, kind, value),
         None => Wording::nothing(),
     }
 }

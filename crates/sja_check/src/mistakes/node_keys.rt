@@ -29,7 +29,7 @@ pub(crate) fn of_nodes<'a>(document: &'a Document) -> Wording<'a> {
 /// What is wrong with the first node that isn't right.
 fn of_items<'a>(document: &'a Document) -> Wording<'a> {
     for (node, value) in document.nodes().iter().enumerate() {
-        let said = of_node(document.version(), node, value);
+        let said = of_node(document, node, value);
         if !said.is_nothing() {
             return said;
         }
@@ -38,12 +38,12 @@ fn of_items<'a>(document: &'a Document) -> Wording<'a> {
 }
 
 /// What is wrong with this node.
-fn of_node<'a>(version: u8, node: usize, value: &'a Value) -> Wording<'a> {
+fn of_node<'a>(document: &'a Document, node: usize, value: &'a Value) -> Wording<'a> {
     if let Some(key) = other_key(value, &STEPS) {
-        return of_key(version, node, key);
+        return of_key(document.version(), node, key);
     }
     if let Some(steps) = member_of(value, "steps") {
-        return of_list(Kind::Step(node), steps);
+        return of_list(document, Kind::Step(node), steps);
     }
     let wrong = match value {
         Value::Table(_) => "{0}node {5} has no key \"steps\"",

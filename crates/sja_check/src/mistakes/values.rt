@@ -1,14 +1,15 @@
 //! Values of the wrong kind.
 
+use super::super::document::Document;
 use super::super::kind::Kind;
 use super::super::outline::Spot;
 use super::wording::Wording;
 use toml::Value;
 
-/// That a value isn't a list of texts: that of the key of these texts.
-pub(crate) fn of_list(kind: Kind, value: &Value) -> Wording<'static> {
+/// That a value of a document isn't a list of texts: that of the key of these texts.
+pub(crate) fn of_list(document: &Document, kind: Kind, value: &Value) -> Wording<'static> {
     let (number, is) = match value {
-        Value::Array(items) => other_item(items.as_slice()),
+        Value::Array(items) => other_item(document, kind, items.as_slice()),
         _ => (0, kind_of(value)),
     };
     let is_step = matches!(kind, Kind::Step(_));
@@ -44,12 +45,11 @@ fn template_of(is_step: bool, is_other: bool) -> &'static str {
 }
 
 /// The number of the first item that is no text, counted from 1, and of what kind it is; no kind where all are texts.
-fn other_item(items: &[Value]) -> (i64, &'static str) {
-    let mut number = 0i64;
-    for item in items {
-        number = number.saturating_add(1);
+fn other_item(document: &Document, kind: Kind, items: &[Value]) -> (i64, &'static str) {
+    for (place, item) in items.iter().enumerate() {
         if !matches!(item, Value::String(_)) {
-            return (number, kind_of(item));
+            let number = document.number_of(kind, place).saturating_add(1);
+            return (i64::try_from(number).unwrap_or(i64::MAX), kind_of(item));
         }
     }
     (0, "")

@@ -2,6 +2,7 @@
 
 use super::super::kind::Kind;
 use super::entry::Entry;
+use super::gap::{Gap, lines_before, texts_between};
 use super::line::line_at;
 use super::pieces::{depth_behind, end_of_piece};
 use super::spot::Spot;
@@ -11,10 +12,12 @@ use std::alloc::{AllocError, Global};
 /// A document with its pieces, its keys, and at which pieces the headers of nodes have their names.
 #[derive(Drop)]
 pub(crate) struct Outline {
-    bytes: Vec<u8>,
-    tokens: Vec<Token>,
-    entries: Vec<Entry>,
-    headers: Vec<usize>,
+    pub(super) bytes: Vec<u8>,
+    pub(super) tokens: Vec<Token>,
+    pub(super) entries: Vec<Entry>,
+    pub(super) headers: Vec<usize>,
+    /// What was left out, where the document is an abridged one.
+    pub(super) gaps: Vec<Gap>,
 }
 
 impl Outline {
@@ -25,6 +28,7 @@ impl Outline {
             tokens: Vec::new(alloc),
             entries: Vec::new(alloc),
             headers: Vec::new(alloc),
+            gaps: Vec::new(alloc),
         }
     }
 
@@ -43,10 +47,11 @@ impl Outline {
         Ok(outline)
     }
 
-    /// Reads the document.
+    /// Reads the document, which is an abridged one where it has gaps.
     ///
     /// Error: memory was refused.
-    pub(crate) fn read(&mut self, bytes: &[u8]) -> Result<(), AllocError> {
+    pub(crate) fn read(&mut self, bytes: &[u8], gaps: Vec<Gap>) -> Result<(), AllocError> {
+        self.gaps = gaps;
         let bytes = bytes.strip_prefix(b"\xef\xbb\xbf").unwrap_or(bytes);
         self.read_pieces(bytes)?;
         self.bytes.extend_from_slice(bytes)?;
@@ -76,10 +81,21 @@ impl Outline {
     /// The line of this.
     pub(crate) fn line_of(&self, spot: Spot) -> Option<usize> {
         let place = self.place_of(spot)?;
-        Some(line_at(
-            self.bytes.as_slice(),
-            self.tokens.as_slice().get(place)?.start(),
-        ))
+        let start = self.tokens.as_slice().get(place)?.start();
+        let left_out = lines_before(self.gaps.as_slice(), start);
+        Some(line_at(self.bytes.as_slice(), start).saturating_add(left_out))
+    }
+
+    /// How many texts of the list that this one is of were left out before it.
+    pub(crate) fn texts_left_out(&self, kind: Kind, number: usize) -> usize {
+        let open = self.list(kind);
+        match (
+            self.start_of(open),
+            self.start_of(self.item(open, number, None)),
+        ) {
+            (Some(open), Some(place)) => texts_between(self.gaps.as_slice(), open, place),
+            _ => 0,
+        }
     }
 
     /// Finds the pieces of the document.
@@ -134,118 +150,5 @@ impl Outline {
             begins = first == b'\n' && depth == 0;
         }
         Ok(())
-    }
-
-    /// At which piece this stands.
-    fn place_of(&self, spot: Spot) -> Option<usize> {
-        match spot {
-            Spot::Key(key) => self.key(None, key),
-            Spot::Node(node) => self.node(node),
-            Spot::NodeKey(node, key) => self.key(Some(node), key).or(self.node(node)),
-            Spot::Text(Kind::Step(node), number) => self.item(self.steps(node), number, None),
-            Spot::Text(kind, number) => {
-                let list = self.value(None, kind.key());
-                self.item(list.or(self.value(None, kind.other_key())), number, None)
-            }
-        }
-    }
-
-    /// At which piece a node stands.
-    fn node(&self, node: usize) -> Option<usize> {
-        match self.headers.as_slice().get(node) {
-            Some(name) => Some(*name),
-            None => self.item(self.value(None, "node"), node, None),
-        }
-    }
-
-    /// At which piece the steps of a node begin.
-    fn steps(&self, node: usize) -> Option<usize> {
-        if self.key(Some(node), "steps").is_some() {
-            return self.value(Some(node), "steps");
-        }
-        let table = self.item(self.value(None, "node"), node, None);
-        self.value_behind(self.item(table, 0, Some("steps"))?)
-    }
-
-    /// At which piece a key of a node, or of none, stands.
-    fn key(&self, node: Option<usize>, key: &str) -> Option<usize> {
-        match self.entry(node, key) {
-            Some(entry) => Some(entry.key),
-            None => None,
-        }
-    }
-
-    /// At which piece its value begins.
-    fn value(&self, node: Option<usize>, key: &str) -> Option<usize> {
-        match self.entry(node, key) {
-            Some(entry) => entry.value,
-            None => None,
-        }
-    }
-
-    /// The first key of this name of a node, or of none.
-    fn entry(&self, node: Option<usize>, key: &str) -> Option<Entry> {
-        for entry in self.entries.as_slice() {
-            if entry.node == node && self.says(entry.key, key) {
-                return Some(*entry);
-            }
-        }
-        None
-    }
-
-    /// At which piece the item of this number, counted from 0, begins in the list or the inline table that begins at
-    /// `open`; of those with this key, where one is given.
-    fn item(&self, open: Option<usize>, number: usize, key: Option<&str>) -> Option<usize> {
-        let open = open?;
-        let mut depth = 0usize;
-        let mut left = number;
-        let mut awaited = false;
-        for place in open..self.tokens.len() {
-            let first = self.first_at(place);
-            if awaited && first != b'\n' && first != b']' {
-                let is_sought = match key {
-                    Some(key) => self.says(place, key),
-                    None => true,
-                };
-                if is_sought {
-                    if left == 0 {
-                        return Some(place);
-                    }
-                    left -= 1;
-                }
-                awaited = false;
-            }
-            depth = depth_behind(depth, first);
-            if depth == 0 {
-                return None;
-            }
-            awaited = awaited || (depth == 1 && (first == b',' || place == open));
-        }
-        None
-    }
-
-    /// At which piece the value begins of the key at this one.
-    fn value_behind(&self, place: usize) -> Option<usize> {
-        if self.first_at(place.saturating_add(1)) == b'=' {
-            Some(place.saturating_add(2))
-        } else {
-            None
-        }
-    }
-
-    /// The first byte of the piece at this place; a line feed where there is none.
-    fn first_at(&self, place: usize) -> u8 {
-        match self.tokens.as_slice().get(place) {
-            Some(token) => token.first,
-            None => b'\n',
-        }
-    }
-
-    /// Whether the piece at this place is this key.
-    fn says(&self, place: usize, key: &str) -> bool {
-        match self.tokens.as_slice().get(place) {
-            Some(token) => token.says(self.bytes.as_slice(), key),
-            None => false,
-        }
     }
 }
