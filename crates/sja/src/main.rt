@@ -2,8 +2,10 @@
 #![tactic(auto)]
 
 mod disk;
+mod refusal_watch;
 
 use disk::Disk;
+use refusal_watch::RefusalWatch;
 use sja_run::{CommandRefusal, Output, Task, parse, sja};
 use std::alloc::Global;
 use std::env;
@@ -14,10 +16,12 @@ use std::process::ExitCode;
 const NO_TEXT: &str = "error: invalid UTF-8 was detected in one or more arguments\n";
 
 /// Answers the exit status: 0 for done, 1 for refused, 2 for words that don't parse. Where words ask for what stands on
-/// standard input, and that is a terminal, a line on standard error says what is waited for.
+/// standard input, and that is a terminal, a line on standard error says what is waited for. Where standard error is a
+/// terminal, and says that a plan is refused and no more, a line more says who tells where.
 fn main(rt: HostRuntime) -> ExitCode {
     let mut out = Output::new(rt.stdout());
-    let mut err = Output::new(rt.stderr());
+    let asks = rt.stderr().is_terminal();
+    let mut err = Output::new(RefusalWatch::new(rt.stderr()));
     let status = match env::args(&rt) {
         Ok(args) => match args.collect::<Vec<String>>(rt.alloc()) {
             Ok(words) => {
@@ -46,6 +50,9 @@ fn main(rt: HostRuntime) -> ExitCode {
         ),
         Err(_) => err.turn_away(NO_TEXT.as_bytes()),
     };
+    if asks && err.writer.is_unexplained() {
+        let _ = eprintln!(rt; "sja check says where");
+    }
     ExitCode::from(status)
 }
 
