@@ -110,7 +110,12 @@ fn plain_bus(alloc: Global, nodes: u8, bits: u32) -> Result<Bus, OutOfMemory>
     ensures { IfOk result (λ b. length b.journals ≡ nodes) }
 {
     let steps = Vec::from_elem(alloc, 1_000, usize::from(nodes))?;
-    Bus::new(alloc, bits, steps, FaultScript::of(Vec::new(alloc)))
+    Bus::new(
+        alloc,
+        u64::from(bits),
+        steps,
+        FaultScript::of(Vec::new(alloc)),
+    )
 }
 
 /// The links and the ports of so many nodes, and their drivers.

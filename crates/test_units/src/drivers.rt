@@ -5,6 +5,7 @@ mod each_given_back;
 mod endless;
 mod given;
 mod given_back;
+mod logs;
 mod refused_memory;
 mod starts;
 mod windows;

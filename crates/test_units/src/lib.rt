@@ -5,7 +5,7 @@
 //! | Tests of | Modules |
 //! |---|---|
 //! | `sja_regs`, `sja_link`, `sja_rings`, `sja_driver` | [`registers`], [`links`], [`rings`], [`drivers`] |
-//! | `sja_bus` where memory is refused | [`buses`] |
+//! | `sja_bus` where memory is refused; strikes of runs of each length | [`buses`], [`strikes`] |
 //! | whole runs over links of two rings in one thread, by a turn loop of the tests' own | [`ring_runs`] |
 //! | `sja_replay`, `sja_report`, `sja_wave` over logs written by hand | [`replay`], [`reports`], [`waves`] |
 //! | `sja_serial`, `sja_threads`; writes of bytes whose item comes back | [`turns`], [`threads`] |
@@ -33,6 +33,8 @@ mod ring_runs;
 mod rings;
 #[cfg(test)]
 mod sessions;
+#[cfg(test)]
+mod strikes;
 #[cfg(test)]
 mod sweeps;
 #[cfg(test)]

@@ -1,7 +1,8 @@
-//! Links, their numbers, journals, and refused memory. The rows of links in `test_controller` have what
-//! they carry, the ledgers at their ends, and the world of one link.
+//! Links, their numbers, journals, lists that forget, and refused memory. The rows of links in `test_controller` have
+//! what they carry, the ledgers at their ends, and the world of one link.
 
 pub(crate) mod given;
 mod journals;
 mod numbers;
+mod recents;
 mod refusals;

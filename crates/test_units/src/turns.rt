@@ -1,3 +1,4 @@
 //! Runs in one thread, turn by turn.
 
 mod bits;
+mod long_runs;

@@ -35,7 +35,7 @@ impl<E: BusEnd + Drop> WiredBus<E> {
         let Ok(steps) = Vec::from_elem(alloc, 1_000, usize::from(nodes)) else {
             return None;
         };
-        let Ok(bus) = Bus::new(alloc, bits, steps, script) else {
+        let Ok(bus) = Bus::new(alloc, u64::from(bits), steps, script) else {
             return None;
         };
         let Ok(board) = SerialBoard::new(alloc, nodes, version) else {
@@ -118,7 +118,7 @@ impl<E: BusEnd + Drop> WiredBus<E> {
 
     /// Takes a strike more; whether it was taken, which it isn't where its bit has run.
     pub fn strike(&mut self, strike: Strike) -> bool {
-        if strike.bit < self.bus.bits_run() {
+        if u64::from(strike.bit) < self.bus.bits_run() {
             return false;
         }
         match self.bus.strike(strike) {

@@ -24,7 +24,7 @@ pub fn driven(
     if !are_links_of_node(ends, NODE) {
         return Ok(None);
     }
-    let count = steps.len() as u32;
+    let count = steps.len() as u64;
     let Ok(log) = WorkLog::new(alloc, count, count) else {
         return Err(AllocError);
     };

@@ -25,7 +25,7 @@ pub enum Answer {
     /// Whether something is so.
     Said(bool),
     /// A number.
-    Count(u32),
+    Count(u64),
     /// A value of a register.
     Byte(u8),
     /// So many reads with one value.

@@ -134,7 +134,7 @@ fn most(rest: &[&str]) -> Option<Answer> {
 /// Writes what [`alike`] answers.
 fn say_alike(alloc: Global, text: &mut String, rest: &[&str]) -> Result<(), AllocError> {
     match alike(alloc, rest)? {
-        Some(count) => say(alloc, text, Answer::Count(count)),
+        Some(count) => say(alloc, text, Answer::Count(u64::from(count))),
         None => text.push_str(" ?"),
     }
 }
@@ -162,8 +162,8 @@ fn room_of(words: &[&str]) -> Option<Option<SessionRoom>> {
     match words {
         [] => Some(None),
         [steps, turns] => Some(Some(SessionRoom {
-            steps: number(steps)?,
-            turns: number(turns)?,
+            steps: u64::from(number(steps)?),
+            turns: u64::from(number(turns)?),
         })),
         _ => None,
     }

@@ -83,7 +83,7 @@ fn runs(session: &mut Session, rest: &[&str]) -> Option<Answer> {
         return None;
     };
     Some(match session.bits(number(count)?) {
-        Ok(bits) => Answer::Count(bits),
+        Ok(bits) => Answer::Count(u64::from(bits)),
         Err(fault) => Answer::NoTurn(fault),
     })
 }

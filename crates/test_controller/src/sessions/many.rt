@@ -98,7 +98,7 @@ fn starts(session: &mut Session, node: u8, count: u32) -> Option<Answer> {
         }
         done = done.saturating_add(1);
     }
-    Some(Answer::Count(done))
+    Some(Answer::Count(u64::from(done)))
 }
 
 /// Whether a step did what it says.
@@ -116,5 +116,5 @@ fn strikes(session: &mut Session, from: u32, count: u32, apart: u32) -> Option<A
         done = done.saturating_add(1);
         bit = bit.saturating_add(apart);
     }
-    Some(Answer::Count(done))
+    Some(Answer::Count(u64::from(done)))
 }

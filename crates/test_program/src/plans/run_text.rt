@@ -51,7 +51,7 @@ fn traced(alloc: Global, plan: &Plan, log: &RunLog) -> Result<String, AllocError
 
 /// The list of a run's frames.
 fn listed(alloc: Global, log: &RunLog) -> Result<String, AllocError> {
-    frames(alloc, log).or(Err(AllocError))
+    frames(alloc, log, false).or(Err(AllocError))
 }
 
 /// The picture of the bits that are asked for.

@@ -2,7 +2,7 @@
 
 use super::given::{message_of, request_for};
 use can_bits::Level;
-use sja_link::{Entry, Journal, Up};
+use sja_link::{Entry, Recorder, Up};
 use std::alloc::Global;
 use std::test::Fail;
 use test_frames::nodes::PLAIN;
@@ -34,17 +34,18 @@ fn some_of_each(alloc: Global) -> Result<Vec<Entry>, Fail> {
 
 #[test]
 fn a_new_journal_has_no_entries(rt: HostRuntime) -> Result<(), Fail> {
-    let journal = Journal::new(rt.alloc(), 1, 1_000)?;
-    assert!(rt; journal.entries().next().is_none());
+    let journal = Recorder::new(rt.alloc(), 1, 1_000)?;
+    assert!(rt; journal.into_journal().entries().next().is_none());
     Ok(())
 }
 
 #[test]
 fn entries_come_out_as_they_were_entered(rt: HostRuntime) -> Result<(), Fail> {
-    let mut journal = Journal::new(rt.alloc(), 1, 1_000)?;
+    let mut journal = Recorder::new(rt.alloc(), 1, 1_000)?;
     for entry in some_of_each(rt.alloc())? {
         assert!(rt; journal.enter(entry).is_ok());
     }
+    let journal = journal.into_journal();
     let mut told = journal.entries();
     for entry in some_of_each(rt.alloc())? {
         assert!(rt; told.next() == Some(entry));
@@ -55,12 +56,13 @@ fn entries_come_out_as_they_were_entered(rt: HostRuntime) -> Result<(), Fail> {
 
 #[test]
 fn a_bit_is_entered_alike_by_both_calls(rt: HostRuntime) -> Result<(), Fail> {
-    let mut journal = Journal::new(rt.alloc(), 4, 1_000)?;
+    let mut journal = Recorder::new(rt.alloc(), 4, 1_000)?;
     for driven in [Level::Dominant, Level::Recessive] {
         for seen in [Level::Dominant, Level::Recessive] {
             assert!(rt; journal.enter_bit(driven, seen).is_ok());
         }
     }
+    let journal = journal.into_journal();
     let mut told = journal.entries();
     for driven in [Level::Dominant, Level::Recessive] {
         for seen in [Level::Dominant, Level::Recessive] {
@@ -73,7 +75,7 @@ fn a_bit_is_entered_alike_by_both_calls(rt: HostRuntime) -> Result<(), Fail> {
 /// A run of no bits and 1,000 steps has room for 2,100 entries, whatever they are.
 #[test]
 fn the_reserved_entries_can_be_used_by_any_kind(rt: HostRuntime) -> Result<(), Fail> {
-    let mut journal = Journal::new(rt.alloc(), 0, 1_000)?;
+    let mut journal = Recorder::new(rt.alloc(), 0, 1_000)?;
     for _ in 0..2_100 {
         assert!(rt; journal.enter(Entry::Overrun(message_of(4)?)).is_ok());
     }
@@ -83,6 +85,7 @@ fn the_reserved_entries_can_be_used_by_any_kind(rt: HostRuntime) -> Result<(), F
             .enter_bit(Level::Recessive, Level::Recessive)
             .is_err()
     );
+    let journal = journal.into_journal();
     let mut told = journal.entries();
     for _ in 0..2_100 {
         assert!(rt; told.next() == Some(Entry::Overrun(message_of(4)?)));
@@ -94,7 +97,7 @@ fn the_reserved_entries_can_be_used_by_any_kind(rt: HostRuntime) -> Result<(), F
 /// A run of 84 bits and no steps has room for 102 entries that are no bits, and then for its bits alone.
 #[test]
 fn entries_that_are_no_bits_have_a_room_of_their_own(rt: HostRuntime) -> Result<(), Fail> {
-    let mut journal = Journal::new(rt.alloc(), 84, 0)?;
+    let mut journal = Recorder::new(rt.alloc(), 84, 0)?;
     for _ in 0..102 {
         assert!(rt; journal.enter(Entry::Abort).is_ok());
     }

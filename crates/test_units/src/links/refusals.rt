@@ -4,7 +4,7 @@
 
 use super::given::LINK;
 use can_frame::OutOfMemory;
-use sja_link::{DequeLink, Event, Journal, World};
+use sja_link::{DequeLink, Event, Recorder, World};
 use test_frames::nodes::PLAIN;
 
 #[test]
@@ -17,8 +17,8 @@ fn refused_memory_gives_no_link(rt: HostRuntime) {
 
 #[test]
 fn refused_memory_gives_no_journal(rt: HostRuntime) {
-    match Journal::new(rt.alloc(), 10, 1_000) {
-        Ok(journal) => assert!(rt; journal.entries().next().is_none()),
+    match Recorder::new(rt.alloc(), 10, 1_000) {
+        Ok(journal) => assert!(rt; journal.into_journal().entries().next().is_none()),
         Err(refused) => assert!(rt; refused == OutOfMemory),
     }
 }

@@ -2,15 +2,15 @@
 
 use can_bits::Level;
 use can_frame::Message;
-use sja_link::{Entry, Journal, Up};
+use sja_link::{Entry, Journal, Recorder, Up};
 use sja_replay::{Happening, Replay};
 use std::alloc::Global;
 use std::test::Fail;
 use test_frames::nodes::PLAIN;
 
-/// A journal of a node that was started, and then waited for the bus for 11 bits.
-pub fn on_the_bus(alloc: Global) -> Result<Journal, Fail> {
-    let mut journal = Journal::new(alloc, 200, 1_000)?;
+/// What is written of a node that was started, and then waited for the bus for 11 bits.
+pub fn on_the_bus(alloc: Global) -> Result<Recorder, Fail> {
+    let mut journal = Recorder::new(alloc, 200, 1_000)?;
     enter(&mut journal, Entry::Up(Up::Start(PLAIN)))?;
     for _ in 0..11 {
         bit(&mut journal, Level::Recessive, Level::Recessive)?;
@@ -19,7 +19,7 @@ pub fn on_the_bus(alloc: Global) -> Result<Journal, Fail> {
 }
 
 /// An entry more.
-pub fn enter(journal: &mut Journal, entry: Entry) -> Result<(), Fail> {
+pub fn enter(journal: &mut Recorder, entry: Entry) -> Result<(), Fail> {
     match journal.enter(entry) {
         Ok(()) => Ok(()),
         Err(_) => Err(Fail::from("the journal is full")),
@@ -27,7 +27,7 @@ pub fn enter(journal: &mut Journal, entry: Entry) -> Result<(), Fail> {
 }
 
 /// A bit more.
-pub fn bit(journal: &mut Journal, driven: Level, seen: Level) -> Result<(), Fail> {
+pub fn bit(journal: &mut Recorder, driven: Level, seen: Level) -> Result<(), Fail> {
     enter(journal, Entry::Bit(driven, seen))
 }
 
@@ -39,7 +39,7 @@ pub fn message(bytes: &[u8]) -> Result<Message, Fail> {
 /// The bits of a line from one place up to another, as a receiver has them: it drives recessive but in the ACK slot,
 /// which is the level at place `slot`.
 pub fn received(
-    journal: &mut Journal,
+    journal: &mut Recorder,
     line: &str,
     from: usize,
     to: usize,

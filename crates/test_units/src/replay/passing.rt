@@ -5,6 +5,7 @@ use super::receptions::reception;
 use can_bits::Level;
 use sja_link::Journal;
 use sja_replay::{Happening, Replay, ShortBit};
+use std::alloc::Global;
 use std::test::Fail;
 
 /// How many bits of a journal are passed in short. What is told of each in short is told of it in full by a replay that
@@ -64,18 +65,26 @@ fn most_bits_of_a_reception_are_passed_in_short(rt: HostRuntime) -> Result<(), F
     Ok(())
 }
 
+/// Five idle bits on the bus, and then these: of each the level driven and the level seen.
+fn idle_and(alloc: Global, bits: &[(Level, Level)]) -> Result<Journal, Fail> {
+    let mut journal = on_the_bus(alloc)?;
+    for _ in 0..5 {
+        bit(&mut journal, Level::Recessive, Level::Recessive)?;
+    }
+    for (driven, seen) in bits {
+        bit(&mut journal, *driven, *seen)?;
+    }
+    Ok(journal.into_journal())
+}
+
 /// Bits 1 to 9 are waited through, and five more are idle; then a frame begins, and then the node is said to drive what
 /// it doesn't drive.
 #[test]
 fn a_frame_does_not_begin_in_short(rt: HostRuntime) -> Result<(), Fail> {
-    let mut journal = on_the_bus(rt.alloc())?;
-    for _ in 0..5 {
-        bit(&mut journal, Level::Recessive, Level::Recessive)?;
+    let start = (Level::Recessive, Level::Dominant);
+    let driven = (Level::Dominant, Level::Dominant);
+    for bits in [&[][..], &[start], &[start, driven]] {
+        assert!(rt; in_short(&idle_and(rt.alloc(), bits)?)? == 14);
     }
-    assert!(rt; in_short(&journal)? == 14);
-    bit(&mut journal, Level::Recessive, Level::Dominant)?;
-    assert!(rt; in_short(&journal)? == 14);
-    bit(&mut journal, Level::Dominant, Level::Dominant)?;
-    assert!(rt; in_short(&journal)? == 14);
     Ok(())
 }

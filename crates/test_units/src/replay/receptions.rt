@@ -3,7 +3,7 @@
 use super::given::{bit, count, enter, happening, message, on_the_bus, received};
 use can_bits::{Level, Segment};
 use can_node::Phase;
-use sja_link::{Entry, Journal, Up};
+use sja_link::{Entry, Journal, Recorder, Up};
 use sja_replay::{Fate, Happening};
 use std::alloc::Global;
 use std::test::Fail;
@@ -12,6 +12,11 @@ use test_frames::{TWO_BYTES, TWO_BYTES_RECEIVED};
 /// SOF in bit 11, the ACK slot in bit 64, the sixth bit of EOF in bit 71 and the seventh in bit 72; the message is
 /// stored after bit 71.
 pub fn reception(alloc: Global) -> Result<Journal, Fail> {
+    Ok(written_reception(alloc)?.into_journal())
+}
+
+/// What is written of it.
+fn written_reception(alloc: Global) -> Result<Recorder, Fail> {
     let mut journal = on_the_bus(alloc)?;
     received(&mut journal, TWO_BYTES_RECEIVED, 0, 61, 53)?;
     enter(&mut journal, Entry::Stored(message(&TWO_BYTES)?))?;
@@ -83,7 +88,7 @@ fn the_acknowledgement_and_the_reception_are_told(rt: HostRuntime) -> Result<(),
 fn a_frame_without_a_verdict_was_stopped(rt: HostRuntime) -> Result<(), Fail> {
     let mut journal = on_the_bus(rt.alloc())?;
     received(&mut journal, TWO_BYTES_RECEIVED, 0, 62, 53)?;
-    let Some(valid) = happening(&journal, 71) else {
+    let Some(valid) = happening(&journal.into_journal(), 71) else {
         return Err(Fail::from("the bit isn't told"));
     };
     assert!(rt; valid.fate == Some(Fate::Stopped));
@@ -93,12 +98,13 @@ fn a_frame_without_a_verdict_was_stopped(rt: HostRuntime) -> Result<(), Fail> {
 /// The 5 bytes that were stored come back before bit 75, and no more than that.
 #[test]
 fn a_credit_is_taken_between_two_bits(rt: HostRuntime) -> Result<(), Fail> {
-    let mut journal = reception(rt.alloc())?;
-    enter(&mut journal, Entry::Up(Up::Credit(5)))?;
-    bit(&mut journal, Level::Recessive, Level::Recessive)?;
-    assert!(rt; count(&journal) == 77);
-    enter(&mut journal, Entry::Up(Up::Credit(1)))?;
-    bit(&mut journal, Level::Recessive, Level::Recessive)?;
-    assert!(rt; count(&journal) == 77);
+    for credits in [&[5][..], &[5, 1]] {
+        let mut journal = written_reception(rt.alloc())?;
+        for credit in credits {
+            enter(&mut journal, Entry::Up(Up::Credit(*credit)))?;
+            bit(&mut journal, Level::Recessive, Level::Recessive)?;
+        }
+        assert!(rt; count(&journal.into_journal()) == 77);
+    }
     Ok(())
 }

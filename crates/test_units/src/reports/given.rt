@@ -2,7 +2,7 @@
 
 use can_bits::Level;
 use can_frame::Message;
-use sja_link::{Entry, Journal, Up};
+use sja_link::{Entry, Recorder, Up};
 use sja_log::ActivationLog;
 use std::alloc::Global;
 use std::test::Fail;
@@ -19,7 +19,7 @@ pub fn start() -> Entry {
 }
 
 /// So many recessive bits, and then this entry.
-pub fn enter(journal: &mut Journal, bits: u32, entry: Entry) {
+pub fn enter(journal: &mut Recorder, bits: u32, entry: Entry) {
     for _ in 0..bits {
         let _ = journal.enter_bit(Level::Recessive, Level::Recessive);
     }

@@ -2,7 +2,7 @@
 
 use super::given::{activation, enter, message, one, quiet, several, start};
 use can_frame::Message;
-use sja_link::{Entry, Journal, Up};
+use sja_link::{Entry, Journal, Recorder, Up};
 use sja_log::{ActivationLog, End, NodeRun, RunLog};
 use sja_report::report;
 use std::alloc::Global;
@@ -54,7 +54,7 @@ overrun 00 00 e0
 /// One long message in a first activation; in a second one five of six, of which one is lost, and a short one is lost.
 /// A credit of 10 is none that a driver gives, and is counted as it is.
 fn overrun(alloc: Global, long: &Message) -> Result<Journal, Fail> {
-    let mut journal = Journal::new(alloc, 200, 1_000)?;
+    let mut journal = Recorder::new(alloc, 200, 1_000)?;
     let entries = &mut journal;
     enter(entries, 0, start());
     store(entries, long, 1);
@@ -65,23 +65,23 @@ fn overrun(alloc: Global, long: &Message) -> Result<Journal, Fail> {
     store(entries, long, 1);
     lose_short(entries)?;
     enter(entries, 0, Entry::Off);
-    Ok(journal)
+    Ok(journal.into_journal())
 }
 
 /// So many messages are stored, each behind nine bits.
-fn store(journal: &mut Journal, message: &Message, count: usize) {
+fn store(journal: &mut Recorder, message: &Message, count: usize) {
     for _ in 0..count {
         enter(journal, 9, Entry::Stored(message.copy()));
     }
 }
 
 /// A message is lost behind nine bits.
-fn lose(journal: &mut Journal, message: &Message) {
+fn lose(journal: &mut Recorder, message: &Message) {
     enter(journal, 9, Entry::Overrun(message.copy()));
 }
 
 /// So is the short one.
-fn lose_short(journal: &mut Journal) -> Result<(), Fail> {
+fn lose_short(journal: &mut Recorder) -> Result<(), Fail> {
     lose(journal, &message(7)?);
     Ok(())
 }
@@ -129,9 +129,9 @@ released 00 00 00
 /// A journal in which a message is stored without a start.
 fn unstarted(alloc: Global) -> Result<Journal, Fail> {
     let message = message(1)?;
-    let mut journal = Journal::new(alloc, 200, 1_000)?;
+    let mut journal = Recorder::new(alloc, 200, 1_000)?;
     enter(&mut journal, 40, Entry::Stored(message));
-    Ok(journal)
+    Ok(journal.into_journal())
 }
 
 /// Its report, of an activation of which one message was released.
@@ -170,9 +170,10 @@ fn an_activation_gives_back_its_parts(rt: HostRuntime) -> Result<(), Fail> {
 
 /// A node that started after three bits, and in whose activation nothing came.
 fn started(alloc: Global) -> Result<NodeRun, Fail> {
-    let mut journal = Journal::new(alloc, 20, 1_000)?;
+    let mut journal = Recorder::new(alloc, 20, 1_000)?;
     enter(&mut journal, 3, start());
     let activations = one(alloc, quiet(alloc))?;
+    let journal = journal.into_journal();
     Ok(NodeRun::of(journal, 1, 2, Vec::new(alloc), activations))
 }
 

@@ -4,7 +4,7 @@
 
 use super::given::{enter, quiet, start};
 use can_frame::{Message, OutOfMemory};
-use sja_link::{Entry, Journal};
+use sja_link::{Entry, Journal, Recorder};
 use sja_log::{End, NodeRun, RunLog};
 use sja_report::report;
 use std::alloc::Global;
@@ -17,10 +17,10 @@ overrun 00 00 00
 
 /// The journal of a node that lost one message.
 fn journal(alloc: Global) -> Result<Journal, OutOfMemory> {
-    let mut journal = Journal::new(alloc, 20, 1_000)?;
+    let mut journal = Recorder::new(alloc, 20, 1_000)?;
     enter(&mut journal, 0, start());
     enter(&mut journal, 0, Entry::Overrun(Message::default()));
-    Ok(journal)
+    Ok(journal.into_journal())
 }
 
 /// That node.

@@ -146,7 +146,12 @@ fn bus_of(alloc: Global, nodes: u8, plan: &Plan) -> Result<Bus, OutOfMemory> {
         strikes.push(*strike)?;
     }
     let steps = Vec::from_elem(alloc, 1_000, usize::from(nodes))?;
-    Bus::new(alloc, plan.bits(), steps, FaultScript::of(strikes))
+    Bus::new(
+        alloc,
+        u64::from(plan.bits()),
+        steps,
+        FaultScript::of(strikes),
+    )
 }
 
 /// The ends of the 64 links of a node: the bus's go to `ends`.

@@ -24,7 +24,7 @@ pub struct Worker {
 impl Worker {
     /// A driver before its first activation, whose script has so many steps.
     pub fn new(alloc: Global, node: u8, ends: Vec<RingDriver>, steps: u16) -> Result<Worker, Fail> {
-        let log = WorkLog::new(alloc, u32::from(steps), u32::from(steps))?;
+        let log = WorkLog::new(alloc, u64::from(steps), u64::from(steps))?;
         Ok(Worker {
             driver: LoggedDriver::new(node, log),
             ends,
@@ -62,7 +62,7 @@ impl Worker {
             return Ok(false);
         };
         let kept = self.driver.kept();
-        self.driver.enter(answer, bits, kept);
+        self.driver.enter(answer, u64::from(bits), kept);
         self.room -= 1;
         self.done = self.done.saturating_add(1);
         Ok(true)

@@ -70,7 +70,7 @@ pub fn drive<G: Gate>(
     if steps.len() > MOST || !are_links_of_node(links.as_slice(), 0) {
         return Err("too many steps, or not the driver's links")?;
     }
-    let log = WorkLog::new(alloc, MOST as u32, MOST as u32)?;
+    let log = WorkLog::new(alloc, MOST as u64, MOST as u64)?;
     Ok(work(rt, links, port, done, steps, gate, log))
 }
 

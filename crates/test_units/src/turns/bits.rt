@@ -20,11 +20,11 @@ fn taken(alloc: Global, plan: &Plan) -> Result<[bool; 3], Fail> {
     }
     let steps = plan.step_counts(alloc)?;
     let script = script_of(alloc, plan)?;
-    let mut run = SerialRun::new(alloc, plan.version(), plan.bits(), steps, script)?;
+    let mut run = SerialRun::new(alloc, plan.version(), u64::from(plan.bits()), steps, script)?;
     for step in plan.steps(0) {
         run.step(0, step);
     }
-    let rests = run.rest_turn();
+    let rests = run.rest_turn(plan.bits());
     let none = run.bus_turn(0);
     Ok([rests, none, run.bus_turn(1)])
 }

@@ -3,7 +3,7 @@
 use Level::{Dominant, Recessive};
 use can_bits::Level;
 use can_frame::{Message, OutOfMemory};
-use sja_link::{Entry, Journal, Up};
+use sja_link::{Entry, Journal, Recorder, Up};
 use sja_log::{End, NodeRun, RunLog};
 use sja_wave::wave;
 use std::alloc::Global;
@@ -83,11 +83,11 @@ fn node(alloc: Global, journal: Journal) -> NodeRun {
 /// A journal of these entries, each by its word; a bit by what the node drives and what it sees, `d` dominant and `r`
 /// recessive.
 fn journal(alloc: Global, words: &str) -> Result<Journal, OutOfMemory> {
-    let mut journal = Journal::new(alloc, 10, 1_000)?;
+    let mut journal = Recorder::new(alloc, 10, 1_000)?;
     for word in words.split(' ') {
         let _ = journal.enter(entry(word));
     }
-    Ok(journal)
+    Ok(journal.into_journal())
 }
 
 /// The entry that a word is.

@@ -1,0 +1,135 @@
+//! Lists that may forget their oldest items, and recorders over them: what they keep, and how their room is counted.
+
+use can_bits::Level;
+use sja_link::{Entry, KEPT, Recent, Recorder};
+use std::alloc::Global;
+use std::test::Fail;
+
+/// A list that was made for so many, to which the numbers from 0 up to a count were added.
+fn numbers(alloc: Global, room: usize, count: u32) -> Result<Recent<u32>, Fail> {
+    let mut list = Recent::new(alloc, room)?;
+    for number in 0..count {
+        list.push(number);
+    }
+    Ok(list)
+}
+
+/// The last item, how many there are, and for how many more it was made.
+fn end_of(list: &Recent<u32>) -> (Option<u32>, usize, usize) {
+    (list.last().copied(), list.len(), list.free())
+}
+
+#[test]
+fn a_list_made_for_few_keeps_them_all(rt: HostRuntime) -> Result<(), Fail> {
+    let list = numbers(rt.alloc(), 10_000, 10_000)?;
+    assert!(rt; end_of(&list) == (Some(9_999), 10_000, 0));
+    assert!(rt; list.is_full() && !list.is_open());
+    for (place, number) in list.as_slice().iter().enumerate() {
+        assert!(rt; *number as usize == place);
+    }
+    assert!(rt; list.as_slice().len() == 10_000);
+    Ok(())
+}
+
+/// At each length it counts on, and has its last item: where the memory is full, and where an item more made it empty
+/// first.
+#[test]
+fn a_list_made_for_many_has_its_last_item(rt: HostRuntime) -> Result<(), Fail> {
+    let mut list = Recent::new(rt.alloc(), KEPT + 1)?;
+    assert!(rt; end_of(&list) == (None, 0, KEPT + 1));
+    for number in 0..10_000 {
+        list.push(number);
+        let count = number as usize + 1;
+        assert!(rt; end_of(&list) == (Some(number), count, KEPT + 1 - count));
+    }
+    Ok(())
+}
+
+/// It goes without forgetting up to the 4,096th item, and again up to the 8,192nd.
+#[test]
+fn a_list_made_for_many_is_open_until_its_memory_is_full(rt: HostRuntime) -> Result<(), Fail> {
+    let mut list = Recent::new(rt.alloc(), KEPT + 1)?;
+    for number in 0..10_000 {
+        assert!(rt; list.is_open() == (number != 4_096 && number != 8_192));
+        assert!(rt; !list.is_full());
+        list.push(number);
+    }
+    Ok(())
+}
+
+/// It takes as many as it was made for, also where the last ones don't fill its memory.
+#[test]
+fn a_list_made_for_many_can_be_filled(rt: HostRuntime) -> Result<(), Fail> {
+    let mut list = Recent::new(rt.alloc(), KEPT + 10)?;
+    list.push_copies(KEPT, 7);
+    for number in 0..10 {
+        assert!(rt; !list.is_full());
+        list.push(number);
+    }
+    assert!(rt; list.is_full() && !list.is_open());
+    assert!(rt; end_of(&list) == (Some(9), KEPT + 10, 0));
+    Ok(())
+}
+
+/// Copies that are more than its memory holds.
+#[test]
+fn many_copies_are_added_at_once(rt: HostRuntime) -> Result<(), Fail> {
+    let mut list = numbers(rt.alloc(), 1 << 40, 4_000)?;
+    list.push_copies(100_000, 7);
+    assert!(rt; end_of(&list) == (Some(7), 104_000, (1 << 40) - 104_000));
+    list.push_copies(0, 8);
+    assert!(rt; list.last().copied() == Some(7));
+    Ok(())
+}
+
+/// The room of a recorder for 2^40 bits and no steps: for one entry a bit, for one each 42 bits, and 100.
+const LONG: usize = (1 << 40) + (1 << 40) / 42 + 100;
+
+/// 100,000 entries: bits in stretches and alone, and others among them. How much is free is counted on.
+#[test]
+fn a_recorder_of_a_long_run_takes_entries_on_and_on(rt: HostRuntime) -> Result<(), Fail> {
+    let mut journal = Recorder::new(rt.alloc(), 1 << 40, 0)?;
+    let levels = [Level::Dominant; 93];
+    for round in 0..1_000 {
+        journal.enter_bits_reserved(&levels, &levels);
+        journal.enter_rest_reserved(4);
+        assert!(rt; journal.enter_bit(Level::Dominant, Level::Recessive).is_ok());
+        assert!(rt; journal.enter(Entry::Abort).is_ok() && journal.enter(Entry::Off).is_ok());
+        assert!(rt; journal.free() == LONG - 100 * (round + 1));
+    }
+    Ok(())
+}
+
+/// A recorder of a short run gives back all of it, also what was entered many at once.
+#[test]
+fn a_recorder_gives_its_journal(rt: HostRuntime) -> Result<(), Fail> {
+    let mut journal = Recorder::new(rt.alloc(), 20_000, 0)?;
+    let (driven, seen) = ([Level::Recessive; 100], [Level::Dominant; 100]);
+    for _ in 0..100 {
+        journal.enter_bits_reserved(&driven, &seen);
+    }
+    journal.enter_rest_reserved(10_000);
+    assert!(rt; journal.is_open() && journal.enter(Entry::Off).is_ok());
+    let journal = journal.into_journal();
+    let mut told = journal.entries();
+    for _ in 0..10_000 {
+        assert!(rt; told.next_bit() == Some((Level::Recessive, Level::Dominant)));
+    }
+    assert!(rt; told.rest_bits(20_000) == 10_000);
+    told.skip_rest_bits(10_000);
+    assert!(rt; told.next() == Some(Entry::Off) && told.next().is_none());
+    Ok(())
+}
+
+/// A bit more than its room is refused, of a long run too.
+#[test]
+fn a_recorder_that_is_full_refuses_a_bit(rt: HostRuntime) -> Result<(), Fail> {
+    let mut journal = Recorder::new(rt.alloc(), KEPT as u64, 0)?;
+    let room = journal.free();
+    journal.enter_rest_reserved(room as u32 - 1);
+    assert!(rt; journal.enter_bit(Level::Dominant, Level::Dominant).is_ok());
+    assert!(rt; journal.free() == 0 && !journal.is_open());
+    assert!(rt; journal.enter_bit(Level::Dominant, Level::Dominant).is_err());
+    assert!(rt; journal.enter(Entry::Abort) == Err(Entry::Abort));
+    Ok(())
+}

@@ -1,0 +1,123 @@
+//! Strikes of runs of few bits, which are written down bit by bit, and of runs of more bits, up to very many.
+
+use sja_bus::{Bus, SerialBoard, serial_links};
+use sja_script::{FaultScript, Strike};
+use std::alloc::Global;
+
+/// Few bits, more than are written down one by one, and very many.
+const RUNS: [u64; 3] = [4_000_000, 5_000_000, 1 << 40];
+
+/// A strike of node 0.
+fn strike(bit: u32, every: u32, times: u32) -> Strike {
+    Strike {
+        node: 0,
+        bit,
+        every,
+        times,
+    }
+}
+
+/// In which bits before this one the only node of a bus is struck, as a driver sees it that runs bits at once: with
+/// these strikes, and one more that comes after the first bit that is struck. Nothing where a call is refused.
+fn struck_bits(
+    alloc: Global,
+    bits: u64,
+    strikes: &[Strike],
+    later: Strike,
+    end: u64,
+) -> Option<Vec<u64>> {
+    let mut script = Vec::new(alloc);
+    for one in strikes {
+        script.push(*one).ok()?;
+    }
+    let steps = Vec::from_array(alloc, [10]).ok()?;
+    let mut bus = Bus::new(alloc, bits, steps, FaultScript::of(script)).ok()?;
+    let mut links = serial_links(alloc, 1).ok()?;
+    let mut board = SerialBoard::new(alloc, 1, 1).ok()?;
+    let mut struck = Vec::new(alloc);
+    for _ in 0..100 {
+        let left = end - bus.bits_run();
+        bus.quiet_bits(links.as_mut_slice(), &board, left as u32)
+            .ok()?;
+        if bus.bits_run() == end {
+            return Some(struck);
+        }
+        struck.push(bus.bits_run()).ok()?;
+        bus.bit(links.as_mut_slice(), &mut board).ok()?;
+        if struck.len() == 1 {
+            bus.strike(later).ok()?;
+        }
+    }
+    None
+}
+
+/// Whether these are the bits that are struck, in runs of each length.
+fn are_struck(alloc: Global, strikes: &[Strike], later: Strike, end: u64, struck: &[u64]) -> bool {
+    for bits in RUNS {
+        match struck_bits(alloc, bits, strikes, later, end) {
+            Some(found) if found.as_slice() == struck => {}
+            _ => return false,
+        }
+    }
+    true
+}
+
+#[test]
+fn strikes_come_in_order(rt: HostRuntime) {
+    let strikes = [
+        strike(3_000_000, 0, 5),
+        strike(7, 1_000_000, 3),
+        strike(2_000_007, 9, 2),
+    ];
+    let struck = [7, 1_000_007, 1_500_000, 2_000_007, 2_000_016, 3_000_000];
+    assert!(rt;
+        are_struck(
+            rt.alloc(),
+            &strikes,
+            strike(1_500_000, 1, 1),
+            3_500_000,
+            &struck
+        )
+    );
+}
+
+#[test]
+fn a_later_strike_comes_before_those_that_are_known(rt: HostRuntime) {
+    let strikes = [strike(0, 1, 1), strike(100, 1, 2)];
+    let struck = [0, 1, 51, 100, 101, 151];
+    assert!(rt; are_struck(rt.alloc(), &strikes, strike(1, 50, 4), 200, &struck));
+}
+
+#[test]
+fn a_strike_of_no_node_and_one_of_no_time_hit_nothing(rt: HostRuntime) {
+    let far = Strike {
+        node: 8,
+        ..strike(5, 1, 10)
+    };
+    let strikes = [far, strike(6, 1, 0), strike(9, 3, 2)];
+    assert!(rt; are_struck(rt.alloc(), &strikes, far, 1_000, &[9, 12]));
+}
+
+#[test]
+fn the_last_bit_of_a_run_may_be_struck(rt: HostRuntime) {
+    let strikes = [strike(3_999_998, 1, 1)];
+    let last = strike(3_999_999, 1, 1);
+    assert!(rt;
+        are_struck(
+            rt.alloc(),
+            &strikes,
+            last,
+            4_000_000,
+            &[3_999_998, 3_999_999]
+        )
+    );
+}
+
+#[test]
+fn a_long_run_meets_strikes_far_ahead(rt: HostRuntime) {
+    let strikes = [strike(15_000_000, 2_000_000, 3), strike(19_999_999, 1, 1)];
+    let struck = [15_000_000, 16_000_000, 17_000_000, 19_000_000, 19_999_999];
+    let later = strike(16_000_000, 1, 1);
+    let found = struck_bits(rt.alloc(), 1 << 40, &strikes, later, 20_000_000);
+    assert!(rt; matches!(&found, Some(found) if found.as_slice() == struck.as_slice()));
+}
