@@ -1,6 +1,7 @@
-/* Calls of a careless program, each with the status that it has to have: places and texts that are null; and, with the
- * word `pipe`, of one over c/sja_pipe.c, SIGCHLD that is ignored and descriptors that were closed. Prints those that
- * have another; the status is 1 then. SJA names the program of the sessions. `checks/c_library` runs it. */
+/* Calls of a careless program, each with the status that it has to have: places and texts that are null, texts of a
+ * session without an end; and, with the word `pipe`, of one over c/sja_pipe.c, SIGCHLD that is ignored and descriptors
+ * that were closed. Prints those that have another; the status is 1 then. SJA names the program of the sessions.
+ * `checks/c_library` runs it. */
 #define _GNU_SOURCE
 
 #include <fcntl.h>
@@ -63,6 +64,23 @@ static void try_null(void)
     sja_free(session);
 }
 
+/* A session without an end has neither plan nor report, and goes on. */
+static void try_endless(void)
+{
+    sja *session = NULL;
+
+    has_status("no bits in version 2", sja_new(2, 0, 1, &session), SJA_NO_BITS);
+    has_status("nine nodes without an end", sja_new(3, 0, 9, &session), SJA_NO_NODES);
+    has_status("a session without an end", sja_new(3, 0, 1, &session), SJA_DONE);
+    has_status("more bits than a plan has", sja_bits(session, 3000000, 0), SJA_DONE);
+    has_status("its plan", sja_plan(session, text, ROOM), SJA_ENDLESS);
+    has_status("its report", sja_report(session, text, ROOM), SJA_ENDLESS);
+    has_status("a read after that", sja_read(session, 0, 2), SJA_DONE);
+    if (sja_now(session).value != 3000000)
+        has_status("as many bits as were run", (sja_answer){ SJA_BROKEN, 0 }, SJA_DONE);
+    sja_free(session);
+}
+
 /* What a run and a session answer where the kernel keeps no status of a process that ends. */
 static void try_ignored(void)
 {
@@ -121,6 +139,7 @@ int main(int count, char **words)
 {
     write_plan();
     try_null();
+    try_endless();
     if (count == 2 && strcmp(words[1], "pipe") == 0) {
         try_ignored();
         try_closed();
