@@ -21,6 +21,8 @@ impl Gate for Tries {
 
     ghost asks = { λ g node step tries. Unit {0} };
 
+    ghost answered = { λ g node step tries pass. Unit {0} };
+
     const QUITS: bool = true;
 
     fn turn(&self, _node: u8, _step: u32, tries: u32) -> Pass
@@ -36,7 +38,7 @@ impl Gate for Tries {
 
     ghost first_step = { λ g node. tt };
 
-    ghost next_try = { λ g node step tries next so numbered. tt };
+    ghost next_try = { λ g node step tries next pass says on numbered. tt };
 
-    ghost next_step = { λ g node step tries next so numbered. tt };
+    ghost next_step = { λ g node step tries next says numbered. tt };
 }

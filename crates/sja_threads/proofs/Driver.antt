@@ -7,6 +7,7 @@ pub mod Parts
 pub mod Kinds
 pub mod OneStep
 pub mod Waits
+pub mod Asked
 pub mod Script
 pub mod Typed
 pub mod InReset

@@ -1,5 +1,6 @@
 pub mod RunOver
 pub mod EndsJoined
+pub mod Unsettled
 pub mod CameFrom
 pub mod LeftOnLinks
 pub mod NodeOver

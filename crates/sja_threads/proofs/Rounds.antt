@@ -4,3 +4,4 @@ pub mod Awaited
 pub mod GoesOn
 pub mod Stops
 pub mod Told
+pub mod Closed

@@ -7,6 +7,7 @@ pub mod Counting
 pub mod Accessing
 pub mod Working
 -- ---- a whole run
+pub mod Gathering
 pub mod Needed
 pub mod Stopping
 pub mod Linked

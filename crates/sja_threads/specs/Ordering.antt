@@ -19,6 +19,8 @@ use Rattle.sja_script.specs.declared.step_answer.StepAnswer.{StepAnswer}
 use Rattle.sja_script.specs.declared.step_answer.StepAnswer.TheVariants.{Done as DoneAnswer}
 use Rattle.sja_driver.specs.Carried.{Tells, ported, asks_abort}
 use Rattle.sja_driver.specs.Deeds.{Deed, active_after}
+use Rattle.sja_log.specs.declared.end.End.{End}
+use Rattle.sja_log.specs.declared.end.End.TheVariants.{Bits, Rest, Turns}
 use Rattle.sja_wire.specs.Buses.{IsNodeBit}
 use Rattle.sja_threads.specs.declared.port_deed.PortDeed.{PortDeed}
 use Rattle.sja_threads.specs.declared.notice.Notice.{Notice}
@@ -66,6 +68,13 @@ ended_told_since found (Spent ∷ told) = ended_told_since found told
 
 abbrev pub ended_told : List Notice → Bool
 ended_told told = ended_told_since false told
+
+-- it was told that no bits are left
+abbrev pub closed_told : List Notice → Bool
+closed_told [] = false
+closed_told (Ran many orders ∷ told) = closed_told told
+closed_told (Turn t ∷ told) = closed_told told
+closed_told (Spent ∷ told) = true
 
 -- an abort was found to stand, as it was told such a number, and it was told nothing since
 abbrev pub abort_found : Notice → Bool
@@ -170,10 +179,18 @@ pub data TellsPort (all : ℕ) (steps : List Step) : List Entry → List Notice 
 
 -- ---- both
 
+-- a run that ended so had spent its bits
+abbrev pub is_spent : End → Bool
+is_spent Bits = true
+is_spent Rest = false
+is_spent Turns = false
+
 -- some order of what the bus told by this journal of a run of so many bits, of a node with this script, and of these
--- deeds of the driver leads from power-on to registers
-pub record IsOrdered (version all : ℕ) (steps : List Step) (j : List Entry) (deeds : List Deed) : Type 0 where
+-- deeds of the driver leads from power-on to registers. It told that no bits are left just where they are spent
+pub record IsOrdered (version all : ℕ) (end : End) (steps : List Step) (j : List Entry) (deeds : List Deed) :
+    Type 0 where
   pub told : List Notice
+  pub closed : closed_told told ≡ is_spent end
   pub tells : TellsPort all steps j told
   pub done : List PortDeed
   pub same : done_in_order done ≡ done_at_port deeds

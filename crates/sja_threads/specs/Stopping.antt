@@ -1,12 +1,16 @@
 -- Why a run in threads has no log (this project's own rule).
-use Rattle.std.specs.Prelude.{◌≡◌, ◌≢◌, ◌+◌, ◌*◌, ◌<◌, ◌⊎◌, ◌++◌, ℕ, suc, None, List, length, map, slice_index_or}
-use Rattle.rtrb.specs.Ring.{received}
+use Rattle.std.specs.Prelude.{◌≡◌, ◌≢◌, ◌≤◌, ◌+◌, ◌*◌, ◌<◌, ◌⊎◌, ◌++◌, ℕ, suc, None, List, length, map}
+use Rattle.std.specs.Prelude.{slice_index_or}
+use Rattle.rtrb.specs.Ring.{received, sent}
 use Rattle.sja_link.specs.declared.entry.Entry.{Entry}
 use Rattle.sja_link.specs.declared.up.Up.{Up}
-use Rattle.sja_link.specs.Accounts.{Account}
-use Rattle.sja_link.specs.Links.{Kept, Numbered}
+use Rattle.sja_link.specs.Links.{Numbered}
+use Rattle.sja_rings.specs.declared.ended_bus.EndedBus.{EndedBus}
+use Rattle.sja_rings.specs.declared.ended_driver.EndedDriver.{EndedDriver}
 use Rattle.sja_rings.specs.declared.ring_bus.RingBus.{RingBus}
-use Rattle.sja_rings.specs.Ends.{BusLists, link_of_bus, places_down}
+use Rattle.sja_rings.specs.declared.ring_driver.RingDriver.{RingDriver}
+use Rattle.sja_rings.specs.Ended.{EndsBus, EndsDriver, HasBusNote, HasDriverNote}
+use Rattle.sja_rings.specs.Ends.{BusLists, OneLink, link_of_bus, places_down}
 use Rattle.sja_plan.specs.Plan.{PlanValue, steps_at}
 use Rattle.sja_driver.specs.Accesses.{most_deeds}
 use Rattle.sja_driver.specs.Deeds.{given_in, deeds_of}
@@ -22,6 +26,7 @@ use Rattle.sja_wire.specs.Wire.{journal_at}
 use Rattle.sja_log.specs.declared.run_fault.RunFault.{RunFault}
 use Rattle.sja_log.specs.declared.run_fault.RunFault.TheVariants.{Memory, GateCount, Bus, Thread, Unsettled}
 use Rattle.sja_threads.specs.Accessing.{Work, Follows, deeds_done, work_at}
+use Rattle.sja_threads.specs.Gathering.{StandFor}
 
 -- an end of a ring knows of no free place
 abbrev pub HasNoPlace : RingBus → Type 0
@@ -30,14 +35,6 @@ HasNoPlace b = places_down b ≡ 0
 -- whatever a driver orders at a port behind its lock
 abbrev pub any_orders : ℕ → Orders → Type 0
 any_orders node orders = Unit {0}
-
--- the bus's ends of the links of a run of this plan, 64 of each node, stand for these journals, whatever the drivers
--- got and gave
-pub record StandFor (plan : PlanValue) (journals : List (List Entry)) (links : List RingBus) : Type 0 where
-  pub count : length links ≡ 64 * length plan.nodes
-  pub ids : Numbered link_of_bus links
-  pub kept : (node : ℕ) (h : ℕ → Account) → node < length plan.nodes →
-      Kept BusLists (journal_at journals node) links (64 * node) h
 
 -- the bus of a run of this plan whose drivers may do so many deeds, by node, without a fault so far, stopped with
 -- this one: it didn't take an item of a driver, or a bit didn't come to its end; it isn't that the bits were spent. Its
@@ -56,6 +53,7 @@ pub record StopsOn (counts : List ℕ) (plan : PlanValue) (after : List RingBus)
   pub why : IsTakenAndRefused BusLists plan.bits counts was.journals now.journals links after f
       ⊎ StopsBit BusLists HasNoPlace any_orders was now links after f
   pub not_spent : f ≢ BitsSpent
+  pub ids : Numbered link_of_bus after
 
 -- how many deeds each driver of a plan may do, by node
 abbrev pub deed_counts : PlanValue → List ℕ
@@ -77,10 +75,45 @@ pub record StopsWith (plan : PlanValue) (f : BusFault) : Type 0 where
       CameFirst (slice_index_or after (64 * node + a) b)
       (given_in (deeds_of (deeds_done (work_at works node)) (suc a)))
 
+-- ---- a link that isn't settled
+
+-- the two ends of a link gave no account: the ring of one of them gave no closing note
+pub record GaveNoAccount (b : RingBus) (d : RingDriver) : Type 0 where
+  pub bus : EndedBus
+  pub driver : EndedDriver
+  pub ends_bus : EndsBus b bus
+  pub ends_driver : EndsDriver d driver
+  pub none : HasBusNote bus × HasDriverNote driver → ⊥
+
+-- or the driver gave items there that the bus didn't take
+pub record LeavesItems (b : RingBus) (d : RingDriver) : Type 0 where
+  pub left : List Up
+  pub some : 1 ≤ length left
+  pub whole : sent d.up ≡ received b.up ++ left
+
+abbrev pub IsUnsettledBy : RingBus → RingDriver → Type 0
+IsUnsettledBy b d = GaveNoAccount b d ⊎ LeavesItems b d
+
+-- a link of a run of this plan isn't settled: that of this node and activation, by both its ends. What went in at the
+-- driver's is what the node's driver gave there by what it did of its script
+pub record IsUnsettled (plan : PlanValue) : Type 0 where
+  pub node : ℕ
+  pub place : ℕ
+  pub in_plan : node < length plan.nodes
+  pub few : place < 64
+  pub bus : RingBus
+  pub driver : RingDriver
+  pub link : link_of_bus bus ≡ record { node = node; activation = suc place }
+  pub one : OneLink bus driver
+  pub why : IsUnsettledBy bus driver
+  pub work : Work
+  pub follows : Follows plan.version (settings_in (at_power_on plan.version)) (steps_at plan node) work
+  pub given : sent driver.up ≡ given_in (deeds_of (deeds_done work) (suc place))
+
 -- what a run of this plan may answer for want of a log, once its gates are counted
 abbrev pub IsFaultOf : PlanValue → RunFault → Type 0
 IsFaultOf plan Memory = Unit {0}
 IsFaultOf plan GateCount = ⊥
 IsFaultOf plan (Bus f) = StopsWith plan f
 IsFaultOf plan Thread = Unit {0}
-IsFaultOf plan Unsettled = Unit {0}
+IsFaultOf plan Unsettled = IsUnsettled plan

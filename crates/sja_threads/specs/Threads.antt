@@ -9,6 +9,8 @@ use Rattle.sja_log.specs.Log.{NodeValue, RunValue, journals_in}
 use Rattle.sja_wire.specs.Wire.{journal_at}
 use Rattle.sja_log.specs.Runs.{IsRun}
 use Rattle.sja_threads.specs.Accessing.{Work, Follows, deeds_done, work_at}
+use Rattle.sja_threads.specs.declared.pass.Pass.{Pass}
+use Rattle.sja_threads.specs.Asking.{AtNode, IsLet}
 use Rattle.sja_threads.specs.Linked.{AreLinked}
 use Rattle.sja_threads.specs.Needed.{IsNeeded}
 use Rattle.sja_threads.specs.Ordering.{IsOrdered}
@@ -31,9 +33,15 @@ pub record IsThreadedRun (plan : PlanValue) (log : RunValue) (quits : Bool) : Ty
       (last : SettingsValue)
       × LeadToSettings (settings_in (at_power_on plan.version)) (deeds_done (work_at works node)) last
   pub ordered : (node : ℕ) → node < length plan.nodes →
-      IsOrdered plan.version plan.bits (steps_at plan node) (journal_at (journals_in log) node)
+      IsOrdered plan.version plan.bits log.end (steps_at plan node) (journal_at (journals_in log) node)
       (deeds_done (work_at works node))
   pub linked : (node : ℕ) (d : NodeValue) → node < length log.nodes → AreLinked (slice_index_or log.nodes node d)
   pub needed : IsNeeded plan log
   pub all_done : quits ≡ false → (node : ℕ) (d : NodeValue) → node < length log.nodes →
       length (slice_index_or log.nodes node d).done ≡ length (steps_at plan node)
+
+-- the driver of each node did as many steps as its gate let it, of these by node
+abbrev pub AreLetBy : {G : Type 0} → Bool → (G → ℕ → ℕ → ℕ → Pass → Type 0) → List G → PlanValue → RunValue → Type 0
+AreLetBy quits answered gates plan log = (node : ℕ) (d : NodeValue) → node < length log.nodes →
+    AtNode (IsLet quits answered) gates node (length (steps_at plan node))
+    (length (slice_index_or log.nodes node d).done)

@@ -24,7 +24,7 @@ pub(crate) struct AtGate<'a, N: Order, R, G: Drop> {
 
 impl<'a, N: Order, R: Wait, G: Gate> AtGate<'a, N, R, G> {
     ghost use Rattle.std.specs.Prelude.{◌≡◌, true, false, None, IfSome};
-    ghost use Rattle.sja_threads.specs.Asking.{IsNextNumber};
+    ghost use Rattle.sja_threads.specs.Asking.{HasAnswered, IsNextNumber, pass_if, pass_of};
     ghost use Rattle.sja_threads.specs.Inside.Accesses.{EndsWait};
 
     /// Where a thread tries steps at this port, as this gate lets it.
@@ -33,7 +33,9 @@ impl<'a, N: Order, R: Wait, G: Gate> AtGate<'a, N, R, G> {
         port: &'a Mutex<LockedPort<N>>,
         gate: G,
         lobby: Option<&'a Mutex<Lobby>>,
-    ) -> AtGate<'a, N, R, G> {
+    ) -> AtGate<'a, N, R, G>
+        ensures { result.gate ≡ gate }
+    {
         AtGate {
             rt,
             port,
@@ -48,7 +50,7 @@ impl<'a, N: Order, R: Wait, G: Gate> AtGate<'a, N, R, G> {
     pub(crate) fn lets_go(&self, node: u8, step: u32, tries: &mut u32) -> bool
         requires { G.asks self.now.gate node step tries.old }
         ensures never { result ≡ false → G.QUITS ≡ true }
-        ensures asked { G.asks self.now.gate node step tries.new }
+        ensures answered { G.answered self.now.gate node step tries.new (pass_of result) }
     {
         for _ in self.rt.forever() {
             match self.gate.turn(node, step, *tries) {
@@ -87,6 +89,7 @@ impl<'a, N: Order, R: Wait, G: Gate> AtGate<'a, N, R, G> {
         requires { G.asks self.now.gate node step 1 }
         ensures ends { IfSome result (EndsWait bits) }
         ensures never { result ≡ None → G.QUITS ≡ true }
+        ensures answered { HasAnswered G.answered self.now.gate node step (pass_if result) }
     {
         let mut tries = 1u32;
         for _ in self.rt.forever() {

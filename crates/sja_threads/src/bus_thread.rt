@@ -29,14 +29,17 @@ pub(crate) struct BusThread {
 }
 
 impl BusThread {
-    ghost use Rattle.std.specs.Prelude.{◌≡◌, ◌≤◌, ◌+◌, ◌*◌, ℕ, true, List, length, Ok, IfOk, IfErr, OnOk};
+    ghost use Rattle.std.specs.Prelude.{◌≡◌, ◌≢◌, ◌≤◌, ◌+◌, ◌*◌, ℕ, true, List, length, Ok, IfOk, IfErr, OnOk};
     ghost use Rattle.sja_link.specs.Links.{Numbered};
     ghost use Rattle.sja_plan.specs.Plan.{PlanValue};
     ghost use Rattle.sja_rings.specs.Ends.{link_of_bus};
+    ghost use Rattle.sja_wire.specs.Buses.{AllDry};
+    ghost use Rattle.sja_threads.specs.Gathering.{IsDry};
     ghost use Rattle.sja_threads.specs.declared.round.Round.TheVariants.{Ran, Rests, Spent};
     ghost use Rattle.sja_threads.specs.Needed.{AllAtRest, last_awaited};
     ghost use Rattle.sja_threads.specs.declared.notice.Notice.{Notice};
-    ghost use Rattle.sja_threads.specs.Inside.Boards.{AllBegun, AllEnded, AreTold, turns_in};
+    ghost use Rattle.sja_threads.specs.Inside.Boards.{AllBegun, AllEnded, AreClosed, AreTold, StayClosed, turns_in};
+    ghost use Rattle.sja_threads.specs.Ordering.{is_spent};
     ghost use Rattle.sja_threads.specs.Inside.Rounds.{EachHas, IsUnderWay, GoesOn, Stops, EndsAs};
 
     /// Takes what the drivers gave.
@@ -47,6 +50,8 @@ impl BusThread {
         requires ids { Numbered link_of_bus self.old.links.items }
         ensures on { OnOk result ((plan : PlanValue) → IsUnderWay plan self.old → GoesOn plan self.old self.new) }
         ensures run { self.new.run ≡ self.old.run }
+        ensures spent { self.new.spent ≡ self.old.spent }
+        ensures dry { OnOk result (AllDry IsDry self.new.bus.journals self.new.links.items) }
         ensures told { OnOk result ((plan : PlanValue) (told : List (List Notice)) →
             AreTold plan self.old.bus.journals told → AreTold plan self.new.bus.journals told) }
         ensures fault { IfErr result (λ f. (plan : PlanValue) → IsUnderWay plan self.old →
@@ -59,7 +64,6 @@ impl BusThread {
     /// waits for. Where none is left the bits are spent.
     ///
     /// Error: what the bus answers for another cause than spent bits.
-    #[tactic(auto, using(crate::proofs::Rounds::GoesOn::stays_on, crate::proofs::Rounds::GoesOn::all_rest))]
     fn bit_if_due<N: Order, R: Wait>(
         &mut self,
         plan: &Plan,
@@ -67,6 +71,7 @@ impl BusThread {
         awaited: u32,
     ) -> Result<Round, BusFault>
         requires way { IsUnderWay plan.now self.old }
+        requires dry { AllDry IsDry self.old.bus.journals self.old.links.items }
         requires ports { length plan.now.nodes ≤ length board.old.told.items }
         requires begun { AllBegun plan.now self.old.bus.journals (turns_in board.old.told.items) }
         requires awaited { awaited ≡ last_awaited plan.now.nodes }
@@ -76,6 +81,9 @@ impl BusThread {
             AreTold plan.now self.new.bus.journals (turns_in board.new.told.items)) }
         ensures ended { OnOk result (AllEnded (length plan.now.nodes) (turns_in board.old.told.items) →
             AllEnded (length plan.now.nodes) (turns_in board.new.told.items)) }
+        ensures closed { OnOk result (StayClosed (length plan.now.nodes) (turns_in board.old.told.items)
+            (turns_in board.new.told.items)) }
+        ensures stays { (result ≢ Ok Spent) → self.new.spent ≡ self.old.spent }
         ensures ran { result ≡ Ok Ran → self.new.run ≡ self.old.run + 1 }
         ensures rests { result ≡ Ok Rests → (awaited ≤ self.new.run) × AllAtRest self.new.bus.journals }
         ensures spent { result ≡ Ok Spent → self.new.spent ≡ true }
@@ -113,6 +121,10 @@ impl BusThread {
         ensures ports { length board.new.told.items ≡ length board.old.told.items }
         ensures told { OnOk result (AreTold plan.now self.old.bus.journals (turns_in board.old.told.items) →
             AreTold plan.now self.new.bus.journals (turns_in board.new.told.items)) }
+        ensures closed { OnOk result (StayClosed (length plan.now.nodes) (turns_in board.old.told.items)
+            (turns_in board.new.told.items)) }
+        ensures stays { (result ≢ Ok Spent) → self.new.spent ≡ self.old.spent }
+        ensures spent { result ≡ Ok Spent → self.new.spent ≡ true }
         ensures all { result ≡ Ok Spent → EachHas plan.now.bits self.new.bus.journals }
         ensures fault { IfErr result (Stops plan.now self.old self.new) }
     {
@@ -140,6 +152,8 @@ impl BusThread {
         ensures ports { length board.new.told.items ≡ length board.old.told.items }
         ensures told { OnOk result (AreTold plan.now self.old.bus.journals (turns_in board.old.told.items) →
             AreTold plan.now self.new.bus.journals (turns_in board.new.told.items)) }
+        ensures closed { OnOk result (AreClosed (length plan.now.nodes) self.old.spent (turns_in board.old.told.items)
+            → AreClosed (length plan.now.nodes) self.new.spent (turns_in board.new.told.items)) }
         ensures ended { IfOk result (λ r. r.1 ≡ true →
             AllEnded (length plan.now.nodes) (turns_in board.new.told.items)) }
         ensures fault { IfErr result (Stops plan.now self.old self.new) }
@@ -175,6 +189,8 @@ impl BusThread {
         ensures ports { length board.new.told.items ≡ length board.old.told.items }
         ensures told { OnOk result (AreTold plan.now self.old.bus.journals (turns_in board.old.told.items) →
             AreTold plan.now self.new.bus.journals (turns_in board.new.told.items)) }
+        ensures closed { OnOk result (AreClosed (length plan.now.nodes) self.old.spent (turns_in board.old.told.items)
+            → AreClosed (length plan.now.nodes) self.new.spent (turns_in board.new.told.items)) }
         ensures ended { OnOk result (AllEnded (length plan.now.nodes) (turns_in board.new.told.items)) }
         ensures fault { IfErr result (Stops plan.now self.old self.new) }
     {
@@ -201,7 +217,8 @@ impl BusThread {
     }
 
     /// The rounds of the bus after its drivers' threads: it tells each port how many bits have run, takes what is left,
-    /// and runs the bits that are due, until none is or the bits are spent. It says which of the two it was.
+    /// and runs the bits that are due, until none is or the bits are spent. It says which of the two it was; where the
+    /// bits are spent the ports are closed.
     ///
     /// Error: what the bus answers for another cause than spent bits.
     pub(crate) fn rounds_after_drivers<N: Order, R: Wait>(
@@ -213,6 +230,9 @@ impl BusThread {
         requires ports { length plan.now.nodes ≤ length board.old.told.items }
         requires ended { AllEnded (length plan.now.nodes) (turns_in board.old.told.items) }
         ensures ends { IfOk result (EndsAs plan.now self.old self.new) }
+        ensures closed { IfOk result (λ end.
+            AreClosed (length plan.now.nodes) self.old.spent (turns_in board.old.told.items) →
+            AreClosed (length plan.now.nodes) (is_spent end) (turns_in board.new.told.items)) }
         ensures ports { length board.new.told.items ≡ length board.old.told.items }
         ensures told { OnOk result (AreTold plan.now self.old.bus.journals (turns_in board.old.told.items) →
             AreTold plan.now self.new.bus.journals (turns_in board.new.told.items)) }
@@ -227,7 +247,11 @@ impl BusThread {
             match self.bit_if_due(plan, board, awaited)? {
                 Round::Ran => {}
                 Round::Rests if !self.spent => return Ok(End::Rest),
-                _ => return Ok(End::Bits),
+                Round::Rests => return Ok(End::Bits),
+                Round::Spent => {
+                    board.close_all();
+                    return Ok(End::Bits);
+                }
             }
         }
         unreachable!()

@@ -7,6 +7,7 @@ ghost use Rattle.sja_regs.specs.Registers.{at_power_on};
 ghost use Rattle.sja_driver.specs.Holding.{NumberedFrom};
 ghost use Rattle.sja_driver.specs.LoggedDrivers.{log_of};
 ghost use Rattle.sja_driver.specs.Logs.{HasRoom, IsEmpty, KeepsLog, done_in, done_room};
+ghost use Rattle.sja_threads.specs.Asking.{IsLet};
 ghost use Rattle.sja_threads.specs.Ordering.{is_at_port};
 ghost use Rattle.sja_threads.specs.Working.{HasWorked};
 ghost use Rattle.sja_threads.specs.Inside.Names.{IsNamed};
@@ -39,6 +40,8 @@ pub(crate) struct DriverThread<N: Order, D: Drop> {
 }
 
 impl<N: Order, D: DriverEnd + Drop> DriverThread<N, D> {
+    ghost use Rattle.sja_threads.specs.declared.pass.Pass.TheVariants.{Go};
+    ghost use Rattle.sja_threads.specs.Asking.{pass_if};
     ghost use Rattle.sja_threads.specs.Inside.Accesses.{HasEnded};
     ghost use Rattle.sja_threads.specs.Inside.Steps.{MayWork, MayBegin, DoesDeed};
 
@@ -100,10 +103,10 @@ impl<N: Order, D: DriverEnd + Drop> DriverThread<N, D> {
         tries: &mut u32,
     ) -> Option<StepAnswer>
         requires may { MayWork D.link self.old 1 }
-        requires asked { G.asks at.now.gate self.old.done.node number tries.old }
+        requires go { G.answered at.now.gate self.old.done.node number tries.old Go }
         ensures done { DoesDeed D.DriverEnd self.old self.new deed.now result }
         ensures never { result ≡ None → G.QUITS ≡ true }
-        ensures asked { G.asks at.now.gate self.old.done.node number tries.new }
+        ensures answered { G.answered at.now.gate self.old.done.node number tries.new (pass_if result) }
     {
         for _ in at.rt.forever() {
             if let Some(answer) = self.try_deed(at.rt, at.port, deed) {
@@ -139,7 +142,9 @@ impl<N: Order, D: DriverEnd + Drop> DriverThread<N, D> {
     /// Does steps, one after the other, until the gate quits.
     fn do_steps<G: Gate, R: Wait>(&mut self, at: &AtGate<N, R, G>, steps: &[Step])
         requires { MayBegin D.link self.old (length steps.now) }
-        ensures { HasEnded D.DriverEnd G.QUITS self.old self.new steps.now }
+        ensures ended { HasEnded D.DriverEnd G.QUITS self.old self.new steps.now }
+        ensures let_by { IsLet G.QUITS G.answered at.now.gate self.old.done.node (length steps.now)
+            (length (done_in (log_of self.new.driver))) }
     {
         let mut number = 1u32;
         for k in 0..steps.len() {
@@ -171,6 +176,8 @@ pub(crate) fn follow<N: Order, D: DriverEnd + Drop, G: Gate, R: Wait>(
         result result.done.list }
     ensures named { IsNamed N.deeds done.node result.done.name }
     ensures keeps { KeepsLog log → KeepsLog (log_of result.driver) }
+    ensures let_by { IsLet G.QUITS G.answered at.entry.gate done.node (length steps.now)
+        (length (done_in (log_of result.driver))) }
     ensures done { G.QUITS ≡ false → length (done_in (log_of result.driver)) ≡ length steps.now }
 {
     let bytes = by_bytes(done.version);
@@ -190,8 +197,9 @@ pub(crate) fn follow<N: Order, D: DriverEnd + Drop, G: Gate, R: Wait>(
 }
 
 /// The part of a node's driver in a thread of its own (this project's own rule): the steps of its script, one after the
-/// other. The gate is asked before each try of a step. A step that it holds, or that has to wait, is tried again, as
-/// often as it takes; where it quits the script ends. At the end the port is marked as one whose driver has ended, and
+/// other. The gate is asked before each try of a step, by the step's number in the script; so it let each step go that
+/// was done. A step that it holds, or that has to wait, is tried again, as often as it takes; where it quits the script
+/// ends before the step that it was asked about. At the end the port is marked as one whose driver has ended, and
 /// an open activation stays open.
 ///
 /// `links` are the driver's ends of the node's links, by activation. The port's lock is held over a try, but not
@@ -228,6 +236,8 @@ pub fn work<'a, N: Order, D: DriverEnd + Drop, G: Gate>(
     ensures same { EachRelated D.same links.items result.links.items }
     ensures worked { HasWorked D.stands (settings_in (at_power_on done.version)) done.node steps.now links.items
         result result.done.list }
+    ensures let_by { IsLet G.QUITS G.answered gate done.node (length steps.now)
+        (length (done_in (log_of result.driver))) }
     ensures done { G.QUITS ≡ false → length (done_in (log_of result.driver)) ≡ length steps.now }
 {
     follow(AtGate::new(rt, port, gate, None), done, links, log, steps)

@@ -2,6 +2,7 @@
 
 ghost use Rattle.std.specs.Prelude.{◌≡◌, ◌≤◌, [], map, vec_len, vec_capacity};
 ghost use Rattle.lemmas.specs.Related.{EachRelated};
+ghost use Rattle.sja_threads.specs.Asking.{IsLet};
 ghost use Rattle.sja_threads.specs.Inside.Promised.{IsPromised};
 
 use super::bus_thread::BusThread;
@@ -27,7 +28,8 @@ pub(crate) fn join_all<G: Gate, R: Threads>(
 ) -> Vec<Handover<RingDriver>>
     requires room { vec_len children ≤ vec_capacity workeds }
     requires none { workeds.items ≡ [] }
-    ensures { EachRelated (IsPromised G.QUITS) (map (λ child. child.promise) children.items) result.items }
+    ensures { EachRelated (IsPromised (IsLet G.QUITS G.answered)) (map (λ child. child.promise) children.items)
+        result.items }
 {
     let mut workeds = workeds;
     for child in children {

@@ -4,8 +4,9 @@ ghost use Rattle.std.specs.Prelude.{◌≡◌, ◌≢◌, ◌≤◌, [], length,
 ghost use Rattle.sja_plan.specs.Plan.{PlanValue};
 ghost use Rattle.sja_log.specs.Headline.{AreAccounts};
 ghost use Rattle.sja_log.specs.declared.run_fault.RunFault.TheVariants.{GateCount};
+ghost use Rattle.sja_threads.specs.Asking.{AtNode, IsLet};
 ghost use Rattle.sja_threads.specs.Stopping.{IsFaultOf};
-ghost use Rattle.sja_threads.specs.Threads.{IsThreadedRun};
+ghost use Rattle.sja_threads.specs.Threads.{AreLetBy, IsThreadedRun};
 ghost use Rattle.sja_threads.specs.Inside.JoinedRun.{IsEnding};
 ghost use Rattle.sja_threads.specs.Inside.Making.{AreListed, AreRunParts};
 ghost use Rattle.sja_threads.specs.Inside.Boards.{NoneTold};
@@ -34,6 +35,7 @@ use sja_plan::Plan;
 use sja_rings::RingDriver;
 use std::alloc::Global;
 use std::marker::Brand;
+use std::snapshot::Snapshot;
 use std::sync::{Mutex, Wait};
 use std::thread;
 use std::thread::{Scope, Threads};
@@ -56,8 +58,9 @@ use std::thread::{Scope, Threads};
 /// carried came by events of one link, each allowed when it came, in the order in which the journal has the bus's.
 /// Some order of what the bus told each port and of its driver's deeds there leads from power-on to the registers that
 /// each deed found; what was told is by the node's journal. An abort is applied in a bit only where it stood as the bus
-/// told the port how many bits had run, just before. A gate is asked with the step's number and its tries from 1. Where
-/// no gate quits every step was done. No clause says that a thread is served, or that the call returns.
+/// told the port how many bits had run, just before. A gate is asked with the step's number and its tries from 1: it
+/// let each step go that was done, and where not all were it quit, asked about the next one. No clause says that a
+/// thread is served, or that the call returns.
 ///
 /// Errors: [`RunFault::GateCount`] exactly where there isn't one gate for each node; [`RunFault::Memory`] where memory
 /// was refused; [`RunFault::Thread`] where a thread can't be started; [`RunFault::Bus`] where the bus doesn't go on for
@@ -71,6 +74,7 @@ pub fn run_threads<G: Gate, R: Threads + Wait + Sync>(
 ) -> Result<RunLog, RunFault>
     ensures run { IfOk result (λ log. IsThreadedRun plan.now log G.QUITS) }
     ensures headline { IfOk result (λ log. AreAccounts log) }
+    ensures let_by { IfOk result (AreLetBy G.QUITS G.answered gates.items plan.now) }
     ensures gates { (vec_len gates ≢ length plan.now.nodes) → result ≡ Err GateCount }
     ensures only { result ≡ Err GateCount → vec_len gates ≢ length plan.now.nodes }
     ensures fault { (vec_len gates ≡ length plan.now.nodes) → IfErr result (IsFaultOf plan.now) }
@@ -78,11 +82,12 @@ pub fn run_threads<G: Gate, R: Threads + Wait + Sync>(
     if gates.len() != plan.nodes() {
         return Err(RunFault::GateCount);
     }
+    let asked = Snapshot::of(&gates);
     let (parts, lists) = RunParts::new(alloc, plan, gates)?;
-    run_ordered::<Brand, G, R>(rt, alloc, plan, parts, lists)
+    run_ordered::<Brand, G, R>(rt, alloc, plan, parts, lists, asked)
 }
 
-/// The run that begins with these.
+/// The run that begins with these, and asks these gates.
 ///
 /// Errors: as [`run_threads`].
 fn run_ordered<N: Order + Send + Sync, G: Gate, R: Threads + Wait + Sync>(
@@ -91,14 +96,17 @@ fn run_ordered<N: Order + Send + Sync, G: Gate, R: Threads + Wait + Sync>(
     plan: &Plan,
     parts: RunParts<G>,
     lists: Vec<PortLists>,
+    asked: Snapshot<Vec<G>>,
 ) -> Result<RunLog, RunFault>
     requires parts { AreRunParts plan.now parts }
+    requires asked { map (λ s. s.gate) parts.starts.items ≡ asked.value.items }
     requires many { length lists.items ≡ length plan.now.nodes }
     requires listed { AreListed (length plan.now.nodes) parts.starts.items lists.items }
     requires version { N.version ≡ plan.now.version }
     requires turns { map (λ l. l.turns.name) lists.items ≡ N.turns }
     requires deeds { map (λ l. l.deeds.name) lists.items ≡ N.deeds }
     ensures run { IfOk result (λ log. IsThreadedRun plan.now log G.QUITS) }
+    ensures let_by { IfOk result (AreLetBy G.QUITS G.answered asked.value.items plan.now) }
     ensures fault { IfErr result (IsFaultOf plan.now) }
 {
     let lobby = Mutex::new(Lobby::new(plan.nodes()));
@@ -117,7 +125,7 @@ fn run_ordered<N: Order + Send + Sync, G: Gate, R: Threads + Wait + Sync>(
         ports: ports.as_slice(),
         told,
     };
-    end_run::<N, G, R>(alloc, plan, joined, board)
+    end_run::<N, G, R>(alloc, plan, joined, board, asked)
 }
 
 /// Each driver in a thread of its own and the bus in this one, until all drivers have ended and are joined; and the
@@ -138,7 +146,8 @@ fn run_drivers<N: Order + Send + Sync, G: Gate, R: Threads + Wait + Sync>(
     requires told { (length told.items ≡ length plan.now.nodes) × NoneTold told.items }
     requires ports { length ports.now ≡ length plan.now.nodes }
     requires few { length plan.now.nodes ≤ 8 }
-    ensures ending { IfOk result (λ r. IsEnding G.QUITS plan.now r.0) }
+    ensures ending { IfOk result (λ r. IsEnding (AtNode (IsLet G.QUITS G.answered)
+        (map (λ s. s.gate) parts.starts.items)) plan.now r.0) }
     ensures order { IfOk result (λ r. IsEndingInOrder N.deeds plan.now r.0 r.1.items) }
     ensures fault { IfErr result (IsFaultOf plan.now) }
 {
@@ -151,7 +160,8 @@ fn run_drivers<N: Order + Send + Sync, G: Gate, R: Threads + Wait + Sync>(
             requires told { (length told.items ≡ length plan.now.nodes) × NoneTold told.items }
             requires ports { length ports.now ≡ length plan.now.nodes }
             requires few { length plan.now.nodes ≤ 8 }
-            ensures ending { IfOk result (λ r. IsEnding G.QUITS plan.entry.now r.0) }
+            ensures ending { IfOk result (λ r. IsEnding (AtNode (IsLet G.QUITS G.answered)
+                (map (λ s. s.gate) parts.starts.items)) plan.entry.now r.0) }
             ensures order { IfOk result (λ r. IsEndingInOrder N.deeds plan.entry.now r.0 r.1.items) }
             ensures fault { IfErr result (IsFaultOf plan.entry.now) }
         {
@@ -182,7 +192,8 @@ fn run_in<'s, E, N: Order + Send + Sync + 's, G: Gate + 's, R: Threads + Wait + 
     requires order { AreOrdered N.version N.deeds plan.now.version parts.starts.items }
     requires told { (length told.items ≡ length plan.now.nodes) × NoneTold told.items }
     requires ports { (length ports.now ≡ length plan.now.nodes) × (length plan.now.nodes ≤ 8) }
-    ensures ending { IfOk result (λ r. IsEnding G.QUITS plan.now r.0) }
+    ensures ending { IfOk result (λ r. IsEnding (AtNode (IsLet G.QUITS G.answered)
+        (map (λ s. s.gate) parts.starts.items)) plan.now r.0) }
     ensures order { IfOk result (λ r. IsEndingInOrder N.deeds plan.now r.0 r.1.items) }
     ensures fault { IfErr result (IsFaultOf plan.now) }
 {
@@ -220,9 +231,9 @@ fn stop_run<N: Order, G: Gate, R: Threads + Wait>(
 ) -> RunFault
     requires room { vec_len children ≤ vec_capacity workeds }
     requires none { workeds.items ≡ [] }
-    requires stops { (plan : PlanValue) × StopsFor G.QUITS plan bus.links.items
+    requires stops { (plan : PlanValue) × StopsFor (IsLet G.QUITS G.answered) plan bus.links.items
         (map (λ child. child.promise) children.items) stop }
-    ensures { (plan : PlanValue) → StopsFor G.QUITS plan bus.links.items
+    ensures { (plan : PlanValue) → StopsFor (IsLet G.QUITS G.answered) plan bus.links.items
         (map (λ child. child.promise) children.items) stop → IsFaultOf plan result }
 {
     let mut board = board;

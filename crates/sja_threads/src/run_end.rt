@@ -5,13 +5,14 @@ ghost use Rattle.sja_driver.specs.Deeds.{Deed};
 ghost use Rattle.sja_plan.specs.Plan.{PlanValue};
 ghost use Rattle.sja_log.specs.Runs.{IsRun};
 ghost use Rattle.sja_log.specs.declared.run_fault.RunFault.TheVariants.{Memory, Bus, Unsettled};
+ghost use Rattle.sja_threads.specs.Asking.{AtNode, IsLet};
 ghost use Rattle.sja_threads.specs.Stopping.{IsFaultOf};
-ghost use Rattle.sja_threads.specs.Threads.{IsThreadedRun};
+ghost use Rattle.sja_threads.specs.Threads.{AreLetBy, IsThreadedRun};
 ghost use Rattle.sja_threads.specs.Inside.EndsInOrder.{IsEndingInOrder};
 ghost use Rattle.sja_threads.specs.Inside.Ended.{IsOver};
 ghost use Rattle.sja_threads.specs.Inside.EndsJoined.{IsStopped};
 ghost use Rattle.sja_threads.specs.Inside.JoinedRun.{IsEnding};
-ghost use Rattle.sja_threads.specs.Inside.Settling.{IsSettledLog};
+ghost use Rattle.sja_threads.specs.Inside.Settling.{IsSettledLog, SomeUnsettled, all_ends};
 
 use super::bus_thread::BusThread;
 use super::comparing::compare_all;
@@ -27,10 +28,11 @@ use sja_log::{End, RunFault, RunLog, node_runs};
 use sja_plan::Plan;
 use sja_rings::RingDriver;
 use std::alloc::Global;
+use std::snapshot::Snapshot;
 use std::sync::Wait;
 
 /// The end of a run whose threads are all joined: the bus takes what is left and runs on until every controller is at
-/// rest or the bits are spent, and each link is settled.
+/// rest or the bits are spent, and each link is settled. These gates were asked.
 ///
 /// Error: [`RunFault::Bus`] where the bus doesn't go on, [`RunFault::Unsettled`] where a link can't be settled, and
 /// [`RunFault::Memory`] where memory was refused.
@@ -39,11 +41,13 @@ pub(crate) fn end_run<N: Order, G: Gate, R: Wait>(
     plan: &Plan,
     joined: JoinedRun,
     board: TurnBoard<N, R>,
+    asked: Snapshot<Vec<G>>,
 ) -> Result<RunLog, RunFault>
-    requires ending { IsEnding G.QUITS plan.now joined }
+    requires ending { IsEnding (AtNode (IsLet G.QUITS G.answered) asked.value.items) plan.now joined }
     requires order { IsEndingInOrder N.deeds plan.now joined board.told.items }
     requires version { N.version ≡ plan.now.version }
     ensures run { IfOk result (λ log. IsThreadedRun plan.now log G.QUITS) }
+    ensures let_by { IfOk result (AreLetBy G.QUITS G.answered asked.value.items plan.now) }
     ensures fault { IfErr result (IsFaultOf plan.now) }
 {
     let JoinedRun {
@@ -106,7 +110,8 @@ fn settled_log(
     ensures run { IfOk result (λ log. (deeds : List (List Deed)) →
         IsOver plan.now bus.bus bus.links.items workeds.items deeds → IsRun plan.now log deeds) }
     ensures log { IfOk result (IsSettledLog bus.bus workeds.items end) }
-    ensures fault { IfErr result (λ f. (f ≡ Memory) ⊎ (f ≡ Unsettled)) }
+    ensures fault { IfErr result (λ f. (f ≡ Memory) ⊎ ((f ≡ Unsettled)
+        × SomeUnsettled bus.links.items (all_ends workeds.items))) }
 {
     plan.limits();
     let BusThread {

@@ -1,6 +1,6 @@
 //! [`RunParts`]: all that a run in threads begins with beside the ports; and the ports.
 
-ghost use Rattle.std.specs.Prelude.{◌≡◌, ◌≤◌, ◌+◌, ◌*◌, ◌<◌, ℕ, [], length, slice_index_or, vec_len, OnOk, IfOk};
+ghost use Rattle.std.specs.Prelude.{◌≡◌, ◌≤◌, ◌+◌, ◌*◌, ◌<◌, ℕ, [], length, map, slice_index_or, vec_len, OnOk, IfOk};
 ghost use Rattle.sja_rings.specs.declared.ring_bus.RingBus.{RingBus as BusEnd};
 ghost use Rattle.sja_threads.specs.Inside.Making.{AreNewEnds, AreMade, AreListed};
 ghost use Rattle.sja_threads.specs.Stopping.{deed_counts};
@@ -43,6 +43,7 @@ impl<G: Gate> RunParts<G> {
     ) -> Result<(RunParts<G>, Vec<PortLists>), OutOfMemory>
         requires { vec_len gates ≡ length plan.now.nodes }
         ensures parts { IfOk result (λ made. AreRunParts plan.now made.0) }
+        ensures gates { IfOk result (λ made. map (λ s. s.gate) made.0.starts.items ≡ gates.items) }
         ensures many { IfOk result (λ made. length made.1.items ≡ length plan.now.nodes) }
         ensures listed { IfOk result (λ made.
             AreListed (length plan.now.nodes) made.0.starts.items made.1.items) }
@@ -106,6 +107,7 @@ fn starts_of<G: Gate>(
     requires none { buses.old.items ≡ [] }
     requires new { lists.old.items ≡ [] }
     ensures count { IfOk result (λ starts. length starts.items ≡ length plan.now.nodes) }
+    ensures asked { IfOk result (λ starts. map (λ s. s.gate) starts.items ≡ gates.items) }
     ensures links { OnOk result (length buses.new.items ≡ 64 * length plan.now.nodes) }
     ensures made { IfOk result (λ starts.
         AreMade plan.now (length plan.now.nodes) starts.items buses.new.items) }

@@ -3,6 +3,7 @@
 ghost use Rattle.std.specs.Prelude.{◌≡◌, ◌≤◌, [], length, map, vec_len, vec_capacity, All, IfOk, IfErr};
 ghost use Rattle.lemmas.specs.Related.{EachRelated};
 ghost use Rattle.sja_log.specs.declared.run_fault.RunFault.TheVariants.{Thread};
+ghost use Rattle.sja_threads.specs.Asking.{IsLet};
 ghost use Rattle.sja_threads.specs.Inside.Started.{IsThreadStart, AreOrdered, Serves};
 ghost use Rattle.sja_threads.specs.Inside.Names.{IsOrderOf};
 ghost use Rattle.sja_threads.specs.Inside.Promised.{IsFor};
@@ -22,7 +23,6 @@ use sja_driver::WorkLog;
 use sja_log::RunFault;
 use sja_plan::Plan;
 use sja_rings::RingDriver;
-use std::marker::PhantomData;
 use std::snapshot::Snapshot;
 use std::sync::{Mutex, Wait};
 use std::thread::{Scope, Threads};
@@ -49,7 +49,7 @@ fn serve<N: Order, G: Gate>(
 ) -> Handover<RingDriver>
     requires start { IsThreadStart plan.now start }
     requires order { IsOrderOf N.version N.deeds plan.now.version start.node start.done.name }
-    ensures { Serves G.QUITS plan.now start result }
+    ensures { Serves (IsLet G.QUITS G.answered) plan.now start result }
 {
     let ThreadStart {
         node,
@@ -90,14 +90,14 @@ fn start_one<'s, E, N: Order + Send + Sync + 's, G: Gate + 's, R: Threads + Wait
         node: start.node,
         links: Snapshot::of(&start.links),
         done: Snapshot::of(&start.done),
-        gate: PhantomData,
+        gate: Snapshot::of(&start.gate),
     };
     match scope.spawn_with(
         promise,
         move || -> Handover<RingDriver>
             requires start { IsThreadStart plan.now start }
             requires order { IsOrderOf N.version N.deeds plan.now.version start.node start.done.name }
-            ensures { Serves G.QUITS plan.entry.now start result }
+            ensures { Serves (IsLet G.QUITS G.answered) plan.entry.now start result }
         { serve(rt, plan, start, port, lobby) },
     ) {
         Ok(child) => Ok(child),

@@ -21,6 +21,8 @@ impl<N: Order, D: DriverEnd + Drop> DriverThread<N, D> {
     ghost use Rattle.sja_driver.specs.LoggedDrivers.{kept_of, IsLawful};
     ghost use Rattle.sja_driver.specs.WriteLists.{listed, steps_in};
     ghost use Rattle.sja_script.specs.declared.step.Step.TheVariants.{Write, At};
+    ghost use Rattle.sja_threads.specs.declared.pass.Pass.TheVariants.{Go};
+    ghost use Rattle.sja_threads.specs.Asking.{HasAnswered, pass_of};
     ghost use Rattle.sja_threads.specs.Inside.Accesses.{HasOneDeed, BeginsWrite, DoesStep, BreaksOff};
     ghost use Rattle.sja_threads.specs.Inside.Steps.{MayWork, MayStep, DoesParts, LastTakes};
 
@@ -37,6 +39,7 @@ impl<N: Order, D: DriverEnd + Drop> DriverThread<N, D> {
         ensures done { result ≡ true → DoesStep D.DriverEnd self.old self.new step.now }
         ensures quits { result ≡ false → BreaksOff D.DriverEnd self.old self.new step.now }
         ensures never { result ≡ false → G.QUITS ≡ true }
+        ensures answered { HasAnswered G.answered at.now.gate self.old.done.node number (pass_of result) }
     {
         if !self.bytes {
             return self.do_one(at, step, number);
@@ -56,6 +59,7 @@ impl<N: Order, D: DriverEnd + Drop> DriverThread<N, D> {
         ensures done { result ≡ true → DoesStep D.DriverEnd self.old self.new (At bits) }
         ensures quits { result ≡ false → BreaksOff D.DriverEnd self.old self.new (At bits) }
         ensures never { result ≡ false → G.QUITS ≡ true }
+        ensures answered { HasAnswered G.answered at.now.gate self.old.done.node number (pass_of result) }
     {
         let Some((answer, found)) = at.wait_for(self.done.node, bits, number) else {
             return false;
@@ -74,6 +78,7 @@ impl<N: Order, D: DriverEnd + Drop> DriverThread<N, D> {
         ensures done { result ≡ true → DoesStep D.DriverEnd self.old self.new step.now }
         ensures quits { result ≡ false → BreaksOff D.DriverEnd self.old self.new step.now }
         ensures never { result ≡ false → G.QUITS ≡ true }
+        ensures answered { HasAnswered G.answered at.now.gate self.old.done.node number (pass_of result) }
     {
         let mut tries = 1u32;
         if !at.lets_go(self.done.node, number, &mut tries) {
@@ -105,6 +110,7 @@ impl<N: Order, D: DriverEnd + Drop> DriverThread<N, D> {
         ensures done { result ≡ true → DoesStep D.DriverEnd self.old self.new (Write address value) }
         ensures quits { result ≡ false → BreaksOff D.DriverEnd self.old self.new (Write address value) }
         ensures never { result ≡ false → G.QUITS ≡ true }
+        ensures answered { HasAnswered G.answered at.now.gate self.old.done.node number (pass_of result) }
     {
         let mut tries = 1u32;
         if !at.lets_go(self.done.node, number, &mut tries) {
@@ -129,9 +135,10 @@ impl<N: Order, D: DriverEnd + Drop> DriverThread<N, D> {
     ) -> bool
         requires may { MayWork D.link self.old 1 }
         requires last { LastTakes (steps_in steps.now) }
-        requires asked { G.asks at.now.gate self.old.done.node number tries.old }
+        requires go { G.answered at.now.gate self.old.done.node number tries.old Go }
         ensures parts { DoesParts D.DriverEnd self.old self.new (steps_in steps.now) result kept.old kept.new }
         ensures never { result ≡ false → G.QUITS ≡ true }
+        ensures answered { G.answered at.now.gate self.old.done.node number tries.new (pass_of result) }
     {
         if !self.do_part(at, &steps.first, number, tries, kept) {
             return false;
@@ -152,10 +159,10 @@ impl<N: Order, D: DriverEnd + Drop> DriverThread<N, D> {
         kept: &mut KeptBytes,
     ) -> bool
         requires may { MayWork D.link self.old (length (listed part.now)) }
-        requires asked { G.asks at.now.gate self.old.done.node number tries.old }
+        requires go { G.answered at.now.gate self.old.done.node number tries.old Go }
         ensures parts { DoesParts D.DriverEnd self.old self.new (listed part.now) result kept.old kept.new }
         ensures never { result ≡ false → G.QUITS ≡ true }
-        ensures asked { G.asks at.now.gate self.old.done.node number tries.new }
+        ensures answered { G.answered at.now.gate self.old.done.node number tries.new (pass_of result) }
     {
         let Some(deed) = part else {
             return true;

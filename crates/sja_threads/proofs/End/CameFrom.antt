@@ -1,5 +1,6 @@
 -- What came out at the bus's ends of links that were gone through, one after another.
-use Rattle.std.proofs.Common.{◌≡◌, ◌∷◌, ℕ, ◌+◌, ◌*◌, ◌<◌, ◌≤◌, suc, List, length, drop, sym, ap, ◌∙◌, subst, arith}
+use Rattle.std.proofs.Common.{◌≡◌, [], ◌∷◌, ℕ, ◌+◌, ◌*◌, ◌<◌, ◌≤◌, suc, List, length, drop, refl, sym, ap, ◌∙◌}
+use Rattle.std.proofs.Common.{subst, arith}
 use Rattle.std.proofs.Common.{inl, inr}
 use Rattle.std.specs.Prelude.{slice_index_or}
 use Rattle.std.proofs.lemmas.Bool.{cases_eq}
@@ -11,9 +12,9 @@ use Rattle.sja_plan.specs.Plan.{PlanValue}
 use Rattle.sja_log.proofs.NodeLog.Logging.{next_of}
 use Rattle.sja_wire.specs.declared.bus_fault.BusFault.{BusFault}
 use Rattle.sja_threads.specs.declared.handover.Handover.{Handover}
-use Rattle.sja_threads.specs.Stopping.{CameFirst, StopsWith}
+use Rattle.sja_threads.specs.Stopping.{CameFirst, IsUnsettledBy, StopsWith}
 use Rattle.sja_threads.specs.Inside.EndsJoined.{IsStopped}
-use Rattle.sja_threads.specs.Inside.Settling.{CameFrom, all_ends}
+use Rattle.sja_threads.specs.Inside.Settling.{CameFrom, SomeUnsettled, all_ends}
 use Rattle.sja_threads.proofs.End.LinksOver.{end_at, in_links}
 
 -- of the first so many links what came out is a front of what went in, and these are left to be gone through
@@ -25,6 +26,24 @@ pub record HaveCome (links : List RingBus) (ends : List RingDriver) (left_links 
   pub ends_left : left_ends ≡ drop many ends
   pub came : (i : ℕ) (b : RingBus) (d : RingDriver) → i < many →
       CameFrom (slice_index_or links i b) (slice_index_or ends i d)
+
+-- where some items are left there is one
+pub some_left : {A : Type 0} (left : List A) → (length left ≡ 0 → ⊥) → 1 ≤ length left
+some_left [] some = absurd (some refl)
+some_left (x ∷ left) some = omega arith
+
+-- the next one isn't settled
+pub unsettled_at : (links : List RingBus) (ends : List RingDriver) (n : ℕ) (left_links : List RingBus)
+    (left_ends : List RingDriver) (link : RingBus) (end : RingDriver) → drop n links ≡ link ∷ left_links →
+    drop n ends ≡ end ∷ left_ends → IsUnsettledBy link end → SomeUnsettled links ends
+unsettled_at links ends n left_links left_ends link end is_link is_end why = record {
+  at = n;
+  few = (next_of links left_links n link link is_link).2;
+  why = λ b d.
+      subst (λ (x : RingBus). IsUnsettledBy x (slice_index_or ends n d))
+      (sym (next_of links left_links n link b is_link).0)
+      (subst (λ (x : RingDriver). IsUnsettledBy link x) (sym (next_of ends left_ends n end d is_end).0) why);
+}
 
 module _ (links : List RingBus) (ends : List RingDriver) where
   pub none_yet : (left_links : List RingBus) (left_ends : List RingDriver) → left_links ≡ links → left_ends ≡ ends →
@@ -48,6 +67,10 @@ module _ (links : List RingBus) (ends : List RingDriver) where
         let e = next_of ends left_ends h.many end end (sym h.ends_left) in
         subst (λ (b : RingBus). P b end) l.0
         (subst (λ (d : RingDriver). P (slice_index_or links h.many link) d) e.0 (all h.many link end l.2))
+
+    -- it isn't settled
+    pub not_this : IsUnsettledBy link end → SomeUnsettled links ends
+    not_this = unsettled_at links ends h.many left_links left_ends link end (sym h.links_left) (sym h.ends_left)
 
     pub one_more : CameFrom link end → HaveCome links ends left_links left_ends
     one_more here =

@@ -1,5 +1,5 @@
 -- The ends of all links of a run whose threads are joined.
-use Rattle.std.proofs.Common.{◌≡◌, ℕ, suc, ◌+◌, ◌*◌, ◌<◌, Bool, List, [], length, sym, ap, ◌∙◌, subst, arith}
+use Rattle.std.proofs.Common.{◌≡◌, ℕ, suc, ◌+◌, ◌*◌, ◌<◌, List, [], length, sym, ap, ◌∙◌, subst, arith}
 use Rattle.std.specs.Prelude.{slice_index_or}
 use Rattle.std.proofs.lemmas.List.Elements.{AllZip-get_or}
 use Rattle.std.proofs.lemmas.Slice.Zip.{AllZip-long}
@@ -27,13 +27,13 @@ use Rattle.sja_threads.specs.Inside.Rounds.{Stops}
 use Rattle.sja_threads.specs.Inside.Started.{Serves}
 use Rattle.sja_threads.proofs.End.RunOver.{Done, Place, all_done, all_followed, still_one}
 
-module _ {G : Type 0} (quits : Bool) (plan : PlanValue) (starts : List (ThreadStart G))
+module _ {G : Type 0} (Lets : G → ℕ → ℕ → ℕ → Type 0) (plan : PlanValue) (starts : List (ThreadStart G))
     (ws : List (Handover RingDriver))
     (was : BusThread) (many : length starts ≡ length plan.nodes)
     (long : length was.links.items ≡ 64 * length plan.nodes)
     (made : AreMade plan (length plan.nodes) starts was.links.items)
-    (served : EachRelated (Serves quits plan) starts ws) (done : Done quits plan starts ws) where
-  place : (node : ℕ) → node < length plan.nodes → Place quits plan starts ws done.works node
+    (served : EachRelated (Serves Lets plan) starts ws) (done : Done Lets plan starts ws) where
+  place : (node : ℕ) → node < length plan.nodes → Place Lets plan starts ws done.works node
   place node few = done.places node (omega (arith, few, many))
 
   own : (node : ℕ) (few : node < length plan.nodes) → IsMade plan node (place node few).start was.links.items
@@ -45,7 +45,7 @@ module _ {G : Type 0} (quits : Bool) (plan : PlanValue) (starts : List (ThreadSt
       AreJoined (length plan.nodes) links ws
   ends_joined links same = record {
     links_count = AllZip-long SameBus was.links.items links same ∙ long;
-    workeds_count = AllZip-long (Serves quits plan) starts ws served ∙ many;
+    workeds_count = AllZip-long (Serves Lets plan) starts ws served ∙ many;
     enough = λ node w few.
         let p = place node few in
         subst (λ (x : Handover RingDriver). length x.links.items ≡ 64) (sym (p.worked_is w))
@@ -80,28 +80,28 @@ module _ {G : Type 0} (quits : Bool) (plan : PlanValue) (starts : List (ThreadSt
           ((own n f).links.drivers_new k e below).lists
 
 -- a bus that stopped beside its drivers' threads, once these are joined
-pub stopped_beside : {G : Type 0} (quits : Bool) (plan : PlanValue) (starts : List (ThreadStart G))
+pub stopped_beside : {G : Type 0} (Lets : G → ℕ → ℕ → ℕ → Type 0) (plan : PlanValue) (starts : List (ThreadStart G))
     (ws : List (Handover RingDriver)) (was now : BusThread) (f : BusFault) → length starts ≡ length plan.nodes →
     length was.links.items ≡ 64 * length plan.nodes → AreMade plan (length plan.nodes) starts was.links.items →
-    was.bus.steps ≡ deed_counts plan → Stops plan was now f → EachRelated (Serves quits plan) starts ws →
+    was.bus.steps ≡ deed_counts plan → Stops plan was now f → EachRelated (Serves Lets plan) starts ws →
     IsStopped plan now.links.items ws f
-stopped_beside {G} quits plan starts ws was now f many long made room stops served =
-    let done = all_done quits plan starts ws served in
-    let joined = ends_joined quits plan starts ws was many long made served done now.links.items stops.sames in record {
+stopped_beside {G} Lets plan starts ws was now f many long made room stops served =
+    let done = all_done Lets plan starts ws served in
+    let joined = ends_joined Lets plan starts ws was many long made served done now.links.items stops.sames in record {
       stop = subst (λ (steps : List ℕ). StopsOn steps plan now.links.items f) room stops.stop;
       works = done.works;
       follows = λ node few.
           let count = joined.workeds_count in
           let w = some_of ws 0 (omega (arith, few, count)) in
-          (all_followed quits plan starts ws was now many long made done node w few).follows;
+          (all_followed Lets plan starts ws was now many long made done node w few).follows;
       joined = joined;
-      given = ends_given quits plan starts ws was many long made served done;
+      given = ends_given Lets plan starts ws was many long made served done;
     }
 
 -- and one that stopped after them
-pub stopped_after : (quits : Bool) (plan : PlanValue) (j : JoinedRun) (now : BusThread) (f : BusFault) →
-    IsEnding quits plan j → Stops plan j.bus now f → IsStopped plan now.links.items j.workeds.items f
-stopped_after quits plan j now f ending stops =
+pub stopped_after : (Lets : ℕ → ℕ → ℕ → Type 0) (plan : PlanValue) (j : JoinedRun) (now : BusThread) (f : BusFault) →
+    IsEnding Lets plan j → Stops plan j.bus now f → IsStopped plan now.links.items j.workeds.items f
+stopped_after Lets plan j now f ending stops =
     let joined = ending.joined now.links.items stops.sames in record {
       stop = subst (λ (steps : List ℕ). StopsOn steps plan now.links.items f) ending.steps stops.stop;
       works = ending.works;

@@ -24,13 +24,13 @@ use Rattle.sja_threads.proofs.Start.FewDeeds.{few_deeds}
 use Rattle.sja_threads.proofs.End.LeftOnLinks.{HaveEnough, enough_length, enough_at}
 
 -- a place of a list of links is that of one of the 64 of a node
-record IsPlaceOf (i : ℕ) : Type 0 where
-  node : ℕ
-  place : ℕ
-  few : place < 64
-  is : i ≡ 64 * node + place
+pub record IsPlaceOf (i : ℕ) : Type 0 where
+  pub node : ℕ
+  pub place : ℕ
+  pub few : place < 64
+  pub is : i ≡ 64 * node + place
 
-place_of_link : (i : ℕ) → IsPlaceOf i
+pub place_of_link : (i : ℕ) → IsPlaceOf i
 place_of_link zero = record { node = 0; place = 0; few = omega arith; is = refl }
 place_of_link (suc i) = let p = place_of_link i in let e = p.is in let f = p.few in elim (cases_lt (p.place + 1) 64) [
   | inl few ↦ record { node = p.node; place = p.place + 1; few = few; is = omega (arith, e) }
@@ -40,7 +40,7 @@ place_of_link (suc i) = let p = place_of_link i in let e = p.is in let f = p.few
 pub in_links : (k n a m : ℕ) → k < n → a < 64 → m ≡ 64 * n → 64 * k + a < m
 in_links k n a m less few e = omega (arith, less, few, e)
 
-in_nodes : (k n a m : ℕ) → 64 * k + a < m → m ≡ 64 * n → k < n
+pub in_nodes : (k n a m : ℕ) → 64 * k + a < m → m ≡ 64 * n → k < n
 in_nodes k n a m less e = omega (arith, less, e)
 
 module _ (nodes : ℕ) (links : List RingBus) (workeds : List (Handover RingDriver)) (h : AreJoined nodes links workeds)

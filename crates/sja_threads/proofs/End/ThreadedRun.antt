@@ -1,5 +1,6 @@
 -- What is promised of a run in threads, of a run that is over.
-use Rattle.std.proofs.Common.{◌≡◌, ℕ, ◌*◌, ◌<◌, Bool, List, length, map, sym, ap, ◌∙◌, subst, arith}
+use Rattle.std.proofs.Common.{◌≡◌, ℕ, ◌*◌, ◌<◌, Bool, true, false, List, length, map, sym, ap, ◌∙◌, subst}
+use Rattle.std.proofs.Common.{arith, inl, inr}
 use Rattle.std.specs.Prelude.{Result, Ok, Err, IfOk, slice_index_or}
 use Rattle.sja_link.specs.declared.entry.Entry.{Entry}
 use Rattle.lemmas.specs.Related.{EachRelated}
@@ -15,6 +16,7 @@ use Rattle.sja_plan.specs.Plan.{PlanValue, steps_at}
 use Rattle.sja_script.specs.declared.done.Done.{Done as DoneStep}
 use Rattle.sja_driver.specs.Deeds.{Deed}
 use Rattle.sja_log.specs.declared.end.End.{End}
+use Rattle.sja_log.specs.Headline.{AreAccounts}
 use Rattle.sja_log.specs.Log.{RunValue, journals_in}
 use Rattle.sja_log.specs.Runs.{IsRun}
 use Rattle.sja_wire.specs.Wire.{journal_at}
@@ -24,12 +26,14 @@ use Rattle.sja_threads.specs.declared.thread_start.ThreadStart.{ThreadStart}
 use Rattle.sja_threads.specs.declared.notice.Notice.{Notice}
 use Rattle.sja_threads.specs.declared.handover.Handover.{Handover}
 use Rattle.sja_threads.specs.Accessing.{Work, deeds_done, work_at}
-use Rattle.sja_threads.specs.Needed.{AllDue, EndsDuly, last_awaited}
+use Rattle.sja_threads.specs.Needed.{AllDue, EndsDuly}
 use Rattle.sja_threads.specs.Setting.{LeadToSettings}
 use Rattle.sja_threads.specs.Stopping.{deed_counts}
-use Rattle.sja_threads.specs.Threads.{IsThreadedRun}
-use Rattle.sja_threads.specs.Ordering.{IsOrdered}
-use Rattle.sja_threads.specs.Inside.Boards.{AreTold, turns_at}
+use Rattle.sja_threads.specs.declared.pass.Pass.{Pass}
+use Rattle.sja_threads.specs.Asking.{AtNode, IsLet}
+use Rattle.sja_threads.specs.Threads.{AreLetBy, IsThreadedRun}
+use Rattle.sja_threads.specs.Ordering.{IsOrdered, is_spent}
+use Rattle.sja_threads.specs.Inside.Boards.{AreClosed, AreTold, turns_at}
 use Rattle.sja_threads.specs.Inside.EndsInOrder.{AreInOrder}
 use Rattle.sja_threads.specs.Inside.Ended.{IsOver}
 use Rattle.sja_threads.specs.Inside.EndsJoined.{AreJoined, AreGivenBy}
@@ -43,47 +47,48 @@ use Rattle.sja_threads.proofs.End.RunOver.{all_done, all_followed, deeds_of_work
 use Rattle.sja_threads.proofs.Rounds.GoesOn.{on_twice}
 
 -- once all threads are joined
-pub ending : {G : Type 0} (quits : Bool) (plan : PlanValue) (starts : List (ThreadStart G)) (was : BusThread)
-    (bus : BusThread) (ws : List (Handover RingDriver)) (j : JoinedRun) → j.bus ≡ bus → j.workeds.items ≡ ws →
-    length starts ≡ length plan.nodes → length was.links.items ≡ 64 * length plan.nodes →
+pub ending : {G : Type 0} (Lets : G → ℕ → ℕ → ℕ → Type 0) (plan : PlanValue) (starts : List (ThreadStart G))
+    (was : BusThread) (bus : BusThread) (ws : List (Handover RingDriver)) (j : JoinedRun) → j.bus ≡ bus →
+    j.workeds.items ≡ ws → length starts ≡ length plan.nodes → length was.links.items ≡ 64 * length plan.nodes →
     AreMade plan (length plan.nodes) starts was.links.items → GoesOn plan was bus →
-    was.bus.steps ≡ deed_counts plan → EachRelated (Serves quits plan) starts ws → IsEnding quits plan j
-ending {G} quits plan starts was bus ws j there here many long made on room served =
-    let done = all_done quits plan starts ws served in record {
+    was.bus.steps ≡ deed_counts plan → EachRelated (Serves Lets plan) starts ws →
+    IsEnding (AtNode Lets (map (λ (s : ThreadStart G). s.gate) starts)) plan j
+ending {G} Lets plan starts was bus ws j there here many long made on room served =
+    let done = all_done Lets plan starts ws served in record {
       way = subst (λ (b : BusThread). IsUnderWay plan b) (sym there) on.way;
       steps = ap (λ (b : BusThread). b.bus.steps) there ∙ on.steps ∙ room;
       works = done.works;
       over = λ t more.
           subst (λ (l : List (Handover RingDriver)). IsOver plan t.bus t.links.items l
           (map (λ (w : Work). deeds_done w) done.works)) (sym here)
-          (is_over quits plan starts ws was t many long made
+          (is_over Lets plan starts ws was t many long made
           (on_twice plan was bus t on (subst (λ (b : BusThread). GoesOn plan b t) there more)) room served done);
       joined = λ links same.
           subst (λ (l : List (Handover RingDriver)). AreJoined (length plan.nodes) links l) (sym here)
-          (ends_joined quits plan starts ws was many long made served done links
+          (ends_joined Lets plan starts ws was many long made served done links
           (each_trans SameBus bus_trans was.links.items bus.links.items links on.sames
           (subst (λ (b : BusThread). EachRelated SameBus b.links.items links) there same)));
       given =
           subst (λ (l : List (Handover RingDriver)). AreGivenBy (length plan.nodes) done.works l) (sym here)
-          (ends_given quits plan starts ws was many long made served done);
+          (ends_given Lets plan starts ws was many long made served done);
       followed = λ node w few.
-          subst (λ (l : List (Handover RingDriver)). HasFollowed quits plan node (work_at done.works node)
+          subst (λ (l : List (Handover RingDriver)).
+          HasFollowed (AtNode Lets (map (λ (s : ThreadStart G). s.gate) starts)) plan node (work_at done.works node)
           (slice_index_or l node w)) (sym here)
-          (all_followed quits plan starts ws was bus many long made done node w few);
+          (all_followed Lets plan starts ws was bus many long made done node w few);
     }
 
 -- at the end of the run
-module _ (quits : Bool) (plan : PlanValue) (j : JoinedRun) (t : BusThread) (end : End) (log : RunValue)
-    (ending : IsEnding quits plan j) (ends : EndsAs plan j.bus t end)
+module _ {G : Type 0} (quits : Bool) (answered : G → ℕ → ℕ → ℕ → Pass → Type 0) (gates : List G)
+    (plan : PlanValue) (j : JoinedRun) (t : BusThread) (end : End) (log : RunValue)
+    (ending : IsEnding (AtNode (IsLet quits answered) gates) plan j) (ends : EndsAs plan j.bus t end)
     (runs : (deeds : List (List Deed)) → IsOver plan t.bus t.links.items j.workeds.items deeds → IsRun plan log deeds)
     (is : IsSettledLog t.bus j.workeds.items end log) (turns : List (List Notice))
     (told : AreTold plan t.bus.journals turns)
+    (closed : AreClosed (length plan.nodes) (is_spent end) turns)
     (in_order : AreInOrder plan.version (length plan.nodes) turns j.workeds.items) where
   abbrev deeds : List (List Deed)
   deeds = map (λ (w : Work). deeds_done w) ending.works
-
-  abbrev awaited : ℕ
-  awaited = last_awaited plan.nodes
 
   over : IsOver plan t.bus t.links.items j.workeds.items deeds
   over = ending.over t ends.on
@@ -112,10 +117,11 @@ module _ (quits : Bool) (plan : PlanValue) (j : JoinedRun) (t : BusThread) (end 
     ordered = λ node few.
         let w = some node few in let led = in_order node w few in
         let deeds_there = deeds_done (work_at ending.works node) in
-        subst (λ (l : List (List Entry)). IsOrdered plan.version plan.bits (steps_at plan node) (journal_at l node)
-        deeds_there) (sym is.journals)
+        subst (λ (l : List (List Entry)). IsOrdered plan.version plan.bits log.end (steps_at plan node)
+        (journal_at l node) deeds_there) (sym is.journals)
         (record {
           told = turns_at turns node;
+          closed = closed node few ∙ sym (ap is_spent is.ends);
           tells = told node (let e = over.journals_count in omega (arith, few, e));
           done = (slice_index_or j.workeds.items node w).done.list;
           same = (ending.followed node w few).noted;
@@ -124,17 +130,38 @@ module _ (quits : Bool) (plan : PlanValue) (j : JoinedRun) (t : BusThread) (end 
         });
     linked = is.linked;
     needed = record {
-      due = subst (λ (n : ℕ). AllDue awaited n (journals_in log)) (sym is.bits)
-          (subst (λ (l : List (List Entry)). AllDue awaited t.bus.run l) (sym is.journals) ends.on.way.due);
-      ends = subst (λ (e : End). EndsDuly awaited plan.bits e log.bits (journals_in log)) (sym is.ends)
-          (subst (λ (n : ℕ). EndsDuly awaited plan.bits end n (journals_in log)) (sym (is.bits ∙ ends.on.way.run))
-          (subst (λ (l : List (List Entry)). EndsDuly awaited plan.bits end t.run l) (sym is.journals) ends.duly));
+      links = ends.on.way.first;
+      due = subst (λ (n : ℕ). AllDue plan ends.on.way.first n (journals_in log)) (sym is.bits)
+          (subst (λ (l : List (List Entry)). AllDue plan ends.on.way.first t.bus.run l) (sym is.journals)
+          ends.on.way.due);
+      ends = subst (λ (e : End). EndsDuly plan ends.on.way.first e log.bits (journals_in log)) (sym is.ends)
+          (subst (λ (n : ℕ). EndsDuly plan ends.on.way.first end n (journals_in log))
+          (sym (is.bits ∙ ends.on.way.run))
+          (subst (λ (l : List (List Entry)). EndsDuly plan ends.on.way.first end t.run l) (sym is.journals)
+          ends.duly));
     };
     all_done = λ never node d less.
         let few = in_plan node less in
         ap (λ (l : List DoneStep). length l) (is.done node d (some node few) less)
-        ∙ (ending.followed node (some node few) few).all never;
+        ∙ elim (ending.followed node (some node few) few).all.2.ends [
+          | inl same ↦ same
+          | inr quit ↦ absurd (let two : true ≡ false = sym quit.0 ∙ never in cc)
+        ];
   }
+
+  -- and its drivers did as many steps as their gates let them
+  pub let_by : AreLetBy quits answered gates plan log
+  let_by node d less =
+      let few = in_plan node less in
+      subst (λ (n : ℕ). AtNode (IsLet quits answered) gates node (length (steps_at plan node)) n)
+      (sym (ap (λ (l : List DoneStep). length l) (is.done node d (some node few) less)))
+      (ending.followed node (some node few) few).all
+
+-- the accounts of its log
+pub headline : (plan : PlanValue) (quits : Bool) {X : Type 0} (r : Result RunValue X) →
+    IfOk r (λ log. IsThreadedRun plan log quits) → IfOk r AreAccounts
+headline plan quits (Ok log) is = λ k d less. (is.run.nodes k d less).account
+headline plan quits (Err x) is = tt
 
 -- by an answer: what holds of one that is Ok by two that do
 pub if_both : {A X : Type 0} {P Q R : A → Type 0} (r : Result A X) → ((a : A) → P a → Q a → R a) →

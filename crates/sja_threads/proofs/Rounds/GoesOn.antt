@@ -13,7 +13,7 @@ use Rattle.sja_rings.proofs.SameEnd.{bus_refl, bus_trans}
 use Rattle.sja_plan.specs.Plan.{PlanValue}
 use Rattle.sja_regs.specs.declared.bus_turn.BusTurn.{BusTurn}
 use Rattle.sja_regs.specs.declared.orders.Orders.{Orders}
-use Rattle.sja_wire.specs.Buses.{EachJournal, KeepsAll, IsBit}
+use Rattle.sja_wire.specs.Buses.{AllDry, EachJournal, KeepsAll, IsBit}
 use Rattle.sja_bus.specs.Resting.{RestsAs}
 use Rattle.sja_bus.proofs.AllNodes.Many.{numbered_kept}
 use Rattle.sja_wire.specs.declared.bus_fault.BusFault.{BusFault}
@@ -21,10 +21,15 @@ use Rattle.sja_wire.specs.Lawful.{IsBusRun}
 use Rattle.sja_link.specs.BitEntries.{MayHaveItems}
 use Rattle.sja_wire.specs.Wire.{journal_at}
 use Rattle.sja_threads.specs.declared.bus_thread.BusThread.{BusThread}
+use Rattle.sja_threads.specs.Gathering.{IsDry, StandFor}
 use Rattle.sja_threads.specs.Needed.{IsBitDue, AllDue, AllAtRest, last_awaited}
 use Rattle.sja_threads.specs.Inside.Rounds.{TakesWithin, IsUnderWay, GoesOn}
 use Rattle.sja_threads.proofs.Rounds.StaysDue.{AllGrow, IsWanted, due_stays, due_kept, due_more, due_now}
 use Rattle.sja_threads.proofs.Rounds.TakesWithin.{within_items, items_grow, within_bit, bit_grows}
+
+-- its ends stand for its journals
+stands_for : (plan : PlanValue) (t : BusThread) → IsUnderWay plan t → StandFor plan t.bus.journals t.links.items
+stands_for plan t w = record { count = w.count; ids = w.ids; kept = w.kept }
 
 -- with its links lent for a call
 module _ (was now : BusThread) (lent after : List RingBus) (these : lent ≡ was.links.items)
@@ -49,9 +54,9 @@ module _ (was now : BusThread) (lent after : List RingBus) (these : lent ≡ was
     -- the bus is under way still, where its bits are counted, items were taken in such activations, and bits were due
     goes_on : now.bus.run + now.bus.left ≡ plan.bits →
         ((node : ℕ) → node < length plan.nodes → TakesWithin (journal_at now.bus.journals node)) →
-        AllDue (last_awaited plan.nodes) now.bus.run now.bus.journals → now.bus.run ≡ now.run →
+        AllDue plan w.first now.bus.run now.bus.journals → now.bus.run ≡ now.run →
         (now.spent ≡ true → (now.run ≡ plan.bits)
-        × IsBitDue (last_awaited plan.nodes) plan.bits now.bus.journals) → GoesOn plan was now
+        × IsBitDue plan w.first plan.bits now.bus.journals) → GoesOn plan was now
     goes_on all within due run spent = record {
       way = record {
         right = right;
@@ -62,6 +67,8 @@ module _ (was now : BusThread) (lent after : List RingBus) (these : lent ≡ was
         ids = numbered_kept link_of_bus SameBus (λ a b p. p.0) was.links.items now.links.items sames w.ids;
         kept = λ node h less. kept node h (few node less) (w.kept node h less);
         within = within;
+        first = w.first;
+        since = each_trans SameBus bus_trans w.first was.links.items now.links.items w.since sames;
         due = due;
         run = run;
         spent = spent;
@@ -78,35 +85,36 @@ module _ (was now : BusThread) (lent after : List RingBus) (these : lent ≡ was
         (let all = w.all_bits in let run = bits.0 in let left = bits.1 in omega (arith, all, run, left))
         (λ node less. within_items (journal_at was.bus.journals node) (journal_at now.bus.journals node)
         (items node (few node less)) (w.within node less))
-        (subst (λ (n : ℕ). AllDue (last_awaited plan.nodes) n now.bus.journals) (sym bits.0)
-        (due_kept (last_awaited plan.nodes) was.bus.run was.bus.journals now.bus.journals nodes grow w.due))
+        (subst (λ (n : ℕ). AllDue plan w.first n now.bus.journals) (sym bits.0)
+        (due_kept plan w.first was.bus.run was.bus.journals now.bus.journals nodes grow w.due))
         (bits.0 ∙ w.run ∙ sym same_run)
         (λ e.
         let all = w.spent (sym same_spent ∙ e) in (
           same_run ∙ all.0,
-          due_stays (last_awaited plan.nodes) was.bus.journals now.bus.journals nodes grow plan.bits all.1,
+          due_stays plan w.first was.bus.journals now.bus.journals nodes grow plan.bits all.1,
         ))
       where
         grow : AllGrow was.bus.journals now.bus.journals
         grow node less =
             items_grow (journal_at was.bus.journals node) (journal_at now.bus.journals node) (items node less)
 
-    -- a bit was run, which was due
+    -- a bit was run, which was due once all that was shown was taken
     pub after_bit : (orders_are : ℕ → Orders → Type 0) (was_told : ℕ → BusTurn → Type 0) (was_kept : ℕ → Type 0) →
         (now.bus.run ≡ was.bus.run + 1) × (now.bus.left + 1 ≡ was.bus.left) →
-        IsBusRun was.bus.script was.bus.run was.bus.journals →
+        IsBusRun was.bus.script was.bus.run was.bus.journals → AllDry IsDry was.bus.journals was.links.items →
         IsWanted (last_awaited plan.nodes) was.run was.bus.journals → was.run < plan.bits →
         IsBit orders_are was_told was_kept was.bus.script was.bus.run was.bus.untold was.bus.journals
         now.bus.journals → now.run ≡ was.run + 1 → now.spent ≡ was.spent → GoesOn plan was now
-    after_bit orders_are was_told was_kept bits laws wanted less bit next_run same_spent = goes_on
+    after_bit orders_are was_told was_kept bits laws dry wanted less bit next_run same_spent = goes_on
         (let all = w.all_bits in let run = bits.0 in let left = bits.1 in omega (arith, all, run, left))
         (λ node less. within_bit _ _ _ _ (journal_at was.bus.journals node) (journal_at now.bus.journals node) _ _
         (bit.nodes node (few node less)) (w.within node less))
-        (subst (λ (n : ℕ). AllDue (last_awaited plan.nodes) n now.bus.journals) (sym bits.0)
-        (due_more (last_awaited plan.nodes) was.bus.run was.bus.journals now.bus.journals nodes
+        (subst (λ (n : ℕ). AllDue plan w.first n now.bus.journals) (sym bits.0)
+        (due_more plan w.first was.bus.run was.bus.journals now.bus.journals nodes
         (λ node less. bit_grows _ _ _ _ (journal_at was.bus.journals node) (journal_at now.bus.journals node) _ _
         (bit.nodes node less))
-        (due_now (last_awaited plan.nodes) was.bus.run was.bus.journals laws.wired.count
+        (due_now plan w.first was.links.items was.bus.run was.bus.journals laws.wired.count w.since
+        (stands_for plan was w) dry
         (subst (λ (n : ℕ). IsWanted (last_awaited plan.nodes) n was.bus.journals) (sym w.run) wanted)) w.due))
         (bits.0 ∙ ap (λ (n : ℕ). n + 1) w.run ∙ sym next_run)
         (λ e. let all = (w.spent (sym same_spent ∙ e)).0 in absurd (omega (arith, all, less)))
@@ -147,9 +155,9 @@ on_then plan a b c p (Err x) q = tt
 
 -- the bits are spent, and one more is due
 pub spent_now : (plan : PlanValue) (t : BusThread) → IsUnderWay plan t → plan.bits ≤ t.run →
-    IsBusRun t.bus.script t.bus.run t.bus.journals → IsWanted (last_awaited plan.nodes) t.run t.bus.journals →
-    GoesOn plan t (record t { spent = true })
-spent_now plan t w many laws wanted =
+    IsBusRun t.bus.script t.bus.run t.bus.journals → AllDry IsDry t.bus.journals t.links.items →
+    IsWanted (last_awaited plan.nodes) t.run t.bus.journals → GoesOn plan t (record t { spent = true })
+spent_now plan t w many laws dry wanted =
     let all = w.all_bits in let same = w.run in
     let last : t.run ≡ plan.bits = omega (arith, all, same, many) in record {
       way = record {
@@ -161,12 +169,14 @@ spent_now plan t w many laws wanted =
         ids = w.ids;
         kept = w.kept;
         within = w.within;
+        first = w.first;
+        since = w.since;
         due = w.due;
         run = w.run;
         spent = λ e. (
           last,
-          due_now (last_awaited plan.nodes) plan.bits t.bus.journals
-              (λ node few. laws.wired.count node few ∙ same ∙ last)
+          due_now plan w.first t.links.items plan.bits t.bus.journals
+              (λ node few. laws.wired.count node few ∙ same ∙ last) w.since (stands_for plan t w) dry
               (subst (λ (n : ℕ). IsWanted (last_awaited plan.nodes) n t.bus.journals) last wanted),
         );
       };

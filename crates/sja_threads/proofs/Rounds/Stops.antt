@@ -7,7 +7,9 @@ use Rattle.lemmas.specs.Related.{EachRelated}
 use Rattle.lemmas.proofs.Related.{each_trans}
 use Rattle.sja_regs.specs.declared.orders.Orders.{Orders}
 use Rattle.sja_rings.specs.declared.ring_bus.RingBus.{RingBus}
-use Rattle.sja_rings.specs.Ends.{BusLists, SameBus}
+use Rattle.sja_rings.specs.Ends.{BusLists, SameBus, link_of_bus}
+use Rattle.sja_link.specs.Links.{Numbered}
+use Rattle.sja_bus.proofs.AllNodes.Many.{numbered_kept}
 use Rattle.sja_rings.proofs.SameEnd.{bus_trans}
 use Rattle.sja_plan.specs.Plan.{PlanValue}
 use Rattle.sja_wire.specs.declared.bus_fault.BusFault.{BusFault}
@@ -19,7 +21,8 @@ use Rattle.sja_wire.specs.Reasons.StopsBit.{spent, not_taken, not_aborted, broke
 use Rattle.sja_link.specs.Links.{per_node}
 use Rattle.sja_wire.specs.Wire.{journal_at}
 use Rattle.sja_threads.specs.declared.bus_thread.BusThread.{BusThread}
-use Rattle.sja_threads.specs.Stopping.{HasNoPlace, any_orders, StandFor, StopsOn}
+use Rattle.sja_threads.specs.Gathering.{StandFor}
+use Rattle.sja_threads.specs.Stopping.{HasNoPlace, any_orders, StopsOn}
 use Rattle.sja_threads.specs.Inside.Rounds.{IsUnderWay, GoesOn, Stops}
 
 -- an item that wasn't taken is no want of bits
@@ -85,6 +88,11 @@ by_any_orders before now links after f orders_are (broken_off n) = broken_off (r
 module _ (plan : PlanValue) (t next : BusThread) (now : BusValue) (links after : List RingBus) (f : BusFault)
     (these : links ≡ t.links.items) (those : next.links.items ≡ after) (same : EachRelated SameBus links after)
     (w : IsUnderWay plan t) (laws : IsBusRun t.bus.script t.bus.run t.bus.journals) where
+  sames : EachRelated SameBus t.links.items next.links.items
+  sames =
+      subst (λ (l : List RingBus). EachRelated SameBus l next.links.items) these
+      (subst (λ (l : List RingBus). EachRelated SameBus links l) (sym those) same)
+
   stops_for : IsTakenAndRefused BusLists plan.bits t.bus.steps t.bus.journals now.journals links after f
       ⊎ StopsBit BusLists HasNoPlace any_orders t.bus now links after f → f ≢ BitsSpent → Stops plan t next f
   stops_for why unspent = record {
@@ -103,10 +111,10 @@ module _ (plan : PlanValue) (t next : BusThread) (now : BusValue) (links after :
           (record { count = w.count; ids = w.ids; kept = w.kept });
       why = why;
       not_spent = unspent;
+      ids = subst (λ (l : List RingBus). Numbered link_of_bus l) those
+          (numbered_kept link_of_bus SameBus (λ a b p. p.0) t.links.items next.links.items sames w.ids);
     });
-    sames =
-        subst (λ (l : List RingBus). EachRelated SameBus l next.links.items) these
-        (subst (λ (l : List RingBus). EachRelated SameBus links l) (sym those) same);
+    sames = sames;
   }
 
   -- an item wasn't taken

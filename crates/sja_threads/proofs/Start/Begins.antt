@@ -7,7 +7,9 @@ use Rattle.sja_link.specs.declared.entry.Entry.{Entry}
 use Rattle.sja_link.specs.Accounts.{account}
 use Rattle.sja_link.specs.Carried.{taken_of}
 use Rattle.sja_link.specs.Parts.{part}
-use Rattle.sja_rings.specs.Ends.{BusLists}
+use Rattle.lemmas.proofs.Related.{each_refl}
+use Rattle.sja_rings.specs.Ends.{BusLists, SameBus}
+use Rattle.sja_rings.proofs.SameEnd.{bus_refl}
 use Rattle.sja_plan.specs.Plan.{PlanValue}
 use Rattle.sja_wire.specs.Buses.{BusValue, new_bus}
 use Rattle.sja_wire.specs.Wire.{journal_at}
@@ -32,6 +34,8 @@ begins {G} plan t starts counts is count run spent many made = record {
   kept = λ node h few a b less. subst (λ (j : List Entry). BusLists (slice_index_or t.links.items (64 * node + a) b)
       (account j (suc a) (h a))) (sym (empty node)) ((at node few).buses_new a b less).lists;
   within = λ node few a far. ap (λ (j : List Entry). taken_of (part j a)) (empty node);
+  first = t.links.items;
+  since = each_refl SameBus bus_refl t.links.items;
   due = λ i less. let run = none_run in absurd (omega (arith, less, run));
   run = none_run ∙ sym run;
   spent = λ e. absurd (let two = sym spent ∙ e in cc);

@@ -1,5 +1,5 @@
 -- What the drivers' threads begin with, and what they hand back.
-use Rattle.std.proofs.Common.{◌≡◌, ℕ, suc, ◌+◌, ◌<◌, ◌≤◌, Bool, false, List, [], ◌∷◌, length, map, sym, ap, ◌∙◌, subst}
+use Rattle.std.proofs.Common.{◌≡◌, ℕ, suc, ◌+◌, ◌<◌, ◌≤◌, List, [], ◌∷◌, length, map, sym, ap, ◌∙◌, subst}
 use Rattle.std.proofs.Common.{arith, zero-add}
 use Rattle.std.specs.Prelude.{All, Some, slice_index_or}
 use Rattle.lemmas.proofs.Lists.{some_of}
@@ -93,12 +93,12 @@ order_rest {G} order_version names version all rest s is starts =
 
 -- what a thread hands back that began with what is set after power-on
 pub served_by : {G : Type 0} (plan : PlanValue) (s : ThreadStart G) (set : SettingsValue) (steps : List Step)
-    (quits : Bool) (w : Handover RingDriver) → set ≡ settings_in (at_power_on plan.version) →
+    (Lets : G → ℕ → ℕ → ℕ → Type 0) (w : Handover RingDriver) → set ≡ settings_in (at_power_on plan.version) →
     steps ≡ steps_at plan s.node → EachRelated SameDriver s.links.items w.links.items →
     w.done.name ≡ s.done.name → HasWorked DriverLists set s.node steps s.links.items w w.done.list →
-    (quits ≡ false → length (done_in (log_of w.driver)) ≡ length steps) → KeepsLog (log_of w.driver) →
-    Serves quits plan s w
-served_by plan s set steps quits w first are sames named worked all keeps = record {
+    Lets s.gate s.node (length steps) (length (done_in (log_of w.driver))) → KeepsLog (log_of w.driver) →
+    Serves Lets plan s w
+served_by plan s set steps Lets w first are sames named worked all keeps = record {
   sames = sames;
   worked =
       subst (λ (x : SettingsValue). HasWorked DriverLists x s.node (steps_at plan s.node) s.links.items w
@@ -106,22 +106,24 @@ served_by plan s set steps quits w first are sames named worked all keeps = reco
       (subst (λ (l : List Step). HasWorked DriverLists set s.node l s.links.items w w.done.list) are worked);
   named = named;
   keeps = keeps;
-  all = λ never. all never ∙ ap (λ (l : List Step). length l) are;
+  all = subst (λ (l : List Step). Lets s.gate s.node (length l) (length (done_in (log_of w.driver)))) are all;
 }
 
-module _ {G : Type 0} (quits : Bool) (plan : PlanValue) where
+module _ {G : Type 0} (Lets : G → ℕ → ℕ → ℕ → Type 0) (plan : PlanValue) where
   -- a promise that was kept is what the thread that began so hands back
   kept_is : (s : ThreadStart G) (p : ThreadPromise G) (w : Handover RingDriver) → IsFor plan s p →
-      IsPromised quits p w → Serves quits plan s w
+      IsPromised Lets p w → Serves Lets plan s w
   kept_is s p w f k =
-      subst (λ (n : ℕ). HandsBack quits plan s.node s.links.items n w) f.same_name
-      (subst (λ (l : List RingDriver). HandsBack quits plan s.node l p.done.value.name w) f.same_links
-      (subst (λ (n : ℕ). HandsBack quits plan n p.links.value.items p.done.value.name w) f.same_node
-      (subst (λ (v : PlanValue). HandsBack quits v p.node p.links.value.items p.done.value.name w) f.same_plan k)))
+      subst (λ (n : ℕ). HandsBack (Lets s.gate) plan s.node s.links.items n w) f.same_name
+      (subst (λ (l : List RingDriver). HandsBack (Lets s.gate) plan s.node l p.done.value.name w) f.same_links
+      (subst (λ (x : G). HandsBack (Lets x) plan s.node p.links.value.items p.done.value.name w) f.same_gate
+      (subst (λ (n : ℕ). HandsBack (Lets p.gate.value) plan n p.links.value.items p.done.value.name w) f.same_node
+      (subst (λ (v : PlanValue). HandsBack (Lets p.gate.value) v p.node p.links.value.items p.done.value.name w)
+      f.same_plan k))))
 
   pub all_kept : (starts : List (ThreadStart G)) (ps : List (ThreadPromise G)) (ws : List (Handover RingDriver)) →
-      EachRelated (IsFor plan) starts ps → EachRelated (IsPromised quits) ps ws →
-      EachRelated (Serves quits plan) starts ws
+      EachRelated (IsFor plan) starts ps → EachRelated (IsPromised Lets) ps ws →
+      EachRelated (Serves Lets plan) starts ws
   all_kept [] [] [] f k = tt
   all_kept [] [] (w ∷ ws) f k = absurd k
   all_kept [] (p ∷ ps) ws f k = absurd f

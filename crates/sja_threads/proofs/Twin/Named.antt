@@ -12,7 +12,7 @@ get_mapped f (y ∷ xs) rest zero x e = let same : y ≡ x = cc in ap (λ z. Som
 get_mapped f (y ∷ xs) rest (suc n) x e = get_mapped f xs rest n x e
 
 -- and the one at a place
-pub get_placed : {A : Type 0} (f : A → ℕ) (xs : List A) (n : ℕ) (x : A) → n < length xs →
+pub get_placed : {A B : Type 0} (f : A → B) (xs : List A) (n : ℕ) (x : A) → n < length xs →
     slice_get (map f xs) n ≡ Some (f (slice_index_or xs n x))
 get_placed f [] n x less = absurd (omega (arith, less))
 get_placed f (y ∷ xs) zero x less = refl

@@ -1,5 +1,5 @@
 -- The lists of what the bus of a run in threads has told, by node.
-use Rattle.std.specs.Prelude.{◌≡◌, ◌<◌, ◌≤◌, ◌++◌, ◌∷◌, ℕ, true, List, [], length, map, slice_index_or, All}
+use Rattle.std.specs.Prelude.{◌≡◌, ◌<◌, ◌≤◌, ◌++◌, ◌∷◌, ℕ, Bool, true, List, [], length, map, slice_index_or, All}
 use Rattle.sja_link.specs.declared.entry.Entry.{Entry}
 use Rattle.sja_regs.specs.declared.orders.Orders.{Orders}
 use Rattle.sja_plan.specs.Plan.{PlanValue, steps_at}
@@ -7,7 +7,7 @@ use Rattle.sja_wire.specs.Wire.{journal_at}
 use Rattle.sja_threads.specs.declared.order.Order.{Ghosts as PortOrders}
 use Rattle.sja_threads.specs.declared.notice.Notice.{Notice}
 use Rattle.sja_threads.specs.declared.notice.Notice.TheVariants.{Ran, Spent}
-use Rattle.sja_threads.specs.Ordering.{TellsPort, HasBegun, ended_told}
+use Rattle.sja_threads.specs.Ordering.{TellsPort, HasBegun, closed_told, ended_told}
 use Rattle.sja_threads.specs.declared.turns_of_node.TurnsOfNode.{TurnsOfNode}
 
 abbrev pub turns_in : {N : Type 0} {o : PortOrders N} → List (TurnsOfNode N o) → List (List Notice)
@@ -43,6 +43,13 @@ SaysSpent more = more ≡ Spent
 -- of each of so many nodes the driver was found to have ended
 abbrev pub AllEnded : ℕ → List (List Notice) → Type 0
 AllEnded nodes turns = (node : ℕ) → node < nodes → ended_told (turns_at turns node) ≡ true
+
+-- and whether its port was told that no bits are left
+abbrev pub AreClosed : ℕ → Bool → List (List Notice) → Type 0
+AreClosed nodes closed turns = (node : ℕ) → node < nodes → closed_told (turns_at turns node) ≡ closed
+
+abbrev pub StayClosed : ℕ → List (List Notice) → List (List Notice) → Type 0
+StayClosed nodes before after = (closed : Bool) → AreClosed nodes closed before → AreClosed nodes closed after
 
 -- each node has begun
 abbrev pub AllBegun : PlanValue → List (List Entry) → List (List Notice) → Type 0

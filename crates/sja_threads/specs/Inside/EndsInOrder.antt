@@ -9,15 +9,16 @@ use Rattle.sja_threads.specs.declared.notice.Notice.{Notice}
 use Rattle.sja_threads.specs.declared.turns_of_node.TurnsOfNode.{TurnsOfNode}
 use Rattle.sja_threads.specs.declared.handover.Handover.{Handover}
 use Rattle.sja_threads.specs.Ordering.{LedBy}
-use Rattle.sja_threads.specs.Inside.Boards.{AllEnded, AreTold, turns_at, turns_in}
+use Rattle.sja_threads.specs.Inside.Boards.{AllEnded, AreClosed, AreTold, turns_at, turns_in}
 use Rattle.sja_threads.specs.Inside.Names.{IsNamed}
 
--- the bus told each port by the journals, to a list for each node, and found that its driver has ended; and each driver
--- has its node's list of deeds
+-- the bus told each port by the journals, to a list for each node, closed it where its bits are spent, and found that
+-- its driver has ended; and each driver has its node's list of deeds
 pub record IsEndingInOrder {N : Type 0} {o : Orders N} (names : List ℕ) (plan : PlanValue) (j : JoinedRun)
     (lists : List (TurnsOfNode N o)) : Type 0 where
   pub told : AreTold plan j.bus.bus.journals (turns_in lists)
   pub many : length lists ≡ length plan.nodes
+  pub closed : AreClosed (length plan.nodes) j.bus.spent (turns_in lists)
   pub ended : AllEnded (length plan.nodes) (turns_in lists)
   pub named : (node : ℕ) (w : Handover RingDriver) → node < length plan.nodes →
       IsNamed names node (slice_index_or j.workeds.items node w).done.name

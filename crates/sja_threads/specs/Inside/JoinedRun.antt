@@ -1,5 +1,5 @@
 -- A run in threads once all threads are joined.
-use Rattle.std.specs.Prelude.{◌≡◌, ◌<◌, ℕ, Bool, false, List, length, map, slice_index_or}
+use Rattle.std.specs.Prelude.{◌≡◌, ◌<◌, ℕ, List, length, map, slice_index_or}
 use Rattle.lemmas.specs.Related.{EachRelated}
 use Rattle.sja_rings.specs.declared.ring_bus.RingBus.{RingBus}
 use Rattle.sja_rings.specs.declared.ring_driver.RingDriver.{RingDriver}
@@ -20,19 +20,19 @@ use Rattle.sja_threads.specs.Inside.Ended.{IsOver}
 use Rattle.sja_threads.specs.Inside.EndsJoined.{AreJoined, AreGivenBy}
 use Rattle.sja_threads.specs.Inside.Rounds.{IsUnderWay, GoesOn}
 
--- what the driver of a node did of its script in a run of this plan, which handed this back; all of it where no gate
--- quits
-pub record HasFollowed (quits : Bool) (plan : PlanValue) (node : ℕ) (work : Work) (w : Handover RingDriver) :
-    Type 0 where
+-- what the driver of a node did of its script in a run of this plan, which handed this back; all of it that its gate
+-- let
+pub record HasFollowed (Lets : ℕ → ℕ → ℕ → Type 0) (plan : PlanValue) (node : ℕ) (work : Work)
+    (w : Handover RingDriver) : Type 0 where
   pub follows : Follows plan.version (settings_in (at_power_on plan.version)) (steps_at plan node) work
   pub done : map done_of work.accesses ≡ done_in (log_of w.driver)
   pub noted : done_in_order w.done.list ≡ done_at_port (deeds_done work)
-  pub all : quits ≡ false → length (done_in (log_of w.driver)) ≡ length (steps_at plan node)
+  pub all : Lets node (length (steps_at plan node)) (length (done_in (log_of w.driver)))
 
 -- its bus is under way, and has room for all deeds; each driver did what it did of its script, and however the bus goes
 -- on from here, with what the threads handed back the run of their deeds is over then; and its ends of all links and
 -- the drivers' come from one pair each
-pub record IsEnding (quits : Bool) (plan : PlanValue) (j : JoinedRun) : Type 0 where
+pub record IsEnding (Lets : ℕ → ℕ → ℕ → Type 0) (plan : PlanValue) (j : JoinedRun) : Type 0 where
   pub way : IsUnderWay plan j.bus
   pub steps : j.bus.bus.steps ≡ deed_counts plan
   pub works : List Work
@@ -42,4 +42,4 @@ pub record IsEnding (quits : Bool) (plan : PlanValue) (j : JoinedRun) : Type 0 w
       AreJoined (length plan.nodes) links j.workeds.items
   pub given : AreGivenBy (length plan.nodes) works j.workeds.items
   pub followed : (node : ℕ) (w : Handover RingDriver) → node < length plan.nodes →
-      HasFollowed quits plan node (work_at works node) (slice_index_or j.workeds.items node w)
+      HasFollowed Lets plan node (work_at works node) (slice_index_or j.workeds.items node w)

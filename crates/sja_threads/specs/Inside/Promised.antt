@@ -1,5 +1,5 @@
 -- What the threads of the drivers promise.
-use Rattle.std.specs.Prelude.{◌≡◌, Bool, List}
+use Rattle.std.specs.Prelude.{◌≡◌, ℕ, List}
 use Rattle.lemmas.specs.Related.{EachRelated}
 use Rattle.sja_rings.specs.declared.ring_bus.RingBus.{RingBus}
 use Rattle.sja_rings.specs.declared.ring_driver.RingDriver.{RingDriver}
@@ -17,12 +17,14 @@ pub record IsFor {G : Type 0} (plan : PlanValue) (s : ThreadStart G) (p : Thread
   pub same_node : p.node ≡ s.node
   pub same_links : p.links.value.items ≡ s.links.items
   pub same_name : p.done.value.name ≡ s.done.name
+  pub same_gate : p.gate.value ≡ s.gate
 
 -- it was kept
-abbrev pub IsPromised : {G : Type 0} → Bool → ThreadPromise G → Handover RingDriver → Type 0
-IsPromised quits p w = HandsBack quits p.plan.value p.node p.links.value.items p.done.value.name w
+abbrev pub IsPromised : {G : Type 0} → (G → ℕ → ℕ → ℕ → Type 0) → ThreadPromise G → Handover RingDriver → Type 0
+IsPromised Lets p w = HandsBack (Lets p.gate.value) p.plan.value p.node p.links.value.items p.done.value.name w
 
 -- the bus of a run of this plan stopped with this fault, whatever these threads hand back once they are joined
-abbrev pub StopsFor : {G : Type 0} → Bool → PlanValue → List RingBus → List (ThreadPromise G) → BusFault → Type 0
-StopsFor quits plan links promises f = (workeds : List (Handover RingDriver)) →
-    EachRelated (IsPromised quits) promises workeds → IsStopped plan links workeds f
+abbrev pub StopsFor : {G : Type 0} → (G → ℕ → ℕ → ℕ → Type 0) → PlanValue → List RingBus → List (ThreadPromise G) →
+    BusFault → Type 0
+StopsFor Lets plan links promises f = (workeds : List (Handover RingDriver)) →
+    EachRelated (IsPromised Lets) promises workeds → IsStopped plan links workeds f

@@ -5,6 +5,7 @@ use Rattle.sja_link.specs.Accounts.{Account}
 use Rattle.sja_link.specs.Parts.{part}
 use Rattle.sja_link.specs.Carried.{bits_of, taken_of}
 use Rattle.lemmas.specs.Related.{EachRelated}
+use Rattle.sja_rings.specs.declared.ring_bus.RingBus.{RingBus}
 use Rattle.sja_rings.specs.Ends.{BusLists, SameBus, link_of_bus}
 use Rattle.sja_plan.specs.Plan.{PlanValue}
 use Rattle.sja_link.specs.Links.{Kept, Numbered}
@@ -12,7 +13,7 @@ use Rattle.sja_wire.specs.declared.bus_fault.BusFault.{BusFault}
 use Rattle.sja_wire.specs.Wire.{journal_at}
 use Rattle.sja_log.specs.declared.end.End.{End}
 use Rattle.sja_threads.specs.declared.bus_thread.BusThread.{BusThread}
-use Rattle.sja_threads.specs.Needed.{IsBitDue, AllDue, EndsDuly, last_awaited}
+use Rattle.sja_threads.specs.Needed.{IsBitDue, AllDue, EndsDuly}
 use Rattle.sja_threads.specs.Stopping.{StopsOn}
 
 -- items were taken in the activations 1 to 64 alone
@@ -24,12 +25,12 @@ abbrev pub EachHas : ℕ → List (List Entry) → Type 0
 EachHas bits journals = (node : ℕ) → node < length journals → length (bits_of (journal_at journals node)) ≡ bits
 
 -- a bit that was due by these journals was due by those too
-abbrev pub StayDue : ℕ → List (List Entry) → List (List Entry) → Type 0
-StayDue awaited before after = (bits : ℕ) → IsBitDue awaited bits before → IsBitDue awaited bits after
+abbrev pub StayDue : PlanValue → List RingBus → List (List Entry) → List (List Entry) → Type 0
+StayDue plan ends before after = (bits : ℕ) → IsBitDue plan ends bits before → IsBitDue plan ends bits after
 
 -- the bus of a run of this plan without a fault, and its ends of all links, 64 of each
--- node, which stand for the parts of the journals, whatever the drivers got and gave; each bit so far was due, and
--- where the bits are spent one more was
+-- node, which stand for the parts of the journals, whatever the drivers got and gave, and are the same as at first;
+-- each bit so far was due, and where the bits are spent one more was
 pub record IsUnderWay (plan : PlanValue) (t : BusThread) : Type 0 where
   pub right : t.bus.fault ≡ None
   pub script : t.bus.script ≡ plan.strikes
@@ -40,9 +41,11 @@ pub record IsUnderWay (plan : PlanValue) (t : BusThread) : Type 0 where
   pub kept : (node : ℕ) (h : ℕ → Account) → node < length plan.nodes →
       Kept BusLists (journal_at t.bus.journals node) t.links.items (64 * node) h
   pub within : (node : ℕ) → node < length plan.nodes → TakesWithin (journal_at t.bus.journals node)
-  pub due : AllDue (last_awaited plan.nodes) t.bus.run t.bus.journals
+  pub first : List RingBus
+  pub since : EachRelated SameBus first t.links.items
+  pub due : AllDue plan first t.bus.run t.bus.journals
   pub run : t.bus.run ≡ t.run
-  pub spent : t.spent ≡ true → (t.run ≡ plan.bits) × IsBitDue (last_awaited plan.nodes) plan.bits t.bus.journals
+  pub spent : t.spent ≡ true → (t.run ≡ plan.bits) × IsBitDue plan first plan.bits t.bus.journals
 
 -- it went on with the same ends, and with room for as many steps
 pub record GoesOn (plan : PlanValue) (was now : BusThread) : Type 0 where
@@ -58,4 +61,4 @@ pub record Stops (plan : PlanValue) (was now : BusThread) (f : BusFault) : Type 
 -- it went on to the end of the run, which is this one
 pub record EndsAs (plan : PlanValue) (was now : BusThread) (end : End) : Type 0 where
   pub on : GoesOn plan was now
-  pub duly : EndsDuly (last_awaited plan.nodes) plan.bits end now.run now.bus.journals
+  pub duly : EndsDuly plan on.way.first end now.run now.bus.journals

@@ -15,7 +15,7 @@ use Rattle.sja_log.specs.declared.end.End.{End}
 use Rattle.sja_log.specs.Log.{NodeValue, RunValue, journals_in}
 use Rattle.sja_threads.specs.declared.handover.Handover.{Handover}
 use Rattle.sja_threads.specs.Linked.{AreLinked}
-use Rattle.sja_threads.specs.Stopping.{CameFirst}
+use Rattle.sja_threads.specs.Stopping.{CameFirst, IsUnsettledBy}
 
 -- the drivers that were handed back, and their ends of all links, one driver's after the other's
 abbrev pub all_drivers : List (Handover RingDriver) → List LoggedDriver
@@ -33,6 +33,12 @@ IsLeftOn b d down =
 -- what came out at the bus's end is a front of what went in at the driver's
 abbrev pub CameFrom : RingBus → RingDriver → Type 0
 CameFrom b d = CameFirst b (sent d.up)
+
+-- one of these links isn't settled
+pub record SomeUnsettled (buses : List RingBus) (drivers : List RingDriver) : Type 0 where
+  pub at : ℕ
+  pub few : at < length buses
+  pub why : (b : RingBus) (d : RingDriver) → IsUnsettledBy (slice_index_or buses at b) (slice_index_or drivers at d)
 
 -- so it is on the first so many links
 pub record AreLeftOn (buses : List RingBus) (drivers : List RingDriver) (count : ℕ) (left_down : List (List Down)) :

@@ -1,5 +1,5 @@
 -- The threads of the drivers: what each begins with, and what it hands back.
-use Rattle.std.specs.Prelude.{◌≡◌, ◌<◌, ◌≤◌, ℕ, Bool, false, List, [], length, All}
+use Rattle.std.specs.Prelude.{◌≡◌, ◌<◌, ◌≤◌, ℕ, List, [], length, All}
 use Rattle.lemmas.specs.Related.{EachRelated}
 use Rattle.sja_rings.specs.declared.ring_driver.RingDriver.{RingDriver}
 use Rattle.sja_rings.specs.Ends.{DriverLists, SameDriver, link_of_driver}
@@ -31,16 +31,16 @@ AreOrdered {G} order_version names version starts =
     All (λ (s : ThreadStart G). IsOrderOf order_version names version s.node s.done.name) starts
 
 -- what it hands back: the same ends and the same list of deeds, and a driver that followed its script with them, all of
--- it where no gate quits, and whose log keeps all
-pub record HandsBack (quits : Bool) (plan : PlanValue) (node : ℕ) (links : List RingDriver) (name : ℕ)
+-- it that its gate let, and whose log keeps all
+pub record HandsBack (Lets : ℕ → ℕ → ℕ → Type 0) (plan : PlanValue) (node : ℕ) (links : List RingDriver) (name : ℕ)
     (w : Handover RingDriver) : Type 0 where
   pub sames : EachRelated SameDriver links w.links.items
   pub worked : HasWorked DriverLists (settings_in (at_power_on plan.version)) node (steps_at plan node) links w
       w.done.list
   pub named : w.done.name ≡ name
   pub keeps : KeepsLog (log_of w.driver)
-  pub all : quits ≡ false → length (done_in (log_of w.driver)) ≡ length (steps_at plan node)
+  pub all : Lets node (length (steps_at plan node)) (length (done_in (log_of w.driver)))
 
 -- the same of what a thread began with
-abbrev pub Serves : {G : Type 0} → Bool → PlanValue → ThreadStart G → Handover RingDriver → Type 0
-Serves quits plan s w = HandsBack quits plan s.node s.links.items s.done.name w
+abbrev pub Serves : {G : Type 0} → (G → ℕ → ℕ → ℕ → Type 0) → PlanValue → ThreadStart G → Handover RingDriver → Type 0
+Serves Lets plan s w = HandsBack (Lets s.gate) plan s.node s.links.items s.done.name w

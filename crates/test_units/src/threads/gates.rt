@@ -16,6 +16,8 @@ impl Gate for Open {
 
     ghost asks = { λ g node step tries. Unit {0} };
 
+    ghost answered = { λ g node step tries pass. Unit {0} };
+
     const QUITS: bool = false;
 
     fn turn(&self, _node: u8, _step: u32, _tries: u32) -> Pass {
@@ -24,9 +26,9 @@ impl Gate for Open {
 
     ghost first_step = { λ g node. tt };
 
-    ghost next_try = { λ g node step tries next so numbered. tt };
+    ghost next_try = { λ g node step tries next pass says on numbered. tt };
 
-    ghost next_step = { λ g node step tries next so numbered. tt };
+    ghost next_step = { λ g node step tries next says numbered. tt };
 }
 
 /// A gate that quits at this try of a step.
@@ -42,6 +44,8 @@ impl Gate for Patience {
 
     ghost asks = { λ g node step tries. Unit {0} };
 
+    ghost answered = { λ g node step tries pass. Unit {0} };
+
     const QUITS: bool = true;
 
     fn turn(&self, _node: u8, _step: u32, tries: u32) -> Pass {
@@ -54,9 +58,9 @@ impl Gate for Patience {
 
     ghost first_step = { λ g node. tt };
 
-    ghost next_try = { λ g node step tries next so numbered. tt };
+    ghost next_try = { λ g node step tries next pass says on numbered. tt };
 
-    ghost next_step = { λ g node step tries next so numbered. tt };
+    ghost next_step = { λ g node step tries next says numbered. tt };
 }
 
 /// A gate that holds each step once, lets its second try go, and quits at a third and past this step.
@@ -72,6 +76,8 @@ impl Gate for HoldsOnce {
 
     ghost asks = { λ g node step tries. Unit {0} };
 
+    ghost answered = { λ g node step tries pass. Unit {0} };
+
     const QUITS: bool = true;
 
     fn turn(&self, _node: u8, step: u32, tries: u32) -> Pass {
@@ -86,9 +92,9 @@ impl Gate for HoldsOnce {
 
     ghost first_step = { λ g node. tt };
 
-    ghost next_try = { λ g node step tries next so numbered. tt };
+    ghost next_try = { λ g node step tries next pass says on numbered. tt };
 
-    ghost next_step = { λ g node step tries next so numbered. tt };
+    ghost next_step = { λ g node step tries next says numbered. tt };
 }
 
 /// How often a step is tried that waits for another driver.
@@ -113,6 +119,8 @@ impl Gate for Meeting {
 
     ghost asks = { λ g node step tries. Unit {0} };
 
+    ghost answered = { λ g node step tries pass. Unit {0} };
+
     const QUITS: bool = true;
 
     fn turn(&self, _node: u8, step: u32, tries: u32) -> Pass {
@@ -128,7 +136,7 @@ impl Gate for Meeting {
 
     ghost first_step = { λ g node. tt };
 
-    ghost next_try = { λ g node step tries next so numbered. tt };
+    ghost next_try = { λ g node step tries next pass says on numbered. tt };
 
-    ghost next_step = { λ g node step tries next so numbered. tt };
+    ghost next_step = { λ g node step tries next says numbered. tt };
 }

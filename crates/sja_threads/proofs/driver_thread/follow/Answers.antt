@@ -5,6 +5,7 @@ use Rattle.sja_driver.specs.Accesses.{by_bytes}
 use Rattle.lemmas.specs.Related.{EachRelated}
 use Rattle.sja_driver.specs.LoggedDrivers.{node_of, log_of}
 use Rattle.sja_driver.specs.Logs.{KeepsLog, done_in}
+use Rattle.sja_threads.specs.Asking.{IsLet}
 use Rattle.sja_threads.specs.Working.{HasWorked}
 use Rattle.sja_threads.specs.Inside.Names.{IsNamed}
 use Rattle.sja_threads.specs.Inside.Steps.{MayBegin}
@@ -35,7 +36,7 @@ do_steps-requires g c = (c.type_bounds.send-G, may_begin g (goal.at.do_steps-req
 pub returns-clause-same : goal.returns-clause-same
 returns-clause-same g c =
     subst (λ w. EachRelated g.D.DriverEnd.same c.args.links.items w.links.items)
-    (sym c.hand_back.ensures) c.do_steps.ensures.does.sames
+    (sym c.hand_back.ensures) c.do_steps.ensures.ended.does.sames
 
 pub returns-clause-worked : goal.returns-clause-worked
 returns-clause-worked g c =
@@ -52,21 +53,26 @@ returns-clause-worked g c =
     (record { links = now.links; driver = now.driver; done = now.done.known }) now.done.known.list)
     c.at_power_on-set.ensures
     (worked_by g.D.DriverEnd g.G.Gate.QUITS _ now c.args.steps.now
-    (may_begin g (goal.at.returns-clause-worked g c).After-new-driver) c.do_steps.ensures)))
+    (may_begin g (goal.at.returns-clause-worked g c).After-new-driver) c.do_steps.ensures.ended)))
 
 pub returns-clause-named : goal.returns-clause-named
 returns-clause-named g c =
     subst (λ w. IsNamed g.N.Order.deeds c.args.done.node w.done.name)
     (sym c.hand_back.ensures)
-    (subst (λ (n : ℕ). IsNamed g.N.Order.deeds n c.do_steps.new.self.done.known.name) c.do_steps.ensures.does.same
+    (subst (λ (n : ℕ). IsNamed g.N.Order.deeds n c.do_steps.new.self.done.known.name) c.do_steps.ensures.ended.does.same
     c.do_steps.new.self.done.named)
 
 pub returns-clause-keeps : goal.returns-clause-keeps
 returns-clause-keeps g c = λ keeps.
     subst (λ w. KeepsLog (log_of w.driver)) (sym c.hand_back.ensures)
-    (c.do_steps.ensures.does.keeps (subst (λ l. KeepsLog l) (sym c.new-driver.ensures.log) keeps))
+    (c.do_steps.ensures.ended.does.keeps (subst (λ l. KeepsLog l) (sym c.new-driver.ensures.log) keeps))
 
 pub returns-clause-done : goal.returns-clause-done
 returns-clause-done g c = λ never.
     ap (λ w. length (done_in (log_of w.driver))) c.hand_back.ensures
-    ∙ all_done g.D.DriverEnd g.G.Gate.QUITS _ c.do_steps.new.self c.args.steps.now c.do_steps.ensures never
+    ∙ all_done g.D.DriverEnd g.G.Gate.QUITS _ c.do_steps.new.self c.args.steps.now c.do_steps.ensures.ended never
+
+pub returns-clause-let_by : goal.returns-clause-let_by
+returns-clause-let_by g c =
+    subst (λ w. IsLet g.G.Gate.QUITS g.G.Gate.answered c.args.at.gate c.args.done.node (length c.args.steps.now)
+    (length (done_in (log_of w.driver)))) (sym c.hand_back.ensures) c.do_steps.ensures.let_by

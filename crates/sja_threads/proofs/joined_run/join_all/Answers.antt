@@ -3,6 +3,7 @@ use Rattle.std.specs.Vec.Iter.{into_iter_items}
 use Rattle.std.proofs.lemmas.List.{map_more}
 use Rattle.lemmas.specs.Related.{EachRelated}
 use Rattle.sja_log.proofs.NodeLog.Logging.{next_of}
+use Rattle.sja_threads.specs.Asking.{IsLet}
 use Rattle.sja_threads.specs.Inside.Promised.{IsPromised}
 use Rattle.lemmas.proofs.Related.{related_push}
 use Rattle.sja_threads.proofs.joined_run.join_all.Goals as goal
@@ -33,7 +34,8 @@ loop-child-preserved g c =
     record {
       room = search rules;
       rest = sym (next_of children left n child child is).1 ∙ ap (λ (k : ℕ). drop k children) (sym next);
-      kept = kept_next (IsPromised g.G.Gate.QUITS) (λ child. child.promise) n (vec_len more) children left child
+      kept = kept_next (IsPromised (IsLet g.G.Gate.QUITS g.G.Gate.answered)) (λ child. child.promise) n
+          (vec_len more) children left child
           c.loop-child.workeds.items more.items c.join.result is c.push_reserved.ensures.items next inv.kept
           c.join.ensures;
     }

@@ -4,7 +4,7 @@ use Rattle.std.specs.Vec.Iter.{into_iter_items}
 use Rattle.sja_rings.specs.declared.ring_bus.RingBus.{RingBus}
 use Rattle.sja_rings.specs.declared.ring_driver.RingDriver.{RingDriver}
 use Rattle.sja_rings.specs.Ends.{OneLink}
-use Rattle.sja_threads.proofs.End.CameFrom.{HaveCome, next_one, none_yet, one_more}
+use Rattle.sja_threads.proofs.End.CameFrom.{HaveCome, next_one, none_yet, not_this, one_more}
 use Rattle.sja_threads.proofs.left_on_links.all_account.Goals.{In-Some-next}
 use Rattle.sja_threads.proofs.left_on_links.all_account.Goals as goal
 
@@ -32,10 +32,10 @@ accounts-requires c =
 pub loop-link-preserved : goal.loop-link-preserved
 loop-link-preserved c =
     one_more c.args.links.items c.args.ends.items _ _ c.in-Some.link c.in-Some-next.end
-    (here (goal.at.loop-link-preserved c).In-Some-next) (c.accounts.ensures (search rules))
+    (here (goal.at.loop-link-preserved c).In-Some-next) (c.accounts.ensures.yes (search rules))
 
-pub returns : goal.returns
-returns c = λ is i b d less.
+pub returns-clause-yes : goal.returns-clause-yes
+returns-clause-yes c = λ is i b d less.
     let inv = c.loop-link.invariant in
     let it = c.loop-link.link-iterator in
     let none : into_iter_items it ≡ [] =
@@ -44,3 +44,8 @@ returns c = λ is i b d less.
     ap (λ (l : List RingBus). length l) (sym inv.links_left ∙ none) in
     let most : length c.args.links.items ≤ inv.many = omega (arith, length-drop inv.many c.args.links.items, rest) in
     inv.came i b d (omega (arith, most, less))
+
+pub returns-then-not-accounts-clause-no : goal.returns-then-not-accounts-clause-no
+returns-then-not-accounts-clause-no c = λ is.
+    not_this c.args.links.items c.args.ends.items _ _ c.in-Some.link c.in-Some-next.end
+    (here (goal.at.returns-then-not-accounts-clause-no c).In-Some-next) (c.accounts.ensures.no c.if-not-accounts.true)

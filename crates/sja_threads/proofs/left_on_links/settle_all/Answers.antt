@@ -1,5 +1,8 @@
 use Rattle.std.proofs.Common.{◌≡◌, ◌∷◌, ◌++◌, ◌+◌, ◌≤◌, ℕ, List, [], length, drop, sym, ap, ◌∙◌, subst, arith}
-use Rattle.std.specs.Prelude.{slice_index_or}
+use Rattle.std.proofs.Common.{inl, inr, rules}
+use Rattle.std.specs.Prelude.{◌⊎◌, Err, slice_index_or}
+use Rattle.lemmas.proofs.Results.{err_is}
+use Rattle.sja_log.specs.declared.run_fault.RunFault.TheVariants.{Memory, Unsettled}
 use Rattle.std.proofs.lemmas.List.{length-append, length-drop, nil_from_length}
 use Rattle.std.specs.Vec.Iter.{into_iter_items}
 use Rattle.sja_link.specs.declared.down.Down.{Down}
@@ -7,7 +10,8 @@ use Rattle.sja_rings.specs.declared.ring_bus.RingBus.{RingBus}
 use Rattle.sja_rings.specs.declared.ring_driver.RingDriver.{RingDriver}
 use Rattle.sja_rings.specs.Ends.{OneLink}
 use Rattle.sja_log.proofs.NodeLog.Logging.{next_of}
-use Rattle.sja_threads.specs.Inside.Settling.{IsLeftOn, AreLeftOn}
+use Rattle.sja_threads.specs.Inside.Settling.{IsLeftOn, AreLeftOn, SomeUnsettled}
+use Rattle.sja_threads.proofs.End.CameFrom.{unsettled_at}
 use Rattle.sja_threads.proofs.End.LeftOnLinks.{left_push}
 use Rattle.sja_threads.proofs.left_on_links.settle_all.Goals as goal
 
@@ -69,3 +73,21 @@ returns-clause-left c =
     let few = inv.few in
     let same : n ≡ length c.args.links.items = omega (arith, most, few) in
     subst (λ (k : ℕ). AreLeftOn c.args.links.items c.args.ends.items k c.loop-link.lists.items) same inv.left
+
+pub returns-in_err-settle_link-clause-fault : goal.returns-in_err-settle_link-clause-fault
+returns-in_err-settle_link-clause-fault c =
+    let inv = c.loop-link.invariant in
+    let f = c.in_err-settle_link.field-0.0 in
+    let is : c.from_residual.result ≡ Err f = search rules in
+    err_is (λ x. (x ≡ Memory) ⊎ ((x ≡ Unsettled) × SomeUnsettled c.args.links.items c.args.ends.items))
+    c.from_residual.result f is
+    (elim c.in_err-settle_link.ensures.fault [
+      | inl memory ↦ inl memory
+      | inr left ↦ inr (
+        left.0,
+        unsettled_at c.args.links.items c.args.ends.items (length c.loop-link.lists.items)
+            (into_iter_items c.next.new.self) (into_iter_items c.next-in-loop-link.new.self) c.in-Some.link
+            c.in-Some-next.end (sym inv.rest ∙ c.in-Some.ensures.steps.0)
+            (sym inv.ends ∙ c.in-Some-next.ensures.items) left.1,
+      )
+    ])

@@ -1,12 +1,14 @@
-use Rattle.std.proofs.Common.{rules, ◌≡◌, ◌≤◌, length, map, vec_len, refl, ap, ◌∙◌, arith}
+use Rattle.std.proofs.Common.{rules, ◌≡◌, ◌≤◌, length, map, vec_len, refl, sym, ap, ◌∙◌, arith}
 use Rattle.std.specs.Prelude.{vec_capacity}
 use Rattle.std.proofs.lemmas.List.{length-map}
 use Rattle.std.proofs.lemmas.Slice.Zip.{AllZip-long}
 use Rattle.sja_wire.specs.Buses.{BusValue}
+use Rattle.sja_threads.specs.Asking.{IsLet}
 use Rattle.sja_threads.specs.Stopping.{deed_counts}
 use Rattle.sja_threads.specs.Inside.Promised.{IsFor, StopsFor}
 use Rattle.sja_wire.specs.Wire.{journal_at}
 use Rattle.sja_wire.proofs.Wires.{no_journal}
+use Rattle.sja_threads.specs.Ordering.{closed_told}
 use Rattle.sja_threads.specs.Inside.Boards.{turns_in}
 use Rattle.sja_threads.proofs.End.EndsJoined.{stopped_beside}
 use Rattle.sja_threads.proofs.End.RunOver.{all_done, all_named}
@@ -43,24 +45,26 @@ returns-in-Ok-rounds_beside_drivers-clause-ending g c =
     let parts = c.args.parts in
     let starts = parts.starts.items in
     let r = c.requires.parts in
-    ending g.G.Gate.QUITS plan starts parts.bus c.rounds_beside_drivers.new.self c.join_all-workeds.result.items _
-    refl refl
+    ending (IsLet g.G.Gate.QUITS g.G.Gate.answered) plan starts parts.bus c.rounds_beside_drivers.new.self
+    c.join_all-workeds.result.items _ refl refl
     r.starts r.links r.made c.in-Ok-rounds_beside_drivers.ensures.on (ap (λ (b : BusValue). b.steps) r.bus)
-    (all_kept g.G.Gate.QUITS plan starts (map (λ child. child.promise) c.in-Ok.children.items)
+    (all_kept (IsLet g.G.Gate.QUITS g.G.Gate.answered) plan starts (map (λ child. child.promise) c.in-Ok.children.items)
     c.join_all-workeds.result.items c.in-Ok.ensures.all c.join_all-workeds.ensures)
 
 -- the bus stopped, whatever the threads hand back
-stops_for : (g : Over) (c : In-Err g) → StopsFor g.G.Gate.QUITS c.args.plan.now
+stops_for : (g : Over) (c : In-Err g) → StopsFor (IsLet g.G.Gate.QUITS g.G.Gate.answered) c.args.plan.now
     c.rounds_beside_drivers.new.self.links.items (map (λ child. child.promise) c.in-Ok.children.items)
     c.in-Err.stop
 stops_for g c = λ ws kept.
     let plan = c.args.plan.now in
     let parts = c.args.parts in
     let r = c.requires.parts in
-    stopped_beside g.G.Gate.QUITS plan parts.starts.items ws parts.bus c.rounds_beside_drivers.new.self
+    stopped_beside (IsLet g.G.Gate.QUITS g.G.Gate.answered) plan parts.starts.items ws parts.bus
+    c.rounds_beside_drivers.new.self
     c.in-Err.stop r.starts r.links r.made (ap (λ (b : BusValue). b.steps) r.bus)
     c.in-Err.ensures.fault
-    (all_kept g.G.Gate.QUITS plan parts.starts.items (map (λ child. child.promise) c.in-Ok.children.items) ws
+    (all_kept (IsLet g.G.Gate.QUITS g.G.Gate.answered) plan parts.starts.items
+    (map (λ child. child.promise) c.in-Ok.children.items) ws
     c.in-Ok.ensures.all kept)
 
 -- there is room for what they hand back
@@ -100,16 +104,19 @@ returns-in-Ok-rounds_beside_drivers-clause-order g c =
     let parts = c.args.parts in
     let starts = parts.starts.items in
     let r = c.requires.parts in
-    let served = all_kept g.G.Gate.QUITS plan starts (map (λ child. child.promise) c.in-Ok.children.items)
+    let served = all_kept (IsLet g.G.Gate.QUITS g.G.Gate.answered) plan starts
+    (map (λ child. child.promise) c.in-Ok.children.items)
     c.join_all-workeds.result.items c.in-Ok.ensures.all c.join_all-workeds.ensures in record {
       told = c.in-Ok-rounds_beside_drivers.ensures.told
           (told_first plan parts.bus.bus.journals (turns_in c.args.told.items)
           (λ node. ap (λ (b : BusValue). journal_at b.journals node) r.bus ∙ no_journal (length plan.nodes) node)
           (none_at c.args.told.items c.requires.told.1));
       many = c.rounds_beside_drivers.ensures.ports ∙ c.requires.told.0;
+      closed = c.in-Ok-rounds_beside_drivers.ensures.closed
+          (λ node few. ap closed_told (none_at c.args.told.items c.requires.told.1 node) ∙ sym r.spent);
       ended = c.in-Ok-rounds_beside_drivers.ensures.ended;
-      named = all_named g.G.Gate.QUITS plan starts c.join_all-workeds.result.items parts.bus
+      named = all_named (IsLet g.G.Gate.QUITS g.G.Gate.answered) plan starts c.join_all-workeds.result.items parts.bus
           c.rounds_beside_drivers.new.self
           r.starts r.links r.made g.N.Order.version g.N.Order.deeds c.requires.order
-          (all_done g.G.Gate.QUITS plan starts c.join_all-workeds.result.items served);
+          (all_done (IsLet g.G.Gate.QUITS g.G.Gate.answered) plan starts c.join_all-workeds.result.items served);
     }

@@ -1,3 +1,6 @@
+use Rattle.std.proofs.Common.{subst}
+use Rattle.sja_threads.specs.Asking.{AtNode, IsLet}
+use Rattle.sja_threads.specs.Inside.JoinedRun.{IsEnding}
 use Rattle.sja_threads.proofs.Start.Threads.{all_ordered}
 use Rattle.sja_threads.proofs.run.run_ordered.Goals as goal
 
@@ -7,3 +10,9 @@ run_drivers-requires-clause-order g c κs within =
     let parts = c.args.parts in
     all_ordered c.args.plan.now parts.starts.items c.args.lists.items parts.bus.links.items g.N.Order.deeds
     g.N.Order.version r.version r.deeds r.many r.parts.starts r.parts.made r.listed
+
+-- the gates that are asked are those with which the threads begin
+pub end_run-requires-clause-ending : goal.end_run-requires-clause-ending
+end_run-requires-clause-ending g c κs within =
+    subst (λ gates. IsEnding (AtNode (IsLet g.G.Gate.QUITS g.G.Gate.answered) gates) c.args.plan.now
+    c.in_ok-joined.joined) c.requires.asked c.in_ok-joined.ensures.ending

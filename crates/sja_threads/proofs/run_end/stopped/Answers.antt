@@ -4,8 +4,9 @@ use Rattle.sja_rings.specs.declared.ring_bus.RingBus.{RingBus}
 use Rattle.sja_rings.specs.declared.ring_driver.RingDriver.{RingDriver}
 use Rattle.sja_rings.specs.Ends.{OneLink}
 use Rattle.sja_threads.specs.Stopping.{IsFaultOf}
-use Rattle.sja_threads.specs.Inside.Settling.{CameFrom}
+use Rattle.sja_threads.specs.Inside.Settling.{CameFrom, SomeUnsettled}
 use Rattle.sja_threads.proofs.End.CameFrom.{stops_with}
+use Rattle.sja_threads.proofs.End.Unsettled.{unsettled_run}
 use Rattle.sja_threads.proofs.End.LinksOver.{ends_count, one_link}
 use Rattle.sja_threads.proofs.run_end.stopped.Goals as goal
 
@@ -30,4 +31,11 @@ returns-then-all_account c = λ plan is.
     CameFrom (slice_index_or links i b) (slice_index_or es i d) in
     subst (IsFaultOf plan) (sym c.as_told.ensures)
     (stops_with plan links c.args.workeds.items c.args.stop is
-    (subst P c.in-Ok.ensures.ends (c.all_account.ensures (search rules))))
+    (subst P c.in-Ok.ensures.ends (c.all_account.ensures.yes (search rules))))
+
+pub returns : goal.returns
+returns c = λ plan is.
+    let links = c.args.bus.links.items in
+    unsettled_run plan links c.args.workeds.items is.works is.stop.ids is.joined is.given is.follows
+    (subst (λ (ends : List RingDriver). SomeUnsettled links ends) c.in-Ok.ensures.ends
+    (c.all_account.ensures.no (search rules)))

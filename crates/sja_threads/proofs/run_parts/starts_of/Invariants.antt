@@ -1,5 +1,5 @@
-use Rattle.std.proofs.Common.{◌≡◌, ◌≤◌, ◌+◌, ◌*◌, length, vec_capacity}
-use Rattle.std.specs.Vec.Iter.{into_iter_len}
+use Rattle.std.proofs.Common.{◌≡◌, ◌≤◌, ◌+◌, ◌*◌, drop, length, map, take, vec_capacity}
+use Rattle.std.specs.Vec.Iter.{into_iter_items, into_iter_len}
 use Rattle.sja_threads.specs.Inside.Making.{AreMade, AreListed}
 use Rattle.sja_threads.proofs.run_parts.starts_of.Given as goal
 
@@ -11,5 +11,7 @@ invariant-loop-gate g l = record {
   links : length l.buses.items ≡ 64 * l.node;
   made : AreMade l.plan l.node l.starts.items l.buses.items;
   many : length l.lists.items ≡ l.node;
+  rest : into_iter_items l.gate-iterator ≡ drop l.node l.fn.gates.items;
+  asked : map (λ s. s.gate) l.starts.items ≡ take l.node l.fn.gates.items;
   listed : AreListed l.node l.starts.items l.lists.items;
 }

@@ -4,7 +4,8 @@ use Rattle.std.proofs.lemmas.List.{with_items_is}
 use Rattle.lemmas.proofs.Results.{err_is}
 use Rattle.sja_threads.specs.Inside.Boards.{turns_in}
 use Rattle.sja_threads.specs.Inside.Rounds.{Stops}
-use Rattle.sja_threads.proofs.Rounds.GoesOn.{after_bit, all_rest, spent_now, wanted_now}
+use Rattle.sja_threads.proofs.Rounds.Closed.{closed_bit}
+use Rattle.sja_threads.proofs.Rounds.GoesOn.{after_bit, all_rest, spent_now, stays_on, wanted_now}
 use Rattle.sja_threads.proofs.Rounds.Stops.{by_any_orders, stops_bit}
 use Rattle.sja_threads.proofs.Rounds.Told.{ended_bit, told_bit}
 use Rattle.sja_threads.proofs.bus_thread.BusThread.bit_if_due.Goals as goal
@@ -12,7 +13,7 @@ use Rattle.sja_threads.proofs.bus_thread.BusThread.bit_if_due.Goals as goal
 pub returns-then-self-bits-clause-on : goal.returns-then-self-bits-clause-on
 returns-then-self-bits-clause-on g c =
     let w = c.requires.way in
-    spent_now c.args.plan.now c.args.self.now w (search rules) (c.at_rest-rests.ensures.lawful w.right)
+    spent_now c.args.plan.now c.args.self.now w (search rules) (c.at_rest-rests.ensures.lawful w.right) c.requires.dry
     (wanted_now c.args.awaited _ c.args.self.now c.at_rest-rests.result c.requires.awaited
     (c.is_wanted.ensures.yes (search rules)) (c.at_rest-rests.ensures.busy w.right))
 
@@ -26,7 +27,7 @@ returns-clause-on g c =
     with_items_is links c.bit.new.links (omega (arith, c.bit.auto.links, c.as_mut_slice.ensures.len)) in
     after_bit c.args.self.now _ c.as_mut_slice.result.now c.bit.new.links c.as_mut_slice.ensures.value those k.script
     k.steps k.nodes k.sames c.args.plan.now w o.right o.kept _ _ _ (o.run, o.left)
-    (c.at_rest-rests.ensures.lawful w.right)
+    (c.at_rest-rests.ensures.lawful w.right) c.requires.dry
     (wanted_now c.args.awaited _ c.args.self.now c.at_rest-rests.result c.requires.awaited
     (c.is_wanted.ensures.yes (search rules)) (c.at_rest-rests.ensures.busy w.right)) (search rules) o.bit refl refl
 
@@ -58,12 +59,15 @@ returns-clause-ended g c =
     ended_bit (length c.args.plan.now.nodes) _ _ (turns_in c.args.board.now.told.items)
     (turns_in c.bit.new.board.told.items) _ _ _ (omega (arith, many)) o.bit
 
+pub returns-then-not-is_wanted-clause-on : goal.returns-then-not-is_wanted-clause-on
+returns-then-not-is_wanted-clause-on g c = stays_on c.args.plan.now c.args.self.now c.requires.way
+
 -- where the bits are spent each journal has all of them
 pub returns-then-self-bits-clause-all : goal.returns-then-self-bits-clause-all
 returns-then-self-bits-clause-all g c = λ is.
     let w = c.requires.way in
     let laws = c.at_rest-rests.ensures.lawful w.right in
-    let on = spent_now c.args.plan.now c.args.self.now w (search rules) laws
+    let on = spent_now c.args.plan.now c.args.self.now w (search rules) laws c.requires.dry
     (wanted_now c.args.awaited _ c.args.self.now c.at_rest-rests.result c.requires.awaited
     (c.is_wanted.ensures.yes (search rules)) (c.at_rest-rests.ensures.busy w.right)) in
     λ node few. laws.wired.count node few ∙ w.run ∙ (on.way.spent refl).0
@@ -73,3 +77,10 @@ returns-then-not-is_wanted-clause-rests g c = λ is.
     let w = c.requires.way in
     let no = c.is_wanted.ensures.no (search rules) in
     (no.1, all_rest c.args.self.now.bus.journals (c.at_rest-rests.ensures.rest w.right no.0))
+
+pub returns-clause-closed : goal.returns-clause-closed
+returns-clause-closed g c =
+    let o = c.in_ok-bit.ensures.bit in
+    let many = c.requires.way.journals in
+    closed_bit (length c.args.plan.now.nodes) _ _ (turns_in c.args.board.now.told.items)
+    (turns_in c.bit.new.board.told.items) _ _ _ (omega (arith, many)) o.bit

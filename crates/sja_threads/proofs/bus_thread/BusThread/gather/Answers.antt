@@ -1,6 +1,10 @@
-use Rattle.std.proofs.Common.{◌≡◌, refl, arith}
+use Rattle.std.proofs.Common.{◌≡◌, List, refl, sym, subst, arith}
+use Rattle.std.specs.Prelude.{OnOk}
 use Rattle.std.specs.Vec.{with_items}
 use Rattle.std.proofs.lemmas.List.{with_items_is}
+use Rattle.sja_rings.specs.declared.ring_bus.RingBus.{RingBus}
+use Rattle.sja_wire.specs.Buses.{AllDry}
+use Rattle.sja_threads.specs.Gathering.{IsDry}
 use Rattle.sja_threads.proofs.Rounds.GoesOn.{gathered}
 use Rattle.sja_threads.proofs.Rounds.Stops.{stops_gather}
 use Rattle.sja_threads.proofs.Rounds.Told.{told_gather}
@@ -28,3 +32,11 @@ pub returns-clause-told : goal.returns-clause-told
 returns-clause-told c =
     let e = c.gather.ensures in
     told_gather c.args.self.now.bus.journals c.gather.new.self.journals e.nodes c.gather.result e.items
+
+pub returns-clause-dry : goal.returns-clause-dry
+returns-clause-dry c =
+    let e = c.gather.ensures in
+    let links = c.args.self.now.links in
+    let those : (with_items links c.gather.new.links).items ≡ c.gather.new.links =
+    with_items_is links c.gather.new.links (omega (arith, c.gather.auto.links, c.as_mut_slice.ensures.len)) in
+    subst (λ (l : List RingBus). OnOk c.gather.result (AllDry IsDry c.gather.new.self.journals l)) (sym those) e.dry

@@ -47,3 +47,7 @@ all_begun-requires-clause-right g c = (c.in_ok-gather.ensures.on c.args.plan.now
 
 pub all_begun-requires-clause-nodes : goal.all_begun-requires-clause-nodes
 all_begun-requires-clause-nodes g c = (c.in_ok-gather.ensures.on c.args.plan.now c.requires.way).way.journals
+
+-- before the bit all that was shown was taken
+pub bit_if_due-requires-clause-dry : goal.bit_if_due-requires-clause-dry
+bit_if_due-requires-clause-dry g c = c.in_ok-gather.ensures.dry

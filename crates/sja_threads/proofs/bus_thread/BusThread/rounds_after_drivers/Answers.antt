@@ -1,14 +1,17 @@
-use Rattle.std.proofs.Common.{rules, ◌≡◌, ◌≤◌, ℕ, List, Ok, Err, length, refl, sym, ap, ◌∙◌, subst, arith, inl, inr}
+use Rattle.std.proofs.Common.{rules, ◌≡◌, ◌≤◌, ℕ, Bool, true, false, List, Ok, Err, length, refl, sym, ap, ◌∙◌, subst}
+use Rattle.std.proofs.Common.{arith, inl, inr}
 use Rattle.std.proofs.lemmas.List.{length-map}
 use Rattle.lemmas.proofs.Results.{err_is}
 use Rattle.sja_log.specs.declared.end.End.{End}
 use Rattle.sja_log.specs.declared.end.End.TheVariants.{Rest, Bits, Turns}
 use Rattle.sja_threads.specs.declared.round.Round.{Round}
-use Rattle.sja_threads.specs.Inside.Boards.{AllEnded, AreTold, turns_in}
+use Rattle.sja_threads.specs.declared.round.Round.TheVariants.{Ran, Rests}
+use Rattle.sja_threads.specs.Inside.Boards.{AllEnded, AreClosed, AreTold, turns_in}
 use Rattle.sja_threads.specs.Inside.Rounds.{GoesOn, Stops}
+use Rattle.sja_threads.proofs.Rounds.Closed.{closed_all, closed_more, not_spent, ran_on, rests_on}
 use Rattle.sja_threads.proofs.Rounds.GoesOn.{stays_on, on_twice}
 use Rattle.sja_threads.proofs.Rounds.Stops.{stops_later}
-use Rattle.sja_threads.proofs.Rounds.Told.{ended_more, told_ran}
+use Rattle.sja_threads.proofs.Rounds.Told.{ended_more, told_ran, told_spent}
 use Rattle.sja_threads.proofs.bus_thread.BusThread.rounds_after_drivers.Given.{Over}
 use Rattle.sja_threads.proofs.bus_thread.BusThread.rounds_after_drivers.Goals.{After-tell_bits, In_ok-gather}
 use Rattle.sja_threads.proofs.bus_thread.BusThread.rounds_after_drivers.Goals.{In_ok-bit_if_due}
@@ -64,6 +67,20 @@ told_on g c are =
     (λ node few. laws.wired.count node few ∙ w.run)
     (omega (arith, many, ports, first, long)) c.tell_bits.ensures.told (c.loop.invariant.told are)))
 
+-- by a round as it was before none is closed
+closed_on : (g : Over) (c : In_ok-bit_if_due g) →
+    AreClosed (length c.args.plan.now.nodes) c.args.self.now.spent (turns_in c.args.board.now.told.items) →
+    AreClosed (length c.args.plan.now.nodes) c.loop.self.spent (turns_in c.bit_if_due.new.board.told.items)
+closed_on g c are =
+    let told = c.loop.board.told.items in
+    let ports = c.loop.invariant.ports in
+    let first = c.requires.ports in
+    let long = length-map told (λ x. x.known.list) in
+    c.in_ok-bit_if_due.ensures.closed c.loop.self.spent
+    (closed_more (length c.args.plan.now.nodes) c.loop.self.run (turns_in told)
+    (turns_in c.tell_bits.new.self.told.items)
+    (omega (arith, ports, first, long)) c.tell_bits.ensures.told c.loop.self.spent (c.loop.invariant.closed are))
+
 -- each driver was found to have ended, and stays so
 ended_there : (g : Over) (c : After-tell_bits g) →
     AllEnded (length c.args.plan.now.nodes) (turns_in c.tell_bits.new.self.told.items)
@@ -82,6 +99,7 @@ loop-init g c = record {
   count = refl;
   ports = refl;
   told = λ are. are;
+  closed = λ are. are;
   ended = c.requires.ended;
 }
 
@@ -121,6 +139,11 @@ loop-preserved g c =
       count = omega (arith, count, taken, ran);
       ports = c.bit_if_due.ensures.ports ∙ c.tell_bits.ensures.many ∙ c.loop.invariant.ports;
       told = told_on g (goal.at.loop-preserved g c).In_ok-bit_if_due;
+      closed = λ are.
+          subst (λ (b : Bool). AreClosed (length c.args.plan.now.nodes) b (turns_in c.bit_if_due.new.board.told.items))
+          (sym (c.bit_if_due.ensures.stays (not_spent c.bit_if_due.result Ran
+          (c.in_ok-bit_if_due.was ∙ ap (λ (r : Round). Ok r) c.in-Ran.is) ran_on) ∙ c.gather.ensures.spent))
+          (closed_on g (goal.at.loop-preserved g c).In_ok-bit_if_due are);
       ended = c.in_ok-bit_if_due.ensures.ended (ended_there g (goal.at.loop-preserved g c).After-tell_bits);
     }
 
@@ -136,23 +159,72 @@ returns-in-Rests-clause-ends g c = record {
       );
 }
 
-pub returns-in_default-clause-ends : goal.returns-in_default-clause-ends
-returns-in_default-clause-ends g c =
-    let on = one_more g (goal.at.returns-in_default-clause-ends g c).In_ok-bit_if_due in
+pub returns-in-Rests-2-clause-ends : goal.returns-in-Rests-2-clause-ends
+returns-in-Rests-2-clause-ends g c =
+    let on = one_more g (goal.at.returns-in-Rests-2-clause-ends g c).In_ok-bit_if_due in
     let spent = on.way.spent (search rules) in
     record { on = on; duly = inr (bits_is _ (omega arith), spent.0, spent.1) }
 
-pub returns-in_default-2-clause-ends : goal.returns-in_default-2-clause-ends
-returns-in_default-2-clause-ends g c =
-    let on = one_more g (goal.at.returns-in_default-2-clause-ends g c).In_ok-bit_if_due in
-    let spent = on.way.spent (search rules) in
+pub returns-in-Spent-clause-ends : goal.returns-in-Spent-clause-ends
+returns-in-Spent-clause-ends g c =
+    let on = one_more g (goal.at.returns-in-Spent-clause-ends g c).In_ok-bit_if_due in
+    let spent = on.way.spent (c.bit_if_due.ensures.spent (c.in_ok-bit_if_due.was
+    ∙ ap (λ (r : Round). Ok r) c.in-Spent.is))
+    in
     record { on = on; duly = inr (bits_is _ (omega arith), spent.0, spent.1) }
 
 pub returns-in-Rests-clause-told : goal.returns-in-Rests-clause-told
 returns-in-Rests-clause-told g c = told_on g (goal.at.returns-in-Rests-clause-told g c).In_ok-bit_if_due
 
-pub returns-in_default-clause-told : goal.returns-in_default-clause-told
-returns-in_default-clause-told g c = told_on g (goal.at.returns-in_default-clause-told g c).In_ok-bit_if_due
+pub returns-in-Rests-2-clause-told : goal.returns-in-Rests-2-clause-told
+returns-in-Rests-2-clause-told g c = told_on g (goal.at.returns-in-Rests-2-clause-told g c).In_ok-bit_if_due
 
-pub returns-in_default-2-clause-told : goal.returns-in_default-2-clause-told
-returns-in_default-2-clause-told g c = told_on g (goal.at.returns-in_default-2-clause-told g c).In_ok-bit_if_due
+pub returns-in-Spent-clause-told : goal.returns-in-Spent-clause-told
+returns-in-Spent-clause-told g c = λ are.
+    let told = c.bit_if_due.new.board.told.items in
+    let on = one_more g (goal.at.returns-in-Spent-clause-told g c).In_ok-bit_if_due in
+    let many = on.way.journals in
+    let first = c.requires.ports in
+    let loop = c.loop.invariant.ports in
+    let second = c.tell_bits.ensures.many in
+    let third = c.bit_if_due.ensures.ports in
+    let long = length-map told (λ x. x.known.list) in
+    told_spent c.args.plan.now c.bit_if_due.new.self.bus.journals (turns_in told)
+    (turns_in c.close_all.new.self.told.items)
+    (c.bit_if_due.ensures.all (c.in_ok-bit_if_due.was ∙ ap (λ (r : Round). Ok r) c.in-Spent.is))
+    (omega (arith, many, first, loop, second, third, long)) c.close_all.ensures.told
+    (told_on g (goal.at.returns-in-Spent-clause-told g c).In_ok-bit_if_due are)
+
+-- at rest, or where the bits were spent before, the ports are as they were; and where they are spent now all are closed
+pub returns-in-Rests-clause-closed : goal.returns-in-Rests-clause-closed
+returns-in-Rests-clause-closed g c = λ are.
+    let open_still : c.loop.self.spent ≡ false =
+    sym (c.bit_if_due.ensures.stays (not_spent c.bit_if_due.result Rests
+    (c.in_ok-bit_if_due.was ∙ ap (λ (r : Round). Ok r) c.in-Rests.is) rests_on) ∙ c.gather.ensures.spent)
+    ∙ search rules in
+    subst (λ (b : Bool). AreClosed (length c.args.plan.now.nodes) b (turns_in c.bit_if_due.new.board.told.items))
+    open_still (closed_on g (goal.at.returns-in-Rests-clause-closed g c).In_ok-bit_if_due are)
+
+pub returns-in-Rests-2-clause-closed : goal.returns-in-Rests-2-clause-closed
+returns-in-Rests-2-clause-closed g c = λ are.
+    let shut : c.loop.self.spent ≡ true =
+    sym (c.bit_if_due.ensures.stays (not_spent c.bit_if_due.result Rests
+    (c.in_ok-bit_if_due.was ∙ ap (λ (r : Round). Ok r) c.in-Rests-2.is) rests_on) ∙ c.gather.ensures.spent)
+    ∙ search rules in
+    subst (λ (b : Bool). AreClosed (length c.args.plan.now.nodes) b (turns_in c.bit_if_due.new.board.told.items)) shut
+    (closed_on g (goal.at.returns-in-Rests-2-clause-closed g c).In_ok-bit_if_due are)
+
+pub returns-in-Spent-clause-closed : goal.returns-in-Spent-clause-closed
+returns-in-Spent-clause-closed g c = λ are.
+    let told = c.bit_if_due.new.board.told.items in
+    let first = c.requires.ports in
+    let loop = c.loop.invariant.ports in
+    let second = c.tell_bits.ensures.many in
+    let third = c.bit_if_due.ensures.ports in
+    let long = length-map told (λ x. x.known.list) in
+    closed_all (length c.args.plan.now.nodes) (turns_in told) (turns_in c.close_all.new.self.told.items)
+    (omega (arith, first, loop, second, third, long)) c.close_all.ensures.told
+
+-- before the bit all that was shown was taken
+pub bit_if_due-requires-clause-dry : goal.bit_if_due-requires-clause-dry
+bit_if_due-requires-clause-dry g c = c.in_ok-gather.ensures.dry

@@ -15,7 +15,12 @@ one_more g c =
 
 pub loop-init : goal.loop-init
 loop-init g c =
-    record { on = stays_on c.args.plan.now c.args.self.now c.requires.way; ports = refl; told = λ are. are }
+    record {
+      on = stays_on c.args.plan.now c.args.self.now c.requires.way;
+      ports = refl;
+      told = λ are. are;
+      closed = λ are. are;
+    }
 
 pub returns-then-over-clause-on : goal.returns-then-over-clause-on
 returns-then-over-clause-on g c = one_more g (goal.at.returns-then-over-clause-on g c).In_ok-round
@@ -25,6 +30,7 @@ loop-preserved-then-eq g c = record {
   on = one_more g (goal.at.loop-preserved-then-eq g c).In_ok-round;
   ports = c.told_round.ensures.ports ∙ c.loop.invariant.ports;
   told = λ are. c.in_ok-round.ensures.told (c.loop.invariant.told are);
+  closed = λ are. c.in_ok-round.ensures.closed (c.loop.invariant.closed are);
 }
 
 pub loop-preserved : goal.loop-preserved
@@ -32,6 +38,7 @@ loop-preserved g c = record {
   on = one_more g (goal.at.loop-preserved g c).In_ok-round;
   ports = c.told_round.ensures.ports ∙ c.loop.invariant.ports;
   told = λ are. c.in_ok-round.ensures.told (c.loop.invariant.told are);
+  closed = λ are. c.in_ok-round.ensures.closed (c.loop.invariant.closed are);
 }
 
 pub returns-in_err-round-clause-fault : goal.returns-in_err-round-clause-fault
@@ -44,3 +51,6 @@ returns-in_err-round-clause-fault g c =
 
 pub returns-then-over-clause-told : goal.returns-then-over-clause-told
 returns-then-over-clause-told g c = λ are. c.in_ok-round.ensures.told (c.loop.invariant.told are)
+
+pub returns-then-over-clause-closed : goal.returns-then-over-clause-closed
+returns-then-over-clause-closed g c = λ are. c.in_ok-round.ensures.closed (c.loop.invariant.closed are)

@@ -1,5 +1,5 @@
 use Rattle.std.proofs.Common.{◌≡◌, length}
-use Rattle.sja_threads.specs.Inside.Boards.{AreTold, turns_in}
+use Rattle.sja_threads.specs.Inside.Boards.{AreClosed, AreTold, turns_in}
 use Rattle.sja_threads.specs.Inside.Rounds.{GoesOn}
 use Rattle.sja_threads.proofs.bus_thread.BusThread.rounds_beside_drivers.Given as goal
 
@@ -9,4 +9,6 @@ invariant-loop g l = record {
   ports : length l.board.told.items ≡ length l.initial.board.told.items;
   told : AreTold l.plan l.initial.self.bus.journals (turns_in l.initial.board.told.items) →
       AreTold l.plan l.self.bus.journals (turns_in l.board.told.items);
+  closed : AreClosed (length l.plan.nodes) l.initial.self.spent (turns_in l.initial.board.told.items) →
+      AreClosed (length l.plan.nodes) l.self.spent (turns_in l.board.told.items);
 }

@@ -1,9 +1,10 @@
-use Rattle.std.proofs.Common.{rules, ◌≡◌, ℕ, ◌≤◌, List, Ok, Err, length, sym, ap, ◌∙◌, arith}
+use Rattle.std.proofs.Common.{rules, ◌≡◌, ℕ, ◌≤◌, Bool, List, Ok, Err, length, sym, ap, ◌∙◌, subst, arith}
 use Rattle.std.proofs.lemmas.List.{length-map}
 use Rattle.lemmas.proofs.Results.{err_is}
 use Rattle.sja_threads.specs.declared.round.Round.{Round}
 use Rattle.sja_threads.specs.Inside.Rounds.{Stops}
-use Rattle.sja_threads.specs.Inside.Boards.{AreTold, turns_in}
+use Rattle.sja_threads.specs.Inside.Boards.{AreClosed, AreTold, StayClosed, turns_in}
+use Rattle.sja_threads.proofs.Rounds.Closed.{closed_all, closed_more, not_spent}
 use Rattle.sja_threads.proofs.Rounds.Told.{told_ran, told_spent}
 use Rattle.sja_threads.proofs.bus_thread.BusThread.told_round.Given.{Over}
 use Rattle.sja_threads.proofs.bus_thread.BusThread.told_round.Goals.{In_ok-round}
@@ -47,3 +48,32 @@ returns-in_err-round-clause-fault g c =
     let is : c.from_residual.result ≡ Err f = search rules in
     err_is (Stops c.args.plan.now c.args.self.now c.round_beside.new.self) c.from_residual.result f is
     c.in_err-round.ensures.fault
+
+-- what was told first, and by the round, closes none
+stay_closed : (g : Over) (c : In_ok-round g) → StayClosed (length c.args.plan.now.nodes)
+    (turns_in c.args.board.now.told.items) (turns_in c.round_beside.new.board.told.items)
+stay_closed g c closed are =
+    let told = c.args.board.now.told.items in
+    let ports = c.requires.ports in
+    let long = length-map told (λ x. x.known.list) in
+    c.in_ok-round.ensures.closed closed
+    (closed_more (length c.args.plan.now.nodes) c.args.self.now.run (turns_in told)
+    (turns_in c.tell_bits.new.self.told.items) (omega (arith, ports, long)) c.tell_bits.ensures.told closed are)
+
+pub returns-in-Spent-clause-closed : goal.returns-in-Spent-clause-closed
+returns-in-Spent-clause-closed g c = λ are.
+    let told = c.round_beside.new.board.told.items in
+    let ports = c.requires.ports in
+    let second = c.tell_bits.ensures.many in
+    let third = c.round_beside.ensures.ports in
+    let long = length-map told (λ x. x.known.list) in
+    subst (λ (b : Bool). AreClosed (length c.args.plan.now.nodes) b (turns_in c.close_all.new.self.told.items))
+    (sym (c.round_beside.ensures.spent (c.in_ok-round.was ∙ ap (λ (r : Round). Ok r) c.in-Spent.is)))
+    (closed_all (length c.args.plan.now.nodes) (turns_in told) (turns_in c.close_all.new.self.told.items)
+    (omega (arith, ports, second, third, long)) c.close_all.ensures.told)
+
+pub returns-in_default-clause-closed : goal.returns-in_default-clause-closed
+returns-in_default-clause-closed g c = λ are.
+    subst (λ (b : Bool). AreClosed (length c.args.plan.now.nodes) b (turns_in c.round_beside.new.board.told.items))
+    (sym (c.round_beside.ensures.stays (not_spent c.round_beside.result _ c.in_ok-round.was c.in_default.not-Spent)))
+    (stay_closed g (goal.at.returns-in_default-clause-closed g c).In_ok-round c.args.self.now.spent are)

@@ -1,4 +1,6 @@
-use Rattle.std.proofs.Common.{◌≡◌, ℕ, Some, None, sym, ◌∙◌, subst}
+use Rattle.std.proofs.Common.{◌≡◌, ℕ, true, false, Some, None, sym, ◌∙◌, subst}
+use Rattle.sja_threads.specs.declared.pass.Pass.TheVariants.{Go}
+use Rattle.sja_threads.proofs.Driver.Asked.{go_on, when}
 use Rattle.sja_threads.proofs.Driver.Steps.{deed_able, deed_none, deed_then}
 use Rattle.sja_threads.proofs.driver_thread.DriverThread.do_deed.Given.{Over}
 use Rattle.sja_threads.proofs.driver_thread.DriverThread.do_deed.Goals.{In_default}
@@ -11,7 +13,7 @@ same_node g c = c.in_default.ensures.does.same ∙ c.loop.invariant.none.does.sa
 pub loop-init : goal.loop-init
 loop-init g c = record {
   none = deed_none g.D.DriverEnd g.met.D.DriverEnd.same_refl c.args.self.now c.args.deed.now;
-  asked = c.requires.asked;
+  go = c.requires.go;
 }
 
 pub try_deed-requires : goal.try_deed-requires
@@ -32,14 +34,19 @@ pub loop-preserved : goal.loop-preserved
 loop-preserved g c = record {
   none = deed_then g.D.DriverEnd g.met.D.DriverEnd.same_trans c.args.self.now c.loop.self c.try_deed.new.self
       c.args.deed.now None c.loop.invariant.none c.in_default.ensures;
-  asked = subst (λ (node : ℕ). g.G.Gate.asks c.args.at.now.gate node c.args.number c.lets_go.new.tries)
-      (same_node g (goal.at.loop-preserved g c).In_default) c.lets_go.ensures.asked;
+  go = when g.G.Gate.answered c.args.at.now.gate c.try_deed.new.self.done.node c.args.self.now.done.node c.args.number
+      c.lets_go.new.tries (same_node g (goal.at.loop-preserved g c).In_default) c.lets_go.result true
+      c.if-not-lets_go.false c.lets_go.ensures.answered;
 }
 
-pub returns-then-not-lets_go-clause-asked : goal.returns-then-not-lets_go-clause-asked
-returns-then-not-lets_go-clause-asked g c =
-    subst (λ (node : ℕ). g.G.Gate.asks c.args.at.now.gate node c.args.number c.lets_go.new.tries)
-    (same_node g (goal.at.returns-then-not-lets_go-clause-asked g c).In_default) c.lets_go.ensures.asked
+pub returns-in-Some-try_deed-clause-answered : goal.returns-in-Some-try_deed-clause-answered
+returns-in-Some-try_deed-clause-answered g c = c.loop.invariant.go
+
+pub returns-then-not-lets_go-clause-answered : goal.returns-then-not-lets_go-clause-answered
+returns-then-not-lets_go-clause-answered g c =
+    when g.G.Gate.answered c.args.at.now.gate c.try_deed.new.self.done.node c.args.self.now.done.node c.args.number
+    c.lets_go.new.tries (same_node g (goal.at.returns-then-not-lets_go-clause-answered g c).In_default) c.lets_go.result
+    false c.if-not-lets_go.true c.lets_go.ensures.answered
 
 pub lets_go-requires : goal.lets_go-requires
 lets_go-requires g c =
@@ -48,5 +55,5 @@ lets_go-requires g c =
       subst (λ (node : ℕ). g.G.Gate.asks c.args.at.now.gate node c.args.number c.wait_in_vain.new.tries)
           (sym (same_node g (goal.at.lets_go-requires g c).In_default))
           (laws.next_try c.args.at.now.gate c.args.self.now.done.node c.args.number c.loop.tries
-          c.wait_in_vain.new.tries c.loop.invariant.asked c.wait_in_vain.ensures),
+          c.wait_in_vain.new.tries Go c.loop.invariant.go go_on c.wait_in_vain.ensures),
     )

@@ -1,7 +1,8 @@
-use Rattle.std.proofs.Common.{◌≡◌, ◌++◌, ◌∷◌, [], ℕ, subst, arith}
+use Rattle.std.proofs.Common.{◌≡◌, ◌++◌, ◌∷◌, [], ℕ, true, false, Some, None, refl, sym, ap, subst, arith}
 use Rattle.sja_driver.specs.LoggedDrivers.{log_of}
 use Rattle.sja_driver.specs.Logs.{done_in}
 use Rattle.sja_threads.specs.Inside.Steps.{DoesDeed}
+use Rattle.sja_threads.proofs.Driver.Asked.{when, when_if}
 use Rattle.sja_threads.proofs.Driver.OneStep.{broken_before, step_broken, step_done}
 use Rattle.sja_threads.proofs.driver_thread.DriverThread.do_one.Goals as goal
 
@@ -34,3 +35,33 @@ returns-clause-done g c = λ done.
       e.room,
     )
     c.requires.may c.requires.one c.kept_by_step-kept.ensures.kept c.answered.ensures c.told.ensures
+
+-- the gate let the step go, and then a deed of it, or it quit
+pub returns-then-not-lets_go-clause-answered : goal.returns-then-not-lets_go-clause-answered
+returns-then-not-lets_go-clause-answered g c = (
+  c.lets_go.new.tries,
+  when g.G.Gate.answered c.args.at.now.gate _ _ c.args.number c.lets_go.new.tries refl c.lets_go.result false
+      c.if-not-lets_go.true c.lets_go.ensures.answered,
+)
+
+pub do_deed-requires-clause-go : goal.do_deed-requires-clause-go
+do_deed-requires-clause-go g c κs within =
+    when g.G.Gate.answered c.args.at.now.gate _ _ c.args.number c.lets_go.new.tries
+    (ap (λ t. t.done.node) (sym c.kept_by_step-kept.ensures.same)) c.lets_go.result true c.if-not-lets_go.false
+    c.lets_go.ensures.answered
+
+pub returns-in_default-clause-answered : goal.returns-in_default-clause-answered
+returns-in_default-clause-answered g c = (
+  c.do_deed.new.tries,
+  when_if g.G.Gate.answered c.args.at.now.gate _ _ c.args.number c.do_deed.new.tries
+      (ap (λ t. t.done.node) c.kept_by_step-kept.ensures.same) c.do_deed.result None c.in_default.is
+      c.do_deed.ensures.answered,
+)
+
+pub returns-clause-answered : goal.returns-clause-answered
+returns-clause-answered g c = (
+  c.do_deed.new.tries,
+  when_if g.G.Gate.answered c.args.at.now.gate _ _ c.args.number c.do_deed.new.tries
+      (ap (λ t. t.done.node) c.kept_by_step-kept.ensures.same) c.do_deed.result (Some c.in-Some.answer) c.in-Some.is
+      c.do_deed.ensures.answered,
+)

@@ -1,3 +1,5 @@
+use Rattle.std.proofs.Common.{Some, None, refl}
+use Rattle.sja_threads.proofs.Driver.Asked.{when_if}
 use Rattle.sja_threads.proofs.Driver.Parts.{part_none, part_not, part_done}
 use Rattle.sja_threads.proofs.driver_thread.DriverThread.do_part.Goals as goal
 
@@ -15,3 +17,16 @@ returns-clause-parts g c =
     part_done g.D.DriverEnd c.args.self.now c.do_deed.new.self c.args.part.now c.in-Some.deed c.do_deed.result
     c.in-Some-do_deed.answer c.args.kept.now c.answered.new.self c.in-Some.is c.in-Some-do_deed.is
     c.do_deed.ensures.done c.answered.ensures
+
+pub returns-in_default-clause-answered : goal.returns-in_default-clause-answered
+returns-in_default-clause-answered g c = c.requires.go
+
+pub returns-in_default-do_deed-clause-answered : goal.returns-in_default-do_deed-clause-answered
+returns-in_default-do_deed-clause-answered g c =
+    when_if g.G.Gate.answered c.args.at.now.gate _ _ c.args.number c.do_deed.new.tries refl c.do_deed.result None
+    c.in_default-do_deed.is c.do_deed.ensures.answered
+
+pub returns-clause-answered : goal.returns-clause-answered
+returns-clause-answered g c =
+    when_if g.G.Gate.answered c.args.at.now.gate _ _ c.args.number c.do_deed.new.tries refl c.do_deed.result
+    (Some c.in-Some-do_deed.answer) c.in-Some-do_deed.is c.do_deed.ensures.answered

@@ -5,6 +5,7 @@ use Rattle.sja_driver.specs.LoggedDrivers.{log_of}
 use Rattle.sja_driver.specs.declared.kept_bytes.KeptBytes.{KeptBytes}
 use Rattle.sja_script.specs.declared.step.Step.TheVariants.{At}
 use Rattle.sja_script.specs.declared.step_answer.StepAnswer.{StepAnswer}
+use Rattle.sja_threads.specs.Asking.{HasAnswered, pass_if}
 use Rattle.sja_threads.specs.Inside.Accesses.{EndsWait}
 use Rattle.sja_threads.proofs.Driver.OneStep.{broken_before}
 use Rattle.sja_threads.proofs.Driver.Waits.{wait_done}
@@ -28,3 +29,13 @@ returns-clause-done g c = λ done.
       e.done,
       e.room,
     ) bytes
+
+pub returns-in_default-clause-answered : goal.returns-in_default-clause-answered
+returns-in_default-clause-answered g c =
+    subst (λ (r : Option (StepAnswer × ℕ)). HasAnswered g.G.Gate.answered c.args.at.now.gate c.args.self.now.done.node
+    c.args.number (pass_if r)) c.in_default.is c.wait_for.ensures.answered
+
+pub returns-clause-answered : goal.returns-clause-answered
+returns-clause-answered g c =
+    subst (λ (r : Option (StepAnswer × ℕ)). HasAnswered g.G.Gate.answered c.args.at.now.gate c.args.self.now.done.node
+    c.args.number (pass_if r)) c.in-Some.is c.wait_for.ensures.answered
