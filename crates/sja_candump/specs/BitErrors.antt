@@ -1,7 +1,7 @@
 -- The error frame that one bit brings to the driver of a node, if it brings one (this project's own rule: the driver
 -- has enabled all interrupts and serves each at once, after the bit that raised it, so each capture is read before the
 -- next one comes).
-use Rattle.std.specs.Prelude.{Bool, true, false, if◌then◌else◌, Option, Some, None}
+use Rattle.std.specs.Prelude.{◌&&◌, not, Bool, true, false, if◌then◌else◌, Option, Some, None}
 use Rattle.can_bits.specs.declared.segment.Segment.{Segment}
 use Rattle.can_node.specs.declared.bit_events.BitEvents.{BitEvents}
 use Rattle.can_node.specs.declared.cause.Cause.{Cause}
@@ -57,3 +57,12 @@ change_in h = new_state (state_by h.before.counters) (state_by h.after.counters)
 
 abbrev pub bit_error : Happening → Option ErrorFrame
 bit_error h = bit_error_by h.events (is_overrun h.fate) (change_in h) h.after.counters
+
+-- between two bits the driver ended the bus-off that the one before left: it wrote TXERR in reset mode, and started the
+-- controller (SJA1000 data sheet, 6.4.12). So Linux restarts it (sja1000_start), and its CAN core tells that first
+-- (can_restart of drivers/net/can/dev/dev.c)
+abbrev pub is_restart : Counters → Counters → Bool
+is_restart left before = left.off && not before.off
+
+abbrev pub restart_error : Counters → Counters → Option ErrorFrame
+restart_error left before = if is_restart left before then Some Restarted else None

@@ -1,6 +1,7 @@
 -- What the driver of each node could have received, as text (this project's own rule; sources as named).
 use Rattle.std.specs.Prelude.{◌≡◌, ℕ, zero, suc, Bool, Option, Some, None, List, [], ◌++◌, slice_get}
 use Rattle.can_frame.specs.Frame.{FrameValue}
+use Rattle.can_node.specs.declared.counters.Counters.{Counters}
 use Rattle.can_notation.specs.Text.{text}
 use Rattle.lemmas.specs.Related.{EachRelated}
 use Rattle.sja_log.specs.Log.{NodeValue, RunValue}
@@ -9,10 +10,10 @@ use Rattle.sja_replay.specs.declared.fate.Fate.TheVariants.{Stored, Overrun, Sto
 use Rattle.sja_replay.specs.declared.happening.Happening.{Happening}
 use Rattle.sja_replay.specs.Happened.{Happened}
 use Rattle.sja_report.specs.ReportLines.{numbered}
-use Rattle.sja_trace.specs.TraceText.{line_where}
+use Rattle.sja_trace.specs.TraceText.{line_where, counters_left}
 use Rattle.sja_candump.specs.declared.error_frame.ErrorFrame.{ErrorFrame}
 use Rattle.sja_candump.specs.ErrorFrames.{error_text}
-use Rattle.sja_candump.specs.BitErrors.{bit_error}
+use Rattle.sja_candump.specs.BitErrors.{bit_error, restart_error}
 use Rattle.sja_candump.specs.Lines.{frame_line}
 
 -- ---- a bit of a node
@@ -36,21 +37,27 @@ abbrev pub error_line : ℕ → ℕ → Option ErrorFrame → List ℕ
 error_line bit node None = []
 error_line bit node (Some e) = frame_line bit node (error_text e)
 
--- the lines of what a bit brought, with error frames or without. The driver takes what is received first
-abbrev pub bit_lines : Bool → ℕ → ℕ → Happening → List ℕ
-bit_lines errors bit node h =
-    stored_line bit node (stored_frame h.events.received h.fate)
+-- a restart right before the bit, where error frames are asked for
+abbrev pub restart_line : Bool → ℕ → ℕ → Counters → Counters → List ℕ
+restart_line errors bit node left before = line_where errors (error_line bit node (restart_error left before))
+
+-- the lines of what a bit brought, which the bits before it came to with these counters, with error frames or without.
+-- The driver takes what is received first
+abbrev pub bit_lines : Bool → ℕ → ℕ → Counters → Happening → List ℕ
+bit_lines errors bit node left h =
+    restart_line errors bit node left h.before.counters
+    ++ stored_line bit node (stored_frame h.events.received h.fate)
     ++ line_where errors (error_line bit node (bit_error h))
 
-abbrev pub node_lines : Bool → ℕ → ℕ → Option Happening → List ℕ
-node_lines errors bit node None = []
-node_lines errors bit node (Some h) = bit_lines errors bit node h
+abbrev pub node_lines : Bool → ℕ → ℕ → Counters → Option Happening → List ℕ
+node_lines errors bit node left None = []
+node_lines errors bit node left (Some h) = bit_lines errors bit node left h
 
 -- ---- all nodes, by what their bits brought
 
 -- of bit b
 abbrev pub story_lines : Bool → ℕ → ℕ → List Happening → List ℕ
-story_lines errors b node told = node_lines errors b node (slice_get told b)
+story_lines errors b node told = node_lines errors b node (counters_left b told) (slice_get told b)
 
 abbrev pub all_lines : Bool → ℕ → List (List Happening) → List ℕ
 all_lines errors b stories = numbered (story_lines errors b) 0 stories

@@ -2,12 +2,13 @@
 
 ghost use Rattle.std.specs.Prelude.{◌≡◌};
 ghost use Rattle.sja_candump.specs.BitErrors.{bit_error, interrupt_by, is_overrun, bus_error_of, change_in};
+ghost use Rattle.sja_candump.specs.BitErrors.{restart_error};
 
 use super::bus_error::BusError;
 use super::controller_state::ControllerState;
 use super::error_frame::ErrorFrame;
 use super::interrupt::Interrupt;
-use can_node::BitEvents;
+use can_node::{BitEvents, Counters};
 use sja_replay::{Fate, Happening};
 
 /// The error frame of a bit, if it brings one.
@@ -23,6 +24,18 @@ pub(crate) fn bit_error(bit: &Happening) -> Option<ErrorFrame>
     let interrupt = interrupt_of(bit);
     if interrupt.tells() {
         Some(ErrorFrame::Told(interrupt))
+    } else {
+        None
+    }
+}
+
+/// The error frame of a restart right before a bit, if there is one: the driver ended the bus-off that the bits before
+/// left. These are the counters as they left them, and as they are before the bit.
+pub(crate) fn restart_error(left: Counters, before: Counters) -> Option<ErrorFrame>
+    ensures { result ≡ restart_error left before }
+{
+    if left.off && !before.off {
+        Some(ErrorFrame::Restarted)
     } else {
         None
     }

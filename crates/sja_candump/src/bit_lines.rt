@@ -1,45 +1,70 @@
 //! The lines of a bit of a node.
 
 ghost use Rattle.std.specs.Prelude.{◌≡◌, ◌++◌, string_bytes, OnOk};
-ghost use Rattle.sja_trace.specs.TraceText.{line_where};
-ghost use Rattle.sja_candump.specs.CandumpText.{node_lines, bit_lines, stored_line, stored_frame};
+ghost use Rattle.sja_candump.specs.CandumpText.{bit_lines, restart_line, stored_line, stored_frame};
+ghost use Rattle.sja_candump.specs.Inside.Coming.{hand_lines};
 
-use super::bit_errors::bit_error;
+use super::bit_errors::{bit_error, restart_error};
+use super::driver_bits::DriverBits;
 use super::frame_lines::{put_error_if, put_frame_line};
 use can_frame::Frame;
+use can_node::Counters;
 use sja_replay::{Fate, Happening};
 use std::alloc::AllocError;
 
-/// The lines of a bit, if the node has it, with error frames or without.
+/// The lines of the bit that a node has at hand, if there is one, with error frames or without.
 pub(crate) fn put_node(
     text: &mut String,
     errors: bool,
     bit: u32,
     node: usize,
-    happening: &Option<Happening>,
+    hand: &DriverBits<'_>,
 ) -> Result<(), AllocError>
-    ensures { OnOk result (string_bytes text.new ≡ string_bytes text.old
-        ++ node_lines errors bit node happening.now) }
+    ensures { OnOk result (string_bytes text.new ≡ string_bytes text.old ++ hand_lines errors bit node hand.now) }
 {
-    match happening {
-        Some(happening) => put_happening(text, errors, bit, node, happening),
+    if let Some(short) = &hand.short {
+        return put_restart(text, errors, bit, node, hand.left, short.counters);
+    }
+    match hand.bits.bit() {
+        Some(happening) => put_happening(text, errors, bit, node, hand.left, happening),
         None => Ok(()),
     }
 }
 
-/// The lines of what a bit brought; that of an error frame only where it is asked for.
+/// The lines of what a bit brought; those of error frames only where they are asked for.
 fn put_happening(
     text: &mut String,
     errors: bool,
     bit: u32,
     node: usize,
+    left: Counters,
     happening: &Happening,
 ) -> Result<(), AllocError>
-    ensures { OnOk result (string_bytes text.new ≡ string_bytes text.old ++ bit_lines errors bit node happening.now) }
+    ensures { OnOk result (string_bytes text.new ≡ string_bytes text.old
+        ++ bit_lines errors bit node left happening.now) }
 {
+    put_restart(text, errors, bit, node, left, happening.before.counters)?;
     put_stored(text, bit, node, &happening.events.received, happening.fate)?;
     if errors {
         put_error_if(text, bit, node, &bit_error(happening))?;
+    }
+    Ok(())
+}
+
+/// The line of a restart right before the bit, if there is one and error frames are asked for.
+fn put_restart(
+    text: &mut String,
+    errors: bool,
+    bit: u32,
+    node: usize,
+    left: Counters,
+    before: Counters,
+) -> Result<(), AllocError>
+    ensures { OnOk result (string_bytes text.new ≡ string_bytes text.old
+        ++ restart_line errors bit node left before) }
+{
+    if errors {
+        return put_error_if(text, bit, node, &restart_error(left, before));
     }
     Ok(())
 }

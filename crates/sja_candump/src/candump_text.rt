@@ -6,9 +6,9 @@ ghost use Rattle.sja_candump.specs.Inside.Coming.{bit_text};
 
 use super::all_bits::{bits_of, finish_all, pass_on_all, rest_on};
 use super::bit_lines::put_node;
+use super::driver_bits::DriverBits;
 use can_frame::OutOfMemory;
 use sja_log::RunLog;
-use sja_trace::NodeBits;
 use std::alloc::{AllocError, Global};
 
 /// What the driver of each node could have received in a run, in the log format of can-utils (`candump -l`): a line for
@@ -42,14 +42,14 @@ pub fn candump(alloc: Global, log: &RunLog, errors: bool) -> Result<String, OutO
 fn put_bit(
     text: &mut String,
     errors: bool,
-    all: &[NodeBits<'_>],
+    all: &[DriverBits<'_>],
     bit: u32,
 ) -> Result<(), AllocError>
     ensures { OnOk result (string_bytes text.new ≡ string_bytes text.old ++ bit_text errors bit all.now) }
 {
     let mut number = 0usize;
     for bits in all {
-        put_node(text, errors, bit, number, bits.bit())?;
+        put_node(text, errors, bit, number, bits)?;
         number += 1;
     }
     Ok(())

@@ -15,6 +15,7 @@ mod bit_lines;
 mod bus_error;
 mod candump_text;
 mod controller_state;
+mod driver_bits;
 mod error_frame;
 mod frame_lines;
 mod interrupt;

@@ -1,12 +1,10 @@
 -- The bits of a node that are told one after another (this project's own rule).
-use Rattle.std.specs.Prelude.{◌≡◌, ◌<◌, ◌≤◌, ◌+◌, ◌⊎◌, ℕ, zero, suc, false, Option, Some, None, List, [], slice_get}
+use Rattle.std.specs.Prelude.{◌≡◌, ◌<◌, ℕ, zero, suc, false, Option, None, List, [], slice_get}
 use Rattle.sja_link.specs.declared.entry.Entry.{Entry}
 use Rattle.sja_replay.specs.declared.happening.Happening.{Happening}
-use Rattle.sja_replay.specs.declared.short_bit.ShortBit.{ShortBit}
 use Rattle.sja_replay.specs.Coming.{HasCome, left_in}
 use Rattle.sja_replay.specs.Happened.{Happened}
 use Rattle.sja_replay.specs.Resting.{RestsFor}
-use Rattle.sja_replay.specs.Short.{IsInShort}
 use Rattle.sja_trace.specs.declared.node_bits.NodeBits.{NodeBits}
 
 -- ---- how far they came
@@ -61,36 +59,7 @@ pub record TellsAll (old new : NodeBits) : Type 0 where
   pub tells : (journal : List Entry) (bits : ℕ) (told : List Happening) →
       HasCome old.over journal bits old.replay told → ToldAll journal bits told
 
--- ---- past bits of which nothing is told
-
--- there is such a bit, and nothing was told of it
-pub record IsSilent (o : Option Happening) : Type 0 where
-  pub happened : Happening
-  pub bit : ShortBit
-  pub is : o ≡ Some happened
-  pub short : IsInShort happened bit
-
--- one bit more was told of a journal. It's at hand; or none is, and nothing was told of it
-pub record PassedMore (journal : List Entry) (bits : ℕ) (old : List Happening) (new : NodeBits) : Type 0 where
-  pub told : List Happening
-  pub come : HasCome new.over journal (suc bits) new.replay told
-  pub hand : (at_hand new ≡ slice_get told bits) ⊎ ((at_hand new ≡ None) × IsSilent (slice_get told bits))
-  pub same : HaveSame bits old told
-
-abbrev pub PassesOn : NodeBits → NodeBits → Type 0
-PassesOn old new = (journal : List Entry) (bits : ℕ) (told : List Happening) →
-    HasCome old.over journal bits old.replay told → PassedMore journal bits told new
-
--- so many bits more were told, and nothing was told of any of them
-pub record RestedMore (n : ℕ) (journal : List Entry) (bits : ℕ) (old : List Happening) (new : NodeBits) : Type 0 where
-  pub told : List Happening
-  pub come : HasCome new.over journal (bits + n) new.replay told
-  pub silent : (i : ℕ) → bits ≤ i → i < bits + n → IsSilent (slice_get told i)
-  pub same : HaveSame bits old told
-
-abbrev pub RestsOn : ℕ → NodeBits → NodeBits → Type 0
-RestsOn n old new = (journal : List Entry) (bits : ℕ) (told : List Happening) →
-    HasCome old.over journal bits old.replay told → RestedMore n journal bits told new
+-- ---- bits of which nothing is told
 
 -- it stays at rest for so many bits
 pub record MayRest (n : ℕ) (b : NodeBits) : Type 0 where

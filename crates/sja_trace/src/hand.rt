@@ -12,7 +12,7 @@ use can_node::{BitEvents, Counters};
 use sja_replay::{Happening, ShortBit, View};
 
 /// The error counters as the bit left them; both 0 where there is none.
-pub(crate) fn counters_of(short: &Option<ShortBit>, bit: &Option<Happening>) -> Counters
+pub fn counters_of(short: &Option<ShortBit>, bit: &Option<Happening>) -> Counters
     ensures { result ≡ counters_of short.now bit.now }
 {
     match short {

@@ -44,7 +44,7 @@ mod trace_text;
 mod words;
 
 pub use counters::have_same;
-pub use hand::driven_of;
+pub use hand::{counters_of, driven_of};
 pub use has_event::{is_frame, is_same, is_start};
 pub use laws::{
     every_bit_of_a_run_is_told, every_journal_of_a_run_has_happenings,

@@ -16,9 +16,8 @@ pub struct NodeBits<'a> {
 
 impl<'a> NodeBits<'a> {
     ghost use Rattle.std.specs.Prelude.{◌≡◌, ◌<◌, ◌≤◌, [], Some, None, IfSome};
-    ghost use Rattle.sja_trace.specs.Telling.{HaveCome, TellsOn, TellsAll, IsUnderway, PassesOn, RestsOn, MayRest};
-    ghost use Rattle.sja_trace.specs.Telling.{at_hand};
-    ghost use Rattle.sja_trace.specs.Inside.Hands.{HandGoesOn};
+    ghost use Rattle.sja_trace.specs.Telling.{HaveCome, TellsOn, TellsAll, IsUnderway, MayRest, at_hand};
+    ghost use Rattle.sja_trace.specs.Inside.Hands.{HandGoesOn, RestsOn};
 
     /// Before the first bit.
     pub fn of(journal: &'a Journal) -> NodeBits<'a>
@@ -58,7 +57,7 @@ impl<'a> NodeBits<'a> {
     /// Goes on past the next bit, where it tells nothing, and gives in short what it brought; the bit at hand isn't it
     /// then. Else nothing changes.
     #[inline(always)]
-    pub(crate) fn pass(&mut self) -> Option<ShortBit>
+    pub fn pass(&mut self) -> Option<ShortBit>
         ensures passed { IfSome result (λ q. HandGoesOn self.old self.new (Some q)) }
         ensures none { result ≡ None → self.new ≡ self.old }
     {
@@ -66,17 +65,6 @@ impl<'a> NodeBits<'a> {
             return None;
         }
         self.replay.pass()
-    }
-
-    /// Goes on past the next bit, if there is one. It is at hand then; where it tells nothing, it may be that none is.
-    pub fn pass_on(&mut self)
-        ensures { PassesOn self.old self.new }
-    {
-        if self.pass().is_some() {
-            self.bit = None;
-        } else {
-            self.go_on();
-        }
     }
 
     /// For how many of the next bits, at most so many, the node stays at rest. It may be for more of them.
@@ -90,13 +78,14 @@ impl<'a> NodeBits<'a> {
         self.replay.rest_for(most)
     }
 
-    /// Goes on past so many of these bits, of which nothing is told. None is at hand then.
-    pub fn rest(&mut self, count: u32)
+    /// Goes on past so many of these bits, of which nothing is told, and gives in short what each of them brought. None
+    /// is at hand then.
+    pub fn rest(&mut self, count: u32) -> ShortBit
         requires { MayRest count self.old }
-        ensures { RestsOn count self.old self.new }
+        ensures { RestsOn count result self.old self.new }
     {
-        self.replay.rest(count);
         self.bit = None;
+        self.replay.rest(count)
     }
 
     /// Goes on to the end of the journal.

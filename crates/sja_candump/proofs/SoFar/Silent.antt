@@ -1,7 +1,7 @@
--- A bit of which nothing is told has no line.
-use Rattle.std.proofs.Common.{◌≡◌, ℕ, Bool, true, false, Option, Some, None, List, [], ◌++◌}
-use Rattle.std.proofs.Common.{refl, sym, ap, ap₂, ◌∙◌, inl, inr}
-use Rattle.std.specs.Prelude.{◌⊎◌}
+-- A bit of which nothing is told has no line, but that of a restart right before it.
+use Rattle.std.proofs.Common.{◌≡◌, ℕ, Bool, true, false, Option, Some, None, [], ◌++◌}
+use Rattle.std.proofs.Common.{refl, sym, ap, ap₂, ◌∙◌, append-nil}
+use Rattle.std.specs.Prelude.{if◌then◌else◌}
 use Rattle.can_node.specs.declared.bit_events.BitEvents.{BitEvents}
 use Rattle.can_node.specs.declared.counters.Counters.{Counters}
 use Rattle.can_node.specs.Stands.{nothing}
@@ -9,22 +9,26 @@ use Rattle.sja_replay.specs.declared.fate.Fate.{Fate}
 use Rattle.sja_replay.specs.declared.happening.Happening.{Happening}
 use Rattle.sja_replay.specs.declared.short_bit.ShortBit.{ShortBit}
 use Rattle.sja_replay.specs.Short.{IsInShort}
-use Rattle.sja_trace.specs.declared.node_bits.NodeBits.{NodeBits}
-use Rattle.sja_trace.specs.Telling.{IsSilent, at_hand}
 use Rattle.sja_trace.specs.TraceText.{line_where}
+use Rattle.sja_trace.specs.Inside.Hands.{IsBit, IsHand}
 use Rattle.sja_candump.specs.ControllerStates.{state_by, new_state}
 use Rattle.sja_candump.specs.declared.controller_state.ControllerState.{ControllerState}
 use Rattle.sja_candump.specs.declared.controller_state.ControllerState.TheVariants.{Active, Warning, Passive}
 use Rattle.sja_candump.specs.declared.error_frame.ErrorFrame.{ErrorFrame}
-use Rattle.sja_candump.specs.declared.interrupt.Interrupt.{Interrupt}
-use Rattle.sja_candump.specs.BitErrors.{bit_error, bit_error_by, is_overrun, change_in}
-use Rattle.sja_candump.specs.CandumpText.{stored_frame, stored_line, error_line, bit_lines, node_lines}
+use Rattle.sja_candump.specs.declared.error_frame.ErrorFrame.TheVariants.{Restarted}
+use Rattle.sja_candump.specs.BitErrors.{bit_error, bit_error_by, is_overrun, change_in, is_restart}
+use Rattle.sja_candump.specs.CandumpText.{stored_frame, stored_line, error_line, restart_line, bit_lines, node_lines}
+use Rattle.sja_candump.specs.Inside.Coming.{short_lines}
 
 -- a state isn't new after itself
 same_state : (s : ControllerState) → new_state s s ≡ None
 same_state Active = refl
 same_state Warning = refl
 same_state Passive = refl
+
+nowhere : (b : Bool) → line_where b [] ≡ []
+nowhere true = refl
+nowhere false = refl
 
 module _ (h : Happening) (q : ShortBit) (s : IsInShort h q) where
   -- the states before and after the bit are the same
@@ -43,25 +47,31 @@ module _ (h : Happening) (q : ShortBit) (s : IsInShort h q) where
   stored : stored_frame h.events.received h.fate ≡ None
   stored = ap (λ (e : BitEvents). stored_frame e.received h.fate) s.told
 
-  nowhere : (b : Bool) → line_where b [] ≡ []
-  nowhere true = refl
-  nowhere false = refl
-
-  pub no_lines : (bit node : ℕ) (errors : Bool) → bit_lines errors bit node h ≡ []
-  no_lines bit node errors =
-      ap₂ (λ a b. a ++ b) (ap (stored_line bit node) stored)
+  -- its lines are that of a restart right before it
+  pub short_lines_are : (errors : Bool) (bit node : ℕ) (left : Counters) →
+      bit_lines errors bit node left h ≡ restart_line errors bit node left q.counters
+  short_lines_are errors bit node left =
+      let last = restart_line errors bit node left q.counters in
+      ap₂ (λ a b. a ++ b)
+      (ap₂ (λ a b. a ++ b) (ap (λ (k : Counters). restart_line errors bit node left k) s.counters)
+      (ap (stored_line bit node) stored))
       (ap (λ (e : Option ErrorFrame). line_where errors (error_line bit node e)) no_error ∙ nowhere errors)
+      ∙ append-nil (last ++ []) ∙ append-nil last
 
-pub silent_lines : (errors : Bool) (bit node : ℕ) (o : Option Happening) → IsSilent o →
-    node_lines errors bit node o ≡ []
-silent_lines errors bit node o s =
-    ap (node_lines errors bit node) s.is ∙ no_lines s.happened s.bit s.short bit node errors
+-- none, where the driver started nothing that was bus-off
+pub silent_lines : (errors : Bool) (bit node : ℕ) (left : Counters) (q : ShortBit) (o : Option Happening) →
+    IsBit q o → is_restart left q.counters ≡ false → node_lines errors bit node left o ≡ []
+silent_lines errors bit node left q o b none =
+    ap (node_lines errors bit node left) b.is ∙ short_lines_are b.happened q b.short errors bit node left
+    ∙ ap (λ (r : Bool). line_where errors (error_line bit node (if r then Some Restarted else None))) none
+    ∙ nowhere errors
 
 -- ---- what is at hand
 
-pub hand_lines_are : (errors : Bool) (bit node : ℕ) (b : NodeBits) (o : Option Happening) →
-    (at_hand b ≡ o) ⊎ ((at_hand b ≡ None) × IsSilent o) →
-    node_lines errors bit node (at_hand b) ≡ node_lines errors bit node o
-hand_lines_are errors bit node b o (inl same) = ap (node_lines errors bit node) same
-hand_lines_are errors bit node b o (inr silent) =
-    ap (node_lines errors bit node) silent.0 ∙ sym (silent_lines errors bit node o silent.1)
+pub hand_lines_are : (errors : Bool) (bit node : ℕ) (left : Counters) (short : Option ShortBit)
+    (own o : Option Happening) → IsHand short own o →
+    short_lines errors bit node left short own ≡ node_lines errors bit node left o
+hand_lines_are errors bit node left None own o hand = ap (node_lines errors bit node left) (sym hand)
+hand_lines_are errors bit node left (Some q) own o hand =
+    sym (ap (node_lines errors bit node left) hand.is
+    ∙ short_lines_are hand.happened q hand.short errors bit node left)

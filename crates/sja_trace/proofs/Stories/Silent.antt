@@ -1,7 +1,7 @@
--- The bits of a node that are told one after another, where nothing is told of some.
-use Rattle.std.proofs.Common.{◌≡◌, ℕ, ◌+◌, ◌<◌, ◌≤◌, zero, suc, Bool, true, false, Option, Some, None, List, [], ◌∷◌}
+-- Bits of a node at rest, told at once.
+use Rattle.std.proofs.Common.{◌≡◌, ℕ, ◌+◌, ◌<◌, ◌≤◌, zero, suc, Bool, false, List, [], ◌∷◌}
 use Rattle.std.proofs.Common.{◌++◌, length, refl, sym, ap, ◌∙◌, subst, arith, inl, inr}
-use Rattle.std.specs.Prelude.{IfSome, is_some, slice_get}
+use Rattle.std.specs.Prelude.{slice_get}
 use Rattle.std.proofs.lemmas.Bool.{cases_lt}
 use Rattle.std.proofs.lemmas.List.{length-append}
 use Rattle.can_node.proofs.Contending.FieldLevels.{get-append_left}
@@ -15,48 +15,23 @@ use Rattle.sja_replay.specs.Resting.{rested}
 use Rattle.sja_replay.specs.Short.{PassesBit}
 use Rattle.sja_replay.proofs.Listed.Coming.{came_by}
 use Rattle.sja_trace.specs.declared.node_bits.NodeBits.{NodeBits}
-use Rattle.sja_trace.specs.Telling.{HaveSame, IsSilent, TellsOn, PassesOn, RestsOn, at_hand}
-use Rattle.sja_trace.specs.Inside.Hands.{HandGoesOn}
+use Rattle.sja_trace.specs.Telling.{HaveSame}
+use Rattle.sja_trace.specs.Inside.Hands.{IsBit, RestsOn}
 use Rattle.sja_trace.proofs.Stories.Rested.{rested_none}
 use Rattle.sja_trace.proofs.Stories.Telling.{get_last}
 
--- ---- one bit
-
--- in full
-pub full_passes : (old new : NodeBits) → TellsOn old new → PassesOn old new
-full_passes old new on = λ journal bits told come.
-    (let more = on.tells journal bits told come in
-    record { told = more.told; come = more.come.0; hand = inl more.bit; same = more.same })
-
--- in short
-pub short_passes : (old mid : NodeBits) (short : Option ShortBit) → is_some short ≡ true →
-    IfSome short (λ q. HandGoesOn old mid (Some q)) → PassesOn old (record mid { bit = None })
-short_passes old mid None some on = absurd cc
-short_passes old mid (Some q) some on = λ journal bits told come.
-    (let more = on journal bits told come in
-    record {
-      told = more.told;
-      come = more.come;
-      hand = inr (
-        refl,
-        record { happened = more.hand.happened; bit = q; is = more.hand.is; short = more.hand.short },
-      );
-      same = more.same;
-    })
-
--- ---- bits of a node at rest
-
-record Came (journal : List Entry) (bits : ℕ) (old : List Happening) (r : Replay) (i : ℕ) : Type 0 where
+record Came (journal : List Entry) (bits : ℕ) (old : List Happening) (r : Replay) (q : ShortBit) (i : ℕ) :
+    Type 0 where
   told : List Happening
   came : CameTo journal (rested i r) told
   count : length told ≡ bits + i
-  silent : (k : ℕ) → bits ≤ k → k < bits + i → IsSilent (slice_get told k)
+  silent : (k : ℕ) → bits ≤ k → k < bits + i → IsBit q (slice_get told k)
   same : HaveSame bits old told
 
 module _ (journal : List Entry) (bits n : ℕ) (old : List Happening) (r : Replay) (q : ShortBit)
     (passes : (i : ℕ) (before : List Entry) → i < n → IsAt (rested i r) before →
     PassesBit (rested i r) (rested (suc i) r) before q) (come : CameTo journal r old) (many : length old ≡ bits) where
-  so_many : (i : ℕ) → i ≤ n → Came journal bits old r i
+  so_many : (i : ℕ) → i ≤ n → Came journal bits old r q i
   so_many zero few = record {
     told = old;
     came = subst (λ (x : Replay). CameTo journal x old) (sym (rested_none r)) come;
@@ -78,12 +53,11 @@ module _ (journal : List Entry) (bits n : ℕ) (old : List Happening) (r : Repla
         silent = λ k from less. elim (cases_lt k (bits + i)) [
           | inl early ↦
               let s = c.silent k from early in
-              record { happened = s.happened; bit = s.bit; is = before k early ∙ s.is; short = s.short }
+              record { happened = s.happened; is = before k early ∙ s.is; short = s.short }
           | inr late ↦
               let last : length c.told ≡ k = omega (arith, count, less, late) in
               record {
                 happened = p.happened;
-                bit = q;
                 is = sym (ap (λ j. slice_get all j) last) ∙ get_last c.told p.happened;
                 short = p.short;
               }
@@ -94,7 +68,7 @@ module _ (journal : List Entry) (bits n : ℕ) (old : List Happening) (r : Repla
 pub rest_passes : (old new : NodeBits) (n : ℕ) (q : ShortBit) → old.over ≡ false → new.over ≡ old.over →
     new.replay ≡ rested n old.replay →
     ((i : ℕ) (before : List Entry) → i < n → IsAt (rested i old.replay) before →
-    PassesBit (rested i old.replay) (rested (suc i) old.replay) before q) → RestsOn n old new
+    PassesBit (rested i old.replay) (rested (suc i) old.replay) before q) → RestsOn n q old new
 rest_passes old new n q under still is passes = λ journal bits told come.
     (let P : Bool → Type 0 = λ b. HasCome b journal bits old.replay told in
     let c = subst P under come in

@@ -1,6 +1,6 @@
 -- The bit at hand of a node, in short where it told nothing. A bit in short leaves open which happening it was: each
 -- that it may have been has the same line.
-use Rattle.std.specs.Prelude.{◌≡◌, ℕ, suc, not, Bool, false, Option, Some, None, List, slice_get}
+use Rattle.std.specs.Prelude.{◌≡◌, ◌<◌, ◌≤◌, ◌+◌, ℕ, suc, not, Bool, false, Option, Some, None, List, slice_get}
 use Rattle.can_bits.specs.declared.level.Level.{Level}
 use Rattle.can_node.specs.declared.counters.Counters.{Counters}
 use Rattle.can_node.specs.Stands.{nothing}
@@ -79,3 +79,15 @@ pub record ToldHand (journal : List Entry) (bits : ℕ) (old : List Happening) (
 abbrev pub HandGoesOn : NodeBits → NodeBits → Option ShortBit → Type 0
 HandGoesOn old new short = (journal : List Entry) (bits : ℕ) (told : List Happening) →
     HasCome old.over journal bits old.replay told → ToldHand journal bits told new short
+
+-- so many bits more were told, each of which brought this in short
+pub record RestedMore (n : ℕ) (q : ShortBit) (journal : List Entry) (bits : ℕ) (old : List Happening)
+    (new : NodeBits) : Type 0 where
+  pub told : List Happening
+  pub come : HasCome new.over journal (bits + n) new.replay told
+  pub silent : (i : ℕ) → bits ≤ i → i < bits + n → IsBit q (slice_get told i)
+  pub same : HaveSame bits old told
+
+abbrev pub RestsOn : ℕ → ShortBit → NodeBits → NodeBits → Type 0
+RestsOn n q old new = (journal : List Entry) (bits : ℕ) (told : List Happening) →
+    HasCome old.over journal bits old.replay told → RestedMore n q journal bits told new

@@ -9,7 +9,7 @@ loop-node-init c = begun_none c.args.nodes.now c.new-all.result.items (search ru
 pub loop-node-preserved : goal.loop-node-preserved
 loop-node-preserved c =
     begun_more c.args.nodes.now c.loop-node.node-index c.node-item.result _ _ _ c.loop-node-test.true
-    c.node-item.is c.loop-node.invariant (rw c.journal.ensures at c.of.ensures.0) c.in_ok-push.ensures.items
+    c.node-item.is c.loop-node.invariant c.of.ensures c.in_ok-push.ensures.items
 
 pub returns : goal.returns
 returns c =

@@ -1,16 +1,16 @@
 use Rattle.std.proofs.Common.{◌<◌, length, rules}
 use Rattle.lemmas.proofs.ChangedInTurn.{part_none, part_next, part_all}
-use Rattle.sja_trace.specs.Telling.{PassesOn}
+use Rattle.sja_candump.specs.Inside.Coming.{GoesOn}
 use Rattle.sja_candump.proofs.all_bits.pass_on_all.Goals as goal
 
 pub loop-k-init : goal.loop-k-init
-loop-k-init c = part_none PassesOn c.args.all.now
+loop-k-init c = part_none GoesOn c.args.all.now
 
 pub loop-k-preserved : goal.loop-k-preserved
 loop-k-preserved c =
     let here : c.loop-k.k < length c.loop-k.all = search rules in
-    part_next PassesOn c.loop-k.k c.args.all.now c.loop-k.all c.index-all-k.result c.pass_on.new.self
+    part_next GoesOn c.loop-k.k c.args.all.now c.loop-k.all c.index-all-k.result c.pass_on.new.self
     c.loop-k.invariant here c.pass_on.ensures
 
 pub returns : goal.returns
-returns c = part_all PassesOn c.loop-k.k c.args.all.now c.loop-k.all c.loop-k.invariant (search rules)
+returns c = part_all GoesOn c.loop-k.k c.args.all.now c.loop-k.all c.loop-k.invariant (search rules)

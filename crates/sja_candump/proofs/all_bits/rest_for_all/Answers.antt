@@ -1,5 +1,5 @@
-use Rattle.std.proofs.Common.{◌<◌, ◌≤◌, arith, rules}
-use Rattle.sja_candump.proofs.SoFar.Resting.{rest_at}
+use Rattle.std.proofs.Common.{arith, rules}
+use Rattle.sja_candump.proofs.SoFar.Resting.{stay_at}
 use Rattle.sja_candump.proofs.all_bits.rest_for_all.Goals as goal
 
 pub loop-bits-preserved : goal.loop-bits-preserved
@@ -9,7 +9,7 @@ loop-bits-preserved c =
     record {
       most = (let before = l.invariant.most in omega (arith, least, before));
       rests = λ some k d less.
-          rest_at l.count c.rest_for-count.result c.args.all.now l.bits-index c.bits-item.result c.bits-item.is least
+          stay_at l.count c.rest_for-count.result c.args.all.now l.bits-index c.bits-item.result c.bits-item.is least
           (l.invariant.rests (omega (arith, some, least))) (c.rest_for-count.ensures.rests some) k d
           (omega (arith, less)) (search rules);
     }

@@ -7,7 +7,7 @@ pub loop-bits-preserved : goal.loop-bits-preserved
 loop-bits-preserved c = record {
   text = numbered_next (hand_lines c.args.errors c.args.bit) c.args.all.now c.loop-bits.bits-index
       c.loop-bits.number c.bits-item.result _ _ _ c.loop-bits-test.true c.bits-item.is
-      (rw c.bit.ensures at c.in_ok-put_node.ensures) c.loop-bits.invariant.text;
+      c.in_ok-put_node.ensures c.loop-bits.invariant.text;
   number = let n = c.loop-bits.invariant.number in omega (arith, n);
 }
 

@@ -1,0 +1,74 @@
+//! [`DriverBits`]: the bits of a node, of which its driver is told.
+
+use can_node::Counters;
+use sja_log::NodeRun;
+use sja_replay::ShortBit;
+use sja_trace::{NodeBits, counters_of};
+
+/// The bits of a node, one after another, of which one is at hand.
+#[derive(Debug, Drop)]
+pub(crate) struct DriverBits<'a> {
+    /// The error counters as the bits before the one at hand left them.
+    pub(crate) left: Counters,
+    /// The bit at hand in short, where it was passed so.
+    pub(crate) short: Option<ShortBit>,
+    /// Its bits, one at hand where it isn't so.
+    pub(crate) bits: NodeBits<'a>,
+}
+
+impl<'a> DriverBits<'a> {
+    ghost use Rattle.std.specs.Prelude.{◌<◌, ◌≤◌, []};
+    ghost use Rattle.sja_trace.specs.Telling.{IsUnderway};
+    ghost use Rattle.sja_candump.specs.Inside.Coming.{HasGone, GoesOn, GoesToEnd, MayStay, RestsBy};
+
+    /// Before the first bit.
+    pub(crate) fn of(node: &'a NodeRun) -> DriverBits<'a>
+        ensures { HasGone node.now.journal 0 result [] }
+    {
+        DriverBits {
+            left: counters_of(&None, &None),
+            short: None,
+            bits: NodeBits::of(node.journal()),
+        }
+    }
+
+    /// Goes on past the next bit, if there is one, in short where it tells nothing.
+    pub(crate) fn pass_on(&mut self)
+        ensures { GoesOn self.old self.new }
+    {
+        self.left = counters_of(&self.short, self.bits.bit());
+        self.short = self.bits.pass();
+        if self.short.is_none() {
+            self.bits.go_on();
+        }
+    }
+
+    /// For how many of the next bits, at most so many, the node stays at rest and isn't bus-off. It may be for more of
+    /// them.
+    pub(crate) fn rest_for(&self, most: u32) -> u32
+        ensures most { result ≤ most }
+        ensures rests { 0 < result → MayStay result self.now }
+    {
+        if counters_of(&self.short, self.bits.bit()).off {
+            return 0;
+        }
+        self.bits.rest_for(most)
+    }
+
+    /// Goes on past so many of these bits.
+    pub(crate) fn rest(&mut self, count: u32)
+        requires { MayStay count self.old }
+        ensures { RestsBy count self.old self.new }
+    {
+        let short = self.bits.rest(count);
+        self.short = Some(short);
+    }
+
+    /// Goes on to the end of the journal.
+    pub(crate) fn finish(&mut self)
+        requires { IsUnderway self.old.bits }
+        ensures { GoesToEnd self.old self.new }
+    {
+        self.bits.finish();
+    }
+}
