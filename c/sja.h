@@ -73,9 +73,11 @@ enum sja_places {
     SJA_STUFF = 0x1000           /* 1 to 29 */
 };
 
-/* What a call answers: how it went, and a number. The number is 0 where nothing else is said. */
+/* What a call answers: how it went, and a number, which is 0 where nothing else is said. Of sja_bits alone `rose` is
+ * another number than 0: K + 1 where bits came to the rise of the interrupt line of node K. */
 typedef struct sja_answer {
     uint32_t status;
+    uint32_t rose;
     uint64_t value;
 } sja_answer;
 
@@ -99,8 +101,9 @@ sja_answer sja_read(sja *session, uint32_t node, uint32_t address);
 sja_answer sja_write(sja *session, uint32_t node, uint32_t address, uint32_t value);
 
 /* Runs so many bits, or as many as are left, or up to the first bit in which the interrupt line of a watched node
- * rises: node K is watched where bit K of watch is 1. The value is how many were run. A line that is active already
- * stops nothing, however it came to be: so a driver asks sja_irq first, and handles what is pending. */
+ * rises: node K is watched where bit K of watch is 1. The value is how many were run, and rose tells the first node
+ * whose line rose; where it is 0 all were run that were asked for or are left. A line that is active already stops
+ * nothing, however it came to be: so a driver asks sja_irq first, and handles what is pending. */
 sja_answer sja_bits(sja *session, uint32_t count, uint32_t watch);
 
 /* Whether the interrupt line of a node is active: the value is 1 or 0. It's a level: it stays 1 until the interrupt was
@@ -140,7 +143,7 @@ sja_answer sja_let_go(sja *session);
  * place for the handle is null itself the status is SJA_NO_HANDLE. */
 static inline sja_answer sja_new(uint32_t version, uint32_t bits, uint32_t nodes, sja **session)
 {
-    sja_answer told = { SJA_NO_HANDLE, 0 };
+    sja_answer told = { SJA_NO_HANDLE, 0, 0 };
 
     if (session == NULL)
         return told;

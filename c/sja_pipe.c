@@ -534,6 +534,16 @@ static sja_answer run(sja *session, uint32_t count, uint64_t *before, uint64_t *
     return answer(SJA_DONE, run);
 }
 
+/* The number of the first node of these, counted from 1. */
+static uint32_t first_node(uint64_t nodes)
+{
+    uint32_t node = 1;
+
+    for (; !(nodes & 1); nodes >>= 1)
+        node++;
+    return node;
+}
+
 sja_answer sja_bits(sja *session, uint32_t count, uint32_t watch)
 {
     sja_answer told;
@@ -551,7 +561,7 @@ sja_answer sja_bits(sja *session, uint32_t count, uint32_t watch)
             return told;
         total += told.value;
         if (!none && (active & ~before & watch))
-            break;
+            return (sja_answer){ SJA_DONE, first_node(active & ~before & watch), total };
         before = active;
         look = NULL;
     } while (!none && total < count);

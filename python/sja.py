@@ -62,7 +62,7 @@ class SjaError(Exception):
 
 
 class _Answer(ctypes.Structure):
-    _fields_ = [("status", ctypes.c_uint32), ("value", ctypes.c_uint64)]
+    _fields_ = [("status", ctypes.c_uint32), ("rose", ctypes.c_uint32), ("value", ctypes.c_uint64)]
 
 
 def _done(answer):
@@ -96,7 +96,7 @@ class _Library:
         for name, types in arguments.items():
             call = getattr(self.calls, f"sja_{name}")
             call.argtypes, call.restype = types, _Answer
-        self.handle = ctypes.c_void_p()
+        self.handle, self.rose = ctypes.c_void_p(), 0
         _done(self.calls.sja_make(ctypes.byref(self.handle)))
         try:
             _done(self.calls.sja_begin(self.handle, version, bits, nodes))
@@ -105,7 +105,10 @@ class _Library:
             raise
 
     def call(self, name, *numbers):
-        return _done(getattr(self.calls, f"sja_{name}")(self.handle, *numbers))
+        answer = getattr(self.calls, f"sja_{name}")(self.handle, *numbers)
+        if name == "bits":
+            self.rose = answer.rose
+        return _done(answer)
 
     def text(self, name):
         return _text_of(getattr(self.calls, f"sja_put_{name}"), self.handle)
@@ -123,7 +126,7 @@ class _Process:
     """A session in a process of its own."""
 
     def __init__(self, program, version, bits, nodes):
-        self.bits, self.nodes, self.texts = bits, nodes, {}
+        self.bits, self.nodes, self.texts, self.rose = bits, nodes, {}, 0
         pipe = subprocess.PIPE
         try:
             self.process = subprocess.Popen([program, "live"], stdin=pipe, stdout=pipe)
@@ -198,7 +201,9 @@ class _Process:
             words = self._hear("ran").split()
             total += int(words[1])
             active = int(words[3], 16) if words[2:3] == ["line"] else None
-            if active is None or total >= count or active & ~before & watch:
+            risen = (active or 0) & ~before & watch
+            if active is None or total >= count or risen:
+                self.rose = (risen & -risen).bit_length()
                 return total
             before = active
 
@@ -330,11 +335,18 @@ class Session:
         self._call("write", node, address, value)
 
     def run(self, count, watch=0):
-        """Runs bits, up to the first in which the line of a watched node rises. How many were run."""
+        """Runs bits, up to the first in which the line of a watched node rises. How many were run; `rose` tells the
+        node."""
         if not (_is_number(count) and _is_number(watch)):
             self.now()
             raise SjaError("NO_NUMBER")
         return self._call("bits", count, watch)
+
+    @property
+    def rose(self):
+        """The first watched node whose line rose as the last `run` ended; None where it ran all its bits."""
+        rose = self._open().rose
+        return rose - 1 if rose else None
 
     def irq(self, node):
         """Whether the interrupt line of a node is active."""

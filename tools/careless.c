@@ -77,7 +77,7 @@ static void try_endless(void)
     has_status("its report", sja_report(session, text, ROOM), SJA_ENDLESS);
     has_status("a read after that", sja_read(session, 0, 2), SJA_DONE);
     if (sja_now(session).value != 3000000)
-        has_status("as many bits as were run", (sja_answer){ SJA_BROKEN, 0 }, SJA_DONE);
+        has_status("as many bits as were run", (sja_answer){ .status = SJA_BROKEN }, SJA_DONE);
     sja_free(session);
 }
 
@@ -92,7 +92,7 @@ static void try_ignored(void)
     signal(SIGCHLD, SIG_IGN);
     has_status("a run, SIGCHLD ignored", sja_run_plan(plan, strlen(plan), text, ROOM), SJA_DONE);
     if (strcmp(kept, text) != 0)
-        has_status("another report, SIGCHLD ignored", (sja_answer){ SJA_BROKEN, 0 }, SJA_DONE);
+        has_status("another report, SIGCHLD ignored", (sja_answer){ .status = SJA_BROKEN }, SJA_DONE);
     has_status("no plan, SIGCHLD ignored", sja_run_plan(no_plan, strlen(no_plan), text, ROOM), SJA_NO_PLAN);
     session = opened("a session, SIGCHLD ignored");
     has_status("a read, SIGCHLD ignored", sja_read(session, 0, 2), SJA_DONE);
@@ -129,7 +129,7 @@ static void try_closed(void)
     has_status("a read, a file in their place", sja_read(session, 0, 2), SJA_BROKEN);
     sja_free(session);
     if (fstat(end, &file) != 0 || file.st_size != 0)
-        has_status("the file is still there and empty", (sja_answer){ SJA_BROKEN, 0 }, SJA_DONE);
+        has_status("the file is still there and empty", (sja_answer){ .status = SJA_BROKEN }, SJA_DONE);
     unlink(name);
     for (int other = end; other < 8; other++)
         close(other);

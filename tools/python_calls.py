@@ -80,11 +80,28 @@ def ended(bus, status):
         yield f"{name}{numbers}, {status}", lambda name=name, numbers=numbers: getattr(bus, name)(*numbers), status
 
 
-def places(bus):
-    """Places of a frame, as examples/own_case.toml has it."""
+def asked_to_send(bus):
+    """Node 0 is to send the frame of examples/own_case.toml, and node 1 is there to receive it."""
     for address, value in [(0, 0), (16, 2), (17, 0x24), (18, 0x60), (19, 0x11), (20, 0x22), (1, 1)]:
         bus.write(0, address, value)
     bus.write(1, 0, 0)
+
+
+def rises(bus):
+    """Which line rose: of two nodes that are watched that of the receiver, whose receive interrupt is enabled."""
+    asked_to_send(bus)
+    bus.write(1, 4, 1)
+    for wanted, count, watch in [(None, 20, 3), (1, 200, 3), (None, 5, 3), (None, 5, 0)]:
+        def rose(count=count, watch=watch):
+            bus.run(count, watch)
+            return bus.rose
+
+        yield f"which line rose in {count} bits", rose, wanted
+
+
+def places(bus):
+    """Places of a frame, as examples/own_case.toml has it."""
+    asked_to_send(bus)
     for wanted, name, numbers in [
         (None, "place", (0,)), ("NO_NODE", "place", (2,)), ("NO_PLACE", "to", (0, "stuff.30", 9)),
         ("NO_PLACE", "to", (2, "nowhere", 9)), ("NO_NODE", "to", (2, "SOF", 9)), (True, "to", (1, "stuff.2", 200)),
@@ -109,9 +126,10 @@ def endless(bus):
 def rows():
     """What is called, and what it has to answer."""
     yield from openings()
-    framed = Session(3, 1000, 2)
-    yield from places(framed)
-    framed.close()
+    for told in (places, rises):
+        framed = Session(3, 1000, 2)
+        yield from told(framed)
+        framed.close()
     lasting = Session(3, 0, 1)
     yield from endless(lasting)
     lasting.close()

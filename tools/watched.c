@@ -31,7 +31,8 @@ static uint32_t below(uint32_t limit)
 /* The value that both answered. Another status or value ends the test. */
 static uint64_t same(const char *what, sja_answer of_watched, sja_answer of_stepped)
 {
-    if (of_watched.status != of_stepped.status || of_watched.value != of_stepped.value) {
+    if (of_watched.status != of_stepped.status || of_watched.value != of_stepped.value
+        || of_watched.rose != of_stepped.rose) {
         printf("session %lu: %s: %u %lu watched, %u %lu bit by bit\n", session, what, (unsigned)of_watched.status,
                (unsigned long)of_watched.value, (unsigned)of_stepped.status, (unsigned long)of_stepped.value);
         exit(1);
@@ -60,6 +61,16 @@ static sja_answer lines(sja *of)
     return all;
 }
 
+/* The number of the first of these nodes, counted from 1; 0 of none. */
+static uint32_t first_of(uint64_t nodes)
+{
+    uint32_t node = 1;
+
+    while (nodes != 0 && !(nodes >> (node - 1) & 1))
+        node++;
+    return nodes != 0 ? node : 0;
+}
+
 /* Runs bits in both, up to the first in which the line of a watched node rises. */
 static void run(uint32_t count, uint32_t watch)
 {
@@ -77,6 +88,7 @@ static void run(uint32_t count, uint32_t watch)
         risen = now & ~before & stopping;
         passed += (now & ~before & ~(uint64_t)watch) != 0;
     }
+    ran.rose = first_of(risen);
     same("sja_bits", sja_bits(watched, count, watch), ran);
     same("sja_irq", lines(watched), lines(stepped));
     bits += ran.value;

@@ -1,5 +1,5 @@
 -- The answers of the functions of C (this project's own rule), as c/sja.h has them.
-use Rattle.std.specs.Prelude.{◌≡◌, ◌⊎◌, ℕ}
+use Rattle.std.specs.Prelude.{◌≡◌, ◌⊎◌, ◌+◌, ℕ, Option, Some, None}
 use Rattle.sja_c.specs.declared.answer.SjaAnswer.{SjaAnswer}
 use Rattle.sja_calls.specs.declared.call_fault.CallFault.{CallFault}
 use Rattle.sja_calls.specs.declared.call_fault.CallFault.TheVariants.{Ended, Version, Bits, Nodes, NoAddress, NoByte}
@@ -8,7 +8,12 @@ use Rattle.sja_calls.specs.declared.call_fault.CallFault.TheVariants.{StrikesUse
 use Rattle.sja_calls.specs.declared.call_fault.CallFault.TheVariants.{NoPlace, Endless}
 
 abbrev pub answer : ℕ → ℕ → SjaAnswer
-answer status value = record { status = status; value = value }
+answer status value = record { status = status; rose = 0; value = value }
+
+-- the number of a node whose line rose: its own and 1; 0 where none did
+abbrev pub number_of : Option ℕ → ℕ
+number_of None = 0
+number_of (Some node) = node + 1
 
 -- SJA_NO_HANDLE
 abbrev pub no_handle_status : ℕ
@@ -39,4 +44,4 @@ refusal Endless = answer 20 0
 -- a call was done, and gives this number; or it wasn't, for this reason
 abbrev pub Answers : (ℕ → Type 0) → (CallFault → Type 0) → SjaAnswer → Type 0
 Answers does fails r =
-    ((r.status ≡ 0) × does r.value) ⊎ ((fault : CallFault) × fails fault × (r ≡ refusal fault))
+    ((r ≡ answer 0 r.value) × does r.value) ⊎ ((fault : CallFault) × fails fault × (r ≡ refusal fault))

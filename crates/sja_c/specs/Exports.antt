@@ -3,7 +3,7 @@
 -- report has ended it.
 use denote.RawPtr.{Ptr, null_ptr}
 use Rattle.std.specs.Prelude.{◌≡◌, ◌≢◌, ◌⊎◌, ◌≤◌, ◌==◌, ℕ, Option, List}
-use Rattle.sja_c.specs.Answers.{Answers, answer, refusal}
+use Rattle.sja_c.specs.Answers.{Answers, answer, number_of, refusal}
 use Rattle.sja_c.specs.declared.answer.SjaAnswer.{SjaAnswer}
 use Rattle.sja_calls.specs.Beginnings.{IsNew, IsNoSession}
 use Rattle.sja_calls.specs.Calls.{IsRefusal, ReadsOf, IsReadFault, WritesOf, IsWriteFault, RunsOf, IsRunFault}
@@ -11,6 +11,7 @@ use Rattle.sja_calls.specs.Calls.{LooksOf, IsLookFault, LinesOf, IsLinesFault}
 use Rattle.sja_calls.specs.Calls.{StrikesOf, IsStrikeFault, IsNowOf, IsNowFault}
 use Rattle.sja_calls.specs.Placing.{IsAtPlaceOf, IsPlaceFault, ComesToOf, IsToFault}
 use Rattle.sja_calls.specs.Texts.{Ends, PutsReport, IsReportFault, PutsPlan, IsNoPlanText, PutsRun, IsNoRun}
+use Rattle.sja_calls.specs.declared.call_fault.CallFault.{CallFault}
 use Rattle.sja_calls.specs.declared.call_fault.CallFault.TheVariants.{Memory}
 use Rattle.sja_calls.specs.declared.held_session.HeldSession.{HeldSession}
 use Rattle.sja_calls.specs.declared.state.State.TheVariants.{Lost}
@@ -40,11 +41,12 @@ AnswersWrite was now node address value =
     Answers (λ number. (number ≡ 0) × WritesOf was.state now.state node address value)
     (λ fault. IsRefusal was.state (IsWriteFault node address value) fault × (now ≡ was))
 
--- bits were run, as many as the number says
+-- bits were run, as many as the number says, up to the rise of the line of the node that is told, where one is
 abbrev pub AnswersBits : HeldSession → HeldSession → ℕ → ℕ → SjaAnswer → Type 0
-AnswersBits was now count watch =
-    Answers (λ number. (rose : Option ℕ) × RunsOf was.state now.state count watch number rose)
-    (λ fault. IsRefusal was.state (IsRunFault count) fault × (now ≡ was))
+AnswersBits was now count watch r =
+    ((rose : Option ℕ) × (r ≡ record (answer 0 r.value) { rose = number_of rose })
+    × RunsOf was.state now.state count watch r.value rose)
+    ⊎ ((fault : CallFault) × (IsRefusal was.state (IsRunFault count) fault × (now ≡ was)) × (r ≡ refusal fault))
 
 -- the number is 1 where the line is active, else 0
 abbrev pub AnswersIrq : HeldSession → HeldSession → ℕ → SjaAnswer → Type 0

@@ -1,7 +1,7 @@
 //! What a call answers.
 
 ghost use Rattle.std.specs.Prelude.{◌≡◌, ◌≢◌};
-ghost use Rattle.sja_c.specs.Answers.{answer, refusal, no_handle_status};
+ghost use Rattle.sja_c.specs.Answers.{answer, refusal, number_of, no_handle_status};
 
 use sja_calls::CallFault;
 
@@ -11,6 +11,8 @@ use sja_calls::CallFault;
 pub struct SjaAnswer {
     /// How it went.
     pub status: u32,
+    /// Whose interrupt line rose, where bits that were run came to that: the node's number and 1; else 0.
+    pub rose: u32,
     /// The number.
     pub value: u64,
 }
@@ -19,7 +21,26 @@ pub struct SjaAnswer {
 pub(crate) fn done(value: u64) -> SjaAnswer
     ensures { result ≡ answer 0 value }
 {
-    SjaAnswer { status: 0, value }
+    SjaAnswer {
+        status: 0,
+        rose: 0,
+        value,
+    }
+}
+
+/// Bits were run, so many, up to the rise of a node's line where one rose.
+pub(crate) fn done_bits(bits: u32, rose: Option<u8>) -> SjaAnswer
+    ensures { result ≡ record (answer 0 bits) { rose = number_of rose } }
+{
+    let rose = match rose {
+        Some(node) => u32::from(node) + 1,
+        None => 0,
+    };
+    SjaAnswer {
+        status: 0,
+        rose,
+        value: u64::from(bits),
+    }
 }
 
 /// The handle is null.
@@ -28,6 +49,7 @@ pub(crate) fn no_handle() -> SjaAnswer
 {
     SjaAnswer {
         status: 1,
+        rose: 0,
         value: 0,
     }
 }
@@ -54,6 +76,7 @@ pub(crate) fn refused(fault: CallFault) -> SjaAnswer
         CallFault::NoDocument => plain(15),
         CallFault::NoRoom(size) => SjaAnswer {
             status: 16,
+            rose: 0,
             value: size as u64,
         },
         CallFault::Memory => plain(17),
@@ -66,5 +89,9 @@ pub(crate) fn refused(fault: CallFault) -> SjaAnswer
 fn plain(status: u32) -> SjaAnswer
     ensures { result ≡ answer status 0 }
 {
-    SjaAnswer { status, value: 0 }
+    SjaAnswer {
+        status,
+        rose: 0,
+        value: 0,
+    }
 }

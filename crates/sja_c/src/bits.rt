@@ -7,7 +7,7 @@ ghost use Rattle.sja_c.specs.Exports.{AnswersBits, AnswersIrq, AnswersLines, Ans
 ghost use Rattle.sja_c.specs.Handles.{is_handle, AtHandle};
 ghost use Rattle.sja_calls.specs.declared.held_session.HeldSession.{HeldSession as HeldOf};
 
-use super::answer::{SjaAnswer, done, no_handle, refused};
+use super::answer::{SjaAnswer, done, done_bits, no_handle, refused};
 use sja_calls::HeldSession;
 
 /// Runs bits: `sja_bits` of `c/sja.h`.
@@ -29,7 +29,7 @@ fn bits_of(held: &mut HeldSession, count: u32, watch: u32) -> SjaAnswer
     ensures { AnswersBits held.old held.new count watch result }
 {
     match held.bits(count, watch) {
-        Ok(watched) => done(u64::from(watched.bits)),
+        Ok(watched) => done_bits(watched.bits, watched.rose),
         Err(fault) => refused(fault),
     }
 }
