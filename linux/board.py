@@ -5,14 +5,14 @@
         bus.link(0, bitrate=500000, restart_ms=100, berr_reporting=True)
         ..
         bus.up(0)
-        bus.strike(1, "stuff.2", "123#1122")
+        bus.strike(1, "stuff.2")
         bus.send(0, "123#1122")
         bus.run(bits=1000)
         print(bus.received(1), bus.errors(0), bus.state(0))
 
 `driver` is an unpacked source of Linux, or a shared object that linux/build made of one. Of a source the object is
-built first, and kept beside others in a folder of the user's cache. There is one Board at a time in a process. Standard
-library only; docs/use/LINUX.md says more."""
+built first, and kept beside others in a folder of the user's cache. With `bits` a bus ends after so many, and has a plan; without it
+goes on. There is one Board at a time in a process. Standard library only; docs/use/LINUX.md says more."""
 
 import ctypes
 import errno
@@ -20,8 +20,12 @@ import hashlib
 import os
 import re
 import subprocess
+import sys
 
 HERE = os.path.dirname(os.path.realpath(__file__))
+sys.path.append(os.path.join(os.path.dirname(HERE), "python"))
+from sja import PLACES  # noqa: E402
+
 LIBRARY = os.path.join(os.path.dirname(HERE), "crates/sja_c/out/libsja.so")
 PROGRAM = os.path.join(os.path.dirname(HERE), "crates/sja/out/sja")
 TEXT, ROOM = 40, 1 << 24
@@ -80,18 +84,19 @@ class Board:
             raise BoardError(16, "there is one Board at a time in a process")
         path = driver if os.path.isfile(driver) else _built(driver, own_driver, own_board)
         self._calls = ctypes.CDLL(path)
-        for name in ("bus_run", "bus_fault"):
+        for name in ("bus_run", "bus_fault", "bus_missed"):
             getattr(self._calls, name).restype = ctypes.c_uint32
         for name in ("bus_now", "bus_frames"):
             getattr(self._calls, name).restype = ctypes.c_uint64
-        for name in ("bus_to_frame", "bus_plan", "bus_report"):
+        for name in ("bus_plan", "bus_report"):
             getattr(self._calls, name).restype = ctypes.c_int64
         for name in ("bus_refusal", "bus_dmesg"):
             getattr(self._calls, name).restype = ctypes.c_char_p
+        self._calls.bus_peek.restype = ctypes.c_uint8
         self._calls.bus_frame.restype = ctypes.POINTER(_Frame)
         self._calls.bus_strike.argtypes = [ctypes.c_uint, ctypes.c_uint64]
         self._calls.bus_frame.argtypes = [ctypes.c_uint, ctypes.c_size_t]
-        self.nodes, self._strikes = nodes, []
+        self.nodes = nodes
         error = self._calls.bus_begin(nodes, bits)
         self._done(error, "there is neither a library nor a program" if error == -errno.EPIPE else "bus_begin")
         Board._taken = True
@@ -127,31 +132,35 @@ class Board:
         """`cansend canN FRAME`."""
         self._done(self._calls.bus_send(node, frame.encode()), f"can{node} {frame}")
 
-    def strike(self, node, place, frame=None):
-        """Has a node see the other level: in a bit by its number, or in a place of the next frame, as "data 1.7" of
-        "123#1122", or of the one after it, "frame 2 data 1.7". The frame says where the place is; one that comes again
-        counts again. A SOF has no such place: of a frame that is sent at rest it is the bit `now()`."""
+    def strike(self, node, place):
+        """Has a node see the other level: in a bit by its number, or at a place of the next frame that begins for it, as
+        "data 1.7", or of the one after it, "frame 2 data 1.7"; one that comes again counts again. At "SOF" is who sends
+        the frame."""
         if isinstance(place, int):
             self._done(self._calls.bus_strike(node, place), f"strike {place}")
             return
         number, name = re.fullmatch(r"(?:frame ([1-9]\d*) )?(.*)", place).groups()
-        bit = self._calls.bus_place(frame.encode(), name.encode())
-        if bit <= 0:
-            raise BoardError(22, f"{frame} has no place {place}")
-        self._strikes.append((node, bit, int(number or 1)))
+        if name not in PLACES:
+            raise BoardError(errno.EINVAL, f"there is no place {name}")
+        self._done(self._calls.bus_strike_at(node, int(number or 1), PLACES[name]), f"strike {place}")
 
     def run(self, bits):
         """Lets bits run, with all that drivers and kernel do meanwhile. How many were run."""
-        before = self.now()
-        while self._strikes and (start := self._calls.bus_to_frame(before + bits - self.now())) >= 0:
-            for node, bit, number in self._strikes:
-                if number == 1:
-                    self._done(self._calls.bus_strike(node, start + bit), f"strike {start + bit}")
-            self._strikes = [(node, bit, number - 1) for node, bit, number in self._strikes if number > 1]
-        self._calls.bus_run(bits - (self.now() - before))
+        missed = self._calls.bus_missed()
+        ran = self._calls.bus_run(bits)
         if self._calls.bus_fault():
-            raise BoardError(5, f"the session goes no further: status {self._calls.bus_fault()}")
-        return self.now() - before
+            raise BoardError(errno.EIO, f"the session goes no further: status {self._calls.bus_fault()}")
+        if self._calls.bus_missed() > missed:
+            raise BoardError(errno.EINVAL, "a frame ended without the place at which it was to be struck")
+        return ran
+
+    def hold(self, node, is_held=True):
+        """Holds a device's interrupts back, or lets them go: for a handler that comes late."""
+        self._calls.bus_hold(node, is_held)
+
+    def peek(self, node, address):
+        """A register, as a test looks at it beside the driver. A read may clear what it shows."""
+        return self._calls.bus_peek(node, address)
 
     def now(self):
         """How many bits were run."""
@@ -204,7 +213,7 @@ class Board:
         return room.value.decode()
 
     def plan(self):
-        """The plan of what was done so far: `sja run` and `sja trace` take it."""
+        """The plan of what was done so far, of a bus with `bits`: `sja run` and `sja trace` take it."""
         return self._text(self._calls.bus_plan)
 
     def close(self):

@@ -30,7 +30,7 @@ def a_place_is_that_of_the_frame_that_is_named():
     for number, named in enumerate(["", "frame 2 ", "frame 3 "]):
         with Board(nodes=3, driver=TREE) as bus:
             up(bus, one_shot=True, berr_reporting=True)
-            bus.strike(0, f"{named}data 2.3", FRAMES[number])
+            bus.strike(0, f"{named}data 2.3")
             for frame in FRAMES:
                 bus.send(0, frame)
             bus.run(2000)
@@ -43,19 +43,39 @@ def a_place_is_that_of_the_frame_that_is_named():
 def a_place_waits_for_its_frame():
     with Board(nodes=3, driver=TREE) as bus:
         up(bus, one_shot=True)
-        bus.strike(0, "CRC.14", FRAMES[0])
+        bus.strike(0, "CRC.14")
         ran = bus.run(500)
         bus.send(0, FRAMES[0])
         return ran == 500 and bus.run(500) == 500 and bus.received(1) == []
 
 
-def a_sof_is_struck_by_its_bit():
+def a_sof_is_struck_by_its_bit_and_by_its_place():
+    for by_place in (False, True):
+        with Board(nodes=3, driver=TREE) as bus:
+            up(bus, berr_reporting=True)
+            bus.send(0, FRAMES[0])
+            bus.strike(0, "SOF" if by_place else bus.now())
+            bus.run(500)
+            if bus.received(1) != FRAMES[:1] or len(bus.errors(0)) != 1 or bus.details(0)["bus_error"] != 1:
+                return False
+    return True
+
+
+def a_place_that_its_frame_lacks_is_told():
     with Board(nodes=3, driver=TREE) as bus:
-        up(bus, berr_reporting=True)
+        up(bus)
+        bus.strike(1, "data 3.7")
         bus.send(0, FRAMES[0])
-        bus.strike(0, bus.now())
-        bus.run(500)
-        return bus.received(1) == FRAMES[:1] and len(bus.errors(0)) == 1 and bus.details(0)["bus_error"] == 1
+        first = bus.run(200)
+        bus.send(0, FRAMES[1])
+        return first == 200 and refusal_of(lambda: bus.run(200)) == 22 and bus.received(1) == FRAMES[:2]
+
+
+def a_bus_goes_on_or_has_a_plan():
+    with Board(nodes=2, driver=TREE) as bus:
+        endless = bus.run(2500000) == 2500000 and refusal_of(bus.plan) == 5
+    with Board(nodes=2, driver=TREE, bits=1000) as bus:
+        return endless and bus.plan().startswith("version = 3") and refusal_of(lambda: bus.run(1001)) == 0
 
 
 def what_cannot_be_is_refused():
@@ -63,7 +83,7 @@ def what_cannot_be_is_refused():
         no_rate = refusal_of(lambda: bus.up(0))
         up(bus)
         refused = [lambda: Board(nodes=1, driver=TREE), lambda: bus.link(0, bitrate=500000),
-                   lambda: bus.strike(0, "data 3.7", FRAMES[0]), lambda: bus.strike(0, "SOF", FRAMES[0]),
+                   lambda: bus.strike(0, "data 9.7"), lambda: bus.strike(0, "frame 0 SOF"),
                    lambda: bus.strike(0, 0), lambda: bus.send(0, "1234#")]
         return no_rate == 22 and [refusal_of(call) for call in refused] == [16, 16, 22, 22, 22, 22]
 
@@ -83,8 +103,9 @@ def what_goes_down_comes_up():
 
 
 bad = 0
-for test in (a_place_is_that_of_the_frame_that_is_named, a_place_waits_for_its_frame, a_sof_is_struck_by_its_bit,
-             what_cannot_be_is_refused, what_goes_down_comes_up):
+for test in (a_place_is_that_of_the_frame_that_is_named, a_place_waits_for_its_frame,
+             a_sof_is_struck_by_its_bit_and_by_its_place, a_place_that_its_frame_lacks_is_told,
+             a_bus_goes_on_or_has_a_plan, what_cannot_be_is_refused, what_goes_down_comes_up):
     held = test()
     bad += not held
     print(test.__name__.replace("_", " "), "" if held else ": WRONG", sep="")

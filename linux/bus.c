@@ -11,7 +11,7 @@
 
 /* ACCESSES is more than a handler needs that ends: no bit runs in it, so there are at most 21 messages, and sja1000.c
  * has 20 rounds of some 12 accesses beside them. */
-enum { VERSION = 3, MOST_BITS = 2000000, ACCESSES = 2000, ALL = 0xff };
+enum { VERSION = 3, ACCESSES = 2000, ALL = 0xff };
 
 static struct {
     sja *session;
@@ -39,8 +39,6 @@ static int begin_session(unsigned nodes, uint32_t bits)
 {
     sja_answer told = sja_new(VERSION, bits, nodes, &bus.session);
 
-    if (told.status == SJA_NO_BITS && bits == 0)
-        told = sja_new(VERSION, MOST_BITS, nodes, &bus.session);
     bus.fault = told.status;
     return told.status == SJA_DONE ? 0 : told.status == SJA_NO_MEMORY ? -ENOMEM
         : told.status == SJA_BROKEN ? -EPIPE : -EINVAL;
@@ -75,6 +73,7 @@ unsigned bus_end(void)
     shim_unload_modules();
     shim_forget_interrupts();
     stack_forget();
+    seek_forget();
     sja_free(bus.session);
     memset(&bus, 0, sizeof bus);
     return shim_buffers();
@@ -112,6 +111,15 @@ uint8_t bus_peek(unsigned node, unsigned address)
 
     bus.open |= (uint32_t)1 << node;
     return bus.fault == 0 ? value : 0xff;
+}
+
+void bus_hold(unsigned node, int is_held)
+{
+    if (is_held)
+        disable_irq((unsigned)bus.devices[node]->irq);
+    else
+        enable_irq((unsigned)bus.devices[node]->irq);
+    bus.open = ALL;
 }
 
 uint8_t bus_read(unsigned node, unsigned address)
@@ -212,7 +220,7 @@ uint32_t bus_run(uint32_t bits)
 
     settle();
     while (run < bits && bus.fault == 0) {
-        uint32_t next = (uint32_t)shim_next_due(bits - run);
+        uint32_t next = (uint32_t)shim_next_due(seek_strike() > 0 ? 1 : bits - run);
         uint32_t now = (uint32_t)done(sja_bits(bus.session, next, watched()));
 
         if (now == 0 && next > 0)
@@ -229,6 +237,11 @@ uint32_t bus_run(uint32_t bits)
 int bus_strike(unsigned node, uint64_t bit)
 {
     return bit <= UINT32_MAX && sja_strike(bus.session, node, (uint32_t)bit).status == SJA_DONE ? 0 : -EINVAL;
+}
+
+uint32_t bus_at(unsigned node)
+{
+    return bus.fault == 0 ? (uint32_t)done(sja_place(bus.session, node)) : 0;
 }
 
 uint32_t bus_fault(void)

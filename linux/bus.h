@@ -10,7 +10,8 @@
 
 enum { BUS_NODES = 8, FRAME_TEXT = 40 };
 
-/* Begins a bus of so many cards, which are probed, and of so many bits at most: 0 are as many as there can be. */
+/* Begins a bus of so many cards, which are probed, and of so many bits at most; with 0 it goes on without an end, and
+ * has neither plan nor report. */
 int bus_begin(unsigned nodes, uint32_t bits);
 /* Takes the cards away and ends the bus. How many socket buffers were lost. */
 unsigned bus_end(void);
@@ -38,9 +39,17 @@ uint32_t bus_bit_rate(void);
 
 /* Has a node see the other level in a bit that hasn't run. */
 int bus_strike(unsigned node, uint64_t bit);
+/* The same at a place of the first, second, third .. frame that begins for the node from now on: SJA_DATA + 23 of sja.h
+ * for data 2.3. bus_missed says how many of these strikes found no such place in their frame. */
+int bus_strike_at(unsigned node, unsigned frame, uint32_t place);
+unsigned bus_missed(void);
+/* At which of these places the next bit of a node is; 0 where it is at none. */
+uint32_t bus_at(unsigned node);
 
 /* A register, as a test looks at it beside the driver. A read may clear what it shows. */
 uint8_t bus_peek(unsigned node, unsigned address);
+/* Holds a node's interrupt line back from its handlers, or lets it go: a handler that comes late. */
+void bus_hold(unsigned node, int is_held);
 /* The registers, as a board file reads and writes them for its driver. */
 uint8_t bus_read(unsigned node, unsigned address);
 void bus_write(unsigned node, unsigned address, uint8_t value);

@@ -13,7 +13,7 @@ with Board(nodes=3, driver=sys.argv[1]) as bus:
     for node in range(3):
         bus.link(node, bitrate=500000, restart_ms=100, berr_reporting=True)
     bus.up(0, 1, 2)
-    bus.strike(1, "stuff.2", FRAME)
+    bus.strike(1, "stuff.2")
     bus.send(0, FRAME)
     bus.run(1000)
     for node in range(3):

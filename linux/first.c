@@ -3,7 +3,7 @@
 #include <stdio.h>
 
 #include "bus.h"
-#include "place.h"
+#include "sja.h"
 
 int main(void)
 {
@@ -17,8 +17,8 @@ int main(void)
         if (bus_link(node, "bitrate 500000 restart-ms 100 berr-reporting on") != 0 || bus_up(node) != 0)
             return 1;
     bus_run(30);                            /* both take part in the bus */
+    bus_strike_at(1, 1, SJA_STUFF + 2);
     bus_send(0, "123#1122");
-    bus_strike(1, (uint64_t)bus_to_frame(100) + (uint64_t)bus_place("123#1122", "stuff.2"));
     bus_run(1000);
     for (unsigned node = 0; node < 2; node++)
         for (size_t i = 0; i < bus_frames(node); i++) {

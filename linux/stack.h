@@ -1,5 +1,5 @@
 /* SPDX-License-Identifier: GPL-2.0-only */
-/* Where the shim hands frames to the stack above the devices. */
+/* Where the shim hands frames to the stack above the devices, and where the bus asks for strikes by place. */
 #ifndef LINUX_STACK_H
 #define LINUX_STACK_H
 
@@ -13,5 +13,9 @@ struct net_device *bus_device(unsigned node);
 int bus_node(const struct net_device *dev);
 /* Drops all that was received. */
 void stack_forget(void);
+/* Strikes the next bit of each node that is at its place. How many strikes wait for theirs still. */
+unsigned seek_strike(void);
+/* No strike waits: a bus ends. */
+void seek_forget(void);
 
 #endif

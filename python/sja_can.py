@@ -70,7 +70,7 @@ class SjaBus(can.BusABC):
     bitrate          bits in a second of the bus
     pace             seconds of the bus in a second of the clock; without it time passes while every caller waits
     callers          time stands still until so many threads have called
-    bits             how many bits the bus may run at most; 0 are as many as there can be
+    bits             how many bits the bus may run at most; with 0 it goes on without an end
     receive_own_messages, one_shot, listen_only, presume_ack, berr_reporting, restart_ms as `ip link` has them"""
 
     node = None

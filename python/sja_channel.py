@@ -14,7 +14,7 @@ import time
 from sja import Session, SjaError
 from sja_node import Node
 
-VERSION, MOST_BITS, SLICE, BLINK, STANDSTILL, PATIENCE = 3, 2000000, 100000, 0.02, 5, 0.1
+VERSION, SLICE, BLINK, STANDSTILL, PATIENCE = 3, 100000, 0.02, 5, 0.1
 LOG = logging.getLogger("can.sja")
 
 
@@ -40,21 +40,11 @@ class Channel:
 
     def __init__(self, name, nodes, bitrate, pace, callers, bits):
         self.name, self.bitrate, self.pace, self.least_callers = name, bitrate, pace, callers
-        self.session = self._begun(nodes, bits)
+        self.session = Session(VERSION, bits, nodes)
         self.lock = threading.Condition(threading.RLock())
         self.nodes = [None] * nodes
         self.callers, self.events, self.order = {}, [], itertools.count()
         self.begun, self.bits = time.monotonic(), 0
-
-    @staticmethod
-    def _begun(nodes, bits):
-        """A session of so many bits; for 0 bits one without an end, where there are such, else as long as can be."""
-        try:
-            return Session(VERSION, bits, nodes)
-        except SjaError as error:
-            if bits or error.status != "NO_BITS":
-                raise
-            return Session(VERSION, MOST_BITS, nodes)
 
     # ---- nodes
 

@@ -42,6 +42,7 @@ class Node:
 
     def start(self):
         """Takes the controller onto the bus, from reset mode, with nothing left of what it did before."""
+        self.write(IER, 0)
         self.write(MOD, RM)
         code, mask = self.acceptance
         for place in range(4):

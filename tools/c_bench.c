@@ -2,9 +2,9 @@
  *
  *     c_bench KIND COUNT [NODES]
  *
- * Two nodes, or so many, are out of reset mode, by version 3. What is counted are the calls of `counted_read`,
- * `counted_write` and `counted_bits`; all else of a repetition goes by the same calls of sja.h, uncounted. It prints
- * how many calls were counted.
+ * Two nodes, or so many, are out of reset mode, by version 3. What is counted are the calls of the functions that are
+ * called `counted_..`; all else of a repetition goes by the same calls of sja.h, uncounted. It prints how many calls
+ * were counted.
  */
 #include <stdio.h>
 #include <stdlib.h>
@@ -36,6 +36,33 @@ __attribute__((noinline)) uint64_t counted_bits(uint32_t count, uint32_t watch)
 {
     counted++;
     return sja_bits(bus, count, watch).value;
+}
+
+/* A session is made and let go. */
+__attribute__((noinline)) uint32_t counted_new(void)
+{
+    sja *other;
+    uint32_t status = sja_new(3, 2000000, nodes, &other).status;
+
+    counted++;
+    return status == SJA_DONE ? sja_free(other).status : status;
+}
+
+__attribute__((noinline)) uint32_t counted_strike(uint32_t node, uint32_t bit)
+{
+    counted++;
+    return sja_strike(bus, node, bit).status;
+}
+
+/* Which lines are active: asked at once, or node by node. */
+__attribute__((noinline)) uint64_t counted_lines(int is_each)
+{
+    uint64_t active = 0;
+
+    counted++;
+    for (uint32_t node = 0; is_each && node < nodes; node++)
+        active |= sja_irq(bus, node).value << node;
+    return is_each ? active : sja_lines(bus).value;
 }
 
 /* The byte at a place of the transmit buffer: an extended frame of eight bytes. */
@@ -175,6 +202,12 @@ static int once(const char *kind)
         other_mode();
     else if (!strcmp(kind, "start") || !strcmp(kind, "stop"))
         mode(!strcmp(kind, "stop"));
+    else if (!strcmp(kind, "new"))
+        counted_new();
+    else if (!strcmp(kind, "strike"))       /* any order: 7919 and 1,900,000 have no common factor */
+        counted_strike(counted % nodes, 100 + (uint32_t)((uint64_t)counted * 7919 % 1900000));
+    else if (!strcmp(kind, "lines") || !strcmp(kind, "irq-of-each"))
+        counted_lines(!strcmp(kind, "irq-of-each"));
     else if (!strncmp(kind, "bits-", 5))
         bits(strstr(kind, "busy") != NULL, strstr(kind, "watched") != NULL);
     else

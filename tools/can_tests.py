@@ -62,6 +62,20 @@ def time_is_that_of_the_bus():
         return 60 < far < 70 and two.recv(1) is None and one.bit - before == 500000
 
 
+def a_bus_goes_on():
+    """More bits and more accesses than a session with an end has."""
+    with buses(2) as (one, two):
+        before = one.bit
+        if two.recv(5) is not None or one.bit - before != 2500000:
+            return False
+        for number in range(5000):
+            sent = message(number % 0x800, number.to_bytes(8, "big"))
+            one.send(sent)
+            if not same(two.recv(1), sent):
+                return False
+        return True
+
+
 def a_poll_is_one_bit():
     with buses(2) as (one, two):
         one.send(message(0x123))
@@ -304,9 +318,9 @@ def a_database_goes_over_it():
         return round(signals["Speed"], 1) == 88.8 and signals["Gear"] == 5
 
 
-TESTS = [frames_come_as_they_were_sent, time_is_that_of_the_bus, a_poll_is_one_bit, two_threads_answer_all_requests,
-         threads_share_a_bus, a_notifier_uses_no_time_of_its_own, filters_choose, a_filter_that_fits_is_the_controllers,
-         a_struck_frame_comes_once_more, one_shot_is_lost, no_acknowledgement_is_told, bus_off_and_restart,
+TESTS = [frames_come_as_they_were_sent, time_is_that_of_the_bus, a_bus_goes_on, a_poll_is_one_bit,
+         two_threads_answer_all_requests, threads_share_a_bus, a_notifier_uses_no_time_of_its_own, filters_choose,
+         a_filter_that_fits_is_the_controllers, a_struck_frame_comes_once_more, one_shot_is_lost, no_acknowledgement_is_told, bus_off_and_restart,
          restart_ms_restarts, periodic_messages_go_by_bits, own_messages_come_where_asked, a_full_queue_says_so,
          a_bus_begins_anew, what_cannot_be_is_refused, a_refused_bus_leaves_nothing, a_pace_is_that_of_the_clock,
          a_database_goes_over_it]

@@ -4,7 +4,7 @@
 #include <string.h>
 
 #include "check.h"
-#include "place.h"
+#include "sja.h"
 #include "tests.h"
 
 /* Classes and bytes of linux/can/error.h. */
@@ -17,13 +17,9 @@ void test_berr_reporting(void)
     static const char *const words[] = { "bitrate 500000 berr-reporting on", "bitrate 500000 berr-reporting off" };
 
     for (int i = 0; i < 2; i++) {
-        int64_t start;
-
         begin_up(2, 20000, words[i]);
+        check_number("strike", bus_strike_at(1, 1, SJA_STUFF + 2), 0);
         check_number("cansend", bus_send(0, "123#1122"), 0);
-        start = bus_to_frame(100);
-        check(start >= 0, "no frame begins");
-        check_number("strike", bus_strike(1, (uint64_t)(start + bus_place("123#1122", "stuff.2"))), 0);
         bus_run(1000);
         check_frames(1, FRAME_RECEIVED, "123#1122");
         check_frames(0, FRAME_SENT, "123#1122");
@@ -59,12 +55,9 @@ void test_listen_only(void)
 /* One shot: a frame that fails isn't repeated, and none comes back as sent. */
 void test_one_shot(void)
 {
-    int64_t start;
-
     begin_up(2, 20000, "bitrate 500000 one-shot on berr-reporting on");
+    check_number("strike", bus_strike_at(0, 1, SJA_DATA + 14), 0);
     check_number("cansend", bus_send(0, "123#1122"), 0);
-    start = bus_to_frame(100);
-    check_number("strike", bus_strike(0, (uint64_t)(start + bus_place("123#1122", "data 1.4"))), 0);
     bus_run(1000);
     check_frames(1, FRAME_RECEIVED, "");
     check_frames(0, FRAME_SENT, "");
