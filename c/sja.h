@@ -114,9 +114,8 @@ sja_answer sja_irq(sja *session, uint32_t node);
  * each node, in one call. It clears nothing. */
 sja_answer sja_lines(sja *session);
 
-/* Has a node see the other level in a bit that hasn't run, counted from 0. In a session without an end too it is one of
- * the first 2^32. */
-sja_answer sja_strike(sja *session, uint32_t node, uint32_t bit);
+/* As sja_strike below, of the bit that has these halves. */
+sja_answer sja_strike_at(sja *session, uint32_t node, uint32_t low, uint32_t high);
 
 /* The value is how many bits were run: the number of the next one. */
 sja_answer sja_now(sja *session);
@@ -164,6 +163,13 @@ static inline sja_answer sja_free(sja *session)
 
     free(session);
     return told;
+}
+
+/* Has a node see the other level in a bit that hasn't run, counted from 0. A bit has 64 bits: a session without an end
+ * goes on past 2^32 bits. */
+static inline sja_answer sja_strike(sja *session, uint32_t node, uint64_t bit)
+{
+    return sja_strike_at(session, node, (uint32_t)bit, (uint32_t)(bit >> 32));
 }
 
 /* Ends the session, and puts the report of all that happened into the text, with a NUL at its end. The value is the

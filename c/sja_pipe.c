@@ -15,6 +15,7 @@
 
 #include <errno.h>
 #include <fcntl.h>
+#include <inttypes.h>
 #include <signal.h>
 #include <stdio.h>
 #include <stdlib.h>
@@ -24,8 +25,12 @@
 #include <sys/wait.h>
 #include <unistd.h>
 
-/* A line has at most 64 bytes each way, but for those of a plan. A number has at most seven digits. */
+/* A line has at most 64 bytes each way, but for those of a plan. A number has at most seven digits, but for the bit of
+ * a strike. */
 enum { LINE = 128, BYTES = 4096, GREATEST = 9999999 };
+
+/* How many bits a session without an end has. */
+static const uint64_t WITHOUT_END = UINT64_C(1) << 62;
 
 /* A text that is read to its end. */
 struct text {
@@ -586,16 +591,17 @@ sja_answer sja_lines(sja *session)
     return status == SJA_DONE ? lines(session) : answer(status, 0);
 }
 
-sja_answer sja_strike(sja *session, uint32_t node, uint32_t bit)
+sja_answer sja_strike_at(sja *session, uint32_t node, uint32_t low, uint32_t high)
 {
+    uint64_t bit = (uint64_t)high << 32 | low;
     char said[LINE], heard[LINE];
     uint32_t status = is_askable(session, node);
 
     if (status != SJA_DONE)
         return answer(status, 0);
-    if (bit >= (session->bits > 0 ? session->bits : GREATEST + 1))
+    if (bit >= (session->bits > 0 ? session->bits : WITHOUT_END))
         return answer(SJA_NO_BIT, 0);
-    snprintf(said, sizeof said, "strike %u %u\n", (unsigned)node, (unsigned)bit);
+    snprintf(said, sizeof said, "strike %u %" PRIu64 "\n", (unsigned)node, bit);
     if (!ask(session, said, heard))
         return answer(session->lost, 0);
     return strcmp(heard, "ok") == 0 ? answer(SJA_DONE, 0) : refused(heard);

@@ -236,7 +236,7 @@ uint32_t bus_run(uint32_t bits)
 
 int bus_strike(unsigned node, uint64_t bit)
 {
-    return bit <= UINT32_MAX && sja_strike(bus.session, node, (uint32_t)bit).status == SJA_DONE ? 0 : -EINVAL;
+    return sja_strike(bus.session, node, bit).status == SJA_DONE ? 0 : -EINVAL;
 }
 
 uint32_t bus_at(unsigned node)

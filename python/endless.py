@@ -5,7 +5,7 @@ program's name stops it after so many bits."""
 import signal
 import sys
 
-from sja import Session, SjaError
+from sja import Session
 
 MOD, CMR, SR, BUFFER, AMR = 0, 1, 2, 16, 20
 TR, RRB, RBS = 0x01, 0x04, 0x01
@@ -37,25 +37,13 @@ def received(bus, node):
     return numbers
 
 
-def strike(bus, node):
-    """Strikes the frame that a node is about to send. Bits from 2^32 on can't be struck, and over a process those from
-    10,000,000 on."""
-    bit = bus.now() + 50
-    try:
-        if bit < 2**32:
-            bus.strike(node, bit)
-    except SjaError as error:
-        if error.status != "NO_BIT":
-            raise
-
-
 def exchange(bus, last):
     """Sends by turns, and strikes each hundredth message, so that it is sent again."""
     number = line = 0
     while not stopped and bus.now() < last:
         send(bus, number % 2, number)
         if number % 100 == 0:
-            strike(bus, number % 2)
+            bus.strike(number % 2, bus.now() + 50)
         bus.run(400)
         if (came := received(bus, 1 - number % 2)) != [number]:
             sys.exit(f"message {number} came as {came}")

@@ -90,7 +90,7 @@ class _Library:
         u32, text, handle = ctypes.c_uint32, [ctypes.c_char_p, ctypes.c_size_t], [ctypes.c_void_p]
         arguments = {"make": [ctypes.POINTER(ctypes.c_void_p)], "begin": handle + [u32] * 3, "read": handle + [u32] * 2,
                      "write": handle + [u32] * 3, "bits": handle + [u32] * 2, "irq": handle + [u32],
-                     "lines": handle, "strike": handle + [u32] * 2, "now": handle, "place": handle + [u32],
+                     "lines": handle, "strike_at": handle + [u32] * 3, "now": handle, "place": handle + [u32],
                      "to": handle + [u32] * 3, "put_report": handle + text,
                      "put_plan": handle + text, "let_go": handle}
         for name, types in arguments.items():
@@ -105,6 +105,9 @@ class _Library:
             raise
 
     def call(self, name, *numbers):
+        if name == "strike":
+            node, bit = numbers
+            name, numbers = "strike_at", (node, bit & GREATEST, bit >> 32)
         answer = getattr(self.calls, f"sja_{name}")(self.handle, *numbers)
         if name == "bits":
             self.rose = answer.rose
@@ -216,7 +219,7 @@ class _Process:
         return self._active()
 
     def _strike(self, node, bit):
-        self._judge((0 <= node < self.nodes, "NO_NODE"), (0 <= bit < (self.bits or 10**7), "NO_BIT"))
+        self._judge((0 <= node < self.nodes, "NO_NODE"), (0 <= bit < (self.bits or 2**62), "NO_BIT"))
         self._ask(f"strike {node} {bit}", "ok")
         return 0
 
@@ -274,13 +277,13 @@ class _Process:
         self.process.wait()
 
 
-def _is_number(number):
-    return 0 <= operator.index(number) <= GREATEST
+def _is_number(number, most=GREATEST):
+    return 0 <= operator.index(number) <= most
 
 
-def _taken(number):
+def _taken(number, most=GREATEST):
     """A number as a call takes it. One that it can't take becomes the greatest, which is past each limit."""
-    return operator.index(number) if _is_number(number) else GREATEST
+    return operator.index(number) if _is_number(number, most) else most
 
 
 def _library():
@@ -358,7 +361,7 @@ class Session:
 
     def strike(self, node, bit):
         """Has a node see the other level in a bit that hasn't run."""
-        self._call("strike", node, bit)
+        self._open().call("strike", _taken(node), _taken(bit, 2**64 - 1))
 
     def place(self, node):
         """At which place of a frame the next bit of a node is, as plans name it; None at none."""

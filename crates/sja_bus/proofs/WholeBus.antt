@@ -4,3 +4,4 @@ pub mod Marking
 pub mod Logs
 pub mod Striking
 pub mod Broken
+pub mod Laters

@@ -160,6 +160,7 @@ pub(crate) fn untaken_bits<E: BusEnd, B: Board>(
     requires seated { AreSeated E.link seats.old links.old (B.ports board.old) }
     requires may { MayRunOn B.Board board.old seats.old }
     requires bus { IsBus struck.old.script from seats.old }
+    requires on { struck.old.from ≤ from }
     requires within { from + most ≤ struck.old.bits }
     ensures same { struck.new ≡ struck.old }
     ensures keeps { KeepsRows E.BusEnd B.Board seats.old seats.new links.old links.new board.old board.new }

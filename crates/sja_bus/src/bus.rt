@@ -76,7 +76,8 @@ impl Bus {
     ghost use Rattle.sja_bus.specs.Moment.{moment, Keeps, OneBit};
 
     /// A bus for a run of so many bits, 1 to 2^62. It has as many nodes, 1 to 8, as numbers of steps are given: the
-    /// journal of each has room for what its driver gives in so many steps, each at most 2^58. Memory is taken here.
+    /// journal of each has room for what its driver gives in so many steps, each at most 2^58, as all numbers of 32
+    /// bits are. Memory is taken here.
     ///
     /// Error: [`OutOfMemory`] where memory was refused.
     pub fn new(

@@ -23,6 +23,7 @@ mod bus_off;
 mod coming;
 mod idle_bits;
 mod items;
+mod later_strikes;
 mod looking;
 mod node_bit;
 mod node_links;

@@ -20,6 +20,6 @@ impl Bus {
             Strikes self.new.script bit node ↔ Strikes self.old.script bit node }
         ensures kept { OnErr result (self.new ≡ self.old) }
     {
-        self.struck.strike(strike)
+        self.struck.strike(strike, self.run)
     }
 }

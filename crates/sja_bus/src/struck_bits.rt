@@ -5,6 +5,7 @@ ghost use Rattle.sja_bus.specs.Inside.StrikesByBit.{IsTableOf};
 
 use super::bits::fewer;
 use super::coming::{next_strike, struck_by};
+use super::later_strikes::LaterStrikes;
 use super::struck_nodes::StruckNodes;
 use super::struck_table::StruckTable;
 use can_frame::OutOfMemory;
@@ -18,12 +19,12 @@ const MOST_WRITTEN: u64 = 4_194_304;
 /// Of each bit of a run the nodes that its script strikes: written down bit by bit, so that no bit of the bus goes over
 /// all strikes, or in a run of more bits than memory is for by its strikes alone.
 ///
-/// Contracts see it as the script, with the strikes that came later at its end, and the number of bits.
+/// Contracts see it as the script, with the strikes that came later at its end, the number of bits, and from which bit
+/// on it is asked whom the script strikes.
 #[derive(Debug, Drop)]
 pub(crate) struct StruckBits {
     script: FaultScript,
-    /// The strikes that came later, one by one.
-    later: Vec<Strike>,
+    later: LaterStrikes,
     most: u64,
     /// Of all bits, or of none where they are too many.
     table: StruckTable,
@@ -39,13 +40,13 @@ impl Model for StruckBits {
 
     ghost Value = { Scripted };
 
-    ghost view = { λ s. record { script = s.script ++ s.later.items; bits = s.most } };
+    ghost view = { λ s. record { script = s.script ++ s.later.items; bits = s.most; from = s.later.from } };
 
     ghost invariant = { λ s. IsHeld (s.script ++ s.later.items) s.most s.table s.calm_from s.calm_to };
 }
 
 impl StruckBits {
-    ghost use Rattle.std.specs.Prelude.{◌≡◌, ◌+◌, ◌<◌, ◌≤◌, ◌⊎◌, ◌↔◌, ◌++◌, ℕ, [], ◌∷◌, IfOk, OnOk, OnErr};
+    ghost use Rattle.std.specs.Prelude.{◌≡◌, ◌+◌, ◌^◌, ◌<◌, ◌≤◌, ◌⊎◌, ◌↔◌, ◌++◌, ℕ, [], ◌∷◌, IfOk, OnOk, OnErr};
     ghost use Rattle.sja_script.specs.Striking.{Strikes};
     ghost use Rattle.sja_bus.specs.Inside.StrikesByBit.{IsAmong, IsUnstruck, IsStruckOrEnd};
 
@@ -57,14 +58,15 @@ impl StruckBits {
         script: FaultScript,
         bits: u64,
     ) -> Result<StruckBits, OutOfMemory>
-        ensures { IfOk result (λ s. s ≡ record { script = script; bits = bits }) }
+        requires { bits ≤ 2 ^ 62 }
+        ensures { IfOk result (λ s. s ≡ record { script = script; bits = bits; from = 0 }) }
     {
         let written = if bits <= MOST_WRITTEN { bits } else { 0 };
         let mut table = StruckTable::new(alloc, written as usize)?;
         strike_all(&mut table, script.as_slice());
         Ok(StruckBits {
             script,
-            later: Vec::new(alloc),
+            later: LaterStrikes::new(alloc),
             most: bits,
             table,
             calm_from: 1,
@@ -72,16 +74,20 @@ impl StruckBits {
         })
     }
 
-    /// One strike more.
+    /// One strike more. Of no bit before this one it is asked any more whom the script strikes.
     ///
     /// Error: [`OutOfMemory`] where memory was refused; nothing changed.
-    pub(crate) fn strike(&mut self, strike: Strike) -> Result<(), OutOfMemory>
-        ensures struck { OnOk result (self.new ≡ record self.old { script = self.old.script ++ strike ∷ [] }) }
+    pub(crate) fn strike(&mut self, strike: Strike, from: u64) -> Result<(), OutOfMemory>
+        requires on { self.old.from ≤ from }
+        requires counted { from ≤ 2 ^ 62 }
+        ensures struck { OnOk result (self.new.script ≡ self.old.script ++ strike ∷ []) }
+        ensures bits { OnOk result (self.new.bits ≡ self.old.bits) }
+        ensures from { OnOk result (self.new.from ≤ from) }
         ensures kept { OnErr result (self.new ≡ self.old) }
     {
-        self.later.push(strike)?;
+        self.later.push(strike, from)?;
         self.table.strike(&strike);
-        if u64::from(strike.bit) <= self.calm_to {
+        if strike.bit <= self.calm_to {
             self.calm_from = 1;
             self.calm_to = 0;
         }
@@ -91,7 +97,8 @@ impl StruckBits {
     /// The nodes that are struck in this bit.
     #[inline(always)]
     pub(crate) fn at(&self, bit: u64) -> StruckNodes
-        requires { bit < self.now.bits }
+        requires within { bit < self.now.bits }
+        requires on { self.now.from ≤ bit }
         ensures { (node : ℕ) → node < 8 → IsAmong node result ↔ Strikes self.now.script bit node }
     {
         if self.most <= MOST_WRITTEN {
@@ -102,13 +109,14 @@ impl StruckBits {
         }
         let mut nodes = StruckNodes::none();
         struck_by(self.script.as_slice(), bit, &mut nodes);
-        struck_by(self.later.as_slice(), bit, &mut nodes);
+        self.later.strike_in(bit, &mut nodes);
         nodes
     }
 
     /// How many bits, from this one on and at most `most`, strike no node.
     pub(crate) fn quiet_for(&mut self, from: u64, most: u32) -> u32
-        requires { from + most ≤ self.old.bits }
+        requires on { self.old.from ≤ from }
+        requires within { from + most ≤ self.old.bits }
         ensures same { self.new ≡ self.old }
         ensures most { result ≤ most }
         ensures quiet { IsUnstruck self.old.script from (from + result) }
@@ -121,12 +129,13 @@ impl StruckBits {
 
     /// The first bit from this one on in which a node is struck, or the end of the run. It is kept for the next call.
     fn next_from(&mut self, from: u64) -> u64
-        requires { from ≤ self.old.bits }
+        requires asked { self.old.from ≤ from }
+        requires before { from ≤ self.old.bits }
         ensures same { self.new ≡ self.old }
         ensures on { from ≤ result }
         ensures within { result ≤ self.old.bits }
         ensures quiet { IsUnstruck self.old.script from result }
-        ensures stop { IsStruckOrEnd self.old result }
+        ensures stop { IsStruckOrEnd self.old.script self.old.bits result }
     {
         if from >= self.calm_from && from <= self.calm_to {
             return self.calm_to;
@@ -139,17 +148,18 @@ impl StruckBits {
 
     /// The same, looked for.
     fn next_struck(&self, from: u64) -> u64
-        requires { from ≤ self.now.bits }
+        requires asked { self.now.from ≤ from }
+        requires before { from ≤ self.now.bits }
         ensures on { from ≤ result }
         ensures within { result ≤ self.now.bits }
         ensures quiet { IsUnstruck self.now.script from result }
-        ensures stop { IsStruckOrEnd self.now result }
+        ensures stop { IsStruckOrEnd self.now.script self.now.bits result }
     {
         if self.most <= MOST_WRITTEN {
             return self.table.next_struck(from as usize) as u64;
         }
         let first = next_strike(self.script.as_slice(), from, self.most);
-        next_strike(self.later.as_slice(), from, first)
+        self.later.next(from, first)
     }
 }
 

@@ -85,9 +85,8 @@ impl Bus {
         ensures free { IfOk result (λ n. n ≢ 0 → HasFree n self.old) }
         ensures longest { IfOk result (λ n. n ≢ 0 → EndsUntilTold B.Board to_rest most
             (moment self.old links.old board.old) n (moment self.new links.new board.new)) }
-        ensures stops { IfErr result (λ f. IsStopped E.BusEnd B.Board
-            (WorksUntold to_rest (moment self.old links.old board.old)) most
-            (moment self.old links.old board.old) (moment self.new links.new board.new) f) }
+        ensures stops { IfErr result (λ f. IsStopped E.BusEnd B.Board (WorksUntold to_rest (moment self.old
+            links.old board.old)) most (moment self.old links.old board.old) (moment self.new links.new board.new) f) }
     {
         if !may_run_untaken(self.seats.as_slice(), board) {
             return Ok(0);

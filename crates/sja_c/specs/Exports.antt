@@ -2,7 +2,7 @@
 -- rule): it is done as a call of `crates/sja_calls` is, or it isn't, and then the session is as it was, but that a
 -- report has ended it.
 use denote.RawPtr.{Ptr, null_ptr}
-use Rattle.std.specs.Prelude.{◌≡◌, ◌≢◌, ◌⊎◌, ◌≤◌, ◌==◌, ℕ, Option, List}
+use Rattle.std.specs.Prelude.{◌≡◌, ◌≢◌, ◌⊎◌, ◌≤◌, ◌==◌, ◌+◌, ◌*◌, ℕ, Option, List}
 use Rattle.sja_c.specs.Answers.{Answers, answer, number_of, refusal}
 use Rattle.sja_c.specs.declared.answer.SjaAnswer.{SjaAnswer}
 use Rattle.sja_calls.specs.Beginnings.{IsNew, IsNoSession}
@@ -58,6 +58,10 @@ AnswersIrq was now node =
 abbrev pub AnswersLines : HeldSession → HeldSession → SjaAnswer → Type 0
 AnswersLines was now =
     Answers (LinesOf was.state now.state) (λ fault. IsRefusal was.state IsLinesFault fault × (now ≡ was))
+
+-- the bit of these halves
+abbrev pub whole_bit : ℕ → ℕ → ℕ
+whole_bit low high = high * 4294967296 + low
 
 abbrev pub AnswersStrike : HeldSession → HeldSession → ℕ → ℕ → SjaAnswer → Type 0
 AnswersStrike was now node bit =

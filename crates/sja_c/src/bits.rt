@@ -1,9 +1,9 @@
-//! `sja_bits`, `sja_irq`, `sja_lines`, `sja_strike` and `sja_now`.
+//! `sja_bits`, `sja_irq`, `sja_lines`, `sja_strike_at` and `sja_now`.
 
 ghost use types.Logic.{sem};
 ghost use Rattle.std.specs.Prelude.{◌≡◌};
 ghost use Rattle.sja_c.specs.Answers.{answer, no_handle_status};
-ghost use Rattle.sja_c.specs.Exports.{AnswersBits, AnswersIrq, AnswersLines, AnswersStrike, AnswersNow};
+ghost use Rattle.sja_c.specs.Exports.{AnswersBits, AnswersIrq, AnswersLines, AnswersStrike, AnswersNow, whole_bit};
 ghost use Rattle.sja_c.specs.Handles.{is_handle, AtHandle};
 ghost use Rattle.sja_calls.specs.declared.held_session.HeldSession.{HeldSession as HeldOf};
 
@@ -83,25 +83,26 @@ fn lines_of(held: &mut HeldSession) -> SjaAnswer
     }
 }
 
-/// Has a node see the other level in a bit: `sja_strike` of `c/sja.h`.
+/// Has a node see the other level in a bit, of which both halves are given: `sja_strike_at` of `c/sja.h`.
 #[unsafe(no_mangle)]
-pub unsafe extern "C" fn sja_strike(at: *mut u8, node: u32, bit: u32) -> SjaAnswer
+pub unsafe extern "C" fn sja_strike_at(at: *mut u8, node: u32, low: u32, high: u32) -> SjaAnswer
     ghost held: { HeldOf }
     requires* { sem 𝓛 (is_handle at held) }
     ensures* { ∃ₛ (λ (after : HeldOf). sem 𝓛 (is_handle at after)
-        ∗ ⌜ AtHandle at (result ≡ answer no_handle_status 0) (AnswersStrike held after node bit result) ⌝) }
+        ∗ ⌜ AtHandle at (result ≡ answer no_handle_status 0)
+        (AnswersStrike held after node (whole_bit low high) result) ⌝) }
 {
     if at.is_null() {
         return no_handle();
     }
-    strike_of(&mut *(at as *mut HeldSession), node, bit)
+    strike_of(&mut *(at as *mut HeldSession), node, low, high)
 }
 
 /// Has a node see the other level in a bit.
-fn strike_of(held: &mut HeldSession, node: u32, bit: u32) -> SjaAnswer
-    ensures { AnswersStrike held.old held.new node bit result }
+fn strike_of(held: &mut HeldSession, node: u32, low: u32, high: u32) -> SjaAnswer
+    ensures { AnswersStrike held.old held.new node (whole_bit low high) result }
 {
-    match held.strike(node, bit) {
+    match held.strike(node, u64::from(high) * 4_294_967_296 + u64::from(low)) {
         Ok(()) => done(0),
         Err(fault) => refused(fault),
     }

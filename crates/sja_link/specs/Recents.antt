@@ -15,7 +15,7 @@ recents_code {T} code =
 
 -- a list that was made for so many items has forgotten none
 abbrev pub KeepsAll : ℕ → Type 0
-KeepsAll room = room ≤ 4194304
+KeepsAll room = room ≤ 1099511627776
 
 -- an item is the last of these
 pub record IsLast {T : Type 0} (items : List T) (item : T) : Type 0 where

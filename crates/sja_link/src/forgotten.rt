@@ -7,7 +7,7 @@ use std::marker::{Model, PhantomData};
 
 /// Items that were forgotten, oldest first. They take no memory: proofs alone read them.
 #[derive(Drop)]
-pub(crate) struct Forgotten<T> {
+pub struct Forgotten<T> {
     of: PhantomData<T>,
     pub ghost items: { List T },
 }
@@ -23,14 +23,14 @@ unsafe impl<T: Sync> Sync for Forgotten<T> {}
 
 impl<T> Forgotten<T> {
     /// None.
-    pub(crate) fn new() -> Forgotten<T>
+    pub fn new() -> Forgotten<T>
         ensures { result.items ≡ [] }
     {
         Forgotten { of: PhantomData }
     }
 
     /// These, and then those.
-    fn and_all(&self, next: &[T]) -> Forgotten<T>
+    pub fn and_all(&self, next: &[T]) -> Forgotten<T>
         ensures { result.items ≡ self.now.items ++ next.now }
     {
         Forgotten { of: PhantomData }
@@ -39,6 +39,7 @@ impl<T> Forgotten<T> {
 
 impl<T: Drop> Forgotten<T> {
     /// Forgets the items of a list, which is empty then and has its memory for others.
+    #[inline(never)]
     pub(crate) fn take(&mut self, items: &mut Vec<T>)
         ensures forgotten { self.new.items ≡ self.old.items ++ items.old.items }
         ensures empty { items.new.items ≡ [] }

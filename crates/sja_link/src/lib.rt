@@ -57,6 +57,7 @@ pub use driver_ledger::DriverLedger;
 pub use entries::Entries;
 pub use entry::Entry;
 pub use event::Event;
+pub use forgotten::Forgotten;
 pub use full::Full;
 pub use journal::Journal;
 pub use laws::{

@@ -10,8 +10,9 @@ use std::alloc::Global;
 use std::fmt::{self, Debug, Formatter};
 use std::marker::Model;
 
-/// A list that is made for at most so many items forgets none (this project's own rule).
-pub const KEPT: usize = 4_194_304;
+/// A list that is made for at most so many items, 2^40, forgets none (this project's own rule): as many as any caller
+/// has a memory for.
+pub const KEPT: usize = 1_099_511_627_776;
 
 /// How many items are kept at once by a list that is made for more (this project's own rule).
 const WINDOW: usize = 4_096;
@@ -116,31 +117,18 @@ impl<T> Recent<T> {
 }
 
 impl<T: Drop> Recent<T> {
-    /// Adds an item, where it isn't full.
+    /// Adds an item, where it isn't full. Where the memory is, those that are kept are forgotten first.
     #[inline(always)]
     pub fn push(&mut self, item: T)
         requires free { length self.old.items < self.old.room }
         ensures items { self.new.items ≡ self.old.items ++ item ∷ [] }
         ensures room { self.new.room ≡ self.old.room }
     {
-        if self.items.len() < self.window {
-            self.items.push_reserved(item);
-            return;
+        if self.items.len() >= self.window {
+            self.end -= self.items.len();
+            self.window = self.window.min(self.end);
+            self.forgotten.take(&mut self.items);
         }
-        self.push_anew(item);
-    }
-
-    /// The same, where those that are kept are forgotten first.
-    #[inline(never)]
-    fn push_anew(&mut self, item: T)
-        requires free { length self.old.items < self.old.room }
-        requires forgets { KeepsAll self.old.room → ⊥ }
-        ensures items { self.new.items ≡ self.old.items ++ item ∷ [] }
-        ensures room { self.new.room ≡ self.old.room }
-    {
-        self.end -= self.items.len();
-        self.window = self.window.min(self.end);
-        self.forgotten.take(&mut self.items);
         self.items.push_reserved(item);
     }
 }

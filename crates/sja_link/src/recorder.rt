@@ -51,6 +51,7 @@ impl Model for Recorder {
 impl Recorder {
     /// An empty one with room for a run of so many bits in which the driver does so many steps: for an entry a bit,
     /// and of the others for one for each 42 bits, as many as a frame has that is received, two a step, and 100 more.
+    /// Numbers of 32 bits are as few as it asks.
     ///
     /// Error: [`OutOfMemory`] where memory was refused.
     pub fn new(alloc: Global, bits: u64, steps: u64) -> Result<Recorder, OutOfMemory>

@@ -3,3 +3,4 @@ pub mod TurnTexts
 pub mod WriteTexts
 pub mod Spelled
 pub mod SpelledSteps
+pub mod BitWords

@@ -23,9 +23,9 @@ use Rattle.sja_report.specs.ReportWords.{byte_word}
 use Rattle.sja_script.specs.Refusals.{refusal_name}
 use Rattle.sja_script.specs.declared.step_answer.StepAnswer.{StepAnswer}
 use Rattle.sja_script.specs.declared.step_answer.StepAnswer.TheVariants.{Done, NoMessage, Shown, Released, Value}
-use Rattle.sja_script.specs.declared.step_answer.StepAnswer.TheVariants.{Refused}
+use Rattle.sja_script.specs.declared.step_answer.StepAnswer.TheVariants.{Refused, Ignored}
 
--- what a step answers
+-- what a step answers; a driver isn't told that its write was ignored
 abbrev pub told_words : StepAnswer → List Text
 told_words Done = codes "ok" ∷ []
 told_words NoMessage = codes "none" ∷ []
@@ -33,6 +33,7 @@ told_words (Shown message) = codes "message" ∷ encode_lower message ∷ []
 told_words (Released bytes) = codes "released" ∷ decimal bytes ∷ []
 told_words (Value value) = codes "value" ∷ byte_word value ∷ []
 told_words (Refused refusal) = codes "refused" ∷ refusal_name refusal ∷ []
+told_words (Ignored cause) = codes "ok" ∷ []
 
 -- why a line asks for nothing
 abbrev pub fault_word : LineFault → Text

@@ -1,6 +1,9 @@
 -- What a line of `sja live` asks for (this project's own rule). Words stand with one space between two; numbers,
--- addresses, values, messages and steps are spelled as in a plan of the session's version.
-use Rattle.std.specs.Prelude.{◌≡◌, ℕ, Option, Some, None, List, [], ◌∷◌, ◌++◌, codes}
+-- addresses, values, messages and steps are spelled as in a plan of the session's version, but for the bit of a strike.
+use Rattle.std.specs.Prelude.{◌≡◌, ◌≤◌, ℕ, Option, Some, None, true, List, [], ◌∷◌, ◌++◌, codes, length}
+use Rattle.std.specs.Prelude.{nat_lt, if◌then◌else◌}
+use Rattle.std.specs.Str.{all_ascii_digits}
+use Rattle.std.specs.Str.Parse.{digits_value}
 use Rattle.sja_live.specs.declared.live_command.LiveCommand.{LiveCommand}
 use Rattle.sja_live.specs.declared.live_command.LiveCommand.TheVariants.{Step, Read, Write, Run, Rest, Line, Strike}
 use Rattle.sja_live.specs.declared.live_command.LiveCommand.TheVariants.{Answer, Bits, Plan, End, To, PlaceOf}
@@ -53,6 +56,17 @@ pub record IsToLine (ws : List Text) (k : Text) (place : Option Place) (n : Text
 
 -- ---- what a line asks for
 
+-- how many digits spell a bit at most: in version 3 any bit of a session without an end
+abbrev pub most_digits : ℕ → ℕ
+most_digits version = if nat_lt version 3 then 7 else 19
+
+-- the word spells this bit with one to so many decimal digits; zeros may lead
+pub record SpellsBit (version : ℕ) (word : Text) (bit : ℕ) : Type 0 where
+  pub some : 1 ≤ length word
+  pub few : length word ≤ most_digits version
+  pub digits : all_ascii_digits word ≡ true
+  pub value : bit ≡ digits_value 10 word
+
 -- by this version of the rules, of a session of so many nodes, these words ask for this
 abbrev pub AreCommandWords : ℕ → ℕ → List Text → LiveCommand → Type 0
 AreCommandWords version nodes ws (Step node step) =
@@ -66,7 +80,7 @@ AreCommandWords version nodes ws (Run count) = (n : Text) × IsRunLine ws n × S
 AreCommandWords version nodes ws Rest = ws ≡ codes "rest" ∷ []
 AreCommandWords version nodes ws Line = ws ≡ codes "line" ∷ []
 AreCommandWords version nodes ws (Strike node bit) =
-    (k b : Text) × IsStrikeLine ws k b × SpellsNode nodes k node × SpellsWithin 0 greatest b bit
+    (k b : Text) × IsStrikeLine ws k b × SpellsNode nodes k node × SpellsBit version b bit
 AreCommandWords version nodes ws (Answer node) = (k : Text) × IsAnswerLine ws k × SpellsNode nodes k node
 AreCommandWords version nodes ws (To node place limit) =
     (k n : Text) × IsToLine ws k (Some place) n × SpellsNode nodes k node × SpellsWithin 0 greatest n limit

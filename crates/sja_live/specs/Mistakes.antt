@@ -1,7 +1,7 @@
 -- Why a line of `sja live` asks for nothing (this project's own rule): the first mistake in it.
 use Rattle.std.specs.Prelude.{◌≡◌, ◌⊎◌, ℕ, Option, Some, None, List, [], ◌∷◌, codes}
 use Rattle.sja_live.specs.Commands.{IsStepLine, IsReadLine, IsWriteLine, IsRunLine, IsStrikeLine, IsAnswerLine}
-use Rattle.sja_live.specs.Commands.{IsPlaceLine, IsToLine}
+use Rattle.sja_live.specs.Commands.{IsPlaceLine, IsToLine, SpellsBit}
 use Rattle.sja_live.specs.declared.line_fault.LineFault.{LineFault}
 use Rattle.sja_live.specs.declared.line_fault.LineFault.TheVariants.{Text as NoText, Command, Node, Number}
 use Rattle.sja_live.specs.declared.line_fault.LineFault.TheVariants.{Address, Byte, Step, Place as PlaceWord}
@@ -32,7 +32,7 @@ HasForm ws = ((k : Text) × NamesNode ws k) ⊎ ((n : Text) × IsRunLine ws n) �
 
 -- ---- words that spell nothing
 
--- a word spells no node of so many, no address, no value of the register at an address, no number
+-- a word spells no node of so many, no address, no value of the register at an address, no number, no bit
 abbrev pub IsNoNode : ℕ → Text → Type 0
 IsNoNode nodes k = (node : ℕ) → ¬ SpellsNode nodes k node
 
@@ -44,6 +44,9 @@ IsNoByte version address v = (byte : ℕ) → ¬ SpellsValue version address v b
 
 abbrev pub IsNoNumber : Text → Type 0
 IsNoNumber n = (number : ℕ) → ¬ SpellsWithin 0 greatest n number
+
+abbrev pub IsNoBit : ℕ → Text → Type 0
+IsNoBit version b = (bit : ℕ) → ¬ SpellsBit version b bit
 
 -- words are those of no step of this version
 abbrev pub IsNoStep : ℕ → List Text → Type 0
@@ -72,5 +75,5 @@ AreMistaken version nodes ws Byte =
 AreMistaken version nodes ws PlaceWord = (k n : Text) × IsToLine ws k None n × IsSomeNode nodes k
 AreMistaken version nodes ws Number =
     ((n : Text) × IsRunLine ws n × IsNoNumber n)
-    ⊎ ((k b : Text) × IsStrikeLine ws k b × IsSomeNode nodes k × IsNoNumber b)
+    ⊎ ((k b : Text) × IsStrikeLine ws k b × IsSomeNode nodes k × IsNoBit version b)
     ⊎ ((k n : Text) × (place : Place) × IsToLine ws k (Some place) n × IsSomeNode nodes k × IsNoNumber n)

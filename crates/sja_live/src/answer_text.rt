@@ -59,7 +59,7 @@ fn put_told(alloc: Global, text: &mut String, answer: &StepAnswer) -> Result<(),
     ensures { OnOk result (string_bytes text.new ≡ string_bytes text.old ++ line_text (told_words answer.now)) }
 {
     match answer {
-        StepAnswer::Done => text.push_str("ok\n"),
+        StepAnswer::Done | StepAnswer::Ignored(_) => text.push_str("ok\n"),
         StepAnswer::NoMessage => text.push_str("none\n"),
         StepAnswer::Shown(message) => put_message(alloc, text, message.bytes()),
         StepAnswer::Released(bytes) => put_number(text, "released ", u64::from(*bytes), "\n"),

@@ -1,9 +1,8 @@
 //! What a command is answered.
 
-ghost use Rattle.std.specs.Prelude.{◌≡◌, ◌≤◌, IfOk, OnErr};
+ghost use Rattle.std.specs.Prelude.{◌≡◌, IfOk, OnErr};
 ghost use Rattle.sja_live.specs.Answering.{strike_refusal};
 ghost use Rattle.sja_live.specs.Inside.Standing.{IsAnswered, IsLive, IsWritable};
-ghost use Rattle.sja_plan.specs.Words.{greatest};
 ghost use Rattle.sja_live.specs.declared.live_command.LiveCommand.TheVariants.{Strike, Answer, Plan, Bits, Line};
 
 use super::bit_answers::{ran, rested};
@@ -70,8 +69,7 @@ fn bits_so_far(session: &Session) -> LiveAnswer
 /// What a strike is answered.
 ///
 /// Error: [`OutOfMemory`] where memory was refused; nothing changed.
-fn struck(session: &mut Session, node: u8, bit: u32) -> Result<LiveAnswer, OutOfMemory>
-    requires spelled { bit ≤ greatest }
+fn struck(session: &mut Session, node: u8, bit: u64) -> Result<LiveAnswer, OutOfMemory>
     ensures answers { IfOk result (IsAnswered session.old session.new (Strike node bit)) }
     ensures kept { OnErr result (session.new ≡ session.old) }
 {

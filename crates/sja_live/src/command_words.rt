@@ -4,6 +4,7 @@ ghost use Rattle.std.specs.Prelude.{◌≡◌, ◌≤◌, ℕ, [], ◌∷◌, ma
 ghost use Rattle.sja_live.specs.Commands.{AreCommandWords};
 ghost use Rattle.sja_live.specs.Inside.Reading.{IsCommandRefusal};
 
+use super::bit_word::bit_of;
 use super::command_refusal::CommandRefusal;
 use super::line_fault::LineFault;
 use super::live_command::LiveCommand;
@@ -131,9 +132,9 @@ fn of_three_words(
             Err(_) => Err(CommandRefusal::Mistaken(LineFault::Address)),
         }
     } else {
-        match number_within(word, 0, GREATEST_NUMBER) {
-            Ok(bit) => Ok(LiveCommand::Strike(node, bit)),
-            Err(_) => Err(CommandRefusal::Mistaken(LineFault::Number)),
+        match bit_of(version, word) {
+            Some(bit) => Ok(LiveCommand::Strike(node, bit)),
+            None => Err(CommandRefusal::Mistaken(LineFault::Number)),
         }
     }
 }

@@ -12,6 +12,7 @@
 mod answer_text;
 mod answering;
 mod bit_answers;
+mod bit_word;
 mod command_refusal;
 mod command_words;
 mod line_fault;

@@ -23,7 +23,7 @@ pub enum LiveCommand {
     /// Which interrupt lines are active: `line`.
     Line,
     /// A node sees the other level in a bit: `strike K B`.
-    Strike(u8, u32),
+    Strike(u8, u64),
     /// What the last step of a node answered: `answer K`.
     Answer(u8),
     /// How many bits were run: `bits`.

@@ -7,7 +7,8 @@
 //!
 //! At the end of a run [`node_runs`] makes the nodes of a log of what the bus left of each node, its driver, and what
 //! lay on its links ([`LeftDown`]); [`script_of`] has the strikes of a plan as a bus takes them. These, `LeftDown::of`
-//! and `LeftDown::on` alone take memory. A [`RunFault`] says why a run has no log.
+//! and `LeftDown::on` alone take memory. A [`RunFault`] says why a run has no log, and a [`RegisterRow`] what a
+//! register of a node reads as.
 #![tactic(auto)]
 
 mod activation_log;
@@ -18,6 +19,7 @@ mod laws;
 mod left_down;
 mod node_run;
 mod nodes;
+mod register_row;
 mod run_fault;
 mod run_log;
 mod strikes;
@@ -31,6 +33,7 @@ pub use laws::{
 pub use left_down::LeftDown;
 pub use node_run::NodeRun;
 pub use nodes::node_runs;
+pub use register_row::RegisterRow;
 pub use run_fault::RunFault;
 pub use run_log::RunLog;
 pub use strikes::script_of;

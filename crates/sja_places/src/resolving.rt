@@ -133,7 +133,7 @@ fn strike(plan: &mut Plan, node: u8, bit: u32) -> Result<(), PlaceFault>
     ensures err { IfErr result (λ fault. (fault ≡ Memory)
         ⊎ ((fault ≡ StrikeCount) × (most_strikes plan.old.version ≤ times_in plan.old.strikes))) }
 {
-    match plan.strike(node, bit) {
+    match plan.strike(node, u64::from(bit)) {
         Ok(()) => Ok(()),
         Err(PlanFault::StrikeCount) => Err(PlaceFault::StrikeCount),
         Err(_) => Err(PlaceFault::Memory),

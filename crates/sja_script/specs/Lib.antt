@@ -1,2 +1,3 @@
+pub mod Ignoring
 pub mod Refusals
 pub mod Striking

@@ -40,8 +40,8 @@ impl FaultScript {
     }
 
     /// Whether this node is struck in this bit: whether for some strike of the node and some number from 0 and below
-    /// its `times` that many times `every`, added to its `bit`, is this bit. The sum isn't taken modulo 2^32.
-    pub fn strikes(&self, bit: u32, node: u8) -> bool
+    /// its `times` that many times `every`, added to its `bit`, is this bit. The sum isn't taken modulo 2^64.
+    pub fn strikes(&self, bit: u64, node: u8) -> bool
         ensures { IsTrue result ↔ Strikes self.now bit node }
     {
         for strike in self.strikes.iter() {

@@ -7,6 +7,7 @@
 
 mod done;
 mod fault_script;
+mod ignored;
 mod nodes;
 mod refusal;
 mod step;
@@ -15,6 +16,7 @@ mod strike;
 
 pub use done::Done;
 pub use fault_script::FaultScript;
+pub use ignored::Ignored;
 pub use nodes::MOST_NODES;
 pub use refusal::Refusal;
 pub use step::Step;

@@ -23,7 +23,7 @@ impl Session {
     /// [`StrikeFault::NoBit`] where the session's bits end before this one; [`StrikeFault::Past`] where it has run;
     /// [`StrikeFault::StrikesUsed`] where it has an end and the strikes so far strike as many bits as those of a plan
     /// of its version may; [`StrikeFault::Memory`] where memory was refused.
-    pub fn strike(&mut self, node: u8, bit: u32) -> Result<(), StrikeFault>
+    pub fn strike(&mut self, node: u8, bit: u64) -> Result<(), StrikeFault>
         ensures struck { OnOk result ((accesses : List (List Access)) → IsAt self.old accesses →
             IsStruck self.old self.new node bit accesses) }
         ensures may { OnOk result (MayStrike self.old node bit) }
@@ -49,7 +49,7 @@ impl Session {
     }
 
     /// The same without an end.
-    fn strike_endless(&mut self, node: u8, bit: u32) -> Result<(), StrikeFault>
+    fn strike_endless(&mut self, node: u8, bit: u64) -> Result<(), StrikeFault>
         requires endless { IsEndless self.old }
         requires ahead { self.old.run.bits ≤ bit }
         ensures struck { OnOk result ((accesses : List (List Access)) → IsAt self.old accesses →
@@ -70,7 +70,7 @@ impl Session {
     /// Whether the node is there, and the bit is one of the session's that hasn't run.
     ///
     /// Errors: as [`strike`](Session::strike) tells them, the first three.
-    fn check_bit(&self, node: u8, bit: u32) -> Result<(), StrikeFault>
+    fn check_bit(&self, node: u8, bit: u64) -> Result<(), StrikeFault>
         ensures there { OnOk result (node < length self.now.plan.nodes) }
         ensures ahead { OnOk result ((bit < self.now.plan.bits) × (self.now.run.bits ≤ bit)) }
         ensures err { IfErr result (IsStrikeFault self.now node bit) }
@@ -78,10 +78,10 @@ impl Session {
         if usize::from(node) >= self.plan.nodes() {
             return Err(StrikeFault::NoNode);
         }
-        if (bit as u64) >= self.bits {
+        if bit >= self.bits {
             return Err(StrikeFault::NoBit);
         }
-        if (bit as u64) < self.run.bits() {
+        if bit < self.run.bits() {
             return Err(StrikeFault::Past);
         }
         Ok(())
@@ -89,7 +89,7 @@ impl Session {
 }
 
 /// The strike of a node in one bit.
-fn one_strike(node: u8, bit: u32) -> Strike
+fn one_strike(node: u8, bit: u64) -> Strike
     ensures { result ≡ one_strike node bit }
 {
     Strike {

@@ -1,5 +1,5 @@
 -- A bus after a bit, or what was taken before one, that didn't come to its end.
-use Rattle.std.proofs.Common.{◌≡◌, ℕ, ◌+◌, List, length, Some, None, arith}
+use Rattle.std.proofs.Common.{◌≡◌, ◌≤◌, ℕ, ◌+◌, List, length, Some, None, arith}
 use Rattle.std.specs.Prelude.{Option}
 use Rattle.sja_link.specs.Written.{Room}
 use Rattle.sja_wire.specs.declared.bus_fault.BusFault.{BusFault}
@@ -11,14 +11,16 @@ use Rattle.sja_bus.specs.Inside.Whole.{IsWhole}
 
 -- it is whole with its fault: it has as many nodes, with the room that they had
 pub whole_broken : (struck : Scripted) (steps : List ℕ) (run left now less : ℕ) (fault : Option BusFault)
-    (f : BusFault) (seats after : List Seat) (room : ℕ) → length after ≡ length seats → now + less ≡ run + left →
+    (f : BusFault) (seats after : List Seat) (room : ℕ) → length after ≡ length seats → run ≤ now →
+    now + less ≡ run + left →
     ((n : ℕ → Room) → HaveRoom n seats → HaveRoom n after) → IsWhole struck steps run left fault seats room →
     IsWhole struck steps now less (Some f) after room
-whole_broken struck steps run left now less fault f seats after room count all rooms was =
-    let few = was.few in let bits = was.bits in let logs = was.logs in record {
+whole_broken struck steps run left now less fault f seats after room count later all rooms was =
+    let few = was.few in let bits = was.bits in let logs = was.logs in let asked = was.asked in record {
       few = omega (arith, few, count);
       bits = omega (arith, all, bits);
       most = was.most;
+      asked = omega (arith, asked, later);
       bus = λ wrong. absurd cc;
       logs = omega (arith, logs, count);
       rooms = rooms (room_for struck.bits steps) was.rooms;

@@ -125,7 +125,7 @@ marked_all s times start old long all was bit node d few below = (
 
 -- ---- a strike more of a script
 
-none_there : (s : Strike) → Contains {X = Strike} [] s → ⊥
+pub none_there : (s : Strike) → Contains {X = Strike} [] s → ⊥
 none_there s h = let few : (at_from_Contains {X = Strike} [] s h).0 < 0 =
     (at_from_Contains {X = Strike} [] s h).1 in omega arith
 
@@ -292,6 +292,7 @@ pub held_anew : (script : List Strike) (bits : ℕ) (old new : Table) (from to :
 held_anew script bits old new from to s was marked = record {
   table_is = table_of_more script s old new was.table_is marked;
   few = λ few. marked.bits ∙ was.few few;
+  counted = was.counted;
   within = omega arith;
   calm = λ bit node low high. absurd (omega (arith, high));
   stop = λ no. absurd (omega (arith, no));
@@ -303,6 +304,7 @@ pub held_more : (script : List Strike) (bits : ℕ) (old new : Table) (from to :
 held_more script bits old new from to s after was marked = record {
   table_is = table_of_more script s old new was.table_is marked;
   few = λ few. marked.bits ∙ was.few few;
+  counted = was.counted;
   within = was.within;
   calm = λ bit node low high below h. elim ((struck_push script s bit node).0 h) [
     | inl before ↦ was.calm bit node low high below before

@@ -6,9 +6,11 @@ use Rattle.sja_link.specs.declared.entry.Entry.{Entry}
 use Rattle.sja_script.specs.declared.strike.Strike.{Strike}
 use Rattle.sja_script.specs.Striking.{Hits, Strikes}
 use Rattle.sja_wire.specs.declared.bus_fault.BusFault.{BusFault}
+use Rattle.sja_wire.specs.Reasons.{room_for}
 use Rattle.sja_wire.specs.Wire.{IsWired}
 use Rattle.sja_bus.specs.declared.seat.Seat.{Seat}
 use Rattle.sja_bus.specs.Inside.StrikesByBit.{Scripted}
+use Rattle.sja_bus.specs.Inside.Refusing.{HaveRoom}
 use Rattle.sja_bus.specs.Inside.Rows.{IsBus, journals_of}
 use Rattle.sja_bus.specs.Inside.Whole.{IsWhole}
 
@@ -55,17 +57,20 @@ bus_before script s run seats later was = record {
 -- the bus is whole, whether the strike was taken or not
 pub whole_after : {A X : Type 0} (struck now : Scripted) (steps : List ℕ) (run left : ℕ) (fault : Option BusFault)
     (seats : List Seat) (room : ℕ) (s : Strike) (r : Result A X) → run ≤ s.bit →
-    OnOk r (now ≡ record struck { script = struck.script ++ s ∷ [] }) → OnErr r (now ≡ struck) →
-    IsWhole struck steps run left fault seats room → IsWhole now steps run left fault seats room
-whole_after struck now steps run left fault seats room s (Ok done) later is kept was =
-    let W : Scripted → Type 0 = λ x. IsWhole x steps run left fault seats room in
-    subst W (sym is) (record {
+    OnOk r (now.script ≡ struck.script ++ s ∷ []) → OnOk r (now.bits ≡ struck.bits) → OnOk r (now.from ≤ run) →
+    OnErr r (now ≡ struck) → IsWhole struck steps run left fault seats room →
+    IsWhole now steps run left fault seats room
+whole_after struck now steps run left fault seats room s (Ok done) later is same on kept was =
+    let B : List Strike → Type 0 = λ l. IsBus l run seats in
+    let R : ℕ → Type 0 = λ n. HaveRoom (room_for n steps) seats in
+    let bits = was.bits in let most = was.most in record {
       few = was.few;
-      bits = was.bits;
-      most = was.most;
-      bus = λ none. bus_before struck.script s run seats later (was.bus none);
+      bits = omega (arith, bits, same);
+      most = omega (arith, most, same);
+      asked = on;
+      bus = λ none. subst B (sym is) (bus_before struck.script s run seats later (was.bus none));
       logs = was.logs;
-      rooms = was.rooms;
-    })
-whole_after struck now steps run left fault seats room s (Err e) later is kept was =
+      rooms = subst R (sym same) was.rooms;
+    }
+whole_after struck now steps run left fault seats room s (Err e) later is same on kept was =
     let W : Scripted → Type 0 = λ x. IsWhole x steps run left fault seats room in subst W (sym kept) was

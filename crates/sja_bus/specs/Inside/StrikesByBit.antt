@@ -1,5 +1,5 @@
 -- Which nodes are struck in each bit of a run (this project's own rule).
-use Rattle.std.specs.Prelude.{◌≡◌, ◌+◌, ◌⊎◌, ◌↔◌, ◌<◌, ◌≤◌, ℕ, List, length, slice_index_or}
+use Rattle.std.specs.Prelude.{◌≡◌, ◌+◌, ◌^◌, ◌⊎◌, ◌↔◌, ◌<◌, ◌≤◌, ℕ, List, length, slice_index_or}
 use Rattle.std.specs.Int.{bit_at}
 use Rattle.sja_script.specs.declared.strike.Strike.{Strike}
 use Rattle.sja_script.specs.Striking.{Hits, Strikes}
@@ -47,10 +47,24 @@ IsCalm from to table =
 abbrev pub IsStruckAt : Table → ℕ → Type 0
 IsStruckAt table bit = (node : ℕ) × (node < 8) × IsAmongAt table bit node
 
--- a script, and the number of bits of the run
+-- a script, the number of bits of the run, and from which bit on it is asked whom the script strikes
 pub record Scripted : Type 0 where
   pub script : List Strike
   pub bits : ℕ
+  pub from : ℕ
+
+-- the strikes that came later, those too that were forgotten, none of which hits a bit from this one on
+pub record Laters : Type 0 where
+  pub items : List Strike
+  pub from : ℕ
+
+-- the strike hits no bit from this one on
+abbrev pub HasPassed : Strike → ℕ → Type 0
+HasPassed strike from = (bit node : ℕ) → from ≤ bit → Hits strike bit node → ⊥
+
+-- two lists of strikes strike the same nodes in each bit from this one on
+abbrev pub StrikeAlike : List Strike → List Strike → ℕ → Type 0
+StrikeAlike one other from = (bit node : ℕ) → from ≤ bit → Strikes one bit node ↔ Strikes other bit node
 
 -- one strike hits none of eight nodes in the bits from one up to another one, that one left out
 abbrev pub IsUnhit : Strike → ℕ → ℕ → Type 0
@@ -61,14 +75,15 @@ abbrev pub IsUnstruck : List Strike → ℕ → ℕ → Type 0
 IsUnstruck script from to = (bit node : ℕ) → from ≤ bit → bit < to → node < 8 → Strikes script bit node → ⊥
 
 -- the script strikes one of eight nodes in this bit, or it is the end of the run
-abbrev pub IsStruckOrEnd : Scripted → ℕ → Type 0
-IsStruckOrEnd s bit = (bit ≡ s.bits) ⊎ ((node : ℕ) × (node < 8) × Strikes s.script bit node)
+abbrev pub IsStruckOrEnd : List Strike → ℕ → ℕ → Type 0
+IsStruckOrEnd script bits bit = (bit ≡ bits) ⊎ ((node : ℕ) × (node < 8) × Strikes script bit node)
 
--- how it is held whom a script strikes in so many bits: a table, of all bits where they are few; and from one bit up to
--- another one that the script strikes nobody, and that it does then
+-- how it is held whom a script strikes in so many bits, which can be counted: a table, of all bits where they are few;
+-- and from one bit up to another one that the script strikes nobody, and that it does then
 pub record IsHeld (script : List Strike) (bits : ℕ) (table : Table) (calm_from calm_to : ℕ) : Type 0 where
   pub table_is : IsTableOf script table
   pub few : bits ≤ 4194304 → table.bits ≡ bits
+  pub counted : bits ≤ 2 ^ 62
   pub within : calm_to ≤ bits
   pub calm : IsUnstruck script calm_from calm_to
-  pub stop : calm_from ≤ calm_to → IsStruckOrEnd (record { script = script; bits = bits }) calm_to
+  pub stop : calm_from ≤ calm_to → IsStruckOrEnd script bits calm_to

@@ -16,7 +16,7 @@ use Rattle.sja_live.specs.declared.shortage.Shortage.TheVariants.{Document}
 use Rattle.sja_live.proofs.Spelling.Spelled.{has_texts, live_by, spelled_strike, still_live}
 use Rattle.sja_live.proofs.Replies.Told.{stays}
 use Rattle.sja_plan.specs.Plan.{PlanValue, IsInLimits}
-use Rattle.sja_plan.specs.Words.{greatest}
+use Rattle.sja_plan.proofs.PlanLimits.ByVersion.{bits_most}
 use Rattle.sja_plan_text.specs.HasTexts.{HasTexts}
 use Rattle.sja_plan_text.specs.Written.{IsPlanText, IsTooLong}
 use Rattle.sja_plan_text.specs.declared.plan_text_fault.PlanTextFault.{PlanTextFault}
@@ -60,13 +60,14 @@ struck_end was now node place accesses s end = subst HasEnd s.is end
 
 pub told_strike : (was now : SessionValue) (node place : ℕ) → MayStrike was node place →
     ((accesses : List (List Access)) → IsAt was accesses → IsStruck was now node place accesses) → node < 256 →
-    place ≤ greatest → IsAnswered was now (Strike node place) (Told Done)
-told_strike was now node place may h k b = λ accesses at. let s = h accesses at.at in (
+    IsAnswered was now (Strike node place) (Told Done)
+told_strike was now node place may h k = λ accesses at. let s = h accesses at.at in (
   accesses,
   strike may s,
-  live_by s.at (λ end. s.wrote)
-      (λ end. spelled_strike (written was) node place (at.spelled (struck_end was now node place accesses s end))
-      (omega (arith, k)) b),
+  live_by s.at (λ end. s.wrote) (λ end.
+      let had = struck_end was now node place accesses s end in let within = may.within in
+      let all = bits_most was.plan.version in
+      spelled_strike (written was) node place (at.spelled had) (omega (arith, k)) (omega (arith, had, within, all))),
 )
 
 pub not_strike : (was now : SessionValue) (node place : ℕ) (fault : StrikeFault) (told : Option LiveAnswer)

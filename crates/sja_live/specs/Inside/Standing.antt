@@ -4,9 +4,8 @@ use Rattle.sja_driver.specs.Accesses.{Access}
 use Rattle.sja_live.specs.Answering.{Answers}
 use Rattle.sja_live.specs.declared.live_answer.LiveAnswer.{LiveAnswer}
 use Rattle.sja_live.specs.declared.live_command.LiveCommand.{LiveCommand}
-use Rattle.sja_live.specs.declared.live_command.LiveCommand.TheVariants.{Step, Strike, End}
+use Rattle.sja_live.specs.declared.live_command.LiveCommand.TheVariants.{Step, End}
 use Rattle.sja_plan.specs.Plan.{PlanValue}
-use Rattle.sja_plan.specs.Words.{greatest}
 use Rattle.sja_plan.specs.declared.turn.Turn.{Turn}
 use Rattle.sja_plan.specs.declared.turn.Turn.TheVariants.{Bus, Rest, Node, All as AllSteps, Irq, Go}
 use Rattle.sja_plan_text.specs.HasTexts.{HasStepText, HasStrikeText}
@@ -40,7 +39,6 @@ IsLive s = (accesses : List (List Access)) × IsLiveAt s accesses
 -- what a command has a session write has a text in its version, and it isn't the end
 abbrev pub IsWritable : SessionValue → LiveCommand → Type 0
 IsWritable s (Step node one) = HasStepText s.plan.version one
-IsWritable s (Strike node bit) = bit ≤ greatest
 IsWritable s End = ⊥
 IsWritable s other = Unit {0}
 

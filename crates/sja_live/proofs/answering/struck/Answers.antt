@@ -4,7 +4,7 @@ use Rattle.sja_live.proofs.answering.struck.Goals as goal
 pub returns-in-Ok-clause-answers : goal.returns-in-Ok-clause-answers
 returns-in-Ok-clause-answers c =
     told_strike c.args.session.now c.strike.new.self c.args.node c.args.bit c.in-Ok.ensures.may
-    c.in-Ok.ensures.struck c.ranges.node.fits c.requires.spelled
+    c.in-Ok.ensures.struck c.ranges.node.fits
 
 pub returns-in-Some-clause-answers : goal.returns-in-Some-clause-answers
 returns-in-Some-clause-answers c =

@@ -90,6 +90,7 @@ whole g c len =
       few = omega (arith, len, few);
       bits = omega (arith, bits, some);
       most = inv.most;
+      asked = let asked = inv.asked in omega (arith, asked);
       bus = λ f. record {
         ready = c.in-Ok.ensures.ready;
         calm = calm_by c.bit_of_all.new.seats (told g c len);
@@ -120,7 +121,7 @@ invariant_of-self-in-Err g c =
     let P : List Seat → Type 0 = λ xs. IsWhole b.struck b.steps.items b.run b.left (Some c.in-Err.fault) xs
     (vec_capacity b.logs) in (
       subst P (sym (written g at)) (whole_broken b.struck b.steps.items b.run b.left b.run b.left b.fault
-          c.in-Err.fault b.seats.items now (vec_capacity b.logs) (same_count g at) refl
+          c.in-Err.fault b.seats.items now (vec_capacity b.logs) (same_count g at) (omega arith) refl
           (subst H c.as_mut_slice.ensures.value c.bit_of_all.ensures.rooms) c.self.invariant.0),
       c.self.invariant.1,
     )

@@ -40,7 +40,7 @@ pub logs_of-requires-clause-kept : goal.logs_of-requires-clause-kept
 logs_of-requires-clause-kept c = λ k s few.
     let b = c.self.inside in let whole = c.self.invariant.0 in let steps = b.steps.items in
     let K : BusValue → Type 0 = λ w. KeepsRecord (w.run + w.left) w.steps (length w.journals) in
-    let N : ℕ → Type 0 = λ m. (room_for m steps k).all ≤ 4194304 in
-    let R : Room → Type 0 = λ r. r.all ≤ 4194304 in let count = count_is b.seats.items in
+    let N : ℕ → Type 0 = λ m. (room_for m steps k).all ≤ 1099511627776 in
+    let R : Room → Type 0 = λ r. r.all ≤ 1099511627776 in let count = count_is b.seats.items in
     subst R (sym (whole.rooms k s few))
     (subst N whole.bits (subst K (sym c.self.view_is) c.requires.kept k (omega (arith, few, count))))

@@ -57,6 +57,7 @@ invariant_of-self g c =
       few = omega (arith, len, few);
       bits = inv.bits;
       most = inv.most;
+      asked = let asked = inv.asked in omega (arith, asked);
       bus = λ f. record {
         ready = c.in-Ok.ensures.ready;
         calm = calm_taken was now len untold (inv.bus f).calm;
@@ -78,7 +79,7 @@ invariant_of-self-in-Err g c =
     let P : List Seat → Type 0 = λ xs. IsWhole b.struck b.steps.items b.run b.left (Some c.in-Err.fault) xs
     (vec_capacity b.logs) in (
       subst P (sym e) (whole_broken b.struck b.steps.items b.run b.left b.run b.left b.fault c.in-Err.fault was now
-          (vec_capacity b.logs) len refl (subst H v c.gather_all.ensures.rooms) c.self.invariant.0),
+          (vec_capacity b.logs) len (omega arith) refl (subst H v c.gather_all.ensures.rooms) c.self.invariant.0),
       c.self.invariant.1,
     )
 

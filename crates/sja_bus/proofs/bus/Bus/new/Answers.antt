@@ -51,6 +51,7 @@ invariant_of-result c =
         few = omega (arith, n, few);
         bits = omega arith;
         most = most;
+        asked = omega arith;
         bus = λ f. new_bus c.args.script seats new;
         logs = omega (arith, n, room);
         rooms = c.loop-node.invariant.rooms;

@@ -88,6 +88,7 @@ invariant_of-self-in-Ok g c =
       few = omega (arith, len, few);
       bits = omega (arith, bits, most, left);
       most = inv.most;
+      asked = let asked = inv.asked in omega (arith, asked);
       bus = λ f. subst I (sym is)
           (bus_after (g.B.Board.orders_are board) (g.B.Board.told board board) (g.B.Board.kept board board)
           (λ node. g.met.B.Board.kept_refl board node) was (inv.bus f).ready (rested g at) (asked g at)
@@ -102,8 +103,11 @@ invariant_of-self-in-Ok g c =
     (vec_capacity b.logs) in
     (subst P (sym (are_back g at)) (subst S (sym c.quiet_for-bits.ensures.same) l), c.self.invariant.1)
 
-pub quiet_for-bits-requires : goal.quiet_for-bits-requires
-quiet_for-bits-requires g c =
+pub quiet_for-bits-requires-clause-on : goal.quiet_for-bits-requires-clause-on
+quiet_for-bits-requires-clause-on g c = c.self.invariant.0.asked
+
+pub quiet_for-bits-requires-clause-within : goal.quiet_for-bits-requires-clause-within
+quiet_for-bits-requires-clause-within g c =
     let inv = c.self.invariant.0 in let bits = inv.bits in let left = c.fewer-most.ensures.left in
     omega (arith, bits, left)
 
@@ -155,7 +159,8 @@ invariant_of-self-in-Err g c =
     (vec_capacity b.logs) in (
       subst P (sym (are_back g at)) (subst S (sym c.quiet_for-bits.ensures.same) (whole_broken b.struck b.steps.items
           b.run b.left b.run b.left b.fault c.in-Err.fault b.seats.items now (vec_capacity b.logs) (same_count g at)
-          refl (subst H c.as_mut_slice.ensures.value c.all_enter_idle_bits.ensures.rooms) c.self.invariant.0)),
+          (omega arith) refl
+          (subst H c.as_mut_slice.ensures.value c.all_enter_idle_bits.ensures.rooms) c.self.invariant.0)),
       c.self.invariant.1,
     )
 

@@ -149,6 +149,9 @@ untaken_bits-requires-clause-seated g c =
       ports = omega (arith, nodes, seats, ports);
     })
 
+pub untaken_bits-requires-clause-on : goal.untaken_bits-requires-clause-on
+untaken_bits-requires-clause-on g c = c.self.invariant.0.asked
+
 pub untaken_bits-requires-clause-may : goal.untaken_bits-requires-clause-may
 untaken_bits-requires-clause-may g c =
     let may : c.may_run_untaken.result ≡ true = search rules in
@@ -170,6 +173,7 @@ invariant_of-self g c =
         few = omega (arith, len, few);
         bits = omega (arith, bits, most, enough);
         most = whole.most;
+        asked = let asked = whole.asked in omega (arith, asked);
         bus = λ right. c.in-Ok.ensures.runs.runs.bus;
         logs = omega (arith, len, logs);
         rooms = subst H c.as_mut_slice-seats.ensures.value c.untaken_bits.ensures.keeps.rooms
@@ -190,8 +194,8 @@ invariant_of-self-in-Err g c =
     (vec_capacity b.logs) in (
       subst P (sym (are_back g at)) (subst S (sym c.untaken_bits.ensures.same) (whole_broken b.struck b.steps.items
           b.run b.left (b.run + n) (b.left - n) b.fault f b.seats.items now (vec_capacity b.logs) (same_count g at)
-          (omega (arith, most, enough)) (subst H c.as_mut_slice-seats.ensures.value c.untaken_bits.ensures.keeps.rooms)
-          c.self.invariant.0)),
+          (omega arith) (omega (arith, most, enough))
+          (subst H c.as_mut_slice-seats.ensures.value c.untaken_bits.ensures.keeps.rooms) c.self.invariant.0)),
       c.self.invariant.1,
     )
 

@@ -20,18 +20,18 @@ returns c = λ node below.
     let b = c.self.inside in let bit = c.args.bit in
     let S : Scripted → Type 0 = λ s. Strikes s.script bit node in
     let P : List Strike → Type 0 = λ l. Strikes l bit node in
-    let first = c.struck_by.ensures node below in let then = c.struck_by-2.ensures node below in
+    let first = c.struck_by.ensures node below in let then = c.strike_in.ensures node below in
     let both = struck_both b.script b.later.items bit node in
-    let one = c.as_slice.ensures in let two = c.as_slice-2.ensures.value in (
+    let one = c.as_slice.ensures in (
       λ h. subst S c.self.view_is (both.1 (elim (then.0 h) [
         | inl before ↦ elim (first.0 before) [
           | inl none ↦ absurd (c.none-nodes.ensures node none)
           | inr hit ↦ inl (subst P one hit)
         ]
-        | inr hit ↦ inr (subst P two hit)
+        | inr hit ↦ inr hit
       ])),
       λ h. then.1 (elim (both.0 (subst S (sym c.self.view_is) h)) [
         | inl hit ↦ inl (first.1 (inr (subst P (sym one) hit)))
-        | inr hit ↦ inr (subst P (sym two) hit)
+        | inr hit ↦ inr hit
       ]),
     )

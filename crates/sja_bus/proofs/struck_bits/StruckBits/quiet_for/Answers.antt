@@ -9,7 +9,7 @@ returns-clause-quiet c = λ bit node low high below.
 
 pub returns-clause-longest : goal.returns-clause-longest
 returns-clause-longest c =
-    let all = c.requires in let on = c.next_from-next.ensures.on in let count = c.fewer.ensures.count in
+    let all = c.requires.within in let on = c.next_from-next.ensures.on in let count = c.fewer.ensures.count in
     elim c.fewer.ensures.whole [
       | inl most ↦ inl most
       | inr least ↦ elim c.next_from-next.ensures.stop [
