@@ -5,8 +5,8 @@ ghost use Rattle.sja_check.specs.Lines.{AreHints};
 
 mod alone;
 mod cut_off;
-mod driver_state;
 mod gift;
+mod ignored_steps;
 mod late;
 mod of_node;
 mod refused_steps;
@@ -15,7 +15,6 @@ mod requests;
 mod starts;
 mod steps_left;
 mod story;
-mod swallowed_accesses;
 mod undone_steps;
 mod waiting;
 
@@ -36,7 +35,7 @@ use waiting::waiting_hints;
 /// What a run in one thread of this plan left out, a line each of at most 100 characters: where the bits were spent and
 /// which turns didn't come, refused steps with what to do, steps that weren't done and why, nodes that were never
 /// started, and strikes past the last bit. In version 3 the cause comes first, as that nobody acknowledges or for what
-/// drivers wait; all steps that are left are told, and those that the controller swallowed.
+/// drivers wait; all steps that are left are told, and those that the controller ignored.
 ///
 /// The bytes are those of the plan: where they are others, lines and texts are left out. Of more than 20 hints 20 are
 /// told, and how many more there are (this project's own rule).
@@ -70,7 +69,7 @@ fn left_out(page: &mut Page, document: &Document, plan: &Plan, log: &RunLog) {
         causes(page, document, plan, log, &stories);
     }
     for node in 0..plan.nodes() {
-        node_hints(page, document, plan, log, node, stories.get(node));
+        node_hints(page, document, plan, log, node);
     }
     late_strikes(page, document, plan.strikes(), log.bits());
 }

@@ -3,3 +3,4 @@ pub mod CommandBytes
 pub mod OtherWrites
 pub mod ReadBack
 pub mod FewSteps
+pub mod Writing

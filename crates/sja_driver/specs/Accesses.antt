@@ -14,6 +14,7 @@ use Rattle.sja_script.specs.declared.step_answer.StepAnswer.TheVariants.{Done as
 use Rattle.sja_script.specs.declared.refusal.Refusal.TheVariants.{Closed}
 use Rattle.sja_driver.specs.declared.kept_bytes.KeptBytes.{KeptBytes}
 use Rattle.sja_driver.specs.Deeds.{Deed}
+use Rattle.sja_driver.specs.Ignoring.{ignored_by, write_answer}
 use Rattle.sja_driver.specs.Kept.{kept_after, moved_by_answer}
 use Rattle.sja_driver.specs.Reads.{raw_value}
 use Rattle.sja_driver.specs.Writes.{write_steps}
@@ -57,11 +58,12 @@ deed_steps true p active (At bits) = []
 deed_steps bytes p active one = one ∷ []
 
 -- what it answers once so many bits have run: a read the value of the register that stands there, or of the kept one,
--- or 0; a write is done; a wait for a bit is done where so many bits have run, and given up only where fewer have and
--- they are spent; any other step answers as its one deed does
+-- or 0; a write is done, and says why the controller ignored it, if it did; a wait for a bit is done where so many bits
+-- have run, and given up only where fewer have and they are spent; any other step answers as its one deed does
 abbrev pub Answers : Bool → Registers → BufferView → KeptBytes → ℕ → Step → List Deed → StepAnswer → Type 0
 Answers true p seen kept bits (Read address) deeds answer = answer ≡ Value (raw_value p kept seen address)
-Answers true p seen kept bits (Write address value) deeds answer = answer ≡ DoneAnswer
+Answers true p seen kept bits (Write address value) deeds answer =
+    answer ≡ write_answer (ignored_by p address value deeds)
 Answers true p seen kept bits (At least) deeds answer =
     ((answer ≡ DoneAnswer) × (least ≤ bits))
     ⊎ ((answer ≡ Refused Closed) × (bits < least) × (p.closed ≡ true))

@@ -37,4 +37,6 @@ pub mod ModeWrites
 pub mod CommandWrites
 pub mod Writes
 pub mod WriteLists
+pub mod Ignoring
+pub mod Written
 pub mod Accesses

@@ -12,13 +12,15 @@
 //! state, window and registers, the registers after it, why it is to be tried again, and how log and links go on with
 //! all steps before it. When it may be made is the record `MayStep`, and what is in order after it, whatever the step,
 //! `StaysLawful`.
-//! [`LoggedDriver::irq`] looks at the interrupt line, which is no step: `specs/Observing.antt` says what it takes in.
+//! [`LoggedDriver::seen`] looks at what has come, which is no step: `specs/Observing.antt` says what it takes in.
 //!
 //! A driver of version 3 knows addresses and bytes alone, as one for the real chip does: it reads each of the 256
 //! addresses and takes each byte there, in either mode, and nothing is refused. A read is the step `Read`, and
 //! [`KeptBytes::read_by`] what it answers: `raw_value` of `specs/Reads.antt`. A write is those steps that
-//! [`steps_of_write`] lists, in order: `write_steps` of `specs/Writes.antt`. [`KeptBytes`] are the registers that have
-//! no effect on the bus, and [`address`] has where they stand. `docs/model/REGISTERS.md` has the map of all registers.
+//! [`steps_of_write`] lists, in order: `write_steps` of `specs/Writes.antt`. [`Written`] is one on its way, which
+//! answers in the end why the controller ignored it, if it did: `ignored_by` of `specs/Ignoring.antt`. [`KeptBytes`]
+//! are the registers that have no effect on the bus, and [`address`] has where they stand. `docs/model/REGISTERS.md`
+//! has the map of all registers.
 //!
 //! `WorkLog::new` alone takes memory.
 #![tactic(auto)]
@@ -50,6 +52,7 @@ mod start_fault;
 mod versions;
 mod work_log;
 mod write_steps;
+mod written;
 
 pub use active::Active;
 pub use any_driver::AnyDriver;
@@ -66,3 +69,4 @@ pub use start_fault::StartFault;
 pub use versions::{by_bytes, most_deeds};
 pub use work_log::WorkLog;
 pub use write_steps::{WriteSteps, is_start, is_stop, is_typed_write, steps_of_write};
+pub use written::Written;

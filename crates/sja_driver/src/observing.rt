@@ -1,7 +1,6 @@
-//! A look at the interrupt line, which is no step: the log has nothing of it.
+//! A look at the messages that have come, which is no step: the log has nothing of it.
 
 ghost use Rattle.std.specs.Prelude.{◌≡◌, None};
-ghost use Rattle.sja_regs.specs.InterruptLine.{is_line_active};
 ghost use Rattle.sja_driver.specs.AnyDrivers.{seen_by};
 ghost use Rattle.sja_driver.specs.Inside.Attempts.{FitsEnd};
 ghost use Rattle.sja_driver.specs.LoggedDrivers.{driver_of, StaysLawful};
@@ -11,21 +10,18 @@ use super::any_driver::AnyDriver;
 use super::logged_driver::LoggedDriver;
 use can_frame::BufferView;
 use sja_link::DriverEnd;
-use sja_regs::Port;
 
 impl LoggedDriver {
-    /// Whether the interrupt line of the controller is active, once all that the link of the present activation shows
-    /// is taken in: some bit of IR is 1, as a read would answer it now (SJA1000 data sheet, 6.4.6). It clears nothing,
-    /// and is no step. The node's links stand from `base` on.
-    pub fn irq<E: DriverEnd>(&mut self, links: &mut [E], base: usize, port: &Port) -> bool
+    /// What a read of the registers sees of the messages, once all that the link of the present activation shows is
+    /// taken in. It is no step. The node's links stand from `base` on.
+    pub fn seen<E: DriverEnd>(&mut self, links: &mut [E], base: usize) -> BufferView
         requires { MayObserve E.link self.old links.old base }
-        ensures line { result ≡ is_line_active port.now (seen_by (driver_of self.new)) }
+        ensures seen { result ≡ seen_by (driver_of self.new) }
         ensures looked { Looked E.stands E.dry self.old self.new links.old links.new base }
         ensures stays { StaysLawful E.link E.same self.old self.new links.old links.new base None }
     {
         let here = base + self.link_place();
-        let seen = observe(&mut self.driver, &mut links[here]);
-        port.irq(&seen)
+        observe(&mut self.driver, &mut links[here])
     }
 }
 

@@ -23,7 +23,7 @@ pub fn put_answer(text: &mut String, answer: &StepAnswer) -> Result<(), AllocErr
     ensures { OnOk result (string_bytes text.new ≡ string_bytes text.old ++ all_spaced (answer_words answer.now)) }
 {
     match answer {
-        StepAnswer::Done => text.push_str(" ok"),
+        StepAnswer::Done | StepAnswer::Ignored(_) => text.push_str(" ok"),
         StepAnswer::NoMessage => text.push_str(" none"),
         StepAnswer::Shown(message) => put_bytes(text, message),
         StepAnswer::Released(bytes) => write!(text, " {bytes}"),

@@ -9,7 +9,7 @@ use super::gate::Gate;
 use super::locked_port::LockedPort;
 use super::never::wait_for_ever;
 use super::order::Order;
-use sja_driver::{KeptBytes, WriteSteps, is_reset, steps_of_write};
+use sja_driver::{KeptBytes, WriteSteps, Written, is_reset, steps_of_write};
 use sja_link::DriverEnd;
 use sja_script::{Step, StepAnswer};
 use std::sync::{Mutex, Wait};
@@ -116,11 +116,12 @@ impl<N: Order, D: DriverEnd + Drop> DriverThread<N, D> {
         if !at.lets_go(self.done.node, number, &mut tries) {
             return false;
         }
-        let (steps, mut kept) = self.begin_write(at.rt, at.port, address, value);
-        if !self.do_parts(at, &steps, number, &mut tries, &mut kept) {
+        let (steps, mut written) = self.begin_write(at.rt, at.port, address, value);
+        if !self.do_parts(at, &steps, number, &mut tries, &mut written) {
             return false;
         }
-        self.driver.enter(StepAnswer::Done, self.found as u64, kept);
+        self.driver
+            .enter(written.answer(), self.found as u64, written.kept);
         true
     }
 
@@ -131,22 +132,22 @@ impl<N: Order, D: DriverEnd + Drop> DriverThread<N, D> {
         steps: &WriteSteps,
         number: u32,
         tries: &mut u32,
-        kept: &mut KeptBytes,
+        on: &mut Written,
     ) -> bool
         requires may { MayWork D.link self.old 1 }
         requires last { LastTakes (steps_in steps.now) }
         requires go { G.answered at.now.gate self.old.done.node number tries.old Go }
-        ensures parts { DoesParts D.DriverEnd self.old self.new (steps_in steps.now) result kept.old kept.new }
+        ensures parts { DoesParts D.DriverEnd self.old self.new (steps_in steps.now) result on.old on.new }
         ensures never { result ≡ false → G.QUITS ≡ true }
         ensures answered { G.answered at.now.gate self.old.done.node number tries.new (pass_of result) }
     {
-        if !self.do_part(at, &steps.first, number, tries, kept) {
+        if !self.do_part(at, &steps.first, number, tries, on) {
             return false;
         }
-        if !self.do_part(at, &steps.second, number, tries, kept) {
+        if !self.do_part(at, &steps.second, number, tries, on) {
             return false;
         }
-        self.do_part(at, &steps.third, number, tries, kept)
+        self.do_part(at, &steps.third, number, tries, on)
     }
 
     /// Does one of them, if it is there.
@@ -156,11 +157,11 @@ impl<N: Order, D: DriverEnd + Drop> DriverThread<N, D> {
         part: &Option<Step>,
         number: u32,
         tries: &mut u32,
-        kept: &mut KeptBytes,
+        on: &mut Written,
     ) -> bool
         requires may { MayWork D.link self.old (length (listed part.now)) }
         requires go { G.answered at.now.gate self.old.done.node number tries.old Go }
-        ensures parts { DoesParts D.DriverEnd self.old self.new (listed part.now) result kept.old kept.new }
+        ensures parts { DoesParts D.DriverEnd self.old self.new (listed part.now) result on.old on.new }
         ensures never { result ≡ false → G.QUITS ≡ true }
         ensures answered { G.answered at.now.gate self.old.done.node number tries.new (pass_of result) }
     {
@@ -170,18 +171,18 @@ impl<N: Order, D: DriverEnd + Drop> DriverThread<N, D> {
         let Some(answer) = self.do_deed(at, deed, number, tries) else {
             return false;
         };
-        kept.answered(&answer);
+        on.answered(&answer);
         true
     }
 
-    /// The deeds that a write is by what the port shows now, and what is kept once it has written its value.
+    /// The deeds that a write is by what the port shows now, and the write as it begins.
     fn begin_write(
         &mut self,
         rt: &impl Wait,
         port: &Mutex<LockedPort<N>>,
         address: u8,
         value: u8,
-    ) -> (WriteSteps, KeptBytes)
+    ) -> (WriteSteps, Written)
         requires { MayWork D.link self.old 1 }
         ensures same { self.new ≡ self.old }
         ensures begins { BeginsWrite self.old address value (steps_in result.0) result.1 }
@@ -191,9 +192,8 @@ impl<N: Order, D: DriverEnd + Drop> DriverThread<N, D> {
             wait_for_ever(rt);
         }
         let found = held.found(&mut self.done);
-        let mut kept = self.driver.kept();
-        kept.write(is_reset(found), address, value);
-        (steps_of_write(&self.driver, found, address, value), kept)
+        let written = Written::begin(found, self.driver.kept(), address, value);
+        (steps_of_write(&self.driver, found, address, value), written)
     }
 
     /// What is kept for the driver once a step has written its value, if it writes one that is kept.

@@ -1,5 +1,5 @@
--- The names of segments, errors, flags, levels and roles (sources as named; that these words stand for them is this
--- project's own rule).
+-- The names of segments, errors, flags, levels and roles, and why a step is ignored (sources as named; that these words
+-- stand for them is this project's own rule).
 use Rattle.std.specs.Prelude.{ℕ, Bool, true, false, List, codes}
 use Rattle.can_bits.specs.declared.level.Level.{Level}
 use Rattle.can_bits.specs.declared.level.Level.TheVariants.{Dominant, Recessive}
@@ -13,6 +13,9 @@ use Rattle.can_node.specs.declared.cause.Cause.{Cause}
 use Rattle.can_node.specs.declared.cause.Cause.TheVariants.{Bit, Stuff, Form, Crc, Ack}
 use Rattle.can_node.specs.declared.flag_kind.FlagKind.{FlagKind}
 use Rattle.can_node.specs.declared.flag_kind.FlagKind.TheVariants.{ActiveError, PassiveError, Overload}
+use Rattle.sja_script.specs.declared.ignored.Ignored.{Ignored}
+use Rattle.sja_script.specs.declared.ignored.Ignored.TheVariants.{ReadOnly, WriteOnly, ResetOnly, ActiveOnly}
+use Rattle.sja_script.specs.declared.ignored.Ignored.TheVariants.{ListenOnly, Locked, Empty}
 
 -- the segments of the error code capture (SJA1000 data sheet, 6.4.9)
 abbrev pub segment_name : Segment → List ℕ
@@ -61,3 +64,13 @@ level_name Recessive = codes "recessive"
 abbrev pub role_name : Bool → List ℕ
 role_name true = codes "receiver"
 role_name false = codes "transmitter"
+
+-- why a controller ignores a step (SJA1000 data sheet, 6.4.1 to 6.4.5)
+abbrev pub ignored_name : Ignored → List ℕ
+ignored_name ReadOnly = codes "read only"
+ignored_name WriteOnly = codes "write only"
+ignored_name ResetOnly = codes "reset mode alone"
+ignored_name ActiveOnly = codes "no command in reset mode"
+ignored_name ListenOnly = codes "listen only mode"
+ignored_name Locked = codes "TBS is 0"
+ignored_name Empty = codes "no message"

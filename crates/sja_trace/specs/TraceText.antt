@@ -13,10 +13,13 @@ use Rattle.sja_report.specs.ReportLines.{numbered}
 use Rattle.sja_report.specs.ReportWords.{answer_words}
 use Rattle.sja_report.specs.Spacing.{all_spaced}
 use Rattle.sja_script.specs.declared.done.Done.{Done}
+use Rattle.sja_script.specs.declared.ignored.Ignored.{Ignored}
 use Rattle.sja_script.specs.declared.step.Step.{Step}
+use Rattle.sja_script.specs.Ignoring.{ignored_in}
 use Rattle.sja_wire.specs.Wire.{wired}
 use Rattle.sja_trace.specs.BitEvents.{counters_after}
 use Rattle.sja_trace.specs.Causes.{all_said}
+use Rattle.sja_trace.specs.Names.{ignored_name}
 use Rattle.sja_trace.specs.Telling.{bit_before}
 
 -- ---- lines
@@ -43,15 +46,21 @@ abbrev pub bit_line : ℕ → ℕ → List (List ℕ) → List ℕ
 bit_line bit node [] = []
 bit_line bit node (e ∷ es) = told_line bit node (joined (e ∷ es))
 
--- the line of a step, whose number counts from 1: its text, and its answer as a report has it
+-- the line of a step, whose number counts from 1: its text, its answer as a report has it, and why the controller
+-- ignored it, if it did
 abbrev pub step_head : ℕ → ℕ → ℕ → List ℕ → List ℕ
 step_head bits node number text =
     codes "bit " ++ (decimal bits ++ (codes " node " ++ (decimal node ++ (codes " step " ++ (decimal number
     ++ (codes ": " ++ (text ++ codes " ->")))))))
 
+abbrev pub ignored_said : Option Ignored → List ℕ
+ignored_said None = []
+ignored_said (Some cause) = codes "; ignored: " ++ ignored_name cause
+
 abbrev pub step_line : ℕ → ℕ → Step → Done → List ℕ
 step_line node number step d =
-    line (step_head d.bits node number (step_text step) ++ all_spaced (answer_words d.answer))
+    line (step_head d.bits node number (step_text step) ++ (all_spaced (answer_words d.answer)
+    ++ ignored_said (ignored_in step d.answer)))
 
 -- a step stands right before the line of the bit that came after it. After the last bit come those that had as many
 -- bits before them as were run, or more

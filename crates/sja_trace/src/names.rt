@@ -1,10 +1,12 @@
-//! The names of segments, errors, flags, levels and roles.
+//! The names of segments, errors, flags, levels and roles, and why a step is ignored.
 
 ghost use Rattle.std.specs.Prelude.{◌≡◌};
 ghost use Rattle.sja_trace.specs.Names.{segment_name, cause_name, flag_name, level_name, role_name};
+ghost use Rattle.sja_trace.specs.Names.{ignored_name};
 
 use can_bits::{Level, Segment};
 use can_node::{Cause, FlagKind};
+use sja_script::Ignored;
 
 /// The name of a segment (SJA1000 data sheet, 6.4.9).
 pub fn segment_name(segment: Segment) -> &'static str
@@ -74,4 +76,19 @@ pub(crate) fn role_name(receiving: bool) -> &'static str
     ensures { result.now ≡ role_name receiving }
 {
     if receiving { "receiver" } else { "transmitter" }
+}
+
+/// Why a controller ignores a step (SJA1000 data sheet, 6.4.1 to 6.4.5).
+pub(crate) fn ignored_name(ignored: Ignored) -> &'static str
+    ensures { result.now ≡ ignored_name ignored }
+{
+    match ignored {
+        Ignored::ReadOnly => "read only",
+        Ignored::WriteOnly => "write only",
+        Ignored::ResetOnly => "reset mode alone",
+        Ignored::ActiveOnly => "no command in reset mode",
+        Ignored::ListenOnly => "listen only mode",
+        Ignored::Locked => "TBS is 0",
+        Ignored::Empty => "no message",
+    }
 }

@@ -1,14 +1,15 @@
 //! The lines of steps.
 
 ghost use Rattle.std.specs.Prelude.{◌≡◌, ◌++◌, string_bytes, OnOk};
-ghost use Rattle.sja_trace.specs.TraceText.{step_line, is_due, line_where, steps_due};
+ghost use Rattle.sja_trace.specs.TraceText.{step_line, ignored_said, is_due, line_where, steps_due};
 
 use super::due::Due;
+use super::names::ignored_name;
 use can_frame::OutOfMemory;
 use sja_plan_text::step_text;
 use sja_report::put_answer;
-use sja_script::{Done, Step};
-use std::alloc::Global;
+use sja_script::{Done, Ignored, Step};
+use std::alloc::{AllocError, Global};
 use std::fmt::Write;
 
 /// The lines of those of a node's steps that are due, by what they came to.
@@ -58,7 +59,7 @@ pub(crate) fn put_due(
     put_step(alloc, text, node, number, step, done)
 }
 
-/// The line of a step: the bits before it, its node and its number, its text and its answer.
+/// The line of a step: the bits before it, its node and its number, its text and its answer, and why it was ignored.
 fn put_step(
     alloc: Global,
     text: &mut String,
@@ -74,6 +75,17 @@ fn put_step(
     let bits = done.bits;
     write!(text, "bit {bits} node {node} step {number}: {words} ->")?;
     put_answer(text, &done.answer)?;
+    put_ignored(text, done.answer.ignored(step))?;
     text.push('\n')?;
     Ok(())
+}
+
+/// Why the controller ignored a step, if it did.
+fn put_ignored(text: &mut String, ignored: Option<Ignored>) -> Result<(), AllocError>
+    ensures { OnOk result (string_bytes text.new ≡ string_bytes text.old ++ ignored_said ignored) }
+{
+    match ignored {
+        Some(cause) => write!(text, "; ignored: {}", ignored_name(cause)),
+        None => Ok(()),
+    }
 }

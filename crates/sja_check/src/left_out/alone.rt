@@ -9,7 +9,7 @@ use super::story::Story;
 /// or where another node could have done so.
 pub(crate) fn unacknowledged(page: &mut Page, document: &Document, stories: &[Story]) -> bool {
     for (node, story) in stories.iter().enumerate() {
-        if let Some(bit) = story.requests.alone {
+        if let Some(bit) = story.alone {
             if is_alone(stories, node, bit) {
                 return others(page, document, stories, node, bit);
             }

@@ -1,19 +1,15 @@
-//! [`Gift`]: what a driver gave the bus.
+//! [`Gift`]: what starts or stops a node.
 
 use sja_link::{Entry, Journal, Up};
 use std::alloc::{AllocError, Global};
 
-/// What a driver gave the bus, and that its node went bus-off.
+/// What a driver gave the bus that starts or stops its node, and that it went bus-off.
 #[derive(Clone, Copy)]
 pub(crate) enum Gift {
     /// An activation; in listen only mode where that is true.
     Start(bool),
     /// The end of one.
     Stop,
-    /// A request.
-    Send,
-    /// A released message.
-    Credit,
     /// No gift: the node went bus-off.
     Off,
 }
@@ -55,8 +51,6 @@ fn gift_in(entry: &Entry) -> Option<Gift> {
     match entry {
         Entry::Up(Up::Start(config)) => Some(Gift::Start(config.listen)),
         Entry::Up(Up::Stop) => Some(Gift::Stop),
-        Entry::Up(Up::Send(_)) => Some(Gift::Send),
-        Entry::Up(Up::Credit(_)) => Some(Gift::Credit),
         Entry::Off => Some(Gift::Off),
         _ => None,
     }

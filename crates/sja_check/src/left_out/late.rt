@@ -25,16 +25,13 @@ pub(crate) fn late_strikes(page: &mut Page, document: &Document, strikes: &[Stri
                 [strike.bit, 0],
             )
         } else {
-            let told = [came, strike.times];
+            let told = [came as u64, strike.times as u64];
             (
                 "{0}strike {1}: {2}: {4} of its {5} bits came, the run has {6} bits",
                 told,
             )
         };
-        let (first, second) = (
-            Piece::Number(u64::from(first)),
-            Piece::Number(u64::from(second)),
-        );
+        let (first, second) = (Piece::Number(first), Piece::Number(second));
         let told = [first, second, Piece::Number(u64::from(bits))];
         let item = match items.get(place) {
             Some(item) => *item,
@@ -70,12 +67,13 @@ fn is_placed(alloc: Global, value: &Value) -> Result<bool, AllocError> {
 
 /// How many bits it strikes below this one.
 fn times_below(strike: &Strike, bits: u32) -> u32 {
+    let bits = bits as u64;
     if bits <= strike.bit {
         return 0;
     }
     if strike.every == 0 {
         return strike.times;
     }
-    let more = (bits - strike.bit - 1) / strike.every;
-    more.saturating_add(1).min(strike.times)
+    let more = (bits - strike.bit - 1) / (strike.every as u64);
+    more.saturating_add(1).min(strike.times as u64) as u32
 }

@@ -5,25 +5,23 @@ ghost use Rattle.std.specs.Prelude.{◌<◌, length};
 use super::super::document::Document;
 use super::super::outline::Spot;
 use super::super::page::{Page, Piece};
+use super::ignored_steps::ignored_hints;
 use super::refused_steps::{can_start, refused_hints};
 use super::steps_left::{left_hints, more_hints};
-use super::story::Story;
-use super::swallowed_accesses::swallowed_hints;
 use super::undone_steps::{steps_in_turns, undone_hint};
 use super::waiting::waits_at;
 use sja_log::RunLog;
 use sja_plan::{Plan, RAW_VERSION, Turn};
 use sja_script::Step;
 
-/// Says what there is to say of a node: that it is never started, the steps that were refused, and the first one that
-/// wasn't done.
+/// Says what there is to say of a node: that it is never started, the steps that were refused or ignored, and the first
+/// one that wasn't done.
 pub(crate) fn node_hints(
     page: &mut Page,
     document: &Document,
     plan: &Plan,
     log: &RunLog,
     node: usize,
-    story: Option<&Story>,
 )
     requires { node < length plan.now.nodes }
 {
@@ -37,9 +35,7 @@ pub(crate) fn node_hints(
         &[line, Piece::Number(node as u64)],
     );
     refused_hints(page, document, plan.version(), node, steps, run.done());
-    if let Some(story) = story {
-        swallowed_hints(page, document, node, steps, run.done(), story);
-    }
+    ignored_hints(page, document, node, steps, run.done());
     let done = run.done().len();
     if done >= steps.len() {
         return;

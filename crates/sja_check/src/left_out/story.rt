@@ -1,7 +1,7 @@
 //! [`Story`]: what a node's journal says of its driver.
 
 use super::gift::{Gift, TimedGift, gifts_in};
-use super::requests::{Requests, requests_in};
+use super::requests::unacknowledged_in;
 use sja_log::RunLog;
 use std::alloc::{AllocError, Global};
 
@@ -10,8 +10,8 @@ use std::alloc::{AllocError, Global};
 pub(crate) struct Story {
     /// What the driver gave the bus, in order.
     pub(crate) gifts: Vec<TimedGift>,
-    /// What became of its requests.
-    pub(crate) requests: Requests,
+    /// The last bit in which nobody acknowledged the frame of the request that is held at the end, where it was so.
+    pub(crate) alone: Option<u32>,
 }
 
 /// The stories of the nodes of a run.
@@ -21,8 +21,8 @@ pub(crate) fn stories_of(alloc: Global, log: &RunLog) -> Result<Vec<Story>, Allo
     let mut stories = Vec::new(alloc);
     for run in log.nodes() {
         let gifts = gifts_in(alloc, run.journal())?;
-        let requests = requests_in(alloc, run.journal(), log.bits())?;
-        stories.push(Story { gifts, requests })?;
+        let alone = unacknowledged_in(run.journal(), log.bits());
+        stories.push(Story { gifts, alone })?;
     }
     Ok(stories)
 }
@@ -40,7 +40,6 @@ impl Story {
                 Gift::Start(false) => "",
                 Gift::Stop => "is stopped",
                 Gift::Off => "is bus-off",
-                Gift::Send | Gift::Credit => why,
             };
         }
         why

@@ -21,7 +21,7 @@ use Rattle.sja_script.specs.declared.step.Step.TheVariants.{Start, Stop, Window,
 use Rattle.sja_script.specs.declared.step.Step.TheVariants.{Command, Await, Sent, Interrupt, At}
 use Rattle.sja_script.specs.declared.step_answer.StepAnswer.{StepAnswer}
 use Rattle.sja_script.specs.declared.step_answer.StepAnswer.TheVariants.{Done, NoMessage, Shown, Released, Value}
-use Rattle.sja_script.specs.declared.step_answer.StepAnswer.TheVariants.{Refused}
+use Rattle.sja_script.specs.declared.step_answer.StepAnswer.TheVariants.{Refused, Ignored}
 use Rattle.sja_driver.specs.Carried.{carried, ported}
 use Rattle.sja_driver.specs.Deeds.{opened}
 use Rattle.sja_driver.specs.Ports.{send_of}
@@ -138,6 +138,7 @@ carried_alike p r Release (Shown m) h = refl
 carried_alike p r Release (Released n) h = refl
 carried_alike p r Release (Value n) h = refl
 carried_alike p r Release (Refused f) h = refl
+carried_alike p r Release (Ignored cause) h = refl
 carried_alike p r Stop Done h = refl
 carried_alike p r Stop other h = refl
 carried_alike p r Window answer h = refl

@@ -14,7 +14,7 @@ use Rattle.sja_script.specs.declared.step.Step.TheVariants.{Await, Sent, Interru
 use Rattle.sja_script.specs.declared.refusal.Refusal.TheVariants.{NoActivationLeft}
 use Rattle.sja_script.specs.declared.step_answer.StepAnswer.{StepAnswer}
 use Rattle.sja_script.specs.declared.step_answer.StepAnswer.TheVariants.{Done as DoneAnswer, NoMessage, Shown, Released}
-use Rattle.sja_script.specs.declared.step_answer.StepAnswer.TheVariants.{Value, Refused}
+use Rattle.sja_script.specs.declared.step_answer.StepAnswer.TheVariants.{Value, Refused, Ignored}
 use Rattle.sja_driver.specs.Deeds.{opened, active_after, FitsState, GivesSend, Gives}
 
 -- from a driver that is active or isn't, and has opened so many activations
@@ -54,6 +54,7 @@ kind_of version active n Start (Shown m) gave fits g = quiet g refl refl
 kind_of version active n Start (Released k) gave fits g = quiet g refl refl
 kind_of version active n Start (Value k) gave fits g = quiet g refl refl
 kind_of version active n Start (Refused k) gave fits g = quiet g refl refl
+kind_of version active n Start (Ignored cause) gave fits g = quiet g refl refl
 kind_of version true n Stop DoneAnswer gave fits g = stops refl g refl refl
 kind_of version false n Stop DoneAnswer gave fits g = absurd cc
 kind_of version active n Stop NoMessage gave fits g = quiet g refl refl
@@ -61,6 +62,7 @@ kind_of version active n Stop (Shown m) gave fits g = quiet g refl refl
 kind_of version active n Stop (Released k) gave fits g = quiet g refl refl
 kind_of version active n Stop (Value k) gave fits g = quiet g refl refl
 kind_of version active n Stop (Refused k) gave fits g = quiet g refl refl
+kind_of version active n Stop (Ignored cause) gave fits g = quiet g refl refl
 kind_of version true n Release (Released k) gave fits g = credits refl k g refl refl
 kind_of version false n Release (Released k) gave fits g = absurd cc
 kind_of version active n Release DoneAnswer gave fits g = quiet g refl refl
@@ -68,6 +70,7 @@ kind_of version active n Release NoMessage gave fits g = quiet g refl refl
 kind_of version active n Release (Shown m) gave fits g = quiet g refl refl
 kind_of version active n Release (Value k) gave fits g = quiet g refl refl
 kind_of version active n Release (Refused k) gave fits g = quiet g refl refl
+kind_of version active n Release (Ignored cause) gave fits g = quiet g refl refl
 kind_of version true n (Command v) DoneAnswer gave fits g = asked (requests (command_of v)) g
   where
     asked : (b : Bool) → GivesSend b gave → Kind true n (Command v) DoneAnswer gave
@@ -79,6 +82,7 @@ kind_of version active n (Command v) (Shown m) gave fits g = quiet g refl refl
 kind_of version active n (Command v) (Released k) gave fits g = quiet g refl refl
 kind_of version active n (Command v) (Value k) gave fits g = quiet g refl refl
 kind_of version active n (Command v) (Refused k) gave fits g = quiet g refl refl
+kind_of version active n (Command v) (Ignored cause) gave fits g = quiet g refl refl
 kind_of version active n Window r gave fits g = quiet g refl refl
 kind_of version active n (Read x) r gave fits g = quiet g refl refl
 kind_of version active n (Write x y) r gave fits g = quiet g refl refl

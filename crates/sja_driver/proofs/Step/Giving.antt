@@ -10,7 +10,7 @@ use Rattle.sja_script.specs.declared.step.Step.TheVariants.{Start, Stop, Window,
 use Rattle.sja_script.specs.declared.step.Step.TheVariants.{Await, Sent, Interrupt, At}
 use Rattle.sja_script.specs.declared.step_answer.StepAnswer.{StepAnswer}
 use Rattle.sja_script.specs.declared.step_answer.StepAnswer.TheVariants.{Done, NoMessage, Shown, Released, Value}
-use Rattle.sja_script.specs.declared.step_answer.StepAnswer.TheVariants.{Refused}
+use Rattle.sja_script.specs.declared.step_answer.StepAnswer.TheVariants.{Refused, Ignored}
 use Rattle.sja_driver.specs.Carried.{carried}
 use Rattle.sja_driver.specs.Deeds.{Gives, GivesSend}
 use Rattle.sja_driver.specs.Ports.{send_of}
@@ -26,24 +26,28 @@ gives_carried p Start (Shown m) = refl
 gives_carried p Start (Released n) = refl
 gives_carried p Start (Value n) = refl
 gives_carried p Start (Refused r) = refl
+gives_carried p Start (Ignored cause) = refl
 gives_carried p Release Done = refl
 gives_carried p Release NoMessage = refl
 gives_carried p Release (Shown m) = refl
 gives_carried p Release (Released n) = refl
 gives_carried p Release (Value n) = refl
 gives_carried p Release (Refused r) = refl
+gives_carried p Release (Ignored cause) = refl
 gives_carried p (Command value) Done = sends (requests (command_of value)) _
 gives_carried p (Command value) NoMessage = refl
 gives_carried p (Command value) (Shown m) = refl
 gives_carried p (Command value) (Released n) = refl
 gives_carried p (Command value) (Value n) = refl
 gives_carried p (Command value) (Refused r) = refl
+gives_carried p (Command value) (Ignored cause) = refl
 gives_carried p Stop Done = refl
 gives_carried p Stop NoMessage = refl
 gives_carried p Stop (Shown m) = refl
 gives_carried p Stop (Released n) = refl
 gives_carried p Stop (Value n) = refl
 gives_carried p Stop (Refused r) = refl
+gives_carried p Stop (Ignored cause) = refl
 gives_carried p Window answer = refl
 gives_carried p (Read address) answer = refl
 gives_carried p (Write address value) answer = refl

@@ -19,7 +19,7 @@ use Rattle.sja_script.specs.declared.step.Step.TheVariants.{Start, Stop, Window,
 use Rattle.sja_script.specs.declared.step.Step.TheVariants.{Await, Sent, Interrupt, At}
 use Rattle.sja_script.specs.declared.step_answer.StepAnswer.{StepAnswer}
 use Rattle.sja_script.specs.declared.step_answer.StepAnswer.TheVariants.{Done as DoneAnswer, NoMessage, Shown, Released}
-use Rattle.sja_script.specs.declared.step_answer.StepAnswer.TheVariants.{Value, Refused}
+use Rattle.sja_script.specs.declared.step_answer.StepAnswer.TheVariants.{Value, Refused, Ignored}
 use Rattle.sja_driver.specs.Deeds.{Deed, opened, opens_by, opened_by, Gives, given_in, section_from, deeds_of}
 use Rattle.sja_driver.proofs.LogOfSteps.Sections.{deeds_push}
 use Rattle.sja_driver.specs.Timing.{Timed, timed, given_when, taken_when}
@@ -132,6 +132,7 @@ opening Start (Shown m) gave h = inl refl
 opening Start (Released n) gave h = inl refl
 opening Start (Value n) gave h = inl refl
 opening Start (Refused r) gave h = inl refl
+opening Start (Ignored cause) gave h = inl refl
 opening Stop r gave h = inl refl
 opening Window r gave h = inl refl
 opening Release r gave h = inl refl

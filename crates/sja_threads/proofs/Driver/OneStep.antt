@@ -7,8 +7,7 @@ use Rattle.sja_regs.specs.DriverSettings.{HasSettings}
 use Rattle.sja_script.specs.declared.step.Step.{Step}
 use Rattle.sja_script.specs.declared.step.Step.TheVariants.{Read, Write}
 use Rattle.sja_script.specs.declared.step_answer.StepAnswer.{StepAnswer}
-use Rattle.sja_script.specs.declared.step_answer.StepAnswer.TheVariants.{Done as DoneAnswer}
-use Rattle.sja_driver.specs.Accesses.{Answers, by_bytes, deed_steps, kept_by, kept_written}
+use Rattle.sja_driver.specs.Accesses.{Answers, by_bytes, deed_steps, kept_written}
 use Rattle.sja_driver.specs.AnyDrivers.{is_out}
 use Rattle.sja_driver.specs.Deeds.{Deed, is_active}
 use Rattle.sja_driver.specs.Drivers.{nothing_seen}
@@ -17,9 +16,13 @@ use Rattle.sja_driver.specs.Logs.{done_in, done_room}
 use Rattle.sja_driver.specs.declared.kept_bytes.KeptBytes.{KeptBytes}
 use Rattle.sja_driver.specs.declared.logged_driver.LoggedDriver.{LoggedDriver}
 use Rattle.sja_driver.specs.declared.write_steps.WriteSteps.{WriteSteps}
+use Rattle.sja_driver.specs.declared.written.Written.{Written}
+use Rattle.sja_driver.specs.Ignoring.{write_answer}
 use Rattle.sja_driver.specs.Kept.{moved_by_answer}
 use Rattle.sja_driver.specs.WriteLists.{steps_in}
 use Rattle.sja_driver.specs.Writes.{write_steps}
+use Rattle.sja_driver.specs.Written.{written_at, written_by}
+use Rattle.sja_driver.proofs.Bytes.Writing.{ignored_then, kept_then}
 use Rattle.sja_threads.specs.declared.order.Order.{Ghosts as Orders}
 use Rattle.sja_threads.specs.declared.driver_thread.DriverThread.{DriverThread}
 use Rattle.sja_threads.specs.Accessing.{IsAccessAt, IsBrokenOff, LeadOn}
@@ -33,10 +36,9 @@ use Rattle.sja_threads.proofs.Driver.Settings.{done_from}
 use Rattle.sja_threads.proofs.Driver.Steps.{may_less, does_none, does_entered}
 
 -- of a write that began so only the last of its deeds takes room in the log
-pub begun_last : {N E : Type 0} {o : Orders N} (t : DriverThread N E o) (address value : ℕ) (steps : List Step) (kept
-    : KeptBytes) →
-    BeginsWrite t address value steps kept → LastTakes steps
-begun_last t address value steps kept b =
+pub begun_last : {N E : Type 0} {o : Orders N} (t : DriverThread N E o) (address value : ℕ) (steps : List Step)
+    (written : Written) → BeginsWrite t address value steps written → LastTakes steps
+begun_last t address value steps written b =
     subst LastTakes (sym b.steps_are) (write_last b.at (is_out (driver_of t.driver)) address value)
 
 -- one deed that is of this step and has this answer
@@ -112,16 +114,17 @@ module _ {N E : Type 0} {o : Orders N} (e : Ends E) (was mid : DriverThread N E 
 
   -- ---- a write of a driver that knows addresses and bytes alone
 
-  pub write_done : (address value : ℕ) (steps : WriteSteps) (m : Bool) (kept moved : KeptBytes) → m ≡ true →
-      BeginsWrite was address value (steps_in steps) kept → DoesParts e was mid (steps_in steps) m kept moved →
-      Entered moved DoneAnswer → by_bytes was.set.version ≡ true → DoesStep e was now (Write address value)
+  pub write_done : (address value : ℕ) (steps : WriteSteps) (m : Bool) (on moved : Written) (told : StepAnswer) →
+      m ≡ true → BeginsWrite was address value (steps_in steps) on → DoesParts e was mid (steps_in steps) m on moved →
+      Entered moved.kept told → told ≡ write_answer moved.ignored → by_bytes was.set.version ≡ true →
+      DoesStep e was now (Write address value)
   unfolding does_entered
-  write_done address value steps m kept moved all_met b q entered bytes = record {
-    access = record { step = Write address value; answer = DoneAnswer; bits = mid.found; deeds = q.deeds };
+  write_done address value steps m on moved told all_met b q entered told_is bytes = record {
+    access = record { step = Write address value; answer = told; bits = mid.found; deeds = q.deeds };
     step_is = refl;
-    does = does_entered e was mid d mid.found moved q.deeds q.does entered.0 entered.2;
-    few = let few = parts_taken e was mid (steps_in steps) m kept moved q in
-        let one = one_together (steps_in steps) (begun_last was address value (steps_in steps) kept b) in
+    does = does_entered e was mid d mid.found moved.kept q.deeds q.does entered.0 entered.2;
+    few = let few = parts_taken e was mid (steps_in steps) m on moved q in
+        let one = one_together (steps_in steps) (begun_last was address value (steps_in steps) on b) in
         omega (arith, few, one);
     counts = (q.counts.are, inl q.counts.found);
     found = refl;
@@ -134,16 +137,23 @@ module _ {N E : Type 0} {o : Orders N} (e : Ends E) (was mid : DriverThread N E 
             ≡ deed_steps k b.at (is_active before) (Write address value)) (sym bytes)
             (whole ∙ ap (λ (k : Bool). write_steps b.at k address value) (sym w.out));
         answer = subst (λ (k : Bool). Answers k b.at nothing_seen (kept_of was.driver) mid.found (Write address value)
-            q.deeds DoneAnswer) (sym bytes) refl;
-        left = ap (λ (x : LoggedDriver). kept_of x) entered.0 ∙ q.moved
-            ∙ ap (λ (k : KeptBytes). kept_by k q.deeds) b.left;
+            q.deeds told) (sym bytes) (told_is ∙ ap (λ (w : Written). write_answer w.ignored) went
+            ∙ ap write_answer (ignored_then begun q.deeds));
+        left = ap (λ (x : LoggedDriver). kept_of x) entered.0 ∙ ap (λ (w : Written). w.kept) went
+            ∙ kept_then begun q.deeds;
       };
       read = λ other x same deeds. absurd (let two : Write address value ≡ Read other = same in cc);
     };
-    done = entered.1 ∙ ap (λ v. v.items ++ record { answer = DoneAnswer; bits = mid.found } ∷ []) q.none.done;
+    done = entered.1 ∙ ap (λ v. v.items ++ record { answer = told; bits = mid.found } ∷ []) q.none.done;
     room = entered.2 ∙ ap (λ v. v.room) q.none.done;
   }
     where
+      begun : Written
+      begun = written_at b.at (kept_of was.driver) address value
+
+      went : moved ≡ written_by begun q.deeds
+      went = q.moved ∙ ap (λ (w : Written). written_by w q.deeds) b.begun
+
       whole : map (λ (x : Deed). x.step) q.deeds ≡ write_steps b.at (is_out (driver_of was.driver)) address value
       whole = sym (append-nil (map (λ (x : Deed). x.step) q.deeds))
           ∙ ap (λ (l : List Step). map (λ (x : Deed). x.step) q.deeds ++ l) (sym (q.ends all_met)) ∙ sym q.whole
@@ -182,16 +192,16 @@ module _ {N E : Type 0} {o : Orders N} (e : Ends E) (was : DriverThread N E o) (
 
   -- with some of a write left
   pub write_broken : (last : DriverThread N E o) (address value : ℕ) (steps : WriteSteps) (m : Bool)
-      (kept kept_now : KeptBytes) → m ≡ false → BeginsWrite was address value (steps_in steps) kept →
-      DoesParts e was last (steps_in steps) m kept kept_now → by_bytes was.set.version ≡ true →
+      (on on_now : Written) → m ≡ false → BeginsWrite was address value (steps_in steps) on →
+      DoesParts e was last (steps_in steps) m on on_now → by_bytes was.set.version ≡ true →
       BreaksOff e was last (Write address value)
-  write_broken last address value steps m kept kept_now unmet b q bytes = record {
+  write_broken last address value steps m on on_now unmet b q bytes = record {
     deeds = q.deeds;
     does = q.does;
     counts = q.counts.are;
     none = q.none;
-    lawful = (parts_able e was last (steps_in steps) m kept kept_now q 0 1
-        (let one = one_together (steps_in steps) (begun_last was address value (steps_in steps) kept b) in
+    lawful = (parts_able e was last (steps_in steps) m on on_now q 0 1
+        (let one = one_together (steps_in steps) (begun_last was address value (steps_in steps) on b) in
         omega (arith, one)) may.may).lawful;
     broken = λ left. begun address value b.at q.left bytes b.has (sym b.steps_are ∙ q.whole) (q.waits unmet);
   }

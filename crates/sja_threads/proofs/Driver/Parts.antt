@@ -7,43 +7,25 @@ use Rattle.lemmas.proofs.Gathered.{total_append}
 use Rattle.sja_link.specs.declared.driver_end.DriverEnd.{Ghosts as Ends}
 use Rattle.sja_script.specs.declared.step.Step.{Step}
 use Rattle.sja_script.specs.declared.step_answer.StepAnswer.{StepAnswer}
-use Rattle.sja_driver.specs.Accesses.{kept_by}
 use Rattle.sja_driver.specs.Deeds.{Deed}
-use Rattle.sja_driver.specs.declared.kept_bytes.KeptBytes.{KeptBytes}
-use Rattle.sja_driver.specs.Kept.{moved_by_answer}
+use Rattle.sja_driver.specs.declared.written.Written.{Written}
 use Rattle.sja_driver.specs.WriteLists.{listed}
+use Rattle.sja_driver.specs.Written.{written_by, written_then}
+use Rattle.sja_driver.proofs.Bytes.Writing.{written_both, written_one}
 use Rattle.sja_threads.specs.declared.order.Order.{Ghosts as Orders}
 use Rattle.sja_threads.specs.declared.driver_thread.DriverThread.{DriverThread}
 use Rattle.sja_threads.specs.Inside.Steps.{MayWork, DoesDeed, DoesParts, IsDeedIf, room_of, room_taken}
 use Rattle.sja_threads.proofs.Driver.Counts.{counts_more, counts_none}
 use Rattle.sja_threads.proofs.Driver.Steps.{may_less, does_none, does_more}
 
--- ---- what is kept
-
--- after deeds, and then others
-kept_more : (kept : KeptBytes) (xs ys : List Deed) → kept_by kept (xs ++ ys) ≡ kept_by (kept_by kept xs) ys
-kept_more kept [] ys = refl
-kept_more kept (d ∷ xs) ys = kept_more (moved_by_answer kept d.answer) xs ys
-
--- after one with this answer
-pub kept_one : (kept : KeptBytes) (deeds : List Deed) (answer : StepAnswer) →
-    map (λ (d : Deed). d.answer) deeds ≡ answer ∷ [] → kept_by kept deeds ≡ moved_by_answer kept answer
-kept_one kept [] answer are = absurd (let none : [] ≡ answer ∷ [] = are in cc)
-kept_one kept (d ∷ []) answer are = ap (λ (a : StepAnswer). moved_by_answer kept a) (first_is d.answer answer are)
-  where
-    first_is : (a b : StepAnswer) → a ∷ [] ≡ b ∷ [] → a ≡ b
-    first_is a b e = cc
-kept_one kept (d ∷ x ∷ deeds) answer are =
-    absurd (let two = ap (λ (l : List StepAnswer). length l) are in omega (arith, two))
-
 module _ {N E : Type 0} {o : Orders N} (e : Ends E) where
   -- ---- one of the deeds
 
   -- where there is none
-  pub part_none : ((x : E) → e.same x x) → (t : DriverThread N E o) (o : Option Step) (kept : KeptBytes) → o ≡ None →
-      DoesParts e t t (listed o) true kept kept
+  pub part_none : ((x : E) → e.same x x) → (t : DriverThread N E o) (o : Option Step) (on : Written) → o ≡ None →
+      DoesParts e t t (listed o) true on on
   unfolding does_none
-  part_none r t o kept is = rw is (record {
+  part_none r t o on is = rw is (record {
     deeds = [];
     left = [];
     whole = refl;
@@ -58,9 +40,9 @@ module _ {N E : Type 0} {o : Orders N} (e : Ends E) where
   -- it was done
   pub part_done : (a b : DriverThread N E o) (o : Option Step) (s : Step) (given : Option StepAnswer) (answer :
       StepAnswer)
-      (kept kept_now : KeptBytes) → o ≡ Some s → given ≡ Some answer → DoesDeed e a b s given →
-      kept_now ≡ moved_by_answer kept answer → DoesParts e a b (listed o) true kept kept_now
-  part_done a b o s given answer kept kept_now is some d moved =
+      (on on_now : Written) → o ≡ Some s → given ≡ Some answer → DoesDeed e a b s given →
+      on_now ≡ written_then on answer → DoesParts e a b (listed o) true on on_now
+  part_done a b o s given answer on on_now is some d moved =
       let are : IsDeedIf s (Some answer) d.deeds =
       subst (λ (g : Option StepAnswer). IsDeedIf s g d.deeds) some d.are in record {
         deeds = d.deeds;
@@ -70,16 +52,15 @@ module _ {N E : Type 0} {o : Orders N} (e : Ends E) where
         does = d.does;
         counts = d.counts;
         none = d.none;
-        moved = moved ∙ sym (kept_one kept d.deeds answer are.1);
+        moved = moved ∙ sym (written_one on d.deeds answer are.1);
         ends = λ all_met. refl;
         waits = λ unmet. absurd (let two : true ≡ false = unmet in cc);
       }
 
   -- or it wasn't
-  pub part_not : (a b : DriverThread N E o) (o : Option Step) (s : Step) (given : Option StepAnswer) (kept :
-      KeptBytes) →
-      o ≡ Some s → given ≡ None → DoesDeed e a b s given → DoesParts e a b (listed o) false kept kept
-  part_not a b o s given kept is none d =
+  pub part_not : (a b : DriverThread N E o) (o : Option Step) (s : Step) (given : Option StepAnswer) (on : Written) →
+      o ≡ Some s → given ≡ None → DoesDeed e a b s given → DoesParts e a b (listed o) false on on
+  part_not a b o s given on is none d =
       let are : d.deeds ≡ [] = subst (λ (g : Option StepAnswer). IsDeedIf s g d.deeds) none d.are in record {
         deeds = d.deeds;
         left = s ∷ [];
@@ -88,7 +69,7 @@ module _ {N E : Type 0} {o : Orders N} (e : Ends E) where
         does = d.does;
         counts = d.counts;
         none = d.none;
-        moved = ap (λ (l : List Deed). kept_by kept l) (sym are);
+        moved = ap (λ (l : List Deed). written_by on l) (sym are);
         ends = λ all_met. absurd (let two : false ≡ true = all_met in cc);
         waits = λ unmet. omega arith;
       }
@@ -96,9 +77,9 @@ module _ {N E : Type 0} {o : Orders N} (e : Ends E) where
   -- ---- one after the other
 
   -- with more of them to come
-  pub parts_wide : (a b : DriverThread N E o) (xs ys : List Step) (m : Bool) (kept kept_now : KeptBytes) → m ≡ false →
-      DoesParts e a b xs m kept kept_now → DoesParts e a b (xs ++ ys) false kept kept_now
-  parts_wide a b xs ys m kept kept_now unmet p = record {
+  pub parts_wide : (a b : DriverThread N E o) (xs ys : List Step) (m : Bool) (on on_now : Written) → m ≡ false →
+      DoesParts e a b xs m on on_now → DoesParts e a b (xs ++ ys) false on on_now
+  parts_wide a b xs ys m on on_now unmet p = record {
     deeds = p.deeds;
     left = p.left ++ ys;
     whole = ap (λ (l : List Step). l ++ ys) p.whole
@@ -113,10 +94,10 @@ module _ {N E : Type 0} {o : Orders N} (e : Ends E) where
 
   -- all of these were done, and then some of the others
   pub parts_more : (trans : (x y z : E) → e.same x y → e.same y z → e.same x z) → (a b c : DriverThread N E o)
-      (xs ys : List Step) (m n : Bool) (kept mid kept_now : KeptBytes) → m ≡ true → DoesParts e a b xs m kept mid →
-      DoesParts e b c ys n mid kept_now → DoesParts e a c (xs ++ ys) n kept kept_now
+      (xs ys : List Step) (m n : Bool) (on mid on_now : Written) → m ≡ true → DoesParts e a b xs m on mid →
+      DoesParts e b c ys n mid on_now → DoesParts e a c (xs ++ ys) n on on_now
   unfolding does_more
-  parts_more trans a b c xs ys m n kept mid kept_now all_met p q = record {
+  parts_more trans a b c xs ys m n on mid on_now all_met p q = record {
     deeds = p.deeds ++ q.deeds;
     left = q.left;
     whole = ap (λ (l : List Step). l ++ ys) all ∙ ap (λ (l : List Step). map step_of p.deeds ++ l) q.whole
@@ -125,7 +106,7 @@ module _ {N E : Type 0} {o : Orders N} (e : Ends E) where
     does = does_more e trans a b c p.deeds q.deeds p.does q.does;
     counts = counts_more a b c p.deeds q.deeds p.counts q.counts;
     none = record { done = q.none.done ∙ p.none.done; kept = q.none.kept ∙ p.none.kept };
-    moved = q.moved ∙ ap (λ (k : KeptBytes). kept_by k q.deeds) p.moved ∙ sym (kept_more kept p.deeds q.deeds);
+    moved = q.moved ∙ ap (λ (w : Written). written_by w q.deeds) p.moved ∙ sym (written_both on p.deeds q.deeds);
     ends = q.ends;
     waits = q.waits;
   }
@@ -138,16 +119,16 @@ module _ {N E : Type 0} {o : Orders N} (e : Ends E) where
           ∙ append-nil (map step_of p.deeds)
 
   -- they take no more room than all of them
-  pub parts_taken : (a b : DriverThread N E o) (xs : List Step) (m : Bool) (kept kept_now : KeptBytes) →
-      (p : DoesParts e a b xs m kept kept_now) → room_taken p.deeds ≤ total room_of xs
-  parts_taken a b xs m kept kept_now p =
+  pub parts_taken : (a b : DriverThread N E o) (xs : List Step) (m : Bool) (on on_now : Written) →
+      (p : DoesParts e a b xs m on on_now) → room_taken p.deeds ≤ total room_of xs
+  parts_taken a b xs m on on_now p =
       let all = ap (total room_of) p.whole in
       let both = total_append room_of (map (λ (d : Deed). d.step) p.deeds) p.left in omega (arith, all, both)
 
   -- so the rest is left
-  pub parts_able : (a b : DriverThread N E o) (xs : List Step) (m : Bool) (kept kept_now : KeptBytes) →
-      DoesParts e a b xs m kept kept_now → (n k : ℕ) → total room_of xs + n ≤ k → MayWork e.link a k →
+  pub parts_able : (a b : DriverThread N E o) (xs : List Step) (m : Bool) (on on_now : Written) →
+      DoesParts e a b xs m on on_now → (n k : ℕ) → total room_of xs + n ≤ k → MayWork e.link a k →
       MayWork e.link b n
-  parts_able a b xs m kept kept_now p n k few may =
-      let less = parts_taken a b xs m kept kept_now p in
+  parts_able a b xs m on on_now p n k few may =
+      let less = parts_taken a b xs m on on_now p in
       p.does.able n (may_less e a (room_taken p.deeds + n) k (omega (arith, few, less)) may)

@@ -18,9 +18,10 @@ use Rattle.sja_driver.specs.Deeds.{Deed, is_active}
 use Rattle.sja_driver.specs.LoggedDrivers.{driver_of, log_of, kept_of, IsLawful}
 use Rattle.sja_driver.specs.Logs.{Traces, done_in, done_room}
 use Rattle.sja_driver.specs.declared.kept_bytes.KeptBytes.{KeptBytes}
-use Rattle.sja_driver.specs.Kept.{kept_after}
+use Rattle.sja_driver.specs.declared.written.Written.{Written}
 use Rattle.sja_driver.specs.Reads.{raw_value}
 use Rattle.sja_driver.specs.Writes.{write_steps}
+use Rattle.sja_driver.specs.Written.{written_at}
 use Rattle.sja_threads.specs.declared.order.Order.{Ghosts as Orders}
 use Rattle.sja_threads.specs.declared.driver_thread.DriverThread.{DriverThread}
 use Rattle.sja_threads.specs.Counting.{AreCounted, IsCounted}
@@ -50,13 +51,13 @@ IsTold true kept (Read address) given answer =
     address))) → value ≡ raw_value p kept seen address)
 IsTold bytes kept other given answer = answer ≡ given
 
--- a write began at registers that have what the driver had set: it is these steps then, and leaves that kept
+-- a write began at registers that have what the driver had set: it is these steps then, and begins so
 pub record BeginsWrite {N E : Type 0} {o : Orders N} (t : DriverThread N E o) (address value : ℕ)
-    (steps : List Step) (kept : KeptBytes) : Type 0 where
+    (steps : List Step) (written : Written) : Type 0 where
   pub at : Registers
   pub has : HasSettings at t.set
   pub steps_are : steps ≡ write_steps at (is_out (driver_of t.driver)) address value
-  pub left : kept ≡ kept_after (kept_of t.driver) at.mode.rm address value
+  pub begun : written ≡ written_at at (kept_of t.driver) address value
 
 -- a driver did this step, and its log has it as done
 pub record DoesStep {N E : Type 0} {o : Orders N} (e : Ends E) (was now : DriverThread N E o) (step : Step) :

@@ -7,15 +7,16 @@ use Rattle.lemmas.specs.Related.{EachRelated}
 use Rattle.sja_script.specs.declared.step.Step.{Step}
 use Rattle.sja_script.specs.declared.step.Step.TheVariants.{Release}
 use Rattle.sja_script.specs.declared.step_answer.StepAnswer.{StepAnswer}
-use Rattle.sja_driver.specs.Accesses.{by_bytes, kept_by}
+use Rattle.sja_driver.specs.Accesses.{by_bytes}
 use Rattle.sja_driver.specs.AnyDrivers.{is_out}
 use Rattle.sja_driver.specs.Deeds.{Deed}
 use Rattle.sja_driver.specs.Holding.{Goes, NumberedFrom}
 use Rattle.sja_driver.specs.LoggedDrivers.{node_of, driver_of, log_of, kept_of, IsLawful}
 use Rattle.sja_driver.specs.Logs.{HasRoom, IsEmpty, KeepsLog, Traces, done_in, done_room}
-use Rattle.sja_driver.specs.declared.kept_bytes.KeptBytes.{KeptBytes}
 use Rattle.sja_driver.specs.declared.logged_driver.LoggedDriver.{LoggedDriver}
+use Rattle.sja_driver.specs.declared.written.Written.{Written}
 use Rattle.sja_driver.specs.Kept.{at_power_on}
+use Rattle.sja_driver.specs.Written.{written_by}
 use Rattle.sja_threads.specs.declared.order.Order.{Ghosts as Orders}
 use Rattle.sja_threads.specs.declared.driver_thread.DriverThread.{DriverThread}
 use Rattle.sja_threads.specs.Accessing.{LeadOn}
@@ -114,15 +115,15 @@ pub record DoesDeed {N E : Type 0} {o : Orders N} (e : Ends E) (was now : Driver
   pub none : EntersNone was.driver now.driver
 
 -- of deeds of these steps, which are some or all of one write, the first were done, all of them or not, and aren't
--- entered yet; what was released has moved RBSA on
+-- entered yet; by them the write went on
 pub record DoesParts {N E : Type 0} {o : Orders N} (e : Ends E) (was now : DriverThread N E o) (all : List Step)
-    (done : Bool) (kept kept_now : KeptBytes) : Type 0 where
+    (done : Bool) (on on_now : Written) : Type 0 where
   pub deeds : List Deed
   pub left : List Step
   pub whole : all ≡ map (λ (d : Deed). d.step) deeds ++ left
   pub does : Does e was now deeds
   pub counts : CountsOn was now deeds
   pub none : EntersNone was.driver now.driver
-  pub moved : kept_now ≡ kept_by kept deeds
+  pub moved : on_now ≡ written_by on deeds
   pub ends : done ≡ true → left ≡ []
   pub waits : done ≡ false → 1 ≤ length left

@@ -5,17 +5,17 @@ use Rattle.sja_threads.proofs.driver_thread.DriverThread.do_part.Goals as goal
 
 pub returns-in_default-clause-parts : goal.returns-in_default-clause-parts
 returns-in_default-clause-parts g c =
-    part_none g.D.DriverEnd g.met.D.DriverEnd.same_refl c.args.self.now c.args.part.now c.args.kept.now c.in_default.is
+    part_none g.D.DriverEnd g.met.D.DriverEnd.same_refl c.args.self.now c.args.part.now c.args.on.now c.in_default.is
 
 pub returns-in_default-do_deed-clause-parts : goal.returns-in_default-do_deed-clause-parts
 returns-in_default-do_deed-clause-parts g c =
     part_not g.D.DriverEnd c.args.self.now c.do_deed.new.self c.args.part.now c.in-Some.deed c.do_deed.result
-    c.args.kept.now c.in-Some.is c.in_default-do_deed.is c.do_deed.ensures.done
+    c.args.on.now c.in-Some.is c.in_default-do_deed.is c.do_deed.ensures.done
 
 pub returns-clause-parts : goal.returns-clause-parts
 returns-clause-parts g c =
     part_done g.D.DriverEnd c.args.self.now c.do_deed.new.self c.args.part.now c.in-Some.deed c.do_deed.result
-    c.in-Some-do_deed.answer c.args.kept.now c.answered.new.self c.in-Some.is c.in-Some-do_deed.is
+    c.in-Some-do_deed.answer c.args.on.now c.answered.new.self c.in-Some.is c.in-Some-do_deed.is
     c.do_deed.ensures.done c.answered.ensures
 
 pub returns-in_default-clause-answered : goal.returns-in_default-clause-answered

@@ -10,8 +10,8 @@ use Rattle.sja_threads.proofs.driver_thread.DriverThread.do_parts.Goals as goal
 pub do_part-requires-2-clause-may : goal.do_part-requires-2-clause-may
 do_part-requires-2-clause-may g c κs within =
     let s = c.args.steps.now in
-    parts_able g.D.DriverEnd c.args.self.now c.do_part.new.self (listed s.first) c.do_part.result c.args.kept.now
-    c.do_part.new.kept c.do_part.ensures.parts (length (listed s.second)) 1 (room_second s c.requires.last)
+    parts_able g.D.DriverEnd c.args.self.now c.do_part.new.self (listed s.first) c.do_part.result c.args.on.now
+    c.do_part.new.on c.do_part.ensures.parts (length (listed s.second)) 1 (room_second s c.requires.last)
     c.requires.may
 
 -- the node stays the same from part to part
@@ -45,16 +45,16 @@ pub returns-then-not-do_part-clause-parts : goal.returns-then-not-do_part-clause
 returns-then-not-do_part-clause-parts g c =
     let s = c.args.steps.now in
     parts_wide g.D.DriverEnd c.args.self.now c.do_part.new.self (listed s.first) (listed s.second ++ listed s.third)
-    c.do_part.result c.args.kept.now c.do_part.new.kept c.if-not-do_part.true c.do_part.ensures.parts
+    c.do_part.result c.args.on.now c.do_part.new.on c.if-not-do_part.true c.do_part.ensures.parts
 
 pub returns-then-not-do_part-2-clause-parts : goal.returns-then-not-do_part-2-clause-parts
 returns-then-not-do_part-2-clause-parts g c =
     let s = c.args.steps.now in
     parts_more g.D.DriverEnd g.met.D.DriverEnd.same_trans c.args.self.now c.do_part.new.self c.do_part-2.new.self
-    (listed s.first) (listed s.second ++ listed s.third) c.do_part.result _ c.args.kept.now c.do_part.new.kept
-    c.do_part-2.new.kept c.if-not-do_part.false c.do_part.ensures.parts
+    (listed s.first) (listed s.second ++ listed s.third) c.do_part.result _ c.args.on.now c.do_part.new.on
+    c.do_part-2.new.on c.if-not-do_part.false c.do_part.ensures.parts
     (parts_wide g.D.DriverEnd c.do_part.new.self c.do_part-2.new.self (listed s.second) (listed s.third)
-    c.do_part-2.result c.do_part.new.kept c.do_part-2.new.kept c.if-not-do_part-2.true c.do_part-2.ensures.parts)
+    c.do_part-2.result c.do_part.new.on c.do_part-2.new.on c.if-not-do_part-2.true c.do_part-2.ensures.parts)
 
 pub do_part-requires-3-clause-may : goal.do_part-requires-3-clause-may
 do_part-requires-3-clause-may g c κs within =
@@ -62,16 +62,16 @@ do_part-requires-3-clause-may g c κs within =
     let third = length (listed s.third) in
     let second = total room_of (listed s.second) in
     parts_able g.D.DriverEnd c.do_part.new.self c.do_part-2.new.self (listed s.second) c.do_part-2.result
-    c.do_part.new.kept c.do_part-2.new.kept c.do_part-2.ensures.parts third (second + third) (omega arith)
-    (parts_able g.D.DriverEnd c.args.self.now c.do_part.new.self (listed s.first) c.do_part.result c.args.kept.now
-    c.do_part.new.kept c.do_part.ensures.parts (second + third) 1 (room_third s c.requires.last) c.requires.may)
+    c.do_part.new.on c.do_part-2.new.on c.do_part-2.ensures.parts third (second + third) (omega arith)
+    (parts_able g.D.DriverEnd c.args.self.now c.do_part.new.self (listed s.first) c.do_part.result c.args.on.now
+    c.do_part.new.on c.do_part.ensures.parts (second + third) 1 (room_third s c.requires.last) c.requires.may)
 
 pub returns-clause-parts : goal.returns-clause-parts
 returns-clause-parts g c =
     let s = c.args.steps.now in
     parts_more g.D.DriverEnd g.met.D.DriverEnd.same_trans c.args.self.now c.do_part.new.self c.do_part-3.new.self
-    (listed s.first) (listed s.second ++ listed s.third) c.do_part.result c.do_part-3.result c.args.kept.now
-    c.do_part.new.kept c.do_part-3.new.kept c.if-not-do_part.false c.do_part.ensures.parts
+    (listed s.first) (listed s.second ++ listed s.third) c.do_part.result c.do_part-3.result c.args.on.now
+    c.do_part.new.on c.do_part-3.new.on c.if-not-do_part.false c.do_part.ensures.parts
     (parts_more g.D.DriverEnd g.met.D.DriverEnd.same_trans c.do_part.new.self c.do_part-2.new.self c.do_part-3.new.self
-    (listed s.second) (listed s.third) c.do_part-2.result c.do_part-3.result c.do_part.new.kept c.do_part-2.new.kept
-    c.do_part-3.new.kept c.if-not-do_part-2.false c.do_part-2.ensures.parts c.do_part-3.ensures.parts)
+    (listed s.second) (listed s.third) c.do_part-2.result c.do_part-3.result c.do_part.new.on c.do_part-2.new.on
+    c.do_part-3.new.on c.if-not-do_part-2.false c.do_part-2.ensures.parts c.do_part-3.ensures.parts)

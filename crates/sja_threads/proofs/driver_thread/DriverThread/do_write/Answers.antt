@@ -21,10 +21,10 @@ pub returns-then-not-do_parts-clause-quits : goal.returns-then-not-do_parts-clau
 returns-then-not-do_parts-clause-quits g c = λ undone.
     let bytes : by_bytes c.args.self.now.set.version ≡ true = sym c.requires.may.may.bytes ∙ c.requires.bytes in
     write_broken g.D.DriverEnd c.args.self.now c.requires.may c.do_parts.new.self c.args.address c.args.value
-    c.begin_write-steps.result.0 c.do_parts.result c.begin_write-steps.result.1 c.do_parts.new.kept
+    c.begin_write-steps.result.0 c.do_parts.result c.begin_write-steps.result.1 c.do_parts.new.on
     c.if-not-do_parts.true c.begin_write-steps.ensures.begins (subst (λ t. DoesParts g.D.DriverEnd t
     c.do_parts.new.self (steps_in c.begin_write-steps.result.0)
-    c.do_parts.result c.begin_write-steps.result.1 c.do_parts.new.kept) c.begin_write-steps.ensures.same
+    c.do_parts.result c.begin_write-steps.result.1 c.do_parts.new.on) c.begin_write-steps.ensures.same
     c.do_parts.ensures.parts) bytes
 
 pub returns-clause-done : goal.returns-clause-done
@@ -32,11 +32,11 @@ returns-clause-done g c = λ done.
     let e = c.enter.ensures in
     let bytes : by_bytes c.args.self.now.set.version ≡ true = sym c.requires.may.may.bytes ∙ c.requires.bytes in
     write_done g.D.DriverEnd c.args.self.now c.do_parts.new.self c.enter.new.self c.args.address c.args.value
-    c.begin_write-steps.result.0 c.do_parts.result c.begin_write-steps.result.1 c.do_parts.new.kept
+    c.begin_write-steps.result.0 c.do_parts.result c.begin_write-steps.result.1 c.do_parts.new.on c.answer.result
     c.if-not-do_parts.false c.begin_write-steps.ensures.begins (subst (λ t. DoesParts g.D.DriverEnd t
     c.do_parts.new.self (steps_in c.begin_write-steps.result.0)
-    c.do_parts.result c.begin_write-steps.result.1 c.do_parts.new.kept) c.begin_write-steps.ensures.same
-    c.do_parts.ensures.parts) (e.rest, e.done, e.room) bytes
+    c.do_parts.result c.begin_write-steps.result.1 c.do_parts.new.on) c.begin_write-steps.ensures.same
+    c.do_parts.ensures.parts) (e.rest, e.done, e.room) c.answer.ensures bytes
 
 -- the gate let the write go, and then the last of its deeds, or it quit
 pub returns-then-not-lets_go-clause-answered : goal.returns-then-not-lets_go-clause-answered
