@@ -23,7 +23,7 @@ _sja() {
     done
     mapfile -t COMPREPLY < <(compgen -W "$(_sja_words "$command" "$place")" -- "$current")
     case $command in
-    run | wave | trace | frames | candump | check | sweep | plan)
+    run | wave | trace | frames | candump | check | sweep | registers | plan)
         compopt -o filenames 2>/dev/null
         [[ $current == -* ]] || mapfile -t -O "${#COMPREPLY[@]}" COMPREPLY < <(compgen -f -- "$current")
         ;;
@@ -32,10 +32,10 @@ _sja() {
 
 # _sja_words COMMAND PLACE: the words that may stand behind this command and so many arguments
 _sja_words() {
-    local commands="encode decode filter arbitrate message run wave trace frames picture candump check sweep plan live help"
+    local commands="encode decode filter arbitrate message run wave trace frames picture candump check sweep registers plan live help"
     case $1 in
     '') echo "$commands -h --help -V --version" ;;
-    encode | decode | arbitrate | message | plan | live) echo "-h --help" ;;
+    encode | decode | arbitrate | message | registers | plan | live) echo "-h --help" ;;
     run) echo "--threads --jobs --expect -h --help" ;;
     wave) echo "--threads --jobs -h --help" ;;
     frames) echo "--bits --threads --jobs -h --help" ;;

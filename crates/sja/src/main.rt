@@ -85,6 +85,7 @@ fn is_of_plan(task: &Task<'_>) -> bool {
         | Task::Check { .. }
         | Task::Sweep(_)
         | Task::StruckPlan { .. }
+        | Task::Registers { .. }
         | Task::Plan => true,
         Task::Expected(words) => words.plan == "-",
         Task::Files(files) => files.names.iter().any(|name| *name == "-"),

@@ -13,6 +13,7 @@ pub mod Document
 pub mod Limits
 pub mod Plan
 pub mod Struck
+pub mod Shorter
 pub mod Growing
 pub mod Checks
 pub mod Faults

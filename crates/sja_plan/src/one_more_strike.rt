@@ -26,7 +26,7 @@ impl Plan {
     ///
     /// Errors, the first that holds, and nothing changed: [`PlanFault::StrikeCount`] where the plan's strikes strike as
     /// many bits already as they may in its version; [`PlanFault::Memory`] where memory was refused.
-    pub fn strike(&mut self, node: u8, bit: u32) -> Result<(), PlanFault>
+    pub fn strike(&mut self, node: u8, bit: u64) -> Result<(), PlanFault>
         requires { node < length self.old.nodes }
         ensures struck { OnOk result (self.new ≡ struck_at self.old node bit) }
         ensures left { OnOk result (times_in self.old.strikes < most_strikes self.old.version) }
@@ -70,7 +70,7 @@ impl Plan {
             ⊎ ((fault ≡ StrikeCount) × (most_strikes self.now.version ≤ times_in self.now.strikes))) }
     {
         let mut plan = self.copy(alloc)?;
-        plan.strike(node, bit)?;
+        plan.strike(node, u64::from(bit))?;
         Ok(plan)
     }
 

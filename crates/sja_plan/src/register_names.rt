@@ -1,8 +1,8 @@
 //! The registers by their names (SJA1000 data sheet, 6.4.1, PeliCAN address layout). No other file has such a name.
 
-ghost use Rattle.std.specs.Prelude.{◌≡◌};
+ghost use Rattle.std.specs.Prelude.{◌≡◌, map, reverse, option_map};
 ghost use Rattle.std.specs.Str.{str_eq_ignore_ascii_case};
-ghost use Rattle.sja_plan.specs.RegisterNames.{register_address};
+ghost use Rattle.sja_plan.specs.RegisterNames.{name_in, name_read, register_address};
 
 /// The names of the registers, with their addresses. From 16 on stand the acceptance filter, in reset mode, and the
 /// transmit buffer (`TX`) and the receive buffer (`RX`), out of it.
@@ -69,6 +69,44 @@ pub fn register_address(name: &str) -> Option<u8>
         }
     }
     None
+}
+
+/// The name of what is read at an address: from 16 on in reset mode that of the acceptance filter, and out of it that
+/// of the receive buffer.
+pub fn name_read(reset: bool, address: u8) -> Option<&'static str>
+    ensures { option_map (λ name. name.now) result ≡ name_read reset address }
+{
+    if reset {
+        first_name_in(&REGISTERS, address)
+    } else {
+        last_name_in(&REGISTERS, address)
+    }
+}
+
+/// The first name of an address in these rows.
+fn first_name_in(rows: &'static [(&'static str, u8)], address: u8) -> Option<&'static str>
+    ensures { option_map (λ name. name.now) result ≡ name_in (map (λ r. (r.0.now, r.1)) rows.now) address }
+{
+    for row in rows {
+        if row.1 == address {
+            return Some(row.0);
+        }
+    }
+    None
+}
+
+/// The last one.
+fn last_name_in(rows: &'static [(&'static str, u8)], address: u8) -> Option<&'static str>
+    ensures { option_map (λ name. name.now) result
+        ≡ name_in (reverse (map (λ r. (r.0.now, r.1)) rows.now)) address }
+{
+    let mut name = None;
+    for row in rows {
+        if row.1 == address {
+            name = Some(row.0);
+        }
+    }
+    name
 }
 
 /// Whether two names are the same, in either case.

@@ -62,7 +62,7 @@ fn strike_at(
     ) {
         (Ok(node), Ok(bit), Ok(every), Ok(times)) => Ok(Strike {
             node,
-            bit,
+            bit: bit as u64,
             every,
             times,
         }),

@@ -124,5 +124,5 @@ pub fn has_strike_text(strike: &Strike) -> bool
         every,
         times,
     } = *strike;
-    bit <= GREATEST_NUMBER && every <= GREATEST_NUMBER && times <= GREATEST_NUMBER
+    bit <= (GREATEST_NUMBER as u64) && every <= GREATEST_NUMBER && times <= GREATEST_NUMBER
 }

@@ -30,6 +30,16 @@ impl Port {
         value.ok_or(RegFault::NoRegister)
     }
 
+    /// What [`read`](Port::read) would answer now, if a register stands there that can be read. Nothing is cleared.
+    pub fn peek(&self, addr: u8, seen: &BufferView) -> Option<u8>
+        ensures { result ≡ value_at self.now seen.now (register_at self.now.mode.rm addr) }
+    {
+        match Register::at(addr, self.registers.mode.rm) {
+            Some(register) => self.value(register, seen),
+            None => None,
+        }
+    }
+
     /// What a register reads as.
     fn value(&self, register: Register, seen: &BufferView) -> Option<u8>
         requires { IsPlace register }

@@ -2,6 +2,7 @@
 use Rattle.std.specs.Prelude.{◌≡◌, ◌⊎◌, ◌<◌, ℕ, Bool, true, false, List, Option, Some, None, Result, Ok, Err, map}
 use Rattle.std.specs.Io.KnownBytes.{Appends, Keeps}
 use Rattle.sja_words.specs.Requests.{Request, encode, decode, filter, arbitrate, message, run, wave, trace, frames}
+use Rattle.sja_words.specs.Requests.{registers}
 use Rattle.sja_words.specs.Requests.{picture, candump, check, sweep, struck_plan, spelled_plan, expected, files, live}
 use Rattle.sja_texts.specs.declared.command_refusal.CommandRefusal.{CommandRefusal}
 use Rattle.sja_texts.specs.declared.command_refusal.CommandRefusal.TheVariants as refusal
@@ -17,6 +18,7 @@ use Rattle.sja_run.specs.Input.{ReadsFew, RefusesInput}
 use Rattle.sja_run.specs.PlanDocument.{IsInputSpelled, RefusesInputSpelled}
 use Rattle.sja_run.specs.Run.{IsOfPlan, RefusesBy, RefusesText}
 use Rattle.sja_run.specs.RunText.{IsTextOfRun, MayFault}
+use Rattle.sja_run.specs.Registers.{IsTold, RefusesRegisters}
 use Rattle.sja_run.specs.Sweep.{IsStruck, IsSwept, RefusesOfPlan, RefusesStruck, RefusesSwept}
 use Rattle.sja_run.specs.declared.further_task.FurtherTask.{FurtherTask}
 use Rattle.sja_run.specs.declared.further_task.FurtherTask.TheVariants.{Threads, Files, Expected, Talk}
@@ -25,8 +27,8 @@ use Rattle.sja_run.specs.declared.run_text.RunText.{RunText}
 use Rattle.sja_run.specs.declared.run_text.RunText.TheVariants.{Report, Wave, Trace, Frames, Picture, Drawing, Candump}
 use Rattle.sja_run.specs.declared.thread_task.ThreadTask.TheVariants.{Text, Sweep}
 
--- a plan is asked about: a text of its run, whether it is one, its sweep, or the plan as it is written, with a strike
--- more or without; or plans that stand in files; or a session is driven. For these alone the input is read
+-- a plan is asked about: a text of its run, whether it is one, its sweep, its registers, or the plan as it is written,
+-- with a strike more or without; or plans that stand in files; or a session is driven. Else the input isn't read
 abbrev pub AsksForRun : Request → Type 0
 AsksForRun (run threads) = Unit {0}
 AsksForRun (wave threads) = Unit {0}
@@ -37,6 +39,7 @@ AsksForRun (candump errors threads) = Unit {0}
 AsksForRun (check strict) = Unit {0}
 AsksForRun (sweep w) = Unit {0}
 AsksForRun (struck_plan node bit) = Unit {0}
+AsksForRun (registers bit) = Unit {0}
 AsksForRun spelled_plan = Unit {0}
 AsksForRun (expected threads plan report) = Unit {0}
 AsksForRun (files asked jobs names) = Unit {0}
@@ -119,6 +122,7 @@ IsPrinted (candump errors threads) before after text = IsOfPlan (IsTextOfRun thr
 IsPrinted (check strict) before after text = HasHints before after text × IsFine strict text
 IsPrinted (sweep w) before after text = IsOfPlan (IsSwept w) before after text
 IsPrinted (struck_plan node bit) before after text = IsOfPlan (IsStruck node bit) before after text
+IsPrinted (registers bit) before after text = IsOfPlan (IsTold bit) before after text
 IsPrinted spelled_plan before after text = IsInputSpelled before after text
 IsPrinted (expected threads plan report) before after text = ⊥
 IsPrinted (files asked jobs names) before after text = ⊥
@@ -141,6 +145,7 @@ IsRefused (candump errors threads) before after r = RefusesBy (MayFault threads)
 IsRefused (check strict) before after r = RefusesInput before after r
 IsRefused (sweep w) before after r = RefusesOfPlan (RefusesSwept w) before after r
 IsRefused (struck_plan node bit) before after r = RefusesOfPlan (RefusesStruck node bit) before after r
+IsRefused (registers bit) before after r = RefusesOfPlan (RefusesRegisters bit) before after r
 IsRefused spelled_plan before after r = RefusesInputSpelled before after r
 IsRefused (expected threads plan report) before after r = (r ≡ refusal.OutOfMemory) × ReadsFew before after
 IsRefused (files asked jobs names) before after r = (r ≡ refusal.OutOfMemory) × ReadsFew before after

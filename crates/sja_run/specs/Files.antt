@@ -19,6 +19,7 @@ use Rattle.sja_run.specs.Input.{IsRead, IsReadFrom, RefusesInput}
 use Rattle.sja_run.specs.PlanDocument.{IsSpelling, RefusesSpelling}
 use Rattle.sja_run.specs.Run.{RefusesRunPlan}
 use Rattle.sja_run.specs.RunText.{IsTextOfRun, MayFault}
+use Rattle.sja_run.specs.Registers.{IsTold, RefusesRegisters}
 use Rattle.sja_run.specs.Sweep.{IsStruck, IsSwept, RefusesStruck, RefusesSwept}
 use Rattle.sja_run.specs.declared.file_outcome.FileOutcome.{FileOutcome}
 use Rattle.sja_run.specs.declared.file_outcome.FileOutcome.TheVariants.{Printed, Told, Mistaken, Refused, Unreadable}
@@ -45,6 +46,7 @@ IsAnswer (question.Candump errors threads) bytes text = IsTextIn threads (Candum
 IsAnswer (question.Sweep w) bytes text = IsTextFor (IsSwept w) bytes text
 IsAnswer (question.StruckPlan node bit) bytes text = IsTextFor (IsStruck node bit) bytes text
 IsAnswer (question.Check strict) bytes text = IsHinted bytes text × IsFine strict text
+IsAnswer (question.Registers bit) bytes text = IsTextFor (IsTold bit) bytes text
 IsAnswer question.Plan bytes text = IsSpelling bytes text
 
 -- why there is no text of a run of that plan. Memory may be refused at any time. Else the bytes have this first fault,
@@ -78,6 +80,7 @@ IsUnanswered (question.Candump errors threads) bytes r = RefusesBytes threads by
 IsUnanswered (question.Sweep w) bytes r = RefusesTextFor (RefusesSwept w) bytes r
 IsUnanswered (question.StruckPlan node bit) bytes r = RefusesTextFor (RefusesStruck node bit) bytes r
 IsUnanswered (question.Check strict) bytes r = r ≡ refusal.OutOfMemory
+IsUnanswered (question.Registers bit) bytes r = RefusesTextFor (RefusesRegisters bit) bytes r
 IsUnanswered question.Plan bytes r = RefusesSpelling bytes r
 
 -- it is `check`

@@ -3,6 +3,7 @@ pub mod RunText
 pub mod Run
 pub mod Check
 pub mod Sweep
+pub mod Registers
 pub mod PlanDocument
 pub mod Answer
 pub mod Live

@@ -12,6 +12,7 @@ use Rattle.sja_texts.specs.declared.command_refusal.CommandRefusal.{CommandRefus
 use Rattle.sja_texts.specs.declared.command_refusal.CommandRefusal.TheVariants as refusal
 use Rattle.sja_texts.specs.declared.sweep_refusal.SweepRefusal.{SweepRefusal}
 use Rattle.sja_texts.specs.declared.sweep_refusal.SweepRefusal.TheVariants.{NoNode, TooMany, StrikeCount, Bit, TooLong}
+use Rattle.sja_texts.specs.declared.sweep_refusal.SweepRefusal.TheVariants.{NoBit}
 use Rattle.sja_run.specs.Input.{IsRead}
 use Rattle.sja_run.specs.Run.{RefusesRun}
 
@@ -41,6 +42,7 @@ RefusesSwept w plan (TooMany runs bits) = IsRefused plan (sweeping_of w) runs bi
 RefusesSwept w plan StrikeCount = HasNoRoom plan (sweeping_of w)
 RefusesSwept w plan Bit = ⊥
 RefusesSwept w plan TooLong = ⊥
+RefusesSwept w plan (NoBit bits) = ⊥
 
 -- ---- the plan with a strike more
 
@@ -62,6 +64,7 @@ RefusesStruck node bit plan StrikeCount =
 RefusesStruck node bit plan TooLong =
     NamesBit node bit plan × (times_in plan.strikes < most_strikes plan.version) × IsTooLong (struck_at plan node bit)
 RefusesStruck node bit plan (TooMany runs bits) = ⊥
+RefusesStruck node bit plan (NoBit bits) = ⊥
 
 -- ---- of the plan on the input
 

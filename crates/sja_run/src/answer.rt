@@ -7,6 +7,7 @@ ghost use Rattle.sja_run.specs.Inside.Answers.{AsksForText};
 ghost use Rattle.sja_run.specs.Inside.Denials.{IsDenied};
 
 use super::plan_document::spelled_input;
+use super::registers::registers;
 use super::run_text::{RunText, picture_or_drawing};
 use super::serial_text::written;
 use super::struck_plan::struck;
@@ -45,6 +46,7 @@ pub(crate) fn printed<R: Read>(
         Task::Message(text) => Ok(translated(alloc, text)?),
         Task::Sweep(words) => told_sweep(alloc, words, input),
         Task::StruckPlan { node, bit } => struck(alloc, node, bit, input),
+        Task::Registers { bit } => registers(alloc, bit, input),
         Task::Plan => spelled_input(alloc, input),
         of_run => written(alloc, text_asked(&of_run), input),
     }

@@ -14,6 +14,7 @@ use super::check::said_of;
 use super::file_outcome::FileOutcome;
 use super::plan_check::PlanCheck;
 use super::plan_document::spelled;
+use super::registers::registers_in;
 use super::run_plan::plan_in;
 use super::run_text::RunText;
 use super::serial_text::written_of;
@@ -149,6 +150,7 @@ fn printed_of<T: Threads + Wait + Sync>(
         }
         PlanQuestion::Sweep(words) => swept_in(rt, alloc, words, bytes),
         PlanQuestion::StruckPlan { node, bit } => struck_in(alloc, node, bit, bytes),
+        PlanQuestion::Registers { bit } => registers_in(alloc, bit, bytes),
         PlanQuestion::Plan => spelled(alloc, bytes),
         PlanQuestion::Check { .. } => unreachable!(),
     }

@@ -33,6 +33,7 @@ mod output;
 mod plan_check;
 mod plan_document;
 mod program;
+mod registers;
 mod report_place;
 mod run_plan;
 mod run_text;

@@ -12,3 +12,4 @@ pub mod AccountsNow
 pub mod Ended
 pub mod Whole
 pub mod Struck
+pub mod RowsAdded

@@ -3,3 +3,4 @@ pub mod Going
 pub mod Rounds
 pub mod Turning
 pub mod Accessing
+pub mod Registering

@@ -10,5 +10,6 @@ pub mod Accounts
 -- ---- its end
 pub mod Ending
 pub mod Keeping
+pub mod Registers
 -- ---- definitions of private contracts alone
 pub mod Inside

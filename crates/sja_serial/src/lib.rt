@@ -1,6 +1,7 @@
 //! Whole runs in one thread: drivers and bus take turns as a plan says.
 //!
-//! [`run_serial`] runs a plan and gives the log of the run, with all that is promised of it.
+//! [`run_serial`] runs a plan and gives the log of the run, with all that is promised of it, and [`run_registers`] what
+//! the registers of each node read as at its end.
 //!
 //! A [`SerialRun`] has the bus, and of each node its port, its links and its driver with the log of what it did.
 //! [`SerialRun::new`] makes it; it takes a step of a node ([`SerialRun::step`]), and turns of the bus
@@ -13,7 +14,7 @@
 //! `specs/Serial.antt`: of each node its driver did these deeds; its links carried what its journal and its deeds say;
 //! its port is as its writes and loads have set it; and all was in time, as `IsInTime` of sja_log has it.
 //!
-//! `SerialRun::new`, `SerialRun::strike` and `SerialRun::finish` alone take memory.
+//! `SerialRun::new`, `SerialRun::strike`, `SerialRun::finish` and the two that run plans alone take memory.
 #![tactic(auto)]
 
 mod accessing;
@@ -26,6 +27,7 @@ mod looking;
 mod node_turns;
 mod place_names;
 mod placing;
+mod registers;
 mod run;
 mod serial_run;
 mod stepping;
@@ -33,5 +35,6 @@ mod striking;
 mod until_told;
 mod writing;
 
+pub use registers::run_registers;
 pub use run::run_serial;
 pub use serial_run::SerialRun;

@@ -3,7 +3,7 @@
 use super::serial_run::SerialRun;
 use sja_driver::LoggedDriver;
 use sja_link::first_link;
-use sja_regs::Port;
+use sja_regs::{BufferView, Port};
 
 impl SerialRun {
     ghost use Rattle.std.specs.Prelude.{◌≡◌, ◌<◌, length, slice_index_or};
@@ -66,6 +66,33 @@ impl SerialRun {
         let _ = self.bus.bits_run();
     }
 
+    /// What a read of the registers of a node, counted from 0, sees of the messages now. All that has come for its
+    /// driver is taken in first. That is no step, and no bit is run.
+    #[inline(always)]
+    pub(crate) fn seen(&mut self, node: u8) -> BufferView
+        ghost setup: { Setup }
+        requires run { IsRunOf setup self.old }
+        requires node { node < setup.nodes }
+        ensures seen { (deeds : List (List Deed)) → StandsAt setup self.old deeds → result
+            ≡ seen_now (is_active (deeds_at deeds node)) (journal_at self.old.bus.journals node) (deeds_at deeds node) }
+        ensures stands { (deeds : List (List Deed)) → StandsAt setup self.old deeds →
+            StandsAt setup self.new deeds }
+        ensures by { (accesses : List (List Access)) → StandsBy setup self.old accesses →
+            StandsBy setup self.new accesses }
+        ensures bus { self.new.bus ≡ self.old.bus }
+        ensures ports { self.new.ports ≡ self.old.ports }
+        ensures bits { self.new.bits ≡ self.old.bits }
+        ensures kept { (m : ℕ) (d : Logged) → m < length self.old.drivers →
+            kept_of (slice_index_or self.new.drivers m d) ≡ kept_of (slice_index_or self.old.drivers m d) }
+    {
+        let index = usize::from(node);
+        if index >= self.drivers.len() || self.bus.bits_run() != self.bits {
+            unreachable!()
+        }
+        let links = self.links.as_mut_slice();
+        self.drivers[index].seen(links, first_link(index))
+    }
+
     /// Whether the interrupt line of a node, counted from 0, is active: some bit of IR is 1, as a read of it would
     /// answer now (SJA1000 data sheet, 6.4.6). All that has come for its driver is taken in first. That is no step: it
     /// clears nothing, and no bit is run.
@@ -86,12 +113,7 @@ impl SerialRun {
         ensures kept { (m : ℕ) (d : Logged) → m < length self.old.drivers →
             kept_of (slice_index_or self.new.drivers m d) ≡ kept_of (slice_index_or self.old.drivers m d) }
     {
-        let index = usize::from(node);
-        if index >= self.drivers.len() || self.bus.bits_run() != self.bits {
-            unreachable!()
-        }
-        let links = self.links.as_mut_slice();
-        let port = &self.board.ports[index];
-        self.drivers[index].irq(links, first_link(index), port)
+        let seen = self.seen(node);
+        self.port(usize::from(node)).irq(&seen)
     }
 }

@@ -42,7 +42,7 @@ pub fn run_serial(alloc: Global, plan: &Plan) -> Result<RunLog, RunFault>
 /// A run of this plan to which nothing happened.
 ///
 /// Error: [`OutOfMemory`] where memory was refused.
-fn new_run(alloc: Global, plan: &Plan) -> Result<SerialRun, OutOfMemory>
+pub(crate) fn new_run(alloc: Global, plan: &Plan) -> Result<SerialRun, OutOfMemory>
     ensures stands { IfOk result (λ r. StandsIn plan.now r (replicate (length plan.now.nodes) [])) }
     ensures bus { IfOk result (λ r. r.bus ≡ new_bus plan.now.strikes plan.now.bits (length plan.now.nodes)
         (map (most_deeds plan.now.version) (step_counts plan.now))) }
@@ -54,7 +54,7 @@ fn new_run(alloc: Global, plan: &Plan) -> Result<SerialRun, OutOfMemory>
 }
 
 /// Takes the turns of a plan, one after the other, and says why the run ends: all are done, or the bits were spent.
-fn take_turns(run: &mut SerialRun, plan: &Plan) -> End
+pub(crate) fn take_turns(run: &mut SerialRun, plan: &Plan) -> End
     requires stands { StandsIn plan.now run.old (replicate (length plan.now.nodes) []) }
     requires bus { run.old.bus ≡ new_bus plan.now.strikes plan.now.bits (length plan.now.nodes)
         (map (most_deeds plan.now.version) (step_counts plan.now)) }

@@ -44,9 +44,9 @@ impl SerialRun {
     ghost use Rattle.sja_serial.specs.Serial.{StandsBy, setup_with};
 
     /// A run to which nothing happened, by the rules of this version of the model, for so many bits, 1 to 2^62, with
-    /// these strikes: of as many nodes, 1 to 8, as numbers of steps are given, each at most 2^56, with room for so many
-    /// steps of the driver of each. All its room is made here. A run that is made for more than its lists keep
-    /// ([`KEPT`](sja_link::KEPT)) forgets what is oldest, and takes no memory for it.
+    /// these strikes: of as many nodes, 1 to 8, as numbers of steps are given, each at most 2^56, as all numbers of 32
+    /// bits are, with room for so many steps of the driver of each. All its room is made here. A run that is made for
+    /// more than its lists keep ([`KEPT`](sja_link::KEPT)) forgets what is oldest, and takes no memory for it.
     ///
     /// Error: [`OutOfMemory`] where memory was refused.
     pub fn new(

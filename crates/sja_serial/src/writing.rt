@@ -1,9 +1,9 @@
 //! A write of a driver that knows addresses and bytes alone: most are one deed, some are two or three.
 
 use super::serial_run::SerialRun;
-use sja_driver::{KeptBytes, is_start, is_stop, is_typed_write, steps_of_write, written_command};
+use sja_driver::{Written, is_start, is_stop, is_typed_write, steps_of_write, written_command};
 use sja_regs::address::{CMR, MOD};
-use sja_script::{Step, StepAnswer};
+use sja_script::Step;
 
 impl SerialRun {
     ghost use Rattle.std.specs.Prelude.{◌≡◌, List, true, ◌∷◌, []};
@@ -87,11 +87,11 @@ impl SerialRun {
         ensures { (accesses : List (List Access)) → StandsBy setup self.old accesses →
             DoesStep setup self.old self.new node (Write address value) accesses }
     {
-        let mut kept = self.kept_by_step(node, &Step::Write(address, value));
+        let mut written = self.begin_write(node, address, value);
         match self.deed(node, step) {
             Some(answer) => {
-                kept.answered(&answer);
-                self.enter(node, StepAnswer::Done, kept);
+                written.answered(&answer);
+                self.enter(node, written.answer(), written.kept);
             }
             None => unreachable!(),
         }
@@ -104,7 +104,7 @@ impl SerialRun {
     ghost use Rattle.sja_driver.specs.Deeds.{Deed};
     ghost use Rattle.sja_driver.specs.WriteLists.{IsPromptIf};
     ghost use Rattle.sja_script.specs.declared.step.Step.TheVariants.{Write};
-    ghost use Rattle.sja_serial.specs.Inside.Accessing.{DoesDeeds, DoesPart};
+    ghost use Rattle.sja_serial.specs.Inside.Accessing.{BeginsWrite, DoesDeeds, DoesPart};
     ghost use Rattle.sja_serial.specs.Serial.{Setup, SerialValue, StandsBy, IsRunBy};
     ghost use Rattle.sja_serial.specs.Stepping.{DoesStep, HasDeedLeft, HasRoomLeft};
 
@@ -123,32 +123,44 @@ impl SerialRun {
         let place = usize::from(node);
         let port = &self.board.ports[place];
         let steps = steps_of_write(&self.drivers[place], port, address, value);
-        let kept = self.kept_by_step(node, &Step::Write(address, value));
-        let kept = self.part(node, &steps.first, kept);
-        let kept = self.part(node, &steps.second, kept);
-        let kept = self.part(node, &steps.third, kept);
-        self.enter(node, StepAnswer::Done, kept);
+        let written = self.begin_write(node, address, value);
+        let written = self.part(node, &steps.first, written);
+        let written = self.part(node, &steps.second, written);
+        let written = self.part(node, &steps.third, written);
+        self.enter(node, written.answer(), written.kept);
     }
 
-    /// The next part of such a write, if there is one, and what is kept after it.
+    /// A write as it begins, by the registers that it finds.
     #[inline(always)]
-    fn part(&mut self, node: u8, part: &Option<Step>, kept: KeptBytes) -> KeptBytes
+    fn begin_write(&self, node: u8, address: u8, value: u8) -> Written
+        requires driver { node < length self.now.drivers }
+        requires port { node < length self.now.ports }
+        ensures { BeginsWrite self.now node address value result }
+    {
+        let place = usize::from(node);
+        let kept = self.drivers[place].kept();
+        Written::begin(&self.board.ports[place], kept, address, value)
+    }
+
+    /// The next part of such a write, if there is one, and how the write goes on by it.
+    #[inline(always)]
+    fn part(&mut self, node: u8, part: &Option<Step>, on: Written) -> Written
         ghost setup: { Setup }
         requires prompt { IsPromptIf part.now }
         requires room { HasDeedLeft setup self.old node }
         ensures { (was : SerialValue) (accesses : List (List Access)) (more : List Deed) →
             StandsBy setup was accesses → DoesDeeds setup was self.old node accesses more →
             length (deeds_in (accesses_at accesses node)) + length more < slice_index_or setup.steps node 0 →
-            DoesPart setup was self.new node accesses more part.now kept result }
+            DoesPart setup was self.new node accesses more part.now on result }
     {
         let Some(step) = part else {
-            return kept;
+            return on;
         };
         match self.deed(node, step) {
             Some(answer) => {
-                let mut kept = kept;
-                kept.answered(&answer);
-                kept
+                let mut written = on;
+                written.answered(&answer);
+                written
             }
             None => unreachable!(),
         }

@@ -8,3 +8,4 @@ pub mod Decode
 pub mod Filter
 pub mod Arbitrate
 pub mod Notation
+pub mod RegistersText

@@ -63,7 +63,7 @@ run_fault_text run.Thread = codes "run fault 4 Thread"
 run_fault_text run.Unsettled = codes "run fault 5 Unsettled"
 
 -- why there is no sweep, or no plan with a strike more: of too many runs, how many they are, and how many bits they may
--- come to
+-- come to. Or why there are no registers after a bit: how many bits the plan has
 abbrev pub sweep_refusal_text : SweepRefusal → List ℕ
 sweep_refusal_text sweep.NoNode = codes "sweep fault 1 NoNode"
 sweep_refusal_text (sweep.TooMany runs bits) =
@@ -72,6 +72,8 @@ sweep_refusal_text (sweep.TooMany runs bits) =
 sweep_refusal_text sweep.StrikeCount = codes "sweep fault 3 StrikeCount"
 sweep_refusal_text sweep.Bit = codes "sweep fault 4 Bit"
 sweep_refusal_text sweep.TooLong = codes "sweep fault 5 TooLong"
+sweep_refusal_text (sweep.NoBit bits) =
+    codes "registers fault 1 NoBit: the plan has " ++ (decimal bits ++ codes " bits")
 
 -- each refusal's own text
 abbrev pub refusal_text : CommandRefusal → List ℕ

@@ -1,8 +1,8 @@
 //! What the program `sja` writes of one frame, of one line and of frames that contend, and of each refusal.
 //!
 //! [`encoded`], [`decoded`], [`filtered`], [`arbitrated`] and [`translated`] make the texts of five commands from the
-//! texts of their arguments. A [`CommandRefusal`] says why a request has no answer, and shows as the text that the
-//! program writes of it.
+//! texts of their arguments, and [`registers_told`] that of registers. A [`CommandRefusal`] says why a request has no
+//! answer, and shows as the text that the program writes of it.
 #![tactic(auto)]
 
 mod arbitrate;
@@ -15,6 +15,7 @@ mod line_text;
 mod message;
 mod notation;
 mod plan_fault_text;
+mod registers;
 mod sweep_refusal;
 
 pub use arbitrate::arbitrated;
@@ -23,4 +24,5 @@ pub use decode::decoded;
 pub use encode::encoded;
 pub use filter::filtered;
 pub use notation::translated;
+pub use registers::registers_told;
 pub use sweep_refusal::SweepRefusal;

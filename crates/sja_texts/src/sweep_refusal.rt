@@ -1,9 +1,9 @@
-//! [`SweepRefusal`]: why there is no sweep of a plan that was read, or no plan with a strike more.
+//! [`SweepRefusal`]: why there is no sweep of a plan that was read, no plan with a strike more, or no such bit.
 
 use std::fmt;
 
-/// Why there is no sweep of a plan that was read, or no plan with a strike more. It shows as the text that the program
-/// writes of it (this project's own rule).
+/// Why there is no sweep of a plan that was read, no plan with a strike more, or no such bit. It shows as the text that
+/// the program writes of it (this project's own rule).
 #[derive(Clone, Copy, Debug, PartialEq, Eq)]
 pub enum SweepRefusal {
     /// The plan doesn't have the node that is named.
@@ -17,6 +17,8 @@ pub enum SweepRefusal {
     Bit,
     /// The document of the plan with a strike more has more bytes than one of its version may.
     TooLong,
+    /// Of `registers`: the plan has no bit of this number, but so many bits.
+    NoBit(u32),
 }
 
 impl fmt::Display for SweepRefusal {
@@ -35,6 +37,10 @@ impl fmt::Display for SweepRefusal {
             SweepRefusal::StrikeCount => f.write_str("sweep fault 3 StrikeCount"),
             SweepRefusal::Bit => f.write_str("sweep fault 4 Bit"),
             SweepRefusal::TooLong => f.write_str("sweep fault 5 TooLong"),
+            SweepRefusal::NoBit(bits) => write!(
+                f,
+                "registers fault 1 NoBit: the plan has {bits} bits"
+            ),
         }
     }
 }

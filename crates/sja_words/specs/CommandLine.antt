@@ -200,6 +200,10 @@ told_app =
 unfoldable pub sweep_app : App
 sweep_app = and_rule (and_rule (and_rule told_app (number_rule (codes "jobs") 1 64)) strike_rule) file_rule
 
+-- `registers B FILE`
+unfoldable pub registers_app : App
+registers_app = and_rule (and_rule (bare_app (codes "registers")) (bit_rule (codes "B"))) file_rule
+
 -- those and the commands over the run of a plan: `run` and `wave`
 unfoldable pub plan_app : App
 plan_app =
@@ -214,6 +218,10 @@ story_app =
 unfoldable pub view_app : App
 view_app = and_app (and_app story_app picture_app) candump_app
 
--- the whole: those, `check`, `sweep`, `plan` and `live`
+-- those and the commands that judge it: `check` and `sweep`
+unfoldable pub judge_app : App
+judge_app = and_app (and_app view_app check_app) sweep_app
+
+-- the whole: those, `registers`, `plan` and `live`
 unfoldable pub sja_app : App
-sja_app = and_app (and_app (and_app (and_app view_app check_app) sweep_app) spelled_app) live_app
+sja_app = and_app (and_app (and_app judge_app registers_app) spelled_app) live_app

@@ -68,6 +68,10 @@ expected_in rows =
 abbrev pub is_expected : Text → List Row → Bool
 is_expected name rows = bytes_eq name (codes "run") && is_some (first_of (codes "expect") rows)
 
+-- what `registers` asks of a plan, by the last bit that is run, if one is given
+abbrev pub registers_in : List Row → Option PlanQuestion
+registers_in rows = option_map (λ bit. question.Registers bit) (optional_in 9999999 (first_of (codes "B") rows))
+
 -- the question that a subcommand of this name asks of plans, by the values of its arguments; none with `--expect`
 abbrev pub question_in : Text → List Row → Option PlanQuestion
 question_in name rows =
@@ -78,6 +82,7 @@ question_in name rows =
     else if bytes_eq name (codes "candump") then
     Some (question.Candump (flag_in (first_of (codes "errors") rows)) (flag_in (first_of (codes "threads") rows)))
     else if bytes_eq name (codes "sweep") then sweep_in rows
+    else if bytes_eq name (codes "registers") then registers_in rows
     else text_question name (flag_in (first_of (codes "threads") rows))
 
 -- what a question asks for, by the names of files and the number of plans at one time: of each plan in the files that

@@ -3,7 +3,7 @@ use Rattle.std.specs.Prelude.{ℕ, Bool, List, map, Option}
 use Rattle.sja_words.specs.declared.task.Task.{Task}
 use Rattle.sja_words.specs.declared.task.Task.TheVariants.{Encode, Decode, Filter, Arbitrate, Message, Run, Wave}
 use Rattle.sja_words.specs.declared.task.Task.TheVariants.{Trace, Frames, Picture, Candump, Check, Sweep, StruckPlan}
-use Rattle.sja_words.specs.declared.task.Task.TheVariants.{Plan, Expected, Files, Live}
+use Rattle.sja_words.specs.declared.task.Task.TheVariants.{Registers, Plan, Expected, Files, Live}
 use Rattle.sja_words.specs.declared.plan_question.PlanQuestion.{PlanQuestion}
 use Rattle.sja_words.specs.declared.plan_question.PlanQuestion.TheVariants as question
 use Rattle.sja_words.specs.declared.sweep_words.SweepWords.{SweepWords}
@@ -24,6 +24,7 @@ pub data Request : Type 0 where
   check : Bool → Request
   sweep : SweepWords → Request
   struck_plan : ℕ → ℕ → Request
+  registers : Option ℕ → Request
   spelled_plan : Request
   expected : Bool → List ℕ → List ℕ → Request
   files : PlanQuestion → ℕ → List (List ℕ) → Request
@@ -47,6 +48,7 @@ request_of (Files w) = files w.question w.jobs (map (λ name. name.now) w.names.
 request_of Live = live
 request_of (Sweep asked_for) = sweep asked_for
 request_of (StruckPlan node bit) = struck_plan node bit
+request_of (Registers bit) = registers bit
 request_of Plan = spelled_plan
 request_of (Expected w) = expected w.threads w.plan.now w.report.now
 
@@ -60,4 +62,5 @@ request_about (question.Frames bits threads) = frames bits threads
 request_about (question.Candump errors threads) = candump errors threads
 request_about (question.Sweep w) = sweep w
 request_about (question.StruckPlan node bit) = struck_plan node bit
+request_about (question.Registers bit) = registers bit
 request_about question.Plan = spelled_plan

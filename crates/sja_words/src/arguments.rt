@@ -109,6 +109,13 @@ pub(crate) const LAST: ArgumentRow<'static> = ArgumentRow {
     help: "The last bit that is drawn",
 };
 
+/// `B`.
+pub(crate) const BIT: ArgumentRow<'static> = ArgumentRow {
+    name: "B",
+    takes: Takes::Bit,
+    help: "The last bit that is run, counted from 0; else all are",
+};
+
 /// `--svg`.
 pub(crate) const SVG: ArgumentRow<'static> = ArgumentRow {
     name: "svg",

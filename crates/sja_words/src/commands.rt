@@ -5,7 +5,7 @@ ghost use Rattle.sja_words.specs.CommandLine.{empty_app, sja_app};
 ghost use Rattle.sja_words.specs.Inside.Table.{with_apps};
 
 use super::arguments::{
-    ACR, AMR, BITS, CHANGED, DRAW, ERRORS, EXPECT, FILE, FILES, FILES_JOBS, FIRST, FROM, JOBS,
+    ACR, AMR, BIT, BITS, CHANGED, DRAW, ERRORS, EXPECT, FILE, FILES, FILES_JOBS, FIRST, FROM, JOBS,
     LAST, LINE, LOST, MESSAGE, MESSAGES, MODE, ONLY, PAIRS, ROWS, STRICT, STRIKE, STUCK, SVG, TEXT,
     THREADS, TO, TWICE, YES,
 };
@@ -89,6 +89,11 @@ const COMMANDS: &[CommandRow<'static>] = &[
         arguments: &[FILES, FILES_JOBS, STRICT],
     },
     SWEEP,
+    CommandRow {
+        name: "registers",
+        about: "Print what the registers of each node read as after a bit of such a run",
+        arguments: &[BIT, FILE],
+    },
     CommandRow {
         name: "plan",
         about: "Print the plan on standard input in the one way in which plans are written",

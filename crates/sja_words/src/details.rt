@@ -5,7 +5,7 @@ const FILES_SAID: &str = "- is standard input; a name that begins with - stands 
 Of several, each text has a line file NAME before it, in the order of names.
 A file that can't be read has sja: can't read NAME, and the others are done.";
 
-/// Of `trace`, `plan` and `sweep`.
+/// Of `trace`, `plan`, `registers` and `sweep`.
 const FILE_SAID: &str = "- is standard input; a name that begins with - stands behind --.";
 
 /// Of `check`.
@@ -59,7 +59,7 @@ const LIVE_SAID: &str = "Lines:
 pub(crate) fn details_of(name: &str) -> Option<&'static str> {
     match name {
         "run" | "wave" | "frames" | "candump" => Some(FILES_SAID),
-        "trace" | "plan" | "sweep" => Some(FILE_SAID),
+        "trace" | "plan" | "registers" | "sweep" => Some(FILE_SAID),
         "check" => Some(CHECK_SAID),
         "picture" => Some(PICTURE_SAID),
         "encode" | "arbitrate" | "message" => Some(MESSAGE_SAID),

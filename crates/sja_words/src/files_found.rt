@@ -69,6 +69,7 @@ fn task_about<'a>(question: PlanQuestion) -> Task<'a>
         PlanQuestion::Candump { errors, threads } => Task::Candump { errors, threads },
         PlanQuestion::Sweep(words) => Task::Sweep(words),
         PlanQuestion::StruckPlan { node, bit } => Task::StruckPlan { node, bit },
+        PlanQuestion::Registers { bit } => Task::Registers { bit },
         PlanQuestion::Plan => Task::Plan,
     }
 }

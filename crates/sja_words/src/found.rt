@@ -11,6 +11,7 @@ use super::expected_found::expected_task;
 use super::files_found::plan_task;
 use super::picture_found::picture_task;
 use super::plan_question::PlanQuestion;
+use super::registers_found::registers_question;
 use super::sweep_found::sweep_question;
 use super::task::Task;
 use arrayvec::ArrayVec;
@@ -68,6 +69,7 @@ fn question_of<'a>(name: &str, arguments: &ArgMatches<'a>) -> Option<PlanQuestio
             threads: flag_at(arguments, "threads"),
         }),
         "sweep" => sweep_question(arguments),
+        "registers" => registers_question(arguments),
         of_run => text_question(of_run, flag_at(arguments, "threads")),
     }
 }

@@ -4,13 +4,13 @@ ghost use Rattle.std.specs.Prelude.{◌≡◌, ◌==◌, ◌<◌, ◌≤◌, ◌
 ghost use Rattle.sja_words.specs.Values.{HasNoFlag};
 ghost use Rattle.sja_words.specs.Requests.{Request, arbitrate, decode, encode, filter, message, candump, check};
 ghost use Rattle.sja_words.specs.Requests.{expected, files, frames, live, picture, run, spelled_plan, struck_plan};
-ghost use Rattle.sja_words.specs.Requests.{sweep, trace, wave};
+ghost use Rattle.sja_words.specs.Requests.{registers, sweep, trace, wave};
 ghost use Rattle.sja_words.specs.Sweeping.{all_swept};
 ghost use Rattle.sja_words.specs.Words.{ParsesAs, faults};
 ghost use Rattle.clap.specs.declared.error.kind.ErrorKind.TheVariants.{DisplayVersion};
 ghost use Rattle.sja_words.specs.declared.plan_question.PlanQuestion.TheVariants.{Candump, Check, Frames, Plan};
 ghost use Rattle.sja_words.specs.declared.plan_question.PlanQuestion.TheVariants.{Report, StruckPlan, Sweep, Trace};
-ghost use Rattle.sja_words.specs.declared.plan_question.PlanQuestion.TheVariants.{Wave};
+ghost use Rattle.sja_words.specs.declared.plan_question.PlanQuestion.TheVariants.{Registers, Wave};
 
 /// The program's name, `encode` and a text that doesn't begin with `-` (45) ask for the levels of this message.
 pub fn encode_and_a_text_parse()
@@ -157,6 +157,17 @@ pub fn check_parses()
     ensures files { (name : List ℕ) (names : List (List ℕ)) → HasNoFlag names
         → 1 ≤ length names → length names < 2 ^ 64
         → ParsesAs (name ∷ codes "check" ∷ names) (files (Check false) 1 names) }
+{}
+
+/// The program's name and `registers` ask what the registers of each node read as at the end of that plan's run, or
+/// after the bit that is named; with one name behind it of the plan in this file. A bit past 9,999,999 is none.
+pub fn registers_parses()
+    ensures all { (name : List ℕ) → ParsesAs (name ∷ codes "registers" ∷ []) (registers None) }
+    ensures bit { (name : List ℕ) → ParsesAs (name ∷ codes "registers" ∷ codes "75" ∷ []) (registers (Some 75)) }
+    ensures file { (name : List ℕ) → ParsesAs (name ∷ codes "registers" ∷ codes "75" ∷ codes "a" ∷ [])
+        (files (Registers (Some 75)) 1 (codes "a" ∷ [])) }
+    ensures past { (name : List ℕ) (r : Request)
+        → ¬ ParsesAs (name ∷ codes "registers" ∷ codes "10000000" ∷ []) r }
 {}
 
 /// The program's name and `plan` ask for the plan on the input as it is written; with one name behind them for the plan

@@ -21,6 +21,7 @@ mod parsing;
 mod picture_found;
 mod plan_question;
 mod refused_text;
+mod registers_found;
 mod sweep_found;
 mod sweep_words;
 mod takes;
@@ -33,7 +34,8 @@ pub use laws::{
     a_message_is_needed, a_struck_plan_parses, arbitrate_and_texts_parse, candump_parses,
     check_parses, decode_and_a_text_parse, encode_and_a_text_parse, expected_parses,
     filter_and_texts_parse, frames_parses, live_parses, message_and_a_text_parses, picture_parses,
-    plan_parses, run_parses, sweep_parses, trace_parses, version_is_asked_for, wave_parses,
+    plan_parses, registers_parses, run_parses, sweep_parses, trace_parses, version_is_asked_for,
+    wave_parses,
 };
 pub use parsing::parse;
 pub use plan_question::PlanQuestion;

@@ -48,6 +48,11 @@ pub enum PlanQuestion {
         /// The bit that is struck, counted from 0, at most 9,999,999.
         bit: u32,
     },
+    /// `registers B`: what the registers of each node read as after a bit of its run.
+    Registers {
+        /// The bit, counted from 0, at most 9,999,999: the last one that is run. Without it all are.
+        bit: Option<u32>,
+    },
     /// `plan`: the plan, as it is written.
     Plan,
 }

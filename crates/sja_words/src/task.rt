@@ -87,6 +87,11 @@ pub enum Task<'a> {
         /// The bit that is struck, counted from 0, at most 9,999,999.
         bit: u32,
     },
+    /// `registers B`: what the registers of each node read as after a bit of the run of the plan on the input.
+    Registers {
+        /// The bit, counted from 0, at most 9,999,999: the last one that is run. Without it all are.
+        bit: Option<u32>,
+    },
     /// `plan`: the plan on the input, as it is written.
     Plan,
     /// `run --expect FILE`: whether the report of a run is the one in this file.

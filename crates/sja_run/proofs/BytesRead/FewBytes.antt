@@ -5,6 +5,7 @@ use Rattle.std.specs.Io.KnownBytes.{Consumes}
 use Rattle.std.proofs.KnownBytes.{Consumes-nil, Consumes-trans}
 use Rattle.sja_plan.specs.Plan.{PlanValue}
 use Rattle.sja_words.specs.Requests.{Request, encode, decode, filter, arbitrate, message, run, wave, trace, frames}
+use Rattle.sja_words.specs.Requests.{registers}
 use Rattle.sja_words.specs.Requests.{picture, candump, check, sweep, struck_plan, spelled_plan, expected, files, live}
 use Rattle.sja_words.specs.Words.{ParsesAs}
 use Rattle.sja_log.specs.declared.run_fault.RunFault.{RunFault}
@@ -19,6 +20,7 @@ use Rattle.sja_run.specs.Input.{most_read, ReadsFew, RefusesInput}
 use Rattle.sja_run.specs.PlanDocument.{RefusesInputSpelled}
 use Rattle.sja_run.specs.Run.{IsOfPlan, RefusesBy, RefusesRun, RefusesText}
 use Rattle.sja_run.specs.RunText.{IsTextOfRun, MayFault}
+use Rattle.sja_run.specs.Registers.{IsTold, RefusesRegisters}
 use Rattle.sja_run.specs.Sweep.{IsStruck, IsSwept, RefusesOfPlan, RefusesStruck, RefusesSwept}
 use Rattle.sja_run.specs.declared.thread_task.ThreadTask.{ThreadTask}
 use Rattle.sja_run.specs.declared.run_text.RunText.{RunText}
@@ -215,6 +217,7 @@ few_printed (check strict) before after text (inl asks) printed = few_hinted bef
 few_printed (sweep w) before after text (inl asks) printed = few_of (IsSwept w) before after text printed
 few_printed (struck_plan node bit) before after text (inl asks) printed =
     few_of (IsStruck node bit) before after text printed
+few_printed (registers bit) before after text (inl asks) printed = few_of (IsTold bit) before after text printed
 few_printed spelled_plan before after text (inl asks) printed = (printed.0, printed.1.0, printed.1.1)
 few_printed (expected threads plan report) before after text (inl asks) printed = absurd printed
 few_printed (files asked jobs names) before after text (inl asks) printed = absurd printed
@@ -245,6 +248,8 @@ few_turned_down (check strict) before after why (inl asks) refused = few_uncheck
 few_turned_down (sweep w) before after why (inl asks) refused = few_of_none (RefusesSwept w) before after why refused
 few_turned_down (struck_plan node bit) before after why (inl asks) refused =
     few_of_none (RefusesStruck node bit) before after why refused
+few_turned_down (registers bit) before after why (inl asks) refused =
+    few_of_none (RefusesRegisters bit) before after why refused
 few_turned_down spelled_plan before after why (inl asks) refused = few_unspelled before after why refused
 few_turned_down (expected threads plan report) before after why (inl asks) refused = refused.1
 few_turned_down (files asked jobs names) before after why (inl asks) refused = refused.1

@@ -6,7 +6,7 @@ use Rattle.std.specs.Borrow.{Bor}
 use Rattle.std.specs.List.{AllZip}
 use Rattle.sja_words.specs.declared.plan_question.PlanQuestion.{PlanQuestion}
 use Rattle.sja_words.specs.declared.plan_question.PlanQuestion.TheVariants.{Candump, Check, Frames, Plan, Report}
-use Rattle.sja_words.specs.declared.plan_question.PlanQuestion.TheVariants.{StruckPlan, Sweep, Trace, Wave}
+use Rattle.sja_words.specs.declared.plan_question.PlanQuestion.TheVariants.{Registers, StruckPlan, Sweep, Trace, Wave}
 use Rattle.sja_texts.specs.declared.command_refusal.CommandRefusal.TheVariants.{OutOfMemory}
 use Rattle.sja_run.specs.Files.{AreOutcomes, IsOutcome, IsUnanswered, IsUnread}
 use Rattle.sja_run.specs.Inside.FileReads.{AreReads, ComeOf, ComesOf, IsReadOf, Settles, all_refused}
@@ -43,6 +43,7 @@ unanswered (Candump errors threads) bytes = tt
 unanswered (Sweep w) bytes = tt
 unanswered (StruckPlan node bit) bytes = tt
 unanswered (Check strict) bytes = refl
+unanswered (Registers bit) bytes = tt
 unanswered Plan bytes = tt
 
 -- and whatever was read

@@ -11,6 +11,7 @@ use Rattle.sja_plan_text.specs.HasTexts.{HasStrikeText, HasTexts}
 use Rattle.sja_plan_text.specs.Written.{IsPlanText, IsTooLong}
 use Rattle.sja_texts.specs.declared.sweep_refusal.SweepRefusal.{SweepRefusal}
 use Rattle.sja_texts.specs.declared.sweep_refusal.SweepRefusal.TheVariants.{NoNode, TooMany, StrikeCount, Bit, TooLong}
+use Rattle.sja_texts.specs.declared.sweep_refusal.SweepRefusal.TheVariants.{NoBit}
 use Rattle.sja_texts.specs.declared.command_refusal.CommandRefusal.{CommandRefusal}
 use Rattle.sja_texts.specs.declared.command_refusal.CommandRefusal.TheVariants as refusal
 use Rattle.sja_run.specs.Files.{RefusesTextFor}
@@ -117,6 +118,7 @@ long_refused node bit plan struck (refusal.Sweep NoNode) there low room is h = a
 long_refused node bit plan struck (refusal.Sweep (TooMany runs bits)) there low room is h = absurd h
 long_refused node bit plan struck (refusal.Sweep StrikeCount) there low room is h = absurd h
 long_refused node bit plan struck (refusal.Sweep Bit) there low room is h = absurd h
+long_refused node bit plan struck (refusal.Sweep (NoBit bits)) there low room is h = absurd h
 long_refused node bit plan struck refusal.Read there low room is h = absurd h
 long_refused node bit plan struck (refusal.Plan fault) there low room is h = absurd h
 long_refused node bit plan struck (refusal.Place number) there low room is h = absurd h

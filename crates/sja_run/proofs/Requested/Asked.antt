@@ -1,6 +1,7 @@
 -- What is done of a request, by what is done of one of its kind.
 use Rattle.std.proofs.Common.{◌≡◌, ℕ, Bool, List, Option, Some, refl}
 use Rattle.sja_words.specs.Requests.{Request, encode, decode, filter, arbitrate, message, run, wave, trace, frames}
+use Rattle.sja_words.specs.Requests.{registers}
 use Rattle.sja_words.specs.Requests.{picture, candump, check, sweep, struck_plan, spelled_plan, expected, files, live}
 use Rattle.sja_words.specs.declared.plan_question.PlanQuestion.{PlanQuestion}
 use Rattle.sja_run.specs.Answer.{AsksForOne, Shows}
@@ -33,6 +34,7 @@ module _ (Holds : List ℕ → Option (List ℕ) → Type 0) (status : ℕ)
   shows_asked (check strict) one of_files expects talks = one tt
   shows_asked (sweep w) one of_files expects talks = one tt
   shows_asked (struck_plan node bit) one of_files expects talks = one tt
+  shows_asked (registers bit) one of_files expects talks = one tt
   shows_asked spelled_plan one of_files expects talks = one tt
   shows_asked (expected threads plan report) one of_files expects talks = expects threads plan report refl
   shows_asked (files asked jobs names) one of_files expects talks = of_files asked jobs names refl
@@ -56,6 +58,7 @@ module _ (Holds : List ℕ → Option (List ℕ) → Type 0) (status : ℕ)
   one_asked (check strict) plain shows = shows
   one_asked (sweep w) plain shows = shows
   one_asked (struck_plan node bit) plain shows = shows
+  one_asked (registers bit) plain shows = shows
   one_asked spelled_plan plain shows = shows
   one_asked (expected threads plan report) plain shows = absurd plain
   one_asked (files asked jobs names) plain shows = absurd plain

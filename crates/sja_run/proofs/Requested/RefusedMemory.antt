@@ -1,6 +1,7 @@
 -- Refused memory is a refusal of each request.
 use Rattle.std.proofs.Common.{List, ℕ, Option, refl, inl, inr}
 use Rattle.sja_words.specs.Requests.{Request, encode, decode, filter, arbitrate, message, run, wave, trace, frames}
+use Rattle.sja_words.specs.Requests.{registers}
 use Rattle.sja_words.specs.Requests.{picture, candump, check, sweep, struck_plan, spelled_plan, expected, files, live}
 use Rattle.sja_run.specs.Answer.{IsRefused}
 use Rattle.sja_run.specs.Input.{ReadsFew}
@@ -23,6 +24,7 @@ memory_refused (candump errors threads) before after few = few
 memory_refused (check strict) before after few = few
 memory_refused (sweep w) before after few = few
 memory_refused (struck_plan node bit) before after few = few
+memory_refused (registers bit) before after few = few
 memory_refused spelled_plan before after few = inl few
 memory_refused (expected threads plan report) before after few = (refl, few)
 memory_refused (files asked jobs names) before after few = (refl, few)

@@ -3,6 +3,7 @@ use Rattle.std.proofs.Common.{◌≡◌, ◌⊎◌, ℕ, Bool, List, Option, Som
 use Rattle.std.proofs.Math.Decide.{dec_lt}
 use Rattle.std.specs.Io.KnownBytes.{Keeps}
 use Rattle.sja_words.specs.Requests.{Request, encode, decode, filter, arbitrate, message, run, wave, trace, frames}
+use Rattle.sja_words.specs.Requests.{registers}
 use Rattle.sja_words.specs.Requests.{picture, candump, check, sweep, struck_plan, spelled_plan, expected, files, live}
 use Rattle.sja_words.specs.Words.{ParsesAs}
 use Rattle.sja_texts.specs.declared.command_refusal.CommandRefusal.TheVariants.{OutOfMemory}
@@ -47,6 +48,7 @@ is_left_over (candump errors false) = inr (λ asks. asks)
 is_left_over (check strict) = inr (λ asks. asks)
 is_left_over (sweep w) = elim (dec_lt 1 w.jobs) [ yes more ↦ inl more | no not ↦ inr not ]
 is_left_over (struck_plan node bit) = inr (λ asks. asks)
+is_left_over (registers bit) = inr (λ asks. asks)
 is_left_over spelled_plan = inr (λ asks. asks)
 is_left_over (expected threads plan report) = inl tt
 is_left_over (files asked jobs names) = inl tt

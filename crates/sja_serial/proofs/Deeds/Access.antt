@@ -20,6 +20,7 @@ use Rattle.sja_script.specs.declared.step_answer.StepAnswer.{StepAnswer}
 use Rattle.sja_script.specs.declared.step_answer.StepAnswer.TheVariants.{Done as DoneAnswer, Value}
 use Rattle.sja_driver.specs.declared.kept_bytes.KeptBytes.{KeptBytes}
 use Rattle.sja_driver.specs.declared.logged_driver.LoggedDriver.{LoggedDriver}
+use Rattle.sja_driver.specs.declared.written.Written.{Written}
 use Rattle.sja_driver.specs.Accesses.{Access, Answers, IsOneDeed, accesses_at, by_bytes, deed_steps, deeds_in}
 use Rattle.sja_driver.specs.Accesses.{kept_by, kept_written}
 use Rattle.sja_driver.specs.Answers.{value_answer}
@@ -30,14 +31,17 @@ use Rattle.sja_driver.specs.WriteLists.{IsPrompt, listed}
 use Rattle.sja_log.specs.Waiting.{HasToWait}
 use Rattle.sja_driver.specs.Reads.{raw_value}
 use Rattle.sja_driver.specs.Writes.{write_steps}
+use Rattle.sja_driver.specs.Ignoring.{write_answer}
+use Rattle.sja_driver.specs.Written.{written_by}
 use Rattle.sja_regs.specs.Addresses.{register_at}
 use Rattle.sja_regs.specs.Reading.{or_no_register, value_at}
 use Rattle.sja_regs.specs.Registers.{at_power_on}
 use Rattle.sja_driver.specs.Kept.{moved_by_answer}
 use Rattle.sja_driver.specs.LoggedDrivers.{kept_of, log_of}
+use Rattle.sja_driver.proofs.Bytes.Writing.{ignored_then, kept_then, written_both}
 use Rattle.sja_driver.proofs.OneNode.Slices.{no_deeds}
 use Rattle.sja_log.specs.Registering.{AccessesLeadTo, seen_now}
-use Rattle.sja_serial.specs.Inside.Accessing.{DoesDeeds, DoesPart, Enters}
+use Rattle.sja_serial.specs.Inside.Accessing.{DoesDeeds, DoesPart, Enters, written_first}
 use Rattle.sja_serial.specs.Serial.{Setup, SerialValue, StandsAt, StandsBy, all_deeds, most_steps}
 use Rattle.sja_serial.specs.Stepping.{DoesDeed, DoesNothing, DoesStep, HasDeedLeft, HasRoomLeft, WaitsFor}
 use Rattle.sja_serial.proofs.Deeds.Parts.{all_at, deeds_then, no_deeds_yet, one_deed_more}
@@ -167,24 +171,25 @@ module _ {setup : Setup} {was : SerialValue} {accesses : List (List Access)} {no
           (seen_now (is_active before_it) (journal_at was.bus.journals node) before_it) answer) is told)
 
   -- a write of such a driver, whose deeds these are
-  pub done_as_write : {mid now : SerialValue} {address value : ℕ} {kept : KeptBytes} (deeds : List Deed) →
-      DoesDeeds setup was mid node accesses deeds → Enters mid now node DoneAnswer kept →
-      (place_of (journal_at was.bus.journals node)).bits ≡ was.bits → by_bytes setup.version ≡ true →
+  pub done_as_write : {mid now : SerialValue} {address value : ℕ} {answer : StepAnswer} (deeds : List Deed)
+      (w : Written) → DoesDeeds setup was mid node accesses deeds → Enters mid now node answer w.kept →
+      answer ≡ write_answer w.ignored → (place_of (journal_at was.bus.journals node)).bits ≡ was.bits →
+      by_bytes setup.version ≡ true →
       ((p : Registers) → map (λ (d : Deed). d.step) deeds
       ≡ write_steps (slice_index_or was.ports node p) (is_active before) address value) →
-      ((x : LoggedDriver) (p : Registers) → kept ≡ kept_by (kept_written (slice_index_or was.ports node p)
-      (kept_of (slice_index_or was.drivers node x)) (Write address value)) deeds) →
+      ((x : LoggedDriver) (p : Registers) → w ≡ written_by (written_first was node address value x p) deeds) →
       DoesStep setup was now node (Write address value) accesses
-  done_as_write {address = address} {value} deeds does e place bytes steps left =
+  done_as_write {address = address} {value} {answer} deeds w does e told place bytes steps is =
       step_done h there (let a : Access = record {
         step = Write address value;
-        answer = DoneAnswer;
+        answer = answer;
         bits = was.bits;
         deeds = deeds;
       } in a) does refl e place refl (λ x p. record {
         steps = rw bytes (steps p);
-        answer = rw bytes refl;
-        left = left x p;
+        answer = rw bytes (told ∙ ap (λ (v : Written). write_answer v.ignored) (is x p)
+            ∙ ap write_answer (ignored_then (written_first was node address value x p) deeds));
+        left = ap (λ (v : Written). v.kept) (is x p) ∙ kept_then (written_first was node address value x p) deeds;
       })
 
   -- a wait for a bit that has run, of such a driver
@@ -329,10 +334,6 @@ few_listed deeds part is =
     one_listed None = omega arith
     one_listed (Some s) = omega arith
 
-kept_both : (kept : KeptBytes) (xs ys : List Deed) → kept_by kept (xs ++ ys) ≡ kept_by (kept_by kept xs) ys
-kept_both kept [] ys = refl
-kept_both kept (d ∷ xs) ys = kept_both (moved_by_answer kept d.answer) xs ys
-
 module _ {setup : Setup} {was : SerialValue} {accesses : List (List Access)} {node : ℕ}
     (h : StandsBy setup was accesses)
     (room : HasRoomLeft setup was node) (bytes : by_bytes setup.version ≡ true) where
@@ -340,15 +341,15 @@ module _ {setup : Setup} {was : SerialValue} {accesses : List (List Access)} {no
       < slice_index_or setup.steps node 0
   few_first = let t = (deeds_left h room).1 bytes in omega (arith, t)
 
-  pub few_second : {now : SerialValue} {first : Option Step} {was_kept kept : KeptBytes}
-      (one : DoesPart setup was now node accesses [] first was_kept kept) →
+  pub few_second : {now : SerialValue} {first : Option Step} {begun one_on : Written}
+      (one : DoesPart setup was now node accesses [] first begun one_on) →
       length (deeds_in (accesses_at accesses node)) + length one.deeds < slice_index_or setup.steps node 0
   few_second {first = first} one =
       let t = (deeds_left h room).1 bytes in let l = few_listed one.deeds first one.steps in omega (arith, t, l)
 
-  pub few_third : {mid now : SerialValue} {first second : Option Step} {was_kept kept kept_then : KeptBytes}
-      (one : DoesPart setup was mid node accesses [] first was_kept kept)
-      (two : DoesPart setup was now node accesses one.deeds second kept kept_then) →
+  pub few_third : {mid now : SerialValue} {first second : Option Step} {begun one_on two_on : Written}
+      (one : DoesPart setup was mid node accesses [] first begun one_on)
+      (two : DoesPart setup was now node accesses one.deeds second one_on two_on) →
       length (deeds_in (accesses_at accesses node)) + length (one.deeds ++ two.deeds) < slice_index_or setup.steps
       node 0
   few_third {first = first} {second} one two =
@@ -358,10 +359,10 @@ module _ {setup : Setup} {was : SerialValue} {accesses : List (List Access)} {no
 
 -- all of them, one after the other
 module _ {setup : Setup} {was m1 m2 m3 : SerialValue} {accesses : List (List Access)} {node : ℕ}
-    {first second third : Option Step} {k0 k1 k2 k3 : KeptBytes}
-    (one : DoesPart setup was m1 node accesses [] first k0 k1)
-    (two : DoesPart setup was m2 node accesses one.deeds second k1 k2)
-    (three : DoesPart setup was m3 node accesses (one.deeds ++ two.deeds) third k2 k3) where
+    {first second third : Option Step} {w0 w1 w2 w3 : Written}
+    (one : DoesPart setup was m1 node accesses [] first w0 w1)
+    (two : DoesPart setup was m2 node accesses one.deeds second w1 w2)
+    (three : DoesPart setup was m3 node accesses (one.deeds ++ two.deeds) third w2 w3) where
   pub all_steps : map (λ (d : Deed). d.step) ((one.deeds ++ two.deeds) ++ three.deeds)
       ≡ listed first ++ (listed second ++ listed third)
   all_steps =
@@ -370,7 +371,7 @@ module _ {setup : Setup} {was m1 m2 m3 : SerialValue} {accesses : List (List Acc
       ∙ (λ i. (one.steps i ++ two.steps i) ++ three.steps i)
       ∙ append_assoc (listed first) (listed second) (listed third)
 
-  pub all_kept : k3 ≡ kept_by k0 ((one.deeds ++ two.deeds) ++ three.deeds)
-  all_kept =
-      three.left ∙ ap (λ k. kept_by k three.deeds) (two.left ∙ ap (λ k. kept_by k two.deeds) one.left
-      ∙ sym (kept_both k0 one.deeds two.deeds)) ∙ sym (kept_both k0 (one.deeds ++ two.deeds) three.deeds)
+  pub all_written : w3 ≡ written_by w0 ((one.deeds ++ two.deeds) ++ three.deeds)
+  all_written =
+      three.left ∙ ap (λ w. written_by w three.deeds) (two.left ∙ ap (λ w. written_by w two.deeds) one.left
+      ∙ sym (written_both w0 one.deeds two.deeds)) ∙ sym (written_both w0 (one.deeds ++ two.deeds) three.deeds)

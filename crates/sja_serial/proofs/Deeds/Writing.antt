@@ -9,35 +9,33 @@ use Rattle.sja_regs.specs.Registers.{at_power_on}
 use Rattle.sja_script.specs.declared.step.Step.{Step}
 use Rattle.sja_script.specs.declared.step.Step.TheVariants.{Write}
 use Rattle.sja_script.specs.declared.step_answer.StepAnswer.{StepAnswer}
-use Rattle.sja_script.specs.declared.step_answer.StepAnswer.TheVariants.{Done as DoneAnswer}
-use Rattle.sja_driver.specs.declared.kept_bytes.KeptBytes.{KeptBytes}
 use Rattle.sja_driver.specs.declared.logged_driver.LoggedDriver.{LoggedDriver}
-use Rattle.sja_driver.specs.Accesses.{Access, by_bytes, kept_written}
+use Rattle.sja_driver.specs.declared.written.Written.{Written}
+use Rattle.sja_driver.specs.Accesses.{Access, by_bytes}
 use Rattle.sja_driver.specs.Deeds.{with_deeds}
-use Rattle.sja_driver.specs.Kept.{moved_by_answer}
-use Rattle.sja_driver.specs.LoggedDrivers.{kept_of}
+use Rattle.sja_driver.specs.Ignoring.{write_answer}
 use Rattle.sja_driver.specs.Writes.{write_steps}
+use Rattle.sja_driver.specs.Written.{written_then}
 use Rattle.sja_driver.proofs.Bytes.OtherWrites.{others_so}
-use Rattle.sja_serial.specs.Inside.Accessing.{Enters, IsSteps}
+use Rattle.sja_serial.specs.Inside.Accessing.{Enters, IsSteps, written_first}
 use Rattle.sja_serial.specs.Serial.{Setup, SerialValue, StandsBy, all_deeds}
 use Rattle.sja_serial.specs.Stepping.{DoesDeed, DoesStep}
 use Rattle.sja_serial.proofs.Deeds.Access.{done_as_write}
 use Rattle.sja_serial.proofs.Deeds.Parts.{no_deeds_yet, one_deed_more}
 
 module _ {setup : Setup} {was mid now : SerialValue} {accesses : List (List Access)} {node address value : ℕ}
-    {s : Step} {answer : StepAnswer} {kept : KeptBytes} (h : StandsBy setup was accesses) (there : node < setup.nodes)
+    {s : Step} {answer told : StepAnswer} (w : Written) (h : StandsBy setup was accesses) (there : node < setup.nodes)
     (d : DoesDeed setup was mid node s answer (with_deeds (all_deeds accesses) node []))
-    (e : Enters mid now node DoneAnswer kept) where
-  pub done_as_one : by_bytes setup.version ≡ true → IsSteps setup was node address value (s ∷ []) →
-      ((x : LoggedDriver) (p : Registers) → kept ≡ moved_by_answer (kept_written (slice_index_or was.ports node p)
-      (kept_of (slice_index_or was.drivers node x)) (Write address value)) answer) →
+    (e : Enters mid now node told w.kept) where
+  pub done_as_one : told ≡ write_answer w.ignored → by_bytes setup.version ≡ true →
+      IsSteps setup was node address value (s ∷ []) →
+      ((x : LoggedDriver) (p : Registers) → w ≡ written_then (written_first was node address value x p) answer) →
       DoesStep setup was now node (Write address value) accesses
-  done_as_one bytes one moved =
-      done_as_write h there (d.deed ∷ []) (one_deed_more there h (no_deeds_yet there h) d) e
+  done_as_one told_is bytes one on =
+      done_as_write h there (d.deed ∷ []) w (one_deed_more there h (no_deeds_yet there h) d) e told_is
       (sym (d.port (at_power_on 1)).now ∙ d.does.at_once 0 d.deed (omega arith)) bytes
       (λ p. ap (λ (t : Step). t ∷ []) d.step_is ∙ sym (one accesses h p))
-      (λ x p. moved x p ∙ ap (moved_by_answer (kept_written (slice_index_or was.ports node p)
-      (kept_of (slice_index_or was.drivers node x)) (Write address value))) (sym d.answer_is))
+      (λ x p. on x p ∙ ap (written_then (written_first was node address value x p)) (sym d.answer_is))
 
 -- a write that is another one of a typed driver is one of CMR or of MOD
 pub of_mode : (p : Registers) (address value : ℕ) → ((out : Bool) → write_steps p out address value

@@ -11,7 +11,6 @@ use Rattle.sja_wire.specs.Lawful.{IsBusRun}
 use Rattle.sja_wire.specs.Wire.{journal_at}
 use Rattle.sja_wire.specs.Buses.{BusValue}
 use Rattle.sja_regs.specs.declared.registers.Registers.{Registers}
-use Rattle.sja_regs.specs.InterruptLine.{is_line_active}
 use Rattle.sja_script.specs.declared.step.Step.TheVariants.{Read}
 use Rattle.sja_driver.specs.declared.any_driver.AnyDriver.{AnyDriver}
 use Rattle.sja_driver.specs.declared.any_driver.AnyDriver.TheVariants.{InReset, InActive}
@@ -138,7 +137,7 @@ module _ {setup : Setup} {bus : BusValue} {drivers : List LoggedDriver} {ports :
     journal_in : i < length bus.journals
     journal_in = let c = h.count.journals in omega (arith, c, there)
 
-    seen_is : (p : Registers) → seen_by (driver_of now) ≡ seen_now (is_active ds) j ds
+    pub seen_is : (p : Registers) → seen_by (driver_of now) ≡ seen_now (is_active ds) j ds
     seen_is p = by (driver_of was) (driver_of now) (stood p).traced.traces.out (observed.observes no_link no_link) refl
       where
         by : (w n : AnyDriver) → is_active ds ≡ is_out w →
@@ -165,8 +164,3 @@ module _ {setup : Setup} {bus : BusValue} {drivers : List LoggedDriver} {ports :
             }) in
             sym (seen_shown j ds (Read 0) (off_of n) (held_of n) tt shown)
             ∙ ap (λ b. seen_now b j ds) (sym out)
-
-    pub line_is : (p port : Registers) → port ≡ slice_index_or ports i p →
-        is_line_active port (seen_by (driver_of now))
-        ≡ is_line_active (slice_index_or ports i p) (seen_now (is_active ds) j ds)
-    line_is p port is = λ t. is_line_active (is t) (seen_is p t)

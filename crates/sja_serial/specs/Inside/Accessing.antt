@@ -7,12 +7,14 @@ use Rattle.sja_script.specs.declared.step.Step.{Step}
 use Rattle.sja_script.specs.declared.step_answer.StepAnswer.{StepAnswer}
 use Rattle.sja_driver.specs.declared.kept_bytes.KeptBytes.{KeptBytes}
 use Rattle.sja_driver.specs.declared.logged_driver.LoggedDriver.{LoggedDriver}
-use Rattle.sja_driver.specs.Accesses.{Access, accesses_at, deeds_in, kept_by}
+use Rattle.sja_driver.specs.declared.written.Written.{Written}
+use Rattle.sja_driver.specs.Accesses.{Access, accesses_at, deeds_in}
 use Rattle.sja_driver.specs.Deeds.{Deed, is_active, with_deeds}
 use Rattle.sja_driver.specs.LoggedDrivers.{kept_of, log_of}
 use Rattle.sja_driver.specs.Logs.{done_in, done_room}
 use Rattle.sja_driver.specs.WriteLists.{listed}
 use Rattle.sja_driver.specs.Writes.{write_steps}
+use Rattle.sja_driver.specs.Written.{written_at, written_by}
 use Rattle.sja_log.specs.Registering.{LeadOn}
 use Rattle.sja_serial.specs.Serial.{Setup, SerialValue, StandsAt, StandsBy, all_deeds}
 
@@ -33,13 +35,22 @@ pub record DoesDeeds (setup : Setup) (was now : SerialValue) (node : ℕ) (acces
   pub kept : (m : ℕ) (d : LoggedDriver) → m < setup.nodes →
       kept_of (slice_index_or now.drivers m d) ≡ kept_of (slice_index_or was.drivers m d)
 
--- of a step that was these deeds so far the next part was done, if there is one, and it left these bytes kept
+-- of a write that was these deeds so far the next part was done, if there is one, and the write went on by it
 pub record DoesPart (setup : Setup) (was now : SerialValue) (node : ℕ) (accesses : List (List Access))
-    (more : List Deed) (part : Option Step) (kept kept_now : KeptBytes) : Type 0 where
+    (more : List Deed) (part : Option Step) (on on_now : Written) : Type 0 where
   pub deeds : List Deed
   pub steps : map (λ (d : Deed). d.step) deeds ≡ listed part
   pub does : DoesDeeds setup was now node accesses (more ++ deeds)
-  pub left : kept_now ≡ kept_by kept deeds
+  pub left : on_now ≡ written_by on deeds
+
+-- such a write as it begins, by the registers of its node and by what is kept for its driver
+abbrev pub written_first : SerialValue → ℕ → ℕ → ℕ → LoggedDriver → Registers → Written
+written_first r node address value d p =
+    written_at (slice_index_or r.ports node p) (kept_of (slice_index_or r.drivers node d)) address value
+
+abbrev pub BeginsWrite : SerialValue → ℕ → ℕ → ℕ → Written → Type 0
+BeginsWrite r node address value written =
+    (d : LoggedDriver) (p : Registers) → written ≡ written_first r node address value d p
 
 -- of a driver that knows addresses and bytes alone a write of this value to this address is these deeds
 abbrev pub IsSteps : Setup → SerialValue → ℕ → ℕ → ℕ → List Step → Type 0

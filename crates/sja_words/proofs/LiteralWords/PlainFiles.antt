@@ -1,9 +1,9 @@
 -- What some words with names of files ask for, by computing the parser's answer.
-use Rattle.std.proofs.Common.{ℕ, List, [], ◌∷◌, codes, refl, false, true}
-use Rattle.sja_words.specs.Requests.{Request, expected, files, spelled_plan}
+use Rattle.std.proofs.Common.{ℕ, List, [], ◌∷◌, Some, None, codes, refl, false, true}
+use Rattle.sja_words.specs.Requests.{Request, expected, files, registers, spelled_plan}
 use Rattle.sja_words.specs.Words.{ParsesAs, asked, faults}
 use Rattle.sja_words.specs.declared.plan_question.PlanQuestion.TheVariants.{Candump, Frames, Plan, Report, StruckPlan}
-use Rattle.sja_words.specs.declared.plan_question.PlanQuestion.TheVariants.{Sweep, Trace, Wave}
+use Rattle.sja_words.specs.declared.plan_question.PlanQuestion.TheVariants.{Registers, Sweep, Trace, Wave}
 use Rattle.sja_words.specs.Sweeping.{all_swept}
 use Rattle.sja_words.proofs.LiteralWords.OnWords.{sja_on_literals}
 
@@ -77,6 +77,26 @@ pub expected_files : (name : List ℕ) (r : Request) →
     ¬ ParsesAs (name ∷ codes "run" ∷ codes "a" ∷ codes "b" ∷ codes "--expect" ∷ codes "r" ∷ []) r
 unfolding sja_on_literals asked
 expected_files name r parses = cc (parses.asks)
+
+-- `registers`, with a bit or without
+pub registers_alone : (name : List ℕ) → ParsesAs (name ∷ codes "registers" ∷ []) (registers None)
+unfolding sja_on_literals asked faults
+registers_alone name = record { taken = refl; asks = refl }
+
+pub registers_bit : (name : List ℕ) → ParsesAs (name ∷ codes "registers" ∷ codes "75" ∷ []) (registers (Some 75))
+unfolding sja_on_literals asked faults
+registers_bit name = record { taken = refl; asks = refl }
+
+-- and one name
+pub registers_file : (name : List ℕ) →
+    ParsesAs (name ∷ codes "registers" ∷ codes "75" ∷ codes "a" ∷ []) (files (Registers (Some 75)) 1 (codes "a" ∷ []))
+unfolding sja_on_literals asked faults
+registers_file name = record { taken = refl; asks = refl }
+
+-- `registers` and a bit that is none
+pub registers_past : (name : List ℕ) (r : Request) → ¬ ParsesAs (name ∷ codes "registers" ∷ codes "10000000" ∷ []) r
+unfolding sja_on_literals faults
+registers_past name r parses = cc (parses.taken)
 
 -- `plan`
 pub plan_alone : (name : List ℕ) → ParsesAs (name ∷ codes "plan" ∷ []) spelled_plan

@@ -1,8 +1,9 @@
 use Rattle.std.proofs.Common.{◌≡◌, false, inl}
 use Rattle.std.proofs.lemmas.Result.{IfOk-weaker, IfErr-weaker}
-use Rattle.sja_words.specs.Requests.{request_of, sweep, struck_plan, spelled_plan}
+use Rattle.sja_words.specs.Requests.{registers, request_of, sweep, struck_plan, spelled_plan}
 use Rattle.sja_run.specs.Answer.{request_for}
 use Rattle.sja_run.specs.PlanDocument.{RefusesInputSpelled}
+use Rattle.sja_run.specs.Registers.{RefusesRegisters}
 use Rattle.sja_run.specs.Sweep.{RefusesOfPlan, RefusesStruck, RefusesSwept}
 use Rattle.sja_run.proofs.Denied.{asked_denied}
 use Rattle.sja_run.proofs.Requested.Requests.{once_printed}
@@ -36,6 +37,15 @@ returns-in-StruckPlan-clause-err g c =
     (λ why has.
     asked_denied (struck_plan node bit) (RefusesOfPlan (RefusesStruck node bit)) _ _ why tt (λ r is. is) has)
     c.struck.ensures.err)
+
+-- the registers after a bit
+pub returns-in-Registers-clause-err : goal.returns-in-Registers-clause-err
+returns-in-Registers-clause-err g c =
+    rw c.in-Registers.is (IfErr-weaker c.registers.result _ _
+    (λ why has.
+    asked_denied (registers c.in-Registers.bit) (RefusesOfPlan (RefusesRegisters c.in-Registers.bit)) _ _ why tt
+    (λ r is. is) has)
+    c.registers.ensures.err)
 
 -- a plan as it is written
 pub returns-in-Plan-clause-err : goal.returns-in-Plan-clause-err

@@ -3,7 +3,7 @@ use Rattle.std.specs.Prelude.{slice_index_or}
 use Rattle.sja_regs.specs.Registers.{at_power_on}
 use Rattle.sja_driver.specs.Deeds.{deeds_at, with_deeds}
 use Rattle.sja_wire.specs.Wire.{journal_at}
-use Rattle.sja_driver.specs.Kept.{moved_by_answer}
+use Rattle.sja_driver.specs.Written.{written_then}
 use Rattle.sja_serial.specs.Serial.{all_deeds}
 use Rattle.sja_driver.specs.WriteLists.{IsPromptIf, listed}
 use Rattle.sja_script.specs.declared.step.Step.{Step}
@@ -29,5 +29,5 @@ returns g c = λ was accesses more h does few.
       deeds = d.deed ∷ [];
       steps = ap (λ (t : Step). t ∷ []) d.step_is ∙ ap listed (sym c.in-Some.is);
       does = one_deed_more there h does d;
-      left = c.answered.ensures ∙ ap (moved_by_answer c.args.kept) (sym d.answer_is);
+      left = c.answered.ensures ∙ ap (written_then c.args.on) (sym d.answer_is);
     }

@@ -3,7 +3,7 @@ use Rattle.std.specs.Prelude.{slice_index_or}
 use Rattle.sja_regs.specs.Registers.{at_power_on}
 use Rattle.sja_wire.specs.Wire.{journal_at}
 use Rattle.sja_driver.specs.Deeds.{deeds_at, with_deeds}
-use Rattle.sja_driver.specs.Kept.{moved_by_answer}
+use Rattle.sja_driver.specs.Written.{written_then}
 use Rattle.sja_serial.specs.Serial.{all_deeds}
 use Rattle.sja_serial.proofs.Deeds.Access.{deed_left, deeds_left, few_at, log_left, never_waits}
 use Rattle.sja_serial.proofs.Deeds.Parts.{fits, no_deeds_yet}
@@ -38,5 +38,6 @@ returns g c = λ accesses h.
     let room = c.requires.1.0 in let none = no_deeds_yet room.there h in let left = (deeds_left h room).0 in
     let d = c.in-Some.ensures.done (with_deeds (all_deeds accesses) c.args.node []) none.stands
     (fits room.there h none (omega (arith, left))) in
-    done_as_one h room.there d c.enter.ensures c.requires.1.1.0 c.requires.1.1.1.1 (λ x p. c.answered.ensures
-    ∙ ap (λ k. moved_by_answer k c.in-Some.answer) (c.kept_by_step-kept.ensures x p))
+    done_as_one c.answered.new.self h room.there d c.enter.ensures c.answer.ensures c.requires.1.1.0 c.requires.1.1.1.1
+    (λ x p. c.answered.ensures
+    ∙ ap (λ w. written_then w c.in-Some.answer) (c.begin_write-written.ensures x p))

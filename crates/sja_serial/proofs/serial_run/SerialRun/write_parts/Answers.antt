@@ -6,12 +6,13 @@ use Rattle.sja_regs.specs.declared.registers.Registers.{Registers}
 use Rattle.sja_regs.specs.Registers.{at_power_on}
 use Rattle.sja_driver.specs.declared.logged_driver.LoggedDriver.{LoggedDriver}
 use Rattle.sja_driver.specs.AnyDrivers.{is_out}
-use Rattle.sja_driver.specs.Accesses.{accesses_at, deeds_in, kept_by}
+use Rattle.sja_driver.specs.Accesses.{accesses_at, deeds_in}
 use Rattle.sja_driver.specs.Deeds.{is_active}
 use Rattle.sja_driver.specs.LoggedDrivers.{driver_of}
 use Rattle.sja_driver.specs.Writes.{write_steps}
+use Rattle.sja_driver.specs.Written.{written_by}
 use Rattle.sja_serial.specs.Serial.{SerialValue, all_deeds}
-use Rattle.sja_serial.proofs.Deeds.Access.{deed_left, few_first, few_second, few_third, all_steps, all_kept}
+use Rattle.sja_serial.proofs.Deeds.Access.{deed_left, few_first, few_second, few_third, all_steps, all_written}
 use Rattle.sja_serial.proofs.Deeds.Access.{done_as_write, log_left, placed}
 use Rattle.sja_serial.proofs.Deeds.Parts.{all_at, has_deed_left, no_deeds_yet}
 use Rattle.sja_serial.proofs.serial_run.SerialRun.write_parts.Goals as goal
@@ -19,47 +20,54 @@ use Rattle.sja_serial.proofs.serial_run.SerialRun.write_parts.Goals as goal
 pub bits_left-requires : goal.bits_left-requires
 bits_left-requires g c = (all_deeds c.requires.0.0, c.requires.0.1.stands)
 
-pub part-kept-requires : goal.part-kept-requires
-part-kept-requires g c = (c.steps_of_write-steps.ensures.prompt.0, deed_left c.requires.0.1 c.requires.1.0)
+pub part-written-requires : goal.part-written-requires
+part-written-requires g c = (c.steps_of_write-steps.ensures.prompt.0, deed_left c.requires.0.1 c.requires.1.0)
 
-pub part-kept-requires-2 : goal.part-kept-requires-2
-part-kept-requires-2 g c =
+pub part-written-requires-2 : goal.part-written-requires-2
+part-written-requires-2 g c =
     let h = c.requires.0.1 in let room = c.requires.1.0 in let bytes = c.requires.1.1 in let there = room.there in
-    let one = c.part-kept.ensures c.args.self.now c.requires.0.0 [] h (no_deeds_yet there h) (few_first h room bytes) in
+    let one = c.part-written.ensures c.args.self.now c.requires.0.0 [] h (no_deeds_yet there h)
+    (few_first h room bytes) in
     (c.steps_of_write-steps.ensures.prompt.1, has_deed_left there h one.does (few_second h room bytes one))
 
-pub part-kept-requires-3 : goal.part-kept-requires-3
-part-kept-requires-3 g c =
+pub part-written-requires-3 : goal.part-written-requires-3
+part-written-requires-3 g c =
     let h = c.requires.0.1 in let room = c.requires.1.0 in let bytes = c.requires.1.1 in let there = room.there in
-    let one = c.part-kept.ensures c.args.self.now c.requires.0.0 [] h (no_deeds_yet there h) (few_first h room bytes) in
-    let two = c.part-kept-2.ensures c.args.self.now c.requires.0.0 one.deeds h one.does (few_second h room bytes one) in
+    let one = c.part-written.ensures c.args.self.now c.requires.0.0 [] h (no_deeds_yet there h)
+    (few_first h room bytes) in
+    let two = c.part-written-2.ensures c.args.self.now c.requires.0.0 one.deeds h one.does
+    (few_second h room bytes one) in
     (c.steps_of_write-steps.ensures.prompt.2, has_deed_left there h two.does (few_third h room bytes one two))
 
 pub enter-requires-clause-there : goal.enter-requires-clause-there
 enter-requires-clause-there g c =
     let h = c.requires.0.1 in let room = c.requires.1.0 in let bytes = c.requires.1.1 in let there = room.there in
-    let one = c.part-kept.ensures c.args.self.now c.requires.0.0 [] h (no_deeds_yet there h) (few_first h room bytes) in
-    let two = c.part-kept-2.ensures c.args.self.now c.requires.0.0 one.deeds h one.does (few_second h room bytes one) in
-    let three = c.part-kept-3.ensures c.args.self.now c.requires.0.0 (one.deeds ++ two.deeds) h two.does
+    let one = c.part-written.ensures c.args.self.now c.requires.0.0 [] h (no_deeds_yet there h)
+    (few_first h room bytes) in
+    let two = c.part-written-2.ensures c.args.self.now c.requires.0.0 one.deeds h one.does
+    (few_second h room bytes one) in
+    let three = c.part-written-3.ensures c.args.self.now c.requires.0.0 (one.deeds ++ two.deeds) h two.does
     (few_third h room bytes one two) in
     let n = three.does.stands.count.drivers in omega (arith, n, there)
 
 pub enter-requires-clause-room : goal.enter-requires-clause-room
 enter-requires-clause-room g c =
     let h = c.requires.0.1 in let room = c.requires.1.0 in let bytes = c.requires.1.1 in let there = room.there in
-    let one = c.part-kept.ensures c.args.self.now c.requires.0.0 [] h (no_deeds_yet there h) (few_first h room bytes) in
-    let two = c.part-kept-2.ensures c.args.self.now c.requires.0.0 one.deeds h one.does (few_second h room bytes one) in
-    let three = c.part-kept-3.ensures c.args.self.now c.requires.0.0 (one.deeds ++ two.deeds) h two.does
+    let one = c.part-written.ensures c.args.self.now c.requires.0.0 [] h (no_deeds_yet there h)
+    (few_first h room bytes) in
+    let two = c.part-written-2.ensures c.args.self.now c.requires.0.0 one.deeds h one.does
+    (few_second h room bytes one) in
+    let three = c.part-written-3.ensures c.args.self.now c.requires.0.0 (one.deeds ++ two.deeds) h two.does
     (few_third h room bytes one two) in
-    log_left h room c.part-kept-3.new.self (λ d. three.does.logs c.args.node d there)
+    log_left h room c.part-written-3.new.self (λ d. three.does.logs c.args.node d there)
 
 pub returns : goal.returns
 returns g c = λ accesses h.
     let room = c.requires.1.0 in let bytes = c.requires.1.1 in let there = room.there in
     let was = c.args.self.now in let node = c.args.node in
-    let one = c.part-kept.ensures was accesses [] h (no_deeds_yet there h) (few_first h room bytes) in
-    let two = c.part-kept-2.ensures was accesses one.deeds h one.does (few_second h room bytes one) in
-    let three = c.part-kept-3.ensures was accesses (one.deeds ++ two.deeds) h two.does
+    let one = c.part-written.ensures was accesses [] h (no_deeds_yet there h) (few_first h room bytes) in
+    let two = c.part-written-2.ensures was accesses one.deeds h one.does (few_second h room bytes one) in
+    let three = c.part-written-3.ensures was accesses (one.deeds ++ two.deeds) h two.does
     (few_third h room bytes one two) in
     let place : c.from-place.result ≡ node = search rules in
     let ports = ap (λ (r : SerialValue). r.ports) c.self.view_is in
@@ -73,9 +81,9 @@ returns g c = λ accesses h.
     ∙ (λ i. slice_index_or (drivers i) (place i) c.index.result.now))
     ∙ sym (h.stands.nodes node c.index.result.now (at_power_on 1) there).traced.traces.out
     ∙ ap is_active (all_at accesses node) in
-    done_as_write h there ((one.deeds ++ two.deeds) ++ three.deeds) three.does c.enter.ensures
-    (placed h.stands there c.bits_left.ensures.lawful) bytes
+    done_as_write h there ((one.deeds ++ two.deeds) ++ three.deeds) c.part-written-3.result three.does c.enter.ensures
+    c.answer.ensures (placed h.stands there c.bits_left.ensures.lawful) bytes
     (λ p. all_steps one two three ∙ c.steps_of_write-steps.ensures.are
     ∙ (λ i. write_steps (port_is p i) (out_is i) c.args.address c.args.value))
-    (λ x p. all_kept one two three
-    ∙ ap (λ k. kept_by k ((one.deeds ++ two.deeds) ++ three.deeds)) (c.kept_by_step-kept.ensures x p))
+    (λ x p. all_written one two three
+    ∙ ap (λ w. written_by w ((one.deeds ++ two.deeds) ++ three.deeds)) (c.begin_write-written.ensures x p))
