@@ -116,7 +116,8 @@ def endless(bus):
     for wanted, name, numbers in [
         ("ENDLESS", "plan", ()), ("ENDLESS", "report", ()), (0, "now", ()), (None, "strike", (0, 2500000)),
         (2000000, "run", (2000000,)), (2000000, "run", (2000000,)), (4000000, "now", ()),
-        ("PAST", "strike", (0, 3999999)),
+        ("PAST", "strike", (0, 3999999)), (None, "strike", (0, PAST + 5)), (None, "strike", (0, 2**62 - 1)),
+        ("NO_BIT", "strike", (0, 2**62)), ("NO_BIT", "strike", (0, 2**64 + 4000001)), ("NO_BIT", "strike", (0, -1)),
         (None, "write", (0, 4, 0x12)), (0x12, "read", (0, 4)), ("ENDLESS", "report", ()), ("ENDLESS", "plan", ()),
         (7, "run", (7,)), (4000007, "now", ()), ("NO_NODE", "irq", (1,)),
     ]:

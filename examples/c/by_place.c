@@ -17,7 +17,7 @@ int main(void)
     if (sja_to(bus, 1, SJA_STUFF + 2, 200).value != 1)
         return 1;
     printf("struck at bit %u, place %x\n", (unsigned)sja_now(bus).value, (unsigned)sja_place(bus, 1).value);
-    sja_strike(bus, 1, (uint32_t)sja_now(bus).value);
+    sja_strike(bus, 1, sja_now(bus).value);
     printf("CRC delimiter in 99 bits: %u\n", (unsigned)sja_to(bus, 0, SJA_CRC_DELIMITER, 99).value);
     printf("no place %u\n", (unsigned)sja_to(bus, 9, SJA_ID + 29, 1).status);
     printf("no node %u %u\n", (unsigned)sja_to(bus, 9, SJA_ID, 1).status, (unsigned)sja_place(bus, 2).status);

@@ -44,23 +44,19 @@ static struct message numbered(uint64_t number)
     return message;
 }
 
-/* Strikes the frame that a node is about to send, where this message is one that is struck. Bits from 2^32 on aren't,
- * and over a process those from 10,000,000 on. */
+/* Strikes the frame that a node is about to send, where this message is one that is struck. */
 static void strike(const struct board *board, uint64_t number)
 {
     uint64_t bit = now(board) + IN_DATA;
-    sja_answer told;
 
-    if (number % STRUCK != 0 || bit > UINT32_MAX)
+    if (number % STRUCK != 0)
         return;
 #ifdef TWICE
     /* A planted mistake: in the last bit of EOF it has been received, and is sent again. */
     board_done("to", sja_to(board->session, board->node, SJA_EOF + 7, ROUND));
     bit = now(board);
 #endif
-    told = sja_strike(board->session, board->node, (uint32_t)bit);
-    if (told.status != SJA_NO_BIT)
-        board_done("strike", told);
+    board_done("strike", sja_strike(board->session, board->node, bit));
 }
 
 /* The one that polls sends a message, and the other one receives it. */

@@ -225,7 +225,7 @@ int main(void)
     for (int i = 0; i < 200 && device.bus_offs == 0; i++) {
         uint64_t now = board_done("now", sja_now(session));
 
-        board_done("strike", sja_strike(session, 0, (uint32_t)now + 20));
+        board_done("strike", sja_strike(session, 0, now + 20));
         run(&device, 50);
     }
     expect("bus-off once", device.bus_offs, 1);

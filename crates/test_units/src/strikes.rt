@@ -5,10 +5,10 @@ use sja_script::{FaultScript, Strike};
 use std::alloc::Global;
 
 /// Few bits, more than are written down one by one, and very many.
-const RUNS: [u64; 3] = [4_000_000, 5_000_000, 1 << 40];
+const RUNS: [u64; 3] = [4_000_000, 5_000_000, 1 << 62];
 
 /// A strike of node 0.
-fn strike(bit: u32, every: u32, times: u32) -> Strike {
+fn strike(bit: u64, every: u32, times: u32) -> Strike {
     Strike {
         node: 0,
         bit,
@@ -37,8 +37,8 @@ fn struck_bits(
     let mut struck = Vec::new(alloc);
     for _ in 0..100 {
         let left = end - bus.bits_run();
-        bus.quiet_bits(links.as_mut_slice(), &board, left as u32)
-            .ok()?;
+        let count = left.min(u64::from(u32::MAX)) as u32;
+        bus.quiet_bits(links.as_mut_slice(), &board, count).ok()?;
         if bus.bits_run() == end {
             return Some(struck);
         }
@@ -118,6 +118,42 @@ fn a_long_run_meets_strikes_far_ahead(rt: HostRuntime) {
     let strikes = [strike(15_000_000, 2_000_000, 3), strike(19_999_999, 1, 1)];
     let struck = [15_000_000, 16_000_000, 17_000_000, 19_000_000, 19_999_999];
     let later = strike(16_000_000, 1, 1);
-    let found = struck_bits(rt.alloc(), 1 << 40, &strikes, later, 20_000_000);
+    let found = struck_bits(rt.alloc(), 1 << 62, &strikes, later, 20_000_000);
     assert!(rt; matches!(&found, Some(found) if found.as_slice() == struck.as_slice()));
+}
+
+/// No bit is taken for the one that has the same 32 bits.
+#[test]
+fn strikes_past_32_bits_hit_none_before(rt: HostRuntime) {
+    let far = 1 << 32;
+    let strikes = [strike(7, 1, 1), strike(far + 30, 1, 1)];
+    let struck = [7];
+    let later = strike(far + 50, 4_000_000_000, 2);
+    let found = struck_bits(rt.alloc(), 1 << 62, &strikes, later, 1_000);
+    assert!(rt; matches!(&found, Some(found) if found.as_slice() == struck.as_slice()));
+}
+
+/// Whether of so many strikes, each taken two bits before its own, each hits its bit, and one far ahead that was taken
+/// before them hits its bit still; in none of the bits between anybody is struck. Nothing where a call is refused.
+fn are_struck_on_and_on(alloc: Global, count: u64) -> Option<bool> {
+    let steps = Vec::from_array(alloc, [10]).ok()?;
+    let mut bus = Bus::new(alloc, 1 << 62, steps, FaultScript::of(Vec::new(alloc))).ok()?;
+    let mut links = serial_links(alloc, 1).ok()?;
+    let mut board = SerialBoard::new(alloc, 1, 1).ok()?;
+    let far = 3 * count + 1_000;
+    bus.strike(strike(far, 1, 1)).ok()?;
+    for _ in 0..count {
+        bus.strike(strike(bus.bits_run() + 2, 1, 1)).ok()?;
+        if bus.quiet_bits(links.as_mut_slice(), &board, 5).ok()? != 2 {
+            return Some(false);
+        }
+        bus.bit(links.as_mut_slice(), &mut board).ok()?;
+    }
+    let between = bus.quiet_bits(links.as_mut_slice(), &board, 2_000).ok()?;
+    Some(between == 1_000 && bus.bits_run() == far)
+}
+
+#[test]
+fn strikes_that_passed_are_forgotten_and_no_other_one(rt: HostRuntime) {
+    assert!(rt; are_struck_on_and_on(rt.alloc(), 10_000) == Some(true));
 }

@@ -11,7 +11,7 @@ pub struct AnswerText<'a>(pub &'a StepAnswer);
 impl<'a> fmt::Display for AnswerText<'a> {
     fn fmt<W: fmt::Write>(&self, f: &mut fmt::Formatter<W>) -> fmt::Result {
         match self.0 {
-            StepAnswer::Done => write!(f, "ok"),
+            StepAnswer::Done | StepAnswer::Ignored(_) => write!(f, "ok"),
             StepAnswer::NoMessage => write!(f, "none"),
             StepAnswer::Shown(message) => shown(f, message),
             StepAnswer::Released(count) => write!(f, "{count} bytes"),

@@ -1,7 +1,7 @@
 //! Scripts of strikes.
 
 use super::row_answers::RowAnswers;
-use super::words::{number, script_of, small};
+use super::words::{bit, number, script_of, small};
 use sja_script::FaultScript;
 use std::alloc::Global;
 
@@ -17,9 +17,9 @@ pub fn of_script(alloc: Global, told: &mut RowAnswers, words: &[&str]) {
                 _ => told.unread(),
             }
         }
-        ["strikes", bit, node, strikes @ ..] => {
-            match (number(bit), small(node), script_of(alloc, strikes)) {
-                (Some(bit), Some(node), Some(script)) => told.said(script.strikes(bit, node)),
+        ["strikes", at, node, strikes @ ..] => {
+            match (bit(at), small(node), script_of(alloc, strikes)) {
+                (Some(at), Some(node), Some(script)) => told.said(script.strikes(at, node)),
                 _ => told.unread(),
             }
         }
@@ -35,7 +35,7 @@ pub fn of_script(alloc: Global, told: &mut RowAnswers, words: &[&str]) {
 fn struck(told: &mut RowAnswers, script: &FaultScript, node: u8, bits: u32) {
     let mut any = false;
     for bit in 0..bits {
-        if script.strikes(bit, node) {
+        if script.strikes(u64::from(bit), node) {
             any = true;
             told.number(bit);
         }

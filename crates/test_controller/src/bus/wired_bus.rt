@@ -118,7 +118,7 @@ impl<E: BusEnd + Drop> WiredBus<E> {
 
     /// Takes a strike more; whether it was taken, which it isn't where its bit has run.
     pub fn strike(&mut self, strike: Strike) -> bool {
-        if u64::from(strike.bit) < self.bus.bits_run() {
+        if strike.bit < self.bus.bits_run() {
             return false;
         }
         match self.bus.strike(strike) {

@@ -12,6 +12,11 @@ pub fn number(word: &str) -> Option<u32> {
     word.parse::<u32>().ok()
 }
 
+/// The bit that a word writes in decimal digits.
+pub fn bit(word: &str) -> Option<u64> {
+    word.parse::<u64>().ok()
+}
+
 /// The node, or another small number, that a word writes in decimal digits.
 pub fn small(word: &str) -> Option<u8> {
     word.parse::<u8>().ok()
@@ -22,7 +27,7 @@ pub fn strike_of(word: &str) -> Option<Strike> {
     let mut numbers = word.split('/');
     Some(Strike {
         node: small(numbers.next()?)?,
-        bit: number(numbers.next()?)?,
+        bit: bit(numbers.next()?)?,
         every: number(numbers.next()?)?,
         times: number(numbers.next()?)?,
     })

@@ -136,10 +136,12 @@ fn struck(session: &mut Session, rest: &[&str]) -> Option<Answer> {
     let [node, bit] = rest else {
         return None;
     };
-    Some(match session.strike(node_of(node)?, number(bit)?) {
-        Ok(()) => Answer::Done,
-        Err(fault) => Answer::NoStrike(fault),
-    })
+    Some(
+        match session.strike(node_of(node)?, bit.parse::<u64>().ok()?) {
+            Ok(()) => Answer::Done,
+            Err(fault) => Answer::NoStrike(fault),
+        },
+    )
 }
 
 /// Does a step of a node, whose last answer is its answer then.

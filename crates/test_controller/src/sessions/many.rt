@@ -110,7 +110,7 @@ pub fn is_done(answer: &Answer) -> bool {
 fn strikes(session: &mut Session, from: u32, count: u32, apart: u32) -> Option<Answer> {
     let (mut done, mut bit) = (0u32, from);
     for _ in 0..count {
-        if session.strike(0, bit).is_err() {
+        if session.strike(0, u64::from(bit)).is_err() {
             break;
         }
         done = done.saturating_add(1);

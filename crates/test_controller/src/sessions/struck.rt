@@ -111,7 +111,7 @@ fn texts_of(
 /// Whether a session is struck after so many bits, comes to rest, and node 1 releases what it has then.
 fn is_struck(session: &mut Session, after: u32, node: u8, bit: u32) -> bool {
     is_begun(session, after)
-        && session.strike(node, bit).is_ok()
+        && session.strike(node, u64::from(bit)).is_ok()
         && session.rest().is_ok()
         && releases(session)
         && releases(session)
