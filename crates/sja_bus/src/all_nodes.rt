@@ -70,7 +70,7 @@ pub(crate) fn bit_of_all<E: BusEnd, B: Board>(
     ensures facts { OnOk result ((k : ℕ) → k < length seats.old → B.facts board.new k) }
     ensures stops { IfErr result (λ f. (SeatRefuses E.stands seats.old seats.new links.old links.new f
         ⊎ SeatFull E.stands (B.orders_are board.old) seats.old seats.new links.old links.new f)
-        ⊎ SeatStops E.stands E.full (B.orders_are board.old) E.same seats.old seats.new links.old f) }
+        ⊎ SeatStops E.same E.stands E.full (B.orders_are board.old) seats.old seats.new links.old f) }
 {
     open_all(seats, links, board)?;
     let level = level_of(seats);
@@ -201,7 +201,7 @@ pub(crate) fn sample_all<E: BusEnd, B: Board>(
     ensures level { IfOk result (λ end. end.level ≡ wired (driven_by seats.new)) }
     ensures untold { IfOk result (λ end. end.told ≡ false → TellsNone seats.old seats.new board.old board.new) }
     ensures told { IfOk result (λ end. end.told ≡ true → SomeTold (B.told board.old board.new) seats.new) }
-    ensures broken { IfErr result (λ f. SeatBreaks E.stands E.full seats.old seats.new links.old f) }
+    ensures broken { IfErr result (λ f. SeatBreaks E.same E.stands E.full seats.old seats.new links.old f) }
 {
     let mut next = Level::Recessive;
     for k in 0..seats.len() {

@@ -187,7 +187,7 @@ impl Bus {
         ensures unrun { IfErr result (λ f. (self.new.run ≡ self.old.run) × (self.new.left ≡ self.old.left)) }
         ensures fault { IfErr result (λ f. (f ≡ BitsSpent) ⊎ (self.new.fault ≡ Some f)) }
         ensures reason { IfErr result (λ f. self.old.fault ≡ None →
-            StopsBit E.stands E.full (B.orders_are board.old) self.old self.new links.old links.new f) }
+            StopsBit E.same E.stands E.full (B.orders_are board.old) self.old self.new links.old links.new f) }
         ensures spent { self.old.left ≡ 0 → self.old.fault ≡ None →
             (result ≡ Err BitsSpent) × IsStill self.old self.new links.old links.new board.old board.new }
         ensures stays { (f : Fault) → self.old.fault ≡ Some f →

@@ -38,7 +38,7 @@ impl Seat {
             (Moves E.stands end.old end.new self.old.journal.entries self.new.journal.entries (suc self.old.ended)) }
         ensures entered { OnOk result (self.new.journal.entries ≡ self.old.journal.entries ++ OffEntry ∷ []) }
         ensures broken { IfErr result (λ f. BreaksBy (IsFullFor self.old.journal.room self.old.journal.entries OffEntry)
-            E.stands E.full end.old self.old self.new f) }
+            E.same E.stands E.full end.old self.old self.new f) }
         ensures unentered { IfErr result (λ f. self.new.journal.entries ≡ self.old.journal.entries) }
     {
         for _ in 0..TRIES {

@@ -182,7 +182,7 @@ impl Seat {
             (Moves E.stands end.old end.new self.old.journal.entries self.new.journal.entries (suc self.old.ended)) }
         ensures brings { IfOk result (λ outcome.
             Brings self.old.journal.entries self.old.drives seen outcome self.new.journal.entries) }
-        ensures broken { IfErr result (λ f. BreaksHere E.stands E.full end.old self.old self.new f) }
+        ensures broken { IfErr result (λ f. BreaksHere E.same E.stands E.full end.old self.old self.new f) }
     {
         let outcome = self.sample_and_judge(end, seen, row)?;
         if !outcome.events.went_off {
@@ -214,7 +214,7 @@ impl Seat {
             (Moves E.stands end.old end.new self.old.journal.entries self.new.journal.entries (suc self.old.ended)) }
         ensures verdict { IfOk result (λ outcome.
             BringsVerdict self.old.journal.entries self.old.drives seen outcome self.new.journal.entries) }
-        ensures broken { IfErr result (λ f. BreaksHere E.stands E.full end.old self.old self.new f) }
+        ensures broken { IfErr result (λ f. BreaksHere E.same E.stands E.full end.old self.old self.new f) }
     {
         let driven = self.drives;
         let events = self.node.sample_fully_with(seen, Some(&mut row.frame));

@@ -65,7 +65,7 @@ impl Seat {
             (Moves E.stands end.old end.new self.old.journal.entries self.new.journal.entries (suc self.old.ended)) }
         ensures broken { IfErr result (λ f. BreaksBy (IsJudgedShort self.old.journal.room self.old.journal.entries
             driven seen (suc self.old.ended) message self.new.journal.entries)
-            E.stands E.full end.old self.old self.new f) }
+            E.same E.stands E.full end.old self.old self.new f) }
     {
         match accept(&mut self.ledger, end, &message) {
             Ok(verdict) => {
@@ -117,7 +117,7 @@ fn accept<E: BusEnd>(
     ensures judged { IfOk result (λ v. (p : List Entry) → IsFree p (free_in ledger.old) →
         IsFair p (entry_of v message.now) × IsFree (p ++ entry_of v message.now ∷ []) (free_in ledger.new)) }
     ensures busy { OnErr result (ledger.new ≡ ledger.old) }
-    ensures back { OnErr result (IsGivenBack E.stands E.full end.old) }
+    ensures back { OnErr result (IsGivenBack E.same E.stands E.full end.old) }
 {
     for _ in 0..TRIES {
         if let Ok(verdict) = ledger.accept(end, message.copy()) {

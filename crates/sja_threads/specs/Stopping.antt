@@ -2,6 +2,7 @@
 use Rattle.std.specs.Prelude.{◌≡◌, ◌≢◌, ◌≤◌, ◌+◌, ◌*◌, ◌<◌, ◌⊎◌, ◌++◌, ℕ, suc, None, List, length, map}
 use Rattle.std.specs.Prelude.{slice_index_or}
 use Rattle.rtrb.specs.Ring.{received, sent}
+use Rattle.lemmas.specs.Related.{EachRelated}
 use Rattle.sja_link.specs.declared.entry.Entry.{Entry}
 use Rattle.sja_link.specs.declared.up.Up.{Up}
 use Rattle.sja_link.specs.Links.{Numbered}
@@ -10,7 +11,7 @@ use Rattle.sja_rings.specs.declared.ended_driver.EndedDriver.{EndedDriver}
 use Rattle.sja_rings.specs.declared.ring_bus.RingBus.{RingBus}
 use Rattle.sja_rings.specs.declared.ring_driver.RingDriver.{RingDriver}
 use Rattle.sja_rings.specs.Ended.{EndsBus, EndsDriver, HasBusNote, HasDriverNote}
-use Rattle.sja_rings.specs.Ends.{BusLists, OneLink, link_of_bus, places_down}
+use Rattle.sja_rings.specs.Ends.{BusLists, OneLink, SameBus, link_of_bus, places_down}
 use Rattle.sja_plan.specs.Plan.{PlanValue, steps_at}
 use Rattle.sja_driver.specs.Accesses.{most_deeds}
 use Rattle.sja_driver.specs.Deeds.{given_in, deeds_of}
@@ -38,7 +39,7 @@ any_orders node orders = Unit {0}
 
 -- the bus of a run of this plan whose drivers may do so many deeds, by node, without a fault so far, stopped with
 -- this one: it didn't take an item of a driver, or a bit didn't come to its end; it isn't that the bits were spent. Its
--- ends of the links stood for its journals before, and are these ones now
+-- ends of the links stood for its journals before, and are these ones now, each the same end of the same link
 pub record StopsOn (counts : List ℕ) (plan : PlanValue) (after : List RingBus) (f : BusFault) : Type 0 where
   pub was : BusValue
   pub now : BusValue
@@ -50,8 +51,9 @@ pub record StopsOn (counts : List ℕ) (plan : PlanValue) (after : List RingBus)
   pub right : was.fault ≡ None
   pub lawful : IsBusRun was.script was.run was.journals
   pub stood : StandFor plan was.journals links
+  pub sames : EachRelated SameBus links after
   pub why : IsTakenAndRefused BusLists plan.bits counts was.journals now.journals links after f
-      ⊎ StopsBit BusLists HasNoPlace any_orders was now links after f
+      ⊎ StopsBit SameBus BusLists HasNoPlace any_orders was now links after f
   pub not_spent : f ≢ BitsSpent
   pub ids : Numbered link_of_bus after
 

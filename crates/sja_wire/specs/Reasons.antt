@@ -1,5 +1,6 @@
 -- Why a bus doesn't go on: what each fault says of its node (this project's own rule).
 use Rattle.std.specs.Prelude.{◌≡◌, ◌+◌, ◌*◌, ◌<◌, ℕ, suc, true, Bool, List, ◌++◌, length, slice_index_or}
+use Rattle.lemmas.specs.Related.{EachRelated}
 use Rattle.sja_link.specs.NodeWords.{FinishedPiece, IsCut, received}
 use Rattle.sja_link.specs.declared.up.Up.{Up}
 use Rattle.sja_link.specs.declared.up.Up.TheVariants.{Credit}
@@ -50,15 +51,16 @@ pub record RefusesItem {E : Type 0} (stands : E → Lists → Type 0) (room : Ro
 
 -- ---- a node whose bit broke off
 
--- the end of one of its links had no room for a message or for bus-off: whatever its driver got and gave, where its
--- links stood for its journal before, that end stood for it then. The journal's verdicts are right beside the frames
--- that its node received by the cut of its record, with bus-off after it where that is what was given back; and in the
--- link's activation no bus-off was entered
-pub record GivesBack {E : Type 0} (stands : E → Lists → Type 0) (full : E → Type 0) (before j : List Entry)
-    (links : List E) (base : ℕ) : Type 0 where
+-- the end of one of its links had no room for a message or for bus-off: it is the same end still, and whatever its
+-- driver got and gave, where its links stood for its journal before, that end stood for it then. The journal's verdicts
+-- are right beside the frames that its node received by the cut of its record, with bus-off after it where that is what
+-- was given back; and in the link's activation no bus-off was entered
+pub record GivesBack {E : Type 0} (same : E → E → Type 0) (stands : E → Lists → Type 0) (full : E → Type 0)
+    (before j : List Entry) (links : List E) (base : ℕ) : Type 0 where
   pub place : ℕ
   pub few : place < per_node
   pub end : E
+  pub is_link : (d : E) → same (slice_index_or links (base + place) d) end
   pub is_full : full end
   pub stood : (h : ℕ → Account) → Kept stands before links base h → stands end (account j (suc place) (h place))
   pub off : Bool
@@ -69,13 +71,15 @@ pub record GivesBack {E : Type 0} (stands : E → Lists → Type 0) (full : E �
 
 -- with this fault the bit of a node broke off, which had this room and this journal before: there was no room for the
 -- entries of the bit; or a put was given back
-abbrev pub IsBrokenFor : {E : Type 0} → (E → Lists → Type 0) → (E → Type 0) → ℕ → Room → List Entry → List Entry →
-    List E → ℕ → BusFault → Type 0
-IsBrokenFor stands full node room before j links base (JournalFull k) = (k ≡ node) × IsOutOfRoom room before j
-IsBrokenFor stands full node room before j links base (Stuck k) = (k ≡ node) × GivesBack stands full before j links base
-IsBrokenFor stands full node room before j links base (BadCredit k bytes) = ⊥
-IsBrokenFor stands full node room before j links base (BadOrder k) = ⊥
-IsBrokenFor stands full node room before j links base BitsSpent = ⊥
+abbrev pub IsBrokenFor : {E : Type 0} → (E → E → Type 0) → (E → Lists → Type 0) → (E → Type 0) → ℕ → Room →
+    List Entry → List Entry → List E → ℕ → BusFault → Type 0
+IsBrokenFor same stands full node room before j links base (JournalFull k) =
+    (k ≡ node) × IsOutOfRoom room before j
+IsBrokenFor same stands full node room before j links base (Stuck k) =
+    (k ≡ node) × GivesBack same stands full before j links base
+IsBrokenFor same stands full node room before j links base (BadCredit k bytes) = ⊥
+IsBrokenFor same stands full node room before j links base (BadOrder k) = ⊥
+IsBrokenFor same stands full node room before j links base BitsSpent = ⊥
 
 -- ---- a bus
 
@@ -107,29 +111,32 @@ pub record IsNotAborted {E : Type 0} (stands : E → Lists → Type 0) (orders_a
   pub kept : (h : ℕ → Account) → Kept stands (journal_at before node) links (per_node * node) h →
       Kept stands (journal_at now node) after (per_node * node) h
 
--- of one of its nodes items were taken and an abort was applied or none, and then its bit broke off
-pub record IsBrokenOff {E : Type 0} (stands : E → Lists → Type 0) (full : E → Type 0) (orders_are : ℕ → Orders → Type 0)
-    (bits : ℕ) (steps : List ℕ) (before now : List (List Entry)) (links : List E) (f : BusFault) : Type 0 where
+-- of one of its nodes items were taken and an abort was applied or none, and then its bit broke off; each link was the
+-- same one still
+pub record IsBrokenOff {E : Type 0} (same : E → E → Type 0) (stands : E → Lists → Type 0) (full : E → Type 0)
+    (orders_are : ℕ → Orders → Type 0) (bits : ℕ) (steps : List ℕ) (before now : List (List Entry)) (links : List E)
+    (f : BusFault) : Type 0 where
   pub node : ℕ
   pub few : node < length before
   pub opened : List Entry
   pub between : List E
+  pub sames : EachRelated same links between
   pub opens : Opens (orders_are node) (journal_at before node) opened
   pub kept : (h : ℕ → Account) → Kept stands (journal_at before node) links (per_node * node) h →
       Kept stands opened between (per_node * node) h
-  pub broken : IsBrokenFor stands full node (room_for bits steps node) opened (journal_at now node) between
+  pub broken : IsBrokenFor same stands full node (room_for bits steps node) opened (journal_at now node) between
       (per_node * node) f
 
 -- why a bit doesn't come to its end
-pub data StopsBit {E : Type 0} (stands : E → Lists → Type 0) (full : E → Type 0) (orders_are : ℕ → Orders → Type 0)
-    (before now : BusValue) (links after : List E) (f : BusFault) : Type 0 where
-  spent : f ≡ BitsSpent → before.left ≡ 0 → StopsBit stands full orders_are before now links after f
+pub data StopsBit {E : Type 0} (same : E → E → Type 0) (stands : E → Lists → Type 0) (full : E → Type 0)
+    (orders_are : ℕ → Orders → Type 0) (before now : BusValue) (links after : List E) (f : BusFault) : Type 0 where
+  spent : f ≡ BitsSpent → before.left ≡ 0 → StopsBit same stands full orders_are before now links after f
   not_taken : IsTakenAndRefused stands (before.run + before.left) before.steps before.journals now.journals links after
       f →
-      StopsBit stands full orders_are before now links after f
+      StopsBit same stands full orders_are before now links after f
   not_aborted : IsNotAborted stands orders_are (before.run + before.left) before.steps before.journals now.journals
       links after f →
-      StopsBit stands full orders_are before now links after f
-  broken_off : IsBrokenOff stands full orders_are (before.run + before.left) before.steps before.journals now.journals
-      links f →
-      StopsBit stands full orders_are before now links after f
+      StopsBit same stands full orders_are before now links after f
+  broken_off : IsBrokenOff same stands full orders_are (before.run + before.left) before.steps before.journals
+      now.journals links f →
+      StopsBit same stands full orders_are before now links after f

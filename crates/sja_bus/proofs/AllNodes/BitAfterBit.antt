@@ -149,9 +149,9 @@ pub stops_on : {E : Type 0} (same : E → E → Type 0) (stands : E → Lists �
     (orders_are : ℕ → Orders → Type 0) (script : List Strike) (steps : List ℕ) (run left bits : ℕ)
     (seats after : List Seat) (links links_after : List E) (f : BusFault) (now : BusValue) → ((x : E) → same x x) →
     now.journals ≡ journals_of after → run + left ≡ bits → length after ≡ length seats →
-    HaveRoom (room_for bits steps) seats → NoneAborts orders_are (length seats) → SeatBreaks stands full seats after
-    links f →
-    StopsBit stands full orders_are (bus_of script steps run left seats) now links links_after f
+    HaveRoom (room_for bits steps) seats → NoneAborts orders_are (length seats) →
+    SeatBreaks same stands full seats after links f →
+    StopsBit same stands full orders_are (bus_of script steps run left seats) now links links_after f
 stops_on same stands full orders_are script steps run left bits seats after links links_after f now same_refl journals
     all
     len rooms none breaks =

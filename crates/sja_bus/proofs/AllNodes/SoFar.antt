@@ -55,12 +55,13 @@ bits_as One Before Also was _ _ also (one_more _ mid now n bits before one) =
     one_more was mid now n (bits_as One Before Also was mid n also bits) (also mid before) one
 
 -- and one that broke off behind them
-pub breaks_as : {E B : Type 0} (stands : E → Lists → Type 0) (full : E → Type 0) (orders_are : B → ℕ → Orders → Type 0)
-    (One : ℕ → Moment E B → Moment E B → Type 0) (Before Also : Moment E B → Type 0) (count : ℕ)
+pub breaks_as : {E B : Type 0} (same : E → E → Type 0) (stands : E → Lists → Type 0) (full : E → Type 0)
+    (orders_are : B → ℕ → Orders → Type 0) (One : ℕ → Moment E B → Moment E B → Type 0)
+    (Before Also : Moment E B → Type 0) (count : ℕ)
     (was now : Moment E B) (f : BusFault) → ((m : Moment E B) → Before m → Also m) →
-    BreaksOff stands full orders_are One Before count was now f →
-    BreaksOff stands full orders_are One Also count was now f
-breaks_as stands full orders_are One Before Also count was now f also off = record {
+    BreaksOff same stands full orders_are One Before count was now f →
+    BreaksOff same stands full orders_are One Also count was now f
+breaks_as same stands full orders_are One Before Also count was now f also off = record {
   mid = off.mid;
   run = off.run;
   early = off.early;
@@ -72,14 +73,14 @@ breaks_as stands full orders_are One Before Also count was now f also off = reco
 }
 
 -- bits, and then some of which one broke off
-pub breaks_later : {E B : Type 0} (stands : E → Lists → Type 0) (full : E → Type 0)
+pub breaks_later : {E B : Type 0} (same : E → E → Type 0) (stands : E → Lists → Type 0) (full : E → Type 0)
     (orders_are : B → ℕ → Orders → Type 0)
     (One More : ℕ → Moment E B → Moment E B → Type 0) (Before : Moment E B → Type 0) (was mid now : Moment E B)
     (m left count : ℕ) (f : BusFault) → m + left ≤ count →
     ((k : ℕ) (x y : Moment E B) → More k x y → One (m + k) x y) → AreBits One Before was m mid →
-    BreaksOff stands full orders_are More Before left mid now f →
-    BreaksOff stands full orders_are One Before count was now f
-breaks_later stands full orders_are One More Before was mid now m left count f most later bits off =
+    BreaksOff same stands full orders_are More Before left mid now f →
+    BreaksOff same stands full orders_are One Before count was now f
+breaks_later same stands full orders_are One More Before was mid now m left count f most later bits off =
     let early = off.early in record {
       mid = off.mid;
       run = m + off.run;
@@ -142,7 +143,8 @@ module _ {E B : Type 0} (e : Ends E) (b : Ports B) where
   stopped_as Before Also count was now f also stops = record {
     keeps = stops.keeps;
     fault = stops.fault;
-    reason = breaks_as e.stands e.full b.orders_are (λ k. OneBit e b) Before Also count was now f also stops.reason;
+    reason = breaks_as e.same e.stands e.full b.orders_are (λ k. OneBit e b) Before Also count was now f also
+        stops.reason;
   }
 
   -- none so far

@@ -69,15 +69,15 @@ full_seat {E} same stands orders_are R seats now links here after k s new f few 
 
 pub breaks_seat : {E : Type 0} (same : E → E → Type 0) (stands : E → Lists → Type 0) (full : E → Type 0)
     (R : ℕ → Seat → Seat → Type 0) (seats now : List Seat) (links here : List E) (k : ℕ) (s new : Seat) (f : BusFault) →
-    k < length seats → length now ≡ length seats → AreReady now →
-    GoesAll same stands seats now links here → Done R k seats now →
-    IsBrokenFor stands full (link_of (slice_index_or now k s).ledger).node (slice_index_or now k s).journal.room
+    ((a : E) → same a a) → ((a b c : E) → same a b → same b c → same a c) → k < length seats →
+    length now ≡ length seats → AreReady now → GoesAll same stands seats now links here → Done R k seats now →
+    IsBrokenFor same stands full (link_of (slice_index_or now k s).ledger).node (slice_index_or now k s).journal.room
     (slice_index_or now k s).journal.entries new.journal.entries here (64 * k) f →
-    SeatBreaks stands full seats (slice_set now k new) links f
-breaks_seat {E} same stands full R seats now links here k s new f few len ready goes done r =
+    SeatBreaks same stands full seats (slice_set now k new) links f
+breaks_seat {E} same stands full R seats now links here k s new f itself trans few len ready goes done r =
     let near : k < length now = omega (arith, few, len) in
     let own = (ready k s near).own in
-    let N : ℕ → Type 0 = λ n. IsBrokenFor stands full n (slice_index_or now k s).journal.room
+    let N : ℕ → Type 0 = λ n. IsBrokenFor same stands full n (slice_index_or now k s).journal.room
     (slice_index_or now k s).journal.entries new.journal.entries here (64 * k) f in record {
       node = k;
       few = few;
@@ -86,12 +86,13 @@ breaks_seat {E} same stands full R seats now links here k s new f few len ready 
           ∙ (done k t few).1 (omega arith) in
           let this : slice_index_or now k t ≡ slice_index_or seats k t = (done k t few).1 (omega arith) in
           let was = slice_index_or seats k t in
-          let P : Seat → Type 0 = λ x. IsBrokenFor stands full k x.journal.room x.journal.entries
+          let P : Seat → Type 0 = λ x. IsBrokenFor same stands full k x.journal.room x.journal.entries
           new.journal.entries here (64 * k) f in
-          let Q : Seat → Type 0 = λ x. IsBrokenFor stands full k was.journal.room was.journal.entries
+          let Q : Seat → Type 0 = λ x. IsBrokenFor same stands full k was.journal.room was.journal.entries
           x.journal.entries links (64 * k) f in
           subst Q (sym (set_here now k new t near))
-          (broken_from stands full k was.journal.room was.journal.entries new.journal.entries links here (64 * k) f
+          (broken_from same stands full k was.journal.room was.journal.entries new.journal.entries links here (64 * k) f
+          itself trans goes.sames
           (λ h kept. subst (λ (x : Seat). Kept stands x.journal.entries here (64 * k) h) this (goes.kept k t h few
           kept))
           (subst P same_seat (subst N own r)));
@@ -129,29 +130,30 @@ not_aborted stands orders_are bits steps (s ∷ seats) after links links_after f
           subst L (sym now) (full.kept h (subst K was kept));
     }
 
-pub broken_off : {E : Type 0} (stands : E → Lists → Type 0) (full : E → Type 0) (orders_are : ℕ → Orders → Type 0)
-    (same : E → E → Type 0) (bits : ℕ) (steps : List ℕ) (seats after : List Seat) (links : List E) (f : BusFault) →
-    length after ≡ length seats → HaveRoom (room_for bits steps) seats →
-    SeatStops stands full orders_are same seats after links f →
-    IsBrokenOff stands full orders_are bits steps (journals_of seats) (journals_of after) links f
-broken_off stands full orders_are same bits steps [] after links f len rooms r = let none = r.breaks.few in let c =
+pub broken_off : {E : Type 0} (same : E → E → Type 0) (stands : E → Lists → Type 0) (full : E → Type 0)
+    (orders_are : ℕ → Orders → Type 0) (bits : ℕ) (steps : List ℕ) (seats after : List Seat) (links : List E)
+    (f : BusFault) → length after ≡ length seats → HaveRoom (room_for bits steps) seats →
+    SeatStops same stands full orders_are seats after links f →
+    IsBrokenOff same stands full orders_are bits steps (journals_of seats) (journals_of after) links f
+broken_off same stands full orders_are bits steps [] after links f len rooms r = let none = r.breaks.few in let c =
     r.count in
     absurd (omega (arith, none, c))
-broken_off stands full orders_are same bits steps (s ∷ seats) after links f len rooms r =
+broken_off same stands full orders_are bits steps (s ∷ seats) after links f len rooms r =
     let all = s ∷ seats in let cb = count_is all in let k = r.breaks.node in let there =
     r.breaks.few in let c = r.count in
     let few : k < length all = omega (arith, there, c) in
     let opened = slice_index_or r.opened k s in
     let was = journal_is all k s few in let now = journal_is after k s (omega (arith, few, len)) in
     let P : List Entry → Type 0 = λ j. Opens (orders_are k) j opened.journal.entries in
-    let N : Room → Type 0 = λ n. IsBrokenFor stands full k n opened.journal.entries
+    let N : Room → Type 0 = λ n. IsBrokenFor same stands full k n opened.journal.entries
     (slice_index_or after k s).journal.entries r.between (64 * k) f in
-    let Q : List Entry → Type 0 = λ j. IsBrokenFor stands full k (room_for bits steps k) opened.journal.entries j
+    let Q : List Entry → Type 0 = λ j. IsBrokenFor same stands full k (room_for bits steps k) opened.journal.entries j
     r.between (64 * k) f in record {
       node = k;
       few = omega (arith, few, cb);
       opened = opened.journal.entries;
       between = r.between;
+      sames = r.goes.sames;
       opens = subst P (sym was) (r.opens k s few);
       kept = λ h kept. let K : List Entry → Type 0 = λ j. Kept stands j links (64 * k) h in
           r.goes.kept k s h few (subst K was kept);
@@ -166,8 +168,8 @@ pub stops_bit : {E : Type 0} (same : E → E → Type 0) (stands : E → Lists �
     now.journals ≡ journals_of after → run + left ≡ bits → length after ≡ length seats →
     HaveRoom (room_for bits steps) seats →
     (SeatRefuses stands seats after links links_after f ⊎ SeatFull stands orders_are seats after links links_after f)
-    ⊎ SeatStops stands full orders_are same seats after links f →
-    StopsBit stands full orders_are (record {
+    ⊎ SeatStops same stands full orders_are seats after links f →
+    StopsBit same stands full orders_are (record {
       script = script;
       steps = steps;
       run = run;
@@ -198,9 +200,9 @@ stops_bit {E} same stands full orders_are script steps run left bits fault seats
       ]
       | inr breaking ↦
           let was = journals_of seats in
-          let N : ℕ → Type 0 = λ n. IsBrokenOff stands full orders_are n steps was (journals_of after) links f in
-          let J : List (List Entry) → Type 0 = λ l. IsBrokenOff stands full orders_are (run + left) steps was l links f
-          in
+          let N : ℕ → Type 0 = λ n. IsBrokenOff same stands full orders_are n steps was (journals_of after) links f in
+          let J : List (List Entry) → Type 0 = λ l. IsBrokenOff same stands full orders_are (run + left) steps was l
+          links f in
           broken_off_bit (subst J (sym journals) (subst N (sym all)
-          (broken_off stands full orders_are same bits steps seats after links f len rooms breaking)))
+          (broken_off same stands full orders_are bits steps seats after links f len rooms breaking)))
     ]

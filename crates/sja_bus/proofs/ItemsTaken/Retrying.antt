@@ -11,4 +11,4 @@ pub record IsRetried {E : Type 0} (e : Ends E) (tries : ℕ) (was now : BusLedge
   pub ledger : now ≡ was
   pub same_end : e.same before after
   pub stands : (lists : Lists) → e.stands before lists → e.stands after lists
-  pub back : 0 < tries → IsGivenBack e.stands e.full before
+  pub back : 0 < tries → IsGivenBack e.same e.stands e.full before

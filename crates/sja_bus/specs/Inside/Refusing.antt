@@ -39,22 +39,21 @@ pub record SeatFull {E : Type 0} (stands : E → Lists → Type 0) (orders_are :
       (slice_index_or now node s) links after (per_node * node) f
 
 -- the bit of one of them broke off
-pub record SeatBreaks {E : Type 0} (stands : E → Lists → Type 0) (full : E → Type 0) (seats now : List Seat)
-    (links : List E) (f : BusFault) : Type 0 where
+pub record SeatBreaks {E : Type 0} (same : E → E → Type 0) (stands : E → Lists → Type 0) (full : E → Type 0)
+    (seats now : List Seat) (links : List E) (f : BusFault) : Type 0 where
   pub node : ℕ
   pub few : node < length seats
-  pub broken : (s : Seat) → IsBrokenFor stands full node (slice_index_or seats node s).journal.room
+  pub broken : (s : Seat) → IsBrokenFor same stands full node (slice_index_or seats node s).journal.room
       (slice_index_or seats node s).journal.entries (slice_index_or now node s).journal.entries links (per_node * node)
       f
 
 -- the bit of one broke off, after what came on its links was taken of all, and aborts were applied
-pub record SeatStops {E : Type 0} (stands : E → Lists → Type 0) (full : E → Type 0)
-    (orders_are : ℕ → Orders → Type 0) (same : E → E → Type 0) (seats now : List Seat) (links : List E)
-    (f : BusFault) : Type 0 where
+pub record SeatStops {E : Type 0} (same : E → E → Type 0) (stands : E → Lists → Type 0) (full : E → Type 0)
+    (orders_are : ℕ → Orders → Type 0) (seats now : List Seat) (links : List E) (f : BusFault) : Type 0 where
   pub opened : List Seat
   pub between : List E
   pub count : length opened ≡ length seats
   pub opens : EachSeat (SeatOpens orders_are) seats opened
   pub goes : GoesAll same stands seats opened links between
   pub rooms : (n : ℕ → Room) → HaveRoom n seats → HaveRoom n opened
-  pub breaks : SeatBreaks stands full opened now between f
+  pub breaks : SeatBreaks same stands full opened now between f

@@ -136,7 +136,7 @@ abbrev pub RowsStop : {E B : Type 0} → Ends E → Ports B → Bool → List St
 RowsStop e b to_rest script from most was now links after board told f =
     (steps : List ℕ) (left : ℕ) (bus : BusValue) → most ≤ left → HaveRoom (room_for (from + left) steps) was →
     bus.journals ≡ journals_of now → bus.run ≡ from + f.after → bus.left ≡ left - f.after →
-    BreaksOff e.stands e.full b.orders_are (AnyBit e b)
+    BreaksOff e.same e.stands e.full b.orders_are (AnyBit e b)
     (WorksUntold to_rest (moment_of script steps from left was links board)) most
     (moment_of script steps from left was links board) (record { bus = bus; links = after; board = told }) f.fault
 
@@ -167,4 +167,4 @@ pub record IsStopped {E B : Type 0} (e : Ends E) (b : Ports B) (Before : Moment 
     (was now : Moment E B) (f : BusFault) : Type 0 where
   pub keeps : Keeps e b was now
   pub fault : now.bus.fault ≡ Some f
-  pub reason : BreaksOff e.stands e.full b.orders_are (AnyBit e b) Before count was now f
+  pub reason : BreaksOff e.same e.stands e.full b.orders_are (AnyBit e b) Before count was now f

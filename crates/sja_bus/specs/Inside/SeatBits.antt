@@ -38,5 +38,5 @@ pub record HadBit {E B : Type 0} (e : Ends E) (b : Ports B) (told : Bool) (seen 
 
 -- with this fault it broke off, where the links of the seat are those from this place on
 abbrev pub BreaksInBit : {E : Type 0} → Ends E → Seat → Seat → List E → ℕ → BusFault → Type 0
-BreaksInBit e old new links base f = IsBrokenFor e.stands e.full (link_of old.ledger).node old.journal.room
-    old.journal.entries new.journal.entries links base f
+BreaksInBit e old new links base f = IsBrokenFor e.same e.stands e.full (link_of old.ledger).node
+    old.journal.room old.journal.entries new.journal.entries links base f

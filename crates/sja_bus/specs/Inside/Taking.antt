@@ -52,18 +52,21 @@ pub record IsFull (old new : Seat) (e : Entry) (f : BusFault) : Type 0 where
   pub same : new.journal.entries ≡ old.journal.entries
   pub full : IsFullFor old.journal.room old.journal.entries e
 
--- an end gave an item back: as it was then it was full, and it stood for what it stood for before
-pub record IsGivenBack {E : Type 0} (stands : E → Lists → Type 0) (full : E → Type 0) (end : E) : Type 0 where
+-- an end gave an item back: as it was then it was the same end and full, and it stood for what it stood for before
+pub record IsGivenBack {E : Type 0} (same : E → E → Type 0) (stands : E → Lists → Type 0) (full : E → Type 0) (end : E)
+    : Type 0 where
   pub last : E
+  pub is_end : same end last
   pub is_full : full last
   pub stood : (l : Lists) → stands end l → stands last l
 
--- an end that gave an item back, as it was then: full, and it stood for the journal. The journal's verdicts are right
--- beside the frames that its node received, by the cut of its record, with bus-off after it where that was given back;
--- and in the activation no bus-off was entered
-pub record GaveBack {E : Type 0} (stands : E → Lists → Type 0) (full : E → Type 0) (end : E) (before j : List Entry)
-    (a : ℕ) : Type 0 where
+-- an end that gave an item back, as it was then: the same end, full, and it stood for the journal. The journal's
+-- verdicts are right beside the frames that its node received, by the cut of its record, with bus-off after it where
+-- that was given back; and in the activation no bus-off was entered
+pub record GaveBack {E : Type 0} (same : E → E → Type 0) (stands : E → Lists → Type 0) (full : E → Type 0) (end : E)
+    (before j : List Entry) (a : ℕ) : Type 0 where
   pub last : E
+  pub is_end : same end last
   pub is_full : full last
   pub stood : (h : Account) → stands end (account before a h) → stands last (account j a h)
   pub off : Bool
@@ -74,18 +77,20 @@ pub record GaveBack {E : Type 0} (stands : E → Lists → Type 0) (full : E →
 
 -- with this fault a part of a node's bit broke off: an entry found no room, and then this holds; or a put was given
 -- back
-abbrev pub BreaksBy : {E : Type 0} → Type 0 → (E → Lists → Type 0) → (E → Type 0) → E → Seat → Seat → BusFault → Type 0
-BreaksBy Unheld stands full end old new (JournalFull k) = (k ≡ (link_of old.ledger).node) × Unheld
-BreaksBy Unheld stands full end old new (Stuck k) = (k ≡ (link_of old.ledger).node)
-    × GaveBack stands full end old.journal.entries new.journal.entries (suc old.ended)
-BreaksBy Unheld stands full end old new (BadCredit k bytes) = ⊥
-BreaksBy Unheld stands full end old new (BadOrder k) = ⊥
-BreaksBy Unheld stands full end old new BitsSpent = ⊥
+abbrev pub BreaksBy : {E : Type 0} → Type 0 → (E → E → Type 0) → (E → Lists → Type 0) → (E → Type 0) → E → Seat →
+    Seat → BusFault → Type 0
+BreaksBy Unheld same stands full end old new (JournalFull k) = (k ≡ (link_of old.ledger).node) × Unheld
+BreaksBy Unheld same stands full end old new (Stuck k) = (k ≡ (link_of old.ledger).node)
+    × GaveBack same stands full end old.journal.entries new.journal.entries (suc old.ended)
+BreaksBy Unheld same stands full end old new (BadCredit k bytes) = ⊥
+BreaksBy Unheld same stands full end old new (BadOrder k) = ⊥
+BreaksBy Unheld same stands full end old new BitsSpent = ⊥
 
 -- the whole bit
-abbrev pub BreaksHere : {E : Type 0} → (E → Lists → Type 0) → (E → Type 0) → E → Seat → Seat → BusFault → Type 0
-BreaksHere stands full end old new =
-    BreaksBy (IsOutOfRoom old.journal.room old.journal.entries new.journal.entries) stands full end old new
+abbrev pub BreaksHere : {E : Type 0} → (E → E → Type 0) → (E → Lists → Type 0) → (E → Type 0) → E → Seat → Seat →
+    BusFault → Type 0
+BreaksHere same stands full end old new =
+    BreaksBy (IsOutOfRoom old.journal.room old.journal.entries new.journal.entries) same stands full end old new
 
 -- a bit and the verdict on this message, of which the first or the second entry found no room
 pub record IsJudgedShort (room : Room) (j : List Entry) (driven seen : Level) (a : ℕ) (m : List ℕ) (now : List Entry) :

@@ -40,4 +40,4 @@ abbrev pub BreaksUnderway : {E B : Type 0} → Ends E → Ports B → StruckNode
 BreaksUnderway {E} {B} e b struck level first seats after links board f =
     (before : List Seat) (given : List E) (was : B) →
     IsUnderway e.same e.stands b.ports b.told b.kept struck level before given was first seats links board →
-    SeatBreaks e.stands e.full before after given f
+    SeatBreaks e.same e.stands e.full before after given f

@@ -145,7 +145,7 @@ module _ (setup : Setup) (deeds : List (List Deed)) (drivers : List LoggedDriver
     -- none of them broke off, where no more were asked for than are left
     never_breaks : (was now : SerialMoment) (count : ℕ) (f : BusFault) → IsThere was →
         was.bus.run + count ≤ setup.bits →
-        BreaksOff ends.stands ends.full ports.orders_are One (Before first) count was now f → ⊥
+        BreaksOff ends.same ends.stands ends.full ports.orders_are One (Before first) count was now f → ⊥
     never_breaks was now count f t few b =
         let m = there_still was b.mid b.run b.bits t in
         let run = many_run was b.mid b.run b.bits t in
@@ -180,7 +180,8 @@ module _ (bus : BusValue) (drivers : List LoggedDriver) (board : SerialBoard) (s
 
   -- none of its bits broke off
   pub no_break : (now : SerialMoment) (f : BusFault) →
-      (bus.fault ≡ None → BreaksOff ends.stands ends.full ports.orders_are One (Before was) most was now f) → ⊥
+      (bus.fault ≡ None →
+      BreaksOff ends.same ends.stands ends.full ports.orders_are One (Before was) most was now f) → ⊥
   no_break now f breaks =
       let t = there run.0 run.1 in
       never_breaks setup run.0 drivers kind was was now most f t

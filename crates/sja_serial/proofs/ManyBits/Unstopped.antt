@@ -113,8 +113,9 @@ module _ (setup : Setup) (r : SerialValue) (deeds : List (List Deed)) (h : Stand
         (shown ∙ append_assoc (taken_of (part t (suc (stops_of t)))) (item ∷ []) up)))
 
     -- no link is full: no bus-off lies there, and fewer than 22 messages fit in 64 bytes
-    not_stuck : (opened j : List Entry) (between : List Deques) → Kept Lies opened between (64 * m) acc →
-        GivesBack Lies (λ (s : Deques). length s.down ≡ 22) opened j between (64 * m) → ⊥
+    not_stuck : {alike : Deques → Deques → Type 0} (opened j : List Entry) (between : List Deques) →
+        Kept Lies opened between (64 * m) acc →
+        GivesBack alike Lies (λ (s : Deques). length s.down ≡ 22) opened j between (64 * m) → ⊥
     not_stuck opened j between kept b =
         let ds = deeds_at deeds m in let d = slice_index_or r.drivers m driver in
         let lies : Lies b.end (account j (suc b.place) (acc b.place)) = b.stood acc kept in
@@ -147,22 +148,24 @@ module _ (setup : Setup) (r : SerialValue) (deeds : List (List Deed)) (h : Stand
       let most = room_for (r.bus.run + r.bus.left) r.bus.steps x.node in
       free_not_full 3 most j Abort (room x.node x.few) (subst (λ (s : List Entry). IsFullFor most s Abort) same x.full)
 
-  never_broken : (node : ℕ) (few : node < length r.bus.journals) (opened j : List Entry) (between : List Deques)
-      (f : BusFault) → HasFree 3 (room_for (r.bus.run + r.bus.left) r.bus.steps node) opened →
+  never_broken : (alike : Deques → Deques → Type 0) (node : ℕ) (few : node < length r.bus.journals)
+      (opened j : List Entry) (between : List Deques) (f : BusFault) →
+      HasFree 3 (room_for (r.bus.run + r.bus.left) r.bus.steps node) opened →
       Kept Lies opened between (64 * node) (acc node few) →
-      IsBrokenFor Lies (λ (s : Deques). length s.down ≡ 22) node (room_for (r.bus.run + r.bus.left) r.bus.steps node)
-      opened j between (64 * node) f → ⊥
-  never_broken node few opened j between (JournalFull k) free kept b =
+      IsBrokenFor alike Lies (λ (s : Deques). length s.down ≡ 22) node
+      (room_for (r.bus.run + r.bus.left) r.bus.steps node) opened j between (64 * node) f → ⊥
+  never_broken alike node few opened j between (JournalFull k) free kept b =
       short_never (room_for (r.bus.run + r.bus.left) r.bus.steps node) opened j b.1 free
-  never_broken node few opened j between (Stuck k) free kept b = not_stuck node few opened j between kept b.1
-  never_broken node few opened j between (BadCredit k bytes) free kept b = b
-  never_broken node few opened j between (BadOrder k) free kept b = b
-  never_broken node few opened j between BitsSpent free kept b = b
+  never_broken alike node few opened j between (Stuck k) free kept b = not_stuck node few opened j between kept b.1
+  never_broken alike node few opened j between (BadCredit k bytes) free kept b = b
+  never_broken alike node few opened j between (BadOrder k) free kept b = b
+  never_broken alike node few opened j between BitsSpent free kept b = b
 
-  not_broken : (orders_are : ℕ → Orders → Type 0) (now : BusValue) (f : BusFault) →
-      IsBrokenOff Lies (λ (s : Deques). length s.down ≡ 22) orders_are (r.bus.run + r.bus.left) r.bus.steps
+  not_broken : {alike : Deques → Deques → Type 0} (orders_are : ℕ → Orders → Type 0) (now : BusValue)
+      (f : BusFault) →
+      IsBrokenOff alike Lies (λ (s : Deques). length s.down ≡ 22) orders_are (r.bus.run + r.bus.left) r.bus.steps
       r.bus.journals now.journals r.links f → ⊥
-  not_broken orders_are now f x =
+  not_broken {alike} orders_are now f x =
       let j = journal_at r.bus.journals x.node in
       let changed = x.opens.aborts.changed in
       let between = x.kept (acc x.node x.few) (kept_before x.node x.few) in
@@ -172,12 +175,13 @@ module _ (setup : Setup) (r : SerialValue) (deeds : List (List Deed)) (h : Stand
       let whole : x.opened ≡ j ++ abort_as changed
       = x.opens.aborts.whole ∙ ap (λ (s : List Entry). s ++ abort_as changed) same in
       let most = room_for (r.bus.run + r.bus.left) r.bus.steps x.node in
-      never_broken x.node x.few x.opened (journal_at now.journals x.node) x.between f
+      never_broken alike x.node x.few x.opened (journal_at now.journals x.node) x.between f
       (subst (λ (s : List Entry). HasFree 3 most s) (sym whole) (free_aborted 3 most j changed (room x.node x.few)))
       between x.broken
 
-  pub never_stops : (orders_are : ℕ → Orders → Type 0) (now : BusValue) (after : List Deques) (f : BusFault) →
-      StopsBit Lies (λ (s : Deques). length s.down ≡ 22) orders_are r.bus now r.links after f → ⊥
+  pub never_stops : {alike : Deques → Deques → Type 0} (orders_are : ℕ → Orders → Type 0) (now : BusValue)
+      (after : List Deques) (f : BusFault) →
+      StopsBit alike Lies (λ (s : Deques). length s.down ≡ 22) orders_are r.bus now r.links after f → ⊥
   never_stops orders_are now after f (spent is none) =
       let a = h.all_bits in let b = h.bits in omega (arith, none, a, b, left)
   never_stops orders_are now after f (not_taken x) = no_item now after f x
@@ -228,8 +232,9 @@ module _ {bus : BusValue} {drivers : List LoggedDriver} {ports : List Registers}
   there : StandsAt setup (run_now bus drivers ports slice bits) run.0
   there = stands_there same view setup run.0 run.1
 
-  pub never_stops_there : (orders_are : ℕ → Orders → Type 0) (now : BusValue) (after : List Deques) (f : BusFault) →
-      (bus.fault ≡ None → StopsBit Lies (λ (s : Deques). length s.down ≡ 22) orders_are bus now slice after f) → ⊥
+  pub never_stops_there : {alike : Deques → Deques → Type 0} (orders_are : ℕ → Orders → Type 0) (now : BusValue)
+      (after : List Deques) (f : BusFault) →
+      (bus.fault ≡ None → StopsBit alike Lies (λ (s : Deques). length s.down ≡ 22) orders_are bus now slice after f) → ⊥
   never_stops_there orders_are now after f stops =
       never_stops setup (run_now bus drivers ports slice bits) run.0 there (left_there same view setup left)
       (lawful_there same view was) orders_are now after f (stops there.right)

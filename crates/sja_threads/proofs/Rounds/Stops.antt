@@ -38,21 +38,24 @@ no_full : (node : ℕ) → BitsSpent ≡ JournalFull node → ⊥
 no_full node e = cc
 
 -- nor is a bit that broke off where bits are left
-bit_not_spent : {E : Type 0} (stands : E → Lists → Type 0) (full : E → Type 0) (orders_are : ℕ → Orders → Type 0)
-    (before now : BusValue) (links after : List E) (f : BusFault) → before.left ≢ 0 →
-    StopsBit stands full orders_are before now links after f → f ≢ BitsSpent
-bit_not_spent stands full orders_are before now links after f some (spent is none) e = some none
-bit_not_spent stands full orders_are before now links after f some (not_taken n) e =
+bit_not_spent : {E : Type 0} (same : E → E → Type 0) (stands : E → Lists → Type 0) (full : E → Type 0)
+    (orders_are : ℕ → Orders → Type 0) (before now : BusValue) (links after : List E) (f : BusFault) → before.left ≢ 0 →
+    StopsBit same stands full orders_are before now links after f → f ≢ BitsSpent
+bit_not_spent same stands full orders_are before now links after f some (spent is none) e = some none
+bit_not_spent same stands full orders_are before now links after f some (not_taken n) e =
     taken_not_spent stands (before.run + before.left) before.steps before.journals now.journals links after f n e
-bit_not_spent stands full orders_are before now links after f some (not_aborted n) e = no_full n.node (sym e ∙ n.is)
-bit_not_spent stands full orders_are before now links after f some (broken_off n) e =
-    subst (λ (x : BusFault). IsBrokenFor stands full n.node (room_for (before.run + before.left) before.steps n.node)
-    n.opened (journal_at now.journals n.node) n.between (per_node * n.node) x) e n.broken
+bit_not_spent same stands full orders_are before now links after f some (not_aborted n) e =
+    no_full n.node (sym e ∙ n.is)
+bit_not_spent same stands full orders_are before now links after f some (broken_off n) e =
+    subst (λ (x : BusFault). IsBrokenFor same stands full n.node
+    (room_for (before.run + before.left) before.steps n.node) n.opened (journal_at now.journals n.node) n.between
+    (per_node * n.node) x) e n.broken
 
 -- why a bit doesn't come to its end, whatever the ports order
-pub by_any_orders : {E : Type 0} {stands : E → Lists → Type 0} {full : E → Type 0} (before now : BusValue)
-    (links after : List E) (f : BusFault) (orders_are : ℕ → Orders → Type 0) →
-    StopsBit stands full orders_are before now links after f → StopsBit stands full any_orders before now links after f
+pub by_any_orders : {E : Type 0} {same : E → E → Type 0} {stands : E → Lists → Type 0} {full : E → Type 0}
+    (before now : BusValue) (links after : List E) (f : BusFault) (orders_are : ℕ → Orders → Type 0) →
+    StopsBit same stands full orders_are before now links after f →
+    StopsBit same stands full any_orders before now links after f
 by_any_orders before now links after f orders_are (spent is none) = spent is none
 by_any_orders before now links after f orders_are (not_taken n) = not_taken n
 by_any_orders before now links after f orders_are (not_aborted n) = not_aborted (record {
@@ -72,6 +75,7 @@ by_any_orders before now links after f orders_are (broken_off n) = broken_off (r
   few = n.few;
   opened = n.opened;
   between = n.between;
+  sames = n.sames;
   opens = record {
     taken = n.opens.taken;
     items = n.opens.items;
@@ -94,7 +98,7 @@ module _ (plan : PlanValue) (t next : BusThread) (now : BusValue) (links after :
       (subst (λ (l : List RingBus). EachRelated SameBus links l) (sym those) same)
 
   stops_for : IsTakenAndRefused BusLists plan.bits t.bus.steps t.bus.journals now.journals links after f
-      ⊎ StopsBit BusLists HasNoPlace any_orders t.bus now links after f → f ≢ BitsSpent → Stops plan t next f
+      ⊎ StopsBit SameBus BusLists HasNoPlace any_orders t.bus now links after f → f ≢ BitsSpent → Stops plan t next f
   stops_for why unspent = record {
     stop = subst (λ (l : List RingBus). StopsOn t.bus.steps plan l f) (sym those) (record {
       was = t.bus;
@@ -109,6 +113,7 @@ module _ (plan : PlanValue) (t next : BusThread) (now : BusValue) (links after :
       stood =
           subst (λ (l : List RingBus). StandFor plan t.bus.journals l) (sym these)
           (record { count = w.count; ids = w.ids; kept = w.kept });
+      sames = same;
       why = why;
       not_spent = unspent;
       ids = subst (λ (l : List RingBus). Numbered link_of_bus l) those
@@ -126,10 +131,10 @@ module _ (plan : PlanValue) (t next : BusThread) (now : BusValue) (links after :
       (taken_not_spent BusLists (t.bus.run + t.bus.left) t.bus.steps t.bus.journals now.journals links after f n)
 
   -- a bit didn't come to its end, where bits were left
-  pub stops_bit : t.run < plan.bits → StopsBit BusLists HasNoPlace any_orders t.bus now links after f →
+  pub stops_bit : t.run < plan.bits → StopsBit SameBus BusLists HasNoPlace any_orders t.bus now links after f →
       Stops plan t next f
   stops_bit less b = stops_for (inr b)
-      (bit_not_spent BusLists HasNoPlace any_orders t.bus now links after f
+      (bit_not_spent SameBus BusLists HasNoPlace any_orders t.bus now links after f
       (λ none. let all = w.all_bits in let run = w.run in omega (arith, all, none, run, less)) b)
 
 -- an item that wasn't taken, by what the bus answers

@@ -104,7 +104,7 @@ returns-in_err-sample_from-clause-stops g c =
     let is : c.from_residual-in_err-sample_from.result ≡ Err f = search rules in
     let P : _ → Type 0 = λ x. (SeatRefuses E.stands was now c.args.links.now c.sample_from.new.links x
     ⊎ SeatFull E.stands O was now c.args.links.now c.sample_from.new.links x)
-    ⊎ SeatStops E.stands E.full O E.same was now c.args.links.now x in
+    ⊎ SeatStops E.same E.stands E.full O was now c.args.links.now x in
     err_is P c.from_residual-in_err-sample_from.result f is
     (inr (record {
       opened = c.open_all.new.seats;

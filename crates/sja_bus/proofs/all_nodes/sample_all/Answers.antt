@@ -233,7 +233,8 @@ returns-in_err-told-clause-broken g c =
     let row = row_so_far g (goal.at.returns-in_err-told-clause-broken g c).After-sample_quietly (search rules) in
     let f = c.in_err-told.field-0.0 in
     let is : c.from_residual.result ≡ Err f = search rules in
-    let P : _ → Type 0 = λ x. SeatBreaks E.stands E.full c.args.seats.now c.tell_from.new.seats c.args.links.now x in
+    let P : _ → Type 0 = λ x. SeatBreaks E.same E.stands E.full c.args.seats.now c.tell_from.new.seats
+    c.args.links.now x in
     err_is P c.from_residual.result f is (c.in_err-told.ensures.broken c.args.seats.now
     c.args.links.now c.args.board.now row)
 

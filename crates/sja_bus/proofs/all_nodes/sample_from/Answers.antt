@@ -140,7 +140,8 @@ returns-in_err-one-clause-broken g c =
     (λ before given start u.
     let i = inv.row before given start u in let count = i.count in
     breaks_seat E.same E.stands E.full (SeatTurns (D.told start c.loop-k.board) (D.kept start c.loop-k.board)
-    c.args.struck c.args.level) before c.loop-k.seats given c.loop-k.links k s new f (omega (arith, near, count))
+    c.args.struck c.args.level) before c.loop-k.seats given c.loop-k.links k s new f g.met.E.BusEnd.same_refl
+    g.met.E.BusEnd.same_trans (omega (arith, near, count))
     i.count i.ready i.goes i.done broken)
 
 pub returns-clause-rooms : goal.returns-clause-rooms

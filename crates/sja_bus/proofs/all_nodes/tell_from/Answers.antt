@@ -192,7 +192,8 @@ returns-in_err-one-clause-broken g c =
     err_is P c.from_residual.result f is
     (λ before given start u. let count = u.count in
     breaks_seat E.same E.stands E.full (SeatTurns (D.told start c.args.board.now) (D.kept start c.args.board.now)
-    c.args.struck c.args.level) before seats given c.args.links.now k s new f (omega (arith, near, count))
+    c.args.struck c.args.level) before seats given c.args.links.now k s new f g.met.E.BusEnd.same_refl
+    g.met.E.BusEnd.same_trans (omega (arith, near, count))
     u.count u.ready u.goes u.done broken)
 
 -- each journal has the room that it had

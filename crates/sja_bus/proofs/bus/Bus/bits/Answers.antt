@@ -128,7 +128,8 @@ returns-in_err-run-clause-reason g c =
     let at = goal.at.returns-in_err-run-clause-reason g c in
     let is : c.from_residual-in_err-run.result ≡ Err f = search rules in
     let P : BusFault → Type 0 = λ x. c.args.self.now.fault ≡ None → StopsBits E B to_rest c.args.count was now x in
-    err_is P c.from_residual-in_err-run.result f is (λ _. breaks_later E.stands E.full B.orders_are (BitInOrder E B)
+    err_is P c.from_residual-in_err-run.result f is
+    (λ _. breaks_later E.same E.stands E.full B.orders_are (BitInOrder E B)
     (AnyBit E B) (WorksIf to_rest) was (moment c.bit.new.self c.bit.new.links c.bit.new.board) now (c.loop-run.run + 1)
     (c.in_ok-most.most - (c.loop-run.run + 1)) c.args.count f (omega (arith, more, most))
     (later g at.After-run_untaken_bits) (one_more g at.After-run_untaken_bits (works g at.After-bit)).bits

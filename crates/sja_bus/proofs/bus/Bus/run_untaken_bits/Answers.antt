@@ -79,7 +79,8 @@ returns-in_err-bits-clause-stops g c =
     err_is P c.from_residual.result f is (record {
       keeps = keeps_trans E B g.met.E.BusEnd.same_trans g.met.B.Board.kept_trans was mid now far.keeps stops.keeps;
       fault = stops.fault;
-      reason = breaks_later E.stands E.full B.orders_are (AnyBit E B) (AnyBit E B) (WorksIf c.args.to_rest) was mid now
+      reason = breaks_later E.same E.stands E.full B.orders_are (AnyBit E B) (AnyBit E B) (WorksIf c.args.to_rest) was
+          mid now
           c.loop-run.run rest c.args.further f (omega (arith, early)) (λ k x y one. one)
           far.bits stops.reason;
     })

@@ -48,11 +48,12 @@ returns-clause-broken g c =
     let back = inv.put.back (search rules) in let follows = c.requires.mid.follows in
     let P : Activity → Type 0 = λ a. Reads was.node j was.ended a (free_in was.ledger) in
     let C : List Event → Type 0 = λ r. IsCut r follows.found in
-    let G : Seat → Type 0 = λ s. GaveBack E.stands E.full c.args.end.now j s.journal.entries (suc was.ended) in
+    let G : Seat → Type 0 = λ s. GaveBack E.same E.stands E.full c.args.end.now j s.journal.entries (suc was.ended) in
     let reads = subst P c.requires.runs.1 c.requires.mid.reads in (
       c.number.ensures ∙ ap (λ (s : Seat). (link_of s.ledger).node) inv.seat,
       subst G (sym inv.seat) (record {
         last = back.last;
+        is_end = back.is_end;
         is_full = back.is_full;
         stood = λ h stood. back.stood (account j (suc was.ended) h) stood;
         off = true;

@@ -1,5 +1,10 @@
 use Rattle.std.proofs.Common.{◌≡◌, ◌≤◌, ℕ, suc, List, [], ◌∷◌, ◌++◌, length, refl, sym, ap, ◌∙◌, subst, rules}
+use Rattle.std.proofs.Common.{false, append-nil}
 use Rattle.std.specs.Prelude.{Err}
+use Rattle.can_node.specs.Cut.{IsCut}
+use Rattle.sja_link.specs.Accounts.{account}
+use Rattle.sja_link.specs.Records.{record_of}
+use Rattle.sja_link.specs.declared.bus_ledger.BusLedger.{BusLedger}
 use Rattle.sja_link.specs.Written.{Room, IsFullFor}
 use Rattle.sja_link.specs.declared.entry.Entry.{Entry}
 use Rattle.sja_link.specs.declared.entry.Entry.TheVariants.{Bit}
@@ -81,6 +86,24 @@ returns-in_ok-enter-in-Ok-2-clause-moves g c =
     rw whole (moves_trans g.E.BusEnd.stands c.args.end.now c.args.end.now c.accept.new.end j k (k ++ entry_of v m ∷ [])
     (suc was.ended) one two)
 
+pub returns-in-Err-clause-broken : goal.returns-in-Err-clause-broken
+returns-in-Err-clause-broken g c =
+    let was = c.args.self.now in let j = was.journal.entries in let back = c.in-Err.ensures.back in
+    let lawful = c.requires.lawful in let C : List Entry → Type 0 = λ l. IsCut (record_of l) lawful.found in (
+      c.number.ensures ∙ ap (λ (l : BusLedger). (link_of l).node) c.in-Err.ensures.busy,
+      record {
+        last = back.last;
+        is_end = back.is_end;
+        is_full = back.is_full;
+        stood = λ h stood. back.stood (account j (suc was.ended) h) stood;
+        off = false;
+        found = lawful.found;
+        cut = subst C (sym (append-nil j)) lawful.cut;
+        verdicts = lawful.verdicts lawful.found lawful.cut;
+        on = c.requires.on;
+      },
+    )
+
 pub returns-in_err-enter-in-Ok-clause-broken : goal.returns-in_err-enter-in-Ok-clause-broken
 returns-in_err-enter-in-Ok-clause-broken g c =
     let E = g.E.BusEnd in let was = c.args.self.now in let j = was.journal.entries in let new = c.enter.new.self in
@@ -91,7 +114,7 @@ returns-in_err-enter-in-Ok-clause-broken g c =
     (λ p f. (c.in-Ok.ensures.judged p f).0) in
     let f = c.in_err-enter-in-Ok.field-0.0 in let full = c.in_err-enter-in-Ok.ensures.full in
     let is : c.from_residual.result ≡ Err f = search rules in
-    let Q : _ → Type 0 = λ y. BreaksBy (IsJudgedShort room j x seen a m new.journal.entries) E.stands E.full
+    let Q : _ → Type 0 = λ y. BreaksBy (IsJudgedShort room j x seen a m new.journal.entries) E.same E.stands E.full
     c.args.end.now was new y in
     let node = ap (λ (l : LinkId). l.node) c.in-Ok.ensures.id in
     err_is Q c.from_residual.result f is (subst Q (sym (full.is ∙ ap (λ k. JournalFull k) node))
@@ -109,7 +132,7 @@ returns-in_err-enter-in-Ok-2-clause-broken g c =
     let f = c.in_err-enter-in-Ok-2.field-0.0 in let full = c.in_err-enter-in-Ok-2.ensures.full in
     let mid = c.enter.new.self in let first = c.in_ok-enter-in-Ok.ensures in
     let is : c.from_residual-in_err-enter-in-Ok-2.result ≡ Err f = search rules in
-    let Q : _ → Type 0 = λ y. BreaksBy (IsJudgedShort room j x seen a m new.journal.entries) E.stands E.full
+    let Q : _ → Type 0 = λ y. BreaksBy (IsJudgedShort room j x seen a m new.journal.entries) E.same E.stands E.full
     c.args.end.now was new y in
     let R : Room → Type 0 = λ n. IsFullFor n mid.journal.entries (entry_of v m) in
     let S : List Entry → Type 0 = λ l. IsFullFor room l (entry_of v m) in

@@ -136,7 +136,7 @@ returns-in_err-enter_bit-in-None-clause-broken g c =
     (c.in-None.ensures filter c.requires.runs.1) ready.sound.follows in
     let f = c.in_err-enter_bit-in-None.field-0.0 in let full = c.in_err-enter_bit-in-None.ensures.full in
     let is : c.from_residual.result ≡ Err f = search rules in
-    let Q : _ → Type 0 = λ x. BreaksHere E.stands E.full c.args.end.now was c.enter_bit.new.self x in
+    let Q : _ → Type 0 = λ x. BreaksHere E.same E.stands E.full c.args.end.now was c.enter_bit.new.self x in
     err_is Q c.from_residual.result f is
     (subst Q (sym full.is) (
       refl,
@@ -155,9 +155,9 @@ returns-in_err-overrun-in-Some-clause-broken g c =
     let f = c.in_err-overrun-in-Some.field-0.0 in let message = c.in-Some.message in
     let now = c.judge.new.self.journal.entries in
     let is : c.from_residual-in_err-overrun-in-Some.result ≡ Err f = search rules in
-    let Q : _ → Type 0 = λ x. BreaksHere E.stands E.full c.args.end.now was c.judge.new.self x in
+    let Q : _ → Type 0 = λ x. BreaksHere E.same E.stands E.full c.args.end.now was c.judge.new.self x in
     err_is Q c.from_residual-in_err-overrun-in-Some.result f is
-    (breaks_by E.stands E.full c.args.end.now was c.judge.new.self f
+    (breaks_by E.same E.stands E.full c.args.end.now was c.judge.new.self f
     (λ (short : IsJudgedShort was.journal.room j was.drives seen a message now).
     judged_short new was.journal.room j now was.drives seen a message events.went_off short
     (received_judged was.node new j (now ++ short.due ∷ short.later) was.drives seen events filter

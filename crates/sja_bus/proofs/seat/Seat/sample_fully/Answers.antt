@@ -55,14 +55,14 @@ pub returns-clause-broken : goal.returns-clause-broken
 returns-clause-broken g c =
     let E = g.E.BusEnd in let few = c.requires.at.ready.seat.runs (ap open_in c.in-Running.is) in
     IfErr-weaker c.sample_running.result _ _
-    (λ f b. broken_link E.stands E.full c.args.self.now c.sample_running.new.self c.args.links.now c.args.base
-    c.index-links-here.result f few b)
+    (λ f b. broken_link E.same E.stands E.full c.args.self.now c.sample_running.new.self c.args.links.now c.args.base
+    c.index-links-here.result f few c.requires.at.room b)
     c.sample_running.ensures.broken
 
 pub returns-in_default-clause-broken : goal.returns-in_default-clause-broken
 returns-in_default-clause-broken g c =
     let E = g.E.BusEnd in let was = c.args.self.now in let new = c.sample_in_reset.new.self in
     IfErr-weaker c.sample_in_reset.result _ _
-    (λ f short. broken_short E.stands E.full (link_of was.ledger).node was.journal.room was.journal.entries
+    (λ f short. broken_short E.same E.stands E.full (link_of was.ledger).node was.journal.room was.journal.entries
     new.journal.entries c.args.links.now c.args.base f short.0 short.1)
     c.sample_in_reset.ensures.short

@@ -41,13 +41,13 @@ returns-in_err-go_off-clause-broken g c =
     c.go_off.new.self in let f = c.in_err-go_off.field-0.0 in
     let outcome = c.in_ok-outcome.ensures in let kept = outcome.kept in
     let is : c.from_residual-in_err-go_off.result ≡ Err f = search rules in
-    let P : _ → Type 0 = λ x. BreaksHere E.stands E.full c.args.end.now was new x in
+    let P : _ → Type 0 = λ x. BreaksHere E.same E.stands E.full c.args.end.now was new x in
     let R : Room → Type 0 = λ n. IsFullFor n mid.journal.entries Off in
     let W : Bool → Type 0 = λ w. FollowsBit mid.node mid.journal.entries w in
     let off : c.in_ok-outcome.outcome.events.went_off ≡ true = search rules in
     err_is P c.from_residual-in_err-go_off.result f is
-    (breaks_after E.stands E.full c.args.end.now c.sample_and_judge.new.end was mid new f
-    (ap (λ l. l.node) kept.2) kept.0
+    (breaks_after E.same E.stands E.full c.args.end.now c.sample_and_judge.new.end was mid new f
+    g.met.E.BusEnd.same_trans outcome.same (ap (λ l. l.node) kept.2) kept.0
     (λ used. off_short mid.node was.journal.room was.journal.entries mid.journal.entries new.journal.entries was.drives
     c.args.seen outcome.verdict.verdict c.in_err-go_off.ensures.unentered (subst R outcome.room used)
     (subst W off outcome.mid.follows))
