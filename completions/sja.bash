@@ -23,7 +23,7 @@ _sja() {
     done
     mapfile -t COMPREPLY < <(compgen -W "$(_sja_words "$command" "$place")" -- "$current")
     case $command in
-    run | wave | trace | frames | candump | check | sweep | registers | plan)
+    run | wave | trace | frames | picture | candump | check | sweep | registers | plan)
         compopt -o filenames 2>/dev/null
         [[ $current == -* ]] || mapfile -t -O "${#COMPREPLY[@]}" COMPREPLY < <(compgen -f -- "$current")
         ;;

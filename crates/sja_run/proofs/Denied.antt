@@ -9,7 +9,7 @@ use Rattle.sja_texts.specs.declared.command_refusal.CommandRefusal.{CommandRefus
 use Rattle.sja_texts.specs.declared.sweep_refusal.SweepRefusal.{SweepRefusal}
 use Rattle.sja_run.specs.Answer.{AsksForRun, IsRefused, Shows, request_for, request_left}
 use Rattle.sja_run.specs.Check.{HasRawMistake}
-use Rattle.sja_run.specs.Files.{RefusesBytes, RefusesTextFor}
+use Rattle.sja_run.specs.Files.{RefusesTextFor, RefusesTextIn}
 use Rattle.sja_run.specs.Input.{IsRead, ReadsFew}
 use Rattle.sja_run.specs.Inside.Denials.{Denies, DeniesOf, IsDenied, told_of}
 use Rattle.sja_run.specs.PlanDocument.{RefusesInputSpelled, RefusesSpelling}
@@ -32,10 +32,10 @@ use Rattle.sja_run.proofs.Requested.Showing.{shows_printed, shows_refused}
 -- ---- of bytes
 
 -- of the document alone, and of a text of a run of its plan
-pub bytes_denied : (threads : Bool) (bytes : List ℕ) (why : Unanswered) → DeniesOf (RefusesRunPlan bytes) bytes why →
-    DeniesOf (RefusesBytes threads bytes) bytes why
-bytes_denied threads bytes (Refused r) h = document_bytes threads bytes r h
-bytes_denied threads bytes (Mistaken text) h = h
+pub bytes_denied : (threads : Bool) (what : RunText) (bytes : List ℕ) (why : Unanswered) →
+    DeniesOf (RefusesRunPlan bytes) bytes why → DeniesOf (RefusesTextIn threads what bytes) bytes why
+bytes_denied threads what bytes (Refused r) h = document_bytes threads what bytes r h
+bytes_denied threads what bytes (Mistaken text) h = h
 
 pub ruleset of_bytes = (bytes_refused, bytes_denied)
 

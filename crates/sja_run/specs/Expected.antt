@@ -7,7 +7,7 @@ use Rattle.sja_places.specs.PlanRead.{IsRunPlan}
 use Rattle.sja_texts.specs.declared.command_refusal.CommandRefusal.TheVariants.{OutOfMemory}
 use Rattle.sja_run.specs.Check.{IsExplained}
 use Rattle.sja_run.specs.Difference.{IsCompared}
-use Rattle.sja_run.specs.Files.{IsReadAs, IsUnread, RefusesBytes, printed_of, refused_of, status_of}
+use Rattle.sja_run.specs.Files.{IsReadAs, IsUnread, RefusesTextIn, printed_of, refused_of, status_of}
 use Rattle.sja_run.specs.RunText.{IsTextOfRun}
 use Rattle.sja_run.specs.declared.file_outcome.FileOutcome.{FileOutcome}
 use Rattle.sja_run.specs.declared.file_outcome.FileOutcome.TheVariants.{Printed, Told, Mistaken, Refused, Unreadable}
@@ -25,7 +25,7 @@ abbrev pub Meets : Bool → List ℕ → List ℕ → FileOutcome → Type 0
 Meets threads bytes expected (Printed text) = (text.items ≡ []) × HasReport threads bytes expected None
 Meets threads bytes expected (Told text) = HasReport threads bytes expected (Some text.items)
 Meets threads bytes expected (Mistaken text) = (begins_raw bytes ≡ true) × IsExplained bytes text.items
-Meets threads bytes expected (Refused r) = RefusesBytes threads bytes r
+Meets threads bytes expected (Refused r) = RefusesTextIn threads Report bytes r
 Meets threads bytes expected Unreadable = ⊥
 
 -- of what stands under a name as a plan, beside the expected report

@@ -4,6 +4,7 @@ use Rattle.std.specs.Prelude.{◌≡◌, ◌⊎◌, ◌++◌, ◌∷◌, ℕ, Bo
 use Rattle.std.specs.Prelude.{codes, length, nat_lt, if◌then◌else◌}
 use Rattle.std.specs.List.{list_all}
 use Rattle.std.specs.Io.KnownBytes.{Appends, Keeps}
+use Rattle.sja_log.specs.Log.{RunValue}
 use Rattle.sja_plan.specs.Limits.{begins_raw}
 use Rattle.sja_plan.specs.Plan.{PlanValue}
 use Rattle.sja_places.specs.PlanRead.{IsRunPlan}
@@ -13,12 +14,13 @@ use Rattle.sja_texts.specs.Refusal.{refusal_line}
 use Rattle.sja_texts.specs.declared.sweep_refusal.SweepRefusal.{SweepRefusal}
 use Rattle.sja_texts.specs.declared.command_refusal.CommandRefusal.{CommandRefusal}
 use Rattle.sja_texts.specs.declared.command_refusal.CommandRefusal.TheVariants as refusal
+use Rattle.sja_run.specs.Answer.{picture_or_drawing}
 use Rattle.sja_run.specs.Check.{IsExplained, IsFine, IsHinted}
 use Rattle.sja_run.specs.Names.{shown_name}
 use Rattle.sja_run.specs.Input.{IsRead, IsReadFrom, RefusesInput}
 use Rattle.sja_run.specs.PlanDocument.{IsSpelling, RefusesSpelling}
 use Rattle.sja_run.specs.Run.{RefusesRunPlan}
-use Rattle.sja_run.specs.RunText.{IsTextOfRun, MayFault}
+use Rattle.sja_run.specs.RunText.{IsRunOf, IsTextOfRun, IsTooLarge, MayFault}
 use Rattle.sja_run.specs.Registers.{IsTold, RefusesRegisters}
 use Rattle.sja_run.specs.Sweep.{IsStruck, IsSwept, RefusesStruck, RefusesSwept}
 use Rattle.sja_run.specs.declared.file_outcome.FileOutcome.{FileOutcome}
@@ -42,6 +44,8 @@ IsAnswer (question.Report threads) bytes text = IsTextIn threads Report bytes te
 IsAnswer (question.Wave threads) bytes text = IsTextIn threads Wave bytes text
 IsAnswer (question.Trace threads) bytes text = IsTextIn threads Trace bytes text
 IsAnswer (question.Frames bits threads) bytes text = IsTextIn threads (Frames bits) bytes text
+IsAnswer (question.Picture first last svg threads meant) bytes text =
+    IsTextIn threads (picture_or_drawing svg first last meant) bytes text
 IsAnswer (question.Candump errors threads) bytes text = IsTextIn threads (Candump errors) bytes text
 IsAnswer (question.Sweep w) bytes text = IsTextFor (IsSwept w) bytes text
 IsAnswer (question.StruckPlan node bit) bytes text = IsTextFor (IsStruck node bit) bytes text
@@ -49,16 +53,20 @@ IsAnswer (question.Check strict) bytes text = IsHinted bytes text × IsFine stri
 IsAnswer (question.Registers bit) bytes text = IsTextFor (IsTold bit) bytes text
 IsAnswer question.Plan bytes text = IsSpelling bytes text
 
--- why there is no text of a run of that plan. Memory may be refused at any time. Else the bytes have this first fault,
--- or they are a plan, and its run had this fault
-abbrev pub RefusesBytes : Bool → List ℕ → CommandRefusal → Type 0
-RefusesBytes threads bytes refusal.OutOfMemory = Unit {0}
-RefusesBytes threads bytes (refusal.Plan fault) = RefusesRunPlan bytes (refusal.Plan fault)
-RefusesBytes threads bytes (refusal.Place number) = RefusesRunPlan bytes (refusal.Place number)
-RefusesBytes threads bytes refusal.Strikes = RefusesRunPlan bytes refusal.Strikes
-RefusesBytes threads bytes (refusal.Run fault) =
+-- why there is none of these texts of a run of that plan, in threads (`true`) or in one. Memory may be refused at any
+-- time. Else the bytes have this first fault, or they are a plan, and its run had this fault; or it was made, and the
+-- drawing of its bits has more levels than may be drawn unasked
+abbrev pub RefusesTextIn : Bool → RunText → List ℕ → CommandRefusal → Type 0
+RefusesTextIn threads what bytes refusal.OutOfMemory = Unit {0}
+RefusesTextIn threads what bytes (refusal.Plan fault) = RefusesRunPlan bytes (refusal.Plan fault)
+RefusesTextIn threads what bytes (refusal.Place number) = RefusesRunPlan bytes (refusal.Place number)
+RefusesTextIn threads what bytes refusal.Strikes = RefusesRunPlan bytes refusal.Strikes
+RefusesTextIn threads what bytes (refusal.Run fault) =
     (plan : PlanValue) × IsRunPlan bytes plan × MayFault threads plan fault
-RefusesBytes threads bytes other = ⊥
+RefusesTextIn threads what bytes (refusal.Drawing levels) =
+    (plan : PlanValue) × (log : RunValue) × IsRunPlan bytes plan × IsRunOf threads plan log
+    × IsTooLarge what plan log levels
+RefusesTextIn threads what bytes other = ⊥
 
 -- why there is no text of that plan without its run: as there is none of its run, but that the plan has no such text
 -- in place of a fault of the run
@@ -72,11 +80,13 @@ RefusesTextFor May bytes other = ⊥
 
 -- why there is no answer. `check` has one of a fault of the plan too
 abbrev pub IsUnanswered : PlanQuestion → List ℕ → CommandRefusal → Type 0
-IsUnanswered (question.Report threads) bytes r = RefusesBytes threads bytes r
-IsUnanswered (question.Wave threads) bytes r = RefusesBytes threads bytes r
-IsUnanswered (question.Trace threads) bytes r = RefusesBytes threads bytes r
-IsUnanswered (question.Frames bits threads) bytes r = RefusesBytes threads bytes r
-IsUnanswered (question.Candump errors threads) bytes r = RefusesBytes threads bytes r
+IsUnanswered (question.Report threads) bytes r = RefusesTextIn threads Report bytes r
+IsUnanswered (question.Wave threads) bytes r = RefusesTextIn threads Wave bytes r
+IsUnanswered (question.Trace threads) bytes r = RefusesTextIn threads Trace bytes r
+IsUnanswered (question.Frames bits threads) bytes r = RefusesTextIn threads (Frames bits) bytes r
+IsUnanswered (question.Picture first last svg threads meant) bytes r =
+    RefusesTextIn threads (picture_or_drawing svg first last meant) bytes r
+IsUnanswered (question.Candump errors threads) bytes r = RefusesTextIn threads (Candump errors) bytes r
 IsUnanswered (question.Sweep w) bytes r = RefusesTextFor (RefusesSwept w) bytes r
 IsUnanswered (question.StruckPlan node bit) bytes r = RefusesTextFor (RefusesStruck node bit) bytes r
 IsUnanswered (question.Check strict) bytes r = r ≡ refusal.OutOfMemory

@@ -2,9 +2,10 @@
 
 ghost use Rattle.std.specs.Prelude.{◌≡◌, ◌⊎◌, IfOk, IfErr, false, option_map, true};
 ghost use Rattle.sja_run.specs.Expected.{HasReport, IsMet, ShowsExpected};
-ghost use Rattle.sja_run.specs.Files.{RefusesBytes};
+ghost use Rattle.sja_run.specs.Files.{RefusesTextIn};
 ghost use Rattle.sja_run.specs.Inside.Denials.{DeniesOf};
 ghost use Rattle.sja_run.specs.Inside.FileReads.{IsMetBy};
+ghost use Rattle.sja_run.specs.declared.run_text.RunText.TheVariants.{Report};
 
 use super::difference::difference;
 use super::file_answers::written_by;
@@ -107,7 +108,7 @@ fn compared<T: Threads + Wait + Sync>(
 ) -> Result<Option<Vec<u8>>, Unanswered>
     ensures ok { IfOk result (λ said.
         HasReport threads bytes.now report.now (option_map (λ text. text.items) said)) }
-    ensures err { IfErr result (DeniesOf (RefusesBytes threads bytes.now) bytes.now) }
+    ensures err { IfErr result (DeniesOf (RefusesTextIn threads Report bytes.now) bytes.now) }
 {
     let plan = plan_in(alloc, bytes)?;
     let text = written_by(rt, alloc, threads, RunText::Report, &plan)?;

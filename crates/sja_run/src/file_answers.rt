@@ -3,11 +3,11 @@
 ghost use Rattle.std.specs.Prelude.{◌≡◌, ℕ, List, IfOk, IfErr, length};
 ghost use Rattle.sja_words.specs.declared.plan_question.PlanQuestion.TheVariants.{Check};
 ghost use Rattle.sja_run.specs.Check.{IsHinted};
-ghost use Rattle.sja_run.specs.Files.{Answers, IsAnswer, IsCheck, IsTextIn, IsUnanswered, RefusesBytes};
+ghost use Rattle.sja_run.specs.Files.{Answers, IsAnswer, IsCheck, IsTextIn, IsUnanswered, RefusesTextIn};
 ghost use Rattle.std.specs.List.{AllZip};
 ghost use Rattle.sja_run.specs.Inside.Denials.{DeniesOf};
 ghost use Rattle.sja_run.specs.Inside.FileReads.{ComeOf, ComesOf, Settles};
-ghost use Rattle.sja_run.specs.Inside.Runs.{IsPlain, RefusesRunOf};
+ghost use Rattle.sja_run.specs.Inside.Runs.{RefusesRunOf};
 ghost use Rattle.sja_run.specs.RunText.{IsTextOfRun};
 
 use super::check::said_of;
@@ -16,7 +16,7 @@ use super::plan_check::PlanCheck;
 use super::plan_document::spelled;
 use super::registers::registers_in;
 use super::run_plan::plan_in;
-use super::run_text::RunText;
+use super::run_text::{RunText, picture_or_drawing};
 use super::serial_text::written_of;
 use super::struck_plan::struck_in;
 use super::sweeps::swept_in;
@@ -145,6 +145,16 @@ fn printed_of<T: Threads + Wait + Sync>(
         PlanQuestion::Frames { bits, threads } => {
             written_in(rt, alloc, threads, RunText::Frames(bits), bytes)
         }
+        PlanQuestion::Picture {
+            first,
+            last,
+            svg,
+            threads,
+            meant,
+        } => {
+            let what = picture_or_drawing(first, last, svg, meant);
+            written_in(rt, alloc, threads, what, bytes)
+        }
         PlanQuestion::Candump { errors, threads } => {
             written_in(rt, alloc, threads, RunText::Candump(errors), bytes)
         }
@@ -178,8 +188,7 @@ fn hints_outcome(strict: bool, text: Vec<u8>) -> FileOutcome
     }
 }
 
-/// This text of a run of the plan that these bytes are, which is no drawing: with each driver in a thread of its own,
-/// or with all in one.
+/// This text of a run of the plan that these bytes are: with each driver in a thread of its own, or with all in one.
 #[tactic(auto, using(crate::proofs::Denied::of_bytes))]
 fn written_in<T: Threads + Wait + Sync>(
     rt: &T,
@@ -188,9 +197,8 @@ fn written_in<T: Threads + Wait + Sync>(
     what: RunText,
     bytes: &[u8],
 ) -> Result<Vec<u8>, Unanswered>
-    requires { IsPlain what }
     ensures ok { IfOk result (λ text. IsTextIn threads what bytes.now text.items) }
-    ensures err { IfErr result (DeniesOf (RefusesBytes threads bytes.now) bytes.now) }
+    ensures err { IfErr result (DeniesOf (RefusesTextIn threads what bytes.now) bytes.now) }
 {
     let plan = plan_in(alloc, bytes)?;
     let text = written_by(rt, alloc, threads, what, &plan)?;

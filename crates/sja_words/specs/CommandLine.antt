@@ -134,8 +134,8 @@ unfoldable pub bit_rule : Text → Rule
 bit_rule id = record (new_rule id) { action = Some Set; parser = Some (Unsigned 0 9999999) }
 
 -- `picture`, with the first and the last bit, or without, and with or without `--svg`, `--threads` and `--yes`
-unfoldable pub picture_app : App
-picture_app =
+unfoldable pub drawn_app : App
+drawn_app =
     and_rule
     (and_rule
     (and_rule
@@ -147,6 +147,10 @@ picture_app =
     (flag_rule (codes "svg")))
     (flag_rule (codes "threads")))
     (flag_rule (codes "yes"))
+
+-- with `FILE` behind both bits
+unfoldable pub picture_app : App
+picture_app = and_rule drawn_app file_rule
 
 -- `candump FILE..`, with or without `--errors`, `--threads` and `--jobs N`
 unfoldable pub candump_app : App

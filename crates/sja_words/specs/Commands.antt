@@ -6,7 +6,7 @@ use Rattle.clap.specs.Words.{Row, Text, all_of, first_of}
 use Rattle.sja_words.specs.declared.plan_question.PlanQuestion.{PlanQuestion}
 use Rattle.sja_words.specs.declared.plan_question.PlanQuestion.TheVariants as question
 use Rattle.sja_words.specs.Values.{flag_in, number_or, optional_in, single_in}
-use Rattle.sja_words.specs.Requests.{Request, request_about, filter, arbitrate, picture, expected, files}
+use Rattle.sja_words.specs.Requests.{Request, request_about, filter, arbitrate, expected, files}
 use Rattle.sja_words.specs.Sweeping.{sweep_in}
 
 -- what `filter` asks for, by its four arguments, where they are there and the first is a mode
@@ -24,14 +24,14 @@ arbitrate_in None = None
 arbitrate_in (Some messages) =
     if nat_lt 0 (length messages) && nat_le (length messages) 8 then Some (arbitrate messages) else None
 
--- what `picture` asks for, by the first and the last bit and the flags: where no bit is given from bit 0 on, and up to
--- the last bit of the run
-abbrev pub picture_by : Option ℕ → Option (Option ℕ) → Bool → Bool → Bool → Option Request
-picture_by (Some first) (Some last) svg threads meant = Some (picture first last svg threads meant)
+-- what `picture` asks of a plan, by the first and the last bit and the flags: where no bit is given from bit 0 on, and
+-- up to the last bit of the run
+abbrev pub picture_by : Option ℕ → Option (Option ℕ) → Bool → Bool → Bool → Option PlanQuestion
+picture_by (Some first) (Some last) svg threads meant = Some (question.Picture first last svg threads meant)
 picture_by (Some first) None svg threads meant = None
 picture_by None last svg threads meant = None
 
-abbrev pub picture_in : List Row → Option Request
+abbrev pub picture_in : List Row → Option PlanQuestion
 picture_in rows =
     picture_by (number_or 0 0 9999999 (first_of (codes "FROM") rows))
     (optional_in 9999999 (first_of (codes "TO") rows)) (flag_in (first_of (codes "svg") rows))
@@ -79,6 +79,7 @@ question_in name rows =
     else if bytes_eq name (codes "check") then Some (question.Check (flag_in (first_of (codes "strict") rows)))
     else if bytes_eq name (codes "frames") then
     Some (question.Frames (flag_in (first_of (codes "bits") rows)) (flag_in (first_of (codes "threads") rows)))
+    else if bytes_eq name (codes "picture") then picture_in rows
     else if bytes_eq name (codes "candump") then
     Some (question.Candump (flag_in (first_of (codes "errors") rows)) (flag_in (first_of (codes "threads") rows)))
     else if bytes_eq name (codes "sweep") then sweep_in rows

@@ -59,6 +59,7 @@ request_about (question.Check strict) = check strict
 request_about (question.Wave threads) = wave threads
 request_about (question.Trace threads) = trace threads
 request_about (question.Frames bits threads) = frames bits threads
+request_about (question.Picture first last svg threads meant) = picture first last svg threads meant
 request_about (question.Candump errors threads) = candump errors threads
 request_about (question.Sweep w) = sweep w
 request_about (question.StruckPlan node bit) = struck_plan node bit

@@ -5,7 +5,7 @@ use Rattle.clap.specs.Words.{Kinds, Row, Text, all_of, fault_of, first_of, subco
 use Rattle.sja_words.specs.declared.plan_question.PlanQuestion.{PlanQuestion}
 use Rattle.sja_words.specs.CommandLine.{sja_app}
 use Rattle.sja_words.specs.Requests.{Request, encode, decode, message, live}
-use Rattle.sja_words.specs.Commands.{filter_in, arbitrate_in, expected_in, picture_in, question_in, plan_in}
+use Rattle.sja_words.specs.Commands.{filter_in, arbitrate_in, expected_in, question_in, plan_in}
 
 -- what a subcommand asks for that takes no files, by its name and the values of its arguments
 abbrev pub other_by : Text → List Row → Option Request
@@ -17,7 +17,6 @@ other_by name rows =
     (first_of (codes "AMR") rows) (first_of (codes "MESSAGE") rows)
     else if bytes_eq name (codes "arbitrate") then arbitrate_in (all_of (codes "MESSAGE") rows)
     else if bytes_eq name (codes "message") then option_map message (first_of (codes "TEXT") rows)
-    else if bytes_eq name (codes "picture") then picture_in rows
     else if bytes_eq name (codes "run") then expected_in rows
     else if bytes_eq name (codes "live") then Some live
     else None

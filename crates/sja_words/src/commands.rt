@@ -76,7 +76,7 @@ const COMMANDS: &[CommandRow<'static>] = &[
     CommandRow {
         name: "picture",
         about: "Print the picture of a run of the plan on standard input, a column for each bit",
-        arguments: &[FIRST, LAST, SVG, THREADS, DRAW],
+        arguments: &[FIRST, LAST, SVG, THREADS, DRAW, FILE],
     },
     CommandRow {
         name: "candump",

@@ -21,7 +21,8 @@ Of several, each text has a line file NAME before it, in the order of names.
 A file that can't be read has sja: can't read NAME, and the others are done.";
 
 /// Of `picture`.
-const PICTURE_SAID: &str = "Where FROM comes after TO or after the end picture prints nothing,
+const PICTURE_SAID: &str = "- is standard input; a name that begins with - stands behind --.
+Where FROM comes after TO or after the end picture prints nothing,
 with --svg the legend alone.";
 
 /// Of commands that take a message.

@@ -9,7 +9,7 @@ ghost use Rattle.sja_words.specs.Words.{request_by, request_in, other_by};
 
 use super::expected_found::expected_task;
 use super::files_found::plan_task;
-use super::picture_found::picture_task;
+use super::picture_found::picture_question;
 use super::plan_question::PlanQuestion;
 use super::registers_found::registers_question;
 use super::sweep_found::sweep_question;
@@ -64,6 +64,7 @@ fn question_of<'a>(name: &str, arguments: &ArgMatches<'a>) -> Option<PlanQuestio
             bits: flag_at(arguments, "bits"),
             threads: flag_at(arguments, "threads"),
         }),
+        "picture" => picture_question(arguments),
         "candump" => Some(PlanQuestion::Candump {
             errors: flag_at(arguments, "errors"),
             threads: flag_at(arguments, "threads"),
@@ -104,7 +105,6 @@ fn other_task<'a>(name: &str, arguments: &ArgMatches<'a>) -> Option<Task<'a>>
         "filter" => filter_task(arguments),
         "arbitrate" => arbitrate_task(arguments),
         "message" => message_task(arguments),
-        "picture" => picture_task(arguments),
         "run" => expected_task(arguments),
         "live" => Some(Task::Live),
         _ => None,

@@ -10,7 +10,7 @@ ghost use Rattle.sja_words.specs.Words.{ParsesAs, faults};
 ghost use Rattle.clap.specs.declared.error.kind.ErrorKind.TheVariants.{DisplayVersion};
 ghost use Rattle.sja_words.specs.declared.plan_question.PlanQuestion.TheVariants.{Candump, Check, Frames, Plan};
 ghost use Rattle.sja_words.specs.declared.plan_question.PlanQuestion.TheVariants.{Report, StruckPlan, Sweep, Trace};
-ghost use Rattle.sja_words.specs.declared.plan_question.PlanQuestion.TheVariants.{Registers, Wave};
+ghost use Rattle.sja_words.specs.declared.plan_question.PlanQuestion.TheVariants.{Picture, Registers, Wave};
 
 /// The program's name, `encode` and a text that doesn't begin with `-` (45) ask for the levels of this message.
 pub fn encode_and_a_text_parse()
@@ -117,8 +117,8 @@ pub fn frames_parses()
 {}
 
 /// The program's name and `picture` ask for the picture of that plan's run: of all its bits, where nothing follows, or
-/// from a bit on, or from one bit to another; with `--svg` for a drawing in SVG. A bit that no number of seven digits
-/// is, is refused.
+/// from a bit on, or from one bit to another; with `--svg` for a drawing in SVG. With a name behind both bits they ask
+/// for that of the plan in this file. A bit that no number of seven digits is, is refused.
 pub fn picture_parses()
     ensures all { (name : List ℕ) → ParsesAs (name ∷ codes "picture" ∷ []) (picture 0 None false false false) }
     ensures first { (name : List ℕ) → ParsesAs (name ∷ codes "picture" ∷ codes "11" ∷ [])
@@ -132,6 +132,9 @@ pub fn picture_parses()
     ensures all_words { (name : List ℕ) → ParsesAs
         (name ∷ codes "picture" ∷ codes "11" ∷ codes "75" ∷ codes "--svg" ∷ codes "--threads" ∷ codes "--yes" ∷ [])
         (picture 11 (Some 75) true true true) }
+    ensures file { (name : List ℕ) → ParsesAs
+        (name ∷ codes "picture" ∷ codes "11" ∷ codes "75" ∷ codes "--svg" ∷ codes "a" ∷ [])
+        (files (Picture 11 (Some 75) true false false) 1 (codes "a" ∷ [])) }
     ensures past { (name : List ℕ) (r : Request)
         → ¬ ParsesAs (name ∷ codes "picture" ∷ codes "10000000" ∷ []) r }
 {}

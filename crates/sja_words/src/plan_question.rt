@@ -32,6 +32,19 @@ pub enum PlanQuestion {
         /// As for `run`.
         threads: bool,
     },
+    /// `picture FROM TO`: the picture of its run.
+    Picture {
+        /// The first bit that is drawn, counted from 0, at most 9,999,999.
+        first: u32,
+        /// The last bit that is drawn, at most 9,999,999; without one that of the run.
+        last: Option<u32>,
+        /// With `--svg`: as a drawing in SVG, otherwise in characters.
+        svg: bool,
+        /// As for `run`.
+        threads: bool,
+        /// With `--yes`: more levels than a drawing has unasked are meant.
+        meant: bool,
+    },
     /// `candump`: what each node received in its run.
     Candump {
         /// With `--errors`: error frames too.

@@ -5,8 +5,9 @@ use Rattle.std.proofs.lemmas.List.{append-nil, map_more}
 use Rattle.std.specs.Borrow.{Bor}
 use Rattle.std.specs.List.{AllZip}
 use Rattle.sja_words.specs.declared.plan_question.PlanQuestion.{PlanQuestion}
-use Rattle.sja_words.specs.declared.plan_question.PlanQuestion.TheVariants.{Candump, Check, Frames, Plan, Report}
-use Rattle.sja_words.specs.declared.plan_question.PlanQuestion.TheVariants.{Registers, StruckPlan, Sweep, Trace, Wave}
+use Rattle.sja_words.specs.declared.plan_question.PlanQuestion.TheVariants.{Candump, Check, Frames, Picture, Plan}
+use Rattle.sja_words.specs.declared.plan_question.PlanQuestion.TheVariants.{Registers, Report, StruckPlan, Sweep}
+use Rattle.sja_words.specs.declared.plan_question.PlanQuestion.TheVariants.{Trace, Wave}
 use Rattle.sja_texts.specs.declared.command_refusal.CommandRefusal.TheVariants.{OutOfMemory}
 use Rattle.sja_run.specs.Files.{AreOutcomes, IsOutcome, IsUnanswered, IsUnread}
 use Rattle.sja_run.specs.Inside.FileReads.{AreReads, ComeOf, ComesOf, IsReadOf, Settles, all_refused}
@@ -39,6 +40,7 @@ unanswered (Report threads) bytes = tt
 unanswered (Wave threads) bytes = tt
 unanswered (Trace threads) bytes = tt
 unanswered (Frames bits threads) bytes = tt
+unanswered (Picture first last svg threads meant) bytes = tt
 unanswered (Candump errors threads) bytes = tt
 unanswered (Sweep w) bytes = tt
 unanswered (StruckPlan node bit) bytes = tt

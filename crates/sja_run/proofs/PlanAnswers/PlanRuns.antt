@@ -5,7 +5,7 @@ use Rattle.sja_places.specs.PlanRead.{IsRunPlan}
 use Rattle.sja_texts.specs.declared.command_refusal.CommandRefusal.{CommandRefusal}
 use Rattle.sja_texts.specs.declared.command_refusal.CommandRefusal.TheVariants as refusal
 use Rattle.sja_run.specs.Inside.Answers.{IsChecked, IsSaidOf}
-use Rattle.sja_run.specs.Files.{RefusesBytes}
+use Rattle.sja_run.specs.Files.{RefusesTextIn}
 use Rattle.sja_run.specs.Input.{IsRead}
 use Rattle.sja_log.specs.Log.{RunValue}
 use Rattle.sja_run.specs.Inside.Runs.{IsPlain, RefusesRunOf, HoldsPlan}
@@ -29,38 +29,37 @@ none_large (Candump errors) plan log levels plain large = large
 
 -- of the plan that some bytes are
 pub bytes_refused : (threads : Bool) (what : RunText) (bytes : List ℕ) (plan : PlanValue) (r : CommandRefusal) →
-    IsPlain what → IsRunPlan bytes plan → RefusesRunOf threads what plan r → RefusesBytes threads bytes r
-bytes_refused threads what bytes plan refusal.OutOfMemory plain holds h = tt
-bytes_refused threads what bytes plan (refusal.Run fault) plain holds h = (plan, holds, h)
-bytes_refused threads what bytes plan (refusal.Drawing levels) plain holds h =
-    absurd (none_large what plan h.0 levels plain h.2)
-bytes_refused threads what bytes plan refusal.Read plain holds h = absurd h
-bytes_refused threads what bytes plan (refusal.Plan fault) plain holds h = absurd h
-bytes_refused threads what bytes plan (refusal.Place number) plain holds h = absurd h
-bytes_refused threads what bytes plan refusal.Strikes plain holds h = absurd h
-bytes_refused threads what bytes plan refusal.NotHexadecimal plain holds h = absurd h
-bytes_refused threads what bytes plan refusal.NotALine plain holds h = absurd h
-bytes_refused threads what bytes plan (refusal.Layout fault) plain holds h = absurd h
-bytes_refused threads what bytes plan (refusal.Line fault) plain holds h = absurd h
-bytes_refused threads what bytes plan (refusal.Notation fault) plain holds h = absurd h
-bytes_refused threads what bytes plan (refusal.Sweep why) plain holds h = absurd h
+    IsRunPlan bytes plan → RefusesRunOf threads what plan r → RefusesTextIn threads what bytes r
+bytes_refused threads what bytes plan refusal.OutOfMemory holds h = tt
+bytes_refused threads what bytes plan (refusal.Run fault) holds h = (plan, holds, h)
+bytes_refused threads what bytes plan (refusal.Drawing levels) holds h = (plan, h.0, holds, h.1, h.2)
+bytes_refused threads what bytes plan refusal.Read holds h = absurd h
+bytes_refused threads what bytes plan (refusal.Plan fault) holds h = absurd h
+bytes_refused threads what bytes plan (refusal.Place number) holds h = absurd h
+bytes_refused threads what bytes plan refusal.Strikes holds h = absurd h
+bytes_refused threads what bytes plan refusal.NotHexadecimal holds h = absurd h
+bytes_refused threads what bytes plan refusal.NotALine holds h = absurd h
+bytes_refused threads what bytes plan (refusal.Layout fault) holds h = absurd h
+bytes_refused threads what bytes plan (refusal.Line fault) holds h = absurd h
+bytes_refused threads what bytes plan (refusal.Notation fault) holds h = absurd h
+bytes_refused threads what bytes plan (refusal.Sweep why) holds h = absurd h
 
 -- of bytes that are no plan to run
-pub document_bytes : (threads : Bool) (bytes : List ℕ) (r : CommandRefusal) → RefusesRunPlan bytes r →
-    RefusesBytes threads bytes r
-document_bytes threads bytes refusal.OutOfMemory h = tt
-document_bytes threads bytes (refusal.Plan fault) h = h
-document_bytes threads bytes (refusal.Place number) h = h
-document_bytes threads bytes refusal.Strikes h = h
-document_bytes threads bytes (refusal.Run fault) h = absurd h
-document_bytes threads bytes refusal.Read h = absurd h
-document_bytes threads bytes refusal.NotHexadecimal h = absurd h
-document_bytes threads bytes refusal.NotALine h = absurd h
-document_bytes threads bytes (refusal.Layout fault) h = absurd h
-document_bytes threads bytes (refusal.Line fault) h = absurd h
-document_bytes threads bytes (refusal.Notation fault) h = absurd h
-document_bytes threads bytes (refusal.Sweep why) h = absurd h
-document_bytes threads bytes (refusal.Drawing levels) h = absurd h
+pub document_bytes : (threads : Bool) (what : RunText) (bytes : List ℕ) (r : CommandRefusal) →
+    RefusesRunPlan bytes r → RefusesTextIn threads what bytes r
+document_bytes threads what bytes refusal.OutOfMemory h = tt
+document_bytes threads what bytes (refusal.Plan fault) h = h
+document_bytes threads what bytes (refusal.Place number) h = h
+document_bytes threads what bytes refusal.Strikes h = h
+document_bytes threads what bytes (refusal.Run fault) h = absurd h
+document_bytes threads what bytes refusal.Read h = absurd h
+document_bytes threads what bytes refusal.NotHexadecimal h = absurd h
+document_bytes threads what bytes refusal.NotALine h = absurd h
+document_bytes threads what bytes (refusal.Layout fault) h = absurd h
+document_bytes threads what bytes (refusal.Line fault) h = absurd h
+document_bytes threads what bytes (refusal.Notation fault) h = absurd h
+document_bytes threads what bytes (refusal.Sweep why) h = absurd h
+document_bytes threads what bytes (refusal.Drawing levels) h = absurd h
 
 -- where they were read from the input
 pub document_refused : (before after : Option (List ℕ)) (bytes : List ℕ) (r : CommandRefusal) →

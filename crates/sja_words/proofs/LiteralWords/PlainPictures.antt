@@ -1,7 +1,8 @@
 -- What the words of `picture` and `candump` ask for, by computing the parser's answer.
 use Rattle.std.proofs.Common.{ℕ, List, [], ◌∷◌, codes, refl, true, false, Some, None}
-use Rattle.sja_words.specs.Requests.{Request, candump, picture}
+use Rattle.sja_words.specs.Requests.{Request, candump, files, picture}
 use Rattle.sja_words.specs.Words.{ParsesAs, asked, faults}
+use Rattle.sja_words.specs.declared.plan_question.PlanQuestion.TheVariants.{Picture}
 use Rattle.sja_words.proofs.LiteralWords.OnWords.{sja_on_literals}
 
 -- nothing behind it
@@ -37,6 +38,13 @@ pub all_words : (name : List ℕ) →
     (picture 11 (Some 75) true true true)
 unfolding sja_on_literals asked faults
 all_words name = record { taken = refl; asks = refl }
+
+-- both bits and one name
+pub file : (name : List ℕ) →
+    ParsesAs (name ∷ codes "picture" ∷ codes "11" ∷ codes "75" ∷ codes "--svg" ∷ codes "a" ∷ [])
+    (files (Picture 11 (Some 75) true false false) 1 (codes "a" ∷ []))
+unfolding sja_on_literals asked faults
+file name = record { taken = refl; asks = refl }
 
 -- eight digits
 pub past : (name : List ℕ) (r : Request) → ¬ ParsesAs (name ∷ codes "picture" ∷ codes "10000000" ∷ []) r

@@ -1,4 +1,4 @@
-use Rattle.sja_words.proofs.LiteralWords.PlainPictures.{all, all_words, both, first, past, svg, threads}
+use Rattle.sja_words.proofs.LiteralWords.PlainPictures.{all, all_words, both, file, first, past, svg, threads}
 use Rattle.sja_words.proofs.laws.picture_parses.Goals as goal
 
 pub returns-clause-all : goal.returns-clause-all
@@ -18,6 +18,9 @@ returns-clause-svg c = svg
 
 pub returns-clause-all_words : goal.returns-clause-all_words
 returns-clause-all_words c = all_words
+
+pub returns-clause-file : goal.returns-clause-file
+returns-clause-file c = file
 
 pub returns-clause-past : goal.returns-clause-past
 returns-clause-past c = past
