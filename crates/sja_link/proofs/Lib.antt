@@ -3,4 +3,5 @@ pub mod Ledger
 pub mod WorldSteps
 pub mod Growing
 pub mod RecentLists
+pub mod QueuedLinks
 pub mod Walks

@@ -1,5 +1,5 @@
 -- What the bus enters in the journal of a node in one bit (this project's own rule).
-use Rattle.std.specs.Prelude.{◌≡◌, ◌<◌, ℕ, suc, Bool, true, false, Option, Some, None}
+use Rattle.std.specs.Prelude.{◌≡◌, ℕ, suc, Bool, true, false, Option, Some, None}
 use Rattle.std.specs.Prelude.{List, [], ◌∷◌, ◌++◌, map}
 use Rattle.can_bits.specs.declared.level.Level.{Level}
 use Rattle.sja_link.specs.declared.up.Up.{Up}
@@ -8,7 +8,7 @@ use Rattle.sja_link.specs.declared.entry.Entry.{Entry}
 use Rattle.sja_link.specs.declared.entry.Entry.TheVariants.{Bit, Up as Item, Abort, Off}
 use Rattle.sja_link.specs.Places.{past, place_of}
 use Rattle.sja_link.specs.Verdicts.{entry_of}
-use Rattle.sja_link.specs.Links.{per_node, stops_of}
+use Rattle.sja_link.specs.Links.{stops_of}
 use Rattle.sja_link.specs.OutOfOrder.{IsOutOfOrder}
 
 -- the entries of items that were taken
@@ -20,10 +20,9 @@ pub record HasMore (j k : List Entry) : Type 0 where
   pub items : List Up
   pub whole : k ≡ j ++ entries_of_items items
 
--- an item is of the activation whose link is read: the one after those that have ended, and there is one
-pub record IsRead (j : List Entry) (u : Up) : Type 0 where
-  pub activation : (past (place_of j) (Item u)).activation ≡ suc (stops_of j)
-  pub left : stops_of j < per_node
+-- an item is of the activation whose link is read: the one after those that have ended
+abbrev pub IsRead : List Entry → Up → Type 0
+IsRead j u = (past (place_of j) (Item u)).activation ≡ suc (stops_of j)
 
 -- items one after another, each of the activation whose link is read then
 abbrev pub AreRead : List Entry → List Up → Type 0

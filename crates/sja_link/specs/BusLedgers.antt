@@ -7,6 +7,10 @@ use Rattle.sja_link.specs.declared.bus_ledger.BusLedger.{BusLedger}
 abbrev pub link_of : BusLedger → LinkId
 link_of ledger = ledger.id
 
+-- the activation whose link that is
+abbrev pub activation_of : BusLedger → ℕ
+activation_of ledger = ledger.id.activation
+
 -- the bytes that are free
 abbrev pub free_in : BusLedger → ℕ
 free_in ledger = ledger.free

@@ -7,6 +7,10 @@ use Rattle.sja_link.specs.declared.driver_ledger.DriverLedger.{DriverLedger}
 abbrev pub link_of : DriverLedger → LinkId
 link_of ledger = ledger.id
 
+-- the activation whose link that is
+abbrev pub activation_of : DriverLedger → ℕ
+activation_of ledger = ledger.id.activation
+
 -- the messages that were got and not released, in order
 abbrev pub held_by : DriverLedger → List (List ℕ)
 held_by ledger = ledger.held.items

@@ -4,3 +4,4 @@ pub mod Recents
 pub mod Entries
 pub mod Fields
 pub mod Moving
+pub mod Queues

@@ -1,16 +1,11 @@
 -- What the links of a node stand for (this project's own rule).
-use Rattle.std.specs.Prelude.{◌≡◌, ◌+◌, ◌*◌, ◌<◌, ℕ, suc, List, ◌++◌, length, slice_index_or}
+use Rattle.std.specs.Prelude.{◌≡◌, ◌<◌, ℕ, suc, List, ◌++◌, length, slice_index_or}
 use Rattle.sja_link.specs.declared.up.Up.TheVariants.{Start, Credit, Send, Stop}
 use Rattle.sja_link.specs.declared.entry.Entry.{Entry}
 use Rattle.sja_link.specs.declared.entry.Entry.TheVariants.{Bit, Up as Item, Abort, Stored, Overrun, Off}
-use Rattle.sja_link.specs.declared.link_id.LinkId.{LinkId}
 use Rattle.lemmas.specs.Gathering.{total}
 use Rattle.sja_link.specs.Lists.{Lists}
 use Rattle.sja_link.specs.Accounts.{Account, account}
-
--- how many links, and so activations, a node has
-abbrev pub per_node : ℕ
-per_node = 64
 
 -- 1 for a stop that was taken
 abbrev pub stops_in : Entry → ℕ
@@ -32,13 +27,11 @@ stops_of = total stops_in
 abbrev pub Grows : List Entry → List Entry → Type 0
 Grows j k = (rest : List Entry) × (k ≡ j ++ rest)
 
--- the links of a node, from this place on, stand for the parts of its journal, whatever its driver got and gave
-abbrev pub Kept : {E : Type 0} → (E → Lists → Type 0) → List Entry → List E → ℕ → (ℕ → Account) → Type 0
-Kept {E} stands j links base h =
-    (a : ℕ) (d : E) → a < per_node → stands (slice_index_or links (base + a) d) (account j (suc a) (h a))
+-- the links of a node stand for the parts of its journal, whatever its driver got and gave
+abbrev pub Kept : {E : Type 0} → (E → ℕ → Lists → Type 0) → List Entry → E → (ℕ → Account) → Type 0
+Kept stands j end h = (a : ℕ) → stands end (suc a) (account j (suc a) (h a))
 
--- the links are those of the nodes in order, 64 of each
-abbrev pub Numbered : {E : Type 0} → (E → LinkId) → List E → Type 0
-Numbered {E} link links =
-    (node a : ℕ) (d : E) → a < per_node → per_node * node + a < length links →
-    link (slice_index_or links (per_node * node + a) d) ≡ record { node = node; activation = suc a }
+-- there is an end for each of so many nodes, in order
+pub record AreEnds {E : Type 0} (node_of : E → ℕ) (nodes : ℕ) (links : List E) : Type 0 where
+  pub count : length links ≡ nodes
+  pub own : (node : ℕ) (d : E) → node < nodes → node_of (slice_index_or links node d) ≡ node

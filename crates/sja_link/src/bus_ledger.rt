@@ -16,7 +16,7 @@ use can_frame::Message;
 ///
 /// It decides which message is stored and which is overrun, and keeps no journal. Where the free bytes are those of a
 /// part of a journal before a call, they are those of that part with the call's entry after it. Each call that takes an
-/// end has the condition that the end has the ledger's number.
+/// end has the condition that it is of the ledger's node.
 #[derive(Debug, Drop)]
 pub struct BusLedger {
     pub(crate) id: LinkId,
@@ -32,11 +32,11 @@ impl BusLedger {
     ghost use Rattle.sja_link.specs.declared.verdict.Verdict.TheVariants.{Stored, Overrun};
     ghost use Rattle.sja_link.specs.declared.entry.Entry.{Entry};
     ghost use Rattle.sja_link.specs.declared.entry.Entry.TheVariants.{Up as Item};
-    ghost use Rattle.sja_link.specs.Lists.{Lists, with_put, with_taken};
+    ghost use Rattle.sja_link.specs.Lists.{with_put, with_taken, OthersStand, Carries, Keeps};
     ghost use Rattle.sja_link.specs.Accounts.{with_entry};
     ghost use Rattle.sja_link.specs.Free.{IsFree};
     ghost use Rattle.sja_link.specs.Verdicts.{IsFair, entry_of};
-    ghost use Rattle.sja_link.specs.BusLedgers.{link_of, free_in};
+    ghost use Rattle.sja_link.specs.BusLedgers.{link_of, activation_of, free_in};
 
     /// The ledger of an activation that begins: all 64 bytes are free.
     pub fn new(id: LinkId) -> BusLedger
@@ -69,25 +69,26 @@ impl BusLedger {
     ///
     /// Error: [`Busy`] where the message fits and the end gave it back; the ledger is unchanged.
     pub fn accept<E: BusEnd>(&mut self, end: &mut E, message: Message) -> Result<Verdict, Busy>
-        requires { E.link end.old ≡ link_of self.old }
+        requires { E.node end.old ≡ (link_of self.old).node }
         ensures id { link_of self.new ≡ link_of self.old }
         ensures same { E.same end.old end.new }
+        ensures others { OthersStand E.stands (activation_of self.old) end.old end.new }
         ensures stored { result ≡ Ok Stored → (length message ≤ free_in self.old)
             × (free_in self.new + length message ≡ free_in self.old) }
         ensures overrun { result ≡ Ok Overrun → (free_in self.old < length message) × (self.new ≡ self.old)
             × (end.new ≡ end.old) }
-        ensures puts { IfOk result (λ v. (l : Lists) → E.stands end.old l →
-            E.stands end.new (with_entry l (entry_of v message))) }
+        ensures puts { IfOk result (λ v.
+            Carries E.stands (activation_of self.old) end.old end.new (λ l. with_entry l (entry_of v message))) }
         ensures judged { IfOk result (λ v. (p : List Entry) → IsFree p (free_in self.old) →
             IsFair p (entry_of v message) × IsFree (p ++ entry_of v message ∷ []) (free_in self.new)) }
-        ensures busy { OnErr result ((self.new ≡ self.old) × (length message ≤ free_in self.old) × E.full end.old
-            × ((l : Lists) → E.stands end.old l → E.stands end.new l)) }
+        ensures busy { OnErr result ((self.new ≡ self.old) × (length message ≤ free_in self.old)
+            × E.full end.old (activation_of self.old) × (Keeps E.stands (activation_of self.old) end.old end.new)) }
     {
         let len = message.len() as u8;
         if self.free < len {
             return Ok(Verdict::Overrun);
         }
-        match end.put(Down::Message(message)) {
+        match end.put(self.id.activation, Down::Message(message)) {
             Ok(()) => {
                 self.free -= len;
                 Ok(Verdict::Stored)
@@ -101,13 +102,14 @@ impl BusLedger {
     /// Error: [`BadCredit`] for a credit outside 3 to 13, or one that would lift the free bytes above 64; the item is
     /// gone, and the free bytes are unchanged.
     pub fn collect<E: BusEnd>(&mut self, end: &mut E) -> Result<Option<Up>, BadCredit>
-        requires { E.link end.old ≡ link_of self.old }
+        requires { E.node end.old ≡ (link_of self.old).node }
         ensures id { link_of self.new ≡ link_of self.old }
         ensures same { E.same end.old end.new }
-        ensures none { IfOk result (λ o. IfNone o ((self.new ≡ self.old) × E.dry end.new
-            × ((l : Lists) → E.stands end.old l → E.stands end.new l))) }
-        ensures item { IfOk result (λ o. IfSome o (λ x. (l : Lists) → E.stands end.old l →
-            E.stands end.new (with_taken l x))) }
+        ensures others { OthersStand E.stands (activation_of self.old) end.old end.new }
+        ensures none { IfOk result (λ o. IfNone o ((self.new ≡ self.old) × E.dry end.new (activation_of self.old)
+            × (Keeps E.stands (activation_of self.old) end.old end.new))) }
+        ensures item { IfOk result (λ o. IfSome o (λ x.
+            Carries E.stands (activation_of self.old) end.old end.new (λ l. with_taken l x))) }
         ensures credit { IfOk result (λ o. IfSome o (λ x. (n : ℕ) → x ≡ Credit n →
             (3 ≤ n) × (n ≤ 13) × (free_in self.new ≡ free_in self.old + n))) }
         ensures other { IfOk result (λ o. IfSome o (λ x. ((n : ℕ) → x ≢ Credit n) → self.new ≡ self.old)) }
@@ -115,9 +117,9 @@ impl BusLedger {
             IsFree (p ++ Item x ∷ []) (free_in self.new))) }
         ensures bad { IfErr result (λ e. (self.new ≡ self.old)
             × ((e.0 < 3) ⊎ (13 < e.0) ⊎ (64 < free_in self.old + e.0))
-            × ((l : Lists) → E.stands end.old l → E.stands end.new (with_taken l (Credit e.0)))) }
+            × (Carries E.stands (activation_of self.old) end.old end.new (λ l. with_taken l (Credit e.0)))) }
     {
-        let Some(item) = end.take() else {
+        let Some(item) = end.take(self.id.activation) else {
             return Ok(None);
         };
         if let Up::Credit(bytes) = item {
@@ -134,13 +136,16 @@ impl BusLedger {
     ///
     /// Error: [`Busy`] where the end gave it back.
     pub fn off<E: BusEnd>(&mut self, end: &mut E) -> Result<(), Busy>
-        requires { E.link end.old ≡ link_of self.old }
+        requires { E.node end.old ≡ (link_of self.old).node }
         ensures ledger { self.new ≡ self.old }
         ensures same { E.same end.old end.new }
-        ensures puts { OnOk result ((l : Lists) → E.stands end.old l → E.stands end.new (with_put l OffDown)) }
-        ensures busy { OnErr result (E.full end.old × ((l : Lists) → E.stands end.old l → E.stands end.new l)) }
+        ensures others { OthersStand E.stands (activation_of self.old) end.old end.new }
+        ensures puts { OnOk result
+            (Carries E.stands (activation_of self.old) end.old end.new (λ l. with_put l OffDown)) }
+        ensures busy { OnErr result (E.full end.old (activation_of self.old)
+            × (Keeps E.stands (activation_of self.old) end.old end.new)) }
     {
-        match end.put(Down::Off) {
+        match end.put(self.id.activation, Down::Off) {
             Ok(()) => Ok(()),
             Err(_) => Err(Busy),
         }

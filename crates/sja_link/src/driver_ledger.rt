@@ -14,8 +14,8 @@ use can_frame::{BufferView, Message};
 /// (SJA1000 data sheet, 6.4.14, receive buffer: the window shows the first message of the FIFO).
 ///
 /// A look first takes in all that the link shows, until 22 messages are held or bus-off is known. Once bus-off is known
-/// there is no window, and what was not released is unread. Each call that takes an end has the condition that the end
-/// has the ledger's number.
+/// there is no window, and what was not released is unread. Each call that takes an end has the condition that it is of
+/// the ledger's node.
 #[derive(Debug, Drop)]
 pub struct DriverLedger {
     pub(crate) id: LinkId,
@@ -32,7 +32,8 @@ impl DriverLedger {
     ghost use Rattle.sja_link.specs.contracts.driver_ledger.DriverLedger.{the_row};
     ghost use Rattle.sja_link.specs.declared.release_fault.ReleaseFault.TheVariants.{Stopped as FaultStopped};
     ghost use Rattle.sja_link.specs.declared.release_fault.ReleaseFault.TheVariants.{Empty, Busy};
-    ghost use Rattle.sja_link.specs.DriverLedgers.{link_of, held_by, knows_bus_off};
+    ghost use Rattle.sja_link.specs.Lists.{OthersStand, on, is_on, same_on};
+    ghost use Rattle.sja_link.specs.DriverLedgers.{link_of, activation_of, held_by, knows_bus_off};
     ghost use Rattle.sja_link.specs.Looking.{Pulls, IsTaken, Releases, Refuses, TriesRelease, one_if};
     ghost use Rattle.sja_link.specs.Showing.{Shows, window_in, seen_of};
 
@@ -60,12 +61,14 @@ impl DriverLedger {
     ///
     /// Error: [`LostWindow`] where bus-off is known.
     pub fn look<E: DriverEnd>(&mut self, end: &mut E) -> Result<(), LostWindow>
-        requires { E.link end.old ≡ link_of self.old }
+        requires { E.node end.old ≡ (link_of self.old).node }
         ensures id { link_of self.new ≡ link_of self.old }
         ensures same { E.same end.old end.new }
-        ensures got { Pulls E.stands end.old end.new (held_by self.old) (held_by self.new)
+        ensures others { OthersStand E.stands (activation_of self.old) end.old end.new }
+        ensures got { Pulls (on E.stands (activation_of self.old)) end.old end.new (held_by self.old) (held_by self.new)
             (knows_bus_off self.old) (knows_bus_off self.new) }
-        ensures all { IsTaken E.dry end.new (knows_bus_off self.new) (held_by self.new) }
+        ensures all { IsTaken (is_on E.dry (activation_of self.old)) end.new (knows_bus_off self.new)
+            (held_by self.new) }
         ensures on { OnOk result (knows_bus_off self.new ≡ false) }
         ensures stopped { OnErr result (knows_bus_off self.new ≡ true) }
     {
@@ -78,12 +81,14 @@ impl DriverLedger {
     ///
     /// Error: [`LostWindow`] where bus-off is known.
     pub fn window<E: DriverEnd>(&mut self, end: &mut E) -> Result<Option<&Message>, LostWindow>
-        requires { E.link end.old ≡ link_of self.old }
+        requires { E.node end.old ≡ (link_of self.old).node }
         ensures same { E.same end.old end.new }
+        ensures others { OthersStand E.stands (activation_of self.old) end.old end.new }
         ensures* after { sem 𝓛 (follows_so the_row the_row self.entry.ghost_name none (λ _ _. ⊤) (λ n.
             (link_of n ≡ link_of self.old)
-            × Pulls E.stands end.old end.new (held_by self.old) (held_by n) (knows_bus_off self.old) (knows_bus_off n)
-            × IsTaken E.dry end.new (knows_bus_off n) (held_by n)
+            × Pulls (on E.stands (activation_of self.old)) end.old end.new (held_by self.old) (held_by n)
+            (knows_bus_off self.old) (knows_bus_off n)
+            × IsTaken (is_on E.dry (activation_of self.old)) end.new (knows_bus_off n) (held_by n)
             × Shows (knows_bus_off n) (held_by n) (window_in result))) }
     {
         match self.look(end) {
@@ -106,19 +111,24 @@ impl DriverLedger {
     /// Errors, the first that holds: [`ReleaseFault::Stopped`] where bus-off is known; [`ReleaseFault::Empty`] where no
     /// such message is there; [`ReleaseFault::Busy`] where the end gave the credit back. Nothing is released then.
     pub fn release<E: DriverEnd>(&mut self, end: &mut E) -> Result<u8, ReleaseFault>
-        requires { E.link end.old ≡ link_of self.old }
+        requires { E.node end.old ≡ (link_of self.old).node }
         ensures id { link_of self.new ≡ link_of self.old }
         ensures same { E.same end.old end.new }
-        ensures ok { IfOk result (λ n. (m : List ℕ) × (length m ≡ n) × Releases E.same E.stands E.dry end.old end.new
-            (held_by self.old) (held_by self.new) (knows_bus_off self.old) (knows_bus_off self.new) m) }
+        ensures others { OthersStand E.stands (activation_of self.old) end.old end.new }
+        ensures ok { IfOk result (λ n. (m : List ℕ) × (length m ≡ n)
+            × Releases (same_on E.same E.stands (activation_of self.old)) (on E.stands (activation_of self.old))
+            (is_on E.dry (activation_of self.old)) end.old end.new (held_by self.old) (held_by self.new)
+            (knows_bus_off self.old) (knows_bus_off self.new) m) }
         ensures on { OnOk result (knows_bus_off self.new ≡ false) }
-        ensures err { OnErr result (Pulls E.stands end.old end.new (held_by self.old) (held_by self.new)
-            (knows_bus_off self.old) (knows_bus_off self.new)) }
+        ensures err { OnErr result (Pulls (on E.stands (activation_of self.old)) end.old end.new (held_by self.old)
+            (held_by self.new) (knows_bus_off self.old) (knows_bus_off self.new)) }
         ensures stopped { result ≡ Err FaultStopped → knows_bus_off self.new ≡ true }
         ensures empty { result ≡ Err Empty → (knows_bus_off self.new ≡ false) × (held_by self.new ≡ [])
-            × E.dry end.new }
+            × E.dry end.new (activation_of self.old) }
         ensures busy { result ≡ Err Busy → (knows_bus_off self.new ≡ false)
-            × Refuses E.same E.stands E.dry E.full end.old (knows_bus_off self.new) (held_by self.new) }
+            × Refuses (same_on E.same E.stands (activation_of self.old)) (on E.stands (activation_of self.old))
+            (is_on E.dry (activation_of self.old)) (is_on E.full (activation_of self.old)) end.old
+            (knows_bus_off self.new) (held_by self.new) }
     {
         let message = self.release_message(end)?;
         Ok(message.len() as u8)
@@ -128,11 +138,14 @@ impl DriverLedger {
     ///
     /// Errors: those of [`release`](DriverLedger::release).
     pub fn release_message<E: DriverEnd>(&mut self, end: &mut E) -> Result<Message, ReleaseFault>
-        requires { E.link end.old ≡ link_of self.old }
+        requires { E.node end.old ≡ (link_of self.old).node }
         ensures id { link_of self.new ≡ link_of self.old }
         ensures same { E.same end.old end.new }
-        ensures tried { TriesRelease E.same E.stands E.dry E.full end.old end.new (held_by self.old) (held_by self.new)
-            (knows_bus_off self.old) (knows_bus_off self.new) result }
+        ensures others { OthersStand E.stands (activation_of self.old) end.old end.new }
+        ensures tried { TriesRelease (same_on E.same E.stands (activation_of self.old))
+            (on E.stands (activation_of self.old)) (is_on E.dry (activation_of self.old))
+            (is_on E.full (activation_of self.old)) end.old end.new
+            (held_by self.old) (held_by self.new) (knows_bus_off self.old) (knows_bus_off self.new) result }
     {
         if self.look(end).is_err() {
             return Err(ReleaseFault::Stopped);
@@ -141,7 +154,7 @@ impl DriverLedger {
             return Err(ReleaseFault::Empty);
         };
         let credit = Up::Credit(first.len() as u8);
-        match end.give(credit) {
+        match end.give(self.id.activation, credit) {
             Ok(()) => Ok(self.held.remove(0)),
             Err(_) => Err(ReleaseFault::Busy),
         }
@@ -187,11 +200,13 @@ impl DriverLedger {
 
     /// Takes in all that the link shows, until 22 messages are held or bus-off is known.
     fn pull<E: DriverEnd>(&mut self, end: &mut E)
-        requires { E.link end.old ≡ link_of self.old }
-        ensures all { IsTaken E.dry end.new (knows_bus_off self.new) (held_by self.new) }
-        ensures got { Pulls E.stands end.old end.new (held_by self.old) (held_by self.new)
+        requires { E.node end.old ≡ (link_of self.old).node }
+        ensures all { IsTaken (is_on E.dry (activation_of self.old)) end.new (knows_bus_off self.new)
+            (held_by self.new) }
+        ensures got { Pulls (on E.stands (activation_of self.old)) end.old end.new (held_by self.old) (held_by self.new)
             (knows_bus_off self.old) (knows_bus_off self.new) }
         ensures same { E.same end.old end.new }
+        ensures others { OthersStand E.stands (activation_of self.old) end.old end.new }
         ensures id { link_of self.new ≡ link_of self.old }
     {
         loop {
@@ -203,20 +218,22 @@ impl DriverLedger {
 
     /// Takes in one item, if one is shown and there is room for it.
     fn pull_one<E: DriverEnd>(&mut self, end: &mut E) -> bool
-        requires { E.link end.old ≡ link_of self.old }
+        requires { E.node end.old ≡ (link_of self.old).node }
         ensures id { link_of self.new ≡ link_of self.old }
         ensures same { E.same end.old end.new }
-        ensures got { Pulls E.stands end.old end.new (held_by self.old) (held_by self.new)
+        ensures others { OthersStand E.stands (activation_of self.old) end.old end.new }
+        ensures got { Pulls (on E.stands (activation_of self.old)) end.old end.new (held_by self.old) (held_by self.new)
             (knows_bus_off self.old) (knows_bus_off self.new) }
         ensures few { result ≡ true → length (held_by self.new) ≤ 22 }
         ensures more { result ≡ true → length (held_by self.new) + one_if (knows_bus_off self.new)
             ≡ length (held_by self.old) + one_if (knows_bus_off self.old) + 1 }
-        ensures all { result ≡ false → IsTaken E.dry end.new (knows_bus_off self.new) (held_by self.new) }
+        ensures all { result ≡ false →
+            IsTaken (is_on E.dry (activation_of self.old)) end.new (knows_bus_off self.new) (held_by self.new) }
     {
         if self.off || self.held.is_full() {
             return false;
         }
-        match end.get() {
+        match end.get(self.id.activation) {
             Some(Down::Message(message)) => {
                 self.held.push(message);
                 true

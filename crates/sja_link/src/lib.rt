@@ -1,18 +1,18 @@
-//! The link between the bus and the driver of a node in one activation of its controller: what it carries, its two
-//! ends, the ledgers of bytes at both, the journal of a node, and the pure core of one link.
+//! The links between the bus and the driver of a node, one for each activation of its controller: what they carry,
+//! their two ends, the ledgers of bytes at both, the journal of a node, and the pure core of one link.
 //!
-//! Downward a link carries messages and bus-off ([`Down`]), upward starts, credits, requests and stops ([`Up`]). Its
-//! two ends are the traits [`BusEnd`] and [`DriverEnd`]; a [`DequeLink`] is both in one value. At the bus's end the
-//! [`BusLedger`] decides which message is stored and which is overrun, by the bytes that are free. At the driver's end
-//! the [`DriverLedger`] shows the messages and releases them. The [`Journal`] of a node has all that happened, and what
-//! it means is said of it alone: the part of each activation, the record of the node, the free bytes and the verdicts.
-//! A [`Recorder`] writes it, into lists that may forget their oldest items ([`Recent`]) while contracts go on to see
-//! them all.
-//! The [`World`] of one link has the events that may happen on it. [`LINKS_PER_NODE`], [`ITEMS_DOWN`], [`ITEMS_UP`] and
-//! [`RECEIVE_FIFO`] are the sizes of all that, [`most_activations`] is how many of a node's links a version uses, and
-//! [`first_link`] is where a node's links begin among those of all.
+//! Downward a link carries messages and bus-off ([`Down`]), upward starts, credits, requests and stops ([`Up`]). The
+//! ends of all links of a node are the traits [`BusEnd`] and [`DriverEnd`]; [`DequeLinks`] are both in one value. At
+//! the bus's end the [`BusLedger`] decides which message is stored and which is overrun, by the bytes that are free.
+//! At the driver's end the [`DriverLedger`] shows the messages and releases them. The [`Journal`] of a node has all
+//! that happened, and what it means is said of it alone: the part of each activation, the record of the node, the free
+//! bytes and the verdicts. A [`Recorder`] writes it, into lists that may forget their oldest items ([`Recent`]) while
+//! contracts go on to see them all.
+//! The [`World`] of one link has the events that may happen on it. [`ITEMS_DOWN`], [`ITEMS_UP`] and [`RECEIVE_FIFO`]
+//! are the sizes of all that, and [`most_activations`] is how many activations a version has: [`ACTIVATIONS`] in
+//! version 3, and more than can be used up in that of a session without an end, [`WITHOUT_END`].
 //!
-//! `DequeLink::new`, `Recorder::new`, `Recent::new` and `World::step` alone take memory.
+//! `DequeLinks::new`, `Recorder::new`, `Recent::new` and `World::step` alone take memory.
 #![tactic(auto)]
 
 mod bad_credit;
@@ -22,7 +22,7 @@ mod bus_ledger;
 mod busy;
 mod code;
 mod counts;
-mod deque_link;
+mod deque_links;
 mod down;
 mod driver_end;
 mod driver_ledger;
@@ -35,6 +35,7 @@ mod journal;
 mod laws;
 mod link_id;
 mod lost_window;
+mod older_down;
 mod recent;
 mod recent_bits;
 mod recorder;
@@ -50,7 +51,7 @@ pub use between_bits::BetweenBits;
 pub use bus_end::BusEnd;
 pub use bus_ledger::BusLedger;
 pub use busy::Busy;
-pub use deque_link::DequeLink;
+pub use deque_links::DequeLinks;
 pub use down::Down;
 pub use driver_end::DriverEnd;
 pub use driver_ledger::DriverLedger;
@@ -65,10 +66,11 @@ pub use laws::{
 };
 pub use link_id::LinkId;
 pub use lost_window::LostWindow;
+pub use older_down::OlderDown;
 pub use recent::{KEPT, Recent};
 pub use recorder::Recorder;
 pub use release_fault::ReleaseFault;
-pub use sizes::{ITEMS_DOWN, ITEMS_UP, LINKS_PER_NODE, RECEIVE_FIFO, first_link, most_activations};
+pub use sizes::{ACTIVATIONS, ITEMS_DOWN, ITEMS_UP, RECEIVE_FIFO, WITHOUT_END, most_activations};
 pub use up::Up;
 pub use verdict::Verdict;
 pub use world::World;

@@ -6,5 +6,5 @@ pub struct LinkId {
     /// The number of the node, counted from 0.
     pub node: u8,
     /// The number of the activation, counted from 1: the time from one start of the controller to its stop.
-    pub activation: u8,
+    pub activation: u64,
 }

@@ -67,6 +67,13 @@ impl<T> Recent<T> {
         })
     }
 
+    /// For how many items it was made.
+    pub fn room(&self) -> usize
+        ensures { result ≡ self.now.room }
+    {
+        self.room
+    }
+
     /// How many items it has, those forgotten too.
     pub fn len(&self) -> usize
         ensures { result ≡ length self.now.items }

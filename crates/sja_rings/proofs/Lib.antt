@@ -1,1 +1,2 @@
-pub mod SameEnd
+pub mod OnePair
+pub mod RingsOfNode

@@ -5,7 +5,7 @@ ghost use Rattle.rtrb.specs.Ring.{producer_capacity, consumer_capacity};
 ghost use Rattle.sja_link.specs.declared.sizes.TheConstants.{ITEMS_DOWN, ITEMS_UP};
 
 use rtrb::{Consumer, Producer, PushError};
-use sja_link::{BusEnd, Down, LinkId, Up};
+use sja_link::{Down, LinkId, Up};
 
 /// The bus's end of a link of two rings (this project's own rule): 22 places down, 24 up.
 ///
@@ -19,48 +19,41 @@ pub struct RingBus {
     ghost sizes: { (producer_capacity down ≡ ITEMS_DOWN) × (consumer_capacity up ≡ ITEMS_UP) },
 }
 
-impl BusEnd for RingBus {
-    ghost use Rattle.std.specs.Prelude.{◌≡◌, [], refl};
-    ghost use Rattle.sja_rings.specs.Ends.{link_of_bus, BusLists, SameBus, places_down, reach_down, shown_up};
-    ghost use Rattle.std.proofs.Common.{◌∙◌, le_refl, le_trans};
-    ghost use Rattle.sja_rings.specs.Inside.Carrying.{same_producer, same_producer_trans};
-    ghost use Rattle.sja_rings.specs.Inside.Carrying.{same_consumer, same_consumer_trans};
+impl RingBus {
+    ghost use Rattle.std.specs.Prelude.{◌≡◌, [], IfErr, IfSome, OnOk, OnErr, IfNone};
+    ghost use Rattle.sja_link.specs.Lists.{Lists, with_put, with_taken};
+    ghost use Rattle.sja_rings.specs.Ends.{link_of_bus, BusLists, SameBus, places_down, shown_up};
 
-    ghost link = { link_of_bus };
-
-    ghost stands = { BusLists };
-
-    ghost same = { SameBus };
-
-    // It knows of no free place.
-    ghost full = { λ b. places_down b ≡ 0 };
-
-    // It has seen nothing that it didn't take.
-    ghost dry = { λ b. shown_up b ≡ [] };
-
-    fn id(&self) -> LinkId {
+    /// Which link it is of. Tests alone ask.
+    pub fn id(&self) -> LinkId
+        ensures { result ≡ link_of_bus self.now }
+    {
         self.id
     }
 
-    fn put(&mut self, item: Down) -> Result<(), Down> {
+    /// Puts an item, or gives it back where it knows of no free place. The end of [a node](crate::NodeBus) calls it,
+    /// and tests do.
+    pub fn put(&mut self, item: Down) -> Result<(), Down>
+        ensures same { SameBus self.old self.new }
+        ensures put { OnOk result ((l : Lists) → BusLists self.old l → BusLists self.new (with_put l item)) }
+        ensures back { IfErr result (λ x. x ≡ item) }
+        ensures kept { OnErr result ((l : Lists) → BusLists self.old l → BusLists self.new l) }
+        ensures full { OnErr result (places_down self.old ≡ 0) }
+    {
         match self.down.push(item) {
             Ok(()) => Ok(()),
             Err(PushError::Full(item)) => Err(item),
         }
     }
 
-    fn take(&mut self) -> Option<Up> {
+    /// Takes the next item that was given; none where it has seen nothing that it didn't take. The end of
+    /// [a node](crate::NodeBus) calls it, and tests do.
+    pub fn take(&mut self) -> Option<Up>
+        ensures same { SameBus self.old self.new }
+        ensures item { IfSome result (λ x. (l : Lists) → BusLists self.old l → BusLists self.new (with_taken l x)) }
+        ensures kept { IfNone result ((l : Lists) → BusLists self.old l → BusLists self.new l) }
+        ensures dry { IfNone result (shown_up self.new ≡ []) }
+    {
         self.up.pop().ok()
     }
-
-    ghost same_refl = { λ b. (refl, same_producer b.down, same_consumer b.up, le_refl (reach_down b)) };
-
-    ghost same_trans = { λ a b c p q. (
-      q.0 ∙ p.0,
-      same_producer_trans a.down b.down c.down p.1 q.1,
-      same_consumer_trans a.up b.up c.up p.2 q.2,
-      le_trans p.3 q.3,
-    ) };
-
-    ghost same_link = { λ a b p. p.0 };
 }

@@ -5,7 +5,7 @@ ghost use Rattle.rtrb.specs.Ring.{producer_capacity, consumer_capacity};
 ghost use Rattle.sja_link.specs.declared.sizes.TheConstants.{ITEMS_DOWN, ITEMS_UP};
 
 use rtrb::{Consumer, Producer, PushError};
-use sja_link::{Down, DriverEnd, LinkId, Up};
+use sja_link::{Down, LinkId, Up};
 
 /// The driver's end of a link of two rings (this project's own rule): 22 places down, 24 up.
 ///
@@ -19,48 +19,41 @@ pub struct RingDriver {
     ghost sizes: { (consumer_capacity down ≡ ITEMS_DOWN) × (producer_capacity up ≡ ITEMS_UP) },
 }
 
-impl DriverEnd for RingDriver {
-    ghost use Rattle.std.specs.Prelude.{◌≡◌, [], refl};
-    ghost use Rattle.sja_rings.specs.Ends.{link_of_driver, DriverLists, SameDriver, places_up, reach_up, shown_down};
-    ghost use Rattle.std.proofs.Common.{◌∙◌, le_refl, le_trans};
-    ghost use Rattle.sja_rings.specs.Inside.Carrying.{same_producer, same_producer_trans};
-    ghost use Rattle.sja_rings.specs.Inside.Carrying.{same_consumer, same_consumer_trans};
+impl RingDriver {
+    ghost use Rattle.std.specs.Prelude.{◌≡◌, [], IfErr, IfSome, OnOk, OnErr, IfNone};
+    ghost use Rattle.sja_link.specs.Lists.{Lists, with_got, with_given};
+    ghost use Rattle.sja_rings.specs.Ends.{link_of_driver, DriverLists, SameDriver, places_up, shown_down};
 
-    ghost link = { link_of_driver };
-
-    ghost stands = { DriverLists };
-
-    ghost same = { SameDriver };
-
-    // It knows of no free place.
-    ghost full = { λ d. places_up d ≡ 0 };
-
-    // It has seen nothing that it didn't get.
-    ghost dry = { λ d. shown_down d ≡ [] };
-
-    fn id(&self) -> LinkId {
+    /// Which link it is of. Tests alone ask.
+    pub fn id(&self) -> LinkId
+        ensures { result ≡ link_of_driver self.now }
+    {
         self.id
     }
 
-    fn get(&mut self) -> Option<Down> {
+    /// Gets the next item that was put; none where it has seen nothing that it didn't get. The end of
+    /// [a node](crate::NodeDriver) calls it, and tests do.
+    pub fn get(&mut self) -> Option<Down>
+        ensures same { SameDriver self.old self.new }
+        ensures item { IfSome result (λ x. (l : Lists) → DriverLists self.old l → DriverLists self.new (with_got l x)) }
+        ensures kept { IfNone result ((l : Lists) → DriverLists self.old l → DriverLists self.new l) }
+        ensures dry { IfNone result (shown_down self.new ≡ []) }
+    {
         self.down.pop().ok()
     }
 
-    fn give(&mut self, item: Up) -> Result<(), Up> {
+    /// Gives an item, or it comes back where the end knows of no free place. The end of [a node](crate::NodeDriver)
+    /// calls it, and tests do.
+    pub fn give(&mut self, item: Up) -> Result<(), Up>
+        ensures same { SameDriver self.old self.new }
+        ensures given { OnOk result ((l : Lists) → DriverLists self.old l → DriverLists self.new (with_given l item)) }
+        ensures back { IfErr result (λ x. x ≡ item) }
+        ensures kept { OnErr result ((l : Lists) → DriverLists self.old l → DriverLists self.new l) }
+        ensures full { OnErr result (places_up self.old ≡ 0) }
+    {
         match self.up.push(item) {
             Ok(()) => Ok(()),
             Err(PushError::Full(item)) => Err(item),
         }
     }
-
-    ghost same_refl = { λ d. (refl, same_consumer d.down, same_producer d.up, le_refl (reach_up d)) };
-
-    ghost same_trans = { λ a b c p q. (
-      q.0 ∙ p.0,
-      same_consumer_trans a.down b.down c.down p.1 q.1,
-      same_producer_trans a.up b.up c.up p.2 q.2,
-      le_trans p.3 q.3,
-    ) };
-
-    ghost same_link = { λ a b p. p.0 };
 }

@@ -7,7 +7,7 @@ use std::fmt;
 /// A step that meets a busy link isn't refused: it is tried again.
 #[derive(Clone, Copy, Debug, PartialEq, Eq)]
 pub enum Refusal {
-    /// All activations were used: eight in versions 1 and 2, 64 from version 3 on.
+    /// All activations were used: eight in versions 1 and 2, 64 in version 3.
     NoActivationLeft,
     /// Bus-off is known, and the window is gone.
     Stopped,

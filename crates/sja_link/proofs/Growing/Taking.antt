@@ -1,5 +1,5 @@
 -- What was taken where one item at most waited.
-use Rattle.std.proofs.Common.{◌≡◌, ◌≢◌, ℕ, suc, ◌<◌, ◌≤◌, Bool, true, false, List, [], ◌∷◌, ◌++◌, length, refl, sym, ap}
+use Rattle.std.proofs.Common.{◌≡◌, ◌≢◌, ℕ, suc, ◌≤◌, Bool, true, false, List, [], ◌∷◌, ◌++◌, length, refl, sym, ap}
 use Rattle.std.proofs.Common.{◌∙◌, subst, cond, append_assoc, append-nil, arith, inl, inr}
 use Rattle.std.specs.Prelude.{◌==◌, if◌then◌else◌}
 use Rattle.std.proofs.lemmas.Bool.{cases_eq, eq-eqb, ne_eqb, eqb-true}
@@ -62,14 +62,14 @@ pub adds_first : (j : List Entry) (u : Up) (us : List Up) → IsRead j u → add
     (j ++ Item u ∷ []) us (suc (stops_of j))
 adds_first j u us r =
     ap (λ t. cond t (u ∷ []) [] ++ adds (j ++ Item u ∷ []) us (suc (stops_of j)))
-    (eq-eqb (past (place_of j) (Item u)).activation (suc (stops_of j)) r.activation)
+    (eq-eqb (past (place_of j) (Item u)).activation (suc (stops_of j)) r)
 
 -- where no activation has one there is none
-pub no_adds : (j : List Entry) (us : List Up) → AreRead j us → ((m : ℕ) → m < 64 → adds j us (suc m) ≡ []) → us ≡ []
+pub no_adds : (j : List Entry) (us : List Up) → AreRead j us → ((m : ℕ) → adds j us (suc m) ≡ []) → us ≡ []
 no_adds j [] r none = refl
 no_adds j (u ∷ us) r none =
     absurd (some_none u (adds (j ++ Item u ∷ []) us (suc (stops_of j))) (sym (adds_first j u us r.0)
-    ∙ none (stops_of j) r.0.left))
+    ∙ none (stops_of j)))
 
 -- of one that waited and is the first that was taken
 pub one_is : (b : Bool) (u : Up) (gave rest : List Up) → AtMostOne gave → cond b gave [] ≡ u ∷ rest →
@@ -81,31 +81,28 @@ one_is false u gave rest few e = absurd cc
 
 -- where at most one item waited, on the link that is read, and now that link shows nothing, just that one was taken
 pub just_taken : (j : List Entry) (us gave : List Up) (b : ℕ) (up : ℕ → List Up) → AreRead j us → AtMostOne gave →
-    (gave ≢ [] → (b ≡ suc (stops_of j)) × (stops_of j < 64)) →
-    ((a : ℕ) → a < 64 → waiting b gave (suc a) ≡ adds j us (suc a) ++ up a) →
-    (stops_of (j ++ entries_of_items us) < 64 → up (stops_of (j ++ entries_of_items us)) ≡ []) →
-    us ≡ gave
+    (gave ≢ [] → b ≡ suc (stops_of j)) → ((a : ℕ) → waiting b gave (suc a) ≡ adds j us (suc a) ++ up a) →
+    up (stops_of (j ++ entries_of_items us)) ≡ [] → us ≡ gave
 just_taken j [] [] b up read few here whole dry = refl
 just_taken j [] (x ∷ xs) b up read few here whole dry =
-    let h = here (λ e. cc) in
     let n : stops_of (j ++ []) ≡ stops_of j = ap stops_of (append-nil j) in
     let at : waiting b (x ∷ xs) (suc (stops_of j)) ≡ x ∷ xs =
-    ap (λ t. cond t (x ∷ xs) []) (eq-eqb b (suc (stops_of j)) h.0) in
-    let none : up (stops_of j) ≡ [] = ap up (sym n) ∙ dry (subst (λ (m : ℕ). m < 64) (sym n) h.1) in
-    absurd (some_none x xs (sym at ∙ whole (stops_of j) h.1 ∙ none))
+    ap (λ t. cond t (x ∷ xs) []) (eq-eqb b (suc (stops_of j)) (here (λ e. cc))) in
+    let none : up (stops_of j) ≡ [] = ap up (sym n) ∙ dry in
+    absurd (some_none x xs (sym at ∙ whole (stops_of j) ∙ none))
 just_taken j (u ∷ us) gave b up read few here whole dry =
     let first : cond (b == suc (stops_of j)) gave [] ≡ u ∷ (adds (j ++ Item u ∷ []) us (suc (stops_of j)) ++ up
     (stops_of j)) =
-    whole (stops_of j) read.0.left ∙ ap (λ l. l ++ up (stops_of j)) (adds_first j u us read.0) in
+    whole (stops_of j) ∙ ap (λ l. l ++ up (stops_of j)) (adds_first j u us read.0) in
     let one = one_is (b == suc (stops_of j)) u gave _ few first in
     let is : b ≡ suc (stops_of j) = eqb-true b (suc (stops_of j)) one.0 in
-    let none : us ≡ [] = no_adds (j ++ Item u ∷ []) us read.1 (λ m less. elim (cases_eq (stops_of j) m) [
+    let none : us ≡ [] = no_adds (j ++ Item u ∷ []) us read.1 (λ m. elim (cases_eq (stops_of j) m) [
       | inl q ↦ subst (λ (n : ℕ). adds (j ++ Item u ∷ []) us (suc n) ≡ []) q
           (none_front (adds (j ++ Item u ∷ []) us (suc (stops_of j))) (up (stops_of j)) one.2)
       | inr differ ↦
           let off : cond (b == suc m) gave [] ≡ [] =
           ap (λ t. cond t gave []) (ne_eqb b (suc m) (λ e. omega (arith, e, is, differ))) in
           none_back _ (adds (j ++ Item u ∷ []) us (suc m)) (none_front (adds j (u ∷ us) (suc m)) (up m)
-          (sym (whole m less) ∙ off))
+          (sym (whole m) ∙ off))
     ]) in
     ap (λ l. u ∷ l) none ∙ sym one.1

@@ -1,0 +1,3 @@
+-- The links of a node in one thread.
+pub mod Left
+pub mod Lying
