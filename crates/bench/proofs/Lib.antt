@@ -1,1 +1,1 @@
-pub mod Numbering
+pub mod OwnEnds

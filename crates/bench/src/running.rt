@@ -1,25 +1,23 @@
 //! Bits of a bus in one thread.
 
-ghost use Rattle.std.specs.Prelude.{◌≡◌, ◌≤◌, ◌*◌, length};
-ghost use Rattle.sja_link.specs.Links.{Numbered};
+ghost use Rattle.std.specs.Prelude.{◌≡◌, ◌≤◌, length};
+ghost use Rattle.sja_link.specs.Links.{AreEnds};
 
 use sja_bus::{Bus, SerialBoard};
-use sja_link::DequeLink;
+use sja_link::DequeLinks;
 
 /// So many bits, one after another, or those in which every node is at rest at once. Whether all were run.
 pub fn run_bits(
     bus: &mut Bus,
-    links: &mut [DequeLink],
+    links: &mut [DequeLinks],
     board: &mut SerialBoard,
     count: u32,
     at_once: bool,
 ) -> bool
-    requires count { length links.old ≡ 64 * length bus.old.journals }
-    requires ids { Numbered (λ l. l.link) links.old }
+    requires ends { AreEnds (λ l. l.node) (length bus.old.journals) links.old }
     requires ports { length bus.old.journals ≤ length board.old.ports.items }
     ensures nodes { length bus.new.journals ≡ length bus.old.journals }
-    ensures links { length links.new ≡ length links.old }
-    ensures ids { Numbered (λ l. l.link) links.new }
+    ensures ends { AreEnds (λ l. l.node) (length bus.new.journals) links.new }
     ensures ports { length board.new.ports.items ≡ length board.old.ports.items }
 {
     if !at_once {

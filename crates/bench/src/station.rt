@@ -1,13 +1,13 @@
 //! [`Station`]: a bus in one thread with a driver out of reset for each node.
 
-ghost use Rattle.std.specs.Prelude.{◌≡◌, ◌≤◌, ◌*◌, length, IfOk};
-ghost use Rattle.sja_link.specs.Links.{Numbered};
+ghost use Rattle.std.specs.Prelude.{◌≡◌, ◌≤◌, length, IfOk};
+ghost use Rattle.sja_link.specs.Links.{AreEnds};
 
 use super::running::run_bits;
 use can_frame::{Message, OutOfMemory};
 use sja_bus::{Bus, SerialBoard, are_links_of, serial_links};
 use sja_driver::{Active, Driver};
-use sja_link::{DequeLink, DriverEnd, first_link};
+use sja_link::{DequeLinks, DriverEnd};
 use sja_plan::MOST_BITS;
 use sja_regs::{Port, letters};
 use sja_script::{FaultScript, MOST_NODES};
@@ -20,11 +20,10 @@ const TRANSMIT: u8 = 1 << letters::TR;
 #[derive(Drop)]
 pub struct Station {
     bus: Bus,
-    links: Vec<DequeLink>,
+    links: Vec<DequeLinks>,
     board: SerialBoard,
     drivers: Vec<Driver<Active>>,
-    ghost count: { length links.items ≡ 64 * length bus.journals },
-    ghost ids: { Numbered (λ e. e.link) links.items },
+    ghost ends: { AreEnds (λ e. e.node) (length bus.journals) links.items },
     ghost ports: { length bus.journals ≤ length board.ports.items },
 }
 
@@ -53,26 +52,24 @@ impl Station {
     /// Has the driver of this node load this message and request its transmission, where its transmit buffer is
     /// released.
     pub fn send(&mut self, node: usize, message: &Message) {
-        let place = first_link(node % MOST_NODES as usize);
         let Some(driver) = self.drivers.get_mut(node) else {
             return;
         };
         let Some(port) = self.board.ports.get_mut(node) else {
             return;
         };
-        if place < self.links.len() {
-            ask(&mut self.links[place], driver, port, message);
+        if node < self.links.len() {
+            ask(&mut self.links[node], driver, port, message);
         }
     }
 
     /// Has the driver of this node release the first message that it was shown. Whether there was one.
     pub fn release(&mut self, node: usize) -> bool {
-        let place = first_link(node % MOST_NODES as usize);
         let Some(driver) = self.drivers.get_mut(node) else {
             return false;
         };
-        if place < self.links.len() {
-            is_released(&mut self.links[place], driver)
+        if node < self.links.len() {
+            is_released(&mut self.links[node], driver)
         } else {
             false
         }
@@ -85,22 +82,22 @@ impl Station {
     }
 }
 
-/// Has the driver load this message and request its transmission over this link, where that is its own and its transmit
-/// buffer is released.
-fn ask(link: &mut DequeLink, driver: &mut Driver<Active>, port: &mut Port, message: &Message)
-    ensures { link.new.link ≡ link.old.link }
+/// Has the driver load this message and request its transmission over these links, where they are its own and its
+/// transmit buffer is released.
+fn ask(links: &mut DequeLinks, driver: &mut Driver<Active>, port: &mut Port, message: &Message)
+    ensures { links.new.node ≡ links.old.node }
 {
-    if DriverEnd::id(link) == driver.link() && driver.load(port, message).is_ok() {
-        let _ = driver.command(link, port, TRANSMIT);
+    if DriverEnd::node(links) == driver.link().node && driver.load(port, message).is_ok() {
+        let _ = driver.command(links, port, TRANSMIT);
     }
 }
 
-/// Has the driver release the first message that it was shown, over this link, where that is its own. Whether there was
-/// one.
-fn is_released(link: &mut DequeLink, driver: &mut Driver<Active>) -> bool
-    ensures { link.new.link ≡ link.old.link }
+/// Has the driver release the first message that it was shown, over these links, where they are its own. Whether there
+/// was one.
+fn is_released(links: &mut DequeLinks, driver: &mut Driver<Active>) -> bool
+    ensures { links.new.node ≡ links.old.node }
 {
-    DriverEnd::id(link) == driver.link() && driver.release(link).is_ok()
+    DriverEnd::node(links) == driver.link().node && driver.release(links).is_ok()
 }
 
 /// A bus of so many nodes for so many bits, in none of which a node is struck.
@@ -119,21 +116,21 @@ fn plain_bus(alloc: Global, nodes: u8, bits: u32) -> Result<Bus, OutOfMemory>
 }
 
 /// The links and the ports of so many nodes, and their drivers.
-type Ends = (Vec<DequeLink>, SerialBoard, Vec<Driver<Active>>);
+type Ends = (Vec<DequeLinks>, SerialBoard, Vec<Driver<Active>>);
 
-/// The links and the ports of so many nodes, and a driver of each, started on its first link.
+/// The links and the ports of so many nodes, and a driver of each, started.
 fn ends_of(alloc: Global, nodes: u8) -> Option<Ends> {
-    let mut links = serial_links(alloc, nodes).ok()?;
+    let mut links = serial_links(alloc, nodes, 1).ok()?;
     let mut board = SerialBoard::new(alloc, nodes, 1).ok()?;
     let drivers = drivers_of(alloc, nodes, links.as_mut_slice(), &mut board)?;
     Some((links, board, drivers))
 }
 
-/// The drivers of so many nodes, each started on its first link.
+/// The drivers of so many nodes, each started.
 fn drivers_of(
     alloc: Global,
     nodes: u8,
-    links: &mut [DequeLink],
+    links: &mut [DequeLinks],
     board: &mut SerialBoard,
 ) -> Option<Vec<Driver<Active>>> {
     let mut drivers = Vec::with_capacity(alloc, usize::from(nodes)).ok()?;
@@ -143,13 +140,12 @@ fn drivers_of(
     Some(drivers)
 }
 
-/// The driver of this node, started on its first link.
-fn started(node: u8, links: &mut [DequeLink], board: &mut SerialBoard) -> Option<Driver<Active>> {
-    let driver = Driver::new(node);
-    let link = links.get_mut(first_link(usize::from(node)))?;
+/// The driver of this node, started.
+fn started(node: u8, links: &mut [DequeLinks], board: &mut SerialBoard) -> Option<Driver<Active>> {
+    let own = links.get_mut(usize::from(node))?;
     let port = board.ports.get_mut(usize::from(node))?;
-    if Some(DriverEnd::id(link)) != driver.next_link() {
+    if DriverEnd::node(own) != node {
         return None;
     }
-    driver.start(link, port).ok()
+    Driver::new(node).start(own, port).ok()
 }

@@ -2,7 +2,6 @@
 -- (this project's own rule).
 use Rattle.std.specs.Prelude.{◌≡◌, ◌<◌, ℕ, suc, true, false, Bool, List, length}
 use Rattle.sja_link.specs.declared.entry.Entry.{Entry}
-use Rattle.sja_link.specs.Lists.{Lists}
 use Rattle.sja_link.specs.Records.{record_of}
 use Rattle.sja_link.specs.declared.bus_end.BusEnd.{Ghosts as Ends}
 use Rattle.sja_regs.specs.declared.orders.Orders.{Orders}
@@ -41,15 +40,15 @@ abbrev pub WorksIf : {E B : Type 0} → Bool → Moment E B → Type 0
 WorksIf to_rest m = to_rest ≡ true → SomeWork m.bus.journals
 
 -- fewer than so many bits, and then the next one didn't come to its end, with this fault; it isn't counted
-pub record BreaksOff {E B : Type 0} (same : E → E → Type 0) (stands : E → Lists → Type 0) (full : E → Type 0)
-    (orders_are : B → ℕ → Orders → Type 0) (One : ℕ → Moment E B → Moment E B → Type 0) (Before : Moment E B → Type 0)
-    (count : ℕ) (was now : Moment E B) (f : BusFault) : Type 0 where
+pub record BreaksOff {E B : Type 0} (e : Ends E) (orders_are : B → ℕ → Orders → Type 0)
+    (One : ℕ → Moment E B → Moment E B → Type 0) (Before : Moment E B → Type 0) (count : ℕ) (was now : Moment E B)
+    (f : BusFault) : Type 0 where
   pub mid : Moment E B
   pub run : ℕ
   pub early : run < count
   pub bits : AreBits One Before was run mid
   pub before : Before mid
-  pub stops : StopsBit same stands full (orders_are mid.board) mid.bus now.bus mid.links now.links f
+  pub stops : StopsBit e (orders_are mid.board) mid.bus now.bus mid.links now.links f
   pub run_so_far : now.bus.run ≡ mid.bus.run
   pub left_so_far : now.bus.left ≡ mid.bus.left
 
@@ -60,4 +59,4 @@ RunsBits e b to_rest = AreBits (BitInOrder e b) (WorksIf to_rest)
 
 -- fewer than so many of these bits, and then one that didn't come to its end, with this fault
 abbrev pub StopsBits : {E B : Type 0} → Ends E → Ports B → Bool → ℕ → Moment E B → Moment E B → BusFault → Type 0
-StopsBits e b to_rest = BreaksOff e.same e.stands e.full b.orders_are (BitInOrder e b) (WorksIf to_rest)
+StopsBits e b to_rest = BreaksOff e b.orders_are (BitInOrder e b) (WorksIf to_rest)

@@ -62,7 +62,7 @@ pub record IsOutOfEntries (bits : ℕ) (steps : List ℕ) (left : ℕ) (before n
   pub full : (room_for bits steps node).all ≤ length (journal_at now node)
 
 -- of each node what came on its links was taken, and then the reserved entries of one were used
-pub record IsFullInStretch {E : Type 0} (stands : E → Lists → Type 0) (bits : ℕ) (steps : List ℕ) (left : ℕ)
+pub record IsFullInStretch {E : Type 0} (stands : E → ℕ → Lists → Type 0) (bits : ℕ) (steps : List ℕ) (left : ℕ)
     (before now : List (List Entry)) (links after : List E) (f : BusFault) : Type 0 where
   pub taken : List (List Entry)
   pub count : length taken ≡ length before

@@ -1,5 +1,5 @@
 -- That all was taken which the links showed right before a bit (this project's own rule).
-use Rattle.std.specs.Prelude.{◌+◌, ◌*◌, ◌<◌, ℕ, suc, List, length, slice_index_or}
+use Rattle.std.specs.Prelude.{◌<◌, ℕ, suc, List, length, slice_index_or}
 use Rattle.sja_link.specs.declared.bus_end.BusEnd.{Ghosts as Ends}
 use Rattle.sja_link.specs.declared.entry.Entry.{Entry}
 use Rattle.sja_link.specs.Lists.{Lists}
@@ -8,7 +8,7 @@ use Rattle.lemmas.specs.Related.{EachRelated}
 use Rattle.sja_link.specs.Parts.{part}
 use Rattle.sja_link.specs.Carried.{taken_of}
 use Rattle.sja_wire.specs.Wire.{journal_at}
-use Rattle.sja_link.specs.Links.{per_node, Kept}
+use Rattle.sja_link.specs.Links.{Kept}
 use Rattle.sja_wire.specs.Buses.{AllDry}
 
 -- the lists of the link of an activation where nothing was put on it since the first journal, and what was taken from
@@ -16,11 +16,9 @@ use Rattle.sja_wire.specs.Buses.{AllDry}
 abbrev pub taken_by : List Entry → List Entry → ℕ → Account → Lists
 taken_by before now a h = record (account before a h) { taken = taken_of (part now a) }
 
--- the links of a node, from this place on, stand for such lists, whatever its driver got and gave
-abbrev pub HasTaken : {E : Type 0} → (E → Lists → Type 0) → List Entry → List Entry → List E → ℕ → (ℕ → Account) →
-    Type 0
-HasTaken {E} stands before now links base h =
-    (a : ℕ) (d : E) → a < per_node → stands (slice_index_or links (base + a) d) (taken_by before now (suc a) (h a))
+-- the links of a node stand for such lists, whatever its driver got and gave
+abbrev pub HasTaken : {E : Type 0} → (E → ℕ → Lists → Type 0) → List Entry → List Entry → E → (ℕ → Account) → Type 0
+HasTaken stands before now end h = (a : ℕ) → stands end (suc a) (taken_by before now (suc a) (h a))
 
 -- right before the bit the links were these, still the same ones: of each node the one that is read showed nothing
 -- upward, nothing was put on any since the journals before, and what had been taken is what the journals have now,
@@ -29,6 +27,6 @@ pub record TakesAll {E : Type 0} (e : Ends E) (before now : List (List Entry)) (
   pub between : List E
   pub sames : EachRelated e.same links between
   pub shown : AllDry e.dry now between
-  pub taken : (node : ℕ) (h : ℕ → Account) → node < length before →
-      Kept e.stands (journal_at before node) links (per_node * node) h →
-      HasTaken e.stands (journal_at before node) (journal_at now node) between (per_node * node) h
+  pub taken : (node : ℕ) (d : E) (h : ℕ → Account) → node < length before →
+      Kept e.stands (journal_at before node) (slice_index_or links node d) h →
+      HasTaken e.stands (journal_at before node) (journal_at now node) (slice_index_or between node d) h

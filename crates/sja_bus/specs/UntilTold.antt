@@ -48,7 +48,7 @@ RunsUntilTold e b to_rest was = AreBits (λ k. OneBit e b) (WorksUntold to_rest 
 -- fewer than so many of these bits, and then one that didn't come to its end, with this fault
 abbrev pub StopsUntilTold : {E B : Type 0} → Ends E → Ports B → Bool → ℕ → Moment E B → Moment E B → BusFault → Type 0
 StopsUntilTold e b to_rest count was =
-    BreaksOff e.same e.stands e.full b.orders_are (λ k. OneBit e b) (WorksUntold to_rest was) count was
+    BreaksOff e b.orders_are (λ k. OneBit e b) (WorksUntold to_rest was) count was
 
 -- the turn is that of the last bit of this journal, as of one right before which no abort changed the node, and it says
 -- more than what stood before the bit

@@ -1,10 +1,10 @@
 //! What all nodes of a bus do in one bit, node after node.
 
-ghost use Rattle.std.specs.Prelude.{◌≡◌, ◌*◌, ◌<◌, ◌≤◌, ℕ, true, false, slice_index_or};
+ghost use Rattle.std.specs.Prelude.{◌≡◌, ◌<◌, ◌≤◌, ℕ, true, false, slice_index_or};
 ghost use Rattle.std.specs.Prelude.{length, IfOk, OnOk, IfErr, ◌⊎◌};
 ghost use Rattle.lemmas.specs.Related.{EachRelated};
 ghost use Rattle.sja_wire.specs.Wire.{wired};
-ghost use Rattle.sja_link.specs.Links.{Numbered};
+ghost use Rattle.sja_link.specs.Links.{AreEnds};
 ghost use Rattle.sja_link.specs.Written.{Room};
 ghost use Rattle.sja_bus.specs.Inside.Rows.{AreReady, AreSeated, AreTold, EachSeat, SeatTakes, SeatUntold};
 ghost use Rattle.sja_bus.specs.Inside.Rows.{SeatOpens, SeatOpensUntold, SeatTurns, GoesAll, AllRead};
@@ -25,14 +25,13 @@ use super::seat::Seat;
 use super::struck_nodes::StruckNodes;
 use super::wire::{both, level_of, seen};
 use can_bits::Level;
-use sja_link::{BusEnd, first_link};
+use sja_link::BusEnd;
 use sja_wire::BusFault;
 
 /// Takes all that the links show.
 pub(crate) fn gather_all<E: BusEnd>(seats: &mut [Seat], links: &mut [E]) -> Result<(), BusFault>
     requires few { length seats.old ≤ 8 }
-    requires count { length links.old ≡ 64 * length seats.old }
-    requires ids { Numbered E.link links.old }
+    requires ends { AreEnds E.node (length seats.old) links.old }
     requires ready { AreReady seats.old }
     ensures sames { EachRelated E.same links.old links.new }
     ensures ready { OnOk result (AreReady seats.new) }
@@ -44,7 +43,7 @@ pub(crate) fn gather_all<E: BusEnd>(seats: &mut [Seat], links: &mut [E]) -> Resu
     ensures refused { IfErr result (λ f. SeatRefuses E.stands seats.old seats.new links.old links.new f) }
 {
     for k in 0..seats.len() {
-        seats[k].gather(links, first_link(k))?;
+        seats[k].gather(&mut links[k])?;
     }
     Ok(())
 }
@@ -58,7 +57,7 @@ pub(crate) fn bit_of_all<E: BusEnd, B: Board>(
     board: &mut B,
     struck: StruckNodes,
 ) -> Result<(), BusFault>
-    requires seated { AreSeated E.link seats.old links.old (B.ports board.old) }
+    requires seated { AreSeated E.node seats.old links.old (B.ports board.old) }
     ensures board { KeepsOthers B.ports B.kept (length seats.old) board.old board.new }
     ensures sames { EachRelated E.same links.old links.new }
     ensures goes { OnOk result (GoesAll E.same E.stands seats.old seats.new links.old links.new) }
@@ -70,7 +69,7 @@ pub(crate) fn bit_of_all<E: BusEnd, B: Board>(
     ensures facts { OnOk result ((k : ℕ) → k < length seats.old → B.facts board.new k) }
     ensures stops { IfErr result (λ f. (SeatRefuses E.stands seats.old seats.new links.old links.new f
         ⊎ SeatFull E.stands (B.orders_are board.old) seats.old seats.new links.old links.new f)
-        ⊎ SeatStops E.same E.stands E.full (B.orders_are board.old) seats.old seats.new links.old f) }
+        ⊎ SeatStops E.BusEnd (B.orders_are board.old) seats.old seats.new links.old f) }
 {
     open_all(seats, links, board)?;
     let level = level_of(seats);
@@ -87,8 +86,7 @@ fn open_all<E: BusEnd, B: Board>(
     board: &B,
 ) -> Result<(), BusFault>
     requires few { length seats.old ≤ 8 }
-    requires count { length links.old ≡ 64 * length seats.old }
-    requires ids { Numbered E.link links.old }
+    requires ends { AreEnds E.node (length seats.old) links.old }
     requires ready { AreReady seats.old }
     requires ports { length seats.old ≤ B.ports board.now }
     ensures sames { EachRelated E.same links.old links.new }
@@ -103,7 +101,7 @@ fn open_all<E: BusEnd, B: Board>(
         ⊎ SeatFull E.stands (B.orders_are board.now) seats.old seats.new links.old links.new f) }
 {
     for k in 0..seats.len() {
-        seats[k].open_bit(links, first_link(k), board)?;
+        seats[k].open_bit(&mut links[k], board)?;
     }
     Ok(())
 }
@@ -121,7 +119,7 @@ fn sample_from<E: BusEnd, B: Board>(
     first: usize,
     row: &mut RowFrame,
 ) -> Result<bool, BusFault>
-    requires seated { AreSeated E.link seats.old links.old (B.ports board.old) }
+    requires seated { AreSeated E.node seats.old links.old (B.ports board.old) }
     ensures sames { EachRelated E.same links.old links.new }
     ensures rooms { (n : ℕ → Room) → HaveRoom n seats.old → HaveRoom n seats.new }
     ensures board { KeepsOthers B.ports B.kept (length seats.old) board.old board.new }
@@ -139,7 +137,7 @@ fn sample_from<E: BusEnd, B: Board>(
     let mut told = false;
     for k in first..seats.len() {
         let sees = seen(level, struck.has(k));
-        let one = seats[k].sample(links, first_link(k), sees, board, row)?;
+        let one = seats[k].sample(&mut links[k], sees, board, row)?;
         told = told | one;
     }
     Ok(told)
@@ -155,7 +153,7 @@ fn tell_from<E: BusEnd, B: Board>(
     board: &mut B,
     first: usize,
 ) -> Result<bool, BusFault>
-    requires seated { AreSeated E.link seats.old links.old (B.ports board.old) }
+    requires seated { AreSeated E.node seats.old links.old (B.ports board.old) }
     requires few { first < length seats.old }
     requires told { AreToldFrom first seats.old }
     ensures sames { EachRelated E.same links.old links.new }
@@ -173,7 +171,7 @@ fn tell_from<E: BusEnd, B: Board>(
 {
     let mut row = RowFrame::none();
     let sees = seen(level, struck.has(first));
-    let one = seats[first].sample_and_tell(links, first_link(first), sees, board, &mut row)?;
+    let one = seats[first].sample_and_tell(&mut links[first], sees, board, &mut row)?;
     let others = sample_from(seats, links, level, struck, board, first + 1, &mut row)?;
     Ok(one | others)
 }
@@ -188,7 +186,7 @@ pub(crate) fn sample_all<E: BusEnd, B: Board>(
     struck: StruckNodes,
     board: &mut B,
 ) -> Result<BitEnd, BusFault>
-    requires seated { AreSeated E.link seats.old links.old (B.ports board.old) }
+    requires seated { AreSeated E.node seats.old links.old (B.ports board.old) }
     requires told { AreTold seats.old }
     requires free { AreFree 1 seats.old }
     ensures sames { EachRelated E.same links.old links.new }
@@ -201,7 +199,7 @@ pub(crate) fn sample_all<E: BusEnd, B: Board>(
     ensures level { IfOk result (λ end. end.level ≡ wired (driven_by seats.new)) }
     ensures untold { IfOk result (λ end. end.told ≡ false → TellsNone seats.old seats.new board.old board.new) }
     ensures told { IfOk result (λ end. end.told ≡ true → SomeTold (B.told board.old board.new) seats.new) }
-    ensures broken { IfErr result (λ f. SeatBreaks E.same E.stands E.full seats.old seats.new links.old f) }
+    ensures broken { IfErr result (λ f. SeatBreaks E.BusEnd seats.old seats.new links.old f) }
 {
     let mut next = Level::Recessive;
     for k in 0..seats.len() {

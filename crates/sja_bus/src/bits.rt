@@ -27,10 +27,10 @@ use sja_link::BusEnd;
 use sja_wire::BusFault;
 
 impl Bus {
-    ghost use Rattle.std.specs.Prelude.{◌≡◌, ◌*◌, ◌≤◌, ◌⊎◌, None, Some, Err, true, length, OnOk, IfOk};
+    ghost use Rattle.std.specs.Prelude.{◌≡◌, ◌≤◌, ◌⊎◌, None, Some, Err, true, length, OnOk, IfOk};
     ghost use Rattle.std.specs.Prelude.{IfErr};
     ghost use Rattle.sja_wire.specs.declared.bus_fault.BusFault.{BusFault as Fault};
-    ghost use Rattle.sja_link.specs.Links.{Numbered};
+    ghost use Rattle.sja_link.specs.Links.{AreEnds};
     ghost use Rattle.sja_wire.specs.Buses.{IsStill};
     ghost use Rattle.sja_bus.specs.Moment.{moment, Keeps};
     ghost use Rattle.sja_bus.specs.Several.{AllRest, RunsBits, StopsBits, WorksIf};
@@ -40,7 +40,7 @@ impl Bus {
     /// Answers how many they were.
     ///
     /// They are what as many calls of [`bit`](Bus::bit) are between which no driver does anything: what the drivers
-    /// gave is taken before the first of them. `links` are 64 a node, by node and activation.
+    /// gave is taken before the first of them. `links` are the ends of the nodes' links, in order.
     ///
     /// Error: after some of these bits, any fault of [`bit`](Bus::bit) but [`BusFault::BitsSpent`], and then the same
     /// always. The bits before it count.
@@ -51,8 +51,7 @@ impl Bus {
         count: u32,
         to_rest: bool,
     ) -> Result<u32, BusFault>
-        requires count { length links.old ≡ 64 * length self.old.journals }
-        requires ids { Numbered E.link links.old }
+        requires ends { AreEnds E.node (length self.old.journals) links.old }
         requires ports { length self.old.journals ≤ B.ports board.old }
         ensures keeps { Keeps E.BusEnd B.Board
             (moment self.old links.old board.old) (moment self.new links.new board.new) }
@@ -111,7 +110,7 @@ impl Bus {
         further: u32,
         to_rest: bool,
     ) -> Result<u32, BusFault>
-        requires { MayRunBits E.link self.old links.old (B.ports board.old) further }
+        requires { MayRunBits E.node self.old links.old (B.ports board.old) further }
         ensures most { IfOk result (λ n. n ≤ further) }
         ensures runs { IfOk result (λ n. IsSoFar E.BusEnd B.Board (AnyBit E.BusEnd B.Board) (WorksIf to_rest)
             (moment self.old links.old board.old) n (moment self.new links.new board.new)) }
@@ -157,7 +156,7 @@ pub(crate) fn untaken_bits<E: BusEnd, B: Board>(
     most: u32,
     to_rest: bool,
 ) -> Result<u32, BrokenBit>
-    requires seated { AreSeated E.link seats.old links.old (B.ports board.old) }
+    requires seated { AreSeated E.node seats.old links.old (B.ports board.old) }
     requires may { MayRunOn B.Board board.old seats.old }
     requires bus { IsBus struck.old.script from seats.old }
     requires on { struck.old.from ≤ from }

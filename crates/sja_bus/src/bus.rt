@@ -58,12 +58,12 @@ impl Model for Bus {
 }
 
 impl Bus {
-    ghost use Rattle.std.specs.Prelude.{◌≡◌, ◌+◌, ◌*◌, ◌^◌, ◌<◌, ◌≤◌, ◌⊎◌, ◌≢◌, ℕ, None, Some, Err};
+    ghost use Rattle.std.specs.Prelude.{◌≡◌, ◌+◌, ◌^◌, ◌<◌, ◌≤◌, ◌⊎◌, ◌≢◌, ℕ, None, Some, Err};
     ghost use Rattle.std.specs.List.{All};
     ghost use Rattle.std.specs.Prelude.{true, false, length, map, slice_index_or, OnOk, IfOk, IfErr};
     ghost use Rattle.sja_wire.specs.declared.bus_fault.BusFault.{BusFault as Fault};
     ghost use Rattle.sja_wire.specs.declared.bus_fault.BusFault.TheVariants.{BitsSpent};
-    ghost use Rattle.sja_link.specs.Links.{Numbered};
+    ghost use Rattle.sja_link.specs.Links.{AreEnds};
     ghost use Rattle.sja_link.specs.BitEntries.{MayHaveItems};
     ghost use Rattle.lemmas.specs.Related.{EachRelated};
     ghost use Rattle.sja_wire.specs.declared.node_log.NodeLog.{NodeLog as Log};
@@ -110,12 +110,11 @@ impl Bus {
     }
 
     /// Takes what the drivers gave: of each node in order all that its links show, one link after the other. `links`
-    /// are 64 a node, by node and activation. What holds of every bus is said of the one before it.
+    /// are the ends of the nodes' links, in order. What holds of every bus is said of the one before it.
     ///
     /// Error: [`BusFault::BadCredit`], [`BusFault::BadOrder`] or [`BusFault::JournalFull`], and then the same always.
     pub fn gather<E: BusEnd>(&mut self, links: &mut [E]) -> Result<(), BusFault>
-        requires count { length links.old ≡ 64 * length self.old.journals }
-        requires ids { Numbered E.link links.old }
+        requires ends { AreEnds E.node (length self.old.journals) links.old }
         ensures lawful { self.old.fault ≡ None →
             IsBusRun self.old.script self.old.run self.old.journals }
         ensures sames { EachRelated E.same links.old links.new }
@@ -176,8 +175,7 @@ impl Bus {
         links: &mut [E],
         board: &mut B,
     ) -> Result<(), BusFault>
-        requires count { length links.old ≡ 64 * length self.old.journals }
-        requires ids { Numbered E.link links.old }
+        requires ends { AreEnds E.node (length self.old.journals) links.old }
         requires ports { length self.old.journals ≤ B.ports board.old }
         ensures keeps { Keeps E.BusEnd B.Board
             (moment self.old links.old board.old) (moment self.new links.new board.new) }
@@ -187,7 +185,7 @@ impl Bus {
         ensures unrun { IfErr result (λ f. (self.new.run ≡ self.old.run) × (self.new.left ≡ self.old.left)) }
         ensures fault { IfErr result (λ f. (f ≡ BitsSpent) ⊎ (self.new.fault ≡ Some f)) }
         ensures reason { IfErr result (λ f. self.old.fault ≡ None →
-            StopsBit E.same E.stands E.full (B.orders_are board.old) self.old self.new links.old links.new f) }
+            StopsBit E.BusEnd (B.orders_are board.old) self.old self.new links.old links.new f) }
         ensures spent { self.old.left ≡ 0 → self.old.fault ≡ None →
             (result ≡ Err BitsSpent) × IsStill self.old self.new links.old links.new board.old board.new }
         ensures stays { (f : Fault) → self.old.fault ≡ Some f →

@@ -21,7 +21,7 @@ impl Seat {
 
     /// Tells the driver of bus-off, and writes it. The put is tried again where the end gives it back.
     pub(crate) fn go_off<E: BusEnd>(&mut self, end: &mut E) -> Result<(), BusFault>
-        requires id { E.link end.old ≡ link_of self.old.ledger }
+        requires own { E.node end.old ≡ (link_of self.old.ledger).node }
         requires runs { (f : Filtering) × (self.old.activity ≡ Running f) }
         requires mid { IsMid self.old true }
         requires reset { InReset self.old.node }
@@ -38,7 +38,7 @@ impl Seat {
             (Moves E.stands end.old end.new self.old.journal.entries self.new.journal.entries (suc self.old.ended)) }
         ensures entered { OnOk result (self.new.journal.entries ≡ self.old.journal.entries ++ OffEntry ∷ []) }
         ensures broken { IfErr result (λ f. BreaksBy (IsFullFor self.old.journal.room self.old.journal.entries OffEntry)
-            E.same E.stands E.full end.old self.old self.new f) }
+            E.BusEnd end.old self.old self.new f) }
         ensures unentered { IfErr result (λ f. self.new.journal.entries ≡ self.old.journal.entries) }
     {
         for _ in 0..TRIES {

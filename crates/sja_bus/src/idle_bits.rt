@@ -17,11 +17,11 @@ use sja_link::BusEnd;
 use sja_wire::BusFault;
 
 impl Bus {
-    ghost use Rattle.std.specs.Prelude.{◌≡◌, ◌≢◌, ◌+◌, ◌*◌, ◌≤◌, ◌⊎◌, None, Some, Ok, Err, length, OnOk, IfOk};
+    ghost use Rattle.std.specs.Prelude.{◌≡◌, ◌≢◌, ◌+◌, ◌≤◌, ◌⊎◌, None, Some, Ok, Err, length, OnOk, IfOk};
     ghost use Rattle.std.specs.Prelude.{IfErr, true, false};
     ghost use Rattle.lemmas.specs.Related.{EachRelated};
     ghost use Rattle.sja_wire.specs.declared.bus_fault.BusFault.{BusFault as Fault};
-    ghost use Rattle.sja_link.specs.Links.{Numbered};
+    ghost use Rattle.sja_link.specs.Links.{AreEnds};
     ghost use Rattle.sja_link.specs.BitEntries.{MayHaveItems};
     ghost use Rattle.sja_wire.specs.Buses.{EachJournal, EachUntold, KeepsAll, AllDry, AllTold};
     ghost use Rattle.sja_wire.specs.Reasons.{IsTakenAndRefused};
@@ -35,7 +35,7 @@ impl Bus {
     ///
     /// They are what as many calls of [`bit`](Bus::bit) are that find nothing on any link: each node drives and sees
     /// recessive, and no port is told anything. An answer of 0 says that the next bit takes a call of `bit`. `links`
-    /// are 64 a node, by node and activation.
+    /// are the ends of the nodes' links, in order.
     ///
     /// Error: [`BusFault::BadCredit`], [`BusFault::BadOrder`] or [`BusFault::JournalFull`], and then the same always.
     pub fn quiet_bits<E: BusEnd, B: Board>(
@@ -44,8 +44,7 @@ impl Bus {
         board: &B,
         count: u32,
     ) -> Result<u32, BusFault>
-        requires count { length links.old ≡ 64 * length self.old.journals }
-        requires ids { Numbered E.link links.old }
+        requires ends { AreEnds E.node (length self.old.journals) links.old }
         requires ports { length self.old.journals ≤ B.ports board.now }
         ensures sames { EachRelated E.same links.old links.new }
         ensures script { self.new.script ≡ self.old.script }
@@ -164,11 +163,11 @@ pub(crate) fn all_rest(seats: &mut [Seat], count: u32)
 }
 
 impl Seat {
-    ghost use Rattle.std.specs.Prelude.{◌≡◌, ◌≢◌, ◌+◌, ◌*◌, ◌-◌, ◌≤◌, ◌⊎◌, None, Some, Ok, Err, length, OnOk, IfOk};
+    ghost use Rattle.std.specs.Prelude.{◌≡◌, ◌≢◌, ◌+◌, ◌-◌, ◌≤◌, ◌⊎◌, None, Some, Ok, Err, length, OnOk, IfOk};
     ghost use Rattle.std.specs.Prelude.{IfErr, true, false};
     ghost use Rattle.lemmas.specs.Related.{EachRelated};
     ghost use Rattle.sja_wire.specs.declared.bus_fault.BusFault.{BusFault as Fault};
-    ghost use Rattle.sja_link.specs.Links.{Numbered};
+    ghost use Rattle.sja_link.specs.Links.{AreEnds};
     ghost use Rattle.sja_link.specs.BitEntries.{MayHaveItems};
     ghost use Rattle.sja_wire.specs.Buses.{EachJournal, EachUntold, KeepsAll, AllDry, AllTold};
     ghost use Rattle.sja_wire.specs.Reasons.{IsTakenAndRefused};

@@ -9,7 +9,7 @@ use sja_link::{BadCredit, BusEnd, BusLedger, Entry, LinkId, Up};
 use sja_wire::BusFault;
 
 impl Seat {
-    ghost use Rattle.std.specs.Prelude.{◌≡◌, ◌<◌, ◌+◌, [], ◌∷◌, ◌++◌, slice_index_or, true, length, OnOk};
+    ghost use Rattle.std.specs.Prelude.{◌≡◌, ◌<◌, [], ◌∷◌, ◌++◌, true, OnOk};
     ghost use Rattle.std.specs.Prelude.{IfErr, ◌⊎◌, ◌≤◌, ℕ, suc, Ok, false};
     ghost use Rattle.sja_link.specs.BusLedgers.{link_of};
     ghost use Rattle.sja_link.specs.Written.{Fits};
@@ -19,7 +19,7 @@ impl Seat {
     ghost use Rattle.sja_link.specs.BitEntries.{MayHaveItems};
     ghost use Rattle.sja_wire.specs.Reasons.{RefusesItem};
     ghost use Rattle.sja_bus.specs.Inside.Seats.{IsSeat, IsReady, IsOwed};
-    ghost use Rattle.sja_bus.specs.Inside.AtLinks.{HasLinks, KeepsLinks};
+    ghost use Rattle.sja_bus.specs.Inside.AtLinks.{HasEnd, KeepsEnd};
     ghost use Rattle.sja_bus.specs.Inside.Taking.{FullForAbort, Takes, Refuses, RefusesHere};
     ghost use Rattle.sja_bus.specs.Inside.Turning.{TakesUntold, OpensUntold};
     ghost use Rattle.sja_link.specs.declared.up.Up.TheVariants.{Start, Credit, Send, Stop};
@@ -32,53 +32,46 @@ impl Seat {
     #[inline(always)]
     pub(crate) fn open_bit<E: BusEnd, B: Board>(
         &mut self,
-        links: &mut [E],
-        base: usize,
+        end: &mut E,
         board: &B,
     ) -> Result<(), BusFault>
-        requires at { HasLinks E.link self.old links.old base }
+        requires at { HasEnd E.node self.old end.old }
         requires port { (link_of self.old.ledger).node < B.ports board.now }
-        ensures stays { KeepsLinks E.same self.old self.new links.old links.new }
+        ensures stays { KeepsEnd E.same self.old self.new end.old end.new }
         ensures ready { OnOk result (IsReady self.new) }
         ensures goes { OnOk result
-            (Goes E.same E.stands self.old.journal.entries self.new.journal.entries links.old links.new base) }
+            (Goes E.same E.stands end.old end.new self.old.journal.entries self.new.journal.entries) }
         ensures opens { OnOk result (Opens (B.orders_are board.now (link_of self.old.ledger).node)
             self.old.journal.entries self.new.journal.entries) }
         ensures untold { OnOk result (OpensUntold self.old self.new) }
         ensures facts { OnOk result (B.facts board.now (link_of self.old.ledger).node) }
-        ensures dry { OnOk result
-            ((d : E) → self.new.ended < 64 → E.dry (slice_index_or links.new (base + self.new.ended) d)) }
+        ensures dry { OnOk result (E.dry end.new (suc self.new.ended)) }
         ensures stops { IfErr result (λ f. RefusesItem E.stands self.old.journal.room self.old.journal.entries
-            self.new.journal.entries links.old links.new base (link_of self.old.ledger).node f
+            self.new.journal.entries end.old end.new (link_of self.old.ledger).node f
             ⊎ FullForAbort E.stands (B.orders_are board.now (link_of self.old.ledger).node) self.old self.new
-            links.old links.new base f) }
+            end.old end.new f) }
     {
-        self.gather(links, base)?;
+        self.gather(end)?;
         let ordered = board.orders(self.number()).abort;
         if ordered { self.abort() } else { Ok(()) }
     }
 
     /// Takes all that the links show, one link after the other.
     #[inline(always)]
-    pub(crate) fn gather<E: BusEnd>(&mut self, links: &mut [E], base: usize) -> Result<(), BusFault>
-        requires at { HasLinks E.link self.old links.old base }
-        ensures stays { KeepsLinks E.same self.old self.new links.old links.new }
+    pub(crate) fn gather<E: BusEnd>(&mut self, end: &mut E) -> Result<(), BusFault>
+        requires at { HasEnd E.node self.old end.old }
+        ensures stays { KeepsEnd E.same self.old self.new end.old end.new }
         ensures ready { OnOk result (IsReady self.new) }
         ensures goes { OnOk result
-            (Goes E.same E.stands self.old.journal.entries self.new.journal.entries links.old links.new base) }
+            (Goes E.same E.stands end.old end.new self.old.journal.entries self.new.journal.entries) }
         ensures items { OnOk result (MayHaveItems self.old.journal.entries self.new.journal.entries) }
         ensures untold { OnOk result (TakesUntold self.old self.new) }
-        ensures dry { OnOk result
-            ((d : E) → self.new.ended < 64 → E.dry (slice_index_or links.new (base + self.new.ended) d)) }
+        ensures dry { OnOk result (E.dry end.new (suc self.new.ended)) }
         ensures refused { IfErr result (λ f. RefusesItem E.stands self.old.journal.room self.old.journal.entries
-            self.new.journal.entries links.old links.new base (link_of self.old.ledger).node f) }
+            self.new.journal.entries end.old end.new (link_of self.old.ledger).node f) }
     {
         loop {
-            if self.ended >= 64 {
-                return Ok(());
-            }
-            let here = base + self.ended as usize;
-            if !self.take(&mut links[here])? {
+            if !self.take(end)? {
                 return Ok(());
             }
         }
@@ -87,9 +80,7 @@ impl Seat {
     /// Takes one item from the link that is read. False where it shows none.
     #[inline(always)]
     fn take<E: BusEnd>(&mut self, end: &mut E) -> Result<bool, BusFault>
-        requires id { E.link end.old ≡ link_of self.old.ledger }
-        requires ready { IsReady self.old }
-        requires more { self.old.ended < 64 }
+        requires at { HasEnd E.node self.old end.old }
         ensures same { E.same end.old end.new }
         ensures node { (link_of self.new.ledger).node ≡ (link_of self.old.ledger).node }
         ensures room { self.new.journal.room ≡ self.old.journal.room }
@@ -102,7 +93,7 @@ impl Seat {
             × ((past (place_of self.old.journal.entries) (Item item)).activation ≡ suc self.old.ended)
             × (IsOutOfOrder self.old.journal.entries item → ⊥) }
         ensures untold { result ≡ Ok true → self.new.untold ≡ Changed }
-        ensures none { result ≡ Ok false → E.dry end.new × (self.new ≡ self.old) }
+        ensures none { result ≡ Ok false → E.dry end.new (suc self.old.ended) × (self.new ≡ self.old) }
         ensures refused { IfErr result (λ f. RefusesHere E.stands end.old end.new self.old self.new f) }
     {
         match self.ledger.collect(end) {
@@ -122,7 +113,6 @@ impl Seat {
     fn note(&mut self, item: Up) -> Result<(), BusFault>
         requires owed { IsOwed self.old (Item item) }
         requires seat { IsSeat self.old }
-        requires more { self.old.ended < 64 }
         requires some { (bytes : ℕ) → item ≡ Credit bytes → (3 ≤ bytes) × (bytes ≤ 13) }
         ensures node { (link_of self.new.ledger).node ≡ (link_of self.old.ledger).node }
         ensures room { self.new.journal.room ≡ self.old.journal.room }
@@ -141,7 +131,6 @@ impl Seat {
     fn begin(&mut self, config: Config) -> Result<(), BusFault>
         requires owed { IsOwed self.old (Item (Start config)) }
         requires seat { IsSeat self.old }
-        requires more { self.old.ended < 64 }
         ensures node { (link_of self.new.ledger).node ≡ (link_of self.old.ledger).node }
         ensures room { self.new.journal.room ≡ self.old.journal.room }
         ensures takes { OnOk result (Takes self.old self.new (Start config)) }
@@ -159,7 +148,6 @@ impl Seat {
     fn credited(&mut self, bytes: u8) -> Result<(), BusFault>
         requires owed { IsOwed self.old (Item (Credit bytes)) }
         requires seat { IsSeat self.old }
-        requires more { self.old.ended < 64 }
         requires some { (3 ≤ bytes) × (bytes ≤ 13) }
         ensures node { (link_of self.new.ledger).node ≡ (link_of self.old.ledger).node }
         ensures room { self.new.journal.room ≡ self.old.journal.room }
@@ -173,7 +161,6 @@ impl Seat {
     fn ask(&mut self, request: Request) -> Result<(), BusFault>
         requires owed { IsOwed self.old (Item (Send request)) }
         requires seat { IsSeat self.old }
-        requires more { self.old.ended < 64 }
         ensures node { (link_of self.new.ledger).node ≡ (link_of self.old.ledger).node }
         ensures room { self.new.journal.room ≡ self.old.journal.room }
         ensures takes { OnOk result (Takes self.old self.new (Send request)) }
@@ -196,7 +183,6 @@ impl Seat {
     fn end(&mut self) -> Result<(), BusFault>
         requires owed { IsOwed self.old (Item Stop) }
         requires seat { IsSeat self.old }
-        requires more { self.old.ended < 64 }
         ensures node { (link_of self.new.ledger).node ≡ (link_of self.old.ledger).node }
         ensures room { self.new.journal.room ≡ self.old.journal.room }
         ensures takes { OnOk result (Takes self.old self.new Stop) }

@@ -17,37 +17,36 @@ impl Seat {
     ghost use Rattle.sja_link.specs.BusLedgers.{link_of};
     ghost use Rattle.sja_link.specs.Inside.Moving.{Goes, Moves};
     ghost use Rattle.sja_bus.specs.Inside.Seats.{IsSound, IsSeat, IsReady, IsMid};
-    ghost use Rattle.sja_bus.specs.Inside.AtLinks.{HasLinks, KeepsLinks};
+    ghost use Rattle.sja_bus.specs.Inside.AtLinks.{HasEnd, KeepsEnd};
     ghost use Rattle.sja_bus.specs.declared.port_news.PortNews.TheVariants.{Nothing};
     ghost use Rattle.sja_bus.specs.Inside.SeatBits.{BreaksInBit, HadBit, KeepsInBit};
     ghost use Rattle.sja_bus.specs.Inside.Turning.{Brings, IsQuietBit, BringsVerdict};
     ghost use Rattle.can_frame.specs.declared.filter.Filter.{Filter as Filtering};
     ghost use Rattle.sja_link.specs.declared.entry.Entry.TheVariants.{Bit};
     ghost use Rattle.sja_bus.specs.declared.activity.Activity.TheVariants.{Running};
-    ghost use Rattle.sja_bus.specs.Inside.Taking.{BreaksHere, IsBitShort};
+    ghost use Rattle.sja_bus.specs.Inside.Taking.{IsBitShort};
 
     /// One bit of the node, which sees this level. Its port is told of it, unless nothing happened and nothing is left
     /// to be told. Answers whether it was told.
     #[inline(always)]
     pub(crate) fn sample<E: BusEnd, B: Board>(
         &mut self,
-        links: &mut [E],
-        base: usize,
+        end: &mut E,
         seen: Level,
         board: &mut B,
         row: &mut RowFrame,
     ) -> Result<bool, BusFault>
-        requires at { HasLinks E.link self.old links.old base }
+        requires at { HasEnd E.node self.old end.old }
         requires port { (link_of self.old.ledger).node < B.ports board.old }
-        ensures keeps { KeepsInBit E.BusEnd B.Board self.old self.new links.old links.new board.old board.new }
-        ensures had { IfOk result (λ told. HadBit E.BusEnd B.Board told seen self.old self.new links.old links.new base
+        ensures keeps { KeepsInBit E.BusEnd B.Board self.old self.new end.old end.new board.old board.new }
+        ensures had { IfOk result (λ told. HadBit E.BusEnd B.Board told seen self.old self.new end.old end.new
             board.old board.new) }
-        ensures broken { IfErr result (λ f. BreaksInBit E.BusEnd self.old self.new links.old base f) }
+        ensures broken { IfErr result (λ f. BreaksInBit E.BusEnd self.old self.new end.old f) }
     {
         if self.may_sample_quietly() && self.sample_quietly(seen) {
             return Ok(false);
         }
-        self.sample_and_tell(links, base, seen, board, row)
+        self.sample_and_tell(end, seen, board, row)
     }
 
     /// One bit of the node, in which something may happen. Its port is told of it, unless nothing did and nothing is
@@ -55,21 +54,20 @@ impl Seat {
     #[inline(always)]
     pub(crate) fn sample_and_tell<E: BusEnd, B: Board>(
         &mut self,
-        links: &mut [E],
-        base: usize,
+        end: &mut E,
         seen: Level,
         board: &mut B,
         row: &mut RowFrame,
     ) -> Result<bool, BusFault>
-        requires at { HasLinks E.link self.old links.old base }
+        requires at { HasEnd E.node self.old end.old }
         requires port { (link_of self.old.ledger).node < B.ports board.old }
-        ensures keeps { KeepsInBit E.BusEnd B.Board self.old self.new links.old links.new board.old board.new }
-        ensures had { IfOk result (λ told. HadBit E.BusEnd B.Board told seen self.old self.new links.old links.new base
+        ensures keeps { KeepsInBit E.BusEnd B.Board self.old self.new end.old end.new board.old board.new }
+        ensures had { IfOk result (λ told. HadBit E.BusEnd B.Board told seen self.old self.new end.old end.new
             board.old board.new) }
-        ensures broken { IfErr result (λ f. BreaksInBit E.BusEnd self.old self.new links.old base f) }
+        ensures broken { IfErr result (λ f. BreaksInBit E.BusEnd self.old self.new end.old f) }
     {
         let stands = self.stands();
-        let outcome = self.sample_fully(links, base, seen, row)?;
+        let outcome = self.sample_fully(end, seen, row)?;
         self.drives = self.node.drive();
         Ok(self.tell(board, outcome, &stands))
     }
@@ -112,28 +110,26 @@ impl Seat {
     #[inline(always)]
     fn sample_fully<E: BusEnd>(
         &mut self,
-        links: &mut [E],
-        base: usize,
+        end: &mut E,
         seen: Level,
         row: &mut RowFrame,
     ) -> Result<BitOutcome, BusFault>
-        requires at { HasLinks E.link self.old links.old base }
-        ensures stays { KeepsLinks E.same self.old self.new links.old links.new }
+        requires at { HasEnd E.node self.old end.old }
+        ensures stays { KeepsEnd E.same self.old self.new end.old end.new }
         ensures sound { OnOk result (IsSound self.new) }
         ensures seat { OnOk result (IsSeat self.new) }
         ensures untold { self.new.untold ≡ self.old.untold }
         ensures samples { IfOk result (λ outcome. Samples self.old.node self.new.node seen outcome.events) }
         ensures goes { OnOk result
-            (Goes E.same E.stands self.old.journal.entries self.new.journal.entries links.old links.new base) }
+            (Goes E.same E.stands end.old end.new self.old.journal.entries self.new.journal.entries) }
         ensures brings { IfOk result (λ outcome.
             Brings self.old.journal.entries self.old.drives seen outcome self.new.journal.entries) }
-        ensures broken { IfErr result (λ f. BreaksInBit E.BusEnd self.old self.new links.old base f) }
+        ensures broken { IfErr result (λ f. BreaksInBit E.BusEnd self.old self.new end.old f) }
     {
         let Activity::Running(_) = self.activity else {
             return self.sample_in_reset(seen);
         };
-        let here = base + self.ended as usize;
-        self.sample_running(&mut links[here], seen, row)
+        self.sample_running(end, seen, row)
     }
 
     /// One bit of a node in reset: it looks at no level.
@@ -168,8 +164,7 @@ impl Seat {
         row: &mut RowFrame,
     ) -> Result<BitOutcome, BusFault>
         requires running { (f : Filtering) × (self.old.activity ≡ Running f) }
-        requires link { E.link end.old ≡ link_of self.old.ledger }
-        requires ready { IsReady self.old }
+        requires at { HasEnd E.node self.old end.old }
         ensures room { self.new.journal.room ≡ self.old.journal.room }
         ensures id { link_of self.new.ledger ≡ link_of self.old.ledger }
         ensures ended { self.new.ended ≡ self.old.ended }
@@ -182,7 +177,7 @@ impl Seat {
             (Moves E.stands end.old end.new self.old.journal.entries self.new.journal.entries (suc self.old.ended)) }
         ensures brings { IfOk result (λ outcome.
             Brings self.old.journal.entries self.old.drives seen outcome self.new.journal.entries) }
-        ensures broken { IfErr result (λ f. BreaksHere E.same E.stands E.full end.old self.old self.new f) }
+        ensures broken { IfErr result (λ f. BreaksInBit E.BusEnd self.old self.new end.old f) }
     {
         let outcome = self.sample_and_judge(end, seen, row)?;
         if !outcome.events.went_off {
@@ -199,9 +194,8 @@ impl Seat {
         seen: Level,
         row: &mut RowFrame,
     ) -> Result<BitOutcome, BusFault>
-        requires id { E.link end.old ≡ link_of self.old.ledger }
+        requires at { HasEnd E.node self.old end.old }
         requires runs { (f : Filtering) × (self.old.activity ≡ Running f) }
-        requires ready { IsReady self.old }
         ensures same { E.same end.old end.new }
         ensures kept { (self.new.ended ≡ self.old.ended) × (self.new.activity ≡ self.old.activity)
             × (link_of self.new.ledger ≡ link_of self.old.ledger) }
@@ -214,7 +208,7 @@ impl Seat {
             (Moves E.stands end.old end.new self.old.journal.entries self.new.journal.entries (suc self.old.ended)) }
         ensures verdict { IfOk result (λ outcome.
             BringsVerdict self.old.journal.entries self.old.drives seen outcome self.new.journal.entries) }
-        ensures broken { IfErr result (λ f. BreaksHere E.same E.stands E.full end.old self.old self.new f) }
+        ensures broken { IfErr result (λ f. BreaksInBit E.BusEnd self.old self.new end.old f) }
     {
         let driven = self.drives;
         let events = self.node.sample_fully_with(seen, Some(&mut row.frame));

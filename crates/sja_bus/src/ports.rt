@@ -101,7 +101,7 @@ impl Seat {
     }
 
     /// The activation that the bus reads, counted from 1; between two the one that ended last.
-    fn activation(&self) -> u8
+    fn activation(&self) -> u64
         requires { IsSeat self.now }
         ensures { result ≡ self.now.ended + open_in self.now.activity }
     {

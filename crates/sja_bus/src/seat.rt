@@ -21,7 +21,7 @@ pub(crate) struct Seat {
     pub(crate) ledger: BusLedger,
     pub(crate) journal: Recorder,
     /// How many activations have ended.
-    pub(crate) ended: u8,
+    pub(crate) ended: u64,
     pub(crate) activity: Activity,
     /// What the port isn't told yet.
     pub(crate) untold: PortNews,

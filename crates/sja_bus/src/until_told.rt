@@ -7,11 +7,11 @@ use sja_link::BusEnd;
 use sja_wire::BusFault;
 
 impl Bus {
-    ghost use Rattle.std.specs.Prelude.{◌≡◌, ◌≢◌, ◌+◌, ◌*◌, ◌<◌, ◌≤◌, ℕ, false, None, Some, Ok, Err, length};
+    ghost use Rattle.std.specs.Prelude.{◌≡◌, ◌≢◌, ◌+◌, ◌<◌, ◌≤◌, ℕ, false, None, Some, Ok, Err, length};
     ghost use Rattle.std.specs.Prelude.{OnOk, IfOk, IfErr};
     ghost use Rattle.sja_script.specs.Striking.{Strikes};
     ghost use Rattle.sja_wire.specs.declared.bus_fault.BusFault.{BusFault as Fault};
-    ghost use Rattle.sja_link.specs.Links.{Numbered};
+    ghost use Rattle.sja_link.specs.Links.{AreEnds};
     ghost use Rattle.sja_wire.specs.Buses.{IsStill};
     ghost use Rattle.sja_bus.specs.Moment.{moment, Keeps};
     ghost use Rattle.sja_bus.specs.UntilTold.{RunsUntilTold, StopsUntilTold, EndsUntilTold, RunsNone};
@@ -26,8 +26,8 @@ impl Bus {
     /// one a port is told anything, a message is judged, or a node goes bus-off: the bit says what stood before it, and
     /// nothing else. They end where a port was told more in the last one, and else only where none more is asked for or
     /// left, every node is at rest and `to_rest` is set, a strike falls in the next one, or a journal is full. Where
-    /// none was run though some were asked for and are left, the next bit takes a call of `bit`. `links` are 64 a node,
-    /// by node and activation.
+    /// none was run though some were asked for and are left, the next bit takes a call of `bit`. `links` are the
+    /// ends of the nodes' links, in order.
     ///
     /// Error: after some of these bits, [`BusFault::Stuck`] or [`BusFault::JournalFull`], and then the same always. The
     /// bits before it count.
@@ -38,8 +38,7 @@ impl Bus {
         count: u32,
         to_rest: bool,
     ) -> Result<u32, BusFault>
-        requires count { length links.old ≡ 64 * length self.old.journals }
-        requires ids { Numbered E.link links.old }
+        requires ends { AreEnds E.node (length self.old.journals) links.old }
         requires ports { length self.old.journals ≤ B.ports board.old }
         ensures keeps { Keeps E.BusEnd B.Board
             (moment self.old links.old board.old) (moment self.new links.new board.new) }
@@ -73,7 +72,7 @@ impl Bus {
         most: u32,
         to_rest: bool,
     ) -> Result<u32, BusFault>
-        requires { MayRunBits E.link self.old links.old (B.ports board.old) most }
+        requires { MayRunBits E.node self.old links.old (B.ports board.old) most }
         ensures most { IfOk result (λ n. n ≤ most) }
         ensures runs { IfOk result (λ n. IsSoFar E.BusEnd B.Board (AnyBit E.BusEnd B.Board)
             (WorksUntold to_rest (moment self.old links.old board.old))

@@ -7,10 +7,10 @@ ghost use Rattle.sja_bus.specs.declared.activity.Activity.TheVariants.{Running};
 ghost use Rattle.sja_wire.specs.Telling.{is_overrun as overruns};
 ghost use Rattle.sja_bus.specs.Inside.Seats.{IsPassing};
 ghost use Rattle.sja_link.specs.declared.entry.Entry.{Entry};
-ghost use Rattle.sja_link.specs.Lists.{Lists};
+ghost use Rattle.sja_link.specs.Lists.{OthersStand, Carries};
 ghost use Rattle.sja_link.specs.Accounts.{with_entry};
 ghost use Rattle.sja_link.specs.Free.{IsFree};
-ghost use Rattle.sja_link.specs.BusLedgers.{link_of, free_in};
+ghost use Rattle.sja_link.specs.BusLedgers.{link_of, activation_of, free_in};
 ghost use Rattle.sja_bus.specs.Inside.Taking.{IsGivenBack};
 
 use super::activity::Activity;
@@ -44,7 +44,7 @@ impl Seat {
         seen: Level,
         message: Message,
     ) -> Result<bool, BusFault>
-        requires id { E.link end.old ≡ link_of self.old.ledger }
+        requires own { E.node end.old ≡ (link_of self.old.ledger).node }
         requires runs { open_in self.old.activity ≡ 1 }
         requires reads { Reads self.old.node self.old.journal.entries self.old.ended self.old.activity
             (free_in self.old.ledger) }
@@ -65,7 +65,7 @@ impl Seat {
             (Moves E.stands end.old end.new self.old.journal.entries self.new.journal.entries (suc self.old.ended)) }
         ensures broken { IfErr result (λ f. BreaksBy (IsJudgedShort self.old.journal.room self.old.journal.entries
             driven seen (suc self.old.ended) message self.new.journal.entries)
-            E.same E.stands E.full end.old self.old self.new f) }
+            E.BusEnd end.old self.old self.new f) }
     {
         match accept(&mut self.ledger, end, &message) {
             Ok(verdict) => {
@@ -109,15 +109,16 @@ fn accept<E: BusEnd>(
     end: &mut E,
     message: &Message,
 ) -> Result<Verdict, Busy>
-    requires { E.link end.old ≡ link_of ledger.old }
+    requires { E.node end.old ≡ (link_of ledger.old).node }
     ensures id { link_of ledger.new ≡ link_of ledger.old }
     ensures same { E.same end.old end.new }
-    ensures puts { IfOk result (λ v. (l : Lists) → E.stands end.old l →
-        E.stands end.new (with_entry l (entry_of v message.now))) }
+    ensures others { OthersStand E.stands (activation_of ledger.old) end.old end.new }
+    ensures puts { IfOk result (λ v. Carries E.stands (activation_of ledger.old) end.old end.new
+        (λ l. with_entry l (entry_of v message.now))) }
     ensures judged { IfOk result (λ v. (p : List Entry) → IsFree p (free_in ledger.old) →
         IsFair p (entry_of v message.now) × IsFree (p ++ entry_of v message.now ∷ []) (free_in ledger.new)) }
     ensures busy { OnErr result (ledger.new ≡ ledger.old) }
-    ensures back { OnErr result (IsGivenBack E.same E.stands E.full end.old) }
+    ensures back { OnErr result (IsGivenBack E.BusEnd (activation_of ledger.old) end.old) }
 {
     for _ in 0..TRIES {
         if let Ok(verdict) = ledger.accept(end, message.copy()) {

@@ -3,7 +3,6 @@ pub mod Sections
 pub mod Stepping
 pub mod Going
 pub mod Traced
-pub mod Goes
 pub mod Logged
 pub mod Looking
 pub mod GivenOutside

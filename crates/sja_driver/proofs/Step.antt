@@ -1,5 +1,6 @@
 -- One step of a driver.
 pub mod Releasing
+pub mod Observed
 pub mod Giving
 pub mod Left
 pub mod Came

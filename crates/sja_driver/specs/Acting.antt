@@ -3,7 +3,7 @@ use Rattle.std.specs.Prelude.{◌≡◌, ◌+◌, ◌<◌, ◌++◌, ℕ, Bool, 
 use Rattle.sja_link.specs.Sizes.{most_activations}
 use Rattle.sja_link.specs.declared.down.Down.{Down}
 use Rattle.sja_link.specs.declared.up.Up.{Up}
-use Rattle.sja_link.specs.Lists.{Lists, messages}
+use Rattle.sja_link.specs.Lists.{Lists, messages, on, is_on, same_on}
 use Rattle.sja_link.specs.Looking.{Pulls, IsTaken, Refuses, off_among}
 use Rattle.sja_regs.specs.declared.registers.Registers.{Registers}
 use Rattle.sja_regs.specs.Commands.{command_of, requests, command_faults}
@@ -14,7 +14,7 @@ use Rattle.sja_script.specs.declared.step.Step.TheVariants.{Start, Stop, Window,
 use Rattle.sja_script.specs.declared.step.Step.TheVariants.{Write, Load, Command, Await, Sent, Interrupt, At}
 use Rattle.sja_driver.specs.declared.any_driver.AnyDriver.{AnyDriver}
 use Rattle.sja_driver.specs.declared.any_driver.AnyDriver.TheVariants.{InReset, InActive}
-use Rattle.sja_driver.specs.AnyDrivers.{is_out, opened_of, held_of, off_of, seen_by, IsDriverOf}
+use Rattle.sja_driver.specs.AnyDrivers.{is_out, opened_of, held_of, off_of, seen_by, link_used, IsDriverOf}
 use Rattle.sja_driver.specs.Carried.{Sees, Tells}
 use Rattle.sja_driver.specs.Deeds.{FitsState}
 use Rattle.sja_driver.specs.Drivers.{started_in, held_in, off_in}
@@ -114,3 +114,10 @@ pub record Acts {E : Type 0} (alike : E → E → Type 0) (stands : E → Lists 
   pub opens : opened_of now ≡ opened_after (opened_of was) step o
   pub place : (node n : ℕ) → IsDriverOf node n was → IsDriverOf node (n + ended_by o) now
   pub quiet : IsQuiet p step now o
+
+-- the same at the link that the driver uses, of all links of its node
+abbrev pub ActsOn : {E : Type 0} → (E → E → Type 0) → (E → ℕ → Lists → Type 0) → (E → ℕ → Type 0) →
+    (E → ℕ → Type 0) → E → E → Registers → Registers → Step → AnyDriver → AnyDriver → Tried → Type 0
+ActsOn alike stands dry full old new p q step was now o =
+    let a = link_used was in
+    Acts (same_on alike stands a) (on stands a) (is_on dry a) (is_on full a) old new p q step was now o

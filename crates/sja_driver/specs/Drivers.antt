@@ -27,6 +27,9 @@ nothing_seen = record { first = None; count = 0 }
 abbrev pub link_in : Driver Active → LinkId
 link_in d = link_of d.state.ledger
 
+abbrev pub activation_in : Driver Active → ℕ
+activation_in d = (link_in d).activation
+
 abbrev pub held_in : Driver Active → List (List ℕ)
 held_in d = held_by d.state.ledger
 

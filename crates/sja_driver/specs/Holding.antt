@@ -1,6 +1,5 @@
 -- What a node's links hold between its journal and its driver's deeds (this project's own rule).
-use Rattle.std.specs.Prelude.{◌≡◌, ◌+◌, ◌<◌, ◌++◌, ℕ, suc, min, Bool, false, List, [], length, slice_index_or}
-use Rattle.sja_link.specs.declared.link_id.LinkId.{LinkId}
+use Rattle.std.specs.Prelude.{◌≡◌, ◌<◌, ◌++◌, ℕ, suc, Bool, false, List, [], length, slice_index_or}
 use Rattle.sja_link.specs.declared.down.Down.{Down}
 use Rattle.sja_link.specs.declared.entry.Entry.{Entry}
 use Rattle.sja_link.specs.Accounts.{account}
@@ -13,38 +12,28 @@ use Rattle.sja_driver.specs.AnyDrivers.{held_of, off_of}
 use Rattle.sja_driver.specs.Deeds.{Deed, given_in, deeds_of}
 use Rattle.sja_driver.specs.Logs.{Traces, releases_in, left_in, released_of, leaves}
 
--- the links of a node, from that place on
-abbrev pub NumberedFrom : {E : Type 0} → (E → LinkId) → List E → ℕ → ℕ → Type 0
-NumberedFrom {E} link links base node =
-    (a : ℕ) (d : E) → a < 64 → link (slice_index_or links (base + a) d) ≡ record { node = node; activation = a + 1 }
-
--- the place of the link that is used after so many activations have ended: the next one's, and the last once all have
-abbrev pub place_after : ℕ → ℕ → ℕ
-place_after base ended = base + min ended 63
-
 -- the links of a node stand for the parts of its journal and for its driver's deeds and releases: what came down was
 -- released, or was left, or is held; bus-off is known where it came; and nothing came before its activation
-pub record Holds {E : Type 0} (stands : E → Lists → Type 0) (deeds : List Deed) (releases : List Release)
-    (left : List (List (List ℕ))) (ended : ℕ) (off : Bool) (j : List Entry) (links : List E) (base : ℕ) : Type 0 where
+pub record Holds {E : Type 0} (stands : E → ℕ → Lists → Type 0) (deeds : List Deed) (releases : List Release)
+    (left : List (List (List ℕ))) (ended : ℕ) (off : Bool) (j : List Entry) (end : E) : Type 0 where
   pub got : ℕ → List Down
-  pub kept : (a : ℕ) (d : E) → a < 64 → stands (slice_index_or links (base + a) d)
+  pub kept : (a : ℕ) → stands end (suc a)
       (account j (suc a) (record { got = got a; given = given_in (deeds_of deeds (suc a)) }))
-  pub told : (a : ℕ) → a < 64 → messages (got a) ≡ released_of releases (suc a) ++ slice_index_or left a []
+  pub told : (a : ℕ) → messages (got a) ≡ released_of releases (suc a) ++ slice_index_or left a []
   pub off_is : off ≡ off_among false (got ended)
   pub later : (a : ℕ) → ended < a → got a ≡ []
 
 -- the same by a driver and its log
-abbrev pub HoldsBy : {E : Type 0} → (E → Lists → Type 0) → List Deed → AnyDriver → WorkLog → List Entry → List E → ℕ →
+abbrev pub HoldsBy : {E : Type 0} → (E → ℕ → Lists → Type 0) → List Deed → AnyDriver → WorkLog → List Entry → E →
     Type 0
-HoldsBy stands deeds driver log j links base =
+HoldsBy stands deeds driver log j end =
     Holds stands deeds (releases_in log) (leaves (left_in log) (held_of driver)) (length (left_in log)) (off_of driver)
-    j links base
+    j end
 
 -- a driver did these deeds more in this version: for all that it did before, and for all journals, its log and its
 -- links went on with them
-pub record Goes {E : Type 0} (stands : E → Lists → Type 0) (version : ℕ) (was now : AnyDriver)
-    (log log_now : WorkLog) (links links_now : List E) (base : ℕ) (more : List Deed) : Type 0 where
+pub record Goes {E : Type 0} (stands : E → ℕ → Lists → Type 0) (version : ℕ) (was now : AnyDriver)
+    (log log_now : WorkLog) (old new : E) (more : List Deed) : Type 0 where
   pub traces : (deeds : List Deed) → Traces version was log deeds → Traces version now log_now (deeds ++ more)
   pub holds : (deeds : List Deed) (j : List Entry) → Traces version was log deeds →
-      HoldsBy stands deeds was log j links base →
-      HoldsBy stands (deeds ++ more) now log_now j links_now base
+      HoldsBy stands deeds was log j old → HoldsBy stands (deeds ++ more) now log_now j new

@@ -1,10 +1,10 @@
 -- The links of a node of a run in one thread, between two steps (this project's own rule).
-use Rattle.std.specs.Prelude.{◌≡◌, ◌+◌, ◌<◌, ℕ, List, [], slice_index_or}
+use Rattle.std.specs.Prelude.{◌≡◌, ◌+◌, List, []}
 use Rattle.sja_link.specs.declared.entry.Entry.{Entry}
 use Rattle.sja_link.specs.Deques.{Deques, Lies}
 use Rattle.sja_link.specs.Looking.{one_if}
 use Rattle.sja_link.specs.Places.{place_of}
-use Rattle.sja_link.specs.Links.{per_node, stops_of}
+use Rattle.sja_link.specs.Links.{stops_of}
 use Rattle.sja_driver.specs.declared.logged_driver.LoggedDriver.{LoggedDriver}
 use Rattle.sja_driver.specs.Deeds.{Deed, opened_by, is_active}
 use Rattle.sja_driver.specs.Holding.{HoldsBy}
@@ -17,10 +17,8 @@ pub record IsLevel (j : List Entry) (deeds : List Deed) : Type 0 where
   pub ended : stops_of j + one_if (is_active deeds) ≡ opened_by deeds
   pub asked : sends_taken j ≡ sends_given deeds
 
--- the links, from this place on, stand for the parts of the journal and for the driver's deeds and releases; all that
--- was given was taken
-pub record IsLinked (j : List Entry) (deeds : List Deed) (driver : LoggedDriver) (links : List Deques)
-    (base : ℕ) : Type 0 where
-  pub holds : HoldsBy Lies deeds (driver_of driver) (log_of driver) j links base
-  pub taken : (a : ℕ) (d : Deques) → a < per_node → (slice_index_or links (base + a) d).up ≡ []
+-- the links stand for the parts of the journal and for the driver's deeds and releases; all that was given was taken
+pub record IsLinked (j : List Entry) (deeds : List Deed) (driver : LoggedDriver) (links : Deques) : Type 0 where
+  pub holds : HoldsBy Lies deeds (driver_of driver) (log_of driver) j links
+  pub taken : links.up ≡ []
   pub level : IsLevel j deeds

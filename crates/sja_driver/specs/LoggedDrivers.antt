@@ -1,8 +1,6 @@
 -- The logged step: one step of a script at the right one of a node's links (this project's own rule).
-use Rattle.std.specs.Prelude.{◌≡◌, ◌≢◌, ◌≤◌, ◌+◌, ◌++◌, ℕ, Option, None, List, length, slice_index_or}
-use Rattle.sja_link.specs.declared.link_id.LinkId.{LinkId}
-use Rattle.sja_link.specs.Lists.{Lists}
-use Rattle.lemmas.specs.Related.{EachRelated}
+use Rattle.std.specs.Prelude.{◌≡◌, ◌<◌, ◌≤◌, ◌+◌, ◌++◌, ℕ, Option, None, length}
+use Rattle.sja_link.specs.Lists.{Lists, OthersStand}
 use Rattle.sja_regs.specs.declared.registers.Registers.{Registers}
 use Rattle.sja_script.specs.declared.step.Step.{Step}
 use Rattle.sja_script.specs.declared.step_answer.StepAnswer.{StepAnswer}
@@ -10,9 +8,9 @@ use Rattle.sja_driver.specs.declared.any_driver.AnyDriver.{AnyDriver}
 use Rattle.sja_driver.specs.declared.kept_bytes.KeptBytes.{KeptBytes}
 use Rattle.sja_driver.specs.declared.logged_driver.LoggedDriver.{LoggedDriver}
 use Rattle.sja_driver.specs.declared.work_log.WorkLog.{WorkLog}
-use Rattle.sja_driver.specs.Acting.{Acts}
-use Rattle.sja_driver.specs.AnyDrivers.{IsDriverOf}
-use Rattle.sja_driver.specs.Holding.{Goes, NumberedFrom, place_after}
+use Rattle.sja_driver.specs.Acting.{ActsOn}
+use Rattle.sja_driver.specs.AnyDrivers.{IsDriverOf, link_used, opened_of}
+use Rattle.sja_driver.specs.Holding.{Goes}
 use Rattle.sja_driver.specs.Logs.{HasRoom, releases_in, left_in, release_room, left_room, releases_by, left_by}
 use Rattle.sja_driver.specs.Logs.{deeds_by}
 use Rattle.sja_driver.specs.Tries.{Tried, answer_of}
@@ -35,44 +33,48 @@ kept_of d = d.kept
 abbrev pub ended_of : LoggedDriver → ℕ
 ended_of d = length (left_in (log_of d))
 
--- the driver is that of the node, and its state that of an activation after those that the log says have ended
-abbrev pub IsLawful : LoggedDriver → Type 0
-IsLawful d = IsDriverOf (node_of d) (ended_of d) (driver_of d)
+-- the driver is that of the node, its state is that of an activation after those that the log says have ended, and the
+-- log was made for at least as many as it opened
+pub record IsLawful (d : LoggedDriver) : Type 0 where
+  pub own : IsDriverOf (node_of d) (ended_of d) (driver_of d)
+  pub few : opened_of (driver_of d) ≤ left_room (log_of d)
 
--- a step may be tried: the log has room for one deed more, and the node's links stand from that place on
-pub record MayStep {E : Type 0} (link : E → LinkId) (was : LoggedDriver) (links : List E) (base : ℕ) : Type 0 where
+-- a step may be tried in this version: the log has room for one deed more, and the end is that of the node's links
+pub record MayStep {E : Type 0} (node_at : E → ℕ) (version : ℕ) (was : LoggedDriver) (end : E) : Type 0 where
   pub lawful : IsLawful was
-  pub room : HasRoom 1 (log_of was)
-  pub eight : base + 64 ≤ length links
-  pub ids : NumberedFrom link links base (node_of was)
+  pub room : HasRoom version 1 (log_of was)
+  pub own : node_at end ≡ node_of was
 
--- what is in order after a try, whatever the step: the driver is still the node's, each link is the same one, all but
--- the present activation's are untouched, and the log took the room of one deed, or none where it isn't done. Whoever
--- tried it has to enter that it is done, and what is kept then
-pub record StaysLawful {E : Type 0} (link : E → LinkId) (alike : E → E → Type 0) (was now : LoggedDriver)
-    (links links_now : List E) (base : ℕ) (answer : Option StepAnswer) : Type 0 where
-  pub same : EachRelated alike links links_now
-  pub others : (i : ℕ) (d : E) → i ≢ place_after base (ended_of was) →
-      slice_index_or links_now i d ≡ slice_index_or links i d
-  pub ids : NumberedFrom link links_now base (node_of now)
+-- a window or a release may be tried: the log has room for one release more, and the end is that of the node's links
+pub record MayRelease {E : Type 0} (node_at : E → ℕ) (was : LoggedDriver) (end : E) : Type 0 where
+  pub lawful : IsLawful was
+  pub room : length (releases_in (log_of was)) < release_room (log_of was)
+  pub own : node_at end ≡ node_of was
+
+-- what is in order after a try, whatever the step: the driver is still the node's, the end is the same one, the links
+-- of all activations but the one in use stand as they did, and the log took the room of one deed, or none where it
+-- isn't done. Whoever tried it has to enter that it is done, and what is kept then
+pub record StaysLawful {E : Type 0} (alike : E → E → Type 0) (stands : E → ℕ → Lists → Type 0)
+    (was now : LoggedDriver) (old new : E) (answer : Option StepAnswer) : Type 0 where
+  pub same : alike old new
+  pub others : OthersStand stands (link_used (driver_of was)) old new
   pub node : node_of now ≡ node_of was
   pub lawful : IsLawful now
-  pub room : (k : ℕ) → HasRoom (k + 1) (log_of was) → HasRoom k (log_of now)
+  pub room : (version k : ℕ) → HasRoom version (k + 1) (log_of was) → HasRoom version k (log_of now)
   pub done : (log_of now).done ≡ (log_of was).done
   pub kept : kept_of now ≡ kept_of was
-  pub waits : answer ≡ None → (k : ℕ) → HasRoom k (log_of was) → HasRoom k (log_of now)
+  pub waits : answer ≡ None → (version k : ℕ) → HasRoom version k (log_of was) → HasRoom version k (log_of now)
 
 -- a step was tried at the link of the present activation, and at a port whose registers were p and are q then; it has
 -- this answer, if it is done
-pub record Steps {E : Type 0} (alike : E → E → Type 0) (stands : E → Lists → Type 0) (dry full : E → Type 0)
-    (was now : LoggedDriver) (links links_now : List E) (base : ℕ) (p q : Registers) (step : Step)
-    (answer : Option StepAnswer) : Type 0 where
+pub record Steps {E : Type 0} (alike : E → E → Type 0) (stands : E → ℕ → Lists → Type 0) (dry full : E → ℕ → Type 0)
+    (was now : LoggedDriver) (old new : E) (p q : Registers) (step : Step) (answer : Option StepAnswer)
+    : Type 0 where
   -- what came of it
   pub tried : Tried
   pub met : answer ≡ answer_of tried
   -- at that link and at the port
-  pub acts : (d e : E) → Acts alike stands dry full (slice_index_or links (place_after base (ended_of was)) d)
-      (slice_index_or links_now (place_after base (ended_of was)) e) p q step (driver_of was) (driver_of now) tried
+  pub acts : ActsOn alike stands dry full old new p q step (driver_of was) (driver_of now) tried
   -- what the log has more
   pub releases : releases_in (log_of now) ≡ releases_in (log_of was) ++ releases_by (ended_of was) tried
   pub leaves : left_in (log_of now) ≡ left_in (log_of was) ++ left_by tried
@@ -80,5 +82,5 @@ pub record Steps {E : Type 0} (alike : E → E → Type 0) (stands : E → Lists
   pub release_room : release_room (log_of now) ≡ release_room (log_of was)
   pub left_room : left_room (log_of now) ≡ left_room (log_of was)
   -- and how that goes on with all deeds before it, for every journal, after however many bits it was
-  pub goes : (bits : ℕ) → Goes stands p.version (driver_of was) (driver_of now) (log_of was) (log_of now) links
-      links_now base (deeds_by p step tried bits)
+  pub goes : (bits : ℕ) → Goes stands p.version (driver_of was) (driver_of now) (log_of was) (log_of now) old new
+      (deeds_by p step tried bits)

@@ -9,6 +9,7 @@ use Rattle.sja_script.specs.declared.done.Done.{Done}
 use Rattle.sja_script.specs.declared.step.Step.{Step}
 use Rattle.sja_script.specs.declared.step_answer.StepAnswer.{StepAnswer}
 use Rattle.sja_script.specs.declared.step_answer.StepAnswer.TheVariants.{Done as DoneAnswer, Released as ReleasedAnswer}
+use Rattle.sja_link.specs.Sizes.{most_activations}
 use Rattle.sja_driver.specs.declared.any_driver.AnyDriver.{AnyDriver}
 use Rattle.sja_driver.specs.declared.release.Release.{Release}
 use Rattle.sja_driver.specs.declared.work_log.WorkLog.{WorkLog}
@@ -44,11 +45,11 @@ pub record IsEmpty (l : WorkLog) : Type 0 where
   pub releases : releases_in l ≡ []
   pub left : left_in l ≡ []
 
--- it was made for so many steps done, for what so many deeds come to, and for all activations of a node
-pub record IsMadeFor (steps deeds : ℕ) (l : WorkLog) : Type 0 where
+-- it was made for so many steps done, for what so many deeds come to, and for all activations of a node in this version
+pub record IsMadeFor (version steps deeds : ℕ) (l : WorkLog) : Type 0 where
   pub done : done_room l ≡ steps
   pub releases : release_room l ≡ deeds
-  pub left : left_room l ≡ 64
+  pub left : left_room l ≡ most_activations version
 
 -- it is made for no more of each than lists that forget none, so all that it says can be read
 pub record KeepsLog (l : WorkLog) : Type 0 where
@@ -56,10 +57,10 @@ pub record KeepsLog (l : WorkLog) : Type 0 where
   pub releases : KeepsAll (release_room l)
   pub left : KeepsAll (left_room l)
 
--- there is room for what so many deeds more come to
-pub record HasRoom (steps : ℕ) (l : WorkLog) : Type 0 where
+-- there is room for what so many deeds more come to, and for all activations of a node in this version
+pub record HasRoom (version steps : ℕ) (l : WorkLog) : Type 0 where
   pub releases : length (releases_in l) + steps ≤ release_room l
-  pub left : 64 ≤ left_room l
+  pub left : most_activations version ≤ left_room l
 
 -- ---- what a try adds, where so many activations have ended
 

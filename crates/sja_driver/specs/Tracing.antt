@@ -1,5 +1,6 @@
 -- A driver of a run in one thread, beside what it did (this project's own rule).
 use Rattle.std.specs.Prelude.{◌≡◌, ◌+◌, ◌≤◌, ℕ, List, length}
+use Rattle.sja_link.specs.Sizes.{most_activations}
 use Rattle.sja_driver.specs.declared.logged_driver.LoggedDriver.{LoggedDriver}
 use Rattle.sja_driver.specs.Deeds.{Deed}
 use Rattle.sja_driver.specs.LoggedDrivers.{driver_of, log_of, IsLawful}
@@ -11,6 +12,6 @@ pub record IsTraced (version size : ℕ) (deeds : List Deed) (driver : LoggedDri
   pub lawful : IsLawful driver
   pub traces : Traces version (driver_of driver) (log_of driver) deeds
   pub within : length deeds ≤ size
-  pub room : (k : ℕ) → length deeds + k ≤ size → HasRoom k (log_of driver)
+  pub room : (k : ℕ) → length deeds + k ≤ size → HasRoom version k (log_of driver)
   pub made_for : release_room (log_of driver) ≡ size
-  pub activations : left_room (log_of driver) ≡ 64
+  pub activations : left_room (log_of driver) ≡ most_activations version

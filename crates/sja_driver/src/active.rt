@@ -4,9 +4,10 @@ ghost use Rattle.std.specs.Prelude.{◌≡◌, ℕ, List, [], length, true, fals
 ghost use Rattle.sja_link.specs.declared.release_fault.ReleaseFault.TheVariants.{Stopped as FaultStopped};
 ghost use Rattle.sja_link.specs.declared.release_fault.ReleaseFault.TheVariants.{Empty, Busy as ReleaseBusy};
 ghost use Rattle.sja_link.specs.DriverLedgers.{link_of, held_by, knows_bus_off};
+ghost use Rattle.sja_link.specs.Lists.{on, is_on, same_on, OthersStand};
 ghost use Rattle.sja_link.specs.Looking.{Pulls, IsTaken, Releases, Refuses, TriesRelease};
 ghost use Rattle.sja_driver.specs.Calls.{Ends, TakesIn};
-ghost use Rattle.sja_driver.specs.Drivers.{node_in, started_in, link_in, held_in, off_in};
+ghost use Rattle.sja_driver.specs.Drivers.{node_in, started_in, link_in, activation_in, held_in, off_in};
 
 use super::driver::Driver;
 use super::reset::Reset;
@@ -29,14 +30,14 @@ impl Driver<Active> {
     ghost use Rattle.sja_driver.specs.contracts.active.Active.{the_row as active_row};
     ghost use Rattle.sja_link.specs.Showing.{Shows, window_in};
 
-    /// The present activation, 1 to 64.
-    pub fn activation(&self) -> u8
-        ensures { result ≡ (link_in self.now).activation }
+    /// The present activation, from 1 on.
+    pub fn activation(&self) -> u64
+        ensures { result ≡ activation_in self.now }
     {
         self.state.ledger.id().activation
     }
 
-    /// The link of the present activation, which each call with an end asks of it. Tests and benches alone ask for it.
+    /// The link of the present activation. Each call with an end asks that it is of this node.
     pub fn link(&self) -> LinkId
         ensures { result ≡ link_in self.now }
     {
@@ -59,8 +60,9 @@ impl Driver<Active> {
         end: &mut E,
         port: &mut Port,
     ) -> Result<Driver<Reset>, Driver<Active>>
-        requires { E.link end.old ≡ link_in self }
+        requires { E.node end.old ≡ (link_in self).node }
         ensures same { E.same end.old end.new }
+        ensures others { OthersStand E.stands (activation_in self) end.old end.new }
         ensures node { IfOk result (λ d. node_in d ≡ (link_in self).node) }
         ensures started { IfOk result (λ d. started_in d ≡ (link_in self).activation) }
         ensures ends { Ends E.stands E.full end.old end.new port.old port.new self result }
@@ -77,14 +79,15 @@ impl Driver<Active> {
         end: &mut E,
         port: &mut Port,
     ) -> Result<(Driver<Reset>, DriverLedger), Driver<Active>>
-        requires { E.link end.old ≡ link_in self }
+        requires { E.node end.old ≡ (link_in self).node }
         ensures same { E.same end.old end.new }
+        ensures others { OthersStand E.stands (activation_in self) end.old end.new }
         ensures node { IfOk result (λ r. node_in (r.0) ≡ (link_in self).node) }
         ensures started { IfOk result (λ r. started_in (r.0) ≡ (link_in self).activation) }
         ensures ledger { IfOk result (λ r. r.1 ≡ self.state.ledger) }
         ensures ends { Ends E.stands E.full end.old end.new port.old port.new self result }
     {
-        if came_back(end.give(Up::Stop)) {
+        if came_back(end.give(self.activation(), Up::Stop)) {
             return Err(self);
         }
         port.enter_reset();
@@ -105,8 +108,9 @@ impl Driver<Active> {
     ///
     /// Error: [`LostWindow`] where bus-off is known.
     pub fn look<E: DriverEnd>(&mut self, end: &mut E) -> Result<(), LostWindow>
-        requires { E.link end.old ≡ link_in self.old }
+        requires { E.node end.old ≡ (link_in self.old).node }
         ensures same { E.same end.old end.new }
+        ensures others { OthersStand E.stands (activation_in self.old) end.old end.new }
         ensures took { TakesIn E.stands E.dry end.old end.new self.old self.new }
         ensures on { OnOk result (off_in self.new ≡ false) }
         ensures stopped { OnErr result (off_in self.new ≡ true) }
@@ -119,13 +123,15 @@ impl Driver<Active> {
     ///
     /// Error: [`LostWindow`] where bus-off is known.
     pub fn window<E: DriverEnd>(&mut self, end: &mut E) -> Result<Option<&Message>, LostWindow>
-        requires { E.link end.old ≡ link_in self.old }
+        requires { E.node end.old ≡ (link_in self.old).node }
         ensures same { E.same end.old end.new }
+        ensures others { OthersStand E.stands (activation_in self.old) end.old end.new }
         ensures* after { sem 𝓛 (follows_so (the_row active_row) (the_row active_row) self.entry.ghost_name none
             (λ _ _. ⊤) (λ n.
             (link_in n ≡ link_in self.old)
-            × Pulls E.stands end.old end.new (held_in self.old) (held_in n) (off_in self.old) (off_in n)
-            × IsTaken E.dry end.new (off_in n) (held_in n)
+            × Pulls (on E.stands (activation_in self.old)) end.old end.new (held_in self.old) (held_in n)
+            (off_in self.old) (off_in n)
+            × IsTaken (is_on E.dry (activation_in self.old)) end.new (off_in n) (held_in n)
             × Shows (off_in n) (held_in n) (window_in result))) }
     {
         match self.look(end) {
@@ -140,18 +146,24 @@ impl Driver<Active> {
     /// Errors, the first that holds: [`ReleaseFault::Stopped`] where bus-off is known; [`ReleaseFault::Empty`] where no
     /// such message is there; [`ReleaseFault::Busy`] where the end gave the credit back. Nothing is released then.
     pub fn release<E: DriverEnd>(&mut self, end: &mut E) -> Result<u8, ReleaseFault>
-        requires { E.link end.old ≡ link_in self.old }
+        requires { E.node end.old ≡ (link_in self.old).node }
         ensures link { link_in self.new ≡ link_in self.old }
         ensures same { E.same end.old end.new }
-        ensures ok { IfOk result (λ n. (m : List ℕ) × (length m ≡ n) × Releases E.same E.stands E.dry end.old end.new
-            (held_in self.old) (held_in self.new) (off_in self.old) (off_in self.new) m) }
+        ensures others { OthersStand E.stands (activation_in self.old) end.old end.new }
+        ensures ok { IfOk result (λ n. (m : List ℕ) × (length m ≡ n)
+            × Releases (same_on E.same E.stands (activation_in self.old)) (on E.stands (activation_in self.old))
+            (is_on E.dry (activation_in self.old)) end.old end.new (held_in self.old) (held_in self.new)
+            (off_in self.old) (off_in self.new) m) }
         ensures on { OnOk result (off_in self.new ≡ false) }
-        ensures err { OnErr result (Pulls E.stands end.old end.new (held_in self.old) (held_in self.new)
-            (off_in self.old) (off_in self.new)) }
+        ensures err { OnErr result (Pulls (on E.stands (activation_in self.old)) end.old end.new (held_in self.old)
+            (held_in self.new) (off_in self.old) (off_in self.new)) }
         ensures stopped { result ≡ Err FaultStopped → off_in self.new ≡ true }
-        ensures empty { result ≡ Err Empty → (off_in self.new ≡ false) × (held_in self.new ≡ []) × E.dry end.new }
+        ensures empty { result ≡ Err Empty → (off_in self.new ≡ false) × (held_in self.new ≡ [])
+            × E.dry end.new (activation_in self.old) }
         ensures busy { result ≡ Err ReleaseBusy → (off_in self.new ≡ false)
-            × Refuses E.same E.stands E.dry E.full end.old (off_in self.new) (held_in self.new) }
+            × Refuses (same_on E.same E.stands (activation_in self.old)) (on E.stands (activation_in self.old))
+            (is_on E.dry (activation_in self.old)) (is_on E.full (activation_in self.old)) end.old
+            (off_in self.new) (held_in self.new) }
     {
         self.state.ledger.release(end)
     }
@@ -160,10 +172,13 @@ impl Driver<Active> {
     ///
     /// Errors: those of [`release`](Driver::release).
     pub fn release_message<E: DriverEnd>(&mut self, end: &mut E) -> Result<Message, ReleaseFault>
-        requires { E.link end.old ≡ link_in self.old }
+        requires { E.node end.old ≡ (link_in self.old).node }
         ensures link { link_in self.new ≡ link_in self.old }
         ensures same { E.same end.old end.new }
-        ensures tried { TriesRelease E.same E.stands E.dry E.full end.old end.new (held_in self.old) (held_in self.new)
+        ensures others { OthersStand E.stands (activation_in self.old) end.old end.new }
+        ensures tried { TriesRelease (same_on E.same E.stands (activation_in self.old))
+            (on E.stands (activation_in self.old)) (is_on E.dry (activation_in self.old))
+            (is_on E.full (activation_in self.old)) end.old end.new (held_in self.old) (held_in self.new)
             (off_in self.old) (off_in self.new) result }
     {
         self.state.ledger.release_message(end)

@@ -1,6 +1,7 @@
 //! The calls of a driver out of reset at its port: reads, writes, loads and commands.
 
 ghost use Rattle.std.specs.Prelude.{◌≡◌, [], true, Err, OnOk, OnErr};
+ghost use Rattle.sja_link.specs.Lists.{on, OthersStand};
 ghost use Rattle.sja_link.specs.Showing.{seen_of};
 ghost use Rattle.sja_regs.specs.Addresses.{register_at};
 ghost use Rattle.sja_regs.specs.Commands.{command_of, requests, command_faults, after_command};
@@ -9,7 +10,7 @@ ghost use Rattle.sja_regs.specs.Refusals.{first_fault, fault_of};
 ghost use Rattle.sja_regs.specs.Writing.{load_faults, after_loading};
 ghost use Rattle.sja_driver.specs.declared.command_fault.CommandFault.TheVariants.{Busy};
 ghost use Rattle.sja_driver.specs.Calls.{TakesIn, Writes};
-ghost use Rattle.sja_driver.specs.Drivers.{link_in, held_in, off_in};
+ghost use Rattle.sja_driver.specs.Drivers.{link_in, activation_in, held_in, off_in};
 ghost use Rattle.sja_driver.specs.Giving.{IsGiven};
 ghost use Rattle.sja_driver.specs.Ports.{sent_by, register_fault};
 
@@ -30,8 +31,9 @@ impl Driver<Active> {
         port: &mut Port,
         addr: u8,
     ) -> Result<u8, RegFault>
-        requires { E.link end.old ≡ link_in self.old }
+        requires { E.node end.old ≡ (link_in self.old).node }
         ensures same { E.same end.old end.new }
+        ensures others { OthersStand E.stands (activation_in self.old) end.old end.new }
         ensures took { TakesIn E.stands E.dry end.old end.new self.old self.new }
         ensures value { result ≡ or_no_register (value_at port.old (seen_of (off_in self.new) (held_in self.new))
             (register_at port.old.mode.rm addr)) }
@@ -72,18 +74,21 @@ impl Driver<Active> {
         port: &mut Port,
         value: u8,
     ) -> Result<(), CommandFault>
-        requires { E.link end.old ≡ link_in self.old }
+        requires { E.node end.old ≡ (link_in self.old).node }
         ensures ledger { self.new ≡ self.old }
         ensures same { E.same end.old end.new }
+        ensures others { OthersStand E.stands (activation_in self.old) end.old end.new }
         ensures refused { register_fault result ≡ first_fault (command_faults port.old (command_of value)) }
-        ensures given { OnOk result (IsGiven E.stands end.old end.new (sent_by port.old (command_of value))) }
-        ensures kept { OnErr result (IsGiven E.stands end.old end.new []) }
+        ensures given { OnOk result (IsGiven (on E.stands (activation_in self.old)) end.old end.new
+            (sent_by port.old (command_of value))) }
+        ensures kept { OnErr result (IsGiven (on E.stands (activation_in self.old)) end.old end.new []) }
         ensures done { OnOk result (port.new ≡ after_command port.old (command_of value)) }
         ensures unchanged { OnErr result (port.new ≡ port.old) }
-        ensures busy { result ≡ Err Busy → E.full end.old × (requests (command_of value) ≡ true) }
+        ensures busy { result ≡ Err Busy → E.full end.old (activation_in self.old)
+            × (requests (command_of value) ≡ true) }
     {
         if let Some(request) = port.plan_command(value)? {
-            if end.give(Up::Send(request)).is_err() {
+            if end.give(self.activation(), Up::Send(request)).is_err() {
                 return Err(CommandFault::Busy);
             }
         }

@@ -1,9 +1,11 @@
 //! Steps that an activation alone has: in reset each is refused.
 
 ghost use Rattle.std.specs.Prelude.{◌≡◌};
+ghost use Rattle.sja_link.specs.Lists.{OthersStand};
 ghost use Rattle.sja_regs.specs.declared.registers.Registers.{Registers};
 ghost use Rattle.sja_script.specs.declared.step.Step.TheVariants.{Window, Release, Load, Command, Await, Sent};
-ghost use Rattle.sja_driver.specs.Acting.{Acts};
+ghost use Rattle.sja_driver.specs.Acting.{ActsOn};
+ghost use Rattle.sja_driver.specs.AnyDrivers.{link_used};
 ghost use Rattle.sja_driver.specs.Inside.Attempts.{FitsEnd, tried_of};
 
 use super::answers::{done_answer, refusal_of, shows_released};
@@ -17,10 +19,11 @@ use sja_script::{Refusal, StepAnswer};
 
 /// Looks at the window. No port is touched.
 pub(crate) fn window_step<E: DriverEnd>(driver: &mut AnyDriver, end: &mut E) -> Attempt
-    requires { FitsEnd E.link end.old driver.old }
+    requires { FitsEnd E.node end.old driver.old }
     ensures same { E.same end.old end.new }
-    ensures acts { (p : Registers) → Acts E.same E.stands E.dry E.full end.old end.new p p Window driver.old driver.new
-        (tried_of result) }
+    ensures others { OthersStand E.stands (link_used driver.old) end.old end.new }
+    ensures acts { (p : Registers) → ActsOn E.same E.stands E.dry E.full end.old end.new p p Window driver.old
+        driver.new (tried_of result) }
 {
     let AnyDriver::InActive(driver) = driver else {
         return refused(Refusal::WrongState);
@@ -35,10 +38,11 @@ pub(crate) fn window_step<E: DriverEnd>(driver: &mut AnyDriver, end: &mut E) -> 
 
 /// Tries a release. No port is touched.
 pub(crate) fn release_step<E: DriverEnd>(driver: &mut AnyDriver, end: &mut E) -> Attempt
-    requires { FitsEnd E.link end.old driver.old }
+    requires { FitsEnd E.node end.old driver.old }
     ensures same { E.same end.old end.new }
-    ensures acts { (p : Registers) → Acts E.same E.stands E.dry E.full end.old end.new p p Release driver.old driver.new
-        (tried_of result) }
+    ensures others { OthersStand E.stands (link_used driver.old) end.old end.new }
+    ensures acts { (p : Registers) → ActsOn E.same E.stands E.dry E.full end.old end.new p p Release driver.old
+        driver.new (tried_of result) }
 {
     let AnyDriver::InActive(driver) = driver else {
         return refused(Refusal::WrongState);
@@ -57,8 +61,8 @@ pub(crate) fn load_step<E: DriverEnd>(
     port: &mut Port,
     message: &Message,
 ) -> Attempt
-    ensures { (e : E) → Acts E.same E.stands E.dry E.full e e port.old port.new (Load message.now) driver.now driver.now
-        (tried_of result) }
+    ensures { (e : E) → ActsOn E.same E.stands E.dry E.full e e port.old port.new (Load message.now) driver.now
+        driver.now (tried_of result) }
 {
     match driver {
         AnyDriver::InReset(_) => refused(Refusal::WrongState),
@@ -73,9 +77,10 @@ pub(crate) fn command_step<E: DriverEnd>(
     port: &mut Port,
     value: u8,
 ) -> Attempt
-    requires { FitsEnd E.link end.old driver.old }
+    requires { FitsEnd E.node end.old driver.old }
     ensures same { E.same end.old end.new }
-    ensures acts { Acts E.same E.stands E.dry E.full end.old end.new port.old port.new (Command value) driver.old
+    ensures others { OthersStand E.stands (link_used driver.old) end.old end.new }
+    ensures acts { ActsOn E.same E.stands E.dry E.full end.old end.new port.old port.new (Command value) driver.old
         driver.new (tried_of result) }
 {
     let AnyDriver::InActive(driver) = driver else {
@@ -95,9 +100,10 @@ pub(crate) fn await_step<E: DriverEnd>(
     port: &mut Port,
     count: u8,
 ) -> Attempt
-    requires { FitsEnd E.link end.old driver.old }
+    requires { FitsEnd E.node end.old driver.old }
     ensures same { E.same end.old end.new }
-    ensures acts { Acts E.same E.stands E.dry E.full end.old end.new port.old port.new (Await count) driver.old
+    ensures others { OthersStand E.stands (link_used driver.old) end.old end.new }
+    ensures acts { ActsOn E.same E.stands E.dry E.full end.old end.new port.old port.new (Await count) driver.old
         driver.new (tried_of result) }
 {
     let AnyDriver::InActive(driver) = driver else {
@@ -123,9 +129,10 @@ pub(crate) fn sent_step<E: DriverEnd>(
     end: &mut E,
     port: &mut Port,
 ) -> Attempt
-    requires { FitsEnd E.link end.old driver.old }
+    requires { FitsEnd E.node end.old driver.old }
     ensures same { E.same end.old end.new }
-    ensures acts { Acts E.same E.stands E.dry E.full end.old end.new port.old port.new Sent driver.old driver.new
+    ensures others { OthersStand E.stands (link_used driver.old) end.old end.new }
+    ensures acts { ActsOn E.same E.stands E.dry E.full end.old end.new port.old port.new Sent driver.old driver.new
         (tried_of result) }
 {
     let AnyDriver::InActive(driver) = driver else {

@@ -1,7 +1,9 @@
 //! Steps that change the state of a driver: start and stop.
 
+ghost use Rattle.sja_link.specs.Lists.{OthersStand};
 ghost use Rattle.sja_script.specs.declared.step.Step.TheVariants.{Start, Stop};
-ghost use Rattle.sja_driver.specs.Acting.{Acts};
+ghost use Rattle.sja_driver.specs.Acting.{ActsOn};
+ghost use Rattle.sja_driver.specs.AnyDrivers.{link_used};
 ghost use Rattle.sja_driver.specs.Inside.Attempts.{FitsEnd, tried_of, stopped_by};
 
 use super::active::Active;
@@ -21,10 +23,11 @@ pub(crate) fn start_step<E: DriverEnd>(
     end: &mut E,
     port: &mut Port,
 ) -> Attempt
-    requires { FitsEnd E.link end.old driver.old }
-    ensures acts { Acts E.same E.stands E.dry E.full end.old end.new port.old port.new Start driver.old driver.new
+    requires { FitsEnd E.node end.old driver.old }
+    ensures acts { ActsOn E.same E.stands E.dry E.full end.old end.new port.old port.new Start driver.old driver.new
         (tried_of result) }
     ensures same { E.same end.old end.new }
+    ensures others { OthersStand E.stands (link_used driver.old) end.old end.new }
 {
     let AnyDriver::InReset(reset) = driver else {
         return refused(Refusal::WrongState);
@@ -48,16 +51,17 @@ pub(crate) fn stop_step<E: DriverEnd>(
     end: &mut E,
     port: &mut Port,
 ) -> Result<DriverLedger, Attempt>
-    requires { FitsEnd E.link end.old driver.old }
+    requires { FitsEnd E.node end.old driver.old }
     ensures same { E.same end.old end.new }
-    ensures acts { Acts E.same E.stands E.dry E.full end.old end.new port.old port.new Stop driver.old driver.new
+    ensures others { OthersStand E.stands (link_used driver.old) end.old end.new }
+    ensures acts { ActsOn E.same E.stands E.dry E.full end.old end.new port.old port.new Stop driver.old driver.new
         (stopped_by result) }
 {
     let AnyDriver::InActive(active) = &*driver else {
         return Err(refused(Refusal::WrongState));
     };
     let LinkId { node, activation } = active.link();
-    if end.give(Up::Stop).is_err() {
+    if end.give(activation, Up::Stop).is_err() {
         return Err(Attempt::Unmet);
     }
     port.enter_reset();

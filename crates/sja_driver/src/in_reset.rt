@@ -12,7 +12,7 @@ pub(crate) fn is_out(typed: &LoggedDriver) -> bool
     requires { IsLawful typed.now }
     ensures { result ≡ is_out (driver_of typed.now) }
 {
-    usize::from(typed.activation()) > typed.log().left.len()
+    typed.activation() > typed.log().left.len() as u64
 }
 
 /// Whether a controller is in reset mode, by its registers: it refuses every command then, even one without a bit.

@@ -1,17 +1,17 @@
 //! The driver of a node: its two states with their calls, and the steps of a script, each logged.
 //!
 //! A [`Driver`] is in reset ([`Reset`]) or active ([`Active`]); a start leads from the one to the other, a stop back,
-//! and each hands its state back where it is refused. Each call works on the driver's end of a link
-//! ([`DriverEnd`](sja_link::DriverEnd), any type that keeps to it) and on the registers of its controller
-//! ([`Port`](sja_regs::Port)), as far as it needs them: window and release see no port. Before an active driver reads,
-//! looks or releases it takes in all that its link shows.
+//! and each hands its state back where it is refused. Each call works on the driver's end of its node's links
+//! ([`DriverEnd`](sja_link::DriverEnd), any type that keeps to it), at that of its activation, and on the registers of
+//! its controller ([`Port`](sja_regs::Port)), as far as it needs them: window and release see no port. Before an active
+//! driver reads, looks or releases it takes in all that its link shows.
 //!
 //! A [`LoggedDriver`] is a driver in either state ([`AnyDriver`]) with the log of what it released and left
 //! ([`WorkLog`]). It tries the steps of a script ([`Step`](sja_script::Step)) at the right one of a node's links. What
 //! a try does is one record, `Steps` of `specs/LoggedDrivers.antt`: what was got, given and released, the answer by
 //! state, window and registers, the registers after it, why it is to be tried again, and how log and links go on with
-//! all steps before it. When it may be made is the record `MayStep`, and what is in order after it, whatever the step,
-//! `StaysLawful`.
+//! all steps before it. When it may be made is the record `MayStep`, of a window or a release by a call without a port
+//! `MayRelease`, and what is in order after it, whatever the step, `StaysLawful`.
 //! [`LoggedDriver::seen`] looks at what has come, which is no step: `specs/Observing.antt` says what it takes in.
 //!
 //! A driver of version 3 knows addresses and bytes alone, as one for the real chip does: it reads each of the 256

@@ -1,11 +1,10 @@
 //! The driver of a node with its log, and its logged step.
 
-ghost use Rattle.std.specs.Prelude.{◌≡◌, ◌≢◌, ◌+◌, ◌<◌, ◌≤◌, ◌++◌, ℕ, [], ◌∷◌, length, false, slice_index_or};
+ghost use Rattle.std.specs.Prelude.{◌≡◌, ◌<◌, ◌++◌, ℕ, [], ◌∷◌, length, false};
 ghost use Rattle.sja_driver.specs.AnyDrivers.{is_out, opened_of, held_of};
-ghost use Rattle.sja_driver.specs.Holding.{NumberedFrom, place_after};
-ghost use Rattle.sja_driver.specs.LoggedDrivers.{node_of, driver_of, log_of, kept_of, ended_of, IsLawful, Steps};
+ghost use Rattle.sja_driver.specs.LoggedDrivers.{node_of, driver_of, log_of, kept_of, IsLawful};
 ghost use Rattle.sja_driver.specs.Kept.{at_power_on};
-ghost use Rattle.sja_driver.specs.Logs.{HasRoom, IsEmpty, Traces, done_in, done_room};
+ghost use Rattle.sja_driver.specs.Logs.{IsEmpty, Traces, done_in, done_room};
 
 use super::any_driver::AnyDriver;
 use super::driver::Driver;
@@ -46,8 +45,8 @@ impl LoggedDriver {
         }
     }
 
-    /// The activation that was started last, 1 to 64; 0 where there was none.
-    pub fn activation(&self) -> u8
+    /// The activation that was started last, from 1 on; 0 where there was none.
+    pub fn activation(&self) -> u64
         ensures { result ≡ opened_of (driver_of self.now) }
     {
         match &self.driver {

@@ -1,11 +1,13 @@
 //! One step of a script at the right one of a node's links, with its answer.
 
-ghost use Rattle.std.specs.Prelude.{◌≡◌, ◌≢◌, min};
+ghost use Rattle.std.specs.Prelude.{◌≢◌};
+ghost use Rattle.sja_link.specs.Lists.{OthersStand};
 ghost use Rattle.sja_regs.specs.declared.registers.Registers.{Registers};
 ghost use Rattle.sja_script.specs.declared.step.Step.TheVariants.{Stop, Window, Release};
-ghost use Rattle.sja_driver.specs.Acting.{Acts};
+ghost use Rattle.sja_driver.specs.Acting.{ActsOn};
+ghost use Rattle.sja_driver.specs.AnyDrivers.{link_used};
 ghost use Rattle.sja_driver.specs.Inside.Attempts.{FitsEnd, tried_of};
-ghost use Rattle.sja_driver.specs.LoggedDrivers.{ended_of, MayStep, StaysLawful, Steps};
+ghost use Rattle.sja_driver.specs.LoggedDrivers.{MayRelease, MayStep, StaysLawful, Steps};
 
 use super::active_steps::{
     await_step, command_step, load_step, release_step, sent_step, window_step,
@@ -15,84 +17,66 @@ use super::attempt::{Attempt, passed};
 use super::changing::{start_step, stop_step};
 use super::logged_driver::LoggedDriver;
 use super::register_steps::{interrupt_step, read_step, write_step};
-use sja_link::{DriverEnd, LINKS_PER_NODE};
+use sja_link::DriverEnd;
 use sja_regs::Port;
 use sja_script::{Step, StepAnswer};
 
 impl LoggedDriver {
-    /// Tries a step at the link of the present activation, and logs what came of it. The node's links stand from `base`
-    /// on. It gives the step's answer; none where it isn't done, and is to be tried again.
+    /// Tries a step at the link of the present activation, and logs what came of it. It gives the step's answer; none
+    /// where it isn't done, and is to be tried again. The end has to be that of the node.
     pub fn step<E: DriverEnd>(
         &mut self,
-        links: &mut [E],
-        base: usize,
+        end: &mut E,
         port: &mut Port,
         step: &Step,
     ) -> Option<StepAnswer>
-        requires { MayStep E.link self.old links.old base }
-        ensures stays { StaysLawful E.link E.same self.old self.new links.old links.new base result }
-        ensures steps { Steps E.same E.stands E.dry E.full self.old self.new links.old links.new base port.old port.new
+        requires { MayStep E.node port.old.version self.old end.old }
+        ensures stays { StaysLawful E.same E.stands self.old self.new end.old end.new result }
+        ensures steps { Steps E.same E.stands E.dry E.full self.old self.new end.old end.new port.old port.new
             step.now result }
     {
         if matches!(step, Step::Stop) {
-            return self.step_stop(links, base, port);
+            return self.step_stop(end, port);
         }
-        let here = base + self.link_place();
-        let attempt = try_step(&mut self.driver, &mut links[here], port, step);
+        let attempt = try_step(&mut self.driver, end, port, step);
         self.log.enter(attempt)
     }
 
     /// The step `Window`, as [`step`](LoggedDriver::step) does it, for a caller that holds no port: it sees none and
     /// waits for nobody.
-    pub fn step_window<E: DriverEnd>(&mut self, links: &mut [E], base: usize) -> Option<StepAnswer>
-        requires { MayStep E.link self.old links.old base }
-        ensures stays { StaysLawful E.link E.same self.old self.new links.old links.new base result }
-        ensures steps { (p : Registers) → Steps E.same E.stands E.dry E.full self.old self.new links.old links.new base
+    pub fn step_window<E: DriverEnd>(&mut self, end: &mut E) -> Option<StepAnswer>
+        requires { MayRelease E.node self.old end.old }
+        ensures stays { StaysLawful E.same E.stands self.old self.new end.old end.new result }
+        ensures steps { (p : Registers) → Steps E.same E.stands E.dry E.full self.old self.new end.old end.new
             p p Window result }
     {
-        let here = base + self.link_place();
-        let attempt = window_step(&mut self.driver, &mut links[here]);
+        let attempt = window_step(&mut self.driver, end);
         self.log.enter(attempt)
     }
 
     /// The step `Release`, as [`step`](LoggedDriver::step) does it, for a caller that holds no port: it sees none and
     /// waits for nobody.
-    pub fn step_release<E: DriverEnd>(&mut self, links: &mut [E], base: usize) -> Option<StepAnswer>
-        requires { MayStep E.link self.old links.old base }
-        ensures stays { StaysLawful E.link E.same self.old self.new links.old links.new base result }
-        ensures steps { (p : Registers) → Steps E.same E.stands E.dry E.full self.old self.new links.old links.new base
+    pub fn step_release<E: DriverEnd>(&mut self, end: &mut E) -> Option<StepAnswer>
+        requires { MayRelease E.node self.old end.old }
+        ensures stays { StaysLawful E.same E.stands self.old self.new end.old end.new result }
+        ensures steps { (p : Registers) → Steps E.same E.stands E.dry E.full self.old self.new end.old end.new
             p p Release result }
     {
-        let here = base + self.link_place();
-        let attempt = release_step(&mut self.driver, &mut links[here]);
+        let attempt = release_step(&mut self.driver, end);
         self.log.enter(attempt)
     }
 }
 
 impl LoggedDriver {
     /// The step `Stop`, as [`step`](LoggedDriver::step) does it. It alone has a ledger to be logged, which is large.
-    fn step_stop<E: DriverEnd>(
-        &mut self,
-        links: &mut [E],
-        base: usize,
-        port: &mut Port,
-    ) -> Option<StepAnswer>
-        requires { MayStep E.link self.old links.old base }
-        ensures stays { StaysLawful E.link E.same self.old self.new links.old links.new base result }
-        ensures steps { Steps E.same E.stands E.dry E.full self.old self.new links.old links.new base port.old port.new
+    fn step_stop<E: DriverEnd>(&mut self, end: &mut E, port: &mut Port) -> Option<StepAnswer>
+        requires { MayStep E.node port.old.version self.old end.old }
+        ensures stays { StaysLawful E.same E.stands self.old self.new end.old end.new result }
+        ensures steps { Steps E.same E.stands E.dry E.full self.old self.new end.old end.new port.old port.new
             Stop result }
     {
-        let here = base + self.link_place();
-        let stopped = stop_step(&mut self.driver, &mut links[here], port);
+        let stopped = stop_step(&mut self.driver, end, port);
         self.log.enter_stop(stopped)
-    }
-
-    /// The place of the present activation's link among the node's, from 0: of the next one's in reset, and the
-    /// last once all were used.
-    pub(crate) fn link_place(&self) -> usize
-        ensures { result ≡ min (ended_of self.now) 63 }
-    {
-        self.log.left.len().min(LINKS_PER_NODE - 1)
     }
 }
 
@@ -103,10 +87,11 @@ fn try_step<E: DriverEnd>(
     port: &mut Port,
     step: &Step,
 ) -> Attempt
-    requires fits { FitsEnd E.link end.old driver.old }
+    requires fits { FitsEnd E.node end.old driver.old }
     requires goes_on { step.now ≢ Stop }
     ensures same { E.same end.old end.new }
-    ensures acts { Acts E.same E.stands E.dry E.full end.old end.new port.old port.new step.now driver.old driver.new
+    ensures others { OthersStand E.stands (link_used driver.old) end.old end.new }
+    ensures acts { ActsOn E.same E.stands E.dry E.full end.old end.new port.old port.new step.now driver.old driver.new
         (tried_of result) }
 {
     match step {

@@ -1,7 +1,9 @@
 //! Steps that either state has: a register is read or written, or the interrupt line is waited for.
 
+ghost use Rattle.sja_link.specs.Lists.{OthersStand};
 ghost use Rattle.sja_script.specs.declared.step.Step.TheVariants.{Read, Write, Interrupt};
-ghost use Rattle.sja_driver.specs.Acting.{Acts};
+ghost use Rattle.sja_driver.specs.Acting.{ActsOn};
+ghost use Rattle.sja_driver.specs.AnyDrivers.{link_used};
 ghost use Rattle.sja_driver.specs.Inside.Attempts.{FitsEnd, tried_of};
 
 use super::answers::{done_answer, value_answer};
@@ -19,10 +21,11 @@ pub(crate) fn read_step<E: DriverEnd>(
     port: &mut Port,
     addr: u8,
 ) -> Attempt
-    requires { FitsEnd E.link end.old driver.old }
+    requires { FitsEnd E.node end.old driver.old }
     ensures same { E.same end.old end.new }
-    ensures acts { Acts E.same E.stands E.dry E.full end.old end.new port.old port.new (Read addr) driver.old driver.new
-        (tried_of result) }
+    ensures others { OthersStand E.stands (link_used driver.old) end.old end.new }
+    ensures acts { ActsOn E.same E.stands E.dry E.full end.old end.new port.old port.new (Read addr) driver.old
+        driver.new (tried_of result) }
 {
     match driver {
         AnyDriver::InReset(driver) => Attempt::Answered(value_answer(driver.read(port, addr))),
@@ -39,8 +42,8 @@ pub(crate) fn write_step<E: DriverEnd>(
     addr: u8,
     value: u8,
 ) -> Attempt
-    ensures { (e : E) → Acts E.same E.stands E.dry E.full e e port.old port.new (Write addr value) driver.now driver.now
-        (tried_of result) }
+    ensures { (e : E) → ActsOn E.same E.stands E.dry E.full e e port.old port.new (Write addr value) driver.now
+        driver.now (tried_of result) }
 {
     match driver {
         AnyDriver::InReset(driver) => Attempt::Answered(done_answer(driver.write(
@@ -59,9 +62,10 @@ pub(crate) fn interrupt_step<E: DriverEnd>(
     end: &mut E,
     port: &Port,
 ) -> Attempt
-    requires { FitsEnd E.link end.old driver.old }
+    requires { FitsEnd E.node end.old driver.old }
     ensures same { E.same end.old end.new }
-    ensures acts { Acts E.same E.stands E.dry E.full end.old end.new port.now port.now Interrupt driver.old driver.new
+    ensures others { OthersStand E.stands (link_used driver.old) end.old end.new }
+    ensures acts { ActsOn E.same E.stands E.dry E.full end.old end.new port.now port.now Interrupt driver.old driver.new
         (tried_of result) }
 {
     let closed = port.closed();

@@ -1,7 +1,8 @@
 //! A driver in reset.
 
-ghost use Rattle.std.specs.Prelude.{◌≡◌, ◌⊎◌, ◌<◌, ◌≤◌, [], ◌∷◌, false, nat_le, Some, None};
+ghost use Rattle.std.specs.Prelude.{◌≡◌, ◌⊎◌, ◌+◌, ◌<◌, ◌≤◌, [], ◌∷◌, false, nat_le};
 ghost use Rattle.std.specs.Prelude.{OnOk, OnErr, IfOk, IfErr};
+ghost use Rattle.sja_link.specs.Lists.{on, OthersStand};
 ghost use Rattle.sja_link.specs.Sizes.{most_activations};
 ghost use Rattle.sja_link.specs.declared.up.Up.TheVariants.{Start};
 ghost use Rattle.sja_regs.specs.Addresses.{register_at};
@@ -17,14 +18,14 @@ use super::active::Active;
 use super::driver::Driver;
 use super::start_fault::StartFault;
 use can_frame::BufferView;
-use sja_link::{DriverEnd, DriverLedger, LINKS_PER_NODE, LinkId, Up, most_activations};
+use sja_link::{DriverEnd, DriverLedger, LinkId, Up, most_activations};
 use sja_regs::{Port, RegFault};
 
 /// The state of a driver whose controller it keeps in reset mode: how many activations it has started.
 #[derive(Debug, Drop)]
 pub struct Reset {
     pub(crate) node: u8,
-    pub(crate) activation: u8,
+    pub(crate) activation: u64,
 }
 
 impl Driver<Reset> {
@@ -41,32 +42,22 @@ impl Driver<Reset> {
         }
     }
 
-    /// The activation that was started last, 1 to 64; 0 where there was none.
-    pub fn activation(&self) -> u8
+    /// The activation that was started last, from 1 on; 0 where there was none.
+    pub fn activation(&self) -> u64
         ensures { result ≡ started_in self.now }
     {
         self.state.activation
     }
 
-    /// The link of the activation that would be started next, which a start asks of its end; none once all links were
-    /// used.
-    /// Tests and benches alone ask for it.
-    pub fn next_link(&self) -> Option<LinkId>
-        ensures some { started_in self.now < 64 → result ≡ Some (next_link self.now) }
-        ensures none { 64 ≤ started_in self.now → result ≡ None }
+    /// Whose driver it is, which a start asks of its end. Tests and benches alone ask for it.
+    pub fn node(&self) -> u8
+        ensures { result ≡ node_in self.now }
     {
-        if usize::from(self.state.activation) < LINKS_PER_NODE {
-            Some(LinkId {
-                node: self.state.node,
-                activation: self.state.activation + 1,
-            })
-        } else {
-            None
-        }
+        self.state.node
     }
 
     /// Starts the next activation over its link: the start is given with the port's configuration, and the port leaves
-    /// reset mode. The end has to be that of the next activation, or any once all links were used.
+    /// reset mode. The end has to be that of its node's links.
     ///
     /// Errors, the first that holds: [`StartFault::NoActivationLeft`] where as many were used as the port's version
     /// has; [`StartFault::Busy`] where the end gave the start back. This state comes back then, and nothing changed.
@@ -75,36 +66,39 @@ impl Driver<Reset> {
         end: &mut E,
         port: &mut Port,
     ) -> Result<Driver<Active>, (Driver<Reset>, StartFault)>
-        requires { started_in self < 64 → E.link end.old ≡ next_link self }
+        requires { E.node end.old ≡ node_in self }
         ensures same { E.same end.old end.new }
+        ensures others { OthersStand E.stands (started_in self + 1) end.old end.new }
         ensures left { OnOk result (started_in self < most_activations port.old.version) }
         ensures link { IfOk result (λ d. link_in d ≡ next_link self) }
         ensures fresh { IfOk result (λ d. (held_in d ≡ []) × (off_in d ≡ false)) }
-        ensures given { OnOk result (IsGiven E.stands end.old end.new (Start (config_of port.old) ∷ [])) }
+        ensures given { OnOk result (IsGiven (on E.stands (started_in self + 1)) end.old end.new
+            (Start (config_of port.old) ∷ [])) }
         ensures port { OnOk result (port.new ≡ after_start port.old) }
         ensures back { IfErr result (λ e. e.0 ≡ self) }
-        ensures kept { OnErr result (IsGiven E.stands end.old end.new []) }
+        ensures kept { OnErr result (IsGiven (on E.stands (started_in self + 1)) end.old end.new []) }
         ensures unchanged { OnErr result (port.new ≡ port.old) }
         ensures none_left { most_activations port.old.version ≤ started_in self →
             IfErr result (λ e. e.1 ≡ NoActivationLeft) × (end.new ≡ end.old) }
         ensures busy { IfErr result (λ e. (most_activations port.old.version ≤ started_in self)
-            ⊎ (e.1 ≡ Busy) × E.full end.old) }
+            ⊎ (e.1 ≡ Busy) × E.full end.old (started_in self + 1)) }
     {
         if none_left(self.state.activation, port.version()) {
             return Err((self, StartFault::NoActivationLeft));
         }
-        if end.give(Up::Start(port.config())).is_err() {
+        if end
+            .give(self.state.activation + 1, Up::Start(port.config()))
+            .is_err()
+        {
             return Err((self, StartFault::Busy));
         }
         port.leave_reset();
-        let id = LinkId {
+        let ledger = DriverLedger::new(LinkId {
             node: self.state.node,
             activation: self.state.activation + 1,
-        };
+        });
         Ok(Driver {
-            state: Active {
-                ledger: DriverLedger::new(id),
-            },
+            state: Active { ledger },
         })
     }
 
@@ -133,7 +127,7 @@ impl Driver<Reset> {
 }
 
 /// Whether as many activations were started as a node has in a run of this version.
-fn none_left(started: u8, version: u8) -> bool
+fn none_left(started: u64, version: u8) -> bool
     ensures { result ≡ nat_le (most_activations version) started }
 {
     started >= most_activations(version)

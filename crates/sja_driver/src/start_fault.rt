@@ -3,8 +3,9 @@
 /// Why no activation was started.
 #[derive(Clone, Copy, Debug, PartialEq, Eq)]
 pub enum StartFault {
-    /// All activations were used: eight in versions 1 and 2, 64 from version 3 on.
+    /// All activations were used: eight in versions 1 and 2, 64 in version 3, 2^56 in a session without an end.
     NoActivationLeft,
-    /// The link gave the start back.
+    /// The end gave the start back. In one thread it does where the bus hasn't taken all of the activation before, or
+    /// the links were made for fewer starts.
     Busy,
 }

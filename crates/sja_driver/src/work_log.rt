@@ -1,17 +1,16 @@
 //! The log of a driver that follows a script.
 
-ghost use Rattle.std.specs.Prelude.{◌≡◌, ◌+◌, ◌<◌, ◌≤◌, ◌++◌, [], ◌∷◌, length, None, IfSome, IfOk};
+ghost use Rattle.std.specs.Prelude.{◌≡◌, ◌+◌, ◌<◌, ◌++◌, [], ◌∷◌, length, None, IfSome, IfOk};
 ghost use Rattle.sja_link.specs.Recents.{KeepsAll, IsLast};
 ghost use Rattle.sja_driver.specs.Logs.{done_in, releases_in, left_in, done_room, release_room, left_room};
 ghost use Rattle.sja_driver.specs.Logs.{IsEmpty, IsMadeFor, HasRoom};
-ghost use Rattle.sja_driver.specs.Inside.Entering.{Enters};
-ghost use Rattle.sja_driver.specs.Tries.{ended_by};
+ghost use Rattle.sja_driver.specs.Inside.Entering.{Enters, IsAmong};
 ghost use Rattle.sja_driver.specs.Inside.Attempts.{tried_of, stopped_by};
 
 use super::attempt::Attempt;
 use super::release::Release;
 use can_frame::OutOfMemory;
-use sja_link::{DriverLedger, LINKS_PER_NODE, Recent};
+use sja_link::{DriverLedger, Recent, most_activations};
 use sja_script::{Done, StepAnswer};
 use std::alloc::Global;
 
@@ -28,17 +27,18 @@ pub struct WorkLog {
 }
 
 impl WorkLog {
-    /// An empty log with room for so many steps, and for what so many deeds come to.
+    /// An empty log with room for so many steps, for what so many deeds come to, and for all activations of a node in
+    /// this version: 1 to 3, or [`WITHOUT_END`](sja_link::WITHOUT_END).
     ///
     /// Error: [`OutOfMemory`] where memory was refused.
-    pub fn new(alloc: Global, steps: u64, deeds: u64) -> Result<WorkLog, OutOfMemory>
+    pub fn new(alloc: Global, version: u8, steps: u64, deeds: u64) -> Result<WorkLog, OutOfMemory>
         ensures empty { IfOk result IsEmpty }
-        ensures made { IfOk result (IsMadeFor steps deeds) }
-        ensures room { IfOk result (HasRoom deeds) }
+        ensures made { IfOk result (IsMadeFor version steps deeds) }
+        ensures room { IfOk result (HasRoom version deeds) }
     {
         let done = Recent::new(alloc, steps as usize)?;
         let released = Recent::new(alloc, deeds as usize)?;
-        let left = Recent::new(alloc, LINKS_PER_NODE)?;
+        let left = Recent::new(alloc, most_activations(version) as usize)?;
         Ok(WorkLog {
             done,
             released,
@@ -85,10 +85,20 @@ impl WorkLog {
         self.left.as_slice()
     }
 
+    /// The activation after those that have ended, where it is one that the log was made for: as many as that, less
+    /// those after it.
+    fn present(&self) -> u64
+        requires { length (left_in self.now) < left_room self.now }
+        ensures { result ≡ length (left_in self.now) + 1 }
+    {
+        let after = self.left.free() - 1;
+        (self.left.room() - after) as u64
+    }
+
     /// Enters what came of a try of a step that ended no activation, and gives its answer, if the step is done.
     pub(crate) fn enter(&mut self, attempt: Attempt) -> Option<StepAnswer>
-        requires room { HasRoom 1 self.old }
-        requires fits { length (left_in self.old) ≤ 64 }
+        requires room { length (releases_in self.old) < release_room self.old }
+        requires fits { IsAmong (length (left_in self.old)) (left_room self.old) (tried_of attempt) }
         ensures { Enters self.old self.new (tried_of attempt) result }
     {
         match attempt {
@@ -96,7 +106,7 @@ impl WorkLog {
             Attempt::Answered(answer) => Some(answer),
             Attempt::Released(message) => {
                 let bytes = message.len() as u8;
-                let activation = self.left.len() as u8 + 1;
+                let activation = self.present();
                 self.released.push(Release {
                     activation,
                     message,
@@ -111,8 +121,8 @@ impl WorkLog {
         &mut self,
         stopped: Result<DriverLedger, Attempt>,
     ) -> Option<StepAnswer>
-        requires room { HasRoom 1 self.old }
-        requires fits { length (left_in self.old) + ended_by (stopped_by stopped) ≤ 64 }
+        requires room { length (releases_in self.old) < release_room self.old }
+        requires fits { IsAmong (length (left_in self.old)) (left_room self.old) (stopped_by stopped) }
         ensures { Enters self.old self.new (stopped_by stopped) result }
     {
         match stopped {

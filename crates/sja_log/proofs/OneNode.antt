@@ -6,6 +6,7 @@ pub mod Ported
 pub mod AskedAndCounted
 pub mod StepTried
 pub mod Trying
+pub mod InUse
 pub mod Turned
 pub mod Refused
 pub mod InOrder

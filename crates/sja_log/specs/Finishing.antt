@@ -1,5 +1,5 @@
 -- What the log of a run is made of (this project's own rule).
-use Rattle.std.specs.Prelude.{◌≡◌, ◌+◌, ◌*◌, ◌<◌, ◌++◌, ℕ, List, [], length, slice_index_or}
+use Rattle.std.specs.Prelude.{◌≡◌, ◌+◌, ◌<◌, ◌++◌, ℕ, List, [], length, slice_index_or}
 use Rattle.sja_link.specs.declared.down.Down.{Down}
 use Rattle.sja_link.specs.Lists.{messages}
 use Rattle.sja_wire.specs.declared.node_log.NodeLog.{NodeLog}
@@ -20,26 +20,25 @@ activation_after driver down a = record {
   unread = held_after driver a ++ messages down;
 }
 
--- the logs of the first so many activations; what lies on their links begins at this place
-pub record AreActivations (driver : LoggedDriver) (left_down : List (List Down)) (base count : ℕ)
-    (logs : List ActivationValue) : Type 0 where
+-- the logs of the first so many activations; this lies on the link of each
+pub record AreActivations (driver : LoggedDriver) (down : ℕ → List Down) (count : ℕ) (logs : List ActivationValue)
+    : Type 0 where
   pub count_is : length logs ≡ count
-  pub each : (a : ℕ) (d : ActivationValue) (l : List Down) → a < count →
-      slice_index_or logs a d ≡ activation_after driver (slice_index_or left_down (base + a) l) a
+  pub each : (a : ℕ) (d : ActivationValue) → a < count →
+      slice_index_or logs a d ≡ activation_after driver (down (a + 1)) a
 
--- the log of a node
-pub record IsNodeEnd (log : NodeLog) (driver : LoggedDriver) (left_down : List (List Down))
-    (base : ℕ) (node : NodeValue) :
-    Type 0 where
+-- the log of a node, on whose links this lies, by activation
+pub record IsNodeEnd (log : NodeLog) (driver : LoggedDriver) (down : ℕ → List Down) (node : NodeValue)
+    : Type 0 where
   pub journal : node.journal ≡ log.journal.entries
   pub txerr : node.txerr ≡ log.txerr
   pub rxerr : node.rxerr ≡ log.rxerr
   pub done : node.done ≡ done_in (log_of driver)
-  pub activations : AreActivations driver left_down base (opened_of (driver_of driver)) node.activations
+  pub activations : AreActivations driver down (opened_of (driver_of driver)) node.activations
 
--- the logs of the first so many nodes
-pub record AreNodeEnds (logs : List NodeLog) (drivers : List LoggedDriver) (left_down : List (List Down)) (count : ℕ)
+-- the logs of the first so many nodes, on whose links this lies, by node and activation
+pub record AreNodeEnds (logs : List NodeLog) (drivers : List LoggedDriver) (down : ℕ → ℕ → List Down) (count : ℕ)
     (nodes : List NodeValue) : Type 0 where
   pub count_is : length nodes ≡ count
   pub each : (k : ℕ) (g : NodeLog) (d : LoggedDriver) (n : NodeValue) → k < count →
-      IsNodeEnd (slice_index_or logs k g) (slice_index_or drivers k d) left_down (64 * k) (slice_index_or nodes k n)
+      IsNodeEnd (slice_index_or logs k g) (slice_index_or drivers k d) (down k) (slice_index_or nodes k n)

@@ -1,3 +1,2 @@
--- A run in one thread before its first turn, and its links after the last one.
+-- A run in one thread before its first turn.
 pub mod NewDrivers
-pub mod LeftDown

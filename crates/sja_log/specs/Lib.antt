@@ -10,6 +10,7 @@ pub mod Runs
 pub mod Waiting
 -- ---- what a log is made of
 pub mod Finishing
+pub mod LeftDown
 pub mod LogWith
 pub mod Nodes
 -- ---- definitions of private contracts alone

@@ -19,9 +19,9 @@ use Rattle.sja_driver.specs.Dated.{AreDone}
 -- the journal has no more entries than they allow; no deed is later than its last bit; all was in time; and from
 -- power-on entries and deeds have led to the registers of its port
 pub record IsNode (version size : ℕ) (j : List Entry) (deeds : List Deed) (driver : LoggedDriver)
-    (port : Registers) (links : List Deques) (base : ℕ) : Type 0 where
+    (port : Registers) (links : Deques) : Type 0 where
   pub traced : IsTraced version size deeds driver
-  pub linked : IsLinked j deeds driver links base
+  pub linked : IsLinked j deeds driver links
   pub ported : IsPorted version j deeds port
   pub asked : IsAsked j port
   pub counted : IsCounted j deeds port

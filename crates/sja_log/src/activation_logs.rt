@@ -1,6 +1,7 @@
 //! What became of each activation of a node, as the log of a run has it.
 
-ghost use Rattle.std.specs.Prelude.{◌≡◌, ◌+◌, ◌<◌, ◌≤◌, ◌++◌, length, IfOk};
+ghost use Rattle.std.specs.Prelude.{◌≡◌, ◌+◌, ◌<◌, ◌≤◌, ◌++◌, ◌^◌, IfOk};
+ghost use Rattle.sja_link.specs.Deques.{left_on};
 ghost use Rattle.sja_link.specs.Lists.{messages};
 ghost use Rattle.sja_driver.specs.AnyDrivers.{opened_of};
 ghost use Rattle.sja_driver.specs.LoggedDrivers.{driver_of, log_of, ended_of, IsLawful};
@@ -14,56 +15,53 @@ use sja_driver::{LoggedDriver, Release};
 use sja_link::Down;
 use std::alloc::Global;
 
-/// What became of each activation that a driver started; what lay on its links begins at this place.
+/// What became of each activation that a driver started, on whose links this lay.
 ///
 /// Error: [`OutOfMemory`] where memory was refused.
 pub(crate) fn activation_logs(
     alloc: Global,
     driver: &LoggedDriver,
-    lists: &[LeftDown],
-    base: usize,
+    left_down: &LeftDown,
 ) -> Result<Vec<ActivationLog>, OutOfMemory>
     requires lawful { IsLawful driver.now }
     requires kept { KeepsLog (log_of driver.now) }
-    requires lists { base + 64 ≤ length lists.now }
     ensures { IfOk result (λ logs.
-        AreActivations driver.now lists.now base (opened_of (driver_of driver.now)) logs.items) }
+        AreActivations driver.now (λ a. left_on left_down.now a) (opened_of (driver_of driver.now)) logs.items) }
 {
     let count = driver.activation();
-    let mut logs = Vec::with_capacity(alloc, usize::from(count))?;
+    let mut logs = Vec::with_capacity(alloc, count as usize)?;
     for ended in 0..count {
-        let left_down = &lists[base + usize::from(ended)];
         logs.push_reserved(activation_log(alloc, driver, left_down, ended)?);
     }
     Ok(logs)
 }
 
-/// What became of the activation after so many, on whose link this lay.
+/// What became of the activation after so many, by what lay on the links of its node.
 ///
 /// Error: [`OutOfMemory`] where memory was refused.
 fn activation_log(
     alloc: Global,
     driver: &LoggedDriver,
     left_down: &LeftDown,
-    ended: u8,
+    ended: u64,
 ) -> Result<ActivationLog, OutOfMemory>
     requires ended { ended ≤ ended_of driver.now }
-    requires few { ended < 64 }
+    requires few { ended < 2 ^ 40 }
     requires kept { KeepsLog (log_of driver.now) }
-    ensures { IfOk result (λ log. log ≡ activation_after driver.now left_down.now ended) }
+    ensures { IfOk result (λ log. log ≡ activation_after driver.now (left_on left_down.now (ended + 1)) ended) }
 {
     let released = released_in(alloc, driver.log().released(), ended + 1)?;
-    let unread = unread_on(alloc, held_in(driver, usize::from(ended)), left_down)?;
+    let unread = unread_on(alloc, held_in(driver, ended as usize), left_down, ended + 1)?;
     Ok(ActivationLog::of(released, unread))
 }
 
-/// The messages that were released in an activation, 1 to 64.
+/// The messages that were released in an activation, counted from 1.
 ///
 /// Error: [`OutOfMemory`] where memory was refused.
 fn released_in(
     alloc: Global,
     releases: &[Release],
-    activation: u8,
+    activation: u64,
 ) -> Result<Vec<Message>, OutOfMemory>
     ensures { IfOk result (λ list. list.items ≡ released_of releases.now activation) }
 {
@@ -76,23 +74,27 @@ fn released_in(
     Ok(list)
 }
 
-/// These messages, and then those that lay on the link.
+/// These messages, and then those that lay on the link of this activation.
 ///
 /// Error: [`OutOfMemory`] where memory was refused.
 fn unread_on(
     alloc: Global,
     held: &[Message],
     left_down: &LeftDown,
+    activation: u64,
 ) -> Result<Vec<Message>, OutOfMemory>
-    ensures { IfOk result (λ list. list.items ≡ held.now ++ messages left_down.now) }
+    ensures { IfOk result (λ list. list.items ≡ held.now ++ messages (left_on left_down.now activation)) }
 {
     let mut list = Vec::with_capacity(alloc, held.len())?;
     for message in held {
         list.push_reserved(message.copy());
     }
-    let down = left_down.items();
-    for place in 0..down.len() {
-        if let Down::Message(message) = &down[place] {
+    let left = left_down.items();
+    for place in 0..left.len() {
+        if left[place].activation != activation {
+            continue;
+        }
+        if let Down::Message(message) = &left[place].item {
             list.push(message.copy())?;
         }
     }

@@ -1,20 +1,22 @@
-//! [`LeftDown`]: what lies on a link at the end of a run.
+//! [`LeftDown`]: what lies on the links of a node at the end of a run.
+
+ghost use Rattle.std.specs.Prelude.{◌≡◌, IfOk};
 
 use can_frame::OutOfMemory;
-use sja_link::{DequeLink, Down, DriverEnd};
+use sja_link::{DequeLinks, Down, OlderDown};
 use std::alloc::Global;
 use std::marker::Model;
 
-/// The items that lay on a link downward at the end of a run, in order (this project's own rule). Contracts see it as
-/// the list of them.
+/// The items that lay downward on the links of a node at the end of a run, in order on each link (this project's own
+/// rule). Contracts see it as the list of them, each with the activation on whose link it lay.
 #[derive(Debug, Drop)]
 pub struct LeftDown {
-    items: Vec<Down>,
+    items: Vec<OlderDown>,
 }
 
 impl Model for LeftDown {
     ghost use Rattle.std.specs.Prelude.{List};
-    ghost use Rattle.sja_link.specs.declared.down.Down.{Down as Item};
+    ghost use Rattle.sja_link.specs.declared.older_down.OlderDown.{OlderDown as Item};
 
     ghost Value = { List Item };
 
@@ -22,39 +24,74 @@ impl Model for LeftDown {
 }
 
 impl LeftDown {
-    ghost use Rattle.std.specs.Prelude.{◌≡◌, IfOk};
+    ghost use Rattle.std.specs.Prelude.{◌≡◌, ◌++◌, ℕ, [], IfOk, OnOk, OnErr};
+    ghost use Rattle.sja_link.specs.Recents.{KeepsAll};
+    ghost use Rattle.sja_link.specs.Deques.{on_link, left_on, down_on};
 
-    /// These items.
+    /// Nothing on any link.
+    pub fn new(alloc: Global) -> LeftDown
+        ensures { result ≡ [] }
+    {
+        LeftDown {
+            items: Vec::new(alloc),
+        }
+    }
+
+    /// What lies on the links of a node in one thread, none of which has forgotten anything: what was left on those
+    /// before the one in use, and then what lies on that.
     ///
     /// Error: [`OutOfMemory`] where memory was refused.
-    pub fn of(alloc: Global, down: &[Down]) -> Result<LeftDown, OutOfMemory>
-        ensures { IfOk result (λ left_down. left_down ≡ down.now) }
+    pub fn on(alloc: Global, links: &DequeLinks) -> Result<LeftDown, OutOfMemory>
+        requires kept { KeepsAll links.now.room }
+        ensures whole { IfOk result (λ left.
+            left ≡ links.now.older ++ on_link links.now.activation links.now.down) }
+        ensures each { IfOk result (λ left. (a : ℕ) → left_on left a ≡ down_on links.now a) }
     {
-        let mut items = Vec::with_capacity(alloc, down.len())?;
+        let mut left = LeftDown {
+            items: copies(alloc, links.older())?,
+        };
+        let (first, last) = links.down().as_slices();
+        left.push(links.activation(), first)?;
+        left.push(links.activation(), last)?;
+        Ok(left)
+    }
+
+    /// Adds these items, on the link of an activation.
+    ///
+    /// Error: [`OutOfMemory`] where memory was refused; then there is what was.
+    pub fn push(&mut self, activation: u64, down: &[Down]) -> Result<(), OutOfMemory>
+        ensures pushed { OnOk result (self.new ≡ self.old ++ on_link activation down.now) }
+        ensures kept { OnErr result (self.new ≡ self.old) }
+    {
+        self.items.reserve(down.len())?;
         for item in down {
-            items.push_reserved(item.copy());
+            let item = item.copy();
+            self.items.push_reserved(OlderDown { activation, item });
         }
-        Ok(LeftDown { items })
+        Ok(())
     }
 
-    /// What lies on a link, which is taken off it.
-    ///
-    /// Error: [`OutOfMemory`] where memory was refused.
-    pub fn on(alloc: Global, link: DequeLink) -> Result<LeftDown, OutOfMemory>
-        ensures { IfOk result (λ left_down. left_down ≡ link.down) }
-    {
-        let mut end = link;
-        let mut items = Vec::new(alloc);
-        while let Some(item) = end.get() {
-            items.push(item)?;
-        }
-        Ok(LeftDown { items })
-    }
-
-    /// The items.
-    pub fn items(&self) -> &[Down]
+    /// The items, each with the activation on whose link it lay.
+    pub fn items(&self) -> &[OlderDown]
         ensures { result.now ≡ self.now }
     {
         self.items.as_slice()
     }
+}
+
+/// The same items.
+///
+/// Error: [`OutOfMemory`] where memory was refused.
+fn copies(alloc: Global, items: &[OlderDown]) -> Result<Vec<OlderDown>, OutOfMemory>
+    ensures { IfOk result (λ list. list.items ≡ items.now) }
+{
+    let mut list = Vec::with_capacity(alloc, items.len())?;
+    for left in items {
+        let item = left.item.copy();
+        list.push_reserved(OlderDown {
+            activation: left.activation,
+            item,
+        });
+    }
+    Ok(list)
 }

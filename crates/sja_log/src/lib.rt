@@ -6,8 +6,8 @@
 //! promises of a run in one thread beside that.
 //!
 //! At the end of a run [`node_runs`] makes the nodes of a log of what the bus left of each node, its driver, and what
-//! lay on its links ([`LeftDown`]); [`script_of`] has the strikes of a plan as a bus takes them. These, `LeftDown::of`
-//! and `LeftDown::on` alone take memory. A [`RunFault`] says why a run has no log, and a [`RegisterRow`] what a
+//! lay on its links ([`LeftDown`]); [`script_of`] has the strikes of a plan as a bus takes them. These, `LeftDown::on`
+//! and `LeftDown::push` alone take memory. A [`RunFault`] says why a run has no log, and a [`RegisterRow`] what a
 //! register of a node reads as.
 #![tactic(auto)]
 

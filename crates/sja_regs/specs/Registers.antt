@@ -1,6 +1,6 @@
 -- What a port keeps, as a whole: after power-on, what follows, and reset mode (SJA1000 data sheet, 6.4.2 to 6.4.6).
-use Rattle.std.specs.Prelude.{◌+◌, ◌==◌, ◌||◌, ◌&&◌, min, nat_le, ℕ, Bool, true, false, if◌then◌else◌, None, replicate}
-use Rattle.std.specs.Prelude.{is_some}
+use Rattle.std.specs.Prelude.{◌+◌, ◌-◌, ◌^◌, ◌==◌, ◌||◌, ◌&&◌, min, nat_le, ℕ, Bool, true, false, if◌then◌else◌, None}
+use Rattle.std.specs.Prelude.{is_some, replicate}
 use Rattle.can_node.specs.declared.config.Config.{Config}
 use Rattle.sja_regs.specs.declared.registers.Registers.{Registers}
 use Rattle.sja_regs.specs.declared.status.Status.{Status}
@@ -106,13 +106,13 @@ is_forced p = p.mode.rm && asks_off p
 abbrev pub gone_off : Registers → Registers
 gone_off p = record p { txerr = 127; rxerr = 0; bs = true }
 
--- the next activation begins; they are numbered from 1, and the number stays at 255. The counters that were written go
--- with the start, and a bus-off that was asked for stands from then on
+-- the next activation begins; they are numbered from 1, and the number stays at 2^64 - 1. The counters that were
+-- written go with the start, and a bus-off that was asked for stands from then on
 abbrev pub without_reset : Registers → Registers
 without_reset p =
     record p {
       mode = record p.mode { rm = false };
-      activation = min 255 (p.activation + 1);
+      activation = min (2 ^ 64 - 1) (p.activation + 1);
       txerr = if is_forced p then 127 else p.txerr;
       rxerr = if is_forced p then 0 else p.rxerr;
       bs = is_forced p || p.bs;

@@ -6,7 +6,7 @@ use can_node::{BitEvents, Phase};
 #[derive(Debug, PartialEq, Eq, Drop)]
 pub struct BusTurn {
     /// The activation of the controller, counted from 1.
-    pub activation: u8,
+    pub activation: u64,
     /// What the bit brought to the node.
     pub events: BitEvents,
     /// The transmit error counter after the bit, as TXERR shows it.

@@ -35,7 +35,8 @@ impl Port {
     ghost use Rattle.sja_regs.specs.Facts.{RegisterFacts};
 
     /// A port after power-on: in reset mode, before its first activation. Version 1 of the model has no listen only
-    /// mode, no self test mode and no self reception; every other version has them.
+    /// mode, no self test mode and no self reception; every other version has them. Plans have versions 1 to 3; from 3
+    /// on the rules are the same ones, so a session without an end may have a version above.
     pub fn new(version: u8) -> Port
         ensures { result ≡ at_power_on version }
     {
@@ -44,7 +45,7 @@ impl Port {
         }
     }
 
-    /// The version of the model.
+    /// The version of the model: 1 to 3, or the one above those in a session without an end.
     pub fn version(&self) -> u8
         ensures { result ≡ self.now.version }
     {
@@ -67,9 +68,9 @@ impl Port {
         self.registers.is_forced()
     }
 
-    /// Leaves reset mode for the next activation. They are numbered from 1, and the number stays at 255. From version 3
-    /// on what was written to EWLR, RXERR and TXERR shows from now on, and EI and EPI follow; TXERR written 255 is a
-    /// bus-off from now on. A port that isn't in reset mode stays as it is.
+    /// Leaves reset mode for the next activation. They are numbered from 1, and the number stays at 2^64 - 1. From
+    /// version 3 on what was written to EWLR, RXERR and TXERR shows from now on, and EI and EPI follow; TXERR written
+    /// 255 is a bus-off from now on. A port that isn't in reset mode stays as it is.
     pub fn leave_reset(&mut self)
         ensures { self.new ≡ (if self.old.mode.rm then after_leaving_reset self.old else self.old) }
     {

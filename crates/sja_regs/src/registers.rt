@@ -27,10 +27,11 @@ pub(crate) const FORCES_OFF: u8 = 255;
 /// sees, and ES from the error counters.
 #[derive(Debug, Drop)]
 pub(crate) struct Registers {
-    /// The version of the model: version 1 has no LOM, no STM and no SRR.
+    /// The version of the model, 1 to 3, or the one above those in a session without an end: version 1 has no LOM, no
+    /// STM and no SRR.
     pub version: u8,
-    /// How often reset mode was left, at most 255.
-    pub activation: u8,
+    /// How often reset mode was left, at most 2^64 - 1.
+    pub activation: u64,
     /// MOD.
     pub mode: Mode,
     /// SR: data overrun status.

@@ -1,5 +1,5 @@
 -- All nodes of a bus, by their journals (this project's own rule).
-use Rattle.std.specs.Prelude.{◌≡◌, ◌⊎◌, ◌+◌, ◌*◌, ◌<◌, ℕ, Bool, false, Option}
+use Rattle.std.specs.Prelude.{◌≡◌, ◌⊎◌, ◌<◌, ℕ, Bool, false, Option}
 use Rattle.std.specs.Prelude.{None, List, [], length, replicate, slice_index_or}
 use Rattle.can_bits.specs.declared.level.Level.{Level}
 use Rattle.can_bits.specs.declared.level.Level.TheVariants.{Recessive}
@@ -12,7 +12,8 @@ use Rattle.sja_regs.specs.declared.orders.Orders.{Orders}
 use Rattle.sja_regs.specs.declared.bus_turn.BusTurn.{BusTurn}
 use Rattle.sja_wire.specs.declared.bus_fault.BusFault.{BusFault}
 use Rattle.sja_wire.specs.Wire.{wired, IsSeen, journal_at}
-use Rattle.sja_link.specs.Links.{per_node, Kept, stops_of}
+use Rattle.sja_link.specs.Links.{Kept}
+use Rattle.sja_link.specs.OutOfOrder.{read_in}
 use Rattle.sja_wire.specs.Opens.{Opens}
 use Rattle.sja_link.specs.BitEntries.{HasBit}
 use Rattle.sja_wire.specs.Telling.{IsTurn, IsPassedOver, IsUntold}
@@ -53,18 +54,18 @@ EachJournal R before after =
     (node : ℕ) → node < length before → R (journal_at before node) (journal_at after node)
 
 -- of each node, and whatever its driver got and gave: its links stand for its journal now, where they did before
-abbrev pub KeepsAll : {E : Type 0} → (E → Lists → Type 0) → List (List Entry) → List (List Entry) →
+abbrev pub KeepsAll : {E : Type 0} → (E → ℕ → Lists → Type 0) → List (List Entry) → List (List Entry) →
     List E → List E → Type 0
 KeepsAll {E} stands before after links links_after =
-    (node : ℕ) (h : ℕ → Account) → node < length before →
-    Kept stands (journal_at before node) links (per_node * node) h →
-    Kept stands (journal_at after node) links_after (per_node * node) h
+    (node : ℕ) (d : E) (h : ℕ → Account) → node < length before →
+    Kept stands (journal_at before node) (slice_index_or links node d) h →
+    Kept stands (journal_at after node) (slice_index_or links_after node d) h
 
 -- the link of each node that is read shows nothing upward
-abbrev pub AllDry : {E : Type 0} → (E → Type 0) → List (List Entry) → List E → Type 0
+abbrev pub AllDry : {E : Type 0} → (E → ℕ → Type 0) → List (List Entry) → List E → Type 0
 AllDry {E} dry journals links =
-    (node : ℕ) (d : E) → node < length journals → stops_of (journal_at journals node) < per_node →
-    dry (slice_index_or links (per_node * node + stops_of (journal_at journals node)) d)
+    (node : ℕ) (d : E) → node < length journals →
+    dry (slice_index_or links node d) (read_in (journal_at journals node))
 
 -- of each node something is untold where it was before, or items were taken
 abbrev pub EachUntold : List Bool → List Bool → List (List Entry) → List (List Entry) → Type 0

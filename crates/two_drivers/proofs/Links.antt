@@ -1,59 +1,45 @@
--- The links of two nodes, as drivers and bus leave them: each keeps its number.
-use Rattle.std.proofs.Common.{◌≡◌, ◌∙◌, ◌*◌, ◌+◌, ◌<◌, ◌++◌, ℕ, List, length, take, drop, refl, sym, ap, arith}
+-- The links of two nodes, as drivers and bus leave them: each keeps its node.
+use Rattle.std.proofs.Common.{◌≡◌, ◌∙◌, ◌<◌, ◌++◌, ℕ, List, length, take, drop, refl, sym, ap}
 use Rattle.std.proofs.Common.{slice_index_or, slice_set}
 use Rattle.std.proofs.Math.Seq.{take-append_seam}
-use Rattle.std.proofs.lemmas.Slice.Zip.{AllZip-long}
 use Rattle.lemmas.specs.Related.{EachRelated}
 use Rattle.lemmas.proofs.Related.{each_one}
-use Rattle.sja_link.specs.Deques.{Deques}
-use Rattle.sja_link.specs.declared.link_id.LinkId.{LinkId}
-use Rattle.sja_link.specs.Links.{Numbered}
+use Rattle.sja_link.specs.Deques.{AreAlike, Deques}
+use Rattle.sja_link.specs.Links.{AreEnds}
 use Rattle.sja_link.specs.NewLinks.{AreNewLinks}
-use Rattle.sja_bus.proofs.AllNodes.Many.{numbered_kept}
+use Rattle.sja_bus.proofs.AllNodes.Many.{ends_kept}
 
-abbrev number : Deques → LinkId
-number link = link.link
+abbrev node_of : Deques → ℕ
+node_of links = links.node
 
-abbrev IsSame : Deques → Deques → Type 0
-IsSame was now = now.link ≡ was.link
+abbrev IsOfOne : Deques → Deques → Type 0
+IsOfOne was now = now.node ≡ was.node
 
--- 64 links a node, each with the number of its place
-pub record AreOfTwo (links : List Deques) : Type 0 where
-  pub count : length links ≡ 128
-  pub numbered : Numbered number links
+abbrev pub AreOfTwo : List Deques → Type 0
+AreOfTwo links = AreEnds node_of 2 links
 
 -- new ones are those of two nodes
-pub when_new : (links : List Deques) → AreNewLinks 2 links → AreOfTwo links
-when_new links new = record {
+pub when_new : (links : List Deques) (starts : ℕ) → AreNewLinks 2 starts links → AreOfTwo links
+when_new links starts new = record {
   count = new.count;
-  numbered = λ node a d few here.
-      let count = new.count in
-      let is : node < 2 = omega (arith, count) in
-      ap number (new.each node a d is few);
+  own = λ node d few. ap node_of (new.each node d few);
 }
 
 -- they are still where each is the same link, as after bits
-pub when_same : (links now : List Deques) → EachRelated IsSame links now → AreOfTwo links → AreOfTwo now
-when_same links now sames are = record {
-  count = AllZip-long IsSame links now sames ∙ are.count;
-  numbered = numbered_kept number IsSame (λ x y s. s) links now sames are.numbered;
-}
+pub when_same : (links now : List Deques) → EachRelated AreAlike links now → AreOfTwo links → AreOfTwo now
+when_same links now sames are = ends_kept node_of AreAlike (λ x y same. same.0) links now 2 2 refl sames are
 
--- and where one is, as after a call of its driver
+-- and where one is of the same node, as after a call of its driver
 pub when_one : (links : List Deques) (place : ℕ) (was now : Deques) → place < length links →
-    was ≡ slice_index_or links place was → IsSame was now → AreOfTwo links → AreOfTwo (slice_set links place now)
-when_one links place was now few here same = when_same links (slice_set links place now)
-    (each_one IsSame (λ x. refl) links place was now few (same ∙ ap number here))
+    was ≡ slice_index_or links place was → IsOfOne was now → AreOfTwo links → AreOfTwo (slice_set links place now)
+when_one links place was now few here same are =
+    ends_kept node_of IsOfOne (λ x y same. same) links (slice_set links place now) 2 2 refl
+    (each_one IsOfOne (λ x. refl) links place was now few (same ∙ ap node_of here)) are
 
--- the number of a node's first link
-pub first_number : (links : List Deques) (node place : ℕ) (here : Deques) → AreOfTwo links → node < 2 →
-    place ≡ 64 * node → here ≡ slice_index_or links place here →
-    here.link ≡ record { node = node; activation = 1 }
-first_number links node place here are few at is =
-    let count = are.count in
-    let there : place ≡ 64 * node + 0 = omega (arith, at) in
-    ap number is ∙ ap (λ p. number (slice_index_or links p here)) there
-    ∙ are.numbered node 0 here (omega arith) (omega (arith, count))
+-- whose the links at a place are
+pub own_node : (links : List Deques) (node : ℕ) (here : Deques) → AreOfTwo links → node < 2 →
+    here ≡ slice_index_or links node here → here.node ≡ node
+own_node links node here are few is = ap node_of is ∙ are.own node here few
 
 -- what a vector has at a place, after these were written over all that it had
 pub written : (old now : List Deques) (count place : ℕ) (here : Deques) → length now ≡ count →

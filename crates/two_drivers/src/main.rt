@@ -8,7 +8,7 @@ ghost use Rattle.std.specs.Prelude.{◌≡◌, IfSome, length};
 use can_frame::Message;
 use sja_bus::{Bus, SerialBoard, serial_links};
 use sja_driver::Driver;
-use sja_link::{DequeLink, first_link};
+use sja_link::DequeLinks;
 use sja_regs::{Port, letters};
 use sja_script::FaultScript;
 use std::alloc::Global;
@@ -43,16 +43,15 @@ fn pass_and_print(rt: &HostRuntime) -> Option<()> {
 /// refused.
 fn passed_on(alloc: Global, message: &Message) -> Option<Message> {
     let mut bus = bus_of_two(alloc)?;
-    let mut links = serial_links(alloc, 2).ok()?;
+    // the links of each node are for one start of its controller
+    let mut links = serial_links(alloc, 2, 1).ok()?;
     let mut board = SerialBoard::new(alloc, 2, 1).ok()?;
-    // each node has 64 links, one for each activation: these are the first ones
-    let (near, far) = (first_link(0), first_link(1));
-    send(&mut links[near], &mut board.ports[0], message)?;
-    let Ok(mut receiver) = Driver::new(1).start(&mut links[far], &mut board.ports[1]) else {
+    send(&mut links[0], &mut board.ports[0], message)?;
+    let Ok(mut receiver) = Driver::new(1).start(&mut links[1], &mut board.ports[1]) else {
         return None;
     };
     bus.bits(links.as_mut_slice(), &mut board, 100, false).ok()?;
-    receiver.release_message(&mut links[far]).ok()
+    receiver.release_message(&mut links[1]).ok()
 }
 
 /// A bus of two nodes for 1000 bits, with room for ten steps of each driver. Nothing where memory is refused.
@@ -63,12 +62,12 @@ fn bus_of_two(alloc: Global) -> Option<Bus>
     Bus::new(alloc, 1000, steps, FaultScript::of(Vec::new(alloc))).ok()
 }
 
-/// Starts the driver of node 0 over its first link, and asks it to send this message. Nothing where a call is refused.
-fn send(link: &mut DequeLink, port: &mut Port, message: &Message) -> Option<()>
-    requires { link.old.link ≡ record { node = 0; activation = 1 } }
-    ensures { link.new.link ≡ link.old.link }
+/// Starts the driver of node 0 over its links, and asks it to send this message. Nothing where a call is refused.
+fn send(links: &mut DequeLinks, port: &mut Port, message: &Message) -> Option<()>
+    requires { links.old.node ≡ 0 }
+    ensures { links.new.node ≡ links.old.node }
 {
-    let mut driver = Driver::new(0).start(link, port).ok()?;
+    let mut driver = Driver::new(0).start(links, port).ok()?;
     driver.load(port, message).ok()?;
-    driver.command(link, port, TRANSMIT).ok()
+    driver.command(links, port, TRANSMIT).ok()
 }

@@ -5,7 +5,6 @@ use Rattle.std.specs.Prelude.{slice_index_or, ◌↔◌, ◌⊎◌}
 use Rattle.can_bits.specs.declared.level.Level.{Level}
 use Rattle.can_node.specs.Stands.{ShowsRest}
 use Rattle.sja_link.specs.declared.bus_end.BusEnd.{Ghosts as Ends}
-use Rattle.sja_link.specs.Lists.{Lists}
 use Rattle.lemmas.specs.Related.{EachRelated}
 use Rattle.sja_regs.specs.declared.orders.Orders.{Orders}
 use Rattle.sja_regs.specs.declared.bus_turn.BusTurn.{BusTurn}
@@ -145,25 +144,21 @@ bits_on e b Before was script steps from run most left struck seats after links 
     goes bus bus_after are)
 
 -- the bit of one broke off
-pub stops_on : {E : Type 0} (same : E → E → Type 0) (stands : E → Lists → Type 0) (full : E → Type 0)
-    (orders_are : ℕ → Orders → Type 0) (script : List Strike) (steps : List ℕ) (run left bits : ℕ)
-    (seats after : List Seat) (links links_after : List E) (f : BusFault) (now : BusValue) → ((x : E) → same x x) →
-    now.journals ≡ journals_of after → run + left ≡ bits → length after ≡ length seats →
-    HaveRoom (room_for bits steps) seats → NoneAborts orders_are (length seats) →
-    SeatBreaks same stands full seats after links f →
-    StopsBit same stands full orders_are (bus_of script steps run left seats) now links links_after f
-stops_on same stands full orders_are script steps run left bits seats after links links_after f now same_refl journals
-    all
-    len rooms none breaks =
-    stops_bit same stands full orders_are script steps run left bits None seats after links links_after f
-    now journals all len rooms
+pub stops_on : {E : Type 0} (e : Ends E) (orders_are : ℕ → Orders → Type 0) (script : List Strike) (steps : List ℕ)
+    (run left bits : ℕ) (seats after : List Seat) (links links_after : List E) (f : BusFault) (now : BusValue) →
+    ((x : E) → e.same x x) → now.journals ≡ journals_of after → run + left ≡ bits → length after ≡ length seats →
+    HaveRoom (room_for bits steps) seats → NoneAborts orders_are (length seats) → SeatBreaks e seats after links f →
+    StopsBit e orders_are (bus_of script steps run left seats) now links links_after f
+stops_on e orders_are script steps run left bits seats after links links_after f now same_refl journals all len rooms
+    none breaks =
+    stops_bit e orders_are script steps run left bits None seats after links links_after f now journals all len rooms
     (inr (record {
       opened = seats;
       between = links;
       count = refl;
       opens = λ m s few. let o = none m few in opens_none (orders_are m)
           (slice_index_or seats m s).journal.entries o.0 o.1 o.2;
-      goes = goes_all_refl same stands same_refl seats links;
+      goes = goes_all_refl e.same e.stands same_refl seats links;
       rooms = λ n h. h;
       breaks = breaks;
     }))

@@ -1,5 +1,5 @@
 -- What all nodes do, by their journals.
-use Rattle.std.proofs.Common.{◌≡◌, ◌≢◌, ℕ, ◌+◌, ◌*◌, ◌<◌, ◌≤◌, Bool, inl, inr, List, [], ◌∷◌, length, refl, sym, ap}
+use Rattle.std.proofs.Common.{◌≡◌, ◌≢◌, ℕ, suc, ◌+◌, ◌<◌, ◌≤◌, Bool, inl, inr, List, [], ◌∷◌, length, refl, sym, ap}
 use Rattle.std.proofs.Common.{◌∙◌, subst, arith}
 use Rattle.std.specs.Prelude.{slice_index_or, ◌↔◌, ◌⊎◌}
 use Rattle.std.proofs.lemmas.List.{length-map}
@@ -29,18 +29,18 @@ use Rattle.sja_bus.proofs.AllNodes.NodeBit.{changed_once}
 use Rattle.sja_bus.proofs.AllNodes.Running.{journal_is, untold_is, count_is, driven_at_place, seen_right, wired_opened}
 use Rattle.sja_bus.proofs.AllNodes.Running.{wired_ticked}
 
-pub keeps_all : {E : Type 0} (same : E → E → Type 0) (stands : E → Lists → Type 0) (seats after : List Seat)
+pub keeps_all : {E : Type 0} (same : E → E → Type 0) (stands : E → ℕ → Lists → Type 0) (seats after : List Seat)
     (links links_after : List E) → length after ≡ length seats →
     GoesAll same stands seats after links links_after →
     KeepsAll stands (journals_of seats) (journals_of after) links links_after
-keeps_all same stands [] after links links_after len goes = λ node h few. absurd (omega arith)
-keeps_all same stands (s ∷ seats) after links links_after len goes = λ node h few kept.
+keeps_all same stands [] after links links_after len goes = λ node d h few. absurd (omega arith)
+keeps_all same stands (s ∷ seats) after links links_after len goes = λ node d h few kept.
     let all = s ∷ seats in let cb = count_is all in
     let near : node < length all = omega (arith, few, cb) in
-    let P : List Entry → Type 0 = λ j. Kept stands j links (64 * node) h in
-    let Q : List Entry → Type 0 = λ j. Kept stands j links_after (64 * node) h in
+    let P : List Entry → Type 0 = λ j. Kept stands j (slice_index_or links node d) h in
+    let Q : List Entry → Type 0 = λ j. Kept stands j (slice_index_or links_after node d) h in
     subst Q (sym (journal_is after node s (omega (arith, near, len))))
-    (goes.kept node s h near (subst P (journal_is all node s near) kept))
+    (goes.kept node s d h near (subst P (journal_is all node s near) kept))
 
 pub all_items : (seats after : List Seat) → length after ≡ length seats → EachSeat SeatTakes seats after →
     EachJournal MayHaveItems (journals_of seats) (journals_of after)
@@ -96,17 +96,15 @@ calm_taken seats after len takes calm k s few = one (slice_index_or seats k s) (
     one old new (inl (untold, same)) ne e = ne (sym untold ∙ e)
     one old new (inr (untold, more)) ne e = let wrong : Changed ≡ Dropped = sym untold ∙ e in cc
 
-pub all_dry : {E : Type 0} (dry : E → Type 0) (seats : List Seat) (links : List E) → AreReady seats →
+pub all_dry : {E : Type 0} (dry : E → ℕ → Type 0) (seats : List Seat) (links : List E) → AreReady seats →
     AllRead dry seats links → AllDry dry (journals_of seats) links
 all_dry dry [] links ready read = λ node d few. absurd (omega arith)
-all_dry dry (s ∷ seats) links ready read = λ node d few run.
+all_dry dry (s ∷ seats) links ready read = λ node d few.
     let all = s ∷ seats in let cb = count_is all in
     let near : node < length all = omega (arith, few, cb) in
     let e : stops_of (journal_at (journals_of all) node) ≡ (slice_index_or all node s).ended =
     ap stops_of (journal_is all node s near) ∙ (ready node s near).ready.sound.reads.stopped in
-    let P : ℕ → Type 0 = λ n. dry (slice_index_or links (64 * node + n) d) in
-    let Q : ℕ → Type 0 = λ n. n < 64 in
-    subst P (sym e) (read node s d near (subst Q e run))
+    let P : ℕ → Type 0 = λ n. dry (slice_index_or links node d) (suc n) in subst P (sym e) (read node s d near)
 
 -- one node of them
 node_bit : (has_orders : Orders → Type 0) (was_told : BusTurn → Type 0) (was_kept : Type 0) (untold : Bool)

@@ -1,8 +1,6 @@
 -- Bits one after another, as far as they came.
 use Rattle.std.proofs.Common.{◌≡◌, ℕ, suc, ◌+◌, ◌≤◌, None, length, refl, ◌∙◌, subst, arith}
 use Rattle.std.specs.Prelude.{Result, Ok, Err, IfOk}
-use Rattle.std.proofs.lemmas.Slice.Zip.{AllZip-long as each_length}
-use Rattle.sja_link.specs.Lists.{Lists}
 use Rattle.sja_link.specs.declared.bus_end.BusEnd.{Ghosts as Ends}
 use Rattle.lemmas.proofs.Related.{each_refl, each_trans}
 use Rattle.sja_regs.specs.declared.orders.Orders.{Orders}
@@ -13,7 +11,7 @@ use Rattle.sja_bus.specs.Moment.{Moment, Keeps, OneBit}
 use Rattle.sja_bus.specs.Several.{AreBits, BreaksOff}
 use Rattle.sja_bus.specs.Several.AreBits.{no_bit, one_more}
 use Rattle.sja_bus.specs.Inside.RunningOn.{AreFor, IsSoFar, IsStopped}
-use Rattle.sja_bus.proofs.AllNodes.Many.{numbered_kept}
+use Rattle.sja_bus.proofs.AllNodes.Many.{ends_kept}
 
 -- what follows for each number of bits that may have been answered
 pub each_count : {P Q : ℕ → Type 0} (r : Result ℕ BusFault) → ((n : ℕ) → P n → Q n) → IfOk r P → IfOk r Q
@@ -55,13 +53,12 @@ bits_as One Before Also was _ _ also (one_more _ mid now n bits before one) =
     one_more was mid now n (bits_as One Before Also was mid n also bits) (also mid before) one
 
 -- and one that broke off behind them
-pub breaks_as : {E B : Type 0} (same : E → E → Type 0) (stands : E → Lists → Type 0) (full : E → Type 0)
-    (orders_are : B → ℕ → Orders → Type 0) (One : ℕ → Moment E B → Moment E B → Type 0)
-    (Before Also : Moment E B → Type 0) (count : ℕ)
+pub breaks_as : {E B : Type 0} (e : Ends E) (orders_are : B → ℕ → Orders → Type 0)
+    (One : ℕ → Moment E B → Moment E B → Type 0) (Before Also : Moment E B → Type 0) (count : ℕ)
     (was now : Moment E B) (f : BusFault) → ((m : Moment E B) → Before m → Also m) →
-    BreaksOff same stands full orders_are One Before count was now f →
-    BreaksOff same stands full orders_are One Also count was now f
-breaks_as same stands full orders_are One Before Also count was now f also off = record {
+    BreaksOff e orders_are One Before count was now f →
+    BreaksOff e orders_are One Also count was now f
+breaks_as e orders_are One Before Also count was now f also off = record {
   mid = off.mid;
   run = off.run;
   early = off.early;
@@ -73,14 +70,13 @@ breaks_as same stands full orders_are One Before Also count was now f also off =
 }
 
 -- bits, and then some of which one broke off
-pub breaks_later : {E B : Type 0} (same : E → E → Type 0) (stands : E → Lists → Type 0) (full : E → Type 0)
-    (orders_are : B → ℕ → Orders → Type 0)
+pub breaks_later : {E B : Type 0} (e : Ends E) (orders_are : B → ℕ → Orders → Type 0)
     (One More : ℕ → Moment E B → Moment E B → Type 0) (Before : Moment E B → Type 0) (was mid now : Moment E B)
     (m left count : ℕ) (f : BusFault) → m + left ≤ count →
     ((k : ℕ) (x y : Moment E B) → More k x y → One (m + k) x y) → AreBits One Before was m mid →
-    BreaksOff same stands full orders_are More Before left mid now f →
-    BreaksOff same stands full orders_are One Before count was now f
-breaks_later same stands full orders_are One More Before was mid now m left count f most later bits off =
+    BreaksOff e orders_are More Before left mid now f →
+    BreaksOff e orders_are One Before count was now f
+breaks_later e orders_are One More Before was mid now m left count f most later bits off =
     let early = off.early in record {
       mid = off.mid;
       run = m + off.run;
@@ -94,14 +90,13 @@ breaks_later same stands full orders_are One More Before was mid now m left coun
 
 module _ {E B : Type 0} (e : Ends E) (b : Ports B) where
   -- links and ports for the nodes stay such
-  pub still_for : ((x y : E) → e.same x y → e.link y ≡ e.link x) → (was now : Moment E B) → Keeps e b was now →
-      AreFor e.link was.links (length was.bus.journals) (b.ports was.board) →
-      AreFor e.link now.links (length now.bus.journals) (b.ports now.board)
-  still_for same_link was now keeps are =
-      let nodes = keeps.nodes in let count = are.count in let ports = are.ports in let boards = keeps.others.0 in
-      let len = each_length e.same was.links now.links keeps.sames in record {
-        count = omega (arith, nodes, count, len);
-        ids = numbered_kept e.link e.same same_link was.links now.links keeps.sames are.ids;
+  pub still_for : ((x y : E) → e.same x y → e.node y ≡ e.node x) → (was now : Moment E B) → Keeps e b was now →
+      AreFor e.node was.links (length was.bus.journals) (b.ports was.board) →
+      AreFor e.node now.links (length now.bus.journals) (b.ports now.board)
+  still_for same_node was now keeps are =
+      let nodes = keeps.nodes in let ports = are.ports in let boards = keeps.others.0 in record {
+        ends = ends_kept e.node e.same same_node was.links now.links (length was.bus.journals)
+            (length now.bus.journals) nodes keeps.sames are.ends;
         ports = omega (arith, nodes, ports, boards);
       }
 
@@ -143,8 +138,7 @@ module _ {E B : Type 0} (e : Ends E) (b : Ports B) where
   stopped_as Before Also count was now f also stops = record {
     keeps = stops.keeps;
     fault = stops.fault;
-    reason = breaks_as e.same e.stands e.full b.orders_are (λ k. OneBit e b) Before Also count was now f also
-        stops.reason;
+    reason = breaks_as e b.orders_are (λ k. OneBit e b) Before Also count was now f also stops.reason;
   }
 
   -- none so far

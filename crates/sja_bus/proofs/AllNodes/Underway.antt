@@ -1,7 +1,8 @@
 -- One node more of a bus has its bit.
-use Rattle.std.proofs.Common.{◌≡◌, ◌≢◌, ℕ, ◌+◌, ◌*◌, ◌<◌, Bool, List, length, refl, sym, ◌∙◌, subst, arith}
+use Rattle.std.proofs.Common.{◌≡◌, ◌≢◌, ℕ, ◌+◌, ◌<◌, Bool, List, [], ◌∷◌, length, refl, sym, ◌∙◌, subst, arith}
 use Rattle.std.specs.Prelude.{slice_index_or, slice_set}
 use Rattle.std.proofs.Math.ListN.{length-set}
+use Rattle.std.proofs.lemmas.List.{set-get_or}
 use Rattle.can_bits.specs.declared.level.Level.{Level}
 use Rattle.sja_link.specs.Lists.{Lists}
 use Rattle.sja_link.specs.declared.bus_end.BusEnd.{Ghosts as Ends}
@@ -19,7 +20,7 @@ use Rattle.sja_bus.proofs.ItemsTaken.Refusing.{rooms_one}
 use Rattle.sja_bus.proofs.AtPorts.TurnsTold.{turns_by}
 
 -- none had it
-pub underway_none : {E B : Type 0} (same : E → E → Type 0) (stands : E → Lists → Type 0) → ((x : E) → same x x) →
+pub underway_none : {E B : Type 0} (same : E → E → Type 0) (stands : E → ℕ → Lists → Type 0) → ((x : E) → same x x) →
     (ports : B → ℕ) (told : B → B → ℕ → BusTurn → Type 0) (kept : B → B → ℕ → Type 0) → ((a : B) (m : ℕ) → kept a a m) →
     (struck : StruckNodes) (level : Level) (seats : List Seat) (links : List E) (board : B) → AreReady seats →
     IsUnderway same stands ports told kept struck level seats links board 0 seats links board
@@ -34,20 +35,21 @@ underway_none same stands same_refl ports told kept kept_refl struck level seats
 }
 
 -- one more had it
-pub underway_one : {E B : Type 0} (e : Ends E) (b : Ports B) →
+pub underway_one : {E B : Type 0} (e : Ends E) (b : Ports B) → ((x : E) → e.same x x) →
     ((x y z : E) → e.same x y → e.same y z → e.same x z) →
     ((x y z : B) (m : ℕ) → b.kept x y m → b.kept y z m → b.kept x z m) →
     ((x y z : B) (m : ℕ) (t : BusTurn) → b.told x y m t → b.kept y z m → b.told x z m t) →
     ((x y z : B) (m : ℕ) (t : BusTurn) → b.kept x y m → b.told y z m t → b.told x z m t) →
-    (struck : StruckNodes) (level seen : Level) (before seats : List Seat) (given links after : List E)
-    (was board now : B) (k : ℕ) {told : Bool} (s new : Seat) → k < length seats → seen ≡ seen_by struck level k →
-    KeepsInBit e b (slice_index_or seats k s) new links after board now →
-    HadBit e b told seen (slice_index_or seats k s) new links after (64 * k) board now →
+    (struck : StruckNodes) (level seen : Level) (before seats : List Seat) (given links : List E)
+    (was board now : B) (k : ℕ) {told : Bool} (s new : Seat) (d end : E) → k < length seats → k < length links →
+    seen ≡ seen_by struck level k →
+    KeepsInBit e b (slice_index_or seats k s) new (slice_index_or links k d) end board now →
+    HadBit e b told seen (slice_index_or seats k s) new (slice_index_or links k d) end board now →
     IsUnderway e.same e.stands b.ports b.told b.kept struck level before given was k seats links board →
-    IsUnderway e.same e.stands b.ports b.told b.kept struck level before given was (k + 1) (slice_set seats k new) after
-    now
-underway_one e b same_trans kept_trans told_first told_last struck level seen before seats given links after was board
-    now k s new here sees keeps had u =
+    IsUnderway e.same e.stands b.ports b.told b.kept struck level before given was (k + 1) (slice_set seats k new)
+    (slice_set links k end) now
+underway_one e b same_refl same_trans kept_trans told_first told_last struck level seen before seats given links was
+    board now k s new d end here near sees keeps had u =
     let old = slice_index_or seats k s in
     let n : (link_of old.ledger).node ≡ k = (u.ready k s here).own in
     let count = u.count in
@@ -59,8 +61,8 @@ underway_one e b same_trans kept_trans told_first told_last struck level seen be
     let far : (m : ℕ) → m ≢ k → b.kept board now m = λ m ne. keeps.others m (λ is. ne (is ∙ n)) in record {
       ready = ready_one seats k new here u.ready (record { ready = had.ready; own = keeps.stays.node ∙ n });
       count = length-set seats k new ∙ u.count;
-      goes = goes_all_one e.same e.stands same_trans before seats given links after k s new here u.count u.goes
-          had.goes;
+      goes = goes_all_one e.same e.stands same_refl same_trans before seats given links k s new d end here near u.count
+          u.goes had.goes;
       rooms = λ m h. rooms_one m seats k s new here keeps.stays.room (u.rooms m h);
       done = done_one (SeatTurns (b.told was now) (b.kept was now) struck level) k before seats s new
           (omega (arith, here, count)) u.count turned
@@ -72,8 +74,33 @@ underway_one e b same_trans kept_trans told_first told_last struck level seen be
       others = λ m l. kept_trans was board now m (u.others m (omega (arith, l))) (far m (omega (arith, l)));
     }
 
+-- one more had it, in which its end was as it is
+pub underway_still : {E B : Type 0} (e : Ends E) (b : Ports B) → ((x : E) → e.same x x) →
+    ((x y z : E) → e.same x y → e.same y z → e.same x z) →
+    ((x y z : B) (m : ℕ) → b.kept x y m → b.kept y z m → b.kept x z m) →
+    ((x y z : B) (m : ℕ) (t : BusTurn) → b.told x y m t → b.kept y z m → b.told x z m t) →
+    ((x y z : B) (m : ℕ) (t : BusTurn) → b.kept x y m → b.told y z m t → b.told x z m t) →
+    (struck : StruckNodes) (level seen : Level) (before seats : List Seat) (given links : List E)
+    (was board now : B) (k : ℕ) {told : Bool} (s new : Seat) → k < length seats → k < length links →
+    seen ≡ seen_by struck level k →
+    ((end : E) → KeepsInBit e b (slice_index_or seats k s) new end end board now) →
+    ((end : E) → HadBit e b told seen (slice_index_or seats k s) new end end board now) →
+    IsUnderway e.same e.stands b.ports b.told b.kept struck level before given was k seats links board →
+    IsUnderway e.same e.stands b.ports b.told b.kept struck level before given was (k + 1) (slice_set seats k new)
+    links now
+underway_still e b same_refl same_trans kept_trans told_first told_last struck level seen before seats given [] was
+    board now k s new here near sees keeps had u = absurd (omega (arith, near))
+underway_still {E} {B} e b same_refl same_trans kept_trans told_first told_last struck level seen before seats given
+    (x ∷ rest) was board now k s new here near sees keeps had u =
+    let links = x ∷ rest in let end = slice_index_or links k x in
+    let U : List E → Type 0 = λ l. IsUnderway e.same e.stands b.ports b.told b.kept struck level before given was
+    (k + 1) (slice_set seats k new) l now in
+    subst U (set-get_or links k x)
+    (underway_one e b same_refl same_trans kept_trans told_first told_last struck level seen before seats given links
+    was board now k s new x end here near sees (keeps end) (had end) u)
+
 -- the same where seats, links and board are equal to those
-pub underway_at : {E B : Type 0} (same : E → E → Type 0) (stands : E → Lists → Type 0) (ports : B → ℕ)
+pub underway_at : {E B : Type 0} (same : E → E → Type 0) (stands : E → ℕ → Lists → Type 0) (ports : B → ℕ)
     (told : B → B → ℕ → BusTurn → Type 0) (kept : B → B → ℕ → Type 0) (struck : StruckNodes) (level : Level)
     (before seats then : List Seat) (given links : List E) (was board : B) (k : ℕ) → then ≡ seats →
     links ≡ given → board ≡ was →

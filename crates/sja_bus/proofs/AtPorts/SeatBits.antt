@@ -1,5 +1,5 @@
 -- One bit of a controller, at its links and its port.
-use Rattle.std.proofs.Common.{◌≡◌, ◌+◌, ℕ, Bool, true, false, List, refl, sym, ap, ◌∙◌, subst, inl, inr}
+use Rattle.std.proofs.Common.{◌≡◌, ◌+◌, ℕ, Bool, true, false, refl, sym, ap, ◌∙◌, subst, inl, inr}
 use Rattle.can_node.specs.declared.bit_events.BitEvents.{BitEvents}
 use Rattle.can_node.specs.Stands.{Samples, nothing}
 use Rattle.sja_link.specs.Inside.Moving.{Goes}
@@ -13,7 +13,6 @@ use Rattle.can_bits.specs.declared.level.Level.{Level}
 use Rattle.sja_link.specs.declared.bus_end.BusEnd.{Ghosts as Ends}
 use Rattle.sja_link.specs.declared.entry.Entry.TheVariants.{Bit}
 use Rattle.sja_link.specs.BusLedgers.{link_of}
-use Rattle.lemmas.proofs.Related.{each_refl}
 use Rattle.sja_link.proofs.Growing.Moving.{goes_quiet}
 use Rattle.sja_bus.specs.declared.board.Board.{Ghosts as Ports}
 use Rattle.sja_bus.specs.declared.seat.Seat.{Seat}
@@ -25,16 +24,16 @@ use Rattle.sja_bus.proofs.AtPorts.TurnsTold.{full_turns, idle_bit, idle_turn, la
 
 -- something may have happened, and its port was told, or passed over where it is told that nothing did
 pub had_fully : {E B : Type 0} (e : Ends E) (b : Ports B) → ((x : B) (m : ℕ) → b.kept x x m) → (told : Bool)
-    (seen : Level) (old s : Seat) (outcome : BitOutcome) (turn stands : BusTurn) (links after : List E) (base : ℕ)
-    (board now : B) → IsReady old → IsReady (record s { untold = Nothing }) →
-    Goes e.same e.stands old.journal.entries s.journal.entries links after base → s.untold ≡ old.untold →
+    (seen : Level) (old s : Seat) (outcome : BitOutcome) (turn stands : BusTurn) (end after : E) (board now : B) →
+    IsReady old → IsReady (record s { untold = Nothing }) →
+    Goes e.same e.stands end after old.journal.entries s.journal.entries → s.untold ≡ old.untold →
     Samples old.node s.node seen outcome.events → Brings old.journal.entries old.drives seen outcome s.journal.entries →
     (place_of s.journal.entries).activation ≡ s.ended + open_in s.activity →
     TurnOf s outcome.events outcome.overrun turn → (old.untold ≡ Nothing → SaysAlone old.journal.entries stands) →
     TellsTurn (b.told board now (link_of old.ledger).node) board now s stands told turn →
-    HadBit e b told seen old (record s { untold = Nothing }) links after base board now
+    HadBit e b told seen old (record s { untold = Nothing }) end after board now
 unfolding full_turns
-had_fully {B = B} e b kept_refl true seen old s outcome turn stands links after base board now was ready goes untold
+had_fully {B = B} e b kept_refl true seen old s outcome turn stands end after board now was ready goes untold
     samples brings begun t alone tells =
     let node = (link_of old.ledger).node in
     let turns = full_turns (b.told board now node) (b.kept board now node) seen old s outcome turn
@@ -51,7 +50,7 @@ had_fully {B = B} e b kept_refl true seen old s outcome turn stands links after 
       );
       no = λ wrong. absurd cc;
     }
-had_fully {B = B} e b kept_refl false seen old s outcome turn stands links after base board now was ready goes untold
+had_fully {B = B} e b kept_refl false seen old s outcome turn stands end after board now was ready goes untold
     samples brings begun t alone tells =
     let node = (link_of old.ledger).node in let none = tells.no refl in
     let calm : old.untold ≡ Nothing = sym untold ∙ none.1 in
@@ -73,25 +72,24 @@ had_fully {B = B} e b kept_refl false seen old s outcome turn stands links after
       );
     }
 
--- nothing happened: links and ports are as they were
+-- nothing happened: the end and the ports are as they were
 module _ {E B : Type 0} (e : Ends E) (b : Ports B) (same_refl : (x : E) → e.same x x)
     (kept_refl : (x : B) (m : ℕ) → b.kept x x m) where
-  pub keeps_quiet : (old new : Seat) (links : List E) (board : B) →
+  pub keeps_quiet : (old new : Seat) (end : E) (board : B) →
       (link_of new.ledger).node ≡ (link_of old.ledger).node → new.journal.room ≡ old.journal.room →
-      KeepsInBit e b old new links links board board
-  keeps_quiet old new links board node room = record {
-    stays = record { sames = each_refl e.same same_refl links; node = node; room = room };
+      KeepsInBit e b old new end end board board
+  keeps_quiet old new end board node room = record {
+    stays = record { is_same = same_refl end; node = node; room = room };
     ports = refl;
     others = λ k far. kept_refl board k;
   }
 
-  pub had_quiet : (seen : Level) (old new : Seat) (links : List E) (base : ℕ) (board : B) → IsReady old → IsReady new →
-      IsQuietBit seen old new →
-      HadBit e b false seen old new links links base board board
-  had_quiet seen old new links base board was ready quiet =
+  pub had_quiet : (seen : Level) (old new : Seat) (end : E) (board : B) → IsReady old → IsReady new →
+      IsQuietBit seen old new → HadBit e b false seen old new end end board board
+  had_quiet seen old new end board was ready quiet =
       let node = (link_of old.ledger).node in record {
         ready = ready;
-        goes = rw quiet.whole (goes_quiet e.same e.stands same_refl old.journal.entries (Bit old.drives seen) links base
+        goes = rw quiet.whole (goes_quiet e.same e.stands same_refl end old.journal.entries (Bit old.drives seen)
             (λ l. refl));
         turns = quiet_turns (b.told board board node) (b.kept board board node) seen old new (kept_refl board node) was
             quiet;

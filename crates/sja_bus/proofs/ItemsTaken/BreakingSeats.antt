@@ -1,13 +1,16 @@
 -- How a bus breaks off, seat after seat.
-use Rattle.std.proofs.Common.{◌≡◌, ℕ, true, ◌+◌, ◌*◌, ◌<◌, Option, List, [], ◌∷◌, length, inl, inr, sym}
+use Rattle.std.proofs.Common.{◌≡◌, ℕ, zero, suc, true, ◌+◌, ◌<◌, Option, List, [], ◌∷◌, length, inl, inr, sym}
 use Rattle.std.proofs.Common.{ap, ◌∙◌, subst, arith}
 use Rattle.std.specs.Prelude.{◌⊎◌, slice_index_or, slice_set}
+use Rattle.std.proofs.lemmas.Slice.Zip.{AllZip-long as each_length}
 use Rattle.std.proofs.lemmas.List.{get_or-set_same as set_here, get_or_default as or_same}
 use Rattle.sja_regs.specs.declared.orders.Orders.{Orders}
 use Rattle.sja_script.specs.declared.strike.Strike.{Strike}
 use Rattle.sja_link.specs.declared.entry.Entry.{Entry}
 use Rattle.sja_link.specs.declared.entry.Entry.TheVariants.{Abort}
+use Rattle.lemmas.specs.Related.{EachRelated}
 use Rattle.sja_link.specs.Written.{Room, IsFullFor}
+use Rattle.sja_link.specs.declared.bus_end.BusEnd.{Ghosts as Ends}
 use Rattle.sja_link.specs.Lists.{Lists}
 use Rattle.sja_link.specs.BusLedgers.{link_of}
 use Rattle.sja_wire.specs.declared.bus_fault.BusFault.{BusFault}
@@ -21,6 +24,7 @@ use Rattle.sja_link.specs.BitEntries.{MayHaveItems}
 use Rattle.sja_wire.specs.Reasons.{IsBrokenFor, IsTakenAndRefused, IsNotAborted, IsBrokenOff, StopsBit, room_for}
 use Rattle.sja_wire.specs.Reasons.StopsBit.{not_taken as not_taken_bit, not_aborted as not_aborted_bit}
 use Rattle.sja_wire.specs.Reasons.StopsBit.{broken_off as broken_off_bit}
+use Rattle.sja_bus.specs.Inside.SeatBits.{BreaksInBit}
 use Rattle.sja_bus.specs.Inside.Taking.{FullForAbort}
 use Rattle.sja_bus.specs.Inside.Refusing.{HaveRoom, SeatRefuses, SeatFull, SeatBreaks, SeatStops}
 use Rattle.sja_bus.specs.Inside.Rows.{AreReady, GoesAll, Done, journals_of, untold_of}
@@ -29,30 +33,43 @@ use Rattle.sja_bus.proofs.ItemsTaken.Refusing.{not_taken}
 use Rattle.sja_bus.proofs.AllNodes.Running.{journal_is, count_is}
 use Rattle.sja_bus.proofs.ItemsTaken.Breaking.{broken_from}
 
-pub full_seat : {E : Type 0} (same : E → E → Type 0) (stands : E → Lists → Type 0) (orders_are : ℕ → Orders → Type 0)
-    (R : ℕ → Seat → Seat → Type 0) (seats now : List Seat) (links here after : List E) (k : ℕ)
-    (s new : Seat) (f : BusFault) →
-    k < length seats → length now ≡ length seats → AreReady now →
-    GoesAll same stands seats now links here → Done R k seats now →
+-- two lists of related ends, at one place
+each_pair : {E : Type 0} (same : E → E → Type 0) (links here : List E) (k : ℕ) (d : E) → EachRelated same links here →
+    k < length here → same (slice_index_or links k d) (slice_index_or here k d)
+each_pair same [] [] k d p few = absurd (omega (arith, few))
+each_pair same [] (y ∷ here) k d p few = absurd p
+each_pair same (x ∷ links) [] k d p few = absurd p
+each_pair same (x ∷ links) (y ∷ here) zero d p few = p.0
+each_pair same (x ∷ links) (y ∷ here) (suc k) d p few = each_pair same links here k d p.1 (omega (arith, few))
+
+pub full_seat : {E : Type 0} (same : E → E → Type 0) (stands : E → ℕ → Lists → Type 0)
+    (orders_are : ℕ → Orders → Type 0) (R : ℕ → Seat → Seat → Type 0) (seats now : List Seat) (links here : List E)
+    (k : ℕ) (s new : Seat) (d end : E) (f : BusFault) → k < length seats → k < length here →
+    length now ≡ length seats → AreReady now → GoesAll same stands seats now links here → Done R k seats now →
     FullForAbort stands (orders_are (link_of (slice_index_or now k s).ledger).node) (slice_index_or now k s)
-    new here after (64 * k) f →
-    SeatFull stands orders_are seats (slice_set now k new) links after f
-full_seat {E} same stands orders_are R seats now links here after k s new f few len ready goes done r =
+    new (slice_index_or here k d) end f →
+    SeatFull stands orders_are seats (slice_set now k new) links (slice_set here k end) f
+full_seat {E} same stands orders_are R seats now links here k s new d end f few there len ready goes done r =
     let near : k < length now = omega (arith, few, len) in
-    let own = (ready k s near).own in record {
+    let own = (ready k s near).own in let given = slice_index_or links k d in
+    let there_too : k < length links = omega (arith, there, each_length same links here goes.sames) in record {
       node = k;
       few = few;
       is = r.is ∙ ap (λ n. JournalFull n) own;
+      end = given;
+      is_end = λ b. or_same links k b d there_too;
+      end_after = end;
+      is_after = λ b. set_here here k end b there;
       full = λ t.
           let same_seat : slice_index_or now k s ≡ slice_index_or seats k t = or_same now k s t near
           ∙ (done k t few).1 (omega arith) in
           let this : slice_index_or now k t ≡ slice_index_or seats k t = (done k t few).1 (omega arith) in
-          let P : Seat → Type 0 = λ x. FullForAbort stands (orders_are k) x new here after (64 * k) f in
-          let Q : Seat → Type 0 = λ x. FullForAbort stands (orders_are k) (slice_index_or seats k t) x
-          links after (64 * k) f in
+          let was = slice_index_or seats k t in
           let O : ℕ → Type 0 = λ n. FullForAbort stands (orders_are n) (slice_index_or now k s) new
-          here after (64 * k) f in
-          let q : FullForAbort stands (orders_are k) (slice_index_or seats k t) new here after (64 * k) f =
+          (slice_index_or here k d) end f in
+          let P : Seat → Type 0 = λ x. FullForAbort stands (orders_are k) x new (slice_index_or here k d) end f in
+          let Q : Seat → Type 0 = λ x. FullForAbort stands (orders_are k) was x given end f in
+          let q : FullForAbort stands (orders_are k) was new (slice_index_or here k d) end f =
           subst P same_seat (subst O own r) in
           subst Q (sym (set_here now k new t near)) (record {
             is = q.is;
@@ -62,52 +79,55 @@ full_seat {E} same stands orders_are R seats now links here after k s new f few 
             ordered = q.ordered;
             due = q.due;
             full = q.full;
-            kept = λ h was. q.kept h (subst (λ (x : Seat). Kept stands x.journal.entries here (64 * k) h) this
-                (goes.kept k t h few was));
+            kept = λ h kept. q.kept h (subst (λ (x : Seat). Kept stands x.journal.entries (slice_index_or here k d) h)
+                this (goes.kept k t d h few kept));
           });
     }
 
-pub breaks_seat : {E : Type 0} (same : E → E → Type 0) (stands : E → Lists → Type 0) (full : E → Type 0)
-    (R : ℕ → Seat → Seat → Type 0) (seats now : List Seat) (links here : List E) (k : ℕ) (s new : Seat) (f : BusFault) →
-    ((a : E) → same a a) → ((a b c : E) → same a b → same b c → same a c) → k < length seats →
-    length now ≡ length seats → AreReady now → GoesAll same stands seats now links here → Done R k seats now →
-    IsBrokenFor same stands full (link_of (slice_index_or now k s).ledger).node (slice_index_or now k s).journal.room
-    (slice_index_or now k s).journal.entries new.journal.entries here (64 * k) f →
-    SeatBreaks same stands full seats (slice_set now k new) links f
-breaks_seat {E} same stands full R seats now links here k s new f itself trans few len ready goes done r =
+pub breaks_seat : {E : Type 0} (e : Ends E) → ((x y z : E) → e.same x y → e.same y z → e.same x z) →
+    (R : ℕ → Seat → Seat → Type 0) (seats now : List Seat) (links here : List E) (k : ℕ) (s new : Seat) (d : E)
+    (f : BusFault) → k < length seats → k < length here → length now ≡ length seats → AreReady now →
+    GoesAll e.same e.stands seats now links here → Done R k seats now →
+    BreaksInBit e (slice_index_or now k s) new (slice_index_or here k d) f →
+    SeatBreaks e seats (slice_set now k new) links f
+breaks_seat {E} e same_trans R seats now links here k s new d f few there len ready goes done r =
     let near : k < length now = omega (arith, few, len) in
     let own = (ready k s near).own in
-    let N : ℕ → Type 0 = λ n. IsBrokenFor same stands full n (slice_index_or now k s).journal.room
-    (slice_index_or now k s).journal.entries new.journal.entries here (64 * k) f in record {
+    let N : ℕ → Type 0 = λ n. IsBrokenFor e n (slice_index_or now k s).journal.room
+    (slice_index_or now k s).journal.entries new.journal.entries (slice_index_or here k d) f in
+    let given = slice_index_or links k d in
+    let there_too : k < length links = omega (arith, there, each_length e.same links here goes.sames) in record {
       node = k;
       few = few;
+      end = given;
+      is_end = λ b. or_same links k b d there_too;
       broken = λ t.
           let same_seat : slice_index_or now k s ≡ slice_index_or seats k t = or_same now k s t near
           ∙ (done k t few).1 (omega arith) in
           let this : slice_index_or now k t ≡ slice_index_or seats k t = (done k t few).1 (omega arith) in
           let was = slice_index_or seats k t in
-          let P : Seat → Type 0 = λ x. IsBrokenFor same stands full k x.journal.room x.journal.entries
-          new.journal.entries here (64 * k) f in
-          let Q : Seat → Type 0 = λ x. IsBrokenFor same stands full k was.journal.room was.journal.entries
-          x.journal.entries links (64 * k) f in
+          let P : Seat → Type 0 = λ x. IsBrokenFor e k x.journal.room x.journal.entries new.journal.entries
+          (slice_index_or here k d) f in
+          let Q : Seat → Type 0 = λ x. IsBrokenFor e k was.journal.room was.journal.entries x.journal.entries given
+          f in
           subst Q (sym (set_here now k new t near))
-          (broken_from same stands full k was.journal.room was.journal.entries new.journal.entries links here (64 * k) f
-          itself trans goes.sames
-          (λ h kept. subst (λ (x : Seat). Kept stands x.journal.entries here (64 * k) h) this (goes.kept k t h few
-          kept))
+          (broken_from e same_trans k was.journal.room was.journal.entries new.journal.entries given
+          (slice_index_or here k d) f (each_pair e.same links here k d goes.sames there)
+          (λ h kept. subst (λ (x : Seat). Kept e.stands x.journal.entries (slice_index_or here k d) h) this
+          (goes.kept k t d h few kept))
           (subst P same_seat (subst N own r)));
     }
 
 -- ---- by the journals of all
 
-pub not_aborted : {E : Type 0} (stands : E → Lists → Type 0) (orders_are : ℕ → Orders → Type 0) (bits : ℕ)
+pub not_aborted : {E : Type 0} (stands : E → ℕ → Lists → Type 0) (orders_are : ℕ → Orders → Type 0) (bits : ℕ)
     (steps : List ℕ) (seats after : List Seat) (links links_after : List E) (f : BusFault) → length after ≡ length seats
     →
     HaveRoom (room_for bits steps) seats → SeatFull stands orders_are seats after links links_after f →
     IsNotAborted stands orders_are bits steps (journals_of seats) (journals_of after) links links_after f
 not_aborted stands orders_are bits steps [] after links links_after f len rooms r = let none = r.few in
     absurd (omega (arith, none))
-not_aborted stands orders_are bits steps (s ∷ seats) after links links_after f len rooms r =
+not_aborted {E} stands orders_are bits steps (s ∷ seats) after links links_after f len rooms r =
     let all = s ∷ seats in let cb = count_is all in let k = r.node in let few = r.few in
     let full = r.full s in let room = rooms k s few in
     let was = journal_is all k s few in let now = journal_is after k s (omega (arith, few, len)) in
@@ -124,52 +144,53 @@ not_aborted stands orders_are bits steps (s ∷ seats) after links links_after f
       ordered = full.ordered;
       due = let D : List Entry → Type 0 = λ j. IsApplied j true in subst D (sym now) full.due;
       full = subst F (sym now) (subst R room full.full);
-      kept = λ h kept.
-          let K : List Entry → Type 0 = λ j. Kept stands j links (64 * k) h in
-          let L : List Entry → Type 0 = λ j. Kept stands j links_after (64 * k) h in
-          subst L (sym now) (full.kept h (subst K was kept));
+      kept = λ d h kept.
+          let K : List Entry → Type 0 = λ j. Kept stands j (slice_index_or links k d) h in
+          let L : List Entry → Type 0 = λ j. Kept stands j (slice_index_or links_after k d) h in
+          let A : E → Type 0 = λ x. Kept stands (slice_index_or after k s).journal.entries x h in
+          let B : E → Type 0 = λ x. Kept stands (slice_index_or all k s).journal.entries x h in
+          subst L (sym now) (subst A (sym (r.is_after d)) (full.kept h (subst B (r.is_end d) (subst K was kept))));
     }
 
-pub broken_off : {E : Type 0} (same : E → E → Type 0) (stands : E → Lists → Type 0) (full : E → Type 0)
-    (orders_are : ℕ → Orders → Type 0) (bits : ℕ) (steps : List ℕ) (seats after : List Seat) (links : List E)
-    (f : BusFault) → length after ≡ length seats → HaveRoom (room_for bits steps) seats →
-    SeatStops same stands full orders_are seats after links f →
-    IsBrokenOff same stands full orders_are bits steps (journals_of seats) (journals_of after) links f
-broken_off same stands full orders_are bits steps [] after links f len rooms r = let none = r.breaks.few in let c =
-    r.count in
+pub broken_off : {E : Type 0} (e : Ends E) (orders_are : ℕ → Orders → Type 0) (bits : ℕ) (steps : List ℕ)
+    (seats after : List Seat) (links : List E) (f : BusFault) → length after ≡ length seats →
+    HaveRoom (room_for bits steps) seats → SeatStops e orders_are seats after links f →
+    IsBrokenOff e orders_are bits steps (journals_of seats) (journals_of after) links f
+broken_off e orders_are bits steps [] after links f len rooms r = let none = r.breaks.few in let c = r.count in
     absurd (omega (arith, none, c))
-broken_off same stands full orders_are bits steps (s ∷ seats) after links f len rooms r =
+broken_off e orders_are bits steps (s ∷ seats) after links f len rooms r =
     let all = s ∷ seats in let cb = count_is all in let k = r.breaks.node in let there =
     r.breaks.few in let c = r.count in
     let few : k < length all = omega (arith, there, c) in
     let opened = slice_index_or r.opened k s in
     let was = journal_is all k s few in let now = journal_is after k s (omega (arith, few, len)) in
     let P : List Entry → Type 0 = λ j. Opens (orders_are k) j opened.journal.entries in
-    let N : Room → Type 0 = λ n. IsBrokenFor same stands full k n opened.journal.entries
-    (slice_index_or after k s).journal.entries r.between (64 * k) f in
-    let Q : List Entry → Type 0 = λ j. IsBrokenFor same stands full k (room_for bits steps k) opened.journal.entries j
-    r.between (64 * k) f in record {
+    let N : Room → Type 0 = λ n. IsBrokenFor e k n opened.journal.entries (slice_index_or after k s).journal.entries
+    r.breaks.end f in
+    let Q : List Entry → Type 0 = λ j. IsBrokenFor e k (room_for bits steps k) opened.journal.entries j r.breaks.end
+    f in record {
       node = k;
       few = omega (arith, few, cb);
       opened = opened.journal.entries;
       between = r.between;
       sames = r.goes.sames;
       opens = subst P (sym was) (r.opens k s few);
-      kept = λ h kept. let K : List Entry → Type 0 = λ j. Kept stands j links (64 * k) h in
-          r.goes.kept k s h few (subst K was kept);
+      kept = λ d h kept. let K : List Entry → Type 0 = λ j. Kept e.stands j (slice_index_or links k d) h in
+          r.goes.kept k s d h few (subst K was kept);
+      end = r.breaks.end;
+      is_end = r.breaks.is_end;
       broken = subst Q (sym now) (subst N (r.rooms (room_for bits steps) rooms k s there) (r.breaks.broken s));
     }
 
 -- and of the bus
-pub stops_bit : {E : Type 0} (same : E → E → Type 0) (stands : E → Lists → Type 0) (full : E → Type 0)
-    (orders_are : ℕ → Orders → Type 0) (script : List Strike) (steps : List ℕ) (run left bits : ℕ) (fault : Option
-    BusFault)
-    (seats after : List Seat) (links links_after : List E) (f : BusFault) (now : BusValue) →
-    now.journals ≡ journals_of after → run + left ≡ bits → length after ≡ length seats →
+pub stops_bit : {E : Type 0} (e : Ends E) (orders_are : ℕ → Orders → Type 0) (script : List Strike) (steps : List ℕ)
+    (run left bits : ℕ) (fault : Option BusFault) (seats after : List Seat) (links links_after : List E) (f : BusFault)
+    (now : BusValue) → now.journals ≡ journals_of after → run + left ≡ bits → length after ≡ length seats →
     HaveRoom (room_for bits steps) seats →
-    (SeatRefuses stands seats after links links_after f ⊎ SeatFull stands orders_are seats after links links_after f)
-    ⊎ SeatStops same stands full orders_are seats after links f →
-    StopsBit same stands full orders_are (record {
+    (SeatRefuses e.stands seats after links links_after f
+    ⊎ SeatFull e.stands orders_are seats after links links_after f)
+    ⊎ SeatStops e orders_are seats after links f →
+    StopsBit e orders_are (record {
       script = script;
       steps = steps;
       run = run;
@@ -179,30 +200,28 @@ pub stops_bit : {E : Type 0} (same : E → E → Type 0) (stands : E → Lists �
           journals_of seats;
       untold = untold_of seats;
     }) now links links_after f
-stops_bit {E} same stands full orders_are script steps run left bits fault seats after links links_after f now journals
-    all len rooms r = elim r [
+stops_bit {E} e orders_are script steps run left bits fault seats after links links_after f now journals all len rooms
+    r = elim r [
       | inl opening ↦ elim opening [
         | inl refused ↦
-            let N : ℕ → Type 0 = λ n. IsTakenAndRefused stands n steps (journals_of seats)
+            let N : ℕ → Type 0 = λ n. IsTakenAndRefused e.stands n steps (journals_of seats)
             (journals_of after) links links_after f in
-            let J : List (List Entry) → Type 0 = λ l. IsTakenAndRefused stands (run + left) steps (journals_of seats)
+            let J : List (List Entry) → Type 0 = λ l. IsTakenAndRefused e.stands (run + left) steps (journals_of seats)
             l links links_after f in
             not_taken_bit (subst J (sym journals) (subst N (sym all)
-            (not_taken stands bits steps seats after links links_after f len rooms refused)))
+            (not_taken e.stands bits steps seats after links links_after f len rooms refused)))
         | inr aborting ↦
-            let N : ℕ → Type 0 = λ n. IsNotAborted stands orders_are n steps (journals_of seats)
+            let N : ℕ → Type 0 = λ n. IsNotAborted e.stands orders_are n steps (journals_of seats)
             (journals_of after) links links_after f in
-            let J : List (List Entry) → Type 0 = λ l. IsNotAborted stands orders_are (run + left) steps (journals_of
-            seats)
-            l links links_after f in
+            let J : List (List Entry) → Type 0 = λ l. IsNotAborted e.stands orders_are (run + left) steps
+            (journals_of seats) l links links_after f in
             not_aborted_bit (subst J (sym journals) (subst N (sym all)
-            (not_aborted stands orders_are bits steps seats after links links_after f len rooms aborting)))
+            (not_aborted e.stands orders_are bits steps seats after links links_after f len rooms aborting)))
       ]
       | inr breaking ↦
           let was = journals_of seats in
-          let N : ℕ → Type 0 = λ n. IsBrokenOff same stands full orders_are n steps was (journals_of after) links f in
-          let J : List (List Entry) → Type 0 = λ l. IsBrokenOff same stands full orders_are (run + left) steps was l
-          links f in
+          let N : ℕ → Type 0 = λ n. IsBrokenOff e orders_are n steps was (journals_of after) links f in
+          let J : List (List Entry) → Type 0 = λ l. IsBrokenOff e orders_are (run + left) steps was l links f in
           broken_off_bit (subst J (sym journals) (subst N (sym all)
-          (broken_off same stands full orders_are bits steps seats after links f len rooms breaking)))
+          (broken_off e orders_are bits steps seats after links f len rooms breaking)))
     ]

@@ -1,9 +1,10 @@
 -- An item that was refused, by the links of its node and by those of all.
-use Rattle.std.proofs.Common.{◌≡◌, ℕ, suc, ◌+◌, ◌-◌, ◌*◌, ◌<◌, ◌≤◌, List, [], ◌∷◌, ◌++◌, length, inl, inr, sym, ap, ◌∙◌}
+use Rattle.std.proofs.Common.{◌≡◌, ℕ, suc, ◌+◌, ◌-◌, ◌<◌, List, [], ◌∷◌, ◌++◌, length, inl, inr, sym, ap, ◌∙◌}
 use Rattle.std.proofs.Common.{subst, arith}
 use Rattle.std.specs.Prelude.{slice_index_or, slice_set}
 use Rattle.std.proofs.Math.ListN.{length-set}
 use Rattle.std.proofs.lemmas.Bool.{cases_eq}
+use Rattle.std.proofs.lemmas.Slice.Zip.{AllZip-long as each_length}
 use Rattle.std.proofs.lemmas.List.{length-append, get_or-set_same as set_here, get_or-set_other as set_else}
 use Rattle.std.proofs.lemmas.List.{get_or_append_left, get_or_default as or_same, get_or_push}
 use Rattle.sja_link.specs.Written.{Room}
@@ -20,84 +21,82 @@ use Rattle.sja_link.specs.BitEntries.{MayHaveItems}
 use Rattle.sja_wire.specs.Reasons.{IsRefusedFor, RefusesItem, IsTakenAndRefused, room_for}
 use Rattle.sja_bus.specs.Inside.Seats.{IsSound}
 use Rattle.sja_bus.specs.Inside.Taking.{RefusesHere}
-use Rattle.sja_bus.specs.Inside.Refusing.{HaveRoom, AreFree, SeatRefuses}
+use Rattle.sja_bus.specs.Inside.Refusing.{HaveRoom, SeatRefuses}
 use Rattle.sja_bus.specs.Inside.Rows.{AreReady, GoesAll, Done, journals_of}
 use Rattle.sja_bus.proofs.AllNodes.Running.{journal_is, count_is}
 
 -- an item that the link of the activation read showed, after other items
-pub refuses_link : {E : Type 0} (same : E → E → Type 0) (stands : E → Lists → Type 0) (before : List Entry)
-    (old new : Seat) (links here : List E) (base : ℕ) (room : Room) (node : ℕ) (d z : E) (f : BusFault) →
-    old.ended < 64 → base + 64 ≤ length here → IsSound old → (link_of old.ledger).node ≡ node → old.journal.room ≡ room
-    →
-    MayHaveItems before old.journal.entries → Goes same stands before old.journal.entries links here base →
-    RefusesHere stands (slice_index_or here (base + old.ended) d) z old new f →
-    RefusesItem stands room before new.journal.entries links (slice_set here (base + old.ended) z) base node f
-refuses_link {E} same stands before old new links here base room node d z f few long sound own reserved items goes r =
+pub refuses_here : {E : Type 0} (same : E → E → Type 0) (stands : E → ℕ → Lists → Type 0) (before : List Entry)
+    (old new : Seat) (end here after : E) (room : Room) (node : ℕ) (f : BusFault) → IsSound old →
+    (link_of old.ledger).node ≡ node → old.journal.room ≡ room → MayHaveItems before old.journal.entries →
+    Goes same stands end here before old.journal.entries → RefusesHere stands here after old new f →
+    RefusesItem stands room before new.journal.entries end after node f
+refuses_here {E} same stands before old new end here after room node f sound own reserved items goes r =
     let a = old.ended in let j = old.journal.entries in
     let stopped = sound.reads.stopped in
-    let within : base + a < length here = omega (arith, few, long) in
     let P : ℕ → Type 0 = λ n. IsRefusedFor n old.journal.room j r.item f in
     let Q : Room → Type 0 = λ n. IsRefusedFor node n j r.item f in
-    let R : List Entry → Type 0 = λ l. RefusesItem stands room before l links
-    (slice_set here (base + a) z) base node f in
+    let R : List Entry → Type 0 = λ l. RefusesItem stands room before l end after node f in
     subst R (sym r.refuses.0) (record {
       item = r.item;
       why = subst Q reserved (subst P own r.refuses.1);
       items = items;
-      few = omega (arith, stopped, few);
-      shown = λ h e was.
-          let S : ℕ → Type 0 = λ n. stands (slice_index_or (slice_set here (base + a) z) (base + n) e)
-          (with_taken (account j (suc n) (h n)) r.item) in
-          subst S (sym stopped) (rw (set_here here (base + a) z e within)
-          (r.shown (account j (suc a) (h a)) (goes.kept h was a d few)));
-      others = λ h b e was near ne.
-          rw (set_else here (base + a) (base + b) z e (λ x. ne (stopped ∙ omega (arith, x))))
-          (goes.kept h was b e near);
+      shown = λ h was.
+          let S : ℕ → Type 0 = λ n. stands after (suc n) (with_taken (account j (suc n) (h n)) r.item) in
+          subst S (sym stopped) (r.shown (account j (suc a) (h a)) (goes.kept h was a));
+      others = λ h b was ne. r.others (suc b) (λ e. ne (omega (arith, e, stopped))) (account j (suc b) (h b))
+          (goes.kept h was b);
     })
 
 -- the links stood for the journal before also where they were earlier
-pub refuses_from : {E : Type 0} (stands : E → Lists → Type 0) (room : Room) (before j : List Entry)
-    (links here after : List E) (base node : ℕ) (f : BusFault) →
-    ((h : ℕ → Account) → Kept stands before links base h → Kept stands before here base h) →
-    RefusesItem stands room before j here after base node f → RefusesItem stands room before j links after base node f
-refuses_from stands room before j links here after base node f back r = record {
+pub refuses_from : {E : Type 0} (stands : E → ℕ → Lists → Type 0) (room : Room) (before j : List Entry)
+    (end here after : E) (node : ℕ) (f : BusFault) →
+    ((h : ℕ → Account) → Kept stands before end h → Kept stands before here h) →
+    RefusesItem stands room before j here after node f → RefusesItem stands room before j end after node f
+refuses_from stands room before j end here after node f back r = record {
   item = r.item;
   why = r.why;
   items = r.items;
-  few = r.few;
-  shown = λ h d was. r.shown h d (back h was);
-  others = λ h a d was. r.others h a d (back h was);
+  shown = λ h was. r.shown h (back h was);
+  others = λ h a was. r.others h a (back h was);
 }
 
 -- one of many, after those before it had their turn
-pub refuses_seat : {E : Type 0} (same : E → E → Type 0) (stands : E → Lists → Type 0) (R : ℕ → Seat → Seat → Type 0)
-    (seats now : List Seat) (links here after : List E) (k : ℕ) (s new : Seat) (f : BusFault) →
-    k < length seats → length now ≡ length seats → AreReady now →
+pub refuses_seat : {E : Type 0} (same : E → E → Type 0) (stands : E → ℕ → Lists → Type 0)
+    (R : ℕ → Seat → Seat → Type 0) (seats now : List Seat) (links here : List E) (k : ℕ) (s new : Seat) (d end : E)
+    (f : BusFault) → k < length seats → k < length here → length now ≡ length seats → AreReady now →
     GoesAll same stands seats now links here → Done R k seats now →
     RefusesItem stands (slice_index_or now k s).journal.room (slice_index_or now k s).journal.entries
-    new.journal.entries here after (64 * k) (link_of (slice_index_or now k s).ledger).node f →
-    SeatRefuses stands seats (slice_set now k new) links after f
-refuses_seat {E} same stands R seats now links here after k s new f few len ready goes done r =
+    new.journal.entries (slice_index_or here k d) end (link_of (slice_index_or now k s).ledger).node f →
+    SeatRefuses stands seats (slice_set now k new) links (slice_set here k end) f
+refuses_seat {E} same stands R seats now links here k s new d end f few there len ready goes done r =
     let near : k < length now = omega (arith, few, len) in
     let own = (ready k s near).own in
     let N : ℕ → Type 0 = λ n. RefusesItem stands (slice_index_or now k s).journal.room
-    (slice_index_or now k s).journal.entries new.journal.entries here after (64 * k) n f in
+    (slice_index_or now k s).journal.entries new.journal.entries (slice_index_or here k d) end n f in
+    let given = slice_index_or links k d in
+    let there_too : k < length links = omega (arith, there, each_length same links here goes.sames) in
     record {
       node = k;
       few = few;
+      end = given;
+      is_end = λ b. or_same links k b d there_too;
+      end_after = end;
+      is_after = λ b. set_here here k end b there;
       refuses = λ t.
           let same_seat : slice_index_or now k s ≡ slice_index_or seats k t = or_same now k s t near
           ∙ (done k t few).1 (omega arith) in
           let this : slice_index_or now k t ≡ slice_index_or seats k t = (done k t few).1 (omega arith) in
-          let P : Seat → Type 0 = λ x. RefusesItem stands x.journal.room x.journal.entries new.journal.entries
-          here after (64 * k) k f in
-          let Q : Seat → Type 0 = λ x. RefusesItem stands (slice_index_or seats k t).journal.room
-          (slice_index_or seats k t).journal.entries x.journal.entries links after (64 * k) k f in
           let was = slice_index_or seats k t in
+          let P : Seat → Type 0 = λ x. RefusesItem stands x.journal.room x.journal.entries new.journal.entries
+          (slice_index_or here k d) end k f in
+          let Q : Seat → Type 0 = λ x. RefusesItem stands was.journal.room was.journal.entries x.journal.entries given
+          end k f in
           subst Q (sym (set_here now k new t near))
-          (refuses_from stands was.journal.room was.journal.entries new.journal.entries links here after (64 * k) k f
-          (λ h kept. subst (λ (x : Seat). Kept stands x.journal.entries here (64 * k) h) this (goes.kept k t h few
-          kept))
+          (refuses_from stands was.journal.room was.journal.entries new.journal.entries given
+          (slice_index_or here k d) end k f
+          (λ h kept. subst (λ (x : Seat). Kept stands x.journal.entries (slice_index_or here k d) h) this
+          (goes.kept k t d h few kept))
           (subst P same_seat (subst N own r)));
     }
 
@@ -125,8 +124,7 @@ rooms_push n seats x is was k s few = elim (cases_eq k (length seats)) [
 ]
 
 -- the same by the journals of all
-pub not_taken : {E : Type 0} (stands : E → Lists → Type 0) (bits : ℕ) (steps : List ℕ)
-    (seats after : List Seat)
+pub not_taken : {E : Type 0} (stands : E → ℕ → Lists → Type 0) (bits : ℕ) (steps : List ℕ) (seats after : List Seat)
     (links links_after : List E) (f : BusFault) → length after ≡ length seats →
     HaveRoom (room_for bits steps) seats → SeatRefuses stands seats after links links_after f →
     IsTakenAndRefused stands bits steps (journals_of seats) (journals_of after) links links_after f
@@ -135,14 +133,17 @@ not_taken stands bits steps (s ∷ seats) after links links_after f len rooms r 
     let all = s ∷ seats in let cb = count_is all in let k = r.node in let few = r.few in
     let was = slice_index_or all k s in let now = slice_index_or after k s in
     let P : List Entry → Type 0 = λ j. RefusesItem stands (room_for bits steps k) j (journal_at (journals_of after) k)
-    links
-    links_after (64 * k) k f in
-    let Q : List Entry → Type 0 = λ j. RefusesItem stands (room_for bits steps k) was.journal.entries j links
-    links_after (64 * k) k f in
-    let N : Room → Type 0 = λ n. RefusesItem stands n was.journal.entries now.journal.entries links links_after
-    (64 * k) k f in record {
+    r.end r.end_after k f in
+    let Q : List Entry → Type 0 = λ j. RefusesItem stands (room_for bits steps k) was.journal.entries j r.end
+    r.end_after k f in
+    let N : Room → Type 0 = λ n. RefusesItem stands n was.journal.entries now.journal.entries r.end r.end_after k f in
+    record {
       node = k;
       few = omega (arith, few, cb);
+      end = r.end;
+      is_end = r.is_end;
+      end_after = r.end_after;
+      is_after = r.is_after;
       refuses = subst P (sym (journal_is all k s few)) (subst Q (sym (journal_is after k s (omega (arith, few, len))))
           (subst N (rooms k s few) (r.refuses s)));
     }

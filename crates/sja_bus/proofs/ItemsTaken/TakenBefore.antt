@@ -1,5 +1,5 @@
 -- That all was taken which the links showed right before a bit.
-use Rattle.std.proofs.Common.{◌≡◌, ℕ, suc, ◌+◌, ◌*◌, ◌<◌, Bool, true, false, Option, None, Some, List, [], ◌∷◌, ◌++◌}
+use Rattle.std.proofs.Common.{◌≡◌, ℕ, suc, ◌+◌, ◌<◌, Bool, true, false, Option, None, Some, List, [], ◌∷◌, ◌++◌}
 use Rattle.std.proofs.Common.{length, take, drop, refl, sym, ap, ◌∙◌, subst, append_assoc, append-nil, arith, inl, inr}
 use Rattle.std.specs.Prelude.{slice_index_or}
 use Rattle.std.proofs.lemmas.Bool.{cases_eq}
@@ -111,26 +111,25 @@ module _ {E : Type 0} (ends : Ends E) where
       = record {
         between = between;
         sames = goes.sames;
-        read = λ k s d few run.
+        read = λ k s d few.
             let here : k < length opened = omega (arith, few, ca) in
             let o = slice_index_or opened k s in let n = slice_index_or after k s in
             let e : o.ended ≡ n.ended =
             sym ((ro k s here).ready.sound.reads.stopped)
             ∙ sym (stops_in_bit o.journal.entries n.journal.entries _ _ (turns k s here).bit)
             ∙ (ra k s few).ready.sound.reads.stopped in
-            let P : ℕ → Type 0 = λ m. ends.dry (slice_index_or between (64 * k + m) d) in
-            let Q : ℕ → Type 0 = λ m. m < 64 in subst P e (read k s d here (subst Q (sym e) run));
-        taken = λ k s h few was a d near.
+            let P : ℕ → Type 0 = λ m. ends.dry (slice_index_or between k d) (suc m) in subst P e (read k s d here);
+        taken = λ k s d h few was a.
             let here : k < length opened = omega (arith, few, co) in
             let j = (slice_index_or seats k s).journal.entries in
             let o = (slice_index_or opened k s).journal.entries in
             let n = (slice_index_or after k s).journal.entries in
-            let end = slice_index_or between (64 * k + a) d in
+            let end = slice_index_or between k d in
             let put = put_in_opening (orders_are k) j o (suc a) (opens k s few) in
             let taken = taken_in_bit o n _ _ (suc a) (turns k s here).bit in
-            let P : _ → Type 0 = λ p. ends.stands end (record (account o (suc a) (h a)) { put = p }) in
-            let Q : _ → Type 0 = λ t. ends.stands end (record (account j (suc a) (h a)) { taken = t }) in
-            subst Q (sym taken) (subst P put (goes.kept k s h few was a d near));
+            let P : _ → Type 0 = λ p. ends.stands end (suc a) (record (account o (suc a) (h a)) { put = p }) in
+            let Q : _ → Type 0 = λ t. ends.stands end (suc a) (record (account j (suc a) (h a)) { taken = t }) in
+            subst Q (sym taken) (subst P put (goes.kept k s d h few was a));
       }
 
   -- by the journals
@@ -140,23 +139,24 @@ module _ {E : Type 0} (ends : Ends E) where
     between = t.between;
     sames = t.sames;
     shown = all_dry ends.dry after t.between ready t.read;
-    taken = λ node h few. absurd (omega arith);
+    taken = λ node d h few. absurd (omega arith);
   }
   all_takes (s ∷ seats) after links len ready t = record {
     between = t.between;
     sames = t.sames;
     shown = all_dry ends.dry after t.between ready t.read;
-    taken = λ node h few kept.
+    taken = λ node d h few kept.
         let all = s ∷ seats in let cb = count_is all in
         let near : node < length all = omega (arith, few, cb) in
         let old = (slice_index_or all node s).journal.entries in
-        let P : List Entry → Type 0 = λ j. Kept ends.stands j links (64 * node) h in
-        let Q : List Entry → Type 0 = λ j. HasTaken ends.stands old j t.between (64 * node) h in
+        let P : List Entry → Type 0 = λ j. Kept ends.stands j (slice_index_or links node d) h in
+        let Q : List Entry → Type 0 = λ j.
+        HasTaken ends.stands old j (slice_index_or t.between node d) h in
         let R : List Entry → Type 0 = λ j.
-        HasTaken ends.stands j (journal_at (journals_of after) node) t.between (64 * node) h in
+        HasTaken ends.stands j (journal_at (journals_of after) node) (slice_index_or t.between node d) h in
         subst R (sym (journal_is all node s near))
         (subst Q (sym (journal_is after node s (omega (arith, near, len))))
-        (t.taken node s h near (subst P (journal_is all node s near) kept)));
+        (t.taken node s d h near (subst P (journal_is all node s near) kept)));
   }
 
   -- as they are written back

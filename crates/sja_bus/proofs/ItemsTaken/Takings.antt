@@ -1,6 +1,7 @@
 -- An item that the bus takes, or doesn't.
-use Rattle.std.proofs.Common.{◌≡◌, ℕ, suc, ◌<◌, ◌≤◌, true, false, List, [], ◌∷◌, ◌++◌, length, inl, inr, refl, sym, ap}
-use Rattle.std.proofs.Common.{◌∙◌, subst, arith}
+use Rattle.std.proofs.Common.{◌≡◌, ℕ, suc, ◌+◌, ◌<◌, ◌≤◌, true, false, List, [], ◌∷◌, ◌++◌, inl, inr, refl, sym}
+use Rattle.std.proofs.Common.{ap, ◌∙◌, subst, arith}
+use Rattle.std.proofs.lemmas.List.{length-append}
 use Rattle.std.specs.Prelude.{Result, Ok, Err, OnOk, IfErr}
 use Rattle.can_node.specs.declared.node.Node.{Node}
 use Rattle.can_node.specs.declared.request.Request.{Request}
@@ -10,18 +11,19 @@ use Rattle.can_node.specs.Cut.{IsCut}
 use Rattle.can_node.specs.NextBit.{now_in}
 use Rattle.can_node.specs.Stands.{Requests}
 use Rattle.sja_link.specs.declared.up.Up.{Up}
-use Rattle.sja_link.specs.declared.up.Up.TheVariants.{Credit}
+use Rattle.sja_link.specs.declared.up.Up.TheVariants.{Start, Credit, Send, Stop}
 use Rattle.sja_link.specs.declared.entry.Entry.{Entry}
 use Rattle.sja_link.specs.Free.{IsFree, credit_in, bytes_in}
 use Rattle.sja_link.specs.BusLedgers.{link_of}
 use Rattle.sja_link.specs.Parts.{part, entry_at}
 use Rattle.sja_link.specs.Records.{record_of}
-use Rattle.sja_link.specs.Written.{Written, Fits, IsFullFor}
+use Rattle.sja_link.specs.Links.{stops_in, stops_of}
+use Rattle.sja_link.specs.Written.{Room, Written, Fits, IsFullFor}
 use Rattle.sja_link.proofs.JournalEntries.Entering.{of_part_later}
-use Rattle.lemmas.proofs.Gathered.{total_push}
+use Rattle.lemmas.proofs.Gathered.{total_few, total_push}
 use Rattle.sja_bus.specs.declared.activity.Activity.{Activity}
 use Rattle.sja_bus.specs.declared.activity.Activity.TheVariants.{Between, Running, Off, OffAndAsked}
-use Rattle.sja_link.specs.declared.entry.Entry.TheVariants.{Up as Item}
+use Rattle.sja_link.specs.declared.entry.Entry.TheVariants.{Bit, Up as Item, Abort, Stored, Overrun, Off as OffEntry}
 use Rattle.sja_link.specs.Places.{past, place_of}
 use Rattle.sja_wire.specs.declared.bus_fault.BusFault.{BusFault}
 use Rattle.sja_wire.specs.declared.bus_fault.BusFault.TheVariants.{JournalFull}
@@ -33,17 +35,36 @@ use Rattle.sja_bus.specs.Inside.Seats.{IsSound, IsSeat, Pays}
 use Rattle.sja_bus.specs.Inside.Taking.{Takes, Refuses, IsFull}
 use Rattle.can_node.proofs.OneCut.SameCuts.{same_now}
 use Rattle.sja_bus.proofs.Journal.OnBus.{cut_away}
-use Rattle.sja_bus.proofs.Links.Seating.{open_by}
+use Rattle.sja_bus.proofs.Links.Seating.{open_by, seat_stays}
 
--- a seat with another journal
-pub seat_entered : (s new : Seat) → new ≡ record s { journal = new.journal } → IsSeat s → IsSeat new
-seat_entered s new same h =
-    let P : Seat → Type 0 = λ x. IsSeat x in
-    subst P (sym same) (record { own = h.own; few = h.few; runs = h.runs })
+-- a seat with another journal that has as many reserved entries
+pub seat_entered : (s new : Seat) → new ≡ record s { journal = new.journal } → new.journal.room ≡ s.journal.room →
+    IsSeat s → IsSeat new
+seat_entered s new same room h =
+    seat_stays s new (ap (λ (x : Seat). (link_of x.ledger).activation) same) (ap (λ (x : Seat). x.ended) same) room h
+
+-- a stop more is no more than the journal has reserved entries
+pub stop_fits : (room : Room) (j : List Entry) (ended : ℕ) → stops_of j ≡ ended →
+    Fits room (j ++ Item Stop ∷ []) → ended + 1 ≤ room.all
+stop_fits room j ended stopped fits =
+    let few = total_few stops_in one_at_most j in let l = length-append j (Item Stop ∷ []) in
+    let all = fits.all in omega (arith, few, l, all, stopped)
+  where
+    one_at_most : (e : Entry) → stops_in e ≤ 1
+    one_at_most (Item Stop) = omega arith
+    one_at_most (Item (Start config)) = omega arith
+    one_at_most (Item (Credit n)) = omega arith
+    one_at_most (Item (Send request)) = omega arith
+    one_at_most (Bit driven seen) = omega arith
+    one_at_most Abort = omega arith
+    one_at_most (Stored m) = omega arith
+    one_at_most (Overrun m) = omega arith
+    one_at_most OffEntry = omega arith
 
 -- the entry was written
 pub takes_entered : {A X P : Type 0} (r : Result A X) (old new : Seat) (item : Up) →
-    (IsOutOfOrder old.journal.entries item → ⊥) → OnOk r P → (P → IsSound new) → IsSeat new →
+    (IsOutOfOrder old.journal.entries item → ⊥) → OnOk r P → (P → IsSound new) →
+    (Fits old.journal.room (old.journal.entries ++ Item item ∷ []) → IsSeat new) →
     (past (place_of old.journal.entries) (Item item)).activation ≡ suc old.ended →
     OnOk r ((new.journal.entries ≡ old.journal.entries ++ Item item ∷ [])
     × Fits old.journal.room (old.journal.entries ++ Item item ∷ [])) →
@@ -51,7 +72,7 @@ pub takes_entered : {A X P : Type 0} (r : Result A X) (old new : Seat) (item : U
 takes_entered (Ok a) old new item due p f seat at ok = record {
   due = due;
   sound = f p;
-  seat = seat;
+  seat = seat ok.1;
   fits = ok.1;
   stands = at;
   entered = ok.0;

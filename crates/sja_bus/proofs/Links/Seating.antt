@@ -1,15 +1,16 @@
 -- A seat by its parts.
-use Rattle.std.proofs.Common.{◌≡◌, ◌≢◌, ℕ, Bool, List, [], ◌∷◌, ◌++◌, refl, sym, ap, subst, arith}
+use Rattle.std.proofs.Common.{◌≡◌, ◌≢◌, ℕ, suc, Bool, List, [], ◌∷◌, ◌++◌, refl, sym, ap, ◌∙◌, subst, arith}
 use Rattle.can_node.specs.declared.node.Node.{Node}
 use Rattle.can_node.specs.Stands.{InReset}
 use Rattle.sja_link.specs.declared.entry.Entry.{Entry}
-use Rattle.sja_link.specs.BusLedgers.{free_in}
+use Rattle.sja_link.specs.Written.{Room}
+use Rattle.sja_link.specs.BusLedgers.{link_of, free_in}
 use Rattle.sja_bus.specs.declared.activity.Activity.{Activity}
 use Rattle.sja_bus.specs.declared.activity.Activity.TheVariants.{Between, Running, Off, OffAndAsked}
 use Rattle.sja_bus.specs.declared.seat.Seat.{Seat}
 use Rattle.sja_link.specs.Opening.{IsOpen}
 use Rattle.sja_bus.specs.Inside.Following.{Follows, FollowsBit, Reads, IsActive, open_in}
-use Rattle.sja_bus.specs.Inside.Seats.{IsSound}
+use Rattle.sja_bus.specs.Inside.Seats.{IsSound, IsSeat}
 
 -- its node, its journal and what the bus knows of them
 pub sound_by : (s : Seat) (node : Node) (j : List Entry) (ended : ℕ) (activity : Activity) (free : ℕ) → s.node ≡ node →
@@ -25,6 +26,17 @@ sound_by s node j ended activity free n e d a f follows reads =
     let V : ℕ → Type 0 = λ x. Reads s.node s.journal.entries s.ended s.activity x in record {
       follows = subst Q (sym e) (subst P (sym n) follows);
       reads = subst V (sym f) (subst U (sym a) (subst T (sym d) (subst S (sym e) (subst R (sym n) reads))));
+    }
+
+-- the ledger is of the same activation, as many have ended, and the journal has as many reserved entries
+pub seat_stays : (s new : Seat) → (link_of new.ledger).activation ≡ (link_of s.ledger).activation →
+    new.ended ≡ s.ended → new.journal.room ≡ s.journal.room → IsSeat s → IsSeat new
+seat_stays s new own ended room h =
+    let f = h.few in let m = h.most in
+    let all : new.journal.room.all ≡ s.journal.room.all = ap (λ (r : Room). r.all) room in record {
+      own = own ∙ h.own ∙ ap (λ n. suc n) (sym ended);
+      few = omega (arith, ended, all, f);
+      most = omega (arith, all, m);
     }
 
 -- an entry more

@@ -20,8 +20,9 @@ pub are_back : (was now : List Seat) (n : ℕ) → n ≡ length was → length n
 are_back was now n all len = grind (arith, common_steps)
 
 -- each link stands for the journals still, where it did so seat by seat
-pub keeps_back : {E : Type 0} (same : E → E → Type 0) (stands : E → Lists → Type 0) (was lent now : List Seat) (n : ℕ)
-    (journals : List (List Entry)) (links after : List E) → n ≡ length was → lent ≡ was → length now ≡ length lent →
+pub keeps_back : {E : Type 0} (same : E → E → Type 0) (stands : E → ℕ → Lists → Type 0) (was lent now : List Seat)
+    (n : ℕ) (journals : List (List Entry)) (links after : List E) → n ≡ length was → lent ≡ was →
+    length now ≡ length lent →
     journals_of was ≡ journals → GoesAll same stands lent now links after →
     KeepsAll stands journals (journals_of (take n (now ++ drop (length now) was))) links after
 keeps_back same stands was lent now n journals links after all is count seen goes =

@@ -70,7 +70,7 @@ module _ (s : Seat) (mid new : Node) (next : Level) (xs : List Level) (x : Level
     sound = quiet_sound (after_sending mid x xs s) (after_sending new next (xs ++ x ∷ []) s) new x x
         (is_receiving mid) sender_drives bit.samples bit.shows refl
         (grown (λ y. Bit y y) s.journal.entries xs x) refl refl refl ready.sound;
-    seat = record { own = ready.seat.own; few = ready.seat.few; runs = ready.seat.runs };
+    seat = record { own = ready.seat.own; few = ready.seat.few; most = ready.seat.most };
     drives = drives;
   }
 
@@ -96,6 +96,6 @@ module _ (s : Seat) (mid new : Node) (xs : List Level) (x : Level) (bit : ReadsB
     sound = quiet_sound (after_reading mid xs s) (after_reading new (xs ++ x ∷ []) s) new Recessive x
         (is_receiving mid) (reader_drives mid bit.drives) bit.samples bit.shows refl
         (grown (λ y. Bit Recessive y) s.journal.entries xs x) refl refl refl ready.sound;
-    seat = record { own = ready.seat.own; few = ready.seat.few; runs = ready.seat.runs };
+    seat = record { own = ready.seat.own; few = ready.seat.few; most = ready.seat.most };
     drives = let P : Level → Type 0 = λ y. DrivesNext new y in subst P (bit.stays ∙ sym drives) (drives_kept new);
   }

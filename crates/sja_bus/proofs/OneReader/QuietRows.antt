@@ -1,5 +1,5 @@
 -- Bits of all nodes in which nothing happens, one after the other.
-use Rattle.std.proofs.Common.{◌≡◌, ℕ, suc, ◌+◌, ◌-◌, ◌*◌, ◌<◌, ◌≤◌, Bool, List, [], ◌∷◌}
+use Rattle.std.proofs.Common.{◌≡◌, ℕ, suc, ◌+◌, ◌-◌, ◌<◌, ◌≤◌, Bool, List, [], ◌∷◌}
 use Rattle.std.proofs.Common.{length, refl, sym, ap, ◌∙◌, subst, arith, cond}
 use Rattle.std.specs.Prelude.{slice_index_or}
 use Rattle.std.specs.Int.{bit_at}
@@ -106,15 +106,15 @@ row_turns was_told was_kept kept to_rest seats after ready row m s few =
     quiet_turns (was_told m) (was_kept m) (seen_by nobody level m) old new (kept m) (ready m s few).ready
     (subst (λ y. IsQuietBit y old new) (seen_all level m) (row.bits m s few))
 
-row_goes : {E : Type 0} (same : E → E → Type 0) (stands : E → Lists → Type 0) → ((x : E) → same x x) →
+row_goes : {E : Type 0} (same : E → E → Type 0) (stands : E → ℕ → Lists → Type 0) → ((x : E) → same x x) →
     (to_rest : Bool) (seats after : List Seat) (links : List E) → IsQuietRow to_rest seats after →
     GoesAll same stands seats after links links
 row_goes same stands r to_rest seats after links row = record {
   sames = each_refl same r links;
-  kept = λ k s h few was.
+  kept = λ k s d h few was.
       let old = slice_index_or seats k s in let bit = Bit old.drives (wired (driven_by seats)) in
       rw (row.bits k s few).whole
-      ((goes_quiet same stands r old.journal.entries bit links (64 * k) (λ l. refl)).kept h was);
+      ((goes_quiet same stands r (slice_index_or links k d) old.journal.entries bit (λ l. refl)).kept h was);
   grows = λ k s few.
       let old = slice_index_or seats k s in
       (Bit old.drives (wired (driven_by seats)) ∷ [], (row.bits k s few).whole);

@@ -164,7 +164,7 @@ sound_after (suc n) s ready rest =
 pub ready_after : (n : ℕ) (s : Seat) → IsReady s → IsResting s → IsReady (after_bits n s)
 ready_after n s ready rest = record {
   sound = sound_after n s ready rest;
-  seat = record { own = ready.seat.own; few = ready.seat.few; runs = ready.seat.runs };
+  seat = record { own = ready.seat.own; few = ready.seat.few; most = ready.seat.most };
   drives = ready.drives;
 }
 

@@ -1,5 +1,5 @@
 -- The place of a node's next bit, by every cut of its record.
-use Rattle.std.proofs.Common.{◌≡◌, ℕ, ◌<◌, List, [], ◌∷◌, length, sym, ap, subst, arith}
+use Rattle.std.proofs.Common.{◌≡◌, ℕ, ◌<◌, List, [], length, sym, subst}
 use Rattle.std.specs.Prelude.{Option, slice_index_or}
 use Rattle.can_node.specs.declared.node.Node.{Node}
 use Rattle.can_node.specs.declared.node_place.NodePlace.{NodePlace}
@@ -18,7 +18,7 @@ use Rattle.sja_wire.specs.Wire.{journal_at}
 use Rattle.sja_bus.specs.Placing.{HasPlace}
 use Rattle.sja_bus.specs.Inside.Following.{Follows}
 use Rattle.sja_bus.specs.Inside.Rows.{AreReady, journals_of}
-use Rattle.sja_bus.proofs.AllNodes.Running.{journal_is, count_is}
+use Rattle.sja_bus.proofs.AllNodes.Running.{journal_is}
 
 place_once : (entries : List Event) (found others : List FinishedPiece) (h : IsCut entries found)
     (k : IsCut entries others) (shown : Option NodePlace) → PlaceIn h shown → PlaceIn k shown

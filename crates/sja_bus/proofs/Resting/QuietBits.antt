@@ -1,5 +1,5 @@
 -- Bits that were run at once, by the journals: after items of which none was taken, and by the links.
-use Rattle.std.proofs.Common.{◌≡◌, ℕ, zero, suc, ◌+◌, ◌*◌, ◌<◌, Bool, true, false, List, [], ◌∷◌, ◌++◌, length, refl}
+use Rattle.std.proofs.Common.{◌≡◌, ℕ, zero, suc, ◌+◌, ◌<◌, Bool, true, false, List, [], ◌∷◌, ◌++◌, length, refl}
 use Rattle.std.proofs.Common.{sym, ap, ◌∙◌, subst, append-nil, arith}
 use Rattle.std.specs.Prelude.{◌≢◌, slice_index_or, Result, Ok, Err, OnOk, IfOk}
 use Rattle.std.proofs.lemmas.List.{length-map, length-append, ext_get_or}
@@ -114,35 +114,35 @@ stops_still (suc n) j =
     let b = stops_still n j in let c = ap stops_of (one_more n j) in omega (arith, a, b, c)
 
 -- they stand for the journals still
-pub keeps_longer : {E : Type 0} (stands : E → Lists → Type 0) (n : ℕ) (before mid after : List (List Entry))
+pub keeps_longer : {E : Type 0} (stands : E → ℕ → Lists → Type 0) (n : ℕ) (before mid after : List (List Entry))
     (links links_after : List E) → length mid ≡ length before →
     after ≡ with_recessive n mid → KeepsAll stands before mid links links_after →
     KeepsAll stands before after links links_after
-keeps_longer stands n before mid after links links_after len grown keeps node h few kept =
+keeps_longer stands n before mid after links links_after len grown keeps node d h few kept =
     let is : journal_at after node ≡ journal_at mid node ++ recessive_bits n = ap (λ l. journal_at l node) grown
     ∙ longer_at n mid node (omega (arith, few, len)) in
-    let P : List Entry → Type 0 = λ j. Kept stands j links_after (64 * node) h in
+    let P : List Entry → Type 0 = λ j. Kept stands j (slice_index_or links_after node d) h in
     subst P (sym is)
-    (λ a d near. subst (λ (x : Lists). stands (slice_index_or links_after (64 * node + a) d) x)
-    (sym (account_still n (journal_at mid node) (suc a) (h a))) (keeps node h few kept a d near))
+    (λ a. subst (λ (x : Lists). stands (slice_index_or links_after node d) (suc a) x)
+    (sym (account_still n (journal_at mid node) (suc a) (h a))) (keeps node d h few kept a))
 
-pub dry_longer : {E : Type 0} (dry : E → Type 0) (n : ℕ) (mid after : List (List Entry)) (links : List E) →
+pub dry_longer : {E : Type 0} (dry : E → ℕ → Type 0) (n : ℕ) (mid after : List (List Entry)) (links : List E) →
     after ≡ with_recessive n mid → AllDry dry mid links → AllDry dry after links
-dry_longer dry n mid after links grown all node d few read =
+dry_longer dry n mid after links grown all node d few =
     let c = length-map mid (λ j. j ++ recessive_bits n) in
     let l = ap (λ (x : List (List Entry)). length x) grown in
     let near : node < length mid = omega (arith, few, c, l) in
     let is : stops_of (journal_at after node) ≡ stops_of (journal_at mid node) =
     ap (λ x. stops_of (journal_at x node)) grown ∙ ap stops_of (longer_at n mid node near)
     ∙ stops_still n (journal_at mid node) in
-    let P : ℕ → Type 0 = λ k. dry (slice_index_or links (64 * node + k) d) in
-    subst P (sym is) (all node d near (omega (arith, read, is)))
+    let P : ℕ → Type 0 = λ k. dry (slice_index_or links node d) (suc k) in
+    subst P (sym is) (all node d near)
 
 -- ---- after what was taken before it
 
 -- where it may be of no bits
 pub keeps_rest : {E : Type 0} (orders_are : ℕ → Orders → Type 0) (was_told : ℕ → BusTurn → Type 0)
-    (was_kept : ℕ → Type 0) (stands : E → Lists → Type 0) (script : List Strike) (run : ℕ) (untold : List Bool)
+    (was_kept : ℕ → Type 0) (stands : E → ℕ → Lists → Type 0) (script : List Strike) (run : ℕ) (untold : List Bool)
     (r : Result ℕ BusFault)
     (before mid after : List (List Entry)) (links links_after : List E) → length mid ≡ length before →
     (r ≡ Ok 0 → after ≡ mid) →
@@ -159,7 +159,7 @@ keeps_rest orders_are was_told was_kept stands script run untold (Err f) before 
     links_after len none h keeps = tt
 
 pub dry_rest : {E : Type 0} (orders_are : ℕ → Orders → Type 0) (was_told : ℕ → BusTurn → Type 0) (was_kept : ℕ → Type 0)
-    (dry : E → Type 0) (script : List Strike) (run : ℕ) (untold : List Bool) (r : Result ℕ BusFault)
+    (dry : E → ℕ → Type 0) (script : List Strike) (run : ℕ) (untold : List Bool) (r : Result ℕ BusFault)
     (mid after : List (List Entry)) (links : List E) → (r ≡ Ok 0 → after ≡ mid) →
     IfOk r (λ n. n ≢ 0 → IsStretch orders_are was_told was_kept script run n untold mid after) →
     AllDry dry mid links → OnOk r (AllDry dry after links)

@@ -1,10 +1,10 @@
 -- That all was taken from the links of all controllers right before a bit.
-use Rattle.std.specs.Prelude.{◌*◌, ◌<◌, ℕ, List, length, slice_index_or}
+use Rattle.std.specs.Prelude.{◌<◌, ℕ, List, length, slice_index_or}
 use Rattle.sja_link.specs.declared.bus_end.BusEnd.{Ghosts as Ends}
 use Rattle.sja_link.specs.Accounts.{Account}
 use Rattle.lemmas.specs.Related.{EachRelated}
 use Rattle.sja_bus.specs.declared.seat.Seat.{Seat}
-use Rattle.sja_link.specs.Links.{per_node, Kept}
+use Rattle.sja_link.specs.Links.{Kept}
 use Rattle.sja_bus.specs.TakingAll.{HasTaken}
 use Rattle.sja_bus.specs.Inside.Rows.{AllRead}
 
@@ -14,7 +14,7 @@ pub record RowTakesAll {E : Type 0} (e : Ends E) (seats after : List Seat) (link
   pub between : List E
   pub sames : EachRelated e.same links between
   pub read : AllRead e.dry after between
-  pub taken : (k : ℕ) (s : Seat) (h : ℕ → Account) → k < length seats →
-      Kept e.stands (slice_index_or seats k s).journal.entries links (per_node * k) h →
-      HasTaken e.stands (slice_index_or seats k s).journal.entries (slice_index_or after k s).journal.entries between
-      (per_node * k) h
+  pub taken : (k : ℕ) (s : Seat) (d : E) (h : ℕ → Account) → k < length seats →
+      Kept e.stands (slice_index_or seats k s).journal.entries (slice_index_or links k d) h →
+      HasTaken e.stands (slice_index_or seats k s).journal.entries (slice_index_or after k s).journal.entries
+      (slice_index_or between k d) h

@@ -1,11 +1,10 @@
 -- All controllers of a bus, one at each place of a list.
-use Rattle.std.specs.Prelude.{◌≡◌, ◌≢◌, ◌+◌, ◌*◌, ◌<◌, ◌≤◌, ◌==◌, ℕ, Bool}
+use Rattle.std.specs.Prelude.{◌≡◌, ◌≢◌, ◌<◌, ◌≤◌, ◌==◌, ℕ, suc, Bool}
 use Rattle.std.specs.Prelude.{if◌then◌else◌, List, length, map, slice_index_or}
 use Rattle.std.specs.Int.{bit_at}
 use Rattle.can_bits.specs.declared.level.Level.{Level}
 use Rattle.can_bits.specs.Digits.{opposite}
 use Rattle.sja_link.specs.declared.entry.Entry.{Entry}
-use Rattle.sja_link.specs.declared.link_id.LinkId.{LinkId}
 use Rattle.sja_link.specs.Lists.{Lists}
 use Rattle.sja_link.specs.Accounts.{Account}
 use Rattle.sja_link.specs.BusLedgers.{link_of}
@@ -18,7 +17,7 @@ use Rattle.sja_bus.specs.declared.port_news.PortNews.TheVariants.{Nothing, Dropp
 use Rattle.sja_bus.specs.declared.seat.Seat.{Seat}
 use Rattle.sja_bus.specs.UntilTold.{HasBitsMore}
 use Rattle.sja_wire.specs.Wire.{IsWired}
-use Rattle.sja_link.specs.Links.{per_node, Kept, Grows, Numbered}
+use Rattle.sja_link.specs.Links.{Kept, Grows, AreEnds}
 use Rattle.sja_wire.specs.Opens.{Opens}
 use Rattle.sja_link.specs.BitEntries.{MayHaveItems}
 use Rattle.sja_bus.specs.Inside.Seats.{IsReady}
@@ -32,11 +31,10 @@ pub record IsOf (s : Seat) (node : ℕ) : Type 0 where
 abbrev pub AreReady : List Seat → Type 0
 AreReady seats = (k : ℕ) (s : Seat) → k < length seats → IsOf (slice_index_or seats k s) k
 
--- at most eight seats are ready, with 64 links each, and of n ports there is one for each
-pub record AreSeated {E : Type 0} (link : E → LinkId) (seats : List Seat) (links : List E) (n : ℕ) : Type 0 where
+-- at most eight seats are ready, with an end of the links of each, and of n ports there is one for each
+pub record AreSeated {E : Type 0} (node_of : E → ℕ) (seats : List Seat) (links : List E) (n : ℕ) : Type 0 where
   pub few : length seats ≤ 8
-  pub count : length links ≡ 64 * length seats
-  pub ids : Numbered link links
+  pub ends : AreEnds node_of (length seats) links
   pub ready : AreReady seats
   pub ports : length seats ≤ n
 
@@ -87,20 +85,20 @@ abbrev pub SeatTurns : (ℕ → BusTurn → Type 0) → (ℕ → Type 0) → Str
 SeatTurns was_told was_kept struck level m old new = Turns (was_told m) (was_kept m) (seen_by struck level m) old new
 
 -- the links of each node moved with its journal, whatever its driver got and gave
-pub record GoesAll {E : Type 0} (same : E → E → Type 0) (stands : E → Lists → Type 0) (seats after : List Seat)
+pub record GoesAll {E : Type 0} (same : E → E → Type 0) (stands : E → ℕ → Lists → Type 0) (seats after : List Seat)
     (links links_after : List E) : Type 0 where
   pub sames : EachRelated same links links_after
-  pub kept : (k : ℕ) (s : Seat) (h : ℕ → Account) → k < length seats →
-      Kept stands (slice_index_or seats k s).journal.entries links (per_node * k) h →
-      Kept stands (slice_index_or after k s).journal.entries links_after (per_node * k) h
+  pub kept : (k : ℕ) (s : Seat) (d : E) (h : ℕ → Account) → k < length seats →
+      Kept stands (slice_index_or seats k s).journal.entries (slice_index_or links k d) h →
+      Kept stands (slice_index_or after k s).journal.entries (slice_index_or links_after k d) h
   pub grows : (k : ℕ) (s : Seat) → k < length seats →
       Grows (slice_index_or seats k s).journal.entries (slice_index_or after k s).journal.entries
 
 -- the link that each seat reads shows nothing
-abbrev pub AllRead : {E : Type 0} → (E → Type 0) → List Seat → List E → Type 0
+abbrev pub AllRead : {E : Type 0} → (E → ℕ → Type 0) → List Seat → List E → Type 0
 AllRead {E} dry seats links =
-    (k : ℕ) (s : Seat) (d : E) → k < length seats → (slice_index_or seats k s).ended < per_node →
-    dry (slice_index_or links (per_node * k + (slice_index_or seats k s).ended) d)
+    (k : ℕ) (s : Seat) (d : E) → k < length seats →
+    dry (slice_index_or links k d) (suc (slice_index_or seats k s).ended)
 
 -- no port is to be told anything
 abbrev pub AreTold : List Seat → Type 0

@@ -1,8 +1,7 @@
 -- Bits in which the bus takes nothing and aborts nothing.
-use Rattle.std.specs.Prelude.{◌≡◌, ◌⊎◌, ◌+◌, ◌-◌, ◌*◌, ◌<◌, ◌≤◌, ℕ, suc, true, false, Bool, None, Some, List, length}
+use Rattle.std.specs.Prelude.{◌≡◌, ◌⊎◌, ◌+◌, ◌-◌, ◌<◌, ◌≤◌, ℕ, suc, true, false, Bool, None, Some, List, length}
 use Rattle.std.specs.Prelude.{slice_index_or}
 use Rattle.sja_link.specs.declared.bus_end.BusEnd.{Ghosts as Ends}
-use Rattle.sja_link.specs.declared.link_id.LinkId.{LinkId}
 use Rattle.can_node.specs.Stands.{ShowsRest}
 use Rattle.sja_regs.specs.declared.bus_turn.BusTurn.{BusTurn}
 use Rattle.sja_regs.specs.declared.orders.Orders.{Orders}
@@ -15,7 +14,7 @@ use Rattle.sja_wire.specs.declared.bus_fault.BusFault.{BusFault}
 use Rattle.sja_bus.specs.declared.seat.Seat.{Seat}
 use Rattle.sja_bus.specs.declared.struck_nodes.StruckNodes.{StruckNodes}
 use Rattle.sja_wire.specs.Buses.{BusValue}
-use Rattle.sja_link.specs.Links.{Numbered}
+use Rattle.sja_link.specs.Links.{AreEnds}
 use Rattle.sja_wire.specs.Reasons.{room_for}
 use Rattle.sja_bus.specs.Moment.{Moment, Keeps, OneBit}
 use Rattle.sja_bus.specs.Several.{AreBits, BreaksOff}
@@ -136,21 +135,20 @@ abbrev pub RowsStop : {E B : Type 0} → Ends E → Ports B → Bool → List St
 RowsStop e b to_rest script from most was now links after board told f =
     (steps : List ℕ) (left : ℕ) (bus : BusValue) → most ≤ left → HaveRoom (room_for (from + left) steps) was →
     bus.journals ≡ journals_of now → bus.run ≡ from + f.after → bus.left ≡ left - f.after →
-    BreaksOff e.same e.stands e.full b.orders_are (AnyBit e b)
+    BreaksOff e b.orders_are (AnyBit e b)
     (WorksUntold to_rest (moment_of script steps from left was links board)) most
     (moment_of script steps from left was links board) (record { bus = bus; links = after; board = told }) f.fault
 
 -- ---- by the bus
 
--- links and ports for so many nodes, 64 links of each
-pub record AreFor {E : Type 0} (link : E → LinkId) (links : List E) (nodes boards : ℕ) : Type 0 where
-  pub count : length links ≡ 64 * nodes
-  pub ids : Numbered link links
+-- ends of links and ports for so many nodes
+pub record AreFor {E : Type 0} (node_of : E → ℕ) (links : List E) (nodes boards : ℕ) : Type 0 where
+  pub ends : AreEnds node_of nodes links
   pub ports : nodes ≤ boards
 
 -- a bus without a fault, of which so many bits are left, with links and ports for its nodes
-pub record MayRunBits {E : Type 0} (link : E → LinkId) (bus : BusValue) (links : List E) (boards n : ℕ) : Type 0 where
-  pub fit : AreFor link links (length bus.journals) boards
+pub record MayRunBits {E : Type 0} (node_of : E → ℕ) (bus : BusValue) (links : List E) (boards n : ℕ) : Type 0 where
+  pub fit : AreFor node_of links (length bus.journals) boards
   pub right : bus.fault ≡ None
   pub most : n ≤ bus.left
 
@@ -167,4 +165,4 @@ pub record IsStopped {E B : Type 0} (e : Ends E) (b : Ports B) (Before : Moment 
     (was now : Moment E B) (f : BusFault) : Type 0 where
   pub keeps : Keeps e b was now
   pub fault : now.bus.fault ≡ Some f
-  pub reason : BreaksOff e.same e.stands e.full b.orders_are (AnyBit e b) Before count was now f
+  pub reason : BreaksOff e b.orders_are (AnyBit e b) Before count was now f

@@ -1,5 +1,5 @@
 -- What the bus knows of one controller.
-use Rattle.std.specs.Prelude.{◌≡◌, ◌≤◌, ◌<◌, ℕ, suc, Bool, Option, Some, None, List, [], ◌∷◌, ◌++◌}
+use Rattle.std.specs.Prelude.{◌≡◌, ◌≤◌, ◌^◌, ℕ, suc, Bool, Option, Some, None, List, [], ◌∷◌, ◌++◌}
 use Rattle.can_frame.specs.Frame.{FrameValue}
 use Rattle.can_frame.specs.Filter.{Passes}
 use Rattle.can_frame.specs.Message.{message}
@@ -15,7 +15,7 @@ use Rattle.sja_link.specs.Verdicts.{IsDue, entry_of}
 use Rattle.sja_link.specs.BusLedgers.{link_of, free_in}
 use Rattle.sja_wire.specs.Telling.{is_overrun}
 use Rattle.sja_bus.specs.declared.seat.Seat.{Seat}
-use Rattle.sja_bus.specs.Inside.Following.{Follows, FollowsBit, Reads, open_in}
+use Rattle.sja_bus.specs.Inside.Following.{Follows, FollowsBit, Reads}
 
 -- with an entry the free bytes change so
 abbrev pub Pays : ℕ → ℕ → Entry → Type 0
@@ -33,11 +33,12 @@ pub record IsOwed (s : Seat) (e : Entry) : Type 0 where
   pub follows : Follows s.node s.journal.entries
   pub reads : Reads s.node s.journal.entries s.ended s.activity free
 
--- the ledger is that of the activation that is read, and there are 64
+-- the ledger is that of the activation that is read, and no more have ended than the journal has reserved entries,
+-- 2^63 at most
 pub record IsSeat (s : Seat) : Type 0 where
   pub own : (link_of s.ledger).activation ≡ suc s.ended
-  pub few : s.ended ≤ 64
-  pub runs : open_in s.activity ≡ 1 → s.ended < 64
+  pub few : s.ended ≤ s.journal.room.all
+  pub most : s.journal.room.all ≤ 2 ^ 63
 
 -- between two calls: it knows also the level that its node drives next
 pub record IsReady (s : Seat) : Type 0 where

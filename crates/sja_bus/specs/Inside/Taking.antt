@@ -1,27 +1,24 @@
 -- An item that the bus takes, and an abort that it applies.
 use Rattle.std.specs.Prelude.{◌≡◌, ℕ, suc, true, Bool, List, [], ◌∷◌, ◌++◌}
 use Rattle.can_bits.specs.declared.level.Level.{Level}
-use Rattle.sja_link.specs.NodeWords.{FinishedPiece, IsCut, received}
+use Rattle.sja_link.specs.declared.bus_end.BusEnd.{Ghosts as Ends}
 use Rattle.sja_link.specs.declared.up.Up.{Up}
 use Rattle.sja_link.specs.declared.entry.Entry.{Entry}
 use Rattle.sja_link.specs.declared.entry.Entry.TheVariants.{Up as Item, Abort}
 use Rattle.sja_link.specs.Written.{Room, Fits, IsFullFor}
 use Rattle.sja_link.specs.Places.{past, place_of}
-use Rattle.sja_link.specs.Lists.{Lists, with_taken}
-use Rattle.sja_link.specs.Accounts.{Account, account}
-use Rattle.sja_link.specs.Parts.{part}
-use Rattle.sja_link.specs.Records.{record_of}
-use Rattle.sja_link.specs.Verdicts.{HasVerdicts}
+use Rattle.sja_link.specs.Lists.{Lists, with_taken, Carries, OthersStand}
+use Rattle.sja_link.specs.Accounts.{Account}
 use Rattle.sja_regs.specs.declared.orders.Orders.{Orders}
 use Rattle.sja_link.specs.BusLedgers.{link_of}
 use Rattle.sja_wire.specs.declared.bus_fault.BusFault.{BusFault}
 use Rattle.sja_wire.specs.declared.bus_fault.BusFault.TheVariants.{BitsSpent, BadCredit, Stuck, BadOrder, JournalFull}
 use Rattle.sja_bus.specs.declared.seat.Seat.{Seat}
 use Rattle.sja_link.specs.Links.{Kept, Grows}
-use Rattle.sja_wire.specs.Reasons.{IsRefusedFor}
-use Rattle.sja_link.specs.OutOfOrder.{IsOutOfOrder, HasOff}
+use Rattle.sja_wire.specs.Reasons.{IsRefusedFor, GivesBack}
+use Rattle.sja_link.specs.OutOfOrder.{IsOutOfOrder}
 use Rattle.sja_link.specs.Aborting.{IsApplied}
-use Rattle.sja_link.specs.BitEntries.{MayHaveItems, MayHaveAbort, off_as}
+use Rattle.sja_link.specs.BitEntries.{MayHaveItems, MayHaveAbort}
 use Rattle.sja_wire.specs.OutOfRoom.{IsOutOfRoom}
 use Rattle.sja_bus.specs.Inside.Seats.{IsSound, IsSeat, IsJudged}
 
@@ -39,12 +36,13 @@ abbrev pub Refuses : Seat → Seat → Up → BusFault → Type 0
 Refuses old new item f = (new.journal.entries ≡ old.journal.entries)
     × IsRefusedFor (link_of old.ledger).node old.journal.room old.journal.entries item f
 
--- with this fault the item that this end showed wasn't entered
-pub record RefusesHere {E : Type 0} (stands : E → Lists → Type 0) (end after : E) (old new : Seat) (f : BusFault) :
-    Type 0 where
+-- with this fault the item wasn't entered that this end showed on the link that is read
+pub record RefusesHere {E : Type 0} (stands : E → ℕ → Lists → Type 0) (end after : E) (old new : Seat) (f : BusFault)
+    : Type 0 where
   pub item : Up
   pub refuses : Refuses old new item f
-  pub shown : (l : Lists) → stands end l → stands after (with_taken l item)
+  pub shown : Carries stands (suc old.ended) end after (λ l. with_taken l item)
+  pub others : OthersStand stands (suc old.ended) end after
 
 -- there was no room for this entry
 pub record IsFull (old new : Seat) (e : Entry) (f : BusFault) : Type 0 where
@@ -52,45 +50,23 @@ pub record IsFull (old new : Seat) (e : Entry) (f : BusFault) : Type 0 where
   pub same : new.journal.entries ≡ old.journal.entries
   pub full : IsFullFor old.journal.room old.journal.entries e
 
--- an end gave an item back: as it was then it was the same end and full, and it stood for what it stood for before
-pub record IsGivenBack {E : Type 0} (same : E → E → Type 0) (stands : E → Lists → Type 0) (full : E → Type 0) (end : E)
-    : Type 0 where
+-- an end gave an item back on the link of this activation: as it was then it was the same end and full, and on each
+-- link it stood for what it stood for before
+pub record IsGivenBack {E : Type 0} (e : Ends E) (a : ℕ) (end : E) : Type 0 where
   pub last : E
-  pub is_end : same end last
-  pub is_full : full last
-  pub stood : (l : Lists) → stands end l → stands last l
-
--- an end that gave an item back, as it was then: the same end, full, and it stood for the journal. The journal's
--- verdicts are right beside the frames that its node received, by the cut of its record, with bus-off after it where
--- that was given back; and in the activation no bus-off was entered
-pub record GaveBack {E : Type 0} (same : E → E → Type 0) (stands : E → Lists → Type 0) (full : E → Type 0) (end : E)
-    (before j : List Entry) (a : ℕ) : Type 0 where
-  pub last : E
-  pub is_end : same end last
-  pub is_full : full last
-  pub stood : (h : Account) → stands end (account before a h) → stands last (account j a h)
-  pub off : Bool
-  pub found : List FinishedPiece
-  pub cut : IsCut (record_of (j ++ off_as off)) found
-  pub verdicts : HasVerdicts j (received found)
-  pub on : HasOff (part j a) → ⊥
+  pub same : e.same end last
+  pub is_full : e.full last a
+  pub stood : (b : ℕ) (l : Lists) → e.stands end b l → e.stands last b l
 
 -- with this fault a part of a node's bit broke off: an entry found no room, and then this holds; or a put was given
 -- back
-abbrev pub BreaksBy : {E : Type 0} → Type 0 → (E → E → Type 0) → (E → Lists → Type 0) → (E → Type 0) → E → Seat →
-    Seat → BusFault → Type 0
-BreaksBy Unheld same stands full end old new (JournalFull k) = (k ≡ (link_of old.ledger).node) × Unheld
-BreaksBy Unheld same stands full end old new (Stuck k) = (k ≡ (link_of old.ledger).node)
-    × GaveBack same stands full end old.journal.entries new.journal.entries (suc old.ended)
-BreaksBy Unheld same stands full end old new (BadCredit k bytes) = ⊥
-BreaksBy Unheld same stands full end old new (BadOrder k) = ⊥
-BreaksBy Unheld same stands full end old new BitsSpent = ⊥
-
--- the whole bit
-abbrev pub BreaksHere : {E : Type 0} → (E → E → Type 0) → (E → Lists → Type 0) → (E → Type 0) → E → Seat → Seat →
-    BusFault → Type 0
-BreaksHere same stands full end old new =
-    BreaksBy (IsOutOfRoom old.journal.room old.journal.entries new.journal.entries) same stands full end old new
+abbrev pub BreaksBy : {E : Type 0} → Type 0 → Ends E → E → Seat → Seat → BusFault → Type 0
+BreaksBy Unheld e end old new (JournalFull k) = (k ≡ (link_of old.ledger).node) × Unheld
+BreaksBy Unheld e end old new (Stuck k) = (k ≡ (link_of old.ledger).node)
+    × GivesBack e old.journal.entries new.journal.entries end
+BreaksBy Unheld e end old new (BadCredit k bytes) = ⊥
+BreaksBy Unheld e end old new (BadOrder k) = ⊥
+BreaksBy Unheld e end old new BitsSpent = ⊥
 
 -- a bit and the verdict on this message, of which the first or the second entry found no room
 pub record IsJudgedShort (room : Room) (j : List Entry) (driven seen : Level) (a : ℕ) (m : List ℕ) (now : List Entry) :
@@ -113,8 +89,8 @@ pub record Applies (j k : List Entry) : Type 0 where
   pub is : IsApplied j aborts.changed
 
 -- items were taken, and then an abort was ordered that changes the node, and its entry found no room
-pub record FullForAbort {E : Type 0} (stands : E → Lists → Type 0) (has_orders : Orders → Type 0) (old new : Seat)
-    (links after : List E) (base : ℕ) (f : BusFault) : Type 0 where
+pub record FullForAbort {E : Type 0} (stands : E → ℕ → Lists → Type 0) (has_orders : Orders → Type 0) (old new : Seat)
+    (end after : E) (f : BusFault) : Type 0 where
   pub is : f ≡ JournalFull (link_of old.ledger).node
   pub items : MayHaveItems old.journal.entries new.journal.entries
   pub orders : Orders
@@ -122,5 +98,4 @@ pub record FullForAbort {E : Type 0} (stands : E → Lists → Type 0) (has_orde
   pub ordered : orders.abort ≡ true
   pub due : IsApplied new.journal.entries true
   pub full : IsFullFor old.journal.room new.journal.entries Abort
-  pub kept : (h : ℕ → Account) → Kept stands old.journal.entries links base h →
-      Kept stands new.journal.entries after base h
+  pub kept : (h : ℕ → Account) → Kept stands old.journal.entries end h → Kept stands new.journal.entries after h

@@ -13,7 +13,7 @@ use Rattle.sja_bus.specs.Inside.Refusing.{HaveRoom, SeatBreaks}
 use Rattle.sja_bus.specs.Inside.Rows.{AreReady, GoesAll, Done, SeatTurns}
 
 -- the seats before this place had the bit, the others are as they were, and so are their ports
-pub record IsUnderway {E B : Type 0} (same : E → E → Type 0) (stands : E → Lists → Type 0) (ports : B → ℕ)
+pub record IsUnderway {E B : Type 0} (same : E → E → Type 0) (stands : E → ℕ → Lists → Type 0) (ports : B → ℕ)
     (told : B → B → ℕ → BusTurn → Type 0) (kept : B → B → ℕ → Type 0) (struck : StruckNodes) (level : Level)
     (before : List Seat) (given : List E) (was : B) (k : ℕ) (seats : List Seat) (links : List E) (board : B) : Type 0
   where
@@ -40,4 +40,4 @@ abbrev pub BreaksUnderway : {E B : Type 0} → Ends E → Ports B → StruckNode
 BreaksUnderway {E} {B} e b struck level first seats after links board f =
     (before : List Seat) (given : List E) (was : B) →
     IsUnderway e.same e.stands b.ports b.told b.kept struck level before given was first seats links board →
-    SeatBreaks e.same e.stands e.full before after given f
+    SeatBreaks e before after given f

@@ -1,5 +1,5 @@
 -- A write on its way, of a driver that knows addresses and bytes alone.
-use Rattle.std.proofs.Common.{◌≡◌, ◌++◌, List, [], ◌∷◌, length, map, refl, ap, ◌∙◌, arith}
+use Rattle.std.proofs.Common.{◌≡◌, ◌++◌, List, [], ◌∷◌, length, map, refl, ap, arith}
 use Rattle.sja_script.specs.declared.step_answer.StepAnswer.{StepAnswer}
 use Rattle.sja_driver.specs.declared.written.Written.{Written}
 use Rattle.sja_driver.specs.Accesses.{kept_by}

@@ -8,7 +8,7 @@ use Rattle.sja_link.specs.declared.entry.Entry.{Entry}
 use Rattle.lemmas.specs.Gathering.{total}
 use Rattle.sja_link.specs.Lists.{messages}
 use Rattle.sja_link.specs.Accounts.{Account}
-use Rattle.sja_link.specs.Deques.{Deques, Lies}
+use Rattle.sja_link.specs.Deques.{Deques, Lies, down_on}
 use Rattle.sja_link.specs.Parts.{part}
 use Rattle.sja_link.specs.Carried.{taken_of, stored_of}
 use Rattle.sja_link.specs.Free.{credit_of, credit_in, bytes_in}
@@ -46,23 +46,21 @@ last_fits (m ∷ ms) [] n e h =
 last_fits (m ∷ ms) (l ∷ ls) n e h = last_fits ms ls n (cc) h.1
 
 module _ (j : List Entry) (deeds : List Deed) (d : Deed) (n : ℕ) (driver : AnyDriver) (log : WorkLog)
-    (links : List Deques)
-    (base : ℕ) (none : Deques) (lawful : IsLawful j) (given : (a : ℕ) → given_in (deeds_of deeds a) ≡ taken_of
-    (part j a))
+    (links : Deques) (lawful : IsLawful j) (given : (a : ℕ) → given_in (deeds_of deeds a) ≡ taken_of (part j a))
     (gives : EachAfter (λ b (x : Deed). Gives x.step x.answer x.gave) [] deeds)
     {version : ℕ} (trace : Traces version driver log (deeds ++ d ∷ []))
-    (holds : HoldsBy Lies (deeds ++ d ∷ []) driver log j links base) (lengths : length_in d.step d.answer ≡ n ∷ [])
+    (holds : HoldsBy Lies (deeds ++ d ∷ []) driver log j links) (lengths : length_in d.step d.answer ≡ n ∷ [])
   where
     -- the credit of a release in this activation
-    pub paid_right : (a : ℕ) → a < 64 → suc a ≡ opened_by deeds + opens_by d →
+    pub paid_right : (a : ℕ) → suc a ≡ opened_by deeds + opens_by d →
         ((3 ≤ n) × (n ≤ 13)) × (total credit_in (part j (suc a)) + n ≤ total bytes_in (part j (suc a)))
-    paid_right a few at =
+    paid_right a at =
         let released = released_of (releases_in log) (suc a) in
         let held = slice_index_or (leaves (left_in log) (held_of driver)) a [] in
-        let link = slice_index_or links (base + a) none in
+        let down = down_on links (suc a) in
         let account : Account = record { got = holds.got a; given = [] } in
-        let all : released ++ (held ++ messages link.down) ≡ stored_of (part j (suc a)) =
-        told_stored j (suc a) account link.down released held (holds.kept a none few).0 (holds.told a few) in
+        let all : released ++ (held ++ messages down) ≡ stored_of (part j (suc a)) =
+        told_stored j (suc a) account down released held (holds.kept a).down (holds.told a) in
         let more : released_lengths (deeds_of (deeds ++ d ∷ []) (suc a)) ≡ released_lengths
         (deeds_of deeds (suc a)) ++ n
         ∷ [] =
@@ -70,10 +68,10 @@ module _ (j : List Entry) (deeds : List Deed) (d : Deed) (n : ℕ) (driver : Any
         ∙ ap (λ (l : List ℕ). released_lengths (deeds_of deeds (suc a)) ++ l) lengths in
         let long : map (λ (m : List ℕ). length m) released ≡ released_lengths (deeds_of deeds (suc a)) ++ n ∷ [] =
         trace.released (suc a) ∙ more in
-        let fit : AllFit released = fit_front released (held ++ messages link.down)
+        let fit : AllFit released = fit_front released (held ++ messages down)
         (subst (λ (l : List (List ℕ)). AllFit l) (sym all) (stored_fit j (suc a) lawful)) in
         let stored = bytes_stored (part j (suc a)) ∙ ap bytes_of (sym all)
-        ∙ total_append (λ (m : List ℕ). length m) released (held ++ messages link.down) in
+        ∙ total_append (λ (m : List ℕ). length m) released (held ++ messages down) in
         let paid = credits_taken (part j (suc a)) ∙ ap (total credit_of) (sym (given (suc a)))
         ∙ credits_section 0 [] deeds (suc a) gives in
         let let_go = bytes_lengths released ∙ ap all_of long
@@ -81,12 +79,12 @@ module _ (j : List Entry) (deeds : List Deed) (d : Deed) (n : ℕ) (driver : Any
         (last_fits released (released_lengths (deeds_of deeds (suc a))) n long fit, omega (arith, stored, paid, let_go))
 
     -- it isn't bad
-    pub credit_right : (a : ℕ) → a < 64 → suc a ≡ opened_by deeds + opens_by d → (free : ℕ) →
+    pub credit_right : (a : ℕ) → suc a ≡ opened_by deeds + opens_by d → (free : ℕ) →
         free + total bytes_in (part j (suc a)) ≡ 64 + total credit_in (part j (suc a)) →
         (n < 3) ⊎ ((13 < n) ⊎ (64 < free + n)) → ⊥
-    credit_right a few at free is (inl short) = let r = (paid_right a few at).0.0 in omega (arith, r, short)
-    credit_right a few at free is (inr (inl long)) = let r = (paid_right a few at).0.1 in omega (arith, r, long)
-    credit_right a few at free is (inr (inr much)) = let r = (paid_right a few at).1 in omega (arith, r, much, is)
+    credit_right a at free is (inl short) = let r = (paid_right a at).0.0 in omega (arith, r, short)
+    credit_right a at free is (inr (inl long)) = let r = (paid_right a at).0.1 in omega (arith, r, long)
+    credit_right a at free is (inr (inr much)) = let r = (paid_right a at).1 in omega (arith, r, much, is)
 
 -- ---- only a release gives a credit, of the length that it answers
 

@@ -1,5 +1,5 @@
 -- A driver gives nothing before it starts, and nothing in an activation that it didn't open.
-use Rattle.std.proofs.Common.{◌≡◌, ℕ, ◌+◌, ◌<◌, ◌≤◌, ◌⊎◌, Bool, true, false, cond, List, [], ◌∷◌, ◌++◌, refl, ap, ap₂}
+use Rattle.std.proofs.Common.{◌≡◌, ℕ, ◌+◌, ◌<◌, ◌⊎◌, Bool, true, false, cond, List, [], ◌∷◌, ◌++◌, refl, ap, ap₂}
 use Rattle.std.proofs.Common.{◌∙◌, append-nil, arith, inl, inr}
 use Rattle.std.specs.Prelude.{◌==◌, if◌then◌else◌}
 use Rattle.std.proofs.lemmas.Bool.{ne_eqb}
@@ -64,8 +64,7 @@ none_first version before (d ∷ ds) out none fits gives =
     by_kind (stops was is closed same) later = absurd (neither (is_active before) was out)
 
 pub given_outside : {version : ℕ} (steps : List Step) (deeds : List Deed) (a : ℕ) → AreDeeds version steps deeds →
-    opened_by deeds ≤ 64 →
-    (a ≡ 0) ⊎ (64 < a) → given_in (deeds_of deeds a) ≡ []
-given_outside {version} steps deeds a are few (inl e) =
+    (a ≡ 0) ⊎ (opened_by deeds < a) → given_in (deeds_of deeds a) ≡ []
+given_outside {version} steps deeds a are (inl e) =
     ap (λ n. given_in (deeds_of deeds n)) e ∙ none_first version [] deeds refl refl are.states are.gives
-given_outside steps deeds a are few (inr late) = ap given_in (section_later 0 deeds a (omega (arith, few, late)))
+given_outside steps deeds a are (inr late) = ap given_in (section_later 0 deeds a (omega (arith, late)))

@@ -1,14 +1,13 @@
 -- A deed more: what the links of a node hold.
-use Rattle.std.proofs.Common.{◌≡◌, ◌+◌, ◌<◌, ◌≤◌, ℕ, suc, Bool, cond, List, [], ◌∷◌, ◌++◌, length, refl, sym, ap, ◌∙◌}
+use Rattle.std.proofs.Common.{◌≡◌, ◌+◌, ℕ, suc, Bool, cond, List, [], ◌∷◌, ◌++◌, refl, sym, ap, ◌∙◌}
 use Rattle.std.proofs.Common.{subst, append_assoc, arith, inl, inr}
-use Rattle.std.specs.Prelude.{slice_index_or, slice_set, false, ◌⊎◌, ◌==◌, if◌then◌else◌}
+use Rattle.std.specs.Prelude.{slice_index_or, false, ◌⊎◌, ◌==◌, if◌then◌else◌}
 use Rattle.std.proofs.lemmas.Bool.{cases_eq, eq-eqb, ne_eqb}
-use Rattle.std.proofs.lemmas.List.{get_or-set_same, get_or-set_other}
 use Rattle.sja_link.specs.declared.down.Down.{Down}
 use Rattle.sja_link.specs.declared.up.Up.{Up}
 use Rattle.sja_link.specs.declared.entry.Entry.{Entry}
 use Rattle.sja_link.specs.Accounts.{account}
-use Rattle.sja_link.specs.Lists.{Lists, messages}
+use Rattle.sja_link.specs.Lists.{Lists, messages, on, OthersStand}
 use Rattle.sja_link.specs.Looking.{off_among}
 use Rattle.sja_link.proofs.Ledger.Pullings.{off_both}
 use Rattle.sja_link.proofs.JournalEntries.ListCounts.{messages_both}
@@ -28,21 +27,21 @@ other d n a t ne (inl e) = inl (λ q. ne (omega (arith, e, q)))
 other d n a t ne (inr q) = inr q
 
 -- one deed more at the link of the present activation, of whose number so many ended before, and more after
-pub holds_deed : {E : Type 0} (stands : E → Lists → Type 0) (t : List Deed) (rel rel' : List Release)
-    (left left' : List (List (List ℕ))) (j : List Entry) (links : List E) (base n n' : ℕ) (d0 new : E)
+pub holds_deed : {E : Type 0} (stands : E → ℕ → Lists → Type 0) (t : List Deed) (rel rel' : List Release)
+    (left left' : List (List (List ℕ))) (j : List Entry) (n n' : ℕ) (old new : E)
     (held held' : List (List ℕ)) (off off' now' : Bool) (d : Deed) (released : List (List ℕ))
-    → n < 64 → base + 64 ≤ length links → (opened_by t + opens_by d ≡ suc n) ⊎ (d.gave ≡ [])
-    → Does stands (slice_index_or links (base + n) d0) new held held' off now' released d.gave
+    → (opened_by t + opens_by d ≡ suc n) ⊎ (d.gave ≡ [])
+    → Does (on stands (suc n)) old new held held' off now' released d.gave
+    → OthersStand stands (suc n) old new
     → released_of rel' (suc n) ≡ released_of rel (suc n) ++ released
     → ((a : ℕ) → (n ≡ a → ⊥) → released_of rel' (suc a) ≡ released_of rel (suc a))
     → slice_index_or left n [] ≡ held → slice_index_or left' n [] ≡ held'
     → ((a : ℕ) → (n ≡ a → ⊥) → slice_index_or left' a [] ≡ slice_index_or left a [])
     → ((n' ≡ n) × (off' ≡ now')) ⊎ ((n' ≡ suc n) × (off' ≡ false))
-    → Holds stands t rel left n off j links base
-    → Holds stands (t ++ d ∷ []) rel' left' n' off' j (slice_set links (base + n) new) base
-holds_deed {E} stands t rel rel' left left' j links base n n' d0 new held held' off off' now' d released few room gi did
-    r re was now rest next h =
-    let links' : List E = slice_set links (base + n) new in
+    → Holds stands t rel left n off j old
+    → Holds stands (t ++ d ∷ []) rel' left' n' off' j new
+holds_deed stands t rel rel' left left' j n n' old new held held' off off' now' d released gi did others r re was now
+    rest next h =
     let given' : ℕ → List Up = λ a. given_in (deeds_of (t ++ d ∷ []) a) in
     let got' : ℕ → List Down = λ a. if n == a then h.got a ++ did.got else h.got a in
     let lists' : ℕ → Lists = λ a. account j (suc a) (record { got = got' a; given = given' (suc a) }) in
@@ -50,11 +49,11 @@ holds_deed {E} stands t rel rel' left left' j links base n n' d0 new held held' 
     let else' : (a : ℕ) → (n ≡ a → ⊥) → got' a ≡ h.got a =
     λ a ne. ap (λ b. cond b (h.got a ++ did.got) (h.got a)) (ne_eqb n a ne) in
     let g : given' (suc n) ≡ given_in (deeds_of t (suc n)) ++ d.gave = deeds_here gave_of t d (suc n) gi in
-    let here : stands new (lists' n) =
+    let here : stands new (suc n) (lists' n) =
     rw (same, g) (did.lists (account j (suc n) (record { got = h.got n; given = given_in (deeds_of t (suc n)) }))
-    (h.kept n d0 few)) in
+    (h.kept n)) in
     let all : messages (got' n) ≡ released_of rel' (suc n) ++ slice_index_or left' n [] =
-    ap messages same ∙ messages_both (h.got n) did.got ∙ ap (λ x. x ++ messages did.got) (h.told n few)
+    ap messages same ∙ messages_both (h.got n) did.got ∙ ap (λ x. x ++ messages did.got) (h.told n)
     ∙ append_assoc (released_of rel (suc n)) (slice_index_or left n []) (messages did.got)
     ∙ ap (λ x. released_of rel (suc n) ++ (x ++ messages did.got)) was
     ∙ ap (λ x. released_of rel (suc n) ++ x) (sym did.told)
@@ -63,23 +62,17 @@ holds_deed {E} stands t rel rel' left left' j links base n n' d0 new held held' 
     let known : now' ≡ off_among false (got' n) = did.off_is ∙ ap (λ b. off_among b did.got) h.off_is
     ∙ sym (off_both false (h.got n) did.got) ∙ ap (off_among false) (sym same) in record {
       got = got';
-      kept = λ a e l. elim (cases_eq n a) [
-        | inl q ↦ let at : slice_index_or links' (base + a) e ≡ new =
-            ap (λ m. slice_index_or links' (base + m) e) (sym q)
-            ∙ get_or-set_same links (base + n) new e (omega (arith, few, room)) in
-            let moved = subst (λ (m : ℕ). stands new (lists' m)) q here in
-            subst (λ (x : E). stands x (lists' a)) (sym at) moved
-        | inr ne ↦ let at : slice_index_or links' (base + a) e ≡ slice_index_or links (base + a) e =
-            get_or-set_other links (base + n) (base + a) new e (λ x. ne (omega (arith, x))) in
-            let gs : got' a ≡ h.got a = else' a ne in
+      kept = λ a. elim (cases_eq n a) [
+        | inl q ↦ subst (λ (m : ℕ). stands new (suc m) (lists' m)) q here
+        | inr ne ↦ let gs : got' a ≡ h.got a = else' a ne in
             let ga : given' (suc a) ≡ given_in (deeds_of t (suc a)) =
             deeds_else gave_of t d (suc a) (other d n a t ne gi) in
-            rw (at, gs, ga) (h.kept a e l)
+            rw (gs, ga) (others (suc a) (λ x. ne (omega (arith, x))) _ (h.kept a))
       ];
-      told = λ a l. elim (cases_eq n a) [
+      told = λ a. elim (cases_eq n a) [
         | inl q ↦ subst (λ (m : ℕ). messages (got' m) ≡ released_of rel' (suc m) ++ slice_index_or left' m []) q all
         | inr ne ↦ let gs : got' a ≡ h.got a = else' a ne in
-            ap messages gs ∙ h.told a l ∙ ap (λ x. x ++ slice_index_or left a []) (sym (re a ne))
+            ap messages gs ∙ h.told a ∙ ap (λ x. x ++ slice_index_or left a []) (sym (re a ne))
             ∙ ap (λ x. released_of rel' (suc a) ++ x) (sym (rest a ne))
       ];
       off_is = elim next [

@@ -1,20 +1,33 @@
 -- A driver, its end and the activations that have ended.
-use Rattle.std.proofs.Common.{◌≡◌, ◌+◌, ◌<◌, ◌≤◌, ℕ, List, [], ◌∷◌, ◌++◌, length, refl, sym, ◌∙◌, subst, arith}
+use Rattle.std.proofs.Common.{◌≡◌, ◌+◌, ◌<◌, ◌≤◌, ℕ, suc, List, [], ◌∷◌, ◌++◌, length, refl, sym, ap, ◌∙◌, arith}
+use Rattle.std.proofs.Common.{add-zero}
 use Rattle.sja_link.specs.declared.link_id.LinkId.{LinkId}
 use Rattle.sja_link.specs.declared.driver_ledger.DriverLedger.{DriverLedger}
+use Rattle.sja_regs.specs.declared.registers.Registers.{Registers}
+use Rattle.sja_script.specs.declared.step.Step.{Step}
 use Rattle.sja_driver.specs.declared.any_driver.AnyDriver.{AnyDriver}
 use Rattle.sja_driver.specs.declared.any_driver.AnyDriver.TheVariants.{InReset, InActive}
-use Rattle.sja_driver.specs.AnyDrivers.{IsDriverOf}
+use Rattle.sja_driver.specs.AnyDrivers.{IsDriverOf, link_used, opened_of}
+use Rattle.sja_driver.specs.Drivers.{started_in, link_in}
 use Rattle.sja_driver.specs.Inside.Attempts.{FitsEnd}
+use Rattle.sja_driver.specs.Inside.Entering.{IsAmong}
 use Rattle.sja_driver.specs.Logs.{left_by}
-use Rattle.sja_driver.specs.Tries.{Tried, ended_by}
+use Rattle.sja_driver.specs.Tries.{Tried, ended_by, opened_after, IsQuiet}
 use Rattle.sja_driver.specs.Tries.Tried.{Unmet, Answered, Released, Ended}
 
--- the end of the next activation fits its driver
-pub fits_end : {E : Type 0} (link : E → LinkId) (e : E) (node n : ℕ) (driver : AnyDriver) → IsDriverOf node n driver →
-    (n < 64 → link e ≡ record { node = node; activation = n + 1 }) → FitsEnd link e driver
-fits_end link e node n (InReset d) h k = λ few. rw (h.0, h.1) (k (subst (λ (x : ℕ). x < 64) h.1 few))
-fits_end link e node n (InActive d) h k = k h.1 ∙ sym h.0
+-- the end of its node fits a driver
+pub fits_end : {E : Type 0} (node_at : E → ℕ) (e : E) (node n : ℕ) (driver : AnyDriver) → IsDriverOf node n driver →
+    node_at e ≡ node → FitsEnd node_at e driver
+fits_end node_at e node n (InReset d) h own = own ∙ sym h.0
+fits_end node_at e node n (InActive d) h own = own ∙ sym (ap (λ (l : LinkId). l.node) h)
+
+next_of : (a n : ℕ) → a ≡ n → a + 1 ≡ suc n
+next_of a n e = omega (arith, e)
+
+-- it uses the link of the activation after those that have ended
+pub used_next : (node n : ℕ) (driver : AnyDriver) → IsDriverOf node n driver → link_used driver ≡ suc n
+used_next node n (InReset d) h = next_of (started_in d) n h.1
+used_next node n (InActive d) h = ap (λ (l : LinkId). l.activation) h ∙ next_of n n refl
 
 pub left_count : (xs : List DriverLedger) (o : Tried) → length (xs ++ left_by o) ≡ length xs + ended_by o
 left_count [] Unmet = refl
@@ -23,9 +36,18 @@ left_count [] (Released m) = refl
 left_count [] (Ended l) = refl
 left_count (x ∷ xs) o = let e = left_count xs o in omega (arith, e)
 
-pub at_most : (node n : ℕ) (driver : AnyDriver) → IsDriverOf node n driver → n ≤ 64
-at_most node n (InReset d) h = h.2
-at_most node n (InActive d) h = let l = h.1 in omega (arith, l)
+among : (a opened n room : ℕ) → a ≡ (n + 0) + 1 → a ≡ opened → opened ≤ room → n < room
+among a opened n room i o few = omega (arith, i, o, few)
 
-pub below : (n : ℕ) → n ≤ 64 → (n ≡ 64 → ⊥) → n < 64
-below n h ne = omega (arith, h, ne)
+-- where a message was released or an activation ended, it is one that the driver opened
+pub is_among : (p : Registers) (step : Step) (node n room : ℕ) (was now : AnyDriver) (o : Tried) →
+    opened_of was ≤ room → opened_of now ≡ opened_after (opened_of was) step o →
+    IsDriverOf node (n + ended_by o) now → IsQuiet p step now o → IsAmong n room o
+is_among p this node n room was now Unmet few opens own quiet = tt
+is_among p this node n room was now (Answered answer) few opens own quiet = tt
+is_among p this node n room was (InReset d) (Released m) few opens own quiet = absurd quiet
+is_among p this node n room was (InActive d) (Released m) few opens own quiet =
+    among (link_in d).activation (opened_of was) n room (ap (λ (l : LinkId). l.activation) own) opens few
+is_among p this node n room was (InReset d) (Ended ledger) few opens own quiet =
+    among (started_in d) (opened_of was) n room (own.1 ∙ ap (λ m. m + 1) (sym (add-zero n))) opens few
+is_among p this node n room was (InActive d) (Ended ledger) few opens own quiet = absurd quiet

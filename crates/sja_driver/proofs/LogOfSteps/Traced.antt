@@ -59,7 +59,7 @@ pub stands_answered : (p : Registers) (step : Step) (was nxt : AnyDriver) (a : S
     (t : List Deed) → opened_by t ≡ opened_of was → (opened_by t + opened step a ≡ suc n) ⊎ (carried p step a ≡ [])
 stands_answered p one was (InReset d) a node n place op quiet t o = inr quiet
 stands_answered p one was (InActive d) a node n place op quiet t o =
-    let i : (link_in d).activation ≡ (n + 0) + 1 = ap (λ x. x.activation) place.0 in
+    let i : (link_in d).activation ≡ (n + 0) + 1 = ap (λ x. x.activation) place in
     let k : (link_in d).activation ≡ opened_of was + opened one a = op in
     inl (omega (arith, i, k, o))
 
@@ -69,7 +69,7 @@ pub stands_released : (p : Registers) (step : Step) (was nxt : AnyDriver) (m : L
     opened_by t + opened step (ReleasedAnswer (length m)) ≡ suc n
 stands_released p one was (InReset d) m node n place op quiet kind t o = elim quiet [ ]
 stands_released p one was (InActive d) m node n place op quiet kind t o =
-    let i : (link_in d).activation ≡ (n + 0) + 1 = ap (λ x. x.activation) place.0 in
+    let i : (link_in d).activation ≡ (n + 0) + 1 = ap (λ x. x.activation) place in
     let k : (link_in d).activation ≡ opened_of was = op in
     let z : opened one (ReleasedAnswer (length m)) ≡ 0 = ap (λ s. opened s (ReleasedAnswer (length m))) kind in
     omega (arith, i, k, o, z)

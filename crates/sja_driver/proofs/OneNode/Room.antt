@@ -47,6 +47,23 @@ entries_counted : (j : List Entry) →
     + (total off_in j + total abort_in j)
 entries_counted j = let h = entries_from first_place j in omega (arith, h)
 
+-- each activation begins with an item that was taken
+begun_from : (p : JournalPlace) (es : List Entry) → (past_all p es).activation ≤ p.activation + total item_in es
+begun_from p [] = omega arith
+begun_from p (Bit driven seen ∷ es) = let h = begun_from (past p (Bit driven seen)) es in omega (arith, h)
+begun_from p (Item (StartItem config) ∷ es) =
+    let h = begun_from (past p (Item (StartItem config))) es in omega (arith, h)
+begun_from p (Item (Credit n) ∷ es) = let h = begun_from p es in omega (arith, h)
+begun_from p (Item (SendItem request) ∷ es) = let h = begun_from p es in omega (arith, h)
+begun_from p (Item StopItem ∷ es) = let h = begun_from p es in omega (arith, h)
+begun_from p (Abort ∷ es) = let h = begun_from p es in omega (arith, h)
+begun_from p (Stored m ∷ es) = let h = begun_from p es in omega (arith, h)
+begun_from p (Overrun m ∷ es) = let h = begun_from p es in omega (arith, h)
+begun_from p (Off ∷ es) = let h = begun_from (past p Off) es in omega (arith, h)
+
+begun_few : (j : List Entry) → (place_of j).activation ≤ total item_in j
+begun_few j = let h = begun_from first_place j in omega (arith, h)
+
 -- ---- a deed gives one item at most, or asks for an abort, and never both
 
 asked_or_sent : (at asks : Bool) (gave : List Up) → GivesSend asks gave →
@@ -93,11 +110,12 @@ all_each before (d ∷ ds) g =
 pub has_room : (j : List Entry) (deeds : List Deed) (p : Registers) (bits steps : ℕ) → IsCounted j deeds p → IsLawful j
     →
     EachAfter (λ b (d : Deed). Gives d.step d.answer d.gave) [] deeds → length deeds ≤ steps →
-    (place_of j).activation ≤ 64 → (place_of j).bits ≤ bits → HasFree 4 (room_in bits steps) j
-has_room j deeds p bits steps h lawful gives most few run =
+    (place_of j).bits ≤ bits → HasFree 4 (room_in bits steps) j
+has_room j deeds p bits steps h lawful gives most run =
     let all = entries_counted j in
     let i = h.items in let v = verdicts_few j lawful in let o = h.offs in let a = h.aborts lawful.found lawful.cut in
-    let each = all_each [] deeds gives in let apart = bits_apart j in let bits = bits_counted j in record {
-      all = omega (arith, all, i, v, o, a, each, most, few, run);
-      others = omega (arith, all, i, v, o, a, each, most, few, run, apart, bits);
+    let each = all_each [] deeds gives in let begun = begun_few j in
+    let apart = bits_apart j in let bits = bits_counted j in record {
+      all = omega (arith, all, i, v, o, a, each, most, run, begun);
+      others = omega (arith, all, i, v, o, a, each, most, run, begun, apart, bits);
     }

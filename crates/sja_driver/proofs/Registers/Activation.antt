@@ -1,6 +1,6 @@
 -- What a step leaves of the number of the activation.
 use Rattle.std.proofs.Common.{◌≡◌, ℕ, ◌+◌, ◌<◌, Bool, true, false, refl, ◌∙◌, arith}
-use Rattle.std.specs.Prelude.{min, if◌then◌else◌}
+use Rattle.std.specs.Prelude.{◌^◌, ◌-◌, min, if◌then◌else◌}
 use Rattle.sja_regs.specs.declared.registers.Registers.{Registers}
 use Rattle.sja_regs.specs.Addresses.{register_at}
 use Rattle.sja_regs.specs.Registers.{after_leaving_reset}
@@ -13,10 +13,10 @@ use Rattle.sja_driver.specs.Carried.{ported}
 use Rattle.sja_driver.specs.Deeds.{opened}
 use Rattle.sja_regs.proofs.Calls.Untouched.{read_leaves, write_leaves}
 
-min_few : (n : ℕ) → n < 64 → min 255 (n + 1) ≡ n + 1
+min_few : (n : ℕ) → n < 2 ^ 56 → min (2 ^ 64 - 1) (n + 1) ≡ n + 1
 min_few n few = grind arith
 
-start_activation : (b : Bool) (p : Registers) → b ≡ true → p.activation < 64 →
+start_activation : (b : Bool) (p : Registers) → b ≡ true → p.activation < 2 ^ 56 →
     (if b then after_leaving_reset p else p).activation ≡ p.activation + 1
 start_activation true p e few = min_few p.activation few
 start_activation false p e few = absurd cc
@@ -26,7 +26,7 @@ plus_none n = omega arith
 
 -- a start from reset mode is the next one
 pub activation_step : (p : Registers) (step : Step) (answer : StepAnswer) →
-    (opened step answer ≡ 1 → (p.mode.rm ≡ true) × (p.activation < 64)) →
+    (opened step answer ≡ 1 → (p.mode.rm ≡ true) × (p.activation < 2 ^ 56)) →
     (ported p step answer).activation ≡ p.activation + opened step answer
 activation_step p Start Done starts = let s = starts refl in start_activation p.mode.rm p s.0 s.1
 activation_step p Stop Done starts = plus_none p.activation

@@ -1,14 +1,14 @@
--- What a try came to, and how deeds, log and links go on with it while not all activations have ended.
-use Rattle.std.proofs.Common.{◌≡◌, ◌+◌, ◌<◌, ◌≤◌, ℕ, suc, Bool, cond, List, [], ◌∷◌, ◌++◌, length, refl, sym, ap, ◌∙◌}
+-- What a try came to, and how deeds, log and links go on with it.
+use Rattle.std.proofs.Common.{◌≡◌, ◌+◌, ℕ, suc, Bool, cond, List, [], ◌∷◌, ◌++◌, length, refl, sym, ap, ◌∙◌}
 use Rattle.std.proofs.Common.{subst, append-nil, arith, inl, inr}
-use Rattle.std.specs.Prelude.{slice_index_or, slice_set, ◌⊎◌}
+use Rattle.std.specs.Prelude.{◌⊎◌}
 use Rattle.std.proofs.lemmas.Bool.{cases_eq, eq-eqb, ne_eqb}
 use Rattle.sja_link.specs.declared.driver_ledger.DriverLedger.{DriverLedger}
 use Rattle.sja_link.specs.declared.entry.Entry.{Entry}
 use Rattle.sja_link.specs.declared.up.Up.{Up}
 use Rattle.sja_link.specs.Accounts.{account}
 use Rattle.sja_link.specs.DriverLedgers.{held_by, knows_bus_off}
-use Rattle.sja_link.specs.Lists.{Lists}
+use Rattle.sja_link.specs.Lists.{Lists, on, OthersStand}
 use Rattle.sja_regs.specs.declared.registers.Registers.{Registers}
 use Rattle.sja_script.specs.declared.step.Step.{Step}
 use Rattle.sja_script.specs.declared.step.Step.TheVariants.{Sent}
@@ -17,60 +17,59 @@ use Rattle.sja_script.specs.declared.step_answer.StepAnswer.TheVariants.{Done as
 use Rattle.sja_driver.specs.declared.any_driver.AnyDriver.{AnyDriver}
 use Rattle.sja_driver.specs.declared.release.Release.{Release}
 use Rattle.sja_driver.specs.declared.work_log.WorkLog.{WorkLog}
-use Rattle.sja_driver.specs.Acting.{Acts, Does}
-use Rattle.sja_driver.specs.AnyDrivers.{IsDriverOf, held_of, off_of, opened_of, is_out}
+use Rattle.sja_driver.specs.Acting.{ActsOn, Does}
+use Rattle.sja_driver.specs.AnyDrivers.{IsDriverOf, link_used, held_of, off_of, opened_of, is_out}
 use Rattle.sja_driver.specs.Carried.{carried}
 use Rattle.sja_driver.specs.Deeds.{Deed, opened, opens_by, opened_by, given_in, deeds_of, length_in, released_lengths}
 use Rattle.sja_driver.specs.Holding.{Holds, HoldsBy, Goes}
 use Rattle.sja_driver.specs.Logs.{Traces, leaves, releases_in, left_in, releases_by, left_by}
 use Rattle.sja_driver.specs.Logs.{deeds_by, released_of}
-use Rattle.sja_driver.specs.Tries.{Tried}
+use Rattle.sja_driver.specs.Tries.{Tried, held_after, off_after, released_by, gave_by}
 use Rattle.sja_driver.specs.Tries.Tried.{Unmet, Answered, Released, Ended}
 use Rattle.sja_driver.proofs.Step.Giving.{gives_carried}
 use Rattle.sja_driver.proofs.LogOfSteps.Going.{holds_deed, gave_of}
 use Rattle.sja_driver.proofs.Step.Left.{leaves_last, leaves_before, leaves_else, leaves_more, released_same}
 use Rattle.sja_driver.proofs.Step.Left.{released_one, released_none}
 use Rattle.sja_driver.proofs.LogOfSteps.Sections.{deeds_here, deeds_else}
-use Rattle.sja_driver.proofs.LogOfSteps.Stepping.{left_count}
+use Rattle.sja_driver.proofs.LogOfSteps.Stepping.{left_count, used_next}
 use Rattle.sja_driver.proofs.LogOfSteps.Traced.{lengths, traces_deed, stands_answered, stands_released, stands_ended}
 use Rattle.sja_driver.proofs.LogOfSteps.Traced.{ended_off}
 
--- a try at the link of that place came to o, and the log has what it adds
-pub record Came {E : Type 0} (alike : E → E → Type 0) (stands : E → Lists → Type 0) (dry full : E → Type 0)
-    (was nxt : AnyDriver) (log now : WorkLog) (links : List E) (base node bits : ℕ) (p q : Registers) (step : Step)
-    (d0 new : E) (k : ℕ) (o : Tried) : Type 0 where
-  pub few : k < 64
-  pub room : base + 64 ≤ length links
+-- a try at the link that the driver uses came to o, and the log has what it adds
+pub record Came {E : Type 0} (alike : E → E → Type 0) (stands : E → ℕ → Lists → Type 0) (dry full : E → ℕ → Type 0)
+    (was nxt : AnyDriver) (log now : WorkLog) (node : ℕ) (p q : Registers) (step : Step) (old new : E) (o : Tried)
+    : Type 0 where
   pub own : IsDriverOf node (length (left_in log)) was
-  pub acts : Acts alike stands dry full (slice_index_or links (base + k) d0) new p q step was nxt o
+  pub acts : ActsOn alike stands dry full old new p q step was nxt o
+  pub others : OthersStand stands (link_used was) old new
   pub released : releases_in now ≡ releases_in log ++ releases_by (length (left_in log)) o
   pub left : left_in now ≡ left_in log ++ left_by o
 
-abbrev pub length_of : Deed → List ℕ
+abbrev length_of : Deed → List ℕ
 length_of d = length_in d.step d.answer
 
-abbrev pub idle : Deed
+abbrev idle : Deed
 idle = record { step = Sent; answer = DoneAnswer; bits = 0; gave = [] }
 
 -- a deed that gives nothing may be left out
-pub forget : {E : Type 0} (stands : E → Lists → Type 0) (t : List Deed) (rel : List Release)
-    (left : List (List (List ℕ))) (n : ℕ) (off : Bool) (j : List Entry) (links : List E) (base : ℕ) →
-    Holds stands (t ++ idle ∷ []) rel left n off j links base → Holds stands (t ++ []) rel left n off j links base
-forget {E} stands t rel left n off j links base h =
+forget : {E : Type 0} (stands : E → ℕ → Lists → Type 0) (t : List Deed) (rel : List Release)
+    (left : List (List (List ℕ))) (n : ℕ) (off : Bool) (j : List Entry) (end : E) →
+    Holds stands (t ++ idle ∷ []) rel left n off j end → Holds stands (t ++ []) rel left n off j end
+forget stands t rel left n off j end h =
     let g : (a : ℕ) → given_in (deeds_of (t ++ idle ∷ []) a) ≡ given_in (deeds_of t a) =
     λ a. deeds_else gave_of t idle a (inr refl) in
-    let was : Holds stands t rel left n off j links base = record {
+    let was : Holds stands t rel left n off j end = record {
       got = h.got;
-      kept = λ a d l. subst (λ (xs : List Up). stands (slice_index_or links (base + a) d)
-          (account j (suc a) (record { got = h.got a; given = xs }))) (g (suc a)) (h.kept a d l);
+      kept = λ a. subst (λ (xs : List Up). stands end (suc a)
+          (account j (suc a) (record { got = h.got a; given = xs }))) (g (suc a)) (h.kept a);
       told = h.told;
       off_is = h.off_is;
       later = h.later;
     } in
-    subst (λ (ds : List Deed). Holds stands ds rel left n off j links base) (sym (append-nil t)) was
+    subst (λ (ds : List Deed). Holds stands ds rel left n off j end) (sym (append-nil t)) was
 
 -- the trace, where nothing was done
-pub traces_unmet : {version : ℕ} (was nxt : AnyDriver) (log now : WorkLog) (t : List Deed) →
+traces_unmet : {version : ℕ} (was nxt : AnyDriver) (log now : WorkLog) (t : List Deed) →
     releases_in now ≡ releases_in log ++ [] → opened_of nxt ≡ opened_of was → is_out nxt ≡ is_out was →
     Traces version was log t → Traces version nxt now (t ++ [])
 traces_unmet {version} was nxt log now t released opens out h =
@@ -81,32 +80,41 @@ traces_unmet {version} was nxt log now t released opens out h =
       answered = h.answered;
     })
 
-module _ {E : Type 0} (alike : E → E → Type 0) (stands : E → Lists → Type 0) (dry full : E → Type 0)
-    (was nxt : AnyDriver) (log now : WorkLog) (links : List E) (base node bits : ℕ) (p q : Registers)
-    (step : Step) (d0 new : E) where
+module _ {E : Type 0} (alike : E → E → Type 0) (stands : E → ℕ → Lists → Type 0) (dry full : E → ℕ → Type 0)
+    (was nxt : AnyDriver) (log now : WorkLog) (node bits : ℕ) (p q : Registers) (step : Step) (old new : E) where
   abbrev n : ℕ
   n = length (left_in log)
 
-  abbrev links_now : List E
-  links_now = slice_set links (base + n) new
-
   abbrev CameTo : Tried → Type 0
-  CameTo o = Came alike stands dry full was nxt log now links base node bits p q step d0 new n o
+  CameTo o = Came alike stands dry full was nxt log now node p q step old new o
 
   abbrev GoesBy : Tried → Type 0
-  GoesBy o = Goes stands p.version was nxt log now links links_now base (deeds_by p step o bits)
+  GoesBy o = Goes stands p.version was nxt log now old new (deeds_by p step o bits)
+
+  -- what was done there, and the links of the others
+  abbrev DoesHere : Tried → Type 0
+  DoesHere o = Does (on stands (suc n)) old new (held_of was) (held_after nxt o) (off_of was) (off_after nxt o)
+      (released_by o) (gave_by p step o)
+
+  does_here : (o : Tried) → CameTo o → DoesHere o
+  does_here o c = subst (λ (a : ℕ). Does (on stands a) old new (held_of was) (held_after nxt o) (off_of was)
+      (off_after nxt o) (released_by o) (gave_by p step o)) (used_next node n was c.own) c.acts.does
+
+  others_stand : (o : Tried) → CameTo o → OthersStand stands (suc n) old new
+  others_stand o c = subst (λ (a : ℕ). OthersStand stands a old new) (used_next node n was c.own) c.others
 
   -- the links with a deed more that ends no activation
-  holds_on : (t : List Deed) (j : List Entry) (d : Deed) (more : List (List ℕ)) → n < 64 → base + 64 ≤ length links →
-      left_in now ≡ left_in log → (opened_by t + opens_by d ≡ suc n) ⊎ (d.gave ≡ []) →
-      Does stands (slice_index_or links (base + n) d0) new (held_of was) (held_of nxt) (off_of was) (off_of nxt) more
-      d.gave → released_of (releases_in now) (suc n) ≡ released_of (releases_in log) (suc n) ++ more →
+  holds_on : (t : List Deed) (j : List Entry) (d : Deed) (more : List (List ℕ)) → left_in now ≡ left_in log →
+      (opened_by t + opens_by d ≡ suc n) ⊎ (d.gave ≡ []) →
+      Does (on stands (suc n)) old new (held_of was) (held_of nxt) (off_of was) (off_of nxt) more d.gave →
+      OthersStand stands (suc n) old new →
+      released_of (releases_in now) (suc n) ≡ released_of (releases_in log) (suc n) ++ more →
       ((a : ℕ) → (n ≡ a → ⊥) → released_of (releases_in now) (suc a) ≡ released_of (releases_in log) (suc a)) →
-      HoldsBy stands t was log j links base → HoldsBy stands (t ++ d ∷ []) nxt now j links_now base
-  holds_on t j d more few room e place does here others h =
+      HoldsBy stands t was log j old → HoldsBy stands (t ++ d ∷ []) nxt now j new
+  holds_on t j d more e place does others here else h =
       holds_deed stands t (releases_in log) (releases_in now) (leaves (left_in log) (held_of was))
-      (leaves (left_in now) (held_of nxt)) j links base n (length (left_in now)) d0 new (held_of was) (held_of nxt)
-      (off_of was) (off_of nxt) (off_of nxt) d more few room place does here others
+      (leaves (left_in now) (held_of nxt)) j n (length (left_in now)) old new (held_of was) (held_of nxt)
+      (off_of was) (off_of nxt) (off_of nxt) d more place does others here else
       (leaves_last (left_in log) (held_of was)) (rw e (leaves_last (left_in log) (held_of nxt)))
       (λ i ne. rw e (leaves_else (left_in log) (held_of nxt) (held_of was) i ne))
       (inl (ap (λ xs. length xs) e, refl)) h
@@ -119,9 +127,10 @@ module _ {E : Type 0} (alike : E → E → Type 0) (stands : E → Lists → Typ
         traces = λ t h. traces_deed was nxt log now t d [] c.released
             (λ i o. deeds_else length_of t d i (inr acts.kind) ∙ sym (append-nil _)) acts.opens acts.out acts.fits
             (gives_carried p step a) h;
-        holds = λ t j h k. holds_on t j d [] c.few c.room (c.left ∙ append-nil (left_in log))
+        holds = λ t j h k. holds_on t j d [] (c.left ∙ append-nil (left_in log))
             (stands_answered p step was nxt a node n (acts.place node n c.own) acts.opens acts.quiet t h.opened)
-            acts.does (released_same (releases_in log) (releases_in now) (suc n) c.released ∙ sym (append-nil _))
+            (does_here (Answered a) c) (others_stand (Answered a) c)
+            (released_same (releases_in log) (releases_in now) (suc n) c.released ∙ sym (append-nil _))
             (λ i ne. released_same (releases_in log) (releases_in now) (suc i) c.released) k;
       }
 
@@ -145,8 +154,9 @@ module _ {E : Type 0} (alike : E → E → Type 0) (stands : E → Lists → Typ
                   (ne_eqb _ _ x) ∙ append-nil _)
             ])
             (let s = acts.opens in omega (arith, s, z)) acts.out acts.fits (gives_carried p step answer) h;
-        holds = λ t j h k. holds_on t j d (m ∷ []) c.few c.room (c.left ∙ append-nil (left_in log)) (inl (w t h.opened))
-            acts.does (released_one (releases_in log) (releases_in now) n m c.released)
+        holds = λ t j h k. holds_on t j d (m ∷ []) (c.left ∙ append-nil (left_in log)) (inl (w t h.opened))
+            (does_here (Released m) c) (others_stand (Released m) c)
+            (released_one (releases_in log) (releases_in now) n m c.released)
             (λ i ne. released_none (releases_in log) (releases_in now) n m c.released i ne) k;
       }
 
@@ -164,10 +174,10 @@ module _ {E : Type 0} (alike : E → E → Type 0) (stands : E → Lists → Typ
             (λ i o. deeds_else length_of t d i (inr y) ∙ sym (append-nil _))
             (let s = acts.opens in omega (arith, s, z)) acts.out acts.fits (gives_carried p step DoneAnswer) h;
         holds = λ t j h k. holds_deed stands t (releases_in log) (releases_in now) (leaves (left_in log) (held_of was))
-            (leaves (left_in now) (held_of nxt)) j links base n (length (left_in now)) d0 new
-            (held_of was) (held_by l) (off_of was) (off_of nxt) (knows_bus_off l) d [] c.few c.room
+            (leaves (left_in now) (held_of nxt)) j n (length (left_in now)) old new
+            (held_of was) (held_by l) (off_of was) (off_of nxt) (knows_bus_off l) d []
             (inl (stands_ended p step was nxt l node n (acts.place node n c.own) acts.opens acts.quiet acts.kind t
-            h.opened)) acts.does
+            h.opened)) (does_here (Ended l) c) (others_stand (Ended l) c)
             (released_same (releases_in log) (releases_in now) (suc n) c.released ∙ sym (append-nil _))
             (λ i ne. released_same (releases_in log) (releases_in now) (suc i) c.released)
             (leaves_last (left_in log) (held_of was)) (rw left (leaves_before (left_in log) l (held_of nxt)))
@@ -181,14 +191,15 @@ module _ {E : Type 0} (alike : E → E → Type 0) (stands : E → Lists → Typ
       record {
         traces = λ t h. traces_unmet was nxt log now t c.released acts.opens acts.out h;
         holds = λ t j h k. forget stands t (releases_in now) (leaves (left_in now) (held_of nxt)) (length (left_in now))
-            (off_of nxt) j links_now base
-            (holds_on t j idle [] c.few c.room (c.left ∙ append-nil (left_in log)) (inr refl) acts.does
+            (off_of nxt) j new
+            (holds_on t j idle [] (c.left ∙ append-nil (left_in log)) (inr refl) (does_here Unmet c)
+            (others_stand Unmet c)
             (released_same (releases_in log) (releases_in now) (suc n) c.released ∙ sym (append-nil _))
             (λ i ne. released_same (releases_in log) (releases_in now) (suc i) c.released) k);
       }
 
-  pub goes_few : (o : Tried) → CameTo o → GoesBy o
-  goes_few Unmet c = goes_unmet c
-  goes_few (Answered a) c = goes_answered a c
-  goes_few (Released m) c = goes_released m c
-  goes_few (Ended l) c = goes_ended l c
+  pub goes_step : (o : Tried) → CameTo o → GoesBy o
+  goes_step Unmet c = goes_unmet c
+  goes_step (Answered a) c = goes_answered a c
+  goes_step (Released m) c = goes_released m c
+  goes_step (Ended l) c = goes_ended l c

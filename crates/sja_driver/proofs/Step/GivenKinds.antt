@@ -1,6 +1,6 @@
 -- What a deed gives: nothing, or a start, a credit, a request or a stop.
-use Rattle.std.proofs.Common.{◌≡◌, ℕ, ◌<◌, ◌≤◌, Bool, true, false, List, [], ◌∷◌, refl, arith}
-use Rattle.std.specs.Prelude.{nat_lt, if◌then◌else◌}
+use Rattle.std.proofs.Common.{◌≡◌, ℕ, ◌+◌, ◌<◌, ◌≤◌, Bool, true, false, List, [], ◌∷◌, refl, arith}
+use Rattle.std.specs.Prelude.{◌^◌, nat_lt, if◌then◌else◌}
 use Rattle.std.proofs.lemmas.Bool.{ltb-true}
 use Rattle.can_node.specs.declared.config.Config.{Config}
 use Rattle.can_node.specs.declared.request.Request.{Request}
@@ -20,7 +20,7 @@ use Rattle.sja_driver.specs.Deeds.{opened, active_after, FitsState, GivesSend, G
 -- from a driver that is active or isn't, and has opened so many activations
 pub data Kind (active : Bool) (n : ℕ) (s : Step) (r : StepAnswer) (gave : List Up) : Type 0 where
   quiet : gave ≡ [] → opened s r ≡ 0 → active_after active s r ≡ active → Kind active n s r gave
-  starts : active ≡ false → n < 64 → (config : Config) → gave ≡ StartItem config ∷ [] → opened s r ≡ 1 →
+  starts : active ≡ false → n < 2 ^ 56 → (config : Config) → gave ≡ StartItem config ∷ [] → opened s r ≡ 1 →
       active_after active s r ≡ true → Kind active n s r gave
   credits : active ≡ true → (k : ℕ) → gave ≡ Credit k ∷ [] → opened s r ≡ 0 → active_after active s r ≡ active →
       Kind active n s r gave
@@ -29,26 +29,66 @@ pub data Kind (active : Bool) (n : ℕ) (s : Step) (r : StepAnswer) (gave : List
   stops : active ≡ true → gave ≡ StopItem ∷ [] → opened s r ≡ 0 → active_after active s r ≡ false →
       Kind active n s r gave
 
-few_left : (n most : ℕ) (b : Bool) → most ≤ 64 → nat_lt n most ≡ b →
-    DoneAnswer ≡ (if b then DoneAnswer else Refused NoActivationLeft) → n < 64
-few_left n most true few less e = let l = ltb-true n most less in omega (arith, l, few)
-few_left n most false few less e = absurd cc
+is_left : (n most : ℕ) (b : Bool) → nat_lt n most ≡ b →
+    DoneAnswer ≡ (if b then DoneAnswer else Refused NoActivationLeft) → n < most
+is_left n most true less e = ltb-true n most less
+is_left n most false less e = absurd cc
 
--- in no version there are more than links
-most_few : (version : ℕ) → most_activations version ≤ 64
-most_few version = by (nat_lt version 3)
+-- no version has more
+most_few : (version : ℕ) → most_activations version ≤ 2 ^ 56
+most_few version = by (nat_lt version 3) (nat_lt version 4)
   where
-    by : (b : Bool) → (if b then 8 else 64) ≤ 64
-    by true = omega arith
-    by false = omega arith
+    most_itself : (n : ℕ) → n ≤ n
+    most_itself n = omega arith
+
+    at_most : (n : ℕ) → n ≤ 64 → n ≤ 2 ^ 56
+    at_most n few = omega (arith, few)
+
+    by : (b c : Bool) → (if b then 8 else if c then 64 else 2 ^ 56) ≤ 2 ^ 56
+    by true c = at_most 8 (omega arith)
+    by false true = at_most 64 (omega arith)
+    by false false = most_itself (2 ^ 56)
+
+below : (n most room : ℕ) → n < most → most ≤ room → n < room
+below n most room few less = omega (arith, few, less)
+
+few_left : (version n : ℕ) → FitsState version false n Start DoneAnswer → n < 2 ^ 56
+few_left version n fits =
+    below n (most_activations version) (2 ^ 56)
+    (is_left n (most_activations version) (nat_lt n (most_activations version)) refl fits) (most_few version)
+
+no_more : (n room : ℕ) → n ≤ room → n + 0 ≤ room
+no_more n room few = omega (arith, few)
+
+one_more : (n room : ℕ) → n < room → n + 1 ≤ room
+one_more n room few = omega (arith, few)
+
+-- an accepted start is one of those that the version has
+pub starts_few : (version room : ℕ) (active : Bool) (n : ℕ) (s : Step) (r : StepAnswer) →
+    FitsState version active n s r → n ≤ room → most_activations version ≤ room → n + opened s r ≤ room
+starts_few version room true n Start DoneAnswer fits few most = absurd cc
+starts_few version room false n Start DoneAnswer fits few most =
+    one_more n room (below n (most_activations version) room
+    (is_left n (most_activations version) (nat_lt n (most_activations version)) refl fits) most)
+starts_few version room active n Start other fits few most = no_more n room few
+starts_few version room active n Stop r fits few most = no_more n room few
+starts_few version room active n Window r fits few most = no_more n room few
+starts_few version room active n Release r fits few most = no_more n room few
+starts_few version room active n (Read address) r fits few most = no_more n room few
+starts_few version room active n (Write address value) r fits few most = no_more n room few
+starts_few version room active n (Load m) r fits few most = no_more n room few
+starts_few version room active n (Command value) r fits few most = no_more n room few
+starts_few version room active n (Await count) r fits few most = no_more n room few
+starts_few version room active n Sent r fits few most = no_more n room few
+starts_few version room active n Interrupt r fits few most = no_more n room few
+starts_few version room active n (At bits) r fits few most = no_more n room few
 
 pub kind_of : (version : ℕ) (active : Bool) (n : ℕ) (s : Step) (r : StepAnswer) (gave : List Up) →
     FitsState version active n s r →
     Gives s r gave → Kind active n s r gave
 kind_of version true n Start DoneAnswer gave fits g = absurd cc
 kind_of version false n Start DoneAnswer gave fits g =
-    starts refl (few_left n (most_activations version) (nat_lt n (most_activations version)) (most_few version) refl
-    fits) g.0 g.1 refl refl
+    starts refl (few_left version n fits) g.0 g.1 refl refl
 kind_of version active n Start NoMessage gave fits g = quiet g refl refl
 kind_of version active n Start (Shown m) gave fits g = quiet g refl refl
 kind_of version active n Start (Released k) gave fits g = quiet g refl refl
@@ -94,7 +134,7 @@ kind_of version active n (At bits) r gave fits g = quiet g refl refl
 
 -- a driver was in reset where it opened an activation
 pub opened_from : (active : Bool) (n : ℕ) (s : Step) (r : StepAnswer) (gave : List Up) → Kind active n s r gave →
-    opened s r ≡ 1 → (active ≡ false) × (n < 64)
+    opened s r ≡ 1 → (active ≡ false) × (n < 2 ^ 56)
 opened_from active n s r gave (quiet none o same) one = absurd (omega (arith, o, one))
 opened_from active n s r gave (starts was few config is o same) one = (was, few)
 opened_from active n s r gave (credits was k is o same) one = absurd (omega (arith, o, one))

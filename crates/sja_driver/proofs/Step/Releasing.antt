@@ -32,7 +32,7 @@ does_pull stands old new held now_held off now_off p = record {
 stays : (d e : Driver Active) → link_in e ≡ link_in d → (node n : ℕ) → IsDriverOf node n (InActive d) →
     IsDriverOf node (n + 0) (InActive e)
 stays d e same node n h =
-    subst (λ (k : ℕ). IsDriverOf node k (InActive e)) (sym (add-zero n)) (same ∙ h.0, h.1)
+    subst (λ (k : ℕ). IsDriverOf node k (InActive e)) (sym (add-zero n)) (same ∙ h)
 
 module _ {E : Type 0} (alike : E → E → Type 0) (stands : E → Lists → Type 0) (dry full : E → Type 0)
     (old new : E) (d e : Driver Active) (same : link_in e ≡ link_in d) where

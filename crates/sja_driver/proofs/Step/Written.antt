@@ -36,7 +36,7 @@ gives_none : {E : Type 0} (stands : E → Lists → Type 0) (e : E) → IsGiven 
 gives_none stands e l h =
     subst (λ xs. stands e (record l { given = xs })) (sym (append-nil l.given)) h
 
-does_none : {E : Type 0} (stands : E → Lists → Type 0) (e : E) (held : List (List ℕ)) (off : _) →
+pub does_none : {E : Type 0} (stands : E → Lists → Type 0) (e : E) (held : List (List ℕ)) (off : _) →
     Does stands e e held held off off [] []
 does_none stands e held off = record {
   got = [];
@@ -50,7 +50,7 @@ same_place : (d : AnyDriver) (node n : ℕ) → IsDriverOf node n d → IsDriver
 same_place d node n h = subst (λ (k : ℕ). IsDriverOf node k d) (sym (add-zero n)) h
 
 -- in reset, and out of it
-if_out : (d : AnyDriver) (P : Type 0) → P → IfOut d P
+pub if_out : (d : AnyDriver) (P : Type 0) → P → IfOut d P
 if_out (InReset d) P h = tt
 if_out (InActive d) P h = h
 

@@ -1,25 +1,21 @@
--- A try of a step at one link: what is asked of the end that it is made at, and what it hands out (this project's own
--- rule).
-use Rattle.std.specs.Prelude.{◌≡◌, ◌<◌, Result, Ok, Err}
+-- A try of a step: what is asked of the end that it is made at, and what it hands out (this project's own rule).
+use Rattle.std.specs.Prelude.{◌≡◌, ℕ, Result, Ok, Err}
 use Rattle.sja_link.specs.declared.driver_ledger.DriverLedger.{DriverLedger}
-use Rattle.sja_link.specs.declared.link_id.LinkId.{LinkId}
 use Rattle.sja_regs.specs.declared.reg_fault.RegFault.{RegFault}
 use Rattle.sja_script.specs.declared.step_answer.StepAnswer.{StepAnswer}
 use Rattle.sja_script.specs.declared.step_answer.StepAnswer.TheVariants.{Done, Refused}
 use Rattle.sja_driver.specs.declared.any_driver.AnyDriver.{AnyDriver}
-use Rattle.sja_driver.specs.declared.any_driver.AnyDriver.TheVariants.{InReset, InActive}
 use Rattle.sja_driver.specs.declared.attempt.Attempt.{Attempt}
 use Rattle.sja_driver.specs.declared.attempt.Attempt.TheVariants.{Unmet as UnmetAttempt, Answered as AnsweredAttempt}
 use Rattle.sja_driver.specs.declared.attempt.Attempt.TheVariants.{Released as ReleasedAttempt}
 use Rattle.sja_driver.specs.Answers.{refusal_of}
-use Rattle.sja_driver.specs.Drivers.{started_in, next_link, link_in}
+use Rattle.sja_driver.specs.AnyDrivers.{whose}
 use Rattle.sja_driver.specs.Tries.{Tried}
 use Rattle.sja_driver.specs.Tries.Tried.{Unmet, Answered, Released, Ended}
 
--- the end is that of its present activation; in reset that of the next one, and any once all were used
-abbrev pub FitsEnd : {E : Type 0} → (E → LinkId) → E → AnyDriver → Type 0
-FitsEnd link e (InReset d) = started_in d < 64 → link e ≡ next_link d
-FitsEnd link e (InActive d) = link e ≡ link_in d
+-- the end is that of the driver's node
+abbrev pub FitsEnd : {E : Type 0} → (E → ℕ) → E → AnyDriver → Type 0
+FitsEnd node_at e d = node_at e ≡ whose d
 
 -- a step that the port does, or refuses
 abbrev pub done_answer : {A : Type 0} → Result A RegFault → StepAnswer

@@ -3,8 +3,8 @@ use Rattle.std.proofs.Common.{◌≡◌, ℕ, ◌≤◌, Bool, true, false, List
 use Rattle.std.proofs.Common.{append_assoc, append-nil, arith, inl, inr}
 use Rattle.sja_link.specs.declared.down.Down.{Down}
 use Rattle.sja_link.specs.declared.entry.Entry.{Entry}
-use Rattle.sja_link.specs.Lists.{messages}
-use Rattle.sja_link.specs.Deques.{Deques, Lies}
+use Rattle.sja_link.specs.Lists.{messages, on, is_on}
+use Rattle.sja_link.specs.Deques.{Deques, Lies, down_on, IsDryDown}
 use Rattle.sja_link.specs.Looking.{IsTaken, Holds, off_among}
 use Rattle.sja_link.specs.Accounts.{account}
 use Rattle.sja_link.specs.Places.{place_of}
@@ -12,6 +12,7 @@ use Rattle.sja_link.specs.Parts.{part}
 use Rattle.sja_link.specs.Carried.{put_of}
 use Rattle.sja_link.proofs.Ledger.Pullings.{off_both, off_stays}
 use Rattle.sja_link.proofs.JournalEntries.ListCounts.{messages_both}
+use Rattle.sja_link.proofs.QueuedLinks.Lying.{down_here}
 use Rattle.sja_driver.specs.Acting.{Looks}
 use Rattle.sja_driver.specs.Deeds.{Deed, opened_by, released_lengths, deeds_of}
 use Rattle.sja_driver.specs.Windows.{off_by, window_of}
@@ -23,21 +24,23 @@ pub record IsShown (j : List Entry) (deeds : List Deed) (off : Bool) (window : L
   pub off_is : off_by (place_of j).bits j (opened_by deeds) ≡ off
   pub window_is : off ≡ false → window_of j deeds (place_of j).bits ≡ window
 
--- a look at the link of the present activation, where what is held is what was got and not released, and it is less
--- than what a link carries
+-- a look at the link of the present activation, which is in use, where what is held is what was got and not released,
+-- and it is less than what a link carries
 pub is_shown : {alike : Deques → Deques → Type 0} (j : List Entry) (deeds : List Deed) (old : Deques) (got : List Down)
     (given : List _)
     (released held window : List (List ℕ)) (off now_off : Bool) →
-    Lies old (account j (opened_by deeds) (record { got = got; given = given })) → Holds got released held →
+    Lies old (opened_by deeds) (account j (opened_by deeds) (record { got = got; given = given })) →
+    Holds got released held →
     off ≡ off_among false got →
     released_lengths (deeds_of deeds (opened_by deeds)) ≡ map (λ (m : List ℕ). length m) released →
     ((all down : List Down) → put_of (part j (opened_by deeds)) ≡ all ++ down → Holds all released window →
-    length window ≤ 21) → Looks alike Lies (λ (s : Deques). s.down ≡ []) old held window off now_off →
-    IsShown j deeds now_off window
-is_shown j deeds old got given released held window off now_off lies holds known lengths few look =
+    length window ≤ 21) →
+    (look : Looks alike (on Lies (opened_by deeds)) (is_on IsDryDown (opened_by deeds)) old held window off now_off) →
+    look.at.activation ≡ opened_by deeds → IsShown j deeds now_off window
+is_shown j deeds old got given released held window off now_off lies holds known lengths few look used =
     let p = look.pulls in
-    let put : put_of (part j (opened_by deeds)) ≡ (got ++ p.got) ++ look.at.down =
-    (p.lists (account j (opened_by deeds) (record { got = got; given = given })) lies).0 in
+    let put : put_of (part j (opened_by deeds)) ≡ (got ++ p.got) ++ down_on look.at (opened_by deeds) =
+    (p.lists (account j (opened_by deeds) (record { got = got; given = given })) lies).down in
     let now : now_off ≡ off_among false (got ++ p.got) = p.off_is ∙ ap (λ b. off_among b p.got) known
     ∙ sym (off_both false got p.got) in
     let told : Holds (got ++ p.got) released window =
@@ -56,14 +59,17 @@ is_shown j deeds old got given released held window off now_off lies holds known
           window_is = λ e. window_now j deeds all_of released window same told lengths;
         }
 
-    over : (b : Bool) → now_off ≡ b → IsTaken (λ (s : Deques). s.down ≡ []) look.at now_off window →
-        put_of (part j (opened_by deeds)) ≡ (got ++ look.pulls.got) ++ look.at.down →
+    lying : List Down
+    lying = down_on look.at (opened_by deeds)
+
+    over : (b : Bool) → now_off ≡ b → IsTaken (is_on IsDryDown (opened_by deeds)) look.at now_off window →
+        put_of (part j (opened_by deeds)) ≡ (got ++ look.pulls.got) ++ lying →
         now_off ≡ off_among false (got ++ look.pulls.got) → Holds (got ++ look.pulls.got) released window →
         IsShown j deeds now_off window
     over true is all put now told = record {
       off_is =
-          ap (off_among false) (put_now j (opened_by deeds) ∙ put) ∙ off_both false (got ++ look.pulls.got) look.at.down
-          ∙ ap (λ b. off_among b look.at.down) (sym now ∙ is) ∙ off_stays look.at.down ∙ sym is;
+          ap (off_among false) (put_now j (opened_by deeds) ∙ put) ∙ off_both false (got ++ look.pulls.got) lying
+          ∙ ap (λ b. off_among b lying) (sym now ∙ is) ∙ off_stays lying ∙ sym is;
       window_is = λ e. absurd (wrong is e);
     }
       where
@@ -73,6 +79,7 @@ is_shown j deeds old got given released held window off now_off lies holds known
       where
         wrong : now_off ≡ false → now_off ≡ true → ⊥
         wrong p q = cc
-    over false is (inr (inl many)) put now told = let l = few (got ++ look.pulls.got) look.at.down put told in
+    over false is (inr (inl many)) put now told = let l = few (got ++ look.pulls.got) lying put told in
         absurd (omega (arith, l, many))
-    over false is (inr (inr dry)) put now told = all_got now_off look.at.down (got ++ look.pulls.got) dry put now told
+    over false is (inr (inr dry)) put now told = all_got now_off lying (got ++ look.pulls.got)
+        (down_here look.at (opened_by deeds) (sym used) ∙ dry (sym used)) put now told

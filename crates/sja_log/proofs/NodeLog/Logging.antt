@@ -1,5 +1,5 @@
 -- The logs of activations and nodes, one after another.
-use Rattle.std.proofs.Common.{◌≡◌, ℕ, zero, suc, ◌+◌, ◌*◌, ◌<◌, List, [], ◌∷◌, ◌++◌, length, map, drop, refl, sym, ap}
+use Rattle.std.proofs.Common.{◌≡◌, ℕ, zero, suc, ◌+◌, ◌<◌, List, [], ◌∷◌, ◌++◌, length, map, drop, refl, sym, ap}
 use Rattle.std.proofs.Common.{◌∙◌, subst, arith, inl, inr}
 use Rattle.std.specs.Prelude.{slice_index_or}
 use Rattle.std.proofs.lemmas.Bool.{cases_eq}
@@ -28,48 +28,43 @@ leaves_held left held a e =
     get_or_push (map (λ (l : DriverLedger). held_by l) left) held [] a (n ∙ sym e)
 
 -- no activation yet, and one more
-pub no_activations : (driver : LoggedDriver) (links : List (List Down)) (base : ℕ) →
-    AreActivations driver links base 0 []
-no_activations driver links base = record { count_is = refl; each = λ a d l less. absurd (omega (arith, less)) }
+pub no_activations : (driver : LoggedDriver) (down : ℕ → List Down) → AreActivations driver down 0 []
+no_activations driver down = record { count_is = refl; each = λ a d less. absurd (omega (arith, less)) }
 
-pub activations_push : (driver : LoggedDriver) (links : List (List Down)) (base n : ℕ) (logs : List ActivationValue)
-    (x : ActivationValue) → AreActivations driver links base n logs →
-    ((l : List Down) → x ≡ activation_after driver (slice_index_or links (base + n) l) n) →
-    AreActivations driver links base (n + 1) (logs ++ x ∷ [])
-activations_push driver links base n logs x h is = record {
+pub activations_push : (driver : LoggedDriver) (down : ℕ → List Down) (n : ℕ) (logs : List ActivationValue)
+    (x : ActivationValue) → AreActivations driver down n logs → x ≡ activation_after driver (down (n + 1)) n →
+    AreActivations driver down (n + 1) (logs ++ x ∷ [])
+activations_push driver down n logs x h is = record {
   count_is = let c = h.count_is in let e = length-append logs (x ∷ []) in omega (arith, c, e);
-  each = λ a d l less. elim (cases_eq n a) [
+  each = λ a d less. elim (cases_eq n a) [
     | inl e ↦
-        get_or_push logs x d a (h.count_is ∙ e) ∙ is l
-        ∙ ap (λ m. activation_after driver (slice_index_or links (base + m) l) m) e
+        get_or_push logs x d a (h.count_is ∙ e) ∙ is ∙ ap (λ m. activation_after driver (down (m + 1)) m) e
     | inr differ ↦
         let c = h.count_is in
         get_or_append_left logs (x ∷ []) d a (omega (arith, c, less, differ))
-        ∙ h.each a d l (omega (arith, less, differ))
+        ∙ h.each a d (omega (arith, less, differ))
   ];
 }
 
 -- no node yet, and one more
-pub no_nodes : (logs : List NodeLog) (drivers : List LoggedDriver) (links : List (List Down)) →
-    AreNodeEnds logs drivers links 0 []
-no_nodes logs drivers links = record { count_is = refl; each = λ k g d n less. absurd (omega (arith, less)) }
+pub no_nodes : (logs : List NodeLog) (drivers : List LoggedDriver) (down : ℕ → ℕ → List Down) →
+    AreNodeEnds logs drivers down 0 []
+no_nodes logs drivers down = record { count_is = refl; each = λ k g d n less. absurd (omega (arith, less)) }
 
-pub nodes_push : (logs : List NodeLog) (drivers : List LoggedDriver) (links : List (List Down)) (n : ℕ)
-    (nodes : List NodeValue) (x : NodeValue) → AreNodeEnds logs drivers links n nodes →
-    ((g : NodeLog) (d : LoggedDriver) → IsNodeEnd (slice_index_or logs n g) (slice_index_or drivers n d) links
-    (64 * n) x) → AreNodeEnds logs drivers links (n + 1) (nodes ++ x ∷ [])
-nodes_push logs drivers links n nodes x h is = record {
+pub nodes_push : (logs : List NodeLog) (drivers : List LoggedDriver) (down : ℕ → ℕ → List Down) (n : ℕ)
+    (nodes : List NodeValue) (x : NodeValue) → AreNodeEnds logs drivers down n nodes →
+    ((g : NodeLog) (d : LoggedDriver) → IsNodeEnd (slice_index_or logs n g) (slice_index_or drivers n d) (down n) x) →
+    AreNodeEnds logs drivers down (n + 1) (nodes ++ x ∷ [])
+nodes_push logs drivers down n nodes x h is = record {
   count_is = let c = h.count_is in let e = length-append nodes (x ∷ []) in omega (arith, c, e);
   each = λ k g d y less. elim (cases_eq n k) [
     | inl e ↦
         let at : slice_index_or (nodes ++ x ∷ []) k y ≡ x = get_or_push nodes x y k (h.count_is ∙ e) in
-        subst (λ (z : NodeValue). IsNodeEnd (slice_index_or logs k g) (slice_index_or drivers k d) links (64 * k) z)
-        (sym at)
-        (subst (λ (m : ℕ). IsNodeEnd (slice_index_or logs m g) (slice_index_or drivers m d) links (64 * m) x) e (is g
-        d))
+        subst (λ (z : NodeValue). IsNodeEnd (slice_index_or logs k g) (slice_index_or drivers k d) (down k) z) (sym at)
+        (subst (λ (m : ℕ). IsNodeEnd (slice_index_or logs m g) (slice_index_or drivers m d) (down m) x) e (is g d))
     | inr differ ↦
         let c = h.count_is in
-        subst (λ (z : NodeValue). IsNodeEnd (slice_index_or logs k g) (slice_index_or drivers k d) links (64 * k) z)
+        subst (λ (z : NodeValue). IsNodeEnd (slice_index_or logs k g) (slice_index_or drivers k d) (down k) z)
         (sym (get_or_append_left nodes (x ∷ []) y k (omega (arith, c, less, differ)))) (h.each k g d y (omega
         (arith, less, differ)))
   ];

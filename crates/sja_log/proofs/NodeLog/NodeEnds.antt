@@ -1,11 +1,10 @@
 -- The log of a run, by what its bus leaves, its drivers, and what lay on their links.
-use Rattle.std.proofs.Common.{◌≡◌, ℕ, ◌+◌, ◌*◌, ◌<◌, ◌≤◌, List, [], length, map, sym, ap, ◌∙◌, subst, arith}
+use Rattle.std.proofs.Common.{◌≡◌, ℕ, ◌+◌, ◌<◌, List, [], length, map, sym, ap, ◌∙◌, subst, arith}
 use Rattle.std.specs.Prelude.{slice_index_or}
 use Rattle.std.proofs.lemmas.List.{length-map, get_or-map, ext_get_or}
 use Rattle.lemmas.proofs.Lists.{some_of}
 use Rattle.sja_link.specs.declared.entry.Entry.{Entry}
 use Rattle.sja_link.specs.declared.down.Down.{Down}
-use Rattle.sja_link.specs.declared.link_id.LinkId.{LinkId}
 use Rattle.sja_link.specs.Carried.{taken_of}
 use Rattle.sja_link.specs.Parts.{part}
 use Rattle.sja_wire.specs.declared.node_log.NodeLog.{NodeLog}
@@ -13,12 +12,10 @@ use Rattle.sja_wire.specs.Lawful.{CountersAre, IsBusRun}
 use Rattle.sja_wire.specs.Wire.{journal_at}
 use Rattle.sja_plan.specs.Plan.{PlanValue}
 use Rattle.sja_script.specs.declared.strike.Strike.{Strike}
-use Rattle.sja_driver.specs.declared.any_driver.AnyDriver.{AnyDriver}
-use Rattle.sja_driver.specs.declared.any_driver.AnyDriver.TheVariants.{InReset, InActive}
 use Rattle.sja_driver.specs.declared.logged_driver.LoggedDriver.{LoggedDriver}
-use Rattle.sja_driver.specs.AnyDrivers.{opened_of, IsDriverOf}
+use Rattle.sja_driver.specs.AnyDrivers.{opened_of}
 use Rattle.sja_driver.specs.Deeds.{Deed, given_in, deeds_of, deeds_at}
-use Rattle.sja_driver.specs.LoggedDrivers.{node_of, driver_of, log_of, ended_of, IsLawful}
+use Rattle.sja_driver.specs.LoggedDrivers.{driver_of, log_of}
 use Rattle.sja_driver.specs.Logs.{Traces}
 use Rattle.sja_log.specs.Log.{ActivationValue, NodeValue, RunValue, journals_in}
 use Rattle.sja_log.specs.Runs.{IsTrace, IsRun}
@@ -26,17 +23,10 @@ use Rattle.sja_log.specs.Settling.{IsSettled, AreSettled}
 use Rattle.sja_log.proofs.NodeLog.Logs.{journal_there, run_of}
 use Rattle.sja_log.specs.Finishing.{activation_after, IsNodeEnd, AreNodeEnds}
 
--- a driver opened at most as many activations as its node has links, and at most one after those that ended
-pub opened_few : (node ended : ℕ) (d : AnyDriver) → IsDriverOf node ended d →
-    (opened_of d ≤ 64) × (opened_of d ≤ ended + 1)
-opened_few node ended (InReset d) h = let a = h.1 in let b = h.2 in (omega (arith, a, b), omega (arith, a))
-opened_few node ended (InActive d) h =
-    let a = ap (λ (l : LinkId). l.activation) h.0 in let b = h.1 in (omega (arith, a, b), omega (arith, a))
-
 -- ---- one node
 
-module _ (j : List Entry) (deeds : List Deed) (driver : LoggedDriver) (left_down : List (List Down)) (base : ℕ)
-    (log : NodeLog) (node : NodeValue) (end : IsNodeEnd log driver left_down base node) (same : node.journal ≡ j) where
+module _ (j : List Entry) (deeds : List Deed) (driver : LoggedDriver) (down : ℕ → List Down)
+    (log : NodeLog) (node : NodeValue) (end : IsNodeEnd log driver down node) (same : node.journal ≡ j) where
   -- its trace, by its driver's, where all that was given was taken
   pub trace_of : (version : ℕ) → Traces version (driver_of driver) (log_of driver) deeds →
       ((a : ℕ) → given_in (deeds_of deeds a) ≡ taken_of (part j a)) → IsTrace version node deeds
@@ -48,25 +38,23 @@ module _ (j : List Entry) (deeds : List Deed) (driver : LoggedDriver) (left_down
         let few : a < opened_of (driver_of driver) = let c = end.activations.count_is in omega (arith, c, less) in
         sym (traces.released (a + 1))
         ∙ ap (λ (x : ActivationValue). map (λ (m : List ℕ). length m) x.released)
-        (sym (end.activations.each a d [] few));
+        (sym (end.activations.each a d few));
   }
 
   -- its activations are settled, where what is told of each is
-  pub settled_of : IsLawful driver → ((a : ℕ) → a < 64 →
-      IsSettled j (a + 1) (activation_after driver (slice_index_or left_down (base + a) []) a)) → AreSettled node
-  settled_of lawful settled a d less =
+  pub settled_of : ((a : ℕ) → a < opened_of (driver_of driver) →
+      IsSettled j (a + 1) (activation_after driver (down (a + 1)) a)) → AreSettled node
+  settled_of settled a d less =
       let few : a < opened_of (driver_of driver) = let c = end.activations.count_is in omega (arith, c, less) in
-      let eight = (opened_few (node_of driver) (ended_of driver) (driver_of driver) lawful).0 in
       subst (λ (l : List Entry). IsSettled l (a + 1) (slice_index_or node.activations a d)) (sym same)
-      (subst (λ (x : ActivationValue). IsSettled j (a + 1) x) (sym (end.activations.each a d [] few))
-      (settled a (omega (arith, few, eight))))
+      (subst (λ (x : ActivationValue). IsSettled j (a + 1) x) (sym (end.activations.each a d few)) (settled a few))
 
 -- ---- all nodes
 
 -- the nodes of a log are those of the bus with these journals, of these drivers, and of what lay on their links
 pub record AreEnds (plan : PlanValue) (log : RunValue) (logs : List NodeLog) (journals : List (List Entry))
-    (drivers : List LoggedDriver) (left_down : List (List Down)) : Type 0 where
-  pub nodes : AreNodeEnds logs drivers left_down (length drivers) log.nodes
+    (drivers : List LoggedDriver) (down : ℕ → ℕ → List Down) : Type 0 where
+  pub nodes : AreNodeEnds logs drivers down (length drivers) log.nodes
   pub drivers_count : length drivers ≡ length plan.nodes
   pub journals_count : length journals ≡ length plan.nodes
   pub journals_are : map (λ (g : NodeLog). g.journal.entries) logs ≡ journals
@@ -75,8 +63,8 @@ pub record AreEnds (plan : PlanValue) (log : RunValue) (logs : List NodeLog) (jo
       (slice_index_or logs k g).rxerr
 
 module _ (plan : PlanValue) (log : RunValue) (logs : List NodeLog) (journals : List (List Entry))
-    (drivers : List LoggedDriver) (left_down : List (List Down))
-    (h : AreEnds plan log logs journals drivers left_down) where
+    (drivers : List LoggedDriver) (down : ℕ → ℕ → List Down)
+    (h : AreEnds plan log logs journals drivers down) where
   pub nodes_count : length log.nodes ≡ length plan.nodes
   nodes_count = h.nodes.count_is ∙ h.drivers_count
 
@@ -94,7 +82,7 @@ module _ (plan : PlanValue) (log : RunValue) (logs : List NodeLog) (journals : L
     pub some_driver : LoggedDriver
     some_driver = let c = h.drivers_count in let i = in_plan in some_of drivers 0 (omega (arith, c, i))
 
-    pub node_end : IsNodeEnd (slice_index_or logs k some_log) (slice_index_or drivers k some_driver) left_down (64 * k)
+    pub node_end : IsNodeEnd (slice_index_or logs k some_log) (slice_index_or drivers k some_driver) (down k)
         (slice_index_or log.nodes k n)
     node_end = let c = h.drivers_count in let i = in_plan in
         h.nodes.each k some_log some_driver n (omega (arith, c, i))

@@ -1,11 +1,10 @@
 -- A node after a bit.
 use Rattle.std.proofs.Common.{◌≡◌, ℕ, suc, ◌+◌, ◌≤◌, Bool, true, false, List, [], ◌++◌, refl, sym, ap, ◌∙◌, subst}
 use Rattle.std.proofs.Common.{append_assoc, arith}
-use Rattle.std.specs.Prelude.{slice_index_or}
 use Rattle.can_bits.specs.declared.level.Level.{Level}
 use Rattle.sja_link.specs.declared.entry.Entry.{Entry}
 use Rattle.sja_link.specs.Accounts.{Account}
-use Rattle.sja_link.specs.Deques.{Deques, Lies}
+use Rattle.sja_link.specs.Deques.{Deques, Lies, up_on}
 use Rattle.sja_link.specs.Parts.{part}
 use Rattle.sja_link.specs.Carried.{taken_of}
 use Rattle.lemmas.specs.Picking.{EachAfter}
@@ -38,7 +37,7 @@ use Rattle.sja_log.proofs.Trace.TbsAndAbort.{tbs_right}
 use Rattle.sja_driver.proofs.OneBit.BitPort.{ported_bit}
 use Rattle.sja_driver.proofs.Account.Dry.{none_taken_own}
 use Rattle.sja_driver.proofs.Trace.Later.{SameBy, done_more, all_see, all_carry, settings_by_then}
-use Rattle.sja_log.proofs.OneNode.Gathered.{no_link, lies_after, linked_after}
+use Rattle.sja_log.proofs.OneNode.Gathered.{lies_after, linked_after}
 use Rattle.sja_driver.proofs.OneNode.Shown.{as_told, shows_told}
 use Rattle.sja_driver.proofs.Account.Own.{AreOwn, own_activation, own_stopped, own_sends, own_when}
 
@@ -50,9 +49,9 @@ abbrev pub BitOf : Registers → Registers → Bool → List Entry → List Entr
 BitOf p q untold j k driven seen = IsNodeBit (OrdersOf p) (λ turn. q ≡ after_turn p turn) (q ≡ p) untold j k driven seen
 
 module _ {version : ℕ} {size : ℕ} {j k : List Entry} {deeds : List Deed} {driver : LoggedDriver}
-    {p q : Registers} {links : List Deques} (after : List Deques) {base : ℕ} {untold : Bool} {driven seen : Level}
-    (h : IsNode version size j deeds driver p links base) (b : BitOf p q untold j k driven seen)
-    (kept : (acc : ℕ → Account) → Kept Lies j links base acc → Kept Lies k after base acc) where
+    {p q : Registers} {links : Deques} (after : Deques) {untold : Bool} {driven seen : Level}
+    (h : IsNode version size j deeds driver p links) (b : BitOf p q untold j k driven seen)
+    (kept : (acc : ℕ → Account) → Kept Lies j links acc → Kept Lies k after acc) where
   abbrev changed : Bool
   changed = b.opens.aborts.changed
 
@@ -74,9 +73,8 @@ module _ {version : ℕ} {size : ℕ} {j k : List Entry} {deeds : List Deed} {dr
   none_taken : b.opens.taken ≡ j
   none_taken =
       none_taken_own j b.opens.taken b.opens.items (λ a. given_in (deeds_of deeds (suc a)))
-      (λ a few. before (suc a)) k es own from_taken
-      (λ a. (slice_index_or after (base + a) no_link).up)
-      (λ a few. (lies_after k after h.linked.holds kept a no_link few).1)
+      (λ a. before (suc a)) k es own from_taken (λ a. up_on after (suc a))
+      (λ a. (lies_after k after h.linked.holds kept a).up)
 
   opened_is : b.opened ≡ j ++ abort_as changed
   opened_is = b.opens.aborts.whole ∙ ap (λ (l : List Entry). l ++ abort_as changed) none_taken
@@ -177,7 +175,7 @@ module _ {version : ℕ} {size : ℕ} {j k : List Entry} {deeds : List Deed} {dr
     }
 
     -- its record had a cut
-    pub after_one_bit : HasCut j → IsNode version size k deeds driver q after base
+    pub after_one_bit : HasCut j → IsNode version size k deeds driver q after
     after_one_bit lawful = record {
       traced = h.traced;
       linked = linked_after driver h.linked.holds kept (λ a. given_taken deeds k a (in_time.when a)) level;

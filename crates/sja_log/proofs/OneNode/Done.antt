@@ -1,7 +1,7 @@
 -- A step that was done: what it gave, and what its driver did and holds after it.
-use Rattle.std.proofs.Common.{◌≡◌, ◌≢◌, ℕ, suc, ◌+◌, ◌<◌, ◌≤◌, Bool, List, [], ◌∷◌, ◌++◌, length, sym, ap}
+use Rattle.std.proofs.Common.{◌≡◌, ◌≢◌, ℕ, suc, ◌+◌, Bool, List, [], ◌∷◌, ◌++◌, length, sym, ap}
 use Rattle.std.proofs.Common.{◌∙◌, subst, arith}
-use Rattle.std.specs.Prelude.{slice_index_or, Some}
+use Rattle.std.specs.Prelude.{Some}
 use Rattle.sja_link.specs.declared.up.Up.{Up}
 use Rattle.sja_link.specs.declared.entry.Entry.{Entry}
 use Rattle.sja_link.specs.Deques.{Deques, Lies}
@@ -14,14 +14,10 @@ use Rattle.sja_link.specs.Links.{stops_of}
 use Rattle.sja_regs.specs.declared.registers.Registers.{Registers}
 use Rattle.sja_script.specs.declared.step.Step.{Step}
 use Rattle.sja_script.specs.declared.step_answer.StepAnswer.{StepAnswer}
-use Rattle.sja_driver.specs.declared.any_driver.AnyDriver.{AnyDriver}
-use Rattle.sja_driver.specs.declared.any_driver.AnyDriver.TheVariants.{InReset, InActive}
 use Rattle.sja_driver.specs.declared.logged_driver.LoggedDriver.{LoggedDriver}
-use Rattle.sja_driver.specs.declared.work_log.WorkLog.{WorkLog}
-use Rattle.sja_driver.specs.AnyDrivers.{IsDriverOf}
 use Rattle.sja_driver.specs.Deeds.{Deed, opens_by, opened_by, is_active, given_in, deeds_of, Gives}
-use Rattle.sja_driver.specs.Holding.{HoldsBy, place_after}
-use Rattle.sja_driver.specs.LoggedDrivers.{node_of, driver_of, log_of, ended_of, Steps}
+use Rattle.sja_driver.specs.Holding.{HoldsBy}
+use Rattle.sja_driver.specs.LoggedDrivers.{node_of, driver_of, log_of}
 use Rattle.sja_driver.specs.Logs.{Traces}
 use Rattle.sja_driver.proofs.Step.Giving.{gives_carried}
 use Rattle.sja_driver.proofs.Trace.Stepping.{given_push, given_taken}
@@ -31,7 +27,7 @@ use Rattle.sja_driver.proofs.Step.GivenKinds.{Kind, kind_of}
 use Rattle.sja_driver.proofs.Step.GivenKinds.Kind.{quiet, starts, credits, sends, stops}
 use Rattle.sja_link.proofs.Growing.Taking.{waiting, AtMostOne}
 use Rattle.sja_log.proofs.OneNode.StepTried.{Comes, comes}
-use Rattle.sja_log.proofs.OneNode.Trying.{alike, shows_none, takes_none}
+use Rattle.sja_log.proofs.OneNode.Trying.{StepsHere}
 
 -- ---- what a deed gives
 
@@ -49,46 +45,35 @@ at_most_one active n s r gave (stops was is o same) =
     let e : length gave ≡ 1 = ap (λ l. length l) is in omega (arith, e)
 
 -- it gives on the link that is read
-pub is_read : (j : List Entry) (deeds : List Deed) (d : Deed) → IsLevel j deeds → opened_by deeds ≤ 64 →
+pub is_read : (j : List Entry) (deeds : List Deed) (d : Deed) → IsLevel j deeds →
     Kind (is_active deeds) (opened_by deeds) d.step d.answer d.gave → d.gave ≢ [] →
-    (opened_by deeds + opens_by d ≡ suc (stops_of j)) × (stops_of j < 64)
-is_read j deeds d level most (quiet none o same) some = absurd (some none)
-is_read j deeds d level most (starts was few config is o same) some =
-    let e = level.ended in let w : one_if (is_active deeds) ≡ 0 =
-    ap one_if was in (omega (arith, e, w, o), omega (arith, e, w, few))
-is_read j deeds d level most (credits was k is o same) some =
-    let e = level.ended in let w : one_if (is_active deeds) ≡ 1 =
-    ap one_if was in (omega (arith, e, w, o), omega (arith, e, w, most))
-is_read j deeds d level most (sends was request is o same) some =
-    let e = level.ended in let w : one_if (is_active deeds) ≡ 1 =
-    ap one_if was in (omega (arith, e, w, o), omega (arith, e, w, most))
-is_read j deeds d level most (stops was is o same) some =
-    let e = level.ended in let w : one_if (is_active deeds) ≡ 1 =
-    ap one_if was in (omega (arith, e, w, o), omega (arith, e, w, most))
-
-pub opened_most : {version : ℕ} (deeds : List Deed) (w : AnyDriver) (log : WorkLog) (node n : ℕ) →
-    Traces version w log deeds →
-    IsDriverOf node n w → opened_by deeds ≤ 64
-opened_most deeds (InReset d) log node n trace place =
-    let e = trace.opened in let s = place.1 in let l = place.2 in omega (arith, e, s, l)
-opened_most deeds (InActive d) log node n trace place =
-    let e = trace.opened in let s = ap (λ l. l.activation) place.0 in let l = place.1 in omega (arith, e, s, l)
+    opened_by deeds + opens_by d ≡ suc (stops_of j)
+is_read j deeds d level (quiet none o same) some = absurd (some none)
+is_read j deeds d level (starts was few config is o same) some =
+    let e = level.ended in let w : one_if (is_active deeds) ≡ 0 = ap one_if was in omega (arith, e, w, o)
+is_read j deeds d level (credits was k is o same) some =
+    let e = level.ended in let w : one_if (is_active deeds) ≡ 1 = ap one_if was in omega (arith, e, w, o)
+is_read j deeds d level (sends was request is o same) some =
+    let e = level.ended in let w : one_if (is_active deeds) ≡ 1 = ap one_if was in omega (arith, e, w, o)
+is_read j deeds d level (stops was is o same) some =
+    let e = level.ended in let w : one_if (is_active deeds) ≡ 1 = ap one_if was in omega (arith, e, w, o)
 
 -- ---- a step that was done
 
 module _ (version : ℕ) (size : ℕ) (j : List Entry) (deeds : List Deed) (was now : LoggedDriver)
-    (p q : Registers) (links given : List Deques) (base : ℕ) (one : Step) (answer : StepAnswer) (none : Deques)
-    (h : IsNode version size j deeds was p links base) (lawful : IsLawfulJournal j)
-    (st : Steps alike Lies shows_none takes_none was now links given base p q one (Some answer)) where
+    (p q : Registers) (links given : Deques) (one : Step) (answer : StepAnswer)
+    (h : IsNode version size j deeds was p links) (lawful : IsLawfulJournal j)
+    (st : StepsHere was now links given p q one (Some answer)) where
   pub all_taken : (a : ℕ) → given_in (deeds_of deeds a) ≡ taken_of (part j a)
   all_taken a = given_taken deeds j a (h.in_time.when a)
 
   -- its deed, what kind that is, and what the driver did and holds after it, and what waits for the bus
   pub record Doing : Type 0 where
-    pub is_next : Comes j deeds (log_of was) links base (node_of was) none lawful all_taken p q one answer st.tried
+    pub is_next : Comes j deeds (log_of was) links (node_of was) lawful h.linked.level.begun all_taken p q one answer
+        st.tried
     pub kind : Kind (is_active deeds) (opened_by deeds) is_next.deed.step is_next.deed.answer is_next.deed.gave
     pub trace : Traces version (driver_of now) (log_of now) (deeds ++ is_next.deed ∷ [])
-    pub holds : HoldsBy Lies (deeds ++ is_next.deed ∷ []) (driver_of now) (log_of now) j given base
+    pub holds : HoldsBy Lies (deeds ++ is_next.deed ∷ []) (driver_of now) (log_of now) j given
     pub waits_now : (a : ℕ) → given_in (deeds_of (deeds ++ is_next.deed ∷ []) a)
         ≡ taken_of (part j a) ++ waiting (opened_by deeds + opens_by is_next.deed) is_next.deed.gave a
 
@@ -96,11 +81,11 @@ module _ (version : ℕ) (size : ℕ) (j : List Entry) (deeds : List Deed) (was 
   doing =
       let trace : Traces p.version (driver_of was) (log_of was) deeds =
       subst (λ (n : ℕ). Traces n (driver_of was) (log_of was) deeds) (sym h.ported.version_is) h.traced.traces in
-      let c : Comes j deeds (log_of was) links base (node_of was) none lawful all_taken p q one answer st.tried =
-      comes j deeds (log_of was) links base (node_of was) none lawful all_taken p q one answer (driver_of was)
-      (driver_of now)
-      (slice_index_or given (place_after base (ended_of was)) none) st.tried trace h.traced.lawful h.linked.holds
-      h.ported.unclosed st.met (st.acts none none) in
+      let c : Comes j deeds (log_of was) links (node_of was) lawful h.linked.level.begun all_taken p q one answer
+      st.tried =
+      comes j deeds (log_of was) links (node_of was) lawful h.linked.level.begun all_taken p q one answer
+      (driver_of was) (driver_of now) given st.tried trace h.traced.lawful.own h.linked.holds h.ported.unclosed st.met
+      st.acts in
       let d = c.deed in
       let next = c.next in
       let gives : Gives d.step d.answer d.gave =
@@ -112,7 +97,7 @@ module _ (version : ℕ) (size : ℕ) (j : List Entry) (deeds : List Deed) (was 
         trace = subst (λ (n : ℕ). Traces n (driver_of now) (log_of now) (deeds ++ d ∷ [])) h.ported.version_is
             (subst (λ (l : List Deed). Traces p.version (driver_of now) (log_of now) (deeds ++ l)) c.only
             ((st.goes (place_of j).bits).traces deeds trace));
-        holds = subst (λ (l : List Deed). HoldsBy Lies (deeds ++ l) (driver_of now) (log_of now) j given base) c.only
+        holds = subst (λ (l : List Deed). HoldsBy Lies (deeds ++ l) (driver_of now) (log_of now) j given) c.only
             ((st.goes (place_of j).bits).holds deeds j trace h.linked.holds);
         waits_now = λ a. given_push deeds d a ∙ ap (λ (l : List Up). l ++ waiting b d.gave a) (all_taken a);
       }

@@ -1,12 +1,13 @@
 -- A driver before its first step, and its node.
-use Rattle.std.proofs.Common.{◌≡◌, ℕ, suc, ◌+◌, ◌<◌, List, [], ◌∷◌, ◌++◌, length, refl, sym}
-use Rattle.std.proofs.Common.{ap, ◌∙◌, subst, arith, inl, inr}
-use Rattle.std.specs.Prelude.{not, slice_index_or}
+use Rattle.std.proofs.Common.{◌≡◌, ℕ, suc, ◌+◌, List, [], ◌∷◌, ◌++◌, length, refl, sym}
+use Rattle.std.proofs.Common.{ap, ◌∙◌, subst, cond, arith, inl, inr}
+use Rattle.std.specs.Prelude.{◌==◌, Bool, true, false, not, slice_index_or}
 use Rattle.std.proofs.lemmas.List.{get_or_append_left, get_or_push}
 use Rattle.std.proofs.lemmas.Bool.{cases_eq}
 use Rattle.sja_link.specs.Accounts.{account}
 use Rattle.sja_link.specs.Deques.{Deques, Lies}
-use Rattle.sja_link.specs.NewLinks.{new_link}
+use Rattle.sja_link.specs.Lists.{nothing_yet}
+use Rattle.sja_link.specs.NewLinks.{new_links}
 use Rattle.sja_regs.specs.Registers.{at_power_on}
 use Rattle.sja_driver.specs.declared.logged_driver.LoggedDriver.{LoggedDriver}
 use Rattle.sja_driver.specs.Deeds.{given_in, deeds_of}
@@ -18,28 +19,42 @@ use Rattle.sja_driver.proofs.Step.NothingDone.{nothing_known, nothing_told}
 use Rattle.can_node.proofs.Requests.Cuts.{none_held_first}
 
 -- one driver more
-pub new_push : (steps sizes : List ℕ) (n : ℕ) (ds : List LoggedDriver) (x : LoggedDriver) → length ds ≡ n →
-    AreNew steps sizes n ds → IsNewDriver n (slice_index_or steps n 0) (slice_index_or sizes n 0) x →
-    AreNew steps sizes (n + 1) (ds ++ x ∷ [])
-new_push steps sizes n ds x len made is node d less = elim (cases_eq n node) [
+pub new_push : (version : ℕ) (steps sizes : List ℕ) (n : ℕ) (ds : List LoggedDriver) (x : LoggedDriver) →
+    length ds ≡ n → AreNew version steps sizes n ds →
+    IsNewDriver version n (slice_index_or steps n 0) (slice_index_or sizes n 0) x →
+    AreNew version steps sizes (n + 1) (ds ++ x ∷ [])
+new_push version steps sizes n ds x len made is node d less = elim (cases_eq n node) [
   | inl e ↦
       let at : slice_index_or (ds ++ x ∷ []) node d ≡ x = get_or_push ds x d node (len ∙ e) in
-      subst (λ (y : LoggedDriver). IsNewDriver node (slice_index_or steps node 0) (slice_index_or sizes node 0) y)
-      (sym at)
-      (subst (λ (m : ℕ). IsNewDriver m (slice_index_or steps m 0) (slice_index_or sizes m 0) x) e is)
+      subst (λ (y : LoggedDriver). IsNewDriver version node (slice_index_or steps node 0) (slice_index_or sizes node 0)
+      y) (sym at)
+      (subst (λ (m : ℕ). IsNewDriver version m (slice_index_or steps m 0) (slice_index_or sizes m 0) x) e is)
   | inr differ ↦
-      subst (λ (y : LoggedDriver). IsNewDriver node (slice_index_or steps node 0) (slice_index_or sizes node 0) y)
-      (sym (get_or_append_left ds (x ∷ []) d node (omega (arith, len, less, differ))))
+      subst (λ (y : LoggedDriver). IsNewDriver version node (slice_index_or steps node 0) (slice_index_or sizes node 0)
+      y) (sym (get_or_append_left ds (x ∷ []) d node (omega (arith, len, less, differ))))
       (made node d (omega (arith, less, differ)))
 ]
 
 -- ---- a node
 
-pub new_node : (version node steps size : ℕ) (x : LoggedDriver) (links : List Deques) (base : ℕ) →
-    IsNewDriver node steps size x →
-    ((a : ℕ) (d : Deques) → a < 64 → slice_index_or links (base + a) d ≡ new_link node (suc a)) →
-    IsNode version size [] [] x (at_power_on version) links base
-new_node version node steps size x links base new fresh = record {
+-- nothing lies on new links
+nothing_new : (node starts a : ℕ) → Lies (new_links node starts) (suc a) nothing_yet
+nothing_new node starts a = record {
+  down = sym (either (suc a == 1) []);
+  up = sym (either (suc a == 1) []);
+  later = λ less. refl;
+  begun = λ e more. absurd (omega (arith, e, more));
+  in_use = omega arith;
+}
+  where
+    either : {A : Type 0} (b : Bool) (x : A) → cond b x x ≡ x
+    either true x = refl
+    either false x = refl
+
+pub new_node : (version node steps size : ℕ) (x : LoggedDriver) (links : Deques) (starts : ℕ) →
+    IsNewDriver version node steps size x → links ≡ new_links node starts →
+    IsNode version size [] [] x (at_power_on version) links
+new_node version node steps size x links starts new fresh = record {
   traced = record {
     lawful = new.lawful;
     traces = new.traces version;
@@ -54,15 +69,15 @@ new_node version node steps size x links base new fresh = record {
   linked = record {
     holds = record {
       got = λ a. [];
-      kept = λ a d few. subst (λ (s : Deques). Lies s (account [] (suc a) (record {
+      kept = λ a. subst (λ (s : Deques). Lies s (suc a) (account [] (suc a) (record {
         got = [];
         given = given_in (deeds_of [] (suc a));
-      }))) (sym (fresh a d few)) (refl, refl);
-      told = λ a few. sym (nothing_told (driver_of x) (log_of x) a new.empty new.reset);
+      }))) (sym fresh) (nothing_new node starts a);
+      told = λ a. sym (nothing_told (driver_of x) (log_of x) a new.empty new.reset);
       off_is = nothing_known (driver_of x) new.reset;
       later = λ a less. refl;
     };
-    taken = λ a d few. ap (λ (s : Deques). s.up) (fresh a d few);
+    taken = ap (λ (s : Deques). s.up) fresh;
     level = record { begun = refl; ended = refl; asked = refl };
   };
   ported = record {

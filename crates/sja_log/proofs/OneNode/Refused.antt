@@ -1,7 +1,7 @@
 -- An item that was refused is the one that was given last.
-use Rattle.std.proofs.Common.{◌≡◌, ℕ, suc, ◌+◌, ◌<◌, List, [], ◌∷◌, ◌++◌, refl, sym, ap, ◌∙◌, cond, append_assoc}
+use Rattle.std.proofs.Common.{◌≡◌, ℕ, suc, List, [], ◌∷◌, ◌++◌, refl, sym, ap, ◌∙◌, cond, append_assoc}
 use Rattle.std.proofs.Common.{append-nil, arith, inl, inr}
-use Rattle.std.specs.Prelude.{◌==◌, Bool, slice_index_or}
+use Rattle.std.specs.Prelude.{◌==◌, ◌≢◌, Bool}
 use Rattle.std.proofs.lemmas.Bool.{cases_eq, ne_eqb, eqb-true}
 use Rattle.std.proofs.lemmas.List.{append_cancel_left}
 use Rattle.sja_link.specs.declared.up.Up.{Up}
@@ -9,7 +9,7 @@ use Rattle.sja_link.specs.declared.entry.Entry.{Entry}
 use Rattle.sja_link.specs.Written.{Room}
 use Rattle.sja_link.specs.declared.entry.Entry.TheVariants.{Up as Item}
 use Rattle.sja_link.specs.Accounts.{Account}
-use Rattle.sja_link.specs.Deques.{Deques, Lies}
+use Rattle.sja_link.specs.Deques.{Deques, Lies, up_on}
 use Rattle.sja_link.specs.Parts.{part}
 use Rattle.sja_link.specs.Carried.{taken_of}
 use Rattle.sja_wire.specs.declared.bus_fault.BusFault.{BusFault}
@@ -19,7 +19,6 @@ use Rattle.sja_wire.specs.Reasons.{RefusesItem}
 use Rattle.sja_driver.specs.declared.release.Release.{Release}
 use Rattle.sja_driver.specs.Deeds.{Deed, given_in, deeds_of}
 use Rattle.sja_driver.specs.Holding.{Holds}
-use Rattle.sja_log.proofs.OneNode.Gathered.{no_link}
 use Rattle.lemmas.proofs.Lists.{none_front, none_back}
 use Rattle.sja_link.proofs.Growing.Taking.{waiting, adds, taken_adds, AtMostOne, some_none, adds_first, one_is}
 
@@ -33,7 +32,7 @@ some_within xs item ys e = some_none item [] (none_back xs (item ∷ []) (none_f
 -- of at most one that waited one came next: then none was taken before it
 pub just_refused : (j : List Entry) (us gave : List Up) (b s : ℕ) (item : Up) (up : ℕ → List Up) → AreRead j us →
     AtMostOne gave →
-    ((a : ℕ) → a < 64 → (s ≡ a → ⊥) → waiting b gave (suc a) ≡ adds j us (suc a) ++ up a) →
+    ((a : ℕ) → a ≢ s → waiting b gave (suc a) ≡ adds j us (suc a) ++ up a) →
     waiting b gave (suc s) ≡ (adds j us (suc s) ++ item ∷ []) ++ up s → (us ≡ []) × (gave ≡ item ∷ [])
 just_refused j [] gave b s item up read few others next = (refl, (one_is (b == suc s) item gave (up s) few next).1)
 just_refused j (u ∷ us) gave b s item up read few others next = elim (cases_eq s (stops_of j)) [
@@ -46,7 +45,7 @@ just_refused j (u ∷ us) gave b s item up read few others next = elim (cases_eq
   | inr differ ↦
       let one = one_is (b == suc (stops_of j)) u gave (adds (j ++ Item u ∷ []) us (suc (stops_of j)) ++ up (stops_of j))
       few
-      (others (stops_of j) read.0.left differ ∙ ap (λ l. l ++ up (stops_of j)) (adds_first j u us read.0)) in
+      (others (stops_of j) (λ e. differ (sym e)) ∙ ap (λ l. l ++ up (stops_of j)) (adds_first j u us read.0)) in
       let is : b ≡ suc (stops_of j) = eqb-true b (suc (stops_of j)) one.0 in
       absurd (some_within (adds j (u ∷ us) (suc s)) item (up s) (sym next
       ∙ none_waits b s gave (λ e. differ (omega (arith, e, is)))))
@@ -54,25 +53,25 @@ just_refused j (u ∷ us) gave b s item up read few others next = elim (cases_eq
 
 -- a node whose links stand for what its driver gave, where at most one item waited
 pub refused_is : {j k : List Entry} {deeds : List Deed} {releases : List Release} {left : List (List (List ℕ))}
-    {ended : ℕ} {off : Bool} {links after : List Deques} {base : ℕ} {room : Room} {node : ℕ} {f : BusFault}
+    {ended : ℕ} {off : Bool} {links after : Deques} {room : Room} {node : ℕ} {f : BusFault}
     (gave : List Up) (b : ℕ) →
-    Holds Lies deeds releases left ended off j links base → AtMostOne gave →
+    Holds Lies deeds releases left ended off j links → AtMostOne gave →
     ((a : ℕ) → given_in (deeds_of deeds a) ≡ taken_of (part j a) ++ waiting b gave a) →
-    (r : RefusesItem Lies room j k links after base node f) → (k ≡ j) × (gave ≡ r.item ∷ [])
-refused_is {j} {k} {deeds} {after = after} {base} gave b holds few given r =
+    (r : RefusesItem Lies room j k links after node f) → (k ≡ j) × (gave ≡ r.item ∷ [])
+refused_is {j} {k} {deeds} {after = after} gave b holds few given r =
     let acc : ℕ → Account = λ a. record { got = holds.got a; given = given_in (deeds_of deeds (suc a)) } in
     let us = r.items.items in
-    let up : ℕ → List Up = λ a. (slice_index_or after (base + a) no_link).up in
+    let up : ℕ → List Up = λ a. up_on after (suc a) in
     let taken : (a : ℕ) → taken_of (part k a) ≡ taken_of (part j a) ++ adds j us a =
     λ a. ap (λ (l : List Entry). taken_of (part l a)) r.items.whole ∙ taken_adds j us a in
-    let others : (a : ℕ) → a < 64 → (stops_of k ≡ a → ⊥) → waiting b gave (suc a) ≡ adds j us (suc a) ++ up a =
-    λ a less differ. append_cancel_left (taken_of (part j (suc a))) (waiting b gave (suc a)) (adds j us (suc a) ++ up a)
-    (sym (given (suc a)) ∙ (r.others acc a no_link holds.kept less differ).1 ∙ ap (λ l. l ++ up a) (taken (suc a))
+    let others : (a : ℕ) → a ≢ stops_of k → waiting b gave (suc a) ≡ adds j us (suc a) ++ up a =
+    λ a differ. append_cancel_left (taken_of (part j (suc a))) (waiting b gave (suc a)) (adds j us (suc a) ++ up a)
+    (sym (given (suc a)) ∙ (r.others acc a holds.kept differ).up ∙ ap (λ l. l ++ up a) (taken (suc a))
     ∙ append_assoc (taken_of (part j (suc a))) (adds j us (suc a)) (up a)) in
     let s = stops_of k in
     let next : waiting b gave (suc s) ≡ (adds j us (suc s) ++ r.item ∷ []) ++ up s =
     append_cancel_left (taken_of (part j (suc s))) (waiting b gave (suc s)) ((adds j us (suc s) ++ r.item ∷ []) ++ up s)
-    (sym (given (suc s)) ∙ (r.shown acc no_link holds.kept).1 ∙ ap (λ l. (l ++ r.item ∷ []) ++ up s) (taken (suc s))
+    (sym (given (suc s)) ∙ (r.shown acc holds.kept).up ∙ ap (λ l. (l ++ r.item ∷ []) ++ up s) (taken (suc s))
     ∙ ap (λ l. l ++ up s) (append_assoc (taken_of (part j (suc s))) (adds j us (suc s)) (r.item ∷ []))
     ∙ append_assoc (taken_of (part j (suc s))) (adds j us (suc s) ++ r.item ∷ []) (up s)) in
     let both = just_refused j us gave b s r.item up r.items.read few others next in

@@ -1,13 +1,17 @@
 -- What comes of a step that is tried, beside the journal.
-use Rattle.std.proofs.Common.{◌≡◌, ℕ, suc, ◌+◌, ◌<◌, Bool, true, false, List, []}
-use Rattle.std.proofs.Common.{◌∷◌, ◌++◌, length, map, refl, sym, ap, ◌∙◌, subst, arith}
-use Rattle.std.specs.Prelude.{not, min, slice_index_or, Some}
+use Rattle.std.proofs.Common.{◌≡◌, ℕ, zero, suc, ◌+◌, ◌*◌, ◌<◌, Bool, true, false, List, []}
+use Rattle.std.proofs.Common.{◌∷◌, ◌++◌, length, map, refl, sym, ap, ◌∙◌, subst, append-nil, arith}
+use Rattle.std.specs.Prelude.{not, Some}
 use Rattle.std.proofs.lemmas.List.{append_cancel_left}
 use Rattle.can_frame.specs.declared.buffer_view.BufferView.{BufferView}
+use Rattle.sja_link.specs.declared.down.Down.{Down}
 use Rattle.sja_link.specs.declared.entry.Entry.{Entry}
+use Rattle.sja_link.proofs.QueuedLinks.Lying.{up_here}
 use Rattle.sja_link.specs.Accounts.{account}
-use Rattle.sja_link.specs.Deques.{Deques, Lies}
-use Rattle.sja_link.specs.Looking.{Holds as GotHolds}
+use Rattle.sja_link.specs.Deques.{Deques, Lies, up_on, AreAlike, IsDryDown, IsFullUp}
+use Rattle.sja_link.specs.Lists.{Lists, OthersStand, on, is_on, same_on}
+use Rattle.sja_link.specs.Looking.{Holds as GotHolds, with_gots}
+use Rattle.sja_link.specs.Sizes.{most_activations}
 use Rattle.sja_link.specs.Parts.{part}
 use Rattle.sja_link.specs.Carried.{taken_of}
 use Rattle.sja_link.specs.Places.{place_of}
@@ -22,12 +26,16 @@ use Rattle.sja_script.specs.declared.step_answer.StepAnswer.TheVariants.{Done, R
 use Rattle.sja_driver.specs.declared.any_driver.AnyDriver.{AnyDriver}
 use Rattle.sja_driver.specs.declared.any_driver.AnyDriver.TheVariants.{InReset, InActive}
 use Rattle.sja_driver.specs.declared.work_log.WorkLog.{WorkLog}
-use Rattle.sja_driver.specs.Acting.{Acts, Looks, IfOut, IfLooking, Waits}
-use Rattle.sja_driver.specs.AnyDrivers.{is_out, opened_of, held_of, off_of, seen_by, IsDriverOf}
+use Rattle.sja_driver.specs.Acting.{IfOut, IfLooking, Waits}
+use Rattle.sja_driver.specs.AnyDrivers.{is_out, opened_of, held_of, off_of, seen_by, link_used, IsDriverOf}
 use Rattle.sja_driver.specs.Carried.{Sees, Tells, carried, ported}
 use Rattle.sja_driver.specs.Deeds.{Deed, opened_by, is_active, given_in, deeds_of, released_lengths, FitsState}
-use Rattle.sja_driver.specs.Drivers.{nothing_seen}
-use Rattle.sja_driver.specs.Holding.{HoldsBy, place_after}
+use Rattle.sja_driver.specs.declared.driver.Driver.{Driver}
+use Rattle.sja_driver.specs.declared.active.Active.{Active}
+use Rattle.sja_driver.specs.declared.reset.Reset.{Reset}
+use Rattle.sja_driver.specs.Drivers.{nothing_seen, started_in, link_in}
+use Rattle.sja_driver.specs.declared.release.Release.{Release as ReleaseOf}
+use Rattle.sja_driver.specs.Holding.{Holds, HoldsBy}
 use Rattle.sja_driver.specs.Logs.{Traces, releases_in, left_in, released_of, deeds_by}
 use Rattle.sja_driver.specs.Tries.{Tried, answer_of, off_after, window_after}
 use Rattle.sja_driver.specs.Tries.Tried.{Unmet, Answered, Released, Ended}
@@ -35,48 +43,57 @@ use Rattle.sja_log.specs.Registering.{seen_now}
 use Rattle.sja_driver.specs.Windows.{SeesIf}
 use Rattle.sja_driver.specs.Asking.{IsAsked}
 use Rattle.sja_log.specs.Waiting.{HasToWait}
-use Rattle.sja_driver.proofs.LogOfSteps.Logged.{min_few, min_less}
 use Rattle.sja_driver.proofs.Step.Left.{leaves_last}
 use Rattle.sja_log.proofs.Account.Seeing.{IsSeeing, seen_as, seen_by_now, tells_seen, seen_shown}
 use Rattle.sja_log.proofs.Account.Looks.{IsShown, is_shown}
 use Rattle.sja_driver.proofs.Step.Few.{few_held}
 use Rattle.sja_driver.proofs.Deeds.Patience.{never_closed}
 use Rattle.sja_log.proofs.Account.SawPut.{sees_shown, if_looking}
-use Rattle.sja_log.proofs.OneNode.Trying.{alike, shows_none, takes_none, IsNext}
+use Rattle.sja_log.proofs.OneNode.InUse.{HasGiven, has_given, used_most, used_last, not_full, next_not_full}
+use Rattle.sja_log.proofs.OneNode.Trying.{LooksOn, ActsHere, IsNext}
 
-module _ (j : List Entry) (deeds : List Deed) (log : WorkLog) (links : List Deques) (base node : ℕ) (none : Deques)
-    (lawful : IsLawfulJournal j)
+-- the links of a driver that stand for its deeds
+pub links_given : {deeds : List Deed} {releases : List ReleaseOf} {left : List (List (List ℕ))} {ended : ℕ} {off : Bool}
+    {j : List Entry} {links : Deques} → Holds Lies deeds releases left ended off j links → HasGiven deeds links
+links_given h zero some = absurd (omega (arith, some))
+links_given {deeds} {j = j} h (suc a) some =
+    (account j (suc a) (record { got = h.got a; given = given_in (deeds_of deeds (suc a)) }), h.kept a, refl)
+
+module _ (j : List Entry) (deeds : List Deed) (log : WorkLog) (links : Deques) (node : ℕ)
+    (lawful : IsLawfulJournal j) (begun : (place_of j).activation ≡ opened_by deeds)
     (given : (a : ℕ) → given_in (deeds_of deeds a) ≡ taken_of (part j a)) where
+  -- the end between a look and what is given then is on the link of the present activation still
+  used_at : (w : AnyDriver) (at : Deques) (got : List Down) → HoldsBy Lies deeds w log j links → 0 < opened_by deeds →
+      OthersStand Lies (opened_by deeds) links at →
+      ((l : Lists) → Lies links (opened_by deeds) l → Lies at (opened_by deeds) (with_gots l got)) →
+      at.activation ≡ opened_by deeds
+  used_at w at got h some others gets = used_last j deeds begun given at
+      (has_given deeds links at (opened_by deeds) got others gets (links_given h)) some
+
   pub looked : {version : ℕ} (w : AnyDriver) → is_out w ≡ true → Traces version w log deeds → IsDriverOf node (length
-      (left_in log)) w →
-      HoldsBy Lies deeds w log j links base →
-      (window : List (List ℕ)) (off : Bool) → Looks alike Lies shows_none
-      (slice_index_or links (place_after base (length (left_in log))) none) (held_of w) window (off_of w) off →
-      IsShown j deeds off window
+      (left_in log)) w → HoldsBy Lies deeds w log j links → (window : List (List ℕ)) (off : Bool) →
+      LooksOn (link_used w) links (held_of w) window (off_of w) off → IsShown j deeds off window
   looked (InReset d) out trace place h window off look = absurd cc
   looked (InActive d) out trace place h window off look =
       let n = length (left_in log) in
-      let few : n < 64 = place.1 in
-      let opened : suc n ≡ opened_by deeds = let e = trace.opened in let a = ap (λ l. l.activation) place.0 in
+      let opened : suc n ≡ opened_by deeds = let e = trace.opened in let a = ap (λ l. l.activation) place in
       omega (arith, e, a) in
-      let at : place_after base n ≡ base + n = ap (λ m. base + m) (min_few n few) in
       let g = given_in (deeds_of deeds (suc n)) in
-      let lies : Lies (slice_index_or links (place_after base n) none)
-      (account j (opened_by deeds) (record { got = h.got n; given = g })) =
-      subst (λ (m : ℕ). Lies (slice_index_or links m none)
-      (account j (opened_by deeds) (record { got = h.got n; given = g }))) (sym at)
-      (subst (λ (m : ℕ). Lies (slice_index_or links (base + n) none)
-      (account j m (record { got = h.got n; given = g }))) opened (h.kept n none few)) in
+      let lies : Lies links (opened_by deeds) (account j (opened_by deeds) (record { got = h.got n; given = g })) =
+      subst (λ (m : ℕ). Lies links m (account j m (record { got = h.got n; given = g }))) opened (h.kept n) in
+      let seen : LooksOn (opened_by deeds) links (held_of (InActive d)) window (off_of (InActive d)) off =
+      subst (λ m. LooksOn m links (held_of (InActive d)) window (off_of (InActive d)) off) (sym trace.opened) look in
       let released = released_of (releases_in log) (suc n) in
-      let holds : GotHolds (h.got n) released (held_of (InActive d)) = h.told n few
+      let holds : GotHolds (h.got n) released (held_of (InActive d)) = h.told n
       ∙ ap (λ l. released ++ l) (leaves_last (left_in log) (held_of (InActive d))) in
       let lengths : released_lengths (deeds_of deeds (opened_by deeds)) ≡ map (λ (m : List ℕ). length m) released =
       sym (trace.released (opened_by deeds)) ∙ ap
       (λ m. map (λ (x : List ℕ). length x) (released_of (releases_in log) m)) (sym opened) in
-      is_shown j deeds (slice_index_or links (place_after base n) none) (h.got n) g released
-      (held_of (InActive d)) window (off_of (InActive d)) off lies holds h.off_is lengths
+      is_shown j deeds links (h.got n) g released (held_of (InActive d)) window (off_of (InActive d)) off lies holds
+      h.off_is lengths
       (λ all down put told. few_held j (opened_by deeds) deeds all down released window lawful put told
-      (given (opened_by deeds)) trace.answered.gives lengths) look
+      (given (opened_by deeds)) trace.answered.gives lengths) seen
+      (used_at (InActive d) seen.at seen.pulls.got h (omega (arith, opened)) seen.same.1 seen.pulls.lists)
 
   fits_by : {version : ℕ} (one : Step) (answer : StepAnswer) (w : AnyDriver) → Traces version w log deeds →
       FitsState version (is_out w) (opened_of w) one answer →
@@ -89,11 +106,10 @@ module _ (j : List Entry) (deeds : List Deed) (log : WorkLog) (links : List Dequ
   pub next_one : (p q : Registers) (one : Step) (answer : StepAnswer) (w : AnyDriver) (off : Bool)
       (window : List (List ℕ)) (seen : BufferView) → Traces p.version w log deeds →
       IsDriverOf node (length (left_in log)) w →
-      HoldsBy Lies deeds w log j links base → p.closed ≡ false →
+      HoldsBy Lies deeds w log j links → p.closed ≡ false →
       FitsState p.version (is_out w) (opened_of w) one answer →
       IfOut w (Sees one off window answer) → Tells one (is_out w) p seen answer →
-      IfOut w (IfLooking one (Looks alike Lies shows_none
-      (slice_index_or links (place_after base (length (left_in log))) none) (held_of w) window (off_of w) off)) →
+      IfOut w (IfLooking one (LooksOn (link_used w) links (held_of w) window (off_of w) off)) →
       q ≡ ported p one answer →
       (IsSeeing one → seen ≡ seen_as (is_out w) off window) →
       IsNext j deeds p q (record { step = one; answer = answer; bits = (place_of j).bits; gave = carried p one answer })
@@ -140,10 +156,8 @@ module _ (j : List Entry) (deeds : List Deed) (log : WorkLog) (links : List Dequ
     pub only : deeds_by p one o (place_of j).bits ≡ deed ∷ []
 
   pub comes : (p q : Registers) (one : Step) (answer : StepAnswer) (w now : AnyDriver) (new : Deques) (o : Tried) →
-      Traces p.version w log deeds →
-      IsDriverOf node (length (left_in log)) w → HoldsBy Lies deeds w log j links base →
-      p.closed ≡ false → Some answer ≡ answer_of o → Acts alike Lies shows_none takes_none
-      (slice_index_or links (place_after base (length (left_in log))) none) new p q one w now o → Comes p q one answer o
+      Traces p.version w log deeds → IsDriverOf node (length (left_in log)) w → HoldsBy Lies deeds w log j links →
+      p.closed ≡ false → Some answer ≡ answer_of o → ActsHere links new p q one w now o → Comes p q one answer o
   comes p q one answer w now new Unmet trace place h unclosed met acts = absurd cc
   comes p q one answer w now new (Answered a) trace place h unclosed met acts = record {
     deed = record { step = one; answer = a; bits = (place_of j).bits; gave = carried p one a };
@@ -185,20 +199,28 @@ module _ (j : List Entry) (deeds : List Deed) (log : WorkLog) (links : List Dequ
   is_one true e = refl
   is_one false e = sym e
 
-  not_full : (s : Deques) → s.up ≡ [] → length s.up ≡ 24 → ⊥
-  not_full s none_up full = let e : length s.up ≡ 0 = ap (λ l. length l) none_up in omega (arith, e, full)
+  -- out of reset the link in use takes an item, and in reset the next one
+  not_used : {version : ℕ} (d : Driver Active) → Traces version (InActive d) log deeds →
+      IsDriverOf node (length (left_in log)) (InActive d) → HoldsBy Lies deeds (InActive d) log j links →
+      links.up ≡ [] → IsFullUp links (link_in d).activation → ⊥
+  not_used d trace place h empty full =
+      let e = trace.opened in let a = ap (λ l. l.activation) place in
+      not_full links (link_in d).activation
+      (used_last j deeds begun given links (links_given h) (omega (arith, e, a)) ∙ e) empty full
 
-  not_used : ((a : ℕ) (d : Deques) → a < 64 → (slice_index_or links (base + a) d).up ≡ []) →
-      length (slice_index_or links (place_after base (length (left_in log))) none).up ≡ 24 → ⊥
-  not_used empty = not_full (slice_index_or links (place_after base (length (left_in log))) none)
-      (empty (min (length (left_in log)) 63) none (min_less (length (left_in log))))
+  not_started : {version : ℕ} (most : ℕ) (d : Driver Reset) → Traces version (InReset d) log deeds →
+      HoldsBy Lies deeds (InReset d) log j links → links.up ≡ [] → links.room ≡ 22 * most → started_in d < most →
+      IsFullUp links (started_in d + 1) → ⊥
+  not_started most d trace h empty room less full =
+      let e = trace.opened in let used = used_most j deeds begun given links (links_given h) in
+      next_not_full links (started_in d + 1) (omega (arith, e, used)) empty (omega (arith, room, less)) full
 
   -- a driver that waits sees what has been put
   seen_waiting : {version : ℕ} (w now : AnyDriver) → Traces version w log deeds →
       IsDriverOf node (length (left_in log)) w →
-      HoldsBy Lies deeds w log j links base → IfOut w (Looks alike Lies shows_none
-      (slice_index_or links (place_after base (length (left_in log))) none) (held_of w) (held_of now) (off_of w)
-      (off_of now)) → seen_as (is_out w) (off_of now) (held_of now) ≡ seen_now (is_active deeds) j deeds
+      HoldsBy Lies deeds w log j links →
+      IfOut w (LooksOn (link_used w) links (held_of w) (held_of now) (off_of w) (off_of now)) →
+      seen_as (is_out w) (off_of now) (held_of now) ≡ seen_now (is_active deeds) j deeds
   seen_waiting (InReset d) now trace place h look = ap (λ b. seen_now b j deeds) (sym trace.out)
   seen_waiting (InActive d) now trace place h look =
       sym (seen_shown j deeds Interrupt (off_of now) (held_of now) tt
@@ -206,39 +228,52 @@ module _ (j : List Entry) (deeds : List Deed) (log : WorkLog) (links : List Dequ
       ∙ ap (λ b. seen_now b j deeds) (sym trace.out)
 
   pub waits : {version : ℕ} (p : Registers) (one : Step) (w now : AnyDriver) → is_out now ≡ is_out w → IsAsked j p →
-      Traces version w log deeds → IsDriverOf node (length (left_in log)) w → HoldsBy Lies deeds w log j links base →
-      ((a : ℕ) (d : Deques) → a < 64 → (slice_index_or links (base + a) d).up ≡ []) →
-      Waits alike Lies shows_none takes_none (slice_index_or links (place_after base (length (left_in log))) none) p one
-      w now → HasToWait p j deeds one
-  waits p (Await count) (InActive was) now out asked trace place h empty (closed, on, few, look) =
+      Traces version w log deeds → IsDriverOf node (length (left_in log)) w → HoldsBy Lies deeds w log j links →
+      links.up ≡ [] → links.room ≡ 22 * most_activations p.version →
+      Waits (same_on AreAlike Lies (link_used w)) (on Lies (link_used w)) (is_on IsDryDown (link_used w))
+      (is_on IsFullUp (link_used w)) links p one w now → HasToWait p j deeds one
+  waits p (Await count) (InActive was) now out asked trace place h empty room (closed, unknown, few, look) =
       let shown = looked (InActive was) refl trace place h (held_of now) (off_of now) look in
-      let same = shown.window_is on in
-      (trace.out, shown.off_is ∙ on, subst (λ (l : List (List ℕ)). length l < count) (sym same) few)
-  waits p (Await count) (InReset was) now out asked trace place h empty full = elim full [ ]
-  waits p Sent (InActive was) now out asked trace place h empty (closed, busy, look) = (
+      let same = shown.window_is unknown in
+      (trace.out, shown.off_is ∙ unknown, subst (λ (l : List (List ℕ)). length l < count) (sym same) few)
+  waits p (Await count) (InReset was) now out asked trace place h empty room full = elim full [ ]
+  waits p Sent (InActive was) now out asked trace place h empty room (closed, busy, look) = (
     trace.out,
     (lawful.found, lawful.cut, is_one _ (sym (asked lawful.found lawful.cut) ∙ busy)),
   )
-  waits p Sent (InReset was) now out asked trace place h empty full = elim full [ ]
-  waits p Interrupt w now out asked trace place h empty (closed, inactive, look) =
+  waits p Sent (InReset was) now out asked trace place h empty room full = elim full [ ]
+  waits p Interrupt w now out asked trace place h empty room (closed, inactive, look) =
       subst (λ (s : BufferView). is_line_active p s ≡ false)
       (seen_by_now w now Interrupt Done tt out ∙ seen_waiting w now trace place h look) inactive
-  waits p Start (InReset was) now out asked trace place h empty (left, full) = not_used empty full
-  waits p Start (InActive was) now out asked trace place h empty full = elim full [ ]
-  waits p Stop (InActive was) now out asked trace place h empty full = not_used empty full
-  waits p Stop (InReset was) now out asked trace place h empty full = elim full [ ]
-  waits p (Command value) (InActive was) now out asked trace place h empty (full, asks, fits) = not_used empty full
-  waits p (Command value) (InReset was) now out asked trace place h empty full = elim full [ ]
-  waits p Window w now out asked trace place h empty full = elim full [ ]
-  waits p (Read a) w now out asked trace place h empty full = elim full [ ]
-  waits p (Write a v) w now out asked trace place h empty full = elim full [ ]
-  waits p (Load m) w now out asked trace place h empty full = elim full [ ]
-  waits p (At n) w now out asked trace place h empty full = elim full [ ]
-  waits p Release (InReset was) now out asked trace place h empty full = elim full [ ]
-  waits p Release (InActive was) now out asked trace place h empty (on, r) =
-      let a = min (length (left_in log)) 63 in
-      let lies = h.kept a none (min_less (length (left_in log))) in
-      let after = r.lists _ lies in
-      let same = sym after.1 ∙ lies.1 in
-      not_full r.at (append_cancel_left _ r.at.up [] (same
-      ∙ ap (λ l. taken_of (part j (suc a)) ++ l) (empty a none (min_less (length (left_in log)))))) r.is_full
+  waits p Start (InReset was) now out asked trace place h empty room (left, full) =
+      absurd (not_started (most_activations p.version) was trace h empty room left full)
+  waits p Start (InActive was) now out asked trace place h empty room full = elim full [ ]
+  waits p Stop (InActive was) now out asked trace place h empty room full =
+      absurd (not_used was trace place h empty full)
+  waits p Stop (InReset was) now out asked trace place h empty room full = elim full [ ]
+  waits p (Command value) (InActive was) now out asked trace place h empty room (full, asks, fits) =
+      absurd (not_used was trace place h empty full)
+  waits p (Command value) (InReset was) now out asked trace place h empty room full = elim full [ ]
+  waits p Window w now out asked trace place h empty room full = elim full [ ]
+  waits p (Read a) w now out asked trace place h empty room full = elim full [ ]
+  waits p (Write a v) w now out asked trace place h empty room full = elim full [ ]
+  waits p (Load m) w now out asked trace place h empty room full = elim full [ ]
+  waits p (At n) w now out asked trace place h empty room full = elim full [ ]
+  waits p Release (InReset was) now out asked trace place h empty room full = elim full [ ]
+  waits p Release (InActive was) now out asked trace place h empty room (unknown, r) =
+      let n = length (left_in log) in
+      let e = trace.opened in let a = ap (λ l. l.activation) place in
+      let opened : suc n ≡ opened_by deeds = omega (arith, e, a) in
+      let b = opened_by deeds in
+      let others : OthersStand Lies b links r.at = subst (λ m. OthersStand Lies m links r.at) (sym e) r.same.1 in
+      let gets : (l : Lists) → Lies links b l → Lies r.at b (with_gots l r.got) =
+      subst (λ m. (l : Lists) → Lies links m l → Lies r.at m (with_gots l r.got)) (sym e) r.lists in
+      let used = used_at (InActive was) r.at r.got h (omega (arith, opened)) others gets in
+      let lies = gets _ (subst (λ m. Lies links m (account j m (record {
+        got = h.got n;
+        given = given_in (deeds_of deeds m);
+      }))) opened (h.kept n)) in
+      let none : up_on r.at b ≡ [] =
+      sym (append_cancel_left (taken_of (part j b)) [] (up_on r.at b)
+      (append-nil (taken_of (part j b)) ∙ sym (given b) ∙ lies.up)) in
+      absurd (not_full r.at (link_in was).activation (used ∙ e) (sym (up_here r.at b (sym used)) ∙ none) r.is_full)

@@ -1,26 +1,36 @@
 -- What comes of a try of a step, beside the journal.
-use Rattle.std.proofs.Common.{◌≡◌, ◌≢◌, List, [], length}
+use Rattle.std.proofs.Common.{◌≡◌, ◌≢◌, ℕ, Bool, List}
+use Rattle.std.specs.Prelude.{Option}
+use Rattle.sja_link.specs.Deques.{Deques, Lies, AreAlike, IsDryDown, IsFullUp}
+use Rattle.sja_link.specs.Lists.{on, is_on, same_on}
 use Rattle.sja_link.specs.declared.entry.Entry.{Entry}
-use Rattle.sja_link.specs.Deques.{Deques}
 use Rattle.sja_link.specs.Places.{place_of}
 use Rattle.sja_regs.specs.declared.registers.Registers.{Registers}
 use Rattle.sja_script.specs.declared.refusal.Refusal.TheVariants.{Closed}
+use Rattle.sja_script.specs.declared.step.Step.{Step}
+use Rattle.sja_script.specs.declared.step_answer.StepAnswer.{StepAnswer}
 use Rattle.sja_script.specs.declared.step_answer.StepAnswer.TheVariants.{Refused}
+use Rattle.sja_driver.specs.declared.any_driver.AnyDriver.{AnyDriver}
+use Rattle.sja_driver.specs.declared.logged_driver.LoggedDriver.{LoggedDriver}
+use Rattle.sja_driver.specs.Acting.{ActsOn, Looks}
+use Rattle.sja_driver.specs.LoggedDrivers.{Steps}
+use Rattle.sja_driver.specs.Tries.{Tried}
 use Rattle.sja_driver.specs.Carried.{Tells, carried, ported}
 use Rattle.sja_driver.specs.Deeds.{Deed, opened_by, is_active, FitsState}
 use Rattle.sja_log.specs.Registering.{seen_now}
 use Rattle.sja_driver.specs.Windows.{SeesIf}
 
--- two states of one link
-abbrev pub alike : Deques → Deques → Type 0
-alike a b = b.link ≡ a.link
+-- a look of a driver at the link of this activation, and a try of a step at its links, in one thread
+abbrev pub LooksOn : ℕ → Deques → List (List ℕ) → List (List ℕ) → Bool → Bool → Type 0
+LooksOn a links held window off now_off =
+    Looks (same_on AreAlike Lies a) (on Lies a) (is_on IsDryDown a) links held window off now_off
 
--- an end that shows nothing downward, and one that takes no item
-abbrev pub shows_none : Deques → Type 0
-shows_none s = s.down ≡ []
+abbrev pub ActsHere : Deques → Deques → Registers → Registers → Step → AnyDriver → AnyDriver → Tried → Type 0
+ActsHere old new p q one was now o = ActsOn AreAlike Lies IsDryDown IsFullUp old new p q one was now o
 
-abbrev pub takes_none : Deques → Type 0
-takes_none s = length s.up ≡ 24
+abbrev pub StepsHere : LoggedDriver → LoggedDriver → Deques → Deques → Registers → Registers → Step →
+    Option StepAnswer → Type 0
+StepsHere was now old new p q one answer = Steps AreAlike Lies IsDryDown IsFullUp was now old new p q one answer
 
 -- a deed that comes next, at a port whose registers were p and are q after it
 pub record IsNext (j : List Entry) (deeds : List Deed) (p q : Registers) (d : Deed) : Type 0 where
@@ -31,5 +41,3 @@ pub record IsNext (j : List Entry) (deeds : List Deed) (p q : Registers) (d : De
   pub tells : Tells d.step (is_active deeds) p (seen_now (is_active deeds) j deeds) d.answer
   pub patient : d.answer ≢ Refused Closed
   pub left : q ≡ ported p d.step d.answer
-
--- ---- a driver that took in what its link showed knows what was put

@@ -1,7 +1,7 @@
 -- A node after a step of its driver and a taking of the bus, and a node whose driver did nothing.
-use Rattle.std.proofs.Common.{◌≡◌, ℕ, ◌+◌, ◌<◌, List, [], ◌∷◌, ◌++◌, length, refl, sym, ap, ◌∙◌, subst}
+use Rattle.std.proofs.Common.{◌≡◌, ℕ, ◌+◌, ◌*◌, ◌<◌, List, [], ◌∷◌, ◌++◌, length, refl, sym, ap, ◌∙◌, subst}
 use Rattle.std.proofs.Common.{append-nil, arith}
-use Rattle.std.specs.Prelude.{slice_index_or, Some, None}
+use Rattle.std.specs.Prelude.{Some, None}
 use Rattle.std.proofs.lemmas.List.{length-append}
 use Rattle.sja_link.specs.declared.up.Up.{Up}
 use Rattle.sja_link.specs.declared.entry.Entry.{Entry}
@@ -9,17 +9,16 @@ use Rattle.sja_link.specs.Deques.{Deques, Lies}
 use Rattle.sja_link.specs.Parts.{part}
 use Rattle.sja_link.specs.Carried.{taken_of}
 use Rattle.sja_link.specs.Places.{place_of}
+use Rattle.sja_link.specs.Sizes.{most_activations}
 use Rattle.sja_link.specs.Verdicts.{IsLawful as IsLawfulJournal}
 use Rattle.sja_link.specs.BitEntries.{entries_of_items}
 use Rattle.sja_regs.specs.declared.registers.Registers.{Registers}
 use Rattle.sja_script.specs.declared.step.Step.{Step}
 use Rattle.sja_script.specs.declared.step_answer.StepAnswer.{StepAnswer}
 use Rattle.sja_driver.specs.declared.logged_driver.LoggedDriver.{LoggedDriver}
-use Rattle.sja_driver.specs.Acting.{Acts}
-use Rattle.sja_driver.specs.Carried.{ported}
 use Rattle.sja_driver.specs.Deeds.{Deed, opens_by, opened_by, is_active, given_in, deeds_of, FitsState}
-use Rattle.sja_driver.specs.Holding.{HoldsBy, place_after}
-use Rattle.sja_driver.specs.LoggedDrivers.{node_of, driver_of, log_of, ended_of, IsLawful, Steps}
+use Rattle.sja_driver.specs.Holding.{HoldsBy}
+use Rattle.sja_driver.specs.LoggedDrivers.{node_of, driver_of, log_of, IsLawful}
 use Rattle.sja_driver.specs.Logs.{HasRoom, Traces, deeds_by, release_room, left_room}
 use Rattle.sja_driver.specs.Tries.{Tried, answer_of}
 use Rattle.sja_driver.specs.Tries.Tried.{Unmet, Answered, Released, Ended}
@@ -32,14 +31,14 @@ use Rattle.sja_log.specs.Nodes.{IsNode}
 use Rattle.sja_driver.specs.Shown.{ShowsRecord}
 use Rattle.sja_log.specs.Waiting.{HasToWait}
 use Rattle.sja_link.proofs.Growing.Taking.{no_wait}
-use Rattle.sja_log.proofs.OneNode.Trying.{alike, shows_none, takes_none}
+use Rattle.sja_log.proofs.OneNode.Trying.{ActsHere, StepsHere}
 use Rattle.sja_log.proofs.OneNode.StepTried.{waits}
 use Rattle.sja_log.proofs.OneNode.After.{done_after, enters, level_after, in_time_after}
 use Rattle.sja_log.proofs.OneNode.Ported.{ported_after}
 use Rattle.sja_log.proofs.OneNode.AskedAndCounted.{asked_after, counted_after}
-use Rattle.sja_log.proofs.OneNode.Gathered.{no_link, Gathers, items_are, linked_after, node_with}
+use Rattle.sja_log.proofs.OneNode.Gathered.{Gathers, items_are, linked_after, node_with}
 use Rattle.sja_log.proofs.Trace.TbsAndAbort.{tbs_right}
-use Rattle.sja_log.proofs.OneNode.Done.{at_most_one, is_read, opened_most, doing}
+use Rattle.sja_log.proofs.OneNode.Done.{at_most_one, is_read, doing}
 use Rattle.sja_driver.proofs.OneNode.StillShown.{shows_on}
 
 -- where a journal has no entry more no item was taken
@@ -57,34 +56,33 @@ is_unmet (Ended l) e = absurd cc
 
 -- the step was done
 pub record Stepped (version : ℕ) (size : ℕ) (j k : List Entry) (deeds : List Deed) (now : LoggedDriver)
-    (p q : Registers) (after : List Deques) (base : ℕ) (one : Step) (answer : StepAnswer) : Type 0 where
+    (p q : Registers) (after : Deques) (one : Step) (answer : StepAnswer) : Type 0 where
   pub deed : Deed
   pub step_is : deed.step ≡ one
   pub answer_is : deed.answer ≡ answer
   pub port : IsPortDeed p q j k deeds deed
   pub fits : FitsState version (is_active deeds) (opened_by deeds) deed.step deed.answer
   pub sees : SeesIf (is_active deeds) j deeds deed
-  pub node : IsNode version size k (deeds ++ deed ∷ []) now q after base
+  pub node : IsNode version size k (deeds ++ deed ∷ []) now q after
   -- where nothing was taken the port shows what it has shown
   pub shows : k ≡ j → ShowsRecord j p → ShowsRecord k q
 
 -- it waits: nothing was taken, and the port is as it was
 pub record Waited (version : ℕ) (size : ℕ) (j k : List Entry) (deeds : List Deed) (now : LoggedDriver)
-    (p q : Registers) (after : List Deques) (base : ℕ) (one : Step) : Type 0 where
+    (p q : Registers) (after : Deques) (one : Step) : Type 0 where
   pub waits : HasToWait p j deeds one
   pub journal : k ≡ j
   pub port : q ≡ p
-  pub node : IsNode version size k deeds now q after base
+  pub node : IsNode version size k deeds now q after
 
 module _ {version : ℕ} {size : ℕ} {j k : List Entry} {deeds : List Deed} {was : LoggedDriver}
-    (now : LoggedDriver) {p q : Registers} {links given after : List Deques} {base : ℕ}
-    (h : IsNode version size j deeds was p links base) (now_lawful : IsLawful now)
-    (t : Gathers j k given after base) where
+    (now : LoggedDriver) {p q : Registers} {links given after : Deques}
+    (h : IsNode version size j deeds was p links) (now_lawful : IsLawful now) (t : Gathers j k given after) where
   -- ---- a taking where no deed was done
 
   module _ (trace : Traces version (driver_of now) (log_of now) deeds)
-      (holds : HoldsBy Lies deeds (driver_of now) (log_of now) j given base)
-      (room : (m : ℕ) → HasRoom m (log_of was) → HasRoom m (log_of now))
+      (holds : HoldsBy Lies deeds (driver_of now) (log_of now) j given)
+      (room : (any m : ℕ) → HasRoom any m (log_of was) → HasRoom any m (log_of now))
       (releases : release_room (log_of now) ≡ release_room (log_of was))
       (left : left_room (log_of now) ≡ left_room (log_of was)) (port : q ≡ p) where
     pub same_journal : k ≡ j
@@ -94,39 +92,37 @@ module _ {version : ℕ} {size : ℕ} {j k : List Entry} {deeds : List Deed} {wa
         ∙ append-nil (taken_of (part j a))))
         ∙ append-nil j
 
-    pub idle : IsNode version size k deeds now q after base
+    pub idle : IsNode version size k deeds now q after
     idle =
         let level : IsLevel k deeds = subst (λ (l : List Entry). IsLevel l deeds) (sym same_journal) h.linked.level in
         let taken : (a : ℕ) → given_in (deeds_of deeds a) ≡ taken_of (part k a) =
         λ a. given_taken deeds j a (h.in_time.when a)
         ∙ ap (λ (l : List Entry). taken_of (part l a)) (sym same_journal) in
-        let linked : IsLinked k deeds now after base = linked_after now holds t.kept taken level in
-        subst (λ (l : List Entry). IsNode version size l deeds now q after base) (sym same_journal)
-        (subst (λ (r : Registers). IsNode version size j deeds now r after base) (sym port)
+        let linked : IsLinked k deeds now after = linked_after now holds t.kept taken level in
+        subst (λ (l : List Entry). IsNode version size l deeds now q after) (sym same_journal)
+        (subst (λ (r : Registers). IsNode version size j deeds now r after) (sym port)
         (node_with h (record {
           lawful = now_lawful;
           traces = trace;
           within = h.traced.within;
-          room = λ m l. room m (h.traced.room m l);
+          room = λ m l. room version m (h.traced.room m l);
           made_for = releases ∙ h.traced.made_for;
           activations = left ∙ h.traced.activations;
-        }) (subst (λ (l : List Entry). IsLinked l deeds now after base) same_journal linked)))
+        }) (subst (λ (l : List Entry). IsLinked l deeds now after) same_journal linked)))
 
   module _ {one : Step} (lawful : IsLawfulJournal j) where
     -- ---- a step that was done
 
     pub stepped : (answer : StepAnswer) → length deeds < size →
-        Steps alike Lies shows_none takes_none was now links given base p q one (Some answer) →
-        ((m : ℕ) → HasRoom (m + 1) (log_of was) → HasRoom m (log_of now)) →
-        Stepped version size j k deeds now p q after base one answer
+        StepsHere was now links given p q one (Some answer) →
+        ((any m : ℕ) → HasRoom any (m + 1) (log_of was) → HasRoom any m (log_of now)) →
+        Stepped version size j k deeds now p q after one answer
     stepped answer left st room =
-        let y = doing version size j deeds was now p q links given base one answer no_link h lawful st in
+        let y = doing version size j deeds was now p q links given one answer h lawful st in
         let c = y.is_next in let d = c.deed in let next = c.next in let b = opened_by deeds + opens_by d in
-        let most = opened_most deeds (driver_of was) (log_of was) (node_of was) (ended_of was) h.traced.traces
-        h.traced.lawful in
         let entered : k ≡ j ++ entries_of_items d.gave =
         items_are y.holds t d.gave b (at_most_one (is_active deeds) (opened_by deeds) d.step d.answer d.gave y.kind)
-        (is_read j deeds d h.linked.level most y.kind) y.waits_now in
+        (is_read j deeds d h.linked.level y.kind) y.waits_now in
         let e = enters j k deeds d entered h.linked.level y.kind in
         let buffer = tbs_right version j deeds p h.registers h.traced.traces.answered.states in
         let level = level_after j k deeds d entered h.linked.level y.kind in
@@ -151,7 +147,7 @@ module _ {version : ℕ} {size : ℕ} {j k : List Entry} {deeds : List Deed} {wa
               lawful = now_lawful;
               traces = y.trace;
               within = omega (arith, left, long);
-              room = λ m l. room m (h.traced.room (m + 1) (omega (arith, l, long)));
+              room = λ m l. room version m (h.traced.room (m + 1) (omega (arith, l, long)));
               made_for = st.release_room ∙ h.traced.made_for;
               activations = st.left_room ∙ h.traced.activations;
             };
@@ -173,16 +169,13 @@ module _ {version : ℕ} {size : ℕ} {j k : List Entry} {deeds : List Deed} {wa
 
     -- ---- a step that waits
 
-    pub waited : Steps alike Lies shows_none takes_none was now links given base p q one None →
-        ((m : ℕ) → HasRoom m (log_of was) → HasRoom m (log_of now)) →
-        Waited version size j k deeds now p q after base one
-    waited st room =
-        let at = place_after base (ended_of was) in let unmet = is_unmet st.tried st.met in
-        let acts : Acts alike Lies shows_none takes_none (slice_index_or links at no_link)
-        (slice_index_or given at no_link) p q one (driver_of was) (driver_of now) Unmet =
-        subst (λ (o : Tried). Acts alike Lies shows_none takes_none (slice_index_or links at no_link)
-        (slice_index_or given at no_link) p q one (driver_of was) (driver_of now) o) unmet
-        (st.acts no_link no_link) in
+    pub waited : StepsHere was now links given p q one None →
+        ((any m : ℕ) → HasRoom any m (log_of was) → HasRoom any m (log_of now)) →
+        links.room ≡ 22 * most_activations version → Waited version size j k deeds now p q after one
+    waited st room made =
+        let unmet = is_unmet st.tried st.met in
+        let acts : ActsHere links given p q one (driver_of was) (driver_of now) Unmet =
+        subst (λ (o : Tried). ActsHere links given p q one (driver_of was) (driver_of now) o) unmet st.acts in
         let nothing : deeds ++ deeds_by p one st.tried (place_of j).bits ≡ deeds =
         ap (λ (o : Tried). deeds ++ deeds_by p one o (place_of j).bits) unmet ∙ append-nil deeds in
         -- in the version of the port
@@ -192,12 +185,13 @@ module _ {version : ℕ} {size : ℕ} {j k : List Entry} {deeds : List Deed} {wa
         subst (λ (n : ℕ). Traces n (driver_of now) (log_of now) deeds) h.ported.version_is
         (subst (λ (l : List Deed). Traces p.version (driver_of now) (log_of now) l) nothing
         ((st.goes (place_of j).bits).traces deeds traced)) in
-        let holds : HoldsBy Lies deeds (driver_of now) (log_of now) j given base =
-        subst (λ (l : List Deed). HoldsBy Lies l (driver_of now) (log_of now) j given base) nothing
+        let holds : HoldsBy Lies deeds (driver_of now) (log_of now) j given =
+        subst (λ (l : List Deed). HoldsBy Lies l (driver_of now) (log_of now) j given) nothing
         ((st.goes (place_of j).bits).holds deeds j traced h.linked.holds) in record {
-          waits = waits j deeds (log_of was) links base (node_of was) no_link lawful
+          waits = waits j deeds (log_of was) links (node_of was) lawful h.linked.level.begun
               (λ a. given_taken deeds j a (h.in_time.when a)) p one (driver_of was) (driver_of now) acts.out h.asked
-              h.traced.traces h.traced.lawful h.linked.holds h.linked.taken acts.waits;
+              h.traced.traces h.traced.lawful.own h.linked.holds h.linked.taken
+              (made ∙ ap (λ n. 22 * most_activations n) (sym h.ported.version_is)) acts.waits;
           journal = same_journal trace holds room st.release_room st.left_room acts.port;
           port = acts.port;
           node = idle trace holds room st.release_room st.left_room acts.port;

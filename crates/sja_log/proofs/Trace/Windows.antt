@@ -1,48 +1,51 @@
 -- What a driver holds, beside what was put for it.
-use Rattle.std.proofs.Common.{◌≡◌, ℕ, suc, ◌+◌, ◌<◌, Bool, true, false, List, [], ◌∷◌, ◌++◌, length, map, drop, refl}
-use Rattle.std.proofs.Common.{sym, ap, ◌∙◌, subst, append-nil, arith}
-use Rattle.std.specs.Prelude.{if◌then◌else◌, slice_index_or}
+use Rattle.std.proofs.Common.{◌≡◌, ℕ, suc, ◌+◌, Bool, true, false, List, [], ◌∷◌, ◌++◌, length, map, drop, refl}
+use Rattle.std.proofs.Common.{sym, ap, ◌∙◌, subst, append-nil, arith, inl, inr}
+use Rattle.std.specs.Prelude.{if◌then◌else◌}
+use Rattle.std.proofs.lemmas.Bool.{cases_eq}
 use Rattle.std.proofs.lemmas.List.{length-map, drop_at}
 use Rattle.sja_link.specs.declared.down.Down.{Down}
 use Rattle.sja_link.specs.declared.entry.Entry.{Entry}
 use Rattle.sja_link.specs.Lists.{messages}
-use Rattle.sja_link.specs.Deques.{Deques, Lies}
+use Rattle.sja_link.specs.Deques.{Deques, Lies, down_on, up_on}
 use Rattle.sja_link.specs.Looking.{Holds, off_among}
 use Rattle.sja_link.specs.Accounts.{Account, account}
 use Rattle.sja_link.specs.Places.{place_of}
 use Rattle.sja_link.specs.Parts.{part}
 use Rattle.sja_link.specs.Carried.{put_in, put_of, taken_of}
 use Rattle.sja_link.proofs.JournalEntries.Entering.{of_part_none}
-use Rattle.sja_link.specs.Links.{per_node, Kept}
+use Rattle.sja_link.specs.Links.{Kept}
+use Rattle.sja_link.proofs.QueuedLinks.Lying.{up_here, up_else}
 use Rattle.sja_driver.specs.Deeds.{Deed, opened_by, released_lengths, deeds_of}
 use Rattle.sja_driver.specs.Windows.{put_by, off_by, window_of}
 use Rattle.sja_log.specs.Settling.{IsSettled}
 use Rattle.sja_driver.proofs.Trace.Timings.{put_now}
 
 -- at the end: what is left unread is what is held, and what lies there
-pub settled_by : (j : List Entry) (a : ℕ) (driver : Account) (link : Deques) (released held : List (List ℕ)) →
-    Lies link (account j a driver) → link.up ≡ [] → Holds driver.got released held →
-    IsSettled j a (record { released = released; unread = held ++ messages link.down })
-settled_by j a driver link released held lies empty got = record {
+pub settled_by : (j : List Entry) (a : ℕ) (driver : Account) (links : Deques) (released held : List (List ℕ)) →
+    Lies links a (account j a driver) → links.up ≡ [] → Holds driver.got released held →
+    IsSettled j a (record { released = released; unread = held ++ messages (down_on links a) })
+settled_by j a driver links released held lies empty got = record {
   driver = driver;
-  down = link.down;
+  down = down_on links a;
   held = held;
-  put = lies.0;
-  given = lies.1 ∙ ap (λ l. taken_of (part j a) ++ l) empty ∙ append-nil (taken_of (part j a));
+  put = lies.down;
+  given = lies.up ∙ ap (λ l. taken_of (part j a) ++ l) none ∙ append-nil (taken_of (part j a));
   holds = got;
   unread = refl;
 }
+  where
+    none : up_on links a ≡ []
+    none = elim (cases_eq a links.activation) [ inl e ↦ up_here links a e ∙ empty | inr o ↦ up_else links a o ]
 
 -- and so of every activation of a node whose links kept to its journal
-pub settled_kept : (j : List Entry) (links : List Deques) (base : ℕ) (h : ℕ → Account) (d : Deques) →
-    Kept Lies j links base h → (a : ℕ) (released held : List (List ℕ)) → a < per_node →
-    let link = slice_index_or links (base + a) d in link.up ≡ [] → Holds (h a).got released held →
-    IsSettled j (a + 1) (record { released = released; unread = held ++ messages link.down })
-settled_kept j links base h d kept a released held few empty got =
-    let link = slice_index_or links (base + a) d in
+pub settled_kept : (j : List Entry) (links : Deques) (h : ℕ → Account) → Kept Lies j links h →
+    (a : ℕ) (released held : List (List ℕ)) → links.up ≡ [] → Holds (h a).got released held →
+    IsSettled j (a + 1) (record { released = released; unread = held ++ messages (down_on links (a + 1)) })
+settled_kept j links h kept a released held empty got =
     let e : suc a ≡ a + 1 = omega arith in
-    settled_by j (a + 1) (h a) link released held (subst (λ (n : ℕ). Lies link (account j n (h a))) e
-    (kept a d few)) empty got
+    settled_by j (a + 1) (h a) links released held (subst (λ (n : ℕ). Lies links n (account j n (h a))) e (kept a))
+    empty got
 
 -- where a step has taken in all that was put, its window is what it holds
 pub window_now : (j : List Entry) (deeds : List Deed) (got : List Down) (released held : List (List ℕ)) →

@@ -6,19 +6,20 @@ use Rattle.sja_driver.specs.Kept.{at_power_on}
 use Rattle.sja_driver.specs.LoggedDrivers.{node_of, driver_of, log_of, kept_of, IsLawful}
 use Rattle.sja_driver.specs.Logs.{IsEmpty, IsMadeFor, Traces}
 
--- the driver of this node, in reset, that did nothing and was made for so many steps, and for what so many deeds come
--- to
-pub record IsNewDriver (node many deeds : ℕ) (d : LoggedDriver) : Type 0 where
+-- the driver of this node, in reset, that did nothing and was made for so many steps, for what so many deeds come to,
+-- and for as many activations as a node has in this version
+pub record IsNewDriver (version node many deeds : ℕ) (d : LoggedDriver) : Type 0 where
   pub own : node_of d ≡ node
   pub empty : IsEmpty (log_of d)
-  pub made_for : IsMadeFor many deeds (log_of d)
+  pub made_for : IsMadeFor version many deeds (log_of d)
   pub kept : kept_of d ≡ at_power_on
   pub reset : is_out (driver_of d) ≡ false
   pub lawful : IsLawful d
-  pub traces : (version : ℕ) → Traces version (driver_of d) (log_of d) []
+  pub traces : (any : ℕ) → Traces any (driver_of d) (log_of d) []
 
 -- the first so many of them, by node, each made for the steps and for the deeds of its node
-abbrev pub AreNew : List ℕ → List ℕ → ℕ → List LoggedDriver → Type 0
-AreNew steps deeds count drivers =
+abbrev pub AreNew : ℕ → List ℕ → List ℕ → ℕ → List LoggedDriver → Type 0
+AreNew version steps deeds count drivers =
     (node : ℕ) (d : LoggedDriver) → node < count →
-    IsNewDriver node (slice_index_or steps node 0) (slice_index_or deeds node 0) (slice_index_or drivers node d)
+    IsNewDriver version node (slice_index_or steps node 0) (slice_index_or deeds node 0)
+    (slice_index_or drivers node d)

@@ -1,7 +1,8 @@
-use Rattle.std.proofs.Common.{rules, ◌≡◌, ◌*◌, length, ap, sym, ◌∙◌, slice_set, arith, length-set}
+use Rattle.std.proofs.Common.{rules, ◌≡◌, length, ap, sym, ◌∙◌, slice_set, arith, length-set}
+use Rattle.sja_link.specs.declared.link_id.LinkId.{LinkId}
 use Rattle.sja_regs.specs.declared.registers.Registers.{Registers}
-use Rattle.sja_driver.specs.Drivers.{link_in, next_link}
-use Rattle.two_drivers.proofs.Links.{AreOfTwo, when_new, when_one, when_same, first_number, written}
+use Rattle.sja_driver.specs.Drivers.{link_in, next_link, node_in}
+use Rattle.two_drivers.proofs.Links.{AreOfTwo, when_new, when_one, when_same, own_node, written}
 use Rattle.two_drivers.proofs.passed_on.Goals.{After-index_mut, After-send, After-as_mut_slice}
 use Rattle.two_drivers.proofs.passed_on.Goals as goal
 
@@ -13,35 +14,29 @@ two_ports : (c : After-index_mut) → length c.in_ok-board.board.ports.items ≡
 two_ports c = search rules
 
 -- the links are those of two nodes after the sender's calls, and as the bus gets them
-sent : (c : After-send) → AreOfTwo (slice_set c.in_ok-links.links.items c.first_link-near.result c.send.new.link)
-sent c = when_one _ _ _ _ (search rules) c.index_mut.ensures.value c.send.ensures (when_new _ (search rules))
+sent : (c : After-send) → AreOfTwo (slice_set c.in_ok-links.links.items 0 c.send.new.links)
+sent c = when_one _ _ _ _ (search rules) c.index_mut.ensures.value c.send.ensures (when_new _ 1 (search rules))
 
-given : (c : After-as_mut_slice) →
-    AreOfTwo (slice_set c.in_ok-links.links.items c.first_link-near.result c.send.new.link) →
+given : (c : After-as_mut_slice) → AreOfTwo (slice_set c.in_ok-links.links.items 0 c.send.new.links) →
     AreOfTwo c.as_mut_slice.result.now
 given c sent = rw c.as_mut_slice.ensures.value
-    (when_one _ _ _ _ (search rules) c.index_mut-3.ensures.value c.start.ensures.same sent)
+    (when_one _ _ _ _ (search rules) c.index_mut-3.ensures.value c.start.ensures.same.0 sent)
 
 pub send-requires : goal.send-requires
-send-requires c = first_number _ 0 _ _ (when_new _ (search rules)) (omega arith) c.first_link-near.ensures
-    c.index_mut.ensures.value
+send-requires c =
+    let links = c.in_ok-links.links.items in
+    own_node links 0 _ (when_new links 1 (search rules)) (omega arith) c.index_mut.ensures.value
 
 pub start-requires : goal.start-requires
-start-requires c few =
-    let next : next_link c.new-2.result ≡ record { node = 1; activation = 1 } = search rules in
+start-requires c =
+    let own : node_in c.new-2.result ≡ 1 = search rules in
     let are = sent (goal.at.start-requires c).After-send in
-    first_number _ 1 _ _ are (omega arith) c.first_link-far.ensures c.index_mut-3.ensures.value ∙ sym next
+    own_node _ 1 _ are (omega arith) c.index_mut-3.ensures.value ∙ sym own
 
-pub bits-requires-clause-count : goal.bits-requires-clause-count
-bits-requires-clause-count c =
-    let at = goal.at.bits-requires-clause-count c in
-    let nodes = two_nodes at.After-index_mut in
-    (given at.After-as_mut_slice (sent at.After-send)).count ∙ ap (λ n. 64 * n) (sym nodes)
-
-pub bits-requires-clause-ids : goal.bits-requires-clause-ids
-bits-requires-clause-ids c =
-    let at = goal.at.bits-requires-clause-ids c in
-    (given at.After-as_mut_slice (sent at.After-send)).numbered
+pub bits-requires-clause-ends : goal.bits-requires-clause-ends
+bits-requires-clause-ends c =
+    let at = goal.at.bits-requires-clause-ends c in
+    let nodes = two_nodes at.After-index_mut in rw nodes (given at.After-as_mut_slice (sent at.After-send))
 
 pub bits-requires-clause-ports : goal.bits-requires-clause-ports
 bits-requires-clause-ports c =
@@ -51,19 +46,14 @@ bits-requires-clause-ports c =
 pub index_mut-requires-5 : goal.index_mut-requires-5
 index_mut-requires-5 c =
     let at = goal.at.index_mut-requires-5 c in
-    omega (
-      arith,
-      c.first_link-far.ensures,
-      c.as_mut_slice.ensures.len,
-      (given at.After-as_mut_slice (sent at.After-send)).count,
-    )
+    omega (arith, c.as_mut_slice.ensures.len, (given at.After-as_mut_slice (sent at.After-send)).count)
 
 pub release_message-requires : goal.release_message-requires
 release_message-requires c =
     let at = goal.at.release_message-requires c in
     let own : link_in c.in-Ok.receiver ≡ next_link c.new-2.result = search rules in
     let next : next_link c.new-2.result ≡ record { node = 1; activation = 1 } = search rules in
-    let here = written _ c.bits.new.links _ c.first_link-far.result c.index_mut-5.result.now (search rules)
+    let here = written _ c.bits.new.links _ 1 c.index_mut-5.result.now (search rules)
     c.index_mut-5.ensures.value in
     let are = when_same _ _ c.bits.ensures.keeps.sames (given at.After-as_mut_slice (sent at.After-send)) in
-    first_number _ 1 _ _ are (omega arith) c.first_link-far.ensures here ∙ sym (own ∙ next)
+    own_node _ 1 _ are (omega arith) here ∙ sym (ap (λ (l : LinkId). l.node) (own ∙ next))

@@ -1,76 +1,58 @@
-use Rattle.std.proofs.Common.{◌≡◌, ◌*◌, ℕ, length, arith, sym, ap, ◌∙◌}
-use Rattle.std.proofs.lemmas.Slice.Zip.{AllZip-long}
-use Rattle.sja_link.specs.Deques.{Deques}
-use Rattle.sja_bus.proofs.AllNodes.Many.{numbered_kept}
+use Rattle.std.proofs.Common.{◌≡◌, ◌∙◌, length, arith}
+use Rattle.bench.proofs.OwnEnds.{ends_went_on}
 use Rattle.bench.proofs.running.run_bits.Goals as goal
 
 -- ---- bit by bit
 
-pub returns-in-Ok-clause-ids : goal.returns-in-Ok-clause-ids
-returns-in-Ok-clause-ids c =
-    numbered_kept (λ (x : Deques). x.link) (λ x y. y.link ≡ x.link) (λ x y h. h) c.args.links.now c.bits.new.links
-    c.bits.ensures.keeps.sames c.requires.ids
+pub returns-in-Ok-clause-ends : goal.returns-in-Ok-clause-ends
+returns-in-Ok-clause-ends c =
+    ends_went_on c.args.links.now c.bits.new.links _ _ c.bits.ensures.keeps.nodes c.bits.ensures.keeps.sames
+    c.requires.ends
 
-pub returns-in_default-clause-ids : goal.returns-in_default-clause-ids
-returns-in_default-clause-ids c =
-    numbered_kept (λ (x : Deques). x.link) (λ x y. y.link ≡ x.link) (λ x y h. h) c.args.links.now c.bits.new.links
-    c.bits.ensures.keeps.sames c.requires.ids
+pub returns-in_default-clause-ends : goal.returns-in_default-clause-ends
+returns-in_default-clause-ends c =
+    ends_went_on c.args.links.now c.bits.new.links _ _ c.bits.ensures.keeps.nodes c.bits.ensures.keeps.sames
+    c.requires.ends
 
-pub returns-in_default-2-clause-ids : goal.returns-in_default-2-clause-ids
-returns-in_default-2-clause-ids c =
-    numbered_kept (λ (x : Deques). x.link) (λ x y. y.link ≡ x.link) (λ x y h. h) c.args.links.now c.bits.new.links
-    c.bits.ensures.keeps.sames c.requires.ids
+pub returns-in_default-2-clause-ends : goal.returns-in_default-2-clause-ends
+returns-in_default-2-clause-ends c =
+    ends_went_on c.args.links.now c.bits.new.links _ _ c.bits.ensures.keeps.nodes c.bits.ensures.keeps.sames
+    c.requires.ends
 
 -- ---- those at rest at once
 
-pub bit-requires-clause-count : goal.bit-requires-clause-count
-bit-requires-clause-count c =
-    let i = c.loop.invariant in let e = c.quiet_bits.ensures in
-    let same : Deques → Deques → Type 0 = λ x y. y.link ≡ x.link in
-    AllZip-long same c.loop.links c.quiet_bits.new.links e.sames ∙ i.1 ∙ ap (λ (n : ℕ). 64 * n) (sym e.nodes)
-
-pub bit-requires-clause-ids : goal.bit-requires-clause-ids
-bit-requires-clause-ids c =
-    let same : Deques → Deques → Type 0 = λ x y. y.link ≡ x.link in
-    numbered_kept (λ (x : Deques). x.link) same (λ x y h. h) c.loop.links c.quiet_bits.new.links
-    c.quiet_bits.ensures.sames c.loop.invariant.2
+pub bit-requires-clause-ends : goal.bit-requires-clause-ends
+bit-requires-clause-ends c =
+    ends_went_on c.loop.links c.quiet_bits.new.links _ _ c.quiet_bits.ensures.nodes c.quiet_bits.ensures.sames
+    c.loop.invariant.1
 
 pub bit-requires-clause-ports : goal.bit-requires-clause-ports
 bit-requires-clause-ports c =
-    let nodes = c.quiet_bits.ensures.nodes in let few = c.loop.invariant.3 in omega (arith, nodes, few)
+    let nodes = c.quiet_bits.ensures.nodes in let few = c.loop.invariant.2 in omega (arith, nodes, few)
 
 pub loop-preserved : goal.loop-preserved
 loop-preserved c =
     let i = c.loop.invariant in let q = c.quiet_bits.ensures in let e = c.bit.ensures.keeps in
-    let before = c.loop.links in let between = c.quiet_bits.new.links in let after = c.bit.new.links in
-    let same : Deques → Deques → Type 0 = λ x y. y.link ≡ x.link in
-    let first : length between ≡ length before = AllZip-long same before between q.sames in
-    let then : length after ≡ length between = AllZip-long same between after e.sames in
-    let rested = q.nodes in let nodes = e.nodes in let ports = e.others.0 in let few = i.3 in (
+    let rested = q.nodes in let nodes = e.nodes in let ports = e.others.0 in let few = i.2 in (
       nodes ∙ rested ∙ i.0,
-      then ∙ first ∙ i.1 ∙ ap (λ (n : ℕ). 64 * n) (sym (nodes ∙ rested)),
-      numbered_kept (λ (x : Deques). x.link) same (λ x y h. h) between after e.sames
-          (numbered_kept (λ (x : Deques). x.link) same (λ x y h. h) before between q.sames i.2),
+      ends_went_on c.quiet_bits.new.links c.bit.new.links _ _ nodes e.sames
+          (ends_went_on c.loop.links c.quiet_bits.new.links _ _ rested q.sames i.1),
       omega (arith, rested, nodes, ports, few),
-      ports ∙ i.4,
+      ports ∙ i.3,
     )
 
-pub returns-in_default-quiet_bits-clause-ids : goal.returns-in_default-quiet_bits-clause-ids
-returns-in_default-quiet_bits-clause-ids c =
-    let same : Deques → Deques → Type 0 = λ x y. y.link ≡ x.link in
-    numbered_kept (λ (x : Deques). x.link) same (λ x y h. h) c.loop.links c.quiet_bits.new.links
-    c.quiet_bits.ensures.sames c.loop.invariant.2
+pub returns-in_default-quiet_bits-clause-ends : goal.returns-in_default-quiet_bits-clause-ends
+returns-in_default-quiet_bits-clause-ends c =
+    ends_went_on c.loop.links c.quiet_bits.new.links _ _ c.quiet_bits.ensures.nodes c.quiet_bits.ensures.sames
+    c.loop.invariant.1
 
-pub returns-then-left-eq0-clause-ids : goal.returns-then-left-eq0-clause-ids
-returns-then-left-eq0-clause-ids c =
-    let same : Deques → Deques → Type 0 = λ x y. y.link ≡ x.link in
-    numbered_kept (λ (x : Deques). x.link) same (λ x y h. h) c.loop.links c.quiet_bits.new.links
-    c.quiet_bits.ensures.sames c.loop.invariant.2
+pub returns-then-left-eq0-clause-ends : goal.returns-then-left-eq0-clause-ends
+returns-then-left-eq0-clause-ends c =
+    ends_went_on c.loop.links c.quiet_bits.new.links _ _ c.quiet_bits.ensures.nodes c.quiet_bits.ensures.sames
+    c.loop.invariant.1
 
-pub returns-then-is_err-clause-ids : goal.returns-then-is_err-clause-ids
-returns-then-is_err-clause-ids c =
-    let same : Deques → Deques → Type 0 = λ x y. y.link ≡ x.link in
-    numbered_kept (λ (x : Deques). x.link) same (λ x y h. h) c.quiet_bits.new.links c.bit.new.links
-    c.bit.ensures.keeps.sames
-    (numbered_kept (λ (x : Deques). x.link) same (λ x y h. h) c.loop.links c.quiet_bits.new.links
-    c.quiet_bits.ensures.sames c.loop.invariant.2)
+pub returns-then-is_err-clause-ends : goal.returns-then-is_err-clause-ends
+returns-then-is_err-clause-ends c =
+    ends_went_on c.quiet_bits.new.links c.bit.new.links _ _ c.bit.ensures.keeps.nodes c.bit.ensures.keeps.sames
+    (ends_went_on c.loop.links c.quiet_bits.new.links _ _ c.quiet_bits.ensures.nodes c.quiet_bits.ensures.sames
+    c.loop.invariant.1)

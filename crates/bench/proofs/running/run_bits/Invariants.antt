@@ -1,11 +1,10 @@
-use Rattle.std.proofs.Common.{◌≡◌, ◌≤◌, ◌*◌, length}
-use Rattle.sja_link.specs.Links.{Numbered}
+use Rattle.std.proofs.Common.{◌≡◌, ◌≤◌, length}
+use Rattle.sja_link.specs.Links.{AreEnds}
 use Rattle.bench.proofs.running.run_bits.Given as goal
 
 -- links and ports are those of the bus's nodes, which stay as many
 abbrev pub invariant-loop : goal.invariant-loop
 invariant-loop l = (length l.bus.journals ≡ length l.initial.bus.journals)
-    × (length l.links ≡ 64 * length l.bus.journals)
-    × Numbered (λ e. e.link) l.links
+    × AreEnds (λ e. e.node) (length l.bus.journals) l.links
     × (length l.bus.journals ≤ length l.board.ports.items)
     × (length l.board.ports.items ≡ length l.initial.board.ports.items)

@@ -14,7 +14,7 @@ use Rattle.sja_bus.proofs.all_nodes.bit_of_all.Goals as goal
 pub sample_from-requires : goal.sample_from-requires
 sample_from-requires g c =
     let ports = g.B.Board.ports c.args.board.now in record {
-      seated = seated_on g.E.BusEnd.link g.E.BusEnd.same g.met.E.BusEnd.same_link c.args.seats.now c.open_all.new.seats
+      seated = seated_on g.E.BusEnd.node g.E.BusEnd.same g.met.E.BusEnd.same_node c.args.seats.now c.open_all.new.seats
           c.args.links.now c.open_all.new.links ports ports c.open_all.auto.seats c.open_all.ensures.sames refl
           c.in_ok-open_all.ensures.ready c.requires.seated;
     }
@@ -104,7 +104,7 @@ returns-in_err-sample_from-clause-stops g c =
     let is : c.from_residual-in_err-sample_from.result ≡ Err f = search rules in
     let P : _ → Type 0 = λ x. (SeatRefuses E.stands was now c.args.links.now c.sample_from.new.links x
     ⊎ SeatFull E.stands O was now c.args.links.now c.sample_from.new.links x)
-    ⊎ SeatStops E.same E.stands E.full O was now c.args.links.now x in
+    ⊎ SeatStops E O was now c.args.links.now x in
     err_is P c.from_residual-in_err-sample_from.result f is
     (inr (record {
       opened = c.open_all.new.seats;

@@ -1,14 +1,9 @@
-use Rattle.std.proofs.Common.{◌≡◌, ℕ, ◌<◌, ◌≤◌, ◌+◌, length, arith, rules, sym, subst, inl, inr}
+use Rattle.std.proofs.Common.{◌≡◌, ℕ, ◌<◌, ◌≤◌, length, arith, rules, sym, subst, inl, inr}
 use Rattle.std.specs.Prelude.{◌⊎◌, Err, slice_index_or, slice_set}
-use Rattle.sja_link.specs.BusLedgers.{link_of}
-use Rattle.lemmas.proofs.Related.{each_trans}
-use Rattle.sja_link.specs.Inside.Moving.{Goes}
-use Rattle.sja_wire.specs.Reasons.{RefusesItem}
-use Rattle.sja_bus.specs.Inside.Taking.{FullForAbort}
 use Rattle.sja_bus.specs.Inside.Rows.{SeatOpens, SeatOpensUntold}
 use Rattle.sja_bus.specs.Inside.Refusing.{SeatRefuses, SeatFull}
-use Rattle.sja_bus.proofs.AllNodes.Many.{done_all}
-use Rattle.sja_bus.proofs.AllNodes.Rows.{has_links, taken_none, taken_one}
+use Rattle.sja_bus.proofs.AllNodes.Many.{done_all, sames_one}
+use Rattle.sja_bus.proofs.AllNodes.Rows.{has_end, taken_none, taken_one}
 use Rattle.sja_bus.proofs.ItemsTaken.Refusing.{refuses_seat, rooms_one}
 use Rattle.sja_bus.proofs.ItemsTaken.BreakingSeats.{full_seat}
 use Rattle.lemmas.proofs.Results.{err_is}
@@ -23,36 +18,40 @@ loop-k-init g c = record {
   facts = λ m none. absurd (omega (arith, none));
 }
 
+pub bounds-links-k : goal.bounds-links-k
+bounds-links-k g c =
+    let here : c.loop-k.k < length c.loop-k.seats = search rules in
+    omega (arith, here, c.loop-k.auto.seats, c.loop-k.auto.links, c.requires.ends.count)
+
 pub open_bit-requires-clause-at : goal.open_bit-requires-clause-at
 open_bit-requires-clause-at g c =
-    rw c.first_link.ensures (has_links g.E.BusEnd.link g.E.BusEnd.same g.met.E.BusEnd.same_link
-    (length c.args.seats.now) c.loop-k.seats c.args.links.now c.loop-k.links c.loop-k.k c.index-seats-k.result
-    c.requires.count c.loop-k.auto.seats (search rules) c.loop-k.invariant.taken.goes.sames c.requires.ids
-    c.loop-k.invariant.taken.ready)
+    has_end g.E.BusEnd.node g.E.BusEnd.same g.met.E.BusEnd.same_node (length c.args.seats.now) c.loop-k.seats
+    c.args.links.now c.loop-k.links c.loop-k.k c.index-seats-k.result c.index-links-k.result c.loop-k.auto.seats
+    (search rules) c.loop-k.invariant.taken.goes.sames c.requires.ends c.loop-k.invariant.taken.ready
 
 pub returns-in_err-open_bit-clause-sames : goal.returns-in_err-open_bit-clause-sames
-returns-in_err-open_bit-clause-sames g c = each_trans g.E.BusEnd.same g.met.E.BusEnd.same_trans c.args.links.now
-    c.loop-k.links c.open_bit.new.links c.loop-k.invariant.taken.goes.sames c.open_bit.ensures.stays.sames
+returns-in_err-open_bit-clause-sames g c =
+    let here : c.loop-k.k < length c.loop-k.seats = search rules in
+    sames_one g.E.BusEnd.same g.met.E.BusEnd.same_refl g.met.E.BusEnd.same_trans c.args.links.now c.loop-k.links
+    c.loop-k.k c.index-links-k.result c.open_bit.new.end
+    (omega (arith, here, c.loop-k.auto.seats, c.loop-k.auto.links, c.requires.ends.count))
+    c.loop-k.invariant.taken.goes.sames c.open_bit.ensures.stays.is_same
 
 pub loop-k-preserved : goal.loop-k-preserved
 loop-k-preserved g c =
-    let E = g.E.BusEnd in let k = c.loop-k.k in let s = c.index-seats-k.result in let new = c.open_bit.new.self in
-    let did = c.in_ok-open_bit.ensures in
+    let E = g.E.BusEnd in let met = g.met.E.BusEnd in let k = c.loop-k.k in let s = c.index-seats-k.result in
+    let new = c.open_bit.new.self in let did = c.in_ok-open_bit.ensures in
     let here : k < length c.loop-k.seats = search rules in
     let O = SeatOpens (g.B.Board.orders_are c.args.board.now) in
     let P : ℕ → Type 0 = λ m. O m (slice_index_or c.loop-k.seats k s) new in
-    let was = slice_index_or c.loop-k.seats k s in let after = c.open_bit.new.links in
-    let G : ℕ → Type 0 = λ base. Goes E.same E.stands was.journal.entries new.journal.entries
-    c.loop-k.links after base in
-    let R : ℕ → Type 0 = λ base. (d : _) → new.ended < 64 → E.dry (slice_index_or after (base + new.ended) d) in
-    let goes = subst G c.first_link.ensures did.goes in let dry = subst R c.first_link.ensures did.dry in
     let opens = subst P (c.loop-k.invariant.taken.ready k s here).own did.opens in
     let F : ℕ → Type 0 = λ m. g.B.Board.facts c.args.board.now m in
     let fact : F k = subst F (c.loop-k.invariant.taken.ready k s here).own did.facts in
     record {
-      taken = taken_one E.same E.stands E.dry g.met.E.BusEnd.same_trans O SeatOpensUntold c.args.seats.now
-          c.loop-k.seats c.args.links.now c.loop-k.links c.open_bit.new.links k s new here c.loop-k.auto.seats did.stays
-          did.ready goes dry opens did.untold c.loop-k.invariant.taken;
+      taken = taken_one E.same E.stands E.dry met.same_refl met.same_trans O SeatOpensUntold c.args.seats.now
+          c.loop-k.seats c.args.links.now c.loop-k.links k s new c.index-links-k.result c.open_bit.new.end here
+          (omega (arith, here, c.loop-k.auto.seats, c.loop-k.auto.links, c.requires.ends.count)) c.loop-k.auto.seats
+          did.stays did.ready did.goes did.dry opens did.untold c.loop-k.invariant.taken;
       facts = λ m less. elim (earlier_or_last m k less) [
         | inl before ↦ c.loop-k.invariant.facts m before
         | inr now ↦ subst F (sym now) fact
@@ -77,20 +76,17 @@ returns-in_err-open_bit-clause-stops g c =
     let was : k < length before = search rules in
     let O = SeatOpens (g.B.Board.orders_are c.args.board.now) in
     let is : c.from_residual.result ≡ Err f = search rules in
-    let now = slice_index_or c.loop-k.seats k s in let orders = g.B.Board.orders_are c.args.board.now in
-    let S : ℕ → Type 0 = λ base. RefusesItem E.stands now.journal.room now.journal.entries new.journal.entries
-    c.loop-k.links c.open_bit.new.links base (link_of now.ledger).node f
-    ⊎ FullForAbort E.stands (orders (link_of now.ledger).node) now new c.loop-k.links c.open_bit.new.links base f in
-    let P : _ → Type 0 = λ x. SeatRefuses E.stands before (slice_set c.loop-k.seats k new)
-    c.args.links.now c.open_bit.new.links x
+    let links = slice_set c.loop-k.links k c.open_bit.new.end in
+    let there : k < length c.loop-k.links = omega (arith, was, c.loop-k.auto.links, c.requires.ends.count) in
+    let P : _ → Type 0 = λ x. SeatRefuses E.stands before (slice_set c.loop-k.seats k new) c.args.links.now links x
     ⊎ SeatFull E.stands (g.B.Board.orders_are c.args.board.now) before (slice_set c.loop-k.seats k new) c.args.links.now
-    c.open_bit.new.links x in
-    err_is P c.from_residual.result f is (elim (subst S c.first_link.ensures c.in_err-open_bit.ensures.stops) [
-      | inl refused ↦ inl (refuses_seat E.same E.stands O before c.loop-k.seats c.args.links.now c.loop-k.links
-          c.open_bit.new.links k s new f was c.loop-k.auto.seats inv.ready inv.goes inv.done refused)
+    links x in
+    err_is P c.from_residual.result f is (elim c.in_err-open_bit.ensures.stops [
+      | inl refused ↦ inl (refuses_seat E.same E.stands O before c.loop-k.seats c.args.links.now c.loop-k.links k s new
+          c.index-links-k.result c.open_bit.new.end f was there c.loop-k.auto.seats inv.ready inv.goes inv.done refused)
       | inr full ↦ inr (full_seat E.same E.stands (g.B.Board.orders_are c.args.board.now) O before c.loop-k.seats
-          c.args.links.now c.loop-k.links c.open_bit.new.links k s new f was c.loop-k.auto.seats inv.ready
-          inv.goes inv.done full)
+          c.args.links.now c.loop-k.links k s new c.index-links-k.result c.open_bit.new.end f was there
+          c.loop-k.auto.seats inv.ready inv.goes inv.done full)
     ])
 
 pub returns-clause-facts : goal.returns-clause-facts

@@ -1,9 +1,10 @@
-use Rattle.std.proofs.Common.{◌≡◌, ◌*◌, ◌<◌, ◌≤◌, ◌∷◌, [], false, length, rules, arith, refl, sym, ap, ◌∙◌, subst}
+use Rattle.std.proofs.Common.{◌≡◌, ℕ, ◌<◌, ◌≤◌, ◌∷◌, [], false, length, rules, arith, refl, sym, ap, ◌∙◌, subst}
 use Rattle.std.proofs.Common.{inl, inr}
 use Rattle.std.specs.Prelude.{Err, slice_index_or, slice_set}
 use Rattle.std.proofs.Math.ListN.{length-set}
 use Rattle.std.proofs.lemmas.List.{take_all, set-get_or, get_or-set_same as set_here}
 use Rattle.lemmas.specs.Related.{EachRelated}
+use Rattle.sja_link.specs.Links.{AreEnds}
 use Rattle.sja_bus.specs.declared.seat.Seat.{Seat}
 use Rattle.sja_wire.specs.Wire.{wired}
 use Rattle.sja_bus.specs.Inside.Rows.{SeatTurns, seen_by, driven_by}
@@ -15,7 +16,7 @@ use Rattle.sja_bus.proofs.AllNodes.Levels.{level_now}
 use Rattle.sja_bus.proofs.AllNodes.Many.{done_all, done_none, done_one}
 use Rattle.sja_bus.proofs.AllNodes.Running.{seen_is}
 use Rattle.sja_bus.proofs.AtPorts.SeatBits.{had_quiet, keeps_quiet}
-use Rattle.sja_bus.proofs.AllNodes.Underway.{underway_none, underway_one, underway_at}
+use Rattle.sja_bus.proofs.AllNodes.Underway.{underway_none, underway_still, underway_at}
 use Rattle.sja_bus.proofs.AllNodes.Telling.{none_told}
 use Rattle.sja_bus.proofs.AtPorts.TurnsTold.{idle_bit}
 use Rattle.std.proofs.lemmas.Bool.{cases_lt}
@@ -47,11 +48,12 @@ loop-k-preserved g c =
     let same_refl = g.met.E.BusEnd.same_refl in let same_trans = g.met.E.BusEnd.same_trans in
     let sees : c.seen-sees.result ≡ seen_by c.args.struck c.args.level k = c.seen-sees.ensures
     ∙ seen_is c.has.result c.args.struck c.args.level k c.has.ensures in record {
-      row = underway_one E B same_trans met.kept_trans met.told_first met.told_last c.args.struck c.args.level
-          c.seen-sees.result c.args.seats.now c.loop-k.seats links links links a a a k s new here sees
-          (keeps_quiet E B same_refl met.kept_refl old new links a c.sample_quietly.ensures.node
+      row = underway_still E B same_refl same_trans met.kept_trans met.told_first met.told_last c.args.struck
+          c.args.level c.seen-sees.result c.args.seats.now c.loop-k.seats links links a a a k s new here
+          (omega (arith, was, c.requires.seated.ends.count)) sees
+          (λ end. keeps_quiet E B same_refl met.kept_refl old new end a c.sample_quietly.ensures.node
           c.sample_quietly.ensures.room)
-          (had_quiet E B same_refl met.kept_refl c.seen-sees.result old new links (64 * k) a
+          (λ end. had_quiet E B same_refl met.kept_refl c.seen-sees.result old new end a
           (inv.row.ready k s here).ready c.sample_quietly.ensures.ready quiet) inv.row;
       links = inv.links;
       board = inv.board;
@@ -100,12 +102,12 @@ tell_from-requires g c =
     let row = row_so_far g (goal.at.tell_from-requires g c).After-sample_quietly (search rules) in
     let h = c.requires.seated in let set = length-set c.loop-k.seats k c.sample_quietly.new.self in
     let here : k < length c.loop-k.seats = search rules in
-    let seats = c.loop-k.auto.seats in let links = c.loop-k.auto.links in let few = h.few in let count = h.count in
+    let seats = c.loop-k.auto.seats in let few = h.few in
+    let N : ℕ → Type 0 = λ n. AreEnds g.E.BusEnd.node n c.loop-k.links in
     let ports = h.ports in let p = ap B.ports inv.board in record {
       seated = record {
         few = omega (arith, few, seats);
-        count = omega (arith, count, seats, links);
-        ids = rw inv.links h.ids;
+        ends = subst N (sym (set ∙ seats)) (rw inv.links h.ends);
         ready = row.ready;
         ports = omega (arith, ports, seats, p);
       };
@@ -233,8 +235,7 @@ returns-in_err-told-clause-broken g c =
     let row = row_so_far g (goal.at.returns-in_err-told-clause-broken g c).After-sample_quietly (search rules) in
     let f = c.in_err-told.field-0.0 in
     let is : c.from_residual.result ≡ Err f = search rules in
-    let P : _ → Type 0 = λ x. SeatBreaks E.same E.stands E.full c.args.seats.now c.tell_from.new.seats
-    c.args.links.now x in
+    let P : _ → Type 0 = λ x. SeatBreaks E c.args.seats.now c.tell_from.new.seats c.args.links.now x in
     err_is P c.from_residual.result f is (c.in_err-told.ensures.broken c.args.seats.now
     c.args.links.now c.args.board.now row)
 

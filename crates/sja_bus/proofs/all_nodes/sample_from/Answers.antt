@@ -6,15 +6,13 @@ use Rattle.sja_bus.specs.UntilTold.{IsLastTurn}
 use Rattle.sja_bus.proofs.AllNodes.Telling.{idle_on, told_here, told_still}
 use Rattle.std.specs.Prelude.{Err, slice_set, slice_index_or}
 use Rattle.std.proofs.lemmas.List.{get_or-set_other as set_else}
-use Rattle.sja_link.specs.BusLedgers.{link_of}
 use Rattle.sja_bus.specs.Inside.Rows.{SeatTurns, seen_by}
-use Rattle.sja_bus.specs.Inside.SeatBits.{BreaksInBit, HadBit}
 use Rattle.sja_bus.specs.Inside.Underway.{BreaksUnderway}
 use Rattle.sja_bus.proofs.ItemsTaken.BreakingSeats.{breaks_seat}
-use Rattle.lemmas.proofs.Related.{each_refl, each_trans}
+use Rattle.lemmas.proofs.Related.{each_refl}
 use Rattle.lemmas.proofs.Results.{err_is}
-use Rattle.sja_bus.proofs.AllNodes.Many.{ready_one}
-use Rattle.sja_bus.proofs.AllNodes.Rows.{has_links}
+use Rattle.sja_bus.proofs.AllNodes.Many.{ready_one, sames_one}
+use Rattle.sja_bus.proofs.AllNodes.Rows.{has_end}
 use Rattle.sja_bus.proofs.AllNodes.Running.{seen_is}
 use Rattle.sja_bus.proofs.AllNodes.Underway.{underway_one}
 use Rattle.sja_bus.proofs.ItemsTaken.Refusing.{rooms_one}
@@ -34,13 +32,16 @@ loop-k-init g c = record {
   row = λ before given was u. u;
 }
 
+pub bounds-links-k : goal.bounds-links-k
+bounds-links-k g c =
+    let here : c.loop-k.k < length c.loop-k.seats = search rules in
+    omega (arith, here, c.loop-k.auto.seats, c.loop-k.auto.links, c.requires.seated.ends.count)
+
 pub sample-requires-clause-at : goal.sample-requires-clause-at
 sample-requires-clause-at g c =
-    let h = c.requires.seated in let inv = c.loop-k.invariant in
-    rw c.first_link.ensures (has_links g.E.BusEnd.link g.E.BusEnd.same g.met.E.BusEnd.same_link
-    (length c.args.seats.now) c.loop-k.seats c.args.links.now c.loop-k.links c.loop-k.k c.index-seats-k.result
-    h.count c.loop-k.auto.seats (search rules)
-    inv.sames h.ids inv.ready)
+    has_end g.E.BusEnd.node g.E.BusEnd.same g.met.E.BusEnd.same_node (length c.args.seats.now) c.loop-k.seats
+    c.args.links.now c.loop-k.links c.loop-k.k c.index-seats-k.result c.index-links-k.result c.loop-k.auto.seats
+    (search rules) c.loop-k.invariant.sames c.requires.seated.ends c.loop-k.invariant.ready
 
 pub loop-k-preserved : goal.loop-k-preserved
 loop-k-preserved g c =
@@ -53,15 +54,15 @@ loop-k-preserved g c =
     let s = slice_index_or c.loop-k.seats k c.index-seats-k.result in
     let one = c.in_ok-one.one in let new = c.sample.new.self in let inv = c.loop-k.invariant in
     let from : c.args.first ≤ k = search rules in let own = inv.rest k (omega arith) in
-    let H : ℕ → Type 0 = λ base. HadBit E B one c.seen-sees.result s new c.loop-k.links c.sample.new.links base b z in
+    let there : k < length c.loop-k.links = omega (arith, was, c.loop-k.auto.links, c.requires.seated.ends.count) in
     let T : ℕ → Type 0 = λ m. (turn : BusTurn) × B.told b z m turn × IsLastTurn new.journal.entries turn in
     let sees : c.seen-sees.result ≡ seen_by c.args.struck c.args.level k = c.seen-sees.ensures
     ∙ seen_is c.has.result c.args.struck c.args.level k c.has.ensures in
     record {
       ready = ready_one c.loop-k.seats k c.sample.new.self here c.loop-k.invariant.ready
           (record { ready = had.ready; own = keeps.stays.node ∙ n });
-      sames = each_trans E.same g.met.E.BusEnd.same_trans c.args.links.now c.loop-k.links c.sample.new.links
-          c.loop-k.invariant.sames keeps.stays.sames;
+      sames = sames_one E.same g.met.E.BusEnd.same_refl g.met.E.BusEnd.same_trans c.args.links.now c.loop-k.links k
+          c.index-links-k.result c.sample.new.end there c.loop-k.invariant.sames keeps.stays.is_same;
       rooms = λ n h. rooms_one n c.loop-k.seats k c.index-seats-k.result new here keeps.stays.room (inv.rooms n h);
       ports = keeps.ports ∙ c.loop-k.invariant.ports;
       others = λ m l. met.kept_trans a b z m (c.loop-k.invariant.others m l)
@@ -87,15 +88,19 @@ loop-k-preserved g c =
             c.index-seats-k.result new here c.loop-k.auto.seats sees (own.1 c.index-seats-k.result) did.1 far.1,
       );
       row = λ before given then u.
-          underway_one E B g.met.E.BusEnd.same_trans met.kept_trans met.told_first met.told_last c.args.struck
-          c.args.level c.seen-sees.result before c.loop-k.seats given c.loop-k.links c.sample.new.links then b z k
-          c.index-seats-k.result c.sample.new.self here sees keeps (subst H c.first_link.ensures had)
+          underway_one E B g.met.E.BusEnd.same_refl g.met.E.BusEnd.same_trans met.kept_trans met.told_first
+          met.told_last c.args.struck c.args.level c.seen-sees.result before c.loop-k.seats given c.loop-k.links then b
+          z k c.index-seats-k.result c.sample.new.self c.index-links-k.result c.sample.new.end here there sees keeps had
           (c.loop-k.invariant.row before given then u);
     }
 
 pub returns-in_err-one-clause-sames : goal.returns-in_err-one-clause-sames
-returns-in_err-one-clause-sames g c = each_trans g.E.BusEnd.same g.met.E.BusEnd.same_trans c.args.links.now
-    c.loop-k.links c.sample.new.links c.loop-k.invariant.sames c.sample.ensures.keeps.stays.sames
+returns-in_err-one-clause-sames g c =
+    let was : c.loop-k.k < length c.args.seats.now = search rules in
+    sames_one g.E.BusEnd.same g.met.E.BusEnd.same_refl g.met.E.BusEnd.same_trans c.args.links.now c.loop-k.links
+    c.loop-k.k c.index-links-k.result c.sample.new.end
+    (omega (arith, was, c.loop-k.auto.links, c.requires.seated.ends.count)) c.loop-k.invariant.sames
+    c.sample.ensures.keeps.stays.is_same
 
 pub returns-in_err-one-clause-board : goal.returns-in_err-one-clause-board
 returns-in_err-one-clause-board g c =
@@ -131,18 +136,16 @@ returns-in_err-one-clause-broken g c =
     let inv = c.loop-k.invariant in let new = c.sample.new.self in
     let near : k < length c.loop-k.seats = search rules in
     let is : c.from_residual.result ≡ Err f = search rules in
-    let was = slice_index_or c.loop-k.seats k s in
-    let B : ℕ → Type 0 = λ base. BreaksInBit E was new c.loop-k.links base f in
-    let broken = subst B c.first_link.ensures c.in_err-one.ensures.broken in
+    let there : k < length c.loop-k.links =
+    omega (arith, near, c.loop-k.auto.seats, c.loop-k.auto.links, c.requires.seated.ends.count) in
     let P : _ → Type 0 = λ x. BreaksUnderway E D c.args.struck c.args.level c.args.first c.args.seats.now
     (slice_set c.loop-k.seats k new) c.args.links.now c.args.board.now x in
     err_is P c.from_residual.result f is
     (λ before given start u.
     let i = inv.row before given start u in let count = i.count in
-    breaks_seat E.same E.stands E.full (SeatTurns (D.told start c.loop-k.board) (D.kept start c.loop-k.board)
-    c.args.struck c.args.level) before c.loop-k.seats given c.loop-k.links k s new f g.met.E.BusEnd.same_refl
-    g.met.E.BusEnd.same_trans (omega (arith, near, count))
-    i.count i.ready i.goes i.done broken)
+    breaks_seat E g.met.E.BusEnd.same_trans (SeatTurns (D.told start c.loop-k.board) (D.kept start c.loop-k.board)
+    c.args.struck c.args.level) before c.loop-k.seats given c.loop-k.links k s new c.index-links-k.result f
+    (omega (arith, near, count)) there i.count i.ready i.goes i.done c.in_err-one.ensures.broken)
 
 pub returns-clause-rooms : goal.returns-clause-rooms
 returns-clause-rooms g c = c.loop-k.invariant.rooms

@@ -1,43 +1,65 @@
-use Rattle.std.proofs.Common.{◌≡◌, ◌+◌, ℕ, true, false, List, rules, arith, refl, sym, ap, ◌∙◌, subst, inl, inr}
+use Rattle.std.proofs.Common.{◌≡◌, ◌+◌, ℕ, true, false, List, length, rules, arith, refl, sym, ap, ◌∙◌, subst, inl, inr}
 use Rattle.std.specs.Prelude.{◌||◌, Err, slice_set, slice_index_or}
 use Rattle.std.proofs.lemmas.Bool.{cases_Bool, cases_lt, or_parts}
 use Rattle.sja_bus.specs.Inside.RunningOn.{SeatIdle, SomeTold}
 use Rattle.std.proofs.Math.ListN.{length-set}
 use Rattle.std.proofs.lemmas.List.{get_or-set_other as set_else, get_or-set_same as set_here}
-use Rattle.sja_link.specs.BusLedgers.{link_of}
+use Rattle.lemmas.specs.Related.{EachRelated}
 use Rattle.sja_bus.specs.declared.seat.Seat.{Seat}
 use Rattle.sja_bus.specs.UntilTold.{IsLastTurn}
 use Rattle.sja_bus.specs.Inside.Rows.{SeatTurns, seen_by}
-use Rattle.sja_bus.specs.Inside.SeatBits.{BreaksInBit, HadBit}
 use Rattle.sja_bus.specs.Inside.Underway.{BreaksUnderway, IsUnderway}
 use Rattle.sja_bus.proofs.ItemsTaken.BreakingSeats.{breaks_seat}
-use Rattle.lemmas.proofs.Related.{each_trans}
+use Rattle.lemmas.proofs.Related.{each_refl, each_trans}
 use Rattle.lemmas.proofs.Results.{err_is}
-use Rattle.sja_bus.proofs.AllNodes.Many.{ready_one}
-use Rattle.sja_bus.proofs.AllNodes.Rows.{seated_on}
+use Rattle.sja_bus.proofs.AllNodes.Many.{ready_one, sames_one}
+use Rattle.sja_bus.proofs.AllNodes.Rows.{has_end, seated_on}
 use Rattle.sja_bus.proofs.AllNodes.Running.{seen_is}
 use Rattle.sja_bus.proofs.AllNodes.Underway.{underway_one}
 use Rattle.sja_bus.proofs.AllNodes.Telling.{idle_on}
 use Rattle.sja_bus.proofs.ItemsTaken.Refusing.{rooms_one}
-use Rattle.sja_bus.proofs.all_nodes.tell_from.Goals.{In_ok-one, In_ok-others}
+use Rattle.sja_bus.proofs.all_nodes.tell_from.Goals.{After-sample_and_tell, In_ok-one, In_ok-others}
 use Rattle.sja_bus.proofs.all_nodes.tell_from.Goals as goal
+
+pub bounds-links-first : goal.bounds-links-first
+bounds-links-first g c = omega (arith, c.requires.few, c.requires.seated.ends.count)
+
+pub sample_and_tell-requires-clause-at : goal.sample_and_tell-requires-clause-at
+sample_and_tell-requires-clause-at g c =
+    let h = c.requires.seated in
+    has_end g.E.BusEnd.node g.E.BusEnd.same g.met.E.BusEnd.same_node (length c.args.seats.now) c.args.seats.now
+    c.args.links.now c.args.links.now c.args.first c.index-seats-first.result c.index-links-first.result refl
+    c.requires.few (each_refl g.E.BusEnd.same g.met.E.BusEnd.same_refl c.args.links.now) h.ends h.ready
+
+-- the ends after the bit of the first, each the same one still
+abbrev links_now : (g : _) (c : After-sample_and_tell g) → List g.row.E.Denot
+links_now g c = slice_set c.args.links.now c.args.first c.sample_and_tell.new.end
+
+first_same : (g : _) (c : After-sample_and_tell g) → EachRelated g.E.BusEnd.same c.args.links.now (links_now g c)
+first_same g c =
+    let h = c.requires.seated in
+    sames_one g.E.BusEnd.same g.met.E.BusEnd.same_refl g.met.E.BusEnd.same_trans c.args.links.now c.args.links.now
+    c.args.first c.index-links-first.result c.sample_and_tell.new.end (omega (arith, c.requires.few, h.ends.count))
+    (each_refl g.E.BusEnd.same g.met.E.BusEnd.same_refl c.args.links.now) c.sample_and_tell.ensures.keeps.stays.is_same
 
 pub sample_from-requires : goal.sample_from-requires
 sample_from-requires g c =
+    let at = (goal.at.sample_from-requires g c).After-sample_and_tell in
     let h = c.requires.seated in let keeps = c.sample_and_tell.ensures.keeps in let seats = c.args.seats.now in
     let k = c.args.first in let s = c.index-seats-first.result in let new = c.sample_and_tell.new.self in
     let ports = g.B.Board.ports in let had = c.in_ok-one.ensures.had in record {
-      seated = seated_on g.E.BusEnd.link g.E.BusEnd.same g.met.E.BusEnd.same_link seats (slice_set seats k new)
-          c.args.links.now c.sample_and_tell.new.links (ports c.args.board.now) (ports c.sample_and_tell.new.board)
-          (length-set seats k new) keeps.stays.sames keeps.ports
+      seated = seated_on g.E.BusEnd.node g.E.BusEnd.same g.met.E.BusEnd.same_node seats (slice_set seats k new)
+          c.args.links.now (links_now g at) (ports c.args.board.now) (ports c.sample_and_tell.new.board)
+          (length-set seats k new) (first_same g at) keeps.ports
           (ready_one seats k new c.requires.few h.ready
           (record { ready = had.ready; own = keeps.stays.node ∙ (h.ready k s c.requires.few).own })) h;
     }
 
 pub returns-clause-sames : goal.returns-clause-sames
-returns-clause-sames g c = each_trans g.E.BusEnd.same g.met.E.BusEnd.same_trans c.args.links.now
-    c.sample_and_tell.new.links c.sample_from.new.links c.sample_and_tell.ensures.keeps.stays.sames
-    c.sample_from.ensures.sames
+returns-clause-sames g c =
+    let at = (goal.at.returns-clause-sames g c).After-sample_and_tell in
+    each_trans g.E.BusEnd.same g.met.E.BusEnd.same_trans c.args.links.now (links_now g at) c.sample_from.new.links
+    (first_same g at) c.sample_from.ensures.sames
 
 pub returns-clause-board : goal.returns-clause-board
 returns-clause-board g c =
@@ -124,19 +146,18 @@ first_had : (g : _) (c : In_ok-one g) (before : List Seat) (given : List _) (was
     c.args.level before given was c.args.first c.args.seats.now c.args.links.now c.args.board.now →
     IsUnderway g.E.BusEnd.same g.E.BusEnd.stands g.B.Board.ports g.B.Board.told g.B.Board.kept c.args.struck
     c.args.level before given was (c.args.first + 1)
-    (slice_set c.args.seats.now c.args.first c.sample_and_tell.new.self) c.sample_and_tell.new.links
-    c.sample_and_tell.new.board
+    (slice_set c.args.seats.now c.args.first c.sample_and_tell.new.self)
+    (slice_set c.args.links.now c.args.first c.sample_and_tell.new.end) c.sample_and_tell.new.board
 first_had g c before given was u =
     let E = g.E.BusEnd in let B = g.B.Board in let met = g.met.B.Board in let did = c.in_ok-one.ensures in
-    let old = slice_index_or c.args.seats.now c.args.first c.index-seats-first.result in
     let new = c.sample_and_tell.new.self in let a = c.args.board.now in let b = c.sample_and_tell.new.board in
-    let links = c.args.links.now in let after = c.sample_and_tell.new.links in
-    let H : ℕ → Type 0 = λ base. HadBit E B c.in_ok-one.one c.seen-sees.result old new links after base a b in
+    let links = c.args.links.now in
     let sees : c.seen-sees.result ≡ seen_by c.args.struck c.args.level c.args.first = c.seen-sees.ensures
     ∙ seen_is c.has.result c.args.struck c.args.level c.args.first c.has.ensures in
-    underway_one E B g.met.E.BusEnd.same_trans met.kept_trans met.told_first met.told_last c.args.struck c.args.level
-    c.seen-sees.result before c.args.seats.now given links after was a b c.args.first c.index-seats-first.result new
-    c.requires.few sees did.keeps (subst H c.first_link.ensures did.had) u
+    underway_one E B g.met.E.BusEnd.same_refl g.met.E.BusEnd.same_trans met.kept_trans met.told_first met.told_last
+    c.args.struck c.args.level c.seen-sees.result before c.args.seats.now given links was a b c.args.first
+    c.index-seats-first.result new c.index-links-first.result c.sample_and_tell.new.end c.requires.few
+    (omega (arith, c.requires.few, c.requires.seated.ends.count)) sees did.keeps did.had u
 
 pub returns-clause-row : goal.returns-clause-row
 returns-clause-row g c =
@@ -154,9 +175,10 @@ returns-in_err-others-clause-broken g c =
     (λ before given was u. c.in_err-others.ensures.broken before given was (had before given was u))
 
 pub returns-in_err-others-clause-sames : goal.returns-in_err-others-clause-sames
-returns-in_err-others-clause-sames g c = each_trans g.E.BusEnd.same g.met.E.BusEnd.same_trans c.args.links.now
-    c.sample_and_tell.new.links c.sample_from.new.links c.sample_and_tell.ensures.keeps.stays.sames
-    c.sample_from.ensures.sames
+returns-in_err-others-clause-sames g c =
+    let at = (goal.at.returns-in_err-others-clause-sames g c).After-sample_and_tell in
+    each_trans g.E.BusEnd.same g.met.E.BusEnd.same_trans c.args.links.now (links_now g at) c.sample_from.new.links
+    (first_same g at) c.sample_from.ensures.sames
 
 pub returns-in_err-others-clause-board : goal.returns-in_err-others-clause-board
 returns-in_err-others-clause-board g c =
@@ -171,7 +193,8 @@ returns-in_err-others-clause-board g c =
     )
 
 pub returns-in_err-one-clause-sames : goal.returns-in_err-one-clause-sames
-returns-in_err-one-clause-sames g c = c.sample_and_tell.ensures.keeps.stays.sames
+returns-in_err-one-clause-sames g c =
+    first_same g (goal.at.returns-in_err-one-clause-sames g c).After-sample_and_tell
 
 pub returns-in_err-one-clause-board : goal.returns-in_err-one-clause-board
 returns-in_err-one-clause-board g c =
@@ -183,18 +206,16 @@ pub returns-in_err-one-clause-broken : goal.returns-in_err-one-clause-broken
 returns-in_err-one-clause-broken g c =
     let E = g.E.BusEnd in let D = g.B.Board in let k = c.args.first in let s = c.index-seats-first.result in
     let f = c.in_err-one.field-0.0 in let new = c.sample_and_tell.new.self in
-    let seats = c.args.seats.now in let old = slice_index_or seats k s in let near = c.requires.few in
+    let seats = c.args.seats.now in let near = c.requires.few in
     let is : c.from_residual.result ≡ Err f = search rules in
-    let B : ℕ → Type 0 = λ base. BreaksInBit E old new c.args.links.now base f in
-    let broken = subst B c.first_link.ensures c.in_err-one.ensures.broken in
     let P : _ → Type 0 = λ x. BreaksUnderway E D c.args.struck c.args.level k seats (slice_set seats k new)
     c.args.links.now c.args.board.now x in
     err_is P c.from_residual.result f is
     (λ before given start u. let count = u.count in
-    breaks_seat E.same E.stands E.full (SeatTurns (D.told start c.args.board.now) (D.kept start c.args.board.now)
-    c.args.struck c.args.level) before seats given c.args.links.now k s new f g.met.E.BusEnd.same_refl
-    g.met.E.BusEnd.same_trans (omega (arith, near, count))
-    u.count u.ready u.goes u.done broken)
+    breaks_seat E g.met.E.BusEnd.same_trans (SeatTurns (D.told start c.args.board.now)
+    (D.kept start c.args.board.now) c.args.struck c.args.level) before seats given c.args.links.now k s new
+    c.index-links-first.result f (omega (arith, near, count)) (omega (arith, near, c.requires.seated.ends.count))
+    u.count u.ready u.goes u.done c.in_err-one.ensures.broken)
 
 -- each journal has the room that it had
 pub returns-clause-rooms : goal.returns-clause-rooms

@@ -90,7 +90,7 @@ loop-run-init g c =
 pub sample_all-requires : goal.sample_all-requires
 sample_all-requires g c =
     let inv = c.loop-run.invariant in let ports = g.B.Board.ports in record {
-      seated = seated_on g.E.BusEnd.link g.E.BusEnd.same g.met.E.BusEnd.same_link c.args.seats.now c.loop-run.seats
+      seated = seated_on g.E.BusEnd.node g.E.BusEnd.same g.met.E.BusEnd.same_node c.args.seats.now c.loop-run.seats
           c.args.links.now c.loop-run.links (ports c.args.board.now) (ports c.loop-run.board) c.loop-run.auto.seats
           inv.sames (ap ports inv.board) inv.bus.ready c.requires.seated;
       told = inv.told;
@@ -222,7 +222,7 @@ returns-in-Err-clause-breaks g c = λ steps left later enough rooms journals run
       before = works_untold c.args.to_rest script steps from (from + run) left (left - run) c.args.seats.now was
           c.args.links.now c.loop-run.links c.args.board.now a inv.bus.ready (c.goes_on.ensures.works goes) inv.board
           c.loop-run.auto.seats inv.more;
-      stops = stops_on E.same E.stands E.full (B.orders_are a) script steps (from + run) (left - run) (from + left) was
+      stops = stops_on E (B.orders_are a) script steps (from + run) (left - run) (from + left) was
           now c.loop-run.links c.sample_all.new.links c.in-Err.fault later g.met.E.BusEnd.same_refl journals
           (omega (arith, early, enough)) c.sample_all.auto.seats (inv.rooms (room_for (from + left) steps) rooms) none
           c.in-Err.ensures.broken;

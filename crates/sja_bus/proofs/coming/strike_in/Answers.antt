@@ -1,4 +1,4 @@
-use Rattle.std.proofs.Common.{◌≡◌, ◌<◌, arith, inl, inr}
+use Rattle.std.proofs.Common.{arith, inl, inr}
 use Rattle.sja_bus.proofs.coming.strike_in.Goals as goal
 
 pub returns-else-next-bit : goal.returns-else-next-bit

@@ -1,4 +1,4 @@
-use Rattle.std.proofs.Common.{◌≡◌, ◌<◌, ℕ, length, rules, inl, inr}
+use Rattle.std.proofs.Common.{◌<◌, length, rules, inl, inr}
 use Rattle.std.specs.Prelude.{slice_index_or}
 use Rattle.sja_script.specs.declared.strike.Strike.{Strike}
 use Rattle.sja_bus.proofs.WholeBus.Marking.{struck_next}

@@ -1,4 +1,4 @@
-use Rattle.std.proofs.Common.{◌≡◌, ◌+◌, ◌-◌, ◌<◌, ◌≤◌, true, length, take, drop, rules, arith, ap, subst}
+use Rattle.std.proofs.Common.{◌+◌, ◌<◌, length, rules, arith}
 use Rattle.sja_bus.proofs.WholeBus.Marking.{calm_part}
 use Rattle.sja_bus.proofs.struck_table.next_in.Goals as goal
 

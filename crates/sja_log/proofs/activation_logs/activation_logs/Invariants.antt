@@ -1,4 +1,5 @@
 use Rattle.std.proofs.Common.{◌≡◌, ◌≤◌, vec_capacity}
+use Rattle.sja_link.specs.Deques.{left_on}
 use Rattle.sja_driver.specs.AnyDrivers.{opened_of}
 use Rattle.sja_driver.specs.LoggedDrivers.{driver_of}
 use Rattle.sja_log.specs.Finishing.{AreActivations}
@@ -8,5 +9,5 @@ abbrev pub invariant-loop-ended : goal.invariant-loop-ended
 invariant-loop-ended l = record {
   room : l.count ≤ vec_capacity l.logs;
   all : l.count ≡ opened_of (driver_of l.driver);
-  each : AreActivations l.driver l.lists l.base l.ended l.logs.items;
+  each : AreActivations l.driver (λ a. left_on l.left_down a) l.ended l.logs.items;
 }

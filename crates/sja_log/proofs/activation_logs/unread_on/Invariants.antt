@@ -1,4 +1,5 @@
 use Rattle.std.proofs.Common.{◌≡◌, ◌≤◌, ◌++◌, length, take, drop, vec_capacity}
+use Rattle.sja_link.specs.Deques.{left_on}
 use Rattle.sja_link.specs.Lists.{messages}
 use Rattle.sja_log.proofs.activation_logs.unread_on.Given as goal
 
@@ -10,4 +11,5 @@ invariant-loop-message l = record {
 
 -- what was gathered, and the items that are left, are the whole
 abbrev pub invariant-loop-place : goal.invariant-loop-place
-invariant-loop-place l = l.list.items ++ messages (drop l.place l.left_down) ≡ l.held ++ messages l.left_down
+invariant-loop-place l = l.list.items ++ messages (left_on (drop l.place l.left_down) l.activation)
+    ≡ l.held ++ messages (left_on l.left_down l.activation)

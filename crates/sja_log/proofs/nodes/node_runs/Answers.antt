@@ -1,11 +1,14 @@
-use Rattle.std.proofs.Common.{rules, ◌≡◌, ◌∷◌, ◌+◌, ◌*◌, ◌<◌, List, length, drop, sym, ◌∙◌, subst, arith}
+use Rattle.std.proofs.Common.{rules, ◌≡◌, ◌∷◌, ◌+◌, ◌<◌, List, [], length, drop, sym, ◌∙◌, subst, arith}
 use Rattle.std.specs.Prelude.{slice_index_or}
 use Rattle.std.specs.Vec.Iter.{into_iter_items}
 use Rattle.std.proofs.lemmas.List.{get_or_default}
+use Rattle.sja_link.specs.declared.older_down.OlderDown.{OlderDown}
+use Rattle.sja_link.specs.Deques.{left_on}
 use Rattle.sja_wire.specs.declared.node_log.NodeLog.{NodeLog}
 use Rattle.sja_driver.specs.declared.logged_driver.LoggedDriver.{LoggedDriver}
 use Rattle.sja_log.specs.Log.{NodeValue}
 use Rattle.sja_log.specs.Finishing.{IsNodeEnd, AreNodeEnds}
+use Rattle.sja_log.specs.LeftDown.{left_of}
 use Rattle.sja_log.proofs.NodeLog.Logging.{nodes_push, next_of}
 use Rattle.sja_log.proofs.nodes.node_runs.Goals as goal
 
@@ -21,17 +24,23 @@ loop-log-preserved c =
     let next = next_of logs left n c.in-Some.log c.in-Some.log e in
     let x = c.in_ok-node_run.field-0 in
     let less : n < length drivers = let there = next.2 in let many = c.requires.drivers in omega (arith, there, many) in
-    let is : (g : NodeLog) (d : LoggedDriver) → IsNodeEnd (slice_index_or logs n g) (slice_index_or drivers n d) lists
-    (64 * n) x = λ g d.
-    subst (λ (l : NodeLog). IsNodeEnd l (slice_index_or drivers n d) lists (64 * n) x) (sym
+    let many : n < length lists = let there = next.2 in let same = c.requires.lists in omega (arith, there, same) in
+    let down : List OlderDown = slice_index_or lists n [] in
+    let left_is : c.index-lists-node.result ≡ down =
+    c.index-lists-node.is ∙ get_or_default lists n c.index-lists-node.result [] many in
+    let is : (g : NodeLog) (d : LoggedDriver) → IsNodeEnd (slice_index_or logs n g) (slice_index_or drivers n d)
+    (λ a. left_on down a) x = λ g d.
+    subst (λ (l : NodeLog). IsNodeEnd l (slice_index_or drivers n d) (λ a. left_on down a) x) (sym
     (next_of logs left n c.in-Some.log g e).0)
-    (subst (λ (v : LoggedDriver). IsNodeEnd c.in-Some.log v lists (64 * n) x) (c.index-drivers-node.is
-    ∙ get_or_default drivers n c.index-drivers-node.result d less) c.in_ok-node_run.ensures) in
+    (subst (λ (v : LoggedDriver). IsNodeEnd c.in-Some.log v (λ a. left_on down a) x) (c.index-drivers-node.is
+    ∙ get_or_default drivers n c.index-drivers-node.result d less)
+    (subst (λ (l : List OlderDown). IsNodeEnd c.in-Some.log c.index-drivers-node.result (λ a. left_on l a) x) left_is
+    c.in_ok-node_run.ensures)) in
     record {
       room = search rules;
       few = omega (arith, less);
       rest = sym next.1;
-      each = subst (λ (l : List NodeValue). AreNodeEnds logs drivers lists (n + 1) l)
+      each = subst (λ (l : List NodeValue). AreNodeEnds logs drivers (λ k a. left_of lists k a) (n + 1) l)
           (sym c.push_reserved.ensures.items)
-          (nodes_push logs drivers lists n c.loop-log.runs.items x inv.each is);
+          (nodes_push logs drivers (λ k a. left_of lists k a) n c.loop-log.runs.items x inv.each is);
     }

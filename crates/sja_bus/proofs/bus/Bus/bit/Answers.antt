@@ -177,7 +177,7 @@ returns-in_err-goes_on-clause-reason g c =
     let f = c.in_err-goes_on.field-0.0 in
     let is : c.from_residual.result ≡ Err f = search rules in
     let P : _ → Type 0 = λ x. c.args.self.now.fault ≡ None →
-    StopsBit g.E.BusEnd.same g.E.BusEnd.stands g.E.BusEnd.full (g.B.Board.orders_are c.args.board.now) c.args.self.now
+    StopsBit g.E.BusEnd (g.B.Board.orders_are c.args.board.now) c.args.self.now
     c.args.self.now c.args.links.now c.args.links.now x in
     err_is P c.from_residual.result f is (λ none. let why = c.in_err-goes_on.ensures.why none in spent why.0 why.1)
 
@@ -201,13 +201,13 @@ returns-in-Err-clause-reason g c = λ none.
       journals = journals_of xs;
       untold = untold_of xs;
     } in
-    let P : BusValue → Type 0 = λ w. StopsBit E.same E.stands E.full O w (new now) before after f in
-    let Q : List Seat → Type 0 = λ xs. StopsBit E.same E.stands E.full O old (new xs) before after f in
+    let P : BusValue → Type 0 = λ w. StopsBit E O w (new now) before after f in
+    let Q : List Seat → Type 0 = λ xs. StopsBit E O old (new xs) before after f in
     let S : List Seat → Type 0 = λ l. (SeatRefuses E.stands l now before after f
-    ⊎ SeatFull E.stands O l now before after f) ⊎ SeatStops E.same E.stands E.full O l now before f in
-    let reason = stops_bit E.same E.stands E.full O b.struck.script b.steps.items b.run b.left b.struck.bits b.fault was
-    now before
-    after f (new now) refl inv.bits len rooms (subst S c.as_mut_slice.ensures.value c.in-Err.ensures.stops) in
+    ⊎ SeatFull E.stands O l now before after f) ⊎ SeatStops E O l now before f in
+    let reason = stops_bit E O b.struck.script b.steps.items b.run b.left b.struck.bits b.fault was
+    now before after f (new now) refl inv.bits len rooms
+    (subst S c.as_mut_slice.ensures.value c.in-Err.ensures.stops) in
     subst Q (sym (written g at)) (subst P c.self.view_is reason)
 
 pub returns-in-Ok-clause-takes : goal.returns-in-Ok-clause-takes

@@ -1,11 +1,11 @@
-use Rattle.std.proofs.Common.{◌≡◌, ℕ, ◌+◌, ◌-◌, None, arith, rules}
+use Rattle.std.proofs.Common.{◌≡◌, ℕ, ◌+◌, ◌-◌, None, arith, rules, length}
 use Rattle.std.specs.Prelude.{Err}
 use Rattle.sja_wire.specs.declared.bus_fault.BusFault.{BusFault}
 use Rattle.sja_bus.specs.Moment.{Moment, moment, Keeps}
 use Rattle.sja_bus.specs.Several.{BitInOrder, WorksIf, StopsBits}
 use Rattle.sja_bus.specs.Inside.RunningOn.{AnyBit, IsSoFar}
 use Rattle.lemmas.proofs.Results.{err_is}
-use Rattle.sja_bus.proofs.AllNodes.Many.{numbered_kept}
+use Rattle.sja_bus.proofs.AllNodes.Many.{ends_kept}
 use Rattle.sja_bus.proofs.AllNodes.SoFar.{keeps_refl, none_yet, and_one, and_more, keeps_trans, still_for, breaks_later}
 use Rattle.sja_bus.proofs.bus.Bus.bits.Goals as goal
 use Rattle.sja_bus.proofs.bus.Bus.bits.Goals.{After-bit, After-run_untaken_bits}
@@ -73,10 +73,11 @@ loop-run-init g c = record {
       (moment c.args.self.now c.args.links.now c.args.board.now) c.in_ok-most.ensures.right;
 }
 
-pub bit-requires-clause-ids : goal.bit-requires-clause-ids
-bit-requires-clause-ids g c =
-    numbered_kept g.E.BusEnd.link g.E.BusEnd.same g.met.E.BusEnd.same_link c.args.links.now c.loop-run.links
-    c.loop-run.invariant.far.keeps.sames c.requires.ids
+pub bit-requires-clause-ends : goal.bit-requires-clause-ends
+bit-requires-clause-ends g c =
+    let keeps = c.loop-run.invariant.far.keeps in
+    ends_kept g.E.BusEnd.node g.E.BusEnd.same g.met.E.BusEnd.same_node c.args.links.now c.loop-run.links
+    (length c.args.self.now.journals) (length c.loop-run.self.journals) keeps.nodes keeps.sames c.requires.ends
 
 pub returns-in_err-bit-clause-keeps : goal.returns-in_err-bit-clause-keeps
 returns-in_err-bit-clause-keeps g c = kept g (goal.at.returns-in_err-bit-clause-keeps g c).After-bit
@@ -105,11 +106,11 @@ pub run_untaken_bits-requires : goal.run_untaken_bits-requires
 run_untaken_bits-requires g c =
     let fit = c.requires in let one = c.in_ok-bit.ensures.bit in let so_far = c.loop-run.invariant.far.left in
     let next = one.left in let most = c.in_ok-most.ensures.left in record {
-      fit = still_for g.E.BusEnd g.B.Board g.met.E.BusEnd.same_link
+      fit = still_for g.E.BusEnd g.B.Board g.met.E.BusEnd.same_node
           (moment c.args.self.now c.args.links.now c.args.board.now)
           (moment c.bit.new.self c.bit.new.links c.bit.new.board)
           (kept g (goal.at.run_untaken_bits-requires g c).After-bit)
-          (record { count = fit.count; ids = fit.ids; ports = fit.ports });
+          (record { ends = fit.ends; ports = fit.ports });
       right = one.right;
       most = omega (arith, so_far, next, most);
     }
@@ -128,8 +129,7 @@ returns-in_err-run-clause-reason g c =
     let at = goal.at.returns-in_err-run-clause-reason g c in
     let is : c.from_residual-in_err-run.result ≡ Err f = search rules in
     let P : BusFault → Type 0 = λ x. c.args.self.now.fault ≡ None → StopsBits E B to_rest c.args.count was now x in
-    err_is P c.from_residual-in_err-run.result f is
-    (λ _. breaks_later E.same E.stands E.full B.orders_are (BitInOrder E B)
+    err_is P c.from_residual-in_err-run.result f is (λ _. breaks_later E B.orders_are (BitInOrder E B)
     (AnyBit E B) (WorksIf to_rest) was (moment c.bit.new.self c.bit.new.links c.bit.new.board) now (c.loop-run.run + 1)
     (c.in_ok-most.most - (c.loop-run.run + 1)) c.args.count f (omega (arith, more, most))
     (later g at.After-run_untaken_bits) (one_more g at.After-run_untaken_bits (works g at.After-bit)).bits

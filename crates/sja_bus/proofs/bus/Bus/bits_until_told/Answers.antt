@@ -21,8 +21,7 @@ returns-clause-reason g c =
     let E = g.E.BusEnd in let B = g.B.Board in let most = c.in_ok-most.ensures.count in
     let was = moment c.args.self.now c.args.links.now c.args.board.now in
     let now = moment c.run_until_told.new.self c.run_until_told.new.links c.run_until_told.new.board in
-    IfErr-weaker c.run_until_told.result _ _
-    (λ f stops right. breaks_later E.same E.stands E.full B.orders_are (AnyBit E B)
+    IfErr-weaker c.run_until_told.result _ _ (λ f stops right. breaks_later E B.orders_are (AnyBit E B)
     (AnyBit E B) (WorksUntold c.args.to_rest was) was was now 0 c.in_ok-most.most c.args.count f
     (omega (arith, most)) (λ k x y one. one)
     (no_bit was) stops.reason) c.run_until_told.ensures.stops

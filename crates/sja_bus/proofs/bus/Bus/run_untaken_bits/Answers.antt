@@ -41,7 +41,7 @@ pub run_until_told-requires : goal.run_until_told-requires
 run_until_told-requires g c =
     let far = c.loop-run.invariant.far in let early = c.loop-run-test.true in let left = far.left in
     let most = c.requires.most in record {
-      fit = still_for g.E.BusEnd g.B.Board g.met.E.BusEnd.same_link
+      fit = still_for g.E.BusEnd g.B.Board g.met.E.BusEnd.same_node
           (moment c.args.self.now c.args.links.now c.args.board.now)
           (moment c.loop-run.self c.loop-run.links c.loop-run.board) far.keeps c.requires.fit;
       right = far.right;
@@ -79,8 +79,7 @@ returns-in_err-bits-clause-stops g c =
     err_is P c.from_residual.result f is (record {
       keeps = keeps_trans E B g.met.E.BusEnd.same_trans g.met.B.Board.kept_trans was mid now far.keeps stops.keeps;
       fault = stops.fault;
-      reason = breaks_later E.same E.stands E.full B.orders_are (AnyBit E B) (AnyBit E B) (WorksIf c.args.to_rest) was
-          mid now
+      reason = breaks_later E B.orders_are (AnyBit E B) (AnyBit E B) (WorksIf c.args.to_rest) was mid now
           c.loop-run.run rest c.args.further f (omega (arith, early)) (λ k x y one. one)
           far.bits stops.reason;
     })

@@ -8,6 +8,7 @@ use Rattle.sja_script.specs.Striking.{Strikes}
 use Rattle.sja_bus.specs.Inside.StrikesByBit.{Scripted}
 use Rattle.sja_wire.specs.declared.bus_fault.BusFault.{BusFault}
 use Rattle.sja_bus.specs.declared.seat.Seat.{Seat}
+use Rattle.sja_link.specs.Links.{AreEnds}
 use Rattle.sja_wire.specs.Buses.{BusValue}
 use Rattle.sja_bus.specs.Moment.{moment}
 use Rattle.sja_wire.specs.Reasons.{room_for}
@@ -139,12 +140,12 @@ pub untaken_bits-requires-clause-seated : goal.untaken_bits-requires-clause-seat
 untaken_bits-requires-clause-seated g c =
     let b = c.self.inside in let whole = c.self.invariant.0 in let fit = c.requires.fit in
     let nodes = ap (λ w. length w.journals) c.self.view_is in let seats = count_is b.seats.items in
-    let count = fit.count in let ports = fit.ports in
-    let P : List Seat → Type 0 = λ l. AreSeated g.E.BusEnd.link l c.args.links.now (g.B.Board.ports c.args.board.now) in
+    let ports = fit.ports in
+    let N : ℕ → Type 0 = λ n. AreEnds g.E.BusEnd.node n c.args.links.now in
+    let P : List Seat → Type 0 = λ l. AreSeated g.E.BusEnd.node l c.args.links.now (g.B.Board.ports c.args.board.now) in
     subst P (sym c.as_mut_slice-seats.ensures.value) (record {
       few = whole.few;
-      count = omega (arith, nodes, seats, count);
-      ids = fit.ids;
+      ends = subst N (sym nodes ∙ seats) fit.ends;
       ready = (whole.bus (ap (λ w. w.fault) c.self.view_is ∙ c.requires.right)).ready;
       ports = omega (arith, nodes, seats, ports);
     })

@@ -28,8 +28,8 @@ returns-in-Ok-clause-takes c =
     (λ f. f (follows_send was.node c.request.new.self j c.args.request reads.active.0 took owed.follows)
     (subst Q (sym c.in-Running.is) (reads_ask was.node c.request.new.self j c.args.request was.ended filter owed.free
     (free_in was.ledger) owed.pays reads)))
-    (seat_entered (record was { node = c.request.new.self }) new c.enter.ensures.others
-    (record { own = seat.own; few = seat.few; runs = seat.runs }))
+    (λ fits. seat_entered (record was { node = c.request.new.self }) new c.enter.ensures.others c.enter.ensures.room
+    (record { own = seat.own; few = seat.few; most = seat.most }))
     (here_in (Running filter) was.node j was.ended owed.free (Item (Send c.args.request)) (λ p. refl) refl reads)
     c.enter.ensures.ok
 
@@ -44,8 +44,8 @@ returns-in-Off-clause-takes c =
     (dropped_right was.node j was.ended owed.free reads) c.enter-in-Off.ensures.sound
     (λ f. f (follows_drop was.node j c.args.request reads.active.0 owed.follows)
     (reads_drop was.node j c.args.request was.ended owed.free (free_in was.ledger) owed.pays reads))
-    (seat_entered (record was { activity = OffAndAsked }) new c.enter-in-Off.ensures.others
-    (record { own = seat.own; few = seat.few; runs = λ o. c.requires.more }))
+    (λ fits. seat_entered (record was { activity = OffAndAsked }) new c.enter-in-Off.ensures.others
+    c.enter-in-Off.ensures.room (record { own = seat.own; few = seat.few; most = seat.most }))
     (here_in Off was.node j was.ended owed.free (Item (Send c.args.request)) (λ p. refl) refl reads)
     c.enter-in-Off.ensures.ok
 

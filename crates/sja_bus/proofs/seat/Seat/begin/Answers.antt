@@ -23,9 +23,8 @@ returns-clause-takes c =
     (λ opened. let stopped = reads.stopped in omega (arith, begun, stopped, opened)) c.enter.ensures.sound
     (λ f. f (follows_start was.node c.start.new.self j c.args.config enters owed.follows)
     (reads_start was.node c.start.new.self j c.args.config was.ended owed.free (free_in was.ledger) owed.pays reads))
-    (seat_entered (record was { node = c.start.new.self; activity = Running c.args.config.filter })
-    new c.enter.ensures.others
-    (record { own = seat.own; few = seat.few; runs = λ o. c.requires.more }))
+    (λ fits. seat_entered (record was { node = c.start.new.self; activity = Running c.args.config.filter })
+    new c.enter.ensures.others c.enter.ensures.room (record { own = seat.own; few = seat.few; most = seat.most }))
     (omega (arith, begun))
     c.enter.ensures.ok
 

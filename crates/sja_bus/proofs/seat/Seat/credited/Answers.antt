@@ -28,7 +28,7 @@ returns-clause-takes c =
     (λ f. f (follows_credit was.node j c.args.bytes owed.follows)
     (reads_here was.node was.node j (Item (Credit c.args.bytes)) was.ended was.activity owed.free (free_in was.ledger)
     (λ p. refl) refl runs (λ r. r) owed.pays due owed.reads))
-    (seat_entered was new c.enter.ensures.others c.requires.seat)
+    (λ fits. seat_entered was new c.enter.ensures.others c.enter.ensures.room c.requires.seat)
     (here_in was.activity was.node j was.ended owed.free (Item (Credit c.args.bytes)) (λ p. refl) runs owed.reads)
     c.enter.ensures.ok
 

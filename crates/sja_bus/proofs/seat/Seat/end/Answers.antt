@@ -9,7 +9,8 @@ use Rattle.sja_bus.proofs.Links.Seating.{open_else}
 use Rattle.sja_bus.proofs.Journal.Steps.{follows_stop}
 use Rattle.sja_bus.proofs.Journal.Reading.{reads_stop, here_in}
 use Rattle.sja_bus.specs.declared.seat.Seat.{Seat}
-use Rattle.sja_bus.proofs.ItemsTaken.Takings.{seat_entered, takes_entered, may_come, refused_full}
+use Rattle.sja_bus.proofs.ItemsTaken.Takings.{seat_entered, stop_fits, takes_entered, may_come}
+use Rattle.sja_bus.proofs.ItemsTaken.Takings.{refused_full}
 use Rattle.sja_bus.proofs.seat.Seat.end.Goals as goal
 
 -- `none` proves nothing here: by it a wrong body is refused with values
@@ -24,17 +25,21 @@ returns-clause-takes c =
     c.stop.ensures.reset owed.reads in
     let e : suc was.ended ≡ was.ended + 1 = omega arith in
     let P : ℕ → Type 0 = λ n. Reads c.stop.new.self (j ++ Item Stop ∷ []) n Between 64 in
-    let more = c.requires.more in
     takes_entered c.enter.result was new Stop (λ between. let b = owed.reads.begun in let t = owed.reads.stopped in
     omega (arith, b, t, runs, between)) c.enter.ensures.sound
     (λ f. f (follows_stop was.node c.stop.new.self j c.stop.ensures.enters owed.follows)
     (rw (c.new-self.ensures.free) (subst P e s)))
-    (seat_entered (record was { node = c.stop.new.self; activity = Between; ended = was.ended + 1; ledger = ledger })
-    new c.enter.ensures.others
+    (λ fits. seat_entered (record was {
+      node = c.stop.new.self;
+      activity = Between;
+      ended = was.ended + 1;
+      ledger = ledger;
+    })
+    new c.enter.ensures.others c.enter.ensures.room
     (record {
       own = ap (λ (l : LinkId). l.activation) c.new-self.ensures.id ∙ omega arith;
-      few = omega (arith, more);
-      runs = λ o. absurd (omega (arith, o));
+      few = stop_fits was.journal.room j was.ended owed.reads.stopped fits;
+      most = c.requires.seat.most;
     }))
     (here_in was.activity was.node j was.ended owed.free (Item Stop) (λ p. refl) runs owed.reads)
     c.enter.ensures.ok

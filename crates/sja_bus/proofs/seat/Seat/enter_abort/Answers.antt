@@ -2,22 +2,20 @@ use Rattle.std.proofs.Common.{sym, subst}
 use Rattle.std.proofs.lemmas.Result.{on_ok_weaker}
 use Rattle.can_node.specs.Stands.{DrivesNext}
 use Rattle.sja_bus.specs.declared.seat.Seat.{Seat}
-use Rattle.sja_bus.specs.Inside.Seats.{IsSeat}
+use Rattle.sja_bus.proofs.ItemsTaken.Takings.{seat_entered}
 use Rattle.sja_bus.proofs.seat.Seat.enter_abort.Goals as goal
 
 pub returns-clause-ready : goal.returns-clause-ready
 returns-clause-ready c =
     let o = c.enter.ensures.others in
     let was : Seat = record c.args.self.now { untold = c.args.untold; drives = c.drive-self.result } in
-    let P : Seat → Type 0 = λ s. IsSeat s in
     let Q : Seat → Type 0 = λ s. DrivesNext s.node s.drives in
-    let R : Seat → Type 0 = λ s. IsSeat (record s { journal = c.enter.new.self.journal }) in
-    let seat : IsSeat (record was { journal = c.enter.new.self.journal }) =
-    record { own = c.requires.seat.own; few = c.requires.seat.few; runs = c.requires.seat.runs } in
+    let seat = c.requires.seat in
     on_ok_weaker c.enter.result
     (λ f. record {
       sound = f c.requires.follows c.requires.reads;
-      seat = subst P (sym o) seat;
+      seat = seat_entered was c.enter.new.self o c.enter.ensures.room
+          (record { own = seat.own; few = seat.few; most = seat.most });
       drives =
           subst Q (sym o) c.drive-self.ensures;
     })

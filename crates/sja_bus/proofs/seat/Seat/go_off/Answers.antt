@@ -1,21 +1,48 @@
-use Rattle.std.proofs.Common.{suc, true, List, [], ◌∷◌, ◌++◌, refl, sym, ap, ◌∙◌, subst, rules}
+use Rattle.std.proofs.Common.{◌≡◌, ℕ, suc, true, List, [], ◌∷◌, ◌++◌, refl, sym, ap, ◌∙◌, subst, rules}
 use Rattle.std.proofs.lemmas.Result.{on_ok_weaker}
 use Rattle.can_node.specs.Record.{RecordEntry as Event}
 use Rattle.can_node.specs.Cut.{IsCut}
 use Rattle.sja_link.specs.declared.entry.Entry.TheVariants.{Off}
-use Rattle.sja_link.specs.BusLedgers.{link_of, free_in}
-use Rattle.sja_link.specs.Accounts.{account}
+use Rattle.sja_link.specs.declared.down.Down.TheVariants.{Off as OffDown}
+use Rattle.sja_link.specs.Lists.{OthersStand, Carries, Keeps, with_put}
+use Rattle.sja_link.specs.BusLedgers.{link_of, activation_of, free_in}
 use Rattle.sja_link.proofs.JournalEntries.Entering.{record_push}
 use Rattle.sja_bus.specs.declared.activity.Activity.{Activity}
 use Rattle.sja_bus.specs.declared.activity.Activity.TheVariants.{Off as ActivityOff}
 use Rattle.sja_bus.specs.declared.seat.Seat.{Seat}
 use Rattle.sja_bus.specs.Inside.Following.{Follows, Reads, open_in}
-use Rattle.sja_bus.specs.Inside.Taking.{GaveBack}
+use Rattle.sja_wire.specs.Reasons.{GivesBack}
+use Rattle.sja_bus.proofs.ItemsTaken.Breaking.{gave_back}
+use Rattle.sja_bus.proofs.Links.Seating.{seat_stays}
 use Rattle.sja_bus.proofs.Journal.BitSteps.{follows_off}
 use Rattle.sja_bus.proofs.Journal.Parted.{stands_at}
 use Rattle.sja_bus.proofs.Journal.Reading.{reads_off, runs_at}
+use Rattle.sja_bus.proofs.ItemsTaken.Retrying.{tried_none, tried_again}
 use Rattle.sja_link.proofs.Growing.Moving.{moves_push}
 use Rattle.sja_bus.proofs.seat.Seat.go_off.Goals as goal
+
+pub loop-init : goal.loop-init
+loop-init g c = record {
+  seat = refl;
+  put = tried_none g.E.BusEnd g.met.E.BusEnd.same_refl c.args.self.now.ledger c.args.end.now;
+}
+
+pub off-requires : goal.off-requires
+off-requires g c =
+    let put = c.loop.invariant.put in
+    g.met.E.BusEnd.same_node c.args.end.now c.loop.end put.same_end ∙ c.requires.own
+    ∙ ap (λ l. (link_of l).node) (sym put.ledger)
+
+pub loop-preserved : goal.loop-preserved
+loop-preserved g c =
+    let E = g.E.BusEnd in let ledger = c.loop.self.ledger in
+    let full : E.full c.loop.end (activation_of ledger) = search rules in
+    let keeps : Keeps E.stands (activation_of ledger) c.loop.end c.off.new.end = search rules in record {
+      seat = search rules;
+      put = tried_again E c.loop.counter c.args.self.now.ledger ledger c.args.end.now c.loop.end c.off.new.end
+          c.loop.invariant.put g.met.E.BusEnd.same_trans c.off.new.self c.off.ensures.ledger c.off.ensures.same full
+          c.off.ensures.others keeps;
+    }
 
 pub returns-in-Ok-clause-sound : goal.returns-in-Ok-clause-sound
 returns-in-Ok-clause-sound g c =
@@ -30,16 +57,33 @@ returns-in-Ok-clause-sound g c =
     (reads_off was.node j was.ended c.requires.runs.0 (free_in was.ledger) c.requires.reset reads))))
     c.enter.ensures.sound
 
+pub returns-in-Ok-clause-seat : goal.returns-in-Ok-clause-seat
+returns-in-Ok-clause-seat g c =
+    let inv = c.loop.invariant in let others = c.enter.ensures.others in
+    on_ok_weaker c.enter.result
+    (λ e. seat_stays c.args.self.now c.enter.new.self
+    (ap (λ (s : Seat). activation_of s.ledger) others ∙ ap activation_of c.off.ensures.ledger
+    ∙ ap (λ (s : Seat). activation_of s.ledger) inv.seat)
+    (ap (λ (s : Seat). s.ended) others ∙ ap (λ (s : Seat). s.ended) inv.seat)
+    (c.enter.ensures.room ∙ ap (λ (s : Seat). s.journal.room) inv.seat) c.requires.seat)
+    c.enter.ensures.ok
+
 pub returns-in-Ok-clause-moves : goal.returns-in-Ok-clause-moves
 returns-in-Ok-clause-moves g c =
-    let was = c.args.self.now in let j = was.journal.entries in let inv = c.loop.invariant in
-    let opened = ap open_in c.requires.runs.1 in
+    let E = g.E.BusEnd in let was = c.args.self.now in let j = was.journal.entries in let inv = c.loop.invariant in
+    let opened = ap open_in c.requires.runs.1 in let own = c.requires.seat.own in
     let at = stands_at j Off (suc was.ended) (λ p. refl)
     (runs_at was.activity was.node j was.ended (free_in was.ledger) opened c.requires.mid.reads) in
+    let was_at : activation_of c.loop.self.ledger ≡ suc was.ended =
+    ap (λ (s : Seat). activation_of s.ledger) inv.seat ∙ own in
+    let O : ℕ → Type 0 = λ a. OthersStand E.stands a c.loop.end c.off.new.end in
+    let P : ℕ → Type 0 = λ a. Carries E.stands a c.loop.end c.off.new.end (λ l. with_put l OffDown) in
+    let others = subst O was_at c.off.ensures.others in let put = subst P was_at c.in-Ok.ensures.puts in
     on_ok_weaker c.enter.result
     (λ e. rw (e.0 ∙ ap (λ (s : Seat). s.journal.entries ++ Off ∷ []) inv.seat)
-    (moves_push g.E.BusEnd.stands c.args.end.now c.off.new.end j Off (suc was.ended) at
-    (λ l stood. c.in-Ok.ensures.puts l (inv.put.stands l stood))))
+    (moves_push E.stands c.args.end.now c.off.new.end j Off (suc was.ended) at
+    (λ b ne l stood. others b ne l (inv.put.stands b l stood))
+    (λ l stood. put l (inv.put.stands (suc was.ended) l stood))))
     c.enter.ensures.ok
 
 pub returns-clause-broken : goal.returns-clause-broken
@@ -48,18 +92,10 @@ returns-clause-broken g c =
     let back = inv.put.back (search rules) in let follows = c.requires.mid.follows in
     let P : Activity → Type 0 = λ a. Reads was.node j was.ended a (free_in was.ledger) in
     let C : List Event → Type 0 = λ r. IsCut r follows.found in
-    let G : Seat → Type 0 = λ s. GaveBack E.same E.stands E.full c.args.end.now j s.journal.entries (suc was.ended) in
+    let G : Seat → Type 0 = λ s. GivesBack E j s.journal.entries c.args.end.now in
     let reads = subst P c.requires.runs.1 c.requires.mid.reads in (
       c.number.ensures ∙ ap (λ (s : Seat). (link_of s.ledger).node) inv.seat,
-      subst G (sym inv.seat) (record {
-        last = back.last;
-        is_end = back.is_end;
-        is_full = back.is_full;
-        stood = λ h stood. back.stood (account j (suc was.ended) h) stood;
-        off = true;
-        found = follows.found;
-        cut = subst C (sym (record_push j Off)) follows.stands.cut;
-        verdicts = follows.verdicts;
-        on = reads.active.3;
-      }),
+      subst G (sym inv.seat) (gave_back E was c.args.end.now c.requires.seat (ap open_in c.requires.runs.1)
+          c.requires.mid.reads back true follows.found (subst C (sym (record_push j Off)) follows.stands.cut)
+          follows.verdicts reads.active.3),
     )

@@ -1,4 +1,4 @@
-use Rattle.std.proofs.Common.{◌≡◌, ℕ, rules, refl, sym, subst}
+use Rattle.std.proofs.Common.{◌≡◌, ℕ, rules, sym, subst}
 use Rattle.sja_link.specs.Records.{record_of}
 use Rattle.sja_wire.specs.Lawful.{CountersAre}
 use Rattle.sja_bus.proofs.WholeBus.Lawfuls.{counters_of}

@@ -1,16 +1,16 @@
-use Rattle.std.proofs.Common.{◌≡◌, ◌≤◌, ℕ, suc, List, [], ◌∷◌, ◌++◌, length, refl, sym, ap, ◌∙◌, subst, rules}
-use Rattle.std.proofs.Common.{false, append-nil}
+use Rattle.std.proofs.Common.{◌≡◌, ℕ, suc, false, append-nil, List, [], ◌∷◌, ◌++◌, refl, sym, ap}
+use Rattle.std.proofs.Common.{◌∙◌, subst, rules}
 use Rattle.std.specs.Prelude.{Err}
-use Rattle.can_node.specs.Cut.{IsCut}
-use Rattle.sja_link.specs.Accounts.{account}
-use Rattle.sja_link.specs.Records.{record_of}
-use Rattle.sja_link.specs.declared.bus_ledger.BusLedger.{BusLedger}
 use Rattle.sja_link.specs.Written.{Room, IsFullFor}
 use Rattle.sja_link.specs.declared.entry.Entry.{Entry}
 use Rattle.sja_link.specs.declared.entry.Entry.TheVariants.{Bit}
 use Rattle.sja_link.specs.declared.link_id.LinkId.{LinkId}
 use Rattle.sja_link.specs.BusLedgers.{link_of, free_in}
+use Rattle.sja_link.specs.Lists.{OthersStand, Carries}
+use Rattle.sja_link.specs.Accounts.{with_entry}
 use Rattle.sja_link.specs.Parts.{part}
+use Rattle.sja_link.specs.Records.{record_of}
+use Rattle.sja_link.specs.NodeWords.{IsCut}
 use Rattle.sja_link.specs.Verdicts.{entry_of}
 use Rattle.sja_wire.specs.declared.bus_fault.BusFault.TheVariants.{JournalFull}
 use Rattle.sja_bus.specs.declared.seat.Seat.{Seat}
@@ -21,6 +21,7 @@ use Rattle.sja_bus.proofs.Journal.Reading.{reads_quiet, reads_here, runs_at, rea
 use Rattle.sja_bus.proofs.Journal.Judging.{due_now, verdict_stays, verdict_no_stop, verdict_orderly}
 use Rattle.sja_link.proofs.Growing.Ordered.{no_off_put}
 use Rattle.sja_link.proofs.Growing.Moving.{moves_push, moves_quiet, moves_trans}
+use Rattle.sja_bus.proofs.ItemsTaken.Breaking.{gave_back}
 use Rattle.sja_bus.proofs.ItemsTaken.OutOfRoom.{bit_unjudged, verdict_unjudged}
 use Rattle.lemmas.proofs.Results.{err_is}
 use Rattle.sja_bus.proofs.seat.Seat.judge.Goals as goal
@@ -72,37 +73,22 @@ returns-in_ok-enter-in-Ok-2-clause-moves g c =
     let was = c.args.self.now in let j = was.journal.entries in let b =
     Bit c.args.driven c.args.seen in let k = j ++ b ∷ [] in
     let v = c.in-Ok.verdict in let m = c.args.message in
-    let first = c.in_ok-enter-in-Ok.ensures.ok.0 in
+    let first = c.in_ok-enter-in-Ok.ensures.ok.0 in let own = c.requires.seat.own in
+    let O : ℕ → Type 0 = λ a. OthersStand g.E.BusEnd.stands a c.args.end.now c.accept.new.end in
+    let P : ℕ → Type 0 = λ a. Carries g.E.BusEnd.stands a c.args.end.now c.accept.new.end
+    (λ l. with_entry l (entry_of v m)) in
     let at = runs_at was.activity was.node j was.ended (free_in was.ledger) c.requires.runs c.requires.reads in
     let then = place_same j b (suc was.ended) (λ p. refl) at in
     let one = moves_quiet g.E.BusEnd.stands c.args.end.now j b (suc was.ended)
     (stands_at j b (suc was.ended) (λ p. refl) at) (λ l. refl) in
     let two = moves_push g.E.BusEnd.stands c.args.end.now c.accept.new.end k (entry_of v m) (suc was.ended)
     (stands_at k (entry_of v m) (suc was.ended) (stays_of (entry_of v m) (verdict_stays v m)) then)
-    c.in-Ok.ensures.puts in
+    (subst O own c.accept.ensures.others) (subst P own c.in-Ok.ensures.puts) in
     let whole : c.enter-in-Ok.new.self.journal.entries ≡ k ++ entry_of v m ∷ [] = c.in_ok-enter-in-Ok-2.ensures.ok.0
     ∙ ap (λ (l : List Entry). l ++ c.verdict_entry.result ∷ []) first
     ∙ ap (λ x. k ++ x ∷ []) c.verdict_entry.ensures in
     rw whole (moves_trans g.E.BusEnd.stands c.args.end.now c.args.end.now c.accept.new.end j k (k ++ entry_of v m ∷ [])
     (suc was.ended) one two)
-
-pub returns-in-Err-clause-broken : goal.returns-in-Err-clause-broken
-returns-in-Err-clause-broken g c =
-    let was = c.args.self.now in let j = was.journal.entries in let back = c.in-Err.ensures.back in
-    let lawful = c.requires.lawful in let C : List Entry → Type 0 = λ l. IsCut (record_of l) lawful.found in (
-      c.number.ensures ∙ ap (λ (l : BusLedger). (link_of l).node) c.in-Err.ensures.busy,
-      record {
-        last = back.last;
-        is_end = back.is_end;
-        is_full = back.is_full;
-        stood = λ h stood. back.stood (account j (suc was.ended) h) stood;
-        off = false;
-        found = lawful.found;
-        cut = subst C (sym (append-nil j)) lawful.cut;
-        verdicts = lawful.verdicts lawful.found lawful.cut;
-        on = c.requires.on;
-      },
-    )
 
 pub returns-in_err-enter-in-Ok-clause-broken : goal.returns-in_err-enter-in-Ok-clause-broken
 returns-in_err-enter-in-Ok-clause-broken g c =
@@ -114,7 +100,7 @@ returns-in_err-enter-in-Ok-clause-broken g c =
     (λ p f. (c.in-Ok.ensures.judged p f).0) in
     let f = c.in_err-enter-in-Ok.field-0.0 in let full = c.in_err-enter-in-Ok.ensures.full in
     let is : c.from_residual.result ≡ Err f = search rules in
-    let Q : _ → Type 0 = λ y. BreaksBy (IsJudgedShort room j x seen a m new.journal.entries) E.same E.stands E.full
+    let Q : _ → Type 0 = λ y. BreaksBy (IsJudgedShort room j x seen a m new.journal.entries) E
     c.args.end.now was new y in
     let node = ap (λ (l : LinkId). l.node) c.in-Ok.ensures.id in
     err_is Q c.from_residual.result f is (subst Q (sym (full.is ∙ ap (λ k. JournalFull k) node))
@@ -132,7 +118,7 @@ returns-in_err-enter-in-Ok-2-clause-broken g c =
     let f = c.in_err-enter-in-Ok-2.field-0.0 in let full = c.in_err-enter-in-Ok-2.ensures.full in
     let mid = c.enter.new.self in let first = c.in_ok-enter-in-Ok.ensures in
     let is : c.from_residual-in_err-enter-in-Ok-2.result ≡ Err f = search rules in
-    let Q : _ → Type 0 = λ y. BreaksBy (IsJudgedShort room j x seen a m new.journal.entries) E.same E.stands E.full
+    let Q : _ → Type 0 = λ y. BreaksBy (IsJudgedShort room j x seen a m new.journal.entries) E
     c.args.end.now was new y in
     let R : Room → Type 0 = λ n. IsFullFor n mid.journal.entries (entry_of v m) in
     let S : List Entry → Type 0 = λ l. IsFullFor room l (entry_of v m) in
@@ -145,3 +131,13 @@ returns-in_err-enter-in-Ok-2-clause-broken g c =
       verdict_unjudged room j new.journal.entries x seen a v m (full.same ∙ first.ok.0)
           (subst S first.ok.0 (subst R first.room (subst D c.verdict_entry.ensures full.full))) due,
     ))
+
+pub returns-in-Err-clause-broken : goal.returns-in-Err-clause-broken
+returns-in-Err-clause-broken g c =
+    let E = g.E.BusEnd in let was = c.args.self.now in let j = was.journal.entries in
+    let lawful = c.requires.lawful in let C : List Entry → Type 0 = λ l. IsCut (record_of l) lawful.found in (
+      c.number.ensures ∙ ap (λ (l : LinkId). l.node) c.accept.ensures.id,
+      gave_back E was c.args.end.now c.requires.seat c.requires.runs c.requires.reads c.in-Err.ensures.back false
+          lawful.found (subst C (sym (append-nil j)) lawful.cut) (lawful.verdicts lawful.found lawful.cut)
+          c.requires.on,
+    )

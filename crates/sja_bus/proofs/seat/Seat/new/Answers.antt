@@ -1,4 +1,5 @@
-use Rattle.std.proofs.Common.{[], arith, refl, ap}
+use Rattle.std.proofs.Common.{◌≡◌, ◌≤◌, ◌^◌, [], arith, refl, ap}
+use Rattle.sja_link.specs.Written.{Room, room_in}
 use Rattle.sja_bus.specs.declared.seat.Seat.{Seat}
 use Rattle.sja_bus.specs.declared.activity.Activity.TheVariants.{Between}
 use Rattle.sja_bus.specs.declared.port_news.PortNews.TheVariants.{Nothing}
@@ -20,14 +21,17 @@ returns-clause-ready c =
       activity = Between;
       untold = Nothing;
     } in
+    let few = c.requires.few.0 in let some = c.requires.few.1 in
+    let journal = c.in_ok-journal.journal in
+    let rooms : journal.room ≡ room_in c.args.bits c.args.steps → journal.room.all ≤ 2 ^ 63 =
+    λ r. let all = ap (λ (x : Room). x.all) r in omega (arith, all, few, some) in
     record {
       sound = sound_by s node [] 0 Between 64 refl c.in_ok-journal.ensures.empty refl refl c.new-ledger.ensures.free
           (follows_new node c.new-node.ensures.stands) (reads_new node c.new-node.ensures.reset);
       seat = record {
         own = ap (λ i. i.activation) c.new-ledger.ensures.id;
         few = omega arith;
-        runs =
-            λ e. omega (arith, e);
+        most = rooms c.in_ok-journal.ensures.room;
       };
       drives = c.drive-drives.ensures;
     }

@@ -14,9 +14,8 @@ returns-then-ordered-clause-goes g c =
     let j = c.args.self.now.journal.entries in let k = c.gather.new.self.journal.entries in let l =
     c.abort.new.self.journal.entries in
     on_ok_weaker c.abort.result
-    (λ a. goes_trans E.same E.stands met.same_trans j k l c.args.links.now c.gather.new.links c.gather.new.links
-    c.args.base c.in_ok-gather.ensures.goes
-    (goes_aborted E.same E.stands met.same_refl k l c.gather.new.links c.args.base a.aborts))
+    (λ a. goes_trans E.same E.stands met.same_trans c.args.end.now c.gather.new.end c.gather.new.end j k l
+    c.in_ok-gather.ensures.goes (goes_aborted E.same E.stands met.same_refl c.gather.new.end k l a.aborts))
     c.abort.ensures.aborts
 
 -- `asked` proves nothing here: by it a wrong body is refused with values
@@ -72,9 +71,9 @@ returns-then-ordered-clause-stops g c =
     let are = subst O (c.number.ensures ∙ c.gather.ensures.stays.node) c.orders-ordered.ensures.orders in
     let yes : c.orders-ordered.result.abort ≡ true = c.if-ordered.true in
     err_both c.abort.result
-    (λ due f full. inr (full_for_abort E.same E.stands c.args.self.now mid c.abort.new.self c.args.links.now
-    c.gather.new.links c.args.base f c.gather.ensures.stays.node c.gather.ensures.stays.room
-    c.in_ok-gather.ensures.items c.in_ok-gather.ensures.goes
+    (λ due f full. inr (full_for_abort E.same E.stands c.args.self.now mid c.abort.new.self c.args.end.now
+    c.gather.new.end f c.gather.ensures.stays.node c.gather.ensures.stays.room c.in_ok-gather.ensures.items
+    c.in_ok-gather.ensures.goes
     (g.B.Board.orders_are c.args.board.now (link_of c.args.self.now.ledger).node) c.orders-ordered.result are
     yes due full))
     c.abort.ensures.due c.abort.ensures.full

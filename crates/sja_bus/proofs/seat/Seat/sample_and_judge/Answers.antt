@@ -18,8 +18,9 @@ use Rattle.sja_bus.proofs.Journal.Parted.{stands_at}
 use Rattle.sja_bus.proofs.Journal.Reading.{reads_quiet, reads_swap, runs_at}
 use Rattle.sja_link.proofs.Growing.Moving.{moves_quiet}
 use Rattle.std.specs.Prelude.{Err}
-use Rattle.sja_bus.specs.Inside.Taking.{BreaksHere, IsJudgedShort}
-use Rattle.sja_bus.proofs.ItemsTaken.Breaking.{breaks_by}
+use Rattle.sja_bus.specs.Inside.SeatBits.{BreaksInBit}
+use Rattle.sja_bus.specs.Inside.Taking.{IsJudgedShort}
+use Rattle.sja_bus.proofs.ItemsTaken.Breaking.{breaks_whole}
 use Rattle.sja_bus.proofs.WholeBus.Lawfuls.{lawful_of}
 use Rattle.sja_bus.proofs.ItemsTaken.OutOfRoom.{bit_short, judged_short}
 use Rattle.lemmas.proofs.Results.{err_is}
@@ -32,12 +33,12 @@ returns-in_ok-enter_bit-in-None-clause-mid g c =
     let new = c.sample_fully_with-events.new.self in
     let P : Activity → Type 0 = λ a. Reads was.node j was.ended a (free_in was.ledger) in
     let Q : Activity → Type 0 = λ a. Reads new (j ++ Bit x seen ∷ []) was.ended a (free_in was.ledger) in
-    let reads = subst P c.requires.runs.1 c.requires.ready.sound.reads in
+    let reads = subst P c.requires.runs.1 c.requires.at.ready.sound.reads in
     let at = runs_at (Running c.requires.runs.0) was.node j was.ended (free_in was.ledger) refl reads in
     let o = c.enter_bit.ensures.others in
     let follows = received_quiet was.node new j x seen c.sample_fully_with-events.result c.requires.runs.0
-    (suc was.ended) c.requires.ready.drives c.sample_fully_with-events.ensures.samples at reads.active.1
-    (c.in-None.ensures c.requires.runs.0 c.requires.runs.1) c.requires.ready.sound.follows in
+    (suc was.ended) c.requires.at.ready.drives c.sample_fully_with-events.ensures.samples at reads.active.1
+    (c.in-None.ensures c.requires.runs.0 c.requires.runs.1) c.requires.at.ready.sound.follows in
     let swapped = reads_quiet new new j (Bit x seen) was.ended (Running c.requires.runs.0) (free_in was.ledger)
     (λ p. refl, refl, refl, refl) (λ r. r) (reads_swap was.node new j was.ended c.requires.runs.0
     (free_in was.ledger) reads) in
@@ -66,7 +67,7 @@ pub returns-in_ok-enter_bit-in-None-clause-moves : goal.returns-in_ok-enter_bit-
 returns-in_ok-enter_bit-in-None-clause-moves g c =
     let was = c.args.self.now in let j = was.journal.entries in let b = Bit c.args.self.now.drives c.args.seen in
     let at = runs_at was.activity was.node j was.ended (free_in was.ledger) (ap open_in c.requires.runs.1)
-    c.requires.ready.sound.reads in
+    c.requires.at.ready.sound.reads in
     rw c.in_ok-enter_bit-in-None.ensures.ok.0 (moves_quiet g.E.BusEnd.stands c.args.end.now j b (suc was.ended)
     (stands_at j b (suc was.ended) (λ p. refl) at) (λ l. refl))
 
@@ -81,14 +82,14 @@ returns-in_ok-overrun-in-Some-clause-mid g c =
     let seen = c.args.seen in
     let new = c.sample_fully_with-events.new.self in
     let P : Activity → Type 0 = λ a. Reads was.node j was.ended a (free_in was.ledger) in
-    let reads = subst P c.requires.runs.1 c.requires.ready.sound.reads in
+    let reads = subst P c.requires.runs.1 c.requires.at.ready.sound.reads in
     let at = runs_at (Running c.requires.runs.0) was.node j was.ended (free_in was.ledger) refl reads in
     let events = c.sample_fully_with-events.result in
     let follows = received_judged was.node new j c.judge.new.self.journal.entries x seen events c.requires.runs.0
-    (suc was.ended) c.in-Some.message c.in_ok-overrun-in-Some.overrun c.requires.ready.drives
+    (suc was.ended) c.in-Some.message c.in_ok-overrun-in-Some.overrun c.requires.at.ready.drives
     c.sample_fully_with-events.ensures.samples at reads.active.1
     (c.in-Some.ensures c.requires.runs.0 c.requires.runs.1) c.in_ok-overrun-in-Some.ensures.judged
-    c.requires.ready.sound.follows in
+    c.requires.at.ready.sound.follows in
     record {
       follows = follows_by c.judge.new.self new c.judge.new.self.journal.entries events.went_off
           c.judge.ensures.kept.0 refl follows;
@@ -127,7 +128,7 @@ pub returns-in_err-enter_bit-in-None-clause-broken : goal.returns-in_err-enter_b
 returns-in_err-enter_bit-in-None-clause-broken g c =
     let E = g.E.BusEnd in let was = c.args.self.now in let j = was.journal.entries in let seen = c.args.seen in
     let new = c.sample_fully_with-events.new.self in let events = c.sample_fully_with-events.result in
-    let filter = c.requires.runs.0 in let ready = c.requires.ready in
+    let filter = c.requires.runs.0 in let ready = c.requires.at.ready in
     let P : Activity → Type 0 = λ a. Reads was.node j was.ended a (free_in was.ledger) in
     let reads = subst P c.requires.runs.1 ready.sound.reads in
     let at = runs_at (Running filter) was.node j was.ended (free_in was.ledger) refl reads in
@@ -136,7 +137,7 @@ returns-in_err-enter_bit-in-None-clause-broken g c =
     (c.in-None.ensures filter c.requires.runs.1) ready.sound.follows in
     let f = c.in_err-enter_bit-in-None.field-0.0 in let full = c.in_err-enter_bit-in-None.ensures.full in
     let is : c.from_residual.result ≡ Err f = search rules in
-    let Q : _ → Type 0 = λ x. BreaksHere E.same E.stands E.full c.args.end.now was c.enter_bit.new.self x in
+    let Q : _ → Type 0 = λ x. BreaksInBit E was c.enter_bit.new.self c.args.end.now x in
     err_is Q c.from_residual.result f is
     (subst Q (sym full.is) (
       refl,
@@ -148,16 +149,16 @@ pub returns-in_err-overrun-in-Some-clause-broken : goal.returns-in_err-overrun-i
 returns-in_err-overrun-in-Some-clause-broken g c =
     let E = g.E.BusEnd in let was = c.args.self.now in let j = was.journal.entries in let seen = c.args.seen in
     let new = c.sample_fully_with-events.new.self in let events = c.sample_fully_with-events.result in
-    let filter = c.requires.runs.0 in let ready = c.requires.ready in let a = suc was.ended in
+    let filter = c.requires.runs.0 in let ready = c.requires.at.ready in let a = suc was.ended in
     let P : Activity → Type 0 = λ a. Reads was.node j was.ended a (free_in was.ledger) in
     let reads = subst P c.requires.runs.1 ready.sound.reads in
     let at = runs_at (Running filter) was.node j was.ended (free_in was.ledger) refl reads in
     let f = c.in_err-overrun-in-Some.field-0.0 in let message = c.in-Some.message in
     let now = c.judge.new.self.journal.entries in
     let is : c.from_residual-in_err-overrun-in-Some.result ≡ Err f = search rules in
-    let Q : _ → Type 0 = λ x. BreaksHere E.same E.stands E.full c.args.end.now was c.judge.new.self x in
+    let Q : _ → Type 0 = λ x. BreaksInBit E was c.judge.new.self c.args.end.now x in
     err_is Q c.from_residual-in_err-overrun-in-Some.result f is
-    (breaks_by E.same E.stands E.full c.args.end.now was c.judge.new.self f
+    (breaks_whole E c.args.end.now was c.judge.new.self f
     (λ (short : IsJudgedShort was.journal.room j was.drives seen a message now).
     judged_short new was.journal.room j now was.drives seen a message events.went_off short
     (received_judged was.node new j (now ++ short.due ∷ short.later) was.drives seen events filter
@@ -168,4 +169,4 @@ returns-in_err-overrun-in-Some-clause-broken g c =
 
 pub judge-requires-clause-lawful : goal.judge-requires-clause-lawful
 judge-requires-clause-lawful g c =
-    lawful_of c.args.self.now.node c.args.self.now.journal.entries c.requires.ready.sound.follows
+    lawful_of c.args.self.now.node c.args.self.now.journal.entries c.requires.at.ready.sound.follows

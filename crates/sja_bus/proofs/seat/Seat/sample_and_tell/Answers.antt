@@ -1,7 +1,6 @@
 use Rattle.std.proofs.Common.{ℕ, refl, sym, ◌∙◌, subst}
 use Rattle.sja_bus.specs.declared.seat.Seat.{Seat}
 use Rattle.sja_bus.specs.Inside.SeatBits.{HadBit, KeepsInBit}
-use Rattle.sja_link.specs.BusLedgers.{link_of}
 use Rattle.sja_bus.specs.Inside.Turning.{TellsTurn}
 use Rattle.sja_bus.proofs.AtPorts.SeatBits.{had_fully}
 use Rattle.sja_bus.proofs.seat.Seat.sample_and_tell.Goals as goal
@@ -9,10 +8,10 @@ use Rattle.sja_bus.proofs.seat.Seat.sample_and_tell.Goals as goal
 pub returns-clause-keeps : goal.returns-clause-keeps
 returns-clause-keeps g c =
     let stays = c.sample_fully.ensures.stays in let tell = c.tell.ensures in
-    let K : Seat → Type 0 = λ x. KeepsInBit g.E.BusEnd g.B.Board c.args.self.now x c.args.links.now
-    c.sample_fully.new.links c.args.board.now c.tell.new.board in
+    let K : Seat → Type 0 = λ x. KeepsInBit g.E.BusEnd g.B.Board c.args.self.now x c.args.end.now
+    c.sample_fully.new.end c.args.board.now c.tell.new.board in
     subst K (sym tell.seat) (record {
-      stays = record { sames = stays.sames; node = stays.node; room = stays.room };
+      stays = record { is_same = stays.is_same; node = stays.node; room = stays.room };
       ports = tell.ports;
       others = λ k far. tell.others k (λ is. far (is ∙ stays.node));
     })
@@ -31,12 +30,11 @@ returns-clause-had g c =
     let did = c.in_ok-outcome.ensures in let told = c.tell.ensures.told in let outcome = c.in_ok-outcome.outcome in
     let stands = c.stands-stands.result in
     let T : ℕ → Type 0 = λ n. TellsTurn (B.told a z n) a z mid stands c.tell.result told.0 in
-    let H : Seat → Type 0 = λ x. HadBit E B c.tell.result c.args.seen s x c.args.links.now c.sample_fully.new.links
-    c.args.base a z in
+    let H : Seat → Type 0 = λ x. HadBit E B c.tell.result c.args.seen s x c.args.end.now c.sample_fully.new.end a z in
     subst H (sym c.tell.ensures.seat) (had_fully E B g.met.B.Board.kept_refl c.tell.result c.args.seen s mid outcome
-    told.0 stands c.args.links.now c.sample_fully.new.links c.args.base a z c.requires.at.ready (record {
+    told.0 stands c.args.end.now c.sample_fully.new.end a z c.requires.at.ready (record {
       sound = record { follows = did.sound.follows; reads = did.sound.reads };
-      seat = record { own = did.seat.own; few = did.seat.few; runs = did.seat.runs };
+      seat = record { own = did.seat.own; few = did.seat.few; most = did.seat.most };
       drives = c.drive-self.ensures;
     }) did.goes did.untold did.samples did.brings did.sound.reads.begun told.1 c.stands-stands.ensures.alone
     (subst T c.sample_fully.ensures.stays.node told.2))

@@ -9,6 +9,7 @@ use Rattle.sja_bus.specs.Inside.Following.{FollowsBit}
 use Rattle.sja_bus.proofs.Journal.BitSteps.{follows_bit, follows_on}
 use Rattle.sja_bus.proofs.Journal.Reading.{reads_quiet}
 use Rattle.sja_bus.proofs.ItemsTaken.OutOfRoom.{bit_short}
+use Rattle.sja_bus.proofs.ItemsTaken.Takings.{seat_entered}
 use Rattle.std.specs.Prelude.{Err}
 use Rattle.sja_bus.specs.Inside.Taking.{IsBitShort}
 use Rattle.lemmas.proofs.Results.{err_is}
@@ -26,6 +27,12 @@ returns-clause-sound c =
     c.in_ok-enter.ensures.sound (follows_on new (j ++ Bit x seen ∷ []) (subst P rest.stays bit))
     (reads_quiet was.node new j (Bit x seen) was.ended was.activity (free_in was.ledger) (λ p. refl, refl, refl, refl)
     (λ r. rest.reset) c.requires.ready.sound.reads)
+
+pub returns-clause-seat : goal.returns-clause-seat
+returns-clause-seat c =
+    let seat = c.requires.ready.seat in
+    seat_entered (record c.args.self.now { node = c.sample-events.new.self }) c.enter.new.self c.enter.ensures.others
+    c.enter.ensures.room (record { own = seat.own; few = seat.few; most = seat.most })
 
 pub returns-clause-samples : goal.returns-clause-samples
 returns-clause-samples c =

@@ -1,7 +1,8 @@
-use Rattle.std.proofs.Common.{rules, refl}
+use Rattle.std.proofs.Common.{refl}
 use Rattle.can_node.specs.Stands.{is_receiving}
 use Rattle.sja_bus.specs.declared.seat.Seat.{Seat}
 use Rattle.sja_bus.proofs.Journal.Quiet.{quiet_sound}
+use Rattle.sja_bus.proofs.Links.Seating.{seat_stays}
 use Rattle.sja_bus.proofs.seat.Seat.sample_quietly.Goals as goal
 
 pub returns-then-sample_quietly-clause-ready : goal.returns-then-sample_quietly-clause-ready
@@ -13,7 +14,7 @@ returns-then-sample_quietly-clause-ready c =
     record {
       sound = quiet_sound s now node s.drives c.args.seen (is_receiving s.node) ready.drives quiet shown refl
           c.enter_bit_reserved.ensures.entries refl refl refl ready.sound;
-      seat = search rules;
+      seat = seat_stays s now refl refl c.enter_bit_reserved.ensures.room ready.seat;
       drives = c.drive-self.ensures;
     }
 

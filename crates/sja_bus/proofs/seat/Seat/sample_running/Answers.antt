@@ -1,17 +1,19 @@
-use Rattle.std.proofs.Common.{◌≡◌, ◌≤◌, ℕ, suc, length, Bool, true, false, rules, subst, ap}
+use Rattle.std.proofs.Common.{◌≡◌, ℕ, suc, Bool, true, false, rules, subst, sym, ap, ◌∙◌}
 use Rattle.std.specs.Prelude.{Err}
 use Rattle.sja_bus.specs.Inside.Following.{FollowsBit}
 use Rattle.sja_link.specs.declared.entry.Entry.TheVariants.{Off}
 use Rattle.sja_link.specs.Written.{Room, IsFullFor}
 use Rattle.sja_link.specs.Inside.Moving.{Moves}
-use Rattle.sja_bus.specs.Inside.Seats.{IsMid}
-use Rattle.sja_bus.specs.Inside.Taking.{BreaksHere}
-use Rattle.sja_link.proofs.Growing.Moving.{moves_trans}
+use Rattle.sja_bus.specs.Inside.Seats.{IsMid, IsSeat}
+use Rattle.sja_bus.specs.Inside.SeatBits.{BreaksInBit}
+use Rattle.sja_link.proofs.Growing.Moving.{goes_one, moves_trans}
 use Rattle.sja_bus.proofs.ItemsTaken.Breaking.{breaks_after}
 use Rattle.sja_bus.proofs.ItemsTaken.OutOfRoom.{off_short}
 use Rattle.sja_bus.proofs.Journal.BitSteps.{follows_on}
 use Rattle.sja_bus.proofs.AllNodes.NodeBit.{has_on, has_off}
 use Rattle.lemmas.proofs.Results.{err_is}
+use Rattle.sja_bus.proofs.Links.Seating.{seat_stays}
+use Rattle.sja_bus.proofs.seat.Seat.sample_running.Goals.{In_ok-outcome}
 use Rattle.sja_bus.proofs.seat.Seat.sample_running.Goals as goal
 
 pub returns-then-not-outcome-clause-sound : goal.returns-then-not-outcome-clause-sound
@@ -21,6 +23,19 @@ returns-then-not-outcome-clause-sound g c =
     let now = c.sample_and_judge.new.self in
     let P : Bool → Type 0 = λ w. FollowsBit now.node now.journal.entries w in
     record { follows = follows_on now.node now.journal.entries (subst P off mid.follows); reads = mid.reads }
+
+-- the seat after the bit, before bus-off
+mid_seat : (g : _) (c : In_ok-outcome g) → IsSeat c.sample_and_judge.new.self
+mid_seat g c =
+    let kept = c.in_ok-outcome.ensures.kept in
+    seat_stays c.args.self.now c.sample_and_judge.new.self (ap (λ l. l.activation) kept.2) kept.0
+    c.in_ok-outcome.ensures.room c.requires.at.ready.seat
+
+pub returns-then-not-outcome-clause-seat : goal.returns-then-not-outcome-clause-seat
+returns-then-not-outcome-clause-seat g c = mid_seat g (goal.at.returns-then-not-outcome-clause-seat g c).In_ok-outcome
+
+pub go_off-requires-clause-seat : goal.go_off-requires-clause-seat
+go_off-requires-clause-seat g c = mid_seat g (goal.at.go_off-requires-clause-seat g c).In_ok-outcome
 
 pub returns-then-not-outcome-clause-brings : goal.returns-then-not-outcome-clause-brings
 returns-then-not-outcome-clause-brings g c =
@@ -41,17 +56,19 @@ returns-in_err-go_off-clause-broken g c =
     c.go_off.new.self in let f = c.in_err-go_off.field-0.0 in
     let outcome = c.in_ok-outcome.ensures in let kept = outcome.kept in
     let is : c.from_residual-in_err-go_off.result ≡ Err f = search rules in
-    let P : _ → Type 0 = λ x. BreaksHere E.same E.stands E.full c.args.end.now was new x in
+    let P : _ → Type 0 = λ x. BreaksInBit E was new c.args.end.now x in
     let R : Room → Type 0 = λ n. IsFullFor n mid.journal.entries Off in
     let W : Bool → Type 0 = λ w. FollowsBit mid.node mid.journal.entries w in
     let off : c.in_ok-outcome.outcome.events.went_off ≡ true = search rules in
     err_is P c.from_residual-in_err-go_off.result f is
-    (breaks_after E.same E.stands E.full c.args.end.now c.sample_and_judge.new.end was mid new f
-    g.met.E.BusEnd.same_trans outcome.same (ap (λ l. l.node) kept.2) kept.0
+    (breaks_after E g.met.E.BusEnd.same_trans c.args.end.now c.sample_and_judge.new.end was mid new f
+    (ap (λ l. l.node) kept.2)
     (λ used. off_short mid.node was.journal.room was.journal.entries mid.journal.entries new.journal.entries was.drives
     c.args.seen outcome.verdict.verdict c.in_err-go_off.ensures.unentered (subst R outcome.room used)
     (subst W off outcome.mid.follows))
-    outcome.moves c.in_err-go_off.ensures.broken)
+    (outcome.mid.reads.stopped ∙ kept.0 ∙ sym c.requires.at.ready.sound.reads.stopped)
+    (goes_one E.same E.stands c.args.end.now c.sample_and_judge.new.end was.journal.entries mid.journal.entries
+    was.ended c.sample_and_judge.ensures.same outcome.moves) c.in_err-go_off.ensures.broken)
 
 pub go_off-requires-clause-mid : goal.go_off-requires-clause-mid
 go_off-requires-clause-mid g c =

@@ -1,6 +1,5 @@
-use Rattle.std.proofs.Common.{◌≡◌, not, false, subst, refl}
+use Rattle.std.proofs.Common.{false, subst}
 use Rattle.can_node.specs.declared.bit_events.BitEvents.{BitEvents}
-use Rattle.can_node.specs.Stands.{nothing}
 use Rattle.sja_bus.specs.Inside.Turning.{TurnOf}
 use Rattle.sja_bus.proofs.AtPorts.Turning.{stands_alone}
 use Rattle.sja_bus.proofs.seat.Seat.stands.Goals as goal

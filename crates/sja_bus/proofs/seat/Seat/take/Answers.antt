@@ -1,8 +1,10 @@
-use Rattle.std.proofs.Common.{arith, rules, ◌≡◌, ◌<◌, ◌≤◌, ◌+◌, Err, suc, subst}
+use Rattle.std.proofs.Common.{arith, rules, ◌≡◌, ◌<◌, ◌≤◌, ◌+◌, ℕ, Err, suc, subst}
 use Rattle.sja_wire.specs.declared.bus_fault.BusFault.{BusFault}
 use Rattle.sja_link.specs.declared.link_id.LinkId.{LinkId}
+use Rattle.sja_link.specs.Lists.{OthersStand, Carries, with_taken}
 use Rattle.sja_wire.specs.Reasons.{IsRefusedFor}
 use Rattle.sja_bus.specs.Inside.Taking.{RefusesHere}
+use Rattle.sja_link.specs.declared.up.Up.TheVariants.{Credit}
 use Rattle.sja_link.specs.declared.entry.Entry.TheVariants.{Up as Item}
 use Rattle.sja_link.specs.BusLedgers.{free_in}
 use Rattle.sja_link.proofs.Growing.Moving.{moves_push}
@@ -13,8 +15,13 @@ pub returns-in_ok-note-in-Ok-Some-clause-moves : goal.returns-in_ok-note-in-Ok-S
 returns-in_ok-note-in-Ok-Some-clause-moves g c =
     let was = c.args.self.now in let told = c.in_ok-note-in-Ok-Some.ensures in
     let took = rw c.in-Ok-Some.field-0-is at c.in-Ok-Some.ensures.item in
+    let own = c.requires.at.ready.seat.own in
+    let T : ℕ → Type 0 = λ a. Carries g.E.BusEnd.stands a c.args.end.now c.collect.new.end
+    (λ l. with_taken l c.in-Ok-Some.item) in
+    let O : ℕ → Type 0 = λ a. OthersStand g.E.BusEnd.stands a c.args.end.now c.collect.new.end in
     rw told.takes.entered (moves_push g.E.BusEnd.stands c.args.end.now c.collect.new.end was.journal.entries
-    (Item c.in-Ok-Some.item) (suc was.ended) told.takes.stands took)
+    (Item c.in-Ok-Some.item) (suc was.ended) told.takes.stands (subst O own c.collect.ensures.others)
+    (subst T own took))
 
 pub returns-in_ok-note-in-Ok-Some-clause-some : goal.returns-in_ok-note-in-Ok-Some-clause-some
 returns-in_ok-note-in-Ok-Some-clause-some g c = λ e. (
@@ -34,11 +41,16 @@ returns-in_err-note-in-Ok-Some-clause-refused g c =
     let is : c.from_residual.result ≡ Err f = search rules in
     let was = c.args.self.now in let r = c.in_err-note-in-Ok-Some.ensures.refused in
     let Q : LinkId → Type 0 = λ l. IsRefusedFor l.node was.journal.room was.journal.entries c.in-Ok-Some.item f in
+    let own = c.requires.at.ready.seat.own in
+    let T : ℕ → Type 0 = λ a. Carries g.E.BusEnd.stands a c.args.end.now c.collect.new.end
+    (λ l. with_taken l c.in-Ok-Some.item) in
+    let O : ℕ → Type 0 = λ a. OthersStand g.E.BusEnd.stands a c.args.end.now c.collect.new.end in
     let here : P f = record {
       item = c.in-Ok-Some.item;
       refuses =
           (r.0, subst Q c.in-Ok-Some.ensures.id r.1);
-      shown = took;
+      shown = subst T own took;
+      others = subst O own c.collect.ensures.others;
     } in
     err_is P c.from_residual.result f is here
 
@@ -51,4 +63,9 @@ returns-in-Err-clause-refused g c =
     let bytes = c.in-Err.field-0.0 in let bad = c.in-Err.ensures.bad.1 in
     let lifts : 3 ≤ bytes → bytes ≤ 13 → 64 < free_in c.args.self.now.ledger + bytes =
     λ low high. omega (arith, low, high, bad) in
+    let own = c.requires.at.ready.seat.own in
+    let R : ℕ → Type 0 = λ a. Carries g.E.BusEnd.stands a c.args.end.now c.collect.new.end
+    (λ l. with_taken l (Credit bytes)) in
+    let O : ℕ → Type 0 = λ a. OthersStand g.E.BusEnd.stands a c.args.end.now c.collect.new.end in
+    let shown = subst R own c.in-Err.ensures.bad.2 in let others = subst O own c.collect.ensures.others in
     search rules

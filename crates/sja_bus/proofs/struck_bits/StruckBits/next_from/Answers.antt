@@ -1,5 +1,4 @@
-use Rattle.std.proofs.Common.{◌≡◌, ◌<◌, ◌≤◌, ℕ, arith, sym, ap, subst}
-use Rattle.sja_script.specs.Striking.{Strikes}
+use Rattle.std.proofs.Common.{arith, sym, ap, subst}
 use Rattle.sja_bus.specs.Inside.StrikesByBit.{IsStruckOrEnd, IsUnstruck, Scripted}
 use Rattle.sja_bus.proofs.struck_bits.StruckBits.next_from.Goals as goal
 

@@ -1,4 +1,4 @@
-use Rattle.std.proofs.Common.{◌≡◌, ◌+◌, ◌-◌, ◌<◌, ◌≤◌, ℕ, arith, rules, inl, inr, subst}
+use Rattle.std.proofs.Common.{◌≡◌, ◌+◌, ℕ, arith, inl, inr, subst}
 use Rattle.sja_script.specs.Striking.{Strikes}
 use Rattle.sja_bus.proofs.struck_bits.StruckBits.quiet_for.Goals as goal
 

@@ -2,27 +2,35 @@ use Rattle.std.proofs.Common.{refl}
 use Rattle.sja_script.specs.declared.step.Step.TheVariants as step
 use Rattle.sja_regs.specs.Registers.{at_power_on}
 use Rattle.sja_driver.specs.Inside.Attempts.{tried_of}
-use Rattle.sja_driver.proofs.LogOfSteps.Logged.{stays_lawful, steps_of}
-use Rattle.sja_driver.proofs.LogOfSteps.Stepping.{at_most}
+use Rattle.sja_driver.specs.LoggedDrivers.{ended_of}
+use Rattle.sja_driver.proofs.LogOfSteps.Logged.{opens_none, stays_few, steps_of}
+use Rattle.sja_driver.proofs.LogOfSteps.Stepping.{is_among}
 use Rattle.sja_driver.proofs.logged_driver.LoggedDriver.step_release.Goals as goal
 
 pub returns-clause-stays : goal.returns-clause-stays
 returns-clause-stays g c =
     let e = g.E.DriverEnd in
-    let laws = g.met.E.DriverEnd in
-    let release = c.release_step-attempt in
-    stays_lawful e.link e.same c.args.self.now _ c.args.links.now c.args.base c.link_place.result
-    c.index-links-here.result _ (tried_of release.result) c.enter.result laws.same_refl laws.same_link c.requires
-    c.link_place.ensures release.ensures.same refl refl c.enter.ensures ((release.ensures.acts (at_power_on 1)).place)
+    let tried = c.release_step-attempt in
+    let p = at_power_on 1 in
+    let o = tried_of tried.result in
+    stays_few e.same e.stands e.dry e.full c.args.self.now _ c.args.end.now tried.new.end p p step.Release o
+    c.enter.result c.requires.lawful (opens_none _ _ step.Release o (λ a. refl) c.requires.lawful.few)
+    (tried.ensures.acts p) tried.ensures.same tried.ensures.others refl refl c.enter.ensures
 
 pub returns-clause-steps : goal.returns-clause-steps
 returns-clause-steps g c = λ p.
     let e = g.E.DriverEnd in
-    let release = c.release_step-attempt in
-    steps_of e.same e.stands e.dry e.full c.args.self.now _ c.args.links.now c.args.base
-    c.link_place.result p
-    p step.Release c.index-links-here.result release.new.end (tried_of release.result) c.enter.result c.requires.lawful
-    c.requires.eight c.link_place.ensures (release.ensures.acts p) c.enter.ensures
+    let tried = c.release_step-attempt in
+    steps_of e.same e.stands e.dry e.full c.args.self.now _ c.args.end.now tried.new.end p p step.Release
+    (tried_of tried.result) c.enter.result c.requires.lawful (tried.ensures.acts p) tried.ensures.others
+    c.enter.ensures
 
 pub enter-requires-clause-fits : goal.enter-requires-clause-fits
-enter-requires-clause-fits g c = at_most c.args.self.now.node _ c.args.self.now.driver c.requires.lawful
+enter-requires-clause-fits g c =
+    let tried = c.release_step-attempt in
+    let p = at_power_on 1 in
+    let acts = tried.ensures.acts p in
+    let node = c.args.self.now.node in
+    let ended = ended_of c.args.self.now in
+    is_among p step.Release node ended _ c.args.self.now.driver tried.new.driver (tried_of tried.result)
+    c.requires.lawful.few acts.opens (acts.place node ended c.requires.lawful.own) acts.quiet

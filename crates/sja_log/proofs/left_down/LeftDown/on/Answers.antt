@@ -1,21 +1,18 @@
-use Rattle.std.proofs.Common.{◌≡◌, ◌++◌, List, length, ap, subst, sym, arith}
-use Rattle.sja_link.specs.declared.down.Down.{Down}
-use Rattle.sja_log.proofs.Account.OffLinks.{taken_off, none_left, gathers_more, gathers_all}
+use Rattle.std.proofs.Common.{◌≡◌, ◌++◌, [], sym, ap, ◌∙◌}
+use Rattle.sja_link.specs.Deques.{on_link, left_on}
+use Rattle.sja_log.proofs.Account.OffLinks.{left_all, left_in_parts}
 use Rattle.sja_log.proofs.left_down.LeftDown.on.Goals as goal
-
-pub loop-item-preserved : goal.loop-item-preserved
-loop-item-preserved c =
-    let e = taken_off c.loop-item.end c.get.new.self c.in-Some.item c.in-Some.ensures.item in
-    subst (λ (l : List Down). l ++ c.get.new.self.down ≡ c.args.link.down) (sym c.in_ok-push.ensures.items)
-    (gathers_more c.loop-item.items.items c.loop-item.end.down c.get.new.self.down c.args.link.down c.in-Some.item
-    e c.loop-item.invariant)
-
-pub loop-item-smaller : goal.loop-item-smaller
-loop-item-smaller c =
-    let e = ap (λ (l : List Down). length l)
-    (taken_off c.loop-item.end c.get.new.self c.in-Some.item c.in-Some.ensures.item) in omega (arith, e)
 
 pub returns : goal.returns
 returns c =
-    gathers_all c.loop-item.items.items c.loop-item.end.down c.args.link.down
-    (none_left c.loop-item.end c.get.new.self c.in_default.ensures.kept c.in_default.ensures.dry) c.loop-item.invariant
+    let links = c.args.links.now in
+    let whole : c.push-2.new.self ≡ links.older ++ on_link links.activation links.down =
+    left_in_parts links c.in_ok-copies.field-0.items c.push.new.self c.push-2.new.self c.as_slices.result.0.now
+    c.as_slices.result.1.now c.activation.result c.activation-2.result (c.in_ok-copies.ensures ∙ c.older.ensures.older)
+    (c.as_slices.ensures.items ∙ c.down.ensures) c.activation.ensures c.activation-2.ensures
+    c.in_ok-push.ensures.pushed c.in_ok-push-2.ensures.pushed in
+    let none : left_on links.older links.activation ≡ [] =
+    ap (λ l. left_on l links.activation) (sym c.older.ensures.older) ∙ c.older.ensures.before in record {
+      whole = whole;
+      each = λ a. ap (λ l. left_on l a) whole ∙ left_all links none a;
+    }
