@@ -9,3 +9,4 @@ pub mod Coming
 pub mod Asked
 pub mod Together
 pub mod Stuck
+pub mod Starts

@@ -9,3 +9,4 @@ pub mod Logs
 pub mod Sweeps
 pub mod Watched
 pub mod Rounds
+pub mod Starting

@@ -8,6 +8,7 @@ pub mod AfterIrq
 pub mod Coming
 pub mod NextTurn
 pub mod Kept
+pub mod Left
 pub mod AccountsNow
 pub mod Ended
 pub mod Whole

@@ -1,11 +1,12 @@
 -- A run in one thread, between two steps (this project's own rule).
-use Rattle.std.specs.Prelude.{◌≡◌, ◌+◌, ◌*◌, ◌/◌, ◌^◌, ◌<◌, ◌≤◌, ℕ, false, None, List, if◌then◌else◌, length, map}
+use Rattle.std.specs.Prelude.{◌≡◌, ◌+◌, ◌*◌, ◌/◌, ◌^◌, ◌<◌, ◌≤◌, ℕ, false, None, List, if◌then◌else◌, length, map, min}
 use Rattle.std.specs.Prelude.{slice_index_or}
 use Rattle.sja_link.specs.declared.entry.Entry.{Entry}
 use Rattle.sja_link.specs.Deques.{Deques}
 use Rattle.sja_wire.specs.Buses.{BusValue, untold_at}
-use Rattle.sja_link.specs.Links.{Numbered}
+use Rattle.sja_link.specs.Links.{AreEnds}
 use Rattle.sja_link.specs.BitEntries.{HasMore}
+use Rattle.sja_link.specs.Sizes.{most_activations}
 use Rattle.sja_wire.specs.Wire.{journal_at}
 use Rattle.sja_regs.specs.declared.registers.Registers.{Registers}
 use Rattle.sja_regs.specs.Registers.{at_power_on}
@@ -19,8 +20,8 @@ use Rattle.sja_log.specs.Registering.{AccessesLeadTo}
 use Rattle.sja_log.specs.Nodes.{IsNode}
 use Rattle.sja_driver.specs.Shown.{ShowsRecord}
 
--- for what a run was made: by which version of the model, for how many bits, with which strikes, of how many nodes, and
--- for how many deeds of the driver of each
+-- for what a run was made: by which version of the model, 4 without an end, for how many bits, with which strikes, of
+-- how many nodes, and for how many deeds of the driver of each
 pub record Setup : Type 0 where
   pub version : ℕ
   pub bits : ℕ
@@ -31,6 +32,10 @@ pub record Setup : Type 0 where
 -- for how many steps there is room where there is for so many deeds: in version 3 a write is three deeds at most
 abbrev pub most_steps : ℕ → ℕ → ℕ
 most_steps version deeds = if by_bytes version then deeds / 3 else deeds
+
+-- by which version of plans a run goes: one after the last goes by the last one's rules
+abbrev pub plan_version : ℕ → ℕ
+plan_version version = min version 3
 
 -- of as many nodes as numbers of steps are given, each with room for the deeds that so many may be
 abbrev pub setup_with : ℕ → ℕ → List Strike → List ℕ → Setup
@@ -66,12 +71,11 @@ setup_in r = record {
   steps = r.bus.steps;
 }
 
--- as many of each as there are nodes
+-- as many journals, drivers and ports as there are nodes
 pub record HasNodes (nodes : ℕ) (r : SerialValue) : Type 0 where
   pub journals : length r.bus.journals ≡ nodes
   pub drivers : length r.drivers ≡ nodes
   pub ports : length r.ports ≡ nodes
-  pub links : length r.links ≡ 64 * nodes
 
 -- a run that was made for this stands where its drivers did these deeds, a list for each node
 pub record StandsAt (setup : Setup) (r : SerialValue) (deeds : List (List Deed)) : Type 0 where
@@ -84,11 +88,14 @@ pub record StandsAt (setup : Setup) (r : SerialValue) (deeds : List (List Deed))
   pub bits : r.bits ≡ r.bus.run
   pub count : HasNodes setup.nodes r
   pub deeds_count : length deeds ≡ setup.nodes
-  pub ids : Numbered (λ (s : Deques). s.link) r.links
+  -- the links of each node, for as many activations as it has in this version
+  pub ends : AreEnds (λ (s : Deques). s.node) setup.nodes r.links
+  pub starts : (node : ℕ) (l : Deques) → node < setup.nodes →
+      (slice_index_or r.links node l).room ≡ 22 * most_activations setup.version
   pub own : (node : ℕ) (d : LoggedDriver) → node < setup.nodes → node_of (slice_index_or r.drivers node d) ≡ node
-  pub nodes : (node : ℕ) (d : LoggedDriver) (p : Registers) → node < setup.nodes →
+  pub nodes : (node : ℕ) (d : LoggedDriver) (p : Registers) (l : Deques) → node < setup.nodes →
       IsNode setup.version (slice_index_or setup.steps node 0) (journal_at r.bus.journals node) (deeds_at deeds node)
-      (slice_index_or r.drivers node d) (slice_index_or r.ports node p) r.links (64 * node)
+      (slice_index_or r.drivers node d) (slice_index_or r.ports node p) (slice_index_or r.links node l)
   -- where nothing is untold of a node its port shows what the node's record says
   pub shown : (node : ℕ) (p : Registers) → node < setup.nodes → untold_at r.bus.untold node ≡ false →
       ShowsRecord (journal_at r.bus.journals node) (slice_index_or r.ports node p)

@@ -27,23 +27,25 @@ pub(crate) fn deeds_for(alloc: Global, version: u8, steps: &[u64]) -> Result<Vec
     Ok(deeds)
 }
 
-/// The drivers of all nodes, each with an empty log that has room for so many steps, and for what so many deeds come
-/// to.
+/// The drivers of all nodes, each with an empty log that has room for so many steps, for what so many deeds come to,
+/// and for all activations of a node in this version.
 ///
 /// Error: [`OutOfMemory`] where memory was refused.
 pub(crate) fn new_drivers(
     alloc: Global,
+    version: u8,
     steps: &[u64],
     deeds: &[u64],
 ) -> Result<Vec<LoggedDriver>, OutOfMemory>
     requires few { length steps.now ≤ 8 }
     requires many { length deeds.now ≡ length steps.now }
     ensures count { IfOk result (λ drivers. length drivers.items ≡ length steps.now) }
-    ensures new { IfOk result (λ drivers. AreNew steps.now deeds.now (length steps.now) drivers.items) }
+    ensures new { IfOk result (λ drivers. AreNew version steps.now deeds.now (length steps.now)
+        drivers.items) }
 {
     let mut drivers = Vec::with_capacity(alloc, steps.len())?;
     for node in 0..steps.len() {
-        let log = WorkLog::new(alloc, steps[node], deeds[node])?;
+        let log = WorkLog::new(alloc, version, steps[node], deeds[node])?;
         drivers.push_reserved(LoggedDriver::new(node as u8, log));
     }
     Ok(drivers)

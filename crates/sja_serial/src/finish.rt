@@ -36,7 +36,7 @@ impl SerialRun {
             ..
         } = self;
         let run = bits as u32;
-        let lists = all_left_down(alloc, links)?;
+        let lists = all_left_down(alloc, links.as_slice())?;
         let logs = bus.finish();
         let nodes = node_runs(alloc, logs, drivers.as_slice(), lists.as_slice())?;
         Ok(RunLog::of(version, run, end, nodes))

@@ -4,8 +4,8 @@
 //! the registers of each node read as at its end.
 //!
 //! A [`SerialRun`] has the bus, and of each node its port, its links and its driver with the log of what it did.
-//! [`SerialRun::new`] makes it; it takes a step of a node ([`SerialRun::step`]), and turns of the bus
-//! ([`SerialRun::bus_turn`], [`SerialRun::rest_turn`]), or bits up to the first that a port is told of
+//! [`SerialRun::new`] makes it, or [`SerialRun::without_end`]; it takes a step of a node ([`SerialRun::step`]), and
+//! turns of the bus ([`SerialRun::bus_turn`], [`SerialRun::rest_turn`]), or bits up to the first that a port is told of
 //! ([`SerialRun::bits_until_told`]), and ends with its log ([`SerialRun::finish`]). A bit that hasn't run can be struck
 //! too ([`SerialRun::strike`]). After each step of a driver the bus takes what was given, so between two steps nothing
 //! waits on a link: each item is taken after just the bits before its step, and no link is ever full upward.
@@ -14,7 +14,8 @@
 //! `specs/Serial.antt`: of each node its driver did these deeds; its links carried what its journal and its deeds say;
 //! its port is as its writes and loads have set it; and all was in time, as `IsInTime` of sja_log has it.
 //!
-//! `SerialRun::new`, `SerialRun::strike`, `SerialRun::finish` and the two that run plans alone take memory.
+//! `SerialRun::new`, `SerialRun::without_end`, `SerialRun::strike`, `SerialRun::finish` and the two that run plans
+//! alone take memory.
 #![tactic(auto)]
 
 mod accessing;

@@ -2,7 +2,6 @@
 
 use super::serial_run::SerialRun;
 use sja_driver::LoggedDriver;
-use sja_link::first_link;
 use sja_regs::{BufferView, Port};
 
 impl SerialRun {
@@ -89,8 +88,8 @@ impl SerialRun {
         if index >= self.drivers.len() || self.bus.bits_run() != self.bits {
             unreachable!()
         }
-        let links = self.links.as_mut_slice();
-        self.drivers[index].seen(links, first_link(index))
+        let end = &mut self.links[index];
+        self.drivers[index].seen(end)
     }
 
     /// Whether the interrupt line of a node, counted from 0, is active: some bit of IR is 1, as a read of it would

@@ -4,10 +4,13 @@ use super::drivers::{deeds_for, new_drivers};
 use can_frame::OutOfMemory;
 use sja_bus::{Bus, SerialBoard, serial_links};
 use sja_driver::LoggedDriver;
-use sja_link::DequeLink;
+use sja_link::{DequeLinks, WITHOUT_END, most_activations};
 use sja_script::FaultScript;
 use std::alloc::Global;
 use std::marker::Model;
+
+/// The last version of plans (this project's own rule).
+const LAST_OF_PLANS: u8 = 3;
 
 /// A run in one thread, as far as it has come (this project's own rule).
 ///
@@ -18,7 +21,7 @@ use std::marker::Model;
 pub struct SerialRun {
     pub(crate) bus: Bus,
     pub(crate) board: SerialBoard,
-    pub(crate) links: Vec<DequeLink>,
+    pub(crate) links: Vec<DequeLinks>,
     pub(crate) drivers: Vec<LoggedDriver>,
     pub(crate) bits: u64,
 }
@@ -41,15 +44,58 @@ impl SerialRun {
     ghost use Rattle.std.specs.Prelude.{◌≡◌, ◌≤◌, ◌^◌, [], All, length, map, replicate, IfOk};
     ghost use Rattle.sja_wire.specs.Buses.{new_bus};
     ghost use Rattle.sja_driver.specs.Accesses.{most_deeds};
-    ghost use Rattle.sja_serial.specs.Serial.{StandsBy, setup_with};
+    ghost use Rattle.sja_serial.specs.Serial.{StandsBy, plan_version, setup_with};
 
-    /// A run to which nothing happened, by the rules of this version of the model, for so many bits, 1 to 2^62, with
-    /// these strikes: of as many nodes, 1 to 8, as numbers of steps are given, each at most 2^56, as all numbers of 32
-    /// bits are, with room for so many steps of the driver of each. All its room is made here. A run that is made for
-    /// more than its lists keep ([`KEPT`](sja_link::KEPT)) forgets what is oldest, and takes no memory for it.
+    /// A run to which nothing happened, by the rules of this version of plans, where one after the last goes by those
+    /// of the last, for so many bits, 1 to 2^62, with these strikes: of as many nodes, 1 to 8, as numbers of steps are
+    /// given, each at most 2^56, as all numbers of 32 bits are, with room for so many steps of the driver of each, and
+    /// for all activations that a node has in this version. All its room is made here. A run that is made for more than
+    /// its lists keep ([`KEPT`](sja_link::KEPT)) forgets what is oldest, and takes no memory for it.
     ///
     /// Error: [`OutOfMemory`] where memory was refused.
     pub fn new(
+        alloc: Global,
+        version: u8,
+        bits: u64,
+        steps: Vec<u64>,
+        script: FaultScript,
+    ) -> Result<SerialRun, OutOfMemory>
+        requires nodes { (1 ≤ length steps.items) × (length steps.items ≤ 8) }
+        requires bits { (1 ≤ bits) × (bits ≤ 2 ^ 62) }
+        requires steps { All (λ s. s ≤ 2 ^ 56) steps.items }
+        ensures stands { IfOk result (λ r. StandsBy (setup_with (plan_version version) bits script steps.items) r
+            (replicate (length steps.items) [])) }
+        ensures bus { IfOk result (λ r. r.bus ≡ new_bus script bits (length steps.items)
+            (map (most_deeds (plan_version version)) steps.items)) }
+    {
+        SerialRun::made(alloc, version.min(LAST_OF_PLANS), bits, steps, script)
+    }
+
+    /// The same by the rules of version 3, but that starts aren't used up, as in a session without an end
+    /// ([`WITHOUT_END`]).
+    ///
+    /// Error: [`OutOfMemory`] where memory was refused.
+    pub fn without_end(
+        alloc: Global,
+        bits: u64,
+        steps: Vec<u64>,
+        script: FaultScript,
+    ) -> Result<SerialRun, OutOfMemory>
+        requires nodes { (1 ≤ length steps.items) × (length steps.items ≤ 8) }
+        requires bits { (1 ≤ bits) × (bits ≤ 2 ^ 62) }
+        requires steps { All (λ s. s ≤ 2 ^ 56) steps.items }
+        ensures stands { IfOk result (λ r. StandsBy (setup_with 4 bits script steps.items) r
+            (replicate (length steps.items) [])) }
+        ensures bus { IfOk result (λ r. r.bus ≡ new_bus script bits (length steps.items)
+            (map (most_deeds 4) steps.items)) }
+    {
+        SerialRun::made(alloc, WITHOUT_END, bits, steps, script)
+    }
+
+    /// A run whose ports, drivers and links are of this version.
+    ///
+    /// Error: [`OutOfMemory`] where memory was refused.
+    fn made(
         alloc: Global,
         version: u8,
         bits: u64,
@@ -66,9 +112,9 @@ impl SerialRun {
     {
         let nodes = steps.len() as u8;
         let board = SerialBoard::new(alloc, nodes, version)?;
-        let links = serial_links(alloc, nodes)?;
+        let links = serial_links(alloc, nodes, most_activations(version))?;
         let deeds = deeds_for(alloc, version, steps.as_slice())?;
-        let drivers = new_drivers(alloc, steps.as_slice(), deeds.as_slice())?;
+        let drivers = new_drivers(alloc, version, steps.as_slice(), deeds.as_slice())?;
         let bus = Bus::new(alloc, bits, deeds, script)?;
         Ok(SerialRun {
             bus,

@@ -4,7 +4,6 @@ ghost use Rattle.std.specs.Prelude.{◌≡◌, Option, true};
 ghost use Rattle.sja_driver.specs.Inside.GivenNothing.{GaveNothing, GivesNothing};
 
 use super::serial_run::SerialRun;
-use sja_link::first_link;
 use sja_regs::Command;
 use sja_script::{Step, StepAnswer};
 
@@ -30,9 +29,10 @@ impl SerialRun {
     {
         let index = usize::from(node);
         let links = self.links.as_mut_slice();
+        let end = &mut links[index];
         let port = &mut self.board.ports[index];
         let driver = &mut self.drivers[index];
-        let answer = driver.step(links, first_link(index), port, step);
+        let answer = driver.step(end, port, step);
         if gave_nothing(step, &answer) {
             // Asked for what holds of every bus.
             let _ = self.bus.bits_run();

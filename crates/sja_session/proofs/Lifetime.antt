@@ -1,4 +1,5 @@
 -- A session that begins, and one that ends.
+pub mod Versions
 pub mod Blank
 pub mod GoingBy
 pub mod Finished

@@ -49,16 +49,6 @@ IsSessionFault version bits nodes room TurnRoom =
     MayBegin version bits nodes × (room.steps ≤ most_steps version) × (most_turns version < room.turns)
 IsSessionFault version bits nodes room Memory = MayBegin version bits nodes × IsRoom version room
 
--- why there is no session of a plan of this version: the first of these that isn't within the limits, or that memory
--- was refused
-abbrev pub LacksRoom : ℕ → SessionRoom → SessionFault → Type 0
-LacksRoom version room StepRoom = most_steps version < room.steps
-LacksRoom version room TurnRoom = (room.steps ≤ most_steps version) × (most_turns version < room.turns)
-LacksRoom version room Memory = IsRoom version room
-LacksRoom version room Version = ⊥
-LacksRoom version room Bits = ⊥
-LacksRoom version room NodeCount = ⊥
-
 -- why there is no session without an end: so many nodes aren't within the limits, or memory was refused
 abbrev pub IsEndlessFault : ℕ → SessionFault → Type 0
 IsEndlessFault nodes NodeCount = IsOutside 8 nodes

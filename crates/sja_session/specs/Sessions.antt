@@ -1,6 +1,6 @@
 -- A session: a run in one thread that its holder drives (this project's own rule).
 use Rattle.std.specs.Prelude.{◌≡◌, ◌+◌, ◌<◌, ◌≤◌, ◌++◌, ℕ, List, [], ◌∷◌, length, map, replicate, reverse}
-use Rattle.std.specs.Prelude.{◌^◌, slice_index_or}
+use Rattle.std.specs.Prelude.{◌^◌, nat_lt, if◌then◌else◌, slice_index_or}
 use Rattle.sja_plan.specs.declared.turn.Turn.{Turn}
 use Rattle.sja_plan.specs.declared.turn.Turn.TheVariants.{Bus, Node}
 use Rattle.sja_plan.specs.Growing.{plan_of}
@@ -44,14 +44,19 @@ IsEndless s = most_bits s.plan.version < s.plan.bits
 abbrev pub written : SessionValue → PlanValue
 written s = plan_of s.plan.version s.plan.bits s.steps s.turns s.plan.strikes
 
+-- by which version its run goes: that of the plan. Without an end it's one that no plan has, whose rules are those of
+-- version 3, but that starts aren't used up
+abbrev pub run_version : PlanValue → ℕ
+run_version p = if nat_lt (most_bits p.version) p.bits then 4 else p.version
+
 -- for what a run of such a plan is made that has room for so many steps of each node
 abbrev pub setup_for : PlanValue → ℕ → Setup
 setup_for p size = record {
-  version = p.version;
+  version = run_version p;
   bits = p.bits;
   strikes = p.strikes;
   nodes = length p.nodes;
-  steps = replicate (length p.nodes) (most_deeds p.version size);
+  steps = replicate (length p.nodes) (most_deeds (run_version p) size);
 }
 
 -- for what its run was made
@@ -93,10 +98,11 @@ AreNamed nodes (t ∷ turns) = NamesNode nodes t × AreNamed nodes turns
 
 -- what holds of every session: it stands at some steps, no more of each node than there is room for; each turn is of a
 -- node that is there. Where it has an end its steps and turns are within the limits of a plan of its version, and there
--- is room for one turn more; else its room is one that can be counted
+-- is room for one turn more; else it goes by the rules of version 3, and its room is one that can be counted
 pub record IsSession (s : SessionValue) (sizes : List ℕ) (capacity : ℕ) : Type 0 where
   pub accesses : List (List Access)
   pub at : IsAt s accesses
+  pub rules : IsEndless s → s.plan.version ≡ 3
   pub places : (node : ℕ) → node < length s.plan.nodes → slice_index_or sizes node 0 ≡ s.room.steps
   pub done : (node : ℕ) → node < length s.plan.nodes → length (slice_index_or s.steps node []) ≤ s.room.steps
   pub counted : s.room.steps ≤ 2 ^ 56

@@ -1,13 +1,21 @@
-//! Whether a session may begin.
+//! Whether a session may begin, and how its run does.
 
-ghost use Rattle.std.specs.Prelude.{◌≡◌, ◌≢◌, OnOk, IfErr};
-ghost use Rattle.sja_session.specs.Beginning.{MayBegin, IsRoom, IsSessionFault, LacksRoom};
+ghost use Rattle.std.specs.Prelude.{◌≡◌, ◌≢◌, ◌≤◌, ◌^◌, [], All, length, map, replicate, OnOk, IfOk, IfErr};
+ghost use Rattle.sja_wire.specs.Buses.{new_bus};
+ghost use Rattle.sja_driver.specs.Accesses.{most_deeds};
+ghost use Rattle.sja_serial.specs.Serial.{StandsBy, setup_with};
+ghost use Rattle.sja_session.specs.Beginning.{MayBegin, IsRoom, IsSessionFault};
+ghost use Rattle.sja_session.specs.Inside.Written.{beside_for};
+ghost use Rattle.sja_session.specs.Sessions.{run_version};
 ghost use Rattle.sja_session.specs.declared.session_fault.SessionFault.TheVariants.{Memory};
 
 use super::session_fault::SessionFault;
 use super::session_room::SessionRoom;
-use sja_plan::{most_bits, most_steps, most_turns};
-use sja_script::MOST_NODES;
+use can_frame::OutOfMemory;
+use sja_plan::{Plan, most_bits, most_steps, most_turns};
+use sja_script::{FaultScript, MOST_NODES};
+use sja_serial::SerialRun;
+use std::alloc::Global;
 
 /// The last version of a session's rules; the first one is 1 (this project's own rule).
 pub const LAST_VERSION: u8 = 3;
@@ -43,18 +51,40 @@ pub(crate) fn check(
     Ok(())
 }
 
-/// Whether a session of a plan of this version may have so much room.
+/// The run of a session that goes by this plan for so many bits, with room for so many steps of each node, and with
+/// these strikes: one without an end where these are more bits than a plan of its version may have.
 ///
-/// Errors: as [`Session::of_plan`](super::session::Session::of_plan) tells them, but for refused memory.
-pub(crate) fn check_room(version: u8, room: SessionRoom) -> Result<(), SessionFault>
-    ensures ok { OnOk result (IsRoom version room) }
-    ensures err { IfErr result (LacksRoom version room) }
+/// Error: [`OutOfMemory`] where memory was refused.
+pub(crate) fn run_for(
+    alloc: Global,
+    plan: &Plan,
+    bits: u64,
+    rooms: Vec<u64>,
+    script: FaultScript,
+) -> Result<SerialRun, OutOfMemory>
+    requires nodes { (1 ≤ length rooms.items) × (length rooms.items ≤ 8) }
+    requires bits { (1 ≤ bits) × (bits ≤ 2 ^ 62) }
+    requires steps { All (λ s. s ≤ 2 ^ 56) rooms.items }
+    ensures stands { IfOk result (λ r.
+        StandsBy (setup_with (run_version (record plan.now { bits = bits })) bits script rooms.items) r
+        (replicate (length rooms.items) [])) }
+    ensures bus { IfOk result (λ r. r.bus ≡ new_bus script bits (length rooms.items)
+        (map (most_deeds (run_version (record plan.now { bits = bits }))) rooms.items)) }
 {
-    if room.steps > most_steps(version) as u64 {
-        return Err(SessionFault::StepRoom);
+    plan.limits();
+    if bits > u64::from(most_bits(plan.version())) {
+        return SerialRun::without_end(alloc, bits, rooms, script);
     }
-    if room.turns > most_turns(version) as u64 {
-        return Err(SessionFault::TurnRoom);
+    SerialRun::new(alloc, plan.version(), bits, rooms, script)
+}
+
+/// For how many strikes a session has room that its plan doesn't hold: none where it goes by this plan's bits.
+pub(crate) fn strikes_for(plan: &Plan, bits: u64) -> usize
+    ensures { result ≡ beside_for plan.now bits }
+{
+    if bits > (plan.bits() as u64) {
+        1 << 56
+    } else {
+        0
     }
-    Ok(())
 }

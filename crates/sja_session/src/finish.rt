@@ -30,6 +30,7 @@ impl Session {
         ensures err { IfErr result (IsNoPlan self) }
     {
         let plan = self.plan(alloc)?;
+        plan.limits();
         let log = self.run.finish(alloc, End::Turns)?;
         Ok((plan, log))
     }

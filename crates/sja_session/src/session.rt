@@ -1,9 +1,6 @@
 //! [`Session`]: a run in one thread, driven call by call.
 
-ghost use Rattle.std.specs.Prelude.{◌≡◌};
-ghost use Rattle.sja_session.specs.Inside.Written.{beside_for};
-
-use super::beginning::check;
+use super::beginning::{check, run_for, strikes_for};
 use super::lists::empty_lists;
 use super::plan_so_far::copied_strikes;
 use super::session_fault::SessionFault;
@@ -26,7 +23,8 @@ const ENDLESS_BITS: u64 = 1 << 62;
 /// of the drivers it stands. By its invariant it always stands at some, so no call asks anything of its caller.
 ///
 /// A session without an end ([`endless`](Session::endless)) goes by a plan of more bits than can be run. It forgets
-/// what is oldest, so that its memory stays, and has neither plan nor log.
+/// what is oldest, so that its memory stays, and has neither plan nor log. Its nodes start as often as their drivers
+/// like.
 #[derive(Drop)]
 pub struct Session {
     pub(crate) run: SerialRun,
@@ -116,8 +114,8 @@ impl Session {
 
     /// A session without an end, of version 3, to which nothing happened: so many nodes, 1 to 8. Its memory is reserved
     /// here and stays: it forgets what is oldest. Each call is as in a session with an end, but that there are more
-    /// bits and steps than can be run, that it takes any number of strikes and turns, and that it has neither plan nor
-    /// log.
+    /// bits, steps and starts than can be used up, that it takes any number of strikes and turns, and that it has
+    /// neither plan nor log.
     ///
     /// Errors, the first that holds: [`SessionFault::NodeCount`] where these aren't within the limits;
     /// [`SessionFault::Memory`] where memory was refused.
@@ -158,7 +156,7 @@ impl Session {
         let nodes = plan.nodes();
         let script = FaultScript::of(copied_strikes(alloc, plan.strikes())?);
         let rooms = Vec::from_elem(alloc, room.steps, nodes)?;
-        let run = SerialRun::new(alloc, plan.version(), bits, rooms, script)?;
+        let run = run_for(alloc, &plan, bits, rooms, script)?;
         let steps = empty_lists(alloc, nodes, room.steps)?;
         let turns = Vec::with_capacity(alloc, room.turns as usize + 1)?;
         let struck = Recent::new(alloc, strikes_for(&plan, bits))?;
@@ -224,16 +222,5 @@ impl Session {
         ensures { result ≡ steps_done_of self.now node }
     {
         self.steps[node].len()
-    }
-}
-
-/// For how many strikes a session has room that its plan doesn't hold: none where it goes by this plan's bits.
-fn strikes_for(plan: &Plan, bits: u64) -> usize
-    ensures { result ≡ beside_for plan.now bits }
-{
-    if bits > (plan.bits() as u64) {
-        1 << 56
-    } else {
-        0
     }
 }

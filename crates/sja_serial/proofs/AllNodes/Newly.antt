@@ -8,6 +8,7 @@ use Rattle.sja_link.specs.Deques.{Deques}
 use Rattle.sja_link.specs.declared.entry.Entry.{Entry}
 use Rattle.sja_wire.specs.Buses.{BusValue, new_bus}
 use Rattle.sja_link.specs.NewLinks.{AreNewLinks}
+use Rattle.sja_link.specs.Sizes.{most_activations}
 use Rattle.sja_wire.specs.Wire.{journal_at}
 use Rattle.sja_regs.specs.declared.registers.Registers.{Registers}
 use Rattle.sja_regs.specs.Registers.{at_power_on}
@@ -29,8 +30,9 @@ use Rattle.sja_log.proofs.OneNode.Newly.{new_node}
 pub stands_new : (setup : Setup) (steps : List ℕ) (bus : BusValue) (drivers : List LoggedDriver)
     (ports : List Registers)
     (links : List Deques) → IsSetup setup → bus ≡ new_bus setup.strikes setup.bits setup.nodes setup.steps →
-    length drivers ≡ setup.nodes → AreNew steps setup.steps setup.nodes drivers →
-    ports ≡ replicate setup.nodes (at_power_on setup.version) → AreNewLinks setup.nodes links →
+    length drivers ≡ setup.nodes → AreNew setup.version steps setup.steps setup.nodes drivers →
+    ports ≡ replicate setup.nodes (at_power_on setup.version) →
+    AreNewLinks setup.nodes (most_activations setup.version) links →
     StandsAt setup (run_now bus drivers ports links 0) (replicate setup.nodes [])
 stands_new setup steps bus drivers ports links may bus_is driver_count made ports_are fresh =
     let nodes = setup.nodes in record {
@@ -45,18 +47,18 @@ stands_new setup steps bus drivers ports links may bus_is driver_count made port
         journals = ap (λ (b : BusValue). length b.journals) bus_is ∙ length-replicate nodes [];
         drivers = driver_count;
         ports = ap (λ l. length l) ports_are ∙ length-replicate nodes (at_power_on setup.version);
-        links = fresh.count;
       };
       deeds_count = length-replicate setup.nodes [];
-      ids = λ node a d few less. ap (λ (s : Deques). s.link) (fresh.each node a d (let c =
-          fresh.count in omega (arith, c, few, less)) few);
+      ends = record {
+        count = fresh.count;
+        own = λ node l less. ap (λ (s : Deques). s.node) (fresh.each node l less);
+      };
+      starts = λ node l less. ap (λ (s : Deques). s.room) (fresh.each node l less);
       own = λ node d less. (made node d less).own;
-      nodes = λ node d p less.
-          let x = slice_index_or drivers node d in
-          let is = new_node setup.version node (slice_index_or steps node 0) (slice_index_or setup.steps node 0) x links
-          (64 * node)
-          (made node d less) (λ a e small.
-          fresh.each node a e less small) in
+      nodes = λ node d p l less.
+          let x = slice_index_or drivers node d in let s = slice_index_or links node l in
+          let is = new_node setup.version node (slice_index_or steps node 0) (slice_index_or setup.steps node 0) x s
+          (most_activations setup.version) (made node d less) (fresh.each node l less) in
           let journal : journal_at bus.journals node ≡ [] = ap (λ (b : BusValue). journal_at b.journals node) bus_is
           ∙ get_or-replicate nodes node [] [] less in
           let port : slice_index_or ports node p ≡ at_power_on setup.version = ap
@@ -65,13 +67,10 @@ stands_new setup steps bus drivers ports links may bus_is driver_count made port
           let deeds : deeds_at (replicate setup.nodes []) node ≡ [] =
           get_or-replicate setup.nodes node [] [] less in
           subst (λ (j : List Entry). IsNode setup.version (slice_index_or setup.steps node 0) j
-          (deeds_at (replicate setup.nodes [])
-          node) x (slice_index_or ports node p) links (64 * node)) (sym journal)
+          (deeds_at (replicate setup.nodes []) node) x (slice_index_or ports node p) s) (sym journal)
           (subst (λ (ds : List Deed). IsNode setup.version (slice_index_or setup.steps node 0) [] ds x
-          (slice_index_or ports node p) links
-          (64 * node)) (sym deeds)
-          (subst (λ (r : Registers). IsNode setup.version (slice_index_or setup.steps node 0) [] [] x r links
-          (64 * node))
+          (slice_index_or ports node p) s) (sym deeds)
+          (subst (λ (r : Registers). IsNode setup.version (slice_index_or setup.steps node 0) [] [] x r s)
           (sym port) is));
       shown = λ node p less told.
           let journal : journal_at bus.journals node ≡ [] = ap (λ (b : BusValue). journal_at b.journals node) bus_is
@@ -96,8 +95,9 @@ pub stands_by_new : (setup : Setup) (steps : List ℕ) (bus : BusValue) (drivers
     (ports : List Registers) (links : List Deques) → IsSetup setup →
     setup.steps ≡ map (most_deeds setup.version) steps → length steps ≡ setup.nodes →
     bus ≡ new_bus setup.strikes setup.bits setup.nodes setup.steps →
-    length drivers ≡ setup.nodes → AreNew steps setup.steps setup.nodes drivers →
-    ports ≡ replicate setup.nodes (at_power_on setup.version) → AreNewLinks setup.nodes links →
+    length drivers ≡ setup.nodes → AreNew setup.version steps setup.steps setup.nodes drivers →
+    ports ≡ replicate setup.nodes (at_power_on setup.version) →
+    AreNewLinks setup.nodes (most_activations setup.version) links →
     StandsBy setup (run_now bus drivers ports links 0) (replicate setup.nodes [])
 stands_by_new setup steps bus drivers ports links may sizes many bus_is driver_count made ports_are fresh =
     let nodes = setup.nodes in let version = setup.version in record {

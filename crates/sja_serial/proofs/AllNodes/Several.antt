@@ -8,6 +8,8 @@ use Rattle.std.proofs.lemmas.List.{get_or_append_left, get_or-append_right, get_
 use Rattle.sja_link.specs.declared.entry.Entry.{Entry}
 use Rattle.sja_link.specs.declared.entry.Entry.TheVariants.{Up as Item}
 use Rattle.sja_link.specs.BitEntries.{entries_of_items, HasMore}
+use Rattle.sja_link.specs.Deques.{Deques}
+use Rattle.sja_link.specs.NewLinks.{new_links}
 use Rattle.sja_wire.specs.Wire.{journal_at}
 use Rattle.sja_regs.specs.declared.registers.Registers.{Registers}
 use Rattle.sja_driver.specs.declared.logged_driver.LoggedDriver.{LoggedDriver}
@@ -18,6 +20,10 @@ use Rattle.sja_driver.specs.Logs.{done_in}
 use Rattle.sja_serial.specs.Serial.{Setup, SerialValue, StandsAt, StandsBy, NodeDoes, setup_in}
 use Rattle.sja_regs.specs.Registers.{at_power_on}
 use Rattle.sja_driver.proofs.OneNode.Slices.{no_deeds}
+
+-- any links
+abbrev pub some_links : Deques
+some_links = new_links 0 0
 
 pub first_driver : (drivers : List LoggedDriver) → 0 < length drivers → LoggedDriver
 first_driver [] h = absurd (omega (arith, h))
@@ -82,7 +88,7 @@ pub setup_is : {setup : Setup} {r : SerialValue} {deeds : List (List Deed)} → 
 setup_is {setup} {r} h =
     let few = h.may.few.0 in let drivers = h.count.drivers in
     let version = (h.nodes 0 (first_driver r.drivers (omega (arith, few, drivers))) (at_power_on 1)
-    (omega (arith, few))).ported.version_is in λ i. let s : Setup = record {
+    some_links (omega (arith, few))).ported.version_is in λ i. let s : Setup = record {
       version = sym version i;
       bits = sym h.all_bits i;
       strikes = sym h.script i;

@@ -42,12 +42,12 @@ all_with (l ∷ accesses) (suc node) a less = ap (λ x. deeds_in l ∷ x) (all_w
 -- ---- a run whose driver of one node has another log of what is done, and other kept bytes
 
 -- what is said of a node doesn't hang on them
-node_entered : {version size : ℕ} {j : List Entry} {deeds : List Deed} {p : Registers} {links : List Deques} {base : ℕ}
-    (was : LoggedDriver) (log : WorkLog) (kept : KeptBytes) → IsNode version size j deeds was p links base →
-    IsNode version size j deeds (record was { kept = kept; log = record (log_of was) { done = log.done } }) p links base
+node_entered : {version size : ℕ} {j : List Entry} {deeds : List Deed} {p : Registers} {links : Deques}
+    (was : LoggedDriver) (log : WorkLog) (kept : KeptBytes) → IsNode version size j deeds was p links →
+    IsNode version size j deeds (record was { kept = kept; log = record (log_of was) { done = log.done } }) p links
 node_entered was log kept h = record {
   traced = record {
-    lawful = h.traced.lawful;
+    lawful = record { own = h.traced.lawful.own; few = h.traced.lawful.few };
     traces = record {
       released = h.traced.traces.released;
       opened = h.traced.traces.opened;
@@ -77,21 +77,24 @@ module _ {setup : Setup} {mid now : SerialValue} {node : ℕ} {answer : StepAnsw
     abbrev with_driver : SerialValue
     with_driver = record mid { drivers = slice_set mid.drivers node e.driver }
 
-    each : (m : ℕ) (d : LoggedDriver) (p : Registers) → m < setup.nodes →
+    each : (m : ℕ) (d : LoggedDriver) (p : Registers) (l : Deques) → m < setup.nodes →
         IsNode setup.version (slice_index_or setup.steps m 0) (journal_at mid.bus.journals m) (deeds_at deeds m)
-        (slice_index_or (slice_set mid.drivers node e.driver) m d) (slice_index_or mid.ports m p) mid.links (64 * m)
-    each m d p less = elim (cases_eq node m) [
+        (slice_index_or (slice_set mid.drivers node e.driver) m d) (slice_index_or mid.ports m p)
+        (slice_index_or mid.links m l)
+    each m d p l less = elim (cases_eq node m) [
       | inl same ↦
           let N : ℕ → LoggedDriver → Type 0 = λ k x. IsNode setup.version (slice_index_or setup.steps k 0)
-          (journal_at mid.bus.journals k) (deeds_at deeds k) x (slice_index_or mid.ports k p) mid.links (64 * k) in
+          (journal_at mid.bus.journals k) (deeds_at deeds k) x (slice_index_or mid.ports k p)
+          (slice_index_or mid.links k l) in
           subst (λ (k : ℕ). N k (slice_index_or (slice_set mid.drivers node e.driver) k d)) same
           (subst (N node) (sym (get_or-set_same mid.drivers node e.driver d few))
           (subst (N node) (sym (e.is d))
-          (node_entered (slice_index_or mid.drivers node d) (log_of e.driver) kept (h.nodes node d p there))))
+          (node_entered (slice_index_or mid.drivers node d) (log_of e.driver) kept (h.nodes node d p l there))))
       | inr differ ↦
           subst (λ (x : LoggedDriver). IsNode setup.version (slice_index_or setup.steps m 0)
-          (journal_at mid.bus.journals m) (deeds_at deeds m) x (slice_index_or mid.ports m p) mid.links (64 * m))
-          (sym (get_or-set_other mid.drivers node m e.driver d (λ s. differ (sym s)))) (h.nodes m d p less)
+          (journal_at mid.bus.journals m) (deeds_at deeds m) x (slice_index_or mid.ports m p)
+          (slice_index_or mid.links m l))
+          (sym (get_or-set_other mid.drivers node m e.driver d (λ s. differ (sym s)))) (h.nodes m d p l less)
     ]
 
     owner : (m : ℕ) (d : LoggedDriver) → m < setup.nodes →
@@ -115,10 +118,10 @@ module _ {setup : Setup} {mid now : SerialValue} {node : ℕ} {answer : StepAnsw
         journals = h.count.journals;
         drivers = length-set mid.drivers node e.driver ∙ h.count.drivers;
         ports = h.count.ports;
-        links = h.count.links;
       };
       deeds_count = h.deeds_count;
-      ids = h.ids;
+      ends = h.ends;
+      starts = h.starts;
       own = owner;
       nodes = each;
       shown = h.shown;

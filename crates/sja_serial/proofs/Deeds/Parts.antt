@@ -1,19 +1,25 @@
 -- Deeds of one step of a driver, one right after the other.
-use Rattle.std.proofs.Common.{◌≡◌, ◌+◌, ◌<◌, ◌++◌, ℕ, zero, suc, List, [], ◌∷◌, length, refl, ap, ◌∙◌, subst}
+use Rattle.std.proofs.Common.{◌≡◌, ◌+◌, ◌<◌, ◌++◌, ℕ, zero, suc, List, [], ◌∷◌, length, refl, sym, ap, ◌∙◌, subst}
 use Rattle.std.proofs.Common.{arith}
-use Rattle.std.proofs.lemmas.List.{get_or-set_same, length-append}
+use Rattle.std.proofs.lemmas.List.{get_or_default, get_or-set_same, length-append}
 use Rattle.std.specs.Prelude.{slice_index_or}
 use Rattle.sja_wire.specs.Wire.{journal_at}
 use Rattle.sja_script.specs.declared.step.Step.{Step}
 use Rattle.sja_script.specs.declared.step_answer.StepAnswer.{StepAnswer}
 use Rattle.sja_driver.specs.Accesses.{Access, accesses_at, deeds_in}
-use Rattle.sja_driver.specs.Deeds.{Deed, deeds_at, with_deeds}
+use Rattle.sja_driver.specs.Deeds.{Deed, deeds_at, is_active, with_deeds}
+use Rattle.sja_driver.specs.AnyDrivers.{is_out}
+use Rattle.sja_driver.specs.declared.logged_driver.LoggedDriver.{LoggedDriver}
+use Rattle.sja_driver.specs.LoggedDrivers.{driver_of, IsLawful}
+use Rattle.sja_driver.specs.Writes.{write_steps}
+use Rattle.sja_regs.specs.declared.registers.Registers.{Registers}
+use Rattle.sja_regs.specs.Registers.{at_power_on}
 use Rattle.sja_log.specs.Registering.{IsPortDeed}
 use Rattle.sja_log.specs.Registering.LeadOn.{nothing_more, one_more}
 use Rattle.sja_serial.specs.Inside.Accessing.{DoesDeeds}
 use Rattle.sja_serial.specs.Serial.{Setup, SerialValue, StandsAt, StandsBy, all_deeds}
 use Rattle.sja_serial.specs.Stepping.{DoesDeed, HasDeedLeft}
-use Rattle.sja_serial.proofs.AllNodes.Several.{deeds_twice, does_none, more_both}
+use Rattle.sja_serial.proofs.AllNodes.Several.{deeds_twice, does_none, more_both, some_links}
 
 -- the deeds of one node
 pub all_at : (accesses : List (List Access)) (node : ℕ) →
@@ -21,6 +27,27 @@ pub all_at : (accesses : List (List Access)) (node : ℕ) →
 all_at [] node = refl
 all_at (l ∷ accesses) zero = refl
 all_at (l ∷ accesses) (suc node) = all_at accesses node
+
+-- a driver of a run is lawful
+pub driver_lawful : {setup : Setup} {was : SerialValue} {deeds : List (List Deed)} (node : ℕ) (driver : LoggedDriver) →
+    StandsAt setup was deeds → node < setup.nodes → driver ≡ slice_index_or was.drivers node driver → IsLawful driver
+driver_lawful node driver h there is = subst (λ (d : LoggedDriver). IsLawful d) (sym is)
+    (h.nodes node driver (at_power_on 1) some_links there).traced.lawful
+
+-- the steps that a write is, by the driver of a node and by its port, are those by its deeds
+pub steps_there : {setup : Setup} {was : SerialValue} {accesses : List (List Access)} (node : ℕ)
+    (driver : LoggedDriver) (port : Registers) → StandsBy setup was accesses → node < setup.nodes →
+    driver ≡ slice_index_or was.drivers node driver → port ≡ slice_index_or was.ports node port →
+    (p : Registers) (address value : ℕ) → write_steps port (is_out (driver_of driver)) address value
+    ≡ write_steps (slice_index_or was.ports node p) (is_active (deeds_in (accesses_at accesses node))) address value
+steps_there {setup} {was} {accesses} node driver port h there driver_is port_is p address value =
+    let near : node < length was.ports = let k = h.stands.count.ports in omega (arith, k, there) in
+    let at : port ≡ slice_index_or was.ports node p = port_is ∙ get_or_default was.ports node port p near in
+    let out : is_out (driver_of driver) ≡ is_active (deeds_in (accesses_at accesses node)) =
+    ap (λ (d : LoggedDriver). is_out (driver_of d)) driver_is
+    ∙ sym (h.stands.nodes node driver (at_power_on 1) some_links there).traced.traces.out
+    ∙ ap is_active (all_at accesses node) in
+    λ i. write_steps (at i) (out i) address value
 
 module _ {setup : Setup} {was : SerialValue} {accesses : List (List Access)} {node : ℕ} (there : node < setup.nodes)
   where

@@ -1,18 +1,18 @@
 -- Bits of a run that are run at once, however many they are: each of them is a bit of the run.
-use Rattle.std.proofs.Common.{◌≡◌, ℕ, zero, suc, ◌+◌, ◌-◌, ◌*◌, ◌<◌, ◌≤◌}
+use Rattle.std.proofs.Common.{◌≡◌, ℕ, zero, suc, ◌+◌, ◌-◌, ◌<◌, ◌≤◌}
 use Rattle.std.proofs.Common.{List, [], length, refl, sym, ◌∙◌, subst, arith}
 use Rattle.std.specs.Prelude.{◌≢◌, None, slice_index_or}
 use Rattle.std.proofs.lemmas.List.{ext_get_or}
 use Rattle.sja_link.specs.declared.entry.Entry.{Entry}
 use Rattle.sja_link.specs.Accounts.{Account}
-use Rattle.sja_link.specs.Deques.{Deques, Lies}
+use Rattle.sja_link.specs.Deques.{Deques, Lies, AreAlike, up_on}
 use Rattle.lemmas.specs.Related.{EachRelated}
 use Rattle.lemmas.proofs.Lists.{some_of}
 use Rattle.sja_regs.specs.Registers.{at_power_on}
 use Rattle.sja_bus.specs.Boards.{HasOrders, WasTold, WasKept}
 use Rattle.sja_wire.specs.Buses.{EachJournal, KeepsAll, EachUntold}
 use Rattle.sja_link.specs.BitEntries.{MayHaveItems}
-use Rattle.sja_link.specs.Links.{per_node, Kept}
+use Rattle.sja_link.specs.Links.{Kept}
 use Rattle.sja_bus.specs.Stretches.{with_recessive, IsStretch}
 use Rattle.sja_wire.specs.Wire.{journal_at}
 use Rattle.sja_driver.specs.Deeds.{Deed, given_in, deeds_of, deeds_at}
@@ -20,7 +20,6 @@ use Rattle.sja_driver.proofs.Trace.Stepping.{given_taken}
 use Rattle.sja_serial.specs.Bits.{TakesBits}
 use Rattle.sja_serial.specs.Inside.Going.{TakesAtOnce, run_now}
 use Rattle.sja_serial.specs.Serial.{Setup, SerialValue, StandsAt}
-use Rattle.sja_log.proofs.OneNode.Gathered.{no_link}
 use Rattle.sja_driver.proofs.Account.Dry.{none_taken}
 use Rattle.sja_serial.proofs.WholeRun.GoingOn.{stands_bits}
 use Rattle.sja_serial.proofs.OneNode.Standing.{none_untold}
@@ -30,7 +29,7 @@ module _ (setup : Setup) (r n : SerialValue) (deeds : List (List Deed)) (h : Sta
     (right : n.bus.fault ≡ None) (script : n.bus.script ≡ r.bus.script)
     (room : n.bus.steps ≡ r.bus.steps) (journals : length n.bus.journals ≡ length r.bus.journals)
     (drivers : n.drivers ≡ r.drivers) (ports : n.ports ≡ r.ports)
-    (sames : EachRelated (λ (a b : Deques). b.link ≡ a.link) r.links n.links)
+    (sames : EachRelated AreAlike r.links n.links)
     (kept : KeepsAll Lies r.bus.journals n.bus.journals r.links n.links) where
   -- no item waited
   none_came : EachJournal MayHaveItems r.bus.journals n.bus.journals → n.bus.journals ≡ r.bus.journals
@@ -38,21 +37,22 @@ module _ (setup : Setup) (r n : SerialValue) (deeds : List (List Deed)) (h : Sta
       let c = h.count.journals in let less : m < setup.nodes = omega (arith, c, few) in
       let d = some_of r.drivers m (let k = h.count.drivers in omega (arith, k, less)) in
       let j = journal_at r.bus.journals m in let ds = deeds_at deeds m in
-      let node = h.nodes m d (at_power_on setup.version) less in
+      let l = some_of r.links m (let k = h.ends.count in omega (arith, k, less)) in
+      let node = h.nodes m d (at_power_on setup.version) l less in
       let acc : ℕ → Account = λ a. record { got = node.linked.holds.got a; given = given_in (deeds_of ds (suc a)) } in
       none_taken j (journal_at n.bus.journals m) (items m few) (λ a. given_in (deeds_of ds (suc a)))
-      (λ a small. given_taken ds j (suc a) (node.in_time.when (suc a)))
-      (λ a. (slice_index_or n.links (64 * m + a) no_link).up)
-      (λ a small. (kept m acc few node.linked.holds.kept a no_link small).1))))
+      (λ a. given_taken ds j (suc a) (node.in_time.when (suc a)))
+      (λ a. up_on (slice_index_or n.links m l) (suc a))
+      (λ a. (kept m l acc few node.linked.holds.kept a).up))))
 
   -- the links stand for the journals as they were
   kept_back : (count : ℕ) → n.bus.journals ≡ with_recessive count r.bus.journals →
       KeepsAll Lies r.bus.journals r.bus.journals r.links n.links
-  kept_back count grown m acc few before =
-      let now = subst (λ (l : List (List Entry)). Kept Lies (journal_at l m) n.links (per_node * m) acc) grown
-      (kept m acc few before) in
-      subst (λ (l : List (List Entry)). Kept Lies (journal_at l m) n.links (per_node * m) acc)
-      (with_none r.bus.journals) (keeps_still count 0 r.bus.journals n.links m acc few now)
+  kept_back count grown m l acc few before =
+      let end = slice_index_or n.links m l in
+      let P : List (List Entry) → Type 0 = λ js. Kept Lies (journal_at js m) end acc in
+      subst P (with_none r.bus.journals)
+      (keeps_still count 0 r.bus.journals end m acc few (subst P grown (kept m l acc few before)))
 
   -- the run after them is this one
   is_run : (count : ℕ) → n.bus.run ≡ r.bus.run + count → n.bus.left + count ≡ r.bus.left → n.bits ≡ r.bits + count →

@@ -1,12 +1,13 @@
 -- A run whose links a call has as a slice.
-use Rattle.std.proofs.Common.{◌≡◌, ℕ, ◌<◌, List, sym, ◌∙◌, subst}
+use Rattle.std.proofs.Common.{◌≡◌, ℕ, ◌<◌, List, length, sym, ◌∙◌, subst}
 use Rattle.sja_link.specs.Deques.{Deques}
+use Rattle.sja_link.specs.Links.{AreEnds}
 use Rattle.sja_regs.specs.declared.registers.Registers.{Registers}
 use Rattle.sja_wire.specs.Buses.{BusValue}
 use Rattle.sja_wire.specs.Lawful.{IsBusRun}
 use Rattle.sja_driver.specs.declared.logged_driver.LoggedDriver.{LoggedDriver}
 use Rattle.sja_driver.specs.Deeds.{Deed}
-use Rattle.sja_serial.specs.Serial.{Setup, SerialValue, StandsAt}
+use Rattle.sja_serial.specs.Serial.{Setup, SerialValue, StandsAt, IsRunOf}
 use Rattle.sja_serial.specs.Inside.Going.{run_now}
 
 module _ {bus : BusValue} {drivers : List LoggedDriver} {ports : List Registers}
@@ -20,6 +21,11 @@ module _ {bus : BusValue} {drivers : List LoggedDriver} {ports : List Registers}
   pub stands_there : (setup : Setup) (deeds : List (List Deed)) → StandsAt setup r deeds →
       StandsAt setup (run_now bus drivers ports slice bits) deeds
   stands_there setup deeds = subst (λ (x : SerialValue). StandsAt setup x deeds) (sym run_is)
+
+  -- the slice has the ends of its nodes' links
+  pub ends_there : {setup : Setup} → IsRunOf setup r → AreEnds (λ (s : Deques). s.node) (length bus.journals) slice
+  ends_there {setup} run = let h = stands_there setup run.0 run.1 in
+      subst (λ (n : ℕ). AreEnds (λ (s : Deques). s.node) n slice) (sym h.count.journals) h.ends
 
   pub left_there : (setup : Setup) → r.bits < setup.bits → bits < setup.bits
   left_there setup = subst (λ (x : SerialValue). x.bits < setup.bits) (sym run_is)

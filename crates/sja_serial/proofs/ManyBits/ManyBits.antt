@@ -1,8 +1,7 @@
 -- Bits that a bus ran one after another: each of them is a bit of the run.
 use Rattle.std.proofs.Common.{◌≡◌, ℕ, ◌+◌, ◌≤◌, Bool, true, false, List, [], length, refl, sym, ap, ◌∙◌, subst, arith}
 use Rattle.std.specs.Prelude.{None}
-use Rattle.sja_link.specs.declared.bus_end.BusEnd.{Ghosts as Ends}
-use Rattle.sja_link.specs.Deques.{Deques, Lies}
+use Rattle.sja_link.specs.Deques.{Deques}
 use Rattle.sja_bus.specs.declared.board.Board.{Ghosts as Ports}
 use Rattle.sja_wire.specs.declared.bus_fault.BusFault.{BusFault}
 use Rattle.sja_bus.specs.declared.serial_board.SerialBoard.{SerialBoard}
@@ -20,6 +19,7 @@ use Rattle.sja_serial.specs.Serial.{Setup, SerialValue, StandsAt, IsRunOf}
 use Rattle.sja_serial.specs.Inside.Going.{run_now}
 use Rattle.sja_serial.specs.UntilTold.{NoneTold}
 use Rattle.sja_serial.specs.Bits.TakesBits.{no_bit, one_more}
+use Rattle.sja_serial.proofs.OneNode.Alike.{ends}
 use Rattle.sja_serial.proofs.ManyBits.BitRun.{cuts_of, takes_bit}
 use Rattle.sja_serial.proofs.WholeRun.GoingOn.{bits_run}
 use Rattle.sja_serial.proofs.ManyBits.Borrowed.{run_is, lawful_there}
@@ -30,16 +30,7 @@ use Rattle.sja_serial.proofs.ManyBits.Unstopped.{never_stops}
 abbrev pub SerialMoment : Type 0
 SerialMoment = Moment Deques SerialBoard
 
--- the ends of its links, and its ports
-abbrev pub ends : Ends Deques
-ends = record {
-  link = λ (s : Deques). s.link;
-  stands = Lies;
-  same = λ (a b : Deques). b.link ≡ a.link;
-  full = λ (s : Deques). length s.down ≡ 22;
-  dry = λ (s : Deques). s.up ≡ [];
-}
-
+-- its ports
 abbrev pub ports : Ports SerialBoard
 ports = record {
   ports = λ (b : SerialBoard). length b.ports.items;
@@ -145,7 +136,7 @@ module _ (setup : Setup) (deeds : List (List Deed)) (drivers : List LoggedDriver
     -- none of them broke off, where no more were asked for than are left
     never_breaks : (was now : SerialMoment) (count : ℕ) (f : BusFault) → IsThere was →
         was.bus.run + count ≤ setup.bits →
-        BreaksOff ends.same ends.stands ends.full ports.orders_are One (Before first) count was now f → ⊥
+        BreaksOff ends ports.orders_are One (Before first) count was now f → ⊥
     never_breaks was now count f t few b =
         let m = there_still was b.mid b.run b.bits t in
         let run = many_run was b.mid b.run b.bits t in
@@ -180,8 +171,7 @@ module _ (bus : BusValue) (drivers : List LoggedDriver) (board : SerialBoard) (s
 
   -- none of its bits broke off
   pub no_break : (now : SerialMoment) (f : BusFault) →
-      (bus.fault ≡ None →
-      BreaksOff ends.same ends.stands ends.full ports.orders_are One (Before was) most was now f) → ⊥
+      (bus.fault ≡ None → BreaksOff ends ports.orders_are One (Before was) most was now f) → ⊥
   no_break now f breaks =
       let t = there run.0 run.1 in
       never_breaks setup run.0 drivers kind was was now most f t

@@ -1,19 +1,19 @@
 -- Recessive bits that are run at once while nothing is taken: each of them is a bit of the run.
-use Rattle.std.proofs.Common.{◌≡◌, ℕ, zero, suc, ◌+◌, ◌-◌, ◌*◌, ◌<◌, ◌≤◌, Bool, List, []}
+use Rattle.std.proofs.Common.{◌≡◌, ℕ, zero, suc, ◌+◌, ◌-◌, ◌<◌, ◌≤◌, Bool, List, []}
 use Rattle.std.proofs.Common.{◌∷◌, ◌++◌, length, refl, sym, ap, ◌∙◌, subst, append-nil, arith}
 use Rattle.std.specs.Prelude.{false, slice_index_or}
 use Rattle.std.proofs.lemmas.List.{length-map}
-use Rattle.std.proofs.lemmas.Slice.Zip.{AllZip-long}
 use Rattle.sja_link.specs.declared.entry.Entry.{Entry}
+use Rattle.sja_link.specs.Sizes.{most_activations}
 use Rattle.sja_link.specs.Accounts.{Account, account}
-use Rattle.sja_link.specs.Deques.{Deques, Lies}
+use Rattle.sja_link.specs.Deques.{Deques, Lies, AreAlike}
 use Rattle.sja_link.specs.Lists.{Lists}
 use Rattle.lemmas.specs.Related.{EachRelated}
 use Rattle.lemmas.proofs.Related.{each_refl}
 use Rattle.sja_regs.specs.declared.registers.Registers.{Registers}
 use Rattle.sja_bus.specs.Boards.{HasOrders, WasTold, WasKept}
 use Rattle.sja_wire.specs.Buses.{KeepsAll, untold_at}
-use Rattle.sja_link.specs.Links.{per_node, Kept}
+use Rattle.sja_link.specs.Links.{Kept}
 use Rattle.sja_bus.specs.Stretches.{recessive_bits, with_recessive, IsStretch}
 use Rattle.sja_wire.specs.Wire.{journal_at}
 use Rattle.sja_bus.proofs.Resting.QuietBits.{longer_at, account_still}
@@ -28,7 +28,7 @@ use Rattle.sja_log.specs.Registering.{IsPortBit}
 use Rattle.sja_serial.specs.Serial.{Setup, SerialValue, StandsAt}
 use Rattle.sja_serial.specs.Inside.Going.{run_now}
 use Rattle.sja_driver.specs.Shown.{ShowsRecord}
-use Rattle.sja_driver.proofs.OneNode.Slices.{numbered_still}
+use Rattle.sja_serial.proofs.OneNode.Alike.{alike_refl, still_ends, still_starts}
 use Rattle.sja_serial.proofs.ManyBits.BitRun.{cuts_of, takes_bit}
 use Rattle.sja_log.proofs.OneNode.Gathered.{linked_after, node_with}
 
@@ -44,13 +44,13 @@ account_at n journals m a h few = ap (λ j. account j a h) (longer_at n journals
     ∙ account_still n (journal_at journals m) a h
 
 -- they stand for the journals with more of them, or fewer
-pub keeps_still : (n k : ℕ) (journals : List (List Entry)) (links : List Deques) (m : ℕ) (h : ℕ → Account) →
+pub keeps_still : (n k : ℕ) (journals : List (List Entry)) (end : Deques) (m : ℕ) (h : ℕ → Account) →
     m < length journals →
-    Kept Lies (journal_at (with_recessive n journals) m) links (per_node * m) h →
-    Kept Lies (journal_at (with_recessive k journals) m) links (per_node * m) h
-keeps_still n k journals links m h few kept a d near =
+    Kept Lies (journal_at (with_recessive n journals) m) end h →
+    Kept Lies (journal_at (with_recessive k journals) m) end h
+keeps_still n k journals end m h few kept a =
     let same = account_at n journals m (suc a) (h a) few ∙ sym (account_at k journals m (suc a) (h a) few) in
-    subst (λ (x : Lists). Lies (slice_index_or links (per_node * m + a) d) x) same (kept a d near)
+    subst (λ (x : Lists). Lies end (suc a) x) same (kept a)
 
 -- a run after so many of them, with these links, of which this is untold
 abbrev pub run_at : SerialValue → List Deques → List Bool → ℕ → SerialValue
@@ -68,9 +68,9 @@ run_at r links untold i = run_now (record {
 
 module _ (setup : Setup) (r : SerialValue) (deeds : List (List Deed)) (h : StandsAt setup r deeds)
     (links : List Deques)
-    (sames : EachRelated (λ (a b : Deques). b.link ≡ a.link) r.links links)
+    (sames : EachRelated AreAlike r.links links)
     (kept : KeepsAll Lies r.bus.journals r.bus.journals r.links links) where
-  module _ (m : ℕ) (d : LoggedDriver) (p : Registers) (less : m < setup.nodes) where
+  module _ (m : ℕ) (d : LoggedDriver) (p : Registers) (l : Deques) (less : m < setup.nodes) where
     abbrev j : List Entry
     j = journal_at r.bus.journals m
 
@@ -78,13 +78,13 @@ module _ (setup : Setup) (r : SerialValue) (deeds : List (List Deed)) (h : Stand
     ds = deeds_at deeds m
 
     was : IsNode setup.version (slice_index_or setup.steps m 0) j ds (slice_index_or r.drivers m d)
-        (slice_index_or r.ports m p) r.links (64 * m)
-    was = h.nodes m d p less
+        (slice_index_or r.ports m p) (slice_index_or r.links m l)
+    was = h.nodes m d p l less
 
     node_still : IsNode setup.version (slice_index_or setup.steps m 0) j ds (slice_index_or r.drivers m d)
-        (slice_index_or r.ports m p) links (64 * m)
+        (slice_index_or r.ports m p) (slice_index_or links m l)
     node_still = node_with was was.traced (linked_after (slice_index_or r.drivers m d) was.linked.holds
-        (λ acc. kept m acc (let c = h.count.journals in omega (arith, c, less)))
+        (λ acc. kept m l acc (let c = h.count.journals in omega (arith, c, less)))
         (λ a. given_taken ds j a (was.in_time.when a)) was.linked.level)
 
   -- it stands where it stood, where nothing more is told
@@ -99,17 +99,16 @@ module _ (setup : Setup) (r : SerialValue) (deeds : List (List Deed)) (h : Stand
       journals = ap (λ l. length l) (with_none r.bus.journals) ∙ h.count.journals;
       drivers = h.count.drivers;
       ports = h.count.ports;
-      links = AllZip-long (λ (a b : Deques). b.link ≡ a.link) r.links links sames ∙ h.count.links;
     };
     deeds_count = h.deeds_count;
     may = h.may;
     steps = h.steps;
-    ids = numbered_still r.links links h.ids sames;
+    ends = still_ends h.ends sames;
+    starts = still_starts (most_activations setup.version) r.links links h.starts sames;
     own = h.own;
-    nodes = λ m d p less. subst (λ (l : List (List Entry)). IsNode setup.version (slice_index_or setup.steps m 0)
-        (journal_at l m)
-        (deeds_at deeds m) (slice_index_or r.drivers m d) (slice_index_or r.ports m p) links (64 * m)) same
-        (node_still m d p less);
+    nodes = λ m d p l less. subst (λ (js : List (List Entry)). IsNode setup.version (slice_index_or setup.steps m 0)
+        (journal_at js m) (deeds_at deeds m) (slice_index_or r.drivers m d) (slice_index_or r.ports m p)
+        (slice_index_or links m l)) same (node_still m d p l less);
     shown = λ m p less none. subst (λ (l : List (List Entry)). ShowsRecord (journal_at l m)
         (slice_index_or r.ports m p)) same (h.shown m p less (told m less none));
   }
@@ -135,8 +134,8 @@ module _ (setup : Setup) (r : SerialValue) (deeds : List (List Deed)) (h : Stand
         let b = length-map r.bus.journals (λ j. j ++ recessive_bits (suc i)) in
         takes_bit setup (at r.bus.untold i) (at untold (suc i)) deeds stood h.right refl refl (omega arith)
         (omega (arith, early, most)) (omega (arith, a, b)) refl (omega arith) refl
-        (λ m acc few kept. keeps_still i (suc i) r.bus.journals links m acc (inside i m few) kept)
-        (each_refl (λ (x y : Deques). y.link ≡ x.link) (λ x. refl) links) (stretch.bits i early)
+        (λ m l acc few kept. keeps_still i (suc i) r.bus.journals (slice_index_or links m l) m acc (inside i m few)
+        kept) (each_refl AreAlike alike_refl links) (stretch.bits i early)
         (cuts_of (stretch.lawful i (omega (arith, early)))) (stretch.lawful (suc i) early)
 
     stands : (i : ℕ) → i ≤ count → StandsAt setup (at r.bus.untold i) deeds

@@ -1,7 +1,8 @@
 -- No bit of a run breaks off: nothing waits to be taken, no journal is full, and no link gives back what is put there.
-use Rattle.std.proofs.Common.{◌≡◌, ℕ, suc, ◌+◌, ◌*◌, ◌<◌, ◌≤◌, Bool, true, false, List, [], ◌∷◌, ◌++◌, length, sym}
+use Rattle.std.proofs.Common.{◌≡◌, ℕ, suc, ◌+◌, ◌-◌, ◌<◌, ◌≤◌, Bool, true, false, List, [], ◌∷◌, ◌++◌, length, sym}
 use Rattle.std.proofs.Common.{ap, ◌∙◌, subst, append_assoc, inl, inr, arith}
 use Rattle.std.specs.Prelude.{◌⊎◌, None, slice_index_or}
+use Rattle.std.proofs.lemmas.Bool.{cases_eq, cases_lt}
 use Rattle.std.proofs.lemmas.List.{length-append, length-replicate}
 use Rattle.can_bits.specs.declared.level.Level.TheVariants.{Recessive}
 use Rattle.sja_link.specs.NodeWords.{received}
@@ -9,8 +10,11 @@ use Rattle.sja_link.specs.declared.up.Up.{Up}
 use Rattle.sja_link.specs.declared.entry.Entry.{Entry}
 use Rattle.sja_link.specs.declared.entry.Entry.TheVariants.{Bit, Abort}
 use Rattle.sja_link.specs.Accounts.{Account, account}
-use Rattle.sja_link.specs.Deques.{Deques, Lies}
-use Rattle.sja_link.specs.Parts.{part}
+use Rattle.sja_link.specs.Deques.{Deques, Lies, up_on}
+use Rattle.sja_link.specs.OutOfOrder.{read_in}
+use Rattle.sja_link.specs.Lists.{Lists}
+use Rattle.sja_link.specs.Looking.{one_if}
+use Rattle.sja_link.specs.Parts.{entry_at, part}
 use Rattle.sja_link.specs.Carried.{taken_of}
 use Rattle.sja_link.specs.Places.{place_of}
 use Rattle.sja_link.proofs.JournalEntries.Entering.{bits_counted}
@@ -32,28 +36,38 @@ use Rattle.sja_wire.specs.Reasons.StopsBit.{spent, not_taken, not_aborted, broke
 use Rattle.sja_bus.specs.Stretches.{recessive_bits, IsFullInStretch}
 use Rattle.sja_wire.specs.Wire.{journal_at}
 use Rattle.sja_driver.specs.declared.logged_driver.LoggedDriver.{LoggedDriver}
-use Rattle.sja_driver.specs.Deeds.{Deed, given_in, deeds_of, deeds_at}
+use Rattle.sja_driver.specs.Deeds.{Deed, given_in, deeds_of, deeds_at, is_active}
 use Rattle.sja_driver.specs.AnyDrivers.{held_of}
-use Rattle.sja_driver.specs.LoggedDrivers.{node_of, driver_of, log_of, ended_of}
+use Rattle.sja_driver.specs.LoggedDrivers.{driver_of, log_of}
 use Rattle.sja_driver.specs.Logs.{left_in, leaves, released_of, releases_in}
 use Rattle.sja_driver.proofs.Trace.Stepping.{given_taken}
 use Rattle.sja_log.specs.Nodes.{IsNode}
 use Rattle.sja_serial.specs.Serial.{Setup, SerialValue, StandsAt, IsRunOf}
 use Rattle.sja_serial.specs.Inside.Going.{run_now}
-use Rattle.sja_log.proofs.OneNode.Gathered.{no_link}
 use Rattle.sja_driver.proofs.Account.Dry.{none_beyond, none_taken, none_taken_own}
 use Rattle.sja_driver.proofs.Step.FewLeftDown.{few_left_down}
-use Rattle.sja_driver.proofs.Account.Own.{AreOwn}
+use Rattle.sja_driver.proofs.Account.Own.{AreOwn, own_stopped}
 use Rattle.sja_serial.proofs.ManyBits.Borrowed.{stands_there, left_there, lawful_there}
 use Rattle.sja_driver.proofs.OneNode.Room.{has_room}
-use Rattle.sja_log.proofs.OneNode.Done.{opened_most}
 use Rattle.lemmas.proofs.Lists.{none_back, some_of}
+use Rattle.sja_link.proofs.JournalEntries.Entering.{of_part_later}
+use Rattle.sja_link.proofs.JournalEntries.Openings.{Opens, part_opens}
+use Rattle.sja_link.proofs.QueuedLinks.Lying.{down_lies}
+use Rattle.sja_serial.proofs.OneNode.Alike.{ends}
 use Rattle.sja_link.proofs.Growing.Taking.{adds, some_none}
 use Rattle.sja_link.proofs.Growing.Ordered.{no_off_put}
 
 abort_own : (changed : Bool) → AreOwn (abort_as changed)
 abort_own true = (tt, tt)
 abort_own false = tt
+
+one_most : (b : Bool) → one_if b ≤ 1
+one_most true = omega arith
+one_most false = omega arith
+
+-- what was taken in an activation that has begun begins with its start
+start_first : {p : List Entry} → Opens p → taken_of p ≡ [] → ⊥
+start_first o none = let e = ap taken_of (sym o.opens) ∙ none in cc
 
 module _ (setup : Setup) (r : SerialValue) (deeds : List (List Deed)) (h : StandsAt setup r deeds)
     (left : r.bits < setup.bits)
@@ -65,34 +79,34 @@ module _ (setup : Setup) (r : SerialValue) (deeds : List (List Deed)) (h : Stand
     driver : LoggedDriver
     driver = some_of r.drivers m (let c = h.count.drivers in let l = less in omega (arith, c, l))
 
+    links : Deques
+    links = some_of r.links m (let c = h.ends.count in let l = less in omega (arith, c, l))
+
     node : IsNode setup.version (slice_index_or setup.steps m 0) (journal_at r.bus.journals m) (deeds_at deeds m)
-        (slice_index_or r.drivers m driver) (slice_index_or r.ports m (at_power_on setup.version)) r.links (64 * m)
-    node = h.nodes m driver (at_power_on setup.version) less
+        (slice_index_or r.drivers m driver) (slice_index_or r.ports m (at_power_on setup.version))
+        (slice_index_or r.links m links)
+    node = h.nodes m driver (at_power_on setup.version) links less
 
     abbrev acc : ℕ → Account
     acc a = record { got = node.linked.holds.got a; given = given_in (deeds_of (deeds_at deeds m) (suc a)) }
 
-    kept_before : Kept Lies (journal_at r.bus.journals m) r.links (64 * m) acc
+    kept_before : Kept Lies (journal_at r.bus.journals m) (slice_index_or r.links m links) acc
     kept_before = node.linked.holds.kept
 
     abbrev given : ℕ → List Up
     given a = given_in (deeds_of (deeds_at deeds m) (suc a))
 
-    before : (a : ℕ) → a < 64 → given a ≡ taken_of (part (journal_at r.bus.journals m) (suc a))
-    before a small = given_taken (deeds_at deeds m) (journal_at r.bus.journals m) (suc a) (node.in_time.when (suc a))
+    before : (a : ℕ) → given a ≡ taken_of (part (journal_at r.bus.journals m) (suc a))
+    before a = given_taken (deeds_at deeds m) (journal_at r.bus.journals m) (suc a) (node.in_time.when (suc a))
 
     entries : HasFree 4 (room_in r.bus.run (slice_index_or setup.steps m 0)) (journal_at r.bus.journals m)
     entries =
         let j = journal_at r.bus.journals m in let ds = deeds_at deeds m in
         let within = node.traced.within in
-        let opened = opened_most ds (driver_of (slice_index_or r.drivers m driver))
-        (log_of (slice_index_or r.drivers m driver)) (node_of (slice_index_or r.drivers m driver))
-        (ended_of (slice_index_or r.drivers m driver)) node.traced.traces node.traced.lawful in
-        let begun = node.linked.level.begun in
         let bits : (place_of j).bits ≡ r.bus.run = bits_counted j ∙ was.wired.count m few in
         has_room j ds (slice_index_or r.ports m (at_power_on setup.version)) r.bus.run
         (slice_index_or setup.steps m 0) node.counted (was.lawful m few) node.traced.traces.answered.gives within
-        (omega (arith, opened, begun)) (omega (arith, bits))
+        (omega (arith, bits))
 
     -- there is room for an abort, the bit, a verdict and bus-off
     pub room : HasFree 4 (room_for (r.bus.run + r.bus.left) r.bus.steps m) (journal_at r.bus.journals m)
@@ -105,83 +119,105 @@ module _ (setup : Setup) (r : SerialValue) (deeds : List (List Deed)) (h : Stand
 
     -- an item that was refused would wait
     nothing_shown : (t : List Entry) (items : MayHaveItems (journal_at r.bus.journals m) t) (item : Up) (up : List Up) →
-        stops_of t < 64 →
         given (stops_of t) ≡ (taken_of (part t (suc (stops_of t))) ++ item ∷ []) ++ up → ⊥
-    nothing_shown t items item up small shown =
+    nothing_shown t items item up shown =
         some_none item up (none_back (adds (journal_at r.bus.journals m) items.items (suc (stops_of t))) (item ∷ up)
-        (none_beyond (journal_at r.bus.journals m) t items given before (stops_of t) (item ∷ up) small
+        (none_beyond (journal_at r.bus.journals m) t items given before (stops_of t) (item ∷ up)
         (shown ∙ append_assoc (taken_of (part t (suc (stops_of t)))) (item ∷ []) up)))
 
+    -- the link in use is that of the activation that is open: nothing was given on a later one, and something was on it
+    in_use : (opened j : List Entry) (end : Deques) → stops_of opened ≡ stops_of (journal_at r.bus.journals m) →
+        (b : GivesBack ends opened j end) → Kept Lies opened end acc → b.last.activation ≡ read_in j
+    in_use opened j end same b kept =
+        let ended = node.linked.level.ended in let begun = node.linked.level.begun in
+        let one = one_most (is_active (deeds_at deeds m)) in
+        let stood = b.stood acc kept in let a = stops_of j in let s = b.last in
+        let opens = b.is_open in let stops = b.ended in
+        elim (cases_lt s.activation (suc a)) [
+          | inl early ↦
+              let o = part_opens j (suc a) (omega arith) (omega (arith, opens)) in
+              let none = ap (λ (l : Lists). l.taken) ((stood a).later early) in
+              absurd (start_first o none)
+          | inr late ↦ elim (cases_eq s.activation (suc a)) [
+            | inl e ↦ e
+            | inr differ ↦
+                let n = s.activation - 1 in
+                let e : s.activation ≡ suc n = omega (arith, late) in
+                let some = (stood n).begun (sym e) (omega (arith, late, differ)) in
+                let none = ap taken_of (of_part_later entry_at (journal_at r.bus.journals m) (suc n)
+                (omega (arith, begun, ended, one, same, stops, late, differ))) in
+                absurd (some (before n ∙ none))
+          ]
+        ]
+
     -- no link is full: no bus-off lies there, and fewer than 22 messages fit in 64 bytes
-    not_stuck : {alike : Deques → Deques → Type 0} (opened j : List Entry) (between : List Deques) →
-        Kept Lies opened between (64 * m) acc →
-        GivesBack alike Lies (λ (s : Deques). length s.down ≡ 22) opened j between (64 * m) → ⊥
-    not_stuck opened j between kept b =
-        let ds = deeds_at deeds m in let d = slice_index_or r.drivers m driver in
-        let lies : Lies b.end (account j (suc b.place) (acc b.place)) = b.stood acc kept in
-        let few = few_left_down j (suc b.place) (received b.found) ds
-        (node.linked.holds.got b.place) b.end.down b.end.up
-        (released_of (releases_in (log_of d)) (suc b.place))
-        (slice_index_or (leaves (left_in (log_of d)) (held_of (driver_of d))) b.place []) b.verdicts
-        (no_off_put (part j (suc b.place)) b.on) lies.0
-        (node.linked.holds.told b.place b.few) lies.1 node.traced.traces.answered.gives
-        (sym (node.traced.traces.released (suc b.place))) in
-        let full = b.is_full in omega (arith, few, full)
+    not_stuck : (opened j : List Entry) (end : Deques) → stops_of opened ≡ stops_of (journal_at r.bus.journals m) →
+        Kept Lies opened end acc → GivesBack ends opened j end → ⊥
+    not_stuck opened j end same kept b =
+        let ds = deeds_at deeds m in let d = slice_index_or r.drivers m driver in let a = stops_of j in
+        let at = in_use opened j end same b kept in
+        let lies : Lies b.last (suc a) (account j (suc a) (acc a)) = b.stood acc kept a in
+        let few = few_left_down j (suc a) (received b.found) ds
+        (node.linked.holds.got a) b.last.down (up_on b.last (suc a))
+        (released_of (releases_in (log_of d)) (suc a))
+        (slice_index_or (leaves (left_in (log_of d)) (held_of (driver_of d))) a []) b.verdicts
+        (no_off_put (part j (suc a)) b.on) (down_lies b.last (suc a) (account j (suc a) (acc a)) (sym at) lies)
+        (node.linked.holds.told a) lies.up node.traced.traces.answered.gives
+        (sym (node.traced.traces.released (suc a))) in
+        elim b.is_full [ inl unused ↦ unused at | inr full ↦ omega (arith, few, full) ]
 
   no_item : (now : BusValue) (after : List Deques) (f : BusFault) →
       IsTakenAndRefused Lies (r.bus.run + r.bus.left) r.bus.steps r.bus.journals now.journals r.links after f → ⊥
   no_item now after f x =
       let t = journal_at now.journals x.node in
-      nothing_shown x.node x.few t x.refuses.items x.refuses.item
-      (slice_index_or after (64 * x.node + stops_of t) no_link).up x.refuses.few
-      (x.refuses.shown (acc x.node x.few) no_link (kept_before x.node x.few)).1
+      let K : Deques → Type 0 = λ s. Kept Lies (journal_at r.bus.journals x.node) s (acc x.node x.few) in
+      let kept = subst K (x.is_end (links x.node x.few)) (kept_before x.node x.few) in
+      nothing_shown x.node x.few t x.refuses.items x.refuses.item (up_on x.end_after (read_in t))
+      (x.refuses.shown (acc x.node x.few) kept).up
 
   no_abort : (orders_are : ℕ → Orders → Type 0) (now : BusValue) (after : List Deques) (f : BusFault) →
       IsNotAborted Lies orders_are (r.bus.run + r.bus.left) r.bus.steps r.bus.journals now.journals r.links after
       f → ⊥
   no_abort orders_are now after f x =
       let j = journal_at r.bus.journals x.node in
-      let t = journal_at now.journals x.node in
+      let t = journal_at now.journals x.node in let d = links x.node x.few in
       let same : t ≡ j = none_taken j t x.items (given x.node x.few) (before x.node x.few)
-      (λ a. (slice_index_or after (64 * x.node + a) no_link).up)
-      (λ a small. (x.kept (acc x.node x.few) (kept_before x.node x.few) a no_link small).1) in
+      (λ a. up_on (slice_index_or after x.node d) (suc a))
+      (λ a. (x.kept d (acc x.node x.few) (kept_before x.node x.few) a).up) in
       let most = room_for (r.bus.run + r.bus.left) r.bus.steps x.node in
       free_not_full 3 most j Abort (room x.node x.few) (subst (λ (s : List Entry). IsFullFor most s Abort) same x.full)
 
-  never_broken : (alike : Deques → Deques → Type 0) (node : ℕ) (few : node < length r.bus.journals)
-      (opened j : List Entry) (between : List Deques) (f : BusFault) →
-      HasFree 3 (room_for (r.bus.run + r.bus.left) r.bus.steps node) opened →
-      Kept Lies opened between (64 * node) (acc node few) →
-      IsBrokenFor alike Lies (λ (s : Deques). length s.down ≡ 22) node
-      (room_for (r.bus.run + r.bus.left) r.bus.steps node) opened j between (64 * node) f → ⊥
-  never_broken alike node few opened j between (JournalFull k) free kept b =
+  never_broken : (node : ℕ) (few : node < length r.bus.journals) (opened j : List Entry) (end : Deques)
+      (f : BusFault) → HasFree 3 (room_for (r.bus.run + r.bus.left) r.bus.steps node) opened →
+      stops_of opened ≡ stops_of (journal_at r.bus.journals node) → Kept Lies opened end (acc node few) →
+      IsBrokenFor ends node (room_for (r.bus.run + r.bus.left) r.bus.steps node) opened j end f → ⊥
+  never_broken node few opened j end (JournalFull k) free same kept b =
       short_never (room_for (r.bus.run + r.bus.left) r.bus.steps node) opened j b.1 free
-  never_broken alike node few opened j between (Stuck k) free kept b = not_stuck node few opened j between kept b.1
-  never_broken alike node few opened j between (BadCredit k bytes) free kept b = b
-  never_broken alike node few opened j between (BadOrder k) free kept b = b
-  never_broken alike node few opened j between BitsSpent free kept b = b
+  never_broken node few opened j end (Stuck k) free same kept b = not_stuck node few opened j end same kept b.1
+  never_broken node few opened j end (BadCredit k bytes) free same kept b = b
+  never_broken node few opened j end (BadOrder k) free same kept b = b
+  never_broken node few opened j end BitsSpent free same kept b = b
 
-  not_broken : {alike : Deques → Deques → Type 0} (orders_are : ℕ → Orders → Type 0) (now : BusValue)
-      (f : BusFault) →
-      IsBrokenOff alike Lies (λ (s : Deques). length s.down ≡ 22) orders_are (r.bus.run + r.bus.left) r.bus.steps
-      r.bus.journals now.journals r.links f → ⊥
-  not_broken {alike} orders_are now f x =
-      let j = journal_at r.bus.journals x.node in
+  not_broken : (orders_are : ℕ → Orders → Type 0) (now : BusValue) (f : BusFault) →
+      IsBrokenOff ends orders_are (r.bus.run + r.bus.left) r.bus.steps r.bus.journals now.journals r.links f → ⊥
+  not_broken orders_are now f x =
+      let j = journal_at r.bus.journals x.node in let d = links x.node x.few in
       let changed = x.opens.aborts.changed in
-      let between = x.kept (acc x.node x.few) (kept_before x.node x.few) in
+      let between = x.kept d (acc x.node x.few) (kept_before x.node x.few) in
       let same : x.opens.taken ≡ j = none_taken_own j x.opens.taken x.opens.items (given x.node x.few)
       (before x.node x.few) x.opened (abort_as changed) (abort_own changed) x.opens.aborts.whole
-      (λ a. (slice_index_or x.between (64 * x.node + a) no_link).up) (λ a small. (between a no_link small).1) in
+      (λ a. up_on (slice_index_or x.between x.node d) (suc a)) (λ a. (between a).up) in
       let whole : x.opened ≡ j ++ abort_as changed
       = x.opens.aborts.whole ∙ ap (λ (s : List Entry). s ++ abort_as changed) same in
       let most = room_for (r.bus.run + r.bus.left) r.bus.steps x.node in
-      never_broken alike x.node x.few x.opened (journal_at now.journals x.node) x.between f
+      let K : Deques → Type 0 = λ s. Kept Lies x.opened s (acc x.node x.few) in
+      never_broken x.node x.few x.opened (journal_at now.journals x.node) x.end f
       (subst (λ (s : List Entry). HasFree 3 most s) (sym whole) (free_aborted 3 most j changed (room x.node x.few)))
-      between x.broken
+      (ap (λ (s : List Entry). stops_of s) whole ∙ own_stopped j (abort_as changed) (abort_own changed))
+      (subst K (x.is_end d) between) x.broken
 
-  pub never_stops : {alike : Deques → Deques → Type 0} (orders_are : ℕ → Orders → Type 0) (now : BusValue)
-      (after : List Deques) (f : BusFault) →
-      StopsBit alike Lies (λ (s : Deques). length s.down ≡ 22) orders_are r.bus now r.links after f → ⊥
+  pub never_stops : (orders_are : ℕ → Orders → Type 0) (now : BusValue) (after : List Deques) (f : BusFault) →
+      StopsBit ends orders_are r.bus now r.links after f → ⊥
   never_stops orders_are now after f (spent is none) =
       let a = h.all_bits in let b = h.bits in omega (arith, none, a, b, left)
   never_stops orders_are now after f (not_taken x) = no_item now after f x
@@ -198,10 +234,10 @@ module _ (setup : Setup) (r : SerialValue) (deeds : List (List Deed)) (h : Stand
       let o = x.out in let m = o.node in
       let small : m < length r.bus.journals = let l = o.few in let c = x.count in omega (arith, l, c) in
       let j = journal_at r.bus.journals m in
-      let t = journal_at x.taken m in
+      let t = journal_at x.taken m in let d = links m small in
       let same : t ≡ j = none_taken j t (x.items m small) (given m small) (before m small)
-      (λ a. (slice_index_or after (64 * m + a) no_link).up)
-      (λ a few. (x.kept m (acc m small) small (kept_before m small) a no_link few).1) in
+      (λ a. up_on (slice_index_or after m d) (suc a))
+      (λ a. (x.kept m d (acc m small) small (kept_before m small) a).up) in
       let l = ap (λ (s : List Entry). length s) same in
       let grown = ap (λ (s : List Entry). length s) o.grown ∙ length-append t (recessive_bits o.entered) in
       let bits : length (recessive_bits o.entered) ≡ o.entered = length-replicate o.entered (Bit Recessive Recessive) in
@@ -232,9 +268,8 @@ module _ {bus : BusValue} {drivers : List LoggedDriver} {ports : List Registers}
   there : StandsAt setup (run_now bus drivers ports slice bits) run.0
   there = stands_there same view setup run.0 run.1
 
-  pub never_stops_there : {alike : Deques → Deques → Type 0} (orders_are : ℕ → Orders → Type 0) (now : BusValue)
-      (after : List Deques) (f : BusFault) →
-      (bus.fault ≡ None → StopsBit alike Lies (λ (s : Deques). length s.down ≡ 22) orders_are bus now slice after f) → ⊥
+  pub never_stops_there : (orders_are : ℕ → Orders → Type 0) (now : BusValue) (after : List Deques) (f : BusFault) →
+      (bus.fault ≡ None → StopsBit ends orders_are bus now slice after f) → ⊥
   never_stops_there orders_are now after f stops =
       never_stops setup (run_now bus drivers ports slice bits) run.0 there (left_there same view setup left)
       (lawful_there same view was) orders_are now after f (stops there.right)

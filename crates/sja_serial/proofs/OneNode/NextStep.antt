@@ -1,10 +1,12 @@
 -- A run in which the next step of a node's driver is tried, and what it gave is taken.
 use Rattle.sja_script.specs.declared.step_answer.StepAnswer.{StepAnswer}
-use Rattle.std.proofs.Common.{◌≡◌, ◌+◌, ◌*◌, ◌<◌, ℕ, List, [], length, refl, subst, arith}
+use Rattle.std.proofs.Common.{◌≡◌, ◌+◌, ◌<◌, ℕ, List, [], length, refl, sym, subst, arith}
 use Rattle.std.specs.Prelude.{None, slice_index_or, slice_set, Option}
+use Rattle.std.proofs.lemmas.List.{get_or_default}
 use Rattle.sja_link.specs.declared.entry.Entry.{Entry}
-use Rattle.sja_link.specs.Deques.{Deques, Lies}
-use Rattle.lemmas.proofs.Related.{each_refl}
+use Rattle.sja_link.specs.Deques.{Deques, Lies, AreAlike, up_on}
+use Rattle.lemmas.proofs.Related.{each_one, each_refl}
+use Rattle.sja_link.specs.Links.{AreEnds}
 use Rattle.lemmas.specs.Related.{EachRelated}
 use Rattle.sja_regs.specs.declared.registers.Registers.{Registers}
 use Rattle.sja_script.specs.declared.step.Step.{Step}
@@ -16,7 +18,8 @@ use Rattle.sja_wire.specs.Buses.{BusValue, KeepsAll, EachJournal, AllDry, EachUn
 use Rattle.sja_wire.specs.Reasons.{IsTakenAndRefused}
 use Rattle.sja_driver.specs.declared.logged_driver.LoggedDriver.{LoggedDriver}
 use Rattle.sja_driver.specs.Deeds.{Deed, deeds_at}
-use Rattle.sja_driver.specs.LoggedDrivers.{StaysLawful, Steps}
+use Rattle.sja_driver.specs.LoggedDrivers.{log_of, MayStep, StaysLawful}
+use Rattle.sja_driver.specs.Logs.{HasRoom}
 use Rattle.sja_driver.specs.Inside.GivenNothing.{GaveNothing}
 use Rattle.sja_log.specs.Nodes.{IsNode}
 use Rattle.sja_serial.specs.Serial.{Setup, SerialValue, StandsAt}
@@ -24,24 +27,22 @@ use Rattle.sja_serial.specs.Inside.Going.{run_now}
 use Rattle.sja_serial.proofs.ManyBits.Borrowed.{stands_there, put_back}
 use Rattle.sja_link.proofs.Growing.Items.{items_none}
 use Rattle.sja_serial.proofs.OneNode.Quiet.{as_untold, all_dry}
-use Rattle.sja_serial.proofs.OneNode.Standing.{Tries, node_there}
+use Rattle.sja_serial.proofs.OneNode.Standing.{Tries, node_there, same_node}
 use Rattle.sja_serial.proofs.OneNode.Tried.{IsTried, next_tried, place}
 use Rattle.sja_serial.proofs.OneNode.Taken.{gather_takes}
-use Rattle.sja_log.proofs.OneNode.Trying.{alike, shows_none, takes_none}
+use Rattle.sja_serial.proofs.OneNode.Alike.{alike_refl, still_ends}
+use Rattle.sja_log.proofs.OneNode.Trying.{StepsHere}
 
 -- the registers that a step was tried at, and the step at what they are
-abbrev pub tried_at : {was now : LoggedDriver} {slice given : List Deques} {base : ℕ} {p q : Registers} {one : Step}
-    {answer : Option StepAnswer} → Steps alike Lies shows_none takes_none was now slice given base p q one answer →
-    Registers
+abbrev pub tried_at : {was now : LoggedDriver} {old given : Deques} {p q : Registers} {one : Step}
+    {answer : Option StepAnswer} → StepsHere was now old given p q one answer → Registers
 tried_at {p = p} tries = p
 
-pub at_port : {was now : LoggedDriver} {slice given : List Deques} {base : ℕ} {p r q : Registers} {one : Step}
-    {answer : Option StepAnswer} → p ≡ r →
-    Steps alike Lies shows_none takes_none was now slice given base p q one answer →
-    Steps alike Lies shows_none takes_none was now slice given base r q one answer
-at_port {was} {now} {slice} {given} {base} {p} {r} {q} {one} {answer} same tries =
-    subst (λ (x : Registers). Steps alike Lies shows_none takes_none was now slice given base x q one answer) same
-    tries
+pub at_port : {was now : LoggedDriver} {old given : Deques} {p r q : Registers} {one : Step}
+    {answer : Option StepAnswer} → p ≡ r → StepsHere was now old given p q one answer →
+    StepsHere was now old given r q one answer
+at_port {was} {now} {old} {given} {p} {r} {q} {one} {answer} same tries =
+    subst (λ (x : Registers). StepsHere was now old given x q one answer) same tries
 
 -- a run, which stands at these deeds, and the links of which a call has as a slice
 module _ {setup : Setup} {bus : BusValue} {drivers : List LoggedDriver} {ports : List Registers}
@@ -54,39 +55,56 @@ module _ {setup : Setup} {bus : BusValue} {drivers : List LoggedDriver} {ports :
   stood : StandsAt setup run deeds
   stood = stands_there same view setup deeds h
 
-  -- its driver, and its port
-  module _ {was : LoggedDriver} {p : Registers} (was_is : was ≡ slice_index_or drivers i was)
-      (p_is : p ≡ slice_index_or ports i p) where
+  -- its links are there
+  pub own_links : (x : Deques) → slice_index_or slice i x ≡ slice_index_or slice i (slice_index_or slice i x)
+  own_links x = get_or_default slice i x (slice_index_or slice i x)
+      (let c = stood.ends.count in omega (arith, c, there))
+
+  -- its driver, its port, and its links
+  module _ {was : LoggedDriver} {p : Registers} {old : Deques} (was_is : was ≡ slice_index_or drivers i was)
+      (p_is : p ≡ slice_index_or ports i p) (old_is : old ≡ slice_index_or slice i old) where
     pub node_at : IsNode setup.version (slice_index_or setup.steps i 0) (journal_at bus.journals i) (deeds_at deeds i)
-        was p slice
-        (64 * i)
-    node_at = node_there stood there was_is p_is
+        was p old
+    node_at = node_there stood there was_is p_is old_is
+
+    -- the next step may be tried, where there is room for it
+    pub may_step : length (deeds_at deeds i) < slice_index_or setup.steps i 0 →
+        MayStep (λ (s : Deques). s.node) p.version was old
+    may_step few = let n = node_at in record {
+      lawful = n.traced.lawful;
+      room = subst (λ (v : ℕ). HasRoom v 1 (log_of was)) (sym n.ported.version_is)
+          (n.traced.room 1 (omega (arith, few)));
+      own = same_node stood there was_is old_is;
+    }
+
+    -- once a step was tried the ends are those of the nodes' links still
+    pub ends_given : {now : LoggedDriver} {given : Deques} {answer : Option StepAnswer} →
+        StaysLawful AreAlike Lies was now old given answer →
+        AreEnds (λ (s : Deques). s.node) (length bus.journals) (slice_set slice i given)
+    ends_given {given = given} stays =
+        subst (λ (n : ℕ). AreEnds (λ (s : Deques). s.node) n (slice_set slice i given))
+        (sym stood.count.journals) (still_ends stood.ends (each_one AreAlike alike_refl slice i old given
+        (let c = stood.ends.count in omega (arith, c, there))
+        (subst (λ (s : Deques). AreAlike s given) old_is stays.same)))
 
     -- the next step was tried, and then all was taken
     module _ (laws : bus.fault ≡ None → IsBusRun bus.script bus.run bus.journals)
         (left : length (deeds_at deeds i) < slice_index_or setup.steps i 0) {now : LoggedDriver} {q : Registers}
-        {given : List Deques} {base : ℕ} {one : Step} {answer : Option StepAnswer} (base_is : base ≡ 64 * i)
-        (tries : Steps alike Lies shows_none takes_none was now slice given base p q one answer)
-        (stay : StaysLawful (λ (s : Deques). s.link) alike was now slice given base answer) where
-      steps : Steps alike Lies shows_none takes_none was now slice given (64 * i) p q one answer
-      steps = subst (λ (b : ℕ). Steps alike Lies shows_none takes_none was now slice given b p q one answer) base_is
-          tries
-
-      stays : StaysLawful (λ (s : Deques). s.link) alike was now slice given (64 * i) answer
-      stays = subst (λ (b : ℕ). StaysLawful (λ (s : Deques). s.link) alike was now slice given b answer) base_is stay
-
+        {given : Deques} {one : Step} {answer : Option StepAnswer}
+        (steps : StepsHere was now old given p q one answer)
+        (stays : StaysLawful AreAlike Lies was now old given answer) where
       -- no item was refused
       pub none_refused : (journals : List (List Entry)) (after : List Deques) (f : BusFault) →
-          (bus.fault ≡ None → IsTakenAndRefused Lies (bus.run + bus.left) bus.steps bus.journals journals given after f)
-          → ⊥
+          (bus.fault ≡ None → IsTakenAndRefused Lies (bus.run + bus.left) bus.steps bus.journals journals
+          (slice_set slice i given) after f) → ⊥
       none_refused journals after f refused =
           let l = laws stood.right in let c = stood.count.journals in
           gather_takes stood there node_at (l.lawful i (omega (arith, c, there))) (omega (arith, left))
-          (place stood there l left) steps stays.others (refused stood.right)
+          (place stood there l left) steps (refused stood.right)
 
       -- the run into which the links are put back
       module _ {node : ℕ} (node_is : i ≡ node) {back after : List Deques} (back_is : back ≡ after) where
-        tried : (n : BusValue) → Tries run i was now p q one answer given n after →
+        tried : (n : BusValue) → Tries run i was now p q one answer old given n after →
             IsTried setup self (run_now n (slice_set drivers i now) (slice_set ports i q) back bits) node one deeds
             answer
         tried n t = subst (λ (m : ℕ). IsTried setup self (run_now n (slice_set drivers i now) (slice_set ports i q)
@@ -97,15 +115,17 @@ module _ {setup : Setup} {bus : BusValue} {drivers : List LoggedDriver} {ports :
 
         pub is_tried : (n : BusValue) → n.fault ≡ None → n.run ≡ bus.run → n.script ≡ bus.script →
             n.steps ≡ bus.steps → n.left ≡ bus.left → length n.journals ≡ length bus.journals →
-            KeepsAll Lies bus.journals n.journals given after → EachJournal MayHaveItems bus.journals n.journals →
+            KeepsAll Lies bus.journals n.journals (slice_set slice i given) after →
+            EachJournal MayHaveItems bus.journals n.journals →
             EachUntold bus.untold n.untold bus.journals n.journals →
-            AllDry (λ (s : Deques). s.up ≡ []) n.journals after → EachRelated alike given after →
-            length after ≡ length slice →
+            AllDry (λ (s : Deques) (a : ℕ). up_on s a ≡ []) n.journals after →
+            EachRelated AreAlike (slice_set slice i given) after →
             IsTried setup self (run_now n (slice_set drivers i now) (slice_set ports i q) back bits) node one deeds
             answer
-        is_tried n right ran script room over count kept items untold dry sames many = tried n (record {
+        is_tried n right ran script room over count kept items untold dry sames = tried n (record {
           was_is = was_is;
           p_is = p_is;
+          old_is = old_is;
           steps = steps;
           stays = stays;
           right = right;
@@ -119,17 +139,16 @@ module _ {setup : Setup} {bus : BusValue} {drivers : List LoggedDriver} {ports :
           untold = untold;
           dry = dry;
           sames = sames;
-          many = many;
         })
 
       -- the step gave nothing, and nothing was taken
-      pub is_tried_quietly : {node : ℕ} → i ≡ node → {back : List Deques} → back ≡ given →
-          GaveNothing one answer → length given ≡ length slice →
+      pub is_tried_quietly : {node : ℕ} → i ≡ node → {back : List Deques} → back ≡ slice_set slice i given →
+          GaveNothing one answer →
           IsTried setup self (run_now bus (slice_set drivers i now) (slice_set ports i q) back bits) node one deeds
           answer
-      is_tried_quietly node_is back_is quiet many =
-          is_tried node_is back_is bus stood.right refl refl refl refl refl (λ node acc less kept. kept)
+      is_tried_quietly node_is back_is quiet =
+          is_tried node_is back_is bus stood.right refl refl refl refl refl (λ node d acc less kept. kept)
           (λ node less. items_none (journal_at bus.journals node))
           (λ node less. as_untold (untold_at bus.untold node) (journal_at bus.journals node))
-          (all_dry i stood node_at steps stays.others (quiet p steps.tried steps.met)) (each_refl alike
-          (λ x. refl) given) many
+          (all_dry i stood node_at steps stays (quiet p steps.tried steps.met)) (each_refl AreAlike alike_refl
+          (slice_set slice i given))

@@ -1,33 +1,34 @@
 -- A run after a step of one node's driver and a taking.
 use Rattle.sja_script.specs.declared.step_answer.StepAnswer.{StepAnswer}
-use Rattle.std.proofs.Common.{◌≡◌, ℕ, suc, ◌+◌, ◌*◌, ◌<◌, true, false, List, [], ◌∷◌}
+use Rattle.std.proofs.Common.{◌≡◌, ℕ, ◌<◌, true, false, List, [], ◌∷◌}
 use Rattle.std.proofs.Common.{◌++◌, length, refl, sym, ap, ◌∙◌, subst, append-nil, arith, inl, inr}
 use Rattle.std.specs.Prelude.{Bool, None, slice_index_or, slice_set, Option}
 use Rattle.std.proofs.lemmas.Bool.{cases_eq}
-use Rattle.std.proofs.lemmas.List.{get_or-set_same, get_or-set_other, length-set}
+use Rattle.std.proofs.lemmas.List.{get_or_default, get_or-set_same, get_or-set_other, length-set}
 use Rattle.sja_link.specs.declared.entry.Entry.{Entry}
 use Rattle.sja_link.specs.declared.up.Up.{Up}
-use Rattle.sja_link.specs.Deques.{Deques, Lies}
+use Rattle.sja_link.specs.Deques.{Deques, Lies, AreAlike, up_on}
 use Rattle.sja_wire.specs.Buses.{BusValue, KeepsAll, EachJournal, AllDry, EachUntold, untold_at}
-use Rattle.sja_link.specs.Links.{per_node}
 use Rattle.sja_link.specs.BitEntries.{MayHaveItems, entries_of_items}
+use Rattle.sja_link.specs.Links.{Kept}
+use Rattle.sja_link.specs.Sizes.{most_activations}
 use Rattle.sja_wire.specs.Telling.{IsUntold}
 use Rattle.sja_wire.specs.Wire.{journal_at}
 use Rattle.lemmas.specs.Related.{EachRelated}
-use Rattle.lemmas.proofs.Related.{each_at}
 use Rattle.sja_regs.specs.declared.registers.Registers.{Registers}
 use Rattle.sja_script.specs.declared.step.Step.{Step}
 use Rattle.sja_driver.specs.declared.logged_driver.LoggedDriver.{LoggedDriver}
 use Rattle.sja_driver.specs.Deeds.{Deed, deeds_at, with_deeds}
-use Rattle.sja_driver.specs.LoggedDrivers.{node_of, ended_of, StaysLawful, Steps}
+use Rattle.sja_driver.specs.LoggedDrivers.{node_of, StaysLawful}
 use Rattle.sja_log.specs.Nodes.{IsNode}
 use Rattle.sja_serial.specs.Serial.{Setup, SerialValue, StandsAt}
 use Rattle.sja_serial.specs.Inside.Going.{run_now}
 use Rattle.sja_driver.specs.Shown.{ShowsRecord}
-use Rattle.sja_driver.proofs.OneNode.Slices.{apart, each_set, each_other}
-use Rattle.sja_log.proofs.OneNode.Gathered.{no_link, Gathers}
-use Rattle.sja_log.proofs.OneNode.Trying.{alike, shows_none, takes_none}
+use Rattle.sja_driver.proofs.OneNode.Slices.{each_set}
+use Rattle.sja_log.proofs.OneNode.Gathered.{Gathers}
+use Rattle.sja_log.proofs.OneNode.Trying.{StepsHere}
 use Rattle.sja_log.proofs.OneNode.Turned.{none_entered, same_journal, idle}
+use Rattle.sja_serial.proofs.OneNode.Alike.{alike_after, still_ends, still_starts}
 
 -- nothing is untold after a taking: so nothing was before it, and no item was taken
 pub none_untold : {before now : Bool} {j k : List Entry} → MayHaveItems j k → IsUntold before now j k → now ≡ false →
@@ -50,39 +51,49 @@ abbrev pub run_tried : SerialValue → ℕ → LoggedDriver → Registers → Bu
 run_tried r node now q bus after =
     run_now bus (slice_set r.drivers node now) (slice_set r.ports node q) after r.bits
 
--- a step of a node was tried at its driver and port, which left the links as given; and then all was taken, which left
+-- a step of a node was tried at its driver, port and links, which it left as given; and then all was taken, which left
 -- this bus and the links after
 pub record Tries (r : SerialValue) (node : ℕ) (was now : LoggedDriver) (p q : Registers) (one : Step)
-    (answer : Option StepAnswer) (given : List Deques) (bus : BusValue) (after : List Deques) : Type 0 where
+    (answer : Option StepAnswer) (old given : Deques) (bus : BusValue) (after : List Deques) : Type 0 where
   pub was_is : was ≡ slice_index_or r.drivers node was
   pub p_is : p ≡ slice_index_or r.ports node p
-  pub steps : Steps alike Lies shows_none takes_none was now r.links given (64 * node) p q one answer
-  pub stays : StaysLawful (λ (s : Deques). s.link) alike was now r.links given (64 * node) answer
+  pub old_is : old ≡ slice_index_or r.links node old
+  pub steps : StepsHere was now old given p q one answer
+  pub stays : StaysLawful AreAlike Lies was now old given answer
   pub right : bus.fault ≡ None
   pub run : bus.run ≡ r.bus.run
   pub script : bus.script ≡ r.bus.script
   pub room : bus.steps ≡ r.bus.steps
   pub left : bus.left ≡ r.bus.left
   pub journals : length bus.journals ≡ length r.bus.journals
-  pub kept : KeepsAll Lies r.bus.journals bus.journals given after
+  pub kept : KeepsAll Lies r.bus.journals bus.journals (slice_set r.links node given) after
   pub items : EachJournal MayHaveItems r.bus.journals bus.journals
   pub untold : EachUntold r.bus.untold bus.untold r.bus.journals bus.journals
-  pub dry : AllDry (λ (s : Deques). s.up ≡ []) bus.journals after
-  pub sames : EachRelated alike given after
-  pub many : length after ≡ length r.links
+  pub dry : AllDry (λ (s : Deques) (a : ℕ). up_on s a ≡ []) bus.journals after
+  pub sames : EachRelated AreAlike (slice_set r.links node given) after
 
--- the node whose driver and port these are
+-- the node whose driver, port and links these are
 pub node_there : {setup : Setup} {r : SerialValue} {deeds : List (List Deed)} {node : ℕ} {was : LoggedDriver}
-    {p : Registers} → StandsAt setup r deeds → node < setup.nodes → was ≡ slice_index_or r.drivers node was →
-    p ≡ slice_index_or r.ports node p →
+    {p : Registers} {old : Deques} → StandsAt setup r deeds → node < setup.nodes →
+    was ≡ slice_index_or r.drivers node was → p ≡ slice_index_or r.ports node p →
+    old ≡ slice_index_or r.links node old →
     IsNode setup.version (slice_index_or setup.steps node 0) (journal_at r.bus.journals node) (deeds_at deeds node)
-    was p r.links
-    (64 * node)
-node_there {setup} {r} {deeds} {node} {was} {p} h there was_is p_is =
-    let N : LoggedDriver → Registers → Type 0 = λ d x. IsNode setup.version (slice_index_or setup.steps node 0)
-    (journal_at r.bus.journals node) (deeds_at deeds node) d x r.links (64 * node) in
-    subst (λ d. N d p) (sym was_is)
-    (subst (λ x. N (slice_index_or r.drivers node was) x) (sym p_is) (h.nodes node was p there))
+    was p old
+node_there {setup} {r} {deeds} {node} {was} {p} {old} h there was_is p_is old_is =
+    let N : LoggedDriver → Registers → Deques → Type 0 = λ d x l. IsNode setup.version
+    (slice_index_or setup.steps node 0) (journal_at r.bus.journals node) (deeds_at deeds node) d x l in
+    subst (λ d. N d p old) (sym was_is)
+    (subst (λ x. N (slice_index_or r.drivers node was) x old) (sym p_is)
+    (subst (λ l. N (slice_index_or r.drivers node was) (slice_index_or r.ports node p) l) (sym old_is)
+    (h.nodes node was p old there)))
+
+-- the links are those of the driver's node
+pub same_node : {setup : Setup} {r : SerialValue} {deeds : List (List Deed)} {node : ℕ} {was : LoggedDriver}
+    {old : Deques} → StandsAt setup r deeds → node < setup.nodes → was ≡ slice_index_or r.drivers node was →
+    old ≡ slice_index_or r.links node old → old.node ≡ node_of was
+same_node {node = node} {was} {old} h there was_is old_is =
+    ap (λ (s : Deques). s.node) old_is ∙ h.ends.own node old there ∙ sym (h.own node was there)
+    ∙ sym (ap node_of was_is)
 
 -- each driver is its node's still
 pub owners : {setup : Setup} {r : SerialValue} {deeds : List (List Deed)} {node : ℕ} {was : LoggedDriver}
@@ -97,62 +108,63 @@ owners {r = r} {node = node} {was} now h there was_is same m d less = elim (case
 ]
 
 module _ {setup : Setup} {r : SerialValue} {deeds : List (List Deed)} {node : ℕ} {was now : LoggedDriver}
-    {p q : Registers} {one : Step} {answer : Option StepAnswer} {given : List Deques} {bus : BusValue} {after : List
-    Deques}
-    (h : StandsAt setup r deeds) (there : node < setup.nodes)
-    (t : Tries r node was now p q one answer given bus after) where
+    {p q : Registers} {one : Step} {answer : Option StepAnswer} {old given : Deques} {bus : BusValue}
+    {after : List Deques} (h : StandsAt setup r deeds) (there : node < setup.nodes)
+    (t : Tries r node was now p q one answer old given bus after) where
   abbrev n : SerialValue
   n = run_tried r node now q bus after
 
   inside : (m : ℕ) → m < setup.nodes → m < length r.bus.journals
   inside m less = let c = h.count.journals in omega (arith, c, less)
 
-  -- the taking, as each node has it
-  pub gathers : (m : ℕ) → m < setup.nodes →
-      Gathers (journal_at r.bus.journals m) (journal_at bus.journals m) given after (64 * m)
-  gathers m less = let i = inside m less in let long = t.journals in record {
-    items = t.items m i;
-    kept = λ acc. t.kept m acc i;
-    dry = λ few. t.dry m no_link (omega (arith, i, long)) few;
-  }
+  few_links : node < length r.links
+  few_links = let c = h.ends.count in omega (arith, c, there)
 
-  -- the links after the step are numbered as before it
-  given_ids : (m a : ℕ) (d : Deques) → a < per_node → per_node * m + a < length r.links →
-      (slice_index_or given (per_node * m + a) d).link ≡ record { node = m; activation = suc a }
-  given_ids m a d few less = elim (cases_eq m node) [
-    | inl e ↦
-        ap (λ (x : ℕ). (slice_index_or given (64 * x + a) d).link) e ∙ t.stays.ids a d few
-        ∙ (λ i. record { node = whose i; activation = add_one a i }) ∙ (λ i. record {
-          node = sym e i;
-          activation = suc a;
-        })
-    | inr differ ↦ ap (λ (s : Deques). s.link)
-        (t.stays.others (64 * m + a) d (apart m node a (ended_of was) differ few))
-        ∙ h.ids m a d few less
-  ]
-    where
-      whose : node_of now ≡ node
-      whose = t.stays.node ∙ ap node_of t.was_is ∙ h.own node was there
+  -- the taking, as another node has it, and as this one
+  pub gathers_else : (m : ℕ) (l : Deques) → (m ≡ node → ⊥) → m < setup.nodes →
+      Gathers (journal_at r.bus.journals m) (journal_at bus.journals m) (slice_index_or r.links m l)
+      (slice_index_or after m l)
+  gathers_else m l differ less = let i = inside m less in let long = t.journals in
+      let same = get_or-set_other r.links node m given l differ in record {
+        items = t.items m i;
+        kept = λ acc. subst (λ (s : Deques). Kept Lies (journal_at r.bus.journals m) s acc →
+            Kept Lies (journal_at bus.journals m) (slice_index_or after m l) acc) same (t.kept m l acc i);
+        dry = t.dry m l (omega (arith, i, long));
+      }
 
-      add_one : (x : ℕ) → x + 1 ≡ suc x
-      add_one x = omega arith
+  pub gathers : Gathers (journal_at r.bus.journals node) (journal_at bus.journals node) given
+      (slice_index_or after node old)
+  gathers = let i = inside node there in let long = t.journals in
+      let same = get_or-set_same r.links node given old few_links in record {
+        items = t.items node i;
+        kept = λ acc. subst (λ (s : Deques). Kept Lies (journal_at r.bus.journals node) s acc →
+            Kept Lies (journal_at bus.journals node) (slice_index_or after node old) acc) same (t.kept node old acc i);
+        dry = t.dry node old (omega (arith, i, long));
+      }
+
+  -- the links are what they were, in another state
+  sames : EachRelated AreAlike r.links after
+  sames = alike_after r.links after old given few_links
+      (subst (λ (s : Deques). AreAlike s given) t.old_is t.stays.same) t.sames
+
+  -- those of the node are the same ones, whatever is said of a place that isn't there
+  after_at : (l : Deques) → slice_index_or after node old ≡ slice_index_or after node l
+  after_at l = get_or_default after node old l (let c = (still_ends h.ends sames).count in omega (arith, c, there))
 
   -- another node, whose links and driver are as they were, has the same journal, and keeps all else
-  pub other_node : (m : ℕ) (d : LoggedDriver) (x : Registers) → (m ≡ node → ⊥) → m < setup.nodes →
+  pub other_node : (m : ℕ) (d : LoggedDriver) (x : Registers) (l : Deques) → (m ≡ node → ⊥) → m < setup.nodes →
       (journal_at bus.journals m ≡ journal_at r.bus.journals m)
       × IsNode setup.version (slice_index_or setup.steps m 0) (journal_at bus.journals m) (deeds_at deeds m)
-      (slice_index_or r.drivers m d) (slice_index_or r.ports m x) after (64 * m)
-  other_node m d x differ less =
-      let w = h.nodes m d x less in let v = slice_index_or r.drivers m d in
-      let holds = each_other (λ a. apart m node a (ended_of was) differ) w.linked.holds t.stays.others in (
-        same_journal v w w.traced.lawful (gathers m less) w.traced.traces holds (λ k e. e) refl refl refl,
-        idle v w w.traced.lawful (gathers m less) w.traced.traces holds (λ k e. e) refl refl refl,
+      (slice_index_or r.drivers m d) (slice_index_or r.ports m x) (slice_index_or after m l)
+  other_node m d x l differ less =
+      let w = h.nodes m d x l less in let v = slice_index_or r.drivers m d in let g = gathers_else m l differ less in (
+        same_journal v w w.traced.lawful g w.traced.traces w.linked.holds (λ any k e. e) refl refl refl,
+        idle v w w.traced.lawful g w.traced.traces w.linked.holds (λ any k e. e) refl refl refl,
       )
 
   -- the run stands at the deeds that are had more
   pub stands_after : (more : List Deed) → IsNode setup.version (slice_index_or setup.steps node 0)
-      (journal_at bus.journals node)
-      (deeds_at deeds node ++ more) now q after (64 * node) →
+      (journal_at bus.journals node) (deeds_at deeds node ++ more) now q (slice_index_or after node old) →
       (journal_at bus.journals node ≡ journal_at r.bus.journals node →
       ShowsRecord (journal_at r.bus.journals node) p → ShowsRecord (journal_at bus.journals node) q) →
       StandsAt setup n (with_deeds deeds node more)
@@ -165,13 +177,12 @@ module _ {setup : Setup} {r : SerialValue} {deeds : List (List Deed)} {node : �
       journals = t.journals ∙ h.count.journals;
       drivers = length-set r.drivers node now ∙ h.count.drivers;
       ports = length-set r.ports node q ∙ h.count.ports;
-      links = t.many ∙ h.count.links;
     };
     may = h.may;
     steps = t.room ∙ h.steps;
     deeds_count = length-set deeds node (deeds_at deeds node ++ more) ∙ h.deeds_count;
-    ids = λ m a d few less. each_at alike (λ (x : Deques). x.link) (λ x y same. same) given after (per_node * m + a) d
-        t.sames ∙ given_ids m a d few (subst (λ (k : ℕ). per_node * m + a < k) t.many less);
+    ends = still_ends h.ends sames;
+    starts = still_starts (most_activations setup.version) r.links after h.starts sames;
     own = owners now h there t.was_is t.stays.node;
     nodes = each;
     shown = shown_at;
@@ -208,15 +219,17 @@ module _ {setup : Setup} {r : SerialValue} {deeds : List (List Deed)} {node : �
             (h.shown m x less none.0))
       ]
 
-      each : (m : ℕ) (d : LoggedDriver) (x : Registers) → m < setup.nodes →
+      each : (m : ℕ) (d : LoggedDriver) (x : Registers) (l : Deques) → m < setup.nodes →
           IsNode setup.version (slice_index_or setup.steps m 0) (journal_at bus.journals m)
-          (deeds_at (with_deeds deeds node more) m)
-          (slice_index_or (slice_set r.drivers node now) m d) (slice_index_or (slice_set r.ports node q) m x) after
-          (64 * m)
-      each m d x less =
+          (deeds_at (with_deeds deeds node more) m) (slice_index_or (slice_set r.drivers node now) m d)
+          (slice_index_or (slice_set r.ports node q) m x) (slice_index_or after m l)
+      each m d x l less =
           let P : ℕ → List Deed → LoggedDriver → Registers → Type 0 = λ k ds w g. k < setup.nodes →
-          IsNode setup.version (slice_index_or setup.steps k 0) (journal_at bus.journals k) ds w g after (64 * k) in
+          IsNode setup.version (slice_index_or setup.steps k 0) (journal_at bus.journals k) ds w g
+          (slice_index_or after k l) in
           let c = h.deeds_count in
           each_set P deeds r.drivers r.ports node (deeds_at deeds node ++ more) [] now d q x
-          (omega (arith, c, there)) few few_ports (λ less. node_after)
-          (λ k differ near. (other_node k d x differ near).1) m less
+          (omega (arith, c, there)) few few_ports (λ less. subst (λ s.
+          IsNode setup.version (slice_index_or setup.steps node 0) (journal_at bus.journals node)
+          (deeds_at deeds node ++ more) now q s) (after_at l) node_after)
+          (λ k differ near. (other_node k d x l differ near).1) m less

@@ -1,9 +1,10 @@
 -- The bus refuses nothing that a driver gives.
 use Rattle.sja_script.specs.declared.step_answer.StepAnswer.{StepAnswer}
-use Rattle.std.proofs.Common.{◌≡◌, ◌≢◌, ℕ, ◌+◌, ◌*◌, ◌<◌, ◌≤◌, List, length, ap}
+use Rattle.std.proofs.Common.{◌≡◌, ℕ, ◌+◌, ◌<◌, ◌≤◌, List, length, sym, ap, ◌∙◌}
 use Rattle.std.proofs.Common.{subst, arith, inl, inr}
-use Rattle.std.specs.Prelude.{slice_index_or, Option, Some, None}
+use Rattle.std.specs.Prelude.{slice_index_or, slice_set, Option, Some, None}
 use Rattle.std.proofs.lemmas.Bool.{cases_eq}
+use Rattle.std.proofs.lemmas.List.{get_or-set_same, get_or-set_other}
 use Rattle.sja_link.specs.declared.entry.Entry.{Entry}
 use Rattle.sja_link.specs.Deques.{Deques, Lies}
 use Rattle.sja_link.specs.Places.{place_of}
@@ -15,44 +16,45 @@ use Rattle.sja_regs.specs.declared.registers.Registers.{Registers}
 use Rattle.sja_script.specs.declared.step.Step.{Step}
 use Rattle.sja_driver.specs.declared.logged_driver.LoggedDriver.{LoggedDriver}
 use Rattle.sja_driver.specs.Deeds.{Deed, deeds_at}
-use Rattle.sja_driver.specs.Holding.{place_after}
-use Rattle.sja_driver.specs.LoggedDrivers.{ended_of, Steps}
 use Rattle.sja_driver.proofs.Trace.Stepping.{given_taken}
 use Rattle.sja_log.specs.Nodes.{IsNode}
 use Rattle.sja_serial.specs.Serial.{Setup, SerialValue, StandsAt}
-use Rattle.sja_driver.proofs.OneNode.Slices.{apart, each_other}
-use Rattle.sja_log.proofs.OneNode.Trying.{alike, shows_none, takes_none}
 use Rattle.sja_log.proofs.OneNode.Taken.{none_taken, done_taken, waits_taken}
+use Rattle.sja_log.proofs.OneNode.Trying.{StepsHere}
 
 -- ---- a taking after a step
 
 -- no item of any node is refused
 pub gather_takes : {setup : Setup} {r : SerialValue} {deeds : List (List Deed)} {node : ℕ} {was now : LoggedDriver}
-    {p q : Registers} {given after : List Deques} {journals : List (List Entry)} {one : Step} {f : BusFault}
-    {b : Option StepAnswer} → StandsAt setup r deeds → node < setup.nodes →
+    {p q : Registers} {old given : Deques} {after : List Deques} {journals : List (List Entry)} {one : Step}
+    {f : BusFault} {b : Option StepAnswer} → StandsAt setup r deeds → node < setup.nodes →
     IsNode setup.version (slice_index_or setup.steps node 0) (journal_at r.bus.journals node) (deeds_at deeds node)
-    was p r.links
-    (64 * node) →
-    IsLawfulJournal (journal_at r.bus.journals node) → length (deeds_at deeds node) ≤ slice_index_or setup.steps node
-    0 →
+    was p old →
+    IsLawfulJournal (journal_at r.bus.journals node) →
+    length (deeds_at deeds node) ≤ slice_index_or setup.steps node 0 →
     (place_of (journal_at r.bus.journals node)).bits ≡ r.bits →
-    Steps alike Lies shows_none takes_none was now r.links given (64 * node) p q one b →
-    ((i : ℕ) (d : Deques) → i ≢ place_after (64 * node) (ended_of was) →
-    slice_index_or given i d ≡ slice_index_or r.links i d) →
-    IsTakenAndRefused Lies (r.bus.run + r.bus.left) r.bus.steps r.bus.journals journals given after f → ⊥
-gather_takes {setup} {r} {deeds} {node} {was} {now} {p} {q} {given} {after} {journals} {one} {f} {b} h there w lawful
-    short place st others r_not =
+    StepsHere was now old given p q one b →
+    IsTakenAndRefused Lies (r.bus.run + r.bus.left) r.bus.steps r.bus.journals journals (slice_set r.links node given)
+    after f → ⊥
+gather_takes {setup} {r} {deeds} {node} {was} {now} {p} {q} {old} {given} {after} {journals} {one} {f} {b} h there w
+    lawful short place st r_not =
     let m = r_not.node in
+    let Refuses : ℕ → Deques → Type 0 = λ x s. RefusesItem Lies (room_for (r.bus.run + r.bus.left) r.bus.steps x)
+    (journal_at r.bus.journals x) (journal_at journals x) s r_not.end_after x f in
     elim (cases_eq m node) [
       | inl e ↦
-          let P : ℕ → Type 0 = λ x. RefusesItem Lies (room_for (r.bus.run + r.bus.left) r.bus.steps x)
-          (journal_at r.bus.journals x) (journal_at journals x) given after (64 * x) x f in
-          here b st (subst P e r_not.refuses)
+          let is : r_not.end ≡ given = sym (r_not.is_end given)
+          ∙ ap (λ (x : ℕ). slice_index_or (slice_set r.links node given) x given) e
+          ∙ get_or-set_same r.links node given given (let c = h.ends.count in omega (arith, c, there)) in
+          here b st (subst (λ x. Refuses x given) e (subst (Refuses m) is r_not.refuses))
       | inr differ ↦
           let few : m < setup.nodes = let c = h.count.journals in let l = r_not.few in omega (arith, c, l) in
-          let n = h.nodes m now p few in
-          none_taken (each_other (λ a. apart m node a (ended_of was) differ) n.linked.holds others)
-          (λ a. given_taken (deeds_at deeds m) (journal_at r.bus.journals m) a (n.in_time.when a)) r_not.refuses
+          let n = h.nodes m now p old few in
+          let is : r_not.end ≡ slice_index_or r.links m old =
+          sym (r_not.is_end old) ∙ get_or-set_other r.links node m given old differ in
+          none_taken n.linked.holds
+          (λ a. given_taken (deeds_at deeds m) (journal_at r.bus.journals m) a (n.in_time.when a))
+          (subst (Refuses m) is r_not.refuses)
     ]
   where
     j : List Entry
@@ -65,10 +67,9 @@ gather_takes {setup} {r} {deeds} {node} {was} {now} {p} {q} {given} {after} {jou
         ≡ room_for (r.bus.run + r.bus.left) setup.steps node
     enough = ap (λ (l : List ℕ). room_for (r.bus.run + r.bus.left) l node) h.steps
 
-    here : (x : Option StepAnswer) →
-        Steps alike Lies shows_none takes_none was now r.links given (64 * node) p q one x →
-        RefusesItem Lies (room_for (r.bus.run + r.bus.left) r.bus.steps node) j (journal_at journals node) given after
-        (64 * node) node f → ⊥
+    here : (x : Option StepAnswer) → StepsHere was now old given p q one x →
+        RefusesItem Lies (room_for (r.bus.run + r.bus.left) r.bus.steps node) j (journal_at journals node) given
+        r_not.end_after node f → ⊥
     here (Some answer) = done_taken w lawful (r.bus.run + r.bus.left) (room_for (r.bus.run + r.bus.left) r.bus.steps
         node) short
         enough run

@@ -7,6 +7,7 @@ use Rattle.std.proofs.lemmas.Bool.{cases_eq}
 use Rattle.std.proofs.lemmas.List.{get_or_default, get_or-set_other, get_or-set_same, set-get_or}
 use Rattle.sja_link.specs.declared.entry.Entry.{Entry}
 use Rattle.sja_link.specs.Deques.{Deques}
+use Rattle.sja_link.specs.Sizes.{most_activations}
 use Rattle.sja_link.specs.Places.{place_of}
 use Rattle.sja_link.proofs.JournalEntries.Entering.{bits_counted}
 use Rattle.sja_wire.specs.Buses.{BusValue}
@@ -50,10 +51,14 @@ module _ {setup : Setup} {r : SerialValue} {deeds : List (List Deed)} {node : �
   pub place : (place_of j).bits ≡ r.bits
   place = bits_counted j ∙ laws.wired.count node inside ∙ sym h.bits
 
-  module _ {was now : LoggedDriver} {p q : Registers} {given : List Deques} {bus : BusValue} {after : List Deques}
-      {one : Step} {answer : Option StepAnswer} (t : Tries r node was now p q one answer given bus after) where
-    w : IsNode setup.version (slice_index_or setup.steps node 0) j ds was p r.links (64 * node)
-    w = node_there h there t.was_is t.p_is
+  module _ {was now : LoggedDriver} {p q : Registers} {old given : Deques} {bus : BusValue} {after : List Deques}
+      {one : Step} {answer : Option StepAnswer} (t : Tries r node was now p q one answer old given bus after) where
+    w : IsNode setup.version (slice_index_or setup.steps node 0) j ds was p old
+    w = node_there h there t.was_is t.p_is t.old_is
+
+    -- its links were made for all activations of this version
+    starts : old.room ≡ 22 * most_activations setup.version
+    starts = ap (λ (s : Deques). s.room) t.old_is ∙ h.starts node old there
 
     port : (x : Registers) → p ≡ slice_index_or r.ports node x
     port x = t.p_is ∙ get_or_default r.ports node p x (let c = h.count.ports in omega (arith, c, there))
@@ -62,7 +67,8 @@ module _ {setup : Setup} {r : SerialValue} {deeds : List (List Deed)} {node : �
     port_now x = sym (get_or-set_same r.ports node q x (let c = h.count.ports in omega (arith, c, there)))
 
     more_items : (m : ℕ) → m < setup.nodes → HasMore (journal_at r.bus.journals m) (journal_at bus.journals m)
-    more_items m less = let its = (gathers h there t m less).items in record { items = its.items; whole = its.whole }
+    more_items m less = let its = t.items m (let c = h.count.journals in omega (arith, c, less)) in
+        record { items = its.items; whole = its.whole }
 
     -- what drivers have as done, and their kept bytes, stay
     logs_stay : (m : ℕ) (d : LoggedDriver) → m < setup.nodes →
@@ -76,12 +82,12 @@ module _ {setup : Setup} {r : SerialValue} {deeds : List (List Deed)} {node : �
         (let c = h.count.drivers in omega (arith, c, there)) (t.stays.kept ∙ ap kept_of t.was_is)
 
   -- the step was done
-  next_done : {was now : LoggedDriver} {p q : Registers} {given : List Deques} {bus : BusValue} {after : List Deques}
-      {one : Step} {answer : StepAnswer} → Tries r node was now p q one (Some answer) given bus after →
+  next_done : {was now : LoggedDriver} {p q : Registers} {old given : Deques} {bus : BusValue} {after : List Deques}
+      {one : Step} {answer : StepAnswer} → Tries r node was now p q one (Some answer) old given bus after →
       DoesDeed setup r (run_tried r node now q bus after) node one answer deeds
-  next_done {was} {now} {p} {q} {bus = bus} {after} {one} {answer} t =
-      let s = stepped now (w t) t.stays.lawful (gathers h there t node there) (laws.lawful node inside) answer few
-      t.steps t.stays.room in let d = s.deed in record {
+  next_done {was} {now} {p} {q} {old} {bus = bus} {after} {one} {answer} t =
+      let s = stepped now (w t) t.stays.lawful (gathers h there t) (laws.lawful node inside) answer few t.steps
+      t.stays.room in let d = s.deed in record {
         deed = d;
         does = record {
           stands = stands_after h there t (d ∷ []) s.node s.shows;
@@ -96,7 +102,7 @@ module _ {setup : Setup} {r : SerialValue} {deeds : List (List Deed)} {node : �
             (subst (λ (b : Registers). IsPortDeed p b j (journal_at bus.journals node) ds d) (port_now t x) s.port);
         fits = s.fits;
         sees = s.sees;
-        others = λ m less differ. (other_node h there t m was p differ less).0;
+        others = λ m less differ. (other_node h there t m was p old differ less).0;
         ports = λ m x differ. get_or-set_other r.ports node m q x differ;
         logs = logs_stay t;
         kept = kept_stays t;
@@ -107,19 +113,19 @@ module _ {setup : Setup} {r : SerialValue} {deeds : List (List Deed)} {node : �
       only x (suc i) d e less = absurd (omega (arith, less))
 
   -- the step has to wait
-  next_waits : {was now : LoggedDriver} {p q : Registers} {given : List Deques} {bus : BusValue} {after : List Deques}
+  next_waits : {was now : LoggedDriver} {p q : Registers} {old given : Deques} {bus : BusValue} {after : List Deques}
       {one : Step} →
-      Tries r node was now p q one None given bus after →
+      Tries r node was now p q one None old given bus after →
       DoesNothing setup r (run_tried r node now q bus after) node one deeds
-  next_waits {was} {now} {p} {q} {bus = bus} {after} {one} t =
-      let s = waited now (w t) t.stays.lawful (gathers h there t node there) (laws.lawful node inside) t.steps
-      (t.stays.waits refl) in let k = journal_at bus.journals node in
+  next_waits {was} {now} {p} {q} {old} {bus = bus} {after} {one} t =
+      let s = waited now (w t) t.stays.lawful (gathers h there t) (laws.lawful node inside) t.steps
+      (t.stays.waits refl) (starts t) in let k = journal_at bus.journals node in
       let ports_stay : slice_set r.ports node q ≡ r.ports =
       ap (slice_set r.ports node) (s.port ∙ t.p_is) ∙ set-get_or r.ports node p in record {
         does = record {
           stands = stands_after h there t [] (subst (λ (l : List Deed). IsNode setup.version
-              (slice_index_or setup.steps node 0) k l now
-              q after (64 * node)) (sym (append-nil ds)) s.node) (λ same shown. subst (ShowsRecord k) (sym s.port)
+              (slice_index_or setup.steps node 0) k l now q (slice_index_or after node old)) (sym (append-nil ds))
+              s.node) (λ same shown. subst (ShowsRecord k) (sym s.port)
               (subst (λ (l : List Entry). ShowsRecord l p) (sym same) shown));
           at_once = λ i d less. absurd (omega (arith, less));
           bits = refl;
@@ -131,16 +137,16 @@ module _ {setup : Setup} {r : SerialValue} {deeds : List (List Deed)} {node : �
         ports = ports_stay;
         journals = λ m less. elim (cases_eq node m) [
           | inl e ↦ subst (λ (x : ℕ). journal_at bus.journals x ≡ journal_at r.bus.journals x) e s.journal
-          | inr differ ↦ (other_node h there t m was p (λ e. differ (sym e)) less).0
+          | inr differ ↦ (other_node h there t m was p old (λ e. differ (sym e)) less).0
         ];
         logs = logs_stay t;
         kept = kept_stays t;
       }
 
   -- either of both
-  pub next_tried : {was now : LoggedDriver} {p q : Registers} {given : List Deques} {bus : BusValue}
+  pub next_tried : {was now : LoggedDriver} {p q : Registers} {old given : Deques} {bus : BusValue}
       {after : List Deques} {one : Step} (answer : Option StepAnswer) →
-      Tries r node was now p q one answer given bus after →
+      Tries r node was now p q one answer old given bus after →
       IsTried setup r (run_tried r node now q bus after) node one deeds answer
   next_tried (Some answer) t = (next_done t, λ e. absurd cc)
   next_tried None t = (tt, λ e. next_waits t)

@@ -1,9 +1,9 @@
 -- The headline of a run at any moment, by what its bus promises of all journals.
-use Rattle.std.proofs.Common.{◌≡◌, ℕ, suc, ◌+◌, ◌*◌, ◌<◌, List, ◌++◌, length, ap, ◌∙◌, arith}
+use Rattle.std.proofs.Common.{◌≡◌, ℕ, suc, ◌+◌, ◌<◌, List, ◌++◌, length, ap, ◌∙◌, arith}
 use Rattle.std.specs.Prelude.{slice_index_or}
 use Rattle.sja_link.specs.declared.entry.Entry.{Entry}
 use Rattle.sja_link.specs.Accounts.{Account}
-use Rattle.sja_link.specs.Deques.{Deques}
+use Rattle.sja_link.specs.Deques.{Deques, down_on}
 use Rattle.sja_link.specs.Places.{place_of}
 use Rattle.sja_link.specs.Verdicts.{IsLawful}
 use Rattle.sja_regs.specs.declared.registers.Registers.{Registers}
@@ -14,13 +14,12 @@ use Rattle.sja_wire.specs.Wire.{journal_at}
 use Rattle.sja_driver.specs.declared.logged_driver.LoggedDriver.{LoggedDriver}
 use Rattle.sja_driver.specs.AnyDrivers.{opened_of}
 use Rattle.sja_driver.specs.Deeds.{Deed, given_in, deeds_of, deeds_at}
-use Rattle.sja_driver.specs.LoggedDrivers.{node_of, driver_of, log_of, ended_of}
+use Rattle.sja_driver.specs.LoggedDrivers.{driver_of, log_of}
 use Rattle.sja_driver.specs.Logs.{releases_in, released_of}
 use Rattle.sja_log.specs.Finishing.{held_after, activation_after}
 use Rattle.sja_log.specs.Nodes.{IsNode}
 use Rattle.sja_log.specs.Settling.{IsSettled}
 use Rattle.sja_log.proofs.Account.Accounts.{headline_of}
-use Rattle.sja_log.proofs.NodeLog.NodeEnds.{opened_few}
 use Rattle.sja_log.proofs.Trace.Windows.{settled_kept}
 use Rattle.sja_serial.specs.Accounts.{IsAccountNow, AreAccountsNow}
 use Rattle.sja_serial.specs.Serial.{Setup, SerialValue, StandsAt}
@@ -28,42 +27,39 @@ use Rattle.sja_serial.specs.Serial.{Setup, SerialValue, StandsAt}
 -- ---- one node
 
 module _ (version size : ℕ) (j : List Entry) (deeds : List Deed) (driver : LoggedDriver) (port : Registers)
-    (links : List Deques) (base : ℕ) (h : IsNode version size j deeds driver port links base) where
+    (links : Deques) (h : IsNode version size j deeds driver port links) where
   -- what it released in an activation, what it holds and what lies on the link are those of the journal's part
-  pub settled_now : (a : ℕ) (l : Deques) → a < 64 →
-      IsSettled j (a + 1) (activation_after driver (slice_index_or links (base + a) l).down a)
-  settled_now a l few =
+  pub settled_now : (a : ℕ) → IsSettled j (a + 1) (activation_after driver (down_on links (a + 1)) a)
+  settled_now a =
       let holds = h.linked.holds in
       let accounts : ℕ → Account = λ b. record { got = holds.got b; given = given_in (deeds_of deeds (suc b)) } in
       let one : suc a ≡ a + 1 = omega arith in
-      let told = holds.told a few
+      let told = holds.told a
       ∙ ap (λ n. released_of (releases_in (log_of driver)) n ++ held_after driver a) one in
-      settled_kept j links base accounts l holds.kept a (released_of (releases_in (log_of driver)) (a + 1))
-      (held_after driver a) few (h.linked.taken a l few) told
+      settled_kept j links accounts holds.kept a (released_of (releases_in (log_of driver)) (a + 1))
+      (held_after driver a) h.linked.taken told
 
   begun : (place_of j).activation ≡ opened_of (driver_of driver)
   begun = h.linked.level.begun ∙ h.traced.traces.opened
 
-  account_now : IsLawful j → IsAccountNow j driver links base
+  account_now : IsLawful j → IsAccountNow j driver links
   account_now lawful = record {
     found = lawful.found;
     cut = lawful.cut;
     begun = begun;
-    headline = λ others a l cut less.
+    headline = λ others a cut less.
         let o = begun in
-        let few = (opened_few (node_of driver) (ended_of driver) (driver_of driver) h.traced.lawful).0 in
-        headline_of others j (a + 1) (activation_after driver (slice_index_or links (base + a) l).down a)
-        (lawful.verdicts others cut) (omega arith) (omega (arith, o, less))
-        (settled_now a l (omega (arith, less, few)));
+        headline_of others j (a + 1) (activation_after driver (down_on links (a + 1)) a)
+        (lawful.verdicts others cut) (omega arith) (omega (arith, o, less)) (settled_now a);
   }
 
 -- ---- all nodes
 
 pub accounts_now : (setup : Setup) (r : SerialValue) (deeds : List (List Deed)) (script : List Strike) (run : ℕ) →
     StandsAt setup r deeds → IsBusRun script run r.bus.journals → AreAccountsNow r
-accounts_now setup r deeds script run h bus = λ node d less.
+accounts_now setup r deeds script run h bus = λ node d l less.
     let drivers = h.count.drivers in let journals = h.count.journals in
     account_now setup.version (slice_index_or setup.steps node 0) (journal_at r.bus.journals node)
-    (deeds_at deeds node) (slice_index_or r.drivers node d) (slice_index_or r.ports node (at_power_on 1)) r.links
-    (64 * node) (h.nodes node d (at_power_on 1) (omega (arith, drivers, less)))
+    (deeds_at deeds node) (slice_index_or r.drivers node d) (slice_index_or r.ports node (at_power_on 1))
+    (slice_index_or r.links node l) (h.nodes node d (at_power_on 1) l (omega (arith, drivers, less)))
     (bus.lawful node (omega (arith, drivers, journals, less)))

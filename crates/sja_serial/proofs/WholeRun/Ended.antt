@@ -1,10 +1,10 @@
 -- The log of a run in one thread, by what its bus leaves and what drivers and links hold at the end.
-use Rattle.std.proofs.Common.{◌≡◌, ℕ, zero, suc, ◌+◌, ◌*◌, ◌<◌, List, [], ◌∷◌, length, map, refl, sym, ap}
+use Rattle.std.proofs.Common.{◌≡◌, ℕ, ◌+◌, ◌<◌, List, length, map, sym, ap}
 use Rattle.std.proofs.Common.{◌∙◌, subst, arith}
 use Rattle.std.specs.Prelude.{slice_index_or}
 use Rattle.sja_link.specs.declared.entry.Entry.{Entry}
 use Rattle.sja_link.specs.declared.down.Down.{Down}
-use Rattle.sja_link.specs.Deques.{Deques}
+use Rattle.sja_link.specs.Deques.{Deques, down_on}
 use Rattle.sja_wire.specs.declared.node_log.NodeLog.{NodeLog}
 use Rattle.sja_wire.specs.Lawful.{CountersAre, IsBusRun}
 use Rattle.sja_wire.specs.Wire.{journal_at}
@@ -21,50 +21,42 @@ use Rattle.sja_log.specs.Log.{NodeValue, RunValue}
 use Rattle.sja_log.specs.Runs.{IsTrace, AreFirst as AreFirstSteps}
 use Rattle.sja_log.specs.Settling.{IsSettled, AreSettled}
 use Rattle.sja_driver.proofs.Trace.Stepping.{given_taken}
-use Rattle.sja_log.proofs.OneNode.Gathered.{no_link}
 use Rattle.sja_log.specs.Nodes.{IsNode}
 use Rattle.sja_serial.specs.Serial.{Setup, SerialValue, StandsAt, StandsBy, IsAccessed, all_deeds, most_steps}
 use Rattle.sja_serial.proofs.Deeds.Parts.{all_at}
 use Rattle.sja_driver.specs.declared.kept_bytes.KeptBytes.{KeptBytes}
 use Rattle.sja_driver.specs.Accesses.{Access, accesses_at, deeds_in}
 use Rattle.sja_log.specs.Finishing.{activation_after, IsNodeEnd, AreNodeEnds}
-use Rattle.sja_log.specs.Inside.LeftDown.{all_down}
 use Rattle.sja_serial.specs.Ending.{IsLogOf, MayBeOf}
 use Rattle.sja_log.proofs.NodeLog.NodeEnds.{AreEnds, trace_of, settled_of, nodes_count, some_driver, node_end}
 use Rattle.sja_log.proofs.NodeLog.NodeEnds.{journal_is, journals_in_log, run_of_ends}
+use Rattle.sja_serial.proofs.AllNodes.Several.{some_links}
 use Rattle.sja_serial.proofs.WholeRun.AccountsNow.{settled_now}
-
--- what lies downward on one of these links
-down_at : (links : List Deques) (k : ℕ) (d : Deques) →
-    slice_index_or (all_down links) k d.down ≡ (slice_index_or links k d).down
-down_at [] k d = refl
-down_at (x ∷ links) zero d = refl
-down_at (x ∷ links) (suc k) d = down_at links k d
 
 -- ---- one node
 
 module _ (version size : ℕ) (j : List Entry) (deeds : List Deed) (driver : LoggedDriver)
-    (port : Registers) (links : List Deques) (base : ℕ) (h : IsNode version size j deeds driver port links base)
-    (log : NodeLog) (node : NodeValue) (end : IsNodeEnd log driver (all_down links) base node)
-    (same : node.journal ≡ j) where
+    (port : Registers) (links : Deques) (h : IsNode version size j deeds driver port links)
+    (down : ℕ → List Down) (left : (a : ℕ) → down a ≡ down_on links a)
+    (log : NodeLog) (node : NodeValue) (end : IsNodeEnd log driver down node) (same : node.journal ≡ j) where
   trace_at : IsTrace version node deeds
-  trace_at = trace_of j deeds driver (all_down links) base log node end same version h.traced.traces
+  trace_at = trace_of j deeds driver down log node end same version h.traced.traces
       (λ a. given_taken deeds j a (h.in_time.when a))
 
   settled_at : AreSettled node
   settled_at =
-      settled_of j deeds driver (all_down links) base log node end same h.traced.lawful (λ a few.
-      subst (λ (l : List Down). IsSettled j (a + 1) (activation_after driver l a))
-      (sym (down_at links (base + a) no_link))
-      (settled_now version size j deeds driver port links base h a no_link few))
+      settled_of j deeds driver down log node end same (λ a few.
+      subst (λ (l : List Down). IsSettled j (a + 1) (activation_after driver l a)) (sym (left (a + 1)))
+      (settled_now version size j deeds driver port links h a))
 
 -- ---- all nodes
 
 module _ (plan : PlanValue) (r : SerialValue) (accesses : List (List Access)) (end : End) (log : RunValue)
     (logs : List NodeLog) (setup : Setup) (by : StandsBy setup r accesses) (is : MayBeOf plan setup accesses)
     (version : log.version ≡ setup.version) (bits : log.bits ≡ r.bits)
-    (ends : log.end ≡ end)
-    (all : AreNodeEnds logs r.drivers (all_down r.links) (length r.drivers) log.nodes)
+    (ends : log.end ≡ end) (down : ℕ → ℕ → List Down)
+    (left : (k a : ℕ) (l : Deques) → k < length r.links → down k a ≡ down_on (slice_index_or r.links k l) a)
+    (all : AreNodeEnds logs r.drivers down (length r.drivers) log.nodes)
     (journals : map (λ (g : NodeLog). g.journal.entries) logs ≡ r.bus.journals)
     (bus : IsBusRun r.bus.script r.bus.run (map (λ (g : NodeLog). g.journal.entries) logs))
     (counters : (k : ℕ) (g : NodeLog) → k < length logs →
@@ -76,7 +68,7 @@ module _ (plan : PlanValue) (r : SerialValue) (accesses : List (List Access)) (e
   h : StandsAt setup r deeds
   h = by.stands
 
-  are : AreEnds plan log logs r.bus.journals r.drivers (all_down r.links)
+  are : AreEnds plan log logs r.bus.journals r.drivers down
   are = record {
     nodes = all;
     drivers_count = h.count.drivers ∙ is.nodes;
@@ -88,33 +80,37 @@ module _ (plan : PlanValue) (r : SerialValue) (accesses : List (List Access)) (e
   module _ (k : ℕ) (n : NodeValue) (less : k < length log.nodes) where
     abbrev driver : LoggedDriver
     driver = slice_index_or r.drivers k
-        (some_driver plan log logs r.bus.journals r.drivers (all_down r.links) are k n less)
+        (some_driver plan log logs r.bus.journals r.drivers down are k n less)
 
     in_plan : k < length plan.nodes
-    in_plan = let c = nodes_count plan log logs r.bus.journals r.drivers (all_down r.links) are in
+    in_plan = let c = nodes_count plan log logs r.bus.journals r.drivers down are in
         omega (arith, c, less)
 
     node_is : IsNode plan.version (slice_index_or setup.steps k 0) (journal_at r.bus.journals k) (deeds_at deeds k)
-        driver (slice_index_or r.ports k (at_power_on 1)) r.links (64 * k)
+        driver (slice_index_or r.ports k (at_power_on 1)) (slice_index_or r.links k some_links)
     node_is = let l = in_plan in let m = is.nodes in
         subst (λ (v : ℕ). IsNode v (slice_index_or setup.steps k 0) (journal_at r.bus.journals k) (deeds_at deeds k)
-        driver (slice_index_or r.ports k (at_power_on 1)) r.links (64 * k)) is.version
-        (h.nodes k (some_driver plan log logs r.bus.journals r.drivers (all_down r.links) are k n less) (at_power_on 1)
+        driver (slice_index_or r.ports k (at_power_on 1)) (slice_index_or r.links k some_links)) is.version
+        (h.nodes k (some_driver plan log logs r.bus.journals r.drivers down are k n less) (at_power_on 1) some_links
         (omega (arith, l, m)))
 
+    left_there : (a : ℕ) → down k a ≡ down_on (slice_index_or r.links k some_links) a
+    left_there a = let l = in_plan in let m = is.nodes in let c = h.ends.count in
+        left k a some_links (omega (arith, l, m, c))
+
     same : (slice_index_or log.nodes k n).journal ≡ journal_at r.bus.journals k
-    same = journal_is plan log logs r.bus.journals r.drivers (all_down r.links) are k n less
+    same = journal_is plan log logs r.bus.journals r.drivers down are k n less
 
     trace_there : IsTrace plan.version (slice_index_or log.nodes k n) (deeds_at deeds k)
     trace_there = trace_at plan.version _ (journal_at r.bus.journals k) (deeds_at deeds k) driver _
-        r.links (64 * k) node_is _ (slice_index_or log.nodes k n)
-        (node_end plan log logs r.bus.journals r.drivers (all_down r.links) are k n less) same
+        _ node_is (down k) left_there _ (slice_index_or log.nodes k n)
+        (node_end plan log logs r.bus.journals r.drivers down are k n less) same
 
     settled_there : AreSettled (slice_index_or log.nodes k n)
     settled_there = settled_at plan.version _ (journal_at r.bus.journals k) (deeds_at deeds k)
         driver _
-        r.links (64 * k) node_is _ (slice_index_or log.nodes k n)
-        (node_end plan log logs r.bus.journals r.drivers (all_down r.links) are k n less) same
+        _ node_is (down k) left_there _ (slice_index_or log.nodes k n)
+        (node_end plan log logs r.bus.journals r.drivers down are k n less) same
 
     in_time_there : IsInTime plan.version (slice_index_or log.nodes k n).journal (deeds_in (accesses_at accesses k))
     in_time_there = subst (λ (j : List Entry). IsInTime plan.version j (deeds_in (accesses_at accesses k))) (sym same)
@@ -124,13 +120,13 @@ module _ (plan : PlanValue) (r : SerialValue) (accesses : List (List Access)) (e
     accessed : IsAccessed setup.version (most_steps setup.version (slice_index_or setup.steps k 0))
         (journal_at r.bus.journals k) (accesses_at accesses k) driver (slice_index_or r.ports k (at_power_on 1))
     accessed = let l = in_plan in let m = is.nodes in
-        by.nodes k (some_driver plan log logs r.bus.journals r.drivers (all_down r.links) are k n less) (at_power_on 1)
+        by.nodes k (some_driver plan log logs r.bus.journals r.drivers down are k n less) (at_power_on 1)
         (omega (arith, l, m))
 
     steps_there : AreFirstSteps (steps_at plan k) (slice_index_or log.nodes k n) (accesses_at accesses k)
     steps_there = record {
       first = is.first k in_plan;
-      done = accessed.done ∙ sym (node_end plan log logs r.bus.journals r.drivers (all_down r.links) are k n less).done;
+      done = accessed.done ∙ sym (node_end plan log logs r.bus.journals r.drivers down are k n less).done;
     }
 
     registers_there : (kept : KeptBytes) × (p : Registers)
@@ -146,11 +142,11 @@ module _ (plan : PlanValue) (r : SerialValue) (accesses : List (List Access)) (e
 
   pub log_of_run : IsLogOf plan r accesses end log
   log_of_run = record {
-    run = run_of_ends plan log logs r.bus.journals r.drivers (all_down r.links) are deeds r.bus.script r.bus.run
+    run = run_of_ends plan log logs r.bus.journals r.drivers down are deeds r.bus.script r.bus.run
         (version ∙ is.version) (h.script ∙ is.strikes) (bits ∙ h.bits) bus trace_there settled_there;
     bits = bits;
     ends = ends;
-    journals = journals_in_log plan log logs r.bus.journals r.drivers (all_down r.links) are;
+    journals = journals_in_log plan log logs r.bus.journals r.drivers down are;
     steps = steps_there;
     in_time = in_time_there;
     registers = registers_there;

@@ -29,7 +29,7 @@ use Rattle.sja_serial.specs.Bits.TakesBits.{no_bit, one_more}
 use Rattle.sja_serial.specs.Serial.{Setup, SerialValue, StandsAt, StandsBy, all_deeds}
 use Rattle.sja_serial.proofs.Deeds.Parts.{all_at}
 use Rattle.sja_driver.proofs.Account.Counts.{as_many}
-use Rattle.sja_serial.proofs.AllNodes.Several.{first_driver}
+use Rattle.sja_serial.proofs.AllNodes.Several.{first_driver, some_links}
 use Rattle.sja_log.proofs.NodeLog.Onward.{Extends, moment_then, put_then, extends_bit, bits_bit, aborts_bit}
 
 -- a run of the plan with these journals and steps done
@@ -84,7 +84,7 @@ module _ (setup : Setup) (r : SerialValue) (accesses : List (List Access)) (jour
       (deeds_in (accesses_at accesses k))
   in_time_at k less = let c = h.count.drivers in
       subst (λ (l : List Deed). IsInTime setup.version (journal_at r.bus.journals k) l) (all_at accesses k)
-      (h.nodes k (first_driver r.drivers (omega (arith, c, less))) (at_power_on 1) less).in_time
+      (h.nodes k (first_driver r.drivers (omega (arith, c, less))) (at_power_on 1) some_links less).in_time
 
   pub entries_then : (k : ℕ) → k < setup.nodes →
       at_moment r.bits (length (given_in (deeds_in (accesses_at accesses k)))) (journal_at journals k) ≡ journal_at
@@ -105,7 +105,7 @@ module _ (setup : Setup) (r : SerialValue) (accesses : List (List Access)) (jour
       (slice_index_or r.ports k p)
   registers_then k p less = let c = h.count.drivers in
       subst (λ (l : List Deed). LeadTo setup.version (journal_at r.bus.journals k) l (slice_index_or r.ports k p))
-      (all_at accesses k) (h.nodes k (first_driver r.drivers (omega (arith, c, less))) p less).registers
+      (all_at accesses k) (h.nodes k (first_driver r.drivers (omega (arith, c, less))) p some_links less).registers
 
   put_is : (k a : ℕ) → k < setup.nodes →
       put_by r.bits (journal_at journals k) a ≡ put_by r.bits (journal_at r.bus.journals k) a

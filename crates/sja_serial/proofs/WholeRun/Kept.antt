@@ -1,7 +1,11 @@
 -- The run of a plan keeps all that happens in it.
 use Rattle.std.proofs.Common.{◌≡◌, ◌≤◌, ◌+◌, ◌*◌, ℕ, Bool, true, false, List, length, map, ap, ◌∙◌, arith}
-use Rattle.std.specs.Prelude.{◌/◌, ◌<◌, ◌^◌, [], All, if◌then◌else◌, slice_index_or}
+use Rattle.std.specs.Prelude.{◌/◌, ◌<◌, ◌^◌, nat_lt, [], All, if◌then◌else◌, slice_index_or}
+use Rattle.std.proofs.lemmas.Bool.{lt-ltb}
 use Rattle.std.proofs.lemmas.List.{get_or-map, get_or_default, length-map}
+use Rattle.sja_link.specs.Deques.{Deques}
+use Rattle.sja_link.specs.Recents.{KeepsAll}
+use Rattle.sja_link.specs.Sizes.{most_activations}
 use Rattle.sja_regs.specs.Registers.{at_power_on}
 use Rattle.sja_driver.specs.declared.logged_driver.LoggedDriver.{LoggedDriver}
 use Rattle.sja_driver.specs.Accesses.{Access, by_bytes, most_deeds}
@@ -15,6 +19,7 @@ use Rattle.sja_driver.specs.Deeds.{Deed}
 use Rattle.sja_serial.specs.Keeping.{IsKept}
 use Rattle.sja_serial.specs.Serial.{Setup, SerialValue, StandsAt, StandsBy, most_steps}
 use Rattle.sja_wire.specs.Keeping.{KeepsRecord}
+use Rattle.sja_serial.proofs.AllNodes.Several.{some_links}
 
 -- so many steps are three times as many deeds at most
 pub few_deeds : (version steps most : ℕ) → steps ≤ most → most_deeds version steps ≤ 3 * most
@@ -42,6 +47,7 @@ counts_few plan limits k d less =
 
 pub plan_kept : (plan : PlanValue) → IsInLimits plan → IsKept (setup_of plan)
 plan_kept plan limits = record {
+  version = let three = limits.version.1 in omega (arith, three);
   bits = let few = limits.bits.1 in let most = bits_most plan.version in omega (arith, few, most);
   steps = λ node less.
       let none : List Step = [] in
@@ -61,6 +67,31 @@ keeps_record setup r deeds h kept node less =
     let count = h.count.journals in let own = kept.steps node (omega (arith, less, count)) in let few = kept.bits in
     omega (arith, bits, steps, own, few)
 
+-- so many activations are as many as links can be made for
+pub activations_most : (version : ℕ) → most_activations version ≤ 2 ^ 58
+activations_most version = by (nat_lt version 3) (nat_lt version 4)
+  where
+    by : (few plans : Bool) → (if few then 8 else if plans then 64 else 2 ^ 56) ≤ 2 ^ 58
+    by true plans = omega arith
+    by false true = omega arith
+    by false false = omega arith
+
+-- a version of plans has few activations
+few_activations : (version : ℕ) → version < 4 → most_activations version ≤ 64
+few_activations version plain = by (nat_lt version 3) (nat_lt version 4) (lt-ltb version 4 plain)
+  where
+    by : (few plans : Bool) → plans ≡ true → (if few then 8 else if plans then 64 else 2 ^ 56) ≤ 64
+    by true plans is = omega arith
+    by false true is = omega arith
+    by false false is = absurd cc
+
+-- so its links forget nothing
+pub keeps_links : (setup : Setup) (r : SerialValue) (deeds : List (List Deed)) → StandsAt setup r deeds →
+    IsKept setup → (k : ℕ) (l : Deques) → k < length r.links → KeepsAll (slice_index_or r.links k l).room
+keeps_links setup r deeds h kept k l less =
+    let count = h.ends.count in let most = few_activations setup.version kept.version in
+    let made = h.starts k l (omega (arith, count, less)) in omega (arith, made, most)
+
 -- and so does the log of each of its drivers
 few_steps : (version deeds : ℕ) → most_steps version deeds ≤ deeds
 few_steps version deeds = by (by_bytes version)
@@ -74,12 +105,12 @@ pub keeps_logs : (setup : Setup) (r : SerialValue) (accesses : List (List Access
     KeepsLog (log_of (slice_index_or r.drivers k d))
 keeps_logs setup r accesses h kept k d less =
     let count = h.stands.count.drivers in let there : k < setup.nodes = omega (arith, count, less) in
-    let node = (h.stands.nodes k d (at_power_on 1) there).traced in
+    let node = (h.stands.nodes k d (at_power_on 1) some_links there).traced in
     let made = (h.nodes k d (at_power_on 1) there).room in
     let own = kept.steps k there in let few = few_steps setup.version (slice_index_or setup.steps k 0) in
     let deeds = node.made_for in let activations = node.activations in
-    record {
+    let most = few_activations setup.version kept.version in record {
       done = omega (arith, made, few, own);
       releases = omega (arith, deeds, own);
-      left = omega (arith, activations);
+      left = omega (arith, activations, most);
     }

@@ -23,10 +23,10 @@ stands_with setup strikes r deeds h = record {
     journals = h.count.journals;
     drivers = h.count.drivers;
     ports = h.count.ports;
-    links = h.count.links;
   };
   deeds_count = h.deeds_count;
-  ids = h.ids;
+  ends = h.ends;
+  starts = h.starts;
   own = h.own;
   nodes = h.nodes;
   shown = h.shown;

@@ -110,6 +110,7 @@ pub session_at : {s : SessionValue} {sizes : List ℕ} {capacity : ℕ} (run : S
 session_at run strikes inv at = record {
   accesses = inv.accesses;
   at = at;
+  rules = inv.rules;
   places = inv.places;
   done = inv.done;
   counted = inv.counted;
@@ -156,6 +157,7 @@ module _ {room : SessionRoom} {plan : PlanValue} {was now : SerialValue} {steps 
       subst (λ (l : List Turn). IsSession (session_of room now plan steps l) sizes places) (sym e) (record {
         accesses = inv.accesses;
         at = at_some inv.at t is;
+        rules = inv.rules;
         places = inv.places;
         done = inv.done;
         counted = inv.counted;

@@ -15,7 +15,7 @@ use Rattle.sja_wire.specs.Buses.{BusValue, new_bus}
 use Rattle.sja_session.specs.declared.session_room.SessionRoom.{SessionRoom}
 use Rattle.sja_session.specs.Beginning.{IsRoom}
 use Rattle.sja_session.specs.Sessions.{session_of, Took, start_of, IsAt, IsSession, AreNamed}
-use Rattle.sja_session.specs.Sessions.{setup_for, steps_in, written}
+use Rattle.sja_session.specs.Sessions.{run_version, setup_for, steps_in, written}
 use Rattle.sja_session.specs.Inside.Written.{IsBare}
 use Rattle.sja_session.proofs.WrittenPlan.Taken.{took_none}
 
@@ -31,14 +31,14 @@ deeds_each version (suc n) size = ap (λ l. most_deeds version size ∷ l) (deed
 
 -- a run that was made for what such a session's is
 module _ (room : SessionRoom) (plan : PlanValue) {version bits : ℕ} {script : List Strike} {sizes : List ℕ}
-    (version_is : version ≡ plan.version) (bits_is : bits ≡ plan.bits) (script_is : script ≡ plan.strikes)
+    (version_is : version ≡ run_version plan) (bits_is : bits ≡ plan.bits) (script_is : script ≡ plan.strikes)
     (sizes_are : sizes ≡ replicate (length plan.nodes) room.steps) where
   many : length sizes ≡ length plan.nodes
   many = ap (λ (l : List ℕ). length l) sizes_are ∙ length-replicate (length plan.nodes) room.steps
 
-  deeds_are : map (most_deeds version) sizes ≡ replicate (length plan.nodes) (most_deeds plan.version room.steps)
+  deeds_are : map (most_deeds version) sizes ≡ replicate (length plan.nodes) (most_deeds (run_version plan) room.steps)
   deeds_are = (λ i. map (most_deeds (version_is i)) (sizes_are i))
-      ∙ deeds_each plan.version (length plan.nodes) room.steps
+      ∙ deeds_each (run_version plan) (length plan.nodes) room.steps
 
   made : setup_with version bits script sizes ≡ setup_for plan room.steps
   made = λ i. let s : Setup = record {
@@ -57,14 +57,14 @@ module _ (room : SessionRoom) (plan : PlanValue) {version bits : ℕ} {script : 
 
   pub bus_made : (run : SerialValue) → run.bus ≡ new_bus script bits (length sizes) (map (most_deeds version) sizes) →
       run.bus ≡ new_bus plan.strikes plan.bits (length plan.nodes)
-      (replicate (length plan.nodes) (most_deeds plan.version room.steps))
+      (replicate (length plan.nodes) (most_deeds (run_version plan) room.steps))
   bus_made run is = is ∙ (λ i. new_bus (script_is i) (bits_is i) (many i) (deeds_are i))
 
 module _ (room : SessionRoom) {plan : PlanValue} {run : SerialValue} {steps : List (List Step)} {turns : List Turn}
     (bare : IsBare plan) (none : steps ≡ replicate (length plan.nodes) []) (idle : turns ≡ [])
     (stands : StandsBy (setup_for plan room.steps) run (replicate (length plan.nodes) []))
     (bus : run.bus ≡ new_bus plan.strikes plan.bits (length plan.nodes)
-    (replicate (length plan.nodes) (most_deeds plan.version room.steps)))
+    (replicate (length plan.nodes) (most_deeds (run_version plan) room.steps)))
   where
     -- it wrote a plan of no step and no turn
     pub wrote_first : written (session_of room run plan steps turns) ≡ plan
@@ -99,12 +99,14 @@ module _ (room : SessionRoom) {plan : PlanValue} {run : SerialValue} {steps : Li
 
     -- what holds of every session holds of it
     pub session_first : (sizes : List ℕ) (capacity : ℕ) → room.steps ≤ 2 ^ 56 →
+        (most_bits plan.version < plan.bits → plan.version ≡ 3) →
         (plan.bits ≤ most_bits plan.version → IsRoom plan.version room) →
         ((node : ℕ) → node < length plan.nodes → slice_index_or sizes node 0 ≡ room.steps) →
         room.turns + 1 ≤ capacity → IsSession (session_of room run plan steps turns) sizes capacity
-    session_first sizes capacity counted fits places big = record {
+    session_first sizes capacity counted rules fits places big = record {
       accesses = replicate (length plan.nodes) [];
       at = at_first;
+      rules = rules;
       places = places;
       done = λ node less. no_more_than none node;
       counted = counted;

@@ -1,5 +1,5 @@
 -- The end of a session.
-use Rattle.std.proofs.Common.{◌≡◌, ℕ, List, [], length, map, take, refl, sym, ap, ◌∙◌, subst}
+use Rattle.std.proofs.Common.{◌≡◌, ◌≤◌, ℕ, List, [], length, map, take, refl, sym, ap, ◌∙◌, subst}
 use Rattle.std.proofs.Common.{arith}
 use Rattle.std.specs.Prelude.{slice_index_or}
 use Rattle.std.proofs.lemmas.List.{length-map, get_or-map, get_or-replicate}
@@ -15,7 +15,8 @@ use Rattle.sja_serial.specs.Keeping.{IsKept}
 use Rattle.sja_serial.proofs.AllNodes.Several.{many_steps}
 use Rattle.sja_serial.proofs.WholeRun.GoingOn.{acts_of}
 use Rattle.sja_serial.proofs.WholeRun.Kept.{few_deeds}
-use Rattle.sja_session.specs.Sessions.{SessionValue, HasEnd, IsAt, IsSession, setup_by, start_of, written}
+use Rattle.sja_session.specs.Sessions.{SessionValue, HasEnd, IsAt, IsSession, run_version, setup_by, start_of, written}
+use Rattle.sja_session.proofs.Lifetime.Versions.{run_as_plan}
 use Rattle.sja_session.proofs.WrittenPlan.Taken.{runs_all}
 
 -- the steps that were written are all that were done
@@ -30,26 +31,27 @@ first_written s accesses h node less =
     own ∙ sym (take-length (steps_at (written s) node))
     ∙ ap (λ n. take n (steps_at (written s) node)) (sym long)
 
--- so its run may be one of the plan that it wrote
-pub may_be_written : (s : SessionValue) (accesses : List (List Access)) → IsAt s accesses →
+-- so its run may be one of the plan that it wrote, if it has an end
+pub may_be_written : (s : SessionValue) (accesses : List (List Access)) → HasEnd s → IsAt s accesses →
     MayBeOf (written s) (setup_by s) accesses
-may_be_written s accesses h = record {
-  version = refl;
+may_be_written s accesses end h = record {
+  version = run_as_plan s.plan end;
   strikes = refl;
   nodes = refl;
-  first = first_written s accesses
-      h;
+  first = first_written s accesses h;
 }
 
 -- where it has an end its run keeps all that happens in it
 pub kept_by : (s : SessionValue) (sizes : List ℕ) (capacity : ℕ) → IsSession s sizes capacity → HasEnd s →
-    IsKept (setup_by s)
-kept_by s sizes capacity inv end = record {
+    s.plan.version ≤ 3 → IsKept (setup_by s)
+kept_by s sizes capacity inv end known = record {
+  version = let own = run_as_plan s.plan end in omega (arith, own, known);
   bits = let most = bits_most s.plan.version in omega (arith, end, most);
   steps = λ node less.
-      let is = get_or-replicate (length s.steps) node (most_deeds s.plan.version s.room.steps) 0 less in
+      let version = run_version s.plan in
+      let is = get_or-replicate (length s.steps) node (most_deeds version s.room.steps) 0 less in
       let few = inv.steps end in let all = steps_most s.plan.version in
-      let deeds = few_deeds s.plan.version s.room.steps 65535 (omega (arith, few, all)) in omega (arith, is, deeds);
+      let deeds = few_deeds version s.room.steps 65535 (omega (arith, few, all)) in omega (arith, is, deeds);
 }
 
 -- the turns of the plan that was written lead from the first point of the run to this one

@@ -28,6 +28,14 @@ one_bit p bits room may one = elim may.bits [
   | inr more ↦ let far = more.0 in omega (arith, far)
 ]
 
+-- for more bits than a plan may have it goes by one of version 3
+pub rules_first : (p : PlanValue) (bits : ℕ) (room : SessionRoom) → MayGoBy p bits room → p.bits ≤ most_bits p.version →
+    most_bits p.version < bits → p.version ≡ 3
+rules_first p bits room may few far = elim may.bits [
+  | inl own ↦ absurd (omega (arith, own, few, far))
+  | inr more ↦ more.2
+]
+
 -- it holds strikes beside its plan where it has more bits than that
 pub goes_first : (p : PlanValue) (bits : ℕ) (room : SessionRoom) (struck : Recents Strike) → MayGoBy p bits room →
     p.bits ≤ most_bits p.version → struck.items ≡ [] → struck.room ≡ beside_for p bits → GoesBy p bits struck

@@ -43,6 +43,7 @@ module _ {room : SessionRoom} (plan : PlanValue) (was now : SerialValue) (steps 
     after_done noted stay = record {
       accesses = with_accesses inv.accesses node (t.access ∷ []);
       at = at_it plan was now steps turns inv.accesses node one may.there inv.at t items noted;
+      rules = inv.rules;
       places = inv.places;
       done = few_done;
       counted = inv.counted;

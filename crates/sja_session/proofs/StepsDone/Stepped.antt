@@ -29,10 +29,11 @@ use Rattle.sja_serial.proofs.Deeds.Parts.{all_at}
 use Rattle.sja_session.proofs.WrittenPlan.OneMore.{more_long, steps_many, steps_more}
 use Rattle.sja_session.specs.Answering.{last_of, last_answer}
 use Rattle.sja_session.specs.declared.session_room.SessionRoom.{SessionRoom}
-use Rattle.sja_session.specs.Sessions.{session_of, Took, start_of, IsAt, setup_for, written}
+use Rattle.sja_session.specs.Sessions.{session_of, Took, start_of, IsAt, run_version, setup_for, written}
 use Rattle.sja_session.specs.Stepping.{DoesStep, MayStep, Waits}
 use Rattle.sja_session.specs.Turning.{with_turn}
 use Rattle.sja_session.specs.Writing.{with_more}
+use Rattle.sja_session.proofs.Lifetime.Versions.{access_as_plan}
 use Rattle.sja_session.proofs.StepsDone.LastAnswer.{last_pushed, last_mapped}
 use Rattle.sja_session.proofs.WrittenPlan.Taken.{took_step, took_same}
 use Rattle.sja_session.proofs.WrittenPlan.Turned.{took_turn}
@@ -57,9 +58,9 @@ room_left {room} plan was steps turns accesses node h may =
       left = λ d.
           let done = done_count _ was accesses node d (at_power_on 1) h.stands near in
           let many = steps_many steps accesses node h.steps in let left = may.left in
-          let size = ap (most_steps plan.version)
-          (get_or-replicate (length steps) node (most_deeds plan.version room.steps) 0 near)
-          ∙ as_asked (by_bytes plan.version) room.steps in omega (arith, done, many, left, size);
+          let version = run_version plan in let size = ap (most_steps version)
+          (get_or-replicate (length steps) node (most_deeds version room.steps) 0 near)
+          ∙ as_asked (by_bytes version) room.steps in omega (arith, done, many, left, size);
     }
 
 module _ {room : SessionRoom} (plan : PlanValue) (was now : SerialValue) (steps : List (List Step)) (turns : List Turn)
@@ -116,11 +117,11 @@ module _ {room : SessionRoom} (plan : PlanValue) (was now : SerialValue) (steps 
     setup_same : (items : List Turn) →
         setup_for (written (session_of room now plan more items)) room.steps ≡ setup
     setup_same items = let n = more_long steps node one in λ i. let s : Setup = record {
-      version = plan.version;
+      version = run_version plan;
       bits = plan.bits;
       strikes = plan.strikes;
       nodes = n i;
-      steps = replicate (n i) (most_deeds plan.version room.steps);
+      steps = replicate (n i) (most_deeds (run_version plan) room.steps);
     } in s
 
     -- with the turns that were taken down, if it has an end
@@ -136,15 +137,16 @@ module _ {room : SessionRoom} (plan : PlanValue) (was now : SerialValue) (steps 
           (sym (noted end)) (took_it end);
     }
 
-    pub does_step : (answer : StepAnswer) → a.answer ≡ answer → (items : List Turn) →
+    pub does_step : (most_bits plan.version < plan.bits → plan.version ≡ 3) → (answer : StepAnswer) →
+        a.answer ≡ answer → (items : List Turn) →
         (plan.bits ≤ most_bits plan.version → items ≡ with_turn turns (Node node 1)) →
         DoesStep (session_of room was plan steps turns) (session_of room now plan more items) node one answer accesses
-    does_step answer same items noted = record {
+    does_step rules answer same items noted = record {
       access = a;
       is = t.step_is;
       answered = same;
       when = t.bits_are;
-      what = t.is;
+      what = λ d p. access_as_plan plan rules (t.is d p);
       on = t.on;
       others = λ m less differ. t.others m (let n = h.count in omega (arith, n, less)) differ;
       ports = t.ports;

@@ -25,9 +25,9 @@ with_bits turns zero = turns
 with_bits turns (suc n) = with_turn turns (Bus (suc n))
 
 -- a plan may be gone by for so many bits, with such a room: for its own, within its limits; or for more than it may
--- have, where it has no strikes
+-- have, where it is of version 3 and has no strikes
 pub record MayGoBy (p : PlanValue) (count : ℕ) (room : SessionRoom) : Type 0 where
-  pub bits : (count ≡ p.bits) ⊎ ((most_bits p.version < count) × (p.strikes ≡ []))
+  pub bits : (count ≡ p.bits) ⊎ ((most_bits p.version < count) × (p.strikes ≡ []) × (p.version ≡ 3))
   pub few : count ≤ 2 ^ 62
   pub counted : room.steps ≤ 2 ^ 56
   pub turns : room.turns ≤ 200000

@@ -15,10 +15,10 @@ loop-node-preserved c =
     let own : c.new-in-loop-node.result.node ≡ node = c.new-in-loop-node.ensures.node in
     let steps : ℕ = slice_index_or c.args.steps.now node 0 in
     let size : ℕ = slice_index_or c.args.deeds.now node 0 in
-    let is : IsNewDriver node steps size x = record {
+    let is : IsNewDriver c.args.version node steps size x = record {
       own = own;
       empty = subst (λ (l : WorkLog). IsEmpty l) (sym c.new-in-loop-node.ensures.log) c.in_ok-log.ensures.empty;
-      made_for = subst (λ (l : WorkLog). IsMadeFor steps size l) (sym c.new-in-loop-node.ensures.log)
+      made_for = subst (λ (l : WorkLog). IsMadeFor c.args.version steps size l) (sym c.new-in-loop-node.ensures.log)
           c.in_ok-log.ensures.made;
       kept = c.new-in-loop-node.ensures.kept;
       reset = c.new-in-loop-node.ensures.reset;
@@ -28,7 +28,8 @@ loop-node-preserved c =
     record {
       count = search rules;
       room = search rules;
-      new = subst (λ (l : List LoggedDriver). AreNew c.args.steps.now c.args.deeds.now (node + 1) l)
+      new = subst (λ (l : List LoggedDriver). AreNew c.args.version c.args.steps.now c.args.deeds.now (node + 1) l)
           (sym c.push_reserved.ensures.items)
-          (new_push c.args.steps.now c.args.deeds.now node c.loop-node.drivers.items x inv.count inv.new is);
+          (new_push c.args.version c.args.steps.now c.args.deeds.now node c.loop-node.drivers.items x inv.count
+          inv.new is);
     }

@@ -6,5 +6,5 @@ abbrev pub invariant-loop-node : goal.invariant-loop-node
 invariant-loop-node l = record {
   count : length l.drivers.items ≡ l.node;
   room : length l.steps ≤ vec_capacity l.drivers;
-  new : AreNew l.steps l.deeds l.node l.drivers.items;
+  new : AreNew l.version l.steps l.deeds l.node l.drivers.items;
 }

@@ -1,16 +1,39 @@
-use Rattle.std.proofs.Common.{◌≡◌, ◌++◌, List, subst, sym}
-use Rattle.std.specs.Vec.Iter.{into_iter_items}
-use Rattle.sja_link.specs.declared.down.Down.{Down}
-use Rattle.sja_log.specs.Inside.LeftDown.{all_down}
-use Rattle.sja_log.proofs.Account.OffLinks.{down_next, gathers_more}
+use Rattle.std.proofs.Common.{rules, ◌≡◌, ◌+◌, ◌<◌, ◌≤◌, ℕ, List, length, sym, ap, ◌∙◌, subst, arith}
+use Rattle.std.specs.Prelude.{slice_index_or}
+use Rattle.std.proofs.lemmas.List.{get_or_default}
+use Rattle.sja_link.specs.declared.older_down.OlderDown.{OlderDown}
+use Rattle.sja_link.specs.Deques.{Deques, left_on, down_on}
+use Rattle.sja_link.specs.Recents.{KeepsAll}
+use Rattle.sja_serial.proofs.WholeRun.Left.{IsLeftOf, left_all, left_push}
 use Rattle.sja_serial.proofs.left_on_links.all_left_down.Goals as goal
 
-pub loop-link-preserved : goal.loop-link-preserved
-loop-link-preserved c =
-    let was = into_iter_items c.loop-link.link-iterator in
-    let now = into_iter_items c.next.new.self in
-    let e = down_next was now c.in-Some.link c.in_ok-left_down.left_down c.in-Some.ensures.steps.0
-    c.in_ok-left_down.ensures in
-    subst (λ (l : List (List Down)). l ++ all_down now ≡ all_down c.args.links.items) (sym c.in_ok-push.ensures.items)
-    (gathers_more c.loop-link.lists.items (all_down was) (all_down now)
-    (all_down c.args.links.items) c.in_ok-left_down.left_down e c.loop-link.invariant)
+pub loop-of_node-init : goal.loop-of_node-init
+loop-of_node-init c = record {
+  room = search rules;
+  left = record { many = search rules; each = λ node activation d less. absurd (omega (arith, less)) };
+}
+
+pub on-requires : goal.on-requires
+on-requires c =
+    let P : Deques → Type 0 = λ s. KeepsAll s.room in
+    record {
+      kept = subst P (sym c.of_node-item.is)
+          (c.requires.kept c.loop-of_node.of_node-index c.of_node-item.result c.loop-of_node-test.true);
+    }
+
+pub loop-of_node-preserved : goal.loop-of_node-preserved
+loop-of_node-preserved c =
+    let inv = c.loop-of_node.invariant in let links = c.args.links.now in let n = c.loop-of_node.of_node-index in
+    let less : n < length links = c.loop-of_node-test.true in
+    let is : (d : Deques) → c.of_node-item.result ≡ slice_index_or links n d = λ d.
+    c.of_node-item.is ∙ get_or_default links n c.of_node-item.result d less in
+    record {
+      room = search rules;
+      left = subst (λ (l : List (List OlderDown)). IsLeftOf links (n + 1) l) (sym c.push_reserved.ensures.items)
+          (left_push links n c.loop-of_node.lists.items c.in_ok-left.left inv.left (λ activation d.
+          c.in_ok-left.ensures.each activation ∙ ap (λ (s : Deques). down_on s activation) (is d)));
+    }
+
+pub returns : goal.returns
+returns c = left_all c.args.links.now c.loop-of_node.of_node-index c.loop-of_node.lists.items
+    c.loop-of_node.invariant.left (search rules)

@@ -1,8 +1,9 @@
-use Rattle.std.proofs.Common.{◌≡◌, ◌++◌}
-use Rattle.std.specs.Vec.Iter.{into_iter_items}
-use Rattle.sja_log.specs.Inside.LeftDown.{all_down}
+use Rattle.std.proofs.Common.{◌≤◌, length, vec_capacity}
+use Rattle.sja_serial.proofs.WholeRun.Left.{IsLeftOf}
 use Rattle.sja_serial.proofs.left_on_links.all_left_down.Given as goal
 
--- what was gathered, and what lies on the links that are left, are the whole
-abbrev pub invariant-loop-link : goal.invariant-loop-link
-invariant-loop-link l = l.lists.items ++ all_down (into_iter_items l.link-iterator) ≡ all_down l.fn.links.items
+abbrev pub invariant-loop-of_node : goal.invariant-loop-of_node
+invariant-loop-of_node l = record {
+  room : length l.links ≤ vec_capacity l.lists;
+  left : IsLeftOf l.links l.of_node-index l.lists.items;
+}

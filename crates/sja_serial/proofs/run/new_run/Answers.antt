@@ -8,7 +8,7 @@ use Rattle.sja_plan.proofs.PlanLimits.ByVersion.{bits_most}
 use Rattle.sja_plan.specs.Plan.{PlanValue, step_counts, steps_at}
 use Rattle.sja_script.specs.declared.step.Step.{Step}
 use Rattle.sja_serial.specs.Ending.{AreFirst, setup_of}
-use Rattle.sja_serial.specs.Serial.{Setup, StandsBy, setup_with}
+use Rattle.sja_serial.specs.Serial.{Setup, StandsBy, plan_version, setup_with}
 use Rattle.sja_wire.specs.Buses.{new_bus}
 use Rattle.sja_serial.proofs.WholeRun.Kept.{counts_few}
 use Rattle.sja_serial.proofs.run.new_run.Goals.{After-bits}
@@ -45,11 +45,17 @@ new-requires-clause-steps c =
     subst (λ (l : List ℕ). All (λ (n : ℕ). n ≤ 2 ^ 56) l) (sym c.in_ok-steps.ensures.value)
     (counts_few c.args.plan.now c.limits.ensures)
 
+-- its version is one of plans
+version_is : (c : After-bits) → plan_version c.version.result ≡ c.args.plan.now.version
+version_is c = let is = c.version.ensures.value in let few = c.limits.ensures.version.1 in omega (arith, is, few)
+
 -- of the script and the numbers of steps that it was made with
-made_of : (c : After-bits) → setup_with c.version.result c.bits.result c.in_ok-script.script c.in_ok-steps.steps.items
-    ≡ setup_of c.args.plan.now
-made_of c = ap (λ l. setup_with c.version.result c.bits.result l c.in_ok-steps.steps.items) c.in_ok-script.ensures
-    ∙ of_plan c.args.plan.now c.version.ensures.value c.bits.ensures.value c.in_ok-steps.ensures.value
+made_of : (c : After-bits) → setup_with (plan_version c.version.result) c.bits.result c.in_ok-script.script
+    c.in_ok-steps.steps.items ≡ setup_of c.args.plan.now
+made_of c =
+    ap (λ l. setup_with (plan_version c.version.result) c.bits.result l c.in_ok-steps.steps.items)
+    c.in_ok-script.ensures
+    ∙ of_plan c.args.plan.now (version_is c) c.bits.ensures.value c.in_ok-steps.ensures.value
 
 pub returns-clause-stands : goal.returns-clause-stands
 returns-clause-stands c =
@@ -63,6 +69,7 @@ returns-clause-stands c =
 
 pub returns-clause-bus : goal.returns-clause-bus
 returns-clause-bus c =
+    let at = (goal.at.returns-clause-bus c).After-bits in
     IfOk-weaker c.new.result _ _ (λ r is. is ∙ (λ i. new_bus (c.in_ok-script.ensures i) (c.bits.ensures.value i)
-    (c.in_ok-steps.ensures.count i) (map (most_deeds (c.version.ensures.value i)) (c.in_ok-steps.ensures.value i))))
+    (c.in_ok-steps.ensures.count i) (map (most_deeds (version_is at i)) (c.in_ok-steps.ensures.value i))))
     c.new.ensures.bus

@@ -1,6 +1,5 @@
-use Rattle.std.proofs.Common.{rules, ◌≡◌, ◌*◌, ◌<◌, ◌≤◌, ℕ, List, length, sym, ap, ◌∙◌, subst, arith}
-use Rattle.std.specs.Prelude.{None, slice_index_or, slice_set}
-use Rattle.std.specs.Vec.{with_items}
+use Rattle.std.proofs.Common.{rules, ◌≡◌, ◌<◌, ℕ, List, length, refl, sym, ap, ◌∙◌, subst, arith}
+use Rattle.std.specs.Prelude.{slice_index_or, slice_set}
 use Rattle.sja_link.specs.declared.entry.Entry.{Entry}
 use Rattle.sja_regs.specs.declared.registers.Registers.{Registers}
 use Rattle.sja_regs.specs.Registers.{at_power_on}
@@ -8,20 +7,17 @@ use Rattle.sja_script.specs.declared.done.Done.{Done}
 use Rattle.sja_driver.specs.declared.kept_bytes.KeptBytes.{KeptBytes}
 use Rattle.sja_driver.specs.declared.logged_driver.LoggedDriver.{LoggedDriver}
 use Rattle.sja_driver.specs.Accesses.{Access}
-use Rattle.std.proofs.lemmas.List.{get_or_default, with_items_is}
 use Rattle.sja_driver.specs.Deeds.{Deed, deeds_at, is_active}
-use Rattle.sja_driver.specs.LoggedDrivers.{IsLawful, StaysLawful, kept_of, log_of}
-use Rattle.sja_driver.specs.Observing.{Looked}
-use Rattle.sja_link.specs.Deques.{Deques, Lies}
+use Rattle.sja_driver.specs.LoggedDrivers.{IsLawful, kept_of, log_of}
 use Rattle.sja_link.specs.Recents.{Recents}
 use Rattle.sja_log.specs.Registering.{AccessesLeadTo, seen_now}
 use Rattle.sja_wire.specs.Wire.{journal_at}
 use Rattle.sja_serial.specs.Serial.{SerialValue, StandsAt, StandsBy, IsAccessed, all_deeds}
 use Rattle.sja_serial.specs.Inside.Going.{run_now}
-use Rattle.sja_serial.proofs.AllNodes.Several.{each_as}
+use Rattle.sja_serial.proofs.AllNodes.Several.{each_as, some_links}
 use Rattle.sja_serial.proofs.ManyBits.Borrowed.{run_is, stands_there}
 use Rattle.sja_serial.proofs.OneNode.Observed.{stands, seen_is}
-use Rattle.sja_log.proofs.OneNode.Trying.{alike, shows_none}
+use Rattle.sja_serial.proofs.OneNode.Standing.{same_node}
 use Rattle.sja_serial.proofs.serial_run.SerialRun.seen.Given.{Over}
 use Rattle.sja_serial.proofs.serial_run.SerialRun.seen.Goals.{After-seen}
 use Rattle.sja_serial.proofs.serial_run.SerialRun.seen.Goals as goal
@@ -34,36 +30,18 @@ node_is c = search rules
 there : {g : Over} (c : After-seen g) → c.from-index.result < g.setup.nodes
 there c = let e = node_is c in let l = c.requires.1 in omega (arith, e, l)
 
--- ---- the look
-
-looked : {g : Over} (c : After-seen g) → Looked Lies shows_none c.index_mut.result.now c.seen.new.self
-    c.as_mut_slice-links.result.now
-    c.seen.new.links (64 * c.from-index.result)
-looked c = subst (λ (n : ℕ). Looked Lies shows_none c.index_mut.result.now c.seen.new.self
-    c.as_mut_slice-links.result.now c.seen.new.links n) c.first_link.ensures c.seen.ensures.looked
-
-stays : {g : Over} (c : After-seen g) → StaysLawful (λ (s : Deques). s.link) alike c.index_mut.result.now
-    c.seen.new.self
-    c.as_mut_slice-links.result.now c.seen.new.links (64 * c.from-index.result) None
-stays c = subst (λ (n : ℕ). StaysLawful (λ (s : Deques). s.link) alike c.index_mut.result.now c.seen.new.self
-    c.as_mut_slice-links.result.now c.seen.new.links n None) c.first_link.ensures c.seen.ensures.stays
-
-many : {g : Over} (c : After-seen g) → length c.seen.new.links ≡ length c.as_mut_slice-links.result.now
-many c = search rules
-
 -- ---- that it may look
 
 pub seen-requires : goal.seen-requires
 seen-requires g c =
     let i = c.from-index.result in
-    let h = stands_there c.as_mut_slice-links.ensures.value c.self.view_is g.setup c.requires.0.0 c.requires.0.1 in
+    let h = stands_there refl c.self.view_is g.setup c.requires.0.0 c.requires.0.1 in
     let e : i ≡ c.args.node = search rules in let l = c.requires.1 in
     let less : i < g.setup.nodes = omega (arith, e, l) in
-    let n = h.nodes i c.index_mut.result.now (at_power_on 1) less in
+    let n = h.nodes i c.index_mut.result.now (at_power_on 1) some_links less in
     record {
       lawful = subst (λ (d : LoggedDriver). IsLawful d) (sym c.index_mut.ensures.value) n.traced.lawful;
-      eight = let b = c.first_link.ensures in let k = h.count.links in omega (arith, b, k, less);
-      ids = search rules;
+      own = same_node h less c.index_mut.ensures.value c.index_mut-end.ensures.value;
     }
 
 -- ---- what comes of it
@@ -82,15 +60,11 @@ accessed_as {version} {room} {j} {accesses} {p} was now done kept h = record {
 same_deeds : {g : Over} (c : After-seen g) {deeds : List (List Deed)} → StandsAt g.setup c.args.self.now deeds →
     let b = c.self.inside in StandsAt g.setup (run_now b.bus
     (slice_set b.drivers.items c.from-index.result c.seen.new.self) b.board.ports.items
-    (with_items b.links c.seen.new.links).items b.bits) deeds
+    (slice_set b.links.items c.from-index.result c.seen.new.end) b.bits) deeds
 same_deeds {g} c {deeds} h =
-    let at = c in let b = c.self.inside in
-    subst (λ (l : List Deques). StandsAt g.setup (run_now b.bus
-    (slice_set b.drivers.items c.from-index.result c.seen.new.self) b.board.ports.items l
-    b.bits) deeds)
-    (sym (with_items_is b.links c.seen.new.links (omega (arith, many at, c.as_mut_slice-links.ensures.len))))
-    (stands (stands_there c.as_mut_slice-links.ensures.value c.self.view_is g.setup deeds h) (there at)
-    c.index_mut.ensures.value (looked at) (stays at) (many at))
+    let at = c in
+    stands (stands_there refl c.self.view_is g.setup deeds h) (there at) c.index_mut.ensures.value
+    c.index_mut-end.ensures.value c.seen.ensures.looked c.seen.ensures.stays
 
 pub returns-clause-stands : goal.returns-clause-stands
 returns-clause-stands g c = λ deeds h. same_deeds (goal.at.returns-clause-stands g c).After-seen h
@@ -99,35 +73,36 @@ pub returns-clause-by : goal.returns-clause-by
 returns-clause-by g c = λ accesses h.
     let at = (goal.at.returns-clause-by g c).After-seen in let b = c.self.inside in
     let i = c.from-index.result in let drivers = b.drivers.items in let now = c.seen.new.self in
-    let own = stands_there c.as_mut_slice-links.ensures.value c.self.view_is g.setup (all_deeds accesses) h.stands in
+    let own = stands_there refl c.self.view_is g.setup (all_deeds accesses) h.stands in
     let many : i < length drivers = let k = own.count.drivers in let t = there at in omega (arith, k, t) in
     let here = subst (λ (r : SerialValue). StandsBy g.setup r accesses) (sym c.self.view_is) h in
     record {
       stands = same_deeds at h.stands;
       nodes = λ m d p less. accessed_as (slice_index_or drivers m d) (slice_index_or (slice_set drivers i now) m d)
           (each_as (λ (x : LoggedDriver). (log_of x).done) drivers i now c.index_mut.result.now m d many
-          ((stays at).done ∙ ap (λ x. (log_of x).done) c.index_mut.ensures.value))
+          (c.seen.ensures.stays.done ∙ ap (λ x. (log_of x).done) c.index_mut.ensures.value))
           (each_as kept_of drivers i now c.index_mut.result.now m d many
-          ((stays at).kept ∙ ap kept_of c.index_mut.ensures.value)) (here.nodes m d p less);
+          (c.seen.ensures.stays.kept ∙ ap kept_of c.index_mut.ensures.value)) (here.nodes m d p less);
     }
 
 pub returns-clause-kept : goal.returns-clause-kept
 returns-clause-kept g c = λ m d less.
     let at = (goal.at.returns-clause-kept g c).After-seen in let b = c.self.inside in
     let i = c.from-index.result in let drivers = b.drivers.items in
-    let own = stands_there c.as_mut_slice-links.ensures.value c.self.view_is g.setup c.requires.0.0 c.requires.0.1 in
+    let own = stands_there refl c.self.view_is g.setup c.requires.0.0 c.requires.0.1 in
     let many : i < length drivers = let k = own.count.drivers in let t = there at in omega (arith, k, t) in
     each_as kept_of drivers i c.seen.new.self c.index_mut.result.now m d many
-    ((stays at).kept ∙ ap kept_of c.index_mut.ensures.value)
+    (c.seen.ensures.stays.kept ∙ ap kept_of c.index_mut.ensures.value)
     ∙ ap (λ (r : SerialValue). kept_of (slice_index_or r.drivers m d)) c.self.view_is
 
 pub returns-clause-seen : goal.returns-clause-seen
 returns-clause-seen g c = λ deeds h.
     let at = (goal.at.returns-clause-seen g c).After-seen in let ports = c.self.inside.board.ports.items in
-    let own = stands_there c.as_mut_slice-links.ensures.value c.self.view_is g.setup deeds h in
-    let run = run_is c.as_mut_slice-links.ensures.value c.self.view_is in
+    let own = stands_there refl c.self.view_is g.setup deeds h in
+    let run = run_is refl c.self.view_is in
     c.seen.ensures.seen
-    ∙ seen_is own (there at) c.index_mut.ensures.value (looked at) (stays at) (many at)
-    (c.bits_run.ensures.lawful own.right) (slice_index_or ports c.from-index.result (at_power_on 1))
+    ∙ seen_is own (there at) c.index_mut.ensures.value c.index_mut-end.ensures.value c.seen.ensures.looked
+    c.seen.ensures.stays (c.bits_run.ensures.lawful own.right)
+    (slice_index_or ports c.from-index.result (at_power_on 1))
     ∙ (λ t. seen_now (is_active (deeds_at deeds (node_is at t))) (journal_at (run t).bus.journals (node_is at t))
     (deeds_at deeds (node_is at t)))

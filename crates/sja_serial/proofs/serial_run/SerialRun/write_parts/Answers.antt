@@ -1,24 +1,22 @@
-use Rattle.std.proofs.Common.{rules, ◌≡◌, ◌+◌, ◌<◌, ◌++◌, [], length, sym, ap, ◌∙◌}
-use Rattle.std.proofs.Common.{arith}
+use Rattle.std.proofs.Common.{rules, ◌≡◌, ◌++◌, [], ap, ◌∙◌, arith}
 use Rattle.std.specs.Prelude.{slice_index_or}
-use Rattle.std.proofs.lemmas.List.{get_or_default}
 use Rattle.sja_regs.specs.declared.registers.Registers.{Registers}
-use Rattle.sja_regs.specs.Registers.{at_power_on}
-use Rattle.sja_driver.specs.declared.logged_driver.LoggedDriver.{LoggedDriver}
-use Rattle.sja_driver.specs.AnyDrivers.{is_out}
-use Rattle.sja_driver.specs.Accesses.{accesses_at, deeds_in}
-use Rattle.sja_driver.specs.Deeds.{is_active}
-use Rattle.sja_driver.specs.LoggedDrivers.{driver_of}
-use Rattle.sja_driver.specs.Writes.{write_steps}
 use Rattle.sja_driver.specs.Written.{written_by}
 use Rattle.sja_serial.specs.Serial.{SerialValue, all_deeds}
 use Rattle.sja_serial.proofs.Deeds.Access.{deed_left, few_first, few_second, few_third, all_steps, all_written}
 use Rattle.sja_serial.proofs.Deeds.Access.{done_as_write, log_left, placed}
-use Rattle.sja_serial.proofs.Deeds.Parts.{all_at, has_deed_left, no_deeds_yet}
+use Rattle.sja_serial.proofs.Deeds.Parts.{driver_lawful, has_deed_left, no_deeds_yet, steps_there}
 use Rattle.sja_serial.proofs.serial_run.SerialRun.write_parts.Goals as goal
 
 pub bits_left-requires : goal.bits_left-requires
 bits_left-requires g c = (all_deeds c.requires.0.0, c.requires.0.1.stands)
+
+pub steps_of_write-steps-requires : goal.steps_of_write-steps-requires
+steps_of_write-steps-requires g c =
+    let place : c.from-place.result ≡ c.args.node = search rules in
+    let drivers = ap (λ (r : SerialValue). r.drivers) c.self.view_is in
+    driver_lawful c.args.node c.index.result.now c.requires.0.1.stands c.requires.1.0.there
+    (c.index.ensures ∙ (λ i. slice_index_or (drivers i) (place i) c.index.result.now))
 
 pub part-written-requires : goal.part-written-requires
 part-written-requires g c = (c.steps_of_write-steps.ensures.prompt.0, deed_left c.requires.0.1 c.requires.1.0)
@@ -72,18 +70,12 @@ returns g c = λ accesses h.
     let place : c.from-place.result ≡ node = search rules in
     let ports = ap (λ (r : SerialValue). r.ports) c.self.view_is in
     let drivers = ap (λ (r : SerialValue). r.drivers) c.self.view_is in
-    let near : node < length was.ports = let k = h.stands.count.ports in omega (arith, k, there) in
-    let port_is : (p : Registers) → c.index-port.result.now ≡ slice_index_or was.ports node p = λ p.
-    c.index-port.ensures ∙ (λ i. slice_index_or (ports i) (place i) c.index-port.result.now)
-    ∙ get_or_default was.ports node c.index-port.result.now p near in
-    let out_is : is_out (driver_of c.index.result.now) ≡ is_active (deeds_in (accesses_at accesses node)) =
-    ap (λ (d : LoggedDriver). is_out (driver_of d)) (c.index.ensures
-    ∙ (λ i. slice_index_or (drivers i) (place i) c.index.result.now))
-    ∙ sym (h.stands.nodes node c.index.result.now (at_power_on 1) there).traced.traces.out
-    ∙ ap is_active (all_at accesses node) in
+    let steps = λ (p : Registers). steps_there node c.index.result.now c.index-port.result.now h there
+    (c.index.ensures ∙ (λ i. slice_index_or (drivers i) (place i) c.index.result.now))
+    (c.index-port.ensures ∙ (λ i. slice_index_or (ports i) (place i) c.index-port.result.now)) p c.args.address
+    c.args.value in
     done_as_write h there ((one.deeds ++ two.deeds) ++ three.deeds) c.part-written-3.result three.does c.enter.ensures
     c.answer.ensures (placed h.stands there c.bits_left.ensures.lawful) bytes
-    (λ p. all_steps one two three ∙ c.steps_of_write-steps.ensures.are
-    ∙ (λ i. write_steps (port_is p i) (out_is i) c.args.address c.args.value))
+    (λ p. all_steps one two three ∙ c.steps_of_write-steps.ensures.are ∙ steps p)
     (λ x p. all_written one two three
     ∙ ap (λ w. written_by w ((one.deeds ++ two.deeds) ++ three.deeds)) (c.begin_write-written.ensures x p))

@@ -1,4 +1,4 @@
-use Rattle.std.proofs.Common.{◌≡◌, ◌∙◌, List, sym, ap, subst}
+use Rattle.std.proofs.Common.{◌≡◌, ◌∙◌, List, sym, ap, subst, arith}
 use Rattle.sja_driver.specs.Accesses.{Access}
 use Rattle.sja_log.specs.Runs.{IsSerialRun}
 use Rattle.sja_plan.specs.Plan.{PlanValue}
@@ -17,9 +17,13 @@ use Rattle.sja_session.proofs.session.Session.finish.Goals as goal
 pub finish-requires : goal.finish-requires
 finish-requires c =
     let inv = c.self.invariant.0 in
-    let end = subst (λ (x : SessionValue). HasEnd x) (sym c.self.view_is) c.in_ok-plan.ensures.end in (
+    let end = subst (λ (x : SessionValue). HasEnd x) (sym c.self.view_is) c.in_ok-plan.ensures.end in
+    let own = ap (λ (p : PlanValue). p.version)
+    (c.in_ok-plan.ensures.plan ∙ ap written (sym c.self.view_is)) in
+    let most = c.limits.ensures.version.1 in (
       (inv.accesses, by_own inv.at.stands),
-      subst (λ (s : Setup). IsKept s) (setup_is inv.at.stands.stands) (kept_by _ _ _ inv end),
+      subst (λ (s : Setup). IsKept s) (setup_is inv.at.stands.stands)
+          (kept_by _ _ _ inv end (omega (arith, own, most))),
     )
 
 -- ---- the session as it was
@@ -36,8 +40,8 @@ with_end c = subst (λ (x : SessionValue). HasEnd x) (sym c.self.view_is) c.in_o
 log_is : (c : In_ok-log) (accesses : List (List Access)) → IsAt (was c) accesses →
     IsLogOf (written (was c)) c.self.inside.run accesses TurnsDone c.in_ok-log.log
 log_is c accesses h = c.in_ok-log.ensures.log (written (was c)) accesses (by_own h.stands)
-    (subst (λ (s : Setup). MayBeOf (written (was c)) s accesses) (setup_is h.stands.stands) (may_be_written
-    (was c) accesses h))
+    (subst (λ (s : Setup). MayBeOf (written (was c)) s accesses) (setup_is h.stands.stands)
+    (may_be_written (was c) accesses (with_end c) h))
 
 plan_is : (c : In_ok-log) → c.in_ok-plan.plan ≡ written (was c)
 plan_is c = c.in_ok-plan.ensures.plan ∙ ap written (sym c.self.view_is)

@@ -4,9 +4,11 @@ use Rattle.std.specs.Prelude.{◌^◌, [], slice_index_or}
 use Rattle.std.proofs.lemmas.List.{length-replicate, get_or-replicate}
 use Rattle.sja_plan.specs.Plan.{PlanValue}
 use Rattle.sja_script.specs.declared.strike.Strike.{Strike}
+use Rattle.sja_wire.specs.Buses.{new_bus}
 use Rattle.sja_session.specs.Sessions.{plan_with}
 use Rattle.sja_session.proofs.Lifetime.Blank.{session_first, at_first, wrote_first, stands_made, bus_made}
-use Rattle.sja_session.proofs.Lifetime.GoingBy.{bare_with, few_each, goes_first, one_bit}
+use Rattle.sja_session.proofs.Lifetime.GoingBy.{bare_with, few_each, goes_first, one_bit, rules_first}
+use Rattle.sja_session.proofs.Lifetime.Versions.{deeds_as_plan}
 use Rattle.sja_session.proofs.WrittenPlan.OneMore.{listed, rooms_of}
 use Rattle.sja_session.proofs.session.Session.over.Goals.{In_ok-struck}
 use Rattle.sja_session.proofs.session.Session.over.Goals as goal
@@ -29,8 +31,8 @@ sizes_are c = search rules
 lists_are : (c : In_ok-struck) → listed c.in_ok-steps.steps.items ≡ replicate (length c.args.plan.nodes) []
 lists_are c = c.in_ok-steps.ensures.lists ∙ ap (λ (n : ℕ). replicate n []) c.nodes-nodes.ensures.value
 
-pub new-requires : goal.new-requires
-new-requires c =
+pub run_for-requires : goal.run_for-requires
+run_for-requires c =
     let sizes : c.in_ok-rooms.rooms.items ≡ replicate (length c.args.plan.nodes) c.args.room.steps = search rules in
     let n = ap (λ (l : List ℕ). length l) sizes ∙ length-replicate (length c.args.plan.nodes) c.args.room.steps in
     let few = c.limits.ensures.nodes in let least = few.0 in let most = few.1 in
@@ -47,11 +49,12 @@ invariant_of-result c =
     let plan = c.args.plan in let may = c.requires.may in (
       session_first c.args.room (bare_with plan c.args.bits c.in_ok-struck.struck.items c.requires.bare) (lists_are at)
           c.in_ok-turns.ensures.items
-          (stands_made c.args.room (gone at) c.version.ensures.value refl (script_with at) (sizes_are at)
+          (stands_made c.args.room (gone at) refl refl (script_with at) (sizes_are at)
           c.in_ok-run.ensures.stands)
-          (bus_made c.args.room (gone at) c.version.ensures.value refl (script_with at) (sizes_are at)
+          (bus_made c.args.room (gone at) refl refl (script_with at) (sizes_are at)
           c.in_ok-run.run' c.in_ok-run.ensures.bus)
-          (rooms_of c.in_ok-steps.steps.items) _ may.counted may.limits
+          (rooms_of c.in_ok-steps.steps.items) _ may.counted
+          (rules_first plan c.args.bits c.args.room may c.limits.ensures.bits.1) may.limits
           (λ node less. ap (λ (l : List ℕ). slice_index_or l node 0) c.in_ok-steps.ensures.room
           ∙ ap (λ (n : ℕ). slice_index_or (replicate n c.args.room.steps) node 0) c.nodes-nodes.ensures.value
           ∙ get_or-replicate (length plan.nodes) node c.args.room.steps 0 less) (omega (arith, big)),
@@ -64,25 +67,28 @@ returns-clause-at c =
     let at = (goal.at.returns-clause-at c).In_ok-struck in
     at_first c.args.room (bare_with c.args.plan c.args.bits c.in_ok-struck.struck.items c.requires.bare) (lists_are at)
     c.in_ok-turns.ensures.items
-    (stands_made c.args.room (gone at) c.version.ensures.value refl (script_with at) (sizes_are at)
+    (stands_made c.args.room (gone at) refl refl (script_with at) (sizes_are at)
     c.in_ok-run.ensures.stands)
-    (bus_made c.args.room (gone at) c.version.ensures.value refl (script_with at) (sizes_are at)
+    (bus_made c.args.room (gone at) refl refl (script_with at) (sizes_are at)
     c.in_ok-run.run' c.in_ok-run.ensures.bus)
 
 pub returns-clause-bus : goal.returns-clause-bus
 returns-clause-bus c =
-    let at = (goal.at.returns-clause-bus c).In_ok-struck in
-    bus_made c.args.room (record c.args.plan { bits = c.args.bits }) c.version.ensures.value refl (script_is at)
-    (sizes_are at) c.in_ok-run.run' c.in_ok-run.ensures.bus
+    let at = (goal.at.returns-clause-bus c).In_ok-struck in let plan = c.args.plan in let bits = c.args.bits in
+    let rules = rules_first plan bits c.args.room c.requires.may c.limits.ensures.bits.1 in
+    bus_made c.args.room (record plan { bits = bits }) refl refl (script_is at) (sizes_are at)
+    c.in_ok-run.run' c.in_ok-run.ensures.bus
+    ∙ ap (λ (n : ℕ). new_bus plan.strikes bits (length plan.nodes) (replicate (length plan.nodes) n))
+    (deeds_as_plan (record plan { bits = bits }) rules c.args.room.steps)
 
 pub returns-clause-plan : goal.returns-clause-plan
 returns-clause-plan c =
     let at = (goal.at.returns-clause-plan c).In_ok-struck in
     wrote_first c.args.room (bare_with c.args.plan c.args.bits c.in_ok-struck.struck.items c.requires.bare)
     (lists_are at) c.in_ok-turns.ensures.items
-    (stands_made c.args.room (gone at) c.version.ensures.value refl (script_with at) (sizes_are at)
+    (stands_made c.args.room (gone at) refl refl (script_with at) (sizes_are at)
     c.in_ok-run.ensures.stands)
-    (bus_made c.args.room (gone at) c.version.ensures.value refl (script_with at) (sizes_are at)
+    (bus_made c.args.room (gone at) refl refl (script_with at) (sizes_are at)
     c.in_ok-run.run' c.in_ok-run.ensures.bus)
     ∙ ap (λ (l : List Strike). let p : PlanValue = record c.args.plan { bits = c.args.bits; strikes = l } in p)
     (ap (λ (l : List Strike). c.args.plan.strikes ++ l) c.in_ok-struck.ensures.empty

@@ -229,5 +229,5 @@ returns-clause-done c = λ answer e accesses h.
     c.note.new.turns.items) c.args.node c.args.step answer accesses) (sym wrote)
     (does_step (plan_with b.plan b.bits b.struck.items) b.run c.step.new.self (listed b.steps.items) b.turns.items
     accesses c.args.node c.args.step
-    (may at).there own t answer same c.note.new.turns.items
+    (may at).there own t c.self.invariant.0.rules answer same c.note.new.turns.items
     (λ end. turn_of b.turns.items _ _ c.args.node (c.note.ensures.turns (noted at end)) (omega arith))))

@@ -2,13 +2,14 @@ use Rattle.std.proofs.Common.{rules, ◌≡◌, ◌+◌, ◌<◌, ◌++◌, ℕ,
 use Rattle.std.specs.Prelude.{slice_index_or}
 use Rattle.std.proofs.lemmas.List.{get_or_default, length-append}
 use Rattle.std.proofs.lemmas.Result.{err_from_is_err_and}
+use Rattle.sja_link.specs.NewLinks.{new_links}
 use Rattle.sja_regs.specs.Registers.{at_power_on}
 use Rattle.sja_script.specs.declared.step.Step.{Step}
 use Rattle.sja_driver.specs.declared.logged_driver.LoggedDriver.{LoggedDriver}
 use Rattle.sja_driver.specs.Accesses.{Access, accesses_at, deeds_in}
 use Rattle.sja_driver.specs.AnyDrivers.{is_out}
 use Rattle.sja_driver.specs.Deeds.{is_active}
-use Rattle.sja_driver.specs.LoggedDrivers.{driver_of}
+use Rattle.sja_driver.specs.LoggedDrivers.{IsLawful, driver_of}
 use Rattle.sja_driver.specs.WriteLists.{listed, steps_in}
 use Rattle.sja_driver.specs.Writes.{write_steps}
 use Rattle.sja_serial.proofs.Deeds.Parts.{all_at}
@@ -35,12 +36,25 @@ are c there = λ accesses h p.
     let out_is : is_out (driver_of c.driver.result.now) ≡ is_active (deeds_in (accesses_at accesses node)) =
     ap (λ (d : LoggedDriver). is_out (driver_of d)) (c.driver.ensures
     ∙ (λ i. slice_index_or (drivers i) (place i) c.driver.result.now))
-    ∙ sym (h.stands.stands.nodes node c.driver.result.now (at_power_on 1) many).traced.traces.out
+    ∙ sym (h.stands.stands.nodes node c.driver.result.now (at_power_on 1) (new_links node 0) many).traced.traces.out
     ∙ ap is_active (all_at accesses node) in
     ap (λ (b : Bool). steps_by b (slice_index_or was.run.ports node p)
     (is_active (deeds_in (accesses_at accesses node))) c.args.address c.args.value) c.requires.typed
     ∙ sym (c.steps_of_write-steps.ensures.are
     ∙ (λ i. write_steps (port_is i) (out_is i) c.args.address c.args.value))
+
+-- the driver is one of a run, and so is lawful
+pub steps_of_write-steps-requires : goal.steps_of_write-steps-requires
+steps_of_write-steps-requires c =
+    let inv = c.self.invariant.0 in let driver = c.driver.result.now in let node = c.args.node in
+    let place : c.from-place.result ≡ node = search rules in
+    let there : node < length c.args.self.now.plan.nodes = search rules in
+    let nodes = ap (λ (s : SessionValue). length s.plan.nodes) c.self.view_is in let count = inv.at.count in
+    let is : driver ≡ slice_index_or c.self.inside.run.drivers node driver =
+    c.driver.ensures ∙ ap (λ (n : ℕ). slice_index_or c.self.inside.run.drivers n driver) place in
+    subst (λ (d : LoggedDriver). IsLawful d) (sym is)
+    (inv.at.stands.stands.nodes node driver (at_power_on 1) (new_links node 0)
+    (omega (arith, count, nodes, there))).traced.lawful
 
 -- ---- where they may not be done
 

@@ -1,0 +1,190 @@
+-- A driver opens no more activations than it does steps: each step is one start at most.
+use Rattle.std.proofs.Common.{◌≡◌, ◌+◌, ◌<◌, ◌≤◌, ◌++◌, ℕ, Bool, true, false, cond, List, [], ◌∷◌, length, map, refl}
+use Rattle.std.proofs.Common.{ap, ◌∙◌, arith}
+use Rattle.std.proofs.lemmas.List.{length-append}
+use Rattle.std.specs.Prelude.{◌==◌, ◌||◌}
+use Rattle.lemmas.specs.Gathering.{total}
+use Rattle.lemmas.proofs.Gathered.{total_append}
+use Rattle.sja_link.specs.declared.entry.Entry.{Entry}
+use Rattle.sja_regs.specs.declared.mode.Mode.{Mode}
+use Rattle.sja_regs.specs.declared.registers.Registers.{Registers}
+use Rattle.sja_regs.specs.Commands.{command_of}
+use Rattle.sja_regs.specs.Modes.{mode_of}
+use Rattle.sja_regs.specs.Registers.{is_forced}
+use Rattle.sja_regs.specs.Writing.{is_other_mode}
+use Rattle.sja_script.specs.declared.step.Step.{Step}
+use Rattle.sja_script.specs.declared.step.Step.TheVariants.{Start, Stop, Window, Release, Read, Write, Load, Command}
+use Rattle.sja_script.specs.declared.step.Step.TheVariants.{Await, Sent, Interrupt, At}
+use Rattle.sja_script.specs.declared.step_answer.StepAnswer.{StepAnswer}
+use Rattle.sja_script.specs.declared.step_answer.StepAnswer.TheVariants.{Done as DoneAnswer, NoMessage, Shown, Released}
+use Rattle.sja_script.specs.declared.step_answer.StepAnswer.TheVariants.{Value, Refused, Ignored}
+use Rattle.sja_driver.specs.declared.kept_bytes.KeptBytes.{KeptBytes}
+use Rattle.sja_driver.specs.Accesses.{Access, by_bytes, deed_steps, deeds_in}
+use Rattle.sja_driver.specs.CommandWrites.{command_byte, commands, command_steps, doable, releases}
+use Rattle.sja_driver.specs.Deeds.{Deed, is_active, opened, opened_by}
+use Rattle.sja_driver.specs.ModeWrites.{closing, leaving, mode_steps, reset_byte, taking}
+use Rattle.sja_driver.specs.Writes.{write_steps}
+use Rattle.sja_log.specs.Registering.{AccessesLeadTo}
+use Rattle.sja_log.specs.Registering.AccessesLeadTo.{power_on, access, bit}
+use Rattle.sja_log.proofs.Trace.AccessDeeds.{deeds_push}
+
+-- ---- starts among steps
+
+-- a start counts as one, whatever it is answered
+abbrev starts_by : Step → ℕ
+starts_by Start = 1
+starts_by other = 0
+
+-- how many of these are
+abbrev starts_in : List Step → ℕ
+starts_in = total starts_by
+
+-- whether a deed tried one
+abbrev tried_by : Deed → ℕ
+tried_by d = starts_by d.step
+
+-- no step is more than one
+one_at_most : (s : Step) → starts_by s ≤ 1
+one_at_most Start = omega arith
+one_at_most Stop = omega arith
+one_at_most Window = omega arith
+one_at_most Release = omega arith
+one_at_most (Read address) = omega arith
+one_at_most (Write address value) = omega arith
+one_at_most (Load m) = omega arith
+one_at_most (Command value) = omega arith
+one_at_most (Await count) = omega arith
+one_at_most Sent = omega arith
+one_at_most Interrupt = omega arith
+one_at_most (At bits) = omega arith
+
+-- a step that opens an activation is one
+opened_started : (s : Step) (r : StepAnswer) → opened s r ≤ starts_by s
+opened_started Start DoneAnswer = omega arith
+opened_started Start NoMessage = omega arith
+opened_started Start (Shown m) = omega arith
+opened_started Start (Released n) = omega arith
+opened_started Start (Value n) = omega arith
+opened_started Start (Refused why) = omega arith
+opened_started Start (Ignored cause) = omega arith
+opened_started Stop r = omega arith
+opened_started Window r = omega arith
+opened_started Release r = omega arith
+opened_started (Read address) r = omega arith
+opened_started (Write address value) r = omega arith
+opened_started (Load m) r = omega arith
+opened_started (Command value) r = omega arith
+opened_started (Await count) r = omega arith
+opened_started Sent r = omega arith
+opened_started Interrupt r = omega arith
+opened_started (At bits) r = omega arith
+
+-- so no more activations are opened than starts are tried
+opened_tried : (deeds : List Deed) → opened_by deeds ≤ total tried_by deeds
+opened_tried [] = omega arith
+opened_tried (d ∷ deeds) =
+    let one = opened_started d.step d.answer in let rest = opened_tried deeds in omega (arith, one, rest)
+
+-- deeds are as many tries as their steps are starts
+tried_steps : (deeds : List Deed) → total tried_by deeds ≡ starts_in (map (λ (d : Deed). d.step) deeds)
+tried_steps [] = refl
+tried_steps (d ∷ deeds) = ap (λ n. starts_by d.step + n) (tried_steps deeds)
+
+-- ---- of the steps that a write is one at most is a start
+
+-- a step that is there or isn't, and is no start
+none_if : (b : Bool) (s : Step) → starts_by s ≡ 0 → starts_in (cond b (s ∷ []) []) ≡ 0
+none_if true s none = omega (arith, none)
+none_if false s none = refl
+
+none_or : (b : Bool) (s : Step) → starts_by s ≡ 0 → starts_in (cond b [] (s ∷ [])) ≡ 0
+none_or true s none = refl
+none_or false s none = omega (arith, none)
+
+-- leaving reset mode is one
+leaves_once : (now new : Mode) → starts_in (leaving now new) ≡ 1
+leaves_once now new =
+    let none = none_if (is_other_mode now new) (Write 0 (reset_byte new)) refl in
+    let both = total_append starts_by (taking now new) (Start ∷ []) in omega (arith, none, both)
+
+-- so a write of MOD is one or none
+mode_once : (now : Mode) (forced out : Bool) (value : ℕ) → starts_in (mode_steps now forced out value) ≤ 1
+mode_once now forced out value = by now.rm ((mode_of value).rm || forced) ((mode_of value).rm)
+  where
+    by : (rm same new : Bool) → starts_in (cond rm (cond same (Write 0 value ∷ []) (closing out ++ leaving now
+        (mode_of value)))
+        (cond new (Stop ∷ []) (Write 0 value ∷ []))) ≤ 1
+    by true true new = omega arith
+    by true false new =
+        let none = none_if out Stop refl in let once = leaves_once now (mode_of value) in
+        let both = total_append starts_by (closing out) (leaving now (mode_of value)) in omega (arith, none, once, both)
+    by false same true = omega arith
+    by false same false = omega arith
+
+-- a write of CMR is none
+command_never : (p : Registers) (value : ℕ) → starts_in (command_steps p (command_of value)) ≡ 0
+command_never p value = by p.mode.rm
+  where
+    byte : ℕ
+    byte = command_byte (doable p (command_of value))
+
+    by : (rm : Bool) → starts_in (cond rm [] (commands byte ++ releases (command_of value).rrb)) ≡ 0
+    by true = refl
+    by false =
+        let first = none_or (byte == 0) (Command byte) refl in
+        let second = none_if (command_of value).rrb Release refl in
+        let both = total_append starts_by (commands byte) (releases (command_of value).rrb) in
+        omega (arith, first, second, both)
+
+-- nor is one of another address
+write_once : (p : Registers) (active : Bool) (address value : ℕ) →
+    starts_in (write_steps p active address value) ≤ 1
+write_once p active address value = by (address == 0) (address == 1)
+  where
+    by : (first second : Bool) → starts_in (cond first (mode_steps p.mode (is_forced p) active value)
+        (cond second (command_steps p (command_of value)) (Write address value ∷ []))) ≤ 1
+    by true second = mode_once p.mode (is_forced p) active value
+    by false true = let none = command_never p value in omega (arith, none)
+    by false false = omega arith
+
+-- no step is more starts than one, of the deeds that it is
+starts_once : (bytes : Bool) (p : Registers) (active : Bool) (s : Step) → starts_in (deed_steps bytes p active s) ≤ 1
+starts_once true p active (Write address value) = write_once p active address value
+starts_once true p active Start = omega arith
+starts_once true p active Stop = omega arith
+starts_once true p active Window = omega arith
+starts_once true p active Release = omega arith
+starts_once true p active (Read address) = omega arith
+starts_once true p active (Load m) = omega arith
+starts_once true p active (Command value) = omega arith
+starts_once true p active (Await count) = omega arith
+starts_once true p active Sent = omega arith
+starts_once true p active Interrupt = omega arith
+starts_once true p active (At n) = omega arith
+starts_once false p active s = let one = one_at_most s in omega (arith, one)
+
+-- ---- of all steps of a driver
+
+-- so a driver tries no more starts than it does steps
+tried_few : (version : ℕ) (j : List Entry) (accesses : List Access) (kept : KeptBytes) (p : Registers) →
+    AccessesLeadTo version j accesses kept p → total tried_by (deeds_in accesses) ≤ length accesses
+tried_few version j _ _ _ power_on = omega arith
+tried_few version j accesses kept p (bit before _ _ _ was _ led _) =
+    tried_few version before accesses kept was led
+tried_few version k _ _ _ (access j _ before a was _ p _ led now is on) =
+    let so_far = tried_few version j before was p led in
+    let all = ap (total tried_by) (deeds_push before a) ∙ total_append tried_by (deeds_in before) a.deeds in
+    let long = length-append before (a ∷ []) in
+    let steps = tried_steps a.deeds ∙ ap starts_in is.steps in
+    let one = starts_once (by_bytes version) p (is_active (deeds_in before)) a.step in
+    omega (arith, so_far, all, long, steps, one)
+
+-- before a start fewer activations have been opened than steps are done
+pub opened_before : (version : ℕ) (j : List Entry) (accesses : List Access) (kept : KeptBytes) (p : Registers) →
+    AccessesLeadTo version j accesses kept p → (before after : List Deed) (d : Deed) →
+    deeds_in accesses ≡ before ++ d ∷ after → d.step ≡ Start → opened_by before < length accesses
+opened_before version j accesses kept p led before after d split start =
+    let few = tried_few version j accesses kept p led in
+    let all = ap (total tried_by) split ∙ total_append tried_by before (d ∷ after) in
+    let one : tried_by d ≡ 1 = ap starts_by start in
+    let less = opened_tried before in omega (arith, few, all, one, less)
