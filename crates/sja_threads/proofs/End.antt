@@ -1,6 +1,7 @@
 pub mod RunOver
 pub mod EndsJoined
 pub mod Unsettled
+pub mod GoneThrough
 pub mod CameFrom
 pub mod LeftOnLinks
 pub mod NodeOver

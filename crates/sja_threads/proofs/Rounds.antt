@@ -1,4 +1,5 @@
-pub mod TakesWithin
+pub mod SameEnds
+pub mod TakesNoneBefore
 pub mod StaysDue
 pub mod Awaited
 pub mod GoesOn

@@ -1,4 +1,6 @@
-pub mod LinksMade
+pub mod NewEnds
+pub mod Making
 pub mod Threads
 pub mod Begins
 pub mod FewDeeds
+pub mod Goes

@@ -2,7 +2,7 @@
 use Rattle.std.specs.Prelude.{◌≡◌, ◌<◌, ◌≤◌, ◌⊎◌, ℕ, max, List, [], ◌∷◌, length}
 use Rattle.sja_link.specs.declared.entry.Entry.{Entry}
 use Rattle.sja_link.specs.Records.{record_of}
-use Rattle.sja_rings.specs.declared.ring_bus.RingBus.{RingBus}
+use Rattle.sja_rings.specs.declared.node_bus.NodeBus.{NodeBus}
 use Rattle.sja_wire.specs.Wire.{journal_at}
 use Rattle.sja_log.specs.declared.end.End.{End}
 use Rattle.sja_log.specs.declared.end.End.TheVariants.{Rest, Bits}
@@ -33,13 +33,13 @@ last_awaited (steps ∷ nodes) = max (most_awaited steps) (last_awaited nodes)
 
 -- after so many bits of a run of this plan, whose bus has these ends of its links, one more was due: once the bus had
 -- taken all that was shown fewer had run than are waited for, or some started node wasn't at rest
-pub record IsBitDue (plan : PlanValue) (ends : List RingBus) (bits : ℕ) (journals : List (List Entry)) : Type 0 where
+pub record IsBitDue (plan : PlanValue) (ends : List NodeBus) (bits : ℕ) (journals : List (List Entry)) : Type 0 where
   pub gathered : Gathered plan ends bits journals
   pub why : (bits < last_awaited plan.nodes)
       ⊎ ((node : ℕ) × (node < length journals) × IsWorking (record_of (journal_at gathered.fronts node)))
 
 -- each of so many bits was due
-abbrev pub AllDue : PlanValue → List RingBus → ℕ → List (List Entry) → Type 0
+abbrev pub AllDue : PlanValue → List NodeBus → ℕ → List (List Entry) → Type 0
 AllDue plan ends bits journals = (i : ℕ) → i < bits → IsBitDue plan ends i journals
 
 -- each node is at rest at the end of its journal
@@ -48,7 +48,7 @@ AllAtRest journals = (node : ℕ) → node < length journals → IsAtRest (recor
 
 -- as many bits have run as are waited for, and all nodes are at rest; or the bits of the plan are spent, and one more
 -- was due
-abbrev pub EndsDuly : PlanValue → List RingBus → End → ℕ → List (List Entry) → Type 0
+abbrev pub EndsDuly : PlanValue → List NodeBus → End → ℕ → List (List Entry) → Type 0
 EndsDuly plan ends end run journals =
     ((end ≡ Rest) × (last_awaited plan.nodes ≤ run) × AllAtRest journals)
     ⊎ ((end ≡ Bits) × (run ≡ plan.bits) × IsBitDue plan ends plan.bits journals)
@@ -57,6 +57,6 @@ EndsDuly plan ends end run journals =
 -- worked then, or where a step waits for it; and at its end all nodes are at rest and no step waits for a later bit, or
 -- the bits are spent and one more was due
 pub record IsNeeded (plan : PlanValue) (log : RunValue) : Type 0 where
-  pub links : List RingBus
+  pub links : List NodeBus
   pub due : AllDue plan links log.bits (journals_in log)
   pub ends : EndsDuly plan links log.end log.bits (journals_in log)

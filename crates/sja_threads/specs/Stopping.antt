@@ -1,17 +1,18 @@
 -- Why a run in threads has no log (this project's own rule).
-use Rattle.std.specs.Prelude.{◌≡◌, ◌≢◌, ◌≤◌, ◌+◌, ◌*◌, ◌<◌, ◌⊎◌, ◌++◌, ℕ, suc, None, List, length, map}
-use Rattle.std.specs.Prelude.{slice_index_or}
+use Rattle.std.specs.Prelude.{◌≡◌, ◌≢◌, ◌≤◌, ◌+◌, ◌<◌, ◌⊎◌, ◌++◌, ℕ, suc, None, List, length, map, slice_index_or}
 use Rattle.rtrb.specs.Ring.{received, sent}
 use Rattle.lemmas.specs.Related.{EachRelated}
-use Rattle.sja_link.specs.declared.entry.Entry.{Entry}
+use Rattle.sja_link.specs.declared.bus_end.BusEnd.{Ghosts as Ends}
 use Rattle.sja_link.specs.declared.up.Up.{Up}
-use Rattle.sja_link.specs.Links.{Numbered}
 use Rattle.sja_rings.specs.declared.ended_bus.EndedBus.{EndedBus}
 use Rattle.sja_rings.specs.declared.ended_driver.EndedDriver.{EndedDriver}
+use Rattle.sja_rings.specs.declared.node_bus.NodeBus.{NodeBus}
 use Rattle.sja_rings.specs.declared.ring_bus.RingBus.{RingBus}
 use Rattle.sja_rings.specs.declared.ring_driver.RingDriver.{RingDriver}
 use Rattle.sja_rings.specs.Ended.{EndsBus, EndsDriver, HasBusNote, HasDriverNote}
-use Rattle.sja_rings.specs.Ends.{BusLists, OneLink, SameBus, link_of_bus, places_down}
+use Rattle.sja_rings.specs.Ends.{OneLink, link_of_bus}
+use Rattle.sja_rings.specs.NodeRings.{node_of_bus, rings_of_bus, NodeBusLists, SameNodeBus}
+use Rattle.sja_rings.specs.NodeRings.{HasNoPlaceDown, ShowsNothingUp}
 use Rattle.sja_plan.specs.Plan.{PlanValue, steps_at}
 use Rattle.sja_driver.specs.Accesses.{most_deeds}
 use Rattle.sja_driver.specs.Deeds.{given_in, deeds_of}
@@ -23,15 +24,20 @@ use Rattle.sja_wire.specs.declared.bus_fault.BusFault.TheVariants.{BitsSpent}
 use Rattle.sja_wire.specs.Buses.{BusValue}
 use Rattle.sja_wire.specs.Lawful.{IsBusRun}
 use Rattle.sja_wire.specs.Reasons.{IsTakenAndRefused, StopsBit}
-use Rattle.sja_wire.specs.Wire.{journal_at}
 use Rattle.sja_log.specs.declared.run_fault.RunFault.{RunFault}
 use Rattle.sja_log.specs.declared.run_fault.RunFault.TheVariants.{Memory, GateCount, Bus, Thread, Unsettled}
 use Rattle.sja_threads.specs.Accessing.{Work, Follows, deeds_done, work_at}
-use Rattle.sja_threads.specs.Gathering.{StandFor}
+use Rattle.sja_threads.specs.Gathering.{AreBusEnds, StandFor}
 
--- an end of a ring knows of no free place
-abbrev pub HasNoPlace : RingBus → Type 0
-HasNoPlace b = places_down b ≡ 0
+-- what the bus's end of a node's links is, as a bus sees it
+abbrev pub ring_ends : Ends NodeBus
+ring_ends = record {
+  node = node_of_bus;
+  stands = NodeBusLists;
+  same = SameNodeBus;
+  full = HasNoPlaceDown;
+  dry = ShowsNothingUp;
+}
 
 -- whatever a driver orders at a port behind its lock
 abbrev pub any_orders : ℕ → Orders → Type 0
@@ -39,11 +45,11 @@ any_orders node orders = Unit {0}
 
 -- the bus of a run of this plan whose drivers may do so many deeds, by node, without a fault so far, stopped with
 -- this one: it didn't take an item of a driver, or a bit didn't come to its end; it isn't that the bits were spent. Its
--- ends of the links stood for its journals before, and are these ones now, each the same end of the same link
-pub record StopsOn (counts : List ℕ) (plan : PlanValue) (after : List RingBus) (f : BusFault) : Type 0 where
+-- ends of the links stood for its journals before, and are these ones now, each the same end of the same links
+pub record StopsOn (counts : List ℕ) (plan : PlanValue) (after : List NodeBus) (f : BusFault) : Type 0 where
   pub was : BusValue
   pub now : BusValue
-  pub links : List RingBus
+  pub links : List NodeBus
   pub script : was.script ≡ plan.strikes
   pub steps : was.steps ≡ counts
   pub bits : was.run + was.left ≡ plan.bits
@@ -51,30 +57,30 @@ pub record StopsOn (counts : List ℕ) (plan : PlanValue) (after : List RingBus)
   pub right : was.fault ≡ None
   pub lawful : IsBusRun was.script was.run was.journals
   pub stood : StandFor plan was.journals links
-  pub sames : EachRelated SameBus links after
-  pub why : IsTakenAndRefused BusLists plan.bits counts was.journals now.journals links after f
-      ⊎ StopsBit SameBus BusLists HasNoPlace any_orders was now links after f
+  pub sames : EachRelated SameNodeBus links after
+  pub why : IsTakenAndRefused NodeBusLists plan.bits counts was.journals now.journals links after f
+      ⊎ StopsBit ring_ends any_orders was now links after f
   pub not_spent : f ≢ BitsSpent
-  pub ids : Numbered link_of_bus after
+  pub ends : AreBusEnds (length plan.nodes) after
 
 -- how many deeds each driver of a plan may do, by node
 abbrev pub deed_counts : PlanValue → List ℕ
 deed_counts plan = map (λ steps. most_deeds plan.version (length steps)) plan.nodes
 
--- what came out of an end of the bus is a front of these items
+-- what came out of the bus's end of a link is a front of these items
 abbrev pub CameFirst : RingBus → List Up → Type 0
 CameFirst b items = (rest : List Up) × (items ≡ received b.up ++ rest)
 
 -- the bus of a run of this plan stopped so. Of its drivers there is what each did of its script, and of the link of
 -- each activation what came out at the bus, an item that wasn't taken among it, is a front of what the driver gave
 pub record StopsWith (plan : PlanValue) (f : BusFault) : Type 0 where
-  pub after : List RingBus
+  pub after : List NodeBus
   pub stop : StopsOn (deed_counts plan) plan after f
   pub works : List Work
   pub follows : (node : ℕ) → node < length plan.nodes →
       Follows plan.version (settings_in (at_power_on plan.version)) (steps_at plan node) (work_at works node)
-  pub came : (node a : ℕ) (b : RingBus) → node < length plan.nodes → a < 64 →
-      CameFirst (slice_index_or after (64 * node + a) b)
+  pub came : (node a : ℕ) (b : NodeBus) (x : RingBus) → node < length plan.nodes → a < 64 →
+      CameFirst (slice_index_or (rings_of_bus (slice_index_or after node b)) a x)
       (given_in (deeds_of (deeds_done (work_at works node)) (suc a)))
 
 -- ---- a link that isn't settled

@@ -13,28 +13,27 @@ use super::waits::{SHORT, wait_a_while};
 use sja_bus::{Bus, BusFault};
 use sja_log::End;
 use sja_plan::Plan;
-use sja_rings::RingBus;
+use sja_rings::NodeBus;
 use sja_script::Step;
 use std::sync::{Mutex, Wait};
 use std::thread::Parker;
 
-/// The bus of a run in threads (this project's own rule): itself, its ends of all links, how many bits it has run, and
-/// whether they are spent: a bit was due, and none was left.
+/// The bus of a run in threads (this project's own rule): itself, its ends of the links of all nodes, how many bits it
+/// has run, and whether they are spent: a bit was due, and none was left.
 #[derive(Drop)]
 pub(crate) struct BusThread {
     pub(crate) bus: Bus,
-    pub(crate) links: Vec<RingBus>,
+    pub(crate) links: Vec<NodeBus>,
     pub(crate) run: u32,
     pub(crate) spent: bool,
 }
 
 impl BusThread {
-    ghost use Rattle.std.specs.Prelude.{◌≡◌, ◌≢◌, ◌≤◌, ◌+◌, ◌*◌, ℕ, true, List, length, Ok, IfOk, IfErr, OnOk};
-    ghost use Rattle.sja_link.specs.Links.{Numbered};
+    ghost use Rattle.std.specs.Prelude.{◌≡◌, ◌≢◌, ◌≤◌, ◌+◌, true, List, length, Ok, IfOk, IfErr, OnOk};
+    ghost use Rattle.sja_link.specs.Links.{AreEnds};
     ghost use Rattle.sja_plan.specs.Plan.{PlanValue};
-    ghost use Rattle.sja_rings.specs.Ends.{link_of_bus};
+    ghost use Rattle.sja_rings.specs.NodeRings.{node_of_bus, ShowsNothingUp};
     ghost use Rattle.sja_wire.specs.Buses.{AllDry};
-    ghost use Rattle.sja_threads.specs.Gathering.{IsDry};
     ghost use Rattle.sja_threads.specs.declared.round.Round.TheVariants.{Ran, Rests, Spent};
     ghost use Rattle.sja_threads.specs.Needed.{AllAtRest, last_awaited};
     ghost use Rattle.sja_threads.specs.declared.notice.Notice.{Notice};
@@ -46,12 +45,11 @@ impl BusThread {
     ///
     /// Error: what the bus answers.
     fn gather(&mut self) -> Result<(), BusFault>
-        requires count { length self.old.links.items ≡ 64 * length self.old.bus.journals }
-        requires ids { Numbered link_of_bus self.old.links.items }
+        requires ends { AreEnds node_of_bus (length self.old.bus.journals) self.old.links.items }
         ensures on { OnOk result ((plan : PlanValue) → IsUnderWay plan self.old → GoesOn plan self.old self.new) }
         ensures run { self.new.run ≡ self.old.run }
         ensures spent { self.new.spent ≡ self.old.spent }
-        ensures dry { OnOk result (AllDry IsDry self.new.bus.journals self.new.links.items) }
+        ensures dry { OnOk result (AllDry ShowsNothingUp self.new.bus.journals self.new.links.items) }
         ensures told { OnOk result ((plan : PlanValue) (told : List (List Notice)) →
             AreTold plan self.old.bus.journals told → AreTold plan self.new.bus.journals told) }
         ensures fault { IfErr result (λ f. (plan : PlanValue) → IsUnderWay plan self.old →
@@ -71,7 +69,7 @@ impl BusThread {
         awaited: u32,
     ) -> Result<Round, BusFault>
         requires way { IsUnderWay plan.now self.old }
-        requires dry { AllDry IsDry self.old.bus.journals self.old.links.items }
+        requires dry { AllDry ShowsNothingUp self.old.bus.journals self.old.links.items }
         requires ports { length plan.now.nodes ≤ length board.old.told.items }
         requires begun { AllBegun plan.now self.old.bus.journals (turns_in board.old.told.items) }
         requires awaited { awaited ≡ last_awaited plan.now.nodes }

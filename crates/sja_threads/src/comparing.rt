@@ -1,7 +1,7 @@
 //! That each port is as the turns that it was told and its driver's deeds there have led to.
 
 ghost use Rattle.std.specs.Prelude.{◌≡◌, ◌≤◌, ◌<◌, ℕ, length, slice_index_or};
-ghost use Rattle.sja_rings.specs.declared.ring_driver.RingDriver.{RingDriver as Driver};
+ghost use Rattle.sja_rings.specs.declared.node_driver.NodeDriver.{NodeDriver as Driver};
 ghost use Rattle.sja_regs.specs.declared.registers.Registers.{Registers};
 ghost use Rattle.sja_threads.specs.declared.handover.Handover.{Handover as WorkedValue};
 ghost use Rattle.sja_threads.specs.Ordering.{LedBy};
@@ -17,13 +17,13 @@ use super::order::Order;
 use super::port_deed::PortDeed;
 use super::turn_board::TurnBoard;
 use super::turns_of_node::TurnsOfNode;
-use sja_rings::RingDriver;
+use sja_rings::NodeDriver;
 use std::sync::{Mutex, Wait};
 
 /// Compares the port of each of so many nodes with the turns that the bus told and with what the driver handed back.
 pub(crate) fn compare_all<N: Order, R: Wait>(
     board: &mut TurnBoard<N, R>,
-    workeds: &mut Vec<Handover<RingDriver>>,
+    workeds: &mut Vec<Handover<NodeDriver>>,
     nodes: u8,
 )
     requires told { nodes ≤ length board.old.told.items }

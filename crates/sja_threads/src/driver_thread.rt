@@ -1,10 +1,8 @@
 //! [`DriverThread`]: a driver in a thread of its own, and the steps of its script, each tried as the gate lets it.
 
 ghost use Rattle.std.specs.Prelude.{◌≡◌, ◌≤◌, false, true, [], length, None};
-ghost use Rattle.lemmas.specs.Related.{EachRelated};
 ghost use Rattle.sja_regs.specs.DriverSettings.{settings_in};
 ghost use Rattle.sja_regs.specs.Registers.{at_power_on};
-ghost use Rattle.sja_driver.specs.Holding.{NumberedFrom};
 ghost use Rattle.sja_driver.specs.LoggedDrivers.{log_of};
 ghost use Rattle.sja_driver.specs.Logs.{HasRoom, IsEmpty, KeepsLog, done_in, done_room};
 ghost use Rattle.sja_threads.specs.Asking.{IsLet};
@@ -26,7 +24,7 @@ use std::sync::{Mutex, Wait};
 
 /// A driver in a thread of its own (this project's own rule): its node, whether it knows addresses and bytes alone, the
 /// driver with its log, what it has set at its port, how many bits had run by what that was told as it last did
-/// something there, and its ends of the node's links, by activation.
+/// something there, and its end of the node's links.
 ///
 /// What it has set is its own: it goes into the port before each try there, and what a step sets comes out of it.
 #[derive(Drop)]
@@ -35,7 +33,7 @@ pub(crate) struct DriverThread<N: Order, D: Drop> {
     pub(crate) driver: LoggedDriver,
     pub(crate) set: DriverSettings,
     pub(crate) found: u32,
-    pub(crate) links: Vec<D>,
+    pub(crate) end: D,
     pub(crate) done: DeedsOfNode<N>,
 }
 
@@ -52,7 +50,7 @@ impl<N: Order, D: DriverEnd + Drop> DriverThread<N, D> {
         port: &Mutex<LockedPort<N>>,
         deed: &Step,
     ) -> Option<StepAnswer>
-        requires may { MayWork D.link self.old 1 }
+        requires may { MayWork D.node self.old 1 }
         requires at_port { is_at_port deed.now ≡ true }
         ensures { DoesDeed D.DriverEnd self.old self.new deed.now result }
     {
@@ -61,12 +59,8 @@ impl<N: Order, D: DriverEnd + Drop> DriverThread<N, D> {
             return None;
         }
         let found = held.bits();
-        let Some(answer) = held.try_deed(
-            &mut self.done,
-            &mut self.driver,
-            self.links.as_mut_slice(),
-            deed,
-        ) else {
+        let Some(answer) = held.try_deed(&mut self.done, &mut self.driver, &mut self.end, deed)
+        else {
             return None;
         };
         self.set = held.settings();
@@ -82,12 +76,12 @@ impl<N: Order, D: DriverEnd + Drop> DriverThread<N, D> {
         port: &Mutex<LockedPort<N>>,
         deed: &Step,
     ) -> Option<StepAnswer>
-        requires { MayWork D.link self.old 1 }
+        requires { MayWork D.node self.old 1 }
         ensures { DoesDeed D.DriverEnd self.old self.new deed.now result }
     {
         match deed {
-            Step::Window => self.driver.step_window(self.links.as_mut_slice(), 0),
-            Step::Release => self.driver.step_release(self.links.as_mut_slice(), 0),
+            Step::Window => self.driver.step_window(&mut self.end),
+            Step::Release => self.driver.step_release(&mut self.end),
             _ => self.try_at_port(rt, port, deed),
         }
     }
@@ -102,7 +96,7 @@ impl<N: Order, D: DriverEnd + Drop> DriverThread<N, D> {
         number: u32,
         tries: &mut u32,
     ) -> Option<StepAnswer>
-        requires may { MayWork D.link self.old 1 }
+        requires may { MayWork D.node self.old 1 }
         requires go { G.answered at.now.gate self.old.done.node number tries.old Go }
         ensures done { DoesDeed D.DriverEnd self.old self.new deed.now result }
         ensures never { result ≡ None → G.QUITS ≡ true }
@@ -123,17 +117,17 @@ impl<N: Order, D: DriverEnd + Drop> DriverThread<N, D> {
 
     /// What it hands back when its script has ended.
     fn hand_back(self) -> Handover<D>
-        ensures { result ≡ record { links = self.links; driver = self.driver; done = self.done.known } }
+        ensures { result ≡ record { end = self.end; driver = self.driver; done = self.done.known } }
     {
         let DriverThread {
             driver,
-            links,
+            end,
             done,
             ..
         } = self;
         let DeedsOfNode { known, .. } = done;
         Handover {
-            links,
+            end,
             driver,
             done: known,
         }
@@ -141,7 +135,7 @@ impl<N: Order, D: DriverEnd + Drop> DriverThread<N, D> {
 
     /// Does steps, one after the other, until the gate quits.
     fn do_steps<G: Gate, R: Wait>(&mut self, at: &AtGate<N, R, G>, steps: &[Step])
-        requires { MayBegin D.link self.old (length steps.now) }
+        requires { MayBegin D.node self.old (length steps.now) }
         ensures ended { HasEnded D.DriverEnd G.QUITS self.old self.new steps.now }
         ensures let_by { IsLet G.QUITS G.answered at.now.gate self.old.done.node (length steps.now)
             (length (done_in (log_of self.new.driver))) }
@@ -161,19 +155,18 @@ impl<N: Order, D: DriverEnd + Drop> DriverThread<N, D> {
 pub(crate) fn follow<N: Order, D: DriverEnd + Drop, G: Gate, R: Wait>(
     at: AtGate<N, R, G>,
     done: DeedsOfNode<N>,
-    links: Vec<D>,
+    end: D,
     log: WorkLog,
     steps: &[Step],
 ) -> Handover<D>
     requires none { done.known.list ≡ [] }
     requires empty { IsEmpty log }
-    requires room { HasRoom (length steps.now) log }
+    requires room { HasRoom done.version (length steps.now) log }
     requires steps { length steps.now ≤ done_room log }
-    requires enough { 64 ≤ length links.items }
-    requires ids { NumberedFrom D.link links.items 0 done.node }
-    ensures same { EachRelated D.same links.items result.links.items }
-    ensures worked { HasWorked D.stands (settings_in (at_power_on done.version)) done.node steps.now links.items
-        result result.done.list }
+    requires own { D.node end ≡ done.node }
+    ensures same { D.same end result.end }
+    ensures worked { HasWorked D.stands (settings_in (at_power_on done.version)) done.node steps.now end result
+        result.done.list }
     ensures named { IsNamed N.deeds done.node result.done.name }
     ensures keeps { KeepsLog log → KeepsLog (log_of result.driver) }
     ensures let_by { IsLet G.QUITS G.answered at.entry.gate done.node (length steps.now)
@@ -188,7 +181,7 @@ pub(crate) fn follow<N: Order, D: DriverEnd + Drop, G: Gate, R: Wait>(
         driver,
         set,
         found: 0,
-        links,
+        end,
         done,
     };
     thread.do_steps(&at, steps);
@@ -202,10 +195,10 @@ pub(crate) fn follow<N: Order, D: DriverEnd + Drop, G: Gate, R: Wait>(
 /// ends before the step that it was asked about. At the end the port is marked as one whose driver has ended, and
 /// an open activation stays open.
 ///
-/// `links` are the driver's ends of the node's links, by activation. The port's lock is held over a try, but not
-/// over one of `Window` or `Release`. The driver begins with what it finds set at the port, and from then on what it
-/// sets is its own: mode bits, IER, EWLR, written error counters, acceptance filter, transmit buffer and version. The
-/// log is empty, with room for all steps; no step takes memory.
+/// `end` is the driver's end of the node's links. The port's lock is held over a try, but not over one of `Window` or
+/// `Release`. The driver begins with what it finds set at the port, and from then on what it sets is its own: mode
+/// bits, IER, EWLR, written error counters, acceptance filter, transmit buffer and version. The log is empty, with room
+/// for all steps; no step takes memory.
 ///
 /// A step is one deed. In version 3 a write is up to three, one after the other, by what the port shows as it begins:
 /// what the driver has set is known, and what the bus brought meanwhile isn't. Where a link gives an item back, the
@@ -220,7 +213,7 @@ pub(crate) fn follow<N: Order, D: DriverEnd + Drop, G: Gate, R: Wait>(
 /// who runs a bus of his own, and the tests.
 pub fn work<'a, N: Order, D: DriverEnd + Drop, G: Gate>(
     rt: &'a impl Wait,
-    links: Vec<D>,
+    end: D,
     port: &'a Mutex<LockedPort<N>>,
     done: DeedsOfNode<N>,
     steps: &[Step],
@@ -229,16 +222,15 @@ pub fn work<'a, N: Order, D: DriverEnd + Drop, G: Gate>(
 ) -> Handover<D>
     requires none { done.known.list ≡ [] }
     requires empty { IsEmpty log }
-    requires room { HasRoom (length steps.now) log }
+    requires room { HasRoom done.version (length steps.now) log }
     requires steps { length steps.now ≤ done_room log }
-    requires enough { 64 ≤ length links.items }
-    requires ids { NumberedFrom D.link links.items 0 done.node }
-    ensures same { EachRelated D.same links.items result.links.items }
-    ensures worked { HasWorked D.stands (settings_in (at_power_on done.version)) done.node steps.now links.items
-        result result.done.list }
+    requires own { D.node end ≡ done.node }
+    ensures same { D.same end result.end }
+    ensures worked { HasWorked D.stands (settings_in (at_power_on done.version)) done.node steps.now end result
+        result.done.list }
     ensures let_by { IsLet G.QUITS G.answered gate done.node (length steps.now)
         (length (done_in (log_of result.driver))) }
     ensures done { G.QUITS ≡ false → length (done_in (log_of result.driver)) ≡ length steps.now }
 {
-    follow(AtGate::new(rt, port, gate, None), done, links, log, steps)
+    follow(AtGate::new(rt, port, gate, None), done, end, log, steps)
 }

@@ -6,7 +6,7 @@ ghost use Rattle.sja_threads.specs.Inside.Settling.{all_drivers, all_ends};
 use super::handover::Handover;
 use can_frame::OutOfMemory;
 use sja_driver::LoggedDriver;
-use sja_rings::RingDriver;
+use sja_rings::NodeDriver;
 use std::alloc::Global;
 
 /// What the drivers of all nodes handed back, drivers and ends apart.
@@ -14,8 +14,8 @@ use std::alloc::Global;
 pub(crate) struct DriversAndEnds {
     /// The drivers, by node.
     pub(crate) drivers: Vec<LoggedDriver>,
-    /// Their ends of all links, one driver's after the other's.
-    pub(crate) ends: Vec<RingDriver>,
+    /// Their ends of the nodes' links, by node.
+    pub(crate) ends: Vec<NodeDriver>,
 }
 
 impl DriversAndEnds {
@@ -24,7 +24,7 @@ impl DriversAndEnds {
     /// Error: [`OutOfMemory`] where memory was refused.
     pub(crate) fn of(
         alloc: Global,
-        workeds: Vec<Handover<RingDriver>>,
+        workeds: Vec<Handover<NodeDriver>>,
     ) -> Result<DriversAndEnds, OutOfMemory>
         ensures drivers { IfOk result (λ apart. apart.drivers.items ≡ all_drivers workeds.items) }
         ensures ends { IfOk result (λ apart. apart.ends.items ≡ all_ends workeds.items) }
@@ -32,13 +32,9 @@ impl DriversAndEnds {
         let mut drivers = Vec::new(alloc);
         let mut ends = Vec::new(alloc);
         for worked in workeds {
-            let Handover {
-                mut links,
-                driver,
-                ..
-            } = worked;
+            let Handover { end, driver, .. } = worked;
             drivers.push(driver)?;
-            ends.append(&mut links)?;
+            ends.push(end)?;
         }
         Ok(DriversAndEnds { drivers, ends })
     }

@@ -4,12 +4,12 @@ use super::known_half::KnownHalf;
 use super::port_deed::PortDeed;
 use sja_driver::LoggedDriver;
 
-/// What a driver hands back when its script has ended (this project's own rule): its ends of the node's links,
+/// What a driver hands back when its script has ended (this project's own rule): its end of the node's links,
 /// and the driver with the log of what it did. An open activation stays open.
 #[derive(Drop)]
 pub struct Handover<D: Drop> {
-    /// Its ends, by activation.
-    pub links: Vec<D>,
+    /// Its end of the node's links.
+    pub end: D,
     /// The driver, in either state, with its log.
     pub driver: LoggedDriver,
     /// The list of what it did at its port.

@@ -9,7 +9,7 @@ use super::bus_thread::BusThread;
 use super::gate::Gate;
 use super::handover::Handover;
 use super::thread_promise::Child;
-use sja_rings::RingDriver;
+use sja_rings::NodeDriver;
 use std::thread::Threads;
 
 /// A run once all its drivers' threads are joined (this project's own rule): the bus, and what each driver handed back,
@@ -17,15 +17,15 @@ use std::thread::Threads;
 #[derive(Drop)]
 pub(crate) struct JoinedRun {
     pub(crate) bus: BusThread,
-    pub(crate) workeds: Vec<Handover<RingDriver>>,
+    pub(crate) workeds: Vec<Handover<NodeDriver>>,
 }
 
 /// Joins the threads of all drivers, and gives what each handed back, in order.
 pub(crate) fn join_all<G: Gate, R: Threads>(
     rt: &R,
     children: Vec<Child<G>>,
-    workeds: Vec<Handover<RingDriver>>,
-) -> Vec<Handover<RingDriver>>
+    workeds: Vec<Handover<NodeDriver>>,
+) -> Vec<Handover<NodeDriver>>
     requires room { vec_len children ≤ vec_capacity workeds }
     requires none { workeds.items ≡ [] }
     ensures { EachRelated (IsPromised (IsLet G.QUITS G.answered)) (map (λ child. child.promise) children.items)

@@ -1,49 +1,53 @@
 //! What is left on the links of a run that is over.
 
-ghost use Rattle.std.specs.Prelude.{◌≡◌, ◌⊎◌, ◌<◌, ℕ, true, false, length, slice_index_or, IfOk, IfErr};
-ghost use Rattle.sja_rings.specs.declared.ring_bus.RingBus.{RingBus as Bus};
-ghost use Rattle.sja_rings.specs.declared.ring_driver.RingDriver.{RingDriver as Driver};
+ghost use Rattle.std.specs.Prelude.{◌≡◌, ◌⊎◌, ◌<◌, ◌++◌, ℕ, true, false, List, length, slice_index_or, IfOk, IfErr};
+ghost use Rattle.std.specs.Prelude.{OnOk};
+ghost use Rattle.sja_link.specs.declared.down.Down.{Down};
+ghost use Rattle.sja_link.specs.Deques.{left_on};
+ghost use Rattle.sja_rings.specs.declared.node_bus.NodeBus.{NodeBus as Bus};
+ghost use Rattle.sja_rings.specs.declared.node_driver.NodeDriver.{NodeDriver as Driver};
 ghost use Rattle.sja_rings.specs.Ends.{OneLink};
+ghost use Rattle.sja_rings.specs.NodeRings.{OneNode};
 ghost use Rattle.sja_log.specs.declared.run_fault.RunFault.TheVariants.{Memory, Unsettled};
+ghost use Rattle.sja_log.specs.LeftDown.{on_link};
 ghost use Rattle.sja_threads.specs.Stopping.{IsUnsettledBy};
-ghost use Rattle.sja_threads.specs.Inside.Settling.{CameFrom, IsLeftOn, AreLeftOn, SomeUnsettled};
+ghost use Rattle.sja_threads.specs.Inside.Settling.{CameFrom, IsLeftOn, AllCameFrom, IsLeftOnAll, LeavesUnsettled};
+ghost use Rattle.sja_threads.specs.Inside.Settling.{AreLeftOn, SomeUnsettled};
 
 use sja_log::{LeftDown, RunFault};
-use sja_rings::{RingBus, RingDriver, end_bus, end_driver, settle};
+use sja_rings::{NodeBus, NodeDriver, RingBus, RingDriver, end_bus, end_driver, settle};
 use std::alloc::Global;
 
-/// Ends both ends of a link, and gives what lies there downward: all that was put and not got. Nothing lies there
-/// upward: all that was given was taken.
-///
-/// Error: [`RunFault::Unsettled`] where something lies there upward, or an end gave no account;
-/// [`RunFault::Memory`] where memory was refused.
-fn settle_link(alloc: Global, bus: RingBus, driver: RingDriver) -> Result<LeftDown, RunFault>
-    requires { OneLink bus driver }
-    ensures left { IfOk result (λ left_down. IsLeftOn bus driver left_down) }
-    ensures fault { IfErr result (λ f. (f ≡ Memory) ⊎ ((f ≡ Unsettled) × IsUnsettledBy bus driver)) }
-{
-    let Ok(settled) = settle(end_bus(bus), end_driver(driver)) else {
-        return Err(RunFault::Unsettled);
-    };
-    if !settled.up.is_empty() {
-        return Err(RunFault::Unsettled);
-    }
-    let left_down = LeftDown::of(alloc, settled.down.as_slice())?;
-    Ok(left_down)
-}
-
-/// Ends both ends of each of these links, and says whether each gave an account. Then what came out upward at each is a
-/// front of what went in there.
-pub(crate) fn all_account(links: Vec<RingBus>, ends: Vec<RingDriver>) -> bool
+/// Ends both ends of each of these nodes' links, and says whether each gave an account. Then what came out upward at
+/// each is a front of what went in there.
+pub(crate) fn all_account(links: Vec<NodeBus>, ends: Vec<NodeDriver>) -> bool
     requires count { length links.items ≡ length ends.items }
-    requires pairs { (i : ℕ) (b : Bus) (d : Driver) → i < length links.items →
-        OneLink (slice_index_or links.items i b) (slice_index_or ends.items i d) }
-    ensures yes { result ≡ true → (i : ℕ) (b : Bus) (d : Driver) → i < length links.items →
-        CameFrom (slice_index_or links.items i b) (slice_index_or ends.items i d) }
+    requires pairs { (node : ℕ) (b : Bus) (d : Driver) → node < length links.items →
+        OneNode (slice_index_or links.items node b) (slice_index_or ends.items node d) }
+    ensures yes { result ≡ true → (node : ℕ) (b : Bus) (d : Driver) → node < length links.items →
+        AllCameFrom (slice_index_or links.items node b) (slice_index_or ends.items node d) }
     ensures no { result ≡ false → SomeUnsettled links.items ends.items }
 {
     let mut ends = ends.into_iter();
     for link in links {
+        let Some(end) = ends.next() else {
+            unreachable!()
+        };
+        if !node_accounts(link, end) {
+            return false;
+        }
+    }
+    true
+}
+
+/// The same of one node.
+fn node_accounts(bus: NodeBus, driver: NodeDriver) -> bool
+    requires { OneNode bus driver }
+    ensures yes { result ≡ true → AllCameFrom bus driver }
+    ensures no { result ≡ false → LeavesUnsettled bus driver }
+{
+    let mut ends = driver.into_rings().into_iter();
+    for link in bus.into_rings() {
         let Some(end) = ends.next() else {
             unreachable!()
         };
@@ -54,7 +58,7 @@ pub(crate) fn all_account(links: Vec<RingBus>, ends: Vec<RingDriver>) -> bool
     true
 }
 
-/// The same of one.
+/// The same of one link.
 fn accounts(bus: RingBus, driver: RingDriver) -> bool
     requires { OneLink bus driver }
     ensures yes { result ≡ true → CameFrom bus driver }
@@ -66,18 +70,18 @@ fn accounts(bus: RingBus, driver: RingDriver) -> bool
     }
 }
 
-/// What lies downward on each of these links.
+/// What lies downward on the links of each of these nodes.
 ///
 /// Error: [`RunFault::Unsettled`] where something lies upward on a link, or one of its ends gave no account;
 /// [`RunFault::Memory`] where memory was refused.
 pub(crate) fn settle_all(
     alloc: Global,
-    links: Vec<RingBus>,
-    ends: Vec<RingDriver>,
+    links: Vec<NodeBus>,
+    ends: Vec<NodeDriver>,
 ) -> Result<Vec<LeftDown>, RunFault>
     requires count { length links.items ≡ length ends.items }
-    requires pairs { (i : ℕ) (b : Bus) (d : Driver) → i < length links.items →
-        OneLink (slice_index_or links.items i b) (slice_index_or ends.items i d) }
+    requires pairs { (node : ℕ) (b : Bus) (d : Driver) → node < length links.items →
+        OneNode (slice_index_or links.items node b) (slice_index_or ends.items node d) }
     ensures left { IfOk result (λ lists. AreLeftOn links.items ends.items (length links.items) lists.items) }
     ensures fault { IfErr result (λ f. (f ≡ Memory) ⊎ ((f ≡ Unsettled)
         × SomeUnsettled links.items ends.items)) }
@@ -88,7 +92,53 @@ pub(crate) fn settle_all(
         let Some(end) = ends.next() else {
             unreachable!()
         };
-        lists.push(settle_link(alloc, link, end)?)?;
+        lists.push(settle_node(alloc, link, end)?)?;
     }
     Ok(lists)
+}
+
+/// The same of one node.
+///
+/// Errors: as [`settle_all`].
+fn settle_node(alloc: Global, bus: NodeBus, driver: NodeDriver) -> Result<LeftDown, RunFault>
+    requires { OneNode bus driver }
+    ensures left { IfOk result (λ left. IsLeftOnAll bus driver (λ a. left_on left a)) }
+    ensures fault { IfErr result (λ f. (f ≡ Memory) ⊎ ((f ≡ Unsettled) × LeavesUnsettled bus driver)) }
+{
+    let mut left = LeftDown::new(alloc);
+    let mut activation = 0u64;
+    let mut ends = driver.into_rings().into_iter();
+    for link in bus.into_rings() {
+        let Some(end) = ends.next() else {
+            unreachable!()
+        };
+        activation += 1;
+        settle_link(link, end, activation, &mut left)?;
+    }
+    Ok(left)
+}
+
+/// Ends both ends of an activation's link, and adds what lies there downward: all that was put and not got. Nothing
+/// lies there upward: all that was given was taken.
+///
+/// Errors: as [`settle_all`].
+fn settle_link(
+    bus: RingBus,
+    driver: RingDriver,
+    activation: u64,
+    left: &mut LeftDown,
+) -> Result<(), RunFault>
+    requires { OneLink bus driver }
+    ensures left { OnOk result ((down : List Down) × IsLeftOn bus driver down
+        × (left.new ≡ left.old ++ on_link activation down)) }
+    ensures fault { IfErr result (λ f. (f ≡ Memory) ⊎ ((f ≡ Unsettled) × IsUnsettledBy bus driver)) }
+{
+    let Ok(settled) = settle(end_bus(bus), end_driver(driver)) else {
+        return Err(RunFault::Unsettled);
+    };
+    if !settled.up.is_empty() {
+        return Err(RunFault::Unsettled);
+    }
+    left.push(activation, settled.down.as_slice())?;
+    Ok(())
 }

@@ -3,7 +3,7 @@
 //! [`run_threads`] runs a plan: each driver in a thread of its own, the bus in the caller's, and gives the log of the
 //! run, with all that is promised of it. [`work`] is the driver's part: one step after the other, each tried until it
 //! is done. Before each try it asks a [`Gate`], which lets the step go, holds it, or quits the script. It hands back
-//! the ends of the node's links and the driver with its log ([`Handover`]). A [`TurnBoard`] is the board of a bus whose
+//! its end of the node's links and the driver with its log ([`Handover`]). A [`TurnBoard`] is the board of a bus whose
 //! drivers stand in threads.
 //!
 //! A step of a plan is one deed; in version 3 a write is up to three, and a wait for a bit none. Contracts say which

@@ -200,14 +200,14 @@ impl<N: Order> LockedPort<N> {
         &mut self,
         done: &mut DeedsOfNode<N>,
         driver: &mut LoggedDriver,
-        links: &mut [D],
+        end: &mut D,
         deed: &Step,
     ) -> Option<StepAnswer>
         requires node { self.old.node ≡ done.old.node }
         requires active { active_by false (done_in_order done.old.known.list) ≡ is_out (driver_of driver.old) }
-        requires may { MayStep D.link driver.old links.old 0 }
-        ensures stays { StaysLawful D.link D.same driver.old driver.new links.old links.new 0 result }
-        ensures steps { Steps D.same D.stands D.dry D.full driver.old driver.new links.old links.new 0
+        requires may { MayStep D.node done.old.version driver.old end.old }
+        ensures stays { StaysLawful D.same D.stands driver.old driver.new end.old end.new result }
+        ensures steps { Steps D.same D.stands D.dry D.full driver.old driver.new end.old end.new
             self.old.registers self.new.registers deed.now result }
         ensures has { HasSettings self.old.registers (set_after done.old.version done.old.known.list) }
         ensures done { done_in_order done.new.known.list
@@ -218,7 +218,7 @@ impl<N: Order> LockedPort<N> {
         ensures node { (done.new.node ≡ done.old.node) × (done.new.version ≡ done.old.version) }
     {
         agree(&mut self.deeds, &mut done.known);
-        let Some(answer) = driver.step(links, 0, &mut self.port, deed) else {
+        let Some(answer) = driver.step(end, &mut self.port, deed) else {
             return None;
         };
         let one = PortDeed {

@@ -32,7 +32,7 @@ use super::turns_of_node::TurnsOfNode;
 use sja_bus::BusFault;
 use sja_log::{RunFault, RunLog};
 use sja_plan::Plan;
-use sja_rings::RingDriver;
+use sja_rings::NodeDriver;
 use std::alloc::Global;
 use std::marker::Brand;
 use std::snapshot::Snapshot;
@@ -226,7 +226,7 @@ fn stop_run<N: Order, G: Gate, R: Threads + Wait>(
     board: TurnBoard<N, R>,
     lobby: &Mutex<Lobby>,
     children: Vec<Child<G>>,
-    workeds: Vec<Handover<RingDriver>>,
+    workeds: Vec<Handover<NodeDriver>>,
     stop: BusFault,
 ) -> RunFault
     requires room { vec_len children ≤ vec_capacity workeds }

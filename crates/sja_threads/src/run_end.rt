@@ -26,7 +26,7 @@ use super::turn_board::TurnBoard;
 use sja_bus::BusFault;
 use sja_log::{End, RunFault, RunLog, node_runs};
 use sja_plan::Plan;
-use sja_rings::RingDriver;
+use sja_rings::NodeDriver;
 use std::alloc::Global;
 use std::snapshot::Snapshot;
 use std::sync::Wait;
@@ -69,7 +69,7 @@ pub(crate) fn end_run<N: Order, G: Gate, R: Wait>(
 pub(crate) fn stopped(
     alloc: Global,
     bus: BusThread,
-    workeds: Vec<Handover<RingDriver>>,
+    workeds: Vec<Handover<NodeDriver>>,
     stop: BusFault,
 ) -> RunFault
     requires { (plan : PlanValue) × IsStopped plan bus.links.items workeds.items stop }
@@ -93,8 +93,8 @@ fn as_told(stop: BusFault) -> RunFault
 }
 
 /// The log of a run that is over, and ends so: of each node its journal, its error counters, the steps done, and of
-/// each activation what was released, and what was left unread, by the driver and on the link. `bus` has its ends of
-/// all links, 64 of each node, and `workeds` are what the drivers handed back, by node.
+/// each activation what was released, and what was left unread, by the driver and on the link. `bus` has its ends
+/// of the links of all nodes, and `workeds` are what the drivers handed back, by node.
 ///
 /// Error: [`RunFault::Unsettled`] where the bus didn't take all that was given on a link, or an end of one gave no
 /// account; [`RunFault::Memory`] where memory was refused.
@@ -102,7 +102,7 @@ fn settled_log(
     alloc: Global,
     plan: &Plan,
     bus: BusThread,
-    workeds: Vec<Handover<RingDriver>>,
+    workeds: Vec<Handover<NodeDriver>>,
     end: End,
 ) -> Result<RunLog, RunFault>
     requires over { (deeds : List (List Deed)) × IsOver plan.now bus.bus bus.links.items workeds.items deeds }

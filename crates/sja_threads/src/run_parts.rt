@@ -1,8 +1,7 @@
 //! [`RunParts`]: all that a run in threads begins with beside the ports; and the ports.
 
-ghost use Rattle.std.specs.Prelude.{◌≡◌, ◌≤◌, ◌+◌, ◌*◌, ◌<◌, ℕ, [], length, map, slice_index_or, vec_len, OnOk, IfOk};
-ghost use Rattle.sja_rings.specs.declared.ring_bus.RingBus.{RingBus as BusEnd};
-ghost use Rattle.sja_threads.specs.Inside.Making.{AreNewEnds, AreMade, AreListed};
+ghost use Rattle.std.specs.Prelude.{◌≡◌, [], length, map, vec_len, OnOk, IfOk};
+ghost use Rattle.sja_threads.specs.Inside.Making.{AreMade, AreListed};
 ghost use Rattle.sja_threads.specs.Stopping.{deed_counts};
 
 use super::bus_thread::BusThread;
@@ -14,20 +13,19 @@ use super::thread_start::ThreadStart;
 use can_frame::OutOfMemory;
 use sja_bus::Bus;
 use sja_driver::{WorkLog, most_deeds};
-use sja_link::{LINKS_PER_NODE, LinkId};
 use sja_log::script_of;
 use sja_plan::Plan;
-use sja_rings::{RingBus, RingDriver, ring_pair};
+use sja_rings::{NodeBus, NodeDriver, node_pair};
 use std::alloc::Global;
 
-/// All that a run in threads begins with beside the ports (this project's own rule): the bus with its ends of all
-/// links, what each driver's thread begins with, and room for the threads and for what they hand back.
+/// All that a run in threads begins with beside the ports (this project's own rule): the bus with its ends of the
+/// links of all nodes, what each driver's thread begins with, and room for the threads and for what they hand back.
 #[derive(Drop)]
 pub(crate) struct RunParts<G: Gate> {
     pub(crate) bus: BusThread,
     pub(crate) starts: Vec<ThreadStart<G>>,
     pub(crate) children: Vec<Child<G>>,
-    pub(crate) workeds: Vec<Handover<RingDriver>>,
+    pub(crate) workeds: Vec<Handover<NodeDriver>>,
 }
 
 impl<G: Gate> RunParts<G> {
@@ -92,15 +90,15 @@ fn deeds_for(alloc: Global, plan: &Plan) -> Result<Vec<u64>, OutOfMemory>
     Ok(counts)
 }
 
-/// What the thread of each driver begins with, and the gate that it asks. The bus's ends of all links are added to
-/// `buses`, 64 a node, by node and activation, and the lists of what comes at the ports to `lists`, by node.
+/// What the thread of each driver begins with, and the gate that it asks. The bus's end of each node's links is
+/// added to `buses`, by node, and the lists of what comes at the ports to `lists`, by node.
 ///
 /// Error: [`OutOfMemory`] where memory was refused.
 fn starts_of<G: Gate>(
     alloc: Global,
     plan: &Plan,
     gates: Vec<G>,
-    buses: &mut Vec<RingBus>,
+    buses: &mut Vec<NodeBus>,
     lists: &mut Vec<PortLists>,
 ) -> Result<Vec<ThreadStart<G>>, OutOfMemory>
     requires gates { vec_len gates ≡ length plan.now.nodes }
@@ -108,7 +106,7 @@ fn starts_of<G: Gate>(
     requires new { lists.old.items ≡ [] }
     ensures count { IfOk result (λ starts. length starts.items ≡ length plan.now.nodes) }
     ensures asked { IfOk result (λ starts. map (λ s. s.gate) starts.items ≡ gates.items) }
-    ensures links { OnOk result (length buses.new.items ≡ 64 * length plan.now.nodes) }
+    ensures links { OnOk result (length buses.new.items ≡ length plan.now.nodes) }
     ensures made { IfOk result (λ starts.
         AreMade plan.now (length plan.now.nodes) starts.items buses.new.items) }
     ensures many { OnOk result (length lists.new.items ≡ length plan.now.nodes) }
@@ -120,13 +118,14 @@ fn starts_of<G: Gate>(
     let mut node = 0u8;
     for gate in gates {
         let steps = plan.steps(usize::from(node)).len() as u64;
-        let log = WorkLog::new(alloc, steps, steps)?;
-        let links = links_of(alloc, node, buses)?;
+        let log = WorkLog::new(alloc, plan.version(), steps, steps)?;
+        let (bus, end) = node_pair(alloc, node)?;
+        buses.push(bus)?;
         let (list, done) = PortLists::new(node);
         lists.push(list)?;
         starts.push_reserved(ThreadStart {
             node,
-            links,
+            end,
             log,
             gate,
             done,
@@ -134,32 +133,4 @@ fn starts_of<G: Gate>(
         node += 1;
     }
     Ok(starts)
-}
-
-/// The driver's ends of a node's links, with nothing on them. The bus's ends are added to `buses`.
-///
-/// Error: [`OutOfMemory`] where memory was refused.
-fn links_of(
-    alloc: Global,
-    node: u8,
-    buses: &mut Vec<RingBus>,
-) -> Result<Vec<RingDriver>, OutOfMemory>
-    ensures enough { IfOk result (λ drivers. length drivers.items ≡ 64) }
-    ensures more { OnOk result (length buses.new.items ≡ length buses.old.items + 64) }
-    ensures others { OnOk result ((i : ℕ) (b : BusEnd) → i < length buses.old.items →
-        slice_index_or buses.new.items i b ≡ slice_index_or buses.old.items i b) }
-    ensures pairs { IfOk result (λ drivers.
-        AreNewEnds 64 node buses.new.items drivers.items (length buses.old.items)) }
-{
-    let mut drivers = Vec::with_capacity(alloc, LINKS_PER_NODE)?;
-    for place in 0..LINKS_PER_NODE {
-        let id = LinkId {
-            node,
-            activation: place as u8 + 1,
-        };
-        let (bus, driver) = ring_pair(alloc, id)?;
-        buses.push(bus)?;
-        drivers.push(driver)?;
-    }
-    Ok(drivers)
 }

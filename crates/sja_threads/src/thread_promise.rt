@@ -5,28 +5,28 @@ use super::handover::Handover;
 use super::known_half::KnownHalf;
 use super::port_deed::PortDeed;
 use sja_plan::Plan;
-use sja_rings::RingDriver;
+use sja_rings::NodeDriver;
 use std::snapshot::Snapshot;
 use std::thread::{Promise, PromisedHandle};
 
 /// What a driver's thread promises (this project's own rule): that it followed the steps which the plan has for its
-/// node, with these ends and as its gate let it.
+/// node, with this end of its links and as its gate let it.
 #[derive(Drop)]
 pub(crate) struct ThreadPromise<G: Gate> {
     pub(crate) plan: Snapshot<Plan>,
     pub(crate) node: u8,
-    pub(crate) links: Snapshot<Vec<RingDriver>>,
+    pub(crate) end: Snapshot<NodeDriver>,
     pub(crate) done: Snapshot<KnownHalf<PortDeed>>,
     pub(crate) gate: Snapshot<G>,
 }
 
-impl<G: Gate> Promise<Handover<RingDriver>> for ThreadPromise<G> {
+impl<G: Gate> Promise<Handover<NodeDriver>> for ThreadPromise<G> {
     ghost use Rattle.sja_threads.specs.Asking.{IsLet};
     ghost use Rattle.sja_threads.specs.Inside.Started.{HandsBack};
 
-    ghost kept_by = { λ p w. HandsBack (IsLet G.QUITS G.answered p.gate.value) p.plan.value p.node p.links.value.items
+    ghost kept_by = { λ p w. HandsBack (IsLet G.QUITS G.answered p.gate.value) p.plan.value p.node p.end.value
         p.done.value.name w };
 }
 
 /// A driver's thread.
-pub(crate) type Child<G> = PromisedHandle<Handover<RingDriver>, ThreadPromise<G>>;
+pub(crate) type Child<G> = PromisedHandle<Handover<NodeDriver>, ThreadPromise<G>>;

@@ -22,17 +22,17 @@ use super::thread_promise::{Child, ThreadPromise};
 use sja_driver::WorkLog;
 use sja_log::RunFault;
 use sja_plan::Plan;
-use sja_rings::RingDriver;
+use sja_rings::NodeDriver;
 use std::snapshot::Snapshot;
 use std::sync::{Mutex, Wait};
 use std::thread::{Scope, Threads};
 
-/// What the thread of a node's driver begins with (this project's own rule): its ends of the node's links, by
-/// activation, an empty log with room for all its steps, and the gate that it asks.
+/// What the thread of a node's driver begins with (this project's own rule): its end of the node's links, an
+/// empty log with room for all its steps, and the gate that it asks.
 #[derive(Drop)]
 pub(crate) struct ThreadStart<G: Drop> {
     pub(crate) node: u8,
-    pub(crate) links: Vec<RingDriver>,
+    pub(crate) end: NodeDriver,
     pub(crate) log: WorkLog,
     pub(crate) gate: G,
     pub(crate) done: KnownHalf<PortDeed>,
@@ -46,14 +46,14 @@ fn serve<N: Order, G: Gate>(
     start: ThreadStart<G>,
     port: &Mutex<LockedPort<N>>,
     lobby: &Mutex<Lobby>,
-) -> Handover<RingDriver>
+) -> Handover<NodeDriver>
     requires start { IsThreadStart plan.now start }
     requires order { IsOrderOf N.version N.deeds plan.now.version start.node start.done.name }
     ensures { Serves (IsLet G.QUITS G.answered) plan.now start result }
 {
     let ThreadStart {
         node,
-        links,
+        end,
         log,
         gate,
         done,
@@ -63,7 +63,7 @@ fn serve<N: Order, G: Gate>(
     follow(
         AtGate::new(rt, port, gate, Some(lobby)),
         done,
-        links,
+        end,
         log,
         steps,
     )
@@ -88,13 +88,13 @@ fn start_one<'s, E, N: Order + Send + Sync + 's, G: Gate + 's, R: Threads + Wait
     let promise = ThreadPromise {
         plan: Snapshot::of(plan),
         node: start.node,
-        links: Snapshot::of(&start.links),
+        end: Snapshot::of(&start.end),
         done: Snapshot::of(&start.done),
         gate: Snapshot::of(&start.gate),
     };
     match scope.spawn_with(
         promise,
-        move || -> Handover<RingDriver>
+        move || -> Handover<NodeDriver>
             requires start { IsThreadStart plan.now start }
             requires order { IsOrderOf N.version N.deeds plan.now.version start.node start.done.name }
             ensures { Serves (IsLet G.QUITS G.answered) plan.entry.now start result }

@@ -34,7 +34,7 @@ impl<N: Order, D: DriverEnd + Drop> DriverThread<N, D> {
         step: &Step,
         number: u32,
     ) -> bool
-        requires may { MayStep D.link self.old 1 }
+        requires may { MayStep D.node self.old 1 }
         requires asks { G.asks at.now.gate self.old.done.node number 1 }
         ensures done { result ≡ true → DoesStep D.DriverEnd self.old self.new step.now }
         ensures quits { result ≡ false → BreaksOff D.DriverEnd self.old self.new step.now }
@@ -53,7 +53,7 @@ impl<N: Order, D: DriverEnd + Drop> DriverThread<N, D> {
 
     /// Waits until so many bits have run, of a driver that knows addresses and bytes alone: no deed.
     fn do_wait<G: Gate, R: Wait>(&mut self, at: &AtGate<N, R, G>, bits: u32, number: u32) -> bool
-        requires may { MayStep D.link self.old 1 }
+        requires may { MayStep D.node self.old 1 }
         requires bytes { self.old.bytes ≡ true }
         requires asks { G.asks at.now.gate self.old.done.node number 1 }
         ensures done { result ≡ true → DoesStep D.DriverEnd self.old self.new (At bits) }
@@ -72,7 +72,7 @@ impl<N: Order, D: DriverEnd + Drop> DriverThread<N, D> {
 
     /// Does a step that is one deed.
     fn do_one<G: Gate, R: Wait>(&mut self, at: &AtGate<N, R, G>, step: &Step, number: u32) -> bool
-        requires may { MayStep D.link self.old 1 }
+        requires may { MayStep D.node self.old 1 }
         requires one { HasOneDeed self.old.bytes step.now }
         requires asks { G.asks at.now.gate self.old.done.node number 1 }
         ensures done { result ≡ true → DoesStep D.DriverEnd self.old self.new step.now }
@@ -104,7 +104,7 @@ impl<N: Order, D: DriverEnd + Drop> DriverThread<N, D> {
         value: u8,
         number: u32,
     ) -> bool
-        requires may { MayStep D.link self.old 1 }
+        requires may { MayStep D.node self.old 1 }
         requires bytes { self.old.bytes ≡ true }
         requires asks { G.asks at.now.gate self.old.done.node number 1 }
         ensures done { result ≡ true → DoesStep D.DriverEnd self.old self.new (Write address value) }
@@ -134,7 +134,7 @@ impl<N: Order, D: DriverEnd + Drop> DriverThread<N, D> {
         tries: &mut u32,
         on: &mut Written,
     ) -> bool
-        requires may { MayWork D.link self.old 1 }
+        requires may { MayWork D.node self.old 1 }
         requires last { LastTakes (steps_in steps.now) }
         requires go { G.answered at.now.gate self.old.done.node number tries.old Go }
         ensures parts { DoesParts D.DriverEnd self.old self.new (steps_in steps.now) result on.old on.new }
@@ -159,7 +159,7 @@ impl<N: Order, D: DriverEnd + Drop> DriverThread<N, D> {
         tries: &mut u32,
         on: &mut Written,
     ) -> bool
-        requires may { MayWork D.link self.old (length (listed part.now)) }
+        requires may { MayWork D.node self.old (length (listed part.now)) }
         requires go { G.answered at.now.gate self.old.done.node number tries.old Go }
         ensures parts { DoesParts D.DriverEnd self.old self.new (listed part.now) result on.old on.new }
         ensures never { result ≡ false → G.QUITS ≡ true }
@@ -183,7 +183,7 @@ impl<N: Order, D: DriverEnd + Drop> DriverThread<N, D> {
         address: u8,
         value: u8,
     ) -> (WriteSteps, Written)
-        requires { MayWork D.link self.old 1 }
+        requires { MayWork D.node self.old 1 }
         ensures same { self.new ≡ self.old }
         ensures begins { BeginsWrite self.old address value (steps_in result.0) result.1 }
     {
@@ -203,7 +203,7 @@ impl<N: Order, D: DriverEnd + Drop> DriverThread<N, D> {
         port: &Mutex<LockedPort<N>>,
         step: &Step,
     ) -> KeptBytes
-        requires { MayWork D.link self.old 1 }
+        requires { MayWork D.node self.old 1 }
         ensures same { self.new ≡ self.old }
         ensures kept { (p : PortRegisters) × HasSettings p self.old.set
             × (result ≡ kept_written p (kept_of self.old.driver) step.now) }

@@ -106,6 +106,11 @@ module _ {N : Type 0} {o : Orders N} (was now : DeedsOfNode N o) where
   notes_node which answer bits set_was set (at_port here node version done sets waits) = node
   notes_node which answer bits set_was set (elsewhere away same kept) = ap (λ d. d.node) same
 
+  pub notes_version : (which : Step) (answer : Option StepAnswer) (bits : ℕ) (set_was set : SettingsValue) →
+      NotesDeed was now which answer bits set_was set → now.version ≡ was.version
+  notes_version which answer bits set_was set (at_port here node version done sets waits) = version
+  notes_version which answer bits set_was set (elsewhere away same kept) = ap (λ d. d.version) same
+
   pub notes_at_port : (p : Registers) (which : Step) (o : Tried) (answer : Option StepAnswer) (bits : ℕ)
       (set_was set : SettingsValue) → NotesDeed was now which answer bits set_was set → answer ≡ answer_of o →
       done_in_order now.known.list ≡ done_in_order was.known.list ++ done_at_port (deeds_by p which o bits)

@@ -80,7 +80,7 @@ module _ {N E : Type 0} {o : Orders N} (e : Ends E) (was mid : DriverThread N E 
   -- ---- a step that is one deed
 
   pub step_done : (s : Step) (given : Option StepAnswer) (answer told : StepAnswer) (kept moved : KeptBytes) →
-      given ≡ Some answer → DoesDeed e was mid s given → Entered moved told → MayStep e.link was 1 →
+      given ≡ Some answer → DoesDeed e was mid s given → Entered moved told → MayStep e.node was 1 →
       HasOneDeed was.bytes s →
       (p : Registers) × HasSettings p was.set × (kept ≡ kept_written p (kept_of was.driver) s) →
       moved ≡ moved_by_answer kept answer → IsTold was.bytes kept s answer told → DoesStep e was now s
@@ -161,7 +161,7 @@ module _ {N E : Type 0} {o : Orders N} (e : Ends E) (was mid : DriverThread N E 
 
 -- ---- a gate breaks it off
 
-module _ {N E : Type 0} {o : Orders N} (e : Ends E) (was : DriverThread N E o) (may : MayStep e.link was 1) where
+module _ {N E : Type 0} {o : Orders N} (e : Ends E) (was : DriverThread N E o) (may : MayStep e.node was 1) where
   -- before anything of it was done
   pub broken_before : ((x : E) → e.same x x) → (s : Step) → BreaksOff e was was s
   unfolding does_none

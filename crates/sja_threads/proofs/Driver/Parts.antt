@@ -127,8 +127,8 @@ module _ {N E : Type 0} {o : Orders N} (e : Ends E) where
 
   -- so the rest is left
   pub parts_able : (a b : DriverThread N E o) (xs : List Step) (m : Bool) (on on_now : Written) →
-      DoesParts e a b xs m on on_now → (n k : ℕ) → total room_of xs + n ≤ k → MayWork e.link a k →
-      MayWork e.link b n
+      DoesParts e a b xs m on on_now → (n k : ℕ) → total room_of xs + n ≤ k → MayWork e.node a k →
+      MayWork e.node b n
   parts_able a b xs m on on_now p n k few may =
       let less = parts_taken a b xs m on on_now p in
       p.does.able n (may_less e a (room_taken p.deeds + n) k (omega (arith, few, less)) may)

@@ -5,7 +5,6 @@ use Rattle.std.specs.Prelude.{slice_index_or}
 use Rattle.std.proofs.lemmas.List.{length-append, length-map, length-take-le, map-append}
 use Rattle.std.proofs.lemmas.List.{at_drop_more}
 use Rattle.sja_link.specs.declared.driver_end.DriverEnd.{Ghosts as Ends}
-use Rattle.sja_link.specs.declared.link_id.LinkId.{LinkId}
 use Rattle.sja_link.specs.declared.entry.Entry.{Entry}
 use Rattle.sja_link.specs.Lists.{Lists}
 use Rattle.sja_regs.specs.DriverSettings.{settings_in}
@@ -18,7 +17,7 @@ use Rattle.sja_driver.specs.declared.work_log.WorkLog.{WorkLog}
 use Rattle.sja_driver.specs.Accesses.{Access, by_bytes, deeds_in, done_of}
 use Rattle.sja_driver.specs.AnyDrivers.{is_out}
 use Rattle.sja_driver.specs.Deeds.{Deed, is_active}
-use Rattle.sja_driver.specs.Holding.{HoldsBy, NumberedFrom}
+use Rattle.sja_driver.specs.Holding.{HoldsBy}
 use Rattle.sja_driver.specs.Kept.{at_power_on}
 use Rattle.sja_driver.specs.LoggedDrivers.{node_of, driver_of, log_of, kept_of, IsLawful}
 use Rattle.sja_driver.specs.Logs.{HasRoom, IsEmpty, Traces, done_in, done_room}
@@ -40,25 +39,22 @@ use Rattle.sja_threads.proofs.Driver.Steps.{may_less, does_none, does_more}
 
 -- ---- before the first step
 
--- a driver as it is made, at its ends
-pub begins : {N E : Type 0} {o : Orders N} (link : E → LinkId) (t : DriverThread N E o) (node steps : ℕ) (log :
-    WorkLog) →
-    t.bytes ≡ by_bytes t.set.version → t.done.known.list ≡ [] →
+-- a driver as it is made, at its end
+pub begins : {N E : Type 0} {o : Orders N} (node_at : E → ℕ) (t : DriverThread N E o) (node steps : ℕ)
+    (log : WorkLog) → t.bytes ≡ by_bytes t.set.version → t.done.known.list ≡ [] →
     t.set ≡ settings_in (regs_at_power_on t.done.version) → node_of t.driver ≡ node → log_of t.driver ≡ log →
     kept_of t.driver ≡ at_power_on → is_out (driver_of t.driver) ≡ false → IsLawful t.driver →
     ((version : ℕ) → Traces version (driver_of t.driver) (log_of t.driver) []) → t.found ≡ 0 → IsEmpty log →
-    HasRoom steps log → steps ≤ done_room log → 64 ≤ length t.links.items →
-    NumberedFrom link t.links.items 0 node → MayBegin link t steps
-begins link t node steps log bytes unseen first own logs kept reset lawful none new empty deeds room long ids = record {
+    HasRoom t.done.version steps log → steps ≤ done_room log → node_at t.end ≡ node → MayBegin node_at t steps
+begins node_at t node steps log bytes unseen first own logs kept reset lawful none new empty deeds room here = record {
   may = record {
     may = record {
       bytes = bytes;
       set = ap (λ l. set_after t.done.version l) unseen ∙ sym first;
       active = ap (λ l. active_by false (done_in_order l)) unseen ∙ sym reset;
       lawful = lawful;
-      room = subst (λ (l : WorkLog). HasRoom steps l) (sym logs) deeds;
-      enough = long;
-      ids = subst (λ (n : ℕ). NumberedFrom link t.links.items 0 n) (sym own) ids;
+      room = subst (λ (l : WorkLog). HasRoom t.done.version steps l) (sym logs) deeds;
+      own = here ∙ sym own;
     };
     room = subst (λ (l : WorkLog). length (done_in l) + steps ≤ done_room l) (sym logs)
         (let few = ap (λ (l : List Done). length l) empty.done in omega (arith, few, room));
@@ -72,13 +68,12 @@ begins link t node steps log bytes unseen first own logs kept reset lawful none 
 }
 
 -- a driver that did nothing, at links on which nothing was got or given
-pub holds_new : {E : Type 0} (stands : E → Lists → Type 0) (driver : AnyDriver) (log : WorkLog) (j : List Entry)
-    (links : List E) (base : ℕ) → IsEmpty log → is_out driver ≡ false → AreUntouched stands j links base →
-    HoldsBy stands [] driver log j links base
-holds_new stands driver log j links base empty reset untouched = record {
+pub holds_new : {E : Type 0} (stands : E → ℕ → Lists → Type 0) (driver : AnyDriver) (log : WorkLog) (j : List Entry)
+    (end : E) → IsEmpty log → is_out driver ≡ false → AreUntouched stands j end → HoldsBy stands [] driver log j end
+holds_new stands driver log j end empty reset untouched = record {
   got = λ a. [];
   kept = untouched;
-  told = λ a few. sym (nothing_told driver log a empty reset);
+  told = λ a. sym (nothing_told driver log a empty reset);
   off_is = nothing_known driver reset;
   later = λ a less. refl;
 }
@@ -87,16 +82,16 @@ holds_new stands driver log j links base empty reset untouched = record {
 
 module _ {N E : Type 0} {o : Orders N} (e : Ends E) where
   -- where fewer are asked for
-  pub step_less : (t : DriverThread N E o) (k n : ℕ) → k ≤ n → MayStep e.link t n → MayStep e.link t k
+  pub step_less : (t : DriverThread N E o) (k n : ℕ) → k ≤ n → MayStep e.node t n → MayStep e.node t k
   step_less t k n less m = record {
     may = may_less e t k n less m.may;
     room = let room = m.room in omega (arith, room, less);
   }
 
   -- once one is done the others may be
-  pub step_able : (was now : DriverThread N E o) (s : Step) (n : ℕ) → DoesStep e was now s → MayStep e.link was (n +
+  pub step_able : (was now : DriverThread N E o) (s : Step) (n : ℕ) → DoesStep e was now s → MayStep e.node was (n +
       1) →
-      MayStep e.link now n
+      MayStep e.node now n
   step_able was now s n d m = record {
     may = d.does.able n (may_less e was (room_taken d.access.deeds + n) (n + 1)
         (let few = d.few in omega (arith, few)) m.may);
@@ -216,9 +211,9 @@ module _ {N E : Type 0} {o : Orders N} (e : Ends E) where
 
   -- what a driver hands back that began so and ended so
   pub worked_by : (quits : Bool) (first last : DriverThread N E o) (steps : List Step) →
-      MayBegin e.link first (length steps) → (h : HasEnded e quits first last steps) →
-      HasWorked e.stands first.set (node_of first.driver) steps first.links.items
-      (record { links = last.links; driver = last.driver; done = last.done.known }) last.done.known.list
+      MayBegin e.node first (length steps) → (h : HasEnded e quits first last steps) →
+      HasWorked e.stands first.set (node_of first.driver) steps first.end
+      (record { end = last.end; driver = last.driver; done = last.done.known }) last.done.known.list
   worked_by quits first last steps may h = record {
     work = h.work;
     own = h.does.node;
@@ -233,7 +228,7 @@ module _ {N E : Type 0} {o : Orders N} (e : Ends E) where
     );
     traces = h.does.goes.traces [] (may.traces first.set.version);
     holds = λ j u. h.does.goes.holds [] j (may.traces first.set.version)
-        (holds_new e.stands (driver_of first.driver) (log_of first.driver) j first.links.items 0 may.empty may.reset u);
+        (holds_new e.stands (driver_of first.driver) (log_of first.driver) j first.end may.empty may.reset u);
   }
 
   -- all steps, where no gate quits

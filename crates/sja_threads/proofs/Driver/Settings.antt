@@ -3,8 +3,8 @@ use Rattle.std.proofs.Common.{◌≡◌, ◌++◌, ℕ, Bool, true, List, [], �
 use Rattle.std.proofs.Common.{Some, None, arith, append-nil, append_assoc}
 use Rattle.std.proofs.lemmas.List.{length-append}
 use Rattle.can_frame.specs.declared.buffer_view.BufferView.{BufferView}
-use Rattle.sja_link.specs.declared.driver_end.DriverEnd.{Ghosts as Ends}
 use Rattle.sja_link.specs.DriverLedgers.{held_by, knows_bus_off}
+use Rattle.sja_link.specs.Lists.{Lists}
 use Rattle.sja_link.specs.Showing.{seen_of}
 use Rattle.sja_regs.specs.declared.registers.Registers.{Registers}
 use Rattle.sja_regs.specs.Registers.{at_power_on}
@@ -42,12 +42,12 @@ if_out : (was : AnyDriver) (P : Type 0) → IfOut was P → is_out was ≡ true 
 if_out (InReset d) P p out = absurd cc
 if_out (InActive d) P p out = p
 
-module _ {E : Type 0} (e : Ends E) (a b : E) (p q : Registers) (which : Step) (was now : AnyDriver)
-    (set set_now : SettingsValue) (has : HasSettings p set) where
+module _ {E : Type 0} (alike : E → E → Type 0) (stands : E → Lists → Type 0) (dry full : E → Type 0) (a b : E)
+    (p q : Registers) (which : Step) (was now : AnyDriver) (set set_now : SettingsValue) (has : HasSettings p set) where
   -- what was set before a try leads to what is set after it, by the deed that it was
   pub leads_try : (o : Tried) (bits : ℕ) →
       ((answer : StepAnswer) → answer_of o ≡ Some answer → set_now ≡ settings_in q) →
-      (answer_of o ≡ None → set_now ≡ set) → Acts e.same e.stands e.dry e.full a b p q which was now o →
+      (answer_of o ≡ None → set_now ≡ set) → Acts alike stands dry full a b p q which was now o →
       (before : List Deed) → is_active (before ++ []) ≡ is_out was → LeadOn before set (deeds_by p which o bits) set_now
   leads_try Unmet bits met unmet acts before out =
       subst (λ (s : SettingsValue). LeadOn before set [] s) (sym (unmet refl)) nothing_more

@@ -2,22 +2,20 @@
 use Rattle.std.proofs.Common.{◌≡◌, ◌≤◌, ◌+◌, ◌++◌, ℕ, false, Option, Some, None, List, []}
 use Rattle.std.proofs.Common.{length, map, refl, sym, ap, ◌∙◌, subst, arith, append-nil, append_assoc}
 use Rattle.std.proofs.lemmas.List.{length-append, map-append}
-use Rattle.std.proofs.lemmas.Slice.Zip.{AllZip-long}
 use Rattle.sja_link.specs.declared.driver_end.DriverEnd.{Ghosts as Ends}
 use Rattle.lemmas.specs.Gathering.{total}
 use Rattle.lemmas.proofs.Gathered.{total_append}
-use Rattle.lemmas.proofs.Related.{each_refl, each_trans}
-use Rattle.lemmas.proofs.Lists.{some_of}
+use Rattle.sja_link.specs.Lists.{on, is_on, same_on}
 use Rattle.sja_regs.specs.declared.registers.Registers.{Registers}
 use Rattle.sja_regs.specs.DriverSettings.{SettingsValue, settings_in, HasSettings}
 use Rattle.sja_script.specs.declared.step.Step.{Step}
 use Rattle.sja_script.specs.declared.step_answer.StepAnswer.{StepAnswer}
 use Rattle.sja_script.specs.declared.step_answer.StepAnswer.TheVariants.{Done as DoneAnswer, Released as ReleasedAnswer}
 use Rattle.sja_driver.specs.Accesses.{by_bytes}
-use Rattle.sja_driver.specs.AnyDrivers.{is_out}
+use Rattle.sja_driver.specs.AnyDrivers.{is_out, link_used}
 use Rattle.sja_driver.specs.Deeds.{Deed, is_active}
 use Rattle.sja_driver.specs.Holding.{HoldsBy, Goes}
-use Rattle.sja_driver.specs.LoggedDrivers.{driver_of, log_of, ended_of, StaysLawful, Steps}
+use Rattle.sja_driver.specs.LoggedDrivers.{driver_of, log_of, ended_of, MayRelease, MayStep, StaysLawful, Steps}
 use Rattle.sja_link.specs.Recents.{KeepsAll}
 use Rattle.sja_driver.specs.Logs.{HasRoom, KeepsLog, Traces, deeds_by, done_room, releases_in, releases_by}
 use Rattle.sja_driver.specs.Tries.{Tried, IsOf, answer_of, port_after}
@@ -34,7 +32,7 @@ use Rattle.sja_threads.specs.Ordering.{done_at_port, done_in_order, is_at_port}
 use Rattle.sja_threads.proofs.Driver.Counts.{counts_more, counts_none, try_counted, try_found}
 use Rattle.sja_threads.proofs.Driver.Settings.{leads_try, lead_more}
 use Rattle.sja_threads.proofs.Driver.AtPort.{both_at_port, NotesDeed, notes_node, notes_at_port, notes_set}
-use Rattle.sja_threads.proofs.Driver.AtPort.{notes_active}
+use Rattle.sja_threads.proofs.Driver.AtPort.{notes_active, notes_version}
 
 -- a try leaves the version of its port
 version_after : (p : Registers) (which : Step) (o : Tried) → (port_after p which o).version ≡ p.version
@@ -70,15 +68,14 @@ both_taken xs ys =
 
 module _ {N E : Type 0} {o : Orders N} (e : Ends E) where
   -- where fewer are asked for
-  pub may_less : (t : DriverThread N E o) (k n : ℕ) → k ≤ n → MayWork e.link t n → MayWork e.link t k
+  pub may_less : (t : DriverThread N E o) (k n : ℕ) → k ≤ n → MayWork e.node t n → MayWork e.node t k
   may_less t k n less m = record {
     bytes = m.bytes;
     set = m.set;
     active = m.active;
     lawful = m.lawful;
-    room = room_less k n (log_of t.driver) less m.room;
-    enough = m.enough;
-    ids = m.ids;
+    room = room_less t.done.version k n (log_of t.driver) less m.room;
+    own = m.own;
   }
 
   -- nothing was done
@@ -90,11 +87,11 @@ module _ {N E : Type 0} {o : Orders N} (e : Ends E) where
           subst (λ (x : List Deed). Traces t.set.version (driver_of t.driver) (log_of t.driver) x)
           (sym (append-nil deeds)) w;
       holds = λ deeds j w h.
-          subst (λ (x : List Deed). HoldsBy e.stands x (driver_of t.driver) (log_of t.driver) j t.links.items 0)
+          subst (λ (x : List Deed). HoldsBy e.stands x (driver_of t.driver) (log_of t.driver) j t.end)
           (sym (append-nil deeds)) h;
     };
     leads = λ before w. nothing_more;
-    sames = each_refl e.same r t.links.items;
+    alike = r t.end;
     node = refl;
     same = refl;
     at_port = sym (append-nil (done_in_order t.done.known.list));
@@ -112,7 +109,7 @@ module _ {N E : Type 0} {o : Orders N} (e : Ends E) where
           subst (λ (l : List Deed). Traces a.set.version (driver_of c.driver) (log_of c.driver) l)
           (append_assoc deeds xs ys) (later.traces (deeds ++ xs) (p.goes.traces deeds w));
       holds = λ deeds j w h.
-          subst (λ (l : List Deed). HoldsBy e.stands l (driver_of c.driver) (log_of c.driver) j c.links.items 0)
+          subst (λ (l : List Deed). HoldsBy e.stands l (driver_of c.driver) (log_of c.driver) j c.end)
           (append_assoc deeds xs ys)
           (later.holds (deeds ++ xs) j (p.goes.traces deeds w) (p.goes.holds deeds j w h));
     };
@@ -120,7 +117,7 @@ module _ {N E : Type 0} {o : Orders N} (e : Ends E) where
         lead_more before xs a.set b.set ys c.set (p.leads before w)
         (q.leads (before ++ xs) (subst (λ (n : ℕ). Traces n (driver_of b.driver) (log_of b.driver)
         (before ++ xs)) (sym p.version) (p.goes.traces before w)));
-    sames = each_trans e.same trans a.links.items b.links.items c.links.items p.sames q.sames;
+    alike = trans a.end b.end c.end p.alike q.alike;
     node = q.node ∙ p.node;
     same = q.same ∙ p.same;
     at_port = q.at_port ∙ ap (λ l. l ++ done_at_port ys) p.at_port
@@ -135,9 +132,9 @@ module _ {N E : Type 0} {o : Orders N} (e : Ends E) where
     where
       -- the later deeds, in the version before the first ones
       later : Goes e.stands a.set.version (driver_of b.driver) (driver_of c.driver) (log_of b.driver) (log_of c.driver)
-          b.links.items c.links.items 0 ys
+          b.end c.end ys
       later = subst (λ (n : ℕ). Goes e.stands n (driver_of b.driver) (driver_of c.driver) (log_of b.driver)
-          (log_of c.driver) b.links.items c.links.items 0 ys) p.version q.goes
+          (log_of c.driver) b.end c.end ys) p.version q.goes
 
   -- and then a step is entered as done, after so many bits
   unfoldable pub does_entered : (a b : DriverThread N E o) (d : LoggedDriver) (found : ℕ) (kept : KeptBytes)
@@ -156,7 +153,7 @@ module _ {N E : Type 0} {o : Orders N} (e : Ends E) where
       holds = λ before j w h. p.goes.holds before j w h;
     };
     leads = p.leads;
-    sames = p.sames;
+    alike = p.alike;
     node = p.node;
     same = p.same;
     at_port = p.at_port;
@@ -169,14 +166,22 @@ module _ {N E : Type 0} {o : Orders N} (e : Ends E) where
       bytes = may.bytes;
       set = may.set;
       active = may.active;
-      lawful = may.lawful;
+      lawful = record { own = may.lawful.own; few = may.lawful.few };
       room = record { releases = may.room.releases; left = may.room.left };
-      enough = may.enough;
-      ids = may.ids;
+      own = may.own;
     };
   })
 
   -- ---- a try
+
+  -- it may be made, at a port of the version of the driver's list
+  pub may_try : (t : DriverThread N E o) → MayWork e.node t 1 → MayStep e.node t.done.version t.driver t.end
+  may_try t may = record { lawful = may.lawful; room = may.room; own = may.own }
+
+  -- and one of a window or a release, which the log has room for
+  pub may_release : (t : DriverThread N E o) → MayWork e.node t 1 → MayRelease e.node t.driver t.end
+  may_release t may = let r = may.room.releases in
+      record { lawful = may.lawful; room = omega (arith, r); own = may.own }
 
   -- a deed that isn't done yet
   pub deed_none : ((x : E) → e.same x x) → (t : DriverThread N E o) (s : Step) → DoesDeed e t t s None
@@ -204,23 +209,22 @@ module _ {N E : Type 0} {o : Orders N} (e : Ends E) where
   }
 
   -- as much may be done then as before
-  pub deed_able : (a b : DriverThread N E o) (s : Step) (n : ℕ) → DoesDeed e a b s None → MayWork e.link a n →
-      MayWork e.link b n
+  pub deed_able : (a b : DriverThread N E o) (s : Step) (n : ℕ) → DoesDeed e a b s None → MayWork e.node a n →
+      MayWork e.node b n
   deed_able a b s n p may =
       p.does.able n (may_less a (room_taken p.deeds + n) n
       (let none : room_taken p.deeds ≡ 0 = ap (λ (l : List Deed). room_taken l) p.are in omega (arith, none)) may)
 
-  -- a try of a deed, with its ends lent for it
-  pub does_try : (a b : DriverThread N E o) (x y : List E) (p q : Registers) (which : Step) (answer : Option
-      StepAnswer) (bits : ℕ) →
-      x ≡ a.links.items → b.links.items ≡ y → 64 ≤ length a.links.items → b.bytes ≡ a.bytes → HasSettings p a.set →
+  -- a try of a deed
+  pub does_try : ((x y : E) → e.same x y → e.node y ≡ e.node x) → (a b : DriverThread N E o) (p q : Registers)
+      (which : Step) (answer : Option StepAnswer) (bits : ℕ) → b.bytes ≡ a.bytes → HasSettings p a.set →
       ((s : StepAnswer) → answer ≡ Some s → b.set ≡ settings_in q) → (answer ≡ None → b.set ≡ a.set) →
       (is_at_port which ≡ false → bits ≡ a.found) → ((s : StepAnswer) → answer ≡ Some s → b.found ≡ bits) →
       (answer ≡ None → b.found ≡ a.found) → NotesDeed a.done b.done which answer bits a.set b.set →
-      StaysLawful e.link e.same a.driver b.driver x y 0 answer →
-      Steps e.same e.stands e.dry e.full a.driver b.driver x y 0 p q which answer → (o : Option StepAnswer) →
+      StaysLawful e.same e.stands a.driver b.driver a.end b.end answer →
+      Steps e.same e.stands e.dry e.full a.driver b.driver a.end b.end p q which answer → (o : Option StepAnswer) →
       answer ≡ o → DoesDeed e a b which o
-  does_try a b x y p q which answer bits these those enough bytes has met unmet away finds kept notes stay act told is =
+  does_try node_same a b p q which answer bits bytes has met unmet away finds kept notes stays steps told is =
       record {
         deeds = deeds_by p which steps.tried bits;
         are = subst (λ (o : Option StepAnswer). IsDeedIf which o (deeds_by p which steps.tried bits))
@@ -233,13 +237,13 @@ module _ {N E : Type 0} {o : Orders N} (e : Ends E) where
         does = record {
           version = version_is answer refl;
           goes = subst (λ (n : ℕ). Goes e.stands n (driver_of a.driver) (driver_of b.driver) (log_of a.driver)
-              (log_of b.driver) a.links.items b.links.items 0 (deeds_by p which steps.tried bits)) has.version
-              (steps.goes bits);
+              (log_of b.driver) a.end b.end (deeds_by p which steps.tried bits)) has.version (steps.goes bits);
           leads = λ before w.
-              leads_try e _ _ p q which (driver_of a.driver) (driver_of b.driver) a.set b.set has steps.tried bits
-              (λ s k. met s (steps.met ∙ k)) (λ k. unmet (steps.met ∙ k)) (steps.acts end end) before
+              leads_try (same_on e.same e.stands used) (on e.stands used) (is_on e.dry used) (is_on e.full used) a.end
+              b.end p q which (driver_of a.driver) (driver_of b.driver) a.set b.set has steps.tried bits
+              (λ s k. met s (steps.met ∙ k)) (λ k. unmet (steps.met ∙ k)) steps.acts before
               (ap is_active (append-nil before) ∙ w.out);
-          sames = stays.same;
+          alike = stays.same;
           node = stays.node;
           same = notes_node a.done b.done which answer bits a.set b.set notes;
           at_port = notes_at_port a.done b.done p which steps.tried answer bits a.set b.set notes steps.met;
@@ -252,48 +256,34 @@ module _ {N E : Type 0} {o : Orders N} (e : Ends E) where
             bytes = bytes ∙ may.bytes ∙ ap (λ (v : ℕ). by_bytes v) (sym (version_is answer refl));
             set = notes_set a.done b.done which answer bits a.set b.set notes unmet may.set;
             active = notes_active a.done b.done which steps.tried answer bits a.set b.set (is_out (driver_of a.driver))
-                notes steps.met
-                may.active ∙ sym (steps.acts end end).out;
+                notes steps.met may.active ∙ sym steps.acts.out;
             lawful = stays.lawful;
-            room = room n may.room;
-            enough = let l = AllZip-long e.same a.links.items b.links.items stays.same in omega (arith, enough, l);
-            ids = stays.ids;
+            room = subst (λ (v : ℕ). HasRoom v n (log_of b.driver))
+                (sym (notes_version a.done b.done which answer bits a.set b.set notes))
+                (room a.done.version n may.room);
+            own = node_same a.end b.end stays.same ∙ may.own ∙ sym stays.node;
           };
         };
         none = record { done = stays.done; kept = stays.kept };
       }
     where
-      end : E
-      end = some_of a.links.items 0 (omega (arith, enough))
-
-      stays : StaysLawful e.link e.same a.driver b.driver a.links.items b.links.items 0 answer
-      stays =
-          subst (λ (l : List E). StaysLawful e.link e.same a.driver b.driver l b.links.items 0 answer) these
-          (subst (λ (l : List E). StaysLawful e.link e.same a.driver b.driver x l 0 answer) (sym those) stay)
-
-      steps : Steps e.same e.stands e.dry e.full a.driver b.driver a.links.items b.links.items 0 p q which answer
-      steps =
-          subst
-          (λ (l : List E). Steps e.same e.stands e.dry e.full a.driver b.driver l b.links.items 0 p q which answer)
-          these
-          (subst (λ (l : List E). Steps e.same e.stands e.dry e.full a.driver b.driver x l 0 p q which answer)
-          (sym those) act)
+      used : ℕ
+      used = link_used (driver_of a.driver)
 
       -- no step changes the port's version
       port_is : q.version ≡ p.version
-      port_is =
-          ap (λ (r : Registers). r.version) (steps.acts end end).port ∙ version_after p which steps.tried
+      port_is = ap (λ (r : Registers). r.version) steps.acts.port ∙ version_after p which steps.tried
 
       version_is : (o : Option StepAnswer) → answer ≡ o → b.set.version ≡ a.set.version
       version_is (Some s) e = ap (λ (s : SettingsValue). s.version) (met s e) ∙ port_is ∙ has.version
       version_is None e = ap (λ (s : SettingsValue). s.version) (unmet e)
 
       -- a release alone takes room
-      room : (n : ℕ) → HasRoom (room_taken (deeds_by p which steps.tried bits) + n) (log_of a.driver) →
-          HasRoom n (log_of b.driver)
-      room n h =
+      room : (version n : ℕ) → HasRoom version (room_taken (deeds_by p which steps.tried bits) + n) (log_of a.driver) →
+          HasRoom version n (log_of b.driver)
+      room version n h =
           let releases = releases_by (ended_of a.driver) steps.tried in
-          let few = few_released p which steps.tried bits (ended_of a.driver) (steps.acts end end).kind in
+          let few = few_released p which steps.tried bits (ended_of a.driver) steps.acts.kind in
           let long = ap length steps.releases ∙ length-append (releases_in (log_of a.driver)) releases in
-          let fits = h.releases in let left = h.left in let stays = steps.release_room in let stay = steps.left_room in
-          record { releases = omega (arith, few, long, fits, stays); left = omega (arith, left, stay) }
+          let fits = h.releases in let left = h.left in let same = steps.release_room in let stay = steps.left_room in
+          record { releases = omega (arith, few, long, fits, same); left = omega (arith, left, stay) }

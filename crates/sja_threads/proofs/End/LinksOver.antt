@@ -1,13 +1,14 @@
--- All links of a run that is over, 64 of each node, and all its drivers.
-use Rattle.std.proofs.Common.{◌≡◌, ℕ, zero, suc, ◌+◌, ◌*◌, ◌<◌, List, length, refl, sym, ap, subst, arith}
-use Rattle.std.proofs.Common.{inl, inr}
+-- The links of all nodes of a run that is over, and all its drivers.
+use Rattle.std.proofs.Common.{◌≡◌, ℕ, ◌+◌, ◌<◌, ◌≤◌, List, length, sym, ap, subst, arith}
 use Rattle.std.specs.Prelude.{slice_index_or}
-use Rattle.std.proofs.lemmas.Bool.{cases_lt}
 use Rattle.std.proofs.lemmas.List.{get_or-map, length-map}
+use Rattle.std.proofs.lemmas.Slice.Zip.{AllZip-long}
 use Rattle.lemmas.proofs.Lists.{some_of}
-use Rattle.sja_rings.specs.declared.ring_bus.RingBus.{RingBus}
+use Rattle.sja_rings.specs.declared.node_bus.NodeBus.{NodeBus}
+use Rattle.sja_rings.specs.declared.node_driver.NodeDriver.{NodeDriver}
 use Rattle.sja_rings.specs.declared.ring_driver.RingDriver.{RingDriver}
 use Rattle.sja_rings.specs.Ends.{OneLink}
+use Rattle.sja_rings.specs.NodeRings.{rings_of_bus, rings_of_driver, OneNode}
 use Rattle.sja_wire.specs.Buses.{BusValue}
 use Rattle.sja_wire.specs.Keeping.{KeepsRecord}
 use Rattle.sja_plan.specs.Plan.{PlanValue, IsInLimits}
@@ -21,66 +22,43 @@ use Rattle.sja_threads.specs.Inside.Ended.{IsOver}
 use Rattle.sja_threads.specs.Inside.EndsJoined.{AreJoined}
 use Rattle.sja_threads.specs.Inside.Settling.{all_drivers, all_ends}
 use Rattle.sja_threads.proofs.Start.FewDeeds.{few_deeds}
-use Rattle.sja_threads.proofs.End.LeftOnLinks.{HaveEnough, enough_length, enough_at}
 
--- a place of a list of links is that of one of the 64 of a node
-pub record IsPlaceOf (i : ℕ) : Type 0 where
-  pub node : ℕ
-  pub place : ℕ
-  pub few : place < 64
-  pub is : i ≡ 64 * node + place
+-- both ends of a node's links have as many of them, so there is one of the driver's where there is one of the bus's
+pub as_many : (b : NodeBus) (d : NodeDriver) → OneNode b d → length (rings_of_driver d) ≡ length (rings_of_bus b)
+as_many b d one = AllZip-long OneLink (rings_of_bus b) (rings_of_driver d) one.1
 
-pub place_of_link : (i : ℕ) → IsPlaceOf i
-place_of_link zero = record { node = 0; place = 0; few = omega arith; is = refl }
-place_of_link (suc i) = let p = place_of_link i in let e = p.is in let f = p.few in elim (cases_lt (p.place + 1) 64) [
-  | inl few ↦ record { node = p.node; place = p.place + 1; few = few; is = omega (arith, e) }
-  | inr most ↦ record { node = p.node + 1; place = 0; few = omega arith; is = omega (arith, e, f, most) }
-]
+pub some_ring : (b : NodeBus) (d : NodeDriver) → OneNode b d → 1 ≤ length (rings_of_bus b) → RingDriver
+some_ring b d one some = let many = as_many b d one in some_of (rings_of_driver d) 0 (omega (arith, some, many))
 
-pub in_links : (k n a m : ℕ) → k < n → a < 64 → m ≡ 64 * n → 64 * k + a < m
-in_links k n a m less few e = omega (arith, less, few, e)
-
-pub in_nodes : (k n a m : ℕ) → 64 * k + a < m → m ≡ 64 * n → k < n
-in_nodes k n a m less e = omega (arith, less, e)
-
-module _ (nodes : ℕ) (links : List RingBus) (workeds : List (Handover RingDriver)) (h : AreJoined nodes links workeds)
+module _ (nodes : ℕ) (links : List NodeBus) (workeds : List (Handover NodeDriver)) (h : AreJoined nodes links workeds)
   where
-    pub all_enough : HaveEnough (λ (w : Handover RingDriver). w.links.items) workeds
-    all_enough k w less = let c = h.workeds_count in h.enough k w (omega (arith, c, less))
-
     pub ends_count : length links ≡ length (all_ends workeds)
     ends_count =
-        let e = enough_length (λ (w : Handover RingDriver). w.links.items) workeds all_enough in
-        let l = h.links_count in let c = h.workeds_count in omega (arith, e, l, c)
+        let many = length-map workeds (λ (w : Handover NodeDriver). w.end) in
+        let l = h.links_count in let c = h.workeds_count in omega (arith, many, l, c)
 
-    -- the ends of one of a node's links
-    pub end_at : (node a : ℕ) (w : Handover RingDriver) (d : RingDriver) → node < nodes → a < 64 →
-        slice_index_or (all_ends workeds) (64 * node + a) d
-        ≡ slice_index_or (slice_index_or workeds node w).links.items a d
-    end_at node a w d few less = let c = h.workeds_count in
-        enough_at (λ (x : Handover RingDriver). x.links.items) workeds all_enough node a w d (omega (arith, c, few))
-        less
+    -- the end of a node's driver
+    pub end_at : (node : ℕ) (w : Handover NodeDriver) (d : NodeDriver) → node < nodes →
+        slice_index_or (all_ends workeds) node d ≡ (slice_index_or workeds node w).end
+    end_at node w d few = let c = h.workeds_count in
+        get_or-map (λ (x : Handover NodeDriver). x.end) workeds node w d (omega (arith, c, few))
 
-    pub one_link : (i : ℕ) (b : RingBus) (d : RingDriver) → i < length links →
-        OneLink (slice_index_or links i b) (slice_index_or (all_ends workeds) i d)
-    one_link i b d less =
-        let p = place_of_link i in
-        let here : 64 * p.node + p.place < length links = let e = p.is in omega (arith, e, less) in
-        let few : p.node < nodes = in_nodes p.node nodes p.place (length links) here h.links_count in
-        let there : p.node < length workeds = let c = h.workeds_count in omega (arith, c, few) in
-        let w = some_of workeds 0 (omega (arith, there)) in
-        subst (λ (n : ℕ). OneLink (slice_index_or links n b) (slice_index_or (all_ends workeds) n d)) (sym p.is)
-        (subst (λ (x : RingDriver). OneLink (slice_index_or links (64 * p.node + p.place) b) x)
-        (sym (end_at p.node p.place w d few p.few)) (h.pairs p.node p.place w b d few p.few))
+    pub one_node : (node : ℕ) (b : NodeBus) (d : NodeDriver) → node < length links →
+        OneNode (slice_index_or links node b) (slice_index_or (all_ends workeds) node d)
+    one_node node b d less =
+        let l = h.links_count in let c = h.workeds_count in
+        let few : node < nodes = omega (arith, less, l) in
+        let w = some_of workeds node (omega (arith, few, c)) in
+        subst (λ (x : NodeDriver). OneNode (slice_index_or links node b) x) (sym (end_at node w d few))
+        (h.pairs node b w few)
 
-module _ (plan : PlanValue) (bus : BusValue) (links : List RingBus) (workeds : List (Handover RingDriver))
+module _ (plan : PlanValue) (bus : BusValue) (links : List NodeBus) (workeds : List (Handover NodeDriver))
     (deeds : List (List Deed)) (h : IsOver plan bus links workeds deeds) where
   pub joined_over : AreJoined (length plan.nodes) links workeds
   joined_over = record {
     links_count = h.links_count;
     workeds_count = h.workeds_count;
-    enough = λ node w few. (h.nodes node w few).enough;
-    pairs = λ node a w b d few less. (h.nodes node w few).pairs a b d less;
+    pairs = λ node b w few. (h.nodes node b w few).pair;
   }
 
   -- it is short enough for its record to be kept
@@ -91,22 +69,23 @@ module _ (plan : PlanValue) (bus : BusValue) (links : List RingBus) (workeds : L
       let bits = h.all_bits in let own = limits.bits.1 in let all = bits_most plan.version in
       omega (arith, steps, deeds, bits, own, all)
 
+  -- what holds of each driver that was handed back
+  each_driver : (P : LoggedDriver → Type 0) →
+      ((node : ℕ) (b : NodeBus) (w : Handover NodeDriver) → node < length plan.nodes →
+      P (slice_index_or workeds node w).driver) → (k : ℕ) (d : LoggedDriver) → k < length (all_drivers workeds) →
+      P (slice_index_or (all_drivers workeds) k d)
+  each_driver P all k d less =
+      let many = length-map workeds (λ (w : Handover NodeDriver). w.driver) in
+      let there : k < length workeds = omega (arith, many, less) in
+      let c = h.workeds_count in let l = h.links_count in let w = some_of workeds k there in
+      let b = some_of links k (omega (arith, there, c, l)) in
+      subst P (sym (get_or-map (λ (w : Handover NodeDriver). w.driver) workeds k w d there))
+      (all k b w (omega (arith, c, there)))
+
   pub all_keep : (k : ℕ) (d : LoggedDriver) → k < length (all_drivers workeds) →
       KeepsLog (log_of (slice_index_or (all_drivers workeds) k d))
-  all_keep k d less =
-      let many = length-map workeds (λ (w : Handover RingDriver). w.driver) in
-      let there : k < length workeds = omega (arith, many, less) in
-      let c = h.workeds_count in let w = some_of workeds 0 (omega (arith, there)) in
-      subst (λ (x : LoggedDriver). KeepsLog (log_of x))
-      (sym (get_or-map (λ (x : Handover RingDriver). x.driver) workeds k w d there))
-      (h.nodes k w (omega (arith, c, there))).keeps
+  all_keep = each_driver (λ (x : LoggedDriver). KeepsLog (log_of x)) (λ node b w few. (h.nodes node b w few).keeps)
 
   pub all_lawful : (k : ℕ) (d : LoggedDriver) → k < length (all_drivers workeds) →
       IsLawful (slice_index_or (all_drivers workeds) k d)
-  all_lawful k d less =
-      let many = length-map workeds (λ (w : Handover RingDriver). w.driver) in
-      let there : k < length workeds = omega (arith, many, less) in
-      let c = h.workeds_count in let w = some_of workeds 0 (omega (arith, there)) in
-      subst (λ (x : LoggedDriver). IsLawful x)
-      (sym (get_or-map (λ (x : Handover RingDriver). x.driver) workeds k w d there))
-      (h.nodes k w (omega (arith, c, there))).lawful
+  all_lawful = each_driver (λ (x : LoggedDriver). IsLawful x) (λ node b w few. (h.nodes node b w few).lawful)

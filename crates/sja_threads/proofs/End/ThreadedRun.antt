@@ -1,15 +1,13 @@
 -- What is promised of a run in threads, of a run that is over.
-use Rattle.std.proofs.Common.{◌≡◌, ℕ, ◌*◌, ◌<◌, Bool, true, false, List, length, map, sym, ap, ◌∙◌, subst}
+use Rattle.std.proofs.Common.{◌≡◌, ℕ, ◌<◌, Bool, true, false, List, length, map, sym, ap, ◌∙◌, subst}
 use Rattle.std.proofs.Common.{arith, inl, inr}
 use Rattle.std.specs.Prelude.{Result, Ok, Err, IfOk, slice_index_or}
 use Rattle.sja_link.specs.declared.entry.Entry.{Entry}
 use Rattle.lemmas.specs.Related.{EachRelated}
 use Rattle.lemmas.proofs.Lists.{some_of}
-use Rattle.lemmas.proofs.Related.{each_trans}
-use Rattle.sja_rings.specs.declared.ring_bus.RingBus.{RingBus}
-use Rattle.sja_rings.specs.declared.ring_driver.RingDriver.{RingDriver}
-use Rattle.sja_rings.specs.Ends.{SameBus}
-use Rattle.sja_rings.proofs.SameEnd.{bus_trans}
+use Rattle.sja_rings.specs.declared.node_bus.NodeBus.{NodeBus}
+use Rattle.sja_rings.specs.declared.node_driver.NodeDriver.{NodeDriver}
+use Rattle.sja_rings.specs.NodeRings.{SameNodeBus}
 use Rattle.sja_regs.specs.DriverSettings.{SettingsValue, settings_in}
 use Rattle.sja_regs.specs.Registers.{at_power_on}
 use Rattle.sja_plan.specs.Plan.{PlanValue, steps_at}
@@ -45,11 +43,12 @@ use Rattle.sja_threads.specs.Inside.Started.{Serves}
 use Rattle.sja_threads.proofs.End.EndsJoined.{ends_given, ends_joined}
 use Rattle.sja_threads.proofs.End.RunOver.{all_done, all_followed, deeds_of_work, is_over}
 use Rattle.sja_threads.proofs.Rounds.GoesOn.{on_twice}
+use Rattle.sja_threads.proofs.Rounds.SameEnds.{sames_trans}
 
 -- once all threads are joined
 pub ending : {G : Type 0} (Lets : G → ℕ → ℕ → ℕ → Type 0) (plan : PlanValue) (starts : List (ThreadStart G))
-    (was : BusThread) (bus : BusThread) (ws : List (Handover RingDriver)) (j : JoinedRun) → j.bus ≡ bus →
-    j.workeds.items ≡ ws → length starts ≡ length plan.nodes → length was.links.items ≡ 64 * length plan.nodes →
+    (was : BusThread) (bus : BusThread) (ws : List (Handover NodeDriver)) (j : JoinedRun) → j.bus ≡ bus →
+    j.workeds.items ≡ ws → length starts ≡ length plan.nodes → length was.links.items ≡ length plan.nodes →
     AreMade plan (length plan.nodes) starts was.links.items → GoesOn plan was bus →
     was.bus.steps ≡ deed_counts plan → EachRelated (Serves Lets plan) starts ws →
     IsEnding (AtNode Lets (map (λ (s : ThreadStart G). s.gate) starts)) plan j
@@ -59,20 +58,20 @@ ending {G} Lets plan starts was bus ws j there here many long made on room serve
       steps = ap (λ (b : BusThread). b.bus.steps) there ∙ on.steps ∙ room;
       works = done.works;
       over = λ t more.
-          subst (λ (l : List (Handover RingDriver)). IsOver plan t.bus t.links.items l
+          subst (λ (l : List (Handover NodeDriver)). IsOver plan t.bus t.links.items l
           (map (λ (w : Work). deeds_done w) done.works)) (sym here)
           (is_over Lets plan starts ws was t many long made
           (on_twice plan was bus t on (subst (λ (b : BusThread). GoesOn plan b t) there more)) room served done);
       joined = λ links same.
-          subst (λ (l : List (Handover RingDriver)). AreJoined (length plan.nodes) links l) (sym here)
+          subst (λ (l : List (Handover NodeDriver)). AreJoined (length plan.nodes) links l) (sym here)
           (ends_joined Lets plan starts ws was many long made served done links
-          (each_trans SameBus bus_trans was.links.items bus.links.items links on.sames
-          (subst (λ (b : BusThread). EachRelated SameBus b.links.items links) there same)));
+          (sames_trans was.links.items bus.links.items links on.sames
+          (subst (λ (b : BusThread). EachRelated SameNodeBus b.links.items links) there same)));
       given =
-          subst (λ (l : List (Handover RingDriver)). AreGivenBy (length plan.nodes) done.works l) (sym here)
+          subst (λ (l : List (Handover NodeDriver)). AreGivenBy (length plan.nodes) done.works l) (sym here)
           (ends_given Lets plan starts ws was many long made served done);
       followed = λ node w few.
-          subst (λ (l : List (Handover RingDriver)).
+          subst (λ (l : List (Handover NodeDriver)).
           HasFollowed (AtNode Lets (map (λ (s : ThreadStart G). s.gate) starts)) plan node (work_at done.works node)
           (slice_index_or l node w)) (sym here)
           (all_followed Lets plan starts ws was bus many long made done node w few);
@@ -96,8 +95,11 @@ module _ {G : Type 0} (quits : Bool) (answered : G → ℕ → ℕ → ℕ → P
   run : IsRun plan log deeds
   run = runs deeds over
 
-  some : (node : ℕ) → node < length plan.nodes → Handover RingDriver
+  some : (node : ℕ) → node < length plan.nodes → Handover NodeDriver
   some node few = some_of j.workeds.items 0 (let e = over.workeds_count in omega (arith, few, e))
+
+  some_bus : (node : ℕ) → node < length plan.nodes → NodeBus
+  some_bus node few = some_of t.links.items 0 (let e = over.links_count in omega (arith, few, e))
 
   in_plan : (node : ℕ) → node < length log.nodes → node < length plan.nodes
   in_plan node less = let e = run.count in omega (arith, less, e)
@@ -113,7 +115,7 @@ module _ {G : Type 0} (quits : Bool) (answered : G → ℕ → ℕ → ℕ → P
     sets = λ node few.
         subst (λ (l : List Deed). (last : SettingsValue)
         × LeadToSettings (settings_in (at_power_on plan.version)) l last) (deeds_of_work ending.works node)
-        (over.nodes node (some node few) few).leads;
+        (over.nodes node (some_bus node few) (some node few) few).leads;
     ordered = λ node few.
         let w = some node few in let led = in_order node w few in
         let deeds_there = deeds_done (work_at ending.works node) in

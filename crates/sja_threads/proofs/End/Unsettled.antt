@@ -1,11 +1,11 @@
 -- A link of a run in threads that isn't settled.
-use Rattle.std.proofs.Common.{◌≡◌, ℕ, ◌+◌, ◌*◌, ◌<◌, List, length, sym, subst, arith, inl, inr}
+use Rattle.std.proofs.Common.{◌≡◌, ℕ, ◌<◌, List, length, sym, subst, arith, inl, inr}
 use Rattle.std.specs.Prelude.{◌⊎◌, Result, Ok, Err, IfErr, slice_index_or}
 use Rattle.lemmas.proofs.Lists.{some_of}
-use Rattle.sja_link.specs.Links.{Numbered}
-use Rattle.sja_rings.specs.declared.ring_bus.RingBus.{RingBus}
-use Rattle.sja_rings.specs.declared.ring_driver.RingDriver.{RingDriver}
-use Rattle.sja_rings.specs.Ends.{link_of_bus}
+use Rattle.sja_rings.specs.declared.node_bus.NodeBus.{NodeBus}
+use Rattle.sja_rings.specs.declared.node_driver.NodeDriver.{NodeDriver}
+use Rattle.sja_rings.specs.Ends.{OneLink}
+use Rattle.sja_rings.specs.NodeRings.{rings_of_bus, rings_of_driver}
 use Rattle.sja_regs.specs.DriverSettings.{settings_in}
 use Rattle.sja_regs.specs.Registers.{at_power_on}
 use Rattle.sja_plan.specs.Plan.{PlanValue, steps_at}
@@ -13,46 +13,47 @@ use Rattle.sja_log.specs.declared.run_fault.RunFault.{RunFault}
 use Rattle.sja_log.specs.declared.run_fault.RunFault.TheVariants.{Memory, Unsettled}
 use Rattle.sja_threads.specs.declared.handover.Handover.{Handover}
 use Rattle.sja_threads.specs.Accessing.{Work, Follows, work_at}
-use Rattle.sja_threads.specs.Stopping.{IsFaultOf, IsUnsettled, IsUnsettledBy}
+use Rattle.sja_threads.specs.Gathering.{AreBusEnds}
+use Rattle.sja_threads.specs.Stopping.{IsFaultOf, IsUnsettled}
 use Rattle.sja_threads.specs.Inside.EndsJoined.{AreJoined, AreGivenBy}
-use Rattle.sja_threads.specs.Inside.Settling.{SomeUnsettled, all_ends}
-use Rattle.sja_threads.proofs.End.LinksOver.{end_at, in_nodes, place_of_link}
+use Rattle.sja_threads.specs.Inside.Settling.{LeavesUnsettled, SomeUnsettled, all_ends}
+use Rattle.sja_threads.proofs.End.GoneThrough.{related_at}
+use Rattle.sja_threads.proofs.End.LinksOver.{end_at, some_ring}
 
 -- it is that of a node and an activation, at which the node's driver gave what it gave
-pub unsettled_run : (plan : PlanValue) (links : List RingBus) (workeds : List (Handover RingDriver))
-    (works : List Work) → Numbered link_of_bus links → AreJoined (length plan.nodes) links workeds →
+pub unsettled_run : (plan : PlanValue) (links : List NodeBus) (workeds : List (Handover NodeDriver))
+    (works : List Work) → AreBusEnds (length plan.nodes) links → AreJoined (length plan.nodes) links workeds →
     AreGivenBy (length plan.nodes) works workeds → ((node : ℕ) → node < length plan.nodes →
     Follows plan.version (settings_in (at_power_on plan.version)) (steps_at plan node) (work_at works node)) →
     SomeUnsettled links (all_ends workeds) → IsUnsettled plan
-unsettled_run plan links workeds works ids joined given follows s =
-    let p = place_of_link s.at in
-    let is = p.is in
-    let some = s.few in
-    let here : 64 * p.node + p.place < length links = omega (arith, is, some) in
-    let few : p.node < length plan.nodes =
-    in_nodes p.node (length plan.nodes) p.place (length links) here joined.links_count in
-    let count = joined.workeds_count in
-    let w = some_of workeds p.node (omega (arith, few, count)) in
-    let enough = joined.enough p.node w few in
-    let less = p.few in
-    let d = some_of (slice_index_or workeds p.node w).links.items p.place (omega (arith, enough, less)) in
-    let b = some_of links (64 * p.node + p.place) here in record {
-      node = p.node;
-      place = p.place;
+unsettled_run plan links workeds works ends joined given follows s =
+    let node = s.node in let some = s.few in let count = ends.count in
+    let few : node < length plan.nodes = omega (arith, some, count) in
+    let many = joined.workeds_count in
+    let w = some_of workeds node (omega (arith, few, many)) in
+    let b = some_of links node some in
+    let bus = slice_index_or links node b in let driver = (slice_index_or workeds node w).end in
+    let one = joined.pairs node b w few in
+    let is = ends.each node b few in
+    let u : LeavesUnsettled bus driver =
+    subst (λ (d : NodeDriver). LeavesUnsettled bus d)
+    (end_at (length plan.nodes) links workeds joined node w driver few) (s.why b driver) in
+    let there = u.few in
+    let x = some_of (rings_of_bus bus) u.place there in
+    let y = some_ring bus driver one (omega (arith, there)) in
+    let less : u.place < 64 = let rings = is.count in omega (arith, there, rings) in record {
+      node = node;
+      place = u.place;
       in_plan = few;
-      few = p.few;
-      bus = slice_index_or links (64 * p.node + p.place) b;
-      driver = slice_index_or (slice_index_or workeds p.node w).links.items p.place d;
-      link = ids p.node p.place b p.few here;
-      one = joined.pairs p.node p.place w b d few p.few;
-      why =
-          subst (λ (x : RingDriver). IsUnsettledBy (slice_index_or links (64 * p.node + p.place) b) x)
-          (end_at (length plan.nodes) links workeds joined p.node p.place w d few p.few)
-          (subst (λ (n : ℕ). IsUnsettledBy (slice_index_or links n b) (slice_index_or (all_ends workeds) n d)) p.is
-          (s.why b d));
-      work = work_at works p.node;
-      follows = follows p.node few;
-      given = given p.node p.place w d few p.few;
+      few = less;
+      bus = slice_index_or (rings_of_bus bus) u.place x;
+      driver = slice_index_or (rings_of_driver driver) u.place y;
+      link = is.links u.place x less;
+      one = related_at OneLink (rings_of_bus bus) (rings_of_driver driver) one.1 u.place x y there;
+      why = u.why x y;
+      work = work_at works node;
+      follows = follows node few;
+      given = given node u.place w y few less;
     }
 
 -- what is answered for want of a log

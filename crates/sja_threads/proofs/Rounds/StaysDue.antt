@@ -9,11 +9,11 @@ use Rattle.sja_link.specs.Links.{Grows}
 use Rattle.sja_bus.specs.Resting.{RestsAs}
 use Rattle.lemmas.specs.Related.{EachRelated}
 use Rattle.sja_plan.specs.Plan.{PlanValue}
-use Rattle.sja_rings.specs.declared.ring_bus.RingBus.{RingBus}
-use Rattle.sja_rings.specs.Ends.{SameBus}
+use Rattle.sja_rings.specs.declared.node_bus.NodeBus.{NodeBus}
+use Rattle.sja_rings.specs.NodeRings.{SameNodeBus, ShowsNothingUp}
 use Rattle.sja_wire.specs.Buses.{AllDry}
 use Rattle.sja_wire.specs.Wire.{journal_at}
-use Rattle.sja_threads.specs.Gathering.{Gathered, IsDry, StandFor}
+use Rattle.sja_threads.specs.Gathering.{Gathered, StandFor}
 use Rattle.sja_threads.specs.Needed.{IsBitDue, AllDue, last_awaited}
 use Rattle.sja_threads.specs.Inside.Rounds.{StayDue}
 
@@ -24,7 +24,7 @@ AllGrow old new = (node : ℕ) → node < length old → Grows (journal_at old n
 grows_twice : (i j k : List Entry) → Grows i j → Grows j k → Grows i k
 grows_twice i j k p q = (p.0 ++ q.0, q.1 ∙ ap (λ (l : List Entry). l ++ q.0) p.1 ∙ append_assoc i p.0 q.0)
 
-module _ (plan : PlanValue) (ends : List RingBus) where
+module _ (plan : PlanValue) (ends : List NodeBus) where
   -- a moment of the run so far is one of it later
   moment_stays : (bits : ℕ) (old new : List (List Entry)) → length new ≡ length old → AllGrow old new →
       Gathered plan ends bits old → Gathered plan ends bits new
@@ -72,9 +72,9 @@ IsWanted awaited bits journals = (bits < awaited)
     ⊎ ((node : ℕ) × (node < length journals) × RestsAs (record_of (journal_at journals node)) false)
 
 -- so after so many bits one more is due, where all that was shown was taken
-pub due_now : (plan : PlanValue) (ends links : List RingBus) (bits : ℕ) (journals : List (List Entry)) →
+pub due_now : (plan : PlanValue) (ends links : List NodeBus) (bits : ℕ) (journals : List (List Entry)) →
     ((node : ℕ) → node < length journals → length (bits_of (journal_at journals node)) ≡ bits) →
-    EachRelated SameBus ends links → StandFor plan journals links → AllDry IsDry journals links →
+    EachRelated SameNodeBus ends links → StandFor plan journals links → AllDry ShowsNothingUp journals links →
     IsWanted (last_awaited plan.nodes) bits journals → IsBitDue plan ends bits journals
 due_now plan ends links bits journals many sames stand dry wanted = record {
   gathered = record {

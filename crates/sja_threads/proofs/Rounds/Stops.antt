@@ -1,16 +1,13 @@
 -- Why the bus of a run in threads stops.
-use Rattle.std.proofs.Common.{◌≡◌, ◌≢◌, ℕ, ◌+◌, ◌*◌, ◌<◌, List, refl, sym, ◌∙◌, subst, arith, inl, inr}
+use Rattle.std.proofs.Common.{◌≡◌, ◌≢◌, ℕ, ◌+◌, ◌<◌, List, length, refl, sym, ◌∙◌, subst, arith, inl, inr}
 use Rattle.std.specs.Prelude.{◌⊎◌, None, Result, Ok, Err, IfErr}
 use Rattle.sja_link.specs.declared.entry.Entry.{Entry}
+use Rattle.sja_link.specs.declared.bus_end.BusEnd.{Ghosts as Ends}
 use Rattle.sja_link.specs.Lists.{Lists}
 use Rattle.lemmas.specs.Related.{EachRelated}
-use Rattle.lemmas.proofs.Related.{each_trans}
 use Rattle.sja_regs.specs.declared.orders.Orders.{Orders}
-use Rattle.sja_rings.specs.declared.ring_bus.RingBus.{RingBus}
-use Rattle.sja_rings.specs.Ends.{BusLists, SameBus, link_of_bus}
-use Rattle.sja_link.specs.Links.{Numbered}
-use Rattle.sja_bus.proofs.AllNodes.Many.{numbered_kept}
-use Rattle.sja_rings.proofs.SameEnd.{bus_trans}
+use Rattle.sja_rings.specs.declared.node_bus.NodeBus.{NodeBus}
+use Rattle.sja_rings.specs.NodeRings.{NodeBusLists, SameNodeBus}
 use Rattle.sja_plan.specs.Plan.{PlanValue}
 use Rattle.sja_wire.specs.declared.bus_fault.BusFault.{BusFault}
 use Rattle.sja_wire.specs.declared.bus_fault.BusFault.TheVariants.{BitsSpent, JournalFull}
@@ -18,44 +15,40 @@ use Rattle.sja_wire.specs.Buses.{BusValue}
 use Rattle.sja_wire.specs.Lawful.{IsBusRun}
 use Rattle.sja_wire.specs.Reasons.{IsRefusedFor, IsBrokenFor, IsTakenAndRefused, StopsBit, room_for}
 use Rattle.sja_wire.specs.Reasons.StopsBit.{spent, not_taken, not_aborted, broken_off}
-use Rattle.sja_link.specs.Links.{per_node}
 use Rattle.sja_wire.specs.Wire.{journal_at}
 use Rattle.sja_threads.specs.declared.bus_thread.BusThread.{BusThread}
-use Rattle.sja_threads.specs.Gathering.{StandFor}
-use Rattle.sja_threads.specs.Stopping.{HasNoPlace, any_orders, StopsOn}
+use Rattle.sja_threads.specs.Gathering.{AreBusEnds, StandFor}
+use Rattle.sja_threads.specs.Stopping.{any_orders, ring_ends, StopsOn}
 use Rattle.sja_threads.specs.Inside.Rounds.{IsUnderWay, GoesOn, Stops}
+use Rattle.sja_threads.proofs.Rounds.SameEnds.{ends_kept, sames_trans}
 
 -- an item that wasn't taken is no want of bits
-taken_not_spent : {E : Type 0} (stands : E → Lists → Type 0) (bits : ℕ) (steps : List ℕ)
+taken_not_spent : {E : Type 0} (stands : E → ℕ → Lists → Type 0) (bits : ℕ) (steps : List ℕ)
     (before now : List (List Entry)) (links after : List E) (f : BusFault) →
     IsTakenAndRefused stands bits steps before now links after f → f ≢ BitsSpent
 taken_not_spent stands bits steps before now links after f n e =
     subst (λ (x : BusFault). IsRefusedFor n.node (room_for bits steps n.node) (journal_at now n.node) n.refuses.item x)
-    e
-    n.refuses.why
+    e n.refuses.why
 
 no_full : (node : ℕ) → BitsSpent ≡ JournalFull node → ⊥
 no_full node e = cc
 
 -- nor is a bit that broke off where bits are left
-bit_not_spent : {E : Type 0} (same : E → E → Type 0) (stands : E → Lists → Type 0) (full : E → Type 0)
-    (orders_are : ℕ → Orders → Type 0) (before now : BusValue) (links after : List E) (f : BusFault) → before.left ≢ 0 →
-    StopsBit same stands full orders_are before now links after f → f ≢ BitsSpent
-bit_not_spent same stands full orders_are before now links after f some (spent is none) e = some none
-bit_not_spent same stands full orders_are before now links after f some (not_taken n) e =
-    taken_not_spent stands (before.run + before.left) before.steps before.journals now.journals links after f n e
-bit_not_spent same stands full orders_are before now links after f some (not_aborted n) e =
-    no_full n.node (sym e ∙ n.is)
-bit_not_spent same stands full orders_are before now links after f some (broken_off n) e =
-    subst (λ (x : BusFault). IsBrokenFor same stands full n.node
-    (room_for (before.run + before.left) before.steps n.node) n.opened (journal_at now.journals n.node) n.between
-    (per_node * n.node) x) e n.broken
+bit_not_spent : {E : Type 0} (e : Ends E) (orders_are : ℕ → Orders → Type 0) (before now : BusValue)
+    (links after : List E) (f : BusFault) → before.left ≢ 0 → StopsBit e orders_are before now links after f →
+    f ≢ BitsSpent
+bit_not_spent e orders_are before now links after f some (spent is none) same = some none
+bit_not_spent e orders_are before now links after f some (not_taken n) same =
+    taken_not_spent e.stands (before.run + before.left) before.steps before.journals now.journals links after f n same
+bit_not_spent e orders_are before now links after f some (not_aborted n) same = no_full n.node (sym same ∙ n.is)
+bit_not_spent e orders_are before now links after f some (broken_off n) same =
+    subst (λ (x : BusFault). IsBrokenFor e n.node (room_for (before.run + before.left) before.steps n.node) n.opened
+    (journal_at now.journals n.node) n.end x) same n.broken
 
 -- why a bit doesn't come to its end, whatever the ports order
-pub by_any_orders : {E : Type 0} {same : E → E → Type 0} {stands : E → Lists → Type 0} {full : E → Type 0}
-    (before now : BusValue) (links after : List E) (f : BusFault) (orders_are : ℕ → Orders → Type 0) →
-    StopsBit same stands full orders_are before now links after f →
-    StopsBit same stands full any_orders before now links after f
+pub by_any_orders : {E : Type 0} {e : Ends E} (before now : BusValue) (links after : List E) (f : BusFault)
+    (orders_are : ℕ → Orders → Type 0) → StopsBit e orders_are before now links after f →
+    StopsBit e any_orders before now links after f
 by_any_orders before now links after f orders_are (spent is none) = spent is none
 by_any_orders before now links after f orders_are (not_taken n) = not_taken n
 by_any_orders before now links after f orders_are (not_aborted n) = not_aborted (record {
@@ -86,21 +79,23 @@ by_any_orders before now links after f orders_are (broken_off n) = broken_off (r
     applied = n.opens.applied;
   };
   kept = n.kept;
+  end = n.end;
+  is_end = n.is_end;
   broken = n.broken;
 })
 
-module _ (plan : PlanValue) (t next : BusThread) (now : BusValue) (links after : List RingBus) (f : BusFault)
-    (these : links ≡ t.links.items) (those : next.links.items ≡ after) (same : EachRelated SameBus links after)
+module _ (plan : PlanValue) (t next : BusThread) (now : BusValue) (links after : List NodeBus) (f : BusFault)
+    (these : links ≡ t.links.items) (those : next.links.items ≡ after) (same : EachRelated SameNodeBus links after)
     (w : IsUnderWay plan t) (laws : IsBusRun t.bus.script t.bus.run t.bus.journals) where
-  sames : EachRelated SameBus t.links.items next.links.items
+  sames : EachRelated SameNodeBus t.links.items next.links.items
   sames =
-      subst (λ (l : List RingBus). EachRelated SameBus l next.links.items) these
-      (subst (λ (l : List RingBus). EachRelated SameBus links l) (sym those) same)
+      subst (λ (l : List NodeBus). EachRelated SameNodeBus l next.links.items) these
+      (subst (λ (l : List NodeBus). EachRelated SameNodeBus links l) (sym those) same)
 
-  stops_for : IsTakenAndRefused BusLists plan.bits t.bus.steps t.bus.journals now.journals links after f
-      ⊎ StopsBit SameBus BusLists HasNoPlace any_orders t.bus now links after f → f ≢ BitsSpent → Stops plan t next f
+  stops_for : IsTakenAndRefused NodeBusLists plan.bits t.bus.steps t.bus.journals now.journals links after f
+      ⊎ StopsBit ring_ends any_orders t.bus now links after f → f ≢ BitsSpent → Stops plan t next f
   stops_for why unspent = record {
-    stop = subst (λ (l : List RingBus). StopsOn t.bus.steps plan l f) (sym those) (record {
+    stop = subst (λ (l : List NodeBus). StopsOn t.bus.steps plan l f) (sym those) (record {
       was = t.bus;
       now = now;
       links = links;
@@ -111,38 +106,38 @@ module _ (plan : PlanValue) (t next : BusThread) (now : BusValue) (links after :
       right = w.right;
       lawful = laws;
       stood =
-          subst (λ (l : List RingBus). StandFor plan t.bus.journals l) (sym these)
-          (record { count = w.count; ids = w.ids; kept = w.kept });
+          subst (λ (l : List NodeBus). StandFor plan t.bus.journals l) (sym these)
+          (record { ends = w.ends; kept = w.kept });
       sames = same;
       why = why;
       not_spent = unspent;
-      ids = subst (λ (l : List RingBus). Numbered link_of_bus l) those
-          (numbered_kept link_of_bus SameBus (λ a b p. p.0) t.links.items next.links.items sames w.ids);
+      ends = subst (λ (l : List NodeBus). AreBusEnds (length plan.nodes) l) those
+          (ends_kept (length plan.nodes) t.links.items next.links.items sames w.ends);
     });
     sames = sames;
   }
 
   -- an item wasn't taken
-  pub stops_taking : IsTakenAndRefused BusLists (t.bus.run + t.bus.left) t.bus.steps t.bus.journals now.journals links
-      after f → Stops plan t next f
+  pub stops_taking : IsTakenAndRefused NodeBusLists (t.bus.run + t.bus.left) t.bus.steps t.bus.journals now.journals
+      links after f → Stops plan t next f
   stops_taking n = stops_for
-      (inl (subst (λ (bits : ℕ). IsTakenAndRefused BusLists bits t.bus.steps t.bus.journals now.journals links after f)
-      w.all_bits n))
-      (taken_not_spent BusLists (t.bus.run + t.bus.left) t.bus.steps t.bus.journals now.journals links after f n)
+      (inl (subst (λ (bits : ℕ). IsTakenAndRefused NodeBusLists bits t.bus.steps t.bus.journals now.journals links
+      after f) w.all_bits n))
+      (taken_not_spent NodeBusLists (t.bus.run + t.bus.left) t.bus.steps t.bus.journals now.journals links after f n)
 
   -- a bit didn't come to its end, where bits were left
-  pub stops_bit : t.run < plan.bits → StopsBit SameBus BusLists HasNoPlace any_orders t.bus now links after f →
+  pub stops_bit : t.run < plan.bits → StopsBit ring_ends any_orders t.bus now links after f →
       Stops plan t next f
   stops_bit less b = stops_for (inr b)
-      (bit_not_spent SameBus BusLists HasNoPlace any_orders t.bus now links after f
+      (bit_not_spent ring_ends any_orders t.bus now links after f
       (λ none. let all = w.all_bits in let run = w.run in omega (arith, all, none, run, less)) b)
 
 -- an item that wasn't taken, by what the bus answers
-pub stops_gather : (t next : BusThread) (now : BusValue) (links after : List RingBus) → links ≡ t.links.items →
-    next.links.items ≡ after → EachRelated SameBus links after → {A : Type 0} (r : Result A BusFault) →
+pub stops_gather : (t next : BusThread) (now : BusValue) (links after : List NodeBus) → links ≡ t.links.items →
+    next.links.items ≡ after → EachRelated SameNodeBus links after → {A : Type 0} (r : Result A BusFault) →
     (t.bus.fault ≡ None → IsBusRun t.bus.script t.bus.run t.bus.journals) →
     IfErr r (λ f. t.bus.fault ≡ None →
-    IsTakenAndRefused BusLists (t.bus.run + t.bus.left) t.bus.steps t.bus.journals now.journals links after f) →
+    IsTakenAndRefused NodeBusLists (t.bus.run + t.bus.left) t.bus.steps t.bus.journals now.journals links after f) →
     IfErr r (λ f. (plan : PlanValue) → IsUnderWay plan t → Stops plan t next f)
 stops_gather t next now links after these those same (Ok a) laws why = tt
 stops_gather t next now links after these those same (Err f) laws why = λ plan w.
@@ -153,7 +148,7 @@ pub stops_later : (plan : PlanValue) (a b c : BusThread) (f : BusFault) → Goes
     Stops plan a c f
 stops_later plan a b c f on stops = record {
   stop = subst (λ (steps : List ℕ). StopsOn steps plan c.links.items f) on.steps stops.stop;
-  sames = each_trans SameBus bus_trans a.links.items b.links.items c.links.items on.sames stops.sames;
+  sames = sames_trans a.links.items b.links.items c.links.items on.sames stops.sames;
 }
 
 pub stops_then : (plan : PlanValue) (a b c : BusThread) → GoesOn plan a b → {A : Type 0} (r : Result A BusFault) →

@@ -1,19 +1,15 @@
 -- What the drivers' threads begin with, and what they hand back.
-use Rattle.std.proofs.Common.{◌≡◌, ℕ, suc, ◌+◌, ◌<◌, ◌≤◌, List, [], ◌∷◌, length, map, sym, ap, ◌∙◌, subst}
-use Rattle.std.proofs.Common.{arith, zero-add}
+use Rattle.std.proofs.Common.{◌≡◌, ℕ, suc, ◌<◌, ◌≤◌, List, [], ◌∷◌, length, map, sym, ap, ◌∙◌, subst, arith}
 use Rattle.std.specs.Prelude.{All, Some, slice_index_or}
 use Rattle.lemmas.proofs.Lists.{some_of}
-use Rattle.std.proofs.Math.Numerals.{suc-eq-add-one}
-use Rattle.sja_link.specs.declared.link_id.LinkId.{LinkId}
 use Rattle.lemmas.specs.Related.{EachRelated}
-use Rattle.sja_rings.specs.declared.ring_bus.RingBus.{RingBus}
-use Rattle.sja_rings.specs.declared.ring_driver.RingDriver.{RingDriver}
-use Rattle.sja_rings.specs.Ends.{DriverLists, SameDriver, link_of_driver}
+use Rattle.sja_rings.specs.declared.node_bus.NodeBus.{NodeBus}
+use Rattle.sja_rings.specs.declared.node_driver.NodeDriver.{NodeDriver}
+use Rattle.sja_rings.specs.NodeRings.{NodeDriverLists, SameNodeDriver}
 use Rattle.sja_regs.specs.DriverSettings.{SettingsValue, settings_in}
 use Rattle.sja_regs.specs.Registers.{at_power_on}
 use Rattle.sja_script.specs.declared.step.Step.{Step}
 use Rattle.sja_plan.specs.Plan.{PlanValue, steps_at}
-use Rattle.sja_driver.specs.Holding.{NumberedFrom}
 use Rattle.sja_driver.specs.LoggedDrivers.{log_of}
 use Rattle.sja_driver.specs.Logs.{HasRoom, KeepsLog, done_in, done_room}
 use Rattle.sja_threads.specs.declared.thread_start.ThreadStart.{ThreadStart}
@@ -29,32 +25,25 @@ use Rattle.sja_threads.specs.Inside.Started.{IsThreadStart, AreOrdered, HandsBac
 
 module _ {G : Type 0} (plan : PlanValue) where
   -- what was made for a node is what its thread may begin with
-  start_of : (node : ℕ) (s : ThreadStart G) (buses : List RingBus) → node < length plan.nodes →
-      IsMade plan node s buses → IsThreadStart plan s
-  start_of node s buses few m = record {
+  start_of : (node : ℕ) (s : ThreadStart G) (bus : NodeBus) → node < length plan.nodes →
+      IsMade plan node s bus → IsThreadStart plan s
+  start_of node s bus few m = record {
     few = subst (λ (n : ℕ). n < length plan.nodes) (sym m.own) few;
     empty = m.empty;
-    room = subst (λ (n : ℕ). HasRoom (length (steps_at plan n)) s.log) (sym m.own) m.room;
+    room = subst (λ (n : ℕ). HasRoom plan.version (length (steps_at plan n)) s.log) (sym m.own) m.room;
     steps = subst (λ (n : ℕ). length (steps_at plan n) ≤ done_room s.log) (sym m.own) m.steps;
     keeps = m.keeps;
-    enough = m.enough;
+    own = m.ends.own ∙ sym m.own;
     none = m.none;
-    ids = subst (λ (n : ℕ). NumberedFrom link_of_driver s.links.items 0 n) (sym m.own) numbered;
   }
-    where
-      numbered : NumberedFrom link_of_driver s.links.items 0 node
-      numbered a d less =
-          let id : LinkId = record { node = node; activation = a + 1 } in
-          subst (λ (i : ℕ). link_of_driver (slice_index_or s.links.items i d) ≡ id) (sym (zero-add a))
-          ((m.links.drivers_new a d less).link
-          ∙ ap (λ (n : ℕ). record { node = node; activation = n }) (suc-eq-add-one a))
 
   -- the same of all
-  pub all_starts : (starts : List (ThreadStart G)) (buses : List RingBus) → length starts ≡ length plan.nodes →
-      AreMade plan (length plan.nodes) starts buses → All (IsThreadStart plan) starts
-  all_starts starts buses many made node s less =
+  pub all_starts : (starts : List (ThreadStart G)) (buses : List NodeBus) → length starts ≡ length plan.nodes →
+      length buses ≡ length plan.nodes → AreMade plan (length plan.nodes) starts buses → All (IsThreadStart plan) starts
+  all_starts starts buses many long made node s less =
       let few : node < length plan.nodes = omega (arith, less, many) in
-      start_of node (slice_index_or starts node s) buses few (made node s few)
+      let b = some_of buses node (omega (arith, few, long)) in
+      start_of node (slice_index_or starts node s) (slice_index_or buses node b) few (made node s b few)
 
   -- the same of all but the first
   pub starts_rest : (all rest : List (ThreadStart G)) (s : ThreadStart G) → all ≡ s ∷ rest →
@@ -66,19 +55,21 @@ module _ {G : Type 0} (plan : PlanValue) where
 
 -- each thread's list of deeds is that of its port
 pub all_ordered : {G : Type 0} (plan : PlanValue) (starts : List (ThreadStart G)) (lists : List PortLists)
-    (buses : List RingBus) (names : List ℕ) (version : ℕ) → version ≡ plan.version →
+    (buses : List NodeBus) (names : List ℕ) (version : ℕ) → version ≡ plan.version →
     map (λ (l : PortLists). l.deeds.name) lists ≡ names → length lists ≡ length plan.nodes →
-    length starts ≡ length plan.nodes → AreMade plan (length plan.nodes) starts buses →
-    AreListed (length plan.nodes) starts lists → AreOrdered version names plan.version starts
-all_ordered {G} plan starts lists buses names version same are many long made listed = λ k s less.
+    length starts ≡ length plan.nodes → length buses ≡ length plan.nodes →
+    AreMade plan (length plan.nodes) starts buses → AreListed (length plan.nodes) starts lists →
+    AreOrdered version names plan.version starts
+all_ordered {G} plan starts lists buses names version same are many long count made listed = λ k s less.
     let few : k < length plan.nodes = omega (arith, less, long) in
     let within : k < length lists = omega (arith, few, many) in
     let l : PortLists = some_of lists k within in
+    let b : NodeBus = some_of buses k (omega (arith, few, count)) in
     let start : ThreadStart G = slice_index_or starts k s in (
       sym same,
       subst (λ (n : List ℕ). IsNamed n start.node start.done.name) are
           (subst (λ (n : ℕ). IsNamed (map (λ (x : PortLists). x.deeds.name) lists) n start.done.name)
-          (sym (made k s few).own)
+          (sym (made k s b few).own)
           (get_placed (λ (x : PortLists). x.deeds.name) lists k l within ∙ ap Some (listed k s l few))),
     )
 
@@ -93,17 +84,17 @@ order_rest {G} order_version names version all rest s is starts =
 
 -- what a thread hands back that began with what is set after power-on
 pub served_by : {G : Type 0} (plan : PlanValue) (s : ThreadStart G) (set : SettingsValue) (steps : List Step)
-    (Lets : G → ℕ → ℕ → ℕ → Type 0) (w : Handover RingDriver) → set ≡ settings_in (at_power_on plan.version) →
-    steps ≡ steps_at plan s.node → EachRelated SameDriver s.links.items w.links.items →
-    w.done.name ≡ s.done.name → HasWorked DriverLists set s.node steps s.links.items w w.done.list →
+    (Lets : G → ℕ → ℕ → ℕ → Type 0) (w : Handover NodeDriver) → set ≡ settings_in (at_power_on plan.version) →
+    steps ≡ steps_at plan s.node → SameNodeDriver s.end w.end → w.done.name ≡ s.done.name →
+    HasWorked NodeDriverLists set s.node steps s.end w w.done.list →
     Lets s.gate s.node (length steps) (length (done_in (log_of w.driver))) → KeepsLog (log_of w.driver) →
     Serves Lets plan s w
-served_by plan s set steps Lets w first are sames named worked all keeps = record {
-  sames = sames;
+served_by plan s set steps Lets w first are same named worked all keeps = record {
+  same = same;
   worked =
-      subst (λ (x : SettingsValue). HasWorked DriverLists x s.node (steps_at plan s.node) s.links.items w
+      subst (λ (x : SettingsValue). HasWorked NodeDriverLists x s.node (steps_at plan s.node) s.end w
       w.done.list) first
-      (subst (λ (l : List Step). HasWorked DriverLists set s.node l s.links.items w w.done.list) are worked);
+      (subst (λ (l : List Step). HasWorked NodeDriverLists set s.node l s.end w w.done.list) are worked);
   named = named;
   keeps = keeps;
   all = subst (λ (l : List Step). Lets s.gate s.node (length l) (length (done_in (log_of w.driver)))) are all;
@@ -111,17 +102,17 @@ served_by plan s set steps Lets w first are sames named worked all keeps = recor
 
 module _ {G : Type 0} (Lets : G → ℕ → ℕ → ℕ → Type 0) (plan : PlanValue) where
   -- a promise that was kept is what the thread that began so hands back
-  kept_is : (s : ThreadStart G) (p : ThreadPromise G) (w : Handover RingDriver) → IsFor plan s p →
+  kept_is : (s : ThreadStart G) (p : ThreadPromise G) (w : Handover NodeDriver) → IsFor plan s p →
       IsPromised Lets p w → Serves Lets plan s w
   kept_is s p w f k =
-      subst (λ (n : ℕ). HandsBack (Lets s.gate) plan s.node s.links.items n w) f.same_name
-      (subst (λ (l : List RingDriver). HandsBack (Lets s.gate) plan s.node l p.done.value.name w) f.same_links
-      (subst (λ (x : G). HandsBack (Lets x) plan s.node p.links.value.items p.done.value.name w) f.same_gate
-      (subst (λ (n : ℕ). HandsBack (Lets p.gate.value) plan n p.links.value.items p.done.value.name w) f.same_node
-      (subst (λ (v : PlanValue). HandsBack (Lets p.gate.value) v p.node p.links.value.items p.done.value.name w)
+      subst (λ (n : ℕ). HandsBack (Lets s.gate) plan s.node s.end n w) f.same_name
+      (subst (λ (d : NodeDriver). HandsBack (Lets s.gate) plan s.node d p.done.value.name w) f.same_end
+      (subst (λ (x : G). HandsBack (Lets x) plan s.node p.end.value p.done.value.name w) f.same_gate
+      (subst (λ (n : ℕ). HandsBack (Lets p.gate.value) plan n p.end.value p.done.value.name w) f.same_node
+      (subst (λ (v : PlanValue). HandsBack (Lets p.gate.value) v p.node p.end.value p.done.value.name w)
       f.same_plan k))))
 
-  pub all_kept : (starts : List (ThreadStart G)) (ps : List (ThreadPromise G)) (ws : List (Handover RingDriver)) →
+  pub all_kept : (starts : List (ThreadStart G)) (ps : List (ThreadPromise G)) (ws : List (Handover NodeDriver)) →
       EachRelated (IsFor plan) starts ps → EachRelated (IsPromised Lets) ps ws →
       EachRelated (Serves Lets plan) starts ws
   all_kept [] [] [] f k = tt

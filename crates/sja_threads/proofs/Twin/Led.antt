@@ -21,6 +21,7 @@ use Rattle.sja_driver.specs.AnyDrivers.{is_out, held_of, off_of, seen_by}
 use Rattle.sja_driver.specs.Carried.{Tells, ported}
 use Rattle.sja_driver.specs.Tries.{Tried, answer_of}
 use Rattle.sja_driver.specs.Tries.Tried.{Unmet, Answered, Released, Ended}
+use Rattle.sja_driver.proofs.Step.Modes.{version_step}
 use Rattle.sja_threads.specs.declared.port_deed.PortDeed.{PortDeed}
 use Rattle.sja_threads.specs.declared.notice.Notice.{Notice}
 use Rattle.sja_threads.specs.declared.notice.Notice.TheVariants.{Turn, Ran, Spent}
@@ -106,6 +107,17 @@ has_set version _ _ _ (spent turns deeds p l) =
     has_marks p true p.ended (set_after version deeds) (has_set version turns deeds p l)
 has_set version _ _ _ (ended turns deeds p l) =
     has_marks p p.closed true (set_after version deeds) (has_set version turns deeds p l)
+
+-- its version is that at power-on
+pub led_version : (version : ℕ) (turns : List Notice) (deeds : List PortDeed) (p : Registers) →
+    LedBy version turns deeds p → p.version ≡ version
+led_version version _ _ _ power_on = refl
+led_version version _ _ _ (turn_told turns deeds p t l) = led_version version turns deeds p l
+led_version version _ _ _ (bits_ran turns deeds p bits l) = led_version version turns deeds p l
+led_version version _ _ _ (deed_done turns deeds p d l answered set ran) =
+    version_step p d.step d.answer ∙ led_version version turns deeds p l
+led_version version _ _ _ (spent turns deeds p l) = led_version version turns deeds p l
+led_version version _ _ _ (ended turns deeds p l) = led_version version turns deeds p l
 
 -- ---- what a call leads to
 

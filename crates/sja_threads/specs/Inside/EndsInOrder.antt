@@ -1,6 +1,6 @@
 -- A run in threads once all threads are joined: the lists of what came at its ports.
 use Rattle.std.specs.Prelude.{◌≡◌, ◌<◌, ℕ, List, length, slice_index_or}
-use Rattle.sja_rings.specs.declared.ring_driver.RingDriver.{RingDriver}
+use Rattle.sja_rings.specs.declared.node_driver.NodeDriver.{NodeDriver}
 use Rattle.sja_regs.specs.declared.registers.Registers.{Registers}
 use Rattle.sja_plan.specs.Plan.{PlanValue}
 use Rattle.sja_threads.specs.declared.order.Order.{Ghosts as Orders}
@@ -20,10 +20,10 @@ pub record IsEndingInOrder {N : Type 0} {o : Orders N} (names : List ℕ) (plan 
   pub many : length lists ≡ length plan.nodes
   pub closed : AreClosed (length plan.nodes) j.bus.spent (turns_in lists)
   pub ended : AllEnded (length plan.nodes) (turns_in lists)
-  pub named : (node : ℕ) (w : Handover RingDriver) → node < length plan.nodes →
+  pub named : (node : ℕ) (w : Handover NodeDriver) → node < length plan.nodes →
       IsNamed names node (slice_index_or j.workeds.items node w).done.name
 
 -- of each of so many nodes what was told and the deeds of which its driver handed the list back lead to some registers
-abbrev pub AreInOrder : ℕ → ℕ → List (List Notice) → List (Handover RingDriver) → Type 0
-AreInOrder version nodes turns workeds = (node : ℕ) (w : Handover RingDriver) → node < nodes →
+abbrev pub AreInOrder : ℕ → ℕ → List (List Notice) → List (Handover NodeDriver) → Type 0
+AreInOrder version nodes turns workeds = (node : ℕ) (w : Handover NodeDriver) → node < nodes →
     (p : Registers) × LedBy version (turns_at turns node) (slice_index_or workeds node w).done.list p

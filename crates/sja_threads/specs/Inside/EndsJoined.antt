@@ -1,9 +1,10 @@
--- The ends of all links of a run in threads once all threads are joined.
-use Rattle.std.specs.Prelude.{◌≡◌, ◌+◌, ◌*◌, ◌<◌, ℕ, suc, List, length, slice_index_or}
+-- The ends of the links of all nodes of a run in threads once all threads are joined.
+use Rattle.std.specs.Prelude.{◌≡◌, ◌<◌, ℕ, suc, List, length, slice_index_or}
 use Rattle.rtrb.specs.Ring.{sent}
-use Rattle.sja_rings.specs.declared.ring_bus.RingBus.{RingBus}
+use Rattle.sja_rings.specs.declared.node_bus.NodeBus.{NodeBus}
+use Rattle.sja_rings.specs.declared.node_driver.NodeDriver.{NodeDriver}
 use Rattle.sja_rings.specs.declared.ring_driver.RingDriver.{RingDriver}
-use Rattle.sja_rings.specs.Ends.{OneLink}
+use Rattle.sja_rings.specs.NodeRings.{rings_of_driver, OneNode}
 use Rattle.sja_plan.specs.Plan.{PlanValue, steps_at}
 use Rattle.sja_regs.specs.DriverSettings.{settings_in}
 use Rattle.sja_regs.specs.Registers.{at_power_on}
@@ -13,24 +14,22 @@ use Rattle.sja_threads.specs.declared.handover.Handover.{Handover}
 use Rattle.sja_threads.specs.Accessing.{Work, Follows, deeds_done, work_at}
 use Rattle.sja_threads.specs.Stopping.{StopsOn, deed_counts}
 
--- of so many nodes the bus's ends, 64 of each, and the drivers' come from one pair each
-pub record AreJoined (nodes : ℕ) (links : List RingBus) (workeds : List (Handover RingDriver)) : Type 0 where
-  pub links_count : length links ≡ 64 * nodes
+-- of each of so many nodes the bus's end and the driver's come from one pair
+pub record AreJoined (nodes : ℕ) (links : List NodeBus) (workeds : List (Handover NodeDriver)) : Type 0 where
+  pub links_count : length links ≡ nodes
   pub workeds_count : length workeds ≡ nodes
-  pub enough : (node : ℕ) (w : Handover RingDriver) → node < nodes →
-      length (slice_index_or workeds node w).links.items ≡ 64
-  pub pairs : (node a : ℕ) (w : Handover RingDriver) (b : RingBus) (d : RingDriver) → node < nodes → a < 64 →
-      OneLink (slice_index_or links (64 * node + a) b) (slice_index_or (slice_index_or workeds node w).links.items a d)
+  pub pairs : (node : ℕ) (b : NodeBus) (w : Handover NodeDriver) → node < nodes →
+      OneNode (slice_index_or links node b) (slice_index_or workeds node w).end
 
--- and what went in at each end of a driver is what it gave there by what it did
-abbrev pub AreGivenBy : ℕ → List Work → List (Handover RingDriver) → Type 0
-AreGivenBy nodes works workeds = (node a : ℕ) (w : Handover RingDriver) (d : RingDriver) → node < nodes → a < 64 →
-    sent (slice_index_or (slice_index_or workeds node w).links.items a d).up
+-- and what went in at a driver's end of each link is what it gave there by what it did
+abbrev pub AreGivenBy : ℕ → List Work → List (Handover NodeDriver) → Type 0
+AreGivenBy nodes works workeds = (node a : ℕ) (w : Handover NodeDriver) (d : RingDriver) → node < nodes → a < 64 →
+    sent (slice_index_or (rings_of_driver (slice_index_or workeds node w).end) a d).up
     ≡ given_in (deeds_of (deeds_done (work_at works node)) (suc a))
 
 -- the bus of a run of this plan stopped with this fault, and all threads are joined: what each driver did of its
 -- script, and gave
-pub record IsStopped (plan : PlanValue) (links : List RingBus) (workeds : List (Handover RingDriver)) (f : BusFault) :
+pub record IsStopped (plan : PlanValue) (links : List NodeBus) (workeds : List (Handover NodeDriver)) (f : BusFault) :
     Type 0 where
   pub stop : StopsOn (deed_counts plan) plan links f
   pub works : List Work

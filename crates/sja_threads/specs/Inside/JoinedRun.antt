@@ -1,9 +1,9 @@
 -- A run in threads once all threads are joined.
 use Rattle.std.specs.Prelude.{◌≡◌, ◌<◌, ℕ, List, length, map, slice_index_or}
 use Rattle.lemmas.specs.Related.{EachRelated}
-use Rattle.sja_rings.specs.declared.ring_bus.RingBus.{RingBus}
-use Rattle.sja_rings.specs.declared.ring_driver.RingDriver.{RingDriver}
-use Rattle.sja_rings.specs.Ends.{SameBus}
+use Rattle.sja_rings.specs.declared.node_bus.NodeBus.{NodeBus}
+use Rattle.sja_rings.specs.declared.node_driver.NodeDriver.{NodeDriver}
+use Rattle.sja_rings.specs.NodeRings.{SameNodeBus}
 use Rattle.sja_regs.specs.DriverSettings.{settings_in}
 use Rattle.sja_regs.specs.Registers.{at_power_on}
 use Rattle.sja_plan.specs.Plan.{PlanValue, steps_at}
@@ -23,23 +23,23 @@ use Rattle.sja_threads.specs.Inside.Rounds.{IsUnderWay, GoesOn}
 -- what the driver of a node did of its script in a run of this plan, which handed this back; all of it that its gate
 -- let
 pub record HasFollowed (Lets : ℕ → ℕ → ℕ → Type 0) (plan : PlanValue) (node : ℕ) (work : Work)
-    (w : Handover RingDriver) : Type 0 where
+    (w : Handover NodeDriver) : Type 0 where
   pub follows : Follows plan.version (settings_in (at_power_on plan.version)) (steps_at plan node) work
   pub done : map done_of work.accesses ≡ done_in (log_of w.driver)
   pub noted : done_in_order w.done.list ≡ done_at_port (deeds_done work)
   pub all : Lets node (length (steps_at plan node)) (length (done_in (log_of w.driver)))
 
 -- its bus is under way, and has room for all deeds; each driver did what it did of its script, and however the bus goes
--- on from here, with what the threads handed back the run of their deeds is over then; and its ends of all links and
--- the drivers' come from one pair each
+-- on from here, with what the threads handed back the run of their deeds is over then; and of each node its end of the
+-- links and the driver's come from one pair
 pub record IsEnding (Lets : ℕ → ℕ → ℕ → Type 0) (plan : PlanValue) (j : JoinedRun) : Type 0 where
   pub way : IsUnderWay plan j.bus
   pub steps : j.bus.bus.steps ≡ deed_counts plan
   pub works : List Work
   pub over : (t : BusThread) → GoesOn plan j.bus t →
       IsOver plan t.bus t.links.items j.workeds.items (map (λ (w : Work). deeds_done w) works)
-  pub joined : (links : List RingBus) → EachRelated SameBus j.bus.links.items links →
+  pub joined : (links : List NodeBus) → EachRelated SameNodeBus j.bus.links.items links →
       AreJoined (length plan.nodes) links j.workeds.items
   pub given : AreGivenBy (length plan.nodes) works j.workeds.items
-  pub followed : (node : ℕ) (w : Handover RingDriver) → node < length plan.nodes →
+  pub followed : (node : ℕ) (w : Handover NodeDriver) → node < length plan.nodes →
       HasFollowed Lets plan node (work_at works node) (slice_index_or j.workeds.items node w)

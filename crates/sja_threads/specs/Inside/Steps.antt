@@ -1,16 +1,14 @@
 -- The deeds of a driver in its thread.
 use Rattle.std.specs.Prelude.{◌≡◌, ◌≤◌, ◌+◌, ◌++◌, ℕ, Bool, true, false, Option, Some, None, List, [], ◌∷◌, length, map}
 use Rattle.sja_link.specs.declared.driver_end.DriverEnd.{Ghosts as Ends}
-use Rattle.sja_link.specs.declared.link_id.LinkId.{LinkId}
 use Rattle.lemmas.specs.Gathering.{total}
-use Rattle.lemmas.specs.Related.{EachRelated}
 use Rattle.sja_script.specs.declared.step.Step.{Step}
 use Rattle.sja_script.specs.declared.step.Step.TheVariants.{Release}
 use Rattle.sja_script.specs.declared.step_answer.StepAnswer.{StepAnswer}
 use Rattle.sja_driver.specs.Accesses.{by_bytes}
 use Rattle.sja_driver.specs.AnyDrivers.{is_out}
 use Rattle.sja_driver.specs.Deeds.{Deed}
-use Rattle.sja_driver.specs.Holding.{Goes, NumberedFrom}
+use Rattle.sja_driver.specs.Holding.{Goes}
 use Rattle.sja_driver.specs.LoggedDrivers.{node_of, driver_of, log_of, kept_of, IsLawful}
 use Rattle.sja_driver.specs.Logs.{HasRoom, IsEmpty, KeepsLog, Traces, done_in, done_room}
 use Rattle.sja_driver.specs.declared.logged_driver.LoggedDriver.{LoggedDriver}
@@ -43,26 +41,25 @@ LastTakes (this ∷ next ∷ rest) = (room_of this ≡ 0) × LastTakes (next ∷
 
 -- ---- what may be done
 
--- a driver may go on that releases so many messages more at most: its log has room for them, and its ends are those of
--- its node's links. What it has set, and whether it is out of reset, is so by its deeds at the port
-pub record MayWork {N E : Type 0} {o : Orders N} (link : E → LinkId) (t : DriverThread N E o) (many : ℕ) : Type 0 where
+-- a driver may go on that releases so many messages more at most: its log has room for them, and its end is that of its
+-- node's links. What it has set, and whether it is out of reset, is so by its deeds at the port
+pub record MayWork {N E : Type 0} {o : Orders N} (node_at : E → ℕ) (t : DriverThread N E o) (many : ℕ) : Type 0 where
   pub bytes : t.bytes ≡ by_bytes t.set.version
   pub set : set_after t.done.version t.done.known.list ≡ t.set
   pub active : active_by false (done_in_order t.done.known.list) ≡ is_out (driver_of t.driver)
   pub lawful : IsLawful t.driver
-  pub room : HasRoom many (log_of t.driver)
-  pub enough : 64 ≤ length t.links.items
-  pub ids : NumberedFrom link t.links.items 0 (node_of t.driver)
+  pub room : HasRoom t.done.version many (log_of t.driver)
+  pub own : node_at t.end ≡ node_of t.driver
 
 -- it may do so many steps more, each of which releases one message at most
-pub record MayStep {N E : Type 0} {o : Orders N} (link : E → LinkId) (t : DriverThread N E o) (steps : ℕ) : Type 0 where
-  pub may : MayWork link t steps
+pub record MayStep {N E : Type 0} {o : Orders N} (node_at : E → ℕ) (t : DriverThread N E o) (steps : ℕ) : Type 0 where
+  pub may : MayWork node_at t steps
   pub room : length (done_in (log_of t.driver)) + steps ≤ done_room (log_of t.driver)
 
 -- a driver did nothing yet, and may do so many steps
-pub record MayBegin {N E : Type 0} {o : Orders N} (link : E → LinkId) (t : DriverThread N E o) (steps : ℕ) :
+pub record MayBegin {N E : Type 0} {o : Orders N} (node_at : E → ℕ) (t : DriverThread N E o) (steps : ℕ) :
     Type 0 where
-  pub may : MayStep link t steps
+  pub may : MayStep node_at t steps
   pub reset : is_out (driver_of t.driver) ≡ false
   pub empty : IsEmpty (log_of t.driver)
   pub none : t.done.known.list ≡ []
@@ -72,22 +69,22 @@ pub record MayBegin {N E : Type 0} {o : Orders N} (link : E → LinkId) (t : Dri
 
 -- ---- deeds
 
--- a driver did these deeds, each once and in this order: with them its log and its ends went on, for all deeds before
--- and for all journals, and so did what it has set, which is of the same version; its ends are the same ones, its log
+-- a driver did these deeds, each once and in this order: with them its log and its links went on, for all deeds before
+-- and for all journals, and so did what it has set, which is of the same version; its end is the same one, its log
 -- keeps all if it did, and has the room left that they didn't take
 pub record Does {N E : Type 0} {o : Orders N} (e : Ends E) (was now : DriverThread N E o) (deeds : List Deed) :
     Type 0 where
   pub version : now.set.version ≡ was.set.version
   pub goes : Goes e.stands was.set.version (driver_of was.driver) (driver_of now.driver) (log_of was.driver)
-      (log_of now.driver) was.links.items now.links.items 0 deeds
+      (log_of now.driver) was.end now.end deeds
   pub leads : (before : List Deed) → Traces was.set.version (driver_of was.driver) (log_of was.driver) before →
       LeadOn before was.set deeds now.set
-  pub sames : EachRelated e.same was.links.items now.links.items
+  pub alike : e.same was.end now.end
   pub node : node_of now.driver ≡ node_of was.driver
   pub same : now.done.node ≡ was.done.node
   pub at_port : done_in_order now.done.known.list ≡ done_in_order was.done.known.list ++ done_at_port deeds
   pub keeps : KeepsLog (log_of was.driver) → KeepsLog (log_of now.driver)
-  pub able : (n : ℕ) → MayWork e.link was (room_taken deeds + n) → MayWork e.link now n
+  pub able : (n : ℕ) → MayWork e.node was (room_taken deeds + n) → MayWork e.node now n
 
 -- they count bits on from what it had found run, and so many it has found then
 pub record CountsOn {N E : Type 0} {o : Orders N} (was now : DriverThread N E o) (deeds : List Deed) : Type 0 where

@@ -3,7 +3,7 @@ use Rattle.std.specs.Prelude.{slice_index_or, slice_set}
 use lib.Seq.{map-set_same, set-get_or}
 use Rattle.std.proofs.lemmas.List.{get_or_default, get_or-map, length-set}
 use Rattle.sja_threads.specs.declared.handover.Handover.{Handover}
-use Rattle.sja_rings.specs.declared.ring_driver.RingDriver.{RingDriver}
+use Rattle.sja_rings.specs.declared.node_driver.NodeDriver.{NodeDriver}
 use Rattle.sja_threads.specs.Inside.Boards.{turns_at, turns_in}
 use Rattle.sja_threads.proofs.Twin.InOrder.{order_more}
 use Rattle.sja_threads.proofs.comparing.compare_all.Goals as goal
@@ -31,14 +31,14 @@ loop-node-preserved g c =
       told = map-set_same (λ x. x.known.list) told place one.new.told t
           (ap (λ k. k.list) one.ensures.told ∙ ap (λ x. x.known.list) value) ∙ inv.told;
       workeds =
-          ap (λ k. slice_set ws place (record { links = w.links; driver = w.driver; done = k })) one.ensures.done
+          ap (λ k. slice_set ws place (record { end = w.end; driver = w.driver; done = k })) one.ensures.done
           ∙ ap (λ x. slice_set ws place x) worked ∙ set-get_or ws place w ∙ inv.workeds;
       order = order_more g.N.Order.version c.loop-node.node (turns_in c.args.board.now.told.items)
           c.args.workeds.now.items t.known.list w inv.order
           (ap (λ l. turns_at l c.loop-node.node) (sym inv.told)
           ∙ ap (λ n. turns_at (turns_in told) n) (sym node)
           ∙ get_or-map (λ x. x.known.list) told place t _ here ∙ ap (λ x. x.known.list) (sym value))
-          (λ (d : Handover RingDriver).
+          (λ (d : Handover NodeDriver).
           ap (λ l. slice_index_or l c.loop-node.node d) (sym inv.workeds)
           ∙ ap (λ n. slice_index_or ws n d) (sym node)
           ∙ get_or_default ws place d w there ∙ sym worked)

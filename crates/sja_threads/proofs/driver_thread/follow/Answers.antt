@@ -2,7 +2,6 @@ use Rattle.std.proofs.Common.{ℕ, length, refl, sym, ap, ◌∙◌, subst}
 use Rattle.sja_regs.specs.DriverSettings.{SettingsValue, settings_in}
 use Rattle.sja_regs.specs.Registers.{at_power_on}
 use Rattle.sja_driver.specs.Accesses.{by_bytes}
-use Rattle.lemmas.specs.Related.{EachRelated}
 use Rattle.sja_driver.specs.LoggedDrivers.{node_of, log_of}
 use Rattle.sja_driver.specs.Logs.{KeepsLog, done_in}
 use Rattle.sja_threads.specs.Asking.{IsLet}
@@ -15,42 +14,41 @@ use Rattle.sja_threads.proofs.driver_thread.follow.Goals.{After-new-driver}
 use Rattle.sja_threads.proofs.driver_thread.follow.Goals as goal
 
 -- as it begins
-may_begin : (g : Over) (c : After-new-driver g) → MayBegin g.D.DriverEnd.link (record {
+may_begin : (g : Over) (c : After-new-driver g) → MayBegin g.D.DriverEnd.node (record {
   bytes = c.by_bytes-bytes.result;
   driver = c.new-driver.result;
   set = c.at_power_on-set.result;
   found = 0;
-  links = c.args.links;
+  end = c.args.end;
   done = c.args.done;
 }) (length c.args.steps.now)
 may_begin g c =
     let first = c.new-driver.ensures in let r = c.requires in
-    begins g.D.DriverEnd.link _ c.args.done.node (length c.args.steps.now) c.args.log
+    begins g.D.DriverEnd.node _ c.args.done.node (length c.args.steps.now) c.args.log
     (c.by_bytes-bytes.ensures ∙ ap (λ s. by_bytes s.version) (sym c.at_power_on-set.ensures)) r.none
     c.at_power_on-set.ensures first.node first.log first.kept first.reset first.lawful first.traces refl r.empty
-    r.room r.steps r.enough r.ids
+    r.room r.steps r.own
 
 pub do_steps-requires : goal.do_steps-requires
 do_steps-requires g c = (c.type_bounds.send-G, may_begin g (goal.at.do_steps-requires g c).After-new-driver)
 
 pub returns-clause-same : goal.returns-clause-same
 returns-clause-same g c =
-    subst (λ w. EachRelated g.D.DriverEnd.same c.args.links.items w.links.items)
-    (sym c.hand_back.ensures) c.do_steps.ensures.ended.does.sames
+    subst (λ w. g.D.DriverEnd.same c.args.end w.end) (sym c.hand_back.ensures) c.do_steps.ensures.ended.does.alike
 
 pub returns-clause-worked : goal.returns-clause-worked
 returns-clause-worked g c =
     let now = c.do_steps.new.self in
     let first = c.new-driver.ensures in
     subst (λ w. HasWorked g.D.DriverEnd.stands (settings_in (at_power_on c.args.done.version)) c.args.done.node
-    c.args.steps.now c.args.links.items w w.done.list)
+    c.args.steps.now c.args.end w w.done.list)
     (sym c.hand_back.ensures)
     (subst (λ (n : ℕ). HasWorked g.D.DriverEnd.stands (settings_in (at_power_on c.args.done.version)) n
-    c.args.steps.now c.args.links.items
-    (record { links = now.links; driver = now.driver; done = now.done.known }) now.done.known.list) first.node
+    c.args.steps.now c.args.end
+    (record { end = now.end; driver = now.driver; done = now.done.known }) now.done.known.list) first.node
     (subst (λ (s : SettingsValue). HasWorked g.D.DriverEnd.stands s (node_of c.new-driver.result) c.args.steps.now
-    c.args.links.items
-    (record { links = now.links; driver = now.driver; done = now.done.known }) now.done.known.list)
+    c.args.end
+    (record { end = now.end; driver = now.driver; done = now.done.known }) now.done.known.list)
     c.at_power_on-set.ensures
     (worked_by g.D.DriverEnd g.G.Gate.QUITS _ now c.args.steps.now
     (may_begin g (goal.at.returns-clause-worked g c).After-new-driver) c.do_steps.ensures.ended)))

@@ -1,18 +1,23 @@
-use Rattle.std.proofs.Common.{rules, ◌≡◌, false, true, [], ◌++◌, inl, inr, refl, sym, ap, ◌∙◌, subst, append-nil}
+use Rattle.std.proofs.Common.{rules, ◌≡◌, false, true, List, [], ◌++◌, inl, inr, refl, sym, ap, ◌∙◌, subst, append-nil}
 use Rattle.std.proofs.lemmas.Bool.{eqb-false}
 use Rattle.std.specs.Prelude.{IsOk}
 use Rattle.rtrb.specs.Ring.{received, sent}
+use Rattle.sja_link.specs.declared.down.Down.{Down}
 use Rattle.sja_link.specs.Lists.{Lists}
-use Rattle.sja_threads.proofs.End.CameFrom.{some_left}
+use Rattle.sja_log.specs.LeftDown.{on_link}
+use Rattle.sja_threads.proofs.End.GoneThrough.{some_left}
 use Rattle.sja_threads.proofs.left_on_links.settle_link.Goals as goal
 
 pub returns-clause-left : goal.returns-clause-left
-returns-clause-left c = λ l bus driver.
-    let s = c.in-Ok.ensures.left l (c.end_bus.ensures.lists l bus) (c.end_driver.ensures.lists l driver) in
-    let none : c.in-Ok.settled.up.items ≡ [] = search rules in
-    let down : c.in_ok-left_down.left_down ≡ c.in-Ok.settled.down.items = c.in_ok-left_down.ensures
-    ∙ c.as_slice.ensures.value in
-    (sym s.0 ∙ ap (λ x. l.got ++ x) (sym down), sym s.1 ∙ ap (λ u. l.taken ++ u) none ∙ append-nil l.taken)
+returns-clause-left c = (
+  c.in-Ok.settled.down.items,
+  (λ l bus driver.
+      let s = c.in-Ok.ensures.left l (c.end_bus.ensures.lists l bus) (c.end_driver.ensures.lists l driver) in
+      let none : c.in-Ok.settled.up.items ≡ [] = search rules in
+      (sym s.0, sym s.1 ∙ ap (λ u. l.taken ++ u) none ∙ append-nil l.taken)),
+  c.in_ok-push.ensures.pushed
+      ∙ ap (λ (d : List Down). c.args.left.now ++ on_link c.args.activation d) c.as_slice.ensures.value,
+)
 
 -- an end gave no account
 pub returns-in_default-clause-fault : goal.returns-in_default-clause-fault

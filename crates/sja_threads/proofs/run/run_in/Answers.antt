@@ -30,7 +30,7 @@ pub start_all-requires-clause-starts : goal.start_all-requires-clause-starts
 start_all-requires-clause-starts g c κs within =
     let parts = c.args.parts in
     let r = c.requires.parts in
-    all_starts c.args.plan.now parts.starts.items parts.bus.links.items r.starts r.made
+    all_starts c.args.plan.now parts.starts.items parts.bus.links.items r.starts r.links r.made
 
 pub rounds_beside_drivers-requires-clause-way : goal.rounds_beside_drivers-requires-clause-way
 rounds_beside_drivers-requires-clause-way g c =

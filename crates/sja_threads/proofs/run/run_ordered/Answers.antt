@@ -9,7 +9,7 @@ run_drivers-requires-clause-order g c κs within =
     let r = c.requires in
     let parts = c.args.parts in
     all_ordered c.args.plan.now parts.starts.items c.args.lists.items parts.bus.links.items g.N.Order.deeds
-    g.N.Order.version r.version r.deeds r.many r.parts.starts r.parts.made r.listed
+    g.N.Order.version r.version r.deeds r.many r.parts.starts r.parts.links r.parts.made r.listed
 
 -- the gates that are asked are those with which the threads begin
 pub end_run-requires-clause-ending : goal.end_run-requires-clause-ending

@@ -73,7 +73,7 @@ returns-in-Ok-clause-fault g c =
     let ending = c.requires.ending in
     let on = c.in-Ok.ensures.ends.on in
     fault_of plan (unsettled_run plan c.rounds_after_drivers.new.self.links.items c.args.joined.workeds.items
-    ending.works on.way.ids (ending.joined _ on.sames) ending.given
+    ending.works on.way.ends (ending.joined _ on.sames) ending.given
     (λ node few.
     let count = (ending.joined _ on.sames).workeds_count in
     let w = some_of c.args.joined.workeds.items 0 (omega (arith, few, count)) in (ending.followed node w few).follows))

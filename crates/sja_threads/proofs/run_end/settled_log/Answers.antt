@@ -1,16 +1,17 @@
 use Rattle.std.proofs.Common.{◌≡◌, ℕ, ◌<◌, List, length, sym, ap, ◌∙◌, subst}
 use Rattle.std.specs.Prelude.{None, slice_index_or}
-use Rattle.sja_link.specs.declared.down.Down.{Down}
-use Rattle.sja_rings.specs.declared.ring_bus.RingBus.{RingBus}
-use Rattle.sja_rings.specs.declared.ring_driver.RingDriver.{RingDriver}
-use Rattle.sja_rings.specs.Ends.{OneLink}
+use Rattle.sja_link.specs.declared.older_down.OlderDown.{OlderDown}
+use Rattle.sja_rings.specs.declared.node_bus.NodeBus.{NodeBus}
+use Rattle.sja_rings.specs.declared.node_driver.NodeDriver.{NodeDriver}
+use Rattle.sja_rings.specs.NodeRings.{OneNode}
 use Rattle.sja_driver.specs.declared.logged_driver.LoggedDriver.{LoggedDriver}
 use Rattle.sja_driver.specs.LoggedDrivers.{IsLawful, log_of}
 use Rattle.sja_driver.specs.Logs.{KeepsLog}
 use Rattle.sja_log.specs.Finishing.{AreNodeEnds}
+use Rattle.sja_log.specs.LeftDown.{left_of}
 use Rattle.sja_log.specs.Log.{NodeValue, RunValue}
 use Rattle.sja_threads.specs.Inside.Settling.{all_drivers, AreLeftOn}
-use Rattle.sja_threads.proofs.End.LinksOver.{ends_count, joined_over, one_link, all_keep, all_lawful, record_kept}
+use Rattle.sja_threads.proofs.End.LinksOver.{ends_count, joined_over, one_node, all_keep, all_lawful, record_kept}
 use Rattle.sja_threads.proofs.End.LogOver.{AreLogParts, run_over, log_over}
 use Rattle.sja_threads.proofs.run_end.settled_log.Goals.{After-of-2}
 use Rattle.sja_threads.proofs.run_end.settled_log.Goals as goal
@@ -20,16 +21,16 @@ settle_all-requires-clause-count c =
     let o = c.requires.over in
     ends_count (length c.args.plan.now.nodes) c.args.bus.links.items c.args.workeds.items
     (joined_over c.args.plan.now c.args.bus.bus c.args.bus.links.items c.args.workeds.items o.0 o.1)
-    ∙ sym (ap (λ (l : List RingDriver). length l) c.in_ok-drivers.ensures.ends)
+    ∙ sym (ap (λ (l : List NodeDriver). length l) c.in_ok-drivers.ensures.ends)
 
 pub settle_all-requires-clause-pairs : goal.settle_all-requires-clause-pairs
 settle_all-requires-clause-pairs c =
     let o = c.requires.over in
     let links = c.args.bus.links.items in
-    let P : List RingDriver → Type 0 = λ es. (i : ℕ) (b : RingBus) (d : RingDriver) → i < length links →
-    OneLink (slice_index_or links i b) (slice_index_or es i d) in
+    let P : List NodeDriver → Type 0 = λ es. (node : ℕ) (b : NodeBus) (d : NodeDriver) → node < length links →
+    OneNode (slice_index_or links node b) (slice_index_or es node d) in
     subst P (sym c.in_ok-drivers.ensures.ends)
-    (one_link (length c.args.plan.now.nodes) links c.args.workeds.items
+    (one_node (length c.args.plan.now.nodes) links c.args.workeds.items
     (joined_over c.args.plan.now c.args.bus.bus links c.args.workeds.items o.0 o.1))
 
 pub node_runs-requires-clause-lawful : goal.node_runs-requires-clause-lawful
@@ -73,13 +74,13 @@ log_parts c right =
       bits = ap (λ (l : RunValue). l.bits) is ∙ sym c.requires.bits;
       ends = ap (λ (l : RunValue). l.end) is;
       nodes =
-          subst (λ (ns : List NodeValue). AreNodeEnds logs drivers left (length drivers) ns)
+          subst (λ (ns : List NodeValue). AreNodeEnds logs drivers (λ k a. left_of left k a) (length drivers) ns)
           (sym (ap (λ (l : RunValue). l.nodes) is))
-          (subst (λ (l : List (List Down)). AreNodeEnds logs drivers l (length drivers) nodes)
+          (subst (λ (l : List (List OlderDown)). AreNodeEnds logs drivers (λ k a. left_of l k a) (length drivers) nodes)
           c.as_slice-2.ensures.value
-          (subst (λ (ds : List LoggedDriver). AreNodeEnds logs ds now (length ds) nodes)
+          (subst (λ (ds : List LoggedDriver). AreNodeEnds logs ds (λ k a. left_of now k a) (length ds) nodes)
           (c.as_slice.ensures.value ∙ c.in_ok-drivers.ensures.drivers) c.in_ok-nodes.ensures));
-      left = subst (λ (es : List RingDriver). AreLeftOn c.args.bus.links.items es (length c.args.bus.links.items) left)
+      left = subst (λ (es : List NodeDriver). AreLeftOn c.args.bus.links.items es (length c.args.bus.links.items) left)
           c.in_ok-drivers.ensures.ends c.in_ok-lists.ensures.left;
       journals = f.journals;
       lawful = f.lawful right;

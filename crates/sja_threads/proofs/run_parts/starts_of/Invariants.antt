@@ -1,4 +1,4 @@
-use Rattle.std.proofs.Common.{◌≡◌, ◌≤◌, ◌+◌, ◌*◌, drop, length, map, take, vec_capacity}
+use Rattle.std.proofs.Common.{◌≡◌, ◌≤◌, ◌+◌, drop, length, map, take, vec_capacity}
 use Rattle.std.specs.Vec.Iter.{into_iter_items, into_iter_len}
 use Rattle.sja_threads.specs.Inside.Making.{AreMade, AreListed}
 use Rattle.sja_threads.proofs.run_parts.starts_of.Given as goal
@@ -8,7 +8,7 @@ invariant-loop-gate g l = record {
   all : l.node + into_iter_len l.gate-iterator ≡ length l.plan.nodes;
   count : length l.starts.items ≡ l.node;
   room : length l.plan.nodes ≤ vec_capacity l.starts;
-  links : length l.buses.items ≡ 64 * l.node;
+  links : length l.buses.items ≡ l.node;
   made : AreMade l.plan l.node l.starts.items l.buses.items;
   many : length l.lists.items ≡ l.node;
   rest : into_iter_items l.gate-iterator ≡ drop l.node l.fn.gates.items;

@@ -1,5 +1,5 @@
 use Rattle.std.proofs.Common.{ℕ, length, sym, ap, ◌∙◌, subst}
-use Rattle.sja_rings.specs.Ends.{DriverLists}
+use Rattle.sja_rings.specs.NodeRings.{NodeDriverLists}
 use Rattle.sja_regs.specs.DriverSettings.{settings_in}
 use Rattle.sja_regs.specs.Registers.{at_power_on}
 use Rattle.sja_plan.specs.Plan.{steps_at}
@@ -24,8 +24,8 @@ returns g c =
     (c.steps-steps.ensures.value ∙ ap (λ n. steps_at c.args.plan.now n) c.from.ensures) f.same
     (same_name g.N.Order.deeds s.node w.done.name s.done.name
     (subst (λ (n : ℕ). IsNamed g.N.Order.deeds n w.done.name) d.node f.named) c.requires.order.1)
-    (subst (λ (n : ℕ). HasWorked DriverLists (settings_in (at_power_on c.new-done.result.version)) n
-    c.steps-steps.result.now s.links.items w w.done.list) d.node f.worked)
+    (subst (λ (n : ℕ). HasWorked NodeDriverLists (settings_in (at_power_on c.new-done.result.version)) n
+    c.steps-steps.result.now s.end w w.done.list) d.node f.worked)
     (subst (λ (n : ℕ). IsLet g.G.Gate.QUITS g.G.Gate.answered s.gate n (length c.steps-steps.result.now)
     (length (done_in (log_of w.driver)))) d.node
     (subst (λ (x : _). IsLet g.G.Gate.QUITS g.G.Gate.answered x c.new-done.result.node (length c.steps-steps.result.now)

@@ -1,11 +1,15 @@
-use Rattle.std.proofs.Common.{rules, ◌≡◌, Err, length, refl, ◌∙◌, arith}
+use Rattle.std.proofs.Common.{rules, ◌≡◌, List, Err, length, refl, sym, subst, ◌∙◌, arith}
 use Rattle.std.specs.Vec.{with_items}
 use Rattle.std.proofs.lemmas.List.{with_items_is}
 use Rattle.lemmas.proofs.Results.{err_is}
+use Rattle.sja_link.specs.Links.{AreEnds}
+use Rattle.sja_rings.specs.declared.node_bus.NodeBus.{NodeBus}
+use Rattle.sja_rings.specs.NodeRings.{node_of_bus}
 use Rattle.sja_threads.specs.Inside.Boards.{turns_in}
 use Rattle.sja_threads.specs.Inside.Rounds.{Stops}
 use Rattle.sja_threads.proofs.Rounds.Closed.{closed_bit}
 use Rattle.sja_threads.proofs.Rounds.GoesOn.{after_bit, all_rest, spent_now, stays_on, wanted_now}
+use Rattle.sja_threads.proofs.Rounds.SameEnds.{are_ends}
 use Rattle.sja_threads.proofs.Rounds.Stops.{by_any_orders, stops_bit}
 use Rattle.sja_threads.proofs.Rounds.Told.{ended_bit, told_bit}
 use Rattle.sja_threads.proofs.bus_thread.BusThread.bit_if_due.Goals as goal
@@ -16,6 +20,14 @@ returns-then-self-bits-clause-on g c =
     spent_now c.args.plan.now c.args.self.now w (search rules) (c.at_rest-rests.ensures.lawful w.right) c.requires.dry
     (wanted_now c.args.awaited _ c.args.self.now c.at_rest-rests.result c.requires.awaited
     (c.is_wanted.ensures.yes (search rules)) (c.at_rest-rests.ensures.busy w.right))
+
+pub bit-requires-clause-ends : goal.bit-requires-clause-ends
+bit-requires-clause-ends g c =
+    let w = c.requires.way in
+    subst (λ (l : List NodeBus). AreEnds node_of_bus (length c.args.self.now.bus.journals) l)
+    (sym c.as_mut_slice.ensures.value)
+    (are_ends (length c.args.plan.now.nodes) (length c.args.self.now.bus.journals) c.args.self.now.links.items
+    w.journals w.ends)
 
 pub returns-clause-on : goal.returns-clause-on
 returns-clause-on g c =

@@ -1,14 +1,21 @@
-use Rattle.std.proofs.Common.{◌≡◌, List, refl, sym, subst, arith}
+use Rattle.std.proofs.Common.{◌≡◌, List, length, refl, sym, subst, arith}
 use Rattle.std.specs.Prelude.{OnOk}
 use Rattle.std.specs.Vec.{with_items}
 use Rattle.std.proofs.lemmas.List.{with_items_is}
-use Rattle.sja_rings.specs.declared.ring_bus.RingBus.{RingBus}
+use Rattle.sja_link.specs.Links.{AreEnds}
+use Rattle.sja_rings.specs.declared.node_bus.NodeBus.{NodeBus}
+use Rattle.sja_rings.specs.NodeRings.{node_of_bus, ShowsNothingUp}
 use Rattle.sja_wire.specs.Buses.{AllDry}
-use Rattle.sja_threads.specs.Gathering.{IsDry}
 use Rattle.sja_threads.proofs.Rounds.GoesOn.{gathered}
 use Rattle.sja_threads.proofs.Rounds.Stops.{stops_gather}
 use Rattle.sja_threads.proofs.Rounds.Told.{told_gather}
 use Rattle.sja_threads.proofs.bus_thread.BusThread.gather.Goals as goal
+
+pub gather-requires : goal.gather-requires
+gather-requires c = record {
+  ends = subst (λ (l : List NodeBus). AreEnds node_of_bus (length c.args.self.now.bus.journals) l)
+      (sym c.as_mut_slice.ensures.value) c.requires.ends;
+}
 
 pub returns-clause-on : goal.returns-clause-on
 returns-clause-on c =
@@ -39,4 +46,5 @@ returns-clause-dry c =
     let links = c.args.self.now.links in
     let those : (with_items links c.gather.new.links).items ≡ c.gather.new.links =
     with_items_is links c.gather.new.links (omega (arith, c.gather.auto.links, c.as_mut_slice.ensures.len)) in
-    subst (λ (l : List RingBus). OnOk c.gather.result (AllDry IsDry c.gather.new.self.journals l)) (sym those) e.dry
+    subst (λ (l : List NodeBus). OnOk c.gather.result (AllDry ShowsNothingUp c.gather.new.self.journals l))
+    (sym those) e.dry

@@ -10,6 +10,7 @@ use Rattle.sja_threads.specs.Inside.Boards.{AllEnded, AreClosed, AreTold, turns_
 use Rattle.sja_threads.specs.Inside.Rounds.{GoesOn, Stops}
 use Rattle.sja_threads.proofs.Rounds.Closed.{closed_all, closed_more, not_spent, ran_on, rests_on}
 use Rattle.sja_threads.proofs.Rounds.GoesOn.{stays_on, on_twice}
+use Rattle.sja_threads.proofs.Rounds.SameEnds.{are_ends}
 use Rattle.sja_threads.proofs.Rounds.Stops.{stops_later}
 use Rattle.sja_threads.proofs.Rounds.Told.{ended_more, told_ran, told_spent}
 use Rattle.sja_threads.proofs.bus_thread.BusThread.rounds_after_drivers.Given.{Over}
@@ -102,6 +103,13 @@ loop-init g c = record {
   closed = λ are. are;
   ended = c.requires.ended;
 }
+
+pub gather-requires : goal.gather-requires
+gather-requires g c =
+    let w = c.loop.invariant.on.way in record {
+      ends = are_ends (length c.args.plan.now.nodes) (length c.loop.self.bus.journals) c.loop.self.links.items
+          w.journals w.ends;
+    }
 
 pub returns-in_err-gather-clause-fault : goal.returns-in_err-gather-clause-fault
 returns-in_err-gather-clause-fault g c =

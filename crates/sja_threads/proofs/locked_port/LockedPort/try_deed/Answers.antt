@@ -1,15 +1,25 @@
 use Rattle.std.proofs.Common.{◌≡◌, ◌++◌, ℕ, false, Some, None, List, [], ◌∷◌, length, sym, ap, ◌∙◌, subst, arith}
-use Rattle.lemmas.proofs.Lists.{some_of}
+use Rattle.sja_link.specs.Lists.{on, is_on, same_on}
 use Rattle.sja_regs.specs.declared.registers.Registers.{Registers}
 use Rattle.sja_regs.specs.DriverSettings.{HasSettings}
-use Rattle.sja_driver.specs.LoggedDrivers.{driver_of}
+use Rattle.sja_driver.specs.AnyDrivers.{link_used}
+use Rattle.sja_driver.specs.LoggedDrivers.{driver_of, MayStep}
 use Rattle.sja_threads.specs.declared.port_deed.PortDeed.{PortDeed}
 use Rattle.sja_threads.specs.Ordering.{LedBy, active_by, done_in_order}
 use Rattle.sja_threads.specs.Inside.Names.{IsNamed}
 use Rattle.sja_threads.specs.Inside.Ordered.{set_after}
 use Rattle.sja_threads.proofs.Twin.Deeds.{has_done, same_done}
-use Rattle.sja_threads.proofs.Twin.Led.{led_deed, led_none, set_push}
+use Rattle.sja_threads.proofs.Twin.Led.{led_deed, led_none, led_version, set_push}
 use Rattle.sja_threads.proofs.locked_port.LockedPort.try_deed.Goals as goal
+
+-- the port is of the version of the driver's list
+pub step-requires : goal.step-requires
+step-requires g c =
+    let may = c.requires.may in
+    subst (λ (v : ℕ). MayStep g.D.DriverEnd.node v c.args.driver.now c.args.end.now)
+    (c.args.done.now.version_is
+    ∙ sym (led_version g.N.Order.version c.self.inside.turns.list c.self.inside.deeds.list c.self.inside.port
+    c.self.invariant.led)) may
 
 pub invariant_of-self : goal.invariant_of-self
 invariant_of-self g c =
@@ -17,15 +27,16 @@ invariant_of-self g c =
     let same = c.agree.ensures.kept in
     let steps = c.step.ensures.steps in
     let e = g.D.DriverEnd in
-    let end = some_of c.args.links.now 0 (let long = c.requires.may.eight in omega (arith, long)) in record {
+    let used = link_used (driver_of c.args.driver.now) in record {
       turns = inv.turns;
       deeds = subst (λ (n : ℕ). IsNamed g.N.Order.deeds c.self.inside.node n) (sym (ap (λ k. k.name) same)) inv.deeds;
       bits = inv.bits;
       led = subst (λ (l : List PortDeed). LedBy g.N.Order.version c.self.inside.turns.list l c.step.new.port)
           (sym (ap (λ k. k.list) same))
-          (led_none e.same e.stands e.dry e.full _ _ c.self.inside.port c.step.new.port c.args.deed.now
-          (driver_of c.args.driver.now) (driver_of c.step.new.self) g.N.Order.version c.self.inside.turns.list
-          c.self.inside.deeds.list steps.tried inv.led (steps.acts end end) (sym steps.met ∙ c.in_default.is));
+          (led_none (same_on e.same e.stands used) (on e.stands used) (is_on e.dry used) (is_on e.full used) _ _
+          c.self.inside.port c.step.new.port c.args.deed.now (driver_of c.args.driver.now) (driver_of c.step.new.self)
+          g.N.Order.version c.self.inside.turns.list
+          c.self.inside.deeds.list steps.tried inv.led steps.acts (sym steps.met ∙ c.in_default.is));
     }
 
 pub returns-in_default-clause-has : goal.returns-in_default-clause-has
@@ -47,18 +58,19 @@ invariant_of-self-2 g c =
     let a = c.add.ensures in
     let one : PortDeed =
     record { step = c.copy.result; answer = c.copy-2.result; set = c.settings.result; bits = c.self.inside.bits } in
-    let end = some_of c.args.links.now 0 (let long = c.requires.may.eight in omega (arith, long)) in record {
+    let used = link_used (driver_of c.args.driver.now) in record {
       turns = inv.turns;
       deeds = subst (λ (n : ℕ). IsNamed g.N.Order.deeds c.self.inside.node n)
           (sym (a.kept_name ∙ ap (λ k. k.name) same)) inv.deeds;
       bits = inv.bits;
       led = subst (λ (l : List PortDeed). LedBy g.N.Order.version c.self.inside.turns.list l c.step.new.port)
           (sym (a.kept ∙ ap (λ k. k.list ++ one ∷ []) same))
-          (led_deed e.same e.stands e.dry e.full _ _ c.self.inside.port c.step.new.port c.args.deed.now
-          (driver_of c.args.driver.now) (driver_of c.step.new.self) g.N.Order.version c.self.inside.turns.list
+          (led_deed (same_on e.same e.stands used) (on e.stands used) (is_on e.dry used) (is_on e.full used) _ _
+          c.self.inside.port c.step.new.port c.args.deed.now (driver_of c.args.driver.now) (driver_of c.step.new.self)
+          g.N.Order.version c.self.inside.turns.list
           c.self.inside.deeds.list steps.tried one inv.led
           (ap (λ (l : List PortDeed). active_by false (done_in_order l)) c.agree.ensures.same ∙ c.requires.active)
-          (steps.acts end end) (sym steps.met ∙ c.in-Some.is ∙ ap Some (sym c.copy-2.ensures)) c.copy.ensures
+          steps.acts (sym steps.met ∙ c.in-Some.is ∙ ap Some (sym c.copy-2.ensures)) c.copy.ensures
           c.settings.ensures inv.bits);
     }
 
