@@ -89,7 +89,8 @@ sja_answer sja_make(sja **session);
 /* Begins a session to which nothing happened at a handle, in place of what stands there: by a version of the rules, 1
  * to 3, of which 3 is the one for drivers of the real chip; of at most so many bits, 1 to 200,000, or to 2,000,000 in
  * version 3; with 1 to 8 nodes. Memory for all bits is reserved here. In version 3 with 0 bits it is a session without
- * an end: it goes on as long as it is driven, in the memory that is reserved here, and forgets what is oldest. */
+ * an end: it goes on as long as it is driven, in the memory that is reserved here, and forgets what is oldest. Starts
+ * of its nodes aren't used up. */
 sja_answer sja_begin(sja *session, uint32_t version, uint32_t bits, uint32_t nodes);
 
 /* Reads an address of a node, counted from 0: any of the 256. The value is the byte. No bit runs. */
@@ -97,7 +98,7 @@ sja_answer sja_read(sja *session, uint32_t node, uint32_t address);
 
 /* Writes a byte to an address of a node: any of the 256. What a register doesn't take, or not in this mode, is ignored,
  * and the status is SJA_DONE all the same: so where MOD is to leave reset mode and all starts of the node are used, 64
- * in version 3 and eight before, RM stays 1. No bit runs. */
+ * in version 3 with an end and eight before, RM stays 1. No bit runs. */
 sja_answer sja_write(sja *session, uint32_t node, uint32_t address, uint32_t value);
 
 /* Runs so many bits, or as many as are left, or up to the first bit in which the interrupt line of a watched node

@@ -1,6 +1,6 @@
 """Two nodes of a session without an end exchange messages until the program is told to stop (Ctrl-C). Each message has
-its number, and has to come once and in order. A line says now and then how far the bus has come. A number behind the
-program's name stops it after so many bits."""
+its number, and has to come once and in order, also where a frame is struck and where a controller was off the bus. A
+line says now and then how far the bus has come. A number behind the program's name stops it after so many bits."""
 
 import signal
 import sys
@@ -21,6 +21,13 @@ def opened(bus, node):
     bus.write(node, MOD, 0x00)
 
 
+def reopened(bus, node):
+    """Takes a controller off the bus and onto it again, where it waits for eleven recessive bits."""
+    bus.write(node, MOD, 0x01)
+    bus.write(node, MOD, 0x00)
+    bus.run(11)
+
+
 def send(bus, node, number):
     """Hands the message of this number over."""
     for place, byte in enumerate([8, 0x10, 0x00, *number.to_bytes(8, "big")]):
@@ -38,9 +45,12 @@ def received(bus, node):
 
 
 def exchange(bus, last):
-    """Sends by turns, and strikes each hundredth message, so that it is sent again."""
+    """Sends by turns. The receiver of each tenth message was off the bus just before, and each hundredth message is
+    struck, so that it is sent again."""
     number = line = 0
     while not stopped and bus.now() < last:
+        if number % 10 == 0:
+            reopened(bus, 1 - number % 2)
         send(bus, number % 2, number)
         if number % 100 == 0:
             bus.strike(number % 2, bus.now() + 50)

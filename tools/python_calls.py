@@ -124,6 +124,23 @@ def endless(bus):
         yield f"{name}{numbers} without an end", lambda name=name, numbers=numbers: getattr(bus, name)(*numbers), wanted
 
 
+def restarts(bus, times):
+    """How often node 1 of a session of two nodes gets the message of node 0 once that has its number, of so many times:
+    each time it leaves reset mode before, and enters it behind."""
+    bus.write(0, 0, 0)
+    for number in range(times):
+        bus.write(1, 0, 0)
+        bus.run(11)
+        for address, value in [(16, 2), (17, 0x24), (18, 0x60), (19, number // 256), (20, number % 256), (1, 1)]:
+            bus.write(0, address, value)
+        bus.run(100)
+        if [bus.read(1, address) for address in (29, 19, 20)] != [1, number // 256, number % 256]:
+            return number
+        bus.write(1, *[(1, 4), (0, 1)][number % 2])
+        bus.write(1, 0, 1)
+    return times
+
+
 def rows():
     """What is called, and what it has to answer."""
     yield from openings()
@@ -134,6 +151,10 @@ def rows():
     lasting = Session(3, 0, 1)
     yield from endless(lasting)
     lasting.close()
+    for wanted, bits in [(1000, 0), (64, 200000)]:
+        restarting = Session(3, bits, 2)
+        yield f"starts of {bits} bits", lambda: restarts(restarting, 1000), wanted
+        restarting.close()
     bus = Session(3, 1000, 2)
     yield from calls(bus)
     plan = bus.plan()

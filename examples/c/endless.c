@@ -1,8 +1,9 @@
 /* Two drivers on a bus that goes on until the program is told to stop, by SIGINT or SIGTERM: node 0 polls, node 1 is
  * woken by its interrupt. By turns each sends the other a message that has its number. Now and then a bit of a frame is
- * struck at its sender, so that it is sent again. Each message has to be received once, and in order. A line says from
- * time to time how far the bus has come. Where a number stands behind the program's name it stops after so many bits.
- * The status is 1 where a message was missed or came twice. */
+ * struck at its sender, so that it is sent again, and now and then both go bus-off and restart. Each message has to be
+ * received once, and in order. A line says from time to time how far the bus has come. Where a number stands behind the
+ * program's name it stops after so many bits. The status is 1 where a message was missed or came twice, or a driver
+ * didn't come back. */
 #include <inttypes.h>
 #include <signal.h>
 #include <stdio.h>
@@ -12,11 +13,15 @@
 #include "expect.h"
 #include "interrupts.h"
 #include "polling.h"
+#include "registers.h"
 
 enum { VERSION = 3, WITHOUT_END = 0, ROUND = 300, ROUNDS = 10, LINE = 20000000 };
 
 /* One message of so many is struck, so many bits after it was asked for: in its data. */
 enum { STRUCK = 5000, IN_DATA = 50 };
+
+/* Both drivers restart once in so many messages. They are back after 128 times eleven recessive bits. */
+enum { RESTARTED = 50, BACK = 1500 };
 
 /* Both drivers let the identifiers through whose first bit is 0. */
 static const struct filter FILTER = { .code = 0x000, .mask = 0x3FF };
@@ -92,9 +97,32 @@ static void from_interrupts(struct interrupts *interrupts, struct polling *polli
     expect("no other one for polling", (unsigned)polling_receive(polling, &received), 0);
 }
 
-static void tell(uint64_t bits, uint64_t messages)
+/* Takes a controller to bus-off, as many faults would: with 255 in TXERR it goes there as reset mode is left (data
+ * sheet, 6.4.12). */
+static void go_off(const struct board *board)
 {
-    printf("%" PRIu64 " bits, %" PRIu64 " messages\n", bits, messages);
+    board_write(board, MOD, MOD_RM | MOD_AFM);
+    board_write(board, TXERR, 0xff);
+    board_write(board, MOD, MOD_AFM);
+}
+
+/* Both go bus-off, restart and come back. */
+static void restart(struct polling *polling, struct interrupts *interrupts)
+{
+    unsigned restarts = polling->restarts + interrupts->restarts;
+
+    go_off(&polling->board);
+    go_off(&interrupts->board);
+    polling_care(polling);
+    interrupts_run(interrupts, BACK);
+    expect("restarts", polling->restarts + interrupts->restarts, restarts + 2);
+    expect("interrupts is off", (unsigned)interrupts->off, 0);
+}
+
+static void tell(const struct polling *polling, const struct interrupts *interrupts, uint64_t messages)
+{
+    printf("%" PRIu64 " bits, %" PRIu64 " messages, %u restarts\n", now(&polling->board), messages,
+           polling->restarts + interrupts->restarts);
     fflush(stdout);
 }
 
@@ -104,11 +132,13 @@ static uint64_t exchange(struct polling *polling, struct interrupts *interrupts,
     uint64_t number = 0, line = 0;
 
     while (!told_to_stop && differences == 0 && now(&polling->board) < bits) {
+        if (number % RESTARTED == 0)
+            restart(polling, interrupts);
         from_polling(polling, interrupts, number++);
         from_interrupts(interrupts, polling, number++);
         if (now(&polling->board) / LINE > line) {
             line = now(&polling->board) / LINE;
-            tell(now(&polling->board), number);
+            tell(polling, interrupts, number);
         }
     }
     return number;
@@ -130,7 +160,7 @@ int main(int count, char **words)
         return 1;
     interrupts_run(&interrupts, 30);
     messages = exchange(&polling, &interrupts, bits);
-    tell(now(&polling.board), messages);
+    tell(&polling, &interrupts, messages);
     printf("%u errors seen by node 1, %u differences\n", interrupts.errors, differences);
     board_done("free", sja_free(session));
     return differences == 0 ? 0 : 1;

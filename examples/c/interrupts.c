@@ -101,7 +101,7 @@ static void received(struct interrupts *driver)
 
 /* ES or BS has changed. After a bus-off reset mode is left at once, and the controller waits for 128 times eleven
  * recessive bits; what was under way is lost. At its end both are 0 again. Where RM stays 1, as once all starts of a
- * session's node are used, it is given up: it stays off. */
+ * node are used in a session with an end, it is given up: it stays off. */
 static void changed(struct interrupts *driver)
 {
     uint8_t status = board_read(&driver->board, SR);

@@ -81,7 +81,8 @@ int polling_receive(struct polling *driver, struct message *message)
 
 /* Looks after what went wrong: a data overrun is counted and cleared, and after a bus-off reset mode is left, so that
  * the controller waits for 128 times eleven recessive bits and comes back (data sheet, 6.4.3 and 6.4.5). What was under
- * way then is lost. Where RM stays 1, as once all starts of a session's node are used, it is given up. */
+ * way then is lost. Where RM stays 1, as once all starts of a node are used in a session with an end, it is given
+ * up. */
 void polling_care(struct polling *driver)
 {
     uint8_t status = board_read(&driver->board, SR);

@@ -1,7 +1,7 @@
 //! Links and the ledgers at their ends, and the world of one link: a row is calls of it.
 //!
-//! Numbers are decimal. A row begins with `queues`, a link of two queues, `rings`, one of two rings, or `world`;
-//! [`calls`] and [`worlds`] say what each call is.
+//! Numbers are decimal. A row begins with `queues`, the links of a node of two queues, `rings`, those of two rings
+//! each, or `world`; [`calls`] and [`worlds`] say what each call is.
 
 mod answers;
 mod calls;

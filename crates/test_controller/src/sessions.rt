@@ -9,6 +9,7 @@ mod answer;
 mod bench;
 mod calls;
 mod many;
+mod receiving;
 mod session_ends;
 mod struck;
 

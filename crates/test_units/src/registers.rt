@@ -1,6 +1,7 @@
-//! The register file: what each address answers, and bytes as bits and as frames. The rows of ports in
-//! `test_controller` have what their calls answer, one after the other.
+//! The register file: what each address answers, bytes as bits and as frames, and which activation a turn is of. The
+//! rows of ports in `test_controller` have what their calls answer, one after the other.
 
+mod activations;
 mod addresses;
 mod buffering;
 mod bytes;

@@ -1,6 +1,7 @@
 //! Strikes of runs of few bits, which are written down bit by bit, and of runs of more bits, up to very many.
 
 use sja_bus::{Bus, SerialBoard, serial_links};
+use sja_link::ACTIVATIONS;
 use sja_script::{FaultScript, Strike};
 use std::alloc::Global;
 
@@ -32,7 +33,7 @@ fn struck_bits(
     }
     let steps = Vec::from_array(alloc, [10]).ok()?;
     let mut bus = Bus::new(alloc, bits, steps, FaultScript::of(script)).ok()?;
-    let mut links = serial_links(alloc, 1).ok()?;
+    let mut links = serial_links(alloc, 1, ACTIVATIONS).ok()?;
     let mut board = SerialBoard::new(alloc, 1, 1).ok()?;
     let mut struck = Vec::new(alloc);
     for _ in 0..100 {
@@ -138,7 +139,7 @@ fn strikes_past_32_bits_hit_none_before(rt: HostRuntime) {
 fn are_struck_on_and_on(alloc: Global, count: u64) -> Option<bool> {
     let steps = Vec::from_array(alloc, [10]).ok()?;
     let mut bus = Bus::new(alloc, 1 << 62, steps, FaultScript::of(Vec::new(alloc))).ok()?;
-    let mut links = serial_links(alloc, 1).ok()?;
+    let mut links = serial_links(alloc, 1, ACTIVATIONS).ok()?;
     let mut board = SerialBoard::new(alloc, 1, 1).ok()?;
     let far = 3 * count + 1_000;
     bus.strike(strike(far, 1, 1)).ok()?;

@@ -2,3 +2,4 @@
 
 mod bits;
 mod long_runs;
+mod starts;

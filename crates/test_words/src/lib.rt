@@ -1,18 +1,15 @@
 //! Words in rows of text, for the tests over controllers: bytes, addresses, names of things, messages, steps
 //! ([`step_of`]), what they answer ([`AnswerText`]), and a bit of the bus ([`turn_of`]).
 //!
-//! Beside them stand a link of the tests' own, which gives an item back ([`Returning`]), and whether ends are those of
-//! a driver ([`are_links_of_node`]).
+//! Beside them stand links of the tests' own, which give an item back ([`Returning`]).
 #![tactic(auto)]
 
 mod answer_text;
-mod ready;
 mod returning;
 mod step;
 mod turn;
 
 pub use answer_text::{AnswerText, Bytes};
-pub use ready::are_links_of_node;
 pub use returning::Returning;
 use sja_regs::address::{
     ACR0, ALC, AMR0, BUFFER, CMR, ECC, EWLR, IER, IR, MOD, RMC, RXERR, SR, TXERR,

@@ -1,11 +1,11 @@
-//! A link that gives one item back.
+//! Links that give one item back.
 
-use sja_link::{BusEnd, DequeLink, Down, DriverEnd, LinkId, Up};
+use sja_link::{BusEnd, DequeLinks, Down, DriverEnd, Up};
 
-/// A link of two queues that gives one of the items back that are put or given, once.
+/// The links of a node, of two queues, that give one of the items back that are put or given, once.
 #[derive(Drop)]
 pub struct Returning {
-    pub link: DequeLink,
+    pub links: DequeLinks,
     /// How many items are taken before that one; nothing once it was given back.
     pub left: Option<u32>,
 }
@@ -25,73 +25,73 @@ impl Returning {
 impl BusEnd for Returning {
     ghost use Rattle.std.specs.Prelude.{◌≡◌, ⊤, [], refl};
     ghost use Rattle.std.proofs.Common.{◌∙◌};
-    ghost use Rattle.sja_link.specs.Deques.{Lies};
+    ghost use Rattle.sja_link.specs.Deques.{Lies, AreAlike, up_on};
 
-    ghost link = { λ s. s.link.link };
+    ghost node = { λ s. s.links.node };
 
-    ghost stands = { λ s l. Lies s.link l };
+    ghost stands = { λ s a l. Lies s.links a l };
 
-    ghost same = { λ a b. b.link.link ≡ a.link.link };
+    ghost same = { λ a b. AreAlike a.links b.links };
 
-    ghost full = { λ s. ⊤ };
+    ghost full = { λ s a. ⊤ };
 
-    ghost dry = { λ s. s.link.up ≡ [] };
+    ghost dry = { λ s a. up_on s.links a ≡ [] };
 
-    fn id(&self) -> LinkId {
-        BusEnd::id(&self.link)
+    fn node(&self) -> u8 {
+        BusEnd::node(&self.links)
     }
 
-    fn put(&mut self, item: Down) -> Result<(), Down> {
+    fn put(&mut self, activation: u64, item: Down) -> Result<(), Down> {
         if self.is_due() {
             return Err(item);
         }
-        self.link.put(item)
+        self.links.put(activation, item)
     }
 
-    fn take(&mut self) -> Option<Up> {
-        self.link.take()
+    fn take(&mut self, activation: u64) -> Option<Up> {
+        self.links.take(activation)
     }
 
-    ghost same_refl = { λ e. refl };
+    ghost same_refl = { λ e. (refl, refl) };
 
-    ghost same_trans = { λ a b c p q. q ∙ p };
+    ghost same_trans = { λ a b c p q. (q.0 ∙ p.0, q.1 ∙ p.1) };
 
-    ghost same_link = { λ a b p. p };
+    ghost same_node = { λ a b p. p.0 };
 }
 
 impl DriverEnd for Returning {
     ghost use Rattle.std.specs.Prelude.{◌≡◌, ⊤, [], refl};
     ghost use Rattle.std.proofs.Common.{◌∙◌};
-    ghost use Rattle.sja_link.specs.Deques.{Lies};
+    ghost use Rattle.sja_link.specs.Deques.{Lies, AreAlike, IsDryDown};
 
-    ghost link = { λ s. s.link.link };
+    ghost node = { λ s. s.links.node };
 
-    ghost stands = { λ s l. Lies s.link l };
+    ghost stands = { λ s a l. Lies s.links a l };
 
-    ghost same = { λ a b. b.link.link ≡ a.link.link };
+    ghost same = { λ a b. AreAlike a.links b.links };
 
-    ghost full = { λ s. ⊤ };
+    ghost full = { λ s a. ⊤ };
 
-    ghost dry = { λ s. s.link.down ≡ [] };
+    ghost dry = { λ s a. IsDryDown s.links a };
 
-    fn id(&self) -> LinkId {
-        DriverEnd::id(&self.link)
+    fn node(&self) -> u8 {
+        DriverEnd::node(&self.links)
     }
 
-    fn get(&mut self) -> Option<Down> {
-        self.link.get()
+    fn get(&mut self, activation: u64) -> Option<Down> {
+        self.links.get(activation)
     }
 
-    fn give(&mut self, item: Up) -> Result<(), Up> {
+    fn give(&mut self, activation: u64, item: Up) -> Result<(), Up> {
         if self.is_due() {
             return Err(item);
         }
-        self.link.give(item)
+        self.links.give(activation, item)
     }
 
-    ghost same_refl = { λ e. refl };
+    ghost same_refl = { λ e. (refl, refl) };
 
-    ghost same_trans = { λ a b c p q. q ∙ p };
+    ghost same_trans = { λ a b c p q. (q.0 ∙ p.0, q.1 ∙ p.1) };
 
-    ghost same_link = { λ a b p. p };
+    ghost same_node = { λ a b p. p.0 };
 }

@@ -94,7 +94,7 @@ fn quiet() -> BusTurn {
 /// Sets what has this name; none where nothing has it.
 fn set(turn: &mut BusTurn, name: &str, value: u8) -> Option<()> {
     match name {
-        "activation" => turn.activation = value,
+        "activation" => turn.activation = u64::from(value),
         "lost" => turn.events.lost = Some(value),
         "rx" => turn.rxerr = value,
         "tx" => turn.txerr = value,

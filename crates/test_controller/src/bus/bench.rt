@@ -102,6 +102,7 @@ impl Bench {
                 | "unread"
                 | "give"
                 | "get"
+                | "left"
                 | "rounds"
                 | "sends"
                 | "severals" => of_driver(told, rig, name, rest),

@@ -13,8 +13,8 @@ use test_words::{address, byte, message_of};
 ///
 /// `start 0` and `stop 0`; `load 0 00 24 60`, a message; `command 0 01`; `read 0 SR TXERR`; `write 0 MOD 03`;
 /// `release 0`; `unread 0`, how many messages it got and didn't release; past the driver `give 1 1 start`, whether an
-/// item is taken on the link of the first activation of node 1, and `get 1 1`, the next one on it; and [`rounds`],
-/// [`sends`] and [`severals`].
+/// item is taken on the link of the first activation of node 1, `get 1 1`, the next one on it, and `left 1 1`, how many
+/// lie on it once the next activation has begun; and [`rounds`], [`sends`] and [`severals`].
 pub fn of_driver(told: &mut RowAnswers, rig: &mut Rig, name: &str, rest: &[&str]) {
     match (name, rest) {
         ("start" | "stop", [node]) => told.made(changed(rig, name, node)),
@@ -97,6 +97,7 @@ fn past(told: &mut RowAnswers, rig: &mut Rig, name: &str, rest: &[&str]) {
             Some(item) => told.say(item),
             None => told.unread(),
         },
+        ("left", [node, activation]) => told.counted(left(rig, node, activation)),
         ("rounds", [count]) => told.counted(rounds(rig, count, false)),
         ("rounds", [count, "several"]) => told.counted(rounds(rig, count, true)),
         ("severals", [calls, bits]) => told.counted(severals(rig, calls, bits)),
@@ -107,14 +108,21 @@ fn past(told: &mut RowAnswers, rig: &mut Rig, name: &str, rest: &[&str]) {
 
 /// Whether an item is taken on a link.
 fn given(rig: &mut Rig, node: &str, activation: &str, item: &str) -> Option<bool> {
-    rig.give(small(node)?, small(activation)?, item_of(item)?)
+    rig.give(small(node)?, u64::from(small(activation)?), item_of(item)?)
 }
 
 /// What a link has next.
 fn got(rig: &mut Rig, node: &str, activation: &str) -> Option<&'static str> {
-    Some(match rig.get(small(node)?, small(activation)?)? {
-        Some(Down::Message(_)) => "message",
-        Some(Down::Off) => "off",
-        None => "none",
-    })
+    Some(
+        match rig.get(small(node)?, u64::from(small(activation)?))? {
+            Some(Down::Message(_)) => "message",
+            Some(Down::Off) => "off",
+            None => "none",
+        },
+    )
+}
+
+/// How many items lie on a link that is no longer in use.
+fn left(rig: &mut Rig, node: &str, activation: &str) -> Option<u32> {
+    rig.left(small(node)?, u64::from(small(activation)?))
 }

@@ -1,13 +1,13 @@
 //! [`Hand`]: the driver of a node in either state.
 
 use can_frame::Message;
-use sja_driver::{Active, AnyDriver, CommandFault, Driver, Reset};
-use sja_link::{DequeLink, DriverEnd, LinkId, ReleaseFault};
+use sja_driver::{AnyDriver, CommandFault, Driver};
+use sja_link::{DequeLinks, DriverEnd, ReleaseFault};
 use sja_regs::{Port, RegFault};
 use std::mem;
 
-/// The driver of a node in either state. Each call is that of the driver with the link of its activation. There is
-/// no answer where the driver has no such call in its state or the link is another one.
+/// The driver of a node in either state. Each call is that of the driver with the links of the node. There is no answer
+/// where the driver has no such call in its state or the links are of another node.
 #[derive(Drop)]
 pub struct Hand {
     node: u8,
@@ -23,15 +23,11 @@ impl Hand {
         }
     }
 
-    /// The number of the link that the next call needs: that of the activation, in reset that of the next one.
-    pub fn link(&self) -> LinkId {
-        let activation = match &self.driver {
-            AnyDriver::InReset(driver) => driver.activation().saturating_add(1),
+    /// How often it was started.
+    pub fn activation(&self) -> u64 {
+        match &self.driver {
+            AnyDriver::InReset(driver) => driver.activation(),
             AnyDriver::InActive(driver) => driver.activation(),
-        };
-        LinkId {
-            node: self.node,
-            activation,
         }
     }
 
@@ -42,28 +38,29 @@ impl Hand {
     }
 
     /// Starts the next activation.
-    pub fn start(&mut self, link: &mut DequeLink, port: &mut Port) -> Option<()> {
+    pub fn start(&mut self, links: &mut DequeLinks, port: &mut Port) -> Option<()> {
         let Hand { node, driver } = self.taken();
         match driver {
-            AnyDriver::InReset(driver) if is_next_link_of(link, &driver, node) =>
-                match driver.start(link, port) {
-                    Ok(driver) => {
-                        let driver = AnyDriver::InActive(driver);
-                        *self = Hand { node, driver };
-                        Some(())
-                    }
-                    Err(_) => None,
-                },
+            AnyDriver::InReset(driver) if are_links_of(links, node) => match driver.start(
+                links, port,
+            ) {
+                Ok(driver) => {
+                    let driver = AnyDriver::InActive(driver);
+                    *self = Hand { node, driver };
+                    Some(())
+                }
+                Err(_) => None,
+            },
             _ => None,
         }
     }
 
     /// Stops the activation.
-    pub fn stop(&mut self, link: &mut DequeLink, port: &mut Port) -> Option<()> {
+    pub fn stop(&mut self, links: &mut DequeLinks, port: &mut Port) -> Option<()> {
         let Hand { node, driver } = self.taken();
         match driver {
-            AnyDriver::InActive(driver) if is_link_of(link, &driver, node) => match driver.stop(
-                link, port,
+            AnyDriver::InActive(driver) if are_links_of(links, node) => match driver.stop(
+                links, port,
             ) {
                 Ok(driver) => {
                     let driver = AnyDriver::InReset(driver);
@@ -79,7 +76,7 @@ impl Hand {
     /// Reads a register: what it was answered.
     pub fn read(
         &mut self,
-        link: &mut DequeLink,
+        links: &mut DequeLinks,
         port: &mut Port,
         addr: u8,
     ) -> Option<Result<u8, RegFault>> {
@@ -91,8 +88,8 @@ impl Hand {
                 *self = Hand { node, driver };
                 Some(value)
             }
-            AnyDriver::InActive(mut driver) if is_link_of(link, &driver, node) => {
-                let value = driver.read(link, port, addr);
+            AnyDriver::InActive(mut driver) if are_links_of(links, node) => {
+                let value = driver.read(links, port, addr);
                 let driver = AnyDriver::InActive(driver);
                 *self = Hand { node, driver };
                 Some(value)
@@ -120,14 +117,14 @@ impl Hand {
     /// Gives a command: what it was answered.
     pub fn command(
         &mut self,
-        link: &mut DequeLink,
+        links: &mut DequeLinks,
         port: &mut Port,
         value: u8,
     ) -> Option<Result<(), CommandFault>> {
         let Hand { node, driver } = self.taken();
         match driver {
-            AnyDriver::InActive(mut driver) if is_link_of(link, &driver, node) => {
-                let done = driver.command(link, port, value);
+            AnyDriver::InActive(mut driver) if are_links_of(links, node) => {
+                let done = driver.command(links, port, value);
                 let driver = AnyDriver::InActive(driver);
                 *self = Hand { node, driver };
                 Some(done)
@@ -137,11 +134,11 @@ impl Hand {
     }
 
     /// Releases the first message: what it was answered.
-    pub fn release(&mut self, link: &mut DequeLink) -> Option<Result<u8, ReleaseFault>> {
+    pub fn release(&mut self, links: &mut DequeLinks) -> Option<Result<u8, ReleaseFault>> {
         let Hand { node, driver } = self.taken();
         match driver {
-            AnyDriver::InActive(mut driver) if is_link_of(link, &driver, node) => {
-                let released = driver.release(link);
+            AnyDriver::InActive(mut driver) if are_links_of(links, node) => {
+                let released = driver.release(links);
                 let driver = AnyDriver::InActive(driver);
                 *self = Hand { node, driver };
                 Some(released)
@@ -159,14 +156,7 @@ impl Hand {
     }
 }
 
-/// Whether this is the link of the next activation of this node's driver.
-fn is_next_link_of(link: &DequeLink, driver: &Driver<Reset>, node: u8) -> bool {
-    let activation = driver.activation().saturating_add(1);
-    DriverEnd::id(link) == LinkId { node, activation }
-}
-
-/// Whether this is the link of the present activation of this node's driver.
-fn is_link_of(link: &DequeLink, driver: &Driver<Active>, node: u8) -> bool {
-    let activation = driver.activation();
-    DriverEnd::id(link) == LinkId { node, activation }
+/// Whether these are the links of this node.
+fn are_links_of(links: &DequeLinks, node: u8) -> bool {
+    DriverEnd::node(links) == node
 }

@@ -1,14 +1,15 @@
-//! Links whose bus's ends do what no lawful link does, and a bus over them.
+//! Bus's ends of links that do what no lawful link does, and a bus over them.
 
 use super::wired_bus::WiredBus;
-use sja_link::{BusEnd, Down, LinkId, Up};
+use sja_link::{BusEnd, Down, Up};
 use sja_script::FaultScript;
 use std::alloc::Global;
 
-/// The end of a link that shows up to two items, and then one more again and again. It gives back its first puts.
+/// The end of a node's links that shows up to two items on the first one, and then one more again and again. It gives
+/// back its first puts there.
 #[derive(Drop)]
 pub struct LawlessEnds {
-    id: LinkId,
+    node: u8,
     first: Option<Up>,
     second: Option<Up>,
     endless: Option<Up>,
@@ -24,9 +25,9 @@ pub struct LawlessEnds {
 
 impl LawlessEnds {
     /// An end that shows nothing, and takes every put.
-    fn silent(id: LinkId) -> LawlessEnds {
+    fn silent(node: u8) -> LawlessEnds {
         LawlessEnds {
-            id,
+            node,
             first: None,
             second: None,
             endless: None,
@@ -42,21 +43,24 @@ impl BusEnd for LawlessEnds {
     ghost use Rattle.std.specs.Prelude.{◌≡◌, ⊤, refl};
     ghost use Rattle.std.proofs.Common.{◌∙◌};
 
-    ghost link = { λ e. e.id };
+    ghost node = { λ e. e.node };
 
-    ghost stands = { λ e l. ⊤ };
+    ghost stands = { λ e a l. ⊤ };
 
-    ghost same = { λ a b. b.id ≡ a.id };
+    ghost same = { λ a b. b.node ≡ a.node };
 
-    ghost full = { λ e. ⊤ };
+    ghost full = { λ e a. ⊤ };
 
-    ghost dry = { λ e. ⊤ };
+    ghost dry = { λ e a. ⊤ };
 
-    fn id(&self) -> LinkId {
-        self.id
+    fn node(&self) -> u8 {
+        self.node
     }
 
-    fn put(&mut self, item: Down) -> Result<(), Down> {
+    fn put(&mut self, activation: u64, item: Down) -> Result<(), Down> {
+        if activation > 1 {
+            return Ok(());
+        }
         self.tries = self.tries.saturating_add(1);
         if self.back > 0 {
             self.back -= 1;
@@ -68,7 +72,10 @@ impl BusEnd for LawlessEnds {
         Ok(())
     }
 
-    fn take(&mut self) -> Option<Up> {
+    fn take(&mut self, activation: u64) -> Option<Up> {
+        if activation > 1 {
+            return None;
+        }
         if let Some(item) = self.first.take() {
             return Some(item);
         }
@@ -85,28 +92,24 @@ impl BusEnd for LawlessEnds {
 
     ghost same_trans = { λ a b c p q. q ∙ p };
 
-    ghost same_link = { λ a b p. p };
+    ghost same_node = { λ a b p. p };
 }
 
 /// A bus of two nodes after power-on over such links, which show nothing at first, for 1,000 bits, with these strikes.
 pub fn over_lawless_ends(alloc: Global, strikes: FaultScript) -> Option<WiredBus<LawlessEnds>> {
     let mut links = Vec::new(alloc);
     for node in 0..2 {
-        for activation in 1..=64 {
-            links
-                .push(LawlessEnds::silent(LinkId { node, activation }))
-                .ok()?;
-        }
+        links.push(LawlessEnds::silent(node)).ok()?;
     }
     WiredBus::new(alloc, 1, 2, 1_000, strikes, links)
 }
 
-/// The end of a node's first link.
-fn first_end(rig: &mut WiredBus<LawlessEnds>, node: u8) -> Option<&mut LawlessEnds> {
-    rig.links.get_mut(64 * usize::from(node))
+/// The end of a node's links.
+fn end_of(rig: &mut WiredBus<LawlessEnds>, node: u8) -> Option<&mut LawlessEnds> {
+    rig.links.get_mut(usize::from(node))
 }
 
-/// The end of a node's first link shows these two items, and then the third without end.
+/// The end of a node's links shows these two items, and then the third without end.
 pub fn shows(
     rig: &mut WiredBus<LawlessEnds>,
     node: u8,
@@ -114,7 +117,7 @@ pub fn shows(
     second: Option<Up>,
     endless: Option<Up>,
 ) -> Option<()> {
-    let end = first_end(rig, node)?;
+    let end = end_of(rig, node)?;
     end.first = first;
     end.second = second;
     end.endless = endless;
@@ -123,17 +126,17 @@ pub fn shows(
 
 /// It waits with the third one until bus-off is put.
 pub fn waits(rig: &mut WiredBus<LawlessEnds>, node: u8) -> Option<()> {
-    first_end(rig, node)?.waits = true;
+    end_of(rig, node)?.waits = true;
     Some(())
 }
 
 /// It gives back so many puts.
 pub fn gives_back(rig: &mut WiredBus<LawlessEnds>, node: u8, puts: u32) -> Option<()> {
-    first_end(rig, node)?.back = puts;
+    end_of(rig, node)?.back = puts;
     Some(())
 }
 
 /// How many puts were tried at it.
 pub fn tries(rig: &mut WiredBus<LawlessEnds>, node: u8) -> Option<u32> {
-    Some(first_end(rig, node)?.tries)
+    Some(end_of(rig, node)?.tries)
 }

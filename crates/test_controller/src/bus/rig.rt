@@ -1,12 +1,12 @@
 //! [`Rig`]: a bus with its links, its ports and its drivers, in one thread.
 
 use super::hand::Hand;
-use super::places::{link_at, port_at};
+use super::places::{links_at, port_at};
 use super::wired_bus::WiredBus;
 use can_frame::Message;
 use sja_bus::{NodeLog, serial_links};
 use sja_driver::CommandFault;
-use sja_link::{DequeLink, Down, DriverEnd, LinkId, ReleaseFault, Up};
+use sja_link::{DequeLinks, Down, DriverEnd, ReleaseFault, Up, most_activations};
 use sja_regs::RegFault;
 use sja_script::FaultScript;
 use std::alloc::Global;
@@ -15,7 +15,7 @@ use std::alloc::Global;
 /// driver has no such call in its state.
 #[derive(Drop)]
 pub struct Rig {
-    pub bus: WiredBus<DequeLink>,
+    pub bus: WiredBus<DequeLinks>,
     hands: Vec<Hand>,
 }
 
@@ -29,30 +29,33 @@ impl Rig {
         strikes: FaultScript,
     ) -> Option<Rig> {
         let hands = hands_of(alloc, nodes)?;
-        let links = serial_links(alloc, nodes).ok()?;
+        let links = serial_links(alloc, nodes, most_activations(version)).ok()?;
         let bus = WiredBus::new(alloc, version, nodes, bits, strikes, links)?;
         Some(Rig { bus, hands })
     }
 
-    /// Starts the controller of a node.
+    /// Starts the controller of a node. Where that isn't its first start, what the drivers gave before is taken first.
     pub fn start(&mut self, node: u8) -> Option<()> {
+        if self.hands.get(usize::from(node))?.activation() > 0 {
+            let _ = self.bus.gather();
+        }
         let hand = self.hands.get_mut(usize::from(node))?;
-        let link = link_at(&mut self.bus.links, hand.link())?;
-        hand.start(link, port_at(&mut self.bus.board, node)?)
+        let links = links_at(&mut self.bus.links, node)?;
+        hand.start(links, port_at(&mut self.bus.board, node)?)
     }
 
     /// Stops it.
     pub fn stop(&mut self, node: u8) -> Option<()> {
         let hand = self.hands.get_mut(usize::from(node))?;
-        let link = link_at(&mut self.bus.links, hand.link())?;
-        hand.stop(link, port_at(&mut self.bus.board, node)?)
+        let links = links_at(&mut self.bus.links, node)?;
+        hand.stop(links, port_at(&mut self.bus.board, node)?)
     }
 
     /// Reads a register of it: what it was answered.
     pub fn read(&mut self, node: u8, addr: u8) -> Option<Result<u8, RegFault>> {
         let hand = self.hands.get_mut(usize::from(node))?;
-        let link = link_at(&mut self.bus.links, hand.link())?;
-        hand.read(link, port_at(&mut self.bus.board, node)?, addr)
+        let links = links_at(&mut self.bus.links, node)?;
+        hand.read(links, port_at(&mut self.bus.board, node)?, addr)
     }
 
     /// Writes a register of it: what it was answered.
@@ -70,15 +73,15 @@ impl Rig {
     /// Gives a command: what it was answered.
     pub fn command(&mut self, node: u8, value: u8) -> Option<Result<(), CommandFault>> {
         let hand = self.hands.get_mut(usize::from(node))?;
-        let link = link_at(&mut self.bus.links, hand.link())?;
-        hand.command(link, port_at(&mut self.bus.board, node)?, value)
+        let links = links_at(&mut self.bus.links, node)?;
+        hand.command(links, port_at(&mut self.bus.board, node)?, value)
     }
 
     /// Releases the first message: what it was answered.
     pub fn release(&mut self, node: u8) -> Option<Result<u8, ReleaseFault>> {
         let hand = self.hands.get_mut(usize::from(node))?;
-        let link = link_at(&mut self.bus.links, hand.link())?;
-        hand.release(link)
+        let links = links_at(&mut self.bus.links, node)?;
+        hand.release(links)
     }
 
     /// How many messages its driver got and didn't release.
@@ -87,15 +90,23 @@ impl Rig {
     }
 
     /// Gives an item on the link of this activation of a node, past its driver. Whether it was taken.
-    pub fn give(&mut self, node: u8, activation: u8, item: Up) -> Option<bool> {
-        let id = LinkId { node, activation };
-        Some(link_at(&mut self.bus.links, id)?.give(item).is_ok())
+    pub fn give(&mut self, node: u8, activation: u64, item: Up) -> Option<bool> {
+        let links = links_at(&mut self.bus.links, node)?;
+        Some(links.give(activation, item).is_ok())
     }
 
     /// Gets the next item on that link, past its driver.
-    pub fn get(&mut self, node: u8, activation: u8) -> Option<Option<Down>> {
-        let id = LinkId { node, activation };
-        Some(link_at(&mut self.bus.links, id)?.get())
+    pub fn get(&mut self, node: u8, activation: u64) -> Option<Option<Down>> {
+        Some(links_at(&mut self.bus.links, node)?.get(activation))
+    }
+
+    /// How many items lie downward on that link, which is no longer in use.
+    pub fn left(&mut self, node: u8, activation: u64) -> Option<u32> {
+        let mut count = 0u32;
+        for item in links_at(&mut self.bus.links, node)?.older() {
+            count = count.saturating_add(u32::from(item.activation == activation));
+        }
+        Some(count)
     }
 
     /// What stands of each node at the end, by node.

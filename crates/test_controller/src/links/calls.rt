@@ -11,8 +11,9 @@ use std::alloc::{AllocError, Global};
 /// Past the ledgers: `put 22*3 off`, items downward, of which the first is 22 messages of three bytes; `give 24*stop 7
 /// start send`, items upward; `take` and `get` an item, `takes` and `gets` all that are shown; and `passes 100`, so
 /// often two messages are put and got. The bus's ledger: `judge 13 3`, `collect`, `off`, `free`. The driver's: `look`,
-/// `window`, `release`, `unread`, `seen`. `returns 2`: the link gives one item back once it took so many. `settle`,
-/// last: what is left on the link.
+/// `window`, `release`, `unread`, `seen`. `returns 2`: the link gives one item back once it took so many. `of 2`: what
+/// goes past the ledgers goes on the link of this activation from now on. `left`: what was left downward on those
+/// before the one in use. `settle`, last: what is left on the first link.
 pub fn does<L: Link>(
     alloc: Global,
     text: &mut String,
@@ -28,6 +29,8 @@ pub fn does<L: Link>(
         "judge" => judges(text, link, rest),
         "passes" => passes(alloc, text, link, rest),
         "returns" => returns(text, link, rest),
+        "of" => of(text, link, rest),
+        "left" => link.left(alloc, text),
         "take" | "takes" => takes(alloc, text, link, name),
         "get" | "gets" => gets(alloc, text, link, name),
         "settle" => Ok(()),
@@ -40,6 +43,17 @@ fn returns<L: Link>(text: &mut String, link: &mut L, rest: &[&str]) -> Result<()
     match count_of(rest) {
         Some(after) => {
             link.returns(after);
+            Ok(())
+        }
+        None => text.push_str(" ?"),
+    }
+}
+
+/// The link of this activation from now on.
+fn of<L: Link>(text: &mut String, link: &mut L, rest: &[&str]) -> Result<(), AllocError> {
+    match count_of(rest) {
+        Some(activation) => {
+            link.of(u64::from(activation));
             Ok(())
         }
         None => text.push_str(" ?"),

@@ -1,11 +1,12 @@
-//! [`Link`]: a link with both its ends and ledgers in one hand.
+//! [`Link`]: the links of a node with both their ends in one hand, and the ledgers of one.
 
 use can_frame::{BufferView, Message};
 use sja_link::{BadCredit, Busy, Down, LostWindow, ReleaseFault, Up, Verdict};
 use std::alloc::{AllocError, Global};
 
-/// A link with both its ends and ledgers in one hand. What the calls of a ledger promise stays out of what a row's
-/// program has to prove. A ledger's call answers nothing where its end is of another link.
+/// The links of a node with both their ends in one hand, and the ledgers of one of them. What the calls of a ledger
+/// promise stays out of what a row's program has to prove. A ledger's call answers nothing where its end is of another
+/// node.
 pub trait Link {
     /// The bus puts an item, past its ledger.
     fn put(&mut self, item: Down) -> Result<(), Down>;
@@ -22,6 +23,12 @@ pub trait Link {
     /// The link gives one item back of those that a ledger puts or gives, once it took so many; where it is one that
     /// can.
     fn returns(&mut self, after: u32);
+
+    /// What is put, taken, got and given past the ledgers from now on is so on the link of this activation.
+    fn of(&mut self, activation: u64);
+
+    /// Writes what was left downward on the links before the one in use, where they are links of two queues.
+    fn left(&self, alloc: Global, text: &mut String) -> Result<(), AllocError>;
 
     /// What the bus's ledger judges of a message.
     fn judge(&mut self, message: Message) -> Option<Result<Verdict, Busy>>;

@@ -1,9 +1,11 @@
-//! [`QueueLink`]: a link of two queues.
+//! [`QueueLink`]: the links of a node, of two queues.
 
+use super::answers::push_said;
 use super::link::Link;
+use super::words::push_down;
 use can_frame::{BufferView, Message};
 use sja_link::{
-    BadCredit, BusEnd, BusLedger, Busy, DequeLink, Down, DriverEnd, DriverLedger, LinkId,
+    BadCredit, BusEnd, BusLedger, Busy, DequeLinks, Down, DriverEnd, DriverLedger, LinkId,
     LostWindow, ReleaseFault, Up, Verdict,
 };
 use std::alloc::{AllocError, Global};
@@ -15,20 +17,22 @@ pub const LINK: LinkId = LinkId {
     activation: 1,
 };
 
-/// A link of two queues with nothing on it, and the ledgers at its ends.
+/// The links of a node of two queues, the activation whose link calls are on, and the ledgers at the ends of the first.
 #[derive(Drop)]
 pub struct QueueLink {
     end: Returning,
+    at: u64,
     bus: BusLedger,
     driver: DriverLedger,
 }
 
 impl QueueLink {
-    /// All of a new activation.
+    /// All of the first activation, for 64 of them.
     pub fn new(alloc: Global) -> Result<QueueLink, AllocError> {
-        let link = DequeLink::new(alloc, LINK).map_err(|_| AllocError)?;
+        let links = DequeLinks::new(alloc, LINK.node, 64).map_err(|_| AllocError)?;
         Ok(QueueLink {
-            end: Returning { link, left: None },
+            end: Returning { links, left: None },
+            at: LINK.activation,
             bus: BusLedger::new(LINK),
             driver: DriverLedger::new(LINK),
         })
@@ -37,41 +41,54 @@ impl QueueLink {
 
 impl Link for QueueLink {
     fn put(&mut self, item: Down) -> Result<(), Down> {
-        self.end.link.put(item)
+        self.end.links.put(self.at, item)
     }
 
     fn take(&mut self) -> Option<Up> {
-        self.end.link.take()
+        self.end.links.take(self.at)
     }
 
     fn give(&mut self, item: Up) -> Result<(), Up> {
-        self.end.link.give(item)
+        self.end.links.give(self.at, item)
     }
 
     fn get(&mut self) -> Option<Down> {
-        self.end.link.get()
+        self.end.links.get(self.at)
     }
 
     fn returns(&mut self, after: u32) {
         self.end.left = Some(after);
     }
 
+    fn of(&mut self, activation: u64) {
+        self.at = activation;
+    }
+
+    fn left(&self, alloc: Global, text: &mut String) -> Result<(), AllocError> {
+        for item in self.end.links.older() {
+            push_said(alloc, text, item.activation)?;
+            text.push_str(":")?;
+            push_down(alloc, text, &item.item)?;
+        }
+        Ok(())
+    }
+
     fn judge(&mut self, message: Message) -> Option<Result<Verdict, Busy>> {
-        if BusEnd::id(&self.end) != self.bus.id() {
+        if BusEnd::node(&self.end) != self.bus.id().node {
             return None;
         }
         Some(self.bus.accept(&mut self.end, message))
     }
 
     fn collect(&mut self) -> Option<Result<Option<Up>, BadCredit>> {
-        if BusEnd::id(&self.end) != self.bus.id() {
+        if BusEnd::node(&self.end) != self.bus.id().node {
             return None;
         }
         Some(self.bus.collect(&mut self.end))
     }
 
     fn off(&mut self) -> Option<Result<(), Busy>> {
-        if BusEnd::id(&self.end) != self.bus.id() {
+        if BusEnd::node(&self.end) != self.bus.id().node {
             return None;
         }
         Some(self.bus.off(&mut self.end))
@@ -82,14 +99,14 @@ impl Link for QueueLink {
     }
 
     fn look(&mut self) -> Option<Result<(), LostWindow>> {
-        if DriverEnd::id(&self.end) != self.driver.id() {
+        if DriverEnd::node(&self.end) != self.driver.id().node {
             return None;
         }
         Some(self.driver.look(&mut self.end))
     }
 
     fn window(&mut self) -> Option<Result<Option<Message>, LostWindow>> {
-        if DriverEnd::id(&self.end) != self.driver.id() {
+        if DriverEnd::node(&self.end) != self.driver.id().node {
             return None;
         }
         match self.driver.window(&mut self.end) {
@@ -100,7 +117,7 @@ impl Link for QueueLink {
     }
 
     fn release(&mut self) -> Option<Result<u8, ReleaseFault>> {
-        if DriverEnd::id(&self.end) != self.driver.id() {
+        if DriverEnd::node(&self.end) != self.driver.id().node {
             return None;
         }
         Some(self.driver.release(&mut self.end))

@@ -1,4 +1,4 @@
-//! [`Rings`]: a link of two rings.
+//! [`Rings`]: the links of a node, each of two rings.
 
 use super::link::Link;
 use super::queue_link::LINK;
@@ -8,25 +8,27 @@ use sja_link::{
     BadCredit, BusEnd, BusLedger, Busy, Down, DriverEnd, DriverLedger, LostWindow, ReleaseFault,
     Up, Verdict,
 };
-use sja_rings::{RingBus, RingDriver, end_bus, end_driver, ring_pair, settle};
+use sja_rings::{NodeBus, NodeDriver, end_bus, end_driver, node_pair, settle};
 use std::alloc::{AllocError, Global};
 
-/// Both ends of one link of two rings, and the ledgers at them.
+/// Both ends of a node's links of two rings, the activation whose link calls are on, and the ledgers of the first.
 #[derive(Drop)]
 pub struct Rings {
-    bus: RingBus,
-    driver: RingDriver,
+    bus: NodeBus,
+    driver: NodeDriver,
+    at: u64,
     judge: BusLedger,
     reader: DriverLedger,
 }
 
 impl Rings {
-    /// The ends of a new activation, with nothing on the link.
+    /// The ends of new links, with nothing on them.
     pub fn new(alloc: Global) -> Result<Rings, AllocError> {
-        let (bus, driver) = ring_pair(alloc, LINK).map_err(|_| AllocError)?;
+        let (bus, driver) = node_pair(alloc, LINK.node).map_err(|_| AllocError)?;
         Ok(Rings {
             bus,
             driver,
+            at: LINK.activation,
             judge: BusLedger::new(LINK),
             reader: DriverLedger::new(LINK),
         })
@@ -36,34 +38,34 @@ impl Rings {
 /// What is judged of a message.
 fn judged(
     ledger: &mut BusLedger,
-    bus: &mut RingBus,
+    bus: &mut NodeBus,
     message: Message,
 ) -> Option<Result<Verdict, Busy>> {
-    if bus.id() != ledger.id() {
+    if bus.node() != ledger.id().node {
         return None;
     }
     Some(ledger.accept(bus, message))
 }
 
 /// What is collected.
-fn collected(ledger: &mut BusLedger, bus: &mut RingBus) -> Option<Result<Option<Up>, BadCredit>> {
-    if bus.id() != ledger.id() {
+fn collected(ledger: &mut BusLedger, bus: &mut NodeBus) -> Option<Result<Option<Up>, BadCredit>> {
+    if bus.node() != ledger.id().node {
         return None;
     }
     Some(ledger.collect(bus))
 }
 
 /// Whether bus-off is put.
-fn off(ledger: &mut BusLedger, bus: &mut RingBus) -> Option<Result<(), Busy>> {
-    if bus.id() != ledger.id() {
+fn off(ledger: &mut BusLedger, bus: &mut NodeBus) -> Option<Result<(), Busy>> {
+    if bus.node() != ledger.id().node {
         return None;
     }
     Some(ledger.off(bus))
 }
 
 /// Whether the window is there.
-fn looked(ledger: &mut DriverLedger, driver: &mut RingDriver) -> Option<Result<(), LostWindow>> {
-    if driver.id() != ledger.id() {
+fn looked(ledger: &mut DriverLedger, driver: &mut NodeDriver) -> Option<Result<(), LostWindow>> {
+    if driver.node() != ledger.id().node {
         return None;
     }
     Some(ledger.look(driver))
@@ -72,9 +74,9 @@ fn looked(ledger: &mut DriverLedger, driver: &mut RingDriver) -> Option<Result<(
 /// What is released.
 fn released(
     ledger: &mut DriverLedger,
-    driver: &mut RingDriver,
+    driver: &mut NodeDriver,
 ) -> Option<Result<u8, ReleaseFault>> {
-    if driver.id() != ledger.id() {
+    if driver.node() != ledger.id().node {
         return None;
     }
     Some(ledger.release(driver))
@@ -82,22 +84,30 @@ fn released(
 
 impl Link for Rings {
     fn put(&mut self, item: Down) -> Result<(), Down> {
-        self.bus.put(item)
+        self.bus.put(self.at, item)
     }
 
     fn take(&mut self) -> Option<Up> {
-        self.bus.take()
+        self.bus.take(self.at)
     }
 
     fn give(&mut self, item: Up) -> Result<(), Up> {
-        self.driver.give(item)
+        self.driver.give(self.at, item)
     }
 
     fn get(&mut self) -> Option<Down> {
-        self.driver.get()
+        self.driver.get(self.at)
     }
 
     fn returns(&mut self, _after: u32) {}
+
+    fn of(&mut self, activation: u64) {
+        self.at = activation;
+    }
+
+    fn left(&self, _alloc: Global, text: &mut String) -> Result<(), AllocError> {
+        text.push_str(" ?")
+    }
 
     fn judge(&mut self, message: Message) -> Option<Result<Verdict, Busy>> {
         judged(&mut self.judge, &mut self.bus, message)
@@ -139,12 +149,12 @@ impl Link for Rings {
     }
 
     fn settle(self, alloc: Global, text: &mut String) -> Result<(), AllocError> {
-        let Rings {
-            bus,
-            driver,
-            judge: _,
-            reader: _,
-        } = self;
+        let Rings { bus, driver, .. } = self;
+        let mut buses = bus.into_rings().into_iter();
+        let mut drivers = driver.into_rings().into_iter();
+        let (Some(bus), Some(driver)) = (buses.next(), drivers.next()) else {
+            return text.push_str(" ?");
+        };
         let Ok(left) = settle(end_bus(bus), end_driver(driver)) else {
             return text.push_str(" unsettled");
         };

@@ -106,7 +106,8 @@ impl Script {
         if steps.len() > 1_000 {
             return Ok(None);
         }
-        driven(alloc, &mut self.port, items, steps, self.apart)
+        let driver = driven(alloc, &mut self.port, items, steps, self.apart)?;
+        Ok(Some(driver))
     }
 }
 

@@ -28,14 +28,16 @@ impl Bench {
     /// Does a call, and writes what it answers, each answer behind a blank.
     ///
     /// `new 1 1000 2`, a session of this version with so many bits and nodes, and `new 1 1000 2 3 4` with room for so
-    /// many steps and turns; `most 3`, the most room; `alike 0 11 76`, of [`alike`]; `plan`, what the plan so far has;
-    /// those that end a session, of [`ended`]; those of [`swept`]; and those of `calls`.
+    /// many steps and turns; `endless 2`, one without an end with so many nodes; `most 3`, the most room; `alike 0 11
+    /// 76`, of [`alike`]; `plan`, what the plan so far has; those that end a session, of [`ended`]; those of [`swept`];
+    /// and those of `calls`.
     pub fn does(&mut self, text: &mut String, words: &[&str]) -> Result<(), AllocError> {
         let [name, rest @ ..] = words else {
             return text.push_str(" ?");
         };
         match *name {
             "new" => self.begins(text, rest),
+            "endless" => self.begins_endless(text, rest),
             "most" => say_asked(self.alloc, text, most(rest)),
             "alike" => say_alike(self.alloc, text, rest),
             "plan" => self.plans(text),
@@ -51,7 +53,27 @@ impl Bench {
         let Some(asked) = asked_of(words) else {
             return text.push_str(" ?");
         };
-        match session_of(self.alloc, asked) {
+        self.takes(text, session_of(self.alloc, asked))
+    }
+
+    /// Makes one without an end.
+    fn begins_endless(&mut self, text: &mut String, words: &[&str]) -> Result<(), AllocError> {
+        let [nodes] = words else {
+            return text.push_str(" ?");
+        };
+        match node_of(nodes) {
+            Some(nodes) => self.takes(text, Session::endless(self.alloc, nodes)),
+            None => text.push_str(" ?"),
+        }
+    }
+
+    /// Takes a session that was made.
+    fn takes(
+        &mut self,
+        text: &mut String,
+        made: Result<Session, SessionFault>,
+    ) -> Result<(), AllocError> {
+        match made {
             Ok(session) => {
                 self.session = Some(session);
                 Ok(())

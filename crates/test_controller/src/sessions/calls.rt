@@ -30,7 +30,7 @@ pub fn called(session: &mut Session, words: &[&str]) -> Option<Answer> {
         return None;
     };
     match *name {
-        "reads" | "starts" | "strikes" => many(session, name, rest),
+        "reads" | "starts" | "restarts" | "strikes" => many(session, name, rest),
         "watch" | "rises" => watched(session, name, rest),
         "irq" | "answer" | "place" => of_node(session, name, rest),
         "to" => runs_to(session, rest),

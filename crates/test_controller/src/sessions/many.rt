@@ -2,6 +2,7 @@
 
 use super::answer::Answer;
 use super::calls::{number, step};
+use super::receiving::received;
 use sja_regs::address::SR;
 use sja_script::{Step, StepAnswer};
 use sja_session::Session;
@@ -17,9 +18,9 @@ enum Bit {
 /// How many of the same calls were done; none where these words are none of them.
 ///
 /// `reads 0 1000`, so many reads of SR by node 0 with one value; `reads 0 1000 before`, each with a bit before it, and
-/// `reads 0 1000 after`, behind it; `starts 1 8`, so many starts of node 1, each with a stop behind it; and `strikes
-/// 600 1000`, so many strikes of node 0 in one bit after the other from bit 600 on, or `strikes 11 16 18`, each but
-/// the first 18 bits after the one before it.
+/// `reads 0 1000 after`, behind it; `starts 1 8`, so many starts of node 1, each with a stop behind it; `restarts 1
+/// 1000`, the same with a message of [`received`] in between; and `strikes 600 1000`, so many strikes of node 0 in one
+/// bit after the other from bit 600 on, or `strikes 11 16 18`, each but the first 18 bits after the one before it.
 pub fn many(session: &mut Session, name: &str, rest: &[&str]) -> Option<Answer> {
     let [first, second, more @ ..] = rest else {
         return None;
@@ -28,6 +29,7 @@ pub fn many(session: &mut Session, name: &str, rest: &[&str]) -> Option<Answer> 
     match name {
         "reads" => reads(session, u8::try_from(first).ok()?, second, bit_of(more)?),
         "starts" => starts(session, u8::try_from(first).ok()?, second),
+        "restarts" => restarts(session, u8::try_from(first).ok()?, second),
         _ => strikes(session, first, second, apart_of(more)?),
     }
 }
@@ -92,6 +94,21 @@ fn starts(session: &mut Session, node: u8, count: u32) -> Option<Answer> {
     let mut done = 0u32;
     for _ in 0..count {
         if !is_done(&step(session, node, Step::Start))
+            || !is_done(&step(session, node, Step::Stop))
+        {
+            break;
+        }
+        done = done.saturating_add(1);
+    }
+    Some(Answer::Count(u64::from(done)))
+}
+
+/// So many starts with a message and a stop behind each; how many were done before one wasn't.
+fn restarts(session: &mut Session, node: u8, count: u32) -> Option<Answer> {
+    let mut done = 0u32;
+    for number in 0..count {
+        if !is_done(&step(session, node, Step::Start))
+            || !received(session, node, number)
             || !is_done(&step(session, node, Step::Stop))
         {
             break;

@@ -7,7 +7,8 @@ use std::io;
 /// How many answers are told.
 const LAST: usize = 12;
 
-/// How many lines of answers stand before the report, the last of them, and the first line of the report.
+/// How many lines of answers stand before the report, the last of them, and the first line of the report, if there is
+/// one.
 pub(crate) fn talk_of(alloc: Global, talk: &str) -> io::Result<String> {
     let (answers, report) = talk.split_once("sja ").unwrap_or((talk, ""));
     let lines = lines_in(answers);
@@ -20,7 +21,9 @@ pub(crate) fn talk_of(alloc: Global, talk: &str) -> io::Result<String> {
             put_line(&mut text, "", line)?;
         }
     }
-    put_line(&mut text, "sja ", report.lines().next().unwrap_or(""))?;
+    if let Some(first) = report.lines().next() {
+        put_line(&mut text, "sja ", first)?;
+    }
     Ok(text)
 }
 

@@ -1,7 +1,7 @@
 //! A start, a request, a release and a stop over a link that gives one of their items back, whichever it is: nothing
 //! has changed then, and the next try is taken.
 
-use super::given::{NODE, link_with, message};
+use super::given::{NODE, links_with, message};
 use can_node::Request;
 use sja_driver::{Active, CommandFault, Driver, Reset, StartFault};
 use sja_link::{BusEnd, Down, DriverEnd, ReleaseFault, Up};
@@ -17,8 +17,8 @@ fn started(end: &mut Returning, port: &mut Port, comes_back: bool) -> Result<Dri
     if comes_back {
         driver = kept_in_reset(driver, end, port)?;
     }
-    if driver.next_link() != Some(DriverEnd::id(end)) {
-        return Err("another link")?;
+    if driver.node() != DriverEnd::node(end) {
+        return Err("another node")?;
     }
     match driver.start(end, port) {
         Ok(driver) => Ok(driver),
@@ -32,8 +32,8 @@ fn kept_in_reset(
     end: &mut Returning,
     port: &mut Port,
 ) -> Result<Driver<Reset>, Fail> {
-    if driver.next_link() != Some(DriverEnd::id(end)) {
-        return Err("another link")?;
+    if driver.node() != DriverEnd::node(end) {
+        return Err("another node")?;
     }
     match driver.start(end, port) {
         Err((driver, StartFault::Busy))
@@ -49,8 +49,8 @@ fn requests(
     port: &mut Port,
     comes_back: bool,
 ) -> Result<(), Fail> {
-    if driver.link() != DriverEnd::id(end) {
-        return Err("another link")?;
+    if driver.link().node != DriverEnd::node(end) {
+        return Err("another node")?;
     }
     if comes_back {
         let before = driver.read(end, port, SR);
@@ -75,8 +75,8 @@ fn releases(
 ) -> Result<(), Fail> {
     let first = message(7)?;
     if comes_back {
-        if driver.link() != DriverEnd::id(end) {
-            return Err("another link")?;
+        if driver.link().node != DriverEnd::node(end) {
+            return Err("another node")?;
         }
         if driver.release(end) != Err(ReleaseFault::Busy) {
             return Err("the credit was taken")?;
@@ -86,8 +86,8 @@ fn releases(
             _ => Err("the window shows something else")?,
         }
     }
-    if driver.link() != DriverEnd::id(end) {
-        return Err("another link")?;
+    if driver.link().node != DriverEnd::node(end) {
+        return Err("another node")?;
     }
     match driver.release(end) {
         Ok(3) => Ok(()),
@@ -103,8 +103,8 @@ fn stops(
     comes_back: bool,
 ) -> Result<(), Fail> {
     let mut driver = driver;
-    if driver.link() != DriverEnd::id(end) {
-        return Err("another link")?;
+    if driver.link().node != DriverEnd::node(end) {
+        return Err("another node")?;
     }
     if comes_back {
         driver = match driver.stop(end, port) {
@@ -125,7 +125,7 @@ fn stops(
 fn done(alloc: Global, back: u32, port: &mut Port) -> Result<Returning, Fail> {
     let put = [Down::Message(message(7)?), Down::Message(message(8)?)];
     let mut end = Returning {
-        link: link_with(alloc, &put)?,
+        links: links_with(alloc, &put)?,
         left: Some(back),
     };
     let mut driver = started(&mut end, port, back == 0)?;
@@ -141,16 +141,19 @@ fn whichever_item_comes_back_each_is_given_once(rt: HostRuntime) -> Result<(), F
         let mut port = Port::new(1);
         let mut end = done(rt.alloc(), back, &mut port)?;
         assert!(rt; end.left == if back < 4 { None } else { Some(0) });
-        assert!(rt; end.link.take() == Some(Up::Start(port.config())), "{back}");
+        assert!(rt;
+            end.links.take(1) == Some(Up::Start(port.config())),
+            "{back}"
+        );
         let request = Request {
             frame: message(0)?.frame(),
             single_shot: false,
             self_receive: false,
         };
-        assert!(rt; end.link.take() == Some(Up::Send(request)), "{back}");
-        assert!(rt; end.link.take() == Some(Up::Credit(3)), "{back}");
+        assert!(rt; end.links.take(1) == Some(Up::Send(request)), "{back}");
+        assert!(rt; end.links.take(1) == Some(Up::Credit(3)), "{back}");
         assert!(rt;
-            end.link.take() == Some(Up::Stop) && end.link.take().is_none(),
+            end.links.take(1) == Some(Up::Stop) && end.links.take(1).is_none(),
             "{back}"
         );
     }

@@ -1,37 +1,37 @@
-//! A lawless link: it shows messages without end.
+//! A lawless end: each of its links shows messages without end.
 
 use can_frame::Message;
-use sja_link::{Down, DriverEnd, LinkId, Up};
+use sja_link::{Down, DriverEnd, Up};
 
 /// An end that shows a message at each get, and takes whatever is given.
 #[derive(Debug, Drop)]
 pub struct Endless {
-    pub id: LinkId,
+    pub node: u8,
 }
 
 impl DriverEnd for Endless {
     ghost use Rattle.std.specs.Prelude.{◌≡◌, ⊤, refl};
     ghost use Rattle.std.proofs.Common.{◌∙◌};
 
-    ghost link = { λ e. e.id };
+    ghost node = { λ e. e.node };
 
-    ghost stands = { λ e l. ⊤ };
+    ghost stands = { λ e a l. ⊤ };
 
-    ghost same = { λ a b. b.id ≡ a.id };
+    ghost same = { λ a b. b.node ≡ a.node };
 
-    ghost full = { λ e. ⊥ };
+    ghost full = { λ e a. ⊥ };
 
-    ghost dry = { λ e. ⊥ };
+    ghost dry = { λ e a. ⊥ };
 
-    fn id(&self) -> LinkId {
-        self.id
+    fn node(&self) -> u8 {
+        self.node
     }
 
-    fn get(&mut self) -> Option<Down> {
+    fn get(&mut self, _activation: u64) -> Option<Down> {
         Some(Down::Message(Message::default()))
     }
 
-    fn give(&mut self, _item: Up) -> Result<(), Up> {
+    fn give(&mut self, _activation: u64, _item: Up) -> Result<(), Up> {
         Ok(())
     }
 
@@ -39,5 +39,5 @@ impl DriverEnd for Endless {
 
     ghost same_trans = { λ a b c p q. q ∙ p };
 
-    ghost same_link = { λ a b p. p };
+    ghost same_node = { λ a b p. p };
 }

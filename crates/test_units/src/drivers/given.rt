@@ -2,7 +2,7 @@
 
 use can_frame::Message;
 use sja_driver::{Active, Driver, Reset};
-use sja_link::{BusEnd, DequeLink, Down, DriverEnd, LinkId};
+use sja_link::{BusEnd, DequeLinks, Down, DriverEnd};
 use sja_regs::Port;
 use std::alloc::Global;
 use std::test::Fail;
@@ -10,53 +10,41 @@ use std::test::Fail;
 /// The node of these tests.
 pub const NODE: u8 = 1;
 
-/// The link of an activation of it, with nothing on it.
-pub fn link_of(alloc: Global, activation: u8) -> Result<DequeLink, Fail> {
-    let id = LinkId {
-        node: NODE,
-        activation,
-    };
-    Ok(DequeLink::new(alloc, id)?)
+/// Its links for so many activations, with nothing on them.
+pub fn links_for(alloc: Global, starts: u64) -> Result<DequeLinks, Fail> {
+    Ok(DequeLinks::new(alloc, NODE, starts)?)
 }
 
-/// The link of its first activation with these items put.
-pub fn link_with(alloc: Global, items: &[Down]) -> Result<DequeLink, Fail> {
-    let mut link = link_of(alloc, 1)?;
+/// Its links with these items put on that of the first activation.
+pub fn links_with(alloc: Global, items: &[Down]) -> Result<DequeLinks, Fail> {
+    let mut links = links_for(alloc, 64)?;
     for item in items {
-        if link.put(item.copy()).is_err() {
+        if links.put(1, item.copy()).is_err() {
             break;
         }
     }
-    let id = LinkId {
-        node: NODE,
-        activation: 1,
-    };
-    if BusEnd::id(&link) == id {
-        Ok(link)
-    } else {
-        link_of(alloc, 1)
-    }
+    Ok(links)
 }
 
-/// The driver after a start over this link; nothing where the link is of another activation, or the start is refused.
+/// The driver after a start over these links; nothing where they are another node's, or the start is refused.
 pub fn started<E: DriverEnd>(
     driver: Driver<Reset>,
     end: &mut E,
     port: &mut Port,
 ) -> Option<Driver<Active>> {
-    if driver.next_link() != Some(end.id()) {
+    if driver.node() != end.node() {
         return None;
     }
     driver.start(end, port).ok()
 }
 
-/// The driver after a stop over this link; nothing where the link is of another activation, or the stop is refused.
+/// The driver after a stop over these links; nothing where they are another node's, or the stop is refused.
 pub fn stopped<E: DriverEnd>(
     driver: Driver<Active>,
     end: &mut E,
     port: &mut Port,
 ) -> Option<Driver<Reset>> {
-    if driver.link() != end.id() {
+    if driver.link().node != end.node() {
         return None;
     }
     driver.stop(end, port).ok()

@@ -9,7 +9,7 @@ use std::test::Fail;
 /// A driver whose log was made for so many steps and as many deeds, after so many steps that were done, each after as
 /// many bits as steps before it.
 fn after(alloc: Global, room: u64, steps: u64) -> Result<LoggedDriver, Fail> {
-    let mut driver = LoggedDriver::new(NODE, WorkLog::new(alloc, room, room)?);
+    let mut driver = LoggedDriver::new(NODE, WorkLog::new(alloc, 3, room, room)?);
     for bits in 0..steps {
         let kept = driver.kept();
         driver.enter(StepAnswer::Done, bits, kept);

@@ -7,7 +7,7 @@ use sja_driver::WorkLog;
 
 #[test]
 fn refused_memory_gives_no_log(rt: HostRuntime) {
-    match WorkLog::new(rt.alloc(), 3, 3) {
+    match WorkLog::new(rt.alloc(), 3, 3, 3) {
         Ok(log) => assert!(rt;
             log.done().is_empty() && log.released().is_empty() && log.left().is_empty()
         ),

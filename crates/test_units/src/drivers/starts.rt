@@ -1,72 +1,65 @@
-//! Starts and stops: eight activations, and 64 from version 3 on, each over its own link.
+//! Starts and stops: eight activations, 64 in version 3, and in a session without an end as many as there may be, each
+//! over its own link.
 
-use super::given::{NODE, link_of, started, stopped};
+use super::given::{NODE, links_for, started, stopped};
 use sja_driver::{Driver, Reset, StartFault};
-use sja_link::{BusEnd, DriverEnd, LinkId, Up};
+use sja_link::{BusEnd, DequeLinks, LinkId, Up, WITHOUT_END, most_activations};
 use sja_regs::Port;
 use sja_regs::address::{ACR0, BUFFER, MOD, RMC};
 use std::alloc::Global;
 use std::test::Fail;
 
-/// The driver after a start and a stop of this activation; none where one isn't taken, or the link has others than
+/// The driver after a start and a stop of this activation; none where one isn't taken, or its link has others than
 /// them.
 fn after_both(
-    alloc: Global,
     driver: Driver<Reset>,
+    links: &mut DequeLinks,
     port: &mut Port,
-    activation: u8,
-) -> Result<Option<Driver<Reset>>, Fail> {
-    let mut link = link_of(alloc, activation)?;
-    let Some(active) = started(driver, &mut link, port) else {
-        return Ok(None);
-    };
+    activation: u64,
+) -> Option<Driver<Reset>> {
+    let active = started(driver, links, port)?;
     let begun = active.activation() == activation;
-    let Some(next) = stopped(active, &mut link, port) else {
-        return Ok(None);
-    };
-    let told = link.take() == Some(Up::Start(port.config())) && link.take() == Some(Up::Stop);
-    if begun && told && link.take().is_none() && next.activation() == activation {
-        Ok(Some(next))
+    let next = stopped(active, links, port)?;
+    let told = links.take(activation) == Some(Up::Start(port.config()))
+        && links.take(activation) == Some(Up::Stop);
+    if begun && told && links.take(activation).is_none() && next.activation() == activation {
+        Some(next)
     } else {
-        Ok(None)
+        None
     }
 }
 
-/// Whether a start after the last one is refused, hands the driver back, and gives nothing.
-fn is_refused(
-    alloc: Global,
-    driver: Driver<Reset>,
-    port: &mut Port,
-    last: u8,
-) -> Result<bool, Fail> {
-    let mut link = link_of(alloc, last.saturating_add(1))?;
-    match driver.next_link() {
-        Some(id) if id != DriverEnd::id(&link) => return Ok(false),
-        _ => {}
+/// The driver after so many starts and stops in this version; none where one isn't taken.
+fn after_starts(links: &mut DequeLinks, port: &mut Port, count: u64) -> Option<Driver<Reset>> {
+    let mut driver = Driver::new(NODE);
+    if driver.activation() != 0 {
+        return None;
     }
-    let refused = match driver.start(&mut link, port) {
+    for activation in 1..=count {
+        driver = after_both(driver, links, port, activation)?;
+    }
+    Some(driver)
+}
+
+/// Whether a start after the last one is refused, hands the driver back, and gives nothing.
+fn is_refused(driver: Driver<Reset>, links: &mut DequeLinks, port: &mut Port, last: u64) -> bool {
+    let refused = match driver.start(links, port) {
         Ok(_) => false,
         Err((driver, fault)) => {
             fault == StartFault::NoActivationLeft && driver.activation() == last
         }
     };
-    Ok(refused && link.take().is_none())
+    refused && links.activation() == last && links.take(last + 1).is_none()
 }
 
 /// Whether so many starts are taken in this version, and none after them.
-fn has_starts(alloc: Global, version: u8, last: u8) -> Result<bool, Fail> {
+fn has_starts(alloc: Global, version: u8, last: u64) -> Result<bool, Fail> {
     let mut port = Port::new(version);
-    let mut driver = Driver::new(NODE);
-    if driver.activation() != 0 {
-        return Ok(false);
+    let mut links = links_for(alloc, last + 1)?;
+    match after_starts(&mut links, &mut port, last) {
+        Some(driver) => Ok(is_refused(driver, &mut links, &mut port, last)),
+        None => Ok(false),
     }
-    for activation in 1..=last {
-        driver = match after_both(alloc, driver, &mut port, activation)? {
-            Some(next) => next,
-            None => return Ok(false),
-        };
-    }
-    is_refused(alloc, driver, &mut port, last)
 }
 
 #[test]
@@ -76,25 +69,33 @@ fn the_ninth_start_is_refused_and_hands_the_driver_back(rt: HostRuntime) -> Resu
 }
 
 #[test]
-fn from_version_3_on_the_65th_start_is_refused(rt: HostRuntime) -> Result<(), Fail> {
+fn in_version_3_the_65th_start_is_refused(rt: HostRuntime) -> Result<(), Fail> {
     assert!(rt; has_starts(rt.alloc(), 3, 64)?);
     Ok(())
 }
 
 #[test]
-fn a_start_asks_for_the_link_of_the_next_activation(rt: HostRuntime) -> Result<(), Fail> {
+fn without_an_end_starts_are_not_used_up(rt: HostRuntime) -> Result<(), Fail> {
+    let mut port = Port::new(WITHOUT_END);
+    let mut links = links_for(rt.alloc(), most_activations(WITHOUT_END))?;
+    assert!(rt; after_starts(&mut links, &mut port, 10_000).is_some());
+    Ok(())
+}
+
+#[test]
+fn a_start_is_over_the_link_of_the_next_activation(rt: HostRuntime) -> Result<(), Fail> {
     let mut port = Port::new(1);
     let driver = Driver::new(NODE);
     let first = LinkId {
         node: NODE,
         activation: 1,
     };
-    assert!(rt; driver.next_link() == Some(first));
-    let mut link = link_of(rt.alloc(), 1)?;
-    let Some(driver) = started(driver, &mut link, &mut port) else {
+    assert!(rt; driver.node() == NODE);
+    let mut links = links_for(rt.alloc(), 8)?;
+    let Some(driver) = started(driver, &mut links, &mut port) else {
         return Err(Fail::new(format_args!("start")));
     };
-    assert!(rt; driver.link() == first && DriverEnd::id(&link) == first);
+    assert!(rt; driver.link() == first && links.activation() == 1);
     assert!(rt; driver.unread().is_empty());
     Ok(())
 }
@@ -107,12 +108,12 @@ fn a_driver_writes_what_its_state_shows(rt: HostRuntime) -> Result<(), Fail> {
     let driver = Driver::new(NODE);
     assert!(rt; driver.write(&mut port, ACR0, 0x12) == Ok(()));
     assert!(rt; driver.read(&mut port, ACR0) == Ok(0x12));
-    let mut link = link_of(rt.alloc(), 1)?;
-    let Some(driver) = started(driver, &mut link, &mut port) else {
+    let mut links = links_for(rt.alloc(), 8)?;
+    let Some(driver) = started(driver, &mut links, &mut port) else {
         return Err(Fail::new(format_args!("start")));
     };
     assert!(rt; driver.write(&mut port, BUFFER, 0x34) == Ok(()));
-    let Some(driver) = stopped(driver, &mut link, &mut port) else {
+    let Some(driver) = stopped(driver, &mut links, &mut port) else {
         return Err(Fail::new(format_args!("stop")));
     };
     assert!(rt; driver.read(&mut port, ACR0) == Ok(0x12));

@@ -1,18 +1,35 @@
-//! The number of a link at both its ends, and what lies on its free places.
+//! The node of links at both their ends, the number of a link at its ledgers, and what lies on its free places.
 
 use super::given::{LINK, message_of};
-use sja_link::{BusEnd, BusLedger, DequeLink, Down, DriverEnd, DriverLedger, LinkId, Up};
+use sja_link::{
+    BusEnd, BusLedger, DequeLinks, Down, DriverEnd, DriverLedger, LinkId, Up, WITHOUT_END,
+    most_activations,
+};
 use std::test::Fail;
 
 #[test]
-fn both_ends_have_the_number_of_the_link(rt: HostRuntime) -> Result<(), Fail> {
-    let link = DequeLink::new(rt.alloc(), LINK)?;
+fn both_ends_are_of_the_node_and_both_ledgers_of_the_link(rt: HostRuntime) -> Result<(), Fail> {
+    let links = DequeLinks::new(rt.alloc(), 1, 64)?;
     let number = LinkId {
         node: 1,
         activation: 1,
     };
-    assert!(rt; BusEnd::id(&link) == number && DriverEnd::id(&link) == LINK);
+    assert!(rt; BusEnd::node(&links) == 1 && DriverEnd::node(&links) == 1);
     assert!(rt; BusLedger::new(LINK).id() == number && DriverLedger::new(LINK).id() == number);
+    Ok(())
+}
+
+/// Each of more activations than are remembered leaves a message on its link.
+#[test]
+fn links_go_on_where_what_was_left_is_forgotten(rt: HostRuntime) -> Result<(), Fail> {
+    let mut links = DequeLinks::new(rt.alloc(), 1, most_activations(WITHOUT_END))?;
+    let message = Down::Message(message_of(3)?);
+    for activation in 1..=5_000 {
+        assert!(rt; links.give(activation, Up::Stop).is_ok());
+        assert!(rt; links.take(activation) == Some(Up::Stop));
+        assert!(rt; links.put(activation, message.copy()).is_ok());
+    }
+    assert!(rt; links.get(4_999).is_none() && links.get(5_000) == Some(message));
     Ok(())
 }
 

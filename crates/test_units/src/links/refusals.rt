@@ -2,15 +2,14 @@
 //!
 //! Each answers well with and without memory, so that each allocation can be made to fail under it.
 
-use super::given::LINK;
 use can_frame::OutOfMemory;
-use sja_link::{DequeLink, Event, Recorder, World};
+use sja_link::{BusEnd, DequeLinks, Event, Recorder, World};
 use test_frames::nodes::PLAIN;
 
 #[test]
-fn refused_memory_gives_no_link(rt: HostRuntime) {
-    match DequeLink::new(rt.alloc(), LINK) {
-        Ok(link) => assert!(rt; sja_link::BusEnd::id(&link) == LINK),
+fn refused_memory_gives_no_links(rt: HostRuntime) {
+    match DequeLinks::new(rt.alloc(), 3, 64) {
+        Ok(links) => assert!(rt; BusEnd::node(&links) == 3 && links.activation() == 1),
         Err(refused) => assert!(rt; refused == OutOfMemory),
     }
 }

@@ -4,9 +4,9 @@ use super::message_fates::MessageFates;
 use super::worker::Worker;
 use can_frame::{Message, OutOfMemory};
 use sja_bus::{Bus, BusFault, NodeLog, SerialBoard, are_links_of};
-use sja_link::{Entry, LinkId, Up};
+use sja_link::{Entry, Up};
 use sja_plan::{Plan, Turn};
-use sja_rings::{RingBus, RingDriver, ring_pair};
+use sja_rings::{NodeBus, node_pair};
 use sja_script::FaultScript;
 use std::alloc::Global;
 use std::test::Fail;
@@ -15,7 +15,7 @@ use std::test::Fail;
 #[derive(Drop)]
 pub struct RingRun {
     bus: Bus,
-    ends: Vec<RingBus>,
+    ends: Vec<NodeBus>,
     board: SerialBoard,
     workers: Vec<Worker>,
     nodes: u8,
@@ -33,9 +33,10 @@ impl RingRun {
         let mut ends = Vec::with_capacity(alloc, 64)?;
         let mut workers = Vec::with_capacity(alloc, 64)?;
         for node in 0..nodes {
-            let own = pairs_of(alloc, node, &mut ends)?;
-            let steps = plan.steps(usize::from(node)).len();
-            workers.push(Worker::new(alloc, node, own, steps.min(1_000) as u16)?)?;
+            let (bus, own) = node_pair(alloc, node)?;
+            ends.push(bus)?;
+            let steps = plan.steps(usize::from(node)).len().min(1_000) as u16;
+            workers.push(Worker::new(alloc, plan.version(), node, own, steps)?)?;
         }
         Ok(RingRun {
             bus: bus_of(alloc, nodes, plan)?,
@@ -122,7 +123,7 @@ impl RingRun {
     }
 
     /// What became of the messages of this activation of a node, once all is done.
-    pub fn told(self, alloc: Global, node: u8, activation: u8) -> Result<MessageFates, Fail> {
+    pub fn told(self, alloc: Global, node: u8, activation: u64) -> Result<MessageFates, Fail> {
         let RingRun { bus, workers, .. } = self;
         let mut workers = workers;
         let place = usize::from(node);
@@ -154,21 +155,10 @@ fn bus_of(alloc: Global, nodes: u8, plan: &Plan) -> Result<Bus, OutOfMemory> {
     )
 }
 
-/// The ends of the 64 links of a node: the bus's go to `ends`.
-fn pairs_of(alloc: Global, node: u8, ends: &mut Vec<RingBus>) -> Result<Vec<RingDriver>, Fail> {
-    let mut own = Vec::with_capacity(alloc, 64)?;
-    for activation in 1..=64 {
-        let (bus, driver) = ring_pair(alloc, LinkId { node, activation })?;
-        ends.push(bus)?;
-        own.push(driver)?;
-    }
-    Ok(own)
-}
-
 /// The messages of an activation that found no room.
-fn overrun_of(alloc: Global, log: &NodeLog, activation: u8) -> Result<Vec<Message>, Fail> {
+fn overrun_of(alloc: Global, log: &NodeLog, activation: u64) -> Result<Vec<Message>, Fail> {
     let mut overrun = Vec::new(alloc);
-    let mut begun = 0u8;
+    let mut begun = 0u64;
     for entry in log.journal.entries() {
         let lost = lost_by(entry, &mut begun);
         if begun == activation {
@@ -179,7 +169,7 @@ fn overrun_of(alloc: Global, log: &NodeLog, activation: u8) -> Result<Vec<Messag
 }
 
 /// The message that an entry says is lost; a start counts as one more activation that has begun.
-fn lost_by(entry: Entry, begun: &mut u8) -> Option<Message> {
+fn lost_by(entry: Entry, begun: &mut u64) -> Option<Message> {
     match entry {
         Entry::Up(Up::Start(_)) => {
             *begun = begun.saturating_add(1);

@@ -9,7 +9,7 @@ use std::test::Fail;
 use test_frames::runs::{RECEIVER_STRUCK, TRANSMITTER_STRUCK};
 
 /// Runs the plan: how many bits, and what became of the messages of an activation of node 1.
-fn told_of(alloc: Global, plan: &Plan, activation: u8) -> Result<(u32, MessageFates), Fail> {
+fn told_of(alloc: Global, plan: &Plan, activation: u64) -> Result<(u32, MessageFates), Fail> {
     let mut run = RingRun::new(alloc, plan)?;
     let bits = run.run(plan)?;
     Ok((bits, run.told(alloc, 1, activation)?))
@@ -28,7 +28,7 @@ fn plan_of(alloc: Global, text: &str) -> Result<Plan, Fail> {
 fn bits_of(
     alloc: Global,
     text: &str,
-    activation: u8,
+    activation: u64,
     released: &[[u8; 3]],
     unread: &[[u8; 3]],
     overrun: &[[u8; 3]],

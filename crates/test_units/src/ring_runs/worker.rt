@@ -1,20 +1,19 @@
-//! [`Worker`]: the driver of a node with its script and its ends of links of two rings.
+//! [`Worker`]: the driver of a node with its script and its end of links of two rings.
 
 use super::message_fates::MessageFates;
 use sja_driver::{LoggedDriver, WorkLog};
 use sja_link::{Down, DriverEnd};
 use sja_regs::Port;
-use sja_rings::RingDriver;
+use sja_rings::NodeDriver;
 use sja_script::Step;
 use std::alloc::Global;
 use std::test::Fail;
-use test_words::are_links_of_node;
 
-/// The driver of a node with its ends of links of two rings, and how many steps of its script are done.
+/// The driver of a node with its end of links of two rings, and how many steps of its script are done.
 #[derive(Drop)]
 pub struct Worker {
     driver: LoggedDriver,
-    ends: Vec<RingDriver>,
+    end: NodeDriver,
     node: u8,
     done: usize,
     /// How many steps its log has room for.
@@ -22,12 +21,18 @@ pub struct Worker {
 }
 
 impl Worker {
-    /// A driver before its first activation, whose script has so many steps.
-    pub fn new(alloc: Global, node: u8, ends: Vec<RingDriver>, steps: u16) -> Result<Worker, Fail> {
-        let log = WorkLog::new(alloc, u64::from(steps), u64::from(steps))?;
+    /// A driver before its first activation, by this version of the rules, whose script has so many steps.
+    pub fn new(
+        alloc: Global,
+        version: u8,
+        node: u8,
+        end: NodeDriver,
+        steps: u16,
+    ) -> Result<Worker, Fail> {
+        let log = WorkLog::new(alloc, version, u64::from(steps), u64::from(steps))?;
         Ok(Worker {
             driver: LoggedDriver::new(node, log),
-            ends,
+            end,
             node,
             done: 0,
             room: usize::from(steps),
@@ -55,10 +60,10 @@ impl Worker {
 
     /// Tries a step, after so many bits. Whether it was done.
     fn step(&mut self, port: &mut Port, step: &Step, bits: u32) -> Result<bool, Fail> {
-        if self.room == 0 || !are_links_of_node(self.ends.as_slice(), self.node) {
+        if self.room == 0 || self.end.node() != self.node {
             return Err("no room, or not the driver's links")?;
         }
-        let Some(answer) = self.driver.step(self.ends.as_mut_slice(), 0, port, step) else {
+        let Some(answer) = self.driver.step(&mut self.end, port, step) else {
             return Ok(false);
         };
         let kept = self.driver.kept();
@@ -74,14 +79,14 @@ impl Worker {
     }
 
     /// What its log and its links tell of this activation.
-    pub fn told(&mut self, alloc: Global, activation: u8) -> Result<MessageFates, Fail> {
+    pub fn told(&mut self, alloc: Global, activation: u64) -> Result<MessageFates, Fail> {
         let mut told = MessageFates::new(alloc);
         for release in self.driver.log().released() {
             if release.activation == activation {
                 told.released.push(release.message.copy())?;
             }
         }
-        let place = usize::from(activation).saturating_sub(1);
+        let place = (activation as usize).saturating_sub(1);
         if let Some(ledger) = self.driver.log().left().get(place) {
             for message in ledger.unread() {
                 told.unread.push(message.copy())?;
@@ -91,12 +96,10 @@ impl Worker {
                 told.unread.push(message.copy())?;
             }
         }
-        if let Some(end) = self.ends.get_mut(place) {
-            // A link carries 22 items down at most.
-            for _ in 0..22 {
-                if let Some(Down::Message(message)) = end.get() {
-                    told.unread.push(message)?;
-                }
+        // A link carries 22 items down at most.
+        for _ in 0..22 {
+            if let Some(Down::Message(message)) = self.end.get(activation) {
+                told.unread.push(message)?;
             }
         }
         Ok(told)

@@ -3,7 +3,7 @@
 
 use super::given::Rings;
 use crate::links::given::LINK;
-use sja_link::{BusEnd, Down, DriverEnd, LinkId, Up};
+use sja_link::{Down, LinkId, Up};
 use sja_rings::{EndedBus, EndedDriver, MissingNote, end_bus, end_driver, settle};
 use std::alloc::Global;
 use std::test::Fail;

@@ -1,12 +1,12 @@
-//! What the tests begin with: the ends of a node's links and a driver at them, and whole runs.
+//! What the tests begin with: both ends of a node's links and a driver at its own, and whole runs.
 
 use super::gates::{Meeting, Open};
 use sja_driver::WorkLog;
-use sja_link::LinkId;
+use sja_link::DriverEnd;
 use sja_log::{End, RunFault, RunLog};
 use sja_plan::{Plan, read_plan};
 use sja_report::put_answer;
-use sja_rings::{RingBus, RingDriver, ring_pair};
+use sja_rings::{NodeBus, NodeDriver, node_pair};
 use sja_script::{Done, Step};
 use sja_threads::{
     DeedsOfNode, Gate, Handover, LockedPort, PortLists, TurnsOfNode, port_of_node, run_threads,
@@ -18,7 +18,6 @@ use std::sync::atomic::AtomicU64;
 use std::sync::{Arc, Mutex, Wait};
 use std::test::Fail;
 use std::thread::Threads;
-use test_words::are_links_of_node;
 
 /// A driver starts, waits for a message, and stops.
 pub const WAITS: [Step; 3] = [Step::Start, Step::Await(1), Step::Stop];
@@ -26,28 +25,9 @@ pub const WAITS: [Step; 3] = [Step::Start, Step::Await(1), Step::Stop];
 /// The most steps of a test's script.
 const MOST: usize = 100;
 
-/// Both ends of the 64 links of node 0.
-pub fn pairs(alloc: Global) -> Result<(Vec<RingBus>, Vec<RingDriver>), Fail> {
-    let mut ends = Vec::with_capacity(alloc, 64)?;
-    let mut links = Vec::with_capacity(alloc, 64)?;
-    for activation in 1..=64 {
-        push_pair(alloc, activation, &mut ends, &mut links)?;
-    }
-    Ok((ends, links))
-}
-
-/// Adds the ends of a link of node 0.
-fn push_pair(
-    alloc: Global,
-    activation: u8,
-    ends: &mut Vec<RingBus>,
-    links: &mut Vec<RingDriver>,
-) -> Result<(), Fail> {
-    let node = 0;
-    let (bus, driver) = ring_pair(alloc, LinkId { node, activation })?;
-    ends.push(bus)?;
-    links.push(driver)?;
-    Ok(())
+/// Both ends of the links of node 0.
+pub fn both_ends(alloc: Global) -> Result<(NodeBus, NodeDriver), Fail> {
+    Ok(node_pair(alloc, 0)?)
 }
 
 /// The port of node 0 in version 1, the list of the turns that it is told, and that of its driver's deeds there.
@@ -57,25 +37,25 @@ pub fn one_port() -> (LockedPort<Brand>, TurnsOfNode<Brand>, DeedsOfNode<Brand>)
     (port, told, DeedsOfNode::new(0, 1, done))
 }
 
-/// The part of node 0's driver at these ends, with a log of its own.
+/// The part of node 0's driver at this end, with a log of its own.
 pub fn drive<G: Gate>(
     rt: &impl Wait,
     alloc: Global,
-    links: Vec<RingDriver>,
+    end: NodeDriver,
     port: &Mutex<LockedPort<Brand>>,
     done: DeedsOfNode<Brand>,
     steps: &[Step],
     gate: G,
-) -> Result<Handover<RingDriver>, Fail> {
-    if steps.len() > MOST || !are_links_of_node(links.as_slice(), 0) {
+) -> Result<Handover<NodeDriver>, Fail> {
+    if steps.len() > MOST || end.node() != 0 {
         return Err("too many steps, or not the driver's links")?;
     }
-    let log = WorkLog::new(alloc, MOST as u64, MOST as u64)?;
-    Ok(work(rt, links, port, done, steps, gate, log))
+    let log = WorkLog::new(alloc, 1, MOST as u64, MOST as u64)?;
+    Ok(work(rt, end, port, done, steps, gate, log))
 }
 
 /// Fails where these aren't the answers of the steps that were done, in the words of a report with `, ` between two.
-pub fn answers(alloc: Global, worked: &Handover<RingDriver>, expected: &str) -> Result<(), Fail> {
+pub fn answers(alloc: Global, worked: &Handover<NodeDriver>, expected: &str) -> Result<(), Fail> {
     are_answers(alloc, worked.driver.log().done(), expected)
 }
 

@@ -1,20 +1,23 @@
-//! Writes of a driver that knows addresses and bytes alone, over a link that gives an item back: the steps from that
+//! Writes of a driver that knows addresses and bytes alone, over links that give an item back: the steps from that
 //! one on are left, as a write of some byte has them too, and the next try does them.
 
 use super::driver_threads::are_answers;
 use can_frame::Message;
 use sja_driver::address::RBSA;
 use sja_driver::{KeptBytes, LoggedDriver, WorkLog, WriteSteps, is_reset, steps_of_write};
-use sja_link::{BusEnd, DequeLink, Down, LinkId};
+use sja_link::{BusEnd, DequeLinks, Down, DriverEnd, most_activations};
 use sja_regs::Port;
 use sja_regs::address::{BUFFER, CMR, MOD, RMC, SR};
 use sja_script::{Done, Step, StepAnswer};
 use std::alloc::Global;
 use std::test::Fail;
-use test_words::{Returning, are_links_of_node};
+use test_words::Returning;
 
 /// The node of the driver.
 const NODE: u8 = 1;
+
+/// The version of its port.
+const VERSION: u8 = 2;
 
 /// A driver without a bus: the answers of its deeds, its kept registers, those of its port, and its links.
 #[derive(Drop)]
@@ -23,34 +26,28 @@ struct Writer {
     done: Vec<Done>,
     kept: KeptBytes,
     port: Port,
-    links: Vec<Returning>,
+    links: Returning,
 }
 
 impl Writer {
-    /// The driver after power-on. Each link has a message of three bytes on it, and the first gives an item back once
-    /// it took so many.
+    /// The driver after power-on. On its first link lies a message of three bytes, and the links give an item back once
+    /// they took so many.
     fn new(alloc: Global, taken: u32) -> Result<Writer, Fail> {
-        let mut links = Vec::with_capacity(alloc, 64)?;
-        for activation in 1..=64u8 {
-            let left = if activation == 1 { Some(taken) } else { None };
-            links.push(link_of(alloc, activation, left)?)?;
-        }
         Ok(Writer {
-            driver: LoggedDriver::new(NODE, WorkLog::new(alloc, 0, 100)?),
+            driver: LoggedDriver::new(NODE, WorkLog::new(alloc, VERSION, 0, 100)?),
             done: Vec::new(alloc),
             kept: KeptBytes::new(),
-            port: Port::new(2),
-            links,
+            port: Port::new(VERSION),
+            links: links_with_message(alloc, taken)?,
         })
     }
 
     /// Tries a deed, and gives its answer; none where it isn't done.
     fn tries(&mut self, step: &Step) -> Result<Option<StepAnswer>, Fail> {
-        if !are_links_of_node(self.links.as_slice(), NODE) {
+        if DriverEnd::node(&self.links) != NODE {
             return Err("not the driver's links")?;
         }
-        let links = self.links.as_mut_slice();
-        let Some(answer) = self.driver.step(links, 0, &mut self.port, step) else {
+        let Some(answer) = self.driver.step(&mut self.links, &mut self.port, step) else {
             return Ok(None);
         };
         self.kept.answered(&answer);
@@ -109,12 +106,14 @@ impl Writer {
     }
 }
 
-/// The link of an activation that gives an item back once so many were taken, with a message on it.
-fn link_of(alloc: Global, activation: u8, left: Option<u32>) -> Result<Returning, Fail> {
-    let node = NODE;
-    let mut link = DequeLink::new(alloc, LinkId { node, activation })?;
-    let _ = link.put(Down::Message(Message::default()));
-    Ok(Returning { link, left })
+/// The links of the node with a message on the first one. They give an item back once so many were taken.
+fn links_with_message(alloc: Global, taken: u32) -> Result<Returning, Fail> {
+    let mut links = DequeLinks::new(alloc, NODE, most_activations(VERSION))?;
+    let _ = links.put(1, Down::Message(Message::default()));
+    Ok(Returning {
+        links,
+        left: Some(taken),
+    })
 }
 
 /// Whether no step of a write is left.

@@ -3,7 +3,7 @@
 use can_frame::Message;
 use sja_bus::Board;
 use sja_link::{BusEnd, Down, Up};
-use sja_rings::RingBus;
+use sja_rings::NodeBus;
 use sja_threads::{LockedPort, TurnBoard, TurnsOfNode};
 use std::alloc::Global;
 use std::marker::Brand;
@@ -31,14 +31,11 @@ impl Part {
         self,
         rt: &R,
         alloc: Global,
-        ends: Vec<RingBus>,
+        end: NodeBus,
         ports: &[Mutex<LockedPort<Brand>>],
         told: TurnsOfNode<Brand>,
     ) -> bool {
-        let mut ends = ends;
-        let Some(end) = ends.get_mut(0) else {
-            return false;
-        };
+        let mut end = end;
         let mut turns = Vec::new(alloc);
         if ports.len() == 0 || turns.push(told).is_err() {
             return false;
@@ -48,21 +45,21 @@ impl Part {
             ports,
             told: turns,
         };
-        let starts = matches!(taken(rt, end), Up::Start(_));
+        let starts = matches!(taken(rt, &mut end), Up::Start(_));
         starts
             && match self {
-                Part::HandOver(message) => hand_over(rt, end, message),
-                Part::Shut => shut(rt, end, board),
-                Part::Warn => warn(rt, end, board),
-                Part::Abort => abort(rt, end, board),
+                Part::HandOver(message) => hand_over(rt, &mut end, message),
+                Part::Shut => shut(rt, &mut end, board),
+                Part::Warn => warn(rt, &mut end, board),
+                Part::Abort => abort(rt, &mut end, board),
             }
     }
 }
 
 /// Waits for the next item that the driver gives.
-fn taken(rt: &impl Wait, end: &mut RingBus) -> Up {
+fn taken(rt: &impl Wait, end: &mut NodeBus) -> Up {
     for _ in rt.forever() {
-        if let Some(item) = end.take() {
+        if let Some(item) = end.take(1) {
             return item;
         }
         yield_now();
@@ -71,22 +68,22 @@ fn taken(rt: &impl Wait, end: &mut RingBus) -> Up {
 }
 
 /// Puts the message, and takes a credit and the stop.
-fn hand_over(rt: &impl Wait, end: &mut RingBus, message: Message) -> bool {
-    let puts = end.put(Down::Message(message)).is_ok();
+fn hand_over(rt: &impl Wait, end: &mut NodeBus, message: Message) -> bool {
+    let puts = end.put(1, Down::Message(message)).is_ok();
     let credits = matches!(taken(rt, end), Up::Credit(_));
     let stops = matches!(taken(rt, end), Up::Stop);
     puts && credits && stops
 }
 
 /// Closes the port, and takes the stop that comes once the wait was given up.
-fn shut<R: Wait>(rt: &R, end: &mut RingBus, board: TurnBoard<Brand, R>) -> bool {
+fn shut<R: Wait>(rt: &R, end: &mut NodeBus, board: TurnBoard<Brand, R>) -> bool {
     let mut board = board;
     board.close(0);
     matches!(taken(rt, end), Up::Stop)
 }
 
 /// Tells the port of a bit in which the receive error counter comes to its limit, and takes the stop.
-fn warn<R: Wait>(rt: &R, end: &mut RingBus, board: TurnBoard<Brand, R>) -> bool {
+fn warn<R: Wait>(rt: &R, end: &mut NodeBus, board: TurnBoard<Brand, R>) -> bool {
     let Some(turn) = turn_of(&["rx=60"]) else {
         return false;
     };
@@ -97,7 +94,7 @@ fn warn<R: Wait>(rt: &R, end: &mut RingBus, board: TurnBoard<Brand, R>) -> bool 
 
 /// Takes a request, finds that an abort stands, closes the port, and takes the stop that comes once the wait was given
 /// up.
-fn abort<R: Wait>(rt: &R, end: &mut RingBus, board: TurnBoard<Brand, R>) -> bool {
+fn abort<R: Wait>(rt: &R, end: &mut NodeBus, board: TurnBoard<Brand, R>) -> bool {
     let mut board = board;
     let sends = matches!(taken(rt, end), Up::Send(_));
     find_abort(rt, &mut board);

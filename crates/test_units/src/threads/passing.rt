@@ -1,10 +1,10 @@
-//! A driver in a thread of its own, and the bus's ends in another.
+//! A driver in a thread of its own, and the bus's end in another.
 
-use super::driver_threads::{GAVE_UP, WAITS, answers, drive, one_port, pairs};
+use super::driver_threads::{GAVE_UP, WAITS, answers, both_ends, drive, one_port};
 use super::gates::Open;
 use super::part::Part;
 use can_frame::Message;
-use sja_rings::RingDriver;
+use sja_rings::NodeDriver;
 use sja_script::Step;
 use sja_threads::{DeedsOfNode, Handover, LockedPort, TurnsOfNode};
 use std::alloc::Global;
@@ -25,17 +25,17 @@ fn both<R: Threads + Wait + Sync>(
     done: DeedsOfNode<Brand>,
     steps: &[Step],
     part: Part,
-) -> Result<(Handover<RingDriver>, bool), Fail> {
+) -> Result<(Handover<NodeDriver>, bool), Fail> {
     let Some(port) = ports.get(0) else {
         return Err("no port")?;
     };
-    let (ends, links) = pairs(alloc)?;
+    let (bus, driver) = both_ends(alloc)?;
     let (worked, passed) = join(
         rt,
-        move || -> Result<Handover<RingDriver>, Fail> {
-            drive(rt, alloc, links, port, done, steps, Open)
+        move || -> Result<Handover<NodeDriver>, Fail> {
+            drive(rt, alloc, driver, port, done, steps, Open)
         },
-        move || -> bool { part.is_done(rt, alloc, ends, ports, told) },
+        move || -> bool { part.is_done(rt, alloc, bus, ports, told) },
     );
     Ok((worked?, passed))
 }
@@ -48,7 +48,7 @@ pub fn handed_back<R: Threads + Wait + Sync>(
     steps: &[Step],
     part: Part,
     expected: &str,
-) -> Result<Handover<RingDriver>, Fail> {
+) -> Result<Handover<NodeDriver>, Fail> {
     let (port, told, done) = one_port();
     let ports = [Mutex::new(port)];
     let (worked, passed) = both(rt, alloc, &ports, told, done, steps, part)?;

@@ -1,6 +1,6 @@
 //! A driver whose links nobody is at the other end of.
 
-use super::driver_threads::{GAVE_UP, WAITS, answers, drive, one_port, pairs};
+use super::driver_threads::{GAVE_UP, WAITS, answers, both_ends, drive, one_port};
 use super::gates::{HoldsOnce, Open, Patience};
 use sja_script::Step;
 use sja_threads::{DeedsOfNode, Gate, LockedPort};
@@ -13,7 +13,7 @@ use std::test::Fail;
 const LOOKS: [Step; 3] = [Step::Start, Step::Window, Step::Stop];
 
 /// Which activation the driver of these steps is in at the end. It fails where a step was answered otherwise, the port
-/// isn't marked as ended, or a link is missing.
+/// isn't marked as ended.
 fn activation_of<G: Gate>(
     rt: &impl Wait,
     alloc: Global,
@@ -22,11 +22,11 @@ fn activation_of<G: Gate>(
     steps: &[Step],
     gate: G,
     expected: &str,
-) -> Result<u8, Fail> {
-    let (_ends, links) = pairs(alloc)?;
-    let worked = drive(rt, alloc, links, port, done, steps, gate)?;
-    if !port.lock(rt).orders().ended || worked.links.len() != 64 {
-        return Err("not ended, or another number of links")?;
+) -> Result<u64, Fail> {
+    let (_bus, end) = both_ends(alloc)?;
+    let worked = drive(rt, alloc, end, port, done, steps, gate)?;
+    if !port.lock(rt).orders().ended {
+        return Err("not ended")?;
     }
     answers(alloc, &worked, expected)?;
     Ok(worked.driver.activation())
