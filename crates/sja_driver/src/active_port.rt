@@ -25,6 +25,7 @@ impl Driver<Active> {
     /// Takes in all that the link shows, and reads the register at an address.
     ///
     /// Error: [`RegFault::NoRegister`] where no register stands that can be read.
+    #[inline(always)]
     pub fn read<E: DriverEnd>(
         &mut self,
         end: &mut E,

@@ -39,6 +39,7 @@ impl KeptBytes {
     }
 
     /// What an address reads as at which no register of the port can be read: 0 where none is kept either.
+    #[inline(always)]
     pub fn read(&self, address: u8) -> u8
         ensures { result ≡ kept_at self.now address }
     {
@@ -54,6 +55,7 @@ impl KeptBytes {
 
     /// Takes what is written to an address, in reset mode (`reset`) or out of it. In reset mode RBSA takes bits 0 to 5,
     /// CDR all but 4 and 7, and the others the whole byte; out of it CDR takes bits 0 to 2, and nothing else is taken.
+    #[inline(always)]
     pub fn write(&mut self, reset: bool, address: u8, value: u8)
         ensures { self.new ≡ kept_after self.old reset address value }
     {
@@ -68,6 +70,7 @@ impl KeptBytes {
     }
 
     /// Moves RBSA on by what a step released, if it released a message.
+    #[inline(always)]
     pub fn answered(&mut self, answer: &StepAnswer)
         ensures { self.new ≡ moved_by_answer self.old answer.now }
     {

@@ -73,6 +73,7 @@ impl LoggedDriver {
     }
 
     /// Enters a step that is done: its answer, after how many bits, and what is kept after it.
+    #[inline(always)]
     pub fn enter(&mut self, answer: StepAnswer, bits: u64, kept: KeptBytes)
         requires { length (done_in (log_of self.old)) < done_room (log_of self.old) }
         ensures done { done_in (log_of self.new)

@@ -24,6 +24,7 @@ use sja_script::{Step, StepAnswer};
 impl LoggedDriver {
     /// Tries a step at the link of the present activation, and logs what came of it. It gives the step's answer; none
     /// where it isn't done, and is to be tried again. The end has to be that of the node.
+    #[inline(always)]
     pub fn step<E: DriverEnd>(
         &mut self,
         end: &mut E,
@@ -81,6 +82,7 @@ impl LoggedDriver {
 }
 
 /// Tries a step other than a stop. Each has a function of its own, which takes the driver in either state.
+#[inline(always)]
 fn try_step<E: DriverEnd>(
     driver: &mut AnyDriver,
     end: &mut E,

@@ -17,6 +17,7 @@ impl KeptBytes {
     /// What an address reads as, where the step `Read` of a typed driver answered this: its value, or else what is kept
     /// there, or 0.
     #[tactic(auto, using(crate::proofs::Bytes::ReadBack::value_is))]
+    #[inline(always)]
     pub fn read_by(&self, address: u8, answer: &StepAnswer) -> u8
         ensures { (p : Registers) (seen : SeenMessages)
             → answer.now ≡ value_answer (or_no_register (value_at p seen (register_at p.mode.rm address)))

@@ -15,6 +15,7 @@ use sja_regs::Port;
 use sja_script::Refusal;
 
 /// Tries a read. Out of reset all that the link shows is taken in first.
+#[inline(always)]
 pub(crate) fn read_step<E: DriverEnd>(
     driver: &mut AnyDriver,
     end: &mut E,
@@ -36,6 +37,7 @@ pub(crate) fn read_step<E: DriverEnd>(
 }
 
 /// Tries a write. No link is touched.
+#[inline(always)]
 pub(crate) fn write_step<E: DriverEnd>(
     driver: &AnyDriver,
     port: &mut Port,

@@ -96,6 +96,7 @@ impl WorkLog {
     }
 
     /// Enters what came of a try of a step that ended no activation, and gives its answer, if the step is done.
+    #[inline(always)]
     pub(crate) fn enter(&mut self, attempt: Attempt) -> Option<StepAnswer>
         requires room { length (releases_in self.old) < release_room self.old }
         requires fits { IsAmong (length (left_in self.old)) (left_room self.old) (tried_of attempt) }
@@ -135,6 +136,7 @@ impl WorkLog {
     }
 
     /// Enters a step that is done, with its answer, after so many bits.
+    #[inline(always)]
     pub(crate) fn push(&mut self, answer: StepAnswer, bits: u64)
         requires { length (done_in self.old) < done_room self.old }
         ensures entered { done_in self.new ≡ done_in self.old ++ record { answer = answer; bits = bits } ∷ [] }

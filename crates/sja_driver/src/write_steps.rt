@@ -46,6 +46,7 @@ pub fn steps_of_write(typed: &LoggedDriver, port: &Port, address: u8, value: u8)
 
 /// Whether a write is the same write of a typed driver, and nothing else: of each address but CMR, and of MOD where RM
 /// is written as it is or a bus-off is asked for.
+#[inline(always)]
 pub fn is_typed_write(port: &Port, address: u8, value: u8) -> bool
     ensures alone { result ≡ true → (out : Bool) → write_steps port.now out address value ≡ Write address value ∷ [] }
     ensures other { result ≡ false → (out : Bool) → write_steps port.now out address value ≢ Write address value ∷ [] }

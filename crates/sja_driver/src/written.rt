@@ -84,6 +84,7 @@ fn command_ignored(port: &Port, value: u8) -> Option<Ignored>
 }
 
 /// Why a write is ignored of which a deed answered so, if it is by that.
+#[inline(always)]
 fn answer_ignored(answer: &StepAnswer) -> Option<Ignored>
     ensures { result ≡ ignored_by_answer answer.now }
 {
