@@ -10,8 +10,7 @@ use super::active::Active;
 use super::any_driver::AnyDriver;
 use super::attempt::{Attempt, passed, refused};
 use super::driver::Driver;
-use super::reset::Reset;
-use super::start_fault::StartFault;
+use super::reset::{Reset, none_left};
 use sja_link::{DriverEnd, DriverLedger, LinkId, Up};
 use sja_regs::Port;
 use sja_script::Refusal;
@@ -29,20 +28,28 @@ pub(crate) fn start_step<E: DriverEnd>(
     ensures same { E.same end.old end.new }
     ensures others { OthersStand E.stands (link_used driver.old) end.old end.new }
 {
-    let AnyDriver::InReset(reset) = driver else {
+    let AnyDriver::InReset(reset) = &*driver else {
         return refused(Refusal::WrongState);
     };
-    let reset = mem::replace(reset, Driver::new(0));
-    let (now, tried) = match reset.start(end, port) {
-        Ok(active) => (AnyDriver::InActive(active), passed()),
-        Err((reset, StartFault::NoActivationLeft)) => (
-            AnyDriver::InReset(reset),
-            refused(Refusal::NoActivationLeft),
-        ),
-        Err((reset, StartFault::Busy)) => (AnyDriver::InReset(reset), Attempt::Unmet),
+    let node = reset.state.node;
+    let activation = reset.state.activation;
+    if none_left(activation, port.version()) {
+        return refused(Refusal::NoActivationLeft);
+    }
+    let id = LinkId {
+        node,
+        activation: activation + 1,
     };
-    *driver = now;
-    tried
+    if end.give(id.activation, Up::Start(port.config())).is_err() {
+        return Attempt::Unmet;
+    }
+    port.leave_reset();
+    *driver = AnyDriver::InActive(Driver {
+        state: Active {
+            ledger: DriverLedger::new(id),
+        },
+    });
+    passed()
 }
 
 /// Tries a stop, and hands out the ledger of the activation that it ended. In reset it is refused.

@@ -57,7 +57,7 @@ impl Driver<Reset> {
     }
 
     /// Starts the next activation over its link: the start is given with the port's configuration, and the port leaves
-    /// reset mode. The end has to be that of its node's links.
+    /// reset mode. The end has to be that of its node's links, or any once all activations were used.
     ///
     /// Errors, the first that holds: [`StartFault::NoActivationLeft`] where as many were used as the port's version
     /// has; [`StartFault::Busy`] where the end gave the start back. This state comes back then, and nothing changed.
@@ -66,7 +66,7 @@ impl Driver<Reset> {
         end: &mut E,
         port: &mut Port,
     ) -> Result<Driver<Active>, (Driver<Reset>, StartFault)>
-        requires { E.node end.old ≡ node_in self }
+        requires { started_in self < most_activations port.old.version → E.node end.old ≡ node_in self }
         ensures same { E.same end.old end.new }
         ensures others { OthersStand E.stands (started_in self + 1) end.old end.new }
         ensures left { OnOk result (started_in self < most_activations port.old.version) }
@@ -127,7 +127,7 @@ impl Driver<Reset> {
 }
 
 /// Whether as many activations were started as a node has in a run of this version.
-fn none_left(started: u64, version: u8) -> bool
+pub(crate) fn none_left(started: u64, version: u8) -> bool
     ensures { result ≡ nat_le (most_activations version) started }
 {
     started >= most_activations(version)

@@ -28,7 +28,7 @@ send-requires c =
     own_node links 0 _ (when_new links 1 (search rules)) (omega arith) c.index_mut.ensures.value
 
 pub start-requires : goal.start-requires
-start-requires c =
+start-requires c = λ left.
     let own : node_in c.new-2.result ≡ 1 = search rules in
     let are = sent (goal.at.start-requires c).After-send in
     own_node _ 1 _ are (omega arith) c.index_mut-3.ensures.value ∙ sym own
