@@ -12,11 +12,11 @@ use std::alloc::Global;
 use std::fmt::{self, Debug, Formatter};
 use std::marker::Model;
 
-/// After so many strikes more those that have passed are forgotten.
+/// Where so many strikes are kept, or twice as many as were left before, those that have passed are forgotten.
 const MANY: usize = 1_024;
 
 /// The strikes that came while a bus ran, of which those that have passed are forgotten from time to time: it has
-/// memory for those that may hit a bit still, and for some more.
+/// memory for those that may hit a bit still, and for as many more or some.
 ///
 /// Contracts see all of them, those forgotten too, and a bit from which on none of these hits.
 #[derive(Drop)]
@@ -70,7 +70,7 @@ impl LaterStrikes {
         self.came = self.came.and_all(&[strike]);
         if self.kept.len() >= self.many {
             forget_passed(&mut self.kept, from);
-            self.many = self.kept.len().saturating_add(MANY);
+            self.many = self.kept.len().saturating_mul(2).max(MANY);
             self.from = from;
         }
         Ok(())
