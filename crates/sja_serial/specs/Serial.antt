@@ -1,6 +1,6 @@
 -- A run in one thread, between two steps (this project's own rule).
 use Rattle.std.specs.Prelude.{◌≡◌, ◌+◌, ◌*◌, ◌/◌, ◌^◌, ◌<◌, ◌≤◌, ℕ, false, None, List, if◌then◌else◌, length, map, min}
-use Rattle.std.specs.Prelude.{slice_index_or}
+use Rattle.std.specs.Prelude.{All, slice_index_or}
 use Rattle.sja_link.specs.declared.entry.Entry.{Entry}
 use Rattle.sja_link.specs.Deques.{Deques}
 use Rattle.sja_wire.specs.Buses.{BusValue, untold_at}
@@ -47,11 +47,20 @@ setup_with version bits strikes steps = record {
   steps = map (most_deeds version) steps;
 }
 
--- what a run may be made for: bits and steps that can be counted, and far more than any run comes to
+-- what a run may be made for: bits and steps that can be counted, and far more than any run comes to; and without an
+-- end for more bits than a plan may have
 pub record IsSetup (setup : Setup) : Type 0 where
   pub bits : (1 ≤ setup.bits) × (setup.bits ≤ 2 ^ 62)
   pub few : (1 ≤ setup.nodes) × (setup.nodes ≤ 8)
   pub nodes : length setup.steps ≡ setup.nodes
+  pub plans : setup.bits ≤ 2000000 → setup.version < 4
+
+-- a run can be made for so many bits, this many at least, of as many nodes as there are of these numbers of steps, with
+-- room for as many
+pub record CanBeMade (least count : ℕ) (sizes : List ℕ) : Type 0 where
+  pub nodes : (1 ≤ length sizes) × (length sizes ≤ 8)
+  pub bits : (least ≤ count) × (count ≤ 2 ^ 62)
+  pub steps : All (λ s. s ≤ 2 ^ 56) sizes
 
 -- what a contract sees of a run: its bus; the drivers, their ports and their links, by node; and the bits that were run
 pub record SerialValue : Type 0 where

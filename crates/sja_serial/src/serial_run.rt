@@ -41,10 +41,10 @@ impl Model for SerialRun {
 }
 
 impl SerialRun {
-    ghost use Rattle.std.specs.Prelude.{◌≡◌, ◌≤◌, ◌^◌, [], All, length, map, replicate, IfOk};
+    ghost use Rattle.std.specs.Prelude.{◌≡◌, ◌<◌, ◌≤◌, [], length, map, replicate, IfOk};
     ghost use Rattle.sja_wire.specs.Buses.{new_bus};
     ghost use Rattle.sja_driver.specs.Accesses.{most_deeds};
-    ghost use Rattle.sja_serial.specs.Serial.{StandsBy, plan_version, setup_with};
+    ghost use Rattle.sja_serial.specs.Serial.{CanBeMade, StandsBy, plan_version, setup_with};
 
     /// A run to which nothing happened, by the rules of this version of plans, where one after the last goes by those
     /// of the last, for so many bits, 1 to 2^62, with these strikes: of as many nodes, 1 to 8, as numbers of steps are
@@ -60,9 +60,7 @@ impl SerialRun {
         steps: Vec<u64>,
         script: FaultScript,
     ) -> Result<SerialRun, OutOfMemory>
-        requires nodes { (1 ≤ length steps.items) × (length steps.items ≤ 8) }
-        requires bits { (1 ≤ bits) × (bits ≤ 2 ^ 62) }
-        requires steps { All (λ s. s ≤ 2 ^ 56) steps.items }
+        requires { CanBeMade 1 bits steps.items }
         ensures stands { IfOk result (λ r. StandsBy (setup_with (plan_version version) bits script steps.items) r
             (replicate (length steps.items) [])) }
         ensures bus { IfOk result (λ r. r.bus ≡ new_bus script bits (length steps.items)
@@ -72,7 +70,7 @@ impl SerialRun {
     }
 
     /// The same by the rules of version 3, but that starts aren't used up, as in a session without an end
-    /// ([`WITHOUT_END`]).
+    /// ([`WITHOUT_END`]), for more bits than a plan may have.
     ///
     /// Error: [`OutOfMemory`] where memory was refused.
     pub fn without_end(
@@ -81,9 +79,7 @@ impl SerialRun {
         steps: Vec<u64>,
         script: FaultScript,
     ) -> Result<SerialRun, OutOfMemory>
-        requires nodes { (1 ≤ length steps.items) × (length steps.items ≤ 8) }
-        requires bits { (1 ≤ bits) × (bits ≤ 2 ^ 62) }
-        requires steps { All (λ s. s ≤ 2 ^ 56) steps.items }
+        requires { CanBeMade 2000001 bits steps.items }
         ensures stands { IfOk result (λ r. StandsBy (setup_with 4 bits script steps.items) r
             (replicate (length steps.items) [])) }
         ensures bus { IfOk result (λ r. r.bus ≡ new_bus script bits (length steps.items)
@@ -102,9 +98,8 @@ impl SerialRun {
         steps: Vec<u64>,
         script: FaultScript,
     ) -> Result<SerialRun, OutOfMemory>
-        requires nodes { (1 ≤ length steps.items) × (length steps.items ≤ 8) }
-        requires bits { (1 ≤ bits) × (bits ≤ 2 ^ 62) }
-        requires steps { All (λ s. s ≤ 2 ^ 56) steps.items }
+        requires may { CanBeMade 1 bits steps.items }
+        requires version { bits ≤ 2000000 → version < 4 }
         ensures stands { IfOk result (λ r. StandsBy (setup_with version bits script steps.items) r
             (replicate (length steps.items) [])) }
         ensures bus { IfOk result (λ r. r.bus ≡ new_bus script bits (length steps.items)

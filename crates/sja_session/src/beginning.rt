@@ -1,9 +1,10 @@
 //! Whether a session may begin, and how its run does.
 
-ghost use Rattle.std.specs.Prelude.{◌≡◌, ◌≢◌, ◌≤◌, ◌^◌, [], All, length, map, replicate, OnOk, IfOk, IfErr};
+ghost use Rattle.std.specs.Prelude.{◌≡◌, ◌≢◌, ◌<◌, [], length, map, replicate, OnOk, IfOk, IfErr};
 ghost use Rattle.sja_wire.specs.Buses.{new_bus};
 ghost use Rattle.sja_driver.specs.Accesses.{most_deeds};
-ghost use Rattle.sja_serial.specs.Serial.{StandsBy, setup_with};
+ghost use Rattle.sja_plan.specs.Limits.{most_bits};
+ghost use Rattle.sja_serial.specs.Serial.{CanBeMade, StandsBy, setup_with};
 ghost use Rattle.sja_session.specs.Beginning.{MayBegin, IsRoom, IsSessionFault};
 ghost use Rattle.sja_session.specs.Inside.Written.{beside_for};
 ghost use Rattle.sja_session.specs.Sessions.{run_version};
@@ -52,7 +53,7 @@ pub(crate) fn check(
 }
 
 /// The run of a session that goes by this plan for so many bits, with room for so many steps of each node, and with
-/// these strikes: one without an end where these are more bits than a plan of its version may have.
+/// these strikes: one without an end where these are more bits than a plan of its version, which is 3, may have.
 ///
 /// Error: [`OutOfMemory`] where memory was refused.
 pub(crate) fn run_for(
@@ -62,9 +63,8 @@ pub(crate) fn run_for(
     rooms: Vec<u64>,
     script: FaultScript,
 ) -> Result<SerialRun, OutOfMemory>
-    requires nodes { (1 ≤ length rooms.items) × (length rooms.items ≤ 8) }
-    requires bits { (1 ≤ bits) × (bits ≤ 2 ^ 62) }
-    requires steps { All (λ s. s ≤ 2 ^ 56) rooms.items }
+    requires may { CanBeMade 1 bits rooms.items }
+    requires rules { most_bits plan.now.version < bits → plan.now.version ≡ 3 }
     ensures stands { IfOk result (λ r.
         StandsBy (setup_with (run_version (record plan.now { bits = bits })) bits script rooms.items) r
         (replicate (length rooms.items) [])) }

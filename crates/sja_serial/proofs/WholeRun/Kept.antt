@@ -47,7 +47,6 @@ counts_few plan limits k d less =
 
 pub plan_kept : (plan : PlanValue) → IsInLimits plan → IsKept (setup_of plan)
 plan_kept plan limits = record {
-  version = let three = limits.version.1 in omega (arith, three);
   bits = let few = limits.bits.1 in let most = bits_most plan.version in omega (arith, few, most);
   steps = λ node less.
       let none : List Step = [] in
@@ -89,7 +88,7 @@ few_activations version plain = by (nat_lt version 3) (nat_lt version 4) (lt-ltb
 pub keeps_links : (setup : Setup) (r : SerialValue) (deeds : List (List Deed)) → StandsAt setup r deeds →
     IsKept setup → (k : ℕ) (l : Deques) → k < length r.links → KeepsAll (slice_index_or r.links k l).room
 keeps_links setup r deeds h kept k l less =
-    let count = h.ends.count in let most = few_activations setup.version kept.version in
+    let count = h.ends.count in let most = few_activations setup.version (h.may.plans kept.bits) in
     let made = h.starts k l (omega (arith, count, less)) in omega (arith, made, most)
 
 -- and so does the log of each of its drivers
@@ -109,7 +108,7 @@ keeps_logs setup r accesses h kept k d less =
     let made = (h.nodes k d (at_power_on 1) there).room in
     let own = kept.steps k there in let few = few_steps setup.version (slice_index_or setup.steps k 0) in
     let deeds = node.made_for in let activations = node.activations in
-    let most = few_activations setup.version kept.version in record {
+    let most = few_activations setup.version (h.stands.may.plans kept.bits) in record {
       done = omega (arith, made, few, own);
       releases = omega (arith, deeds, own);
       left = omega (arith, activations, most);

@@ -13,7 +13,7 @@ pub stands_with : (setup : Setup) (strikes : List Strike) (r : SerialValue) (dee
     StandsAt setup r deeds →
     StandsAt (record setup { strikes = strikes }) (record r { bus = record r.bus { script = strikes } }) deeds
 stands_with setup strikes r deeds h = record {
-  may = record { bits = h.may.bits; few = h.may.few; nodes = h.may.nodes };
+  may = record { bits = h.may.bits; few = h.may.few; nodes = h.may.nodes; plans = h.may.plans };
   right = h.right;
   script = refl;
   all_bits = h.all_bits;

@@ -1,6 +1,5 @@
 -- The end of a session.
-use Rattle.std.proofs.Common.{◌≡◌, ◌≤◌, ℕ, List, [], length, map, take, refl, sym, ap, ◌∙◌, subst}
-use Rattle.std.proofs.Common.{arith}
+use Rattle.std.proofs.Common.{◌≡◌, ℕ, List, [], length, map, take, refl, sym, ap, ◌∙◌, subst, arith}
 use Rattle.std.specs.Prelude.{slice_index_or}
 use Rattle.std.proofs.lemmas.List.{length-map, get_or-map, get_or-replicate}
 use Rattle.std.proofs.Math.Seq.{take-length}
@@ -43,9 +42,8 @@ may_be_written s accesses end h = record {
 
 -- where it has an end its run keeps all that happens in it
 pub kept_by : (s : SessionValue) (sizes : List ℕ) (capacity : ℕ) → IsSession s sizes capacity → HasEnd s →
-    s.plan.version ≤ 3 → IsKept (setup_by s)
-kept_by s sizes capacity inv end known = record {
-  version = let own = run_as_plan s.plan end in omega (arith, own, known);
+    IsKept (setup_by s)
+kept_by s sizes capacity inv end = record {
   bits = let most = bits_most s.plan.version in omega (arith, end, most);
   steps = λ node less.
       let version = run_version s.plan in

@@ -57,7 +57,7 @@ fn a_run_of_a_version_after_the_last_has_the_starts_of_the_last(
 #[test]
 fn a_run_without_an_end_has_starts_that_are_not_used_up(rt: HostRuntime) -> Result<(), Fail> {
     let steps = steps_of_one(rt.alloc())?;
-    let mut run = SerialRun::without_end(rt.alloc(), 200, steps, no_strikes(rt.alloc()))?;
+    let mut run = SerialRun::without_end(rt.alloc(), 1 << 62, steps, no_strikes(rt.alloc()))?;
     assert!(rt; starts(&mut run) == TRIED);
     assert!(rt; answered(&mut run, &Step::Start) == Some(StepAnswer::Done));
     Ok(())

@@ -31,19 +31,17 @@ of_plan plan version bits steps = λ i. let s : Setup = record {
   steps = map (most_deeds (version i)) (steps i);
 } in s
 
-pub new-requires-clause-nodes : goal.new-requires-clause-nodes
-new-requires-clause-nodes c = let n = c.in_ok-steps.ensures.count in let l = c.limits.ensures.nodes in
-    let least = l.0 in let most = l.1 in (omega (arith, n, least), omega (arith, n, most))
-
-pub new-requires-clause-bits : goal.new-requires-clause-bits
-new-requires-clause-bits c =
-    let b = c.bits.ensures.value in let l = c.limits.ensures.bits in let least = l.0 in let most = l.1 in
-    let all = bits_most c.args.plan.now.version in (omega (arith, b, least), omega (arith, b, most, all))
-
-pub new-requires-clause-steps : goal.new-requires-clause-steps
-new-requires-clause-steps c =
-    subst (λ (l : List ℕ). All (λ (n : ℕ). n ≤ 2 ^ 56) l) (sym c.in_ok-steps.ensures.value)
-    (counts_few c.args.plan.now c.limits.ensures)
+pub new-requires : goal.new-requires
+new-requires c =
+    let n = c.in_ok-steps.ensures.count in let l = c.limits.ensures in let b = c.bits.ensures.value in
+    let nodes = l.nodes in let fewest = nodes.0 in let many = nodes.1 in
+    let bits = l.bits in let least = bits.0 in let most = bits.1 in
+    let all = bits_most c.args.plan.now.version in record {
+      nodes = (omega (arith, n, fewest), omega (arith, n, many));
+      bits = (omega (arith, b, least), omega (arith, b, most, all));
+      steps = subst (λ (l : List ℕ). All (λ (n : ℕ). n ≤ 2 ^ 56) l) (sym c.in_ok-steps.ensures.value)
+          (counts_few c.args.plan.now l);
+    }
 
 -- its version is one of plans
 version_is : (c : After-bits) → plan_version c.version.result ≡ c.args.plan.now.version

@@ -17,7 +17,7 @@ new-requires-2-clause-steps c =
     let deeds : c.in_ok-deeds.deeds.items ≡ map (most_deeds version) asked =
     c.in_ok-deeds.ensures ∙ ap (map (most_deeds version)) c.as_slice.ensures.value in
     subst (λ (l : List ℕ). All (λ (n : ℕ). n ≤ 2 ^ 58) l) (sym deeds)
-    (deeds_counted version asked c.requires.steps)
+    (deeds_counted version asked c.requires.may.steps)
 
 pub serial_links-requires : goal.serial_links-requires
 serial_links-requires c =
@@ -32,7 +32,12 @@ returns-clause-stands c = let steps = c.as_slice.ensures.value in
     let drivers = c.in_ok-drivers.drivers.items in
     stands_by_new (setup_with version c.args.bits c.args.script asked) asked c.in_ok-bus.bus
     drivers c.in_ok-board.board.ports.items c.in_ok-links.links.items
-    (record { bits = c.requires.bits; few = c.requires.nodes; nodes = length-map asked (most_deeds version) })
+    (record {
+      bits = c.requires.may.bits;
+      few = c.requires.may.nodes;
+      nodes = length-map asked (most_deeds version);
+      plans = c.requires.version;
+    })
     refl refl (c.in_ok-bus.ensures
     ∙ (λ i. new_bus c.args.script c.args.bits (length (deeds i)) (deeds i))
     ∙ ap (λ n. new_bus c.args.script c.args.bits n (map (most_deeds version) asked)) (length-map asked

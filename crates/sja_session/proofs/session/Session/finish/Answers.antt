@@ -1,4 +1,4 @@
-use Rattle.std.proofs.Common.{◌≡◌, ◌∙◌, List, sym, ap, subst, arith}
+use Rattle.std.proofs.Common.{◌≡◌, ◌∙◌, List, sym, ap, subst}
 use Rattle.sja_driver.specs.Accesses.{Access}
 use Rattle.sja_log.specs.Runs.{IsSerialRun}
 use Rattle.sja_plan.specs.Plan.{PlanValue}
@@ -17,13 +17,10 @@ use Rattle.sja_session.proofs.session.Session.finish.Goals as goal
 pub finish-requires : goal.finish-requires
 finish-requires c =
     let inv = c.self.invariant.0 in
-    let end = subst (λ (x : SessionValue). HasEnd x) (sym c.self.view_is) c.in_ok-plan.ensures.end in
-    let own = ap (λ (p : PlanValue). p.version)
-    (c.in_ok-plan.ensures.plan ∙ ap written (sym c.self.view_is)) in
-    let most = c.limits.ensures.version.1 in (
+    let end = subst (λ (x : SessionValue). HasEnd x) (sym c.self.view_is) c.in_ok-plan.ensures.end in (
       (inv.accesses, by_own inv.at.stands),
       subst (λ (s : Setup). IsKept s) (setup_is inv.at.stands.stands)
-          (kept_by _ _ _ inv end (omega (arith, own, most))),
+          (kept_by _ _ _ inv end),
     )
 
 -- ---- the session as it was

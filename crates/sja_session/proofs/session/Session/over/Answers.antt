@@ -37,10 +37,13 @@ run_for-requires c =
     let n = ap (λ (l : List ℕ). length l) sizes ∙ length-replicate (length c.args.plan.nodes) c.args.room.steps in
     let few = c.limits.ensures.nodes in let least = few.0 in let most = few.1 in
     let may = c.requires.may in record {
-      nodes = (omega (arith, n, least), omega (arith, n, most));
-      bits = (one_bit c.args.plan c.args.bits c.args.room may c.limits.ensures.bits.0, may.few);
-      steps = subst (λ (l : List ℕ). All (λ (s : ℕ). s ≤ 2 ^ 56) l) (sym sizes)
-          (few_each (length c.args.plan.nodes) c.args.room.steps may.counted);
+      may = record {
+        nodes = (omega (arith, n, least), omega (arith, n, most));
+        bits = (one_bit c.args.plan c.args.bits c.args.room may c.limits.ensures.bits.0, may.few);
+        steps = subst (λ (l : List ℕ). All (λ (s : ℕ). s ≤ 2 ^ 56) l) (sym sizes)
+            (few_each (length c.args.plan.nodes) c.args.room.steps may.counted);
+      };
+      rules = rules_first c.args.plan c.args.bits c.args.room may c.limits.ensures.bits.1;
     }
 
 pub invariant_of-result : goal.invariant_of-result
