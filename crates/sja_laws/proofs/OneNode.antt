@@ -10,3 +10,4 @@ pub mod Asked
 pub mod Together
 pub mod Stuck
 pub mod Starts
+pub mod Activations

@@ -1,3 +1,4 @@
+pub mod Activations
 pub mod Promised
 pub mod GoingOn
 pub mod Rounds

@@ -4,5 +4,6 @@ pub mod StaysDue
 pub mod Awaited
 pub mod GoesOn
 pub mod Stops
+pub mod OnRings
 pub mod Told
 pub mod Closed

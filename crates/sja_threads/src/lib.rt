@@ -56,7 +56,8 @@ pub use driver_thread::work;
 pub use gate::Gate;
 pub use handover::Handover;
 pub use laws::{
-    a_driver_in_reset_finds_reset_mode, a_step_is_one_deed_before_version_3, an_abort_was_commanded,
+    a_bus_stops_on_one_of_64_links, a_driver_in_reset_finds_reset_mode,
+    a_step_is_one_deed_before_version_3, an_abort_was_commanded,
 };
 pub use locked_port::LockedPort;
 pub use notice::Notice;

@@ -144,8 +144,7 @@ fn run_drivers<N: Order + Send + Sync, G: Gate, R: Threads + Wait + Sync>(
     requires parts { AreRunParts plan.now parts }
     requires order { AreOrdered N.version N.deeds plan.now.version parts.starts.items }
     requires told { (length told.items ≡ length plan.now.nodes) × NoneTold told.items }
-    requires ports { length ports.now ≡ length plan.now.nodes }
-    requires few { length plan.now.nodes ≤ 8 }
+    requires ports { (length ports.now ≡ length plan.now.nodes) × (length plan.now.nodes ≤ 8) }
     ensures ending { IfOk result (λ r. IsEnding (AtNode (IsLet G.QUITS G.answered)
         (map (λ s. s.gate) parts.starts.items)) plan.now r.0) }
     ensures order { IfOk result (λ r. IsEndingInOrder N.deeds plan.now r.0 r.1.items) }
@@ -158,8 +157,7 @@ fn run_drivers<N: Order + Send + Sync, G: Gate, R: Threads + Wait + Sync>(
             requires parts { AreRunParts plan.now parts }
             requires order { AreOrdered N.version N.deeds plan.now.version parts.starts.items }
             requires told { (length told.items ≡ length plan.now.nodes) × NoneTold told.items }
-            requires ports { length ports.now ≡ length plan.now.nodes }
-            requires few { length plan.now.nodes ≤ 8 }
+            requires ports { (length ports.now ≡ length plan.now.nodes) × (length plan.now.nodes ≤ 8) }
             ensures ending { IfOk result (λ r. IsEnding (AtNode (IsLet G.QUITS G.answered)
                 (map (λ s. s.gate) parts.starts.items)) plan.entry.now r.0) }
             ensures order { IfOk result (λ r. IsEndingInOrder N.deeds plan.entry.now r.0 r.1.items) }

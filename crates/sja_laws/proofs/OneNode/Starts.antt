@@ -31,9 +31,12 @@ use Rattle.sja_log.proofs.Trace.AccessDeeds.{deeds_push}
 -- ---- starts among steps
 
 -- a start counts as one, whatever it is answered
+abbrev is_start : Step → Bool
+is_start Start = true
+is_start other = false
+
 abbrev starts_by : Step → ℕ
-starts_by Start = 1
-starts_by other = 0
+starts_by s = cond (is_start s) 1 0
 
 -- how many of these are
 abbrev starts_in : List Step → ℕ
@@ -45,18 +48,11 @@ tried_by d = starts_by d.step
 
 -- no step is more than one
 one_at_most : (s : Step) → starts_by s ≤ 1
-one_at_most Start = omega arith
-one_at_most Stop = omega arith
-one_at_most Window = omega arith
-one_at_most Release = omega arith
-one_at_most (Read address) = omega arith
-one_at_most (Write address value) = omega arith
-one_at_most (Load m) = omega arith
-one_at_most (Command value) = omega arith
-one_at_most (Await count) = omega arith
-one_at_most Sent = omega arith
-one_at_most Interrupt = omega arith
-one_at_most (At bits) = omega arith
+one_at_most s = by (is_start s)
+  where
+    by : (b : Bool) → cond b 1 0 ≤ 1
+    by true = omega arith
+    by false = omega arith
 
 -- a step that opens an activation is one
 opened_started : (s : Step) (r : StepAnswer) → opened s r ≤ starts_by s

@@ -14,13 +14,10 @@ scoped-requires g c =
             (
               r.ports,
               (
-                r.few,
-                (
-                  search rules,
-                  search rules,
-                  search rules,
-                  search rules,
-                ),
+                search rules,
+                search rules,
+                search rules,
+                search rules,
               ),
             ),
           ),
