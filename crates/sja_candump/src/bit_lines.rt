@@ -22,8 +22,8 @@ pub(crate) fn put_node(
 ) -> Result<(), AllocError>
     ensures { OnOk result (string_bytes text.new ≡ string_bytes text.old ++ hand_lines errors bit node hand.now) }
 {
-    if let Some(short) = &hand.short {
-        return put_restart(text, errors, bit, node, hand.left, short.counters);
+    if let Some(before) = hand.passed {
+        return put_restart(text, errors, bit, node, hand.left, before);
     }
     match hand.bits.bit() {
         Some(happening) => put_happening(text, errors, bit, node, hand.left, happening),

@@ -2,7 +2,6 @@
 
 use can_node::Counters;
 use sja_log::NodeRun;
-use sja_replay::ShortBit;
 use sja_trace::{NodeBits, counters_of};
 
 /// The bits of a node, one after another, of which one is at hand.
@@ -10,16 +9,16 @@ use sja_trace::{NodeBits, counters_of};
 pub(crate) struct DriverBits<'a> {
     /// The error counters as the bits before the one at hand left them.
     pub(crate) left: Counters,
-    /// The bit at hand in short, where it was passed so.
-    pub(crate) short: Option<ShortBit>,
-    /// Its bits, one at hand where it isn't so.
+    /// The error counters before the bit at hand and after it, where it was passed in short.
+    pub(crate) passed: Option<Counters>,
+    /// Its bits, one at hand where it wasn't.
     pub(crate) bits: NodeBits<'a>,
 }
 
 impl<'a> DriverBits<'a> {
-    ghost use Rattle.std.specs.Prelude.{◌<◌, ◌≤◌, []};
+    ghost use Rattle.std.specs.Prelude.{◌≡◌, ◌<◌, ◌≤◌, []};
     ghost use Rattle.sja_trace.specs.Telling.{IsUnderway};
-    ghost use Rattle.sja_candump.specs.Inside.Coming.{HasGone, GoesOn, GoesToEnd, MayStay, RestsBy};
+    ghost use Rattle.sja_candump.specs.Inside.Coming.{HasGone, GoesOn, GoesToEnd, MayStay, RestsBy, now_left};
 
     /// Before the first bit.
     pub(crate) fn of(node: &'a NodeRun) -> DriverBits<'a>
@@ -27,7 +26,7 @@ impl<'a> DriverBits<'a> {
     {
         DriverBits {
             left: counters_of(&None, &None),
-            short: None,
+            passed: None,
             bits: NodeBits::of(node.journal()),
         }
     }
@@ -36,10 +35,23 @@ impl<'a> DriverBits<'a> {
     pub(crate) fn pass_on(&mut self)
         ensures { GoesOn self.old self.new }
     {
-        self.left = counters_of(&self.short, self.bits.bit());
-        self.short = self.bits.pass();
-        if self.short.is_none() {
-            self.bits.go_on();
+        self.left = self.now_left();
+        match self.bits.pass() {
+            Some(short) => self.passed = Some(short.counters),
+            None => {
+                self.passed = None;
+                self.bits.go_on();
+            }
+        }
+    }
+
+    /// The error counters as the bits so far left them.
+    fn now_left(&self) -> Counters
+        ensures { result ≡ now_left self.now }
+    {
+        match self.passed {
+            Some(counters) => counters,
+            None => counters_of(&None, self.bits.bit()),
         }
     }
 
@@ -49,7 +61,7 @@ impl<'a> DriverBits<'a> {
         ensures most { result ≤ most }
         ensures rests { 0 < result → MayStay result self.now }
     {
-        if counters_of(&self.short, self.bits.bit()).off {
+        if self.now_left().off {
             return 0;
         }
         self.bits.rest_for(most)
@@ -61,7 +73,7 @@ impl<'a> DriverBits<'a> {
         ensures { RestsBy count self.old self.new }
     {
         let short = self.bits.rest(count);
-        self.short = Some(short);
+        self.passed = Some(short.counters);
     }
 
     /// Goes on to the end of the journal.

@@ -8,18 +8,17 @@ use Rattle.can_node.specs.declared.counters.Counters.{Counters}
 use Rattle.lemmas.specs.Related.{EachRelated}
 use Rattle.sja_link.specs.declared.entry.Entry.{Entry}
 use Rattle.sja_replay.specs.declared.happening.Happening.{Happening}
-use Rattle.sja_replay.specs.declared.short_bit.ShortBit.{ShortBit}
 use Rattle.sja_trace.proofs.Stories.Rested.{rests_fewer}
 use Rattle.sja_trace.proofs.Stories.Telling.{before_same}
 use Rattle.sja_trace.specs.BitEvents.{counters_after}
 use Rattle.sja_trace.specs.Telling.{HaveSame, at_hand}
 use Rattle.sja_trace.specs.TraceText.{counters_left}
-use Rattle.sja_trace.specs.Inside.Hands.{RestedMore, counters_of}
+use Rattle.sja_trace.specs.Inside.Hands.{RestedMore}
 use Rattle.sja_candump.proofs.SoFar.Silent.{silent_lines}
 use Rattle.sja_candump.specs.BitErrors.{is_restart}
 use Rattle.sja_candump.specs.CandumpText.{story_lines}
 use Rattle.sja_candump.specs.declared.driver_bits.DriverBits.{DriverBits}
-use Rattle.sja_candump.specs.Inside.Coming.{HasGone, MayStay, Stays, RestsBy, now_left}
+use Rattle.sja_candump.specs.Inside.Coming.{HasGone, MayStay, Stays, RestsBy, left_by, now_left}
 
 -- for fewer bits too
 stay_fewer : (n m : ℕ) (b : DriverBits) → MayStay n b → 1 ≤ m → m ≤ n → MayStay m b
@@ -89,7 +88,7 @@ module _ (n : ℕ) (old new : DriverBits) (w : Stays n old new) (journal : List 
   left_last : now_left new ≡ counters_left (bits + n) rested.told
   left_last =
       let some = w.may.some in let next : bits + n ≡ suc (bits + n - 1) = omega (arith, some) in
-      ap (λ (s : Option ShortBit). counters_of s (at_hand new.bits)) w.short_is
+      ap (λ (k : Option Counters). left_by k (at_hand new.bits)) w.passed
       ∙ sym (ap (λ (j : ℕ). counters_left j rested.told) next
       ∙ left_then (bits + n - 1) (omega (arith, some)) (omega (arith, some)))
 

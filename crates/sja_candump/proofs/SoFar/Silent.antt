@@ -9,6 +9,8 @@ use Rattle.sja_replay.specs.declared.fate.Fate.{Fate}
 use Rattle.sja_replay.specs.declared.happening.Happening.{Happening}
 use Rattle.sja_replay.specs.declared.short_bit.ShortBit.{ShortBit}
 use Rattle.sja_replay.specs.Short.{IsInShort}
+use Rattle.sja_trace.proofs.BitSaid.Shorts.{hand_counters}
+use Rattle.sja_trace.specs.BitEvents.{counters_after}
 use Rattle.sja_trace.specs.TraceText.{line_where}
 use Rattle.sja_trace.specs.Inside.Hands.{IsBit, IsHand}
 use Rattle.sja_candump.specs.ControllerStates.{state_by, new_state}
@@ -18,7 +20,7 @@ use Rattle.sja_candump.specs.declared.error_frame.ErrorFrame.{ErrorFrame}
 use Rattle.sja_candump.specs.declared.error_frame.ErrorFrame.TheVariants.{Restarted}
 use Rattle.sja_candump.specs.BitErrors.{bit_error, bit_error_by, is_overrun, change_in, is_restart}
 use Rattle.sja_candump.specs.CandumpText.{stored_frame, stored_line, error_line, restart_line, bit_lines, node_lines}
-use Rattle.sja_candump.specs.Inside.Coming.{short_lines}
+use Rattle.sja_candump.specs.Inside.Coming.{counters_in, left_by, short_lines}
 
 -- a state isn't new after itself
 same_state : (s : ControllerState) → new_state s s ≡ None
@@ -70,8 +72,14 @@ silent_lines errors bit node left q o b none =
 
 pub hand_lines_are : (errors : Bool) (bit node : ℕ) (left : Counters) (short : Option ShortBit)
     (own o : Option Happening) → IsHand short own o →
-    short_lines errors bit node left short own ≡ node_lines errors bit node left o
+    short_lines errors bit node left (counters_in short) own ≡ node_lines errors bit node left o
 hand_lines_are errors bit node left None own o hand = ap (node_lines errors bit node left) (sym hand)
 hand_lines_are errors bit node left (Some q) own o hand =
     sym (ap (node_lines errors bit node left) hand.is
     ∙ short_lines_are hand.happened q hand.short errors bit node left)
+
+-- the counters that it left
+pub hand_left : (short : Option ShortBit) (own o : Option Happening) → IsHand short own o →
+    left_by (counters_in short) own ≡ counters_after o
+hand_left None own o hand = hand_counters None own o hand
+hand_left (Some q) own o hand = hand_counters (Some q) own o hand

@@ -1,21 +1,21 @@
 -- The stories of nodes, and how far the bits of each came.
 use Rattle.std.proofs.Common.{◌≡◌, ℕ, ◌+◌, ◌<◌, ◌≤◌, zero, suc, List, [], ◌∷◌, ◌++◌, length, take, get_or}
 use Rattle.std.proofs.Common.{sym, ap, ◌∙◌, subst, arith}
-use Rattle.std.specs.Prelude.{slice_get, slice_index_or}
+use Rattle.std.specs.Prelude.{Option, slice_get, slice_index_or}
 use Rattle.std.proofs.lemmas.List.{take_more, take_all}
 use Rattle.can_node.specs.declared.counters.Counters.{Counters}
 use Rattle.lemmas.specs.Related.{EachRelated}
 use Rattle.sja_log.specs.Log.{NodeValue}
 use Rattle.sja_replay.specs.declared.happening.Happening.{Happening}
-use Rattle.sja_trace.proofs.BitSaid.Shorts.{hand_counters}
 use Rattle.sja_trace.proofs.Stories.Telling.{before_same}
 use Rattle.sja_trace.specs.BitEvents.{counters_after}
 use Rattle.sja_trace.specs.Telling.{HaveSame, IsUnderway, at_hand}
 use Rattle.sja_candump.specs.CandumpText.{HasStory, node_lines}
 use Rattle.sja_candump.specs.declared.driver_bits.DriverBits.{DriverBits}
 use Rattle.sja_candump.proofs.SoFar.Resting.{IsUnsaid, has_rested}
-use Rattle.sja_candump.proofs.SoFar.Silent.{hand_lines_are}
+use Rattle.sja_candump.proofs.SoFar.Silent.{hand_left, hand_lines_are}
 use Rattle.sja_candump.specs.Inside.Coming.{HasGone, GoesOn, GoesToEnd, RestsBy, HaveTold, IsShown, AreUnderway}
+use Rattle.sja_candump.specs.Inside.Coming.{left_by, short_lines}
 
 -- ---- before the first bit
 
@@ -86,12 +86,17 @@ all_more bits (n ∷ nodes) (b ∷ olds) (c ∷ news) (s ∷ ss) have on =
     record {
       stories = more.told ∷ rest.stories;
       have = (
-        record { come = more.come; left = hand_counters c.short (at_hand c.bits) brought more.hand },
+        record {
+          come = more.come;
+          left = ap (λ (k : Option Counters). left_by k (at_hand c.bits)) on.0.passed
+              ∙ hand_left on.0.short (at_hand c.bits) brought more.hand;
+        },
         rest.have,
       );
       shown = (
         λ errors node.
-            hand_lines_are errors bits node c.left c.short (at_hand c.bits) brought more.hand
+            ap (λ (k : Option Counters). short_lines errors bits node c.left k (at_hand c.bits)) on.0.passed
+            ∙ hand_lines_are errors bits node c.left on.0.short (at_hand c.bits) brought more.hand
             ∙ ap (λ (k : Counters). node_lines errors bits node k brought) left,
         rest.shown,
       );

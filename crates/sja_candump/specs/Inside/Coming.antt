@@ -8,27 +8,39 @@ use Rattle.sja_replay.specs.declared.happening.Happening.{Happening}
 use Rattle.sja_replay.specs.declared.short_bit.ShortBit.{ShortBit}
 use Rattle.sja_replay.specs.Coming.{HasCome}
 use Rattle.sja_report.specs.ReportLines.{numbered}
+use Rattle.sja_trace.specs.BitEvents.{counters_after}
 use Rattle.sja_trace.specs.Telling.{IsUnderway, MayRest, TellsAll, at_hand}
 use Rattle.sja_trace.specs.TraceText.{counters_left}
-use Rattle.sja_trace.specs.Inside.Hands.{HandGoesOn, RestsOn, counters_of}
+use Rattle.sja_trace.specs.Inside.Hands.{HandGoesOn, RestsOn}
 use Rattle.sja_candump.specs.CandumpText.{node_lines, restart_line, story_lines, lines_to}
 use Rattle.sja_candump.specs.declared.driver_bits.DriverBits.{DriverBits}
 
 -- ---- one node
 
--- the counters as the bits so far left them
+-- the counters of a bit in short
+abbrev pub counters_in : Option ShortBit → Option Counters
+counters_in None = None
+counters_in (Some q) = Some q.counters
+
+-- the counters as the bits so far left them: the bit at hand was passed with these, or is there in full
+abbrev pub left_by : Option Counters → Option Happening → Counters
+left_by None own = counters_after own
+left_by (Some k) own = k
+
 abbrev pub now_left : DriverBits → Counters
-now_left b = counters_of b.short (at_hand b.bits)
+now_left b = left_by b.passed (at_hand b.bits)
 
 -- after so many bits these happenings of a journal were told, and left the counters that are known
 pub record HasGone (journal : List Entry) (bits : ℕ) (b : DriverBits) (told : List Happening) : Type 0 where
   pub come : HasCome b.bits.over journal bits b.bits.replay told
   pub left : now_left b ≡ counters_left bits told
 
--- it went on past a bit; or to the end
+-- it went on past a bit, of which in short the counters are kept; or to the end
 pub record GoesOn (old new : DriverBits) : Type 0 where
   pub left : new.left ≡ now_left old
-  pub bits : HandGoesOn old.bits new.bits new.short
+  pub short : Option ShortBit
+  pub passed : new.passed ≡ counters_in short
+  pub bits : HandGoesOn old.bits new.bits short
 
 abbrev pub GoesToEnd : DriverBits → DriverBits → Type 0
 GoesToEnd old new = TellsAll old.bits new.bits
@@ -43,7 +55,7 @@ pub record MayStay (n : ℕ) (b : DriverBits) : Type 0 where
 pub record Stays (n : ℕ) (old new : DriverBits) : Type 0 where
   pub may : MayStay n old
   pub short : ShortBit
-  pub short_is : new.short ≡ Some short
+  pub passed : new.passed ≡ Some short.counters
   pub bits : RestsOn n short old.bits new.bits
 
 -- or past none
@@ -73,13 +85,13 @@ HaveTold bits (n ∷ nodes) (b ∷ all) (s ∷ stories) =
 
 -- ---- what is written of the bit at hand
 
--- of one in short that the bits before came to with these counters, or of one in full
-abbrev pub short_lines : Bool → ℕ → ℕ → Counters → Option ShortBit → Option Happening → List ℕ
+-- of one that the bits before came to with these counters, and that was passed with these or is there in full
+abbrev pub short_lines : Bool → ℕ → ℕ → Counters → Option Counters → Option Happening → List ℕ
 short_lines errors bit node left None own = node_lines errors bit node left own
-short_lines errors bit node left (Some q) own = restart_line errors bit node left q.counters
+short_lines errors bit node left (Some k) own = restart_line errors bit node left k
 
 abbrev pub hand_lines : Bool → ℕ → ℕ → DriverBits → List ℕ
-hand_lines errors bit node b = short_lines errors bit node b.left b.short (at_hand b.bits)
+hand_lines errors bit node b = short_lines errors bit node b.left b.passed (at_hand b.bits)
 
 abbrev pub bit_text : Bool → ℕ → List DriverBits → List ℕ
 bit_text errors bit all = numbered (hand_lines errors bit) 0 all
