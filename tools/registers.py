@@ -61,8 +61,8 @@ class Registers:
         self.receiving = self.sending = True  # RS, TS
         self.unread, self.window = 0, [0] * 13
         self.starts = self.waited = self.waits = 0
-        self.fresh = False  # no bit ran since reset mode was left
         self.listens = False  # LOM stood then
+        self.renews = False  # since the last bit it was left without LOM, and no counter was written then
         self.counts = True  # the counters are the node's: none was written in reset mode
 
     def reads(self, address):
@@ -166,7 +166,9 @@ class Registers:
         else:
             self.reset, self.starts, self.waited, self.written = False, self.starts + 1, 0, None
             self.waits = RECOVERY if self.off else INTEGRATION
-            self.fresh, self.counts, self.listens = True, True, bool(self.mode & 0x02)
+            self.listens = bool(self.mode & 0x02)
+            self.renews = not self.listens or self.renews and self.counts
+            self.counts = True
         self.show()
 
     def show(self):
@@ -210,7 +212,9 @@ class Registers:
         """So many bits ran on a bus where nobody sends: after bus-off TXERR is counted down, but in listen only mode."""
         if self.reset:
             return self.first_bit()
-        self.fresh = False
+        if self.off and self.renews:
+            self.txerr = 127
+        self.renews = False
         self.waited += bits
         if self.off and not self.listens:
             self.txerr = max(0, 127 - self.waited // INTEGRATION)
@@ -222,13 +226,13 @@ class Registers:
 
     def first_bit(self):
         """A bit ran in reset mode: the count of 128 began anew, where reset mode was left and entered before it."""
-        if self.fresh and self.off is not False and self.counts and not self.listens:
+        if self.renews and self.off is not False and self.counts:
             self.txerr = 127 if self.off else None
-        self.fresh = False
+        self.renews = False
 
     def busy(self):
         """Bits ran on a bus where somebody may send."""
-        self.fresh = False
+        self.renews = False
         self.complete = self.complete if self.released else None
         self.released = self.released or None
         self.overrun = self.overrun or None
