@@ -14,7 +14,8 @@ use std::marker::Model;
 /// has a memory for.
 pub const KEPT: usize = 1_099_511_627_776;
 
-/// How many items are kept at once by a list that is made for more (this project's own rule).
+/// How many items are kept at once by a list that is made for more, where its maker doesn't say how many (this
+/// project's own rule).
 const WINDOW: usize = 4_096;
 
 /// A list that grows, of which the oldest items may be forgotten (this project's own rule).
@@ -56,7 +57,18 @@ impl<T> Recent<T> {
         ensures empty { IfOk result (λ l. l.items ≡ []) }
         ensures whole { IfOk result (λ l. l.room ≡ room) }
     {
-        let window = if room <= KEPT { room } else { WINDOW };
+        Recent::keeping(alloc, room, WINDOW)
+    }
+
+    /// The same, which keeps so many items at once where it is made for more than [`KEPT`].
+    ///
+    /// Error: [`OutOfMemory`] where memory was refused.
+    pub(crate) fn keeping(alloc: Global, room: usize, most: usize) -> Result<Recent<T>, OutOfMemory>
+        requires { (0 < most) × (most ≤ 1099511627776) }
+        ensures empty { IfOk result (λ l. l.items ≡ []) }
+        ensures whole { IfOk result (λ l. l.room ≡ room) }
+    {
+        let window = if room <= KEPT { room } else { most };
         let items = Vec::with_capacity(alloc, window)?;
         Ok(Recent {
             room,

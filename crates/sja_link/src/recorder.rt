@@ -19,6 +19,10 @@ use can_frame::OutOfMemory;
 use std::alloc::Global;
 use std::marker::Model;
 
+/// How many codes, of a byte each, are kept at once where there are more than [`KEPT`](super::KEPT) (this project's own
+/// rule).
+const CODES: usize = 65_536;
+
 /// What the bus writes of one node as a run goes on, oldest first: the writing half of a [`Journal`] (this project's
 /// own rule).
 ///
@@ -62,7 +66,7 @@ impl Recorder {
     {
         let others = bits as usize / 42 + 2 * steps as usize + 100;
         Ok(Recorder {
-            codes: Recent::new(alloc, bits as usize + others)?,
+            codes: Recent::keeping(alloc, bits as usize + others, CODES)?,
             others: Recent::new(alloc, others)?,
         })
     }
