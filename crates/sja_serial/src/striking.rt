@@ -15,6 +15,7 @@ impl SerialRun {
     /// too. Nothing else changes, and no bit is run.
     ///
     /// Error: [`OutOfMemory`] where memory was refused; nothing changed.
+    #[inline(always)]
     pub fn strike(&mut self, strike: Strike) -> Result<(), OutOfMemory>
         requires later { self.old.bus.run ≤ strike.bit }
         ensures struck { OnOk result (self.new ≡ struck_run self.old strike) }

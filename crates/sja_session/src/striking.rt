@@ -23,6 +23,7 @@ impl Session {
     /// [`StrikeFault::NoBit`] where the session's bits end before this one; [`StrikeFault::Past`] where it has run;
     /// [`StrikeFault::StrikesUsed`] where it has an end and the strikes so far strike as many bits as those of a plan
     /// of its version may; [`StrikeFault::Memory`] where memory was refused.
+    #[inline(always)]
     pub fn strike(&mut self, node: u8, bit: u64) -> Result<(), StrikeFault>
         ensures struck { OnOk result ((accesses : List (List Access)) → IsAt self.old accesses →
             IsStruck self.old self.new node bit accesses) }
@@ -70,6 +71,7 @@ impl Session {
     /// Whether the node is there, and the bit is one of the session's that hasn't run.
     ///
     /// Errors: as [`strike`](Session::strike) tells them, the first three.
+    #[inline(always)]
     fn check_bit(&self, node: u8, bit: u64) -> Result<(), StrikeFault>
         ensures there { OnOk result (node < length self.now.plan.nodes) }
         ensures ahead { OnOk result ((bit < self.now.plan.bits) × (self.now.run.bits ≤ bit)) }
