@@ -1,7 +1,7 @@
 -- The links of a node of a run in one thread, between two steps (this project's own rule).
-use Rattle.std.specs.Prelude.{◌≡◌, ◌+◌, List, []}
+use Rattle.std.specs.Prelude.{◌≡◌, ◌+◌, ℕ, suc, List, []}
 use Rattle.sja_link.specs.declared.entry.Entry.{Entry}
-use Rattle.sja_link.specs.Deques.{Deques, Lies}
+use Rattle.sja_link.specs.Deques.{Deques, Lies, up_on}
 use Rattle.sja_link.specs.Looking.{one_if}
 use Rattle.sja_link.specs.Places.{place_of}
 use Rattle.sja_link.specs.Links.{stops_of}
@@ -20,5 +20,5 @@ pub record IsLevel (j : List Entry) (deeds : List Deed) : Type 0 where
 -- the links stand for the parts of the journal and for the driver's deeds and releases; all that was given was taken
 pub record IsLinked (j : List Entry) (deeds : List Deed) (driver : LoggedDriver) (links : Deques) : Type 0 where
   pub holds : HoldsBy Lies deeds (driver_of driver) (log_of driver) j links
-  pub taken : links.up ≡ []
+  pub taken : (a : ℕ) → up_on links (suc a) ≡ []
   pub level : IsLevel j deeds

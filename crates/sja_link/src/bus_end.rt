@@ -1,6 +1,6 @@
 //! The bus's end of a node's links.
 
-ghost use Rattle.std.specs.Prelude.{◌≡◌, ℕ, IfErr, IfSome, OnOk, OnErr, IfNone};
+ghost use Rattle.std.specs.Prelude.{◌≡◌, ◌≢◌, ◌≤◌, ℕ, [], IfErr, IfSome, OnOk, OnErr, IfNone};
 ghost use Rattle.sja_link.specs.Lists.{Lists, with_put, with_taken, OthersStand, Carries, Keeps};
 
 use super::down::Down;
@@ -12,6 +12,9 @@ use super::up::Up;
 pub trait BusEnd {
     /// Whose links they are: the node's number, counted from 0.
     ghost node: { Self → ℕ };
+
+    /// How many links it has: those of the activations from 1 up to this one.
+    ghost links: { Self → ℕ };
 
     /// On the link of this activation the end stands for these lists: its own two by what it did, and the other end's
     /// as far as it can tell.
@@ -55,4 +58,10 @@ pub trait BusEnd {
 
     /// The same end is of the same node.
     ghost same_node: { (a b : Self) → same a b → node b ≡ node a };
+
+    /// The same end has as many links.
+    ghost same_links: { (a b : Self) → same a b → links b ≡ links a };
+
+    /// What was taken was taken on a link that the end has.
+    ghost has_taken: { (e : Self) (a : ℕ) (l : Lists) → stands e a l → l.taken ≢ [] → a ≤ links e };
 }

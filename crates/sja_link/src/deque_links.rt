@@ -1,55 +1,62 @@
-//! The links of a node in one thread, as two queues.
+//! The links of a node in one thread.
 
-ghost use Rattle.std.specs.Prelude.{◌≡◌, ◌≢◌, ◌<◌, ◌≤◌, ◌⊎◌, ◌*◌, ◌^◌, ◌++◌, [], true, false, IfOk};
-ghost use Rattle.sja_link.specs.Deques.{left_on, on_link};
+ghost use Rattle.std.specs.Prelude.{◌≡◌, ◌≢◌, ◌<◌, ◌≤◌, ◌⊎◌, ◌+◌, ◌*◌, ◌^◌, ◌++◌, ◌∷◌, ℕ, [], suc, length, drop, IfOk};
+ghost use Rattle.std.specs.Prelude.{IfSome, IfNone, true, false};
+ghost use Rattle.sja_link.specs.Deques.{among, left_on, nothing_lies, up_on, IsAside};
+ghost use Rattle.sja_link.specs.Inside.Queues.{IsTurned, IsMoved};
 ghost use Rattle.sja_link.specs.NewLinks.{new_links};
 ghost use Rattle.sja_link.specs.Recents.{KeepsAll};
 
 use super::bus_end::BusEnd;
+use super::deque_link::DequeLink;
 use super::down::Down;
 use super::driver_end::DriverEnd;
 use super::older_down::OlderDown;
 use super::recent::Recent;
-use super::sizes::{ITEMS_DOWN, ITEMS_UP};
+use super::sizes::{ACTIVATIONS, ITEMS_DOWN};
 use super::up::Up;
 use can_frame::OutOfMemory;
 use std::alloc::Global;
 use std::collections::VecDeque;
 use std::marker::Model;
+use std::mem::swap;
 
 /// The links of a node in one thread: both ends of each in one value (this project's own rule).
 ///
-/// Two queues are the link of one activation at a time: the first, and then the one that began last. An activation that
-/// begins takes them over once the bus has taken all that was given before; what lies downward then is left on the link
-/// before.
+/// 64 links have two queues each, at first those of the first activations: so all links have in a run of version 1, 2
+/// or 3. Where there are more, the next one takes the queues of the first that has them, once nothing lies upward
+/// there. What lies downward there is left: no call gets it any more, and [`older`](DequeLinks::older) shows it. The
+/// link of which a call was last is at hand, beside the others.
 #[derive(Debug, Drop)]
 pub struct DequeLinks {
+    at: u64,
+    here: DequeLink,
     node: u8,
-    activation: u64,
-    down: VecDeque<Down>,
-    up: VecDeque<Up>,
+    first: u64,
+    others: VecDeque<DequeLink>,
     older: Recent<OlderDown>,
+    starts: u64,
 }
 
 impl Model for DequeLinks {
-    ghost use Rattle.std.specs.Prelude.{◌≤◌};
     ghost use Rattle.std.specs.VecDeque.{deque_capacity};
     ghost use Rattle.sja_link.specs.Deques.{Deques};
-    ghost use Rattle.sja_link.specs.Inside.Queues.{AreQueues, AreLeft};
+    ghost use Rattle.sja_link.specs.Inside.Queues.{AreKept};
 
     ghost Value = { Deques };
 
     ghost view = { λ s. record {
       node = s.node;
-      activation = s.activation;
-      down = s.down.items;
-      up = s.up.items;
+      first = s.first;
+      at = s.at;
+      here = s.here;
+      others = s.others.items;
       older = s.older.items;
-      room = s.older.room;
+      starts = s.starts;
     } };
 
-    ghost invariant = { λ s. AreQueues s.down.items (deque_capacity s.down) s.up.items (deque_capacity s.up)
-        × AreLeft s.activation s.older.items };
+    ghost invariant = { λ s. AreKept s.first s.at s.others.items s.older.items s.starts s.older.room
+        (deque_capacity s.others) };
 }
 
 impl DequeLinks {
@@ -61,80 +68,147 @@ impl DequeLinks {
         requires { starts ≤ 2 ^ 58 }
         ensures { IfOk result (λ s. s ≡ new_links node starts) }
     {
-        let down = VecDeque::with_capacity(alloc, ITEMS_DOWN)?;
-        let up = VecDeque::with_capacity(alloc, ITEMS_UP)?;
-        let older = Recent::new(alloc, ITEMS_DOWN * starts as usize)?;
+        let many = starts.min(ACTIVATIONS);
+        let mut others = VecDeque::with_capacity(alloc, many as usize)?;
+        for _ in 0..many {
+            others.push_back_reserved(DequeLink::new(alloc)?);
+        }
+        let here = DequeLink::new(alloc)?;
+        let older = Recent::new(alloc, ITEMS_DOWN * (starts - many) as usize)?;
         Ok(DequeLinks {
+            at: starts.min(1),
+            here,
             node,
-            activation: 1,
-            down,
-            up,
+            first: 1,
+            others,
             older,
+            starts,
         })
     }
 
-    /// The activation whose link is in use, counted from 1: the one that began last, or the first before any did.
-    pub fn activation(&self) -> u64
-        ensures { result ≡ self.now.activation }
+    /// The first activation whose link has queues, counted from 1.
+    pub fn first(&self) -> u64
+        ensures first { result ≡ self.now.first }
+        ensures few { result + length self.now.others ≤ 2 ^ 58 + 1 }
     {
-        self.activation
+        self.first
     }
 
-    /// What lies downward on the link in use, oldest first.
-    pub fn down(&self) -> &VecDeque<Down>
-        ensures { result.now.items ≡ self.now.down }
+    /// The activation whose link is at hand; 0 where there are no links.
+    pub fn at(&self) -> u64
+        ensures { result ≡ self.now.at }
     {
-        &self.down
+        self.at
     }
 
-    /// What was left downward on the links before the one in use, oldest first, of links that forget none of it.
+    /// The link at hand.
+    pub fn here(&self) -> &DequeLink
+        ensures { result.now ≡ self.now.here }
+    {
+        &self.here
+    }
+
+    /// The links that have queues, from that of the first such activation on, but for the one at hand: in its place
+    /// nothing lies.
+    pub fn others(&self) -> &VecDeque<DequeLink>
+        ensures others { result.now.items ≡ self.now.others }
+        ensures place { among self.now.first self.now.others self.now.at ≡ nothing_lies }
+    {
+        &self.others
+    }
+
+    /// What was left downward on the links that have no queues any more, oldest first, of links that forget none of it.
     pub fn older(&self) -> &[OlderDown]
-        requires kept { KeepsAll self.now.room }
+        requires kept { KeepsAll (22 * self.now.starts) }
         ensures older { result.now ≡ self.now.older }
-        ensures before { left_on result.now self.now.activation ≡ [] }
+        ensures none_left { (a : ℕ) → self.now.first ≤ a → left_on result.now a ≡ [] }
     {
         self.older.as_slice()
     }
 
-    /// Begins an activation on its link, where nothing lies upward on the one in use. What lies downward there is left.
-    fn begin(&mut self, activation: u64)
-        requires later { self.old.activation < activation }
-        requires taken { self.old.up ≡ [] }
-        requires room { 22 * activation ≤ self.old.room }
-        ensures { self.new ≡ record self.old {
-          activation = activation;
-          down = [];
-          older = self.old.older ++ on_link self.old.activation self.old.down;
-        } }
+    /// Turns to the link of an activation, if it has queues, and says whether it has: it is at hand then.
+    #[inline(never)]
+    fn turn_to(&mut self, activation: u64) -> bool
+        ensures turned { result ≡ true → IsTurned self.old self.new activation }
+        ensures kept { result ≡ false → self.new ≡ self.old }
+        ensures aside { result ≡ false → IsAside self.old activation }
     {
-        while let Some(item) = self.down.pop_front() {
+        if activation < self.first {
+            return false;
+        }
+        let place = activation - self.first;
+        if place >= self.others.len() as u64 {
+            return false;
+        }
+        let was = (self.at - self.first) as usize;
+        swap(&mut self.here, &mut self.others[was]);
+        swap(&mut self.here, &mut self.others[place as usize]);
+        self.at = activation;
+        true
+    }
+
+    /// Whether the link of an activation is the one after those that have queues, and may take those of the first.
+    fn is_next(&self, activation: u64) -> bool
+        ensures next { result ≡ true → (self.now.first + length self.now.others ≡ activation)
+            × ((activation ≤ self.now.starts) × (up_on self.now self.now.first ≡ [])) }
+        ensures no { result ≡ false → (self.now.starts < activation)
+            ⊎ ((self.now.first + length self.now.others ≢ activation) ⊎ (up_on self.now self.now.first ≢ [])) }
+    {
+        activation == self.first + self.others.len() as u64
+            && activation <= self.starts
+            && self.is_first_taken()
+    }
+
+    /// Whether nothing lies upward on the first link that has queues.
+    fn is_first_taken(&self) -> bool
+        ensures yes { result ≡ true → up_on self.now self.now.first ≡ [] }
+        ensures no { result ≡ false → up_on self.now self.now.first ≢ [] }
+    {
+        if self.at == self.first {
+            return self.here.is_taken();
+        }
+        match self.others.front() {
+            Some(first) => first.is_taken(),
+            None => true,
+        }
+    }
+
+    /// The next link takes the queues of the first, where nothing lies upward, and is at hand. What lies downward there
+    /// is left.
+    #[inline(never)]
+    fn move_on(&mut self)
+        requires some { 0 < length self.old.others }
+        requires there { self.old.first + length self.old.others ≤ self.old.starts }
+        requires taken { up_on self.old self.old.first ≡ [] }
+        ensures { IsMoved self.old self.new }
+    {
+        let was = (self.at - self.first) as usize;
+        swap(&mut self.here, &mut self.others[was]);
+        let Some(mut link) = self.others.pop_front() else {
+            return;
+        };
+        while let Some(item) = link.get() {
             self.older.push(OlderDown {
-                activation: self.activation,
+                activation: self.first,
                 item,
             });
         }
-        self.activation = activation;
-    }
-
-    /// Whether an activation after the one in use may begin.
-    fn may_begin(&self, activation: u64) -> bool
-        ensures yes { result ≡ true → (self.now.activation < activation) × (self.now.up ≡ [])
-            × (22 * activation ≤ self.now.room) }
-        ensures no { result ≡ false → (activation ≤ self.now.activation) ⊎ (self.now.up ≢ [])
-            ⊎ (self.now.room < 22 * activation) }
-    {
-        activation > self.activation
-            && self.up.is_empty()
-            && activation <= (self.older.room() / ITEMS_DOWN) as u64
+        self.others.push_back_reserved(link);
+        self.at = self.first + self.others.len() as u64;
+        self.first += 1;
     }
 }
 
 impl BusEnd for DequeLinks {
-    ghost use Rattle.std.specs.Prelude.{◌≡◌, [], refl};
-    ghost use Rattle.std.proofs.Common.{◌∙◌};
+    ghost use Rattle.std.specs.Prelude.{refl};
+    ghost use Rattle.std.proofs.Common.{◌∙◌, ap, arith, inl, inr};
+    ghost use Rattle.std.proofs.lemmas.Bool.{cases_lt};
+    ghost use Rattle.sja_link.specs.Lists.{Lists};
     ghost use Rattle.sja_link.specs.Deques.{Lies, IsFullDown, AreAlike, up_on};
 
     ghost node = { λ s. s.node };
+
+    ghost links = { λ s. s.starts };
 
     ghost stands = { Lies };
 
@@ -149,18 +223,17 @@ impl BusEnd for DequeLinks {
     }
 
     fn put(&mut self, activation: u64, item: Down) -> Result<(), Down> {
-        if activation != self.activation || self.down.len() >= ITEMS_DOWN {
+        if activation != self.at && !self.turn_to(activation) {
             return Err(item);
         }
-        self.down.push_back_reserved(item);
-        Ok(())
+        self.here.put(item)
     }
 
     fn take(&mut self, activation: u64) -> Option<Up> {
-        if activation != self.activation {
+        if activation != self.at && !self.turn_to(activation) {
             return None;
         }
-        self.up.pop_front()
+        self.here.take()
     }
 
     ghost same_refl = { λ e. (refl, refl) };
@@ -168,6 +241,13 @@ impl BusEnd for DequeLinks {
     ghost same_trans = { λ a b c p q. (q.0 ∙ p.0, q.1 ∙ p.1) };
 
     ghost same_node = { λ a b p. p.0 };
+
+    ghost same_links = { λ a b p. p.1 };
+
+    ghost has_taken = { λ s a l h some. elim (cases_lt a (s.first + length s.others)) [
+      | inl less ↦ let few = h.links.few in omega (arith, less, few)
+      | inr beyond ↦ absurd (some (ap (λ (x : Lists). x.taken) (h.later beyond)))
+    ] };
 }
 
 impl DriverEnd for DequeLinks {
@@ -190,25 +270,21 @@ impl DriverEnd for DequeLinks {
     }
 
     fn get(&mut self, activation: u64) -> Option<Down> {
-        if activation != self.activation {
+        if activation != self.at && !self.turn_to(activation) {
             return None;
         }
-        self.down.pop_front()
+        self.here.get()
     }
 
     #[inline(always)]
     fn give(&mut self, activation: u64, item: Up) -> Result<(), Up> {
-        if activation != self.activation {
-            if !self.may_begin(activation) {
+        if activation != self.at && !self.turn_to(activation) {
+            if !self.is_next(activation) {
                 return Err(item);
             }
-            self.begin(activation);
+            self.move_on();
         }
-        if self.up.len() >= ITEMS_UP {
-            return Err(item);
-        }
-        self.up.push_back_reserved(item);
-        Ok(())
+        self.here.give(item)
     }
 
     ghost same_refl = { λ e. (refl, refl) };

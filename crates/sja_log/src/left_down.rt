@@ -3,7 +3,7 @@
 ghost use Rattle.std.specs.Prelude.{◌≡◌, IfOk};
 
 use can_frame::OutOfMemory;
-use sja_link::{DequeLinks, Down, OlderDown};
+use sja_link::{DequeLink, DequeLinks, Down, OlderDown};
 use std::alloc::Global;
 use std::marker::Model;
 
@@ -24,9 +24,9 @@ impl Model for LeftDown {
 }
 
 impl LeftDown {
-    ghost use Rattle.std.specs.Prelude.{◌≡◌, ◌++◌, ℕ, [], IfOk, OnOk, OnErr};
+    ghost use Rattle.std.specs.Prelude.{◌≡◌, ◌≤◌, ◌+◌, ◌*◌, ◌^◌, ◌++◌, ℕ, [], length, IfOk, OnOk, OnErr};
     ghost use Rattle.sja_link.specs.Recents.{KeepsAll};
-    ghost use Rattle.sja_link.specs.Deques.{on_link, left_on, down_on};
+    ghost use Rattle.sja_link.specs.Deques.{on_link, all_down, left_on, down_on};
 
     /// Nothing on any link.
     pub fn new(alloc: Global) -> LeftDown
@@ -38,22 +38,41 @@ impl LeftDown {
     }
 
     /// What lies on the links of a node in one thread, none of which has forgotten anything: what was left on those
-    /// before the one in use, and then what lies on that.
+    /// that have no queues any more, then what lies on those that have them, and that on the link at hand last.
     ///
     /// Error: [`OutOfMemory`] where memory was refused.
     pub fn on(alloc: Global, links: &DequeLinks) -> Result<LeftDown, OutOfMemory>
-        requires kept { KeepsAll links.now.room }
+        requires kept { KeepsAll (22 * links.now.starts) }
         ensures whole { IfOk result (λ left.
-            left ≡ links.now.older ++ on_link links.now.activation links.now.down) }
+            left ≡ (links.now.older ++ all_down links.now.first links.now.others)
+            ++ on_link links.now.at links.now.here.down) }
         ensures each { IfOk result (λ left. (a : ℕ) → left_on left a ≡ down_on links.now a) }
     {
         let mut left = LeftDown {
             items: copies(alloc, links.older())?,
         };
-        let (first, last) = links.down().as_slices();
-        left.push(links.activation(), first)?;
-        left.push(links.activation(), last)?;
+        let (first, last) = links.others().as_slices();
+        left.push_all(links.first(), first)?;
+        left.push_all(links.first() + first.len() as u64, last)?;
+        let (front, back) = links.here().down().as_slices();
+        left.push(links.at(), front)?;
+        left.push(links.at(), back)?;
         Ok(left)
+    }
+
+    /// Adds what lies downward on links in order, the first of which is that of this activation.
+    fn push_all(&mut self, first: u64, links: &[DequeLink]) -> Result<(), OutOfMemory>
+        requires few { first + length links.now ≤ 2 ^ 58 + 1 }
+        ensures { OnOk result (self.new ≡ self.old ++ all_down first links.now) }
+    {
+        let mut activation = first;
+        for link in links {
+            let (front, back) = link.down().as_slices();
+            self.push(activation, front)?;
+            self.push(activation, back)?;
+            activation += 1;
+        }
+        Ok(())
     }
 
     /// Adds these items, on the link of an activation.

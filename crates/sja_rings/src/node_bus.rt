@@ -13,14 +13,17 @@ pub struct NodeBus {
 }
 
 impl BusEnd for NodeBus {
+    ghost use Rattle.std.specs.Prelude.{length};
     ghost use Rattle.std.proofs.Common.{◌∙◌, refl};
     ghost use Rattle.lemmas.proofs.Related.{each_refl, each_trans};
     ghost use Rattle.sja_rings.specs.Ends.{SameBus};
     ghost use Rattle.sja_rings.specs.NodeRings.{node_of_bus, rings_of_bus, NodeBusLists, SameNodeBus};
     ghost use Rattle.sja_rings.specs.NodeRings.{HasNoPlaceDown, ShowsNothingUp};
-    ghost use Rattle.sja_rings.specs.Inside.Carrying.{bus_refl, bus_trans};
+    ghost use Rattle.sja_rings.specs.Inside.Carrying.{bus_refl, bus_trans, as_many_links, has_ring};
 
     ghost node = { node_of_bus };
+
+    ghost links = { λ b. length (rings_of_bus b) };
 
     ghost stands = { NodeBusLists };
 
@@ -54,6 +57,10 @@ impl BusEnd for NodeBus {
         (q.0 ∙ p.0, each_trans SameBus bus_trans (rings_of_bus a) (rings_of_bus b) (rings_of_bus c) p.1 q.1) };
 
     ghost same_node = { λ a b p. p.0 };
+
+    ghost same_links = { as_many_links };
+
+    ghost has_taken = { has_ring };
 }
 
 impl NodeBus {

@@ -1,5 +1,5 @@
 -- A run in one thread, between two steps (this project's own rule).
-use Rattle.std.specs.Prelude.{◌≡◌, ◌+◌, ◌*◌, ◌/◌, ◌^◌, ◌<◌, ◌≤◌, ℕ, false, None, List, if◌then◌else◌, length, map, min}
+use Rattle.std.specs.Prelude.{◌≡◌, ◌+◌, ◌/◌, ◌^◌, ◌<◌, ◌≤◌, ℕ, false, None, List, if◌then◌else◌, length, map, min}
 use Rattle.std.specs.Prelude.{All, slice_index_or}
 use Rattle.sja_link.specs.declared.entry.Entry.{Entry}
 use Rattle.sja_link.specs.Deques.{Deques}
@@ -47,16 +47,16 @@ setup_with version bits strikes steps = record {
   steps = map (most_deeds version) steps;
 }
 
--- what a run may be made for: bits and steps that can be counted, and far more than any run comes to; and without an
--- end for more bits than a plan may have
+-- what a run may be made for: 1 to 2^62 bits, far more than any run comes to, of 1 to 8 nodes, with a number of deeds
+-- for each. One of no more bits than a plan may have, 2,000,000, goes by the rules of plans: its version is before 4
 pub record IsSetup (setup : Setup) : Type 0 where
   pub bits : (1 ≤ setup.bits) × (setup.bits ≤ 2 ^ 62)
   pub few : (1 ≤ setup.nodes) × (setup.nodes ≤ 8)
   pub nodes : length setup.steps ≡ setup.nodes
   pub plans : setup.bits ≤ 2000000 → setup.version < 4
 
--- a run can be made for so many bits, this many at least, of as many nodes as there are of these numbers of steps, with
--- room for as many
+-- a run can be made for so many bits, this many at least and 2^62 at most, of as many nodes as there are of these
+-- numbers of steps, 1 to 8, with room for as many steps of each, 2^56 at most
 pub record CanBeMade (least count : ℕ) (sizes : List ℕ) : Type 0 where
   pub nodes : (1 ≤ length sizes) × (length sizes ≤ 8)
   pub bits : (least ≤ count) × (count ≤ 2 ^ 62)
@@ -100,7 +100,7 @@ pub record StandsAt (setup : Setup) (r : SerialValue) (deeds : List (List Deed))
   -- the links of each node, for as many activations as it has in this version
   pub ends : AreEnds (λ (s : Deques). s.node) setup.nodes r.links
   pub starts : (node : ℕ) (l : Deques) → node < setup.nodes →
-      (slice_index_or r.links node l).room ≡ 22 * most_activations setup.version
+      (slice_index_or r.links node l).starts ≡ most_activations setup.version
   pub own : (node : ℕ) (d : LoggedDriver) → node < setup.nodes → node_of (slice_index_or r.drivers node d) ≡ node
   pub nodes : (node : ℕ) (d : LoggedDriver) (p : Registers) (l : Deques) → node < setup.nodes →
       IsNode setup.version (slice_index_or setup.steps node 0) (journal_at r.bus.journals node) (deeds_at deeds node)

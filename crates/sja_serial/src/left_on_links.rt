@@ -1,6 +1,6 @@
 //! What was left on the links at the end of a run.
 
-ghost use Rattle.std.specs.Prelude.{◌<◌, ℕ, length, slice_index_or, IfOk};
+ghost use Rattle.std.specs.Prelude.{◌<◌, ◌*◌, ℕ, length, slice_index_or, IfOk};
 ghost use Rattle.sja_link.specs.Deques.{Deques};
 ghost use Rattle.sja_link.specs.Recents.{KeepsAll};
 ghost use Rattle.sja_log.specs.LeftDown.{IsLeft};
@@ -18,7 +18,7 @@ pub(crate) fn all_left_down(
     links: &[DequeLinks],
 ) -> Result<Vec<LeftDown>, OutOfMemory>
     requires kept { (node : ℕ) (d : Deques) → node < length links.now →
-        KeepsAll (slice_index_or links.now node d).room }
+        KeepsAll (22 * (slice_index_or links.now node d).starts) }
     ensures { IfOk result (λ lists. IsLeft links.now lists.items) }
 {
     let mut lists = Vec::with_capacity(alloc, links.len())?;

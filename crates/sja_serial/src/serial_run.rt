@@ -70,7 +70,7 @@ impl SerialRun {
     }
 
     /// The same by the rules of version 3, but that starts aren't used up, as in a session without an end
-    /// ([`WITHOUT_END`]), for more bits than a plan may have.
+    /// ([`WITHOUT_END`]), for more bits than a plan may have. There is no log of such a run.
     ///
     /// Error: [`OutOfMemory`] where memory was refused.
     pub fn without_end(

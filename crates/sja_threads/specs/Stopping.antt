@@ -33,6 +33,7 @@ use Rattle.sja_threads.specs.Gathering.{AreBusEnds, StandFor}
 abbrev pub ring_ends : Ends NodeBus
 ring_ends = record {
   node = node_of_bus;
+  links = λ (b : NodeBus). length (rings_of_bus b);
   stands = NodeBusLists;
   same = SameNodeBus;
   full = HasNoPlaceDown;

@@ -1,1 +1,2 @@
 pub mod Wires
+pub mod OnLinks

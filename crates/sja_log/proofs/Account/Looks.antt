@@ -4,7 +4,7 @@ use Rattle.std.proofs.Common.{append_assoc, append-nil, arith, inl, inr}
 use Rattle.sja_link.specs.declared.down.Down.{Down}
 use Rattle.sja_link.specs.declared.entry.Entry.{Entry}
 use Rattle.sja_link.specs.Lists.{messages, on, is_on}
-use Rattle.sja_link.specs.Deques.{Deques, Lies, down_on, IsDryDown}
+use Rattle.sja_link.specs.Deques.{Deques, Lies, queues_on, down_on, left_on, IsDryDown}
 use Rattle.sja_link.specs.Looking.{IsTaken, Holds, off_among}
 use Rattle.sja_link.specs.Accounts.{account}
 use Rattle.sja_link.specs.Places.{place_of}
@@ -12,7 +12,6 @@ use Rattle.sja_link.specs.Parts.{part}
 use Rattle.sja_link.specs.Carried.{put_of}
 use Rattle.sja_link.proofs.Ledger.Pullings.{off_both, off_stays}
 use Rattle.sja_link.proofs.JournalEntries.ListCounts.{messages_both}
-use Rattle.sja_link.proofs.QueuedLinks.Lying.{down_here}
 use Rattle.sja_driver.specs.Acting.{Looks}
 use Rattle.sja_driver.specs.Deeds.{Deed, opened_by, released_lengths, deeds_of}
 use Rattle.sja_driver.specs.Windows.{off_by, window_of}
@@ -24,7 +23,7 @@ pub record IsShown (j : List Entry) (deeds : List Deed) (off : Bool) (window : L
   pub off_is : off_by (place_of j).bits j (opened_by deeds) ≡ off
   pub window_is : off ≡ false → window_of j deeds (place_of j).bits ≡ window
 
--- a look at the link of the present activation, which is in use, where what is held is what was got and not released,
+-- a look at the link of the present activation, which has queues, where what is held is what was got and not released,
 -- and it is less than what a link carries
 pub is_shown : {alike : Deques → Deques → Type 0} (j : List Entry) (deeds : List Deed) (old : Deques) (got : List Down)
     (given : List _)
@@ -36,7 +35,7 @@ pub is_shown : {alike : Deques → Deques → Type 0} (j : List Entry) (deeds : 
     ((all down : List Down) → put_of (part j (opened_by deeds)) ≡ all ++ down → Holds all released window →
     length window ≤ 21) →
     (look : Looks alike (on Lies (opened_by deeds)) (is_on IsDryDown (opened_by deeds)) old held window off now_off) →
-    look.at.activation ≡ opened_by deeds → IsShown j deeds now_off window
+    look.at.first ≤ opened_by deeds → IsShown j deeds now_off window
 is_shown j deeds old got given released held window off now_off lies holds known lengths few look used =
     let p = look.pulls in
     let put : put_of (part j (opened_by deeds)) ≡ (got ++ p.got) ++ down_on look.at (opened_by deeds) =
@@ -62,6 +61,9 @@ is_shown j deeds old got given released held window off now_off lies holds known
     lying : List Down
     lying = down_on look.at (opened_by deeds)
 
+    none_left : left_on look.at.older (opened_by deeds) ≡ []
+    none_left = (look.pulls.lists _ lies).links.none_left (opened_by deeds) (inr used)
+
     over : (b : Bool) → now_off ≡ b → IsTaken (is_on IsDryDown (opened_by deeds)) look.at now_off window →
         put_of (part j (opened_by deeds)) ≡ (got ++ look.pulls.got) ++ lying →
         now_off ≡ off_among false (got ++ look.pulls.got) → Holds (got ++ look.pulls.got) released window →
@@ -82,4 +84,4 @@ is_shown j deeds old got given released held window off now_off lies holds known
     over false is (inr (inl many)) put now told = let l = few (got ++ look.pulls.got) lying put told in
         absurd (omega (arith, l, many))
     over false is (inr (inr dry)) put now told = all_got now_off lying (got ++ look.pulls.got)
-        (down_here look.at (opened_by deeds) (sym used) ∙ dry (sym used)) put now told
+        (ap (λ l. l ++ (queues_on look.at (opened_by deeds)).down) none_left ∙ dry) put now told

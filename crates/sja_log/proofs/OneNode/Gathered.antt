@@ -1,7 +1,7 @@
 -- The links of a node after a step and a taking.
-use Rattle.std.proofs.Common.{◌≡◌, ◌≢◌, ℕ, zero, suc, List, [], ◌++◌, refl, sym, ap, ◌∙◌, subst, append_assoc}
-use Rattle.std.proofs.Common.{append-nil, arith}
-use Rattle.std.specs.Prelude.{◌<◌, Bool}
+use Rattle.std.proofs.Common.{◌≡◌, ◌≢◌, ℕ, suc, List, [], ◌++◌, sym, ap, ◌∙◌, subst, append_assoc}
+use Rattle.std.proofs.Common.{append-nil}
+use Rattle.std.specs.Prelude.{Bool}
 use Rattle.std.proofs.lemmas.List.{append_cancel_left}
 use Rattle.sja_link.specs.declared.up.Up.{Up}
 use Rattle.sja_link.specs.declared.entry.Entry.{Entry}
@@ -21,7 +21,6 @@ use Rattle.sja_driver.specs.Linking.{IsLevel, IsLinked}
 use Rattle.sja_log.specs.Nodes.{IsNode}
 use Rattle.sja_driver.specs.Tracing.{IsTraced}
 use Rattle.sja_link.proofs.Growing.Taking.{waiting, adds, taken_adds, AtMostOne, just_taken}
-use Rattle.sja_link.proofs.QueuedLinks.Lying.{up_here}
 
 -- a taking as one node has it: items that waited were taken, its links stand for its journal still, and nothing waits
 -- on the link that is read
@@ -56,15 +55,7 @@ items_are {j} {k} {after = after} holds t gave b few here given =
     items.whole ∙ ap (λ (us : List Up). j ++ entries_of_items us)
     (just_taken j items.items gave b up items.read few here whole last)
 
--- nothing waits on the link in use where it waits on none
-none_waits : (s : Deques) → 0 < s.activation → ((a : ℕ) → up_on s (suc a) ≡ []) → s.up ≡ []
-none_waits s used none = over s.activation refl
-  where
-    over : (n : ℕ) → s.activation ≡ n → s.up ≡ []
-    over zero e = absurd (omega (arith, used, e))
-    over (suc a) e = sym (up_here s (suc a) (sym e)) ∙ none a
-
--- and nothing waits any more
+-- nothing waits any more
 pub linked_after : {j k : List Entry} {deeds : List Deed} {links after : Deques}
     (driver : LoggedDriver) (holds : HoldsBy Lies deeds (driver_of driver) (log_of driver) j links) →
     ((h : ℕ → Account) → Kept Lies j links h → Kept Lies k after h) →
@@ -72,8 +63,8 @@ pub linked_after : {j k : List Entry} {deeds : List Deed} {links after : Deques}
 linked_after {k = k} {after = after} driver holds kept given level =
     let lies = lies_after k after holds kept in record {
       holds = record { got = holds.got; kept = lies; told = holds.told; off_is = holds.off_is; later = holds.later };
-      taken = none_waits after (lies 0).in_use (λ a. sym (append_cancel_left (taken_of (part k (suc a))) []
-          (up_on after (suc a)) (append-nil (taken_of (part k (suc a))) ∙ sym (given (suc a)) ∙ (lies a).up)));
+      taken = λ a. sym (append_cancel_left (taken_of (part k (suc a))) [] (up_on after (suc a))
+          (append-nil (taken_of (part k (suc a))) ∙ sym (given (suc a)) ∙ (lies a).up));
       level = level;
     }
 

@@ -1,13 +1,14 @@
--- Which link of a node is in use: that of the activation that its driver opened last.
-use Rattle.std.proofs.Common.{◌≡◌, ◌≢◌, ℕ, ◌+◌, ◌*◌, ◌<◌, ◌≤◌, List, [], length, refl, sym, ap, ◌∙◌, subst}
+-- Which links of a node have queues: that of the activation that its driver opened last, or the next one.
+use Rattle.std.proofs.Common.{◌≡◌, ◌≢◌, ℕ, zero, suc, ◌+◌, ◌<◌, ◌≤◌, List, [], length, sym, ap, ◌∙◌, subst}
 use Rattle.std.proofs.Common.{arith, inl, inr}
+use Rattle.std.specs.Prelude.{◌-◌}
 use Rattle.std.proofs.lemmas.Bool.{cases_eq, cases_lt}
 use Rattle.sja_link.specs.declared.down.Down.{Down}
 use Rattle.sja_link.specs.declared.entry.Entry.{Entry}
 use Rattle.sja_link.specs.declared.up.Up.TheVariants.{Start}
 use Rattle.sja_link.proofs.Growing.Taking.{some_none}
 use Rattle.sja_link.specs.Carried.{taken_of}
-use Rattle.sja_link.specs.Deques.{Deques, Lies, IsFullUp}
+use Rattle.sja_link.specs.Deques.{Deques, Lies, up_on, IsFullUp}
 use Rattle.sja_link.specs.Lists.{Lists, OthersStand}
 use Rattle.sja_link.specs.Looking.{with_gots}
 use Rattle.sja_link.specs.Parts.{part, entry_at}
@@ -15,6 +16,10 @@ use Rattle.sja_link.specs.Places.{place_of}
 use Rattle.sja_link.proofs.JournalEntries.Entering.{of_part_later}
 use Rattle.sja_link.proofs.JournalEntries.Openings.{part_opens}
 use Rattle.sja_driver.specs.Deeds.{Deed, opened_by, given_in, deeds_of}
+
+-- the link of this activation has queues
+abbrev pub HasQueues : Deques → ℕ → Type 0
+HasQueues s a = (s.first ≤ a) × (a < s.first + length s.others)
 
 -- on the link of each activation just that was given which these deeds gave
 abbrev pub HasGiven : List Deed → Deques → Type 0
@@ -44,39 +49,65 @@ module _ (j : List Entry) (deeds : List Deed) (begun : (place_of j).activation �
       let o = part_opens j a (omega (arith, some)) (omega (arith, begun, most)) in
       some_none (Start o.config) (taken_of o.rest) (sym (ap taken_of o.opens) ∙ sym (given a) ∙ none)
 
-  -- at most the next one is
-  pub used_most : (s : Deques) → HasGiven deeds s → s.activation ≤ opened_by deeds + 1
-  used_most s h = elim (cases_lt (opened_by deeds + 1) s.activation) [
-    | inl later ↦
-        let at = h s.activation (omega (arith, later)) in
-        absurd (at.1.begun refl (omega (arith, later)) (at.2 ∙ none_later s.activation (omega (arith, later))))
-    | inr few ↦ omega (arith, few)
-  ]
+  module _ (s : Deques) (h : HasGiven deeds s) where
+    -- where the first activations have none any more, something was given on the last that has
+    first_begun : 1 < s.first → s.first ≤ opened_by deeds
+    first_begun more =
+        let last = (s.first + length s.others) - 1 in
+        let at = h last (omega (arith, more)) in
+        let few = at.1.links.few in
+        let many = at.1.links.many in let some : 0 < length s.others = omega (arith, many, more, few) in
+        elim (cases_lt (opened_by deeds) last) [
+          | inl later ↦ absurd (at.1.begun more (omega (arith, more)) (at.2 ∙ none_later last later))
+          | inr begun ↦ omega (arith, begun, some)
+        ]
 
-  -- and just that of the last one, where one was opened
-  pub used_last : (s : Deques) → HasGiven deeds s → 0 < opened_by deeds → s.activation ≡ opened_by deeds
-  used_last s h some = elim (cases_lt (opened_by deeds) s.activation) [
-    | inl later ↦
-        let at = h s.activation (omega (arith, later)) in
-        absurd (at.1.begun refl (omega (arith, later, some)) (at.2 ∙ none_later s.activation later))
-    | inr few ↦ elim (cases_lt s.activation (opened_by deeds)) [
-      | inl later ↦
-          let at = h (opened_by deeds) some in
-          absurd (some_by_then (opened_by deeds) some (omega arith)
-          (sym at.2 ∙ ap (λ (l : Lists). l.given) (at.1.later later)))
-      | inr many ↦ omega (arith, few, many)
-    ]
-  ]
+    -- so that of the last one that was opened does
+    pub last_has : 0 < opened_by deeds → HasQueues s (opened_by deeds)
+    last_has some = (
+      elim (cases_lt 1 s.first) [ inl more ↦ first_begun more | inr one ↦ omega (arith, one, some) ],
+      elim (cases_lt (opened_by deeds) (s.first + length s.others)) [
+        | inl less ↦ less
+        | inr beyond ↦
+            let at = h (opened_by deeds) some in
+            absurd (some_by_then (opened_by deeds) some (omega arith)
+            (sym at.2 ∙ ap (λ (l : Lists). l.given) (at.1.later beyond)))
+      ],
+    )
 
--- the link in use takes an item where nothing lies upward
-pub not_full : (s : Deques) (a : ℕ) → s.activation ≡ a → s.up ≡ [] → IsFullUp s a → ⊥
-not_full s a used none (inl full) = let e = ap (λ l. length l) none in let f = full.1 in omega (arith, e, f)
-not_full s a used none (inr (inl before)) = omega (arith, used, before)
-not_full s a used none (inr (inr after)) = let l = after.0 in omega (arith, used, l)
+    -- and the next one does, or is the first that has none yet
+    pub next_has : (s.first ≤ opened_by deeds + 1) × (opened_by deeds + 1 ≤ s.first + length s.others)
+    next_has =
+        let from = (h 1 (omega arith)).1.links.from in (
+          elim (cases_lt 1 s.first) [
+            | inl more ↦ let begun = first_begun more in omega (arith, begun)
+            | inr one ↦ omega (arith, one)
+          ],
+          elim (cases_lt 0 (opened_by deeds)) [
+            | inl some ↦ let less = (last_has some).1 in omega (arith, less)
+            | inr none ↦ omega (arith, none, from)
+          ],
+        )
 
--- and the next one, where there is room
-pub next_not_full : (s : Deques) (a : ℕ) → s.activation ≤ a → s.up ≡ [] → 22 * a ≤ s.room → IsFullUp s a → ⊥
-next_not_full s a used none room (inl full) = let e = ap (λ l. length l) none in let f = full.1 in omega (arith, e, f)
-next_not_full s a used none room (inr (inl before)) = omega (arith, used, before)
-next_not_full s a used none room (inr (inr (after, inl some))) = absurd (some none)
-next_not_full s a used none room (inr (inr (after, inr less))) = omega (arith, room, less)
+-- nothing lies upward on a link where it does on none
+pub none_up : (s : Deques) (a : ℕ) → 0 < a → ((b : ℕ) → up_on s (suc b) ≡ []) → up_on s a ≡ []
+none_up s zero some none = absurd (omega (arith, some))
+none_up s (suc a) some none = none a
+
+-- a link that has queues takes an item where nothing lies upward
+pub not_full : (s : Deques) (a : ℕ) → HasQueues s a → up_on s a ≡ [] → IsFullUp s a → ⊥
+not_full s a has none (inl full) = let e = ap (λ l. length l) none in omega (arith, e, full)
+not_full s a has none (inr (inl before)) = let from = has.0 in omega (arith, from, before)
+not_full s a has none (inr (inr after)) = let less = has.1 in let beyond = after.0 in omega (arith, less, beyond)
+
+-- and the next one, if it is there
+pub next_not_full : (s : Deques) (a : ℕ) → 0 < s.first → ((b : ℕ) → up_on s (suc b) ≡ []) → s.first ≤ a →
+    a ≤ s.first + length s.others → a ≤ s.starts → IsFullUp s a → ⊥
+next_not_full s a some none from to there (inl full) =
+    let e = ap (λ l. length l) (none_up s a (omega (arith, some, from)) none) in omega (arith, e, full)
+next_not_full s a some none from to there (inr (inl before)) = omega (arith, from, before)
+next_not_full s a some none from to there (inr (inr (after, inl less))) = omega (arith, there, less)
+next_not_full s a some none from to there (inr (inr (after, inr (inl other)))) =
+    absurd (other (omega (arith, after, to)))
+next_not_full s a some none from to there (inr (inr (after, inr (inr lies)))) =
+    absurd (lies (none_up s s.first some none))

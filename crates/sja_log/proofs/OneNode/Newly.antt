@@ -1,11 +1,11 @@
 -- A driver before its first step, and its node.
-use Rattle.std.proofs.Common.{◌≡◌, ℕ, suc, ◌+◌, List, [], ◌∷◌, ◌++◌, length, refl, sym}
+use Rattle.std.proofs.Common.{◌≡◌, ℕ, zero, suc, ◌+◌, List, [], ◌∷◌, ◌++◌, length, refl, sym}
 use Rattle.std.proofs.Common.{ap, ◌∙◌, subst, cond, arith, inl, inr}
-use Rattle.std.specs.Prelude.{◌==◌, Bool, true, false, not, slice_index_or}
-use Rattle.std.proofs.lemmas.List.{get_or_append_left, get_or_push}
+use Rattle.std.specs.Prelude.{◌==◌, Bool, true, false, not, slice_index_or, replicate, min}
+use Rattle.std.proofs.lemmas.List.{get_or_append_left, get_or_push, length-replicate}
 use Rattle.std.proofs.lemmas.Bool.{cases_eq}
 use Rattle.sja_link.specs.Accounts.{account}
-use Rattle.sja_link.specs.Deques.{Deques, Lies}
+use Rattle.sja_link.specs.Deques.{Deques, Queues, nothing_lies, among, queues_on, up_on, Lies}
 use Rattle.sja_link.specs.Lists.{nothing_yet}
 use Rattle.sja_link.specs.NewLinks.{new_links}
 use Rattle.sja_regs.specs.Registers.{at_power_on}
@@ -37,19 +37,34 @@ new_push version steps sizes n ds x len made is node d less = elim (cases_eq n n
 
 -- ---- a node
 
--- nothing lies on new links
+nothing_either : (b : Bool) {q : Queues} → q ≡ nothing_lies → cond b nothing_lies q ≡ nothing_lies
+nothing_either true e = refl
+nothing_either false e = e
+
+-- nothing lies on new links, beside the one at hand
+among_new : (n first a : ℕ) → among first (replicate n nothing_lies) a ≡ nothing_lies
+among_new zero first a = refl
+among_new (suc n) first a = nothing_either (first == a) (among_new n (suc first) a)
+
+-- and on that one
+none_new : (node starts a : ℕ) → queues_on (new_links node starts) a ≡ nothing_lies
+none_new node starts a = nothing_either (min starts 1 == a) (among_new (min starts 64) 1 a)
+
 nothing_new : (node starts a : ℕ) → Lies (new_links node starts) (suc a) nothing_yet
-nothing_new node starts a = record {
-  down = sym (either (suc a == 1) []);
-  up = sym (either (suc a == 1) []);
-  later = λ less. refl;
-  begun = λ e more. absurd (omega (arith, e, more));
-  in_use = omega arith;
-}
-  where
-    either : {A : Type 0} (b : Bool) (x : A) → cond b x x ≡ x
-    either true x = refl
-    either false x = refl
+nothing_new node starts a =
+    let none = none_new node starts (suc a) in
+    let many = length-replicate (min starts 64) nothing_lies in record {
+      down = sym (ap (λ (q : Queues). q.down) none);
+      up = sym (ap (λ (q : Queues). q.up) none);
+      later = λ beyond. refl;
+      begun = λ more last. absurd (omega (arith, more));
+      links = record {
+        from = omega arith;
+        few = omega (arith, many);
+        many = many;
+        none_left = λ b from. refl;
+      };
+    }
 
 pub new_node : (version node steps size : ℕ) (x : LoggedDriver) (links : Deques) (starts : ℕ) →
     IsNewDriver version node steps size x → links ≡ new_links node starts →
@@ -77,7 +92,8 @@ new_node version node steps size x links starts new fresh = record {
       off_is = nothing_known (driver_of x) new.reset;
       later = λ a less. refl;
     };
-    taken = ap (λ (s : Deques). s.up) fresh;
+    taken = λ a. ap (λ (s : Deques). up_on s (suc a)) fresh
+        ∙ ap (λ (q : Queues). q.up) (none_new node starts (suc a));
     level = record { begun = refl; ended = refl; asked = refl };
   };
   ported = record {

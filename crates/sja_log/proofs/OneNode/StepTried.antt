@@ -1,12 +1,11 @@
 -- What comes of a step that is tried, beside the journal.
-use Rattle.std.proofs.Common.{◌≡◌, ℕ, zero, suc, ◌+◌, ◌*◌, ◌<◌, Bool, true, false, List, []}
+use Rattle.std.proofs.Common.{◌≡◌, ℕ, zero, suc, ◌+◌, ◌<◌, Bool, true, false, List, []}
 use Rattle.std.proofs.Common.{◌∷◌, ◌++◌, length, map, refl, sym, ap, ◌∙◌, subst, append-nil, arith}
 use Rattle.std.specs.Prelude.{not, Some}
 use Rattle.std.proofs.lemmas.List.{append_cancel_left}
 use Rattle.can_frame.specs.declared.buffer_view.BufferView.{BufferView}
 use Rattle.sja_link.specs.declared.down.Down.{Down}
 use Rattle.sja_link.specs.declared.entry.Entry.{Entry}
-use Rattle.sja_link.proofs.QueuedLinks.Lying.{up_here}
 use Rattle.sja_link.specs.Accounts.{account}
 use Rattle.sja_link.specs.Deques.{Deques, Lies, up_on, AreAlike, IsDryDown, IsFullUp}
 use Rattle.sja_link.specs.Lists.{Lists, OthersStand, on, is_on, same_on}
@@ -49,7 +48,8 @@ use Rattle.sja_log.proofs.Account.Looks.{IsShown, is_shown}
 use Rattle.sja_driver.proofs.Step.Few.{few_held}
 use Rattle.sja_driver.proofs.Deeds.Patience.{never_closed}
 use Rattle.sja_log.proofs.Account.SawPut.{sees_shown, if_looking}
-use Rattle.sja_log.proofs.OneNode.InUse.{HasGiven, has_given, used_most, used_last, not_full, next_not_full}
+use Rattle.sja_log.proofs.OneNode.InUse.{HasGiven, has_given, HasQueues, last_has, next_has, none_up, not_full}
+use Rattle.sja_log.proofs.OneNode.InUse.{next_not_full}
 use Rattle.sja_log.proofs.OneNode.Trying.{LooksOn, ActsHere, IsNext}
 
 -- the links of a driver that stand for its deeds
@@ -62,12 +62,12 @@ links_given {deeds} {j = j} h (suc a) some =
 module _ (j : List Entry) (deeds : List Deed) (log : WorkLog) (links : Deques) (node : ℕ)
     (lawful : IsLawfulJournal j) (begun : (place_of j).activation ≡ opened_by deeds)
     (given : (a : ℕ) → given_in (deeds_of deeds a) ≡ taken_of (part j a)) where
-  -- the end between a look and what is given then is on the link of the present activation still
+  -- the link of the present activation has queues at the end between a look and what is given then
   used_at : (w : AnyDriver) (at : Deques) (got : List Down) → HoldsBy Lies deeds w log j links → 0 < opened_by deeds →
       OthersStand Lies (opened_by deeds) links at →
       ((l : Lists) → Lies links (opened_by deeds) l → Lies at (opened_by deeds) (with_gots l got)) →
-      at.activation ≡ opened_by deeds
-  used_at w at got h some others gets = used_last j deeds begun given at
+      HasQueues at (opened_by deeds)
+  used_at w at got h some others gets = last_has j deeds begun given at
       (has_given deeds links at (opened_by deeds) got others gets (links_given h)) some
 
   pub looked : {version : ℕ} (w : AnyDriver) → is_out w ≡ true → Traces version w log deeds → IsDriverOf node (length
@@ -93,7 +93,7 @@ module _ (j : List Entry) (deeds : List Deed) (log : WorkLog) (links : Deques) (
       h.off_is lengths
       (λ all down put told. few_held j (opened_by deeds) deeds all down released window lawful put told
       (given (opened_by deeds)) trace.answered.gives lengths) seen
-      (used_at (InActive d) seen.at seen.pulls.got h (omega (arith, opened)) seen.same.1 seen.pulls.lists)
+      (used_at (InActive d) seen.at seen.pulls.got h (omega (arith, opened)) seen.same.1 seen.pulls.lists).0
 
   fits_by : {version : ℕ} (one : Step) (answer : StepAnswer) (w : AnyDriver) → Traces version w log deeds →
       FitsState version (is_out w) (opened_of w) one answer →
@@ -199,21 +199,24 @@ module _ (j : List Entry) (deeds : List Deed) (log : WorkLog) (links : Deques) (
   is_one true e = refl
   is_one false e = sym e
 
-  -- out of reset the link in use takes an item, and in reset the next one
+  -- out of reset the present link takes an item, and in reset the next one
   not_used : {version : ℕ} (d : Driver Active) → Traces version (InActive d) log deeds →
       IsDriverOf node (length (left_in log)) (InActive d) → HoldsBy Lies deeds (InActive d) log j links →
-      links.up ≡ [] → IsFullUp links (link_in d).activation → ⊥
+      ((a : ℕ) → up_on links (suc a) ≡ []) → IsFullUp links (link_in d).activation → ⊥
   not_used d trace place h empty full =
       let e = trace.opened in let a = ap (λ l. l.activation) place in
-      not_full links (link_in d).activation
-      (used_last j deeds begun given links (links_given h) (omega (arith, e, a)) ∙ e) empty full
+      let some : 0 < opened_by deeds = omega (arith, e, a) in
+      not_full links (opened_by deeds) (last_has j deeds begun given links (links_given h) some)
+      (none_up links (opened_by deeds) some empty) (subst (λ (m : ℕ). IsFullUp links m) (sym e) full)
 
   not_started : {version : ℕ} (most : ℕ) (d : Driver Reset) → Traces version (InReset d) log deeds →
-      HoldsBy Lies deeds (InReset d) log j links → links.up ≡ [] → links.room ≡ 22 * most → started_in d < most →
-      IsFullUp links (started_in d + 1) → ⊥
-  not_started most d trace h empty room less full =
-      let e = trace.opened in let used = used_most j deeds begun given links (links_given h) in
-      next_not_full links (started_in d + 1) (omega (arith, e, used)) empty (omega (arith, room, less)) full
+      HoldsBy Lies deeds (InReset d) log j links → ((a : ℕ) → up_on links (suc a) ≡ []) → links.starts ≡ most →
+      started_in d < most → IsFullUp links (started_in d + 1) → ⊥
+  not_started most d trace h empty made less full =
+      let e = trace.opened in let next = next_has j deeds begun given links (links_given h) in
+      let from = next.0 in let to = next.1 in
+      next_not_full links (started_in d + 1) (h.kept 0).links.from empty (omega (arith, e, from))
+      (omega (arith, e, to)) (omega (arith, made, less)) full
 
   -- a driver that waits sees what has been put
   seen_waiting : {version : ℕ} (w now : AnyDriver) → Traces version w log deeds →
@@ -229,38 +232,38 @@ module _ (j : List Entry) (deeds : List Deed) (log : WorkLog) (links : Deques) (
 
   pub waits : {version : ℕ} (p : Registers) (one : Step) (w now : AnyDriver) → is_out now ≡ is_out w → IsAsked j p →
       Traces version w log deeds → IsDriverOf node (length (left_in log)) w → HoldsBy Lies deeds w log j links →
-      links.up ≡ [] → links.room ≡ 22 * most_activations p.version →
+      ((a : ℕ) → up_on links (suc a) ≡ []) → links.starts ≡ most_activations p.version →
       Waits (same_on AreAlike Lies (link_used w)) (on Lies (link_used w)) (is_on IsDryDown (link_used w))
       (is_on IsFullUp (link_used w)) links p one w now → HasToWait p j deeds one
-  waits p (Await count) (InActive was) now out asked trace place h empty room (closed, unknown, few, look) =
+  waits p (Await count) (InActive was) now out asked trace place h empty made (closed, unknown, few, look) =
       let shown = looked (InActive was) refl trace place h (held_of now) (off_of now) look in
       let same = shown.window_is unknown in
       (trace.out, shown.off_is ∙ unknown, subst (λ (l : List (List ℕ)). length l < count) (sym same) few)
-  waits p (Await count) (InReset was) now out asked trace place h empty room full = elim full [ ]
-  waits p Sent (InActive was) now out asked trace place h empty room (closed, busy, look) = (
+  waits p (Await count) (InReset was) now out asked trace place h empty made full = elim full [ ]
+  waits p Sent (InActive was) now out asked trace place h empty made (closed, busy, look) = (
     trace.out,
     (lawful.found, lawful.cut, is_one _ (sym (asked lawful.found lawful.cut) ∙ busy)),
   )
-  waits p Sent (InReset was) now out asked trace place h empty room full = elim full [ ]
-  waits p Interrupt w now out asked trace place h empty room (closed, inactive, look) =
+  waits p Sent (InReset was) now out asked trace place h empty made full = elim full [ ]
+  waits p Interrupt w now out asked trace place h empty made (closed, inactive, look) =
       subst (λ (s : BufferView). is_line_active p s ≡ false)
       (seen_by_now w now Interrupt Done tt out ∙ seen_waiting w now trace place h look) inactive
-  waits p Start (InReset was) now out asked trace place h empty room (left, full) =
-      absurd (not_started (most_activations p.version) was trace h empty room left full)
-  waits p Start (InActive was) now out asked trace place h empty room full = elim full [ ]
-  waits p Stop (InActive was) now out asked trace place h empty room full =
+  waits p Start (InReset was) now out asked trace place h empty made (left, full) =
+      absurd (not_started (most_activations p.version) was trace h empty made left full)
+  waits p Start (InActive was) now out asked trace place h empty made full = elim full [ ]
+  waits p Stop (InActive was) now out asked trace place h empty made full =
       absurd (not_used was trace place h empty full)
-  waits p Stop (InReset was) now out asked trace place h empty room full = elim full [ ]
-  waits p (Command value) (InActive was) now out asked trace place h empty room (full, asks, fits) =
+  waits p Stop (InReset was) now out asked trace place h empty made full = elim full [ ]
+  waits p (Command value) (InActive was) now out asked trace place h empty made (full, asks, fits) =
       absurd (not_used was trace place h empty full)
-  waits p (Command value) (InReset was) now out asked trace place h empty room full = elim full [ ]
-  waits p Window w now out asked trace place h empty room full = elim full [ ]
-  waits p (Read a) w now out asked trace place h empty room full = elim full [ ]
-  waits p (Write a v) w now out asked trace place h empty room full = elim full [ ]
-  waits p (Load m) w now out asked trace place h empty room full = elim full [ ]
-  waits p (At n) w now out asked trace place h empty room full = elim full [ ]
-  waits p Release (InReset was) now out asked trace place h empty room full = elim full [ ]
-  waits p Release (InActive was) now out asked trace place h empty room (unknown, r) =
+  waits p (Command value) (InReset was) now out asked trace place h empty made full = elim full [ ]
+  waits p Window w now out asked trace place h empty made full = elim full [ ]
+  waits p (Read a) w now out asked trace place h empty made full = elim full [ ]
+  waits p (Write a v) w now out asked trace place h empty made full = elim full [ ]
+  waits p (Load m) w now out asked trace place h empty made full = elim full [ ]
+  waits p (At n) w now out asked trace place h empty made full = elim full [ ]
+  waits p Release (InReset was) now out asked trace place h empty made full = elim full [ ]
+  waits p Release (InActive was) now out asked trace place h empty made (unknown, r) =
       let n = length (left_in log) in
       let e = trace.opened in let a = ap (λ l. l.activation) place in
       let opened : suc n ≡ opened_by deeds = omega (arith, e, a) in
@@ -276,4 +279,4 @@ module _ (j : List Entry) (deeds : List Deed) (log : WorkLog) (links : Deques) (
       let none : up_on r.at b ≡ [] =
       sym (append_cancel_left (taken_of (part j b)) [] (up_on r.at b)
       (append-nil (taken_of (part j b)) ∙ sym (given b) ∙ lies.up)) in
-      absurd (not_full r.at (link_in was).activation (used ∙ e) (sym (up_here r.at b (sym used)) ∙ none) r.is_full)
+      absurd (not_full r.at b used none (subst (λ (m : ℕ). IsFullUp r.at m) (sym e) r.is_full))

@@ -1,5 +1,5 @@
 -- A node after a step of its driver and a taking of the bus, and a node whose driver did nothing.
-use Rattle.std.proofs.Common.{◌≡◌, ℕ, ◌+◌, ◌*◌, ◌<◌, List, [], ◌∷◌, ◌++◌, length, refl, sym, ap, ◌∙◌, subst}
+use Rattle.std.proofs.Common.{◌≡◌, ℕ, ◌+◌, ◌<◌, List, [], ◌∷◌, ◌++◌, length, refl, sym, ap, ◌∙◌, subst}
 use Rattle.std.proofs.Common.{append-nil, arith}
 use Rattle.std.specs.Prelude.{Some, None}
 use Rattle.std.proofs.lemmas.List.{length-append}
@@ -171,7 +171,7 @@ module _ {version : ℕ} {size : ℕ} {j k : List Entry} {deeds : List Deed} {wa
 
     pub waited : StepsHere was now links given p q one None →
         ((any m : ℕ) → HasRoom any m (log_of was) → HasRoom any m (log_of now)) →
-        links.room ≡ 22 * most_activations version → Waited version size j k deeds now p q after one
+        links.starts ≡ most_activations version → Waited version size j k deeds now p q after one
     waited st room made =
         let unmet = is_unmet st.tried st.met in
         let acts : ActsHere links given p q one (driver_of was) (driver_of now) Unmet =
@@ -191,7 +191,7 @@ module _ {version : ℕ} {size : ℕ} {j k : List Entry} {deeds : List Deed} {wa
           waits = waits j deeds (log_of was) links (node_of was) lawful h.linked.level.begun
               (λ a. given_taken deeds j a (h.in_time.when a)) p one (driver_of was) (driver_of now) acts.out h.asked
               h.traced.traces h.traced.lawful.own h.linked.holds h.linked.taken
-              (made ∙ ap (λ n. 22 * most_activations n) (sym h.ported.version_is)) acts.waits;
+              (made ∙ ap most_activations (sym h.ported.version_is)) acts.waits;
           journal = same_journal trace holds room st.release_room st.left_room acts.port;
           port = acts.port;
           node = idle trace holds room st.release_room st.left_room acts.port;

@@ -1,8 +1,7 @@
 -- What a driver holds, beside what was put for it.
 use Rattle.std.proofs.Common.{◌≡◌, ℕ, suc, ◌+◌, Bool, true, false, List, [], ◌∷◌, ◌++◌, length, map, drop, refl}
-use Rattle.std.proofs.Common.{sym, ap, ◌∙◌, subst, append-nil, arith, inl, inr}
+use Rattle.std.proofs.Common.{sym, ap, ◌∙◌, subst, append-nil, arith}
 use Rattle.std.specs.Prelude.{if◌then◌else◌}
-use Rattle.std.proofs.lemmas.Bool.{cases_eq}
 use Rattle.std.proofs.lemmas.List.{length-map, drop_at}
 use Rattle.sja_link.specs.declared.down.Down.{Down}
 use Rattle.sja_link.specs.declared.entry.Entry.{Entry}
@@ -15,7 +14,6 @@ use Rattle.sja_link.specs.Parts.{part}
 use Rattle.sja_link.specs.Carried.{put_in, put_of, taken_of}
 use Rattle.sja_link.proofs.JournalEntries.Entering.{of_part_none}
 use Rattle.sja_link.specs.Links.{Kept}
-use Rattle.sja_link.proofs.QueuedLinks.Lying.{up_here, up_else}
 use Rattle.sja_driver.specs.Deeds.{Deed, opened_by, released_lengths, deeds_of}
 use Rattle.sja_driver.specs.Windows.{put_by, off_by, window_of}
 use Rattle.sja_log.specs.Settling.{IsSettled}
@@ -23,29 +21,26 @@ use Rattle.sja_driver.proofs.Trace.Timings.{put_now}
 
 -- at the end: what is left unread is what is held, and what lies there
 pub settled_by : (j : List Entry) (a : ℕ) (driver : Account) (links : Deques) (released held : List (List ℕ)) →
-    Lies links a (account j a driver) → links.up ≡ [] → Holds driver.got released held →
+    Lies links a (account j a driver) → up_on links a ≡ [] → Holds driver.got released held →
     IsSettled j a (record { released = released; unread = held ++ messages (down_on links a) })
 settled_by j a driver links released held lies empty got = record {
   driver = driver;
   down = down_on links a;
   held = held;
   put = lies.down;
-  given = lies.up ∙ ap (λ l. taken_of (part j a) ++ l) none ∙ append-nil (taken_of (part j a));
+  given = lies.up ∙ ap (λ l. taken_of (part j a) ++ l) empty ∙ append-nil (taken_of (part j a));
   holds = got;
   unread = refl;
 }
-  where
-    none : up_on links a ≡ []
-    none = elim (cases_eq a links.activation) [ inl e ↦ up_here links a e ∙ empty | inr o ↦ up_else links a o ]
 
 -- and so of every activation of a node whose links kept to its journal
 pub settled_kept : (j : List Entry) (links : Deques) (h : ℕ → Account) → Kept Lies j links h →
-    (a : ℕ) (released held : List (List ℕ)) → links.up ≡ [] → Holds (h a).got released held →
+    (a : ℕ) (released held : List (List ℕ)) → ((b : ℕ) → up_on links (suc b) ≡ []) → Holds (h a).got released held →
     IsSettled j (a + 1) (record { released = released; unread = held ++ messages (down_on links (a + 1)) })
 settled_kept j links h kept a released held empty got =
     let e : suc a ≡ a + 1 = omega arith in
     settled_by j (a + 1) (h a) links released held (subst (λ (n : ℕ). Lies links n (account j n (h a))) e (kept a))
-    empty got
+    (subst (λ (n : ℕ). up_on links n ≡ []) e (empty a)) got
 
 -- where a step has taken in all that was put, its window is what it holds
 pub window_now : (j : List Entry) (deeds : List Deed) (got : List Down) (released held : List (List ℕ)) →

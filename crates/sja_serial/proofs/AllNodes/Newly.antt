@@ -53,7 +53,7 @@ stands_new setup steps bus drivers ports links may bus_is driver_count made port
         count = fresh.count;
         own = λ node l less. ap (λ (s : Deques). s.node) (fresh.each node l less);
       };
-      starts = λ node l less. ap (λ (s : Deques). s.room) (fresh.each node l less);
+      starts = λ node l less. ap (λ (s : Deques). s.starts) (fresh.each node l less);
       own = λ node d less. (made node d less).own;
       nodes = λ node d p l less.
           let x = slice_index_or drivers node d in let s = slice_index_or links node l in

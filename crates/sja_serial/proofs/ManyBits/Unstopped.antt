@@ -2,15 +2,16 @@
 use Rattle.std.proofs.Common.{◌≡◌, ℕ, suc, ◌+◌, ◌-◌, ◌<◌, ◌≤◌, Bool, true, false, List, [], ◌∷◌, ◌++◌, length, sym}
 use Rattle.std.proofs.Common.{ap, ◌∙◌, subst, append_assoc, inl, inr, arith}
 use Rattle.std.specs.Prelude.{◌⊎◌, None, slice_index_or}
-use Rattle.std.proofs.lemmas.Bool.{cases_eq, cases_lt}
+use Rattle.std.proofs.lemmas.Bool.{cases_lt}
 use Rattle.std.proofs.lemmas.List.{length-append, length-replicate}
 use Rattle.can_bits.specs.declared.level.Level.TheVariants.{Recessive}
 use Rattle.sja_link.specs.NodeWords.{received}
+use Rattle.sja_link.specs.declared.down.Down.{Down}
 use Rattle.sja_link.specs.declared.up.Up.{Up}
 use Rattle.sja_link.specs.declared.entry.Entry.{Entry}
 use Rattle.sja_link.specs.declared.entry.Entry.TheVariants.{Bit, Abort}
 use Rattle.sja_link.specs.Accounts.{Account, account}
-use Rattle.sja_link.specs.Deques.{Deques, Lies, up_on}
+use Rattle.sja_link.specs.Deques.{Deques, IsAside, Lies, queues_on, up_on}
 use Rattle.sja_link.specs.OutOfOrder.{read_in}
 use Rattle.sja_link.specs.Lists.{Lists}
 use Rattle.sja_link.specs.Looking.{one_if}
@@ -52,7 +53,6 @@ use Rattle.sja_driver.proofs.OneNode.Room.{has_room}
 use Rattle.lemmas.proofs.Lists.{none_back, some_of}
 use Rattle.sja_link.proofs.JournalEntries.Entering.{of_part_later}
 use Rattle.sja_link.proofs.JournalEntries.Openings.{Opens, part_opens}
-use Rattle.sja_link.proofs.QueuedLinks.Lying.{down_lies}
 use Rattle.sja_serial.proofs.OneNode.Alike.{ends}
 use Rattle.sja_link.proofs.Growing.Taking.{adds, some_none}
 use Rattle.sja_link.proofs.Growing.Ordered.{no_off_put}
@@ -125,46 +125,51 @@ module _ (setup : Setup) (r : SerialValue) (deeds : List (List Deed)) (h : Stand
         (none_beyond (journal_at r.bus.journals m) t items given before (stops_of t) (item ∷ up)
         (shown ∙ append_assoc (taken_of (part t (suc (stops_of t)))) (item ∷ []) up)))
 
-    -- the link in use is that of the activation that is open: nothing was given on a later one, and something was on it
+    -- the link that is read has queues: something was taken on it; and if it had none any more, something would have
+    -- been given on a later one
     in_use : (opened j : List Entry) (end : Deques) → stops_of opened ≡ stops_of (journal_at r.bus.journals m) →
-        (b : GivesBack ends opened j end) → Kept Lies opened end acc → b.last.activation ≡ read_in j
-    in_use opened j end same b kept =
+        (b : GivesBack ends opened j end) → Kept Lies opened end acc → IsAside b.last (read_in j) → ⊥
+    in_use opened j end same b kept (inr beyond) =
+        let opens = b.is_open in let o = part_opens j (read_in j) (omega arith) (omega (arith, opens)) in
+        start_first o (ap (λ (l : Lists). l.taken) ((b.stood acc kept (stops_of j)).later beyond))
+    in_use opened j end same b kept (inl gone) =
         let ended = node.linked.level.ended in let begun = node.linked.level.begun in
-        let one = one_most (is_active (deeds_at deeds m)) in
-        let stood = b.stood acc kept in let a = stops_of j in let s = b.last in
-        let opens = b.is_open in let stops = b.ended in
-        elim (cases_lt s.activation (suc a)) [
-          | inl early ↦
-              let o = part_opens j (suc a) (omega arith) (omega (arith, opens)) in
-              let none = ap (λ (l : Lists). l.taken) ((stood a).later early) in
-              absurd (start_first o none)
-          | inr late ↦ elim (cases_eq s.activation (suc a)) [
-            | inl e ↦ e
-            | inr differ ↦
-                let n = s.activation - 1 in
-                let e : s.activation ≡ suc n = omega (arith, late) in
-                let some = (stood n).begun (sym e) (omega (arith, late, differ)) in
-                let none = ap taken_of (of_part_later entry_at (journal_at r.bus.journals m) (suc n)
-                (omega (arith, begun, ended, one, same, stops, late, differ))) in
-                absurd (some (before n ∙ none))
-          ]
-        ]
+        let one = one_most (is_active (deeds_at deeds m)) in let stops = b.ended in
+        let s = b.last in let are = (b.stood acc kept (stops_of j)).links in let few = are.few in
+        let many = are.many in let some : 0 < length s.others = omega (arith, many, gone, few) in
+        let n = s.first + length s.others - 2 in
+        let given_there = (b.stood acc kept n).begun (omega (arith, gone)) (omega (arith, gone, some)) in
+        let none = ap taken_of (of_part_later entry_at (journal_at r.bus.journals m) (suc n)
+        (omega (arith, begun, ended, one, same, stops, gone, some))) in
+        absurd (given_there (before n ∙ none))
 
     -- no link is full: no bus-off lies there, and fewer than 22 messages fit in 64 bytes
     not_stuck : (opened j : List Entry) (end : Deques) → stops_of opened ≡ stops_of (journal_at r.bus.journals m) →
         Kept Lies opened end acc → GivesBack ends opened j end → ⊥
-    not_stuck opened j end same kept b =
-        let ds = deeds_at deeds m in let d = slice_index_or r.drivers m driver in let a = stops_of j in
-        let at = in_use opened j end same b kept in
-        let lies : Lies b.last (suc a) (account j (suc a) (acc a)) = b.stood acc kept a in
-        let few = few_left_down j (suc a) (received b.found) ds
-        (node.linked.holds.got a) b.last.down (up_on b.last (suc a))
-        (released_of (releases_in (log_of d)) (suc a))
-        (slice_index_or (leaves (left_in (log_of d)) (held_of (driver_of d))) a []) b.verdicts
-        (no_off_put (part j (suc a)) b.on) (down_lies b.last (suc a) (account j (suc a) (acc a)) (sym at) lies)
-        (node.linked.holds.told a) lies.up node.traced.traces.answered.gives
-        (sym (node.traced.traces.released (suc a))) in
-        elim b.is_full [ inl unused ↦ unused at | inr full ↦ omega (arith, few, full) ]
+    not_stuck opened j end same kept b = elim b.is_full [ inl aside ↦ none_aside aside | inr full ↦ too_few full ]
+      where
+        none_aside : IsAside b.last (read_in j) → ⊥
+        none_aside = in_use opened j end same b kept
+
+        has_queues : b.last.first ≤ read_in j
+        has_queues = elim (cases_lt (read_in j) b.last.first) [
+          | inl gone ↦ absurd (none_aside (inl gone))
+          | inr most ↦ most
+        ]
+
+        too_few : length (queues_on b.last (read_in j)).down ≡ 22 → ⊥
+        too_few full =
+            let ds = deeds_at deeds m in let d = slice_index_or r.drivers m driver in let a = stops_of j in
+            let q = queues_on b.last (suc a) in let got = node.linked.holds.got a in
+            let lies : Lies b.last (suc a) (account j (suc a) (acc a)) = b.stood acc kept a in
+            let few = few_left_down j (suc a) (received b.found) ds got q.down (up_on b.last (suc a))
+            (released_of (releases_in (log_of d)) (suc a))
+            (slice_index_or (leaves (left_in (log_of d)) (held_of (driver_of d))) a []) b.verdicts
+            (no_off_put (part j (suc a)) b.on)
+            (lies.down ∙ ap (λ (l : List Down). got ++ (l ++ q.down)) (lies.links.none_left (suc a) (inr has_queues)))
+            (node.linked.holds.told a) lies.up node.traced.traces.answered.gives
+            (sym (node.traced.traces.released (suc a))) in
+            omega (arith, few, full)
 
   no_item : (now : BusValue) (after : List Deques) (f : BusFault) →
       IsTakenAndRefused Lies (r.bus.run + r.bus.left) r.bus.steps r.bus.journals now.journals r.links after f → ⊥

@@ -1,12 +1,10 @@
 -- The links of all nodes, of which each is another state of what stood there.
-use Rattle.std.proofs.Common.{◌≡◌, ℕ, ◌*◌, ◌<◌, Bool, true, false, cond, List, [], length, refl, ◌∙◌}
-use Rattle.std.specs.Prelude.{◌==◌}
+use Rattle.std.proofs.Common.{◌≡◌, ℕ, ◌<◌, List, [], length, refl, ◌∙◌}
 use Rattle.std.specs.Prelude.{slice_index_or, slice_set}
 use Rattle.lemmas.specs.Related.{EachRelated}
 use Rattle.lemmas.proofs.Related.{each_at, each_one, each_trans}
 use Rattle.sja_link.specs.declared.bus_end.BusEnd.{Ghosts as Ends}
 use Rattle.sja_link.specs.Deques.{Deques, Lies, AreAlike, IsFullDown, up_on}
-use Rattle.sja_link.specs.declared.up.Up.{Up}
 use Rattle.sja_link.specs.Links.{AreEnds}
 use Rattle.sja_driver.proofs.OneNode.Slices.{ends_still}
 
@@ -14,6 +12,7 @@ use Rattle.sja_driver.proofs.OneNode.Slices.{ends_still}
 abbrev pub ends : Ends Deques
 ends = record {
   node = λ (s : Deques). s.node;
+  links = λ (s : Deques). s.starts;
   stands = Lies;
   same = AreAlike;
   full = IsFullDown;
@@ -33,11 +32,11 @@ still_ends {nodes} {links} {after} ends sames =
     ends_still (λ (s : Deques). s.node) AreAlike (λ a b e. e.0) nodes links after ends sames
 
 pub still_starts : {nodes : ℕ} (most : ℕ) (links after : List Deques) →
-    ((m : ℕ) (l : Deques) → m < nodes → (slice_index_or links m l).room ≡ 22 * most) →
+    ((m : ℕ) (l : Deques) → m < nodes → (slice_index_or links m l).starts ≡ most) →
     EachRelated AreAlike links after →
-    (m : ℕ) (l : Deques) → m < nodes → (slice_index_or after m l).room ≡ 22 * most
+    (m : ℕ) (l : Deques) → m < nodes → (slice_index_or after m l).starts ≡ most
 still_starts most links after starts sames m l less =
-    each_at AreAlike (λ (s : Deques). s.room) (λ x y e. e.1) links after m l sames ∙ starts m l less
+    each_at AreAlike (λ (s : Deques). s.starts) (λ x y e. e.1) links after m l sames ∙ starts m l less
 
 -- and those that were left once one of them was exchanged
 pub alike_after : (links after : List Deques) {node : ℕ} (old given : Deques) → node < length links →
@@ -46,11 +45,3 @@ pub alike_after : (links after : List Deques) {node : ℕ} (old given : Deques) 
 alike_after links after {node} old given there one sames =
     each_trans AreAlike alike_trans links (slice_set links node given) after
     (each_one AreAlike alike_refl links node old given there one) sames
-
--- where nothing lies upward on the link in use nothing does on any
-pub none_up : (s : Deques) → s.up ≡ [] → (a : ℕ) → up_on s a ≡ []
-none_up s none a = by (a == s.activation)
-  where
-    by : (b : Bool) → cond b s.up [] ≡ []
-    by true = none
-    by false = refl

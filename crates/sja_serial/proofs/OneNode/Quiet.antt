@@ -26,7 +26,6 @@ use Rattle.sja_log.specs.Nodes.{IsNode}
 use Rattle.sja_serial.specs.Serial.{Setup, SerialValue, StandsAt}
 use Rattle.sja_driver.proofs.Trace.Stepping.{given_taken}
 use Rattle.sja_log.proofs.OneNode.Trying.{StepsHere}
-use Rattle.sja_serial.proofs.OneNode.Alike.{none_up}
 
 pub as_untold : (b : Bool) (j : List Entry) → IsUntold b b j j
 as_untold b j = record { stays = λ e. e; takes = λ differ. absurd (differ refl); none = λ e same. e }
@@ -81,5 +80,5 @@ module _ {setup : Setup} {r : SerialValue} {deeds : List (List Deed)} (i : ℕ) 
             (ap (λ (s : Deques). up_on s (suc at)) (get_or-set_same r.links i given d few) ∙ given_dry at)
         | inr differ ↦
             ap (λ (s : Deques). up_on s (suc at)) (get_or-set_other r.links i m given d (λ e. differ (sym e)))
-            ∙ none_up (slice_index_or r.links m d) (stood.nodes m was p d there).linked.taken (suc at)
+            ∙ (stood.nodes m was p d there).linked.taken at
       ]

@@ -1,6 +1,6 @@
 -- A run in which the step of one node's driver was tried, and what it gave was taken: it was done, or it has to wait.
 use Rattle.sja_script.specs.declared.step_answer.StepAnswer.{StepAnswer}
-use Rattle.std.proofs.Common.{◌≡◌, ℕ, zero, suc, ◌*◌, ◌<◌, List, [], ◌∷◌, length, sym, ap}
+use Rattle.std.proofs.Common.{◌≡◌, ℕ, zero, suc, ◌<◌, List, [], ◌∷◌, length, sym, ap}
 use Rattle.std.proofs.Common.{refl, ◌∙◌, subst, append-nil, arith, inl, inr}
 use Rattle.std.specs.Prelude.{slice_index_or, slice_set, Option, Some, None, IfSome}
 use Rattle.std.proofs.lemmas.Bool.{cases_eq}
@@ -57,8 +57,8 @@ module _ {setup : Setup} {r : SerialValue} {deeds : List (List Deed)} {node : �
     w = node_there h there t.was_is t.p_is t.old_is
 
     -- its links were made for all activations of this version
-    starts : old.room ≡ 22 * most_activations setup.version
-    starts = ap (λ (s : Deques). s.room) t.old_is ∙ h.starts node old there
+    starts : old.starts ≡ most_activations setup.version
+    starts = ap (λ (s : Deques). s.starts) t.old_is ∙ h.starts node old there
 
     port : (x : Registers) → p ≡ slice_index_or r.ports node x
     port x = t.p_is ∙ get_or_default r.ports node p x (let c = h.count.ports in omega (arith, c, there))

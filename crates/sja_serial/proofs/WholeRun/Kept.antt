@@ -86,7 +86,7 @@ few_activations version plain = by (nat_lt version 3) (nat_lt version 4) (lt-ltb
 
 -- so its links forget nothing
 pub keeps_links : (setup : Setup) (r : SerialValue) (deeds : List (List Deed)) → StandsAt setup r deeds →
-    IsKept setup → (k : ℕ) (l : Deques) → k < length r.links → KeepsAll (slice_index_or r.links k l).room
+    IsKept setup → (k : ℕ) (l : Deques) → k < length r.links → KeepsAll (22 * (slice_index_or r.links k l).starts)
 keeps_links setup r deeds h kept k l less =
     let count = h.ends.count in let most = few_activations setup.version (h.may.plans kept.bits) in
     let made = h.starts k l (omega (arith, count, less)) in omega (arith, made, most)

@@ -1,4 +1,4 @@
-use Rattle.std.proofs.Common.{rules, ◌≡◌, ◌+◌, ◌<◌, ◌≤◌, ℕ, List, length, sym, ap, ◌∙◌, subst, arith}
+use Rattle.std.proofs.Common.{rules, ◌≡◌, ◌+◌, ◌*◌, ◌<◌, ◌≤◌, ℕ, List, length, sym, ap, ◌∙◌, subst, arith}
 use Rattle.std.specs.Prelude.{slice_index_or}
 use Rattle.std.proofs.lemmas.List.{get_or_default}
 use Rattle.sja_link.specs.declared.older_down.OlderDown.{OlderDown}
@@ -15,7 +15,7 @@ loop-of_node-init c = record {
 
 pub on-requires : goal.on-requires
 on-requires c =
-    let P : Deques → Type 0 = λ s. KeepsAll s.room in
+    let P : Deques → Type 0 = λ s. KeepsAll (22 * s.starts) in
     record {
       kept = subst P (sym c.of_node-item.is)
           (c.requires.kept c.loop-of_node.of_node-index c.of_node-item.result c.loop-of_node-test.true);

@@ -1,18 +1,23 @@
-use Rattle.std.proofs.Common.{◌≡◌, ◌++◌, [], sym, ap, ◌∙◌}
-use Rattle.sja_link.specs.Deques.{on_link, left_on}
-use Rattle.sja_log.proofs.Account.OffLinks.{left_all, left_in_parts}
+use Rattle.std.proofs.Common.{◌≡◌, ◌+◌, ◌++◌, length, ap, ◌∙◌}
+use Rattle.sja_link.specs.Deques.{all_down, left_on}
+use Rattle.sja_log.proofs.Account.OffLinks.{whole_left, left_all, left_in_parts, here_in_parts}
 use Rattle.sja_log.proofs.left_down.LeftDown.on.Goals as goal
 
 pub returns : goal.returns
 returns c =
     let links = c.args.links.now in
-    let whole : c.push-2.new.self ≡ links.older ++ on_link links.activation links.down =
-    left_in_parts links c.in_ok-copies.field-0.items c.push.new.self c.push-2.new.self c.as_slices.result.0.now
-    c.as_slices.result.1.now c.activation.result c.activation-2.result (c.in_ok-copies.ensures ∙ c.older.ensures.older)
-    (c.as_slices.ensures.items ∙ c.down.ensures) c.activation.ensures c.activation-2.ensures
-    c.in_ok-push.ensures.pushed c.in_ok-push-2.ensures.pushed in
-    let none : left_on links.older links.activation ≡ [] =
-    ap (λ l. left_on l links.activation) (sym c.older.ensures.older) ∙ c.older.ensures.before in record {
+    let parts = c.as_slices.result in let at_hand = c.as_slices-2.result in
+    let others : c.push_all-2.new.self ≡ links.older ++ all_down links.first links.others =
+    left_in_parts links c.in_ok-copies.field-0.items c.push_all.new.self c.push_all-2.new.self parts.0.now
+    parts.1.now c.first.result (c.first-2.result + length parts.0.now) (c.in_ok-copies.ensures ∙ c.older.ensures.older)
+    (c.as_slices.ensures.items ∙ c.others.ensures.others) c.first.ensures.first
+    (ap (λ n. n + length parts.0.now) c.first-2.ensures.first)
+    c.in_ok-push_all.ensures c.in_ok-push_all-2.ensures in
+    let whole : c.push-2.new.self ≡ whole_left links =
+    here_in_parts links c.push_all-2.new.self c.push.new.self c.push-2.new.self at_hand.0.now at_hand.1.now
+    c.at.result c.at-2.result
+    (c.as_slices-2.ensures.items ∙ c.down.ensures ∙ ap (λ q. q.down) c.here.ensures)
+    c.at.ensures c.at-2.ensures others c.in_ok-push.ensures.pushed c.in_ok-push-2.ensures.pushed in record {
       whole = whole;
-      each = λ a. ap (λ l. left_on l a) whole ∙ left_all links none a;
+      each = λ a. ap (λ l. left_on l a) whole ∙ left_all links c.others.ensures.place a;
     }

@@ -1,4 +1,4 @@
-use Rattle.std.proofs.Common.{◌≡◌, ℕ, List, ◌<◌, length, sym, ap, ◌∙◌, subst, arith}
+use Rattle.std.proofs.Common.{◌≡◌, ℕ, List, ◌*◌, ◌<◌, length, sym, ap, ◌∙◌, subst, arith}
 use Rattle.std.specs.Prelude.{slice_index_or}
 use Rattle.sja_link.specs.declared.down.Down.{Down}
 use Rattle.sja_link.specs.declared.older_down.OlderDown.{OlderDown}
@@ -28,7 +28,8 @@ all_left_down-requires g c =
     let deeds = all_deeds c.requires.0.0 in
     let stood : StandsAt g.setup now deeds = subst (λ (x : SerialValue). StandsAt g.setup x deeds)
     (sym c.self.view_is) c.requires.0.1.stands in
-    let P : List Deques → Type 0 = λ ls. (k : ℕ) (l : Deques) → k < length ls → KeepsAll (slice_index_or ls k l).room in
+    let P : List Deques → Type 0 = λ ls. (k : ℕ) (l : Deques) → k < length ls →
+    KeepsAll (22 * (slice_index_or ls k l).starts) in
     record { kept = subst P (sym c.as_slice.ensures.value) (keeps_links g.setup now deeds stood c.requires.1) }
 
 pub node_runs-requires-clause-lawful : goal.node_runs-requires-clause-lawful
