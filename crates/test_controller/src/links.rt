@@ -1,7 +1,7 @@
 //! Links and the ledgers at their ends, and the world of one link: a row is calls of it.
 //!
-//! Numbers are decimal. A row begins with `queues`, the links of a node of two queues, `rings`, those of two rings
-//! each, or `world`; [`calls`] and [`worlds`] say what each call is.
+//! Numbers are decimal. A row begins with `queues`, the links of a node of two queues each for 64 activations, `more`,
+//! the same for 65, `rings`, those of two rings each, or `world`; [`calls`] and [`worlds`] say what each call is.
 
 mod answers;
 mod calls;
@@ -23,7 +23,8 @@ use worlds::allowed;
 pub fn answered(alloc: Global, row: &str) -> io::Result<String> {
     let (kind, calls) = row.split_once("; ").unwrap_or((row, ""));
     match kind {
-        "queues" => Ok(told_of(alloc, QueueLink::new(alloc)?, calls)?),
+        "queues" => Ok(told_of(alloc, QueueLink::new(alloc, 64)?, calls)?),
+        "more" => Ok(told_of(alloc, QueueLink::new(alloc, 65)?, calls)?),
         "rings" => Ok(told_of(alloc, Rings::new(alloc)?, calls)?),
         "world" => Ok(allowed(alloc, calls)?),
         _ => Ok(String::from_str(alloc, " ?")?),

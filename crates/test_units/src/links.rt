@@ -4,5 +4,6 @@
 pub(crate) mod given;
 mod journals;
 mod numbers;
+mod queues;
 mod recents;
 mod refusals;

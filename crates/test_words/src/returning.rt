@@ -23,11 +23,15 @@ impl Returning {
 }
 
 impl BusEnd for Returning {
-    ghost use Rattle.std.specs.Prelude.{◌≡◌, ⊤, [], refl};
-    ghost use Rattle.std.proofs.Common.{◌∙◌};
+    ghost use Rattle.std.specs.Prelude.{◌≡◌, ◌+◌, ⊤, [], length, refl};
+    ghost use Rattle.std.proofs.Common.{◌∙◌, ap, arith, inl, inr};
+    ghost use Rattle.std.proofs.lemmas.Bool.{cases_lt};
+    ghost use Rattle.sja_link.specs.Lists.{Lists};
     ghost use Rattle.sja_link.specs.Deques.{Lies, AreAlike, up_on};
 
     ghost node = { λ s. s.links.node };
+
+    ghost links = { λ s. s.links.starts };
 
     ghost stands = { λ s a l. Lies s.links a l };
 
@@ -57,6 +61,13 @@ impl BusEnd for Returning {
     ghost same_trans = { λ a b c p q. (q.0 ∙ p.0, q.1 ∙ p.1) };
 
     ghost same_node = { λ a b p. p.0 };
+
+    ghost same_links = { λ a b p. p.1 };
+
+    ghost has_taken = { λ s a l h some. elim (cases_lt a (s.links.first + length s.links.others)) [
+      | inl less ↦ let few = h.links.few in omega (arith, less, few)
+      | inr beyond ↦ absurd (some (ap (λ (x : Lists). x.taken) (h.later beyond)))
+    ] };
 }
 
 impl DriverEnd for Returning {

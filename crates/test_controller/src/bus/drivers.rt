@@ -14,7 +14,7 @@ use test_words::{address, byte, message_of};
 /// `start 0` and `stop 0`; `load 0 00 24 60`, a message; `command 0 01`; `read 0 SR TXERR`; `write 0 MOD 03`;
 /// `release 0`; `unread 0`, how many messages it got and didn't release; past the driver `give 1 1 start`, whether an
 /// item is taken on the link of the first activation of node 1, `get 1 1`, the next one on it, and `left 1 1`, how many
-/// lie on it once the next activation has begun; and [`rounds`], [`sends`] and [`severals`].
+/// lie downward on it; and [`rounds`], [`sends`] and [`severals`].
 pub fn of_driver(told: &mut RowAnswers, rig: &mut Rig, name: &str, rest: &[&str]) {
     match (name, rest) {
         ("start" | "stop", [node]) => told.made(changed(rig, name, node)),
@@ -122,7 +122,7 @@ fn got(rig: &mut Rig, node: &str, activation: &str) -> Option<&'static str> {
     )
 }
 
-/// How many items lie on a link that is no longer in use.
+/// How many items lie downward on a link.
 fn left(rig: &mut Rig, node: &str, activation: &str) -> Option<u32> {
-    rig.left(small(node)?, u64::from(small(activation)?))
+    u32::try_from(rig.left(small(node)?, u64::from(small(activation)?))?).ok()
 }

@@ -23,14 +23,6 @@ impl Hand {
         }
     }
 
-    /// How often it was started.
-    pub fn activation(&self) -> u64 {
-        match &self.driver {
-            AnyDriver::InReset(driver) => driver.activation(),
-            AnyDriver::InActive(driver) => driver.activation(),
-        }
-    }
-
     /// The driver, to be put back.
     fn taken(&mut self) -> Hand {
         let node = self.node;

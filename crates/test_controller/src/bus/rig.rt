@@ -34,11 +34,8 @@ impl Rig {
         Some(Rig { bus, hands })
     }
 
-    /// Starts the controller of a node. Where that isn't its first start, what the drivers gave before is taken first.
+    /// Starts the controller of a node.
     pub fn start(&mut self, node: u8) -> Option<()> {
-        if self.hands.get(usize::from(node))?.activation() > 0 {
-            let _ = self.bus.gather();
-        }
         let hand = self.hands.get_mut(usize::from(node))?;
         let links = links_at(&mut self.bus.links, node)?;
         hand.start(links, port_at(&mut self.bus.board, node)?)
@@ -100,13 +97,17 @@ impl Rig {
         Some(links_at(&mut self.bus.links, node)?.get(activation))
     }
 
-    /// How many items lie downward on that link, which is no longer in use.
-    pub fn left(&mut self, node: u8, activation: u64) -> Option<u32> {
-        let mut count = 0u32;
-        for item in links_at(&mut self.bus.links, node)?.older() {
-            count = count.saturating_add(u32::from(item.activation == activation));
-        }
-        Some(count)
+    /// How many items lie downward on that link; nothing where it has no queues.
+    pub fn left(&mut self, node: u8, activation: u64) -> Option<usize> {
+        let links = links_at(&mut self.bus.links, node)?;
+        let place = activation.checked_sub(links.first())?;
+        let other = links.others().get(usize::try_from(place).ok()?)?;
+        let link = if links.at() == activation {
+            links.here()
+        } else {
+            other
+        };
+        Some(link.down().len())
     }
 
     /// What stands of each node at the end, by node.

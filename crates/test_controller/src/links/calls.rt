@@ -13,7 +13,7 @@ use std::alloc::{AllocError, Global};
 /// often two messages are put and got. The bus's ledger: `judge 13 3`, `collect`, `off`, `free`. The driver's: `look`,
 /// `window`, `release`, `unread`, `seen`. `returns 2`: the link gives one item back once it took so many. `of 2`: what
 /// goes past the ledgers goes on the link of this activation from now on. `left`: what was left downward on those
-/// before the one in use. `settle`, last: what is left on the first link.
+/// that have no queues any more. `settle`, last: what is left on the first link.
 pub fn does<L: Link>(
     alloc: Global,
     text: &mut String,

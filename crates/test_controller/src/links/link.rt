@@ -27,7 +27,7 @@ pub trait Link {
     /// What is put, taken, got and given past the ledgers from now on is so on the link of this activation.
     fn of(&mut self, activation: u64);
 
-    /// Writes what was left downward on the links before the one in use, where they are links of two queues.
+    /// Writes what was left downward on the links that have no queues any more, where they are links of two queues.
     fn left(&self, alloc: Global, text: &mut String) -> Result<(), AllocError>;
 
     /// What the bus's ledger judges of a message.

@@ -1,4 +1,4 @@
-//! [`QueueLink`]: the links of a node, of two queues.
+//! [`QueueLink`]: the links of a node, of two queues each.
 
 use super::answers::push_said;
 use super::link::Link;
@@ -17,7 +17,7 @@ pub const LINK: LinkId = LinkId {
     activation: 1,
 };
 
-/// The links of a node of two queues, the activation whose link calls are on, and the ledgers at the ends of the first.
+/// The links of a node of two queues each, the activation whose link calls are on, and the ledgers of the first.
 #[derive(Drop)]
 pub struct QueueLink {
     end: Returning,
@@ -27,9 +27,9 @@ pub struct QueueLink {
 }
 
 impl QueueLink {
-    /// All of the first activation, for 64 of them.
-    pub fn new(alloc: Global) -> Result<QueueLink, AllocError> {
-        let links = DequeLinks::new(alloc, LINK.node, 64).map_err(|_| AllocError)?;
+    /// Those for so many activations, with nothing on them. Calls are on the first.
+    pub fn new(alloc: Global, starts: u64) -> Result<QueueLink, AllocError> {
+        let links = DequeLinks::new(alloc, LINK.node, starts).map_err(|_| AllocError)?;
         Ok(QueueLink {
             end: Returning { links, left: None },
             at: LINK.activation,

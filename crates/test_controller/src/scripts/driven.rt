@@ -30,7 +30,7 @@ pub fn driven(
             let kept = driver.kept();
             driver.enter(answer, 7, kept);
         }
-        take_all(&mut links);
+        take_all(&mut links, driver.activation());
     }
     Ok(driver)
 }
@@ -48,9 +48,8 @@ fn links_with(alloc: Global, starts: u64, items: &[Down]) -> Result<DequeLinks, 
     Ok(links)
 }
 
-/// Takes all that lies on the link in use.
-fn take_all(links: &mut DequeLinks) {
-    let activation = links.activation();
+/// Takes all that lies on the link of an activation.
+fn take_all(links: &mut DequeLinks, activation: u64) {
     for _ in 0..ITEMS_UP {
         let _ = links.take(activation);
     }

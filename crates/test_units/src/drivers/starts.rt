@@ -2,10 +2,11 @@
 //! over its own link.
 
 use super::given::{NODE, links_for, started, stopped};
-use sja_driver::{Driver, Reset, StartFault};
-use sja_link::{BusEnd, DequeLinks, LinkId, Up, WITHOUT_END, most_activations};
+use sja_driver::{Driver, LoggedDriver, Reset, StartFault, WorkLog};
+use sja_link::{BusEnd, DequeLinks, DriverEnd, LinkId, Up, WITHOUT_END, most_activations};
 use sja_regs::Port;
 use sja_regs::address::{ACR0, BUFFER, MOD, RMC};
+use sja_script::{Step, StepAnswer};
 use std::alloc::Global;
 use std::test::Fail;
 
@@ -49,7 +50,7 @@ fn is_refused(driver: Driver<Reset>, links: &mut DequeLinks, port: &mut Port, la
             fault == StartFault::NoActivationLeft && driver.activation() == last
         }
     };
-    refused && links.activation() == last && links.take(last + 1).is_none()
+    refused && links.first() == 1 && links.take(last + 1).is_none()
 }
 
 /// Whether so many starts are taken in this version, and none after them.
@@ -95,8 +96,36 @@ fn a_start_is_over_the_link_of_the_next_activation(rt: HostRuntime) -> Result<()
     let Some(driver) = started(driver, &mut links, &mut port) else {
         return Err(Fail::new(format_args!("start")));
     };
-    assert!(rt; driver.link() == first && links.activation() == 1);
+    assert!(rt; driver.link() == first && links.take(1) == Some(Up::Start(port.config())));
+    assert!(rt; links.take(1).is_none() && links.take(2).is_none());
     assert!(rt; driver.unread().is_empty());
+    Ok(())
+}
+
+/// Whether a step is done at once over these links.
+fn is_done(
+    driver: &mut LoggedDriver,
+    links: &mut DequeLinks,
+    port: &mut Port,
+    step: &Step,
+) -> bool {
+    DriverEnd::node(links) == NODE && driver.step(links, port, step) == Some(StepAnswer::Done)
+}
+
+/// No bus is in between: it takes what was given on each link once all activations are over.
+#[test]
+fn a_stop_and_the_next_start_are_done_at_once(rt: HostRuntime) -> Result<(), Fail> {
+    let mut port = Port::new(3);
+    let mut links = links_for(rt.alloc(), 64)?;
+    let mut driver = LoggedDriver::new(NODE, WorkLog::new(rt.alloc(), 3, 0, 200)?);
+    for _ in 0..64 {
+        assert!(rt; is_done(&mut driver, &mut links, &mut port, &Step::Start));
+        assert!(rt; is_done(&mut driver, &mut links, &mut port, &Step::Stop));
+    }
+    for activation in 1..=64 {
+        assert!(rt; links.take(activation) == Some(Up::Start(port.config())));
+        assert!(rt; links.take(activation) == Some(Up::Stop) && links.take(activation).is_none());
+    }
     Ok(())
 }
 

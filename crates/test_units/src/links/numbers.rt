@@ -29,7 +29,8 @@ fn links_go_on_where_what_was_left_is_forgotten(rt: HostRuntime) -> Result<(), F
         assert!(rt; links.take(activation) == Some(Up::Stop));
         assert!(rt; links.put(activation, message.copy()).is_ok());
     }
-    assert!(rt; links.get(4_999).is_none() && links.get(5_000) == Some(message));
+    assert!(rt; links.first() == 4_937 && links.get(4_936).is_none());
+    assert!(rt; links.get(4_937) == Some(message.copy()) && links.get(5_000) == Some(message));
     Ok(())
 }
 

@@ -9,7 +9,7 @@ use test_frames::nodes::PLAIN;
 #[test]
 fn refused_memory_gives_no_links(rt: HostRuntime) {
     match DequeLinks::new(rt.alloc(), 3, 64) {
-        Ok(links) => assert!(rt; BusEnd::node(&links) == 3 && links.activation() == 1),
+        Ok(links) => assert!(rt; BusEnd::node(&links) == 3 && links.first() == 1),
         Err(refused) => assert!(rt; refused == OutOfMemory),
     }
 }
