@@ -6,3 +6,4 @@ pub mod AskingOff
 pub mod Aborts
 pub mod BitRecords
 pub mod Ordered
+pub mod Begins

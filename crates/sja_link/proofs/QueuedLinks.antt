@@ -4,3 +4,4 @@ pub mod Among
 pub mod Hand
 pub mod Lying
 pub mod Moved
+pub mod Ends

@@ -1,12 +1,13 @@
--- What the links of a node keep in one thread (this project's own rule): two queues for the link of each of the last
--- activations.
-use Rattle.std.specs.Prelude.{◌≡◌, ◌≢◌, ◌⊎◌, ◌<◌, ◌≤◌, ◌+◌, ◌==◌, ℕ, suc, if◌then◌else◌, Some, None}
+-- What the links of a node keep in one thread (this project's own rule): two queues for each of at most 64 links in a
+-- row.
+use Rattle.std.specs.Prelude.{◌≡◌, ◌≢◌, ◌⊎◌, ◌<◌, ◌≤◌, ◌+◌, ◌-◌, ◌*◌, ◌==◌, ℕ, suc, if◌then◌else◌, Some, None}
 use Rattle.std.specs.Prelude.{List, [], ◌∷◌, ◌++◌, length, map, min}
 use Rattle.std.specs.List.{filter_map}
 use Rattle.sja_link.specs.declared.down.Down.{Down}
 use Rattle.sja_link.specs.declared.up.Up.{Up}
 use Rattle.sja_link.specs.declared.older_down.OlderDown.{OlderDown}
 use Rattle.sja_link.specs.Lists.{Lists, nothing_yet}
+use Rattle.sja_link.specs.Recents.{KeepsAll}
 
 -- ---- one link
 
@@ -51,6 +52,10 @@ all_down first (q ∷ links) = on_link first q.down ++ all_down (suc first) link
 abbrev pub left_on : List OlderDown → ℕ → List Down
 left_on older a = filter_map (λ (x : OlderDown). if x.activation == a then Some x.item else None) older
 
+-- there is room to keep all that may be left: 22 items on each link that may come to have no queues any more
+abbrev pub KeepsOlder : Deques → Type 0
+KeepsOlder s = KeepsAll (22 * (s.starts - length s.others))
+
 -- what lies on the queues of the link of an activation
 abbrev pub queues_on : Deques → ℕ → Queues
 queues_on s a = if s.at == a then s.here else among s.first s.others a
@@ -67,8 +72,8 @@ up_on s a = (queues_on s a).up
 abbrev pub IsAside : Deques → ℕ → Type 0
 IsAside s a = (a < s.first) ⊎ (s.first + length s.others ≤ a)
 
--- activations count from 1; 64 links have queues, or all where there are fewer; and on those that have, or have none
--- yet, nothing was left aside
+-- activations count from 1; 64 links in a row have queues, or all where there are fewer, and none of them is beyond the
+-- last link; on those that have, or have none yet, nothing was left aside
 pub record AreLinks (s : Deques) : Type 0 where
   pub from : 0 < s.first
   pub many : length s.others ≡ min s.starts 64

@@ -1,6 +1,6 @@
 //! The bus's end of a node's links.
 
-ghost use Rattle.std.specs.Prelude.{◌≡◌, ◌≢◌, ◌≤◌, ℕ, [], IfErr, IfSome, OnOk, OnErr, IfNone};
+ghost use Rattle.std.specs.Prelude.{◌≡◌, ◌≤◌, ℕ, IfErr, IfSome, OnOk, OnErr, IfNone};
 ghost use Rattle.sja_link.specs.Lists.{Lists, with_put, with_taken, OthersStand, Carries, Keeps};
 
 use super::down::Down;
@@ -42,11 +42,12 @@ pub trait BusEnd {
         ensures kept { OnErr result (Keeps stands activation self.old self.new) }
         ensures full { OnErr result (full self.old activation) };
 
-    /// Takes the next item that was given on the link of an activation, if one is shown.
+    /// Takes the next item that was given on the link of an activation, if one is shown: the end has that link then.
     fn take(&mut self, activation: u64) -> Option<Up>
         ensures same { same self.old self.new }
         ensures others { OthersStand stands activation self.old self.new }
         ensures item { IfSome result (λ x. Carries stands activation self.old self.new (λ l. with_taken l x)) }
+        ensures has { IfSome result (λ x. activation ≤ links self.new) }
         ensures kept { IfNone result (Keeps stands activation self.old self.new) }
         ensures dry { IfNone result (dry self.new activation) };
 
@@ -61,7 +62,4 @@ pub trait BusEnd {
 
     /// The same end has as many links.
     ghost same_links: { (a b : Self) → same a b → links b ≡ links a };
-
-    /// What was taken was taken on a link that the end has.
-    ghost has_taken: { (e : Self) (a : ℕ) (l : Lists) → stands e a l → l.taken ≢ [] → a ≤ links e };
 }

@@ -110,6 +110,7 @@ impl BusLedger {
             × (Keeps E.stands (activation_of self.old) end.old end.new))) }
         ensures item { IfOk result (λ o. IfSome o (λ x.
             Carries E.stands (activation_of self.old) end.old end.new (λ l. with_taken l x))) }
+        ensures has { IfOk result (λ o. IfSome o (λ x. activation_of self.old ≤ E.links end.new)) }
         ensures credit { IfOk result (λ o. IfSome o (λ x. (n : ℕ) → x ≡ Credit n →
             (3 ≤ n) × (n ≤ 13) × (free_in self.new ≡ free_in self.old + n))) }
         ensures other { IfOk result (λ o. IfSome o (λ x. ((n : ℕ) → x ≢ Credit n) → self.new ≡ self.old)) }
@@ -118,6 +119,7 @@ impl BusLedger {
         ensures bad { IfErr result (λ e. (self.new ≡ self.old)
             × ((e.0 < 3) ⊎ (13 < e.0) ⊎ (64 < free_in self.old + e.0))
             × (Carries E.stands (activation_of self.old) end.old end.new (λ l. with_taken l (Credit e.0)))) }
+        ensures has_bad { OnErr result (activation_of self.old ≤ E.links end.new) }
     {
         let Some(item) = end.take(self.id.activation) else {
             return Ok(None);

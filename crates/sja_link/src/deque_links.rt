@@ -1,16 +1,16 @@
 //! The links of a node in one thread.
 
-ghost use Rattle.std.specs.Prelude.{◌≡◌, ◌≢◌, ◌<◌, ◌≤◌, ◌⊎◌, ◌+◌, ◌*◌, ◌^◌, ◌++◌, ◌∷◌, ℕ, [], suc, length, drop, IfOk};
-ghost use Rattle.std.specs.Prelude.{IfSome, IfNone, true, false};
-ghost use Rattle.sja_link.specs.Deques.{among, left_on, nothing_lies, up_on, IsAside};
+ghost use Rattle.std.specs.Prelude.{◌≡◌, ◌≢◌, ◌<◌, ◌≤◌, ◌⊎◌, ◌+◌, ◌^◌, ◌++◌, ◌∷◌, ℕ, [], suc, length, drop, IfOk};
+ghost use Rattle.std.specs.Prelude.{IfSome, IfNone, OnOk, OnErr, true, false};
+ghost use Rattle.sja_link.specs.Deques.{among, left_on, nothing_lies, up_on, IsAside, KeepsOlder};
 ghost use Rattle.sja_link.specs.Inside.Queues.{IsTurned, IsMoved};
 ghost use Rattle.sja_link.specs.NewLinks.{new_links};
-ghost use Rattle.sja_link.specs.Recents.{KeepsAll};
 
 use super::bus_end::BusEnd;
 use super::deque_link::DequeLink;
 use super::down::Down;
 use super::driver_end::DriverEnd;
+use super::endless::Endless;
 use super::older_down::OlderDown;
 use super::recent::Recent;
 use super::sizes::{ACTIVATIONS, ITEMS_DOWN};
@@ -23,10 +23,11 @@ use std::mem::swap;
 
 /// The links of a node in one thread: both ends of each in one value (this project's own rule).
 ///
-/// 64 links have two queues each, at first those of the first activations: so all links have in a run of version 1, 2
-/// or 3. Where there are more, the next one takes the queues of the first that has them, once nothing lies upward
-/// there. What lies downward there is left: no call gets it any more, and [`older`](DequeLinks::older) shows it. The
-/// link of which a call was last is at hand, beside the others.
+/// 64 links have two queues each, or all where there are fewer, at first those of the first activations: so all links
+/// have in a run of a plan. Where there are more, the next one takes the queues of the first that has them, once
+/// nothing lies upward there. What lies downward there is left: no call gets it any more, and
+/// [`older`](DequeLinks::older) shows it. One link is at hand, beside the others: at first the first, then that to
+/// which a call turned last. A call turns to its link where that has queues, but no take where nothing lies upward.
 #[derive(Debug, Drop)]
 pub struct DequeLinks {
     at: u64,
@@ -117,13 +118,17 @@ impl DequeLinks {
         &self.others
     }
 
-    /// What was left downward on the links that have no queues any more, oldest first, of links that forget none of it.
-    pub fn older(&self) -> &[OlderDown]
-        requires kept { KeepsAll (22 * self.now.starts) }
-        ensures older { result.now ≡ self.now.older }
-        ensures none_left { (a : ℕ) → self.now.first ≤ a → left_on result.now a ≡ [] }
+    /// What was left downward on the links that have no queues any more, oldest first.
+    ///
+    /// Error: [`Endless`] where there are so many links that more items than [`KEPT`](super::KEPT) may be left there:
+    /// 22 on each but those that have queues.
+    pub fn older(&self) -> Result<&[OlderDown], Endless>
+        ensures older { IfOk result (λ s. s.now ≡ self.now.older) }
+        ensures none_left { IfOk result (λ s. (a : ℕ) → self.now.first ≤ a → left_on s.now a ≡ []) }
+        ensures kept { OnOk result (KeepsOlder self.now) }
+        ensures endless { OnErr result (KeepsOlder self.now → ⊥) }
     {
-        self.older.as_slice()
+        self.older.whole()
     }
 
     /// Turns to the link of an activation, if it has queues, and says whether it has: it is at hand then.
@@ -145,6 +150,36 @@ impl DequeLinks {
         swap(&mut self.here, &mut self.others[place as usize]);
         self.at = activation;
         true
+    }
+
+    /// Turns to the link of an activation that isn't at hand, if something lies upward there, and says whether it does:
+    /// it is at hand then. Else nothing turns.
+    #[inline(never)]
+    fn turn_to_given(&mut self, activation: u64) -> bool
+        requires { self.old.at ≢ activation }
+        ensures turned { result ≡ true → IsTurned self.old self.new activation }
+        ensures kept { result ≡ false → self.new ≡ self.old }
+        ensures none { result ≡ false → up_on self.old activation ≡ [] }
+    {
+        if self.shows_nothing(activation) {
+            return false;
+        }
+        self.turn_to(activation)
+    }
+
+    /// Whether nothing lies upward on a link that isn't at hand.
+    fn shows_nothing(&self, activation: u64) -> bool
+        requires { self.now.at ≢ activation }
+        ensures { result ≡ true → up_on self.now activation ≡ [] }
+    {
+        if activation < self.first {
+            return true;
+        }
+        let place = activation - self.first;
+        if place >= self.others.len() as u64 {
+            return true;
+        }
+        self.others[place as usize].is_taken()
     }
 
     /// Whether the link of an activation is the one after those that have queues, and may take those of the first.
@@ -201,9 +236,7 @@ impl DequeLinks {
 
 impl BusEnd for DequeLinks {
     ghost use Rattle.std.specs.Prelude.{refl};
-    ghost use Rattle.std.proofs.Common.{◌∙◌, ap, arith, inl, inr};
-    ghost use Rattle.std.proofs.lemmas.Bool.{cases_lt};
-    ghost use Rattle.sja_link.specs.Lists.{Lists};
+    ghost use Rattle.std.proofs.Common.{◌∙◌};
     ghost use Rattle.sja_link.specs.Deques.{Lies, IsFullDown, AreAlike, up_on};
 
     ghost node = { λ s. s.node };
@@ -222,6 +255,7 @@ impl BusEnd for DequeLinks {
         self.node
     }
 
+    #[inline(always)]
     fn put(&mut self, activation: u64, item: Down) -> Result<(), Down> {
         if activation != self.at && !self.turn_to(activation) {
             return Err(item);
@@ -229,8 +263,9 @@ impl BusEnd for DequeLinks {
         self.here.put(item)
     }
 
+    #[inline(always)]
     fn take(&mut self, activation: u64) -> Option<Up> {
-        if activation != self.at && !self.turn_to(activation) {
+        if activation != self.at && !self.turn_to_given(activation) {
             return None;
         }
         self.here.take()
@@ -243,11 +278,6 @@ impl BusEnd for DequeLinks {
     ghost same_node = { λ a b p. p.0 };
 
     ghost same_links = { λ a b p. p.1 };
-
-    ghost has_taken = { λ s a l h some. elim (cases_lt a (s.first + length s.others)) [
-      | inl less ↦ let few = h.links.few in omega (arith, less, few)
-      | inr beyond ↦ absurd (some (ap (λ (x : Lists). x.taken) (h.later beyond)))
-    ] };
 }
 
 impl DriverEnd for DequeLinks {
@@ -269,6 +299,7 @@ impl DriverEnd for DequeLinks {
         self.node
     }
 
+    #[inline(always)]
     fn get(&mut self, activation: u64) -> Option<Down> {
         if activation != self.at && !self.turn_to(activation) {
             return None;

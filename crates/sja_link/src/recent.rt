@@ -1,9 +1,10 @@
 //! [`Recent`]: a list of which the oldest items may be forgotten.
 
 ghost use Rattle.std.specs.Prelude.{◌≡◌, ◌<◌, ◌≤◌, ◌-◌, [], ◌∷◌, ◌++◌, length, replicate, true, false, None};
-ghost use Rattle.std.specs.Prelude.{IfOk, IfSome};
+ghost use Rattle.std.specs.Prelude.{IfOk, OnOk, OnErr, IfSome};
 ghost use Rattle.sja_link.specs.Recents.{KeepsAll, IsLast};
 
+use super::endless::Endless;
 use super::forgotten::Forgotten;
 use can_frame::OutOfMemory;
 use std::alloc::Global;
@@ -124,6 +125,20 @@ impl<T> Recent<T> {
         ensures last { IfSome result (λ x. IsLast self.now.items x.now) }
     {
         self.items.as_slice().last()
+    }
+
+    /// All its items, oldest first.
+    ///
+    /// Error: [`Endless`] where it was made for more than [`KEPT`].
+    pub fn whole(&self) -> Result<&[T], Endless>
+        ensures items { IfOk result (λ s. s.now ≡ self.now.items) }
+        ensures kept { OnOk result (KeepsAll self.now.room) }
+        ensures endless { OnErr result (KeepsAll self.now.room → ⊥) }
+    {
+        if self.room > KEPT {
+            return Err(Endless);
+        }
+        Ok(self.as_slice())
     }
 
     /// All its items, oldest first, of a list that forgets none.

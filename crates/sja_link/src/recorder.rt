@@ -10,10 +10,11 @@ ghost use Rattle.sja_link.specs.Written.{Fits, IsFullFor, room_in};
 ghost use Rattle.sja_link.specs.Inside.Codes.{IsOther};
 
 use super::code::Code;
+use super::endless::Endless;
 use super::entry::Entry;
 use super::full::Full;
 use super::journal::Journal;
-use super::recent::Recent;
+use super::recent::{KEPT, Recent};
 use can_bits::Level;
 use can_frame::OutOfMemory;
 use std::alloc::Global;
@@ -154,11 +155,17 @@ impl Recorder {
     }
 
     /// The journal that was written, to be read.
-    pub fn into_journal(self) -> Journal
-        requires kept { KeepsAll self.room.all }
-        ensures { result ≡ self }
+    ///
+    /// Error: [`Endless`] where it was made for more than [`KEPT`](super::KEPT) entries.
+    pub fn into_journal(self) -> Result<Journal, Endless>
+        ensures journal { IfOk result (λ j. j ≡ self) }
+        ensures kept { OnOk result (KeepsAll self.room.all) }
+        ensures endless { OnErr result (KeepsAll self.room.all → ⊥) }
     {
-        Journal { recorder: self }
+        if self.codes.room() > KEPT {
+            return Err(Endless);
+        }
+        Ok(Journal { recorder: self })
     }
 
     /// Whether the reserved entries are used.

@@ -19,7 +19,7 @@ impl BusEnd for NodeBus {
     ghost use Rattle.sja_rings.specs.Ends.{SameBus};
     ghost use Rattle.sja_rings.specs.NodeRings.{node_of_bus, rings_of_bus, NodeBusLists, SameNodeBus};
     ghost use Rattle.sja_rings.specs.NodeRings.{HasNoPlaceDown, ShowsNothingUp};
-    ghost use Rattle.sja_rings.specs.Inside.Carrying.{bus_refl, bus_trans, as_many_links, has_ring};
+    ghost use Rattle.sja_rings.specs.Inside.Carrying.{bus_refl, bus_trans, as_many_links};
 
     ghost node = { node_of_bus };
 
@@ -59,8 +59,6 @@ impl BusEnd for NodeBus {
     ghost same_node = { λ a b p. p.0 };
 
     ghost same_links = { as_many_links };
-
-    ghost has_taken = { has_ring };
 }
 
 impl NodeBus {

@@ -12,9 +12,10 @@ pub record AreQueues (down : List Down) (memory_down : ℕ) (up : List Up) (memo
   pub room_down : 22 ≤ memory_down
   pub room_up : 24 ≤ memory_up
 
--- queues for 64 links, or for all where there are fewer, from that of an activation on, for which there is memory: one
--- of them is at hand, in whose place nothing lies; on the links before 22 items for each were left at most, in all, for
--- which there is room on all links that may come to have no queues any more, and nothing was left on any other
+-- queues for 64 links in a row, or for all where there are fewer, from that of an activation on, 1 at least, none
+-- beyond the last link, of at most 2^58, for which there is memory: one of them is at hand, in whose place nothing
+-- lies, or 0 where there are none; on the links before 22 items for each were left at most, in all, and nothing was
+-- left on any other; and what is left has room for 22 of each link that may come to have no queues any more
 pub record AreKept (first at : ℕ) (others : List Queues) (older : List OlderDown) (starts room memory : ℕ)
     : Type 0 where
   pub from : 0 < first
@@ -30,7 +31,7 @@ pub record AreKept (first at : ℕ) (others : List Queues) (older : List OlderDo
   pub few : length older + 22 ≤ 22 * first
   pub none_left : (a : ℕ) → (a ≡ 0) ⊎ (first ≤ a) → left_on older a ≡ []
 
--- another link is at hand, and on each lies what lay there
+-- the link of this activation, which has queues, is at hand, and on each lies what lay there
 pub record IsTurned (s t : Deques) (a : ℕ) : Type 0 where
   pub at : t.at ≡ a
   pub lies : (b : ℕ) → queues_on t b ≡ queues_on s b

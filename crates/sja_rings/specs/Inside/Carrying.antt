@@ -1,20 +1,17 @@
 -- What the traits of ends ask of "the same end", for each end of a ring and of a link: it is the same as itself, and it
--- carries over from one call to the next; and that a bus takes where there is a ring (this project's own rule).
-use Rattle.std.proofs.Common.{◌≡◌, ◌≢◌, ◌≤◌, ℕ, zero, suc, List, [], ◌∷◌, length, refl, ◌∙◌, le_refl, le_trans}
-use Rattle.std.proofs.Common.{arith}
+-- carries over from one call to the next; and that the same end has as many links (this project's own rule).
+use Rattle.std.proofs.Common.{◌≡◌, length, refl, ◌∙◌, le_refl, le_trans}
 use Rattle.std.proofs.lemmas.Slice.Zip.{AllZip-long}
-use Rattle.std.specs.Prelude.{slice_get}
 use Rattle.rtrb.specs.Ends.{SameRing}
 use Rattle.rtrb.specs.Ring.{SameProducer, SameConsumer}
 use Rattle.rtrb.specs.declared.end.End.{End}
 use Rattle.rtrb.specs.declared.producer.Producer.{Producer}
 use Rattle.rtrb.specs.declared.consumer.Consumer.{Consumer}
-use Rattle.sja_link.specs.Lists.{Lists}
 use Rattle.sja_rings.specs.declared.node_bus.NodeBus.{NodeBus}
 use Rattle.sja_rings.specs.declared.ring_bus.RingBus.{RingBus}
 use Rattle.sja_rings.specs.declared.ring_driver.RingDriver.{RingDriver}
 use Rattle.sja_rings.specs.Ends.{SameBus, SameDriver, reach_down, reach_up}
-use Rattle.sja_rings.specs.NodeRings.{rings_of_bus, BusListsAt, NodeBusLists, SameNodeBus}
+use Rattle.sja_rings.specs.NodeRings.{rings_of_bus, SameNodeBus}
 
 module _ {T A P : Type 0} where
   pub same_ring : (e : End T A P) → SameRing e e
@@ -62,14 +59,3 @@ driver_trans a b c p q = (
 -- the same end has as many links
 pub as_many_links : (a b : NodeBus) → SameNodeBus a b → length (rings_of_bus b) ≡ length (rings_of_bus a)
 as_many_links a b same = AllZip-long SameBus (rings_of_bus a) (rings_of_bus b) same.1
-
--- what was taken came out of a ring
-came_out : (rings : List RingBus) (place : ℕ) (l : Lists) → BusListsAt (slice_get rings place) l → l.taken ≢ [] →
-    suc place ≤ length rings
-came_out [] place l lists some = absurd (some lists.1)
-came_out (b ∷ rings) zero l lists some = omega arith
-came_out (b ∷ rings) (suc place) l lists some = let few = came_out rings place l lists some in omega (arith, few)
-
-pub has_ring : (b : NodeBus) (a : ℕ) (l : Lists) → NodeBusLists b a l → l.taken ≢ [] → a ≤ length (rings_of_bus b)
-has_ring b zero l lists some = omega arith
-has_ring b (suc place) l lists some = came_out (rings_of_bus b) place l lists some
