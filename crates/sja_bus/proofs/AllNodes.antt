@@ -6,6 +6,7 @@ pub mod Running
 pub mod Underway
 pub mod Levels
 pub mod Journals
+pub mod Begins
 pub mod RunningOn
 pub mod BitAfterBit
 pub mod RanOn

@@ -5,7 +5,7 @@ use Rattle.lemmas.specs.Related.{EachRelated}
 use Rattle.sja_bus.specs.declared.board.Board.{Ghosts as Ports}
 use Rattle.sja_bus.specs.Boards.{KeepsOthers}
 use Rattle.sja_link.specs.declared.entry.Entry.{Entry}
-use Rattle.sja_wire.specs.Buses.{BusValue, KeepsAll, AllTold, IsBit}
+use Rattle.sja_wire.specs.Buses.{BusValue, KeepsAll, EachBeginsWithin, AllTold, IsBit}
 use Rattle.sja_wire.specs.Lawful.{IsBusRun}
 
 -- a bus with its links and its ports, between two bits
@@ -32,14 +32,15 @@ abbrev pub IsBitOf : {B : Type 0} → Ports B → B → B → BusValue → List 
 IsBitOf p was now bus after =
     IsBit (p.orders_are was) (p.told was now) (p.kept was now) bus.script bus.run bus.untold bus.journals after
 
--- one bit, which went well: it keeps what every bit keeps, and it is counted; the links stand for the journals still;
--- all nodes had the bit, and nothing is untold of any; there is no fault; and what holds of every bus and of every
--- node's port holds after it
+-- one bit, which went well: it keeps what every bit keeps, and it is counted; the links stand for the journals still,
+-- and no activation began whose link the node's end doesn't have; all nodes had the bit, and nothing is untold of any;
+-- there is no fault; and what holds of every bus and of every node's port holds after it
 pub record OneBit {E B : Type 0} (e : Ends E) (b : Ports B) (was now : Moment E B) : Type 0 where
   pub keeps : Keeps e b was now
   pub run : now.bus.run ≡ was.bus.run + 1
   pub left : now.bus.left + 1 ≡ was.bus.left
   pub kept : KeepsAll e.stands was.bus.journals now.bus.journals was.links now.links
+  pub within : EachBeginsWithin e.links was.bus.journals now.bus.journals was.links
   pub bit : IsBitOf b was.board now.board was.bus now.bus.journals
   pub told : AllTold (length was.bus.journals) now.bus.untold
   pub right : now.bus.fault ≡ None

@@ -8,7 +8,7 @@ ghost use Rattle.sja_link.specs.Links.{AreEnds};
 ghost use Rattle.sja_link.specs.Written.{Room};
 ghost use Rattle.sja_bus.specs.Inside.Rows.{AreReady, AreSeated, AreTold, EachSeat, SeatTakes, SeatUntold};
 ghost use Rattle.sja_bus.specs.Inside.Rows.{SeatOpens, SeatOpensUntold, SeatTurns, GoesAll, AllRead};
-ghost use Rattle.sja_bus.specs.Inside.Rows.{driven_by};
+ghost use Rattle.sja_bus.specs.Inside.Rows.{driven_by, SeatBegins};
 ghost use Rattle.sja_bus.specs.Boards.{KeepsOthers};
 ghost use Rattle.sja_bus.specs.declared.seat.Seat.{Seat as Seated};
 ghost use Rattle.sja_bus.specs.Inside.Underway.{BreaksUnderway, GoesToAll};
@@ -40,7 +40,8 @@ pub(crate) fn gather_all<E: BusEnd>(seats: &mut [Seat], links: &mut [E]) -> Resu
     ensures untold { OnOk result (EachSeat SeatUntold seats.old seats.new) }
     ensures dry { OnOk result (AllRead E.dry seats.new links.new) }
     ensures rooms { (n : ℕ → Room) → HaveRoom n seats.old → HaveRoom n seats.new }
-    ensures refused { IfErr result (λ f. SeatRefuses E.stands seats.old seats.new links.old links.new f) }
+    ensures within { OnOk result (EachSeat (SeatBegins E.links links.old) seats.old seats.new) }
+    ensures refused { IfErr result (λ f. SeatRefuses E.BusEnd seats.old seats.new links.old links.new f) }
 {
     for k in 0..seats.len() {
         seats[k].gather(&mut links[k])?;
@@ -67,8 +68,9 @@ pub(crate) fn bit_of_all<E: BusEnd, B: Board>(
     ensures takes { OnOk result (RowTakesAll E.BusEnd seats.old seats.new links.old) }
     ensures rooms { (n : ℕ → Room) → HaveRoom n seats.old → HaveRoom n seats.new }
     ensures facts { OnOk result ((k : ℕ) → k < length seats.old → B.facts board.new k) }
-    ensures stops { IfErr result (λ f. (SeatRefuses E.stands seats.old seats.new links.old links.new f
-        ⊎ SeatFull E.stands (B.orders_are board.old) seats.old seats.new links.old links.new f)
+    ensures within { OnOk result (EachSeat (SeatBegins E.links links.old) seats.old seats.new) }
+    ensures stops { IfErr result (λ f. (SeatRefuses E.BusEnd seats.old seats.new links.old links.new f
+        ⊎ SeatFull E.BusEnd (B.orders_are board.old) seats.old seats.new links.old links.new f)
         ⊎ SeatStops E.BusEnd (B.orders_are board.old) seats.old seats.new links.old f) }
 {
     open_all(seats, links, board)?;
@@ -97,8 +99,9 @@ fn open_all<E: BusEnd, B: Board>(
     ensures dry { OnOk result (AllRead E.dry seats.new links.new) }
     ensures rooms { (n : ℕ → Room) → HaveRoom n seats.old → HaveRoom n seats.new }
     ensures facts { OnOk result ((k : ℕ) → k < length seats.old → B.facts board.now k) }
-    ensures stops { IfErr result (λ f. SeatRefuses E.stands seats.old seats.new links.old links.new f
-        ⊎ SeatFull E.stands (B.orders_are board.now) seats.old seats.new links.old links.new f) }
+    ensures within { OnOk result (EachSeat (SeatBegins E.links links.old) seats.old seats.new) }
+    ensures stops { IfErr result (λ f. SeatRefuses E.BusEnd seats.old seats.new links.old links.new f
+        ⊎ SeatFull E.BusEnd (B.orders_are board.now) seats.old seats.new links.old links.new f) }
 {
     for k in 0..seats.len() {
         seats[k].open_bit(&mut links[k], board)?;

@@ -8,7 +8,7 @@ use super::node_log::logs_of;
 use super::seat::Seat;
 use super::struck_bits::StruckBits;
 use can_frame::OutOfMemory;
-use sja_link::BusEnd;
+use sja_link::{BusEnd, Endless};
 use sja_script::FaultScript;
 use sja_wire::{BusFault, NodeLog};
 use std::alloc::Global;
@@ -60,7 +60,7 @@ impl Model for Bus {
 impl Bus {
     ghost use Rattle.std.specs.Prelude.{◌≡◌, ◌+◌, ◌^◌, ◌<◌, ◌≤◌, ◌⊎◌, ◌≢◌, ℕ, None, Some, Err};
     ghost use Rattle.std.specs.List.{All};
-    ghost use Rattle.std.specs.Prelude.{true, false, length, map, slice_index_or, OnOk, IfOk, IfErr};
+    ghost use Rattle.std.specs.Prelude.{true, false, length, map, slice_index_or, OnOk, OnErr, IfOk, IfErr};
     ghost use Rattle.sja_wire.specs.declared.bus_fault.BusFault.{BusFault as Fault};
     ghost use Rattle.sja_wire.specs.declared.bus_fault.BusFault.TheVariants.{BitsSpent};
     ghost use Rattle.sja_link.specs.Links.{AreEnds};
@@ -68,7 +68,7 @@ impl Bus {
     ghost use Rattle.lemmas.specs.Related.{EachRelated};
     ghost use Rattle.sja_wire.specs.declared.node_log.NodeLog.{NodeLog as Log};
     ghost use Rattle.sja_wire.specs.Lawful.{IsBusRun, CountersAre};
-    ghost use Rattle.sja_wire.specs.Buses.{EachJournal, KeepsAll, AllDry};
+    ghost use Rattle.sja_wire.specs.Buses.{EachBeginsWithin, EachJournal, KeepsAll, AllDry};
     ghost use Rattle.sja_wire.specs.Buses.{new_bus, EachUntold, IsStill};
     ghost use Rattle.sja_wire.specs.Reasons.{IsTakenAndRefused, StopsBit};
     ghost use Rattle.sja_wire.specs.Keeping.{KeepsRecord};
@@ -123,13 +123,14 @@ impl Bus {
         ensures bits { (self.new.run ≡ self.old.run) × (self.new.left ≡ self.old.left) }
         ensures nodes { length self.new.journals ≡ length self.old.journals }
         ensures kept { OnOk result (KeepsAll E.stands self.old.journals self.new.journals links.old links.new) }
+        ensures within { OnOk result (EachBeginsWithin E.links self.old.journals self.new.journals links.old) }
         ensures items { OnOk result (EachJournal MayHaveItems self.old.journals self.new.journals) }
         ensures untold { OnOk result (EachUntold self.old.untold self.new.untold self.old.journals self.new.journals) }
         ensures dry { OnOk result (AllDry E.dry self.new.journals links.new) }
         ensures right { OnOk result (self.new.fault ≡ None) }
         ensures fault { IfErr result (λ f. self.new.fault ≡ Some f) }
         ensures reason { IfErr result (λ f. self.old.fault ≡ None →
-            IsTakenAndRefused E.stands (self.old.run + self.old.left) self.old.steps self.old.journals
+            IsTakenAndRefused E.BusEnd (self.old.run + self.old.left) self.old.steps self.old.journals
             self.new.journals links.old links.new f) }
         ensures stays { (f : Fault) → self.old.fault ≡ Some f →
             (result ≡ Err f) × (self.new ≡ self.old) × (links.new ≡ links.old) }
@@ -222,17 +223,20 @@ impl Bus {
         self.left
     }
 
-    /// What is left of the nodes of a bus that keeps its record, in order: each journal, and the error counters at its
-    /// end. By every cut of a journal's record, and there is one alone, the verdicts and the counters are right; what
-    /// each node saw in each bit is what the wire had.
-    pub fn finish(self) -> Vec<NodeLog>
-        requires kept { KeepsRecord (self.run + self.left) self.steps (length self.journals) }
-        ensures journals { map (λ g. g.journal.entries) result.items ≡ self.journals }
-        ensures lawful { self.fault ≡ None →
-            IsBusRun self.script self.run (map (λ g. g.journal.entries) result.items) }
-        ensures counters { self.fault ≡ None → (node : ℕ) (d : Log) → node < length result.items →
-            let log = slice_index_or result.items node d in
-            CountersAre log.journal.entries log.txerr log.rxerr }
+    /// What is left of the nodes, in order: each journal, and the error counters at its end. By every cut of a
+    /// journal's record, and there is one alone, the verdicts and the counters are right; what each node saw in each
+    /// bit is what the wire had.
+    ///
+    /// Error: [`Endless`] where a journal was made for more entries than it keeps, 2^40.
+    pub fn finish(self) -> Result<Vec<NodeLog>, Endless>
+        ensures journals { IfOk result (λ logs. map (λ g. g.journal.entries) logs.items ≡ self.journals) }
+        ensures lawful { IfOk result (λ logs. self.fault ≡ None →
+            IsBusRun self.script self.run (map (λ g. g.journal.entries) logs.items)) }
+        ensures counters { IfOk result (λ logs. self.fault ≡ None → (node : ℕ) (d : Log) → node < length logs.items →
+            let log = slice_index_or logs.items node d in
+            CountersAre log.journal.entries log.txerr log.rxerr) }
+        ensures kept { OnOk result (KeepsRecord (self.run + self.left) self.steps (length self.journals)) }
+        ensures endless { OnErr result (KeepsRecord (self.run + self.left) self.steps (length self.journals) → ⊥) }
     {
         let Bus { seats, logs, .. } = self;
         logs_of(seats, logs)

@@ -23,7 +23,7 @@ impl Bus {
     ghost use Rattle.sja_wire.specs.declared.bus_fault.BusFault.{BusFault as Fault};
     ghost use Rattle.sja_link.specs.Links.{AreEnds};
     ghost use Rattle.sja_link.specs.BitEntries.{MayHaveItems};
-    ghost use Rattle.sja_wire.specs.Buses.{EachJournal, EachUntold, KeepsAll, AllDry, AllTold};
+    ghost use Rattle.sja_wire.specs.Buses.{EachBeginsWithin, EachJournal, EachUntold, KeepsAll, AllDry, AllTold};
     ghost use Rattle.sja_wire.specs.Reasons.{IsTakenAndRefused};
     ghost use Rattle.sja_bus.specs.Stretches.{IsStretch, EndsStretch, IsOutOfEntries, IsFullInStretch};
     ghost use Rattle.sja_bus.specs.Inside.AtOnce.{RunsAtOnce};
@@ -53,6 +53,7 @@ impl Bus {
         ensures most { IfOk result (λ n. n ≤ count) }
         ensures bits { IfOk result (λ n. (self.new.run ≡ self.old.run + n) × (self.new.left + n ≡ self.old.left)) }
         ensures kept { OnOk result (KeepsAll E.stands self.old.journals self.new.journals links.old links.new) }
+        ensures within { OnOk result (EachBeginsWithin E.links self.old.journals self.new.journals links.old) }
         ensures dry { OnOk result (AllDry E.dry self.new.journals links.new) }
         ensures items { result ≡ Ok 0 → EachJournal MayHaveItems self.old.journals self.new.journals }
         ensures untold { result ≡ Ok 0 →
@@ -65,9 +66,9 @@ impl Bus {
         ensures right { OnOk result (self.new.fault ≡ None) }
         ensures fault { IfErr result (λ f. self.new.fault ≡ Some f) }
         ensures reason { IfErr result (λ f. self.old.fault ≡ None →
-            IsTakenAndRefused E.stands (self.old.run + self.old.left) self.old.steps self.old.journals
+            IsTakenAndRefused E.BusEnd (self.old.run + self.old.left) self.old.steps self.old.journals
             self.new.journals links.old links.new f
-            ⊎ IsFullInStretch E.stands (self.old.run + self.old.left) self.old.steps self.old.left
+            ⊎ IsFullInStretch E.BusEnd (self.old.run + self.old.left) self.old.steps self.old.left
             self.old.journals self.new.journals links.old links.new f) }
         ensures stays { (f : Fault) → self.old.fault ≡ Some f →
             (result ≡ Err f) × (self.new ≡ self.old) × (links.new ≡ links.old) }
@@ -169,7 +170,7 @@ impl Seat {
     ghost use Rattle.sja_wire.specs.declared.bus_fault.BusFault.{BusFault as Fault};
     ghost use Rattle.sja_link.specs.Links.{AreEnds};
     ghost use Rattle.sja_link.specs.BitEntries.{MayHaveItems};
-    ghost use Rattle.sja_wire.specs.Buses.{EachJournal, EachUntold, KeepsAll, AllDry, AllTold};
+    ghost use Rattle.sja_wire.specs.Buses.{EachBeginsWithin, EachJournal, EachUntold, KeepsAll, AllDry, AllTold};
     ghost use Rattle.sja_wire.specs.Reasons.{IsTakenAndRefused};
     ghost use Rattle.sja_bus.specs.Stretches.{IsStretch, EndsStretch, IsOutOfEntries, IsFullInStretch};
     ghost use Rattle.sja_bus.specs.Inside.AtOnce.{RunsAtOnce};

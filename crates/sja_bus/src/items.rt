@@ -13,6 +13,7 @@ impl Seat {
     ghost use Rattle.std.specs.Prelude.{IfErr, ◌⊎◌, ◌≤◌, ℕ, suc, Ok, false};
     ghost use Rattle.sja_link.specs.BusLedgers.{link_of};
     ghost use Rattle.sja_link.specs.Written.{Fits};
+    ghost use Rattle.sja_link.specs.Opening.{BeginsWithin};
     ghost use Rattle.sja_link.specs.declared.entry.Entry.TheVariants.{Up as Item};
     ghost use Rattle.sja_link.specs.Inside.Moving.{Goes, Moves};
     ghost use Rattle.sja_wire.specs.Opens.{Opens};
@@ -45,10 +46,12 @@ impl Seat {
             self.old.journal.entries self.new.journal.entries) }
         ensures untold { OnOk result (OpensUntold self.old self.new) }
         ensures facts { OnOk result (B.facts board.now (link_of self.old.ledger).node) }
+        ensures within { OnOk result
+            (BeginsWithin (E.links end.old) self.old.journal.entries self.new.journal.entries) }
         ensures dry { OnOk result (E.dry end.new (suc self.new.ended)) }
-        ensures stops { IfErr result (λ f. RefusesItem E.stands self.old.journal.room self.old.journal.entries
+        ensures stops { IfErr result (λ f. RefusesItem E.BusEnd self.old.journal.room self.old.journal.entries
             self.new.journal.entries end.old end.new (link_of self.old.ledger).node f
-            ⊎ FullForAbort E.stands (B.orders_are board.now (link_of self.old.ledger).node) self.old self.new
+            ⊎ FullForAbort E.BusEnd (B.orders_are board.now (link_of self.old.ledger).node) self.old self.new
             end.old end.new f) }
     {
         self.gather(end)?;
@@ -66,8 +69,10 @@ impl Seat {
             (Goes E.same E.stands end.old end.new self.old.journal.entries self.new.journal.entries) }
         ensures items { OnOk result (MayHaveItems self.old.journal.entries self.new.journal.entries) }
         ensures untold { OnOk result (TakesUntold self.old self.new) }
+        ensures within { OnOk result
+            (BeginsWithin (E.links end.old) self.old.journal.entries self.new.journal.entries) }
         ensures dry { OnOk result (E.dry end.new (suc self.new.ended)) }
-        ensures refused { IfErr result (λ f. RefusesItem E.stands self.old.journal.room self.old.journal.entries
+        ensures refused { IfErr result (λ f. RefusesItem E.BusEnd self.old.journal.room self.old.journal.entries
             self.new.journal.entries end.old end.new (link_of self.old.ledger).node f) }
     {
         loop {
@@ -94,7 +99,9 @@ impl Seat {
             × (IsOutOfOrder self.old.journal.entries item → ⊥) }
         ensures untold { result ≡ Ok true → self.new.untold ≡ Changed }
         ensures none { result ≡ Ok false → E.dry end.new (suc self.old.ended) × (self.new ≡ self.old) }
-        ensures refused { IfErr result (λ f. RefusesHere E.stands end.old end.new self.old self.new f) }
+        ensures within { OnOk result
+            (BeginsWithin (E.links end.old) self.old.journal.entries self.new.journal.entries) }
+        ensures refused { IfErr result (λ f. RefusesHere E.BusEnd end.old end.new self.old self.new f) }
     {
         match self.ledger.collect(end) {
             Ok(None) => Ok(false),

@@ -1,43 +1,52 @@
 //! What is left of a controller at the end of a run.
 
-ghost use Rattle.std.specs.Prelude.{◌≡◌, ◌≤◌, [], vec_len, vec_capacity};
+ghost use Rattle.std.specs.Prelude.{◌≡◌, ◌≤◌, [], vec_len, vec_capacity, IfOk, OnOk, OnErr};
 ghost use Rattle.lemmas.specs.Related.{EachRelated};
 ghost use Rattle.std.specs.List.{All};
 ghost use Rattle.sja_link.specs.Recents.{KeepsAll};
 ghost use Rattle.sja_bus.specs.Inside.Ending.{IsLog};
 
 use super::seat::Seat;
+use sja_link::Endless;
 use sja_wire::NodeLog;
 
 /// What is left of all nodes, in order.
-pub(crate) fn logs_of(seats: Vec<Seat>, logs: Vec<NodeLog>) -> Vec<NodeLog>
+///
+/// Error: [`Endless`] where a journal was made for more entries than it keeps.
+pub(crate) fn logs_of(seats: Vec<Seat>, logs: Vec<NodeLog>) -> Result<Vec<NodeLog>, Endless>
     requires none { logs.items ≡ [] }
     requires room { vec_len seats ≤ vec_capacity logs }
-    requires kept { All (λ s. KeepsAll s.journal.room.all) seats.items }
-    ensures { EachRelated IsLog seats.items result.items }
+    ensures logs { IfOk result (λ all. EachRelated IsLog seats.items all.items) }
+    ensures kept { OnOk result (All (λ s. KeepsAll s.journal.room.all) seats.items) }
+    ensures endless { OnErr result (All (λ s. KeepsAll s.journal.room.all) seats.items → ⊥) }
 {
     let mut logs = logs;
     for seat in seats {
-        logs.push_reserved(seat.into_log());
+        logs.push_reserved(seat.into_log()?);
     }
-    logs
+    Ok(logs)
 }
 
 impl Seat {
+    ghost use Rattle.std.specs.Prelude.{IfOk, OnOk, OnErr};
     ghost use Rattle.sja_link.specs.Recents.{KeepsAll};
     ghost use Rattle.sja_bus.specs.Inside.Ending.{IsLog};
 
     /// What is left of the node at the end of a run.
-    fn into_log(self) -> NodeLog
-        requires kept { KeepsAll self.journal.room.all }
-        ensures { IsLog self result }
+    ///
+    /// Error: [`Endless`] where its journal was made for more entries than it keeps.
+    fn into_log(self) -> Result<NodeLog, Endless>
+        ensures log { IfOk result (λ log. IsLog self log) }
+        ensures kept { OnOk result (KeepsAll self.journal.room.all) }
+        ensures endless { OnErr result (KeepsAll self.journal.room.all → ⊥) }
     {
         let Seat { node, journal, .. } = self;
         let counters = node.counters();
-        NodeLog {
-            journal: journal.into_journal(),
+        let journal = journal.into_journal()?;
+        Ok(NodeLog {
+            journal,
             txerr: counters.tec.min(255) as u8,
             rxerr: counters.rec,
-        }
+        })
     }
 }

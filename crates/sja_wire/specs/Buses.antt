@@ -13,6 +13,7 @@ use Rattle.sja_regs.specs.declared.bus_turn.BusTurn.{BusTurn}
 use Rattle.sja_wire.specs.declared.bus_fault.BusFault.{BusFault}
 use Rattle.sja_wire.specs.Wire.{wired, IsSeen, journal_at}
 use Rattle.sja_link.specs.Links.{Kept}
+use Rattle.sja_link.specs.Opening.{BeginsWithin}
 use Rattle.sja_link.specs.OutOfOrder.{read_in}
 use Rattle.sja_wire.specs.Opens.{Opens}
 use Rattle.sja_link.specs.BitEntries.{HasBit}
@@ -60,6 +61,12 @@ KeepsAll {E} stands before after links links_after =
     (node : ℕ) (d : E) (h : ℕ → Account) → node < length before →
     Kept stands (journal_at before node) (slice_index_or links node d) h →
     Kept stands (journal_at after node) (slice_index_or links_after node d) h
+
+-- of each node: no activation began, beside those that had, whose link its end doesn't have
+abbrev pub EachBeginsWithin : {E : Type 0} → (E → ℕ) → List (List Entry) → List (List Entry) → List E → Type 0
+EachBeginsWithin {E} links_of before after links =
+    (node : ℕ) (d : E) → node < length before →
+    BeginsWithin (links_of (slice_index_or links node d)) (journal_at before node) (journal_at after node)
 
 -- the link of each node that is read shows nothing upward
 abbrev pub AllDry : {E : Type 0} → (E → ℕ → Type 0) → List (List Entry) → List E → Type 0

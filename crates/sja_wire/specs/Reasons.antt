@@ -1,5 +1,5 @@
 -- Why a bus doesn't go on: what each fault says of its node (this project's own rule).
-use Rattle.std.specs.Prelude.{◌≡◌, ◌≢◌, ◌+◌, ◌<◌, ℕ, suc, true, Bool, List, ◌++◌, length, slice_index_or}
+use Rattle.std.specs.Prelude.{◌≡◌, ◌≢◌, ◌+◌, ◌<◌, ◌≤◌, ℕ, suc, true, Bool, List, ◌++◌, length, slice_index_or}
 use Rattle.lemmas.specs.Related.{EachRelated}
 use Rattle.sja_link.specs.NodeWords.{FinishedPiece, IsCut, received}
 use Rattle.sja_link.specs.declared.bus_end.BusEnd.{Ghosts as Ends}
@@ -8,7 +8,7 @@ use Rattle.sja_link.specs.declared.up.Up.TheVariants.{Credit}
 use Rattle.sja_link.specs.declared.entry.Entry.{Entry}
 use Rattle.sja_link.specs.declared.entry.Entry.TheVariants.{Up as Item, Abort}
 use Rattle.sja_link.specs.Written.{Room, IsFullFor, room_in}
-use Rattle.sja_link.specs.Lists.{Lists, with_taken}
+use Rattle.sja_link.specs.Lists.{with_taken}
 use Rattle.sja_link.specs.Accounts.{Account, account}
 use Rattle.sja_link.specs.Parts.{part}
 use Rattle.sja_link.specs.Records.{record_of}
@@ -18,7 +18,7 @@ use Rattle.sja_wire.specs.declared.bus_fault.BusFault.{BusFault}
 use Rattle.sja_wire.specs.declared.bus_fault.BusFault.TheVariants.{BitsSpent, BadCredit, Stuck, BadOrder, JournalFull}
 use Rattle.sja_wire.specs.Wire.{journal_at}
 use Rattle.sja_link.specs.Links.{Kept, stops_of}
-use Rattle.sja_link.specs.Opening.{IsOpen}
+use Rattle.sja_link.specs.Opening.{IsOpen, BeginsWithin}
 use Rattle.sja_link.specs.Aborting.{IsApplied}
 use Rattle.sja_wire.specs.Opens.{Opens}
 use Rattle.sja_link.specs.BitEntries.{MayHaveItems, off_as}
@@ -38,31 +38,35 @@ IsRefusedFor node room j item (Stuck k) = ⊥
 IsRefusedFor node room j item BitsSpent = ⊥
 
 -- its journal went on from `before` to `j` with the items that were taken, and then an item was taken that wasn't
--- entered. Whatever its driver got and gave, where its links stood for its journal before, the item came next on the
--- link that is read, and its other links stand for its journal
-pub record RefusesItem {E : Type 0} (stands : E → ℕ → Lists → Type 0) (room : Room) (before j : List Entry)
-    (end after : E) (node : ℕ) (f : BusFault) : Type 0 where
+-- entered. Its end has the link that is read, and no activation began on the way whose link it doesn't have. Whatever
+-- its driver got and gave, where its links stood for its journal before, the item came next on the link that is read,
+-- and its other links stand for its journal
+pub record RefusesItem {E : Type 0} (e : Ends E) (room : Room) (before j : List Entry) (end after : E) (node : ℕ)
+    (f : BusFault) : Type 0 where
   pub item : Up
   pub why : IsRefusedFor node room j item f
   pub items : MayHaveItems before j
-  pub shown : (h : ℕ → Account) → Kept stands before end h →
-      stands after (read_in j) (with_taken (account j (read_in j) (h (stops_of j))) item)
-  pub others : (h : ℕ → Account) (a : ℕ) → Kept stands before end h → a ≢ stops_of j →
-      stands after (suc a) (account j (suc a) (h a))
+  pub few : read_in j ≤ e.links end
+  pub within : BeginsWithin (e.links end) before j
+  pub shown : (h : ℕ → Account) → Kept e.stands before end h →
+      e.stands after (read_in j) (with_taken (account j (read_in j) (h (stops_of j))) item)
+  pub others : (h : ℕ → Account) (a : ℕ) → Kept e.stands before end h → a ≢ stops_of j →
+      e.stands after (suc a) (account j (suc a) (h a))
 
 -- ---- a node whose bit broke off
 
 -- the end of its links had no room, on the link that is read, for a message or for bus-off: it was the same end still,
 -- and whatever its driver got and gave, where its links stood for its journal before, they stood for it then. The
--- activation is open, and none was ended since. The journal's verdicts are right beside the frames that its node
--- received by the cut of its record, with bus-off after it where that is what was given back; and in the activation no
--- bus-off was entered
+-- activation is open, was so before, and none was ended since. The journal's verdicts are right beside the frames that
+-- its node received by the cut of its record, with bus-off after it where that is what was given back; and in the
+-- activation no bus-off was entered
 pub record GivesBack {E : Type 0} (e : Ends E) (before j : List Entry) (end : E) : Type 0 where
   pub last : E
   pub same : e.same end last
   pub is_full : e.full last (read_in j)
   pub stood : (h : ℕ → Account) → Kept e.stands before end h → Kept e.stands j last h
   pub is_open : IsOpen j
+  pub was_open : IsOpen before
   pub ended : stops_of j ≡ stops_of before
   pub off : Bool
   pub found : List FinishedPiece
@@ -90,7 +94,7 @@ abbrev pub IsEndAt : {E : Type 0} → List E → ℕ → E → Type 0
 IsEndAt {E} links node end = (d : E) → slice_index_or links node d ≡ end
 
 -- the fault is of one of its nodes, whose item was refused
-pub record IsTakenAndRefused {E : Type 0} (stands : E → ℕ → Lists → Type 0) (bits : ℕ) (steps : List ℕ)
+pub record IsTakenAndRefused {E : Type 0} (e : Ends E) (bits : ℕ) (steps : List ℕ)
     (before now : List (List Entry)) (links after : List E) (f : BusFault) : Type 0 where
   pub node : ℕ
   pub few : node < length before
@@ -98,13 +102,13 @@ pub record IsTakenAndRefused {E : Type 0} (stands : E → ℕ → Lists → Type
   pub is_end : IsEndAt links node end
   pub end_after : E
   pub is_after : IsEndAt after node end_after
-  pub refuses : RefusesItem stands (room_for bits steps node) (journal_at before node) (journal_at now node) end
+  pub refuses : RefusesItem e (room_for bits steps node) (journal_at before node) (journal_at now node) end
       end_after node f
 
 -- items of one of its nodes were taken, and then its port ordered an abort that changes the node, and there is no room
--- for its entry
-pub record IsNotAborted {E : Type 0} (stands : E → ℕ → Lists → Type 0) (orders_are : ℕ → Orders → Type 0) (bits : ℕ)
-    (steps : List ℕ) (before now : List (List Entry)) (links after : List E) (f : BusFault) : Type 0 where
+-- for its entry. No activation began on the way whose link the node's end doesn't have
+pub record IsNotAborted {E : Type 0} (e : Ends E) (orders_are : ℕ → Orders → Type 0) (bits : ℕ) (steps : List ℕ)
+    (before now : List (List Entry)) (links after : List E) (f : BusFault) : Type 0 where
   pub node : ℕ
   pub few : node < length before
   pub is : f ≡ JournalFull node
@@ -114,11 +118,13 @@ pub record IsNotAborted {E : Type 0} (stands : E → ℕ → Lists → Type 0) (
   pub ordered : orders.abort ≡ true
   pub due : IsApplied (journal_at now node) true
   pub full : IsFullFor (room_for bits steps node) (journal_at now node) Abort
-  pub kept : (d : E) (h : ℕ → Account) → Kept stands (journal_at before node) (slice_index_or links node d) h →
-      Kept stands (journal_at now node) (slice_index_or after node d) h
+  pub kept : (d : E) (h : ℕ → Account) → Kept e.stands (journal_at before node) (slice_index_or links node d) h →
+      Kept e.stands (journal_at now node) (slice_index_or after node d) h
+  pub within : (d : E) →
+      BeginsWithin (e.links (slice_index_or links node d)) (journal_at before node) (journal_at now node)
 
 -- of one of its nodes items were taken and an abort was applied or none, and then its bit broke off; each end was the
--- same one still
+-- same one still, and no activation began on the way whose link the node's end doesn't have
 pub record IsBrokenOff {E : Type 0} (e : Ends E) (orders_are : ℕ → Orders → Type 0) (bits : ℕ) (steps : List ℕ)
     (before now : List (List Entry)) (links : List E) (f : BusFault) : Type 0 where
   pub node : ℕ
@@ -129,6 +135,7 @@ pub record IsBrokenOff {E : Type 0} (e : Ends E) (orders_are : ℕ → Orders �
   pub opens : Opens (orders_are node) (journal_at before node) opened
   pub kept : (d : E) (h : ℕ → Account) → Kept e.stands (journal_at before node) (slice_index_or links node d) h →
       Kept e.stands opened (slice_index_or between node d) h
+  pub within : (d : E) → BeginsWithin (e.links (slice_index_or links node d)) (journal_at before node) opened
   pub end : E
   pub is_end : IsEndAt between node end
   pub broken : IsBrokenFor e node (room_for bits steps node) opened (journal_at now node) end f
@@ -137,10 +144,10 @@ pub record IsBrokenOff {E : Type 0} (e : Ends E) (orders_are : ℕ → Orders �
 pub data StopsBit {E : Type 0} (e : Ends E) (orders_are : ℕ → Orders → Type 0) (before now : BusValue)
     (links after : List E) (f : BusFault) : Type 0 where
   spent : f ≡ BitsSpent → before.left ≡ 0 → StopsBit e orders_are before now links after f
-  not_taken : IsTakenAndRefused e.stands (before.run + before.left) before.steps before.journals now.journals links
+  not_taken : IsTakenAndRefused e (before.run + before.left) before.steps before.journals now.journals links
       after f →
       StopsBit e orders_are before now links after f
-  not_aborted : IsNotAborted e.stands orders_are (before.run + before.left) before.steps before.journals now.journals
+  not_aborted : IsNotAborted e orders_are (before.run + before.left) before.steps before.journals now.journals
       links after f →
       StopsBit e orders_are before now links after f
   broken_off : IsBrokenOff e orders_are (before.run + before.left) before.steps before.journals now.journals links f →

@@ -22,11 +22,12 @@ use Rattle.sja_bus.specs.Moment.{Moment, OneBit}
 use Rattle.sja_bus.specs.Several.{SomeWork, AreBits}
 use Rattle.sja_bus.specs.Several.AreBits.{no_bit, one_more}
 use Rattle.sja_bus.specs.Inside.Refusing.{HaveRoom, SeatBreaks}
-use Rattle.sja_bus.specs.Inside.Rows.{AreReady, EachSeat, SeatTurns, GoesAll, IsBus, journals_of}
+use Rattle.sja_bus.specs.Inside.Rows.{AreReady, EachSeat, SeatBegins, SeatTurns, GoesAll, IsBus, journals_of}
 use Rattle.sja_bus.specs.Inside.RunningOn.{NoneAborts, moment_of, bus_of, AnyBit}
 use Rattle.sja_bus.specs.Inside.Whole.{IsRowBit}
 use Rattle.sja_bus.proofs.ItemsTaken.BreakingSeats.{stops_bit}
 use Rattle.sja_bus.proofs.AllNodes.Journals.{keeps_all, is_bit, all_told}
+use Rattle.sja_bus.proofs.AllNodes.Begins.{all_begin}
 use Rattle.sja_bus.proofs.WholeBus.Logs.{none_untold}
 use Rattle.sja_bus.proofs.AllNodes.Many.{goes_all_refl}
 use Rattle.sja_bus.proofs.Resting.Rests.{rests_at}
@@ -49,12 +50,13 @@ pub one_bit : {E B : Type 0} (e : Ends E) (b : Ports B) (script : List Strike) (
     ((node : ℕ) → node < 8 → IsAmong node struck ↔ Strikes script n node) →
     IsRowBit (b.orders_are board) (b.told board now) (b.kept board now) struck seats after →
     EachRelated e.same links links_after → KeepsOthers b.ports b.kept (length seats) board now →
-    GoesAll e.same e.stands seats after links links_after → IsBus script n seats → IsBus script next after →
+    GoesAll e.same e.stands seats after links links_after → EachSeat (SeatBegins e.links links) seats after →
+    IsBus script n seats → IsBus script next after →
     ((k : ℕ) → k < length seats → b.facts now k) → OneBit e b (moment_of script steps n left seats links board)
     (moment_of script steps next less after links_after now)
 one_bit e b script steps n next left less struck seats after links links_after board now is_next is_less len few at row
     sames
-    others goes bus bus_after are =
+    others goes begins bus bus_after are =
     let nodes : length after ≡ length (journals_of seats) = len ∙ sym (count_is seats) in
     let K : ℕ → Type 0 = λ m. KeepsOthers b.ports b.kept m board now in
     let told = b.told board now in let kept = b.kept board now in record {
@@ -68,6 +70,7 @@ one_bit e b script steps n next left less struck seats after links links_after b
       run = is_next;
       left = is_less;
       kept = keeps_all e.same e.stands seats after links links_after len goes;
+      within = all_begin e.links links seats after len begins;
       bit = is_bit (b.orders_are board) told kept script n struck seats after len few at bus.calm row;
       told = none_untold after (all_told told kept struck seats after len row) ∙ ap (λ m. replicate m false) nodes;
       right = refl;
@@ -128,20 +131,21 @@ pub bits_on : {E B : Type 0} (e : Ends E) (b : Ports B) (Before : Moment E B →
     ((node : ℕ) → node < 8 → IsAmong node struck ↔ Strikes script (from + run) node) →
     IsRowBit (b.orders_are board) (b.told board now) (b.kept board now) struck seats after →
     EachRelated e.same links links_after → KeepsOthers b.ports b.kept (length seats) board now →
-    GoesAll e.same e.stands seats after links links_after → IsBus script (from + run) seats →
-    IsBus script (from + (run + 1)) after → ((k : ℕ) → k < length seats → b.facts now k) →
+    GoesAll e.same e.stands seats after links links_after → EachSeat (SeatBegins e.links links) seats after →
+    IsBus script (from + run) seats → IsBus script (from + (run + 1)) after →
+    ((k : ℕ) → k < length seats → b.facts now k) →
     Before (moment_of script steps (from + run) (left - run) seats links board) →
     AreBits (AnyBit e b) Before was run (moment_of script steps (from + run) (left - run) seats links board) →
     AreBits (AnyBit e b) Before was (run + 1)
     (moment_of script steps (from + (run + 1)) (left - (run + 1)) after links_after now)
 bits_on e b Before was script steps from run most left struck seats after links links_after board now early enough len
     few at
-    row sames others goes bus bus_after are holds bits =
+    row sames others goes begins bus bus_after are holds bits =
     more_bits (AnyBit e b) Before was (moment_of script steps (from + run) (left - run) seats links board)
     (moment_of script steps (from + (run + 1)) (left - (run + 1)) after links_after now) run (run + 1) refl bits holds
     (one_bit e b script steps (from + run) (from + (run + 1)) (left - run) (left - (run + 1)) struck seats after links
     links_after board now (omega arith) (omega (arith, early, enough)) len few at row sames others
-    goes bus bus_after are)
+    goes begins bus bus_after are)
 
 -- the bit of one broke off
 pub stops_on : {E : Type 0} (e : Ends E) (orders_are : ℕ → Orders → Type 0) (script : List Strike) (steps : List ℕ)
@@ -159,6 +163,7 @@ stops_on e orders_are script steps run left bits seats after links links_after f
       opens = λ m s few. let o = none m few in opens_none (orders_are m)
           (slice_index_or seats m s).journal.entries o.0 o.1 o.2;
       goes = goes_all_refl e.same e.stands same_refl seats links;
+      begins = λ m s few d n far was. was;
       rooms = λ n h. h;
       breaks = breaks;
     }))

@@ -33,7 +33,7 @@ use Rattle.sja_bus.proofs.AllNodes.RanOn.{bus_with}
 use Rattle.sja_bus.proofs.AllNodes.Running.{count_is, journal_is, untold_is}
 use Rattle.sja_bus.proofs.Resting.Rests.{rests_at}
 
-seat_at : (seats : List Seat) (k : ℕ) → k < length seats → Seat
+pub seat_at : (seats : List Seat) (k : ℕ) → k < length seats → Seat
 seat_at [] k few = absurd (omega (arith, few))
 seat_at (s ∷ seats) k few = s
 

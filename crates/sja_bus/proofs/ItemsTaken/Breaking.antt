@@ -5,7 +5,6 @@ use Rattle.sja_link.specs.declared.bus_end.BusEnd.{Ghosts as Ends}
 use Rattle.sja_link.specs.declared.entry.Entry.{Entry}
 use Rattle.sja_link.specs.declared.entry.Entry.TheVariants.{Abort, Off}
 use Rattle.sja_link.specs.Written.{Room, IsFullFor}
-use Rattle.sja_link.specs.Lists.{Lists}
 use Rattle.sja_link.specs.Accounts.{Account, account}
 use Rattle.sja_link.specs.Parts.{part}
 use Rattle.sja_link.specs.Records.{record_of}
@@ -18,6 +17,7 @@ use Rattle.sja_bus.specs.declared.seat.Seat.{Seat}
 use Rattle.sja_link.specs.Links.{Kept, stops_of}
 use Rattle.sja_link.specs.Inside.Moving.{Goes}
 use Rattle.sja_link.specs.Aborting.{IsApplied}
+use Rattle.sja_link.specs.Opening.{IsOpen, BeginsWithin, begun_in}
 use Rattle.sja_link.specs.BitEntries.{MayHaveItems, off_as}
 use Rattle.sja_link.specs.OutOfOrder.{read_in, HasOff}
 use Rattle.sja_wire.specs.OutOfRoom.{IsOutOfRoom}
@@ -29,13 +29,14 @@ use Rattle.sja_bus.specs.Inside.Taking.{BreaksBy, IsFull, IsGivenBack, FullForAb
 use Rattle.sja_bus.proofs.Links.Seating.{open_by}
 
 -- an abort's entry found no room, after items were taken
-pub full_for_abort : {E : Type 0} (same : E → E → Type 0) (stands : E → ℕ → Lists → Type 0) (old mid new : Seat)
-    (end after : E) (f : BusFault) → (link_of mid.ledger).node ≡ (link_of old.ledger).node →
+pub full_for_abort : {E : Type 0} (e : Ends E) (old mid new : Seat) (end after : E) (f : BusFault) →
+    (link_of mid.ledger).node ≡ (link_of old.ledger).node →
     mid.journal.room ≡ old.journal.room → MayHaveItems old.journal.entries mid.journal.entries →
-    Goes same stands end after old.journal.entries mid.journal.entries →
+    Goes e.same e.stands end after old.journal.entries mid.journal.entries →
+    BeginsWithin (e.links end) old.journal.entries mid.journal.entries →
     (has_orders : Orders → Type 0) (orders : Orders) → has_orders orders → orders.abort ≡ true →
-    IsApplied mid.journal.entries true → IsFull mid new Abort f → FullForAbort stands has_orders old new end after f
-full_for_abort same stands old mid new end after f node room items goes has_orders orders are ordered due full =
+    IsApplied mid.journal.entries true → IsFull mid new Abort f → FullForAbort e has_orders old new end after f
+full_for_abort e old mid new end after f node room items goes within has_orders orders are ordered due full =
     let F : List Entry → Type 0 = λ l. IsFullFor old.journal.room l Abort in
     let R : Room → Type 0 = λ r. IsFullFor r mid.journal.entries Abort in
     let P : List Entry → Type 0 = λ l. MayHaveItems old.journal.entries l in record {
@@ -46,8 +47,10 @@ full_for_abort same stands old mid new end after f node room items goes has_orde
       ordered = ordered;
       due = let D : List Entry → Type 0 = λ l. IsApplied l true in subst D (sym full.same) due;
       full = subst F (sym full.same) (subst R room full.full);
-      kept = λ h was. let Q : List Entry → Type 0 = λ l. Kept stands l after h in
+      kept = λ h was. let Q : List Entry → Type 0 = λ l. Kept e.stands l after h in
           subst Q (sym full.same) (goes.kept h was);
+      within = let B : List Entry → Type 0 = λ l. BeginsWithin (e.links end) old.journal.entries l in
+          subst B (sym full.same) within;
     }
 
 -- the whole bit broke off, where an entry found no room of which that is said so
@@ -70,12 +73,14 @@ gave_back e s end seat runs reads back off found cut verdicts on =
     let j = s.journal.entries in let stopped = reads.stopped in
     let at : activation_of s.ledger ≡ read_in j = seat.own ∙ ap (λ n. suc n) (sym stopped) in
     let F : ℕ → Type 0 = λ a. e.full back.last a in
-    let O : ℕ → Type 0 = λ n. HasOff (part j (suc n)) → ⊥ in record {
+    let O : ℕ → Type 0 = λ n. HasOff (part j (suc n)) → ⊥ in
+    let opened = open_by s.activity s.node j s.ended (free_in s.ledger) runs reads in record {
       last = back.last;
       same = back.same;
       is_full = subst F at back.is_full;
       stood = λ h was a. back.stood (suc a) (account j (suc a) (h a)) (was a);
-      is_open = open_by s.activity s.node j s.ended (free_in s.ledger) runs reads;
+      is_open = opened;
+      was_open = opened;
       ended = refl;
       off = off;
       found = found;
@@ -87,14 +92,16 @@ gave_back e s end seat runs reads back off found cut verdicts on =
 -- a put was given back, of an end that stood for an earlier journal before
 pub gives_from : {E : Type 0} (e : Ends E) → ((x y z : E) → e.same x y → e.same y z → e.same x z) →
     (before mid j : List Entry) (end here : E) → e.same end here → stops_of mid ≡ stops_of before →
+    (IsOpen mid → IsOpen before) →
     ((h : ℕ → Account) → Kept e.stands before end h → Kept e.stands mid here h) → GivesBack e mid j here →
     GivesBack e before j end
-gives_from e same_trans before mid j end here same ended back b = record {
+gives_from e same_trans before mid j end here same ended opened back b = record {
   last = b.last;
   same = same_trans end here b.last same b.same;
   is_full = b.is_full;
   stood = λ h was. b.stood h (back h was);
   is_open = b.is_open;
+  was_open = opened b.was_open;
   ended = b.ended ∙ ended;
   off = b.off;
   found = b.found;
@@ -109,17 +116,18 @@ pub breaks_after : {E : Type 0} (e : Ends E) → ((x y z : E) → e.same x y →
     (IsFullFor mid.journal.room mid.journal.entries Off → IsOutOfRoom old.journal.room
     old.journal.entries new.journal.entries) →
     stops_of mid.journal.entries ≡ stops_of old.journal.entries →
+    begun_in mid.journal.entries ≡ begun_in old.journal.entries →
     Goes e.same e.stands x y old.journal.entries mid.journal.entries →
     BreaksBy (IsFullFor mid.journal.room mid.journal.entries Off) e y mid new f → BreaksInBit e old new x f
-breaks_after e same_trans x y old mid new (JournalFull k) node short ended goes b = (b.0 ∙ node, short b.1)
-breaks_after e same_trans x y old mid new (Stuck k) node short ended goes b = (
+breaks_after e same_trans x y old mid new (JournalFull k) node short ended begun goes b = (b.0 ∙ node, short b.1)
+breaks_after e same_trans x y old mid new (Stuck k) node short ended begun goes b = (
   b.0 ∙ node,
-  gives_from e same_trans old.journal.entries mid.journal.entries new.journal.entries x y goes.is_same ended goes.kept
-      b.1,
+  gives_from e same_trans old.journal.entries mid.journal.entries new.journal.entries x y goes.is_same ended
+      (λ opened. sym begun ∙ opened ∙ ap (λ n. suc n) ended) goes.kept b.1,
 )
-breaks_after e same_trans x y old mid new (BadCredit k bytes) node short ended goes b = absurd b
-breaks_after e same_trans x y old mid new (BadOrder k) node short ended goes b = absurd b
-breaks_after e same_trans x y old mid new BitsSpent node short ended goes b = absurd b
+breaks_after e same_trans x y old mid new (BadCredit k bytes) node short ended begun goes b = absurd b
+breaks_after e same_trans x y old mid new (BadOrder k) node short ended begun goes b = absurd b
+breaks_after e same_trans x y old mid new BitsSpent node short ended begun goes b = absurd b
 
 -- the entries of a bit found no room
 pub broken_short : {E : Type 0} (e : Ends E) (node : ℕ) (room : Room) (before j : List Entry) (end : E)
@@ -135,7 +143,7 @@ pub broken_from : {E : Type 0} (e : Ends E) → ((x y z : E) → e.same x y → 
     IsBrokenFor e node room before j here f → IsBrokenFor e node room before j end f
 broken_from e same_trans node room before j end here (JournalFull k) same back b = b
 broken_from e same_trans node room before j end here (Stuck k) same back b =
-    (b.0, gives_from e same_trans before before j end here same refl back b.1)
+    (b.0, gives_from e same_trans before before j end here same refl (λ opened. opened) back b.1)
 broken_from e same_trans node room before j end here (BadCredit k bytes) same back b = absurd b
 broken_from e same_trans node room before j end here (BadOrder k) same back b = absurd b
 broken_from e same_trans node room before j end here BitsSpent same back b = absurd b

@@ -11,13 +11,14 @@ use Rattle.sja_link.specs.declared.entry.Entry.TheVariants.{Abort}
 use Rattle.lemmas.specs.Related.{EachRelated}
 use Rattle.sja_link.specs.Written.{Room, IsFullFor}
 use Rattle.sja_link.specs.declared.bus_end.BusEnd.{Ghosts as Ends}
-use Rattle.sja_link.specs.Lists.{Lists}
 use Rattle.sja_link.specs.BusLedgers.{link_of}
 use Rattle.sja_wire.specs.declared.bus_fault.BusFault.{BusFault}
 use Rattle.sja_wire.specs.declared.bus_fault.BusFault.TheVariants.{JournalFull}
 use Rattle.sja_bus.specs.declared.seat.Seat.{Seat}
 use Rattle.sja_wire.specs.Wire.{journal_at}
+use Rattle.lemmas.proofs.Related.{each_at}
 use Rattle.sja_link.specs.Links.{Kept}
+use Rattle.sja_link.specs.Opening.{BeginsWithin}
 use Rattle.sja_link.specs.Aborting.{IsApplied}
 use Rattle.sja_wire.specs.Opens.{Opens}
 use Rattle.sja_link.specs.BitEntries.{MayHaveItems}
@@ -42,17 +43,17 @@ each_pair same (x ∷ links) [] k d p few = absurd p
 each_pair same (x ∷ links) (y ∷ here) zero d p few = p.0
 each_pair same (x ∷ links) (y ∷ here) (suc k) d p few = each_pair same links here k d p.1 (omega (arith, few))
 
-pub full_seat : {E : Type 0} (same : E → E → Type 0) (stands : E → ℕ → Lists → Type 0)
+pub full_seat : {E : Type 0} (e : Ends E) → ((x y : E) → e.same x y → e.links y ≡ e.links x) →
     (orders_are : ℕ → Orders → Type 0) (R : ℕ → Seat → Seat → Type 0) (seats now : List Seat) (links here : List E)
     (k : ℕ) (s new : Seat) (d end : E) (f : BusFault) → k < length seats → k < length here →
-    length now ≡ length seats → AreReady now → GoesAll same stands seats now links here → Done R k seats now →
-    FullForAbort stands (orders_are (link_of (slice_index_or now k s).ledger).node) (slice_index_or now k s)
+    length now ≡ length seats → AreReady now → GoesAll e.same e.stands seats now links here → Done R k seats now →
+    FullForAbort e (orders_are (link_of (slice_index_or now k s).ledger).node) (slice_index_or now k s)
     new (slice_index_or here k d) end f →
-    SeatFull stands orders_are seats (slice_set now k new) links (slice_set here k end) f
-full_seat {E} same stands orders_are R seats now links here k s new d end f few there len ready goes done r =
+    SeatFull e orders_are seats (slice_set now k new) links (slice_set here k end) f
+full_seat {E} e same_links orders_are R seats now links here k s new d end f few there len ready goes done r =
     let near : k < length now = omega (arith, few, len) in
     let own = (ready k s near).own in let given = slice_index_or links k d in
-    let there_too : k < length links = omega (arith, there, each_length same links here goes.sames) in record {
+    let there_too : k < length links = omega (arith, there, each_length e.same links here goes.sames) in record {
       node = k;
       few = few;
       is = r.is ∙ ap (λ n. JournalFull n) own;
@@ -65,11 +66,11 @@ full_seat {E} same stands orders_are R seats now links here k s new d end f few 
           ∙ (done k t few).1 (omega arith) in
           let this : slice_index_or now k t ≡ slice_index_or seats k t = (done k t few).1 (omega arith) in
           let was = slice_index_or seats k t in
-          let O : ℕ → Type 0 = λ n. FullForAbort stands (orders_are n) (slice_index_or now k s) new
+          let O : ℕ → Type 0 = λ n. FullForAbort e (orders_are n) (slice_index_or now k s) new
           (slice_index_or here k d) end f in
-          let P : Seat → Type 0 = λ x. FullForAbort stands (orders_are k) x new (slice_index_or here k d) end f in
-          let Q : Seat → Type 0 = λ x. FullForAbort stands (orders_are k) was x given end f in
-          let q : FullForAbort stands (orders_are k) was new (slice_index_or here k d) end f =
+          let P : Seat → Type 0 = λ x. FullForAbort e (orders_are k) x new (slice_index_or here k d) end f in
+          let Q : Seat → Type 0 = λ x. FullForAbort e (orders_are k) was x given end f in
+          let q : FullForAbort e (orders_are k) was new (slice_index_or here k d) end f =
           subst P same_seat (subst O own r) in
           subst Q (sym (set_here now k new t near)) (record {
             is = q.is;
@@ -79,8 +80,10 @@ full_seat {E} same stands orders_are R seats now links here k s new d end f few 
             ordered = q.ordered;
             due = q.due;
             full = q.full;
-            kept = λ h kept. q.kept h (subst (λ (x : Seat). Kept stands x.journal.entries (slice_index_or here k d) h)
+            kept = λ h kept. q.kept h (subst (λ (x : Seat). Kept e.stands x.journal.entries (slice_index_or here k d) h)
                 this (goes.kept k t d h few kept));
+            within = let B : ℕ → Type 0 = λ n. BeginsWithin n was.journal.entries new.journal.entries in
+                subst B (each_at e.same e.links same_links links here k d goes.sames) q.within;
           });
     }
 
@@ -120,14 +123,14 @@ breaks_seat {E} e same_trans R seats now links here k s new d f few there len re
 
 -- ---- by the journals of all
 
-pub not_aborted : {E : Type 0} (stands : E → ℕ → Lists → Type 0) (orders_are : ℕ → Orders → Type 0) (bits : ℕ)
+pub not_aborted : {E : Type 0} (e : Ends E) (orders_are : ℕ → Orders → Type 0) (bits : ℕ)
     (steps : List ℕ) (seats after : List Seat) (links links_after : List E) (f : BusFault) → length after ≡ length seats
     →
-    HaveRoom (room_for bits steps) seats → SeatFull stands orders_are seats after links links_after f →
-    IsNotAborted stands orders_are bits steps (journals_of seats) (journals_of after) links links_after f
-not_aborted stands orders_are bits steps [] after links links_after f len rooms r = let none = r.few in
+    HaveRoom (room_for bits steps) seats → SeatFull e orders_are seats after links links_after f →
+    IsNotAborted e orders_are bits steps (journals_of seats) (journals_of after) links links_after f
+not_aborted e orders_are bits steps [] after links links_after f len rooms r = let none = r.few in
     absurd (omega (arith, none))
-not_aborted {E} stands orders_are bits steps (s ∷ seats) after links links_after f len rooms r =
+not_aborted {E} e orders_are bits steps (s ∷ seats) after links links_after f len rooms r =
     let all = s ∷ seats in let cb = count_is all in let k = r.node in let few = r.few in
     let full = r.full s in let room = rooms k s few in
     let was = journal_is all k s few in let now = journal_is after k s (omega (arith, few, len)) in
@@ -145,11 +148,19 @@ not_aborted {E} stands orders_are bits steps (s ∷ seats) after links links_aft
       due = let D : List Entry → Type 0 = λ j. IsApplied j true in subst D (sym now) full.due;
       full = subst F (sym now) (subst R room full.full);
       kept = λ d h kept.
-          let K : List Entry → Type 0 = λ j. Kept stands j (slice_index_or links k d) h in
-          let L : List Entry → Type 0 = λ j. Kept stands j (slice_index_or links_after k d) h in
-          let A : E → Type 0 = λ x. Kept stands (slice_index_or after k s).journal.entries x h in
-          let B : E → Type 0 = λ x. Kept stands (slice_index_or all k s).journal.entries x h in
+          let K : List Entry → Type 0 = λ j. Kept e.stands j (slice_index_or links k d) h in
+          let L : List Entry → Type 0 = λ j. Kept e.stands j (slice_index_or links_after k d) h in
+          let A : E → Type 0 = λ x. Kept e.stands (slice_index_or after k s).journal.entries x h in
+          let B : E → Type 0 = λ x. Kept e.stands (slice_index_or all k s).journal.entries x h in
           subst L (sym now) (subst A (sym (r.is_after d)) (full.kept h (subst B (r.is_end d) (subst K was kept))));
+      within = λ d.
+          let K : List Entry → Type 0 = λ j. BeginsWithin (e.links (slice_index_or links k d)) j
+          (journal_at (journals_of after) k) in
+          let L : List Entry → Type 0 = λ j. BeginsWithin (e.links (slice_index_or links k d))
+          (slice_index_or all k s).journal.entries j in
+          let B : E → Type 0 = λ x. BeginsWithin (e.links x) (slice_index_or all k s).journal.entries
+          (slice_index_or after k s).journal.entries in
+          subst K (sym was) (subst L (sym now) (subst B (sym (r.is_end d)) full.within));
     }
 
 pub broken_off : {E : Type 0} (e : Ends E) (orders_are : ℕ → Orders → Type 0) (bits : ℕ) (steps : List ℕ)
@@ -177,6 +188,9 @@ broken_off e orders_are bits steps (s ∷ seats) after links f len rooms r =
       opens = subst P (sym was) (r.opens k s few);
       kept = λ d h kept. let K : List Entry → Type 0 = λ j. Kept e.stands j (slice_index_or links k d) h in
           r.goes.kept k s d h few (subst K was kept);
+      within = λ d. let K : List Entry → Type 0 = λ j. BeginsWithin (e.links (slice_index_or links k d)) j
+          opened.journal.entries in
+          subst K (sym was) (r.begins k s few d);
       end = r.breaks.end;
       is_end = r.breaks.is_end;
       broken = subst Q (sym now) (subst N (r.rooms (room_for bits steps) rooms k s there) (r.breaks.broken s));
@@ -187,8 +201,8 @@ pub stops_bit : {E : Type 0} (e : Ends E) (orders_are : ℕ → Orders → Type 
     (run left bits : ℕ) (fault : Option BusFault) (seats after : List Seat) (links links_after : List E) (f : BusFault)
     (now : BusValue) → now.journals ≡ journals_of after → run + left ≡ bits → length after ≡ length seats →
     HaveRoom (room_for bits steps) seats →
-    (SeatRefuses e.stands seats after links links_after f
-    ⊎ SeatFull e.stands orders_are seats after links links_after f)
+    (SeatRefuses e seats after links links_after f
+    ⊎ SeatFull e orders_are seats after links links_after f)
     ⊎ SeatStops e orders_are seats after links f →
     StopsBit e orders_are (record {
       script = script;
@@ -204,19 +218,19 @@ stops_bit {E} e orders_are script steps run left bits fault seats after links li
     r = elim r [
       | inl opening ↦ elim opening [
         | inl refused ↦
-            let N : ℕ → Type 0 = λ n. IsTakenAndRefused e.stands n steps (journals_of seats)
+            let N : ℕ → Type 0 = λ n. IsTakenAndRefused e n steps (journals_of seats)
             (journals_of after) links links_after f in
-            let J : List (List Entry) → Type 0 = λ l. IsTakenAndRefused e.stands (run + left) steps (journals_of seats)
+            let J : List (List Entry) → Type 0 = λ l. IsTakenAndRefused e (run + left) steps (journals_of seats)
             l links links_after f in
             not_taken_bit (subst J (sym journals) (subst N (sym all)
-            (not_taken e.stands bits steps seats after links links_after f len rooms refused)))
+            (not_taken e bits steps seats after links links_after f len rooms refused)))
         | inr aborting ↦
-            let N : ℕ → Type 0 = λ n. IsNotAborted e.stands orders_are n steps (journals_of seats)
+            let N : ℕ → Type 0 = λ n. IsNotAborted e orders_are n steps (journals_of seats)
             (journals_of after) links links_after f in
-            let J : List (List Entry) → Type 0 = λ l. IsNotAborted e.stands orders_are (run + left) steps
+            let J : List (List Entry) → Type 0 = λ l. IsNotAborted e orders_are (run + left) steps
             (journals_of seats) l links links_after f in
             not_aborted_bit (subst J (sym journals) (subst N (sym all)
-            (not_aborted e.stands orders_are bits steps seats after links links_after f len rooms aborting)))
+            (not_aborted e orders_are bits steps seats after links links_after f len rooms aborting)))
       ]
       | inr breaking ↦
           let was = journals_of seats in

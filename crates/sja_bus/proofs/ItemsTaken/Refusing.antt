@@ -1,5 +1,5 @@
 -- An item that was refused, by the links of its node and by those of all.
-use Rattle.std.proofs.Common.{◌≡◌, ℕ, suc, ◌+◌, ◌-◌, ◌<◌, List, [], ◌∷◌, ◌++◌, length, inl, inr, sym, ap, ◌∙◌}
+use Rattle.std.proofs.Common.{◌≡◌, ℕ, suc, ◌+◌, ◌-◌, ◌<◌, ◌≤◌, List, [], ◌∷◌, ◌++◌, length, inl, inr, sym, ap, ◌∙◌}
 use Rattle.std.proofs.Common.{subst, arith}
 use Rattle.std.specs.Prelude.{slice_index_or, slice_set}
 use Rattle.std.proofs.Math.ListN.{length-set}
@@ -9,13 +9,17 @@ use Rattle.std.proofs.lemmas.List.{length-append, get_or-set_same as set_here, g
 use Rattle.std.proofs.lemmas.List.{get_or_append_left, get_or_default as or_same, get_or_push}
 use Rattle.sja_link.specs.Written.{Room}
 use Rattle.sja_link.specs.declared.entry.Entry.{Entry}
-use Rattle.sja_link.specs.Lists.{Lists, with_taken}
+use Rattle.lemmas.proofs.Related.{each_at}
+use Rattle.sja_link.specs.declared.bus_end.BusEnd.{Ghosts as Ends}
+use Rattle.sja_link.specs.Lists.{with_taken}
 use Rattle.sja_link.specs.Accounts.{Account, account}
 use Rattle.sja_link.specs.BusLedgers.{link_of}
 use Rattle.sja_wire.specs.declared.bus_fault.BusFault.{BusFault}
 use Rattle.sja_bus.specs.declared.seat.Seat.{Seat}
 use Rattle.sja_wire.specs.Wire.{journal_at}
 use Rattle.sja_link.specs.Links.{Kept}
+use Rattle.sja_link.specs.Opening.{BeginsWithin}
+use Rattle.sja_link.specs.OutOfOrder.{read_in}
 use Rattle.sja_link.specs.Inside.Moving.{Goes}
 use Rattle.sja_link.specs.BitEntries.{MayHaveItems}
 use Rattle.sja_wire.specs.Reasons.{IsRefusedFor, RefusesItem, IsTakenAndRefused, room_for}
@@ -26,56 +30,62 @@ use Rattle.sja_bus.specs.Inside.Rows.{AreReady, GoesAll, Done, journals_of}
 use Rattle.sja_bus.proofs.AllNodes.Running.{journal_is, count_is}
 
 -- an item that the link of the activation read showed, after other items
-pub refuses_here : {E : Type 0} (same : E → E → Type 0) (stands : E → ℕ → Lists → Type 0) (before : List Entry)
-    (old new : Seat) (end here after : E) (room : Room) (node : ℕ) (f : BusFault) → IsSound old →
+pub refuses_here : {E : Type 0} (e : Ends E) → ((x y : E) → e.same x y → e.links y ≡ e.links x) →
+    (before : List Entry) (old new : Seat) (end here after : E) (room : Room) (node : ℕ) (f : BusFault) → IsSound old →
     (link_of old.ledger).node ≡ node → old.journal.room ≡ room → MayHaveItems before old.journal.entries →
-    Goes same stands end here before old.journal.entries → RefusesHere stands here after old new f →
-    RefusesItem stands room before new.journal.entries end after node f
-refuses_here {E} same stands before old new end here after room node f sound own reserved items goes r =
+    BeginsWithin (e.links end) before old.journal.entries →
+    Goes e.same e.stands end here before old.journal.entries → RefusesHere e here after old new f →
+    RefusesItem e room before new.journal.entries end after node f
+refuses_here {E} e same_links before old new end here after room node f sound own reserved items within goes r =
     let a = old.ended in let j = old.journal.entries in
     let stopped = sound.reads.stopped in
     let P : ℕ → Type 0 = λ n. IsRefusedFor n old.journal.room j r.item f in
     let Q : Room → Type 0 = λ n. IsRefusedFor node n j r.item f in
-    let R : List Entry → Type 0 = λ l. RefusesItem stands room before l end after node f in
+    let R : List Entry → Type 0 = λ l. RefusesItem e room before l end after node f in
+    let there = r.few in let links = same_links end here goes.is_same in
     subst R (sym r.refuses.0) (record {
       item = r.item;
       why = subst Q reserved (subst P own r.refuses.1);
       items = items;
+      few = omega (arith, there, links, stopped);
+      within = within;
       shown = λ h was.
-          let S : ℕ → Type 0 = λ n. stands after (suc n) (with_taken (account j (suc n) (h n)) r.item) in
+          let S : ℕ → Type 0 = λ n. e.stands after (suc n) (with_taken (account j (suc n) (h n)) r.item) in
           subst S (sym stopped) (r.shown (account j (suc a) (h a)) (goes.kept h was a));
-      others = λ h b was ne. r.others (suc b) (λ e. ne (omega (arith, e, stopped))) (account j (suc b) (h b))
+      others = λ h b was ne. r.others (suc b) (λ q. ne (omega (arith, q, stopped))) (account j (suc b) (h b))
           (goes.kept h was b);
     })
 
--- the links stood for the journal before also where they were earlier
-pub refuses_from : {E : Type 0} (stands : E → ℕ → Lists → Type 0) (room : Room) (before j : List Entry)
-    (end here after : E) (node : ℕ) (f : BusFault) →
-    ((h : ℕ → Account) → Kept stands before end h → Kept stands before here h) →
-    RefusesItem stands room before j here after node f → RefusesItem stands room before j end after node f
-refuses_from stands room before j end here after node f back r = record {
+-- the links stood for the journal before also where they were earlier, and were as many
+pub refuses_from : {E : Type 0} (e : Ends E) (room : Room) (before j : List Entry)
+    (end here after : E) (node : ℕ) (f : BusFault) → e.links here ≡ e.links end →
+    ((h : ℕ → Account) → Kept e.stands before end h → Kept e.stands before here h) →
+    RefusesItem e room before j here after node f → RefusesItem e room before j end after node f
+refuses_from e room before j end here after node f many back r = record {
   item = r.item;
   why = r.why;
   items = r.items;
+  few = let P : ℕ → Type 0 = λ n. read_in j ≤ n in subst P many r.few;
+  within = let P : ℕ → Type 0 = λ n. BeginsWithin n before j in subst P many r.within;
   shown = λ h was. r.shown h (back h was);
   others = λ h a was. r.others h a (back h was);
 }
 
 -- one of many, after those before it had their turn
-pub refuses_seat : {E : Type 0} (same : E → E → Type 0) (stands : E → ℕ → Lists → Type 0)
+pub refuses_seat : {E : Type 0} (e : Ends E) → ((x y : E) → e.same x y → e.links y ≡ e.links x) →
     (R : ℕ → Seat → Seat → Type 0) (seats now : List Seat) (links here : List E) (k : ℕ) (s new : Seat) (d end : E)
     (f : BusFault) → k < length seats → k < length here → length now ≡ length seats → AreReady now →
-    GoesAll same stands seats now links here → Done R k seats now →
-    RefusesItem stands (slice_index_or now k s).journal.room (slice_index_or now k s).journal.entries
+    GoesAll e.same e.stands seats now links here → Done R k seats now →
+    RefusesItem e (slice_index_or now k s).journal.room (slice_index_or now k s).journal.entries
     new.journal.entries (slice_index_or here k d) end (link_of (slice_index_or now k s).ledger).node f →
-    SeatRefuses stands seats (slice_set now k new) links (slice_set here k end) f
-refuses_seat {E} same stands R seats now links here k s new d end f few there len ready goes done r =
+    SeatRefuses e seats (slice_set now k new) links (slice_set here k end) f
+refuses_seat {E} e same_links R seats now links here k s new d end f few there len ready goes done r =
     let near : k < length now = omega (arith, few, len) in
     let own = (ready k s near).own in
-    let N : ℕ → Type 0 = λ n. RefusesItem stands (slice_index_or now k s).journal.room
+    let N : ℕ → Type 0 = λ n. RefusesItem e (slice_index_or now k s).journal.room
     (slice_index_or now k s).journal.entries new.journal.entries (slice_index_or here k d) end n f in
     let given = slice_index_or links k d in
-    let there_too : k < length links = omega (arith, there, each_length same links here goes.sames) in
+    let there_too : k < length links = omega (arith, there, each_length e.same links here goes.sames) in
     record {
       node = k;
       few = few;
@@ -88,14 +98,14 @@ refuses_seat {E} same stands R seats now links here k s new d end f few there le
           ∙ (done k t few).1 (omega arith) in
           let this : slice_index_or now k t ≡ slice_index_or seats k t = (done k t few).1 (omega arith) in
           let was = slice_index_or seats k t in
-          let P : Seat → Type 0 = λ x. RefusesItem stands x.journal.room x.journal.entries new.journal.entries
+          let P : Seat → Type 0 = λ x. RefusesItem e x.journal.room x.journal.entries new.journal.entries
           (slice_index_or here k d) end k f in
-          let Q : Seat → Type 0 = λ x. RefusesItem stands was.journal.room was.journal.entries x.journal.entries given
+          let Q : Seat → Type 0 = λ x. RefusesItem e was.journal.room was.journal.entries x.journal.entries given
           end k f in
           subst Q (sym (set_here now k new t near))
-          (refuses_from stands was.journal.room was.journal.entries new.journal.entries given
-          (slice_index_or here k d) end k f
-          (λ h kept. subst (λ (x : Seat). Kept stands x.journal.entries (slice_index_or here k d) h) this
+          (refuses_from e was.journal.room was.journal.entries new.journal.entries given
+          (slice_index_or here k d) end k f (each_at e.same e.links same_links links here k d goes.sames)
+          (λ h kept. subst (λ (x : Seat). Kept e.stands x.journal.entries (slice_index_or here k d) h) this
           (goes.kept k t d h few kept))
           (subst P same_seat (subst N own r)));
     }
@@ -124,19 +134,19 @@ rooms_push n seats x is was k s few = elim (cases_eq k (length seats)) [
 ]
 
 -- the same by the journals of all
-pub not_taken : {E : Type 0} (stands : E → ℕ → Lists → Type 0) (bits : ℕ) (steps : List ℕ) (seats after : List Seat)
+pub not_taken : {E : Type 0} (e : Ends E) (bits : ℕ) (steps : List ℕ) (seats after : List Seat)
     (links links_after : List E) (f : BusFault) → length after ≡ length seats →
-    HaveRoom (room_for bits steps) seats → SeatRefuses stands seats after links links_after f →
-    IsTakenAndRefused stands bits steps (journals_of seats) (journals_of after) links links_after f
-not_taken stands bits steps [] after links links_after f len rooms r = let none = r.few in absurd (omega (arith, none))
-not_taken stands bits steps (s ∷ seats) after links links_after f len rooms r =
+    HaveRoom (room_for bits steps) seats → SeatRefuses e seats after links links_after f →
+    IsTakenAndRefused e bits steps (journals_of seats) (journals_of after) links links_after f
+not_taken e bits steps [] after links links_after f len rooms r = let none = r.few in absurd (omega (arith, none))
+not_taken e bits steps (s ∷ seats) after links links_after f len rooms r =
     let all = s ∷ seats in let cb = count_is all in let k = r.node in let few = r.few in
     let was = slice_index_or all k s in let now = slice_index_or after k s in
-    let P : List Entry → Type 0 = λ j. RefusesItem stands (room_for bits steps k) j (journal_at (journals_of after) k)
+    let P : List Entry → Type 0 = λ j. RefusesItem e (room_for bits steps k) j (journal_at (journals_of after) k)
     r.end r.end_after k f in
-    let Q : List Entry → Type 0 = λ j. RefusesItem stands (room_for bits steps k) was.journal.entries j r.end
+    let Q : List Entry → Type 0 = λ j. RefusesItem e (room_for bits steps k) was.journal.entries j r.end
     r.end_after k f in
-    let N : Room → Type 0 = λ n. RefusesItem stands n was.journal.entries now.journal.entries r.end r.end_after k f in
+    let N : Room → Type 0 = λ n. RefusesItem e n was.journal.entries now.journal.entries r.end r.end_after k f in
     record {
       node = k;
       few = omega (arith, few, cb);

@@ -29,6 +29,7 @@ use Rattle.sja_bus.specs.Inside.Together.{AreQuietRows, IsQuietRow, RunsTogether
 use Rattle.sja_bus.specs.Inside.Turning.{IsQuietBit}
 use Rattle.sja_bus.specs.Inside.Together.AreQuietRows.{no_row, one_more}
 use Rattle.sja_bus.proofs.AllNodes.RunningOn.{passes}
+use Rattle.sja_bus.proofs.AllNodes.Begins.{begins_bit}
 use Rattle.sja_bus.proofs.AllNodes.BitAfterBit.{bits_on}
 use Rattle.sja_bus.proofs.AllNodes.UntilTold.{row_bits, works_untold}
 use Rattle.sja_bus.proofs.AtPorts.TurnsTold.{quiet_turns}
@@ -160,7 +161,8 @@ module _ {E B : Type 0} (e : Ends E) (b : Ports B) (same_refl : (x : E) → e.sa
             bits_on e b (WorksUntold to_rest was) was script steps from run most left nobody seats after
             links links board board early enough row.count pass.few pass.at pass.row
             (each_refl e.same same_refl links) (refl, λ m far. kept_refl board m)
-            (row_goes e.same e.stands same_refl to_rest seats after links row) far.bus next
+            (row_goes e.same e.stands same_refl to_rest seats after links row)
+            (begins_bit e.links links told kept nobody (wired (driven_by seats)) seats after turns) far.bus next
             (λ k low. facts k (omega (arith, low, count)))
             (works_untold to_rest script steps from (from + run) left (left - run) begun seats given links first board
             far.bus.ready row.works still count far.more) (far.bits steps left enough);

@@ -134,3 +134,13 @@ pub all_of_rest : (P : Seat → Type 0) (s : Seat) (rest all : List Seat) → al
 all_of_rest P s rest all is h =
     let here = subst (λ (l : List Seat). All P l) is h in
     (here 0 s (omega arith), λ k d few. here (suc k) d (omega (arith, few)))
+
+-- and the other way
+pub all_with_rest : (P : Seat → Type 0) (s : Seat) (rest all : List Seat) → all ≡ s ∷ rest → P s → All P rest →
+    All P all
+all_with_rest P s rest all is here later =
+    let each : All P (s ∷ rest) = λ k d few. by k d few in subst (λ (l : List Seat). All P l) (sym is) each
+  where
+    by : (k : ℕ) (d : Seat) → k < length (s ∷ rest) → P (slice_index_or (s ∷ rest) k d)
+    by zero d few = here
+    by (suc k) d few = later k d (omega (arith, few))

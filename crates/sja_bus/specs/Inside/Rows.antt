@@ -18,6 +18,7 @@ use Rattle.sja_bus.specs.declared.seat.Seat.{Seat}
 use Rattle.sja_bus.specs.UntilTold.{HasBitsMore}
 use Rattle.sja_wire.specs.Wire.{IsWired}
 use Rattle.sja_link.specs.Links.{Kept, Grows, AreEnds}
+use Rattle.sja_link.specs.Opening.{BeginsWithin}
 use Rattle.sja_wire.specs.Opens.{Opens}
 use Rattle.sja_link.specs.BitEntries.{MayHaveItems}
 use Rattle.sja_bus.specs.Inside.Seats.{IsReady}
@@ -65,6 +66,11 @@ SeatTakes m old new = MayHaveItems old.journal.entries new.journal.entries
 
 abbrev pub SeatOpens : (ℕ → Orders → Type 0) → ℕ → Seat → Seat → Type 0
 SeatOpens orders_are m old new = Opens (orders_are m) old.journal.entries new.journal.entries
+
+-- no activation of a seat began whose link its end, the one at its place, doesn't have
+abbrev pub SeatBegins : {E : Type 0} → (E → ℕ) → List E → ℕ → Seat → Seat → Type 0
+SeatBegins {E} links_of links m old new =
+    (d : E) → BeginsWithin (links_of (slice_index_or links m d)) old.journal.entries new.journal.entries
 
 -- the journal of a seat has bits more and nothing else
 abbrev pub SeatHasBits : ℕ → Seat → Seat → Type 0

@@ -1,5 +1,5 @@
 -- An item that the bus takes, and an abort that it applies.
-use Rattle.std.specs.Prelude.{◌≡◌, ℕ, suc, true, Bool, List, [], ◌∷◌, ◌++◌}
+use Rattle.std.specs.Prelude.{◌≡◌, ◌≤◌, ℕ, suc, true, Bool, List, [], ◌∷◌, ◌++◌}
 use Rattle.can_bits.specs.declared.level.Level.{Level}
 use Rattle.sja_link.specs.declared.bus_end.BusEnd.{Ghosts as Ends}
 use Rattle.sja_link.specs.declared.up.Up.{Up}
@@ -18,6 +18,7 @@ use Rattle.sja_link.specs.Links.{Kept, Grows}
 use Rattle.sja_wire.specs.Reasons.{IsRefusedFor, GivesBack}
 use Rattle.sja_link.specs.OutOfOrder.{IsOutOfOrder}
 use Rattle.sja_link.specs.Aborting.{IsApplied}
+use Rattle.sja_link.specs.Opening.{BeginsWithin}
 use Rattle.sja_link.specs.BitEntries.{MayHaveItems, MayHaveAbort}
 use Rattle.sja_wire.specs.OutOfRoom.{IsOutOfRoom}
 use Rattle.sja_bus.specs.Inside.Seats.{IsSound, IsSeat, IsJudged}
@@ -36,13 +37,13 @@ abbrev pub Refuses : Seat → Seat → Up → BusFault → Type 0
 Refuses old new item f = (new.journal.entries ≡ old.journal.entries)
     × IsRefusedFor (link_of old.ledger).node old.journal.room old.journal.entries item f
 
--- with this fault the item wasn't entered that this end showed on the link that is read
-pub record RefusesHere {E : Type 0} (stands : E → ℕ → Lists → Type 0) (end after : E) (old new : Seat) (f : BusFault)
-    : Type 0 where
+-- with this fault the item wasn't entered that this end showed on the link that is read, which it has
+pub record RefusesHere {E : Type 0} (e : Ends E) (end after : E) (old new : Seat) (f : BusFault) : Type 0 where
   pub item : Up
   pub refuses : Refuses old new item f
-  pub shown : Carries stands (suc old.ended) end after (λ l. with_taken l item)
-  pub others : OthersStand stands (suc old.ended) end after
+  pub few : suc old.ended ≤ e.links end
+  pub shown : Carries e.stands (suc old.ended) end after (λ l. with_taken l item)
+  pub others : OthersStand e.stands (suc old.ended) end after
 
 -- there was no room for this entry
 pub record IsFull (old new : Seat) (e : Entry) (f : BusFault) : Type 0 where
@@ -88,9 +89,10 @@ pub record Applies (j k : List Entry) : Type 0 where
   pub aborts : MayHaveAbort j k
   pub is : IsApplied j aborts.changed
 
--- items were taken, and then an abort was ordered that changes the node, and its entry found no room
-pub record FullForAbort {E : Type 0} (stands : E → ℕ → Lists → Type 0) (has_orders : Orders → Type 0) (old new : Seat)
-    (end after : E) (f : BusFault) : Type 0 where
+-- items were taken, and then an abort was ordered that changes the node, and its entry found no room. No activation
+-- began on the way whose link the end doesn't have
+pub record FullForAbort {E : Type 0} (e : Ends E) (has_orders : Orders → Type 0) (old new : Seat) (end after : E)
+    (f : BusFault) : Type 0 where
   pub is : f ≡ JournalFull (link_of old.ledger).node
   pub items : MayHaveItems old.journal.entries new.journal.entries
   pub orders : Orders
@@ -98,4 +100,5 @@ pub record FullForAbort {E : Type 0} (stands : E → ℕ → Lists → Type 0) (
   pub ordered : orders.abort ≡ true
   pub due : IsApplied new.journal.entries true
   pub full : IsFullFor old.journal.room new.journal.entries Abort
-  pub kept : (h : ℕ → Account) → Kept stands old.journal.entries end h → Kept stands new.journal.entries after h
+  pub kept : (h : ℕ → Account) → Kept e.stands old.journal.entries end h → Kept e.stands new.journal.entries after h
+  pub within : BeginsWithin (e.links end) old.journal.entries new.journal.entries

@@ -5,6 +5,7 @@ use Rattle.sja_bus.specs.Inside.Refusing.{SeatRefuses, SeatFull, SeatStops}
 use Rattle.sja_bus.specs.Inside.Rows.{SeatTurns}
 use Rattle.sja_bus.proofs.AllNodes.Many.{goes_all_trans, done_all}
 use Rattle.sja_bus.proofs.AllNodes.BitAfterBit.{facts_of_bit}
+use Rattle.sja_bus.proofs.AllNodes.Begins.{begins_turned}
 use Rattle.sja_bus.proofs.AllNodes.Rows.{seated_on}
 use Rattle.sja_bus.proofs.AllNodes.Underway.{underway_none}
 use Rattle.sja_bus.proofs.ItemsTaken.TakenBefore.{row_takes}
@@ -102,8 +103,8 @@ returns-in_err-sample_from-clause-stops g c =
     let did = c.in_ok-open_all.ensures in let f = c.in_err-sample_from.field-0.0 in
     let was = c.args.seats.now in let now = c.sample_from.new.seats in
     let is : c.from_residual-in_err-sample_from.result ≡ Err f = search rules in
-    let P : _ → Type 0 = λ x. (SeatRefuses E.stands was now c.args.links.now c.sample_from.new.links x
-    ⊎ SeatFull E.stands O was now c.args.links.now c.sample_from.new.links x)
+    let P : _ → Type 0 = λ x. (SeatRefuses E was now c.args.links.now c.sample_from.new.links x
+    ⊎ SeatFull E O was now c.args.links.now c.sample_from.new.links x)
     ⊎ SeatStops E O was now c.args.links.now x in
     err_is P c.from_residual-in_err-sample_from.result f is
     (inr (record {
@@ -112,6 +113,7 @@ returns-in_err-sample_from-clause-stops g c =
       count = c.open_all.auto.seats;
       opens = did.opens;
       goes = did.goes;
+      begins = did.within;
       rooms = did.rooms;
       breaks = c.in_err-sample_from.ensures.broken seats c.open_all.new.links c.args.board.now row;
     }))
@@ -132,6 +134,21 @@ returns-clause-takes g c =
     (done_all (SeatTurns told kept c.args.struck level) did.0 seats c.sample_from.new.seats
     (omega (arith, all, count)) u.done)
     opening.goes opening.dry
+
+pub returns-clause-within : goal.returns-clause-within
+returns-clause-within g c =
+    let E = g.E.BusEnd in let B = g.B.Board in let seats = c.open_all.new.seats in
+    let level = c.level_of-level.result in
+    let told = B.told c.args.board.now c.sample_from.new.board in let kept =
+    B.kept c.args.board.now c.sample_from.new.board in
+    let row = underway_none E.same E.stands g.met.E.BusEnd.same_refl B.ports B.told B.kept g.met.B.Board.kept_refl
+    c.args.struck level seats c.open_all.new.links c.args.board.now c.in_ok-open_all.ensures.ready in
+    let did = c.in_ok-sample_from.ensures.row seats c.open_all.new.links c.args.board.now row in
+    let u = did.2 in let all = did.1 in let count = u.count in
+    begins_turned E.links c.args.links.now told kept c.args.struck level c.args.seats.now seats
+    c.sample_from.new.seats c.open_all.auto.seats c.in_ok-open_all.ensures.within
+    (done_all (SeatTurns told kept c.args.struck level) did.0 seats c.sample_from.new.seats
+    (omega (arith, all, count)) u.done)
 
 pub returns-clause-facts : goal.returns-clause-facts
 returns-clause-facts g c =

@@ -1,6 +1,7 @@
 use Rattle.std.proofs.Common.{◌≡◌, ℕ, ◌<◌, ◌≤◌, length, arith, rules, sym, subst, inl, inr}
 use Rattle.std.specs.Prelude.{◌⊎◌, Err, slice_index_or, slice_set}
 use Rattle.sja_bus.specs.Inside.Rows.{SeatOpens, SeatOpensUntold}
+use Rattle.sja_bus.proofs.AllNodes.Begins.{SeatOpensWithin, begins_at}
 use Rattle.sja_bus.specs.Inside.Refusing.{SeatRefuses, SeatFull}
 use Rattle.sja_bus.proofs.AllNodes.Many.{done_all, sames_one}
 use Rattle.sja_bus.proofs.AllNodes.Rows.{has_end, taken_none, taken_one}
@@ -13,8 +14,8 @@ use Rattle.sja_bus.proofs.all_nodes.open_all.Goals as goal
 pub loop-k-init : goal.loop-k-init
 loop-k-init g c = record {
   taken = taken_none g.E.BusEnd.same g.E.BusEnd.stands g.E.BusEnd.dry g.met.E.BusEnd.same_refl
-      (SeatOpens (g.B.Board.orders_are c.args.board.now)) SeatOpensUntold c.args.seats.now c.args.links.now
-      c.requires.ready;
+      (SeatOpensWithin (g.B.Board.orders_are c.args.board.now) g.E.BusEnd.links c.args.links.now) SeatOpensUntold
+      c.args.seats.now c.args.links.now c.requires.ready;
   facts = λ m none. absurd (omega (arith, none));
 }
 
@@ -46,12 +47,16 @@ loop-k-preserved g c =
     let P : ℕ → Type 0 = λ m. O m (slice_index_or c.loop-k.seats k s) new in
     let opens = subst P (c.loop-k.invariant.taken.ready k s here).own did.opens in
     let F : ℕ → Type 0 = λ m. g.B.Board.facts c.args.board.now m in
+    let there : k < length c.loop-k.links =
+    omega (arith, here, c.loop-k.auto.seats, c.loop-k.auto.links, c.requires.ends.count) in
+    let begins = begins_at E.same E.links met.same_links c.args.links.now c.loop-k.links k c.index-links-k.result
+    (slice_index_or c.loop-k.seats k s) new c.loop-k.invariant.taken.goes.sames there did.within in
+    let W = SeatOpensWithin (g.B.Board.orders_are c.args.board.now) E.links c.args.links.now in
     let fact : F k = subst F (c.loop-k.invariant.taken.ready k s here).own did.facts in
     record {
-      taken = taken_one E.same E.stands E.dry met.same_refl met.same_trans O SeatOpensUntold c.args.seats.now
-          c.loop-k.seats c.args.links.now c.loop-k.links k s new c.index-links-k.result c.open_bit.new.end here
-          (omega (arith, here, c.loop-k.auto.seats, c.loop-k.auto.links, c.requires.ends.count)) c.loop-k.auto.seats
-          did.stays did.ready did.goes did.dry opens did.untold c.loop-k.invariant.taken;
+      taken = taken_one E.same E.stands E.dry met.same_refl met.same_trans W SeatOpensUntold c.args.seats.now
+          c.loop-k.seats c.args.links.now c.loop-k.links k s new c.index-links-k.result c.open_bit.new.end here there
+          c.loop-k.auto.seats did.stays did.ready did.goes did.dry (opens, begins) did.untold c.loop-k.invariant.taken;
       facts = λ m less. elim (earlier_or_last m k less) [
         | inl before ↦ c.loop-k.invariant.facts m before
         | inr now ↦ subst F (sym now) fact
@@ -59,8 +64,14 @@ loop-k-preserved g c =
     }
 
 pub returns-clause-opens : goal.returns-clause-opens
-returns-clause-opens g c = done_all (SeatOpens (g.B.Board.orders_are c.args.board.now)) c.loop-k.k c.args.seats.now
-    c.loop-k.seats (search rules) c.loop-k.invariant.taken.done
+returns-clause-opens g c = λ m s few.
+    let W = SeatOpensWithin (g.B.Board.orders_are c.args.board.now) g.E.BusEnd.links c.args.links.now in
+    (done_all W c.loop-k.k c.args.seats.now c.loop-k.seats (search rules) c.loop-k.invariant.taken.done m s few).0
+
+pub returns-clause-within : goal.returns-clause-within
+returns-clause-within g c = λ m s few.
+    let W = SeatOpensWithin (g.B.Board.orders_are c.args.board.now) g.E.BusEnd.links c.args.links.now in
+    (done_all W c.loop-k.k c.args.seats.now c.loop-k.seats (search rules) c.loop-k.invariant.taken.done m s few).1
 
 pub returns-clause-rooms : goal.returns-clause-rooms
 returns-clause-rooms g c = c.loop-k.invariant.taken.rooms
@@ -74,17 +85,18 @@ returns-in_err-open_bit-clause-stops g c =
     let E = g.E.BusEnd in let k = c.loop-k.k in let s = c.index-seats-k.result in let f = c.in_err-open_bit.field-0.0 in
     let before = c.args.seats.now in let inv = c.loop-k.invariant.taken in let new = c.open_bit.new.self in
     let was : k < length before = search rules in
-    let O = SeatOpens (g.B.Board.orders_are c.args.board.now) in
+    let O = SeatOpensWithin (g.B.Board.orders_are c.args.board.now) E.links c.args.links.now in
+    let met = g.met.E.BusEnd in
     let is : c.from_residual.result ≡ Err f = search rules in
     let links = slice_set c.loop-k.links k c.open_bit.new.end in
     let there : k < length c.loop-k.links = omega (arith, was, c.loop-k.auto.links, c.requires.ends.count) in
-    let P : _ → Type 0 = λ x. SeatRefuses E.stands before (slice_set c.loop-k.seats k new) c.args.links.now links x
-    ⊎ SeatFull E.stands (g.B.Board.orders_are c.args.board.now) before (slice_set c.loop-k.seats k new) c.args.links.now
+    let P : _ → Type 0 = λ x. SeatRefuses E before (slice_set c.loop-k.seats k new) c.args.links.now links x
+    ⊎ SeatFull E (g.B.Board.orders_are c.args.board.now) before (slice_set c.loop-k.seats k new) c.args.links.now
     links x in
     err_is P c.from_residual.result f is (elim c.in_err-open_bit.ensures.stops [
-      | inl refused ↦ inl (refuses_seat E.same E.stands O before c.loop-k.seats c.args.links.now c.loop-k.links k s new
+      | inl refused ↦ inl (refuses_seat E met.same_links O before c.loop-k.seats c.args.links.now c.loop-k.links k s new
           c.index-links-k.result c.open_bit.new.end f was there c.loop-k.auto.seats inv.ready inv.goes inv.done refused)
-      | inr full ↦ inr (full_seat E.same E.stands (g.B.Board.orders_are c.args.board.now) O before c.loop-k.seats
+      | inr full ↦ inr (full_seat E met.same_links (g.B.Board.orders_are c.args.board.now) O before c.loop-k.seats
           c.args.links.now c.loop-k.links k s new c.index-links-k.result c.open_bit.new.end f was there
           c.loop-k.auto.seats inv.ready inv.goes inv.done full)
     ])

@@ -12,6 +12,7 @@ use Rattle.sja_bus.specs.UntilTold.{WorksUntold}
 use Rattle.sja_bus.specs.Inside.RunningOn.{moment_of, AnyBit, RowsRun, SomeTold}
 use Rattle.sja_bus.proofs.AllNodes.Rows.{seated_on}
 use Rattle.sja_bus.proofs.AllNodes.RunningOn.{passes, none_still, others_now, others_still}
+use Rattle.sja_bus.proofs.AllNodes.Begins.{begins_bit}
 use Rattle.sja_bus.proofs.AllNodes.BitAfterBit.{facts_of_bit, none_yet, bits_on, stops_on}
 use Rattle.sja_bus.proofs.AllNodes.UntilTold.{seats_then, works_untold}
 use Rattle.sja_bus.proofs.OneReader.Ending.{ends_full, ends_untold, full_first, full_on}
@@ -58,7 +59,10 @@ runs_more g c =
           let begun = moment_of script steps from left c.args.seats.now c.args.links.now c.args.board.now in
           bits_on E B (WorksUntold c.args.to_rest begun) begun script steps from run c.args.most left c.none.result was
           now c.loop-run.links c.sample_all.new.links a z early enough c.sample_all.auto.seats pass.few pass.at pass.row
-          c.sample_all.ensures.sames c.sample_all.ensures.board did.goes inv.bus next (facts g c)
+          c.sample_all.ensures.sames c.sample_all.ensures.board did.goes
+          (begins_bit E.links c.loop-run.links (B.told a z) (B.kept a z) c.none.result c.loop-run.level was now
+          did.turns)
+          inv.bus next (facts g c)
           (works_untold c.args.to_rest script steps from (from + run) left (left - run) c.args.seats.now was
           c.args.links.now c.loop-run.links c.args.board.now a inv.bus.ready (c.goes_on.ensures.works goes) inv.board
           c.loop-run.auto.seats inv.more) (inv.bits steps left enough);

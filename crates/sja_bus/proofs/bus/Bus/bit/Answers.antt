@@ -14,7 +14,7 @@ use Rattle.sja_bus.specs.Inside.Refusing.{HaveRoom, SeatRefuses, SeatFull, SeatS
 use Rattle.sja_bus.proofs.AllNodes.Journals.{wired_row, is_bit, all_told}
 use Rattle.sja_bus.proofs.WholeBus.Logs.{calm_by, none_untold}
 use Rattle.sja_bus.proofs.AllNodes.Running.{count_is, bus_run}
-use Rattle.sja_bus.proofs.Links.WrittenBack.{are_back, keeps_back, keeps_still}
+use Rattle.sja_bus.proofs.Links.WrittenBack.{are_back, begins_back, keeps_back, keeps_still}
 use Rattle.sja_bus.proofs.ItemsTaken.TakenBefore.{takes_back}
 use Rattle.sja_bus.proofs.ItemsTaken.BreakingSeats.{stops_bit}
 use Rattle.lemmas.proofs.Results.{err_is}
@@ -145,6 +145,9 @@ returns-in-Ok-clause-bit g c =
       kept = keeps_back g.E.BusEnd.same g.E.BusEnd.stands was c.as_mut_slice.result.now now b.seats.len
           c.args.self.now.journals c.args.links.now c.bit_of_all.new.links (omega arith) c.as_mut_slice.ensures.value
           c.bit_of_all.auto.seats (ap (λ (w : BusValue). w.journals) c.self.view_is) c.in-Ok.ensures.goes;
+      within = begins_back g.E.BusEnd.links c.args.links.now was c.as_mut_slice.result.now now b.seats.len
+          c.args.self.now.journals (omega arith) c.as_mut_slice.ensures.value c.bit_of_all.auto.seats
+          (ap (λ (w : BusValue). w.journals) c.self.view_is) c.in-Ok.ensures.within;
       bit =
           let orders = g.B.Board.orders_are c.args.board.now in
           let told = g.B.Board.told c.args.board.now c.bit_of_all.new.board in
@@ -203,8 +206,8 @@ returns-in-Err-clause-reason g c = λ none.
     } in
     let P : BusValue → Type 0 = λ w. StopsBit E O w (new now) before after f in
     let Q : List Seat → Type 0 = λ xs. StopsBit E O old (new xs) before after f in
-    let S : List Seat → Type 0 = λ l. (SeatRefuses E.stands l now before after f
-    ⊎ SeatFull E.stands O l now before after f) ⊎ SeatStops E O l now before f in
+    let S : List Seat → Type 0 = λ l. (SeatRefuses E l now before after f
+    ⊎ SeatFull E O l now before after f) ⊎ SeatStops E O l now before f in
     let reason = stops_bit E O b.struck.script b.steps.items b.run b.left b.struck.bits b.fault was
     now before after f (new now) refl inv.bits len rooms
     (subst S c.as_mut_slice.ensures.value c.in-Err.ensures.stops) in

@@ -15,7 +15,7 @@ use Rattle.sja_bus.specs.Inside.Refusing.{HaveRoom, SeatRefuses}
 use Rattle.sja_bus.proofs.AllNodes.Running.{wired_taken, bus_run}
 use Rattle.sja_bus.proofs.AllNodes.Journals.{all_items, all_dry, all_untold, calm_taken}
 use Rattle.sja_bus.proofs.ItemsTaken.Refusing.{not_taken}
-use Rattle.sja_bus.proofs.Links.WrittenBack.{keeps_back}
+use Rattle.sja_bus.proofs.Links.WrittenBack.{keeps_back, begins_back}
 use Rattle.sja_bus.proofs.WholeBus.Broken.{whole_broken}
 use Rattle.sja_bus.proofs.bus.Bus.gather.Goals as goal
 
@@ -92,6 +92,13 @@ returns-in-Ok-clause-kept g c =
     c.gather_all.new.links all c.as_mut_slice.ensures.value c.gather_all.auto.seats
     (ap (λ (w : BusValue). w.journals) c.self.view_is) c.in-Ok.ensures.goes
 
+pub returns-in-Ok-clause-within : goal.returns-in-Ok-clause-within
+returns-in-Ok-clause-within g c =
+    let seats = c.self.inside.seats in let all : seats.len ≡ length seats.items = omega arith in
+    begins_back g.E.BusEnd.links c.args.links.now seats.items c.as_mut_slice.result.now c.gather_all.new.seats
+    seats.len c.args.self.now.journals all c.as_mut_slice.ensures.value c.gather_all.auto.seats
+    (ap (λ (w : BusValue). w.journals) c.self.view_is) c.in-Ok.ensures.within
+
 pub returns-in-Ok-clause-items : goal.returns-in-Ok-clause-items
 returns-in-Ok-clause-items g c =
     let b = c.self.inside in
@@ -122,16 +129,16 @@ returns-in-Err-clause-reason g c = λ none.
     let v : c.as_mut_slice.result.now ≡ was = c.as_mut_slice.ensures.value in
     let len : length now ≡ length was = c.gather_all.auto.seats ∙ ap (λ (l : List Seat). length l) v in
     let e : take b.seats.len (now ++ drop (length now) was) ≡ now = grind (arith, common_steps) in
-    let S : List Seat → Type 0 = λ l. SeatRefuses E.stands l now before after f in
+    let S : List Seat → Type 0 = λ l. SeatRefuses E l now before after f in
     let right : b.fault ≡ None = ap (λ (w : BusValue). w.fault) c.self.view_is ∙ none in
-    let N : ℕ → Type 0 = λ n. IsTakenAndRefused E.stands n b.steps.items (journals_of was) (journals_of now) before
+    let N : ℕ → Type 0 = λ n. IsTakenAndRefused E n b.steps.items (journals_of was) (journals_of now) before
     after f in
-    let reason = subst N (sym inv.bits) (not_taken E.stands b.struck.bits b.steps.items was now before after f len
+    let reason = subst N (sym inv.bits) (not_taken E b.struck.bits b.steps.items was now before after f len
     inv.rooms
     (subst S v c.in-Err.ensures.refused)) in
-    let P : BusValue → Type 0 = λ w. IsTakenAndRefused E.stands (w.run + w.left) w.steps w.journals
+    let P : BusValue → Type 0 = λ w. IsTakenAndRefused E (w.run + w.left) w.steps w.journals
     (journals_of now) before after f in
-    let Q : List Seat → Type 0 = λ xs. IsTakenAndRefused E.stands (c.args.self.now.run + c.args.self.now.left)
+    let Q : List Seat → Type 0 = λ xs. IsTakenAndRefused E (c.args.self.now.run + c.args.self.now.left)
     c.args.self.now.steps
     c.args.self.now.journals (journals_of xs) before after f in
     subst Q (sym e) (subst P c.self.view_is reason)

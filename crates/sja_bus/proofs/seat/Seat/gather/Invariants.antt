@@ -1,6 +1,7 @@
 use Rattle.std.proofs.Common.{◌-◌, length}
 use Rattle.sja_link.specs.Inside.Moving.{Goes}
 use Rattle.sja_link.specs.BitEntries.{MayHaveItems}
+use Rattle.sja_link.specs.Opening.{BeginsWithin}
 use Rattle.sja_bus.specs.Inside.Seats.{IsReady}
 use Rattle.sja_bus.specs.Inside.AtLinks.{KeepsEnd}
 use Rattle.sja_bus.specs.Inside.Turning.{TakesUntold}
@@ -13,6 +14,7 @@ invariant-loop g l = record {
   goes : Goes g.E.BusEnd.same g.E.BusEnd.stands l.initial.end l.end l.initial.self.journal.entries
       l.self.journal.entries;
   items : MayHaveItems l.initial.self.journal.entries l.self.journal.entries;
+  within : BeginsWithin (g.E.BusEnd.links l.initial.end) l.initial.self.journal.entries l.self.journal.entries;
   untold : TakesUntold l.initial.self l.self;
 }
 

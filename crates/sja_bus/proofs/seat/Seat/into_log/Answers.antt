@@ -4,9 +4,9 @@ use Rattle.sja_wire.specs.Lawful.{CountersAre}
 use Rattle.sja_bus.proofs.WholeBus.Lawfuls.{counters_of}
 use Rattle.sja_bus.proofs.seat.Seat.into_log.Goals as goal
 
-pub returns : goal.returns
-returns c = record {
-  journal = c.into_journal.ensures;
+pub returns-clause-log : goal.returns-clause-log
+returns-clause-log c = record {
+  journal = c.in_ok-journal.ensures.journal;
   counters = λ h.
       let j = c.args.self.journal.entries in
       let k = c.counters-counters.result in

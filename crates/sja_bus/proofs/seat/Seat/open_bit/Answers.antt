@@ -6,6 +6,7 @@ use Rattle.sja_link.proofs.Growing.Moving.{goes_trans, goes_aborted}
 use Rattle.sja_bus.proofs.AtPorts.TurnsTold.{aborts_none, takes_then}
 use Rattle.sja_link.specs.BusLedgers.{link_of}
 use Rattle.lemmas.proofs.Results.{err_both}
+use Rattle.sja_link.proofs.Growing.Begins.{begins_none, begun_aborted}
 use Rattle.sja_bus.proofs.seat.Seat.open_bit.Goals as goal
 
 pub returns-then-ordered-clause-goes : goal.returns-then-ordered-clause-goes
@@ -16,6 +17,14 @@ returns-then-ordered-clause-goes g c =
     on_ok_weaker c.abort.result
     (λ a. goes_trans E.same E.stands met.same_trans c.args.end.now c.gather.new.end c.gather.new.end j k l
     c.in_ok-gather.ensures.goes (goes_aborted E.same E.stands met.same_refl c.gather.new.end k l a.aborts))
+    c.abort.ensures.aborts
+
+pub returns-then-ordered-clause-within : goal.returns-then-ordered-clause-within
+returns-then-ordered-clause-within g c =
+    let k = c.gather.new.self.journal.entries in let l = c.abort.new.self.journal.entries in
+    let most = g.E.BusEnd.links c.args.end.now in
+    on_ok_weaker c.abort.result
+    (λ a n far was. begins_none most k l (begun_aborted k l a.aborts) n far (c.in_ok-gather.ensures.within n far was))
     c.abort.ensures.aborts
 
 -- `asked` proves nothing here: by it a wrong body is refused with values
@@ -71,9 +80,9 @@ returns-then-ordered-clause-stops g c =
     let are = subst O (c.number.ensures ∙ c.gather.ensures.stays.node) c.orders-ordered.ensures.orders in
     let yes : c.orders-ordered.result.abort ≡ true = c.if-ordered.true in
     err_both c.abort.result
-    (λ due f full. inr (full_for_abort E.same E.stands c.args.self.now mid c.abort.new.self c.args.end.now
+    (λ due f full. inr (full_for_abort E c.args.self.now mid c.abort.new.self c.args.end.now
     c.gather.new.end f c.gather.ensures.stays.node c.gather.ensures.stays.room c.in_ok-gather.ensures.items
-    c.in_ok-gather.ensures.goes
+    c.in_ok-gather.ensures.goes c.in_ok-gather.ensures.within
     (g.B.Board.orders_are c.args.board.now (link_of c.args.self.now.ledger).node) c.orders-ordered.result are
     yes due full))
     c.abort.ensures.due c.abort.ensures.full

@@ -12,6 +12,7 @@ use Rattle.sja_bus.proofs.ItemsTaken.OutOfRoom.{off_short}
 use Rattle.sja_bus.proofs.Journal.BitSteps.{follows_on}
 use Rattle.sja_bus.proofs.AllNodes.NodeBit.{has_on, has_off}
 use Rattle.lemmas.proofs.Results.{err_is}
+use Rattle.sja_link.proofs.Growing.Begins.{begun_verdict}
 use Rattle.sja_bus.proofs.Links.Seating.{seat_stays}
 use Rattle.sja_bus.proofs.seat.Seat.sample_running.Goals.{In_ok-outcome}
 use Rattle.sja_bus.proofs.seat.Seat.sample_running.Goals as goal
@@ -67,6 +68,7 @@ returns-in_err-go_off-clause-broken g c =
     c.args.seen outcome.verdict.verdict c.in_err-go_off.ensures.unentered (subst R outcome.room used)
     (subst W off outcome.mid.follows))
     (outcome.mid.reads.stopped ∙ kept.0 ∙ sym c.requires.at.ready.sound.reads.stopped)
+    (begun_verdict was.journal.entries mid.journal.entries was.drives c.args.seen outcome.verdict.verdict)
     (goes_one E.same E.stands c.args.end.now c.sample_and_judge.new.end was.journal.entries mid.journal.entries
     was.ended c.sample_and_judge.ensures.same outcome.moves) c.in_err-go_off.ensures.broken)
 

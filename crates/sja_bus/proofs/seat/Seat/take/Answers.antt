@@ -7,6 +7,7 @@ use Rattle.sja_bus.specs.Inside.Taking.{RefusesHere}
 use Rattle.sja_link.specs.declared.up.Up.TheVariants.{Credit}
 use Rattle.sja_link.specs.declared.entry.Entry.TheVariants.{Up as Item}
 use Rattle.sja_link.specs.BusLedgers.{free_in}
+use Rattle.sja_link.proofs.Growing.Begins.{begins_item, begins_none}
 use Rattle.sja_link.proofs.Growing.Moving.{moves_push}
 use Rattle.lemmas.proofs.Results.{err_is}
 use Rattle.sja_bus.proofs.seat.Seat.take.Goals as goal
@@ -23,6 +24,15 @@ returns-in_ok-note-in-Ok-Some-clause-moves g c =
     (Item c.in-Ok-Some.item) (suc was.ended) told.takes.stands (subst O own c.collect.ensures.others)
     (subst T own took))
 
+pub returns-in_ok-note-in-Ok-Some-clause-within : goal.returns-in_ok-note-in-Ok-Some-clause-within
+returns-in_ok-note-in-Ok-Some-clause-within g c =
+    let was = c.args.self.now in let takes = c.in_ok-note-in-Ok-Some.ensures.takes in
+    let has = rw c.in-Ok-Some.field-0-is at c.in-Ok-Some.ensures.has in
+    let links = g.met.E.BusEnd.same_links c.args.end.now c.collect.new.end c.collect.ensures.same in
+    let own = c.requires.at.ready.seat.own in let at = takes.stands in
+    rw takes.entered (begins_item (g.E.BusEnd.links c.args.end.now) was.journal.entries c.in-Ok-Some.item
+    (omega (arith, has, links, own, at)))
+
 pub returns-in_ok-note-in-Ok-Some-clause-some : goal.returns-in_ok-note-in-Ok-Some-clause-some
 returns-in_ok-note-in-Ok-Some-clause-some g c = λ e. (
   c.in-Ok-Some.item,
@@ -36,7 +46,7 @@ pub returns-in_err-note-in-Ok-Some-clause-refused : goal.returns-in_err-note-in-
 returns-in_err-note-in-Ok-Some-clause-refused g c =
     let took = rw c.in-Ok-Some.field-0-is at c.in-Ok-Some.ensures.item in
     let f = c.in_err-note-in-Ok-Some.field-0.0 in
-    let P : BusFault → Type 0 = λ x. RefusesHere g.E.BusEnd.stands c.args.end.now c.collect.new.end
+    let P : BusFault → Type 0 = λ x. RefusesHere g.E.BusEnd c.args.end.now c.collect.new.end
     c.args.self.now c.note.new.self x in
     let is : c.from_residual.result ≡ Err f = search rules in
     let was = c.args.self.now in let r = c.in_err-note-in-Ok-Some.ensures.refused in
@@ -49,6 +59,9 @@ returns-in_err-note-in-Ok-Some-clause-refused g c =
       item = c.in-Ok-Some.item;
       refuses =
           (r.0, subst Q c.in-Ok-Some.ensures.id r.1);
+      few = let has = rw c.in-Ok-Some.field-0-is at c.in-Ok-Some.ensures.has in
+          let links = g.met.E.BusEnd.same_links c.args.end.now c.collect.new.end c.collect.ensures.same in
+          omega (arith, has, links, own);
       shown = subst T own took;
       others = subst O own c.collect.ensures.others;
     } in
@@ -67,5 +80,8 @@ returns-in-Err-clause-refused g c =
     let R : ℕ → Type 0 = λ a. Carries g.E.BusEnd.stands a c.args.end.now c.collect.new.end
     (λ l. with_taken l (Credit bytes)) in
     let O : ℕ → Type 0 = λ a. OthersStand g.E.BusEnd.stands a c.args.end.now c.collect.new.end in
+    let links = g.met.E.BusEnd.same_links c.args.end.now c.collect.new.end c.collect.ensures.same in
+    let has = c.in-Err.ensures.has_bad in
+    let few : suc c.args.self.now.ended ≤ g.E.BusEnd.links c.args.end.now = omega (arith, has, links, own) in
     let shown = subst R own c.in-Err.ensures.bad.2 in let others = subst O own c.collect.ensures.others in
     search rules
