@@ -1,6 +1,6 @@
 //! The log of a driver that follows a script.
 
-ghost use Rattle.std.specs.Prelude.{◌≡◌, ◌+◌, ◌<◌, ◌++◌, [], ◌∷◌, length, None, IfSome, IfOk};
+ghost use Rattle.std.specs.Prelude.{◌≡◌, ◌+◌, ◌<◌, ◌++◌, [], ◌∷◌, length, None, IfSome, IfOk, OnOk, OnErr};
 ghost use Rattle.sja_link.specs.Recents.{KeepsAll, IsLast};
 ghost use Rattle.sja_driver.specs.Logs.{done_in, releases_in, left_in, done_room, release_room, left_room};
 ghost use Rattle.sja_driver.specs.Logs.{IsEmpty, IsMadeFor, HasRoom};
@@ -10,7 +10,7 @@ ghost use Rattle.sja_driver.specs.Inside.Attempts.{tried_of, stopped_by};
 use super::attempt::Attempt;
 use super::release::Release;
 use can_frame::OutOfMemory;
-use sja_link::{DriverLedger, Recent, most_activations};
+use sja_link::{DriverLedger, Endless, Recent, most_activations};
 use sja_script::{Done, StepAnswer};
 use std::alloc::Global;
 
@@ -47,11 +47,14 @@ impl WorkLog {
     }
 
     /// The steps that were done, in order.
-    pub fn done(&self) -> &[Done]
-        requires kept { KeepsAll (done_room self.now) }
-        ensures { result.now ≡ done_in self.now }
+    ///
+    /// Error: [`Endless`] where it was made for more of them than [`KEPT`](sja_link::KEPT).
+    pub fn done(&self) -> Result<&[Done], Endless>
+        ensures done { IfOk result (λ s. s.now ≡ done_in self.now) }
+        ensures kept { OnOk result (KeepsAll (done_room self.now)) }
+        ensures endless { OnErr result (KeepsAll (done_room self.now) → ⊥) }
     {
-        self.done.as_slice()
+        self.done.whole()
     }
 
     /// How many steps were done.
@@ -70,19 +73,25 @@ impl WorkLog {
     }
 
     /// The messages that were released, in order.
-    pub fn released(&self) -> &[Release]
-        requires kept { KeepsAll (release_room self.now) }
-        ensures { result.now ≡ releases_in self.now }
+    ///
+    /// Error: [`Endless`] where it was made for more of them than [`KEPT`](sja_link::KEPT).
+    pub fn released(&self) -> Result<&[Release], Endless>
+        ensures released { IfOk result (λ s. s.now ≡ releases_in self.now) }
+        ensures kept { OnOk result (KeepsAll (release_room self.now)) }
+        ensures endless { OnErr result (KeepsAll (release_room self.now) → ⊥) }
     {
-        self.released.as_slice()
+        self.released.whole()
     }
 
     /// The ledger of each activation that ended, in order: what it held then is unread.
-    pub fn left(&self) -> &[DriverLedger]
-        requires kept { KeepsAll (left_room self.now) }
-        ensures { result.now ≡ left_in self.now }
+    ///
+    /// Error: [`Endless`] where it was made for more of them than [`KEPT`](sja_link::KEPT).
+    pub fn left(&self) -> Result<&[DriverLedger], Endless>
+        ensures left { IfOk result (λ s. s.now ≡ left_in self.now) }
+        ensures kept { OnOk result (KeepsAll (left_room self.now)) }
+        ensures endless { OnErr result (KeepsAll (left_room self.now) → ⊥) }
     {
-        self.left.as_slice()
+        self.left.whole()
     }
 
     /// The activation after those that have ended, where it is one that the log was made for: as many as that, less

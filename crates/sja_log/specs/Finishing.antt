@@ -6,8 +6,12 @@ use Rattle.sja_wire.specs.declared.node_log.NodeLog.{NodeLog}
 use Rattle.sja_driver.specs.declared.logged_driver.LoggedDriver.{LoggedDriver}
 use Rattle.sja_driver.specs.AnyDrivers.{held_of, opened_of}
 use Rattle.sja_driver.specs.LoggedDrivers.{driver_of, log_of}
-use Rattle.sja_driver.specs.Logs.{done_in, releases_in, left_in, released_of, leaves}
+use Rattle.sja_driver.specs.Logs.{done_in, releases_in, left_in, released_of, leaves, KeepsLog}
 use Rattle.sja_log.specs.Log.{ActivationValue, NodeValue}
+
+-- all that the logs of drivers say can be read
+abbrev pub KeepLogs : List LoggedDriver → Type 0
+KeepLogs drivers = (k : ℕ) (d : LoggedDriver) → k < length drivers → KeepsLog (log_of (slice_index_or drivers k d))
 
 -- the messages that a driver holds, or held at the end, in the activation after so many
 abbrev pub held_after : LoggedDriver → ℕ → List (List ℕ)

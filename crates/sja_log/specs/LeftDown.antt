@@ -2,7 +2,7 @@
 use Rattle.std.specs.Prelude.{◌≡◌, ◌<◌, ℕ, List, [], length, slice_index_or}
 use Rattle.sja_link.specs.declared.down.Down.{Down}
 use Rattle.sja_link.specs.declared.older_down.OlderDown.{OlderDown}
-use Rattle.sja_link.specs.Deques.{Deques, left_on, down_on}
+use Rattle.sja_link.specs.Deques.{Deques, left_on, down_on, KeepsOlder}
 pub use Rattle.sja_link.specs.Deques.{on_link}
 
 -- what was left on the link of an activation of a node, by what was left on the links of each node
@@ -14,3 +14,7 @@ pub record IsLeft (links : List Deques) (lists : List (List OlderDown)) : Type 0
   pub count : length lists ≡ length links
   pub each : (node activation : ℕ) (d : Deques) → node < length links →
       left_of lists node activation ≡ down_on (slice_index_or links node d) activation
+
+-- of each of these nodes there is room to keep all that may be left on links that have no queues any more
+abbrev pub KeepOlder : List Deques → Type 0
+KeepOlder links = (node : ℕ) (d : Deques) → node < length links → KeepsOlder (slice_index_or links node d)

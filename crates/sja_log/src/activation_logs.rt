@@ -5,33 +5,37 @@ ghost use Rattle.sja_link.specs.Deques.{left_on};
 ghost use Rattle.sja_link.specs.Lists.{messages};
 ghost use Rattle.sja_driver.specs.AnyDrivers.{opened_of};
 ghost use Rattle.sja_driver.specs.LoggedDrivers.{driver_of, log_of, ended_of, IsLawful};
-ghost use Rattle.sja_driver.specs.Logs.{KeepsLog, released_of};
+ghost use Rattle.sja_driver.specs.Logs.{releases_in, left_in, released_of};
 ghost use Rattle.sja_log.specs.Finishing.{held_after, activation_after, AreActivations};
 
 use super::activation_log::ActivationLog;
 use super::left_down::LeftDown;
 use can_frame::{Message, OutOfMemory};
 use sja_driver::{LoggedDriver, Release};
-use sja_link::Down;
+use sja_link::{Down, DriverLedger};
 use std::alloc::Global;
 
-/// What became of each activation that a driver started, on whose links this lay.
+/// What became of each activation that a driver started, on whose links this lay. `released` and `ledgers` are all
+/// that its log has of them.
 ///
 /// Error: [`OutOfMemory`] where memory was refused.
 pub(crate) fn activation_logs(
     alloc: Global,
     driver: &LoggedDriver,
+    released: &[Release],
+    ledgers: &[DriverLedger],
     left_down: &LeftDown,
 ) -> Result<Vec<ActivationLog>, OutOfMemory>
     requires lawful { IsLawful driver.now }
-    requires kept { KeepsLog (log_of driver.now) }
+    requires released { released.now ≡ releases_in (log_of driver.now) }
+    requires ledgers { ledgers.now ≡ left_in (log_of driver.now) }
     ensures { IfOk result (λ logs.
         AreActivations driver.now (λ a. left_on left_down.now a) (opened_of (driver_of driver.now)) logs.items) }
 {
     let count = driver.activation();
     let mut logs = Vec::with_capacity(alloc, count as usize)?;
     for ended in 0..count {
-        logs.push_reserved(activation_log(alloc, driver, left_down, ended)?);
+        logs.push_reserved(activation_log(alloc, driver, released, ledgers, left_down, ended)?);
     }
     Ok(logs)
 }
@@ -42,16 +46,20 @@ pub(crate) fn activation_logs(
 fn activation_log(
     alloc: Global,
     driver: &LoggedDriver,
+    released: &[Release],
+    ledgers: &[DriverLedger],
     left_down: &LeftDown,
     ended: u64,
 ) -> Result<ActivationLog, OutOfMemory>
     requires ended { ended ≤ ended_of driver.now }
-    requires few { ended < 2 ^ 40 }
-    requires kept { KeepsLog (log_of driver.now) }
+    requires few { ended + 1 < 2 ^ 64 }
+    requires released { released.now ≡ releases_in (log_of driver.now) }
+    requires ledgers { ledgers.now ≡ left_in (log_of driver.now) }
     ensures { IfOk result (λ log. log ≡ activation_after driver.now (left_on left_down.now (ended + 1)) ended) }
 {
-    let released = released_in(alloc, driver.log().released(), ended + 1)?;
-    let unread = unread_on(alloc, held_in(driver, ended as usize), left_down, ended + 1)?;
+    let released = released_in(alloc, released, ended + 1)?;
+    let held = held_in(driver, ledgers, ended as usize);
+    let unread = unread_on(alloc, held, left_down, ended + 1)?;
     Ok(ActivationLog::of(released, unread))
 }
 
@@ -102,14 +110,13 @@ fn unread_on(
 }
 
 /// The messages that a driver holds, or held at the end, in the activation after so many.
-fn held_in(driver: &LoggedDriver, ended: usize) -> &[Message]
+fn held_in<'a>(driver: &'a LoggedDriver, ledgers: &'a [DriverLedger], ended: usize) -> &'a [Message]
     requires ended { ended ≤ ended_of driver.now }
-    requires kept { KeepsLog (log_of driver.now) }
+    requires ledgers { ledgers.now ≡ left_in (log_of driver.now) }
     ensures { result.now ≡ held_after driver.now ended }
 {
-    let left = driver.log().left();
-    if ended < left.len() {
-        left[ended].unread()
+    if ended < ledgers.len() {
+        ledgers[ended].unread()
     } else {
         driver.unread()
     }

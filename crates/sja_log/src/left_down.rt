@@ -2,6 +2,7 @@
 
 ghost use Rattle.std.specs.Prelude.{◌≡◌, IfOk};
 
+use super::no_log::NoLog;
 use can_frame::OutOfMemory;
 use sja_link::{DequeLink, DequeLinks, Down, OlderDown};
 use std::alloc::Global;
@@ -24,9 +25,9 @@ impl Model for LeftDown {
 }
 
 impl LeftDown {
-    ghost use Rattle.std.specs.Prelude.{◌≡◌, ◌≤◌, ◌+◌, ◌*◌, ◌^◌, ◌++◌, ℕ, [], length, IfOk, OnOk, OnErr};
-    ghost use Rattle.sja_link.specs.Recents.{KeepsAll};
-    ghost use Rattle.sja_link.specs.Deques.{on_link, all_down, left_on, down_on};
+    ghost use Rattle.std.specs.Prelude.{◌≡◌, ◌≤◌, ◌+◌, ◌^◌, ◌++◌, ℕ, [], length, IfOk, OnOk, OnErr, Err};
+    ghost use Rattle.sja_link.specs.Deques.{on_link, all_down, left_on, down_on, KeepsOlder};
+    ghost use Rattle.sja_log.specs.declared.no_log.NoLog.TheVariants.{Endless};
 
     /// Nothing on any link.
     pub fn new(alloc: Global) -> LeftDown
@@ -37,19 +38,22 @@ impl LeftDown {
         }
     }
 
-    /// What lies on the links of a node in one thread, none of which has forgotten anything: what was left on those
-    /// that have no queues any more, then what lies on those that have them, and that on the link at hand last.
+    /// What lies on the links of a node in one thread: what was left on those that have no queues any more, then what
+    /// lies on those that have them, and that on the link at hand last.
     ///
-    /// Error: [`OutOfMemory`] where memory was refused.
-    pub fn on(alloc: Global, links: &DequeLinks) -> Result<LeftDown, OutOfMemory>
-        requires kept { KeepsAll (22 * links.now.starts) }
+    /// Errors: [`NoLog::Endless`] where more may be left on links without queues than is kept; [`NoLog::Memory`] where
+    /// memory was refused.
+    pub fn on(alloc: Global, links: &DequeLinks) -> Result<LeftDown, NoLog>
         ensures whole { IfOk result (λ left.
             left ≡ (links.now.older ++ all_down links.now.first links.now.others)
             ++ on_link links.now.at links.now.here.down) }
         ensures each { IfOk result (λ left. (a : ℕ) → left_on left a ≡ down_on links.now a) }
+        ensures kept { OnOk result (KeepsOlder links.now) }
+        ensures endless { result ≡ Err Endless → KeepsOlder links.now → ⊥ }
     {
+        let older = links.older()?;
         let mut left = LeftDown {
-            items: copies(alloc, links.older())?,
+            items: copies(alloc, older)?,
         };
         let (first, last) = links.others().as_slices();
         left.push_all(links.first(), first)?;
@@ -61,6 +65,8 @@ impl LeftDown {
     }
 
     /// Adds what lies downward on links in order, the first of which is that of this activation.
+    ///
+    /// Error: [`OutOfMemory`] where memory was refused.
     fn push_all(&mut self, first: u64, links: &[DequeLink]) -> Result<(), OutOfMemory>
         requires few { first + length links.now ≤ 2 ^ 58 + 1 }
         ensures { OnOk result (self.new ≡ self.old ++ all_down first links.now) }

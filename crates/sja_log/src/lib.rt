@@ -7,8 +7,8 @@
 //!
 //! At the end of a run [`node_runs`] makes the nodes of a log of what the bus left of each node, its driver, and what
 //! lay on its links ([`LeftDown`]); [`script_of`] has the strikes of a plan as a bus takes them. These, `LeftDown::on`
-//! and `LeftDown::push` alone take memory. A [`RunFault`] says why a run has no log, and a [`RegisterRow`] what a
-//! register of a node reads as.
+//! and `LeftDown::push` alone take memory. A [`RunFault`] says why a plan's run has no log, a [`NoLog`] why any run has
+//! none, and a [`RegisterRow`] what a register of a node reads as.
 #![tactic(auto)]
 
 mod activation_log;
@@ -17,6 +17,7 @@ mod done_steps;
 mod end;
 mod laws;
 mod left_down;
+mod no_log;
 mod node_run;
 mod nodes;
 mod register_row;
@@ -31,6 +32,7 @@ pub use laws::{
     a_step_of_versions_1_and_2_is_one_deed, an_abort_stands_right_before_a_bit,
 };
 pub use left_down::LeftDown;
+pub use no_log::NoLog;
 pub use node_run::NodeRun;
 pub use nodes::node_runs;
 pub use register_row::RegisterRow;

@@ -5,7 +5,7 @@ use sja_wire::BusFault;
 use std::alloc::{AllocError, AllocFailed};
 use thiserror::Error;
 
-/// Why a run has no log (this project's own rule). A run in one thread has none only where memory was refused.
+/// Why a plan's run has no log (this project's own rule). One in one thread has none only where memory was refused.
 #[derive(Clone, Copy, Debug, PartialEq, Eq, Error)]
 pub enum RunFault {
     /// Memory was refused.

@@ -1,25 +1,21 @@
 //! What was left on the links at the end of a run.
 
-ghost use Rattle.std.specs.Prelude.{◌<◌, ◌*◌, ℕ, length, slice_index_or, IfOk};
-ghost use Rattle.sja_link.specs.Deques.{Deques};
-ghost use Rattle.sja_link.specs.Recents.{KeepsAll};
-ghost use Rattle.sja_log.specs.LeftDown.{IsLeft};
+ghost use Rattle.std.specs.Prelude.{◌≡◌, Err, IfOk, OnOk};
+ghost use Rattle.sja_log.specs.LeftDown.{IsLeft, KeepOlder};
+ghost use Rattle.sja_log.specs.declared.no_log.NoLog.TheVariants.{Endless};
 
-use can_frame::OutOfMemory;
 use sja_link::DequeLinks;
-use sja_log::LeftDown;
+use sja_log::{LeftDown, NoLog};
 use std::alloc::Global;
 
-/// What lies downward on the links of each node, none of which has forgotten anything.
+/// What lies downward on the links of each node.
 ///
-/// Error: [`OutOfMemory`] where memory was refused.
-pub(crate) fn all_left_down(
-    alloc: Global,
-    links: &[DequeLinks],
-) -> Result<Vec<LeftDown>, OutOfMemory>
-    requires kept { (node : ℕ) (d : Deques) → node < length links.now →
-        KeepsAll (22 * (slice_index_or links.now node d).starts) }
-    ensures { IfOk result (λ lists. IsLeft links.now lists.items) }
+/// Errors: [`NoLog::Endless`] where more may be left on links without queues than is kept; [`NoLog::Memory`] where
+/// memory was refused.
+pub(crate) fn all_left_down(alloc: Global, links: &[DequeLinks]) -> Result<Vec<LeftDown>, NoLog>
+    ensures lists { IfOk result (λ lists. IsLeft links.now lists.items) }
+    ensures kept { OnOk result (KeepOlder links.now) }
+    ensures endless { result ≡ Err Endless → KeepOlder links.now → ⊥ }
 {
     let mut lists = Vec::with_capacity(alloc, links.len())?;
     for of_node in links {

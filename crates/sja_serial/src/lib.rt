@@ -14,7 +14,8 @@
 //! `specs/Serial.antt`: of each node its driver did these deeds; its links carried what its journal and its deeds say;
 //! its port is as its writes and loads have set it; and all was in time, as `IsInTime` of sja_log has it.
 //!
-//! `SerialRun::new`, `SerialRun::without_end`, `SerialRun::strike`, `SerialRun::finish` and the two that run plans
+//! A run of the size of a plan keeps all that happens in it ([`a_run_of_the_size_of_a_plan_keeps_all`]), so it has a
+//! log. `SerialRun::new`, `SerialRun::without_end`, `SerialRun::strike`, `SerialRun::finish` and the two that run plans
 //! alone take memory.
 #![tactic(auto)]
 
@@ -23,6 +24,7 @@ mod bus_turns;
 mod drivers;
 mod finish;
 mod irq_turn;
+mod laws;
 mod left_on_links;
 mod looking;
 mod node_turns;
@@ -36,6 +38,7 @@ mod striking;
 mod until_told;
 mod writing;
 
+pub use laws::a_run_of_the_size_of_a_plan_keeps_all;
 pub use registers::run_registers;
 pub use run::run_serial;
 pub use serial_run::SerialRun;

@@ -13,7 +13,7 @@ ghost use Rattle.sja_serial.specs.Inside.Turning.{TakesOne};
 use super::node_turns::{go_turn, take_all_steps, take_steps};
 use super::serial_run::SerialRun;
 use can_frame::OutOfMemory;
-use sja_log::{End, RunFault, RunLog, script_of};
+use sja_log::{End, NoLog, RunFault, RunLog, script_of};
 use sja_plan::{Plan, Turn};
 use std::alloc::Global;
 
@@ -36,7 +36,11 @@ pub fn run_serial(alloc: Global, plan: &Plan) -> Result<RunLog, RunFault>
     plan.limits();
     let mut run = new_run(alloc, plan)?;
     let end = take_turns(&mut run, plan);
-    Ok(run.finish(alloc, end)?)
+    match run.finish(alloc, end) {
+        Ok(log) => Ok(log),
+        Err(NoLog::Memory) => Err(RunFault::Memory),
+        Err(NoLog::Endless) => unreachable!(),
+    }
 }
 
 /// A run of this plan to which nothing happened.

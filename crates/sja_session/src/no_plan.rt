@@ -1,6 +1,7 @@
 //! Why a session has no plan.
 
 use can_frame::OutOfMemory;
+use sja_log::NoLog;
 use thiserror::Error;
 
 /// Why a session gives no plan, and no log (this project's own rule).
@@ -22,5 +23,19 @@ impl From<OutOfMemory> for NoPlan {
 
     fn from(_: OutOfMemory) -> NoPlan {
         NoPlan::Memory
+    }
+}
+
+impl From<NoLog> for NoPlan {
+    ghost use Rattle.std.specs.Prelude.{◌≡◌};
+    ghost use Rattle.sja_session.specs.Ending.{no_plan_for};
+
+    ghost from_gives = { λ n e. e ≡ no_plan_for n };
+
+    fn from(no_log: NoLog) -> NoPlan {
+        match no_log {
+            NoLog::Endless => NoPlan::Endless,
+            NoLog::Memory => NoPlan::Memory,
+        }
     }
 }

@@ -59,7 +59,7 @@ pub record StopsOn (counts : List ℕ) (plan : PlanValue) (after : List NodeBus)
   pub lawful : IsBusRun was.script was.run was.journals
   pub stood : StandFor plan was.journals links
   pub sames : EachRelated SameNodeBus links after
-  pub why : IsTakenAndRefused NodeBusLists plan.bits counts was.journals now.journals links after f
+  pub why : IsTakenAndRefused ring_ends plan.bits counts was.journals now.journals links after f
       ⊎ StopsBit ring_ends any_orders was now links after f
   pub not_spent : f ≢ BitsSpent
   pub ends : AreBusEnds (length plan.nodes) after

@@ -4,7 +4,6 @@
 ghost use Rattle.std.specs.Prelude.{◌≡◌, ◌+◌, ◌<◌, ℕ, Some, List, true, false, length, map, slice_get, take};
 ghost use Rattle.sja_link.specs.Links.{stops_of};
 ghost use Rattle.sja_rings.specs.declared.node_bus.NodeBus.{NodeBus};
-ghost use Rattle.sja_rings.specs.NodeRings.{NodeBusLists};
 ghost use Rattle.sja_plan.specs.Plan.{PlanValue};
 ghost use Rattle.sja_regs.specs.declared.orders.Orders.{Orders as BusOrders};
 ghost use Rattle.sja_regs.specs.declared.registers.Registers.{Registers};
@@ -54,7 +53,7 @@ pub fn a_step_is_one_deed_before_version_3()
 /// activations had ended.
 pub fn a_bus_stops_on_one_of_64_links()
     ensures refused { (counts : List ℕ) (plan : PlanValue) (after : List NodeBus) (f : BusFault) (bits : ℕ)
-        (steps : List ℕ) (s : StopsOn counts plan after f) (t : IsTakenAndRefused NodeBusLists bits steps s.was.journals
+        (steps : List ℕ) (s : StopsOn counts plan after f) (t : IsTakenAndRefused ring_ends bits steps s.was.journals
         s.now.journals s.links after f) → stops_of (journal_at s.now.journals t.node) < 64 }
     ensures stuck { (counts : List ℕ) (plan : PlanValue) (after : List NodeBus) (f : BusFault) (bits : ℕ)
         (steps : List ℕ) (s : StopsOn counts plan after f) (b : IsBrokenOff ring_ends any_orders bits steps

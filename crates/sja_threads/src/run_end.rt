@@ -24,7 +24,7 @@ use super::left_on_links::{all_account, settle_all};
 use super::order::Order;
 use super::turn_board::TurnBoard;
 use sja_bus::BusFault;
-use sja_log::{End, RunFault, RunLog, node_runs};
+use sja_log::{End, NoLog, RunFault, RunLog, node_runs};
 use sja_plan::Plan;
 use sja_rings::NodeDriver;
 use std::alloc::Global;
@@ -122,7 +122,12 @@ fn settled_log(
     } = bus;
     let DriversAndEnds { drivers, ends } = DriversAndEnds::of(alloc, workeds)?;
     let lists = settle_all(alloc, links, ends)?;
-    let logs = bus.finish();
-    let nodes = node_runs(alloc, logs, drivers.as_slice(), lists.as_slice())?;
-    Ok(RunLog::of(plan.version(), run, end, nodes))
+    let Ok(logs) = bus.finish() else {
+        unreachable!()
+    };
+    match node_runs(alloc, logs, drivers.as_slice(), lists.as_slice()) {
+        Ok(nodes) => Ok(RunLog::of(plan.version(), run, end, nodes)),
+        Err(NoLog::Memory) => Err(RunFault::Memory),
+        Err(NoLog::Endless) => unreachable!(),
+    }
 }

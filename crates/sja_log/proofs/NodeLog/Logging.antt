@@ -9,7 +9,8 @@ use Rattle.sja_link.specs.declared.down.Down.{Down}
 use Rattle.sja_link.specs.DriverLedgers.{held_by}
 use Rattle.sja_wire.specs.declared.node_log.NodeLog.{NodeLog}
 use Rattle.sja_driver.specs.declared.logged_driver.LoggedDriver.{LoggedDriver}
-use Rattle.sja_driver.specs.Logs.{leaves}
+use Rattle.sja_driver.specs.LoggedDrivers.{log_of}
+use Rattle.sja_driver.specs.Logs.{leaves, KeepsLog}
 use Rattle.sja_log.specs.Log.{ActivationValue, NodeValue}
 use Rattle.sja_log.specs.Finishing.{activation_after, AreActivations, IsNodeEnd, AreNodeEnds}
 
@@ -45,6 +46,18 @@ activations_push driver down n logs x h is = record {
         ∙ h.each a d (omega (arith, less, differ))
   ];
 }
+
+-- all that the logs of the first so many drivers say can be read, and of one more
+pub keeps_push : (drivers : List LoggedDriver) (n : ℕ) (x : LoggedDriver) →
+    ((d : LoggedDriver) → x ≡ slice_index_or drivers n d) → KeepsLog (log_of x) →
+    ((k : ℕ) (d : LoggedDriver) → k < n → KeepsLog (log_of (slice_index_or drivers k d))) →
+    (k : ℕ) (d : LoggedDriver) → k < n + 1 → KeepsLog (log_of (slice_index_or drivers k d))
+keeps_push drivers n x is here h k d less = elim (cases_eq n k) [
+  | inl e ↦
+      subst (λ (m : ℕ). KeepsLog (log_of (slice_index_or drivers m d))) e
+      (subst (λ (v : LoggedDriver). KeepsLog (log_of v)) (is d) here)
+  | inr differ ↦ h k d (omega (arith, less, differ))
+]
 
 -- no node yet, and one more
 pub no_nodes : (logs : List NodeLog) (drivers : List LoggedDriver) (down : ℕ → ℕ → List Down) →

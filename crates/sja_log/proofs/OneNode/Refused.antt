@@ -20,6 +20,7 @@ use Rattle.sja_driver.specs.declared.release.Release.{Release}
 use Rattle.sja_driver.specs.Deeds.{Deed, given_in, deeds_of}
 use Rattle.sja_driver.specs.Holding.{Holds}
 use Rattle.lemmas.proofs.Lists.{none_front, none_back}
+use Rattle.sja_link.proofs.QueuedLinks.Ends.{ends}
 use Rattle.sja_link.proofs.Growing.Taking.{waiting, adds, taken_adds, AtMostOne, some_none, adds_first, one_is}
 
 -- nothing waits elsewhere
@@ -57,7 +58,7 @@ pub refused_is : {j k : List Entry} {deeds : List Deed} {releases : List Release
     (gave : List Up) (b : ℕ) →
     Holds Lies deeds releases left ended off j links → AtMostOne gave →
     ((a : ℕ) → given_in (deeds_of deeds a) ≡ taken_of (part j a) ++ waiting b gave a) →
-    (r : RefusesItem Lies room j k links after node f) → (k ≡ j) × (gave ≡ r.item ∷ [])
+    (r : RefusesItem ends room j k links after node f) → (k ≡ j) × (gave ≡ r.item ∷ [])
 refused_is {j} {k} {deeds} {after = after} gave b holds few given r =
     let acc : ℕ → Account = λ a. record { got = holds.got a; given = given_in (deeds_of deeds (suc a)) } in
     let us = r.items.items in

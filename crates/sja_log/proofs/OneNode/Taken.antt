@@ -31,6 +31,7 @@ use Rattle.std.specs.Prelude.{Some, None}
 use Rattle.sja_driver.proofs.Deeds.Credits.{credit_lengths, credit_right}
 use Rattle.sja_log.proofs.OneNode.InOrder.{never_refused}
 use Rattle.sja_link.proofs.Ledger.Small.{no_item}
+use Rattle.sja_link.proofs.QueuedLinks.Ends.{ends}
 use Rattle.sja_log.proofs.OneNode.Refused.{refused_is}
 use Rattle.sja_driver.proofs.OneNode.Room.{has_room}
 use Rattle.sja_link.proofs.Growing.Taking.{no_wait}
@@ -44,7 +45,7 @@ use Rattle.sja_log.proofs.OneNode.Turned.{is_unmet}
 pub none_taken : {j k : List Entry} {deeds : List Deed} {releases : List Release} {left : List (List (List ℕ))}
     {ended : ℕ} {off : Bool} {links after : Deques} {room : Room} {node : ℕ} {f : BusFault} →
     Holds Lies deeds releases left ended off j links → ((a : ℕ) → given_in (deeds_of deeds a) ≡ taken_of (part j a)) →
-    RefusesItem Lies room j k links after node f → ⊥
+    RefusesItem ends room j k links after node f → ⊥
 none_taken {j} holds given r =
     let is = refused_is [] 0 holds (omega arith)
     (λ a. given a ∙ sym (ap (λ (l : List Up). taken_of (part j a) ++ l) (no_wait a) ∙ append-nil (taken_of (part j a))))
@@ -68,7 +69,7 @@ module _ {version : ℕ} {size : ℕ} {j : List Entry} {deeds : List Deed} {was 
   -- the step was done
   pub done_taken : {now : LoggedDriver} {q : Registers} {given : Deques} {one : Step} {answer : StepAnswer}
       {k : List Entry} {after : Deques} {node : ℕ} {f : BusFault} →
-      StepsHere was now links given p q one (Some answer) → RefusesItem Lies room j k given after node f → ⊥
+      StepsHere was now links given p q one (Some answer) → RefusesItem ends room j k given after node f → ⊥
   done_taken {now} {q} {given} {one} {answer} {node = node} {f} st r =
       let y = doing version size j deeds was now p q links given one answer h lawful st in
       let c = y.is_next in let d = c.deed in let next = c.next in
@@ -86,7 +87,7 @@ module _ {version : ℕ} {size : ℕ} {j : List Entry} {deeds : List Deed} {was 
   -- it waits
   pub waits_taken : {now : LoggedDriver} {q : Registers} {given : Deques} {one : Step} {k : List Entry}
       {after : Deques} {node : ℕ} {f : BusFault} → StepsHere was now links given p q one None →
-      RefusesItem Lies room j k given after node f → ⊥
+      RefusesItem ends room j k given after node f → ⊥
   waits_taken {now} {given = given} {one} st r =
       let unmet = is_unmet st.tried st.met in
       let nothing_done : deeds ++ deeds_by p one st.tried (place_of j).bits ≡ deeds =

@@ -19,7 +19,7 @@ use Rattle.sja_serial.specs.Serial.{Setup, SerialValue, StandsAt, IsRunOf}
 use Rattle.sja_serial.specs.Inside.Going.{run_now}
 use Rattle.sja_serial.specs.UntilTold.{NoneTold}
 use Rattle.sja_serial.specs.Bits.TakesBits.{no_bit, one_more}
-use Rattle.sja_serial.proofs.OneNode.Alike.{ends}
+use Rattle.sja_link.proofs.QueuedLinks.Ends.{ends}
 use Rattle.sja_serial.proofs.ManyBits.BitRun.{cuts_of, takes_bit}
 use Rattle.sja_serial.proofs.WholeRun.GoingOn.{bits_run}
 use Rattle.sja_serial.proofs.ManyBits.Borrowed.{run_is, lawful_there}

@@ -53,7 +53,7 @@ use Rattle.sja_driver.proofs.OneNode.Room.{has_room}
 use Rattle.lemmas.proofs.Lists.{none_back, some_of}
 use Rattle.sja_link.proofs.JournalEntries.Entering.{of_part_later}
 use Rattle.sja_link.proofs.JournalEntries.Openings.{Opens, part_opens}
-use Rattle.sja_serial.proofs.OneNode.Alike.{ends}
+use Rattle.sja_link.proofs.QueuedLinks.Ends.{ends}
 use Rattle.sja_link.proofs.Growing.Taking.{adds, some_none}
 use Rattle.sja_link.proofs.Growing.Ordered.{no_off_put}
 
@@ -172,7 +172,7 @@ module _ (setup : Setup) (r : SerialValue) (deeds : List (List Deed)) (h : Stand
             omega (arith, few, full)
 
   no_item : (now : BusValue) (after : List Deques) (f : BusFault) →
-      IsTakenAndRefused Lies (r.bus.run + r.bus.left) r.bus.steps r.bus.journals now.journals r.links after f → ⊥
+      IsTakenAndRefused ends (r.bus.run + r.bus.left) r.bus.steps r.bus.journals now.journals r.links after f → ⊥
   no_item now after f x =
       let t = journal_at now.journals x.node in
       let K : Deques → Type 0 = λ s. Kept Lies (journal_at r.bus.journals x.node) s (acc x.node x.few) in
@@ -181,7 +181,7 @@ module _ (setup : Setup) (r : SerialValue) (deeds : List (List Deed)) (h : Stand
       (x.refuses.shown (acc x.node x.few) kept).up
 
   no_abort : (orders_are : ℕ → Orders → Type 0) (now : BusValue) (after : List Deques) (f : BusFault) →
-      IsNotAborted Lies orders_are (r.bus.run + r.bus.left) r.bus.steps r.bus.journals now.journals r.links after
+      IsNotAborted ends orders_are (r.bus.run + r.bus.left) r.bus.steps r.bus.journals now.journals r.links after
       f → ⊥
   no_abort orders_are now after f x =
       let j = journal_at r.bus.journals x.node in
@@ -233,7 +233,7 @@ module _ (setup : Setup) (r : SerialValue) (deeds : List (List Deed)) (h : Stand
 
   -- and there is room for all bits that are left
   never_full : (now : BusValue) (after : List Deques) (f : BusFault) →
-      IsFullInStretch Lies (r.bus.run + r.bus.left) r.bus.steps r.bus.left r.bus.journals now.journals r.links after f →
+      IsFullInStretch ends (r.bus.run + r.bus.left) r.bus.steps r.bus.left r.bus.journals now.journals r.links after f →
       ⊥
   never_full now after f x =
       let o = x.out in let m = o.node in
@@ -259,8 +259,8 @@ module _ (setup : Setup) (r : SerialValue) (deeds : List (List Deed)) (h : Stand
       )
 
   pub never_refused : (now : BusValue) (after : List Deques) (f : BusFault) →
-      IsTakenAndRefused Lies (r.bus.run + r.bus.left) r.bus.steps r.bus.journals now.journals r.links after f
-      ⊎ IsFullInStretch Lies (r.bus.run + r.bus.left) r.bus.steps r.bus.left r.bus.journals now.journals r.links after f
+      IsTakenAndRefused ends (r.bus.run + r.bus.left) r.bus.steps r.bus.journals now.journals r.links after f
+      ⊎ IsFullInStretch ends (r.bus.run + r.bus.left) r.bus.steps r.bus.left r.bus.journals now.journals r.links after f
       → ⊥
   never_refused now after f (inl x) = no_item now after f x
   never_refused now after f (inr x) = never_full now after f x
@@ -281,8 +281,8 @@ module _ {bus : BusValue} {drivers : List LoggedDriver} {ports : List Registers}
 
   pub never_refused_there : (now : BusValue) (after : List Deques) (f : BusFault) →
       (bus.fault ≡ None →
-      IsTakenAndRefused Lies (bus.run + bus.left) bus.steps bus.journals now.journals slice after f
-      ⊎ IsFullInStretch Lies (bus.run + bus.left) bus.steps bus.left bus.journals now.journals slice after f) → ⊥
+      IsTakenAndRefused ends (bus.run + bus.left) bus.steps bus.journals now.journals slice after f
+      ⊎ IsFullInStretch ends (bus.run + bus.left) bus.steps bus.left bus.journals now.journals slice after f) → ⊥
   never_refused_there now after f refused =
       never_refused setup (run_now bus drivers ports slice bits) run.0 there (left_there same view setup left)
       (lawful_there same view was) now after f (refused there.right)

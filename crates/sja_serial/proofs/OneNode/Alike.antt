@@ -1,23 +1,11 @@
 -- The links of all nodes, of which each is another state of what stood there.
-use Rattle.std.proofs.Common.{◌≡◌, ℕ, ◌<◌, List, [], length, refl, ◌∙◌}
+use Rattle.std.proofs.Common.{◌≡◌, ℕ, ◌<◌, List, length, refl, ◌∙◌}
 use Rattle.std.specs.Prelude.{slice_index_or, slice_set}
 use Rattle.lemmas.specs.Related.{EachRelated}
 use Rattle.lemmas.proofs.Related.{each_at, each_one, each_trans}
-use Rattle.sja_link.specs.declared.bus_end.BusEnd.{Ghosts as Ends}
-use Rattle.sja_link.specs.Deques.{Deques, Lies, AreAlike, IsFullDown, up_on}
+use Rattle.sja_link.specs.Deques.{Deques, AreAlike}
 use Rattle.sja_link.specs.Links.{AreEnds}
 use Rattle.sja_driver.proofs.OneNode.Slices.{ends_still}
-
--- the bus's ends of them
-abbrev pub ends : Ends Deques
-ends = record {
-  node = λ (s : Deques). s.node;
-  links = λ (s : Deques). s.starts;
-  stands = Lies;
-  same = AreAlike;
-  full = IsFullDown;
-  dry = λ (s : Deques) (a : ℕ). up_on s a ≡ [];
-}
 
 pub alike_refl : (s : Deques) → AreAlike s s
 alike_refl s = (refl, refl)

@@ -30,6 +30,7 @@ use Rattle.sja_serial.proofs.OneNode.Quiet.{as_untold, all_dry}
 use Rattle.sja_serial.proofs.OneNode.Standing.{Tries, node_there, same_node}
 use Rattle.sja_serial.proofs.OneNode.Tried.{IsTried, next_tried, place}
 use Rattle.sja_serial.proofs.OneNode.Taken.{gather_takes}
+use Rattle.sja_link.proofs.QueuedLinks.Ends.{ends}
 use Rattle.sja_serial.proofs.OneNode.Alike.{alike_refl, still_ends}
 use Rattle.sja_log.proofs.OneNode.Trying.{StepsHere}
 
@@ -95,7 +96,7 @@ module _ {setup : Setup} {bus : BusValue} {drivers : List LoggedDriver} {ports :
         (stays : StaysLawful AreAlike Lies was now old given answer) where
       -- no item was refused
       pub none_refused : (journals : List (List Entry)) (after : List Deques) (f : BusFault) →
-          (bus.fault ≡ None → IsTakenAndRefused Lies (bus.run + bus.left) bus.steps bus.journals journals
+          (bus.fault ≡ None → IsTakenAndRefused ends (bus.run + bus.left) bus.steps bus.journals journals
           (slice_set slice i given) after f) → ⊥
       none_refused journals after f refused =
           let l = laws stood.right in let c = stood.count.journals in

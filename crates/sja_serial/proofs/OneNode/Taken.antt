@@ -6,7 +6,8 @@ use Rattle.std.specs.Prelude.{slice_index_or, slice_set, Option, Some, None}
 use Rattle.std.proofs.lemmas.Bool.{cases_eq}
 use Rattle.std.proofs.lemmas.List.{get_or-set_same, get_or-set_other}
 use Rattle.sja_link.specs.declared.entry.Entry.{Entry}
-use Rattle.sja_link.specs.Deques.{Deques, Lies}
+use Rattle.sja_link.specs.Deques.{Deques}
+use Rattle.sja_link.proofs.QueuedLinks.Ends.{ends}
 use Rattle.sja_link.specs.Places.{place_of}
 use Rattle.sja_link.specs.Verdicts.{IsLawful as IsLawfulJournal}
 use Rattle.sja_wire.specs.declared.bus_fault.BusFault.{BusFault}
@@ -34,12 +35,12 @@ pub gather_takes : {setup : Setup} {r : SerialValue} {deeds : List (List Deed)} 
     length (deeds_at deeds node) ≤ slice_index_or setup.steps node 0 →
     (place_of (journal_at r.bus.journals node)).bits ≡ r.bits →
     StepsHere was now old given p q one b →
-    IsTakenAndRefused Lies (r.bus.run + r.bus.left) r.bus.steps r.bus.journals journals (slice_set r.links node given)
+    IsTakenAndRefused ends (r.bus.run + r.bus.left) r.bus.steps r.bus.journals journals (slice_set r.links node given)
     after f → ⊥
 gather_takes {setup} {r} {deeds} {node} {was} {now} {p} {q} {old} {given} {after} {journals} {one} {f} {b} h there w
     lawful short place st r_not =
     let m = r_not.node in
-    let Refuses : ℕ → Deques → Type 0 = λ x s. RefusesItem Lies (room_for (r.bus.run + r.bus.left) r.bus.steps x)
+    let Refuses : ℕ → Deques → Type 0 = λ x s. RefusesItem ends (room_for (r.bus.run + r.bus.left) r.bus.steps x)
     (journal_at r.bus.journals x) (journal_at journals x) s r_not.end_after x f in
     elim (cases_eq m node) [
       | inl e ↦
@@ -68,7 +69,7 @@ gather_takes {setup} {r} {deeds} {node} {was} {now} {p} {q} {old} {given} {after
     enough = ap (λ (l : List ℕ). room_for (r.bus.run + r.bus.left) l node) h.steps
 
     here : (x : Option StepAnswer) → StepsHere was now old given p q one x →
-        RefusesItem Lies (room_for (r.bus.run + r.bus.left) r.bus.steps node) j (journal_at journals node) given
+        RefusesItem ends (room_for (r.bus.run + r.bus.left) r.bus.steps node) j (journal_at journals node) given
         r_not.end_after node f → ⊥
     here (Some answer) = done_taken w lawful (r.bus.run + r.bus.left) (room_for (r.bus.run + r.bus.left) r.bus.steps
         node) short

@@ -1,23 +1,20 @@
 -- The run of a plan keeps all that happens in it.
-use Rattle.std.proofs.Common.{◌≡◌, ◌≤◌, ◌+◌, ◌*◌, ℕ, Bool, true, false, List, length, map, ap, ◌∙◌, arith}
+use Rattle.std.proofs.Common.{◌≡◌, ◌≤◌, ◌+◌, ◌*◌, ℕ, Bool, true, false, List, length, map, ap, arith}
 use Rattle.std.specs.Prelude.{◌/◌, ◌<◌, ◌^◌, nat_lt, [], All, if◌then◌else◌, slice_index_or}
 use Rattle.std.proofs.lemmas.Bool.{lt-ltb}
-use Rattle.std.proofs.lemmas.List.{get_or-map, get_or_default, length-map}
-use Rattle.sja_link.specs.Deques.{Deques}
-use Rattle.sja_link.specs.Recents.{KeepsAll}
+use Rattle.std.proofs.lemmas.List.{get_or-map, length-map}
 use Rattle.sja_link.specs.Sizes.{most_activations}
 use Rattle.sja_regs.specs.Registers.{at_power_on}
-use Rattle.sja_driver.specs.declared.logged_driver.LoggedDriver.{LoggedDriver}
 use Rattle.sja_driver.specs.Accesses.{Access, by_bytes, most_deeds}
-use Rattle.sja_driver.specs.LoggedDrivers.{log_of}
-use Rattle.sja_driver.specs.Logs.{KeepsLog}
 use Rattle.sja_plan.specs.Plan.{PlanValue, IsInLimits, step_counts}
 use Rattle.sja_plan.proofs.PlanLimits.ByVersion.{bits_most, steps_most}
 use Rattle.sja_script.specs.declared.step.Step.{Step}
 use Rattle.sja_serial.specs.Ending.{setup_of}
 use Rattle.sja_driver.specs.Deeds.{Deed}
-use Rattle.sja_serial.specs.Keeping.{IsKept}
-use Rattle.sja_serial.specs.Serial.{Setup, SerialValue, StandsAt, StandsBy, most_steps}
+use Rattle.sja_log.specs.Finishing.{KeepLogs}
+use Rattle.sja_log.specs.LeftDown.{KeepOlder}
+use Rattle.sja_serial.specs.Keeping.{IsKept, KeepsRun}
+use Rattle.sja_serial.specs.Serial.{Setup, SerialValue, StandsAt, StandsBy, all_deeds, most_steps}
 use Rattle.sja_wire.specs.Keeping.{KeepsRecord}
 use Rattle.sja_serial.proofs.AllNodes.Several.{some_links}
 
@@ -84,9 +81,9 @@ few_activations version plain = by (nat_lt version 3) (nat_lt version 4) (lt-ltb
     by false true is = omega arith
     by false false is = absurd cc
 
--- so its links forget nothing
+-- so all that was left on its links is kept
 pub keeps_links : (setup : Setup) (r : SerialValue) (deeds : List (List Deed)) → StandsAt setup r deeds →
-    IsKept setup → (k : ℕ) (l : Deques) → k < length r.links → KeepsAll (22 * (slice_index_or r.links k l).starts)
+    IsKept setup → KeepOlder r.links
 keeps_links setup r deeds h kept k l less =
     let count = h.ends.count in let most = few_activations setup.version (h.may.plans kept.bits) in
     let made = h.starts k l (omega (arith, count, less)) in omega (arith, made, most)
@@ -100,8 +97,7 @@ few_steps version deeds = by (by_bytes version)
     by false = omega arith
 
 pub keeps_logs : (setup : Setup) (r : SerialValue) (accesses : List (List Access)) → StandsBy setup r accesses →
-    IsKept setup → (k : ℕ) (d : LoggedDriver) → k < length r.drivers →
-    KeepsLog (log_of (slice_index_or r.drivers k d))
+    IsKept setup → KeepLogs r.drivers
 keeps_logs setup r accesses h kept k d less =
     let count = h.stands.count.drivers in let there : k < setup.nodes = omega (arith, count, less) in
     let node = (h.stands.nodes k d (at_power_on 1) some_links there).traced in
@@ -113,3 +109,13 @@ keeps_logs setup r accesses h kept k d less =
       releases = omega (arith, deeds, own);
       left = omega (arith, activations, most);
     }
+
+-- so it keeps all that happens in it
+pub keeps_run : (setup : Setup) (r : SerialValue) (accesses : List (List Access)) → StandsBy setup r accesses →
+    IsKept setup → KeepsRun r
+keeps_run setup r accesses h kept = record {
+  bits = let few = kept.bits in let all = h.stands.all_bits in let own = h.stands.bits in omega (arith, few, all, own);
+  journals = keeps_record setup r (all_deeds accesses) h.stands kept;
+  logs = keeps_logs setup r accesses h kept;
+  links = keeps_links setup r (all_deeds accesses) h.stands kept;
+}

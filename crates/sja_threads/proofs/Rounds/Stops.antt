@@ -3,11 +3,10 @@ use Rattle.std.proofs.Common.{◌≡◌, ◌≢◌, ℕ, ◌+◌, ◌<◌, List,
 use Rattle.std.specs.Prelude.{◌⊎◌, None, Result, Ok, Err, IfErr}
 use Rattle.sja_link.specs.declared.entry.Entry.{Entry}
 use Rattle.sja_link.specs.declared.bus_end.BusEnd.{Ghosts as Ends}
-use Rattle.sja_link.specs.Lists.{Lists}
 use Rattle.lemmas.specs.Related.{EachRelated}
 use Rattle.sja_regs.specs.declared.orders.Orders.{Orders}
 use Rattle.sja_rings.specs.declared.node_bus.NodeBus.{NodeBus}
-use Rattle.sja_rings.specs.NodeRings.{NodeBusLists, SameNodeBus}
+use Rattle.sja_rings.specs.NodeRings.{SameNodeBus}
 use Rattle.sja_plan.specs.Plan.{PlanValue}
 use Rattle.sja_wire.specs.declared.bus_fault.BusFault.{BusFault}
 use Rattle.sja_wire.specs.declared.bus_fault.BusFault.TheVariants.{BitsSpent, JournalFull}
@@ -23,12 +22,12 @@ use Rattle.sja_threads.specs.Inside.Rounds.{IsUnderWay, GoesOn, Stops}
 use Rattle.sja_threads.proofs.Rounds.SameEnds.{ends_kept, sames_trans}
 
 -- an item that wasn't taken is no want of bits
-taken_not_spent : {E : Type 0} (stands : E → ℕ → Lists → Type 0) (bits : ℕ) (steps : List ℕ)
+taken_not_spent : {E : Type 0} (e : Ends E) (bits : ℕ) (steps : List ℕ)
     (before now : List (List Entry)) (links after : List E) (f : BusFault) →
-    IsTakenAndRefused stands bits steps before now links after f → f ≢ BitsSpent
-taken_not_spent stands bits steps before now links after f n e =
+    IsTakenAndRefused e bits steps before now links after f → f ≢ BitsSpent
+taken_not_spent e bits steps before now links after f n same =
     subst (λ (x : BusFault). IsRefusedFor n.node (room_for bits steps n.node) (journal_at now n.node) n.refuses.item x)
-    e n.refuses.why
+    same n.refuses.why
 
 no_full : (node : ℕ) → BitsSpent ≡ JournalFull node → ⊥
 no_full node e = cc
@@ -39,7 +38,7 @@ bit_not_spent : {E : Type 0} (e : Ends E) (orders_are : ℕ → Orders → Type 
     f ≢ BitsSpent
 bit_not_spent e orders_are before now links after f some (spent is none) same = some none
 bit_not_spent e orders_are before now links after f some (not_taken n) same =
-    taken_not_spent e.stands (before.run + before.left) before.steps before.journals now.journals links after f n same
+    taken_not_spent e (before.run + before.left) before.steps before.journals now.journals links after f n same
 bit_not_spent e orders_are before now links after f some (not_aborted n) same = no_full n.node (sym same ∙ n.is)
 bit_not_spent e orders_are before now links after f some (broken_off n) same =
     subst (λ (x : BusFault). IsBrokenFor e n.node (room_for (before.run + before.left) before.steps n.node) n.opened
@@ -62,6 +61,7 @@ by_any_orders before now links after f orders_are (not_aborted n) = not_aborted 
   due = n.due;
   full = n.full;
   kept = n.kept;
+  within = n.within;
 })
 by_any_orders before now links after f orders_are (broken_off n) = broken_off (record {
   node = n.node;
@@ -79,6 +79,7 @@ by_any_orders before now links after f orders_are (broken_off n) = broken_off (r
     applied = n.opens.applied;
   };
   kept = n.kept;
+  within = n.within;
   end = n.end;
   is_end = n.is_end;
   broken = n.broken;
@@ -92,7 +93,7 @@ module _ (plan : PlanValue) (t next : BusThread) (now : BusValue) (links after :
       subst (λ (l : List NodeBus). EachRelated SameNodeBus l next.links.items) these
       (subst (λ (l : List NodeBus). EachRelated SameNodeBus links l) (sym those) same)
 
-  stops_for : IsTakenAndRefused NodeBusLists plan.bits t.bus.steps t.bus.journals now.journals links after f
+  stops_for : IsTakenAndRefused ring_ends plan.bits t.bus.steps t.bus.journals now.journals links after f
       ⊎ StopsBit ring_ends any_orders t.bus now links after f → f ≢ BitsSpent → Stops plan t next f
   stops_for why unspent = record {
     stop = subst (λ (l : List NodeBus). StopsOn t.bus.steps plan l f) (sym those) (record {
@@ -118,12 +119,12 @@ module _ (plan : PlanValue) (t next : BusThread) (now : BusValue) (links after :
   }
 
   -- an item wasn't taken
-  pub stops_taking : IsTakenAndRefused NodeBusLists (t.bus.run + t.bus.left) t.bus.steps t.bus.journals now.journals
+  pub stops_taking : IsTakenAndRefused ring_ends (t.bus.run + t.bus.left) t.bus.steps t.bus.journals now.journals
       links after f → Stops plan t next f
   stops_taking n = stops_for
-      (inl (subst (λ (bits : ℕ). IsTakenAndRefused NodeBusLists bits t.bus.steps t.bus.journals now.journals links
+      (inl (subst (λ (bits : ℕ). IsTakenAndRefused ring_ends bits t.bus.steps t.bus.journals now.journals links
       after f) w.all_bits n))
-      (taken_not_spent NodeBusLists (t.bus.run + t.bus.left) t.bus.steps t.bus.journals now.journals links after f n)
+      (taken_not_spent ring_ends (t.bus.run + t.bus.left) t.bus.steps t.bus.journals now.journals links after f n)
 
   -- a bit didn't come to its end, where bits were left
   pub stops_bit : t.run < plan.bits → StopsBit ring_ends any_orders t.bus now links after f →
@@ -137,7 +138,7 @@ pub stops_gather : (t next : BusThread) (now : BusValue) (links after : List Nod
     next.links.items ≡ after → EachRelated SameNodeBus links after → {A : Type 0} (r : Result A BusFault) →
     (t.bus.fault ≡ None → IsBusRun t.bus.script t.bus.run t.bus.journals) →
     IfErr r (λ f. t.bus.fault ≡ None →
-    IsTakenAndRefused NodeBusLists (t.bus.run + t.bus.left) t.bus.steps t.bus.journals now.journals links after f) →
+    IsTakenAndRefused ring_ends (t.bus.run + t.bus.left) t.bus.steps t.bus.journals now.journals links after f) →
     IfErr r (λ f. (plan : PlanValue) → IsUnderWay plan t → Stops plan t next f)
 stops_gather t next now links after these those same (Ok a) laws why = tt
 stops_gather t next now links after these those same (Err f) laws why = λ plan w.

@@ -9,7 +9,7 @@ use Rattle.sja_driver.specs.declared.logged_driver.LoggedDriver.{LoggedDriver}
 use Rattle.sja_log.specs.Log.{NodeValue}
 use Rattle.sja_log.specs.Finishing.{IsNodeEnd, AreNodeEnds}
 use Rattle.sja_log.specs.LeftDown.{left_of}
-use Rattle.sja_log.proofs.NodeLog.Logging.{nodes_push, next_of}
+use Rattle.sja_log.proofs.NodeLog.Logging.{nodes_push, keeps_push, next_of}
 use Rattle.sja_log.proofs.nodes.node_runs.Goals as goal
 
 pub loop-log-preserved : goal.loop-log-preserved
@@ -35,11 +35,13 @@ loop-log-preserved c =
     (subst (λ (v : LoggedDriver). IsNodeEnd c.in-Some.log v (λ a. left_on down a) x) (c.index-drivers-node.is
     ∙ get_or_default drivers n c.index-drivers-node.result d less)
     (subst (λ (l : List OlderDown). IsNodeEnd c.in-Some.log c.index-drivers-node.result (λ a. left_on l a) x) left_is
-    c.in_ok-node_run.ensures)) in
+    c.in_ok-node_run.ensures.node)) in
     record {
       room = search rules;
       few = omega (arith, less);
       rest = sym next.1;
+      kept = keeps_push drivers n c.index-drivers-node.result (λ d. c.index-drivers-node.is
+          ∙ get_or_default drivers n c.index-drivers-node.result d less) c.in_ok-node_run.ensures.kept inv.kept;
       each = subst (λ (l : List NodeValue). AreNodeEnds logs drivers (λ k a. left_of lists k a) (n + 1) l)
           (sym c.push_reserved.ensures.items)
           (nodes_push logs drivers (λ k a. left_of lists k a) n c.loop-log.runs.items x inv.each is);

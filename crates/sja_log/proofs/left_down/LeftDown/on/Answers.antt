@@ -9,7 +9,8 @@ returns c =
     let parts = c.as_slices.result in let at_hand = c.as_slices-2.result in
     let others : c.push_all-2.new.self ≡ links.older ++ all_down links.first links.others =
     left_in_parts links c.in_ok-copies.field-0.items c.push_all.new.self c.push_all-2.new.self parts.0.now
-    parts.1.now c.first.result (c.first-2.result + length parts.0.now) (c.in_ok-copies.ensures ∙ c.older.ensures.older)
+    parts.1.now c.first.result (c.first-2.result + length parts.0.now)
+    (c.in_ok-copies.ensures ∙ c.in_ok-older.ensures.older)
     (c.as_slices.ensures.items ∙ c.others.ensures.others) c.first.ensures.first
     (ap (λ n. n + length parts.0.now) c.first-2.ensures.first)
     c.in_ok-push_all.ensures c.in_ok-push_all-2.ensures in
@@ -20,4 +21,6 @@ returns c =
     c.at.ensures c.at-2.ensures others c.in_ok-push.ensures.pushed c.in_ok-push-2.ensures.pushed in record {
       whole = whole;
       each = λ a. ap (λ l. left_on l a) whole ∙ left_all links c.others.ensures.place a;
+      kept = c.in_ok-older.ensures.kept;
+      endless = λ is. cc;
     }

@@ -1,13 +1,18 @@
-use Rattle.std.proofs.Common.{◌≡◌, ◌∙◌, List, sym, ap, subst}
+use Rattle.std.proofs.Common.{rules, ◌≡◌, ◌∙◌, List, Err, refl, sym, ap, subst}
+use Rattle.lemmas.proofs.Results.{err_is}
 use Rattle.sja_driver.specs.Accesses.{Access}
+use Rattle.sja_log.specs.declared.no_log.NoLog.{NoLog}
+use Rattle.sja_log.specs.declared.no_log.NoLog.TheVariants.{Endless as NoEnd, Memory as NoMemory}
 use Rattle.sja_log.specs.Runs.{IsSerialRun}
 use Rattle.sja_plan.specs.Plan.{PlanValue}
 use Rattle.sja_log.specs.declared.end.End.TheVariants.{Turns as TurnsDone}
 use Rattle.sja_serial.specs.Ending.{IsLogOf, MayBeOf}
-use Rattle.sja_serial.specs.Keeping.{IsKept}
+use Rattle.sja_serial.specs.Keeping.{KeepsRun}
 use Rattle.sja_serial.specs.Serial.{Setup}
 use Rattle.sja_serial.proofs.AllNodes.Several.{by_own, many_steps, setup_is}
+use Rattle.sja_serial.proofs.WholeRun.Kept.{keeps_run}
 use Rattle.sja_serial.proofs.WholeRun.Whole.{serial_of}
+use Rattle.sja_session.specs.Ending.{IsNoPlan, no_plan_for}
 use Rattle.sja_session.specs.Sessions.{SessionValue, HasEnd, IsAt, written, plan_with, session_of}
 use Rattle.sja_session.proofs.Lifetime.Finished.{kept_by, may_be_written, turns_lead}
 use Rattle.sja_session.proofs.WrittenPlan.OneMore.{listed}
@@ -15,13 +20,7 @@ use Rattle.sja_session.proofs.session.Session.finish.Goals.{In_ok-log}
 use Rattle.sja_session.proofs.session.Session.finish.Goals as goal
 
 pub finish-requires : goal.finish-requires
-finish-requires c =
-    let inv = c.self.invariant.0 in
-    let end = subst (λ (x : SessionValue). HasEnd x) (sym c.self.view_is) c.in_ok-plan.ensures.end in (
-      (inv.accesses, by_own inv.at.stands),
-      subst (λ (s : Setup). IsKept s) (setup_is inv.at.stands.stands)
-          (kept_by _ _ _ inv end),
-    )
+finish-requires c = let inv = c.self.invariant.0 in (inv.accesses, by_own inv.at.stands)
 
 -- ---- the session as it was
 
@@ -63,3 +62,20 @@ returns-clause-run c =
     subst (λ (p : PlanValue). IsSerialRun p c.in_ok-log.log) (sym (plan_is at))
     (serial_of (written s) s.run inv.accesses TurnsDone c.in_ok-log.log (many_steps inv.at.stands)
     (log_is at inv.accesses inv.at) (turns_lead s inv.accesses inv.at (with_end at)))
+
+-- ---- why there is no log
+
+-- its run keeps all, since it has an end: so where its log is refused that is for memory
+no_log : (s : SessionValue) (n : NoLog) → (n ≡ NoEnd → ⊥) → HasEnd s → IsNoPlan s (no_plan_for n)
+no_log s NoEnd kept end = absurd (kept refl)
+no_log s NoMemory kept end = end
+
+pub returns-in_err-log-clause-err : goal.returns-in_err-log-clause-err
+returns-in_err-log-clause-err c =
+    let n = c.in_err-log.field-0.0 in let inv = c.self.invariant.0 in
+    let end = subst (λ (x : SessionValue). HasEnd x) (sym c.self.view_is) c.in_ok-plan.ensures.end in
+    let kept : KeepsRun c.self.inside.run = keeps_run _ c.self.inside.run inv.accesses inv.at.stands
+    (kept_by _ _ _ inv end) in
+    let is : c.from_residual-in_err-log.result ≡ Err (no_plan_for n) = search rules in
+    err_is (IsNoPlan c.args.self) c.from_residual-in_err-log.result (no_plan_for n) is (no_log c.args.self n
+    (λ e. c.finish.ensures.endless (c.in_err-log.was ∙ ap (λ (x : NoLog). Err x) e) kept) c.in_ok-plan.ensures.end)
