@@ -99,7 +99,6 @@ pub unsafe extern "C" fn sja_strike_at(at: *mut u8, node: u32, low: u32, high: u
 }
 
 /// Has a node see the other level in a bit.
-#[inline(always)]
 fn strike_of(held: &mut HeldSession, node: u32, low: u32, high: u32) -> SjaAnswer
     ensures { AnswersStrike held.old held.new node (whole_bit low high) result }
 {

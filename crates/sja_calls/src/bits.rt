@@ -69,7 +69,6 @@ impl HeldSession {
     ///
     /// Errors, the first that holds, and nothing changed: [`CallFault::Ended`]; [`CallFault::NoNode`];
     /// [`CallFault::NoBit`]; [`CallFault::Past`]; [`CallFault::StrikesUsed`]; [`CallFault::Memory`].
-    #[inline(always)]
     pub fn strike(&mut self, node: u32, bit: u64) -> Result<(), CallFault>
         ensures strikes { OnOk result (StrikesOf self.old.state self.new.state node bit) }
         ensures err { IfErr result (IsRefusal self.old.state (IsStrikeFault node bit)) }
@@ -135,7 +134,6 @@ fn irq_by(session: &mut Session, node: u32) -> Result<bool, CallFault>
 }
 
 /// Has a node see the other level in a bit.
-#[inline(always)]
 fn strike_by(session: &mut Session, node: u32, bit: u64) -> Result<(), CallFault>
     ensures struck { OnOk result ((accesses : List (List Access)) → IsAt session.old accesses →
         IsStruck session.old session.new node bit accesses) }
