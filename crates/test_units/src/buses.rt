@@ -1,11 +1,14 @@
-//! Refused memory: each call of a bus that makes room answers it.
+//! Refused memory: each call of a bus that makes room answers it; and buses that are made for more than they keep.
 //!
-//! Each answers well with and without memory, so that each allocation can be made to fail under it.
+//! Each test of refused memory answers well with and without memory, so that each allocation can be made to fail under
+//! it.
 
 use can_frame::OutOfMemory;
 use sja_bus::{Bus, SerialBoard, serial_links};
+use sja_link::Endless;
 use sja_script::{FaultScript, Strike};
 use std::alloc::Global;
+use std::test::Fail;
 
 /// A bus of three nodes.
 fn bus_of_three(alloc: Global) -> Result<Bus, OutOfMemory> {
@@ -16,7 +19,7 @@ fn bus_of_three(alloc: Global) -> Result<Bus, OutOfMemory> {
 /// Whether it is at rest and has three nodes, where memory isn't refused.
 fn is_bus_of_three(alloc: Global) -> bool {
     match bus_of_three(alloc) {
-        Ok(bus) => bus.at_rest() && bus.finish().len() == 3,
+        Ok(bus) => bus.at_rest() && bus.finish().map(|logs| logs.len()) == Ok(3),
         Err(refused) => refused == OutOfMemory,
     }
 }
@@ -70,4 +73,21 @@ fn refused_memory_refuses_a_strike(rt: HostRuntime) {
             Err(refused) => assert!(rt; refused == OutOfMemory),
         }
     }
+}
+
+/// How many nodes have a log at the end of a bus for so many bits, of two nodes whose drivers do so many steps.
+fn finished(alloc: Global, bits: u64, steps: [u64; 2]) -> Result<Result<usize, Endless>, Fail> {
+    let steps = Vec::from_array(alloc, steps)?;
+    let bus = Bus::new(alloc, bits, steps, FaultScript::of(Vec::new(alloc)))?;
+    Ok(bus.finish().map(|logs| logs.len()))
+}
+
+/// The journal of one node is enough.
+#[test]
+fn a_bus_made_for_more_than_it_keeps_has_no_logs(rt: HostRuntime) -> Result<(), Fail> {
+    assert!(rt; finished(rt.alloc(), 100, [10, 10])? == Ok(2));
+    assert!(rt; finished(rt.alloc(), 1 << 46, [10, 10])? == Err(Endless));
+    assert!(rt; finished(rt.alloc(), 100, [1 << 41, 10])? == Err(Endless));
+    assert!(rt; finished(rt.alloc(), 100, [10, 1 << 41])? == Err(Endless));
+    Ok(())
 }

@@ -7,6 +7,7 @@
 //! | `sja_regs`, `sja_link`, `sja_rings`, `sja_driver` | [`registers`], [`links`], [`rings`], [`drivers`] |
 //! | `sja_bus` where memory is refused; strikes of runs of each length | [`buses`], [`strikes`] |
 //! | whole runs over links of two rings in one thread, by a turn loop of the tests' own | [`ring_runs`] |
+//! | `sja_log` where a run has no log | [`run_logs`] |
 //! | `sja_replay`, `sja_report`, `sja_wave` over logs written by hand | [`replay`], [`reports`], [`waves`] |
 //! | `sja_serial`, `sja_threads`; writes of bytes whose item comes back | [`turns`], [`threads`] |
 //! | `sja_sweep` | [`sweeps`] |
@@ -31,6 +32,8 @@ mod reports;
 mod ring_runs;
 #[cfg(test)]
 mod rings;
+#[cfg(test)]
+mod run_logs;
 #[cfg(test)]
 mod sessions;
 #[cfg(test)]

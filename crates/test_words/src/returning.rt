@@ -23,10 +23,8 @@ impl Returning {
 }
 
 impl BusEnd for Returning {
-    ghost use Rattle.std.specs.Prelude.{◌≡◌, ◌+◌, ⊤, [], length, refl};
-    ghost use Rattle.std.proofs.Common.{◌∙◌, ap, arith, inl, inr};
-    ghost use Rattle.std.proofs.lemmas.Bool.{cases_lt};
-    ghost use Rattle.sja_link.specs.Lists.{Lists};
+    ghost use Rattle.std.specs.Prelude.{◌≡◌, ⊤, [], refl};
+    ghost use Rattle.std.proofs.Common.{◌∙◌};
     ghost use Rattle.sja_link.specs.Deques.{Lies, AreAlike, up_on};
 
     ghost node = { λ s. s.links.node };
@@ -63,11 +61,6 @@ impl BusEnd for Returning {
     ghost same_node = { λ a b p. p.0 };
 
     ghost same_links = { λ a b p. p.1 };
-
-    ghost has_taken = { λ s a l h some. elim (cases_lt a (s.links.first + length s.links.others)) [
-      | inl less ↦ let few = h.links.few in omega (arith, less, few)
-      | inr beyond ↦ absurd (some (ap (λ (x : Lists). x.taken) (h.later beyond)))
-    ] };
 }
 
 impl DriverEnd for Returning {

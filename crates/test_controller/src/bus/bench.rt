@@ -73,10 +73,14 @@ impl Bench {
 
     /// Ends the bus, if there is one.
     fn ends(&mut self) {
-        match self.bus.take() {
-            Some(BusStart::Driven(rig)) => self.left = rig.finish(),
-            Some(BusStart::Lawless(bus)) => self.left = bus.finish(),
-            None => {}
+        let left = match self.bus.take() {
+            Some(BusStart::Driven(rig)) => rig.finish(),
+            Some(BusStart::Lawless(bus)) => bus.finish(),
+            None => return,
+        };
+        match left {
+            Some(left) => self.left = left,
+            None => self.told.unread(),
         }
     }
 

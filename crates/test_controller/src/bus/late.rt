@@ -12,10 +12,11 @@ pub fn leaves_the_same(alloc: Global, after: &str, row: &str) -> Option<bool> {
     let (after, strike) = (number(after)?, strike_of(row)?);
     let mut late = asked(alloc, 200, &[])?;
     let struck = is_struck_late(&mut late, after, strike);
-    let left = late.finish();
+    let left = late.finish()?;
     let mut early = asked(alloc, 200, &[row])?;
     let rested = comes_to_rest(&mut early);
-    Some(struck && rested && are_same_logs(left.as_slice(), early.finish().as_slice()))
+    let expected = early.finish()?;
+    Some(struck && rested && are_same_logs(left.as_slice(), expected.as_slice()))
 }
 
 /// Whether a bus takes a strike after so many bits, and comes to rest.

@@ -40,14 +40,14 @@ impl LawlessEnds {
 }
 
 impl BusEnd for LawlessEnds {
-    ghost use Rattle.std.specs.Prelude.{◌≡◌, ◌≢◌, ◌≤◌, ⊤, [], refl};
+    ghost use Rattle.std.specs.Prelude.{◌≡◌, ⊤, refl};
     ghost use Rattle.std.proofs.Common.{◌∙◌};
 
     ghost node = { λ e. e.node };
 
     ghost links = { λ e. 1 };
 
-    ghost stands = { λ e a l. l.taken ≢ [] → a ≤ 1 };
+    ghost stands = { λ e a l. ⊤ };
 
     ghost same = { λ a b. b.node ≡ a.node };
 
@@ -97,8 +97,6 @@ impl BusEnd for LawlessEnds {
     ghost same_node = { λ a b p. p };
 
     ghost same_links = { λ a b p. refl };
-
-    ghost has_taken = { λ e a l h some. h some };
 }
 
 /// A bus of two nodes after power-on over such links, which show nothing at first, for 1,000 bits, with these strikes.

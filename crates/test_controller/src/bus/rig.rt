@@ -111,7 +111,7 @@ impl Rig {
     }
 
     /// What stands of each node at the end, by node.
-    pub fn finish(self) -> Vec<NodeLog> {
+    pub fn finish(self) -> Option<Vec<NodeLog>> {
         let Rig { bus, hands: _ } = self;
         bus.finish()
     }

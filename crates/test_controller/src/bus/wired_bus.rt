@@ -154,13 +154,13 @@ impl<E: BusEnd + Drop> WiredBus<E> {
     }
 
     /// What stands of each node at the end, by node.
-    pub fn finish(self) -> Vec<NodeLog> {
+    pub fn finish(self) -> Option<Vec<NodeLog>> {
         let WiredBus {
             bus,
             links: _,
             board: _,
             nodes: _,
         } = self;
-        bus.finish()
+        bus.finish().ok()
     }
 }

@@ -65,7 +65,7 @@ impl Link for QueueLink {
     }
 
     fn left(&self, alloc: Global, text: &mut String) -> Result<(), AllocError> {
-        for item in self.end.links.older() {
+        for item in self.end.links.older().map_err(|_| AllocError)? {
             push_said(alloc, text, item.activation)?;
             text.push_str(":")?;
             push_down(alloc, text, &item.item)?;

@@ -16,7 +16,8 @@ pub struct Query {
     pub released: bool,
     /// `left`: the messages that each activation left unread.
     pub left: bool,
-    /// `counts`: how many activations there were and how many left a ledger, and how many messages are unread.
+    /// `counts`: how many activations there were and how many left a ledger, or `endless` where that can't be read, and
+    /// how many messages are unread.
     pub counts: bool,
 }
 

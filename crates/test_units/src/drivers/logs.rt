@@ -2,6 +2,7 @@
 
 use super::given::NODE;
 use sja_driver::{LoggedDriver, WorkLog};
+use sja_link::{Endless, KEPT, WITHOUT_END};
 use sja_script::StepAnswer;
 use std::alloc::Global;
 use std::test::Fail;
@@ -28,6 +29,7 @@ fn a_log_of_a_long_run_has_its_last_step(rt: HostRuntime) -> Result<(), Fail> {
     for steps in [1, 4_096, 4_097, 100_000] {
         let driver = after(rt.alloc(), 1 << 56, steps)?;
         assert!(rt; end_of(&driver) == (steps as usize, Some(steps - 1)));
+        assert!(rt; driver.log().done().err() == Some(Endless));
     }
     assert!(rt; end_of(&after(rt.alloc(), 1 << 56, 0)?) == (0, None));
     Ok(())
@@ -37,9 +39,32 @@ fn a_log_of_a_long_run_has_its_last_step(rt: HostRuntime) -> Result<(), Fail> {
 fn a_log_of_a_short_run_has_all_its_steps(rt: HostRuntime) -> Result<(), Fail> {
     let driver = after(rt.alloc(), 10_000, 10_000)?;
     assert!(rt; end_of(&driver) == (10_000, Some(9_999)));
-    for (place, done) in driver.log().done().iter().enumerate() {
+    for (place, done) in driver.log().done()?.iter().enumerate() {
         assert!(rt; done.bits as usize == place);
     }
-    assert!(rt; driver.log().done().len() == 10_000);
+    assert!(rt; driver.log().done()?.len() == 10_000);
+    Ok(())
+}
+
+/// Whether what was done can be read, what was released, and what was left.
+fn can_be_read(log: &WorkLog) -> (bool, bool, bool) {
+    let (done, released) = (log.done().is_ok(), log.released().is_ok());
+    (done, released, log.left().is_ok())
+}
+
+/// A list of a log is read where it was made for few items, whatever the others were made for.
+#[test]
+fn a_list_of_a_log_made_for_many_is_not_read(rt: HostRuntime) -> Result<(), Fail> {
+    let many = KEPT as u64 + 1;
+    for (version, steps, deeds, expected) in [
+        (3, 10, 10, (true, true, true)),
+        (3, many, 10, (false, true, true)),
+        (3, 10, many, (true, false, true)),
+        (WITHOUT_END, 10, 10, (true, true, false)),
+        (WITHOUT_END, many, many, (false, false, false)),
+    ] {
+        let log = WorkLog::new(rt.alloc(), version, steps, deeds)?;
+        assert!(rt; can_be_read(&log) == expected);
+    }
     Ok(())
 }

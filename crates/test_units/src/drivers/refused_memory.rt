@@ -9,7 +9,9 @@ use sja_driver::WorkLog;
 fn refused_memory_gives_no_log(rt: HostRuntime) {
     match WorkLog::new(rt.alloc(), 3, 3, 3) {
         Ok(log) => assert!(rt;
-            log.done().is_empty() && log.released().is_empty() && log.left().is_empty()
+            log.done().map(|all| all.len()) == Ok(0)
+                && log.released().map(|all| all.len()) == Ok(0)
+                && log.left().map(|all| all.len()) == Ok(0)
         ),
         Err(refused) => assert!(rt; refused == OutOfMemory),
     }

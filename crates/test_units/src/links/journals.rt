@@ -35,7 +35,7 @@ fn some_of_each(alloc: Global) -> Result<Vec<Entry>, Fail> {
 #[test]
 fn a_new_journal_has_no_entries(rt: HostRuntime) -> Result<(), Fail> {
     let journal = Recorder::new(rt.alloc(), 1, 1_000)?;
-    assert!(rt; journal.into_journal().entries().next().is_none());
+    assert!(rt; journal.into_journal()?.entries().next().is_none());
     Ok(())
 }
 
@@ -45,7 +45,7 @@ fn entries_come_out_as_they_were_entered(rt: HostRuntime) -> Result<(), Fail> {
     for entry in some_of_each(rt.alloc())? {
         assert!(rt; journal.enter(entry).is_ok());
     }
-    let journal = journal.into_journal();
+    let journal = journal.into_journal()?;
     let mut told = journal.entries();
     for entry in some_of_each(rt.alloc())? {
         assert!(rt; told.next() == Some(entry));
@@ -62,7 +62,7 @@ fn a_bit_is_entered_alike_by_both_calls(rt: HostRuntime) -> Result<(), Fail> {
             assert!(rt; journal.enter_bit(driven, seen).is_ok());
         }
     }
-    let journal = journal.into_journal();
+    let journal = journal.into_journal()?;
     let mut told = journal.entries();
     for driven in [Level::Dominant, Level::Recessive] {
         for seen in [Level::Dominant, Level::Recessive] {
@@ -85,7 +85,7 @@ fn the_reserved_entries_can_be_used_by_any_kind(rt: HostRuntime) -> Result<(), F
             .enter_bit(Level::Recessive, Level::Recessive)
             .is_err()
     );
-    let journal = journal.into_journal();
+    let journal = journal.into_journal()?;
     let mut told = journal.entries();
     for _ in 0..2_100 {
         assert!(rt; told.next() == Some(Entry::Overrun(message_of(4)?)));

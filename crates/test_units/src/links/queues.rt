@@ -39,14 +39,14 @@ fn what_is_put_behind_the_next_start_is_got_on_its_own_link(rt: HostRuntime) -> 
     assert!(rt; links.put(1, put_of(3)?).is_ok() && links.put(2, put_of(5)?).is_ok());
     assert!(rt; links.get(1) == Some(put_of(3)?) && links.get(1).is_none());
     assert!(rt; links.get(2) == Some(put_of(5)?) && links.get(2).is_none());
-    assert!(rt; links.older().is_empty());
+    assert!(rt; links.older()?.is_empty());
     Ok(())
 }
 
 /// Whether these are links of which the second is the first that has queues, and of the link before just this message
 /// was left.
 fn is_left(links: &DequeLinks, item: &Down) -> bool {
-    let [left] = links.older() else {
+    let Ok([left]) = links.older() else {
         return false;
     };
     links.first() == 2 && left.activation == 1 && left.item == *item
@@ -59,7 +59,7 @@ fn the_65th_link_begins_once_nothing_lies_upward_on_the_first(rt: HostRuntime) -
     assert!(rt; links.put(1, item.copy()).is_ok() && links.put(2, put_of(5)?).is_ok());
     for upward in [Up::Start(PLAIN), Up::Stop] {
         assert!(rt; links.give(65, Up::Start(PLAIN)) == Err(Up::Start(PLAIN)));
-        assert!(rt; links.first() == 1 && links.older().is_empty());
+        assert!(rt; links.first() == 1 && links.older()?.is_empty());
         assert!(rt; links.take(1) == Some(upward));
     }
     assert!(rt; links.give(65, Up::Start(PLAIN)).is_ok() && is_left(&links, &item));
@@ -82,6 +82,7 @@ fn lying(links: &DequeLinks, activation: u64) -> Option<usize> {
     Some(link.down().len())
 }
 
+/// Whichever link is at hand: a link is turned to where something is given or taken, and not where nothing lies.
 #[test]
 fn what_lies_downward_is_seen_link_by_link(rt: HostRuntime) -> Result<(), Fail> {
     let mut links = DequeLinks::new(rt.alloc(), 0, 3)?;
@@ -89,7 +90,9 @@ fn what_lies_downward_is_seen_link_by_link(rt: HostRuntime) -> Result<(), Fail> 
     assert!(rt; links.put(3, put_of(5)?).is_ok() && links.put(4, put_of(4)?).is_err());
     assert!(rt; links.first() == 1 && links.others().len() == 3);
     for at in [3, 2, 1] {
-        assert!(rt; links.take(at).is_none() && links.at() == at);
+        let before = links.at();
+        assert!(rt; links.take(at).is_none() && links.at() == before);
+        assert!(rt; links.give(at, Up::Stop).is_ok() && links.at() == at);
         assert!(rt;
             lying(&links, 1) == Some(2)
                 && lying(&links, 2) == Some(0)
@@ -97,5 +100,16 @@ fn what_lies_downward_is_seen_link_by_link(rt: HostRuntime) -> Result<(), Fail> 
         );
     }
     assert!(rt; lying(&links, 0).is_none() && lying(&links, 4).is_none());
+    assert!(rt; links.take(3) == Some(Up::Stop) && links.at() == 3);
+    Ok(())
+}
+
+/// More than 64 links leave 22 items each at most, of which 2^40 are kept.
+#[test]
+fn what_many_links_may_leave_is_not_read(rt: HostRuntime) -> Result<(), Fail> {
+    for (starts, is_read) in [(64, true), (65, true), (1 << 36, false), (1 << 56, false)] {
+        let links = DequeLinks::new(rt.alloc(), 0, starts)?;
+        assert!(rt; links.older().is_ok() == is_read);
+    }
     Ok(())
 }

@@ -1,7 +1,7 @@
 //! Lists that may forget their oldest items, and recorders over them: what they keep, and how their room is counted.
 
 use can_bits::Level;
-use sja_link::{Entry, KEPT, Recent, Recorder};
+use sja_link::{Endless, Entry, KEPT, Recent, Recorder};
 use std::alloc::Global;
 use std::test::Fail;
 
@@ -24,7 +24,7 @@ fn a_list_made_for_few_keeps_them_all(rt: HostRuntime) -> Result<(), Fail> {
     let list = numbers(rt.alloc(), 10_000, 10_000)?;
     assert!(rt; end_of(&list) == (Some(9_999), 10_000, 0));
     assert!(rt; list.is_full() && !list.is_open());
-    let whole = list.as_slice();
+    let whole = list.whole()?;
     for (place, number) in whole.iter().enumerate() {
         assert!(rt; *number as usize == place);
     }
@@ -58,6 +58,15 @@ fn a_list_made_for_many_is_open_until_its_memory_is_full(rt: HostRuntime) -> Res
     Ok(())
 }
 
+/// Though it has forgotten nothing yet.
+#[test]
+fn a_list_made_for_many_is_not_read_whole(rt: HostRuntime) -> Result<(), Fail> {
+    assert!(rt; numbers(rt.alloc(), KEPT + 1, 3)?.whole().err() == Some(Endless));
+    assert!(rt; numbers(rt.alloc(), KEPT + 1, 5_000)?.whole().err() == Some(Endless));
+    assert!(rt; numbers(rt.alloc(), 10, 3)?.whole()? == [0, 1, 2].as_slice());
+    Ok(())
+}
+
 /// Copies that are more than its memory holds.
 #[test]
 fn many_copies_are_added_at_once(rt: HostRuntime) -> Result<(), Fail> {
@@ -87,6 +96,19 @@ fn a_recorder_of_a_long_run_takes_entries_on_and_on(rt: HostRuntime) -> Result<(
     Ok(())
 }
 
+/// One that was made for many bits or for many steps, though it has no entry yet, and then one.
+#[test]
+fn a_recorder_of_a_long_run_gives_no_journal(rt: HostRuntime) -> Result<(), Fail> {
+    for (bits, steps) in [(1 << 46, 0), (1, 1 << 41)] {
+        let journal = Recorder::new(rt.alloc(), bits, steps)?;
+        assert!(rt; journal.into_journal().err() == Some(Endless));
+        let mut journal = Recorder::new(rt.alloc(), bits, steps)?;
+        assert!(rt; journal.enter(Entry::Abort).is_ok());
+        assert!(rt; journal.into_journal().err() == Some(Endless));
+    }
+    Ok(())
+}
+
 /// A recorder of a short run gives back all of it, also what was entered many at once.
 #[test]
 fn a_recorder_gives_its_journal(rt: HostRuntime) -> Result<(), Fail> {
@@ -97,7 +119,7 @@ fn a_recorder_gives_its_journal(rt: HostRuntime) -> Result<(), Fail> {
     }
     journal.enter_rest_reserved(10_000);
     assert!(rt; journal.is_open() && journal.enter(Entry::Off).is_ok());
-    let journal = journal.into_journal();
+    let journal = journal.into_journal()?;
     let mut told = journal.entries();
     for _ in 0..10_000 {
         assert!(rt; told.next_bit() == Some((Level::Recessive, Level::Dominant)));

@@ -15,7 +15,7 @@ fn told_with(alloc: Global, entry: Entry) -> Result<u32, Fail> {
     enter(&mut journal, entry)?;
     bit(&mut journal, Level::Recessive, Level::Recessive)?;
     bit(&mut journal, Level::Recessive, Level::Recessive)?;
-    Ok(count(&journal.into_journal()))
+    Ok(count(&journal.into_journal()?))
 }
 
 #[test]
@@ -36,7 +36,7 @@ fn what_ended_does_not_go_on(rt: HostRuntime) -> Result<(), Fail> {
     let mut journal = Recorder::new(rt.alloc(), 2, 1_000)?;
     enter(&mut journal, Entry::Off)?;
     bit(&mut journal, Level::Recessive, Level::Recessive)?;
-    let journal = journal.into_journal();
+    let journal = journal.into_journal()?;
     let mut replay = Replay::of(&journal);
     assert!(rt; replay.next().is_none());
     assert!(rt; replay.next().is_none());
@@ -45,7 +45,7 @@ fn what_ended_does_not_go_on(rt: HostRuntime) -> Result<(), Fail> {
 
 #[test]
 fn an_empty_journal_has_no_bit(rt: HostRuntime) -> Result<(), Fail> {
-    assert!(rt; count(&Recorder::new(rt.alloc(), 1, 1_000)?.into_journal()) == 0);
+    assert!(rt; count(&Recorder::new(rt.alloc(), 1, 1_000)?.into_journal()?) == 0);
     Ok(())
 }
 
@@ -54,7 +54,7 @@ fn an_empty_journal_has_no_bit(rt: HostRuntime) -> Result<(), Fail> {
 fn a_level_that_the_node_does_not_drive_ends_the_replay(rt: HostRuntime) -> Result<(), Fail> {
     let mut journal = on_the_bus(rt.alloc())?;
     bit(&mut journal, Level::Dominant, Level::Dominant)?;
-    assert!(rt; count(&journal.into_journal()) == 11);
+    assert!(rt; count(&journal.into_journal()?) == 11);
     Ok(())
 }
 
@@ -64,6 +64,6 @@ fn a_verdict_that_is_not_fair_ends_the_replay(rt: HostRuntime) -> Result<(), Fai
     let mut journal = on_the_bus(rt.alloc())?;
     received(&mut journal, TWO_BYTES_RECEIVED, 0, 61, 53)?;
     enter(&mut journal, Entry::Overrun(message(&TWO_BYTES)?))?;
-    assert!(rt; count(&journal.into_journal()) == 71);
+    assert!(rt; count(&journal.into_journal()?) == 71);
     Ok(())
 }

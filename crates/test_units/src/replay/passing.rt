@@ -74,7 +74,7 @@ fn idle_and(alloc: Global, bits: &[(Level, Level)]) -> Result<Journal, Fail> {
     for (driven, seen) in bits {
         bit(&mut journal, *driven, *seen)?;
     }
-    Ok(journal.into_journal())
+    Ok(journal.into_journal()?)
 }
 
 /// Bits 1 to 9 are waited through, and five more are idle; then a frame begins, and then the node is said to drive what

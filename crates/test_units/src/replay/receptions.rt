@@ -12,7 +12,7 @@ use test_frames::{TWO_BYTES, TWO_BYTES_RECEIVED};
 /// SOF in bit 11, the ACK slot in bit 64, the sixth bit of EOF in bit 71 and the seventh in bit 72; the message is
 /// stored after bit 71.
 pub fn reception(alloc: Global) -> Result<Journal, Fail> {
-    Ok(written_reception(alloc)?.into_journal())
+    Ok(written_reception(alloc)?.into_journal()?)
 }
 
 /// What is written of it.
@@ -88,7 +88,7 @@ fn the_acknowledgement_and_the_reception_are_told(rt: HostRuntime) -> Result<(),
 fn a_frame_without_a_verdict_was_stopped(rt: HostRuntime) -> Result<(), Fail> {
     let mut journal = on_the_bus(rt.alloc())?;
     received(&mut journal, TWO_BYTES_RECEIVED, 0, 62, 53)?;
-    let Some(valid) = happening(&journal.into_journal(), 71) else {
+    let Some(valid) = happening(&journal.into_journal()?, 71) else {
         return Err(Fail::from("the bit isn't told"));
     };
     assert!(rt; valid.fate == Some(Fate::Stopped));
@@ -104,7 +104,7 @@ fn a_credit_is_taken_between_two_bits(rt: HostRuntime) -> Result<(), Fail> {
             enter(&mut journal, Entry::Up(Up::Credit(*credit)))?;
             bit(&mut journal, Level::Recessive, Level::Recessive)?;
         }
-        assert!(rt; count(&journal.into_journal()) == 77);
+        assert!(rt; count(&journal.into_journal()?) == 77);
     }
     Ok(())
 }

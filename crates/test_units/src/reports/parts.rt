@@ -65,7 +65,7 @@ fn overrun(alloc: Global, long: &Message) -> Result<Journal, Fail> {
     store(entries, long, 1);
     lose_short(entries)?;
     enter(entries, 0, Entry::Off);
-    Ok(journal.into_journal())
+    Ok(journal.into_journal()?)
 }
 
 /// So many messages are stored, each behind nine bits.
@@ -131,7 +131,7 @@ fn unstarted(alloc: Global) -> Result<Journal, Fail> {
     let message = message(1)?;
     let mut journal = Recorder::new(alloc, 200, 1_000)?;
     enter(&mut journal, 40, Entry::Stored(message));
-    Ok(journal.into_journal())
+    Ok(journal.into_journal()?)
 }
 
 /// Its report, of an activation of which one message was released.
@@ -173,7 +173,7 @@ fn started(alloc: Global) -> Result<NodeRun, Fail> {
     let mut journal = Recorder::new(alloc, 20, 1_000)?;
     enter(&mut journal, 3, start());
     let activations = one(alloc, quiet(alloc))?;
-    let journal = journal.into_journal();
+    let journal = journal.into_journal()?;
     Ok(NodeRun::of(journal, 1, 2, Vec::new(alloc), activations))
 }
 

@@ -5,7 +5,7 @@
 use super::given::{enter, quiet, start};
 use can_frame::{Message, OutOfMemory};
 use sja_link::{Entry, Journal, Recorder};
-use sja_log::{End, NodeRun, RunLog};
+use sja_log::{End, NoLog, NodeRun, RunLog};
 use sja_report::report;
 use std::alloc::Global;
 
@@ -16,15 +16,15 @@ overrun 00 00 00
 ";
 
 /// The journal of a node that lost one message.
-fn journal(alloc: Global) -> Result<Journal, OutOfMemory> {
+fn journal(alloc: Global) -> Result<Journal, NoLog> {
     let mut journal = Recorder::new(alloc, 20, 1_000)?;
     enter(&mut journal, 0, start());
     enter(&mut journal, 0, Entry::Overrun(Message::default()));
-    Ok(journal.into_journal())
+    Ok(journal.into_journal()?)
 }
 
 /// That node.
-fn node(alloc: Global) -> Result<NodeRun, OutOfMemory> {
+fn node(alloc: Global) -> Result<NodeRun, NoLog> {
     let mut activations = Vec::with_capacity(alloc, 1)?;
     activations.push_reserved(quiet(alloc));
     let journal = journal(alloc)?;
@@ -32,7 +32,7 @@ fn node(alloc: Global) -> Result<NodeRun, OutOfMemory> {
 }
 
 /// The log of its run.
-fn one_lost(alloc: Global) -> Result<RunLog, OutOfMemory> {
+fn one_lost(alloc: Global) -> Result<RunLog, NoLog> {
     let mut nodes = Vec::with_capacity(alloc, 1)?;
     nodes.push_reserved(node(alloc)?);
     Ok(RunLog::of(1, 20, End::Turns, nodes))
@@ -50,6 +50,6 @@ fn is_whole(alloc: Global, log: &RunLog) -> bool {
 fn refused_memory_gives_the_report_or_is_told(rt: HostRuntime) {
     match one_lost(rt.alloc()) {
         Ok(log) => assert!(rt; is_whole(rt.alloc(), &log)),
-        Err(refused) => assert!(rt; refused == OutOfMemory),
+        Err(refused) => assert!(rt; refused == NoLog::Memory),
     }
 }

@@ -131,7 +131,7 @@ impl RingRun {
             return Err("no such node")?;
         };
         let mut told = worker.told(alloc, activation)?;
-        let logs = bus.finish();
+        let logs = bus.finish()?;
         let Some(log) = logs.get(place) else {
             return Err("no such node")?;
         };

@@ -81,13 +81,13 @@ impl Worker {
     /// What its log and its links tell of this activation.
     pub fn told(&mut self, alloc: Global, activation: u64) -> Result<MessageFates, Fail> {
         let mut told = MessageFates::new(alloc);
-        for release in self.driver.log().released() {
+        for release in self.driver.log().released()? {
             if release.activation == activation {
                 told.released.push(release.message.copy())?;
             }
         }
         let place = (activation as usize).saturating_sub(1);
-        if let Some(ledger) = self.driver.log().left().get(place) {
+        if let Some(ledger) = self.driver.log().left()?.get(place) {
             for message in ledger.unread() {
                 told.unread.push(message.copy())?;
             }

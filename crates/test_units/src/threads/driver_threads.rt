@@ -56,7 +56,7 @@ pub fn drive<G: Gate>(
 
 /// Fails where these aren't the answers of the steps that were done, in the words of a report with `, ` between two.
 pub fn answers(alloc: Global, worked: &Handover<NodeDriver>, expected: &str) -> Result<(), Fail> {
-    are_answers(alloc, worked.driver.log().done(), expected)
+    are_answers(alloc, worked.driver.log().done()?, expected)
 }
 
 /// Fails where these aren't the answers of these steps.

@@ -68,7 +68,7 @@ pub fn released<R: Threads + Wait + Sync>(
     expected: &str,
 ) -> Result<usize, Fail> {
     let worked = handed_back(rt, alloc, steps, part, expected)?;
-    Ok(worked.driver.log().released().len())
+    Ok(worked.driver.log().released()?.len())
 }
 
 #[test]

@@ -19,7 +19,7 @@ fn a_board_finds_an_abort_and_a_step_counts_the_bits_told(rt: HostRuntime) -> Re
     ];
     let expected = "ok, ok, ok, ok, refused Closed, ok";
     let worked = handed_back(&rt, rt.alloc(), &steps, Part::Abort, expected)?;
-    let Some(last) = worked.driver.log().done().last() else {
+    let Some(last) = worked.driver.log().done()?.last() else {
         return Err("no step was done")?;
     };
     assert!(rt; last.bits == 5);

@@ -2,7 +2,7 @@
 
 use Level::{Dominant, Recessive};
 use can_bits::Level;
-use can_frame::{Message, OutOfMemory};
+use can_frame::Message;
 use sja_link::{Entry, Journal, Recorder, Up};
 use sja_log::{End, NodeRun, RunLog};
 use sja_wave::wave;
@@ -82,12 +82,12 @@ fn node(alloc: Global, journal: Journal) -> NodeRun {
 
 /// A journal of these entries, each by its word; a bit by what the node drives and what it sees, `d` dominant and `r`
 /// recessive.
-fn journal(alloc: Global, words: &str) -> Result<Journal, OutOfMemory> {
+fn journal(alloc: Global, words: &str) -> Result<Journal, Fail> {
     let mut journal = Recorder::new(alloc, 10, 1_000)?;
     for word in words.split(' ') {
         let _ = journal.enter(entry(word));
     }
-    Ok(journal.into_journal())
+    Ok(journal.into_journal()?)
 }
 
 /// The entry that a word is.
