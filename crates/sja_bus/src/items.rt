@@ -116,7 +116,7 @@ impl Seat {
     }
 
     /// An item was taken.
-    #[inline(never)]
+    #[inline(always)]
     fn note(&mut self, item: Up) -> Result<(), BusFault>
         requires owed { IsOwed self.old (Item item) }
         requires seat { IsSeat self.old }
