@@ -26,6 +26,7 @@ impl LoggedDriver {
 }
 
 /// Takes in all that the link shows, out of reset, and answers what a read of the registers sees then.
+#[inline(always)]
 pub(crate) fn observe<E: DriverEnd>(driver: &mut AnyDriver, end: &mut E) -> BufferView
     requires { FitsEnd E.node end.old driver.old }
     ensures same { E.same end.old end.new }
