@@ -71,6 +71,7 @@ pub(crate) fn load_step<E: DriverEnd>(
 }
 
 /// Tries a command.
+#[inline(always)]
 pub(crate) fn command_step<E: DriverEnd>(
     driver: &mut AnyDriver,
     end: &mut E,
