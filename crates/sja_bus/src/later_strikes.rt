@@ -59,6 +59,7 @@ impl LaterStrikes {
     /// One more. Of no bit before this one it is asked any more whom they strike.
     ///
     /// Error: [`OutOfMemory`] where memory was refused; nothing changed.
+    #[inline(always)]
     pub(crate) fn push(&mut self, strike: Strike, from: u64) -> Result<(), OutOfMemory>
         requires on { self.old.from ≤ from }
         requires counted { from ≤ 2 ^ 62 }

@@ -12,6 +12,7 @@ impl Bus {
     /// script too.
     ///
     /// Error: [`OutOfMemory`] where memory was refused; nothing changed.
+    #[inline(always)]
     pub fn strike(&mut self, strike: Strike) -> Result<(), OutOfMemory>
         requires later { self.old.run ≤ strike.bit }
         ensures struck { OnOk result (self.new

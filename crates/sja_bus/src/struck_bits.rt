@@ -77,6 +77,7 @@ impl StruckBits {
     /// One strike more. Of no bit before this one it is asked any more whom the script strikes.
     ///
     /// Error: [`OutOfMemory`] where memory was refused; nothing changed.
+    #[inline(always)]
     pub(crate) fn strike(&mut self, strike: Strike, from: u64) -> Result<(), OutOfMemory>
         requires on { self.old.from ≤ from }
         requires counted { from ≤ 2 ^ 62 }

@@ -54,6 +54,7 @@ impl StruckTable {
     }
 
     /// Marks the bits that one strike hits.
+    #[inline(always)]
     pub(crate) fn strike(&mut self, strike: &Strike)
         ensures { IsMarkedWith strike.now self.old self.new }
     {
@@ -128,6 +129,7 @@ fn are_calm(struck: &[StruckNodes]) -> bool
 }
 
 /// Marks the bits that one strike hits.
+#[inline(always)]
 fn mark(bits: &mut [StruckNodes], strike: &Strike)
     ensures { IsMarked strike.now bits.old bits.new }
 {
@@ -143,6 +145,7 @@ fn mark(bits: &mut [StruckNodes], strike: &Strike)
 }
 
 /// So many of the times of a strike, from the first on, hit all of the first bits that it hits.
+#[inline(always)]
 fn times_within(strike: &Strike, bits: usize) -> usize
     ensures within { (time : ℕ) → time < result → strike.now.bit + time * strike.now.every < bits }
     ensures all { (bit node : ℕ) → bit < bits →
