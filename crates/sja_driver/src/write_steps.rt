@@ -32,6 +32,7 @@ pub struct WriteSteps {
 }
 
 /// The steps that a write of a byte to an address is, for this driver at these registers.
+#[inline(always)]
 pub fn steps_of_write(typed: &LoggedDriver, port: &Port, address: u8, value: u8) -> WriteSteps
     requires { IsLawful typed.now }
     ensures are { steps_in result ≡ write_steps port.now (is_out (driver_of typed.now)) address value }
@@ -81,6 +82,7 @@ pub fn is_start(typed: &LoggedDriver, port: &Port, value: u8) -> bool
 }
 
 /// Those of a write of MOD.
+#[inline(always)]
 fn mode_steps(port: &Port, out: bool, value: u8) -> WriteSteps
     ensures are { steps_in result ≡ mode_steps port.now.mode (is_forced port.now) out value }
     ensures prompt { ArePrompt result }
@@ -104,6 +106,7 @@ fn mode_steps(port: &Port, out: bool, value: u8) -> WriteSteps
 }
 
 /// Those of a write of CMR.
+#[inline(always)]
 fn command_steps(port: &Port, value: u8) -> WriteSteps
     ensures are { steps_in result ≡ command_steps port.now (command_of value) }
     ensures prompt { ArePrompt result }
@@ -125,6 +128,7 @@ fn command_steps(port: &Port, value: u8) -> WriteSteps
 }
 
 /// One step.
+#[inline(always)]
 fn alone(step: Step) -> WriteSteps
     ensures { result ≡ record { first = None; second = None; third = Some step } }
 {

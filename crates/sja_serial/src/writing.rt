@@ -109,7 +109,7 @@ impl SerialRun {
     ghost use Rattle.sja_serial.specs.Stepping.{DoesStep, HasDeedLeft, HasRoomLeft};
 
     /// A write, whatever deeds it is, none to three.
-    #[inline(never)]
+    #[inline(always)]
     fn write_parts(&mut self, node: u8, address: u8, value: u8)
         ghost setup: { Setup }
         requires run { IsRunBy setup self.old }
