@@ -12,6 +12,6 @@ impl Port {
     pub fn irq(&self, seen: &BufferView) -> bool
         ensures { result ≡ is_line_active self.now seen.now }
     {
-        self.registers.interrupts(seen).byte() != 0
+        self.registers.interrupts(seen).is_any()
     }
 }

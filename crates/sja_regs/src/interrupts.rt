@@ -1,6 +1,6 @@
 //! The bits of IR and IER.
 
-ghost use Rattle.std.specs.Prelude.{◌≡◌, ◌||◌, ◌&&◌};
+ghost use Rattle.std.specs.Prelude.{◌≡◌, ◌||◌, ◌&&◌, ◌==◌, not};
 ghost use Rattle.sja_regs.specs.Interrupting.{interrupts_of, interrupts_byte, no_interrupt, pending_after};
 
 use super::bits::{bit_at, is_set};
@@ -83,6 +83,13 @@ impl Interrupts {
             + bit_at(EPI, self.epi)
             + bit_at(ALI, self.ali)
             + bit_at(BEI, self.bei)
+    }
+
+    /// Whether some bit is 1.
+    pub(crate) fn is_any(self) -> bool
+        ensures { result ≡ not (interrupts_byte self == 0) }
+    {
+        self.ri || self.ti || self.ei || self.doi || self.wui || self.epi || self.ali || self.bei
     }
 
     /// What is pending where these were, and the causes came: each of them that is enabled too.
