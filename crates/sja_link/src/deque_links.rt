@@ -154,7 +154,7 @@ impl DequeLinks {
 
     /// Turns to the link of an activation that isn't at hand, if something lies upward there, and says whether it does:
     /// it is at hand then. Else nothing turns.
-    #[inline(never)]
+    #[inline(always)]
     fn turn_to_given(&mut self, activation: u64) -> bool
         requires { self.old.at ≢ activation }
         ensures turned { result ≡ true → IsTurned self.old self.new activation }
