@@ -26,7 +26,9 @@ impl SerialRun {
                 return false;
             }
             run += self.run_resting_bits(count - run);
-            run += self.run_busy_bits(count - run);
+            if run < count {
+                run += self.run_busy_bits(count - run);
+            }
         }
         true
     }

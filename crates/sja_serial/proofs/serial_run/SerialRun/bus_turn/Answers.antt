@@ -56,8 +56,8 @@ run_resting_bits-run-requires g c =
       (omega (arith, all, some), (c.bits_left.ensures.lawful, omega (arith, few))),
     )
 
-pub run_busy_bits-run-requires-in-loop-run : goal.run_busy_bits-run-requires-in-loop-run
-run_busy_bits-run-requires-in-loop-run g c =
+pub run_busy_bits-run-requires-then-run-count : goal.run_busy_bits-run-requires-then-run-count
+run_busy_bits-run-requires-then-run-count g c =
     let h = c.requires in
     let s = some_since g.setup h.0 c.args.self.now c.run_busy_bits-run.new.self c.loop-run.self
     c.run_busy_bits-run.result c.loop-run.run h.1 (c.run_busy_bits-run.ensures.bits h.0 h.1)
@@ -68,25 +68,39 @@ run_busy_bits-run-requires-in-loop-run g c =
           (c.run_resting_bits-run.ensures.bits h.0 s.stands)).stands,
     )
 
-pub loop-run-preserved : goal.loop-run-preserved
-loop-run-preserved g c =
+pub loop-run-preserved-then-run-count : goal.loop-run-preserved-then-run-count
+loop-run-preserved-then-run-count g c =
     let most = c.loop-run.invariant.most in let few = c.run_resting_bits-run.ensures.most in
-    let more = c.run_busy_bits-run-in-loop-run.ensures.most in record {
+    let more = c.run_busy_bits-run-then-run-count.ensures.most in record {
       most = omega (arith, most, few, more);
       some = λ deeds h.
           let x = c.loop-run.invariant.some deeds h in let is = x.1 in
           let s = some_then g.setup deeds (λ (r : SerialValue). Unit {0}) c.run_busy_bits-run.new.self
           c.loop-run.self c.run_resting_bits-run.new.self x.0 c.run_resting_bits-run.result x.2
           (c.run_resting_bits-run.ensures.bits deeds x.2.stands) in (
-            x.0 + c.run_resting_bits-run.result + c.run_busy_bits-run-in-loop-run.result,
+            x.0 + c.run_resting_bits-run.result + c.run_busy_bits-run-then-run-count.result,
             omega (arith, is),
             some_then g.setup deeds (λ (r : SerialValue). Unit {0}) c.run_busy_bits-run.new.self
-                c.run_resting_bits-run.new.self c.run_busy_bits-run-in-loop-run.new.self
+                c.run_resting_bits-run.new.self c.run_busy_bits-run-then-run-count.new.self
                 (x.0 + c.run_resting_bits-run.result)
-                c.run_busy_bits-run-in-loop-run.result s (bits_freely g.setup deeds (SomeWorks g.setup)
-                c.run_resting_bits-run.new.self c.run_busy_bits-run-in-loop-run.new.self
-                c.run_busy_bits-run-in-loop-run.result
-                (c.run_busy_bits-run-in-loop-run.ensures.bits deeds s.stands)),
+                c.run_busy_bits-run-then-run-count.result s (bits_freely g.setup deeds (SomeWorks g.setup)
+                c.run_resting_bits-run.new.self c.run_busy_bits-run-then-run-count.new.self
+                c.run_busy_bits-run-then-run-count.result
+                (c.run_busy_bits-run-then-run-count.ensures.bits deeds s.stands)),
+          );
+    }
+
+pub loop-run-preserved : goal.loop-run-preserved
+loop-run-preserved g c =
+    let most = c.loop-run.invariant.most in let few = c.run_resting_bits-run.ensures.most in record {
+      most = omega (arith, most, few);
+      some = λ deeds h.
+          let x = c.loop-run.invariant.some deeds h in let is = x.1 in (
+            x.0 + c.run_resting_bits-run.result,
+            omega (arith, is),
+            some_then g.setup deeds (λ (r : SerialValue). Unit {0}) c.run_busy_bits-run.new.self
+                c.loop-run.self c.run_resting_bits-run.new.self x.0 c.run_resting_bits-run.result x.2
+                (c.run_resting_bits-run.ensures.bits deeds x.2.stands),
           );
     }
 
