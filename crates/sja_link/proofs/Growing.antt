@@ -7,3 +7,4 @@ pub mod Aborts
 pub mod BitRecords
 pub mod Ordered
 pub mod Begins
+pub mod Activations

@@ -29,5 +29,6 @@ pub mod OutOfOrder
 pub mod Aborting
 pub mod Orderly
 pub mod BitEntries
+pub mod Activations
 -- ---- how the code keeps a journal and its ledgers: definitions of the private contracts alone
 pub mod Inside

@@ -35,3 +35,8 @@ Kept stands j end h = (a : ℕ) → stands end (suc a) (account j (suc a) (h a))
 pub record AreEnds {E : Type 0} (node_of : E → ℕ) (nodes : ℕ) (links : List E) : Type 0 where
   pub count : length links ≡ nodes
   pub own : (node : ℕ) (d : E) → node < nodes → node_of (slice_index_or links node d) ≡ node
+
+-- each end has links for so many activations
+abbrev pub HaveLinks : {E : Type 0} → (E → ℕ) → ℕ → List E → Type 0
+HaveLinks {E} links_of starts links =
+    (k : ℕ) (d : E) → k < length links → links_of (slice_index_or links k d) ≡ starts

@@ -33,6 +33,10 @@ pub trait BusEnd {
     fn node(&self) -> u8
         ensures { result ≡ node self.now };
 
+    /// How many links it has.
+    fn links(&self) -> u64
+        ensures { result ≡ links self.now };
+
     /// Puts an item on the link of an activation, or gives it back.
     fn put(&mut self, activation: u64, item: Down) -> Result<(), Down>
         ensures same { same self.old self.new }

@@ -255,6 +255,10 @@ impl BusEnd for DequeLinks {
         self.node
     }
 
+    fn links(&self) -> u64 {
+        self.starts
+    }
+
     #[inline(always)]
     fn put(&mut self, activation: u64, item: Down) -> Result<(), Down> {
         if activation != self.at && !self.turn_to(activation) {
