@@ -1,2 +1,3 @@
 pub mod OnePair
 pub mod RingsOfNode
+pub mod Seen

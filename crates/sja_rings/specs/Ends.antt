@@ -37,25 +37,32 @@ reach_down b = length (sent b.down) + places_down b
 abbrev pub reach_up : RingDriver → ℕ
 reach_up d = length (sent d.up) + places_up d
 
--- the same end of the same link, and the same some calls later: its number and its ends of both rings, and it sends at
--- least as far
-abbrev pub SameBus : RingBus → RingBus → Type 0
-SameBus a b =
-    (link_of_bus b ≡ link_of_bus a) × SameProducer a.down b.down × SameConsumer a.up b.up
-    × (reach_down a ≤ reach_down b)
-
-abbrev pub SameDriver : RingDriver → RingDriver → Type 0
-SameDriver a b =
-    (link_of_driver b ≡ link_of_driver a) × SameConsumer a.down b.down × SameProducer a.up b.up
-    × (reach_up a ≤ reach_up b)
-
--- both ends come from one pair: they have one number, one ring down and one ring up
-abbrev pub OneLink : RingBus → RingDriver → Type 0
-OneLink b d = (link_of_driver d ≡ link_of_bus b) × IsPair b.down d.down × IsPair d.up b.up
-
 -- the items that an end has seen and not taken out; the other end may have sent more
 abbrev pub shown_up : RingBus → List Up
 shown_up b = known_items b.up
 
 abbrev pub shown_down : RingDriver → List Down
 shown_down d = known_items d.down
+
+-- how many items an end has seen: those that it took out, and those that it shows
+abbrev pub seen_up : RingBus → ℕ
+seen_up b = length (received b.up) + length (shown_up b)
+
+abbrev pub seen_down : RingDriver → ℕ
+seen_down d = length (received d.down) + length (shown_down d)
+
+-- the same end of the same link, and the same some calls later: its number and its ends of both rings, it sends at
+-- least as far, and has seen at least as many items
+abbrev pub SameBus : RingBus → RingBus → Type 0
+SameBus a b =
+    (link_of_bus b ≡ link_of_bus a) × SameProducer a.down b.down × SameConsumer a.up b.up
+    × (reach_down a ≤ reach_down b) × (seen_up a ≤ seen_up b)
+
+abbrev pub SameDriver : RingDriver → RingDriver → Type 0
+SameDriver a b =
+    (link_of_driver b ≡ link_of_driver a) × SameConsumer a.down b.down × SameProducer a.up b.up
+    × (reach_up a ≤ reach_up b) × (seen_down a ≤ seen_down b)
+
+-- both ends come from one pair: they have one number, one ring down and one ring up
+abbrev pub OneLink : RingBus → RingDriver → Type 0
+OneLink b d = (link_of_driver d ≡ link_of_bus b) × IsPair b.down d.down × IsPair d.up b.up

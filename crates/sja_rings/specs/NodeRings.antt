@@ -21,6 +21,10 @@ node_of_driver d = d.node
 abbrev pub rings_of_bus : NodeBus → List RingBus
 rings_of_bus b = b.rings.items
 
+-- how many there are
+abbrev pub links_of_bus : NodeBus → ℕ
+links_of_bus b = length (rings_of_bus b)
+
 abbrev pub rings_of_driver : NodeDriver → List RingDriver
 rings_of_driver d = d.rings.items
 

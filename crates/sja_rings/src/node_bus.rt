@@ -13,17 +13,16 @@ pub struct NodeBus {
 }
 
 impl BusEnd for NodeBus {
-    ghost use Rattle.std.specs.Prelude.{length};
     ghost use Rattle.std.proofs.Common.{◌∙◌, refl};
     ghost use Rattle.lemmas.proofs.Related.{each_refl, each_trans};
     ghost use Rattle.sja_rings.specs.Ends.{SameBus};
-    ghost use Rattle.sja_rings.specs.NodeRings.{node_of_bus, rings_of_bus, NodeBusLists, SameNodeBus};
+    ghost use Rattle.sja_rings.specs.NodeRings.{node_of_bus, links_of_bus, rings_of_bus, NodeBusLists, SameNodeBus};
     ghost use Rattle.sja_rings.specs.NodeRings.{HasNoPlaceDown, ShowsNothingUp};
     ghost use Rattle.sja_rings.specs.Inside.Carrying.{bus_refl, bus_trans, as_many_links};
 
     ghost node = { node_of_bus };
 
-    ghost links = { λ b. length (rings_of_bus b) };
+    ghost links = { links_of_bus };
 
     ghost stands = { NodeBusLists };
 
@@ -35,6 +34,10 @@ impl BusEnd for NodeBus {
 
     fn node(&self) -> u8 {
         self.node
+    }
+
+    fn links(&self) -> u64 {
+        self.rings.len() as u64
     }
 
     fn put(&mut self, activation: u64, item: Down) -> Result<(), Down> {

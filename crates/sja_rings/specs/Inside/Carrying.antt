@@ -10,7 +10,7 @@ use Rattle.rtrb.specs.declared.consumer.Consumer.{Consumer}
 use Rattle.sja_rings.specs.declared.node_bus.NodeBus.{NodeBus}
 use Rattle.sja_rings.specs.declared.ring_bus.RingBus.{RingBus}
 use Rattle.sja_rings.specs.declared.ring_driver.RingDriver.{RingDriver}
-use Rattle.sja_rings.specs.Ends.{SameBus, SameDriver, reach_down, reach_up}
+use Rattle.sja_rings.specs.Ends.{SameBus, SameDriver, reach_down, reach_up, seen_down, seen_up}
 use Rattle.sja_rings.specs.NodeRings.{rings_of_bus, SameNodeBus}
 
 module _ {T A P : Type 0} where
@@ -33,7 +33,7 @@ module _ {T A P : Type 0} where
   same_consumer_trans a b c p q = (same_ring_trans a.end b.end c.end p.0 q.0, q.1 ∙ p.1)
 
 pub bus_refl : (b : RingBus) → SameBus b b
-bus_refl b = (refl, same_producer b.down, same_consumer b.up, le_refl (reach_down b))
+bus_refl b = (refl, same_producer b.down, same_consumer b.up, le_refl (reach_down b), le_refl (seen_up b))
 
 pub bus_trans : (a b c : RingBus) → SameBus a b → SameBus b c → SameBus a c
 bus_trans a b c p q = (
@@ -41,10 +41,11 @@ bus_trans a b c p q = (
   same_producer_trans a.down b.down c.down p.1 q.1,
   same_consumer_trans a.up b.up c.up p.2 q.2,
   le_trans p.3 q.3,
+  le_trans p.4 q.4,
 )
 
 pub driver_refl : (d : RingDriver) → SameDriver d d
-driver_refl d = (refl, same_consumer d.down, same_producer d.up, le_refl (reach_up d))
+driver_refl d = (refl, same_consumer d.down, same_producer d.up, le_refl (reach_up d), le_refl (seen_down d))
 
 pub driver_trans : (a b c : RingDriver) → SameDriver a b → SameDriver b c → SameDriver a c
 driver_trans a b c p q = (
@@ -52,6 +53,7 @@ driver_trans a b c p q = (
   same_consumer_trans a.down b.down c.down p.1 q.1,
   same_producer_trans a.up b.up c.up p.2 q.2,
   le_trans p.3 q.3,
+  le_trans p.4 q.4,
 )
 
 -- ---- the bus's end of a node's links
